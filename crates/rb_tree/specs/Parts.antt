@@ -1,0 +1,114 @@
+-- The parts of a tree.
+use Rattle.std.specs.Prelude.{◌≡◌, ◌≤◌, ℕ, ℤ, List, [], length, Option, nat_eq}
+use Rattle.rb_tree.specs.declared.kind.Kind.{Kind}
+use Rattle.rb_tree.specs.declared.kind.Kind.TheVariants as kind
+use Rattle.rb_tree.specs.Resource.{Resource, string, int, ints, binary, alias, array, table, height, weight}
+use Rattle.rb_tree.specs.declared.limits.TheConstants.{HEIGHT_LIMIT, WEIGHT_LIMIT}
+use Rattle.rb_tree.specs.Keys.{items, pairs}
+use Rattle.std.specs.Map.{lookup, values_of}
+use Rattle.std.specs.Cmp.Lexicographic.{pointwise}
+
+abbrev pub kind_of : Resource → Kind
+kind_of (string us) = kind.String
+kind_of (int n) = kind.Int
+kind_of (ints zs) = kind.Ints
+kind_of (binary bs) = kind.Binary
+kind_of (alias us) = kind.Alias
+kind_of (array ts) = kind.Array
+kind_of (table es) = kind.Table
+
+-- how many units, numbers, bytes, items or entries
+abbrev pub len_of : Resource → ℕ
+len_of (string us) = length us
+len_of (int n) = 0
+len_of (ints zs) = length zs
+len_of (binary bs) = length bs
+len_of (alias us) = length us
+len_of (array ts) = length (items ts)
+len_of (table es) = length (pairs es)
+
+-- what an array or a table holds, in order
+abbrev pub children_of : Resource → List Resource
+children_of (string us) = []
+children_of (int n) = []
+children_of (ints zs) = []
+children_of (binary bs) = []
+children_of (alias us) = []
+children_of (array ts) = items ts
+children_of (table es) = values_of (pairs es)
+
+-- a table's entries
+abbrev pub pairs_of : Resource → List (List ℕ × Resource)
+pairs_of (string us) = []
+pairs_of (int n) = []
+pairs_of (ints zs) = []
+pairs_of (binary bs) = []
+pairs_of (alias us) = []
+pairs_of (array ts) = []
+pairs_of (table es) = pairs es
+
+-- the child with a key
+abbrev pub child_of : List ℕ → Resource → Option Resource
+child_of k t = lookup (pointwise nat_eq k) (pairs_of t)
+
+abbrev pub units_of : Resource → List ℕ
+units_of (string us) = us
+units_of (int n) = []
+units_of (ints zs) = []
+units_of (binary bs) = []
+units_of (alias us) = us
+units_of (array ts) = []
+units_of (table es) = []
+
+abbrev pub numbers_of : Resource → List ℤ
+numbers_of (string us) = []
+numbers_of (int n) = []
+numbers_of (ints zs) = zs
+numbers_of (binary bs) = []
+numbers_of (alias us) = []
+numbers_of (array ts) = []
+numbers_of (table es) = []
+
+abbrev pub bytes_of : Resource → List ℕ
+bytes_of (string us) = []
+bytes_of (int n) = []
+bytes_of (ints zs) = []
+bytes_of (binary bs) = bs
+bytes_of (alias us) = []
+bytes_of (array ts) = []
+bytes_of (table es) = []
+
+abbrev pub int_of : Resource → ℕ
+int_of (string us) = 0
+int_of (int n) = n
+int_of (ints zs) = 0
+int_of (binary bs) = 0
+int_of (alias us) = 0
+int_of (array ts) = 0
+int_of (table es) = 0
+
+-- arrays and tables
+abbrev pub HasChildren : Kind → Type 0
+HasChildren kind.String = ⊥
+HasChildren kind.Int = ⊥
+HasChildren kind.Ints = ⊥
+HasChildren kind.Binary = ⊥
+HasChildren kind.Alias = ⊥
+HasChildren kind.Array = Unit {0}
+HasChildren kind.Table = Unit {0}
+
+-- strings and aliases
+abbrev pub HasUnits : Kind → Type 0
+HasUnits kind.String = Unit {0}
+HasUnits kind.Int = ⊥
+HasUnits kind.Ints = ⊥
+HasUnits kind.Binary = ⊥
+HasUnits kind.Alias = Unit {0}
+HasUnits kind.Array = ⊥
+HasUnits kind.Table = ⊥
+
+-- a table within the limits of a bundle
+pub record Fits (t : Resource) : Type 0 where
+  pub is_table : kind_of t ≡ kind.Table
+  pub low : height t ≤ HEIGHT_LIMIT
+  pub light : weight t ≤ WEIGHT_LIMIT
