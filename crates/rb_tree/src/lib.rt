@@ -1,15 +1,24 @@
 //! Trees of resource bundles: what a bundle text spells and a bundle file stands for.
 #![tactic(auto)]
 
-pub mod kind;
-pub mod limits;
-pub mod lists;
-pub mod measure;
-pub mod node;
+mod ending;
+mod kind;
+mod limits;
+mod lists;
+mod measure;
+mod node;
 mod order;
-pub mod path;
-pub mod table;
+mod path;
+mod table;
 #[cfg(test)]
 mod tests;
-pub mod tree;
-pub mod walk;
+mod tree;
+
+pub use ending::{Ending, walk};
+pub use kind::Kind;
+pub use limits::{HEIGHT_LIMIT, WEIGHT_LIMIT};
+pub use lists::{ByteList, Int28, NumberList, UnitList};
+pub use node::Node;
+pub use path::{key_ok, path_ok};
+pub use table::TableFault;
+pub use tree::{Entries, Entry, Tree, TreeList};
