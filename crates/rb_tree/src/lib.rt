@@ -3,6 +3,7 @@
 
 mod ending;
 mod kind;
+pub mod laws;
 mod limits;
 mod lists;
 mod measure;

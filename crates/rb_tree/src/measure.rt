@@ -1,4 +1,4 @@
-// Height and weight.
+//! Height and weight.
 ghost use Rattle.std.specs.Prelude.{◌≡◌, ◌-◌, ◌^◌, ◌↔◌, min, IsTrue, ◌+◌, ◌*◌, length};
 ghost use Rattle.rb_tree.specs.Resource.{height, trees_height, entries_height, weight, trees_weight, entries_weight};
 ghost use Rattle.rb_tree.specs.Parts.{Fits};
@@ -8,7 +8,7 @@ use crate::limits::{HEIGHT_LIMIT, WEIGHT_LIMIT};
 use crate::tree::{Entries, Tree, TreeList};
 
 impl Tree {
-    /// One more than the highest child, or 1.
+    /// How many levels the tree has: 1 for a leaf and for an empty array or table, else one more than its highest child; `u64::MAX` at the most.
     #[cycle(height)]
     #[tactic(auto, using(crate::proofs::Measures::measures))]
     pub fn height(&self) -> u64
@@ -21,7 +21,7 @@ impl Tree {
         }
     }
 
-    /// A measure of the size of the tree's file.
+    /// A bound on the bytes that the tree takes in a file of its own; `u64::MAX` at the most.
     #[cycle(weight)]
     #[tactic(auto, using(crate::proofs::Measures::measures))]
     pub fn weight(&self) -> u64
@@ -40,7 +40,7 @@ impl Tree {
         }
     }
 
-    /// Whether the tree is a table within the limits of a bundle.
+    /// Whether the tree is a table whose height and weight are within the limits of a bundle.
     pub fn fits(&self) -> bool
         ensures { IsTrue result ↔ Fits (view_of self.now) }
     {
