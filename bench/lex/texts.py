@@ -1,0 +1,27 @@
+"""Writes the texts over which the lexer is measured, each of 8 MB, into the folder that is named."""
+import os
+import sys
+
+SIZE = 8_388_608
+
+
+def texts():
+    yield "quoted", '"' + "a" * (SIZE - 2) + '"'
+    yield "pieces", '"abcdef"' * (SIZE // 8)
+    yield "words", "abcdefg " * (SIZE // 8)
+    yield "comment", "/*" + "x" * (SIZE - 4) + "*/"
+    yield "backslashes", '"' + "\\\\" * ((SIZE - 2) // 2) + '"'
+    group = "    Group{\n" + '        Key{"Vereinigte Arabische Emirate"}\n        AD{"Andorra"}\n' * 8
+    group += "        v:intvector{1, 2, 3}\n        // a comment\n    }\n"
+    yield "nested", "root{\n" + group * ((SIZE - 8) // len(group)) + "}\n"
+
+
+def main():
+    folder = sys.argv[1]
+    os.makedirs(folder, exist_ok=True)
+    for name, text in texts():
+        with open(os.path.join(folder, name), "w") as file:
+            file.write(text)
+
+
+main()

@@ -1,0 +1,24 @@
+use Rattle.std.proofs.Common.{◌≡◌, ap, sym, ◌∙◌, arith, false}
+use Rattle.std.proofs.lemmas.Bool.{lt-ltb}
+use Rattle.rb_tree.specs.Path.{segments}
+use Rattle.rb_parents.specs.Family.{parent_of}
+use Rattle.rb_fallback.specs.Search.{setting}
+use Rattle.rb_fallback.specs.declared.limits.TheConstants.{LEVEL_LIMIT, PATH_LIMIT}
+use Rattle.rb_fallback.proofs.Levels.{search_long}
+use Rattle.rb_fallback.proofs.Never.{answer_never}
+use Rattle.rb_fallback.proofs.Paths.{long_is}
+use Rattle.rb_fallback.proofs.search.look.Goals as goal
+
+pub returns-in-None-clause-answer : goal.returns-in-None-clause-answer
+returns-in-None-clause-answer g c = λ _.
+    let path = c.args.path.now in
+    sym (search_long LEVEL_LIMIT 255 (setting (g.S.Shelf.trees c.args.own) (g.I.Shelf.trees c.args.icu) (parent_of c.args.parents.now) c.args.name.now) false c.args.name.now (segments path) (omega arith) (long_is path ∙ lt-ltb PATH_LIMIT _ c.in-None.ensures.none))
+
+pub returns-in-Some-clause-bad_path : goal.returns-in-Some-clause-bad_path
+returns-in-Some-clause-bad_path g c = (
+  λ e _. answer_never g.S.N.Node.tree c.search_levels.result LEVEL_LIMIT (setting (g.S.Shelf.trees c.args.own) (g.I.Shelf.trees c.args.icu) (parent_of c.args.parents.now) c.args.name.now) false c.args.name.now (segments c.in-Some.path.items) c.search_levels.ensures.answer e,
+  λ h. absurd (h (c.path_ok.ensures.path.0 c.if-not-path_ok.false)),
+)
+
+pub returns-in-None-clause-bad_path : goal.returns-in-None-clause-bad_path
+returns-in-None-clause-bad_path g c = (λ e _. cc, λ h. absurd (h (c.path_ok.ensures.path.0 c.if-not-path_ok.false)))

@@ -1,0 +1,17 @@
+use Rattle.std.proofs.Common.{◌≡◌, ◌-◌, false, unwrap_or}
+use Rattle.rb_tree.specs.Path.{segments, IsPath}
+use Rattle.rb_parents.specs.Family.{parent_of}
+use Rattle.rb_fallback.specs.Search.{bundles_of, first_stop, look_up, search, setting}
+use Rattle.rb_fallback.specs.declared.limits.TheConstants.{LEVEL_LIMIT}
+use Rattle.rb_fallback.proofs.search.search_levels.Given as goal
+
+abbrev pub invariant-loop-level : goal.invariant-loop-level
+invariant-loop-level g l =
+    let own = g.S.Shelf.trees l.own in
+    let icu = g.I.Shelf.trees l.icu in
+    let parents = parent_of l.parents in
+    record {
+      path : IsPath l.place.path.items;
+      valid : unwrap_or l.valid (first_stop (bundles_of own icu l.place.icudata) parents l.place.name) ≡ first_stop own parents l.name;
+      same : search (LEVEL_LIMIT - l.level) (setting own icu parents l.name) l.place.icudata l.place.name (segments l.place.path.items) ≡ look_up own icu parents l.name (segments l.fn.path.items);
+    }

@@ -1,0 +1,22 @@
+-- What the program's answers are seen as.
+use Rattle.std.specs.Prelude.{ℕ, List, drop, Option, option_map, Result, Ok, Err}
+use Rattle.std.specs.List.{slice_split}
+use Rattle.rb_tree.specs.Path.{is_slash}
+use Rattle.rb_tree.specs.Resource.{Resource}
+use Rattle.rb_fallback.specs.Alias.{Aim, aims, no_text, no_package}
+use Rattle.rb_fallback.specs.declared.alias.Target.{Target}
+use Rattle.rb_fallback.specs.declared.fault.AliasFault.{AliasFault}
+use Rattle.rb_fallback.specs.declared.fault.AliasFault.TheVariants as fault
+use Rattle.rb_fallback.specs.declared.fault.LookError.{LookError}
+use Rattle.rb_fallback.specs.declared.found.Found.{Found}
+
+-- a target of the alias with these units; its path is the text from an index on
+abbrev pub aim_of : List ℕ → Result Target AliasFault → Aim
+aim_of us (Ok t) = aims t.icudata t.name (option_map (λ i. slice_split is_slash (drop i us)) t.path_at)
+aim_of us (Err fault.AliasText) = no_text
+aim_of us (Err fault.AliasPackage) = no_package
+
+-- the tree of the node that was found, and the name of its bundle
+abbrev pub answer_of : {N : Type 0} → (N → Resource) → Result (Found N) LookError → Result (Resource × List ℕ) LookError
+answer_of tree (Ok f) = Ok (tree f.node, f.actual)
+answer_of tree (Err e) = Err e

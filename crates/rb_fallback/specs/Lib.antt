@@ -1,0 +1,7 @@
+pub mod Alias
+pub mod Search
+pub mod Answers
+pub mod Words
+pub mod Behind
+pub mod Hits
+pub mod Turns

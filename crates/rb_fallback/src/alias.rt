@@ -1,0 +1,168 @@
+// The texts of aliases.
+ghost use Rattle.std.specs.Prelude.{◌≡◌, ◌<◌, ◌≤◌, ◌+◌, ◌⊎◌, length, drop};
+ghost use Rattle.std.specs.List.{list_all, slice_split, position_or_len};
+ghost use Rattle.std.specs.Str.{bytes_eq};
+ghost use Rattle.rb_tree.specs.Parts.{HasUnits, kind_of, len_of, units_of};
+ghost use Rattle.rb_tree.specs.declared.kind.Kind.TheVariants as Kinds;
+ghost use Rattle.rb_tree.specs.Path.{is_slash};
+ghost use Rattle.rb_locales.specs.Stretch.{stretch};
+ghost use Rattle.rb_fallback.specs.Alias.{is_plain, aim, with_path, located};
+ghost use Rattle.rb_fallback.specs.Answers.{aim_of};
+ghost use Rattle.rb_fallback.specs.Behind.{are_filled, behind_parts};
+
+use crate::fault::AliasFault;
+use rb_locales::Name;
+use rb_tree::Node;
+
+/// Where an alias leads.
+#[derive(Clone, Copy, Debug)]
+pub struct Target {
+    /// Whether ICUDATA is named; else the package is the alias's own.
+    pub icudata: bool,
+    /// The locale, which for `/LOCALE` is the valid one.
+    pub name: Name,
+    /// Where the path begins in the alias's text; at None it is the path walked.
+    pub path_at: Option<usize>,
+}
+
+// Whether each unit is from a space to a tilde.
+fn units_plain<N: Node>(node: N) -> bool
+    requires { HasUnits (kind_of (N.tree node)) }
+    ensures { result ≡ list_all is_plain (units_of (N.tree node)) }
+{
+    for i in 0..node.len() {
+        let unit = node.unit(i);
+        if unit < 0x20 || unit > 0x7E {
+            return false;
+        }
+    }
+    true
+}
+
+// Where the segment ends that begins here.
+#[tactic(auto, using(crate::proofs::Texts::slash_here, crate::proofs::Texts::slash_none))]
+fn segment_past<N: Node>(node: N, from: usize) -> usize
+    requires units { HasUnits (kind_of (N.tree node)) }
+    requires within { from ≤ len_of (N.tree node) }
+    ensures place { result ≡ from + position_or_len is_slash (drop from (units_of (N.tree node))) }
+    ensures within { result ≤ len_of (N.tree node) }
+{
+    let len = node.len();
+    for i in from..len {
+        if node.unit(i) == 0x2F {
+            return i;
+        }
+    }
+    len
+}
+
+// Whether the units between two places spell a word.
+#[tactic(auto, using(crate::proofs::Texts::word_no, crate::proofs::Texts::word_yes, crate::proofs::Texts::word_long))]
+fn is_word<N: Node>(node: N, from: usize, past: usize, word: &[u8]) -> bool
+    requires units { HasUnits (kind_of (N.tree node)) }
+    requires order { from ≤ past }
+    requires within { past ≤ len_of (N.tree node) }
+    ensures { result ≡ bytes_eq (stretch from past (units_of (N.tree node))) word.now }
+{
+    if past - from != word.len() {
+        return false;
+    }
+    for i in 0..word.len() {
+        if node.unit(from + i) != word[i] as u16 {
+            return false;
+        }
+    }
+    true
+}
+
+// Whether no segment from here on is empty.
+#[tactic(auto, using(crate::proofs::Texts::filled_no, crate::proofs::Texts::filled_on, crate::proofs::Texts::behind_more, crate::proofs::Texts::behind_none))]
+fn filled_from<N: Node>(node: N, from: usize) -> bool
+    requires units { HasUnits (kind_of (N.tree node)) }
+    requires within { from ≤ len_of (N.tree node) }
+    ensures { result ≡ are_filled (slice_split is_slash (drop from (units_of (N.tree node)))) }
+{
+    let len = node.len();
+    let mut at = from;
+    'segments: loop {
+        let past = segment_past(node, at);
+        if past == at {
+            return false;
+        }
+        if past == len {
+            return true;
+        }
+        at = past + 1;
+    }
+}
+
+// A name with the path behind it.
+#[tactic(auto, using(crate::proofs::Texts::path_some, crate::proofs::Texts::behind_more))]
+fn with_path<N: Node>(icudata: bool, name: Name, node: N, past: usize) -> Result<Target, AliasFault>
+    requires units { HasUnits (kind_of (N.tree node)) }
+    requires within { past ≤ len_of (N.tree node) }
+    ensures { aim_of (units_of (N.tree node)) result ≡ with_path icudata name (behind_parts (units_of (N.tree node)) past) }
+{
+    let len = node.len();
+    if past == len || past + 1 == len {
+        return Ok(Target {
+            icudata,
+            name,
+            path_at: None,
+        });
+    }
+    if !filled_from(node, past + 1) {
+        return Err(AliasFault::AliasText);
+    }
+    Ok(Target {
+        icudata,
+        name,
+        path_at: Some(past + 1),
+    })
+}
+
+// A locale and a path, from here on.
+#[tactic(auto, using(crate::proofs::Texts::located_some, crate::proofs::Texts::located_none))]
+fn located<N: Node>(icudata: bool, node: N, from: usize) -> Result<Target, AliasFault>
+    requires units { HasUnits (kind_of (N.tree node)) }
+    requires within { from ≤ len_of (N.tree node) }
+    ensures { aim_of (units_of (N.tree node)) result ≡ located icudata (slice_split is_slash (drop from (units_of (N.tree node)))) }
+{
+    let past = segment_past(node, from);
+    if past == from {
+        return Err(AliasFault::AliasText);
+    }
+    match Name::read_part(node, from, past) {
+        Ok(name) => with_path(icudata, name, node, past),
+        Err(_) => Err(AliasFault::AliasText),
+    }
+}
+
+/// Reads the text of an alias, where `valid` is the valid locale of the look-up.
+///
+/// The faults come in this order. `AliasText`: the text is empty or has a unit outside of printable
+/// ASCII. `AliasPackage`: it begins with a slash, and neither `LOCALE` nor `ICUDATA` stands behind it.
+/// `AliasText`: its locale is missing, empty or no name, or its path has an empty segment.
+#[tactic(auto, using(crate::proofs::Texts::aim_package, crate::proofs::Texts::behind_more, crate::proofs::Texts::behind_none))]
+pub fn read_alias<N: Node>(node: N, valid: &Name) -> Result<Target, AliasFault>
+    requires { kind_of (N.tree node) ≡ Kinds.Alias }
+    ensures { aim_of (units_of (N.tree node)) result ≡ aim (units_of (N.tree node)) valid.now }
+{
+    if node.len() == 0 || !units_plain(node) {
+        return Err(AliasFault::AliasText);
+    }
+    if node.unit(0) != 0x2F {
+        return located(false, node, 0);
+    }
+    let past = segment_past(node, 1);
+    if is_word(node, 1, past, b"LOCALE") {
+        return with_path(false, *valid, node, past);
+    }
+    if !is_word(node, 1, past, b"ICUDATA") {
+        return Err(AliasFault::AliasPackage);
+    }
+    if past == node.len() {
+        return Err(AliasFault::AliasText);
+    }
+    located(true, node, past + 1)
+}

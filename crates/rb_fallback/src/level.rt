@@ -1,0 +1,68 @@
+// One level of a search.
+ghost use Rattle.std.specs.Prelude.{◌≡◌};
+ghost use Rattle.rb_tree.specs.Path.{IsPath, segments};
+ghost use Rattle.rb_parents.specs.Trail.{stops};
+ghost use Rattle.rb_parents.specs.Family.{parent_of};
+ghost use Rattle.rb_fallback.specs.Search.{by_stops, first_of, level, first_stop};
+ghost use Rattle.rb_fallback.specs.Hits.{IsLevel};
+
+use crate::fault::LookError;
+use rb_locales::Name;
+use rb_parents::{Parents, Shelf, TrailFault, stop_bundle, trail};
+use rb_tree::{Ending, walk};
+
+// The deciding walk of a level.
+#[derive(Clone, Copy)]
+pub(crate) struct Hit<N> {
+    pub(crate) first: Name,
+    pub actual: Name,
+    pub(crate) ending: Ending<N>,
+}
+
+// The first walk of a stop that does not end nowhere.
+pub(crate) fn scan<'a, S: Shelf<'a>>(
+    shelf: S,
+    names: &[Name],
+    path: &[u8],
+) -> Result<Hit<S::N>, LookError>
+    requires { IsPath path.now }
+    ensures { IsLevel S.N.tree result path.now (by_stops (S.trees shelf) (stops (S.trees shelf) names.now) (segments path.now)) (first_of (stops (S.trees shelf) names.now)) }
+{
+    let mut first = None;
+    for name in names {
+        let bundle = match stop_bundle(shelf, name) {
+            Some(bundle) => bundle,
+            None => continue,
+        };
+        let begun = first.unwrap_or(*name);
+        match walk(bundle, path) {
+            Ending::Gone => first = Some(begun),
+            ending => return Ok(Hit {
+                first: begun,
+                actual: *name,
+                ending,
+            }),
+        }
+    }
+    match first {
+        Some(_) => Err(LookError::Missing),
+        None => Err(LookError::NoBundle),
+    }
+}
+
+// One level: the trail, and the first walk that does not end nowhere.
+pub(crate) fn level<'a, S: Shelf<'a>>(
+    shelf: S,
+    parents: &Parents,
+    name: &Name,
+    path: &[u8],
+) -> Result<Hit<S::N>, LookError>
+    requires { IsPath path.now }
+    ensures { IsLevel S.N.tree result path.now (level (S.trees shelf) (parent_of parents.now) name.now (segments path.now)) (first_stop (S.trees shelf) (parent_of parents.now) name.now) }
+{
+    match trail(shelf, parents, name) {
+        Ok(route) => scan(shelf, route.names.as_slice(), path),
+        Err(TrailFault::Chain) => Err(LookError::Chain),
+        Err(TrailFault::BadParent) => Err(LookError::BadParent),
+    }
+}

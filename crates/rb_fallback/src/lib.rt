@@ -1,0 +1,18 @@
+//! Look-ups that follow locale inheritance and aliases.
+#![tactic(auto)]
+
+mod alias;
+mod fault;
+mod found;
+mod level;
+mod limits;
+mod path;
+mod search;
+#[cfg(test)]
+mod tests;
+
+pub use alias::{Target, read_alias};
+pub use fault::{AliasFault, LookError};
+pub use found::Found;
+pub use limits::{LEVEL_LIMIT, PATH_LIMIT};
+pub use search::look;

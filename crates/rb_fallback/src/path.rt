@@ -1,0 +1,83 @@
+// Paths of a bounded length, and the path behind an alias.
+ghost use Rattle.std.specs.Prelude.{◌≡◌, ◌<◌, ◌≤◌, ◌+◌, ◌++◌, ◌↔◌, IfNone, IfSome, IsTrue, length, drop, true};
+ghost use Rattle.std.specs.Bool.{OnTrue};
+ghost use Rattle.std.specs.List.{list_all};
+ghost use Rattle.arrayvec.specs.ArrayVec.{array_vec_len};
+ghost use Rattle.rb_tree.specs.Parts.{HasUnits, kind_of, len_of, units_of};
+ghost use Rattle.rb_tree.specs.Walk.{behind};
+ghost use Rattle.rb_fallback.specs.declared.limits.TheConstants.{PATH_LIMIT};
+ghost use Rattle.rb_fallback.specs.Alias.{is_plain};
+ghost use Rattle.rb_fallback.specs.Behind.{led};
+
+use crate::limits::PATH_LIMIT;
+use arrayvec::ArrayVec;
+use rb_tree::Node;
+
+// Appends a node's units from one on, where they fit.
+#[tactic(auto, using(crate::proofs::Room::plain_low, crate::proofs::Room::unit_on, crate::proofs::Room::unit_end, crate::proofs::Room::unit_count, crate::proofs::Room::unit_room))]
+pub(crate) fn append_units<N: Node>(path: &mut ArrayVec<u8, PATH_LIMIT>, node: N, at: usize) -> bool
+    requires units { HasUnits (kind_of (N.tree node)) }
+    requires plain { list_all is_plain (units_of (N.tree node)) ≡ true }
+    requires within { at ≤ len_of (N.tree node) }
+    requires empty { array_vec_len path.old ≡ 0 }
+    ensures fits { OnTrue result (path.new.items ≡ drop at (units_of (N.tree node))) }
+    ensures room { IsTrue result ↔ (length (drop at (units_of (N.tree node))) ≤ PATH_LIMIT) }
+{
+    for i in at..node.len() {
+        if path.try_push(node.unit(i) as u8).is_err() {
+            return false;
+        }
+    }
+    let _fits = path.len();
+    true
+}
+
+// A path that is short enough.
+pub(crate) fn short_path(path: &[u8]) -> Option<ArrayVec<u8, PATH_LIMIT>>
+    ensures some { IfSome result (λ p. p.items ≡ path.now) }
+    ensures none { IfNone result (PATH_LIMIT < length path.now) }
+{
+    let mut short = ArrayVec::new();
+    if short.try_extend_from_slice(path).is_err() {
+        return None;
+    }
+    Some(short)
+}
+
+// What is left of a path behind a slash that stands behind its first bytes.
+#[tactic(auto, using(crate::proofs::Follows::behind_more))]
+pub(crate) fn rest_behind(path: &[u8], cut: usize) -> &[u8]
+    ensures { result.now ≡ drop (behind cut) path.now }
+{
+    if cut == 0 {
+        return path;
+    }
+    if cut >= path.len() {
+        return &[];
+    }
+    &path[cut + 1..]
+}
+
+// The path in an alias, with a slash and the rest of another path behind it, where it is short enough.
+pub(crate) fn replaced<N: Node>(node: N, at: usize, rest: &[u8]) -> Option<ArrayVec<u8, PATH_LIMIT>>
+    requires units { HasUnits (kind_of (N.tree node)) }
+    requires plain { list_all is_plain (units_of (N.tree node)) ≡ true }
+    requires within { at ≤ len_of (N.tree node) }
+    ensures some { IfSome result (λ p. p.items ≡ led (drop at (units_of (N.tree node))) rest.now) }
+    ensures none { IfNone result (PATH_LIMIT < length (led (drop at (units_of (N.tree node))) rest.now)) }
+{
+    let mut path = ArrayVec::new();
+    if !append_units(&mut path, node, at) {
+        return None;
+    }
+    if rest.is_empty() {
+        return Some(path);
+    }
+    if path.try_push(b'/').is_err() {
+        return None;
+    }
+    if path.try_extend_from_slice(rest).is_err() {
+        return None;
+    }
+    Some(path)
+}

@@ -1,0 +1,6 @@
+pub mod Place
+pub mod Item
+pub mod Denotation
+pub mod File
+pub mod FirstFault
+pub mod Words

@@ -1,0 +1,28 @@
+//! The numbers of the layout, each in the one place that code and definitions read.
+
+/// The greatest length of a file that is read, in bytes.
+pub const FILE_LIMIT: usize = 67_108_864;
+
+/// The bytes 2 and 3 of each file of ICU's data.
+pub const MAGIC: [u8; 2] = [0xDA, 0x27];
+
+/// The bytes 12 to 15 of a resource bundle.
+pub const DATA_FORMAT: [u8; 4] = [b'R', b'e', b's', b'B'];
+
+/// The bytes 16 and 17, the major and the minor format version.
+pub const FORMAT_VERSION: [u8; 2] = [1, 1];
+
+/// The byte 9 where keys are ASCII.
+pub const CHARSET_FAMILY: u8 = 0;
+
+/// The byte 10, the size of a unit of text.
+pub const UNIT_SIZE: u8 = 2;
+
+/// The least size of the info block, which begins at byte 4.
+pub const INFO_SIZE: u16 = 20;
+
+/// The least size of a header.
+pub const HEADER_SIZE: u16 = 32;
+
+/// The least number of indexes behind the root item.
+pub const INDEX_COUNT: u32 = 5;

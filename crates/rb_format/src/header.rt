@@ -1,0 +1,87 @@
+// The header of a file.
+ghost use Rattle.std.specs.Prelude.{◌≡◌, ◌+◌, ◌≤◌, length, drop, IfOk, IsTrue};
+ghost use Rattle.rb_format.specs.Place.{half_at};
+ghost use Rattle.rb_format.specs.File as files;
+ghost use Rattle.rb_format.specs.FirstFault.{header};
+
+use crate::constants::{
+    CHARSET_FAMILY, DATA_FORMAT, FORMAT_VERSION, HEADER_SIZE, INFO_SIZE, MAGIC, UNIT_SIZE,
+};
+use crate::fault::FileFault;
+use crate::place::half_at;
+
+/// The header of a file: its size, and the second byte of its format version.
+#[derive(Clone, Copy, Debug, PartialEq, Eq)]
+pub struct Header {
+    pub size: u16,
+    pub minor: u8,
+}
+
+impl Header {
+    /// The header at the front of a file. It is refused for the first of these: fewer than 24 bytes or other magic bytes
+    /// (`Header`), big-endian numbers (`BigEndian`), another charset family or size of units (`Family`), another format
+    /// version (`FormatVersion`), and sizes that can't be (`Header`).
+    #[tactic(auto, unfolding(crate::specs::FirstFault::header))]
+    pub fn read(bytes: &[u8]) -> Result<Header, FileFault>
+        ensures value { result ≡ header bytes.now }
+        ensures inside { IfOk result (λ h. h.size ≤ length bytes.now) }
+    {
+        if bytes.len() < 24 || !has_magic(bytes) {
+            return Err(FileFault::Header);
+        }
+        if bytes[8] != 0 {
+            return Err(FileFault::BigEndian);
+        }
+        if bytes[9] != CHARSET_FAMILY || bytes[10] != UNIT_SIZE {
+            return Err(FileFault::Family);
+        }
+        if bytes[16] != FORMAT_VERSION[0] || bytes[17] != FORMAT_VERSION[1] {
+            return Err(FileFault::FormatVersion);
+        }
+        if !has_sizes(bytes) {
+            return Err(FileFault::Header);
+        }
+        Ok(Header {
+            size: half_at(bytes, 0),
+            minor: bytes[17],
+        })
+    }
+}
+
+/// Whether the magic bytes stand there, and the data format is that of a resource bundle.
+fn has_magic(bytes: &[u8]) -> bool
+    requires { 24 ≤ length bytes.now }
+    ensures { result ≡ files.has_magic bytes.now }
+{
+    bytes[2] == MAGIC[0]
+        && bytes[3] == MAGIC[1]
+        && bytes[12] == DATA_FORMAT[0]
+        && bytes[13] == DATA_FORMAT[1]
+        && bytes[14] == DATA_FORMAT[2]
+        && bytes[15] == DATA_FORMAT[3]
+}
+
+/// Whether the header's size and that of its info block can be.
+fn has_sizes(bytes: &[u8]) -> bool
+    requires { 24 ≤ length bytes.now }
+    ensures value { result ≡ files.has_sizes bytes.now }
+    ensures inside { IsTrue result → half_at bytes.now 0 ≤ length bytes.now }
+{
+    let size = half_at(bytes, 0);
+    let info = half_at(bytes, 2);
+    size % 16 == 0
+        && HEADER_SIZE <= size
+        && size as usize <= bytes.len()
+        && INFO_SIZE <= info
+        && info as usize + 4 <= size as usize
+}
+
+/// What follows the header.
+pub fn body(bytes: &[u8]) -> &[u8]
+    requires long { 24 ≤ length bytes.now }
+    requires inside { half_at bytes.now 0 ≤ length bytes.now }
+    ensures { result.now ≡ drop (half_at bytes.now 0) bytes.now }
+{
+    let start = half_at(bytes, 0) as usize;
+    &bytes[start..]
+}

@@ -1,0 +1,54 @@
+// The bounds in a file's data.
+ghost use Rattle.std.specs.Prelude.{◌≡◌, ◌≤◌, length};
+ghost use Rattle.rb_format.specs.File as files;
+ghost use Rattle.rb_format.specs.Place.{layout_of};
+
+use crate::constants::INDEX_COUNT;
+use crate::place::word_at;
+
+/// The bounds that the indexes of a file give, in words from the root item.
+#[derive(Clone, Copy, Debug, PartialEq, Eq)]
+pub struct Layout {
+    /// The number of the indexes, which stand behind the root item.
+    pub indexes: u32,
+    /// Where the keys end.
+    pub keys_top: u32,
+    /// Where the bundle ends.
+    pub top: u32,
+}
+
+impl Layout {
+    /// The bounds that the indexes give.
+    pub fn of(body: &[u8]) -> Layout
+        requires { 24 ≤ length body.now }
+        ensures { result ≡ layout_of body.now }
+    {
+        Layout {
+            indexes: word_at(body, 1),
+            keys_top: word_at(body, 2),
+            top: word_at(body, 4),
+        }
+    }
+}
+
+/// Whether the indexes are there, and the keys, the resources and the bundle end in this order, within the data.
+pub fn is_laid(body: &[u8]) -> bool
+    ensures { result ≡ files.is_laid body.now }
+{
+    body.len() >= 24 && are_in_order(body)
+}
+
+fn are_in_order(body: &[u8]) -> bool
+    requires { 24 ≤ length body.now }
+    ensures { result ≡ files.are_in_order body.now }
+{
+    let indexes = word_at(body, 1);
+    let keys_top = word_at(body, 2);
+    let resources_top = word_at(body, 3);
+    let top = word_at(body, 4);
+    INDEX_COUNT <= indexes
+        && indexes < keys_top
+        && keys_top <= resources_top
+        && resources_top <= top
+        && top as usize <= body.len() / 4
+}

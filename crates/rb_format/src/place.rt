@@ -1,0 +1,117 @@
+// What stands at a place of the data.
+ghost use Rattle.std.specs.Prelude.{◌≡◌, ◌+◌, ◌*◌, ◌≤◌, ◌<◌, ◌==◌, length, position, IfSome};
+ghost use Rattle.std.specs.Option.{option_copied};
+ghost use Rattle.std.specs.List.{list_all};
+ghost use Rattle.rb_format.specs.Place as places;
+ghost use Rattle.rb_format.specs.Place.{word, half, key, key_at, key_front, key_ok, plain};
+
+use crate::layout::Layout;
+use byteorder::{ByteOrder, LittleEndian};
+
+/// Word i of the data: the number in the 4 bytes from byte 4i. None where they aren't all there.
+#[tactic(auto, unfolding(crate::specs::Place::word_at))]
+pub fn word(body: &[u8], i: usize) -> Option<u32>
+    ensures { result ≡ word body.now i }
+{
+    if i < body.len() / 4 {
+        Some(LittleEndian::read_u32(&body[4 * i..]))
+    } else {
+        None
+    }
+}
+
+/// Half word i of the data: the number in the 2 bytes from byte 2i. None where they aren't both there.
+#[tactic(auto, unfolding(crate::specs::Place::half_at))]
+pub fn half(body: &[u8], i: usize) -> Option<u16>
+    ensures { result ≡ half body.now i }
+{
+    if i < body.len() / 2 {
+        Some(LittleEndian::read_u16(&body[2 * i..]))
+    } else {
+        None
+    }
+}
+
+/// The key from byte k of the data: the bytes up to the next NUL, which lie behind the indexes and below the top of the
+/// keys. None where there is no key.
+pub fn key_at(body: &[u8], k: u32) -> Option<&[u8]>
+    ensures { option_copied result ≡ key_at body.now k }
+{
+    if body.len() < 12 {
+        return None;
+    }
+    let layout = Layout {
+        indexes: word_at(body, 1),
+        keys_top: word_at(body, 2),
+        top: 0,
+    };
+    key_within(&layout, body, k)
+}
+
+/// The key from byte k of the data, in these bounds.
+#[tactic(auto, unfolding(crate::specs::Place::key), using(crate::proofs::Fronts::key_behind, crate::proofs::Fronts::key_beyond))]
+pub fn key_within<'a>(layout: &Layout, body: &'a [u8], k: u32) -> Option<&'a [u8]>
+    ensures { option_copied result ≡ key layout.now body.now k }
+{
+    let k = k as usize;
+    let high = (4 * layout.keys_top as usize).min(body.len());
+    if k < 4 * (1 + layout.indexes as usize) {
+        return None;
+    }
+    if k < high {
+        key_in(&body[k..high])
+    } else {
+        None
+    }
+}
+
+/// The key at the front of the bytes, before their first NUL.
+fn key_in(run: &[u8]) -> Option<&[u8]>
+    ensures { option_copied result ≡ key_front run.now }
+{
+    match first_nul(run) {
+        Some(length) => {
+            let key = &run[..length];
+            if is_key(key) { Some(key) } else { None }
+        }
+        None => None,
+    }
+}
+
+fn first_nul(bytes: &[u8]) -> Option<usize>
+    ensures value { result ≡ position (λ x. x == 0) bytes.now }
+    ensures bound { IfSome result (λ n. n < length bytes.now) }
+{
+    bytes.iter().position(|x| *x == 0)
+}
+
+/// Whether the bytes are a key: one or more, each 0x20 to 0x7E.
+fn is_key(bytes: &[u8]) -> bool
+    ensures { result ≡ key_ok bytes.now }
+{
+    !bytes.is_empty() && is_plain(bytes)
+}
+
+fn is_plain(bytes: &[u8]) -> bool
+    ensures { result ≡ list_all plain bytes.now }
+{
+    bytes.iter().all(|x| 32 <= *x && *x <= 126)
+}
+
+/// Word i of the data, whose bytes are there.
+#[tactic(auto, unfolding(crate::specs::Place::word_at))]
+pub fn word_at(body: &[u8], i: usize) -> u32
+    requires { 4 * i + 4 ≤ length body.now }
+    ensures { result ≡ places.word_at body.now i }
+{
+    LittleEndian::read_u32(&body[4 * i..])
+}
+
+/// Half word i of the data, whose bytes are there.
+#[tactic(auto, unfolding(crate::specs::Place::half_at))]
+pub fn half_at(body: &[u8], i: usize) -> u16
+    requires { 2 * i + 2 ≤ length body.now }
+    ensures { result ≡ places.half_at body.now i }
+{
+    LittleEndian::read_u16(&body[2 * i..])
+}

@@ -1,0 +1,99 @@
+-- Numbers and bytes that a text spells, after genrb's `int`, `intvector` and `bin`.
+use Rattle.std.specs.Prelude.{◌≡◌, ◌<◌, ◌≤◌, ◌+◌, ◌-◌, ◌*◌, ◌%◌, ℕ, ℤ, pos, neg_ℤ, Bool, true, false, List, [], ◌∷◌, length, filter, not, ◌||◌, ◌==◌, if◌then◌else◌, nat_lt}
+use Rattle.std.specs.Char.{digit_value}
+use Rattle.std.specs.Str.Parse.{digits_value, AllDigits}
+use Rattle.rb_grammar.specs.declared.limits.TheConstants.{INT_MODULUS, INT_DEPTH, ELEMENT_MODULUS, ELEMENT_DEPTH}
+
+pub data Sign : Type 0 where
+  bare : Sign
+  plus : Sign
+  minus : Sign
+
+-- The digits of a number, by its base: behind `0x` or `0X` (upper), behind `0`, or alone.
+pub data Numeral : Type 0 where
+  hexadecimal : Bool → List ℕ → Numeral
+  octal : List ℕ → Numeral
+  decimal : List ℕ → Numeral
+
+abbrev pub sign_units : Sign → List ℕ → List ℕ
+sign_units bare rest = rest
+sign_units plus rest = 0x2B ∷ rest
+sign_units minus rest = 0x2D ∷ rest
+
+abbrev pub numeral_units : Numeral → List ℕ
+numeral_units (hexadecimal upper ds) = 0x30 ∷ (if upper then 0x58 else 0x78) ∷ ds
+numeral_units (octal ds) = 0x30 ∷ ds
+numeral_units (decimal ds) = ds
+
+-- no digits, or others than 0 first
+abbrev pub BeginsAbove0 : List ℕ → Type 0
+BeginsAbove0 [] = ⊥
+BeginsAbove0 (d ∷ ds) = 0 < digit_value d
+
+abbrev pub IsNumeral : Numeral → Type 0
+IsNumeral (hexadecimal upper ds) = (0 < length ds) × AllDigits 16 ds
+IsNumeral (octal ds) = AllDigits 8 ds
+IsNumeral (decimal ds) = BeginsAbove0 ds × AllDigits 10 ds
+
+abbrev pub numeral_value : Numeral → ℕ
+numeral_value (hexadecimal upper ds) = digits_value 16 ds
+numeral_value (octal ds) = digits_value 8 ds
+numeral_value (decimal ds) = digits_value 10 ds
+
+-- A number is told by whether it is below zero, and how far it is from zero.
+abbrev pub is_minus : Sign → Bool
+is_minus bare = false
+is_minus plus = false
+is_minus minus = true
+
+-- the units write this number
+pub record Writes (units : List ℕ) (negative : Bool) (size : ℕ) : Type 0 where
+  pub sign : Sign
+  pub numeral : Numeral
+  pub good : IsNumeral numeral
+  pub spelled : units ≡ sign_units sign (numeral_units numeral)
+  pub negative_is : negative ≡ is_minus sign
+  pub size_is : size ≡ numeral_value numeral
+
+-- ---- an Int, kept modulo 2^28
+abbrev pub IsIntSize : Bool → ℕ → Type 0
+IsIntSize false size = size < INT_MODULUS
+IsIntSize true size = size ≤ INT_DEPTH
+
+abbrev pub int_kept : Bool → ℕ → ℕ
+int_kept false size = size
+int_kept true size = (INT_MODULUS - size) % INT_MODULUS
+
+abbrev pub IsIntText : List ℕ → ℕ → Type 0
+IsIntText units n = (negative : Bool) × (size : ℕ) × Writes units negative size × IsIntSize negative size × (n ≡ int_kept negative size)
+
+-- ---- an element of a vector, kept modulo 2^32 as a signed number
+abbrev pub IsElementSize : Bool → ℕ → Type 0
+IsElementSize false size = size < ELEMENT_MODULUS
+IsElementSize true size = size ≤ ELEMENT_DEPTH
+
+abbrev pub element_kept : Bool → ℕ → ℤ
+element_kept false size = if nat_lt size ELEMENT_DEPTH then pos size else neg_ℤ (pos (ELEMENT_MODULUS - size))
+element_kept true size = neg_ℤ (pos size)
+
+abbrev pub IsElementText : List ℕ → ℤ → Type 0
+IsElementText units z = (negative : Bool) × (size : ℕ) × Writes units negative size × IsElementSize negative size × (z ≡ element_kept negative size)
+
+-- ---- bytes: two hexadecimal digits each; four kinds of space are ignored
+abbrev pub is_gap : ℕ → Bool
+is_gap u = (u == 0x09) || (u == 0x0A) || (u == 0x0D) || (u == 0x20)
+
+abbrev pub pairs_digits : List (ℕ × ℕ) → List ℕ
+pairs_digits [] = []
+pairs_digits (p ∷ ps) = p.0 ∷ p.1 ∷ pairs_digits ps
+
+abbrev pub pairs_bytes : List (ℕ × ℕ) → List ℕ
+pairs_bytes [] = []
+pairs_bytes (p ∷ ps) = (16 * digit_value p.0 + digit_value p.1) ∷ pairs_bytes ps
+
+abbrev pub ArePairs : List (ℕ × ℕ) → Type 0
+ArePairs [] = Unit {0}
+ArePairs (p ∷ ps) = (digit_value p.0 < 16) × (digit_value p.1 < 16) × ArePairs ps
+
+abbrev pub IsHexText : List ℕ → List ℕ → Type 0
+IsHexText units bytes = (ps : List (ℕ × ℕ)) × ArePairs ps × (filter (λ u. not (is_gap u)) units ≡ pairs_digits ps) × (bytes ≡ pairs_bytes ps)

@@ -1,0 +1,268 @@
+-- For proofs, and the contracts of a parser's own functions: the grammar as a function that reads tokens from left to right and stops at the first fault that it meets.
+-- What a bundle text is stands in Form and Good, which faults it has in Faults; laws say that this function meets them.
+use Rattle.std.specs.Prelude.{ℕ, zero, suc, ◌||◌, Bool, true, false, List, [], ◌∷◌, length, ◌-◌, Option, Some, None, Result, Ok, Err, nat_lt, nat_eq, if◌then◌else◌}
+use Rattle.std.specs.Cmp.Lexicographic.{pointwise}
+use Rattle.rb_lexer.specs.declared.token.Mark.{Mark}
+use Rattle.rb_lexer.specs.declared.token.Mark.TheVariants.{Text, LeftBrace, RightBrace, Colon, Comma}
+use Rattle.rb_lexer.specs.declared.token.Token.{Token}
+use Rattle.rb_lexer.specs.declared.fault.SourceKind.{SourceKind}
+use Rattle.rb_lexer.specs.declared.fault.SourceKind.TheVariants.{Unexpected, UnknownType, BadKey, DuplicateKey, BadInt, BadHex, TooDeep, TrailingText}
+use Rattle.rb_tree.specs.declared.limits.TheConstants.{HEIGHT_LIMIT}
+use Rattle.rb_grammar.specs.Form.{string, alias, binary, int, ints, Body, plain, group, listed, leaf, table, array, Entries, no_entries, entry, Elements, no_elements, one_text, one_body, string_word, alias_word, binary_word, int_word, ints_word, table_word, array_word}
+
+-- why reading stops, and the tokens from the one at fault on
+pub record Stop : Type 0 where
+  pub kind : SourceKind
+  pub rest : List Token
+
+abbrev pub stop : SourceKind → List Token → Stop
+stop kind rest = record { kind = kind; rest = rest }
+
+-- what was read, and the tokens after it
+abbrev pub Read : Type 0 → Type 0
+Read A = Result (A × List Token) Stop
+
+infixl 10 ◌>>=◌
+abbrev pub ◌>>=◌ : {A B : Type 0} → Result A Stop → (A → Result B Stop) → Result B Stop
+(Ok x) >>= f = f x
+(Err e) >>= f = Err e
+
+abbrev pub text_of : Mark → Option (List ℕ)
+text_of (Text s) = Some s
+text_of LeftBrace = None
+text_of RightBrace = None
+text_of Colon = None
+text_of Comma = None
+
+-- the signs
+pub data Sign : Type 0 where
+  left : Sign
+  right : Sign
+  colon : Sign
+  comma : Sign
+
+abbrev pub sign_mark : Sign → Mark
+sign_mark left = LeftBrace
+sign_mark right = RightBrace
+sign_mark colon = Colon
+sign_mark comma = Comma
+
+abbrev pub is_sign : Sign → Mark → Bool
+is_sign left LeftBrace = true
+is_sign right RightBrace = true
+is_sign colon Colon = true
+is_sign comma Comma = true
+is_sign s m = false
+
+abbrev pub begins : Sign → List Token → Bool
+begins s [] = false
+begins s (t ∷ ts) = is_sign s t.what
+
+abbrev pub tail : List Token → List Token
+tail [] = []
+tail (t ∷ ts) = ts
+
+-- the sign, which has to come
+abbrev pub sign_at : Sign → List Token → Result (List Token) Stop
+sign_at s ts = if begins s ts then Ok (tail ts) else Err (stop Unexpected ts)
+
+-- the text, if one comes
+abbrev pub first_text : List Token → Option (List ℕ)
+first_text [] = None
+first_text (t ∷ ts) = text_of t.what
+
+abbrev pub text_or : List Token → Option (List ℕ) → Read (List ℕ)
+text_or ts None = Err (stop Unexpected ts)
+text_or ts (Some s) = Ok (s, tail ts)
+
+abbrev pub text_at : List Token → Read (List ℕ)
+text_at ts = text_or ts (first_text ts)
+
+-- a comma, where one comes
+abbrev pub has_comma : List Token → Bool
+has_comma ts = begins comma ts
+
+abbrev pub after_comma : List Token → List Token
+after_comma ts = if has_comma ts then tail ts else ts
+
+-- ---- the conditions, as tests; the module's laws tie them to their definitions
+pub record Tests : Type 0 where
+  pub is_key : List ℕ → Bool
+  pub is_int : List ℕ → Bool
+  pub is_element : List ℕ → Bool
+  pub is_hex : List ℕ → Bool
+
+-- ---- types
+
+pub data Word : Type 0 where
+  string_type : Word
+  alias_type : Word
+  binary_type : Bool → Word
+  int_type : Bool → Word
+  ints_type : Word
+  table_type : Word
+  array_type : Word
+
+abbrev pub word_units : Word → List ℕ
+word_units string_type = string_word
+word_units alias_type = alias_word
+word_units (binary_type long) = binary_word long
+word_units (int_type long) = int_word long
+word_units ints_type = ints_word
+word_units table_type = table_word
+word_units array_type = array_word
+
+abbrev pub first_word : List ℕ → List Word → Option Word
+first_word s [] = None
+first_word s (w ∷ ws) = if pointwise nat_eq s (word_units w) then Some w else first_word s ws
+
+abbrev pub all_words : List Word
+all_words = string_type ∷ alias_type ∷ binary_type true ∷ binary_type false ∷ int_type true ∷ int_type false ∷ ints_type ∷ table_type ∷ array_type ∷ []
+
+abbrev pub word_or : List Token → Option Word → Read Word
+word_or ts None = Err (stop UnknownType ts)
+word_or ts (Some w) = Ok (w, tail ts)
+
+-- behind a colon: a type word
+abbrev pub word_at : List Token → Read Word
+word_at ts = text_at ts >>= λ s. word_or ts (first_word s.0 all_words)
+
+-- ---- leaves
+
+-- a text that passes, which has to come
+abbrev pub checked_at : SourceKind → (List ℕ → Bool) → List Token → Read (List ℕ)
+checked_at kind passes ts = text_at ts >>= λ s. if passes s.0 then Ok s else Err (stop kind ts)
+
+-- a text that passes, or none
+abbrev pub maybe_or : SourceKind → (List ℕ → Bool) → List Token → Option (List ℕ) → Read (Option (List ℕ))
+maybe_or kind passes ts None = Ok (None, ts)
+maybe_or kind passes ts (Some s) = if passes s then Ok (Some s, tail ts) else Err (stop kind ts)
+
+abbrev pub maybe_at : SourceKind → (List ℕ → Bool) → List Token → Read (Option (List ℕ))
+maybe_at kind passes ts = maybe_or kind passes ts (first_text ts)
+
+abbrev pub numbers_step : (List ℕ → Bool) → (List Token → Read (List (List ℕ × Bool))) → List Token → Option (List ℕ) → Read (List (List ℕ × Bool))
+numbers_step passes more ts None = Ok ([], ts)
+numbers_step passes more ts (Some s) = if passes s then (more (after_comma (tail ts)) >>= λ ns. Ok ((s, has_comma (tail ts)) ∷ ns.0, ns.1)) else Err (stop BadInt ts)
+
+unfoldable pub numbers : (List ℕ → Bool) → ℕ → List Token → Read (List (List ℕ × Bool))
+numbers passes zero ts = Err (stop Unexpected ts)
+numbers passes (suc n) ts = numbers_step passes (numbers passes n) ts (first_text ts)
+
+abbrev pub anything : List ℕ → Bool
+anything s = true
+
+-- ---- entries and elements, up to the brace that closes them
+
+abbrev pub is_among : List (List ℕ) → List ℕ → Bool
+is_among [] k = false
+is_among (l ∷ ls) k = pointwise nat_eq k l || is_among ls k
+
+abbrev pub entry_at : Tests → (List Token → Read Body) → List (List ℕ) → List ℕ → List Token → Read Body
+entry_at tests body earlier k ts = if tests.is_key k then (if is_among earlier k then Err (stop DuplicateKey ts) else body (tail ts)) else Err (stop BadKey ts)
+
+abbrev pub entries_step : Tests → (List Token → Read Body) → (List (List ℕ) → List Token → Read Entries) → List (List ℕ) → List Token → Option (List ℕ) → Read Entries
+entries_step tests body more earlier ts None = sign_at right ts >>= λ after. Ok (no_entries, after)
+entries_step tests body more earlier ts (Some k) = do
+  b ← entry_at tests body earlier k ts
+  es ← more (k ∷ earlier) (after_comma b.1)
+  Ok (entry k b.0 (has_comma b.1) es.0, es.1)
+
+unfoldable pub entries : Tests → (List Token → Read Body) → ℕ → List (List ℕ) → List Token → Read Entries
+entries tests body zero earlier ts = Err (stop Unexpected ts)
+entries tests body (suc n) earlier ts = entries_step tests body (entries tests body n) earlier ts (first_text ts)
+
+-- room: an element may be one level deeper
+abbrev pub elements_step : Bool → (List Token → Read Body) → (List Token → Read Elements) → List Token → Option (List ℕ) → Read Elements
+elements_step room body more ts None =
+    if begins colon ts || begins left ts then (body ts >>= λ b. more (after_comma b.1) >>= λ xs. Ok (one_body b.0 (has_comma b.1) xs.0, xs.1)) else (sign_at right ts >>= λ after. Ok (no_elements, after))
+elements_step room body more ts (Some s) = if room then (more (after_comma (tail ts)) >>= λ xs. Ok (one_text s (has_comma (tail ts)) xs.0, xs.1)) else Err (stop TooDeep ts)
+
+unfoldable pub elements : Bool → (List Token → Read Body) → ℕ → List Token → Read Elements
+elements room body zero ts = Err (stop Unexpected ts)
+elements room body (suc n) ts = elements_step room body (elements room body n) ts (first_text ts)
+
+-- ---- bodies
+
+-- what reads the values inside, and whether one may be there at all
+pub record Inner : Type 0 where
+  pub room : Bool
+  pub reads : List Token → Read Body
+
+abbrev pub table_at : Tests → Inner → List Token → Read Entries
+table_at tests inner ts = entries tests inner.reads (suc (length ts)) [] ts
+
+abbrev pub array_at : Inner → List Token → Read Elements
+array_at inner ts = elements inner.room inner.reads (suc (length ts)) ts
+
+abbrev pub closed : {A : Type 0} → (A → Body) → Read A → Read Body
+closed make read = read >>= λ x. sign_at right x.1 >>= λ after. Ok (make x.0, after)
+
+-- behind the brace of a body with a type
+abbrev pub typed_at : Tests → Inner → Word → List Token → Read Body
+typed_at tests inner string_type ts = closed (λ t. leaf (string t)) (maybe_at BadHex anything ts)
+typed_at tests inner alias_type ts = closed (λ t. leaf (alias t)) (maybe_at BadHex anything ts)
+typed_at tests inner (binary_type long) ts = closed (λ t. leaf (binary long t)) (maybe_at BadHex tests.is_hex ts)
+typed_at tests inner (int_type long) ts = closed (λ s. leaf (int long s)) (checked_at BadInt tests.is_int ts)
+typed_at tests inner ints_type ts = closed (λ ns. leaf (ints ns)) (numbers tests.is_element (suc (length ts)) ts)
+typed_at tests inner table_type ts = table_at tests inner ts >>= λ es. Ok (table es.0, es.1)
+typed_at tests inner array_type ts = array_at inner ts >>= λ xs. Ok (array xs.0, xs.1)
+
+-- behind the brace of a body without a type: what decides
+pub data Guess : Type 0 where
+  as_text : Guess
+  as_table : Guess
+  as_array : Guess
+  none_at : List Token → Guess
+
+abbrev pub guess_second : List Token → Guess
+guess_second ts = if begins comma ts then as_array else (if begins right ts then as_text else (if begins left ts || begins colon ts then as_table else none_at ts))
+
+abbrev pub guess_or : List Token → Option (List ℕ) → Guess
+guess_or ts None = if begins left ts || begins colon ts || begins right ts then as_array else none_at ts
+guess_or ts (Some s) = guess_second (tail ts)
+
+abbrev pub guess : List Token → Guess
+guess ts = guess_or ts (first_text ts)
+
+abbrev pub untyped_at : Tests → Inner → Guess → List Token → Read Body
+untyped_at tests inner as_text ts = closed plain (text_at ts)
+untyped_at tests inner as_table ts = table_at tests inner ts >>= λ es. Ok (group es.0, es.1)
+untyped_at tests inner as_array ts = array_at inner ts >>= λ xs. Ok (listed xs.0, xs.1)
+untyped_at tests inner (none_at rest) ts = Err (stop Unexpected rest)
+
+-- a body, at a place where one may be
+abbrev pub body_at : Tests → Inner → List Token → Read Body
+body_at tests inner ts =
+    if begins colon ts
+    then (word_at (tail ts) >>= λ w. sign_at left w.1 >>= λ after. typed_at tests inner w.0 after)
+    else (sign_at left ts >>= λ after. untyped_at tests inner (guess after) after)
+
+-- A body with others inside it no deeper than the number.
+unfoldable pub body : Tests → ℕ → List Token → Read Body
+unfolding entries elements numbers
+body tests zero ts = if begins colon ts || begins left ts then Err (stop TooDeep ts) else Err (stop Unexpected ts)
+body tests (suc depth) ts = body_at tests (record { room = nat_lt 0 depth; reads = body tests depth }) ts
+
+-- ---- the bundle, all of the tokens
+
+abbrev pub ended : List ℕ → Bool → Entries → List Token → Result (List ℕ × Bool × Entries) Stop
+ended name typed es [] = Ok (name, typed, es)
+ended name typed es (t ∷ ts) = Err (stop TrailingText (t ∷ ts))
+
+abbrev pub table_word_or : List Token → Word → List Token → Read Bool
+table_word_or ts table_type rest = Ok (true, rest)
+table_word_or ts other rest = Err (stop Unexpected ts)
+
+-- the type of the bundle, if one is written
+abbrev pub type_at : List Token → Read Bool
+type_at ts = if begins colon ts then (word_at (tail ts) >>= λ w. table_word_or (tail ts) w.0 w.1) else Ok (false, ts)
+
+unfoldable pub bundle : Tests → List Token → Result (List ℕ × Bool × Entries) Stop
+unfolding entries
+bundle tests ts = do
+  name ← text_at ts
+  typed ← type_at name.1
+  after ← sign_at left typed.1
+  es ← entries tests (body tests (HEIGHT_LIMIT - 1)) (suc (length after)) [] after
+  ended name.0 typed.0 es.0 es.1

@@ -1,0 +1,41 @@
+// Bytes that a text spells.
+ghost use Rattle.std.specs.Prelude.{◌≡◌, ℕ, List, IfOk, MatchOption};
+ghost use Rattle.rb_grammar.specs.Numeral.{is_gap, IsHexText};
+
+use crate::number::digit;
+use std::alloc::{AllocError, Global};
+
+fn is_gap(unit: u16) -> bool
+    ensures { result ≡ is_gap unit }
+{
+    unit == 0x09 || unit == 0x0A || unit == 0x0D || unit == 0x20
+}
+
+/// The bytes that a text spells by two hexadecimal digits each; tabs, line feeds, carriage returns and spaces are ignored.
+/// `None` where another unit stands in the text, or the number of digits is odd. An error where memory is wanting.
+pub fn read_bytes(alloc: Global, units: &[u16]) -> Result<Option<Vec<u8>>, AllocError>
+    ensures { IfOk result (λ read. MatchOption read ((bytes : List ℕ) → IsHexText units.now bytes → ⊥) (λ bytes. IsHexText units.now bytes.items)) }
+{
+    let mut bytes = Vec::new(alloc);
+    let mut held = None;
+    for unit in units {
+        if is_gap(*unit) {
+            continue;
+        }
+        let low = digit(*unit);
+        if low >= 16 {
+            return Ok(None);
+        }
+        match held {
+            None => held = Some(*unit),
+            Some(high) => {
+                bytes.push((16 * digit(high) + low) as u8)?;
+                held = None;
+            }
+        }
+    }
+    if held.is_some() {
+        return Ok(None);
+    }
+    Ok(Some(bytes))
+}

@@ -1,0 +1,44 @@
+//! Laws about the definitions: each is the contract of a function that does nothing.
+ghost use Rattle.std.specs.Prelude.{◌≡◌, ◌≤◌, ◌⊎◌, ℕ, Bool, List};
+ghost use Rattle.rb_lexer.specs.declared.fault.SourceKind.{SourceKind};
+ghost use Rattle.rb_lexer.specs.declared.token.Mark.{Mark};
+ghost use Rattle.rb_lexer.specs.declared.token.Token.{Token};
+ghost use Rattle.rb_tree.specs.Resource.{Resource, height};
+ghost use Rattle.rb_tree.specs.declared.limits.TheConstants.{HEIGHT_LIMIT};
+ghost use Rattle.rb_grammar.specs.Form.{marks, table, Entries};
+ghost use Rattle.rb_grammar.specs.Good.{Spells, IsSpelled, IsGood};
+ghost use Rattle.rb_grammar.specs.Faults.{line_at, IsFault};
+ghost use Rattle.rb_grammar.specs.Reading.{Stop, bundle};
+ghost use Rattle.rb_grammar.specs.Tests.{the_tests};
+
+/// Marks spell at most one name and tree.
+pub fn spells_one_bundle()
+    ensures { (ms : List Mark) (name other : List ℕ) (tree another : Resource) → IsSpelled ms name tree → IsSpelled ms other another → (name ≡ other) × (tree ≡ another) }
+{}
+
+/// What is read is spelled so, and its tree is not too high.
+pub fn read_is_spelled()
+    ensures { (tokens : List Token) (name : List ℕ) (typed : Bool) (form : Entries) → bundle the_tests tokens ≡ Ok (name, typed, form)
+        → (tree : Resource) × IsSpelled (marks tokens) name tree × Spells (table form) tree × (height tree ≤ HEIGHT_LIMIT) }
+{}
+
+/// What is spelled, and not too high, is read so.
+pub fn spelled_is_read()
+    ensures { (tokens : List Token) (name : List ℕ) (tree : Resource) → IsSpelled (marks tokens) name tree → height tree ≤ HEIGHT_LIMIT
+        → (typed : Bool) × (form : Entries) × (bundle the_tests tokens ≡ Ok (name, typed, form)) × Spells (table form) tree }
+{}
+
+/// Tokens that aren't read have the fault at which reading stops, in its line.
+pub fn stop_is_fault()
+    ensures { (tokens : List Token) (end : ℕ) (stop : Stop) → bundle the_tests tokens ≡ Err stop → IsFault tokens end stop.kind (line_at end stop.rest) }
+{}
+
+/// Good tokens have no fault.
+pub fn good_has_no_fault()
+    ensures { (tokens : List Token) (name : List ℕ) (tree : Resource) (end : ℕ) (kind : SourceKind) (line : ℕ) → IsGood (marks tokens) name tree → IsFault tokens end kind line → ⊥ }
+{}
+
+/// Tokens that aren't good have a fault.
+pub fn good_or_faulty()
+    ensures { (tokens : List Token) (end : ℕ) → ((name : List ℕ) × (tree : Resource) × IsGood (marks tokens) name tree) ⊎ ((kind : SourceKind) × (line : ℕ) × IsFault tokens end kind line) }
+{}

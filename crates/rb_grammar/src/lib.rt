@@ -1,0 +1,15 @@
+//! The grammar of bundle texts: their written forms, what these mean, which faults a text has, and the numbers and bytes that texts spell.
+#![tactic(auto)]
+
+mod bytes;
+mod key;
+pub mod laws;
+mod limits;
+mod number;
+#[cfg(test)]
+mod tests;
+
+pub use bytes::read_bytes;
+pub use key::is_key;
+pub use limits::{ELEMENT_DEPTH, ELEMENT_MODULUS, INT_DEPTH, INT_MODULUS};
+pub use number::{read_element, read_int};

@@ -1,0 +1,133 @@
+// Numbers that a text spells.
+ghost use Rattle.std.specs.Prelude.{◌≡◌, ◌≤◌, ◌<◌, ℕ, ℤ, min, Bool, MatchOption};
+ghost use Rattle.std.specs.Char.{digit_value};
+ghost use Rattle.std.specs.Str.Parse.{digits_value, AllDigits};
+ghost use Rattle.rb_grammar.specs.Numeral.{IsNumeral, numeral_value, is_minus, IsIntText, IsElementText};
+ghost use Rattle.rb_grammar.specs.Shape.{shape, behind_0, sign_of, unsigned_of};
+
+use crate::limits::{ELEMENT_DEPTH, ELEMENT_MODULUS, INT_DEPTH, INT_MODULUS};
+
+/// More than any limit.
+const CEILING: u64 = 1 << 33;
+
+/// The value of a digit or a letter, or 36.
+pub(crate) fn digit(unit: u16) -> u64
+    ensures value { result ≡ digit_value unit }
+    ensures small { result ≤ 36 }
+{
+    match unit {
+        0x30..=0x39 => unit as u64 - 0x30,
+        0x41..=0x5A => unit as u64 - 55,
+        0x61..=0x7A => unit as u64 - 87,
+        _ => 36,
+    }
+}
+
+/// The value of digits, or the ceiling if that is less. `None` where another unit is among them.
+fn digits(units: &[u16], radix: u64) -> Option<u64>
+    requires least { 1 ≤ radix }
+    requires most { radix ≤ 16 }
+    ensures { MatchOption result (AllDigits radix units.now → ⊥) (λ v. AllDigits radix units.now × (v ≡ min (digits_value radix units.now) CEILING)) }
+{
+    let mut value = 0;
+    for unit in units {
+        let next = digit(*unit);
+        if next >= radix {
+            return None;
+        }
+        value = (value * radix + next).min(CEILING);
+    }
+    Some(value)
+}
+
+/// How large a number without a sign is, up to the ceiling.
+fn unsigned(units: &[u16]) -> Option<u64>
+    ensures { MatchOption result (IsNumeral (shape units.now) → ⊥) (λ v. IsNumeral (shape units.now) × (v ≡ min (numeral_value (shape units.now)) CEILING)) }
+{
+    let [first, rest @ ..] = units else {
+        return None;
+    };
+    if *first != 0x30 {
+        return digits(units, 10);
+    }
+    let [second, others @ ..] = rest else {
+        return Some(0);
+    };
+    if *second == 0x58 || *second == 0x78 {
+        if others.is_empty() {
+            return None;
+        }
+        return digits(others, 16);
+    }
+    digits(rest, 8)
+}
+
+/// A number by its sign and how far it is from zero, up to the ceiling.
+#[derive(Clone, Copy)]
+struct Signed {
+    negative: bool,
+    size: u64,
+}
+
+fn number(units: &[u16]) -> Option<Signed>
+    ensures { MatchOption result (IsNumeral (shape (unsigned_of units.now)) → ⊥) (λ n.
+        IsNumeral (shape (unsigned_of units.now)) × (n.negative ≡ is_minus (sign_of units.now)) × (n.size ≡ min (numeral_value (shape (unsigned_of units.now))) CEILING)) }
+{
+    match units {
+        [0x2B, rest @ ..] => Some(Signed {
+            negative: false,
+            size: unsigned(rest)?,
+        }),
+        [0x2D, rest @ ..] => Some(Signed {
+            negative: true,
+            size: unsigned(rest)?,
+        }),
+        _ => Some(Signed {
+            negative: false,
+            size: unsigned(units)?,
+        }),
+    }
+}
+
+/// The value of an Int, modulo 2^28. `None` where the text is no number, or the number is below -2^27 or above 2^28 - 1.
+pub fn read_int(units: &[u16]) -> Option<u32>
+    ensures { MatchOption result ((n : ℕ) → IsIntText units.now n → ⊥) (λ n. IsIntText units.now n) }
+{
+    let Signed { negative, size } = number(units)?;
+    if negative {
+        if size > INT_DEPTH {
+            return None;
+        }
+        if size == 0 {
+            return Some(0);
+        }
+        Some((INT_MODULUS - size) as u32)
+    } else {
+        if size >= INT_MODULUS {
+            return None;
+        }
+        Some(size as u32)
+    }
+}
+
+/// The value of an element of a vector, modulo 2^32 as a signed number. `None` where the text is no number, or the number is below -2^31 or above 2^32 - 1.
+pub fn read_element(units: &[u16]) -> Option<i32>
+    ensures { MatchOption result ((z : ℤ) → IsElementText units.now z → ⊥) (λ z. IsElementText units.now z) }
+{
+    let Signed { negative, size } = number(units)?;
+    if negative {
+        if size > ELEMENT_DEPTH {
+            return None;
+        }
+        Some((-(size as i64)) as i32)
+    } else {
+        if size >= ELEMENT_MODULUS {
+            return None;
+        }
+        if size < ELEMENT_DEPTH {
+            Some(size as i32)
+        } else {
+            Some((size as i64 - ELEMENT_MODULUS as i64) as i32)
+        }
+    }
+}

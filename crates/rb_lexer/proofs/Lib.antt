@@ -1,0 +1,13 @@
+pub mod Digits
+pub mod Escapes
+pub mod Comments
+pub mod Parts
+pub mod Items
+pub mod Turns
+pub mod Bridge
+pub mod Whole
+pub mod Unique
+pub mod Decided
+pub mod Order
+pub mod Adds
+pub mod Total

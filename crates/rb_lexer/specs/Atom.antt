@@ -1,0 +1,98 @@
+-- For proofs only: a second reading, which follows the code. In it an unquoted piece is read part by part.
+use Rattle.std.specs.Global.{Vec}
+use Rattle.std.specs.Prelude.{◌≡◌, ℕ, ◌+◌, Bool, true, false, cond, List, [], ◌∷◌, ◌++◌, Option, Some, None, Result, Ok, Err, IsTrue}
+use Rattle.rb_lexer.specs.Lexeme.{is_white, is_sign, quote, Comment, comment_chars, IsComment, Part, part_chars, part_units, parts_chars, parts_units, AreParts, IsQuotedPart, IsUnquotedPart, Stays}
+use Rattle.rb_lexer.specs.Faults.{Broken, broken_chars, IsBroken, broken_kind, from_fault}
+use Rattle.rb_lexer.specs.Tokens.{width, sign_mark, flushed, grown, piece, sign_token}
+use Rattle.rb_lexer.specs.declared.token.Token.{Token}
+use Rattle.rb_lexer.specs.declared.piece.Piece.{Piece}
+use Rattle.rb_lexer.specs.declared.item.Item.{Item}
+use Rattle.rb_lexer.specs.declared.item.Item.TheVariants.{White, Comment as CommentItem, Sign, Quoted, Run}
+use Rattle.rb_lexer.specs.declared.fault.SourceKind.TheVariants.{Memory}
+use Rattle.rb_lexer.specs.declared.fault.Stop.{Stop}
+
+pub data Atom : Type 0 where
+  blank : ℕ → Atom
+  remark : Comment → Atom
+  punct : ℕ → Atom
+  cited : List Part → Atom
+  single : Part → Atom
+
+abbrev pub atom_chars : Atom → List ℕ → List ℕ
+atom_chars (blank c) rest = c ∷ rest
+atom_chars (remark c) rest = comment_chars c rest
+atom_chars (punct c) rest = c ∷ rest
+atom_chars (cited ps) rest = quote ∷ parts_chars ps (quote ∷ rest)
+atom_chars (single p) rest = part_chars p rest
+
+-- a part that is a character or an escape
+abbrev pub IsSingle : Part → List ℕ → Type 0
+IsSingle p rest = Stays p × IsUnquotedPart p rest
+
+abbrev pub IsAtom : Atom → List ℕ → Type 0
+IsAtom (blank c) rest = IsTrue (is_white c)
+IsAtom (remark c) rest = IsComment c rest
+IsAtom (punct c) rest = IsTrue (is_sign c)
+IsAtom (cited ps) rest = AreParts IsQuotedPart ps (quote ∷ rest)
+IsAtom (single p) rest = IsSingle p rest
+
+abbrev pub atoms_chars : List Atom → List ℕ → List ℕ
+atoms_chars [] rest = rest
+atoms_chars (a ∷ xs) rest = atom_chars a (atoms_chars xs rest)
+
+abbrev pub AreAtoms : List Atom → List ℕ → Type 0
+AreAtoms [] rest = Unit {0}
+AreAtoms (a ∷ xs) rest = IsAtom a (atoms_chars xs rest) × AreAtoms xs rest
+
+abbrev pub singles : List Part → List Atom
+singles [] = []
+singles (p ∷ ps) = single p ∷ singles ps
+
+-- What the code has for atoms.
+abbrev pub Shows : Item → List Atom → Type 0
+Shows White xs = (c : ℕ) × (xs ≡ blank c ∷ [])
+Shows CommentItem xs = (c : Comment) × (xs ≡ remark c ∷ [])
+Shows (Sign m) xs = (c : ℕ) × (xs ≡ punct c ∷ []) × (m ≡ sign_mark c)
+Shows (Quoted us) xs = (ps : List Part) × (xs ≡ cited ps ∷ []) × (us ≡ parts_units ps)
+Shows (Run us) xs = (p : Part) × ((ps : List Part) × (xs ≡ singles (p ∷ ps)) × (us ≡ parts_units (p ∷ ps)))
+
+-- The characters begin with what this item is, and the rest follows it.
+abbrev pub Begins : List ℕ → Item → List ℕ → Type 0
+Begins text item rest = (xs : List Atom) × (text ≡ atoms_chars xs rest) × AreAtoms xs rest × Shows item xs
+
+-- These characters are broken in this way, unless memory ran out.
+abbrev pub Stops : Stop → List ℕ → Type 0
+Stops stop cs = (stop.kind ≡ Memory → ⊥) → (b : Broken) × (cs ≡ broken_chars b) × IsBroken b × (stop.kind ≡ broken_kind b) × (stop.left ≡ width (from_fault b))
+
+-- a piece that goes on
+abbrev pub longer : Option Piece → Piece → Piece
+longer None b = b
+longer (Some a) b = record { units = a.units ++ b.units; is_quoted = a.is_quoted; first = a.first; past = b.past; line = a.line }
+
+-- the same where there is one, with more units
+abbrev pub lengthened : Option Piece → List ℕ → ℕ → Option Piece
+lengthened None us past = None
+lengthened (Some a) us past = Some (record { units = a.units ++ us; is_quoted = a.is_quoted; first = a.first; past = past; line = a.line })
+
+-- with one more unquoted character
+abbrev pub with_character : Bool → Option Piece → Piece → Piece
+with_character is_open held b = cond is_open (longer held b) (grown held b)
+
+abbrev pub past_atom : ℕ → Atom → ℕ
+past_atom at a = at + width (atom_chars a [])
+
+-- The tokens of atoms that begin at a byte, behind a text that may still grow, and that is open where an unquoted piece may go on.
+abbrev pub atoms_tokens : List ℕ → ℕ → Option Piece → Bool → List Atom → List Token
+atoms_tokens bytes at held is_open [] = flushed held []
+atoms_tokens bytes at held is_open (blank c ∷ xs) = atoms_tokens bytes (past_atom at (blank c)) held false xs
+atoms_tokens bytes at held is_open (remark c ∷ xs) = atoms_tokens bytes (past_atom at (remark c)) held is_open xs
+atoms_tokens bytes at held is_open (punct c ∷ xs) = flushed held (sign_token bytes c at (past_atom at (punct c)) ∷ atoms_tokens bytes (past_atom at (punct c)) None false xs)
+atoms_tokens bytes at held is_open (cited ps ∷ xs) =
+    atoms_tokens bytes (past_atom at (cited ps)) (Some (grown held (piece bytes (parts_units ps) true at (past_atom at (cited ps))))) false xs
+atoms_tokens bytes at held is_open (single p ∷ xs) =
+    atoms_tokens bytes (past_atom at (single p)) (Some (with_character is_open held (piece bytes (part_units p) false at (past_atom at (single p))))) true xs
+
+-- The tokens of a text by the second reading, or what is broken in it, unless memory ran out.
+abbrev pub EndsSo : Result (Vec Token) Stop → List ℕ → List ℕ → Type 0
+EndsSo (Ok tokens) bytes cs = (xs : List Atom) × (cs ≡ atoms_chars xs []) × AreAtoms xs [] × (tokens.items ≡ atoms_tokens bytes 0 None false xs)
+EndsSo (Err stop) bytes cs = (stop.kind ≡ Memory → ⊥) → (xs : List Atom) × ((b : Broken) × ((cs ≡ atoms_chars xs (broken_chars b)) × AreAtoms xs (broken_chars b) × IsBroken b × (stop.kind ≡ broken_kind b) × (stop.left ≡ width (from_fault b))))

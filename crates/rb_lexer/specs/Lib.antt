@@ -1,0 +1,6 @@
+pub mod Lexeme
+pub mod Tokens
+pub mod Faults
+pub mod Words
+pub mod Atom
+pub mod Escapes

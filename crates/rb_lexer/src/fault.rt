@@ -1,0 +1,134 @@
+// Why a text is refused.
+ghost use Rattle.std.specs.Prelude.{◌≡◌};
+ghost use Rattle.rb_lexer.specs.Words.{kind_word};
+
+use std::alloc::{AllocError, AllocFailed};
+
+/// Why a text is refused. `lex` answers `TooLong`, `NotUtf8`, `BadEscape`, `OpenQuote`, `OpenComment` and `Memory`; the
+/// others are the parser's.
+#[derive(Clone, Copy, Debug, PartialEq, Eq)]
+pub enum SourceKind {
+    /// The source has more than 8,388,608 bytes.
+    TooLong,
+    /// The bytes are not UTF-8.
+    NotUtf8,
+    /// A backslash begins no escape.
+    BadEscape,
+    /// A quoted piece is never closed.
+    OpenQuote,
+    /// A block comment is never closed.
+    OpenComment,
+    /// A token stands where it cannot, or the text ends too early.
+    Unexpected,
+    /// What stands behind a colon is no type.
+    UnknownType,
+    /// A key is empty or has a unit outside a space to a tilde.
+    BadKey,
+    /// A key stands twice in a table.
+    DuplicateKey,
+    /// A number is no number, or outside its limits.
+    BadInt,
+    /// A binary is no even number of hexadecimal digits.
+    BadHex,
+    /// A value stands too deep.
+    TooDeep,
+    /// A token stands behind the bundle.
+    TrailingText,
+    /// The tree weighs too much.
+    TooLarge,
+    /// An allocation was refused.
+    Memory,
+}
+
+impl SourceKind {
+    /// The name of the variant.
+    pub fn word(self) -> &'static str
+        ensures { result.now ≡ kind_word self }
+    {
+        match self {
+            SourceKind::TooLong => "TooLong",
+            SourceKind::NotUtf8 => "NotUtf8",
+            SourceKind::BadEscape => "BadEscape",
+            SourceKind::OpenQuote => "OpenQuote",
+            SourceKind::OpenComment => "OpenComment",
+            SourceKind::Unexpected => "Unexpected",
+            SourceKind::UnknownType => "UnknownType",
+            SourceKind::BadKey => "BadKey",
+            SourceKind::DuplicateKey => "DuplicateKey",
+            SourceKind::BadInt => "BadInt",
+            SourceKind::BadHex => "BadHex",
+            SourceKind::TooDeep => "TooDeep",
+            SourceKind::TrailingText => "TrailingText",
+            SourceKind::TooLarge => "TooLarge",
+            SourceKind::Memory => "Memory",
+        }
+    }
+}
+
+/// Why a text is refused, and in which line. Want of memory has line 0.
+#[derive(Clone, Copy, Debug, PartialEq, Eq)]
+pub struct SourceFault {
+    pub kind: SourceKind,
+    pub line: u64,
+}
+
+const MEMORY: SourceFault = SourceFault {
+    kind: SourceKind::Memory,
+    line: 0,
+};
+
+impl From<AllocError> for SourceFault {
+    ghost use Rattle.std.specs.Prelude.{◌≡◌};
+    ghost use Rattle.rb_lexer.specs.declared.fault.SourceKind.TheVariants.{Memory};
+
+    ghost from_gives = { λ _ e. (e.kind ≡ Memory) × (e.line ≡ 0) };
+
+    fn from(_: AllocError) -> Self {
+        MEMORY
+    }
+}
+
+impl<T: Drop> From<AllocFailed<T>> for SourceFault {
+    ghost use Rattle.std.specs.Prelude.{◌≡◌};
+    ghost use Rattle.rb_lexer.specs.declared.fault.SourceKind.TheVariants.{Memory};
+
+    ghost from_gives = { λ _ e. (e.kind ≡ Memory) × (e.line ≡ 0) };
+
+    fn from(_: AllocFailed<T>) -> Self {
+        MEMORY
+    }
+}
+
+/// Why reading stops, and how many bytes there are from the fault on.
+#[derive(Clone, Copy, Debug)]
+pub struct Stop {
+    pub kind: SourceKind,
+    pub left: usize,
+}
+
+const NO_MEMORY: Stop = Stop {
+    kind: SourceKind::Memory,
+    left: 0,
+};
+
+impl From<AllocError> for Stop {
+    ghost use Rattle.std.specs.Prelude.{◌≡◌};
+    ghost use Rattle.rb_lexer.specs.declared.fault.SourceKind.TheVariants.{Memory};
+
+    ghost from_gives = { λ _ e. e.kind ≡ Memory };
+
+    fn from(_: AllocError) -> Self {
+        NO_MEMORY
+    }
+}
+
+impl<T: Drop> From<AllocFailed<T>> for Stop {
+    ghost use Rattle.std.specs.Prelude.{◌≡◌};
+    ghost use Rattle.rb_lexer.specs.declared.fault.SourceKind.TheVariants.{Memory};
+
+    ghost from_gives = { λ _ e. e.kind ≡ Memory };
+
+    fn from(_: AllocFailed<T>) -> Self {
+        NO_MEMORY
+    }
+}

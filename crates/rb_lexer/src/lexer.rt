@@ -1,0 +1,87 @@
+// The tokens of a source.
+ghost use Rattle.std.specs.Prelude.{◌≡◌, ◌≤◌, ◌⊎◌, ℕ, List, length, ◌-◌, MatchResult, IfOk, IfErr, IsTrue, encode_utf8_all};
+ghost use Rattle.std.specs.Str.{chars, all_scalars};
+ghost use Rattle.rb_lexer.specs.declared.fault.SourceKind.{SourceKind};
+ghost use Rattle.rb_lexer.specs.declared.fault.SourceKind.TheVariants.{Memory};
+ghost use Rattle.rb_lexer.specs.declared.token.Token.{Token};
+ghost use Rattle.rb_lexer.specs.Tokens.{width, line_of, HasTokens, AreInOrder};
+ghost use Rattle.rb_lexer.specs.Faults.{IsSourceFault, IsRefusal};
+ghost use Rattle.rb_lexer.specs.Atom.{EndsSo};
+
+use crate::builder::Builder;
+use crate::fault::{SourceFault, SourceKind, Stop};
+use crate::front::width;
+use crate::item::first_item;
+use crate::limits::SOURCE_LIMIT;
+use crate::text::{line_at, line_feeds, text_of};
+use crate::token::Token;
+use std::alloc::Global;
+
+/// The tokens of a text.
+fn tokens_of(alloc: Global, text: &str) -> Result<Vec<Token>, Stop>
+    requires { length text.now ≤ SOURCE_LIMIT }
+    ensures ends { EndsSo result text.now (chars text.now) }
+    ensures whole { width (chars text.now) ≡ length text.now }
+    ensures scalars { IsTrue (all_scalars (chars text.now)) }
+    ensures bytes { encode_utf8_all (chars text.now) ≡ text.now }
+{
+    let mut builder = Builder {
+        tokens: Vec::new(alloc),
+        held: None,
+        is_open: false,
+    };
+    let mut rest = text;
+    let mut first = 0;
+    let mut line = 1;
+    'items: while let Some((item, after)) = first_item(alloc, rest)? {
+        let past = width(text) - width(after);
+        builder.add(item, first, past, line)?;
+        line += line_feeds(text.as_bytes(), first, past);
+        first = past;
+        rest = after;
+    }
+    builder.finish()
+}
+
+/// Why reading stopped, with its line.
+fn located(bytes: &[u8], stop: Stop) -> SourceFault
+    requires { (stop.kind ≡ Memory → ⊥) → stop.left ≤ length bytes.now }
+    ensures kind { result.kind ≡ stop.kind }
+    ensures line { (stop.kind ≡ Memory → ⊥) → result.line ≡ line_of bytes.now (length bytes.now - stop.left) }
+    ensures no_line { stop.kind ≡ Memory → result.line ≡ 0 }
+{
+    let line = match stop.kind {
+        SourceKind::Memory => 0,
+        _ => line_at(bytes, bytes.len() - stop.left),
+    };
+    SourceFault {
+        kind: stop.kind,
+        line,
+    }
+}
+
+/// The tokens of a source, with their spans and lines.
+///
+/// `TooLong` (line 1) where the source has more than `SOURCE_LIMIT` bytes, else `NotUtf8` at the first byte from which no
+/// character reads, else what comes first in the text of `BadEscape`, `OpenQuote` and `OpenComment`. `Memory` (line 0)
+/// where an allocation was refused. Nothing is left behind on a refusal.
+pub fn lex(alloc: Global, bytes: &[u8]) -> Result<Vec<Token>, SourceFault>
+    // What is answered are the source's tokens.
+    ensures found { IfOk result (λ tokens. (length bytes.now ≤ SOURCE_LIMIT) × HasTokens bytes.now tokens.items) }
+    // Spans are in order and inside the source.
+    ensures in_order { IfOk result (λ tokens. AreInOrder 0 tokens.items (length bytes.now)) }
+    // A refusal is a fault of the source, with its line, unless memory ran out.
+    ensures fault { IfErr result (λ e. IsRefusal bytes.now e) }
+    // A source that has tokens is read, unless memory runs out.
+    ensures only { (tokens : List Token) → length bytes.now ≤ SOURCE_LIMIT → HasTokens bytes.now tokens
+        → MatchResult result (λ found. found.items ≡ tokens) (λ e. e.kind ≡ Memory) }
+    // A source that has a fault is refused for it, unless memory runs out.
+    ensures refused { (kind : SourceKind) (line : ℕ) → IsSourceFault bytes.now kind line
+        → MatchResult result (λ _. ⊥) (λ e. (e.kind ≡ Memory) ⊎ ((e.kind ≡ kind) × (e.line ≡ line))) }
+{
+    let text = text_of(bytes)?;
+    match tokens_of(alloc, text) {
+        Ok(tokens) => Ok(tokens),
+        Err(stop) => Err(located(bytes, stop)),
+    }
+}

@@ -1,0 +1,54 @@
+// A source as text.
+ghost use Rattle.std.specs.Prelude.{◌≡◌, ◌<◌, ◌≤◌, ◌+◌, ◌==◌, ◌^◌, length, take, count_by, IsUtf8, MatchResult};
+ghost use Rattle.std.specs.Str.{IsValidUpTo};
+ghost use Rattle.rb_lexer.specs.declared.fault.SourceKind.TheVariants.{NotUtf8, TooLong};
+ghost use Rattle.rb_lexer.specs.Tokens.{line_of};
+ghost use Rattle.rb_lexer.specs.Faults.{IsTextFault};
+
+use crate::fault::{SourceFault, SourceKind};
+use crate::limits::SOURCE_LIMIT;
+
+/// How many line feeds there are.
+fn count_line_feeds(bytes: &[u8]) -> u64
+    ensures { result ≡ count_by (λ b. b == 0x0A) bytes.now }
+{
+    bytes.iter().filter(|b| **b == b'\n').count() as u64
+}
+
+/// How many line feeds there are from one byte to another.
+pub fn line_feeds(bytes: &[u8], first: usize, past: usize) -> u64
+    requires order { first ≤ past }
+    requires within { past ≤ length bytes.now }
+    ensures { line_of bytes.now first + result ≡ line_of bytes.now past }
+{
+    count_line_feeds(&bytes[first..past])
+}
+
+/// The line of the byte at `at`: 1 and the line feeds before it.
+pub fn line_at(bytes: &[u8], at: usize) -> u64
+    requires { at ≤ length bytes.now }
+    ensures { result ≡ line_of bytes.now at }
+{
+    line_feeds(bytes, 0, at) + 1
+}
+
+/// The source as text.
+pub fn text_of(bytes: &[u8]) -> Result<&str, SourceFault>
+    ensures { MatchResult result
+        (λ text. (length bytes.now ≤ SOURCE_LIMIT) × (text.now ≡ bytes.now) × IsUtf8 bytes.now)
+        (λ e. IsTextFault bytes.now e.kind e.line) }
+{
+    if bytes.len() > SOURCE_LIMIT {
+        return Err(SourceFault {
+            kind: SourceKind::TooLong,
+            line: 1,
+        });
+    }
+    match std::str::from_utf8(bytes) {
+        Ok(text) => Ok(text),
+        Err(e) => Err(SourceFault {
+            kind: SourceKind::NotUtf8,
+            line: line_at(bytes, e.valid_up_to()),
+        }),
+    }
+}

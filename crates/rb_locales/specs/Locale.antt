@@ -1,0 +1,92 @@
+-- The canonical names of locales, in this profile of the identifiers of UTS #35 (LDML) and of ICU's
+-- `uloc_canonicalize`: parts between underscores, the first a language in lower case, a second part of
+-- four letters a script in title case, every other part in upper case; what stands behind an `@` is no
+-- part of the name. It speaks of parts, never of places in a text.
+use Rattle.std.specs.Prelude.{◌==◌, ◌&&◌, ◌||◌, ℕ, List, [], ◌∷◌, length, Bool, Option, Some, None, option_map, take, map, if◌then◌else◌, nat_le, codes}
+use Rattle.std.specs.Option.{option_zip}
+use Rattle.std.specs.List.{slice_split, list_all, join_with_byte, position_or_len}
+use Rattle.rb_locales.specs.declared.limits.TheConstants.{NAME_LIMIT}
+use Rattle.std.specs.Char.{is_ascii_alphabetic, is_ascii_alphanumeric, to_ascii_lowercase, to_ascii_uppercase}
+
+-- what stands before the first `@`
+abbrev pub is_at : ℕ → Bool
+is_at b = b == 64
+
+abbrev pub before_at : List ℕ → List ℕ
+before_at bs = take (position_or_len is_at bs) bs
+
+-- the parts of a name stand between underscores, and `-` counts as one
+abbrev pub is_between : ℕ → Bool
+is_between b = b == 95 || b == 45
+
+-- where a part stands
+pub data Place : Type 0 where
+  first : Place
+  second : Place
+  later : Place
+
+abbrev pub next_place : Place → Place
+next_place first = second
+next_place second = later
+next_place later = later
+
+-- two to eight letters, in lower case
+abbrev pub is_language : List ℕ → Bool
+is_language p = (nat_le 2 (length p) && nat_le (length p) 8) && list_all is_ascii_alphabetic p
+
+-- one to eight letters or digits, in upper case
+abbrev pub is_subtag : List ℕ → Bool
+is_subtag p = (nat_le 1 (length p) && nat_le (length p) 8) && list_all is_ascii_alphanumeric p
+
+-- four letters, of which the first is in upper case
+abbrev pub is_script : List ℕ → Bool
+is_script p = (length p == 4) && list_all is_ascii_alphabetic p
+
+abbrev pub title : List ℕ → List ℕ
+title [] = []
+title (b ∷ bs) = to_ascii_uppercase b ∷ map to_ascii_lowercase bs
+
+abbrev pub subtag : List ℕ → Option (List ℕ)
+subtag p = if is_subtag p then Some (map to_ascii_uppercase p) else None
+
+-- a part as it is written at its place, if it may stand there
+abbrev pub part_at : Place → List ℕ → Option (List ℕ)
+part_at first p = if is_language p then Some (map to_ascii_lowercase p) else None
+part_at second p = if is_script p then Some (title p) else subtag p
+part_at later p = subtag p
+
+-- one part in front of others
+abbrev pub in_front : Option (List ℕ) → Option (List (List ℕ)) → Option (List (List ℕ))
+in_front p ps = option_map (λ q. q.0 ∷ q.1) (option_zip p ps)
+
+abbrev pub parts_from : Place → List (List ℕ) → Option (List (List ℕ))
+parts_from place [] = Some []
+parts_from place (p ∷ ps) = in_front (part_at place p) (parts_from (next_place place) ps)
+
+-- the parts as they are written, with underscores between them
+abbrev pub written : Place → List ℕ → Option (List ℕ)
+written place bs = option_map (join_with_byte 95) (parts_from place (slice_split is_between bs))
+
+-- the empty name is that of the root, and a name has at most so many bytes
+abbrev pub named : List ℕ → Option (List ℕ)
+named [] = Some (codes "root")
+named (b ∷ bs) = if nat_le (length (b ∷ bs)) NAME_LIMIT then written first (b ∷ bs) else None
+
+-- the canonical name of a locale, if a text is one
+abbrev pub name : List ℕ → Option (List ℕ)
+name bs = named (before_at bs)
+
+-- the name without its last part, for a name of two parts or more
+abbrev pub is_underscore : ℕ → Bool
+is_underscore b = b == 95
+
+abbrev pub without_last : List (List ℕ) → List (List ℕ)
+without_last [] = []
+without_last (p ∷ []) = []
+without_last (p ∷ q ∷ ps) = p ∷ without_last (q ∷ ps)
+
+abbrev pub shorter_of : List (List ℕ) → Option (List ℕ)
+shorter_of ps = if nat_le 2 (length ps) then Some (join_with_byte 95 (without_last ps)) else None
+
+abbrev pub shorter : List ℕ → Option (List ℕ)
+shorter n = shorter_of (slice_split is_underscore n)

@@ -1,0 +1,117 @@
+// The parts of a name, written in the case of their place.
+ghost use Rattle.std.specs.Prelude.{◌≡◌, ◌<◌, ◌≤◌, length, if◌then◌else◌, Some, None, List, ℕ, Option};
+ghost use Rattle.std.specs.List.{list_all, position_or_len};
+ghost use Rattle.std.specs.Char.{is_ascii_alphabetic, is_ascii_alphanumeric};
+ghost use Rattle.rb_locales.specs.Locale.{is_between, next_place, part_at, written, title, subtag};
+ghost use Rattle.rb_locales.specs.Places.{place_of};
+
+// Where a part stands.
+#[derive(Clone, Copy)]
+pub(crate) enum Place {
+    First,
+    Second,
+    Later,
+}
+
+#[tactic(auto, using(std::proofs::lemmas::List::Folds::list_all_more, std::proofs::lemmas::List::Folds::list_all_at))]
+fn are_letters(part: &[u8]) -> bool
+    ensures { result ≡ list_all is_ascii_alphabetic part.now }
+{
+    for b in part {
+        if !b.is_ascii_alphabetic() {
+            return false;
+        }
+    }
+    true
+}
+
+#[tactic(auto, using(std::proofs::lemmas::List::Folds::list_all_more, std::proofs::lemmas::List::Folds::list_all_at))]
+fn are_signs(part: &[u8]) -> bool
+    ensures { result ≡ list_all is_ascii_alphanumeric part.now }
+{
+    for b in part {
+        if !b.is_ascii_alphanumeric() {
+            return false;
+        }
+    }
+    true
+}
+
+fn write_title(part: &mut [u8])
+    requires { 0 < length part.old }
+    ensures { part.new ≡ title part.old }
+{
+    part[..1].make_ascii_uppercase();
+    part[1..].make_ascii_lowercase();
+}
+
+fn write_subtag(part: &mut [u8]) -> bool
+    ensures { subtag part.old ≡ (if result then Some part.new else None) }
+{
+    if part.is_empty() || part.len() > 8 || !are_signs(part) {
+        return false;
+    }
+    part.make_ascii_uppercase();
+    true
+}
+
+fn write_part(place: Place, part: &mut [u8]) -> bool
+    ensures { part_at (place_of place) part.old ≡ (if result then Some part.new else None) }
+{
+    match place {
+        Place::First => {
+            if part.len() < 2 || part.len() > 8 || !are_letters(part) {
+                return false;
+            }
+            part.make_ascii_lowercase();
+            true
+        }
+        Place::Second => {
+            if part.len() == 4 && are_letters(part) {
+                write_title(part);
+                return true;
+            }
+            write_subtag(part)
+        }
+        Place::Later => write_subtag(part),
+    }
+}
+
+// Where the first part ends.
+#[tactic(auto, using(std::proofs::lemmas::List::Sums::position_or_len_is))]
+fn part_end(rest: &[u8]) -> usize
+    ensures first { result ≡ position_or_len is_between rest.now }
+    ensures within { result ≤ length rest.now }
+{
+    for (i, b) in rest.iter().enumerate() {
+        if *b == b'_' || *b == b'-' {
+            return i;
+        }
+    }
+    rest.len()
+}
+
+fn behind(place: Place) -> Place
+    ensures { place_of result ≡ next_place (place_of place) }
+{
+    match place {
+        Place::First => Place::Second,
+        _ => Place::Later,
+    }
+}
+
+// Writes the parts from here on.
+#[tactic(auto, using(crate::proofs::Parts::written_bad, crate::proofs::Parts::written_last))]
+pub(crate) fn write_parts(place: Place, rest: &mut [u8]) -> bool
+    ensures { written (place_of place) rest.old ≡ (if result then Some rest.new else None) }
+{
+    let end = part_end(rest);
+    if !write_part(place, &mut rest[..end]) {
+        return false;
+    }
+    if end == rest.len() {
+        return true;
+    }
+    rest[end] = b'_';
+    write_parts(behind(place), &mut rest[end + 1..])
+}

@@ -1,0 +1,15 @@
+//! Names of locales in their canonical form, as UTS #35 writes them with underscores.
+#![tactic(auto)]
+
+mod casing;
+mod fault;
+mod limits;
+mod name;
+mod order;
+#[cfg(test)]
+mod tests;
+mod units;
+
+pub use fault::BadLocale;
+pub use limits::NAME_LIMIT;
+pub use name::Name;

@@ -1,0 +1,139 @@
+// The type of names, and how a text is read as one.
+ghost use Rattle.std.specs.Prelude.{◌≡◌, ◌≤◌, ◌++◌, ◌↔◌, ◌-◌, Some, length, drop, take, codes, IfOk};
+ghost use Rattle.std.specs.Result.{result_ok};
+ghost use Rattle.std.specs.List.{position_or_len};
+ghost use Rattle.rb_locales.specs.Locale.{name, shorter, is_at};
+ghost use Rattle.rb_locales.specs.declared.limits.TheConstants.{NAME_LIMIT};
+ghost use Rattle.rb_locales.specs.Last.{IsLastPlace};
+
+use crate::casing::{Place, write_parts};
+use crate::fault::BadLocale;
+use crate::limits::NAME_LIMIT;
+use std::marker::Model;
+
+/// The canonical name of a locale: at most 64 bytes, held without memory.
+#[derive(Clone, Copy, Debug, Hash)]
+pub struct Name {
+    bytes: [u8; NAME_LIMIT],
+    len: u8,
+}
+
+impl Model for Name {
+    ghost use Rattle.std.specs.Prelude.{List, ℕ, take};
+
+    ghost Value = { List ℕ };
+
+    ghost use Rattle.rb_locales.specs.Short.{IsNameFields, name_fields, name_fields-view};
+
+    ghost view = { λ n. take n.len n.bytes };
+
+    ghost invariant = { IsNameFields };
+
+    ghost inverse = { name_fields };
+
+    ghost inverse_ok = { name_fields-view };
+}
+
+// Puts bytes at the front of a field.
+fn put_front(field: &mut [u8], bytes: &[u8])
+    requires { length bytes.now ≤ length field.old }
+    ensures { field.new ≡ bytes.now ++ drop (length bytes.now) field.old }
+{
+    field[..bytes.len()].copy_from_slice(bytes);
+}
+
+// Where the name ends: at the first `@`.
+#[tactic(auto, using(std::proofs::lemmas::List::Sums::position_or_len_is))]
+fn name_end(bytes: &[u8]) -> usize
+    ensures first { result ≡ position_or_len is_at bytes.now }
+    ensures within { result ≤ length bytes.now }
+{
+    for (i, b) in bytes.iter().enumerate() {
+        if *b == b'@' {
+            return i;
+        }
+    }
+    bytes.len()
+}
+
+impl Name {
+    /// The name of the root.
+    pub fn root() -> Name
+        ensures { result ≡ codes "root" }
+    {
+        let mut field = [0u8; NAME_LIMIT];
+        put_front(&mut field, b"root");
+        Name {
+            bytes: field,
+            len: 4,
+        }
+    }
+
+    /// The canonical name that a text gives; what stands from the first `@` on is left aside, and
+    /// no bytes give the root. `BadLocale` for any other text than a name of at most 64 bytes.
+    #[tactic(auto, using(crate::proofs::Canon::own_name))]
+    pub fn read(bytes: &[u8]) -> Result<Name, BadLocale>
+        ensures name { result_ok result ≡ name bytes.now }
+        // A canonical name is its own canonical name.
+        ensures canonical { IfOk result (λ n. name n ≡ Some n) }
+    {
+        let end = name_end(bytes);
+        if end == 0 {
+            return Ok(Name::root());
+        }
+        if end > NAME_LIMIT {
+            return Err(BadLocale);
+        }
+        let mut field = [0u8; NAME_LIMIT];
+        put_front(&mut field, &bytes[..end]);
+        if !write_parts(Place::First, &mut field[..end]) {
+            return Err(BadLocale);
+        }
+        Ok(Name {
+            bytes: field,
+            len: end as u8,
+        })
+    }
+
+    /// The name's bytes.
+    #[tactic(auto, using(crate::proofs::Canon::own_name))]
+    pub fn as_bytes(&self) -> &[u8]
+        ensures bytes { result.now ≡ self.now }
+        ensures canonical { name self.now ≡ Some self.now }
+        ensures short { length self.now ≤ NAME_LIMIT }
+    {
+        &self.bytes[..self.len as usize]
+    }
+
+    /// The name without its last part; `None` for a name of one part.
+    pub fn shorter(&self) -> Option<Name>
+        ensures { result ≡ shorter self.now }
+    {
+        let len = self.len as usize;
+        let bytes = &self.bytes[..len];
+        let end = match last_underscore(bytes) {
+            Some(end) => end,
+            None => return None,
+        };
+        let mut field = [0u8; NAME_LIMIT];
+        put_front(&mut field, &bytes[..end]);
+        Some(Name {
+            bytes: field,
+            len: end as u8,
+        })
+    }
+}
+
+// The place of the last underscore.
+fn last_underscore(bytes: &[u8]) -> Option<usize>
+    ensures { IsLastPlace bytes.now result }
+{
+    let mut end = bytes.len();
+    while end > 0 {
+        end -= 1;
+        if bytes[end] == b'_' {
+            return Some(end);
+        }
+    }
+    None
+}

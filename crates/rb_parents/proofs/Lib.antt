@@ -1,0 +1,3 @@
+pub mod Shelves
+pub mod Trails
+pub mod Explicits

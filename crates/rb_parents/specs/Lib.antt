@@ -1,0 +1,5 @@
+pub mod Trail
+pub mod Explicit
+pub mod Family
+pub mod Steps
+pub mod Words

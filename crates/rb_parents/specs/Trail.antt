@@ -1,0 +1,120 @@
+-- The trail of a name: the names whose bundles are asked, in the order of locale inheritance of
+-- UTS #35 (LDML), with `%%ALIAS` and `%%Parent` as ICU's `ures_open` reads them. This profile has no
+-- default locale and no rule for scripts, and a trail that does not end is a fault.
+use Rattle.std.specs.Prelude.{ℕ, zero, suc, List, [], ◌∷◌, Bool, true, false, not, Option, Some, None, option_and_then, unwrap_or, codes, is_some, is_none, if◌then◌else◌}
+use Rattle.std.specs.List.{filter}
+use Rattle.std.specs.Str.{bytes_eq}
+use Rattle.rb_tree.specs.Resource.{Resource, string, int, ints, binary, alias, array, table}
+use Rattle.rb_tree.specs.Parts.{child_of}
+use Rattle.rb_parents.specs.declared.limits.TheConstants.{TRAIL_LIMIT}
+use Rattle.rb_locales.specs.Locale.{name, shorter}
+
+-- bundles by their names, and explicit parents by their children
+abbrev pub Bundles : Type 0
+Bundles = List ℕ → Option Resource
+
+abbrev pub ParentsOf : Type 0
+ParentsOf = List ℕ → Option (List ℕ)
+
+-- the units of a string, and nothing of another tree
+abbrev pub text_of : Resource → Option (List ℕ)
+text_of (string us) = Some us
+text_of (int n) = None
+text_of (ints zs) = None
+text_of (binary bs) = None
+text_of (alias us) = None
+text_of (array ts) = None
+text_of (table es) = None
+
+-- the string that a tree has at a key
+abbrev pub text_at : List ℕ → Resource → Option (List ℕ)
+text_at key t = option_and_then text_of (child_of key t)
+
+abbrev pub alias_key : List ℕ
+alias_key = codes "%%ALIAS"
+
+abbrev pub parent_key : List ℕ
+parent_key = codes "%%Parent"
+
+abbrev pub root : List ℕ
+root = codes "root"
+
+-- what follows a name on a trail
+pub data Next : Type 0 where
+  goes : List ℕ → Next
+  stays : Next
+  bad : Next
+
+abbrev pub named_next : Option (List ℕ) → Next
+named_next None = bad
+named_next (Some n) = goes n
+
+-- the explicit parent, else the shorter name, else the root; the root has no next name
+abbrev pub or_else : Option (List ℕ) → List ℕ → List ℕ
+or_else o d = unwrap_or o d
+
+abbrev pub plain_next : ParentsOf → List ℕ → Next
+plain_next parents n = by_root (bytes_eq n root)
+  where
+    by_root : Bool → Next
+    by_root true = stays
+    by_root false = goes (or_else (parents n) (or_else (shorter n) root))
+
+-- behind a bundle: its `%%ALIAS`, else its `%%Parent`, else as without a bundle
+abbrev pub told_next : Option (List ℕ) → Next → Next
+told_next None other = other
+told_next (Some us) other = named_next (name us)
+
+abbrev pub bundle_next : ParentsOf → List ℕ → Option Resource → Next
+bundle_next parents n None = plain_next parents n
+bundle_next parents n (Some t) = told_next (text_at alias_key t) (told_next (text_at parent_key t) (plain_next parents n))
+
+abbrev pub next : Bundles → ParentsOf → List ℕ → Next
+next bundles parents n = bundle_next parents n (bundles n)
+
+-- a stop has a bundle without a string at `%%ALIAS`
+abbrev pub stops_at : Option Resource → Bool
+stops_at None = false
+stops_at (Some t) = is_none (text_at alias_key t)
+
+abbrev pub is_stop : Bundles → List ℕ → Bool
+is_stop bundles n = stops_at (bundles n)
+
+-- the names, or why there is no trail
+pub data Trail : Type 0 where
+  names : List (List ℕ) → Trail
+  chain : Trail
+  bad_parent : Trail
+
+abbrev pub begins : List ℕ → Trail → Trail
+begins n (names ns) = names (n ∷ ns)
+begins n chain = chain
+begins n bad_parent = bad_parent
+
+abbrev pub onward : (List ℕ → Trail) → Next → Trail
+onward go (goes n) = go n
+onward go stays = names []
+onward go bad = bad_parent
+
+-- the trail of a name, of at most so many names
+unfoldable pub trail_within : ℕ → Bundles → ParentsOf → List ℕ → Trail
+trail_within zero bundles parents n = chain
+trail_within (suc k) bundles parents n = begins n (onward (λ m. trail_within k bundles parents m) (next bundles parents n))
+
+-- a trail has at most so many names
+abbrev pub trail : Bundles → ParentsOf → List ℕ → Trail
+trail bundles parents n = trail_within TRAIL_LIMIT bundles parents n
+
+-- its stops, in order
+abbrev pub stops : Bundles → List (List ℕ) → List (List ℕ)
+stops bundles ns = filter (is_stop bundles) ns
+
+-- the indices of the names that pass, from k on
+abbrev pub places : (List ℕ → Bool) → ℕ → List (List ℕ) → List ℕ
+places test k [] = []
+places test k (n ∷ ns) = if test n then k ∷ places test (suc k) ns else places test (suc k) ns
+
+-- the tree of a stop
+abbrev pub stop_tree : Option Resource → Option Resource
+stop_tree None = None
+stop_tree (Some t) = if is_none (text_at alias_key t) then Some t else None

@@ -1,0 +1,16 @@
+//! Explicit parents, shelves of bundles, and the trail of a name.
+#![tactic(auto)]
+
+mod fault;
+mod limits;
+mod parents;
+mod route;
+mod shelf;
+#[cfg(test)]
+mod tests;
+
+pub use fault::{ParentsFault, TrailFault};
+pub use limits::TRAIL_LIMIT;
+pub use parents::Parents;
+pub use route::{Route, stop_bundle, trail};
+pub use shelf::{ListShelf, Shelf};

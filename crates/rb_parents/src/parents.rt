@@ -1,0 +1,147 @@
+// Explicit parents.
+ghost use Rattle.std.specs.Prelude.{◌≡◌, ◌⊎◌, List, ℕ, Ok, Err, None, IfOk, IfErr, IfSome, IfNone, OnOk, Some, map, if◌then◌else◌};
+ghost use Rattle.rb_tree.specs.Parts.{children_of, kind_of, pairs_of, units_of};
+ghost use Rattle.rb_tree.specs.View.{view_of};
+ghost use Rattle.rb_tree.specs.declared.kind.Kind.TheVariants as Kinds;
+ghost use Rattle.rb_locales.specs.Locale.{name};
+ghost use Rattle.rb_parents.specs.Explicit.{explicit, no_parents, put_child, put_entries, put_entry, put_value, texts_in};
+ghost use Rattle.rb_parents.specs.declared.fault.ParentsFault.TheVariants as Faults;
+
+use crate::fault::ParentsFault;
+use rb_locales::Name;
+use rb_tree::{Kind, Node, Tree};
+use std::alloc::Global;
+use std::collections::BTreeMap;
+
+/// The explicit parents of names, which stand before shorter names on a trail.
+#[derive(Drop)]
+pub struct Parents {
+    by_child: BTreeMap<Name, Name>,
+}
+
+impl Parents {
+    ghost use Rattle.rb_parents.specs.Family.{parent_of};
+
+    /// No explicit parents.
+    pub fn none(alloc: Global) -> Parents
+        ensures { (n : List ℕ) → parent_of result n ≡ None }
+    {
+        Parents {
+            by_child: BTreeMap::new(alloc),
+        }
+    }
+
+    /// The explicit parents that a tree has at `parentLocales`, where each key is a parent and each
+    /// value an Array of Strings, the children, or one String.
+    ///
+    /// The first fault in the order of keys and items is answered. `Shape`: the tree has no table
+    /// there, or a value has another shape. `BadLocale`: a key or a child is no name of a locale.
+    /// `TwoParents`: a child was named before, also under the same parent. `Memory`: want of memory.
+    /// Of an entry the key is read first, then the whole value's shape, then its children. Nothing is
+    /// left behind by a refusal.
+    pub fn read(alloc: Global, tree: &Tree) -> Result<Parents, ParentsFault>
+        ensures parents { IfOk result (λ p. explicit (view_of tree.now) ≡ Ok (parent_of p)) }
+        ensures fault { IfErr result (λ e. (e ≡ Faults.Memory) ⊎ (explicit (view_of tree.now) ≡ Err e)) }
+    {
+        let table = match locales_table(tree) {
+            Some(table) => table,
+            None => return Err(ParentsFault::Shape),
+        };
+        let mut parents = Parents::none(alloc);
+        for i in 0..table.len() {
+            parents.put_entry(table.key_at(i), table.at(i))?;
+        }
+        Ok(parents)
+    }
+
+    /// The explicit parent of a name.
+    pub fn parent(&self, name: &Name) -> Option<Name>
+        ensures { result ≡ parent_of self.now name.now }
+    {
+        self.by_child.get(name).copied()
+    }
+}
+
+// The table of a tree in which explicit parents stand.
+fn locales_table(tree: &Tree) -> Option<&Tree>
+    ensures kind { IfSome result (λ t. kind_of (view_of t.now) ≡ Kinds.Table) }
+    ensures entries { IfSome result (λ t. explicit (view_of tree.now) ≡ put_entries (pairs_of (view_of t.now)) no_parents) }
+    ensures none { IfNone result (explicit (view_of tree.now) ≡ Err Faults.Shape) }
+{
+    if tree.kind() != Kind::Table {
+        return None;
+    }
+    let child = match tree.child(b"parentLocales") {
+        Some(child) => child,
+        None => return None,
+    };
+    if child.kind() == Kind::Table {
+        Some(child)
+    } else {
+        None
+    }
+}
+
+// Whether all items of an array are strings.
+fn are_strings(value: &Tree) -> bool
+    requires { kind_of (view_of value.now) ≡ Kinds.Array }
+    ensures { texts_in (view_of value.now) ≡ (if result then Some (map units_of (children_of (view_of value.now))) else None) }
+{
+    for i in 0..value.len() {
+        if value.at(i).kind() != Kind::String {
+            return false;
+        }
+    }
+    true
+}
+
+impl Parents {
+    ghost use Rattle.rb_parents.specs.Family.{parent_of};
+
+    // Puts in one child more, whose name is a string.
+    fn put_child(&mut self, parent: Name, text: &Tree) -> Result<(), ParentsFault>
+        requires { kind_of (view_of text.now) ≡ Kinds.String }
+        ensures ok { OnOk result (put_child parent (name (units_of (view_of text.now))) (parent_of self.old) ≡ Ok (parent_of self.new)) }
+        ensures fault { IfErr result (λ e. (e ≡ Faults.Memory) ⊎ (put_child parent (name (units_of (view_of text.now))) (parent_of self.old) ≡ Err e)) }
+    {
+        let child = match Name::read_units(text) {
+            Ok(child) => child,
+            Err(_) => return Err(ParentsFault::BadLocale),
+        };
+        if self.by_child.contains_key(&child) {
+            return Err(ParentsFault::TwoParents);
+        }
+        match self.by_child.insert(child, parent) {
+            Ok(_) => Ok(()),
+            Err(_) => Err(ParentsFault::Memory),
+        }
+    }
+
+    // Puts in the children that a value names.
+    fn put_value(&mut self, parent: Name, value: &Tree) -> Result<(), ParentsFault>
+        ensures ok { OnOk result (put_value parent (texts_in (view_of value.now)) (parent_of self.old) ≡ Ok (parent_of self.new)) }
+        ensures fault { IfErr result (λ e. (e ≡ Faults.Memory) ⊎ (put_value parent (texts_in (view_of value.now)) (parent_of self.old) ≡ Err e)) }
+    {
+        if value.kind() == Kind::String {
+            return self.put_child(parent, value);
+        }
+        if value.kind() != Kind::Array || !are_strings(value) {
+            return Err(ParentsFault::Shape);
+        }
+        for i in 0..value.len() {
+            self.put_child(parent, value.at(i))?;
+        }
+        Ok(())
+    }
+
+    // Puts in one entry more.
+    fn put_entry(&mut self, key: &[u8], value: &Tree) -> Result<(), ParentsFault>
+        ensures ok { OnOk result (put_entry (name key.now) (view_of value.now) (parent_of self.old) ≡ Ok (parent_of self.new)) }
+        ensures fault { IfErr result (λ e. (e ≡ Faults.Memory) ⊎ (put_entry (name key.now) (view_of value.now) (parent_of self.old) ≡ Err e)) }
+    {
+        match Name::read(key) {
+            Ok(parent) => self.put_value(parent, value),
+            Err(_) => Err(ParentsFault::BadLocale),
+        }
+    }
+}

@@ -1,0 +1,14 @@
+use Rattle.std.proofs.Common.{◌≡◌, List, ℕ, Option, Some, None, sym}
+use Rattle.rb_format.specs.FirstFault.{first_fault}
+use Rattle.rb_format.proofs.Root.{fault_free}
+use Rattle.rb_validator.proofs.bundle.accept.Goals as goal
+
+pub invariant_of-result : goal.invariant_of-result
+invariant_of-result c =
+    let none : first_fault c.args.bytes.items ≡ None = rw (← c.deref.ensures.value) (sym c.in-Ok.ensures) in
+    record { denoted = fault_free c.args.bytes.items none }
+
+pub returns-in-Ok-clause-tree : goal.returns-in-Ok-clause-tree
+returns-in-Ok-clause-tree c =
+    let none : first_fault c.args.bytes.items ≡ None = rw (← c.deref.ensures.value) (sym c.in-Ok.ensures) in
+    fault_free c.args.bytes.items none

@@ -1,0 +1,73 @@
+// The checks of a table's keys.
+ghost use Rattle.std.specs.Prelude.{◌≡◌, ℕ, [], ◌+◌, ◌*◌, ◌≤◌, ◌<◌, length};
+ghost use Rattle.rb_format.specs.FirstFault.{fault_of, result_map, next_key, keys};
+ghost use Rattle.std.specs.Ordering.{is_lt, nat_cmp};
+ghost use Rattle.std.specs.Cmp.Lexicographic.{slice_cmp};
+ghost use Rattle.rb_validator.specs.Places.{IsIn};
+ghost use Rattle.rb_validator.specs.Places as stands;
+
+use rb_format::{FileFault, Layout, half_at, key_within, word_at};
+
+/// Where the key offsets of a table stand: the first half word, or the first word.
+#[derive(Clone, Copy)]
+pub enum KeyPlaces {
+    Halves(usize),
+    Words(usize),
+}
+
+/// A key offset of a table.
+pub fn key_offset(body: &[u8], places: KeyPlaces, i: usize) -> u32
+    requires { IsIn body.now places (i + 1) }
+    ensures { result ≡ stands.key_offset body.now places i }
+{
+    match places {
+        KeyPlaces::Halves(first) => u32::from(half_at(body, first + i)),
+        KeyPlaces::Words(first) => word_at(body, first + i),
+    }
+}
+
+fn is_below(a: &[u8], b: &[u8]) -> bool
+    ensures { result ≡ is_lt (slice_cmp nat_cmp a.now b.now) }
+{
+    a.cmp(b).is_lt()
+}
+
+#[tactic(auto, unfolding(rb_format::specs::FirstFault::next_key))]
+fn next_key<'a>(
+    layout: &Layout,
+    body: &'a [u8],
+    last: &[u8],
+    offset: u32,
+) -> Result<&'a [u8], FileFault>
+    requires { 4 * layout.now.keys_top ≤ length body.now }
+    ensures { result_map (λ k. k.now) result ≡ next_key layout.now body.now last.now offset }
+{
+    match key_within(layout, body, offset) {
+        Some(key) => {
+            if is_below(last, key) {
+                Ok(key)
+            } else {
+                Err(FileFault::KeyOrder)
+            }
+        }
+        None => Err(FileFault::Key),
+    }
+}
+
+/// Whether the keys of a table are keys, each above the one before.
+pub fn check_keys(
+    layout: &Layout,
+    body: &[u8],
+    places: KeyPlaces,
+    count: usize,
+) -> Result<(), FileFault>
+    requires keys { 4 * layout.now.keys_top ≤ length body.now }
+    requires places { IsIn body.now places count }
+    ensures { fault_of result ≡ fault_of (keys layout.now body.now (stands.key_offset body.now places) [] 0 count) }
+{
+    let mut last: &[u8] = &[];
+    for i in 0..count {
+        last = next_key(layout, body, last, key_offset(body, places, i))?;
+    }
+    Ok(())
+}

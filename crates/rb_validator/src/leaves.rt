@@ -1,0 +1,70 @@
+// The checks of values without children.
+ghost use Rattle.std.specs.Prelude.{◌≡◌, ℕ, ◌+◌, ◌*◌, ◌≤◌, ◌<◌, length};
+ghost use Rattle.rb_format.specs.FirstFault.{fault_of, units, bytes, numbers, within};
+
+use rb_format::{FileFault, ItemKind, Layout, half_at, word_at};
+
+/// Whether an item has data, which then lie between the keys and the top.
+pub fn check_offset(layout: &Layout, kind: ItemKind, offset: u32) -> Result<bool, FileFault>
+    ensures { result ≡ within layout.now kind offset }
+{
+    if kind == ItemKind::Int || offset == 0 {
+        return Ok(false);
+    }
+    if offset < layout.keys_top {
+        return Err(FileFault::Offset);
+    }
+    if offset < layout.top {
+        Ok(true)
+    } else {
+        Err(FileFault::Offset)
+    }
+}
+
+#[tactic(auto, unfolding(rb_format::specs::FirstFault::units))]
+pub fn check_units(layout: &Layout, body: &[u8], offset: u32) -> Result<(), FileFault>
+    requires room { 4 * layout.now.top ≤ length body.now }
+    requires below { offset < layout.now.top }
+    ensures { fault_of result ≡ fault_of (units layout.now body.now offset) }
+{
+    let offset = offset as usize;
+    let count = word_at(body, offset) as usize;
+    if 4 * (layout.top as usize) < 4 * offset + 6 + 2 * count {
+        return Err(FileFault::Length);
+    }
+    if half_at(body, 2 * offset + 2 + count) == 0 {
+        Ok(())
+    } else {
+        Err(FileFault::NotTerminated)
+    }
+}
+
+#[tactic(auto, unfolding(rb_format::specs::FirstFault::bytes))]
+pub fn check_bytes(layout: &Layout, body: &[u8], offset: u32) -> Result<(), FileFault>
+    requires room { 4 * layout.now.top ≤ length body.now }
+    requires below { offset < layout.now.top }
+    ensures { fault_of result ≡ fault_of (bytes layout.now body.now offset) }
+{
+    let offset = offset as usize;
+    let count = word_at(body, offset) as usize;
+    if 4 * (layout.top as usize) < 4 * offset + 4 + count {
+        Err(FileFault::Length)
+    } else {
+        Ok(())
+    }
+}
+
+#[tactic(auto, unfolding(rb_format::specs::FirstFault::numbers))]
+pub fn check_numbers(layout: &Layout, body: &[u8], offset: u32) -> Result<(), FileFault>
+    requires room { 4 * layout.now.top ≤ length body.now }
+    requires below { offset < layout.now.top }
+    ensures { fault_of result ≡ fault_of (numbers layout.now body.now offset) }
+{
+    let offset = offset as usize;
+    let count = word_at(body, offset) as usize;
+    if (layout.top as usize) < offset + 1 + count {
+        Err(FileFault::Length)
+    } else {
+        Ok(())
+    }
+}

@@ -1,0 +1,15 @@
+//! Whether a file denotes a tree, and bundles: files that do.
+#![tactic(auto)]
+
+mod bundle;
+mod file;
+mod items;
+mod keys;
+mod leaves;
+#[cfg(test)]
+mod tests;
+mod tree;
+mod values;
+
+pub use bundle::{Bundle, accept};
+pub use tree::decode;

@@ -1,0 +1,12 @@
+pub mod Puts
+pub mod Values
+pub mod Tabled
+pub mod Nodes
+pub mod Containing
+pub mod Ended
+pub mod Collecting
+pub mod Placing
+pub mod Keyloop
+pub mod Gathered
+pub mod Longer
+pub mod Room

@@ -1,0 +1,114 @@
+-- A key that was written is read where it stands.
+use Rattle.std.proofs.Common.{◌≡◌, ℕ, suc, ◌+◌, ◌-◌, ◌*◌, ◌<◌, ◌≤◌, Bool, true, false, cond, ltb, List, [], ◌∷◌, ◌++◌, length, get_or, take, drop, Option, Some, refl, sym, ap, ◌∙◌, arith, position, subst, inl, inr, ◌⊎◌}
+use Rattle.std.proofs.lemmas.Bool.Decides.{nat_tests}
+use Rattle.std.proofs.lemmas.Bool.{le-ltb, lt-ltb}
+use Rattle.std.proofs.lemmas.List.{get_or-drop, get_or-take, length-drop, length-take, ext_get_or, length_push, get_or_push}
+use Rattle.std.specs.Prelude.{All, ◌==◌, IsSome}
+use Rattle.std.specs.List.{list_all, position_or_len}
+use Rattle.rb_tree.specs.Keys.{IsKey, IsPlain}
+use Rattle.rb_format.specs.Place.{key, key_front, key_ok, plain}
+use Rattle.std.specs.Ordering.{is_eq, nat_cmp}
+use Rattle.std.specs.declared.cmp.Ordering.{Ordering}
+use Rattle.std.specs.declared.cmp.Ordering.TheVariants.{Less, Equal, Greater}
+use Rattle.std.specs.Cmp.Lexicographic.{slice_cmp}
+use Rattle.rb_format.proofs.Cases.{equal_is}
+use Rattle.rb_writer.proofs.Puts.{adds_append}
+use Rattle.rb_writer.proofs.Values.{part_stays}
+use Rattle.rb_writer.specs.Growth.{Adds, draft, PutsBytes}
+use Rattle.rb_writer.specs.Keying.{KeyAt}
+
+plain_is : (x : ℕ) → IsPlain x → plain x ≡ true
+plain_is x h = let a = h.0 in let b = h.1 in grind (arith, nat_tests)
+
+all_plain : (k : List ℕ) → All IsPlain k → list_all plain k ≡ true
+all_plain [] h = refl
+all_plain (x ∷ k) h = rw (plain_is x (h 0 x (omega arith))) (all_plain k (λ i d g. h (suc i) d (omega arith)))
+
+pub ok_key : (k : List ℕ) → IsKey k → key_ok k ≡ true
+ok_key k h = let t : ltb 0 (length k) ≡ true = lt-ltb _ _ h.0 in rw (t, all_plain k h.1) refl
+
+not_nul : (x : ℕ) → IsPlain x → (x == 0) ≡ false
+not_nul x h = let a = h.0 in grind (arith, nat_tests)
+
+-- the first NUL of a run stands behind the key
+nul_at : (k run : List ℕ) → All IsPlain k → take (length k) run ≡ k → length k < length run → get_or run (length k) 0 ≡ 0 → position_or_len (λ b. b == 0) run ≡ length k
+nul_at k [] h t l e = absurd (omega arith)
+nul_at [] (b ∷ run) h t l e = rw e refl
+nul_at (x ∷ k) (b ∷ run) h t l e =
+    let same : b ≡ x = cc in
+    let rest : take (length k) run ≡ k = cc in
+    let no : (x == 0) ≡ false = not_nul x (h 0 x (omega arith)) in
+    rw (same, no, nul_at k run (λ i d g. h (suc i) d (omega arith)) rest (omega arith) e) (omega arith)
+
+first_nul : (k run : List ℕ) → All IsPlain k → take (length k) run ≡ k → length k < length run → get_or run (length k) 0 ≡ 0 → position (λ b. b == 0) run ≡ Some (length k)
+first_nul k run h t l e = let test : ltb (length k) (length run) ≡ true = lt-ltb _ _ l in rw (nul_at k run h t l e, test) refl
+
+pub key_front_is : (k run : List ℕ) → IsKey k → take (length k) run ≡ k → length k < length run → get_or run (length k) 0 ≡ 0 → key_front run ≡ Some k
+key_front_is k run h t l e = rw (first_nul k run h.1 t l e, t, ok_key k h) refl
+
+pub key_reads : (kt : ℕ) (body k : List ℕ) (o : ℕ) → KeyAt body k o → length body ≡ 4 * kt → key (draft kt body) body o ≡ Some k
+unfolding key
+key_reads kt body k o p e =
+    let lo = p.low in let ins = p.inside in
+    let a : ltb o 24 ≡ false = le-ltb _ _ lo in
+    let b : ltb o (4 * kt) ≡ true = lt-ltb _ _ (omega arith) in
+    let len : length (take (4 * kt - o) (drop o body)) ≡ 4 * kt - o = omega (arith, length-take (4 * kt - o) (drop o body), length-drop o body) in
+    let front : take (length k) (take (4 * kt - o) (drop o body)) ≡ k =
+    ext_get_or 0 _ _ (omega (arith, len, length-take (length k) (take (4 * kt - o) (drop o body)))) (λ j h.
+    let below : j < length k = omega (arith, length-take (length k) (take (4 * kt - o) (drop o body))) in
+    get_or-take (length k) (take (4 * kt - o) (drop o body)) j 0 below ∙ get_or-take (4 * kt - o) (drop o body) j 0 (omega arith) ∙ sym (get_or-take (length k) (drop o body) j 0 below) ∙ ap (λ (xs : List ℕ). get_or xs j 0) p.bytes) in
+    let end : get_or (take (4 * kt - o) (drop o body)) (length k) 0 ≡ 0 = get_or-take (4 * kt - o) (drop o body) (length k) 0 (omega arith) ∙ get_or-drop o body (length k) 0 ∙ p.ended in
+    rw (a, b) (key_front_is k (take (4 * kt - o) (drop o body)) p.is_key front (omega arith) end)
+
+-- a key stays where it stands
+pub key_at_stays : (a b k : List ℕ) (o : ℕ) → Adds a b → KeyAt a k o → KeyAt b k o
+key_at_stays a b k o h p =
+    let l = h.longer in let ins = p.inside in
+    let len : length (take (length k) (drop o b)) ≡ length k = omega (arith, length-take (length k) (drop o b), length-drop o b) in
+    record {
+      low = p.low;
+      inside = omega arith;
+      bytes = ext_get_or 0 _ _ len (λ j g.
+          let below : j < length k = omega (arith, length-take (length k) (drop o b)) in
+          get_or-take (length k) (drop o b) j 0 below ∙ get_or-drop o b j 0 ∙ h.same (o + j) (omega arith) ∙ sym (get_or-drop o a j 0) ∙ sym (get_or-take (length k) (drop o a) j 0 below) ∙ ap (λ (xs : List ℕ). get_or xs j 0) p.bytes);
+      ended = h.same (o + length k) (omega arith) ∙ p.ended;
+      is_key = p.is_key;
+    }
+
+pub key_put : (a b c k : List ℕ) (o : ℕ) → PutsBytes a b k → c ≡ b ++ 0 ∷ [] → o ≡ length a → 24 ≤ length a → IsKey k → KeyAt c k o
+key_put a b c k o p e at low h =
+    let l = p.len in
+    rw e (record {
+      low = omega arith;
+      inside = omega (arith, length_push b 0);
+      bytes = part_stays a b (b ++ 0 ∷ []) k o p (adds_append b (0 ∷ [])) at;
+      ended = get_or_push b 0 0 (o + length k) (omega arith);
+      is_key = h;
+    })
+
+-- ---- what an insert changes
+
+equal_order : (o : Ordering) → is_eq o ≡ true → o ≡ Equal
+equal_order Less e = absurd cc
+equal_order Equal e = refl
+equal_order Greater e = absurd cc
+
+pub stay_from : (b : Bool) (w : ℕ) (old new : Option ℕ) → new ≡ cond b (Some w) old → IsSome old → IsSome new
+stay_from true w old new e h = rw e refl
+stay_from false w old new e h = rw e h
+
+pub stand_by : (b : Bool) (k q : List ℕ) (w o : ℕ) (old new : Option ℕ) → (b ≡ true → k ≡ q) → new ≡ cond b (Some w) old → new ≡ Some o → (old ≡ Some o) ⊎ ((k ≡ q) × (w ≡ o))
+stand_by true k q w o old new same e f = inr (same refl, some_is w o (sym e ∙ f))
+  where
+    some_is : (a b : ℕ) → Some a ≡ Some b → a ≡ b
+    some_is a b e = cc
+stand_by false k q w o old new same e f = inl (sym e ∙ f)
+
+pub stand_from : (k q : List ℕ) (w o : ℕ) (old new : Option ℕ) → new ≡ cond (is_eq (slice_cmp nat_cmp k q)) (Some w) old → new ≡ Some o → (old ≡ Some o) ⊎ ((k ≡ q) × (w ≡ o))
+stand_from k q w o old new e f = stand_by (is_eq (slice_cmp nat_cmp k q)) k q w o old new (λ t. equal_is k q (equal_order _ t)) e f
+
+pub stands_or : (c k q : List ℕ) (w o : ℕ) (old : Option ℕ) → KeyAt c k w → (old ≡ Some o) ⊎ ((k ≡ q) × (w ≡ o)) → (old ≡ Some o) ⊎ KeyAt c q o
+stands_or c k q w o old h s = elim s [
+  | inl p ↦ inl p
+  | inr p ↦ inr (subst (λ (x : List ℕ). KeyAt c x o) p.0 (subst (KeyAt c k) p.1 h))
+]

@@ -1,0 +1,112 @@
+-- What is put behind data stands there, and what was there stays.
+use Rattle.std.proofs.Common.{◌≡◌, ℕ, zero, suc, ◌+◌, ◌*◌, ◌^◌, ◌<◌, ◌≤◌, ℤ, List, [], ◌∷◌, ◌++◌, length, get_or, drop, refl, sym, ap, ◌∙◌, arith, inl, inr}
+use Rattle.std.proofs.lemmas.List.{get_or_append_left, length-append, get_or-drop, append-nil}
+use Rattle.std.proofs.lemmas.Bool.{cases_eq}
+use Rattle.std.specs.Int.{cast_signed, w32}
+use Rattle.byteorder.specs.Endian.{little_bytes, little_number}
+use Rattle.byteorder.specs.Numbers.{little_number-reads_back}
+use Rattle.rb_format.specs.Place.{word_at, half_at}
+use Rattle.rb_writer.specs.Growth.{Adds, PutsWord, PutsWords, PutsNumbers, PutsHalf, PutsHalves, PutsBytes}
+
+pub adds_refl : (a : List ℕ) → Adds a a
+adds_refl a = record { longer = omega arith; same = λ i h. refl }
+
+pub adds_trans : (a b c : List ℕ) → Adds a b → Adds b c → Adds a c
+adds_trans a b c p q = let pl = p.longer in let ql = q.longer in record { longer = omega arith; same = λ i h. q.same i (omega arith) ∙ p.same i h }
+
+pub adds_append : (a b : List ℕ) → Adds a (a ++ b)
+adds_append a b = record { longer = omega (arith, length-append a b); same = λ i h. get_or_append_left a b 0 i h }
+
+pub drop_append : (n : ℕ) (a b : List ℕ) → length a ≡ n → drop n (a ++ b) ≡ b
+drop_append zero [] b e = refl
+drop_append zero (x ∷ a) b e = absurd (omega arith)
+drop_append (suc n) [] b e = absurd (omega arith)
+drop_append (suc n) (x ∷ a) b e = drop_append n a b (omega arith)
+
+pub puts_word : (old new : List ℕ) (w : ℕ) → new ≡ old ++ little_bytes 4 w → w < 2 ^ 32 → PutsWord old new w
+unfolding word_at
+puts_word old new w e h = rw e (record {
+  adds = adds_append old (little_bytes 4 w);
+  len = omega (arith, length-append old (little_bytes 4 w));
+  word_is = λ i p. rw (drop_append (4 * i) old (little_bytes 4 w) p) (ap (little_number 4) (sym (append-nil (little_bytes 4 w))) ∙ little_number-reads_back 4 w [] h);
+})
+
+pub puts_half : (old new : List ℕ) (w : ℕ) → new ≡ old ++ little_bytes 2 w → w < 2 ^ 16 → PutsHalf old new w
+unfolding half_at
+puts_half old new w e h = rw e (record {
+  adds = adds_append old (little_bytes 2 w);
+  len = omega (arith, length-append old (little_bytes 2 w));
+  half_is = λ i p. rw (drop_append (2 * i) old (little_bytes 2 w) p) (ap (little_number 2) (sym (append-nil (little_bytes 2 w))) ∙ little_number-reads_back 2 w [] h);
+})
+
+pub puts_bytes : (old new bytes : List ℕ) → new ≡ old ++ bytes → PutsBytes old new bytes
+puts_bytes old new bytes e = rw e (record {
+  adds = adds_append old bytes;
+  len = length-append old bytes;
+  bytes_are = drop_append (length old) old bytes refl;
+})
+
+-- a word stays
+pub word_stays : (a b : List ℕ) (i : ℕ) → Adds a b → 4 * i + 4 ≤ length a → word_at b i ≡ word_at a i
+unfolding word_at
+word_stays a b i p h =
+    let byte : (j : ℕ) → j < 4 → get_or (drop (4 * i) b) j 0 ≡ get_or (drop (4 * i) a) j 0 = λ j g. get_or-drop (4 * i) b j 0 ∙ p.same (4 * i + j) (omega arith) ∙ sym (get_or-drop (4 * i) a j 0) in
+    rw (byte 0 (omega arith), byte 1 (omega arith), byte 2 (omega arith), byte 3 (omega arith)) refl
+
+pub half_stays : (a b : List ℕ) (i : ℕ) → Adds a b → 2 * i + 2 ≤ length a → half_at b i ≡ half_at a i
+unfolding half_at
+half_stays a b i p h =
+    let byte : (j : ℕ) → j < 2 → get_or (drop (2 * i) b) j 0 ≡ get_or (drop (2 * i) a) j 0 = λ j g. get_or-drop (2 * i) b j 0 ∙ p.same (2 * i + j) (omega arith) ∙ sym (get_or-drop (2 * i) a j 0) in
+    rw (byte 0 (omega arith), byte 1 (omega arith)) refl
+
+-- ---- lists, one by one
+
+pub get_or_any : {X : Type 0} (xs : List X) (i : ℕ) (d e : X) → i < length xs → get_or xs i d ≡ get_or xs i e
+get_or_any [] i d e h = absurd (omega arith)
+get_or_any (x ∷ xs) zero d e h = refl
+get_or_any (x ∷ xs) (suc i) d e h = get_or_any xs i d e (omega arith)
+
+pub words_none : (old words : List ℕ) → PutsWords old old words 0
+words_none old words = record { adds = adds_refl old; len = omega arith; words_are = λ i j e h. absurd (omega arith) }
+
+pub words_more : (old mid new words : List ℕ) (w n : ℕ) → PutsWords old mid words n → PutsWord mid new w → w ≡ get_or words n w → n < length words → PutsWords old new words (n + 1)
+words_more old mid new words w n p q e h =
+    let pl = p.len in let ql = q.len in
+    record {
+      adds = adds_trans old mid new p.adds q.adds;
+      len = omega arith;
+      words_are = λ i j f g. elim (cases_eq j n) [
+        | inl same ↦ rw same (q.word_is (i + n) (omega arith) ∙ e ∙ get_or_any words n w 0 h)
+        | inr other ↦ word_stays mid new (i + j) q.adds (omega arith) ∙ p.words_are i j f (omega arith)
+      ];
+    }
+
+pub halves_none : (old halves : List ℕ) → PutsHalves old old halves 0
+halves_none old halves = record { adds = adds_refl old; len = omega arith; halves_are = λ i j e h. absurd (omega arith) }
+
+pub halves_more : (old mid new halves : List ℕ) (w n : ℕ) → PutsHalves old mid halves n → PutsHalf mid new w → w ≡ get_or halves n w → n < length halves → PutsHalves old new halves (n + 1)
+halves_more old mid new halves w n p q e h =
+    let pl = p.len in let ql = q.len in
+    record {
+      adds = adds_trans old mid new p.adds q.adds;
+      len = omega arith;
+      halves_are = λ i j f g. elim (cases_eq j n) [
+        | inl same ↦ rw same (q.half_is (i + n) (omega arith) ∙ e ∙ get_or_any halves n w 0 h)
+        | inr other ↦ half_stays mid new (i + j) q.adds (omega arith) ∙ p.halves_are i j f (omega arith)
+      ];
+    }
+
+pub numbers_none : (old : List ℕ) (numbers : List ℤ) → PutsNumbers old old numbers 0
+numbers_none old numbers = record { adds = adds_refl old; len = omega arith; numbers_are = λ i j d e h. absurd (omega arith) }
+
+pub numbers_more : (old mid new : List ℕ) (numbers : List ℤ) (z : ℤ) (w n : ℕ) → PutsNumbers old mid numbers n → PutsWord mid new w → cast_signed w32 w ≡ z → z ≡ get_or numbers n z → n < length numbers → PutsNumbers old new numbers (n + 1)
+numbers_more old mid new numbers z w n p q t e h =
+    let pl = p.len in let ql = q.len in
+    record {
+      adds = adds_trans old mid new p.adds q.adds;
+      len = omega arith;
+      numbers_are = λ i j d f g. elim (cases_eq j n) [
+        | inl same ↦ rw same (ap (cast_signed w32) (q.word_is (i + n) (omega arith)) ∙ t ∙ e ∙ get_or_any numbers n z d h)
+        | inr other ↦ ap (cast_signed w32) (word_stays mid new (i + j) q.adds (omega arith)) ∙ p.numbers_are i j d f (omega arith)
+      ];
+    }

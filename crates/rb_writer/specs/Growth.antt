@@ -1,0 +1,71 @@
+-- How data grow while they are written.
+use Rattle.std.specs.Prelude.{◌≡◌, ◌⊎◌, ℕ, ℤ, ◌+◌, ◌*◌, ◌/◌, ◌^◌, ◌<◌, ◌≤◌, List, length, get_or, drop, Result, Ok, map}
+use Rattle.std.specs.Int.{cast_signed, w32}
+use Rattle.rb_format.specs.declared.fault.FileFault.{FileFault}
+use Rattle.rb_format.specs.FirstFault.{result_map, numbers}
+use Rattle.rb_format.specs.Place.{word_at, half_at}
+use Rattle.rb_format.specs.declared.layout.Layout.{Layout}
+
+-- new data keep all of the old
+pub record Adds (old new : List ℕ) : Type 0 where
+  pub longer : length old ≤ length new
+  pub same : (i : ℕ) → i < length old → get_or new i 0 ≡ get_or old i 0
+
+-- a word was put behind data of whole words
+pub record PutsWord (old new : List ℕ) (word : ℕ) : Type 0 where
+  pub adds : Adds old new
+  pub len : length new ≡ length old + 4
+  pub word_is : (i : ℕ) → length old ≡ 4 * i → word_at new i ≡ word
+
+-- the first n words of a list were put behind data of whole words
+pub record PutsWords (old new words : List ℕ) (n : ℕ) : Type 0 where
+  pub adds : Adds old new
+  pub len : length new ≡ length old + 4 * n
+  pub words_are : (i j : ℕ) → length old ≡ 4 * i → j < n → word_at new (i + j) ≡ get_or words j 0
+
+-- the same of signed numbers
+pub record PutsNumbers (old new : List ℕ) (numbers : List ℤ) (n : ℕ) : Type 0 where
+  pub adds : Adds old new
+  pub len : length new ≡ length old + 4 * n
+  pub numbers_are : (i j : ℕ) (d : ℤ) → length old ≡ 4 * i → j < n → cast_signed w32 (word_at new (i + j)) ≡ get_or numbers j d
+
+-- a half word was put behind data of whole half words
+pub record PutsHalf (old new : List ℕ) (half : ℕ) : Type 0 where
+  pub adds : Adds old new
+  pub len : length new ≡ length old + 2
+  pub half_is : (i : ℕ) → length old ≡ 2 * i → half_at new i ≡ half
+
+-- the first n half words of a list
+pub record PutsHalves (old new halves : List ℕ) (n : ℕ) : Type 0 where
+  pub adds : Adds old new
+  pub len : length new ≡ length old + 2 * n
+  pub halves_are : (i j : ℕ) → length old ≡ 2 * i → j < n → half_at new (i + j) ≡ get_or halves j 0
+
+-- bytes were put behind data
+pub record PutsBytes (old new : List ℕ) (bytes : List ℕ) : Type 0 where
+  pub adds : Adds old new
+  pub len : length new ≡ length old + length bytes
+  pub bytes_are : drop (length old) new ≡ bytes
+
+-- the bounds of data that are being written: all that stands there so far
+abbrev pub draft : ℕ → List ℕ → Layout
+draft kt body = record { indexes = 5; keys_top = kt; top = length body / 4 }
+
+-- whole words, with the header's words and the keys in front
+pub record IsDraft (kt : ℕ) (body : List ℕ) : Type 0 where
+  pub words : ℕ
+  pub whole : length body ≡ 4 * words
+  pub low : 6 ≤ kt
+  pub high : kt ≤ words
+
+-- a value x was written at an offset, or is the value of an item without data, which has none
+pub record Put {A : Type 0} (kt : ℕ) (old new : List ℕ) (most : ℕ) (value : Layout → List ℕ → ℕ → Result A FileFault) (x none : A) (offset : ℕ) : Type 0 where
+  pub adds : Adds old new
+  pub drafted : IsDraft kt new
+  pub little : length new ≤ length old + most
+  pub small : offset < 2 ^ 28
+  pub stands : ((offset ≡ 0) × (x ≡ none)) ⊎ ((kt ≤ offset) × (offset < length new / 4) × (value (draft kt new) new offset ≡ Ok x))
+
+-- the signed numbers at an offset
+abbrev pub signed_numbers : Layout → List ℕ → ℕ → Result (List ℤ) FileFault
+signed_numbers y body o = result_map (λ ns. map (cast_signed w32) ns) (numbers y body o)

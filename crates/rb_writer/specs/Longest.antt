@@ -1,0 +1,23 @@
+-- The length of the longest table (`uresdata.h`, URES_INDEX_MAX_TABLE_LENGTH).
+use Rattle.std.specs.Prelude.{ℕ, max, length}
+use Rattle.rb_tree.specs.Resource.{Resource, string, int, ints, binary, alias, array, table, Resources, no_trees, tree_and, Members, no_entries, entry_and}
+use Rattle.rb_tree.specs.Keys.{pairs}
+
+abbrev mutual
+  -- of the tables in a tree, 0 where there is none
+  pub longest : Resource → ℕ
+  longest (string us) = 0
+  longest (int n) = 0
+  longest (ints zs) = 0
+  longest (binary bs) = 0
+  longest (alias us) = 0
+  longest (array ts) = longest_of_trees ts
+  longest (table es) = max (length (pairs es)) (longest_of_entries es)
+
+  pub longest_of_trees : Resources → ℕ
+  longest_of_trees no_trees = 0
+  longest_of_trees (tree_and t ts) = max (longest t) (longest_of_trees ts)
+
+  pub longest_of_entries : Members → ℕ
+  longest_of_entries no_entries = 0
+  longest_of_entries (entry_and k t es) = max (longest t) (longest_of_entries es)

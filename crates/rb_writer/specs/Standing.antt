@@ -1,0 +1,85 @@
+-- Trees that were written, and the items that stand for them.
+use Rattle.std.specs.Prelude.{◌≡◌, ◌⊎◌, ℕ, ◌+◌, ◌/◌, ◌%◌, ◌^◌, ◌<◌, ◌≤◌, List, [], ◌∷◌, length, get_or, drop, Some, Ok, IsSome, slice_get}
+use Rattle.rb_tree.specs.Resource.{Resource, Members, height}
+use Rattle.rb_format.specs.Place.{key}
+use Rattle.std.specs.Map.{keys_of}
+use Rattle.rb_tree.specs.Keys.{pairs, IsTable}
+use Rattle.rb_format.specs.declared.kind.ItemKind.TheVariants.{Table, LongTable}
+use Rattle.rb_format.specs.FirstFault.{read}
+use Rattle.rb_format.specs.Item.{kind_of, offset_of}
+use Rattle.rb_writer.specs.Growth.{Adds, IsDraft, draft, PutsWord, PutsWords, PutsHalf, PutsHalves}
+use Rattle.rb_writer.specs.Most.{data_most}
+use Rattle.rb_writer.specs.Places.{EachKey}
+use Rattle.rb_writer.specs.Keyed.{place}
+use Rattle.rb_writer.specs.declared.keys.KeyPlaces.{KeyPlaces}
+
+-- a tree was written, and an item stands for it
+pub record Stands (kt : ℕ) (old new : List ℕ) (t : Resource) (item : ℕ) : Type 0 where
+  pub adds : Adds old new
+  pub drafted : IsDraft kt new
+  pub little : length new ≤ length old + data_most t
+  pub reads : read (draft kt new) new (height t) item ≡ Ok t
+
+abbrev pub children_most : List Resource → ℕ
+children_most [] = 0
+children_most (t ∷ ts) = data_most t + children_most ts
+
+-- the first n of these trees were written, and items stand for them
+pub record ChildrenStand (kt : ℕ) (old new : List ℕ) (cs : List Resource) (items : List ℕ) (n : ℕ) : Type 0 where
+  pub adds : Adds old new
+  pub drafted : IsDraft kt new
+  pub little : length new + children_most (drop n cs) ≤ length old + children_most cs
+  pub count : length items ≡ n
+  pub reads : (j : ℕ) (u : Resource) → j < n → Some u ≡ slice_get cs j → read (draft kt new) new (height u) (get_or items j 0) ≡ Ok u
+
+-- each key that has a place stands there
+abbrev pub KeysStand : ℕ → List ℕ → KeyPlaces → Type 0
+KeysStand kt body keys = (k : List ℕ) (o : ℕ) → place keys k ≡ Some o → key (draft kt body) body o ≡ Some k
+
+-- each key of the tree has a place
+abbrev pub HasPlaces : KeyPlaces → Resource → Type 0
+HasPlaces keys t = EachKey (λ k. IsSome (place keys k)) t
+
+-- the places of the first n of these keys
+pub record PlacesAre (keys : KeyPlaces) (ks : List (List ℕ)) (offsets : List ℕ) (n : ℕ) : Type 0 where
+  pub count : length offsets ≡ n
+  pub are : (j : ℕ) (k : List ℕ) → j < n → Some k ≡ slice_get ks j → place keys k ≡ Some (get_or offsets j 0)
+
+-- ---- what is written behind the children
+
+-- an array's count and items; nothing where it is empty
+pub record PutsArray (old new items : List ℕ) (offset : ℕ) : Type 0 where
+  pub a : List ℕ
+  pub count : PutsWord old a (length items)
+  pub children : PutsWords a new items (length items)
+  pub stands : offset ≡ length old / 4
+
+-- a table's count, key offsets as half words, padding, and items
+pub record PutsShort (old new offsets items : List ℕ) (offset : ℕ) : Type 0 where
+  pub a : List ℕ
+  pub b : List ℕ
+  pub c : List ℕ
+  pub count : PutsHalf old a (length items)
+  pub keys : PutsHalves a b offsets (length items)
+  pub padded : Adds b c
+  pub whole : length c % 4 ≡ 0
+  pub near : length c < length b + 4
+  pub children : PutsWords c new items (length items)
+  pub stands : offset ≡ length old / 4
+
+-- a table's count and key offsets as words, and items
+pub record PutsLong (old new offsets items : List ℕ) (offset : ℕ) : Type 0 where
+  pub a : List ℕ
+  pub b : List ℕ
+  pub count : PutsWord old a (length items)
+  pub keys : PutsWords a b offsets (length items)
+  pub children : PutsWords b new items (length items)
+  pub stands : offset ≡ length old / 4
+
+-- a table was written with the items of its values, and an item leads to it
+pub record WritesTable (keys : KeyPlaces) (es : Members) (old new items : List ℕ) (item : ℕ) : Type 0 where
+  pub offsets : List ℕ
+  pub places : PlacesAre keys (keys_of (pairs es)) offsets (length (pairs es))
+  pub ordered : IsTable es
+  pub small : offset_of item < 2 ^ 28
+  pub written : ((kind_of item ≡ Some Table) × PutsShort old new offsets items (offset_of item)) ⊎ ((kind_of item ≡ Some LongTable) × PutsLong old new offsets items (offset_of item))

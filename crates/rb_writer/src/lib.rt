@@ -1,0 +1,16 @@
+//! Writing a tree as a resource bundle's file.
+#![tactic(auto)]
+
+mod collect;
+mod containers;
+mod file;
+mod item;
+mod keys;
+mod leaves;
+mod put;
+mod table;
+#[cfg(test)]
+mod tests;
+mod tree;
+
+pub use file::{HEADER, write};

@@ -1,0 +1,78 @@
+// The values of a tree, each behind its children.
+ghost use Rattle.std.specs.Prelude.{IfOk, length, ◌≡◌, ◌+◌, ◌^◌, ◌≤◌};
+ghost use Rattle.rb_tree.specs.Parts.{kind_of, len_of, children_of, HasChildren};
+ghost use Rattle.rb_tree.specs.View.{view_of};
+ghost use Rattle.rb_writer.specs.Growth.{IsDraft};
+ghost use Rattle.rb_writer.specs.Most.{data_most};
+ghost use Rattle.rb_writer.specs.Standing.{Stands, ChildrenStand, KeysStand, HasPlaces, children_most};
+
+use crate::containers::write_array;
+use crate::item::item;
+use crate::keys::KeyPlaces;
+use crate::leaves::{write_bytes, write_numbers, write_units};
+use crate::table::write_table;
+use rb_format::ItemKind;
+use rb_tree::{Node, Tree};
+use std::alloc::{AllocError, Global};
+
+/// Writes a tree, and answers the item that stands for it.
+#[cycle(write)]
+#[tactic(auto, using(crate::proofs::Nodes::children_le, crate::proofs::Containing::array_room, crate::proofs::Containing::table_room))]
+pub fn write_value(
+    alloc: Global,
+    out: &mut Vec<u8>,
+    keys: &KeyPlaces<'_>,
+    tree: &Tree,
+) -> Result<u32, AllocError>
+    requires drafted { IsDraft keys.now.top out.old.items }
+    requires room { length out.old.items + data_most (view_of tree.now) ≤ 2 ^ 28 }
+    requires keys { KeysStand keys.now.top out.old.items keys.now }
+    requires each { HasPlaces keys.now (view_of tree.now) }
+    ensures { IfOk result (Stands keys.now.top out.old.items out.new.items (view_of tree.now)) }
+{
+    match tree {
+        Tree::String(units) => Ok(item(ItemKind::String, write_units(out, units.as_slice())?)),
+        Tree::Int(number) => Ok(item(ItemKind::Int, number.get())),
+        Tree::Ints(numbers) => Ok(item(ItemKind::Ints, write_numbers(out, numbers.as_slice())?)),
+        Tree::Binary(bytes) => Ok(item(ItemKind::Binary, write_bytes(out, bytes.as_slice())?)),
+        Tree::Alias(units) => Ok(item(ItemKind::Alias, write_units(out, units.as_slice())?)),
+        Tree::Array(_) => {
+            let items = write_children(alloc, out, keys, tree)?;
+            if items.is_empty() {
+                return Ok(item(ItemKind::Array, 0));
+            }
+            Ok(item(ItemKind::Array, write_array(out, &items)?))
+        }
+        Tree::Table(entries) => {
+            let items = write_children(alloc, out, keys, tree)?;
+            if items.is_empty() {
+                return Ok(item(ItemKind::Table, 0));
+            }
+            write_table(alloc, out, keys, entries, &items)
+        }
+    }
+}
+
+/// Writes the children of an array or a table, and answers the items that stand for them.
+#[cycle(write)]
+#[tactic(auto, using(rb_tree::specs::Lower::child_lower, rb_tree::specs::Lower::children_len, crate::proofs::Nodes::children_none))]
+fn write_children(
+    alloc: Global,
+    out: &mut Vec<u8>,
+    keys: &KeyPlaces<'_>,
+    tree: &Tree,
+) -> Result<Vec<u32>, AllocError>
+    requires nested { HasChildren (kind_of (view_of tree.now)) }
+    requires drafted { IsDraft keys.now.top out.old.items }
+    requires room { length out.old.items + children_most (children_of (view_of tree.now)) ≤ 2 ^ 28 }
+    requires keys { KeysStand keys.now.top out.old.items keys.now }
+    requires each { HasPlaces keys.now (view_of tree.now) }
+    ensures { IfOk result (λ items. ChildrenStand keys.now.top out.old.items out.new.items (children_of (view_of tree.now)) items.items (len_of (view_of tree.now))) }
+{
+    let mut items = Vec::new(alloc);
+    for i in 0..tree.len() {
+        let item = write_value(alloc, out, keys, tree.at(i))?;
+        items.push(item)?;
+    }
+    Ok(items)
+}
