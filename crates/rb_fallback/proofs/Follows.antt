@@ -1,5 +1,5 @@
 -- Where an alias leads: its path, and what is left of the path that led to it.
-use Rattle.std.proofs.Common.{◌≡◌, ◌≢◌, ◌+◌, ◌<◌, ◌≤◌, ◌||◌, ℕ, zero, suc, List, [], ◌∷◌, ◌++◌, length, drop, Bool, true, false, cond, nat_lt, Option, Some, None, All, refl, ap, sym, ◌∙◌, arith, subst, Ok, Err, length-drop, length-append}
+use Rattle.std.proofs.Common.{◌≡◌, ◌≢◌, ◌+◌, ◌<◌, ◌||◌, ℕ, zero, suc, List, [], ◌∷◌, ◌++◌, length, drop, Bool, true, false, cond, nat_lt, Option, Some, None, All, refl, ap, sym, ◌∙◌, arith, subst, Ok}
 use Rattle.std.proofs.Common.{append-nil, codes, slice_index_or}
 use Rattle.std.proofs.lemmas.Bool.{ltb-true, leb-true, lt-ltb}
 use Rattle.std.proofs.lemmas.List.{drop_at}
@@ -14,7 +14,7 @@ use Rattle.rb_locales.specs.Locale.{name}
 use Rattle.rb_locales.proofs.Canon.{both_true}
 use Rattle.rb_fallback.specs.Alias.{Aim, aims, no_text, no_package, is_plain, aim, plain_aim, packaged, located, named, with_path, target, target_of}
 use Rattle.rb_fallback.specs.Behind.{are_filled, led}
-use Rattle.rb_fallback.specs.Search.{follow, goes, is_long}
+use Rattle.rb_fallback.specs.Search.{follow, goes}
 use Rattle.rb_fallback.specs.Turns.{GoesLong}
 use Rattle.rb_fallback.specs.declared.limits.TheConstants.{PATH_LIMIT}
 use Rattle.rb_fallback.proofs.Paths.{path_is_filled, aim_is_plain, split_append, long_is}

@@ -6,7 +6,7 @@ use Rattle.rb_fallback.specs.Answers.{answer_of}
 use Rattle.rb_fallback.specs.declared.found.Found.{Found}
 use Rattle.rb_tree.specs.Resource.{Resource}
 use Rattle.rb_tree.specs.Path.{segments}
-use Rattle.rb_fallback.specs.Search.{Setting, Step, found, goes, search, is_long, go_on, step, level, bundles_of}
+use Rattle.rb_fallback.specs.Search.{Setting, Step, search, is_long, go_on, step, level, bundles_of}
 use Rattle.rb_fallback.specs.declared.limits.TheConstants.{LEVEL_LIMIT, PATH_LIMIT}
 use Rattle.rb_fallback.specs.declared.fault.LookError.{LookError}
 use Rattle.rb_fallback.specs.declared.fault.LookError.TheVariants as fault

@@ -1,17 +1,16 @@
 -- A level that ends at an alias.
-use Rattle.std.proofs.Common.{◌≡◌, ℕ, List, [], ◌∷◌, ◌++◌, length, drop, Bool, Option, Some, None, unwrap_or, Result, Ok, Err, refl, ap, sym, ◌∙◌, subst, IsErrAnd}
-use Rattle.rb_tree.specs.Resource.{Resource, string, int, ints, binary, alias, array, table}
+use Rattle.std.proofs.Common.{◌≡◌, ℕ, List, [], ◌∷◌, ◌++◌, drop, Bool, Option, Some, None, Result, Ok, Err, refl, ap, sym, ◌∙◌, subst, IsErrAnd}
+use Rattle.rb_tree.specs.Resource.{Resource, alias}
 use Rattle.rb_tree.specs.Parts.{units_of, kind_of}
 use Rattle.rb_tree.specs.declared.kind.Kind.TheVariants as Kinds
 use Rattle.rb_tree.specs.Path.{segments}
-use Rattle.rb_tree.specs.Walk.{Walked, ends, links, gone, walk, behind, stop_of, rest_of, Stop, end, link, nowhere}
+use Rattle.rb_tree.specs.Walk.{Walked, ends, links, gone, behind, stop_of, rest_of, link}
 use Rattle.rb_parents.specs.Trail.{Bundles, ParentsOf, Trail, names, chain, bad_parent, trail, stops}
 use Rattle.rb_fallback.specs.Alias.{target}
 use Rattle.rb_fallback.specs.Search.{walk_of, unless_gone, decide, decided, by_stops, by_trail, level, Step, step, follow}
 use Rattle.rb_fallback.specs.Turns.{IsTurn}
 use Rattle.rb_fallback.specs.declared.search.Turn.{Turn}
 use Rattle.rb_fallback.specs.declared.fault.LookError.{LookError}
-use Rattle.rb_fallback.specs.declared.fault.LookError.TheVariants as fault
 use Rattle.rb_fallback.proofs.Paths.{Whole, walk_whole}
 
 -- ---- what was walked and what is left of the deciding walk are the whole path

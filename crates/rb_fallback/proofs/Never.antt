@@ -1,8 +1,8 @@
 -- A search never finds fault with its path's form.
-use Rattle.std.proofs.Common.{◌≡◌, ℕ, zero, suc, List, [], ◌∷◌, Bool, true, false, cond, Option, Some, None, Result, Ok, Err, refl, ap, sym, ◌∙◌}
+use Rattle.std.proofs.Common.{◌≡◌, ℕ, zero, suc, List, [], ◌∷◌, Bool, true, false, cond, Option, Some, None, Result, Ok, Err, ap, sym, ◌∙◌}
 use Rattle.rb_tree.specs.Resource.{Resource}
 use Rattle.rb_tree.specs.Walk.{Walked, ends, links, gone}
-use Rattle.rb_parents.specs.Trail.{Bundles, ParentsOf, Trail, names, chain, bad_parent, trail, stops}
+use Rattle.rb_parents.specs.Trail.{Bundles, Trail, names, chain, bad_parent, trail, stops}
 use Rattle.rb_fallback.specs.Alias.{Target, leads, bad_text, bad_package, target}
 use Rattle.rb_fallback.specs.Answers.{answer_of}
 use Rattle.rb_fallback.specs.Search.{decide, decided, by_stops, by_trail, level, Step, found, goes, follow, step, Setting, bundles_of, go_on, is_long, search}

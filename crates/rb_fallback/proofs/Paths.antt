@@ -1,13 +1,11 @@
 -- Walks, paths and aims: what a search that goes on needs.
-use Rattle.std.proofs.Common.{◌≡◌, ◌+◌, ◌<◌, ◌≤◌, ◌&&◌, ℕ, List, [], ◌∷◌, ◌++◌, length, Bool, true, false, cond, nat_lt, Option, Some, None, refl, ap, sym, ◌∙◌, arith, subst}
+use Rattle.std.proofs.Common.{◌≡◌, ◌<◌, ℕ, List, [], ◌∷◌, ◌++◌, length, Bool, true, false, cond, nat_lt, Option, Some, None, refl, ap, arith, subst}
 use Rattle.std.specs.List.{slice_split, list_all, onto_first, join_with_byte}
-use Rattle.std.specs.Str.{bytes_eq}
 use Rattle.std.proofs.lemmas.List.Splits.{join_with_byte-slice_split}
 use Rattle.rb_tree.specs.Resource.{Resource, string, int, ints, binary, alias, array, table}
 use Rattle.rb_tree.specs.Path.{is_slash, segments}
 use Rattle.rb_tree.specs.Walk.{Walked, ends, links, gone, walk, after, onward, enter}
-use Rattle.rb_locales.specs.Locale.{name}
-use Rattle.rb_fallback.specs.Alias.{Aim, aims, no_text, no_package, is_plain, aim, plain_aim, with_path}
+use Rattle.rb_fallback.specs.Alias.{aims, no_text, is_plain, aim, plain_aim, with_path}
 use Rattle.rb_fallback.specs.Behind.{are_filled}
 use Rattle.rb_fallback.specs.Search.{is_long}
 use Rattle.rb_fallback.proofs.Texts.{some_split}

@@ -1,7 +1,7 @@
 -- The texts of aliases.
-use Rattle.std.proofs.Common.{◌≡◌, ◌≢◌, ◌+◌, ◌-◌, ◌<◌, ◌≤◌, ◌&&◌, ℕ, zero, suc, List, [], ◌∷◌, length, take, drop, Bool, true, false, cond, nat_lt, nat_eq, get_or, slice_index, All, Option, Some, None, refl, ap, sym, ◌∙◌, arith, subst, length-drop, codes}
+use Rattle.std.proofs.Common.{◌≡◌, ◌+◌, ◌-◌, ◌<◌, ◌≤◌, ◌&&◌, ℕ, List, [], ◌∷◌, length, take, drop, Bool, true, false, cond, nat_lt, get_or, slice_index, Some, refl, ap, sym, ◌∙◌, arith, subst, length-drop, codes}
 use Rattle.std.proofs.lemmas.Bool.{ltb-true, ltb-false, lt-ltb}
-use Rattle.std.proofs.lemmas.List.{get_or-take, get_or-drop, length-take-le, take_all, drop_all, drop-drop, ext_get_or}
+use Rattle.std.proofs.lemmas.List.{get_or-drop, take_all, drop-drop, ext_get_or}
 use Rattle.std.proofs.lemmas.List.Sums.{position_or_len_is, fails_before_first}
 use Rattle.std.proofs.lemmas.List.Splits.{slice_split_first, slice_split_none}
 use Rattle.std.proofs.lemmas.Slice.Eq.{bytes_eq-Decides}
@@ -14,7 +14,7 @@ use Rattle.rb_tree.specs.Path.{is_slash}
 use Rattle.rb_locales.specs.Stretch.{stretch}
 use Rattle.rb_locales.specs.Locale.{name}
 use Rattle.rb_locales.proofs.Narrowed.{units_len, stretch_at, length-stretch}
-use Rattle.rb_fallback.specs.Alias.{Aim, aims, no_text, no_package, is_plain, aim, plain_aim, packaged, located, named, with_path}
+use Rattle.rb_fallback.specs.Alias.{aims, no_text, no_package, is_plain, aim, plain_aim, packaged, located, named, with_path}
 use Rattle.rb_fallback.specs.Behind.{behind_parts}
 use Rattle.rb_fallback.specs.Behind.{are_filled}
 

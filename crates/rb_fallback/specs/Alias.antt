@@ -1,6 +1,6 @@
 -- What the text of an alias means, after the aliases of ICU's bundle syntax (`genrb`): a package, a
 -- locale and a path between slashes, with `/LOCALE` and `/ICUDATA` as ICU's `uresdata.h` reads them.
-use Rattle.std.specs.Prelude.{◌==◌, ◌&&◌, ◌||◌, ℕ, List, [], ◌∷◌, length, Bool, true, false, not, Option, Some, None, codes, cond, nat_le, nat_lt}
+use Rattle.std.specs.Prelude.{◌&&◌, ◌||◌, ℕ, List, [], ◌∷◌, length, Bool, true, false, Option, Some, None, codes, cond, nat_le, nat_lt}
 use Rattle.std.specs.List.{slice_split, list_all}
 use Rattle.std.specs.Str.{bytes_eq}
 use Rattle.rb_tree.specs.Path.{is_slash}

@@ -1,5 +1,5 @@
 -- What the program's answers are seen as.
-use Rattle.std.specs.Prelude.{ℕ, List, drop, Option, option_map, Result, Ok, Err}
+use Rattle.std.specs.Prelude.{ℕ, List, drop, option_map, Result, Ok, Err}
 use Rattle.std.specs.List.{slice_split}
 use Rattle.rb_tree.specs.Path.{is_slash}
 use Rattle.rb_tree.specs.Resource.{Resource}

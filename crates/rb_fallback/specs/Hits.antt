@@ -1,8 +1,7 @@
 -- For proofs only: what the program says of one level.
-use Rattle.std.specs.Prelude.{◌≡◌, ◌++◌, ℕ, List, [], Option, Some, None, Result, Ok, Err}
+use Rattle.std.specs.Prelude.{◌≡◌, ℕ, List, Option, Some, None, Result, Ok, Err}
 use Rattle.rb_tree.specs.Resource.{Resource}
-use Rattle.rb_tree.specs.Path.{segments}
-use Rattle.rb_tree.specs.Walk.{Walked, ends, links, gone, stop_of, rest_of}
+use Rattle.rb_tree.specs.Walk.{Walked, stop_of, rest_of}
 use Rattle.rb_tree.specs.Ending.{stop_at, RestIs}
 use Rattle.rb_fallback.specs.Search.{decide, decided, by_stops, first_of}
 use Rattle.rb_parents.specs.Trail.{Bundles}

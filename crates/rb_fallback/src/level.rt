@@ -1,5 +1,5 @@
 // One level of a search.
-ghost use Rattle.std.specs.Prelude.{◌≡◌};
+ghost use Rattle.std.specs.Prelude.{◌≡◌, Some, map, slice_get};
 ghost use Rattle.rb_tree.specs.Path.{IsPath, segments};
 ghost use Rattle.rb_parents.specs.Trail.{stops};
 ghost use Rattle.rb_parents.specs.Family.{parent_of};
@@ -8,7 +8,7 @@ ghost use Rattle.rb_fallback.specs.Hits.{IsLevel};
 
 use crate::fault::LookError;
 use rb_locales::Name;
-use rb_parents::{Parents, Shelf, TrailFault, stop_bundle, trail};
+use rb_parents::{Parents, Route, Shelf, TrailFault, trail};
 use rb_tree::{Ending, walk};
 
 // The deciding walk of a level.
@@ -20,26 +20,30 @@ pub(crate) struct Hit<N> {
 }
 
 // The first walk of a stop that does not end nowhere.
+#[tactic(auto, using(crate::proofs::Scans::stop_within, crate::proofs::Scans::scan_missing, crate::proofs::Scans::scan_none))]
 pub(crate) fn scan<'a, S: Shelf<'a>>(
     shelf: S,
-    names: &[Name],
+    route: &Route,
     path: &[u8],
 ) -> Result<Hit<S::N>, LookError>
-    requires { IsPath path.now }
-    ensures { IsLevel S.N.tree result path.now (by_stops (S.trees shelf) (stops (S.trees shelf) names.now) (segments path.now)) (first_of (stops (S.trees shelf) names.now)) }
+    requires path { IsPath path.now }
+    requires stops { map (slice_get route.now.names.items) route.now.stops.items ≡ map Some (stops (S.trees shelf) route.now.names.items) }
+    ensures { IsLevel S.N.tree result path.now (by_stops (S.trees shelf) (stops (S.trees shelf) route.now.names.items) (segments path.now)) (first_of (stops (S.trees shelf) route.now.names.items)) }
 {
+    let names = route.names.as_slice();
     let mut first = None;
-    for name in names {
-        let bundle = match stop_bundle(shelf, name) {
+    for stop in route.stops.as_slice() {
+        let name = names[*stop as usize];
+        let bundle = match shelf.bundle(&name) {
             Some(bundle) => bundle,
             None => continue,
         };
-        let begun = first.unwrap_or(*name);
+        let begun = first.unwrap_or(name);
         match walk(bundle, path) {
             Ending::Gone => first = Some(begun),
             ending => return Ok(Hit {
                 first: begun,
-                actual: *name,
+                actual: name,
                 ending,
             }),
         }
@@ -61,7 +65,7 @@ pub(crate) fn level<'a, S: Shelf<'a>>(
     ensures { IsLevel S.N.tree result path.now (level (S.trees shelf) (parent_of parents.now) name.now (segments path.now)) (first_stop (S.trees shelf) (parent_of parents.now) name.now) }
 {
     match trail(shelf, parents, name) {
-        Ok(route) => scan(shelf, route.names.as_slice(), path),
+        Ok(route) => scan(shelf, &route, path),
         Err(TrailFault::Chain) => Err(LookError::Chain),
         Err(TrailFault::BadParent) => Err(LookError::BadParent),
     }

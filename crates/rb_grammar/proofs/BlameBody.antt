@@ -1,5 +1,5 @@
 -- Stops in a body: at its type, at its brace, or behind it.
-use Rattle.std.proofs.Common.{◌≡◌, ℕ, zero, suc, ◌+◌, Bool, true, false, cond, ◌||◌, nat_lt, List, [], ◌∷◌, ◌++◌, length, Option, Some, None, Ok, Err, refl, sym, ap, subst, ◌∙◌, arith, inl, inr}
+use Rattle.std.proofs.Common.{◌≡◌, ℕ, zero, suc, ◌+◌, Bool, true, false, cond, ◌||◌, nat_lt, List, [], ◌∷◌, ◌++◌, length, Option, Some, None, Result, Ok, Err, refl, sym, ap, subst, ◌∙◌, arith, inl, inr}
 use Rattle.std.proofs.lemmas.List.{append-nil}
 use Rattle.std.proofs.lemmas.Bool.{false≢true, lt-ltb}
 use Rattle.rb_lexer.specs.declared.fault.SourceKind.TheVariants.{Unexpected, UnknownType, TooDeep}
@@ -401,7 +401,7 @@ module _ (tests : Tests) (are : AreTests tests) (level : ℕ) (inner : Inner) (i
       let t = text_there after is in
       absurd (text_closed after t.0 t.1 t.2 e) where
         text_closed : (after : List Token) (r : List ℕ) → first_text after ≡ Some r → begins right (tail after) ≡ true → closed plain (text_at after) ≡ Err s → ⊥
-        text_closed after r comes closes e = let read : closed plain (text_at after) ≡ Ok (plain r, tail (tail after)) = rw (comes, closes) refl in let bad : Err s ≡ Ok (plain r, tail (tail after)) = sym e ∙ read in cc
+        text_closed after r comes closes e = let read : closed plain (text_at after) ≡ Ok (plain r, tail (tail after)) = rw (comes, closes) refl in let bad : ◌≡◌ {A = Result (Body × List Token) Stop} (Err s) (Ok (plain r, tail (tail after))) = sym e ∙ read in cc
   untyped_stop ts after as_table s there is e = elim (bind_err (table_at tests inner after) (λ es. Ok (group es.0, es.1)) s e) [
     | inl h ↦ in_group level ts after s there is (entries_blame tests are (suc level) inside.depth inner.reads inside.law inside.blames (suc (length after)) [] after s (omega arith) h)
     | inr h ↦ absurd (cc)

@@ -1,15 +1,23 @@
 //! Laws about the definitions: each is the contract of a function that does nothing.
-ghost use Rattle.std.specs.Prelude.{◌≡◌, ◌≤◌, ◌⊎◌, ℕ, Bool, List};
+ghost use Rattle.std.specs.Prelude.{◌≡◌, ◌≤◌, ◌⊎◌, ℕ, Bool, true, false, List, codes};
 ghost use Rattle.rb_lexer.specs.declared.fault.SourceKind.{SourceKind};
 ghost use Rattle.rb_lexer.specs.declared.token.Mark.{Mark};
 ghost use Rattle.rb_lexer.specs.declared.token.Token.{Token};
 ghost use Rattle.rb_tree.specs.Resource.{Resource, height};
 ghost use Rattle.rb_tree.specs.declared.limits.TheConstants.{HEIGHT_LIMIT};
-ghost use Rattle.rb_grammar.specs.Form.{marks, table, Entries};
+ghost use Rattle.rb_grammar.specs.Form.{marks, table, Entries, string_word, alias_word, binary_word, int_word, ints_word, table_word, array_word};
 ghost use Rattle.rb_grammar.specs.Good.{Spells, IsSpelled, IsGood};
 ghost use Rattle.rb_grammar.specs.Faults.{line_at, IsFault};
 ghost use Rattle.rb_grammar.specs.Reading.{Stop, bundle};
 ghost use Rattle.rb_grammar.specs.Tests.{the_tests};
+
+/// The type words, letter by letter.
+pub fn type_words()
+    ensures texts { (string_word ≡ codes "string") × (alias_word ≡ codes "alias") }
+    ensures bytes { (binary_word true ≡ codes "binary") × (binary_word false ≡ codes "bin") }
+    ensures numbers { (int_word true ≡ codes "integer") × (int_word false ≡ codes "int") × (ints_word ≡ codes "intvector") }
+    ensures containers { (table_word ≡ codes "table") × (array_word ≡ codes "array") }
+{}
 
 /// Marks spell at most one name and tree.
 pub fn spells_one_bundle()

@@ -1,5 +1,5 @@
 -- Explicit parents, entry by entry and child by child.
-use Rattle.std.proofs.Common.{◌≡◌, ◌≤◌, ◌<◌, ◌+◌, ◌⊎◌, inl, inr, ℕ, zero, suc, List, [], ◌∷◌, length, drop, get_or, map, cond, Bool, true, false, nat_eq, Option, Some, None, is_some, Result, Ok, Err, refl, ap, sym, ◌∙◌, subst, arith, IfErr, IsErrAnd}
+use Rattle.std.proofs.Common.{◌≡◌, ◌≤◌, ◌<◌, ◌+◌, ◌⊎◌, inl, inr, ℕ, zero, suc, List, [], ◌∷◌, length, drop, get_or, map, cond, false, nat_eq, Option, Some, None, is_some, Result, Ok, Err, refl, ap, sym, ◌∙◌, subst, arith, IfErr, IsErrAnd}
 use Rattle.std.proofs.Math.Nat.{eq-or-lt_of_le}
 use Rattle.std.proofs.lemmas.List.{at_drop_more, at_drop_all}
 use Rattle.std.proofs.lemmas.Option.{get_or_from_slice_get, slice_get_within}
@@ -13,7 +13,7 @@ use Rattle.rb_tree.specs.Parts.{kind_of, len_of, units_of, children_of, pairs_of
 use Rattle.rb_tree.specs.declared.kind.Kind.TheVariants as Kinds
 use Rattle.rb_locales.specs.Locale.{name, in_front}
 use Rattle.rb_parents.specs.Trail.{ParentsOf, text_of}
-use Rattle.rb_parents.specs.Explicit.{Read, and_then, texts_of, texts_in, put_child, put_children, put_value, put_entry, put_entries}
+use Rattle.rb_parents.specs.Explicit.{Read, and_then, texts_of, texts_in, put_child, put_children, put_entry, put_entries}
 use Rattle.rb_parents.specs.declared.fault.ParentsFault.{ParentsFault}
 use Rattle.rb_parents.specs.declared.fault.ParentsFault.TheVariants as fault
 

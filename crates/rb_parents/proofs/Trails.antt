@@ -1,7 +1,6 @@
 -- A trail, name by name.
-use Rattle.std.proofs.Common.{◌≡◌, ◌+◌, ◌-◌, ◌<◌, ◌≤◌, ℕ, zero, suc, List, [], ◌∷◌, ◌++◌, length, Bool, true, false, cond, refl, ap, sym, ◌∙◌, arith, subst, length-append, map, Some}
+use Rattle.std.proofs.Common.{◌≡◌, ◌+◌, ◌-◌, ◌<◌, ◌≤◌, ℕ, suc, List, [], ◌∷◌, ◌++◌, length, Bool, true, false, cond, refl, ap, sym, ◌∙◌, arith, length-append, map, Some}
 use Rattle.std.specs.List.{filter, slice_get}
-use native.Mathlib.Numerals.{unary_clauses}
 use Rattle.rb_parents.specs.Trail.{Bundles, ParentsOf, Next, goes, stays, bad, next, Trail, names, chain, bad_parent, begins, onward, trail_within, places}
 use Rattle.rb_parents.specs.Steps.{trail_on, trail_past}
 

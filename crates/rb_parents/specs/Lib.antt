@@ -1,5 +1,6 @@
 pub mod Trail
 pub mod Explicit
 pub mod Family
+pub mod Answers
 pub mod Steps
 pub mod Words

@@ -1,23 +1,14 @@
--- For proofs only: what the program says of a trail, and a trail name by name.
-use Rattle.std.specs.Prelude.{◌≡◌, ◌+◌, ◌-◌, ◌<◌, ℕ, zero, suc, List, [], ◌∷◌, ◌++◌, Bool, cond, length}
-use Rattle.std.proofs.Common.{refl, arith, ap, ◌∙◌}
-use Rattle.rb_parents.specs.Trail.{Bundles, ParentsOf, Next, goes, stays, bad, next, Trail, names, chain, bad_parent, begins, onward, trail_within}
+-- For proofs only: what follows a name in the program, and a trail name by name.
+use Rattle.std.specs.Prelude.{◌≡◌, ℕ, zero, suc, List}
+use Rattle.std.proofs.Common.{refl, ap}
+use Rattle.rb_parents.specs.Trail.{Bundles, ParentsOf, Next, goes, stays, bad, next, Trail, chain, begins, onward, trail_within}
 use Rattle.rb_parents.specs.declared.route.Onward.{Onward}
 use Rattle.rb_parents.specs.declared.route.Onward.TheVariants as step
-use Rattle.rb_parents.specs.declared.route.Route.{Route}
-use Rattle.rb_parents.specs.declared.fault.TrailFault.{TrailFault}
-use Rattle.rb_parents.specs.declared.fault.TrailFault.TheVariants as fault
-use Rattle.std.specs.Prelude.{Result, Ok, Err}
 
 abbrev pub next_of : Onward → Next
 next_of (step.Goes n) = goes n
 next_of step.Stays = stays
 next_of step.Bad = bad
-
-abbrev pub trail_of : Result Route TrailFault → Trail
-trail_of (Ok r) = names r.names.items
-trail_of (Err fault.Chain) = chain
-trail_of (Err fault.BadParent) = bad_parent
 
 -- a trail of at most so many names, one name on
 pub trail_on : (k j : ℕ) (bundles : Bundles) (parents : ParentsOf) (n : List ℕ) → k ≡ suc j → trail_within k bundles parents n ≡ begins n (onward (λ m. trail_within j bundles parents m) (next bundles parents n))

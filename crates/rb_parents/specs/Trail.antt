@@ -1,7 +1,7 @@
 -- The trail of a name: the names whose bundles are asked, in the order of locale inheritance of
 -- UTS #35 (LDML), with `%%ALIAS` and `%%Parent` as ICU's `ures_open` reads them. This profile has no
 -- default locale and no rule for scripts, and a trail that does not end is a fault.
-use Rattle.std.specs.Prelude.{ℕ, zero, suc, List, [], ◌∷◌, Bool, true, false, not, Option, Some, None, option_and_then, unwrap_or, codes, is_some, is_none, if◌then◌else◌}
+use Rattle.std.specs.Prelude.{ℕ, zero, suc, List, [], ◌∷◌, Bool, true, false, Option, Some, None, option_and_then, unwrap_or, codes, is_none, if◌then◌else◌}
 use Rattle.std.specs.List.{filter}
 use Rattle.std.specs.Str.{bytes_eq}
 use Rattle.rb_tree.specs.Resource.{Resource, string, int, ints, binary, alias, array, table}
@@ -113,8 +113,3 @@ stops bundles ns = filter (is_stop bundles) ns
 abbrev pub places : (List ℕ → Bool) → ℕ → List (List ℕ) → List ℕ
 places test k [] = []
 places test k (n ∷ ns) = if test n then k ∷ places test (suc k) ns else places test (suc k) ns
-
--- the tree of a stop
-abbrev pub stop_tree : Option Resource → Option Resource
-stop_tree None = None
-stop_tree (Some t) = if is_none (text_at alias_key t) then Some t else None

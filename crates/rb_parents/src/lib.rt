@@ -12,5 +12,5 @@ mod tests;
 pub use fault::{ParentsFault, TrailFault};
 pub use limits::TRAIL_LIMIT;
 pub use parents::Parents;
-pub use route::{Route, stop_bundle, trail};
+pub use route::{Route, trail};
 pub use shelf::{ListShelf, Shelf};

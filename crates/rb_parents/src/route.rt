@@ -5,9 +5,10 @@ ghost use Rattle.rb_tree.specs.declared.kind.Kind.TheVariants as Kinds;
 ghost use Rattle.rb_locales.specs.Locale.{name};
 ghost use Rattle.rb_parents.specs.declared.limits.TheConstants.{TRAIL_LIMIT};
 ghost use Rattle.rb_parents.specs.Family.{parent_of};
-ghost use Rattle.rb_parents.specs.Trail.{text_at, named_next, plain_next, next, is_stop, stop_tree, stops, places, trail, alias_key, parent_key};
+ghost use Rattle.rb_parents.specs.Trail.{text_at, named_next, plain_next, next, is_stop, stops, places, trail, alias_key, parent_key};
 ghost use Rattle.arrayvec.specs.ArrayVec.{array_vec_len};
-ghost use Rattle.rb_parents.specs.Steps.{next_of, trail_of};
+ghost use Rattle.rb_parents.specs.Answers.{trail_of};
+ghost use Rattle.rb_parents.specs.Steps.{next_of};
 
 use crate::fault::TrailFault;
 use crate::limits::TRAIL_LIMIT;
@@ -140,18 +141,4 @@ pub fn trail<'a, S: Shelf<'a>>(
         }
     }
     Err(TrailFault::Chain)
-}
-
-/// The root of a stop's bundle; nothing for a name that is no stop.
-pub fn stop_bundle<'a, S: Shelf<'a>>(shelf: S, name: &Name) -> Option<S::N>
-    ensures { option_map S.N.tree result ≡ stop_tree (S.trees shelf name.now) }
-{
-    let bundle = match shelf.bundle(name) {
-        Some(bundle) => bundle,
-        None => return None,
-    };
-    if text_node(bundle, b"%%ALIAS").is_some() {
-        return None;
-    }
-    Some(bundle)
 }

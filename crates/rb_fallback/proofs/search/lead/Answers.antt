@@ -1,8 +1,8 @@
-use Rattle.std.proofs.Common.{◌≡◌, ◌||◌, ◌<◌, Some, drop, length, ap, sym, ◌∙◌, subst, arith, length-drop, refl}
+use Rattle.std.proofs.Common.{◌≡◌, ◌||◌, ◌<◌, Some, drop, length, ap, sym, ◌∙◌, subst, arith, length-drop}
 use Rattle.std.specs.Option.{option_map}
 use Rattle.std.specs.List.{slice_split}
 use Rattle.rb_tree.specs.Path.{is_slash}
-use Rattle.rb_tree.specs.Parts.{units_of, len_of}
+use Rattle.rb_tree.specs.Parts.{units_of}
 use Rattle.rb_tree.specs.Walk.{behind}
 use Rattle.rb_locales.proofs.Narrowed.{units_len}
 use Rattle.rb_fallback.specs.Alias.{aim, aims, target}

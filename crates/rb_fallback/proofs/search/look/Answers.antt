@@ -1,4 +1,4 @@
-use Rattle.std.proofs.Common.{◌≡◌, ap, sym, ◌∙◌, arith, false}
+use Rattle.std.proofs.Common.{sym, ◌∙◌, arith, false}
 use Rattle.std.proofs.lemmas.Bool.{lt-ltb}
 use Rattle.rb_tree.specs.Path.{segments}
 use Rattle.rb_parents.specs.Family.{parent_of}

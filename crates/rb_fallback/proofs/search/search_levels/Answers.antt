@@ -1,10 +1,9 @@
-use Rattle.std.proofs.Common.{◌≡◌, ◌-◌, ◌+◌, unwrap_or, Result, Ok, Err, ap, sym, ◌∙◌, subst, arith}
+use Rattle.std.proofs.Common.{◌≡◌, ◌-◌, unwrap_or, Ok, Err, sym, ◌∙◌, subst, arith}
 use Rattle.rb_tree.specs.Path.{segments}
 use Rattle.rb_parents.specs.Family.{parent_of}
-use Rattle.rb_fallback.specs.Search.{Step, found, goes, bundles_of, first_stop, go_on, level, search, setting, step}
+use Rattle.rb_fallback.specs.Search.{found, goes, bundles_of, first_stop, level, setting, step}
 use Rattle.rb_fallback.specs.Turns.{IsStep, GoesOn, GoesLong}
 use Rattle.rb_fallback.specs.declared.limits.TheConstants.{LEVEL_LIMIT}
-use Rattle.rb_fallback.specs.declared.fault.LookError.{LookError}
 use Rattle.rb_fallback.proofs.Levels.{answer_err, long_end, search_end, turn_step}
 use Rattle.rb_fallback.proofs.search.search_levels.Goals as goal
 

@@ -1,4 +1,4 @@
-use Rattle.std.proofs.Common.{◌≡◌, ◌-◌, false, unwrap_or}
+use Rattle.std.proofs.Common.{◌≡◌, ◌-◌, unwrap_or}
 use Rattle.rb_tree.specs.Path.{segments, IsPath}
 use Rattle.rb_parents.specs.Family.{parent_of}
 use Rattle.rb_fallback.specs.Search.{bundles_of, first_stop, look_up, search, setting}

@@ -1,5 +1,5 @@
-use Rattle.std.proofs.Common.{◌≡◌, ap, ◌∙◌, arith, rules, refl, sym}
-use Rattle.rb_tree.specs.Parts.{children_of, kind_of, len_of}
+use Rattle.std.proofs.Common.{◌≡◌, ◌∙◌, arith, rules, sym}
+use Rattle.rb_tree.specs.Parts.{children_of, kind_of}
 use Rattle.rb_tree.specs.View.{view_of}
 use Rattle.rb_tree.specs.declared.kind.Kind.TheVariants as Kinds
 use Rattle.rb_parents.proofs.Explicits.{array_texts, array_len, strings_none, strings_all, string_more}

@@ -1,4 +1,4 @@
-use Rattle.std.proofs.Common.{◌≡◌, ◌-◌, ◌+◌, ◌++◌, ◌∷◌, [], cond, ap, sym, ◌∙◌, arith, length}
+use Rattle.std.proofs.Common.{◌≡◌, ◌-◌, ◌+◌, ◌++◌, ◌∷◌, [], cond, ap, sym, ◌∙◌, arith}
 use Rattle.rb_parents.specs.Family.{parent_of}
 use Rattle.rb_parents.specs.Trail.{is_stop, next, goes, trail_within, places}
 use Rattle.rb_parents.specs.Steps.{next_of}

@@ -1,5 +1,5 @@
-use Rattle.std.proofs.Common.{◌≡◌, ap, sym, ◌∙◌, arith, rules, refl, Some, map, drop}
-use Rattle.rb_tree.specs.Parts.{children_of, kind_of, len_of, units_of}
+use Rattle.std.proofs.Common.{◌≡◌, ap, sym, ◌∙◌, arith, rules, Some, map, drop}
+use Rattle.rb_tree.specs.Parts.{children_of, kind_of, units_of}
 use Rattle.rb_tree.specs.View.{view_of}
 use Rattle.rb_tree.specs.declared.kind.Kind.TheVariants as Kinds
 use Rattle.rb_locales.specs.Locale.{name}

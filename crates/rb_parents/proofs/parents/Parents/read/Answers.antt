@@ -1,4 +1,4 @@
-use Rattle.std.proofs.Common.{◌≡◌, sym, ◌∙◌}
+use Rattle.std.proofs.Common.{sym, ◌∙◌}
 use Rattle.rb_tree.specs.View.{view_of}
 use Rattle.rb_locales.specs.Locale.{name}
 use Rattle.rb_parents.specs.Explicit.{explicit, put_entry}

@@ -1,0 +1,226 @@
+-- The entries of a table, one after another, as the code reads them.
+use Rattle.std.proofs.Common.{◌≡◌, ℕ, zero, suc, ◌<◌, ◌≤◌, ◌++◌, ◌-◌, ◌||◌, Bool, true, false, not, cond, List, [], ◌∷◌, length, Option, Some, None, Result, Ok, Err, refl, sym, ap, ap₂, subst, ◌∙◌, arith, Vec, Global, nat_eq, Ordering, Less, Equal, Greater, nat_cmp}
+use Rattle.std.specs.Cmp.Lexicographic.{pointwise, slice_cmp}
+use Rattle.std.specs.List.{list_any}
+use Rattle.std.specs.Ordering.{match_ordering, is_eq}
+use Rattle.std.specs.BTreeSet.{insert_key}
+use Rattle.std.proofs.lemmas.Map.Text.{is_eq-slice_cmp}
+use Rattle.std.proofs.lemmas.Slice.Eq.{bytes_eq-Decides}
+use Rattle.rb_lexer.specs.declared.token.Token.{Token}
+use Rattle.rb_lexer.specs.declared.fault.SourceKind.TheVariants.{BadKey, DuplicateKey}
+use Rattle.rb_lexer.specs.declared.fault.SourceFault.{SourceFault}
+use Rattle.rb_tree.specs.Keys.{IsKey}
+use Rattle.rb_tree.specs.declared.tree.Tree.{Tree}
+use Rattle.rb_grammar.specs.Faults.{line_at}
+use Rattle.rb_grammar.specs.Form.{Body, Entries, no_entries, entry}
+use Rattle.rb_grammar.specs.Reading.{Stop, stop, Read, ◌>>=◌, right, tail, first_text, sign_at, has_comma, after_comma, is_among, entry_at, entries_step, entries}
+use Rattle.rb_grammar.specs.Tests.{the_tests}
+use Rattle.rb_grammar.proofs.Conditions.{are_tests}
+use Rattle.rb_parser.specs.Reads.{located, IsBodyTree, AreEntries}
+use Rattle.rb_parser.proofs.Steps.{located_bind, fault_is, stops_at}
+
+abbrev pub Pair : Type 0
+Pair = List ℕ × Tree
+
+-- an entry that was read: its key, its body, and whether a comma follows
+abbrev Row : Type 0
+Row = List ℕ × Body × Bool
+
+abbrev rows_first : List Row → Entries → Entries
+rows_first [] es = es
+rows_first (r ∷ rs) es = entry r.0 r.1 r.2 (rows_first rs es)
+
+abbrev put_row : Row → Entries × List Token → Read Entries
+put_row r x = Ok (entry r.0 r.1 r.2 x.0, x.1)
+
+abbrev put_rows : List Row → Entries × List Token → Read Entries
+put_rows rs x = Ok (rows_first rs x.0, x.1)
+
+abbrev AreRows : List Pair → List Row → Type 0
+AreRows [] [] = Unit {0}
+AreRows [] (r ∷ rs) = ⊥
+AreRows (p ∷ ps) [] = ⊥
+AreRows (p ∷ ps) (r ∷ rs) = (p.0 ≡ r.0) × IsBodyTree p.1 r.1 × AreRows ps rs
+
+-- the keys, the last first
+abbrev pub keys_behind : List Pair → List (List ℕ) → List (List ℕ)
+keys_behind [] ks = ks
+keys_behind (p ∷ ps) ks = keys_behind ps (p.0 ∷ ks)
+
+pub keys_push : (ps : List Pair) (p : Pair) (ks : List (List ℕ)) → keys_behind (ps ++ p ∷ []) ks ≡ p.0 ∷ keys_behind ps ks
+keys_push [] p ks = refl
+keys_push (q ∷ ps) p ks = keys_push ps p (q.0 ∷ ks)
+
+rows_push : (rs : List Row) (r : Row) (es : Entries) → rows_first (rs ++ r ∷ []) es ≡ rows_first rs (entry r.0 r.1 r.2 es)
+rows_push [] r es = refl
+rows_push (q ∷ rs) r es = ap (entry q.0 q.1 q.2) (rows_push rs r es)
+
+are_more : (ps : List Pair) (rs : List Row) (p : Pair) (r : Row) → AreRows ps rs → p.0 ≡ r.0 → IsBodyTree p.1 r.1 → AreRows (ps ++ p ∷ []) (rs ++ r ∷ [])
+are_more [] [] p r are same means = (same, means, tt)
+are_more [] (s ∷ rs) p r are same means = absurd are
+are_more (q ∷ ps) [] p r are same means = absurd are
+are_more (q ∷ ps) (s ∷ rs) p r are same means = (are.0, are.1, are_more ps rs p r are.2 same means)
+
+are_entries : (ps : List Pair) (rs : List Row) → AreRows ps rs → AreEntries ps (rows_first rs no_entries)
+are_entries [] [] are = tt
+are_entries [] (r ∷ rs) are = absurd are
+are_entries (p ∷ ps) [] are = absurd are
+are_entries (p ∷ ps) (r ∷ rs) are = (are.0, are.1, are_entries ps rs are.2)
+
+regroup : (rs : List Row) (r : Row) (x : Read Entries) → ((x >>= put_row r) >>= put_rows rs) ≡ (x >>= put_rows (rs ++ r ∷ []))
+regroup rs r (Ok x) = ap (λ (es : Entries). Ok (es, x.1)) (sym (rows_push rs r x.0))
+regroup rs r (Err s) = refl
+
+key_passes : (k : List ℕ) → IsKey k → the_tests.is_key k ≡ true
+key_passes k good = by (the_tests.is_key k) refl where
+  by : (b : Bool) → the_tests.is_key k ≡ b → the_tests.is_key k ≡ true
+  by true e = e
+  by false e = absurd (are_tests.keys.1 k e good)
+
+key_fails : (k : List ℕ) → (IsKey k → ⊥) → the_tests.is_key k ≡ false
+key_fails k bad = by (the_tests.is_key k) refl where
+  by : (b : Bool) → the_tests.is_key k ≡ b → the_tests.is_key k ≡ false
+  by true e = absurd (bad (are_tests.keys.0 k e))
+  by false e = e
+
+module _ (reads : List Token → Read Body) where
+  -- Some entries are read, in as many turns as are enough; what more there is, is read from here on.
+  pub record EntriesSoFar (n : ℕ) (start : List Token) (ps : List Pair) (ts : List Token) : Type 0 where
+    pub turns : ℕ
+    pub enough : length ts < turns
+    pub rows : List Row
+    pub are : AreRows ps rows
+    pub same : entries the_tests reads n [] start ≡ (entries the_tests reads turns (keys_behind ps []) ts >>= put_rows rows)
+
+  unchanged : (r : Read Entries) → r ≡ (r >>= put_rows [])
+  unchanged (Ok x) = refl
+  unchanged (Err s) = refl
+
+  pub entries_start : (n : ℕ) (ts : List Token) → length ts < n → EntriesSoFar n ts [] ts
+  entries_start n ts enough = record { turns = n; enough = enough; rows = []; are = tt; same = unchanged (entries the_tests reads n [] ts) }
+
+  module _ (m k : ℕ) (ks : List (List ℕ)) (ts : List Token) (some : m ≡ suc k) where
+    step_is : entries the_tests reads m ks ts ≡ entries_step the_tests reads (entries the_tests reads k) ks ts (first_text ts)
+    unfolding entries
+    step_is = rw some refl
+
+    closed : (r : List Token) → first_text ts ≡ None → sign_at right ts ≡ Ok r → entries the_tests reads m ks ts ≡ Ok (no_entries, r)
+    closed r none h = rw (step_is, none, h) refl
+
+    not_closed : (end : ℕ) (e : SourceFault) → first_text ts ≡ None → located end (sign_at right ts) ≡ Err e → located end (entries the_tests reads m ks ts) ≡ Err e
+    not_closed end e none h = rw (step_is, none) (located_bind end (sign_at right ts) (λ after. Ok (no_entries, after)) e h)
+
+    bad_key : (s : List ℕ) → first_text ts ≡ Some s → (IsKey s → ⊥) → entries the_tests reads m ks ts ≡ Err (stop BadKey ts)
+    bad_key s comes bad = let fails = key_fails s bad in rw (step_is, comes, fails) refl
+
+    twice : (s : List ℕ) → first_text ts ≡ Some s → IsKey s → is_among ks s ≡ true → entries the_tests reads m ks ts ≡ Err (stop DuplicateKey ts)
+    twice s comes good among = let passes = key_passes s good in rw (step_is, comes, passes, among) refl
+
+    bad_body : (end : ℕ) (s : List ℕ) (e : SourceFault) → first_text ts ≡ Some s → IsKey s → is_among ks s ≡ false → located end (reads (tail ts)) ≡ Err e → located end (entries the_tests reads m ks ts) ≡ Err e
+    bad_body end s e comes good new h =
+        let passes = key_passes s good in
+        rw (step_is, comes, passes, new) (located_bind end (reads (tail ts)) (λ b. entries the_tests reads k (s ∷ ks) (after_comma b.1) >>= λ es. Ok (entry s b.0 (has_comma b.1) es.0, es.1)) e h)
+
+    one : (s : List ℕ) (b : Body) (r : List Token) → first_text ts ≡ Some s → IsKey s → is_among ks s ≡ false → reads (tail ts) ≡ Ok (b, r)
+        → entries the_tests reads m ks ts ≡ (entries the_tests reads k (s ∷ ks) (after_comma r) >>= put_row (s, b, has_comma r))
+    one s b r comes good new h = let passes = key_passes s good in rw (step_is, comes, passes, new, h) refl
+
+  module _ (n : ℕ) (start ts : List Token) (ps : List Pair) (so : EntriesSoFar n start ps ts) where
+    below : (k : ℕ) × (so.turns ≡ suc k)
+    below = (so.turns - 1, omega (arith, so.enough))
+
+    stops : (end : ℕ) (e : SourceFault) → located end (entries the_tests reads so.turns (keys_behind ps []) ts) ≡ Err e → located end (entries the_tests reads n [] start) ≡ Err e
+    stops end e h = ap (located end) so.same ∙ located_bind end (entries the_tests reads so.turns (keys_behind ps []) ts) (put_rows so.rows) e h
+
+    pub stop_bad_key : (end : ℕ) (s : List ℕ) (e : SourceFault) → first_text ts ≡ Some s → (IsKey s → ⊥) → e.kind ≡ BadKey → e.line ≡ line_at end ts → located end (entries the_tests reads n [] start) ≡ Err e
+    stop_bad_key end s e comes bad k l = stops end e (stops_at end BadKey ts e (entries the_tests reads so.turns (keys_behind ps []) ts) (bad_key so.turns below.0 (keys_behind ps []) ts below.1 s comes bad) k l)
+
+    pub stop_twice : (end : ℕ) (s : List ℕ) (e : SourceFault) → first_text ts ≡ Some s → IsKey s → is_among (keys_behind ps []) s ≡ true → e.kind ≡ DuplicateKey → e.line ≡ line_at end ts → located end (entries the_tests reads n [] start) ≡ Err e
+    stop_twice end s e comes good among k l = stops end e (stops_at end DuplicateKey ts e (entries the_tests reads so.turns (keys_behind ps []) ts) (twice so.turns below.0 (keys_behind ps []) ts below.1 s comes good among) k l)
+
+    pub stop_body : (end : ℕ) (s : List ℕ) (e : SourceFault) → first_text ts ≡ Some s → IsKey s → is_among (keys_behind ps []) s ≡ false → located end (reads (tail ts)) ≡ Err e → located end (entries the_tests reads n [] start) ≡ Err e
+    stop_body end s e comes good new h = stops end e (bad_body so.turns below.0 (keys_behind ps []) ts below.1 end s e comes good new h)
+
+    pub stop_open : (end : ℕ) (e : SourceFault) → first_text ts ≡ None → located end (sign_at right ts) ≡ Err e → located end (entries the_tests reads n [] start) ≡ Err e
+    stop_open end e none h = stops end e (not_closed so.turns below.0 (keys_behind ps []) ts below.1 end e none h)
+
+    pub entries_end : (r : List Token) → first_text ts ≡ None → sign_at right ts ≡ Ok r → (es : Entries) × (entries the_tests reads n [] start ≡ Ok (es, r)) × AreEntries ps es
+    entries_end r none h = (
+      rows_first so.rows no_entries,
+      so.same ∙ ap (λ (x : Read Entries). x >>= put_rows so.rows) (closed so.turns below.0 (keys_behind ps []) ts below.1 r none h),
+      are_entries ps so.rows so.are,
+    )
+
+    pub entries_turn : (s : List ℕ) (b : Body) (r after : List Token) (key : List ℕ) (t : Tree) → first_text ts ≡ Some s → IsKey s → is_among (keys_behind ps []) s ≡ false → reads (tail ts) ≡ Ok (b, r) → IsBodyTree t b → key ≡ s → after ≡ after_comma r → length after < length ts
+        → EntriesSoFar n start (ps ++ (key, t) ∷ []) after
+    entries_turn s b r after key t comes good new h means same is shorter =
+        let row : Row = (s, b, has_comma r) in
+        let pair : Pair = (key, t) in
+        record {
+          turns = below.0;
+          enough = omega (arith, so.enough, below.1);
+          rows = so.rows ++ row ∷ [];
+          are = are_more ps so.rows pair row so.are same means;
+          same = so.same ∙ ap (λ (x : Read Entries). x >>= put_rows so.rows) (one so.turns below.0 (keys_behind ps []) ts below.1 s b r comes good new h)
+              ∙ regroup so.rows row (entries the_tests reads below.0 (s ∷ keys_behind ps []) (after_comma r))
+              ∙ ap₂ (λ (ks : List (List ℕ)) (l : List Token). entries the_tests reads below.0 ks l >>= put_rows (so.rows ++ row ∷ [])) (ap (λ (k : List ℕ). k ∷ keys_behind ps []) (sym same) ∙ sym (keys_push ps pair [])) (sym is);
+        }
+
+-- ---- the set of the keys
+
+abbrev pub Seen : Type 0
+Seen = List (Vec ℕ Global)
+
+abbrev key_cmp : Vec ℕ Global → Vec ℕ Global → Ordering
+key_cmp x y = slice_cmp nat_cmp x.items y.items
+
+-- whether a key was seen
+abbrev pub was_seen : Seen → List ℕ → Bool
+was_seen ks q = list_any (λ (x : Vec ℕ Global). is_eq (slice_cmp nat_cmp q x.items)) ks
+
+abbrev pub SameKeys : List Pair → Seen → Type 0
+SameKeys ps ks = (q : List ℕ) → was_seen ks q ≡ is_among (keys_behind ps []) q
+
+later : (a b c : Bool) → (a || (b || c)) ≡ (b || (a || c))
+later true true c = refl
+later true false c = refl
+later false true c = refl
+later false false c = refl
+
+again : (a b c : Bool) → a ≡ b → (a || c) ≡ (b || (a || c))
+again true true c e = refl
+again true false c e = absurd cc
+again false true c e = absurd cc
+again false false c e = refl
+
+was_seen-insert : (q : List ℕ) (ks : Seen) (k : Vec ℕ Global) → was_seen (insert_key key_cmp ks k) q ≡ (pointwise nat_eq q k.items || was_seen ks q)
+was_seen-insert q [] k = ap (λ b. b || false) (is_eq-slice_cmp q k.items)
+was_seen-insert q (x ∷ xs) k = by (key_cmp k x) refl (was_seen-insert q xs k) where
+  test : Vec ℕ Global → Bool
+  test y = is_eq (slice_cmp nat_cmp q y.items)
+
+  by : (o : Ordering) → key_cmp k x ≡ o → was_seen (insert_key key_cmp xs k) q ≡ (pointwise nat_eq q k.items || was_seen xs q)
+      → was_seen (match_ordering o (k ∷ x ∷ xs) (x ∷ xs) (x ∷ insert_key key_cmp xs k)) q ≡ (pointwise nat_eq q k.items || was_seen (x ∷ xs) q)
+  by Less is h = ap (λ b. b || was_seen (x ∷ xs) q) (is_eq-slice_cmp q k.items)
+  by Equal is h =
+      let key : k.items ≡ x.items = (bytes_eq-Decides k.items x.items).0 (sym (is_eq-slice_cmp k.items x.items) ∙ ap is_eq is) in
+      again (is_eq (slice_cmp nat_cmp q x.items)) (pointwise nat_eq q k.items) (was_seen xs q) (is_eq-slice_cmp q x.items ∙ ap (λ (l : List ℕ). pointwise nat_eq q l) (sym key))
+  by Greater is h = ap (λ b. is_eq (slice_cmp nat_cmp q x.items) || b) h ∙ later (is_eq (slice_cmp nat_cmp q x.items)) (pointwise nat_eq q k.items) (was_seen xs q)
+
+-- one more entry, whose key was put into the set
+pub same_keys_push : (ps : List Pair) (ks new : Seen) (k : Vec ℕ Global) (s key : List ℕ) (t : Tree) → SameKeys ps ks → new ≡ insert_key key_cmp ks k → k.items ≡ s → key ≡ s → SameKeys (ps ++ (key, t) ∷ []) new
+same_keys_push ps ks new k s key t same is at name = λ q.
+    ap (λ (l : Seen). was_seen l q) is ∙ was_seen-insert q ks k
+    ∙ ap₂ (λ (l : List ℕ) (b : Bool). pointwise nat_eq q l || b) (at ∙ sym name) (same q)
+    ∙ ap (λ (l : List (List ℕ)). is_among l q) (sym (keys_push ps (key, t) []))
+
+pub was_held : (b added : Bool) → added ≡ not b → added ≡ false → b ≡ true
+was_held true added e f = refl
+was_held false added e f = absurd cc
+
+pub was_new : (b added : Bool) → added ≡ not b → added ≡ true → b ≡ false
+was_new true added e f = absurd cc
+was_new false added e f = refl
+
+pub same_keys_none : SameKeys [] []
+same_keys_none = λ q. refl

@@ -1,0 +1,69 @@
+-- Which words of the reading function a type of the program has.
+use Rattle.std.proofs.Common.{◌≡◌, Bool, refl}
+use Rattle.rb_grammar.specs.Reading.{Word, string_type, alias_type, binary_type, int_type, ints_type, table_type, array_type}
+use Rattle.rb_parser.specs.Views.{word_of}
+use Rattle.rb_parser.specs.declared.word.Word.TheVariants as word
+use Rattle.rb_parser.specs.declared.word.Leaf.TheVariants as leaf
+
+pub is_string : (w : Word) → word_of w ≡ word.Leaf leaf.String → w ≡ string_type
+is_string string_type e = refl
+is_string alias_type e = absurd cc
+is_string (binary_type long) e = absurd cc
+is_string (int_type long) e = absurd cc
+is_string ints_type e = absurd cc
+is_string table_type e = absurd cc
+is_string array_type e = absurd cc
+
+pub is_alias : (w : Word) → word_of w ≡ word.Leaf leaf.Alias → w ≡ alias_type
+is_alias string_type e = absurd cc
+is_alias alias_type e = refl
+is_alias (binary_type long) e = absurd cc
+is_alias (int_type long) e = absurd cc
+is_alias ints_type e = absurd cc
+is_alias table_type e = absurd cc
+is_alias array_type e = absurd cc
+
+pub is_binary : (w : Word) → word_of w ≡ word.Leaf leaf.Binary → (long : Bool) × (w ≡ binary_type long)
+is_binary string_type e = absurd cc
+is_binary alias_type e = absurd cc
+is_binary (binary_type long) e = (long, refl)
+is_binary (int_type long) e = absurd cc
+is_binary ints_type e = absurd cc
+is_binary table_type e = absurd cc
+is_binary array_type e = absurd cc
+
+pub is_int : (w : Word) → word_of w ≡ word.Leaf leaf.Int → (long : Bool) × (w ≡ int_type long)
+is_int string_type e = absurd cc
+is_int alias_type e = absurd cc
+is_int (binary_type long) e = absurd cc
+is_int (int_type long) e = (long, refl)
+is_int ints_type e = absurd cc
+is_int table_type e = absurd cc
+is_int array_type e = absurd cc
+
+pub is_ints : (w : Word) → word_of w ≡ word.Leaf leaf.Ints → w ≡ ints_type
+is_ints string_type e = absurd cc
+is_ints alias_type e = absurd cc
+is_ints (binary_type long) e = absurd cc
+is_ints (int_type long) e = absurd cc
+is_ints ints_type e = refl
+is_ints table_type e = absurd cc
+is_ints array_type e = absurd cc
+
+pub is_table : (w : Word) → word_of w ≡ word.Table → w ≡ table_type
+is_table string_type e = absurd cc
+is_table alias_type e = absurd cc
+is_table (binary_type long) e = absurd cc
+is_table (int_type long) e = absurd cc
+is_table ints_type e = absurd cc
+is_table table_type e = refl
+is_table array_type e = absurd cc
+
+pub is_array : (w : Word) → word_of w ≡ word.Array → w ≡ array_type
+is_array string_type e = absurd cc
+is_array alias_type e = absurd cc
+is_array (binary_type long) e = absurd cc
+is_array (int_type long) e = absurd cc
+is_array ints_type e = absurd cc
+is_array table_type e = absurd cc
+is_array array_type e = refl

@@ -1,0 +1,4 @@
+pub mod Source
+pub mod Reads
+pub mod ReadsBundle
+pub mod Views

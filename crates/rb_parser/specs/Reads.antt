@@ -1,0 +1,69 @@
+-- For the contracts of this crate's own functions: that a function of the parser returns what the grammar's reading function gives.
+use Rattle.std.specs.Prelude.{◌≡◌, ◌≢◌, ℕ, ℤ, suc, Bool, List, [], ◌∷◌, length, Option, Result, Ok, Err, nat_lt}
+use Rattle.rb_lexer.specs.declared.token.Token.{Token}
+use Rattle.rb_lexer.specs.declared.fault.SourceKind.TheVariants.{Unexpected, BadInt, BadHex, Memory}
+use Rattle.rb_lexer.specs.declared.fault.SourceFault.{SourceFault}
+use Rattle.rb_tree.specs.Resource.{Resource}
+use Rattle.rb_tree.specs.View.{view_of}
+use Rattle.rb_tree.specs.declared.tree.Tree.{Tree}
+use Rattle.rb_grammar.specs.Faults.{line_at}
+use Rattle.rb_grammar.specs.Form.{Leaf, string, alias, binary, int, ints, Body, table, array, Entries, no_entries, entry, Elements}
+use Rattle.rb_grammar.specs.Good.{AreElementTexts, LeafSpells, Spells}
+use Rattle.rb_grammar.specs.Reading.{Stop, stop, Read, ◌>>=◌, Inner, Word, string_type, alias_type, binary_type, int_type, ints_type, table_type, array_type, maybe_at, anything, checked_at, numbers, body}
+use Rattle.rb_grammar.specs.Tests.{the_tests}
+
+-- where reading stops, the fault with its line: that of the first token left, or that of the end
+abbrev pub located : {A : Type 0} → ℕ → Result A Stop → Result A SourceFault
+located end (Ok x) = Ok x
+located end (Err s) = Err (record { kind = s.kind; line = line_at end s.rest })
+
+-- What was returned stands for what is read, and the same tokens are left; or it is refused as reading stops, unless memory ran out.
+abbrev pub Reads : {X Y : Type 0} → (X → Y → Type 0) → ℕ → Result X SourceFault → List Token → Read Y → Type 0
+Reads {X} {Y} StandsFor end (Ok x) rest read = (y : Y) × (read ≡ Ok (y, rest)) × StandsFor x y
+Reads {X} {Y} StandsFor end (Err e) rest read = e.kind ≢ Memory → located end read ≡ Err e
+
+-- what reads the values inside a body, with others in them no deeper than the number
+abbrev pub inner_at : ℕ → Inner
+inner_at depth = record { room = nat_lt 0 depth; reads = body the_tests depth }
+
+-- what is made of what is read
+abbrev pub made : {A B : Type 0} → (A → B) → Read A → Read B
+made make read = read >>= λ x. Ok (make x.0, x.1)
+
+-- what stands in a body of a type without children
+abbrev pub leaf_at : Word → List Token → Read Leaf
+leaf_at string_type ts = made string (maybe_at BadHex anything ts)
+leaf_at alias_type ts = made alias (maybe_at BadHex anything ts)
+leaf_at (binary_type long) ts = made (binary long) (maybe_at BadHex the_tests.is_hex ts)
+leaf_at (int_type long) ts = made (int long) (checked_at BadInt the_tests.is_int ts)
+leaf_at ints_type ts = made ints (numbers the_tests.is_element (suc (length ts)) ts)
+leaf_at table_type ts = Err (stop Unexpected ts)
+leaf_at array_type ts = Err (stop Unexpected ts)
+
+-- ---- what trees and lists of the program stand for
+
+abbrev pub IsLeafTree : Tree → Leaf → Type 0
+IsLeafTree t l = LeafSpells l (view_of t)
+
+abbrev pub IsBodyTree : Tree → Body → Type 0
+IsBodyTree t b = Spells b (view_of t)
+
+abbrev pub IsTableTree : Tree → Entries → Type 0
+IsTableTree t es = Spells (table es) (view_of t)
+
+abbrev pub IsArrayTree : Tree → Elements → Type 0
+IsArrayTree t xs = Spells (array xs) (view_of t)
+
+abbrev pub AreNumbers : List ℤ → List (List ℕ × Bool) → Type 0
+AreNumbers zs ns = AreElementTexts ns zs
+
+-- each entry's key and tree, in the order in which they are written
+abbrev pub AreEntries : List (List ℕ × Tree) → Entries → Type 0
+AreEntries [] no_entries = Unit {0}
+AreEntries [] (entry k b c es) = ⊥
+AreEntries (p ∷ ps) no_entries = ⊥
+AreEntries (p ∷ ps) (entry k b c es) = (p.0 ≡ k) × IsBodyTree p.1 b × AreEntries ps es
+
+-- whether the type of a bundle is written
+abbrev pub IsTyped : Unit {0} → Bool → Type 0
+IsTyped done typed = Unit {0}

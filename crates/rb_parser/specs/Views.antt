@@ -1,0 +1,36 @@
+-- For the contracts of this crate's own functions: the program's signs, guesses and types beside those of the grammar's reading function.
+use Rattle.std.specs.Prelude.{ℕ, Result, Ok, Err}
+use Rattle.rb_lexer.specs.declared.fault.SourceKind.TheVariants.{Unexpected}
+use Rattle.rb_lexer.specs.declared.fault.SourceFault.{SourceFault}
+use Rattle.rb_grammar.specs.Faults.{line_at}
+use Rattle.rb_grammar.specs.Reading as reading
+use Rattle.rb_parser.specs.declared.cursor.Sign.{Sign}
+use Rattle.rb_parser.specs.declared.cursor.Sign.TheVariants.{Left, Right, Colon, Comma}
+use Rattle.rb_parser.specs.declared.cursor.Guess.{Guess}
+use Rattle.rb_parser.specs.declared.cursor.Guess.TheVariants.{Text, Table, Array}
+use Rattle.rb_parser.specs.declared.word.Word.{Word}
+use Rattle.rb_parser.specs.declared.word.Word.TheVariants as word
+use Rattle.rb_parser.specs.declared.word.Leaf.TheVariants as leaf
+
+abbrev pub sign_of : Sign → reading.Sign
+sign_of Left = reading.left
+sign_of Right = reading.right
+sign_of Colon = reading.colon
+sign_of Comma = reading.comma
+
+-- what is guessed, or the fault at the token that decides
+abbrev pub guessed : ℕ → reading.Guess → Result Guess SourceFault
+guessed end reading.as_text = Ok Text
+guessed end reading.as_table = Ok Table
+guessed end reading.as_array = Ok Array
+guessed end (reading.none_at rest) = Err (record { kind = Unexpected; line = line_at end rest })
+
+-- the long and the short words are one
+abbrev pub word_of : reading.Word → Word
+word_of reading.string_type = word.Leaf leaf.String
+word_of reading.alias_type = word.Leaf leaf.Alias
+word_of (reading.binary_type long) = word.Leaf leaf.Binary
+word_of (reading.int_type long) = word.Leaf leaf.Int
+word_of reading.ints_type = word.Leaf leaf.Ints
+word_of reading.table_type = word.Table
+word_of reading.array_type = word.Array

@@ -1,0 +1,249 @@
+// A place in the tokens of a text.
+ghost use Rattle.std.specs.Prelude.{◌≡◌, ◌||◌, ◌∷◌, [], ◌<◌, ◌≤◌, length, if◌then◌else◌, IsTrue, ◌↔◌, is_some, MatchOption, MatchResult, Some, None, Ok, Err, OnOk};
+ghost use Rattle.rb_grammar.specs.Faults.{line_at};
+ghost use Rattle.rb_lexer.specs.declared.fault.SourceKind.TheVariants.{TooDeep, Unexpected};
+ghost use Rattle.rb_grammar.specs.Reading.{left, colon, begins, is_sign, tail, first_text, sign_at, text_at, word_at, guess, guess_second};
+ghost use Rattle.rb_parser.specs.Reads.{located, Reads};
+ghost use Rattle.rb_parser.specs.Views.{sign_of, guessed, word_of};
+
+use crate::word::Word;
+use rb_lexer::{Mark, SourceFault, SourceKind, Token};
+use rb_tree::UnitList;
+use std::collections::VecDeque;
+
+/// A sign of the bundle syntax.
+#[derive(Clone, Copy)]
+pub enum Sign {
+    Left,
+    Right,
+    Colon,
+    Comma,
+}
+
+/// What a body without a type is.
+#[derive(Clone, Copy)]
+pub enum Guess {
+    Text,
+    Table,
+    Array,
+}
+
+/// The tokens that are still to come, and the line in which the text ends.
+///
+/// No more than the next two are looked at, and they are taken one by one.
+#[derive(Drop)]
+pub struct Cursor {
+    rest: VecDeque<Token>,
+    end: u64,
+}
+
+impl Cursor {
+    pub fn new(tokens: Vec<Token>, end: u64) -> Cursor
+        ensures rest { result.rest.items ≡ tokens.items }
+        ensures end { result.end ≡ end }
+    {
+        Cursor {
+            rest: VecDeque::from_vec(tokens),
+            end,
+        }
+    }
+
+    fn first(&self) -> Option<&Token>
+        ensures { MatchOption result (self.now.rest.items ≡ []) (λ t. self.now.rest.items ≡ t.now ∷ tail self.now.rest.items) }
+    {
+        self.rest.front()
+    }
+
+    fn second(&self) -> Option<&Token>
+        ensures { MatchOption result (tail self.now.rest.items ≡ []) (λ t. tail self.now.rest.items ≡ t.now ∷ tail (tail self.now.rest.items)) }
+    {
+        self.rest.get(1)
+    }
+
+    fn pop(&mut self) -> Option<Token>
+        ensures same_end { self.new.end ≡ self.old.end }
+        ensures token { MatchOption result (self.old.rest.items ≡ []) (λ t. self.old.rest.items ≡ t ∷ self.new.rest.items) }
+        ensures rest { self.new.rest.items ≡ tail self.old.rest.items }
+    {
+        self.rest.pop_front()
+    }
+
+    /// Whether all tokens are taken.
+    pub fn is_at_end(&self) -> bool
+        ensures { IsTrue result ↔ (self.now.rest.items ≡ []) }
+    {
+        self.rest.is_empty()
+    }
+
+    /// A fault at the next token, or at the end.
+    pub fn fault(&self, kind: SourceKind) -> SourceFault
+        ensures kind { result.kind ≡ kind }
+        ensures line { result.line ≡ line_at self.now.end self.now.rest.items }
+    {
+        let line = match self.first() {
+            Some(token) => token.line,
+            None => self.end,
+        };
+        SourceFault { kind, line }
+    }
+
+    /// Whether a sign comes next.
+    pub fn is_at(&self, sign: Sign) -> bool
+        ensures { result ≡ begins (sign_of sign) self.now.rest.items }
+    {
+        match self.first() {
+            Some(token) => is_sign(&token.what, sign),
+            None => false,
+        }
+    }
+
+    /// Whether a body comes next: a colon before its type, or its brace.
+    pub fn is_at_body(&self) -> bool
+        ensures { result ≡ begins colon self.now.rest.items || begins left self.now.rest.items }
+    {
+        self.is_at(Sign::Colon) || self.is_at(Sign::Left)
+    }
+
+    /// The fault at the next token where no value has room: it begins one, or it is out of place.
+    pub fn no_room(&self) -> SourceFault
+        ensures kind { result.kind ≡ (if begins colon self.now.rest.items || begins left self.now.rest.items then TooDeep else Unexpected) }
+        ensures line { result.line ≡ line_at self.now.end self.now.rest.items }
+    {
+        if self.is_at_body() {
+            self.fault(SourceKind::TooDeep)
+        } else {
+            self.fault(SourceKind::Unexpected)
+        }
+    }
+
+    /// Takes a sign, if it comes next.
+    pub fn take(&mut self, sign: Sign) -> bool
+        ensures same_end { self.new.end ≡ self.old.end }
+        ensures value { result ≡ begins (sign_of sign) self.old.rest.items }
+        ensures rest { self.new.rest.items ≡ (if begins (sign_of sign) self.old.rest.items then tail self.old.rest.items else self.old.rest.items) }
+        ensures shorter { IsTrue result → length self.new.rest.items < length self.old.rest.items }
+        ensures no_longer { length self.new.rest.items ≤ length self.old.rest.items }
+    {
+        let comes = self.is_at(sign);
+        if comes {
+            drop(self.pop());
+        }
+        comes
+    }
+
+    /// Takes a sign, which has to come next.
+    pub fn expect(&mut self, sign: Sign) -> Result<(), SourceFault>
+        ensures same_end { self.new.end ≡ self.old.end }
+        ensures exact { MatchResult result (λ _. sign_at (sign_of sign) self.old.rest.items ≡ Ok self.new.rest.items)
+            (λ e. located self.old.end (sign_at (sign_of sign) self.old.rest.items) ≡ Err e) }
+        ensures shorter { OnOk result (length self.new.rest.items < length self.old.rest.items) }
+    {
+        if self.take(sign) {
+            Ok(())
+        } else {
+            Err(self.fault(SourceKind::Unexpected))
+        }
+    }
+
+    fn is_at_text(&self) -> bool
+        ensures { result ≡ is_some (first_text self.now.rest.items) }
+    {
+        match self.first() {
+            Some(token) => matches!(token.what, Mark::Text(_)),
+            None => false,
+        }
+    }
+
+    /// Takes a text, if one comes next.
+    pub fn take_text(&mut self) -> Option<UnitList>
+        ensures same_end { self.new.end ≡ self.old.end }
+        ensures text { first_text self.old.rest.items ≡ result }
+        ensures rest { MatchOption result (self.new.rest.items ≡ self.old.rest.items) (λ _. self.new.rest.items ≡ tail self.old.rest.items) }
+        ensures shorter { MatchOption result (length self.new.rest.items ≤ length self.old.rest.items)
+            (λ _. length self.new.rest.items < length self.old.rest.items) }
+    {
+        if !self.is_at_text() {
+            return None;
+        }
+        match self.pop() {
+            Some(
+                Token {
+                    what: Mark::Text(text),
+                    ..
+                },
+            ) => Some(text),
+            _ => unreachable!(),
+        }
+    }
+
+    /// Takes a text, which has to come next.
+    pub fn text(&mut self) -> Result<UnitList, SourceFault>
+        ensures same_end { self.new.end ≡ self.old.end }
+        ensures exact { MatchResult result (λ s. text_at self.old.rest.items ≡ Ok (s, self.new.rest.items))
+            (λ e. located self.old.end (text_at self.old.rest.items) ≡ Err e) }
+        ensures shorter { OnOk result (length self.new.rest.items < length self.old.rest.items) }
+    {
+        match self.take_text() {
+            Some(text) => Ok(text),
+            None => Err(self.fault(SourceKind::Unexpected)),
+        }
+    }
+
+    /// What a body without a type is, whose brace was taken: the next two tokens decide.
+    pub fn guess(&self) -> Result<Guess, SourceFault>
+        ensures { result ≡ guessed self.now.end (guess self.now.rest.items) }
+    {
+        let Some(first) = self.first() else {
+            return Err(self.fault(SourceKind::Unexpected));
+        };
+        match first.what {
+            Mark::Text(_) => self.guess_behind_text(),
+            Mark::LeftBrace | Mark::Colon | Mark::RightBrace => Ok(Guess::Array),
+            Mark::Comma => Err(self.fault(SourceKind::Unexpected)),
+        }
+    }
+
+    fn guess_behind_text(&self) -> Result<Guess, SourceFault>
+        ensures { result ≡ guessed self.now.end (guess_second (tail self.now.rest.items)) }
+    {
+        let kind = SourceKind::Unexpected;
+        let Some(second) = self.second() else {
+            let line = self.end;
+            return Err(SourceFault { kind, line });
+        };
+        match second.what {
+            Mark::Comma => Ok(Guess::Array),
+            Mark::RightBrace => Ok(Guess::Text),
+            Mark::LeftBrace | Mark::Colon => Ok(Guess::Table),
+            Mark::Text(_) => {
+                let line = second.line;
+                Err(SourceFault { kind, line })
+            }
+        }
+    }
+
+    /// The type that a text names, which has to come next.
+    pub fn word(&mut self) -> Result<Word, SourceFault>
+        ensures same_end { self.new.end ≡ self.old.end }
+        ensures exact { Reads (λ w v. w ≡ word_of v) self.old.end result self.new.rest.items (word_at self.old.rest.items) }
+        ensures shorter { OnOk result (length self.new.rest.items < length self.old.rest.items) }
+    {
+        let unknown = self.fault(SourceKind::UnknownType);
+        let text = self.text()?;
+        match Word::read(text.as_slice()) {
+            Some(word) => Ok(word),
+            None => Err(unknown),
+        }
+    }
+}
+
+fn is_sign(mark: &Mark, sign: Sign) -> bool
+    ensures { result ≡ is_sign (sign_of sign) mark.now }
+{
+    match sign {
+        Sign::Left => matches!(mark, Mark::LeftBrace),
+        Sign::Right => matches!(mark, Mark::RightBrace),
+        Sign::Colon => matches!(mark, Mark::Colon),
+        Sign::Comma => matches!(mark, Mark::Comma),
+    }
+}

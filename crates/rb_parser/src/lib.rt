@@ -1,0 +1,12 @@
+//! Bundle texts, read as trees.
+#![tactic(auto)]
+
+mod cursor;
+mod key;
+pub mod laws;
+mod leaf;
+mod parser;
+mod source;
+mod word;
+
+pub use source::{Source, parse};

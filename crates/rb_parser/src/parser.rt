@@ -1,0 +1,164 @@
+// Bodies, by recursive descent.
+ghost use Rattle.std.specs.Prelude.{◌≡◌, ℕ, ◌<◌, ◌≤◌, [], length, OnOk, IfOk, All};
+ghost use Rattle.rb_tree.specs.Keys.{IsKey};
+ghost use Rattle.rb_tree.specs.Table.{keys_in};
+ghost use Rattle.rb_grammar.specs.Reading as reading;
+ghost use Rattle.rb_grammar.specs.Reading.{body, typed_at, untyped_at, guess, table_at, array_at, entries, elements};
+ghost use Rattle.rb_grammar.specs.Tests.{the_tests};
+ghost use Rattle.rb_parser.specs.Reads.{Reads, inner_at, IsBodyTree, IsTableTree, IsArrayTree, AreEntries};
+ghost use Rattle.rb_parser.specs.Views.{word_of};
+
+use crate::cursor::{Cursor, Guess, Sign};
+use crate::key::key_bytes;
+use crate::leaf::read_leaf;
+use crate::word::Word;
+use rb_grammar::is_key;
+use rb_lexer::{SourceFault, SourceKind};
+use rb_tree::{ByteList, TableFault, Tree, TreeList};
+use std::alloc::Global;
+use std::collections::BTreeSet;
+
+/// A value, whose height is at most `depth`.
+#[cycle(body)]
+pub fn read_body(alloc: Global, cursor: &mut Cursor, depth: u64) -> Result<Tree, SourceFault>
+    ensures same_end { cursor.new.end ≡ cursor.old.end }
+    ensures exact { Reads IsBodyTree cursor.old.end result cursor.new.rest.items (body the_tests depth cursor.old.rest.items) }
+    ensures shorter { OnOk result (length cursor.new.rest.items < length cursor.old.rest.items) }
+{
+    if depth == 0 {
+        return Err(cursor.no_room());
+    }
+    if cursor.take(Sign::Colon) {
+        let word = cursor.word()?;
+        cursor.expect(Sign::Left)?;
+        read_typed(alloc, cursor, word, depth - 1)
+    } else {
+        cursor.expect(Sign::Left)?;
+        read_untyped(alloc, cursor, depth - 1)
+    }
+}
+
+/// A body with a type, from behind its brace on. The height of what stands inside is at most `depth`.
+#[cycle(body)]
+fn read_typed(
+    alloc: Global,
+    cursor: &mut Cursor,
+    word: Word,
+    depth: u64,
+) -> Result<Tree, SourceFault>
+    ensures same_end { cursor.new.end ≡ cursor.old.end }
+    ensures exact { (w : reading.Word) → word_of w ≡ word → Reads IsBodyTree cursor.old.end result cursor.new.rest.items
+        (typed_at the_tests (inner_at depth) w cursor.old.rest.items) }
+    ensures shorter { OnOk result (length cursor.new.rest.items < length cursor.old.rest.items) }
+{
+    match word {
+        Word::Leaf(leaf) => {
+            let tree = read_leaf(alloc, cursor, leaf)?;
+            cursor.expect(Sign::Right)?;
+            Ok(tree)
+        }
+        Word::Table => read_table(alloc, cursor, depth),
+        Word::Array => read_array(alloc, cursor, depth),
+    }
+}
+
+/// A body without a type, from behind its brace on. The height of what stands inside is at most `depth`.
+#[cycle(body)]
+fn read_untyped(alloc: Global, cursor: &mut Cursor, depth: u64) -> Result<Tree, SourceFault>
+    ensures same_end { cursor.new.end ≡ cursor.old.end }
+    ensures exact { Reads IsBodyTree cursor.old.end result cursor.new.rest.items
+        (untyped_at the_tests (inner_at depth) (guess cursor.old.rest.items) cursor.old.rest.items) }
+    ensures shorter { OnOk result (length cursor.new.rest.items < length cursor.old.rest.items) }
+{
+    match cursor.guess()? {
+        Guess::Text => {
+            let text = cursor.text()?;
+            cursor.expect(Sign::Right)?;
+            Ok(Tree::String(text))
+        }
+        Guess::Table => read_table(alloc, cursor, depth),
+        Guess::Array => read_array(alloc, cursor, depth),
+    }
+}
+
+/// The entries of a table, up to and with its closing brace. The height of what stands inside is at most `depth`.
+#[cycle(body)]
+pub fn read_table(alloc: Global, cursor: &mut Cursor, depth: u64) -> Result<Tree, SourceFault>
+    ensures same_end { cursor.new.end ≡ cursor.old.end }
+    ensures exact { Reads IsTableTree cursor.old.end result cursor.new.rest.items (table_at the_tests (inner_at depth) cursor.old.rest.items) }
+    ensures shorter { OnOk result (length cursor.new.rest.items < length cursor.old.rest.items) }
+{
+    let pairs = read_entries(alloc, cursor, depth)?;
+    match Tree::table(alloc, pairs) {
+        Ok(tree) => Ok(tree),
+        Err(TableFault::Memory) => Err(SourceFault {
+            kind: SourceKind::Memory,
+            line: 0,
+        }),
+        Err(TableFault::DuplicateKey(_)) => unreachable!(),
+    }
+}
+
+/// The same as pairs, in the order in which they are written; no key comes twice.
+#[cycle(body)]
+fn read_entries(
+    alloc: Global,
+    cursor: &mut Cursor,
+    depth: u64,
+) -> Result<Vec<(ByteList, Tree)>, SourceFault>
+    ensures same_end { cursor.new.end ≡ cursor.old.end }
+    ensures exact { (n : ℕ) → length cursor.old.rest.items < n → Reads (λ v es. AreEntries v.items es) cursor.old.end result cursor.new.rest.items
+        (entries the_tests (body the_tests depth) n [] cursor.old.rest.items) }
+    ensures keys { IfOk result (λ v. All IsKey (keys_in v.items)) }
+    ensures shorter { OnOk result (length cursor.new.rest.items < length cursor.old.rest.items) }
+{
+    let mut pairs = Vec::new(alloc);
+    let mut seen = BTreeSet::new(alloc);
+    'entries: loop {
+        let bad = cursor.fault(SourceKind::BadKey);
+        let Some(text) = cursor.take_text() else {
+            break;
+        };
+        if !is_key(text.as_slice()) {
+            return Err(bad);
+        }
+        let key = key_bytes(alloc, text.as_slice())?;
+        if !seen.insert(text.into_vec())? {
+            return Err(SourceFault {
+                kind: SourceKind::DuplicateKey,
+                line: bad.line,
+            });
+        }
+        let tree = read_body(alloc, cursor, depth)?;
+        pairs.push((key, tree))?;
+        cursor.take(Sign::Comma);
+    }
+    cursor.expect(Sign::Right)?;
+    Ok(pairs)
+}
+
+/// The elements of an array, up to and with its closing brace. Each has at most the height `depth`.
+#[cycle(body)]
+fn read_array(alloc: Global, cursor: &mut Cursor, depth: u64) -> Result<Tree, SourceFault>
+    ensures same_end { cursor.new.end ≡ cursor.old.end }
+    ensures exact { Reads IsArrayTree cursor.old.end result cursor.new.rest.items (array_at (inner_at depth) cursor.old.rest.items) }
+    ensures shorter { OnOk result (length cursor.new.rest.items < length cursor.old.rest.items) }
+{
+    let mut trees = Vec::new(alloc);
+    'elements: loop {
+        let too_deep = cursor.fault(SourceKind::TooDeep);
+        if let Some(text) = cursor.take_text() {
+            if depth == 0 {
+                return Err(too_deep);
+            }
+            trees.push(Tree::String(text))?;
+        } else if cursor.is_at_body() {
+            trees.push(read_body(alloc, cursor, depth)?)?;
+        } else {
+            break;
+        }
+        cursor.take(Sign::Comma);
+    }
+    cursor.expect(Sign::Right)?;
+    Ok(Tree::Array(TreeList::from_vec(trees)))
+}

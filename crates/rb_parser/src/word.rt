@@ -1,0 +1,66 @@
+// Type words.
+ghost use Rattle.std.specs.Prelude.{◌≡◌, option_map};
+ghost use Rattle.rb_grammar.specs.Reading.{first_word, all_words};
+ghost use Rattle.rb_parser.specs.Views.{word_of};
+
+/// The type of a body that is written before its brace.
+#[derive(Clone, Copy)]
+pub enum Word {
+    Leaf(Leaf),
+    Table,
+    Array,
+}
+
+/// A type without others inside.
+#[derive(Clone, Copy)]
+pub enum Leaf {
+    String,
+    Alias,
+    Binary,
+    Int,
+    Ints,
+}
+
+// `string`, `alias`, `binary`, `bin`, `integer`, `int`, `intvector`, `table`, `array`
+const STRING: [u16; 6] = [0x73, 0x74, 0x72, 0x69, 0x6E, 0x67];
+
+const ALIAS: [u16; 5] = [0x61, 0x6C, 0x69, 0x61, 0x73];
+
+const BINARY: [u16; 6] = [0x62, 0x69, 0x6E, 0x61, 0x72, 0x79];
+
+const BIN: [u16; 3] = [0x62, 0x69, 0x6E];
+
+const INTEGER: [u16; 7] = [0x69, 0x6E, 0x74, 0x65, 0x67, 0x65, 0x72];
+
+const INT: [u16; 3] = [0x69, 0x6E, 0x74];
+
+const INTVECTOR: [u16; 9] = [0x69, 0x6E, 0x74, 0x76, 0x65, 0x63, 0x74, 0x6F, 0x72];
+
+const TABLE: [u16; 5] = [0x74, 0x61, 0x62, 0x6C, 0x65];
+
+const ARRAY: [u16; 5] = [0x61, 0x72, 0x72, 0x61, 0x79];
+
+impl Word {
+    /// The type that a text names, if it names one.
+    pub fn read(units: &[u16]) -> Option<Word>
+        ensures { result ≡ option_map word_of (first_word units.now all_words) }
+    {
+        if units == STRING.as_slice() {
+            Some(Word::Leaf(Leaf::String))
+        } else if units == ALIAS.as_slice() {
+            Some(Word::Leaf(Leaf::Alias))
+        } else if units == BINARY.as_slice() || units == BIN.as_slice() {
+            Some(Word::Leaf(Leaf::Binary))
+        } else if units == INTEGER.as_slice() || units == INT.as_slice() {
+            Some(Word::Leaf(Leaf::Int))
+        } else if units == INTVECTOR.as_slice() {
+            Some(Word::Leaf(Leaf::Ints))
+        } else if units == TABLE.as_slice() {
+            Some(Word::Table)
+        } else if units == ARRAY.as_slice() {
+            Some(Word::Array)
+        } else {
+            None
+        }
+    }
+}

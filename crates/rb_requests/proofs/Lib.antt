@@ -1,0 +1,11 @@
+pub mod Histories
+pub mod RowLemmas
+pub mod StepLemmas
+pub mod Texts
+pub mod Lookups
+pub mod KeyTexts
+pub mod Stepping
+pub mod NoFloats
+pub mod Putting
+pub mod Reading
+pub mod Serving

@@ -1,0 +1,33 @@
+-- A step of the engine, as an equation of states.
+use Rattle.std.proofs.Common.{◌≡◌, ℕ, ◌⊎◌, inl, inr, Bool, true, false, cond, List, Option, Some, refl, sym, ◌∙◌, ap, subst}
+use Rattle.std.specs.Str.{bytes_eq}
+use Rattle.std.proofs.lemmas.Slice.Eq.{bytes_eq-Decides}
+use Rattle.std.proofs.lemmas.Bool.{false≢true}
+use Rattle.serde_json.specs.Data.{Data}
+use Rattle.rb_requests.specs.Shelf.{Shelf}
+use Rattle.rb_requests.specs.Ask.{Call, Requests, requester, Ask}
+use Rattle.rb_requests.specs.Answer.{Start, Told, answer_over, shelf_then}
+use Rattle.rb_requests.specs.History.{State, Step, Serves, Starves, is_memory}
+use Rattle.rb_requests.specs.Lines.{state_then, Tells, CallTold, LineTold}
+use Rattle.rb_requests.specs.declared.request.Request.{Request}
+
+funext : {A : Type 0} {B : Type 0} → (f g : A → B) → ((x : A) → f x ≡ g x) → f ≡ g
+funext f g h = λ i x. h x i
+
+same_state : (s x : Start) (f g : List ℕ → Shelf) → x ≡ s → ((app : List ℕ) → f app ≡ g app) → let made : Start → (List ℕ → Shelf) → State = λ y k. record { start = y; lists = k } in made x f ≡ made s g
+same_state s x f g e h = let made : Start → (List ℕ → Shelf) → State = λ y k. record { start = y; lists = k } in ap (λ y. made y f) e ∙ ap (made s) (funext f g h)
+
+list_then : (old new : State) (r : Request) (told : Told) (s : Serves old (Requests r) told new) (app : List ℕ) (b : Bool) → bytes_eq app (requester r) ≡ b → new.lists app ≡ cond b (shelf_then s.ask (old.lists app)) (old.lists app)
+list_then old new r told s app true e =
+    let same : app ≡ requester r = (bytes_eq-Decides app (requester r)).0 e in
+    ap new.lists same ∙ s.own ∙ ap (λ a. shelf_then s.ask (old.lists a)) (sym same)
+list_then old new r told s app false e = s.others app (λ h. false≢true (sym e ∙ (bytes_eq-Decides app (requester r)).1 h))
+
+pub served : (old new : State) (r : Request) (told : Told) → Step old (Requests r) told new → is_memory told ≡ false → Tells old (Requests r) told new
+served old new r told (inl s) m = let e : is_memory told ≡ true = rw s.memory refl in absurd (false≢true (sym m ∙ e))
+served old new r told (inr s) m =
+    (s.ask, s.means, s.right, same_state old.start new.start new.lists (λ app. cond (bytes_eq app (requester r)) (shelf_then s.ask (old.lists app)) (old.lists app)) s.start (λ app. list_then old new r told s app (bytes_eq app (requester r)) refl))
+
+-- a line that calls is told as its call is
+pub line_told : (s : State) (call : Option Call) (k : Call) (d : Data) (new : State) → call ≡ Some k → CallTold s k d new → LineTold s call d new
+line_told s call k d new e t = subst (λ (o : Option Call). LineTold s o d new) (sym e) (Some t.0, t.1, t.2)

@@ -1,0 +1,15 @@
+-- What calls of a reader and a writer do to the bytes and to the count of failed calls.
+use Rattle.std.specs.Prelude.{◌≡◌, ℕ, ◌+◌, ◌-◌, ◌^◌, min, List, [], ◌∷◌, Option, Some, None, Result, Ok, Err}
+use Rattle.std.specs.Io.KnownBytes.{Keeps, Consumes, IsAtEnd}
+use Rattle.rb_requests.specs.declared.device.Failed.{Failed}
+
+-- a byte is the first that was left; none is, only at the end; a failed call takes none
+abbrev pub Pulls : Option (List ℕ) → Option (List ℕ) → Result (Option ℕ) Failed → Type 0
+Pulls old new (Ok (Some byte)) = Consumes old new (byte ∷ [])
+Pulls old new (Ok None) = IsAtEnd old × Keeps old new
+Pulls old new (Err e) = Keeps old new
+
+-- a failed call raises the count, up to the largest number of 64 bits
+abbrev pub counted : {T : Type 0} → ℕ → Result T Failed → ℕ
+counted old (Ok x) = old
+counted old (Err e) = min (old + 1) (2 ^ 64 - 1)

@@ -1,0 +1,52 @@
+-- The lines of a text, and the replies to them.
+use Rattle.std.specs.Prelude.{◌≡◌, ℕ, Bool, List, [], ◌∷◌, ◌++◌, ◌==◌, if◌then◌else◌, Option, Some, None}
+use Rattle.std.specs.Str.{bytes_eq}
+use Rattle.serde_json.specs.Data.{Data}
+use Rattle.rb_requests.specs.Ask.{Call, Requests, LooksUp, caller, Ask, Means}
+use Rattle.rb_requests.specs.Answer.{Told, answer_over, shelf_then}
+use Rattle.rb_requests.specs.History.{State}
+use Rattle.rb_requests.specs.Asked.{call_of}
+use Rattle.rb_requests.specs.Replied.{data_told, reply_line}
+
+-- with a byte at the front of the first line
+abbrev pub onto_first : ℕ → List (List ℕ) → List (List ℕ)
+onto_first b [] = (b ∷ []) ∷ []
+onto_first b (l ∷ ls) = (b ∷ l) ∷ ls
+
+-- what stands before each line feed, and the rest if it isn't empty
+abbrev pub lines_of : List ℕ → List (List ℕ)
+lines_of [] = []
+lines_of (b ∷ bs) = if b == 10 then [] ∷ lines_of bs else onto_first b (lines_of bs)
+
+-- what is once a call has taken effect: the caller's bundles change as it asks, and nothing else; a look-up changes nothing
+abbrev pub state_then : State → Call → Ask → State
+state_then s (Requests r) ask = record { start = s.start; lists = λ app. if bytes_eq app (caller (Requests r)) then shelf_then ask (s.lists app) else s.lists app }
+state_then s (LooksUp app locale path) ask = s
+
+-- a call is told its answer and takes effect
+abbrev pub Tells : State → Call → Told → State → Type 0
+Tells s call told new = (ask : Ask) × Means call ask × (told ≡ answer_over s.start (s.lists (caller call)) ask) × (new ≡ state_then s call ask)
+
+-- a line that calls nothing is told so, and changes nothing
+abbrev pub TellsLine : State → Option Call → Option Told → State → Type 0
+TellsLine s None None new = new ≡ s
+TellsLine s None (Some told) new = ⊥
+TellsLine s (Some call) None new = ⊥
+TellsLine s (Some call) (Some told) new = Tells s call told new
+
+-- the text of the reply to a line, and what is then
+abbrev pub AnswersLine : State → List ℕ → List ℕ → State → Type 0
+AnswersLine s line text new = (told : Option Told) × TellsLine s (call_of line) told new × (text ≡ reply_line told)
+
+-- the text of the replies to lines, each of which has taken effect before the next
+abbrev pub Replies : State → List (List ℕ) → List ℕ → State → Type 0
+Replies s [] text end = (text ≡ []) × (end ≡ s)
+Replies s (line ∷ rest) text end =
+    (reply : List ℕ) × (mid : State) × (more : List ℕ) × AnswersLine s line reply mid × (text ≡ reply ++ more) × Replies mid rest more end
+
+-- For what is private. What a call or a line is told, as data.
+abbrev pub CallTold : State → Call → Data → State → Type 0
+CallTold s call d new = (told : Told) × Tells s call told new × (d ≡ data_told (Some told))
+
+abbrev pub LineTold : State → Option Call → Data → State → Type 0
+LineTold s call d new = (told : Option Told) × TellsLine s call told new × (d ≡ data_told told)

@@ -1,0 +1,51 @@
+-- For proofs and for what is private. An engine as a value: its start, and the bundles of all applications in one list.
+use Rattle.std.specs.Prelude.{ℕ, Bool, List, [], ◌∷◌, map, filter, if◌then◌else◌, Option}
+use Rattle.std.specs.List.{position_from}
+use Rattle.std.specs.Str.{bytes_eq}
+use Rattle.rb_tree.specs.View.{view_of}
+use Rattle.rb_tree.specs.Table.{seen_pairs}
+use Rattle.rb_tree.specs.declared.tree.Tree.{Tree}
+use Rattle.rb_parents.specs.Family.{parent_in}
+use Rattle.rb_requests.specs.Place.{same_place}
+use Rattle.rb_requests.specs.Shelf.{Shelf}
+use Rattle.rb_requests.specs.Answer.{Start}
+use Rattle.rb_requests.specs.History.{State}
+use Rattle.rb_requests.specs.declared.place.Place.{Place}
+
+-- the bundles of all applications, in the order of installing
+abbrev pub Rows : Type 0
+Rows = List (Place × Tree)
+
+-- those of one application
+abbrev pub rows_of : List ℕ → Rows → Rows
+rows_of app rows = filter (λ row. bytes_eq app row.0.app) rows
+
+abbrev pub list_of : List ℕ → Rows → Shelf
+list_of app rows = map (λ row. (row.0.name, view_of row.1)) (rows_of app rows)
+
+-- the index of the first row at the place, counted from start
+abbrev pub row_at : Place → ℕ → Rows → Option ℕ
+row_at place start rows = position_from (λ row. same_place place row.0) start rows
+
+-- with the tree in the place of the first row there
+abbrev pub replaced_row : Place → Tree → Rows → Rows
+replaced_row place tree [] = []
+replaced_row place tree (row ∷ rows) = if same_place place row.0 then (place, tree) ∷ rows else row ∷ replaced_row place tree rows
+
+-- without the first row there
+abbrev pub removed_row : Place → Rows → Rows
+removed_row place [] = []
+removed_row place (row ∷ rows) = if same_place place row.0 then rows else row ∷ removed_row place rows
+
+-- an engine
+pub record Stored : Type 0 where
+  pub icudata : List (List ℕ × Tree)
+  pub parents : List (List ℕ × List ℕ)
+  pub rows : Rows
+
+abbrev pub start_of : List (List ℕ × Tree) → List (List ℕ × List ℕ) → Start
+start_of icudata parents = record { icudata = seen_pairs icudata; parents = parent_in parents }
+
+-- as each application sees it
+abbrev pub state_of : Stored → State
+state_of engine = record { start = start_of engine.icudata engine.parents; lists = λ app. list_of app engine.rows }

@@ -1,0 +1,10 @@
+-- For what is private. What a look-up answers, as what the application is told.
+use Rattle.std.specs.Prelude.{ℕ, List, Result, Ok, Err}
+use Rattle.rb_tree.specs.Resource.{Resource}
+use Rattle.rb_requests.specs.Answer.{Told, Finds, Refuses}
+use Rattle.rb_fallback.specs.declared.found.Found.{Found}
+use Rattle.rb_requests.specs.declared.request.LookFault.{LookFault}
+
+abbrev pub seen : {N : Type 0} → (N → Resource) → Result (Found N) LookFault → Told
+seen tree (Ok found) = Finds (tree found.node) found.actual found.valid
+seen tree (Err e) = Refuses e

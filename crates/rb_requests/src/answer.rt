@@ -1,0 +1,79 @@
+//! The answer to one line.
+ghost use Rattle.std.specs.Prelude.{◌≡◌, ◌++◌, ◌∷◌, [], IfOk, false};
+ghost use Rattle.serde_json.specs.View.{view};
+ghost use Rattle.serde_json.specs.Written.{compact_text, has_float};
+ghost use Rattle.rb_requests.specs.Rows.{state_of};
+ghost use Rattle.rb_requests.specs.Ask.{Requests, LooksUp};
+ghost use Rattle.rb_requests.specs.Answer.{Replies as Told};
+ghost use Rattle.rb_requests.specs.History.{is_memory_reply};
+ghost use Rattle.rb_requests.specs.Asked.{call_of};
+ghost use Rattle.rb_requests.specs.Lines.{CallTold, LineTold, AnswersLine};
+
+use crate::ask::{Line, line_of};
+use crate::engine::Engine;
+use crate::request::{Reply, Request};
+use crate::told::{error_value, look_value, reply_value};
+use rb_tree::ByteList;
+use serde_json::Value;
+use std::alloc::{AllocError, Global};
+
+fn is_memory(reply: &Reply) -> bool
+    ensures { result ≡ is_memory_reply reply.now }
+{
+    matches!(reply, Reply::Memory)
+}
+
+fn answer_request(alloc: Global, engine: &mut Engine, request: Request) -> Result<Value, AllocError>
+    ensures { IfOk result (λ v. CallTold (state_of engine.old) (Requests request) (view v) (state_of engine.new)) }
+{
+    let reply = engine.handle(alloc, request);
+    if is_memory(&reply) {
+        return Err(AllocError);
+    }
+    reply_value(alloc, &reply)
+}
+
+fn answer_look(
+    alloc: Global,
+    engine: &mut Engine,
+    app: &ByteList,
+    locale: &ByteList,
+    path: &ByteList,
+) -> Result<Value, AllocError>
+    ensures { IfOk result (λ v. CallTold (state_of engine.old) (LooksUp app.now locale.now path.now) (view v) (state_of engine.new)) }
+{
+    let found = engine.look(app.as_slice(), locale.as_slice(), path.as_slice());
+    look_value(alloc, &found)
+}
+
+/// What a line is told.
+fn answer(alloc: Global, engine: &mut Engine, line: &[u8]) -> Result<Value, AllocError>
+    ensures { IfOk result (λ v. LineTold (state_of engine.old) (call_of line.now) (view v) (state_of engine.new)) }
+{
+    match line_of(alloc, line)? {
+        None => error_value(alloc, "BadLine"),
+        Some(Line::Request(request)) => answer_request(alloc, engine, request),
+        Some(Line::Look { app, locale, path }) => answer_look(alloc, engine, &app, &locale, &path),
+    }
+}
+
+/// A reply as a line.
+fn text_of(alloc: Global, value: &Value) -> Result<Vec<u8>, AllocError>
+    ensures { IfOk result (λ text. has_float (view value.now) ≡ false → text.items ≡ compact_text (view value.now) ++ 10 ∷ []) }
+{
+    let mut text = value.to_string(alloc)?.into_bytes();
+    text.push(b'\n')?;
+    Ok(text)
+}
+
+/// The line that answers a line.
+pub(crate) fn reply_of(
+    alloc: Global,
+    engine: &mut Engine,
+    line: &[u8],
+) -> Result<Vec<u8>, AllocError>
+    ensures { IfOk result (λ text. AnswersLine (state_of engine.old) line.now text.items (state_of engine.new)) }
+{
+    let value = answer(alloc, engine, line)?;
+    text_of(alloc, &value)
+}

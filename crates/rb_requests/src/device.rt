@@ -1,0 +1,131 @@
+//! Readers by the byte, writers, and the wrappers that make them of any `Read` and `Write`.
+
+ghost use Rattle.std.specs.Prelude.{◌≡◌, ◌<◌, ◌≤◌, ℕ, List, Option, length, IfOk};
+ghost use Rattle.std.specs.Io.KnownBytes.{Keeps, WriteAppends};
+
+use std::io::{Read, Write};
+
+/// A call of a reader or a writer failed.
+#[derive(Clone, Copy, Debug, PartialEq, Eq)]
+pub struct Failed;
+
+/// What gives bytes one by one.
+pub trait Feed {
+    ghost use Rattle.rb_requests.specs.Device.{Pulls, counted};
+
+    /// The bytes that are left, where they are known.
+    ghost left: { Self → Option (List ℕ) };
+
+    /// How many calls have failed, up to the largest `u64`.
+    ghost faults: { Self → ℕ };
+
+    /// The next byte, or `None` at the end.
+    fn pull(&mut self) -> Result<Option<u8>, Failed>
+        ensures bytes { Pulls (left self.old) (left self.new) result }
+        ensures count { faults self.new ≡ counted (faults self.old) result };
+}
+
+/// What takes bytes.
+pub trait Sink {
+    ghost use Rattle.rb_requests.specs.Device.{counted};
+
+    /// The bytes that were written, where they are known.
+    ghost written: { Self → Option (List ℕ) };
+
+    /// How many calls have failed, up to the largest `u64`.
+    ghost faults: { Self → ℕ };
+
+    /// Takes bytes from the front, at least one if there is one, and says how many.
+    fn put(&mut self, bytes: &[u8]) -> Result<usize, Failed>
+        ensures most { IfOk result (λ n. n ≤ length bytes.now) }
+        ensures some { 0 < length bytes.now → IfOk result (λ n. 0 < n) }
+        ensures bytes { WriteAppends (written self.old) (written self.new) result bytes.now }
+        ensures count { faults self.new ≡ counted (faults self.old) result };
+
+    /// Hands on what was taken.
+    fn settle(&mut self) -> Result<(), Failed>
+        ensures bytes { Keeps (written self.old) (written self.new) }
+        ensures count { faults self.new ≡ counted (faults self.old) result };
+}
+
+/// A reader as a feed.
+#[derive(Drop)]
+pub struct ReadFeed<R: Read> {
+    inner: R,
+    failed: u64,
+}
+
+impl<R: Read> ReadFeed<R> {
+    /// A feed of what a reader has left. No call has failed.
+    pub fn new(inner: R) -> Self
+        ensures left { ⟦<ReadFeed<R> as Feed>⟧.left result ≡ R.remaining inner }
+        ensures faults { ⟦<ReadFeed<R> as Feed>⟧.faults result ≡ 0 }
+    {
+        ReadFeed { inner, failed: 0 }
+    }
+}
+
+impl<R: Read> Feed for ReadFeed<R> {
+    ghost left = { λ f. R.remaining f.inner };
+
+    ghost faults = { λ f. f.failed };
+
+    fn pull(&mut self) -> Result<Option<u8>, Failed> {
+        let mut byte = [0u8; 1];
+        match self.inner.read(&mut byte) {
+            Ok(0) => Ok(None),
+            Ok(_) => Ok(Some(byte[0])),
+            Err(_) => {
+                self.failed = self.failed.saturating_add(1);
+                Err(Failed)
+            }
+        }
+    }
+}
+
+/// A writer as a sink.
+#[derive(Drop)]
+pub struct WriteSink<W: Write> {
+    inner: W,
+    failed: u64,
+}
+
+impl<W: Write> WriteSink<W> {
+    /// A sink over what a writer holds. No call has failed.
+    pub fn new(inner: W) -> Self
+        ensures written { ⟦<WriteSink<W> as Sink>⟧.written result ≡ W.contents inner }
+        ensures faults { ⟦<WriteSink<W> as Sink>⟧.faults result ≡ 0 }
+    {
+        WriteSink { inner, failed: 0 }
+    }
+}
+
+impl<W: Write> Sink for WriteSink<W> {
+    ghost written = { λ s. W.contents s.inner };
+
+    ghost faults = { λ s. s.failed };
+
+    fn put(&mut self, bytes: &[u8]) -> Result<usize, Failed> {
+        match self.inner.write(bytes) {
+            Ok(0) if !bytes.is_empty() => {
+                self.failed = self.failed.saturating_add(1);
+                Err(Failed)
+            }
+            Ok(n) => Ok(n),
+            Err(_) => {
+                self.failed = self.failed.saturating_add(1);
+                Err(Failed)
+            }
+        }
+    }
+
+    fn settle(&mut self) -> Result<(), Failed> {
+        match self.inner.flush() {
+            Ok(()) => Ok(()),
+            Err(_) => {
+                self.failed = self.failed.saturating_add(1);
+                Err(Failed)
+            }
+        }
+    }
+}

@@ -1,0 +1,46 @@
+//! Files, read and written whole.
+use rb_format::FILE_LIMIT;
+use std::fs;
+use std::fs::File;
+use std::io;
+use std::io::{ErrorKind, Read, Write};
+use std::process::ExitCode;
+use std::rt::Files;
+
+/// Reads a file, but no more than one byte past the largest.
+pub fn read_file<R: Files + AllocGlobal>(rt: &R, name: &str) -> io::Result<Vec<u8>> {
+    let mut bytes = Vec::new(rt.alloc());
+    fs::open(rt, name)?
+        .take(FILE_LIMIT as u64 + 1)
+        .read_to_end(&mut bytes)?;
+    Ok(bytes)
+}
+
+/// Writes a file. Where that fails once the file is there, the half of it is taken away again.
+pub fn write_file<R: Files + AllocGlobal>(rt: &R, name: &str, bytes: &[u8]) -> io::Result<()> {
+    let mut file = File::create(rt, name)?;
+    let written = file.write_all(bytes);
+    if written.is_err() {
+        let _ = fs::remove_file(rt, name);
+    }
+    written
+}
+
+/// Says that a file could not be read: for want of memory, or for another cause.
+pub fn cannot_read<R: Eprint>(rt: &R, name: &str, error: io::Error, memory: &str) -> ExitCode {
+    if error.kind() == ErrorKind::OutOfMemory {
+        let _ = eprintln!(rt; "{name}: {memory}");
+        return ExitCode::from(1);
+    }
+    let _ = eprintln!(rt; "cannot read {name}");
+    ExitCode::from(2)
+}
+
+/// Ends a command whose output was written, or not.
+pub fn printed<R: Eprint>(rt: &R, written: io::Result<()>) -> ExitCode {
+    if written.is_err() {
+        let _ = eprintln!(rt; "cannot write stdout");
+        return ExitCode::from(2);
+    }
+    ExitCode::SUCCESS
+}
