@@ -19,7 +19,12 @@ fn fields_are_read(rt: HostRuntime) -> Result<(), Fail> {
     let header = Header::read(&SAMPLE).map_err(|fault| fault.word())?;
     assert_eq!(rt; header, Header { size: 32, minor: 1 });
     let body = &SAMPLE[32..];
-    for (i, number) in [(0, Some(0x2000_0009)), (7, Some(1)), (10, Some(7)), (11, None)] {
+    for (i, number) in [
+        (0, Some(0x2000_0009)),
+        (7, Some(1)),
+        (10, Some(7)),
+        (11, None),
+    ] {
         assert_eq!(rt; word(body, i), number, "word {i}");
     }
     for (i, number) in [(16, Some(98)), (19, Some(24)), (21, Some(0)), (22, None)] {

@@ -1,5 +1,6 @@
 -- Whole sources.
-use Rattle.std.proofs.Common.{◌≡◌, ℕ, suc, ◌<◌, ◌≤◌, ◌-◌, Bool, true, false, cond, List, [], ◌∷◌, length, Some, None, Result, Ok, Err, refl, sym, ap, subst, ◌∙◌, arith}
+use Rattle.std.proofs.Common.{◌≡◌, ℕ, suc, ◌<◌, ◌≤◌, ◌-◌, Bool, true, false, cond, List, [], ◌∷◌, length, Some, None, Result, Ok, Err, refl, sym, ap, subst, ◌∙◌, arith, ◌⊎◌, inl, inr}
+use Rattle.std.proofs.lemmas.Bool.{cases_lt}
 use Rattle.std.specs.Prelude.{◌≢◌, MatchResult}
 use Rattle.rb_lexer.specs.declared.token.Token.{Token}
 use Rattle.rb_lexer.specs.declared.token.Mark.{Mark}
@@ -8,12 +9,15 @@ use Rattle.rb_lexer.specs.declared.fault.SourceKind.{SourceKind}
 use Rattle.rb_lexer.specs.declared.fault.SourceKind.TheVariants.{TooLong, NotUtf8, BadEscape, OpenQuote, OpenComment, Unexpected, UnknownType, BadKey, DuplicateKey, BadInt, BadHex, TooDeep, TrailingText, TooLarge, Memory}
 use Rattle.rb_lexer.specs.declared.fault.SourceFault.{SourceFault}
 use Rattle.rb_lexer.specs.Tokens.{HasTokens}
-use Rattle.rb_lexer.proofs.Decided.{tokens_one}
-use Rattle.rb_tree.specs.Resource.{Resource}
-use Rattle.rb_tree.specs.Parts.{Fits}
+use Rattle.rb_lexer.proofs.Decided.{tokens_one, source_or}
+use Rattle.rb_lexer.proofs.Total.{source_answered}
+use Rattle.rb_tree.specs.Resource.{Resource, height, weight}
+use Rattle.rb_tree.specs.Parts.{Fits, kind_of}
+use Rattle.rb_tree.specs.declared.kind.Kind.TheVariants.{Table}
 use Rattle.rb_tree.specs.View.{view_of}
 use Rattle.rb_tree.specs.declared.tree.Tree.{Tree}
-use Rattle.rb_tree.specs.declared.limits.TheConstants.{HEIGHT_LIMIT}
+use Rattle.rb_tree.specs.declared.limits.TheConstants.{HEIGHT_LIMIT, WEIGHT_LIMIT}
+use Rattle.rb_grammar.specs.Faults as grammar
 use Rattle.rb_grammar.specs.Faults.{line_at}
 use Rattle.rb_grammar.specs.Form.{marks, table, Entries}
 use Rattle.rb_grammar.specs.Good.{IsSpelled, IsGood, Spells}
@@ -21,10 +25,12 @@ use Rattle.rb_grammar.specs.Reading.{Stop, stop, Read, ◌>>=◌, left, sign_at,
 use Rattle.rb_grammar.specs.Tests.{the_tests}
 use Rattle.rb_grammar.proofs.Conditions.{are_tests}
 use Rattle.rb_grammar.proofs.Trees.{tree_one}
+use Rattle.rb_grammar.proofs.Fault.{stop_is_fault}
+use Rattle.rb_grammar.proofs.Faultless.{good_faultless, good_or_faulty}
 use Rattle.rb_grammar.proofs.Meaning.{spelled_one, read_spelled, spelled_read}
 use Rattle.rb_parser.specs.Reads.{located, inner_at}
 use Rattle.rb_parser.specs.ReadsBundle.{ReadsBundle}
-use Rattle.rb_parser.specs.Source.{IsGoodSource}
+use Rattle.rb_parser.specs.Source.{IsGoodSource, last_line, IsFault, IsRefusal}
 use Rattle.rb_parser.specs.declared.source.Source.{Source}
 use Rattle.rb_parser.proofs.Steps.{located_bind, stops_at}
 use Rattle.rb_parser.proofs.Bodies.{located_same}
@@ -119,3 +125,73 @@ pub good_fits : (bytes : List ℕ) (ts : List Token) (s : Source) (end : ℕ) (n
 good_fits bytes ts s end name tree cut r g =
     let same = good_same bytes ts s end name tree cut r g in
     subst (λ (d : Resource). Fits d) (sym same.1) (same_tokens bytes ts name tree cut g).fits
+
+-- ---- faults
+
+memory_or : (k : SourceKind) → (k ≡ Memory) ⊎ (k ≢ Memory)
+memory_or TooLong = inr (λ e. cc)
+memory_or NotUtf8 = inr (λ e. cc)
+memory_or BadEscape = inr (λ e. cc)
+memory_or OpenQuote = inr (λ e. cc)
+memory_or OpenComment = inr (λ e. cc)
+memory_or Unexpected = inr (λ e. cc)
+memory_or UnknownType = inr (λ e. cc)
+memory_or BadKey = inr (λ e. cc)
+memory_or DuplicateKey = inr (λ e. cc)
+memory_or BadInt = inr (λ e. cc)
+memory_or BadHex = inr (λ e. cc)
+memory_or TooDeep = inr (λ e. cc)
+memory_or TrailingText = inr (λ e. cc)
+memory_or TooLarge = inr (λ e. cc)
+memory_or Memory = inl refl
+
+stop_located : (ts : List Token) (end : ℕ) (r : Result (List ℕ × Bool × Entries) Stop) (e : SourceFault) → bundle the_tests ts ≡ r → located end r ≡ Err e → grammar.IsFault ts end e.kind e.line
+stop_located ts end (Ok x) e is h = absurd cc
+stop_located ts end (Err s) e is h =
+    let made : SourceFault = record { kind = s.kind; line = line_at end s.rest } in
+    let same : made ≡ e = cc in
+    subst (λ (f : SourceFault). grammar.IsFault ts end f.kind f.line) same (stop_is_fault the_tests are_tests ts end s is)
+
+-- what is told of a refusal by reading: it has line 0 where memory was wanting
+pub refused : (bytes : List ℕ) (ts : List Token) (end : ℕ) (e told : SourceFault) → length bytes ≤ SOURCE_LIMIT → HasTokens bytes ts → end ≡ last_line bytes → ReadsBundle end (Err e) (bundle the_tests ts)
+    → told.kind ≡ e.kind → (told.kind ≡ Memory → told.line ≡ 0) → ((told.kind ≡ Memory → ⊥) → told.line ≡ e.line) → IsRefusal bytes told
+refused bytes ts end e told short cut is r kind none line = elim (memory_or told.kind) [
+  | inl memory ↦ inl (memory, none memory)
+  | inr other ↦
+      let fault : grammar.IsFault ts end e.kind e.line = stop_located ts end (bundle the_tests ts) e refl (r (λ m. other (kind ∙ m))) in
+      let here : grammar.IsFault ts end told.kind told.line = subst (λ (n : ℕ). grammar.IsFault ts end told.kind n) (sym (line other)) (subst (λ (k : SourceKind). grammar.IsFault ts end k e.line) (sym kind) fault) in
+      inr (inr (record { short = short; tokens = ts; cut = cut; fault = subst (λ (n : ℕ). grammar.IsFault ts n told.kind told.line) is here }))
+]
+
+-- a tree that was read and does not fit weighs too much
+pub too_large : (bytes : List ℕ) (ts : List Token) (s : Source) (end : ℕ) → length bytes ≤ SOURCE_LIMIT → HasTokens bytes ts → ReadsBundle end (Ok s) (bundle the_tests ts) → (Fits (view_of s.tree) → ⊥) → IsFault bytes TooLarge 1
+too_large bytes ts s end short cut r over =
+    let t = read_spelled the_tests are_tests ts s.name r.0 r.1 r.2 in
+    let same : t.tree ≡ view_of s.tree = tree_one (table r.1) t.tree (view_of s.tree) t.means r.3 in
+    let low : height (view_of s.tree) ≤ HEIGHT_LIMIT = subst (λ (d : Resource). height d ≤ HEIGHT_LIMIT) same t.low in
+    let kind : kind_of (view_of s.tree) ≡ Table = ap kind_of r.3.1 in
+    let heavy : WEIGHT_LIMIT < weight (view_of s.tree) = elim (cases_lt WEIGHT_LIMIT (weight (view_of s.tree))) [
+      | inl h ↦ h
+      | inr light ↦ absurd (over (record { is_table = kind; low = low; light = light }))
+    ] in
+    let large : grammar.IsTooLarge (marks ts) = record { name = s.name; tree = view_of s.tree; whole = spelled ts s end r; low = low; heavy = heavy } in
+    inr (record { short = short; tokens = ts; cut = cut; fault = inr (refl, large, refl) })
+
+pub good_apart : (bytes : List ℕ) (name : List ℕ) (tree : Resource) (kind : SourceKind) (line : ℕ) → IsGoodSource bytes name tree → IsFault bytes kind line → ⊥
+good_apart bytes name tree kind line g (inl lexical) = source_or bytes g.tokens kind line g.short g.cut lexical
+good_apart bytes name tree kind line g (inr f) = good_faultless f.tokens name tree (last_line bytes) kind line (same_tokens bytes f.tokens name tree f.cut g) f.fault
+
+abbrev Decided : List ℕ → Type 0
+Decided bytes = ((name : List ℕ) × (tree : Resource) × IsGoodSource bytes name tree) ⊎ ((kind : SourceKind) × (line : ℕ) × IsFault bytes kind line)
+
+pub good_or : (bytes : List ℕ) → Decided bytes
+good_or bytes = elim (source_answered bytes) [
+  | inr f ↦ inr (f.0, f.1.0, inl f.1.1)
+  | inl t ↦ elim (cases_lt SOURCE_LIMIT (length bytes)) [
+    | inl long ↦ inr (TooLong, 1, inl (inl (inl (refl, (long, refl)))))
+    | inr short ↦ elim (good_or_faulty the_tests are_tests t.0 (last_line bytes)) [
+      | inl g ↦ inl (g.0, g.1, record { short = short; tokens = t.0; cut = t.1; good = g.2 })
+      | inr f ↦ inr (f.0, f.1, inr (record { short = short; tokens = t.0; cut = t.1; fault = f.2 }))
+    ]
+  ]
+]

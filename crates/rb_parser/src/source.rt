@@ -8,7 +8,7 @@ ghost use Rattle.rb_grammar.specs.Reading.{type_at, bundle};
 ghost use Rattle.rb_grammar.specs.Tests.{the_tests};
 ghost use Rattle.rb_parser.specs.Reads.{Reads, IsTyped};
 ghost use Rattle.rb_parser.specs.ReadsBundle.{ReadsBundle};
-ghost use Rattle.rb_parser.specs.Source.{IsGoodSource, last_line};
+ghost use Rattle.rb_parser.specs.Source.{IsGoodSource, last_line, IsRefusal};
 
 use crate::cursor::{Cursor, Sign};
 use crate::parser::read_table;
@@ -75,6 +75,8 @@ pub fn parse(alloc: Global, bytes: &[u8]) -> Result<Source, SourceFault>
     ensures only { (name : List ℕ) (tree : Resource) → IsGoodSource bytes.now name tree
         → MatchResult result (λ s. (s.name ≡ name) × (view_of s.tree ≡ tree)) (λ e. e.kind ≡ Memory) }
     ensures fits { IfOk result (λ s. Fits (view_of s.tree)) }
+    // A refusal is a fault of the source, with its line, unless memory ran out.
+    ensures fault { IfErr result (λ e. IsRefusal bytes.now e) }
 {
     let tokens = lex(alloc, bytes)?;
     let mut cursor = Cursor::new(tokens, last_line(bytes));

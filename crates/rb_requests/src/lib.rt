@@ -14,6 +14,8 @@ mod place;
 mod request;
 mod rows;
 mod steps;
+#[cfg(test)]
+mod tests;
 mod told;
 
 pub use app::{App, AppFault};

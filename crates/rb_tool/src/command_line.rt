@@ -22,8 +22,9 @@ fn check_command<'a>(alloc: Global) -> Result<Command<'a>, AllocError> {
 
 /// The commands.
 pub fn commands<'a>(alloc: Global) -> Result<Command<'a>, AllocError> {
-    let serve = Command::new(alloc, "serve")
-        .about("Answers requests, a line each, from standard input");
+    let serve = Command::new(alloc, "serve").about(
+        "Answers requests, a line each, from standard input",
+    );
     Command::new(alloc, "resb")
         .about("Compiles, checks and serves ICU resource bundles")
         .subcommand_required(true)

@@ -1,11 +1,10 @@
 //! Files, read and written whole.
 use rb_format::FILE_LIMIT;
-use std::fs;
 use std::fs::File;
-use std::io;
 use std::io::{ErrorKind, Read, Write};
 use std::process::ExitCode;
 use std::rt::Files;
+use std::{fs, io};
 
 /// Reads a file, but no more than one byte past the largest.
 pub fn read_file<R: Files + AllocGlobal>(rt: &R, name: &str) -> io::Result<Vec<u8>> {

@@ -8,10 +8,9 @@ mod serve;
 
 use crate::command_line::commands;
 use clap::ArgMatches;
-use std::env;
-use std::io;
 use std::process::ExitCode;
 use std::rt::{Env, Files};
+use std::{env, io};
 
 /// Runs the command that was chosen.
 fn chosen<R: Files + AllocGlobal + Input + Print + Eprint>(

@@ -1,11 +1,11 @@
 -- What is known of an item that stands for a tree, by the kind of the item.
-use Rattle.std.proofs.Common.{◌≡◌, ℕ, zero, suc, ◌+◌, ◌-◌, ◌*◌, ◌/◌, ◌<◌, ◌≤◌, Bool, true, false, cond, ltb, eqb, List, [], ◌∷◌, ◌++◌, length, drop, map, Option, Some, None, Result, Ok, Err, refl, sym, ap, subst, ◌∙◌, arith, inl, inr, IsTrue}
+use Rattle.std.proofs.Common.{◌≡◌, ℕ, zero, suc, ◌+◌, ◌-◌, ◌*◌, ◌/◌, ◌<◌, ◌≤◌, Bool, true, false, ltb, List, [], ◌∷◌, ◌++◌, length, drop, map, Some, None, Result, Ok, Err, refl, sym, ap, subst, ◌∙◌, arith, inl, inr}
 use Rattle.std.proofs.lemmas.Bool.{ltb-false}
 use Rattle.std.specs.Int.{cast_signed, w32}
-use Rattle.std.specs.Prelude.{ℤ, ◌⊎◌, is_ok, IsOk, ◌==◌, slice_index}
+use Rattle.std.specs.Prelude.{ℤ, is_ok, IsOk, ◌==◌, slice_index}
 use Rattle.std.proofs.lemmas.Bool.Decides.{nat_tests}
 use Rattle.rb_tree.specs.declared.limits.TheConstants.{HEIGHT_LIMIT}
-use Rattle.rb_tree.specs.Resource.{Resource, string, int, ints, binary, alias, array, table, Resources}
+use Rattle.rb_tree.specs.Resource.{Resource, string, ints, binary, alias, array, table, Resources}
 use Rattle.rb_format.specs.declared.constants.TheConstants.{FILE_LIMIT}
 use Rattle.rb_format.specs.declared.fault.FileFault.{FileFault}
 use Rattle.rb_format.specs.declared.fault.FileFault.TheVariants as faults
@@ -16,10 +16,10 @@ use Rattle.rb_format.specs.declared.layout.Layout.{Layout}
 use Rattle.rb_format.specs.Place.{word_at, half_at, values, layout_of}
 use Rattle.rb_format.specs.Item.{kind_of, offset_of, has_data, bare, is_table}
 use Rattle.rb_format.specs.File.{is_laid, has_magic, has_family, has_version, has_sizes, tree_of, Denotes}
-use Rattle.rb_format.specs.FirstFault.{◌>>=◌, result_map, read, node, value, contents, within, kind_or_fault, units, bytes, numbers, array_at, table16_at, table32_at, header, read_data, read_file}
+use Rattle.rb_format.specs.FirstFault.{result_map, read, value, contents, units, bytes, numbers, array_at, table16_at, table32_at, header, read_data, read_file}
 use Rattle.rb_format.proofs.Root.{read_denotes}
-use Rattle.rb_format.proofs.Cases.{value_cases, within_there, within_absent, within_data}
-use Rattle.rb_format.proofs.Faults.{read_kind, read_no_kind, read_zero}
+use Rattle.rb_format.proofs.Cases.{value_cases, within_there, within_absent}
+use Rattle.rb_format.proofs.Faults.{read_kind, read_no_kind}
 use Rattle.rb_format.proofs.Steps.{bind_ok, ok_is, guard, guard_else}
 
 pub some_ok : {A : Type 0} (r : Result A FileFault) → IsOk r → (x : A) × (r ≡ Ok x)

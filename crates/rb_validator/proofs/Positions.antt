@@ -1,8 +1,8 @@
 -- The trees of items, place by place.
-use Rattle.std.proofs.Common.{◌≡◌, ℕ, zero, suc, ◌+◌, ◌-◌, ◌*◌, ◌<◌, ◌≤◌, Bool, true, false, cond, ltb, List, [], ◌∷◌, ◌++◌, length, take, map, Option, Some, None, Result, Ok, Err, refl, sym, ap, ◌∙◌, arith}
+use Rattle.std.proofs.Common.{◌≡◌, ℕ, zero, suc, ◌+◌, ◌<◌, ◌≤◌, ltb, List, [], ◌∷◌, ◌++◌, length, take, map, Some, Result, Ok, Err, refl, sym, ap, ◌∙◌, arith}
 use Rattle.std.proofs.lemmas.Bool.{ltb-false}
 use Rattle.std.proofs.lemmas.List.{map-append, take_all}
-use Rattle.std.specs.Prelude.{is_ok, IsOk, slice_get}
+use Rattle.std.specs.Prelude.{IsOk, slice_get}
 use Rattle.rb_tree.specs.Keys.{items}
 use Rattle.rb_tree.specs.Resource.{Resource, Resources, no_trees, tree_and}
 use Rattle.rb_tree.specs.View.{view_of, views_of}

@@ -1,9 +1,9 @@
 -- The entries of a table, place by place.
-use Rattle.std.proofs.Common.{◌≡◌, ℕ, zero, suc, ◌+◌, ◌-◌, ◌*◌, ◌/◌, ◌<◌, ◌≤◌, Bool, true, false, cond, ltb, leb, List, [], ◌∷◌, ◌++◌, length, take, drop, map, get_or, position, Option, Some, None, Result, Ok, Err, refl, sym, ap, subst, ◌∙◌, arith}
+use Rattle.std.proofs.Common.{◌≡◌, ℕ, zero, suc, ◌+◌, ◌-◌, ◌*◌, ◌/◌, ◌<◌, ◌≤◌, Bool, true, false, cond, ltb, List, [], ◌∷◌, ◌++◌, length, take, drop, get_or, position, Option, Some, None, Result, Ok, Err, refl, sym, ap, subst, ◌∙◌, arith}
 use Rattle.std.proofs.lemmas.Bool.{ltb-false, ltb-true}
 use Rattle.std.proofs.lemmas.Bool.Decides.{nat_tests}
 use Rattle.std.proofs.lemmas.List.{map-append, take_all}
-use Rattle.std.specs.Prelude.{is_ok, IsOk, is_some, IsSome, slice_get, All, ◌==◌, ◌&&◌, nat_eq}
+use Rattle.std.specs.Prelude.{IsOk, is_some, IsSome, slice_get, All, ◌==◌, ◌&&◌, nat_eq}
 use Rattle.std.specs.List.{AllByRecursion, list_all}
 use Rattle.std.specs.List.Sorted.{IsStrictlySortedBy}
 use Rattle.std.specs.Map.{keys_of, lookup}
@@ -27,7 +27,7 @@ use Rattle.rb_format.specs.Place.{word_at, half_at, key, key_ok, key_before, pla
 use Rattle.rb_format.specs.FirstFault.{◌>>=◌, result_map, key_or_fault, next_key, keys, members, table_of, table16_at, table32_at}
 use Rattle.rb_format.proofs.Faults.{keys_count}
 use Rattle.rb_format.proofs.Steps.{bind_ok, ok_is, guard, guard_else}
-use Rattle.rb_validator.proofs.Cases.{some_ok, ok_from}
+use Rattle.rb_validator.proofs.Cases.{ok_from}
 use Rattle.rb_validator.proofs.Positions.{take_more}
 
 -- ---- keys

@@ -3,8 +3,10 @@ mod plain;
 mod samples;
 
 use crate::bundle::accept;
+use crate::tree::decode;
 use plain::plain_fault;
 use rb_format::FileFault;
+use rb_tree::{Node, Tree};
 use samples::{S1, S2, S3, S4, S5, S7};
 use std::alloc::Global;
 use std::test::Fail;
@@ -118,5 +120,26 @@ fn a_plain_checker_agrees(rt: HostRuntime) -> Result<(), Fail> {
             }
         }
     }
+    Ok(())
+}
+
+fn binary_at<'a>(tree: &'a Tree, key: &[u8]) -> Option<&'a [u8]> {
+    match tree {
+        Tree::Table(entries) => match entries.get(key) {
+            Some(Tree::Binary(bytes)) => Some(bytes.as_slice()),
+            _ => None,
+        },
+        _ => None,
+    }
+}
+
+#[test]
+fn a_bundle_is_decoded(rt: HostRuntime) -> Result<(), Fail> {
+    let alloc = rt.alloc();
+    let bundle = accept(alloc, S5.to_vec(alloc)?).map_err(|refusal| refusal.0.word())?;
+    let tree = decode(alloc, &bundle)?;
+    assert_eq!(rt; (&tree).len(), 2);
+    assert_eq!(rt; binary_at(&tree, b"b"), Some(&[0x00, 0xFF, 0x7F][..]));
+    assert_eq!(rt; binary_at(&tree, b"c"), Some(&[0x02][..]));
     Ok(())
 }

@@ -1,4 +1,4 @@
--- The keys of a tree.
+-- The keys of a tree. Only private contracts and proofs read this.
 use Rattle.std.specs.Prelude.{◌≡◌, ℕ, ◌+◌, List, [], ◌∷◌, ◌++◌, length, map, All}
 use Rattle.std.proofs.Common.{Bor}
 use Rattle.std.specs.List.Sorted.{IsPermutation}

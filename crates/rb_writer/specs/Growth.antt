@@ -1,4 +1,4 @@
--- How data grow while they are written.
+-- How data grow while they are written. Only private contracts and proofs read this.
 use Rattle.std.specs.Prelude.{◌≡◌, ◌⊎◌, ℕ, ℤ, ◌+◌, ◌*◌, ◌/◌, ◌^◌, ◌<◌, ◌≤◌, List, length, get_or, drop, Result, Ok, map}
 use Rattle.std.specs.Int.{cast_signed, w32}
 use Rattle.rb_format.specs.declared.fault.FileFault.{FileFault}

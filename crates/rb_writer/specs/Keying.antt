@@ -1,4 +1,4 @@
--- Keys that were written behind the header's words.
+-- Keys that were written behind the header's words. Only private contracts and proofs read this.
 use Rattle.std.specs.Prelude.{◌≡◌, ℕ, ◌+◌, ◌<◌, ◌≤◌, List, length, get_or, take, drop, IsSome, Some, slice_get}
 use Rattle.std.proofs.Common.{Bor}
 use Rattle.std.specs.BTreeMap as tree_map

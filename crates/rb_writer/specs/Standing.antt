@@ -1,4 +1,4 @@
--- Trees that were written, and the items that stand for them.
+-- Trees that were written, and the items that stand for them. Only private contracts and proofs read this.
 use Rattle.std.specs.Prelude.{◌≡◌, ◌⊎◌, ℕ, ◌+◌, ◌/◌, ◌%◌, ◌^◌, ◌<◌, ◌≤◌, List, [], ◌∷◌, length, get_or, drop, Some, Ok, IsSome, slice_get}
 use Rattle.rb_tree.specs.Resource.{Resource, Members, height}
 use Rattle.rb_format.specs.Place.{key}

@@ -1,4 +1,4 @@
--- The file of what was written.
+-- The file of what was written. Only private contracts and proofs read this.
 use Rattle.std.specs.Prelude.{◌≡◌, ℕ, ◌+◌, ◌/◌, ◌<◌, ◌≤◌, List, length, get_or, take}
 use Rattle.rb_format.specs.Place.{word_at}
 use Rattle.rb_writer.specs.declared.file.TheConstants.{HEADER}

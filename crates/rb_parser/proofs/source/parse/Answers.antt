@@ -1,4 +1,4 @@
-use Rattle.std.proofs.Common.{◌≡◌, Ok, Err, true, refl, sym, ap, subst, ◌∙◌, List}
+use Rattle.std.proofs.Common.{◌≡◌, Ok, Err, true, refl, inl, inr, sym, ap, subst, ◌∙◌, List}
 use Rattle.std.proofs.lemmas.Bool.{false≢true}
 use Rattle.std.proofs.lemmas.Result.{err_from_is_err_and}
 use Rattle.rb_lexer.specs.declared.token.Token.{Token}
@@ -6,7 +6,7 @@ use Rattle.rb_lexer.specs.Tokens.{HasTokens}
 use Rattle.rb_grammar.specs.Reading.{bundle}
 use Rattle.rb_grammar.specs.Tests.{the_tests}
 use Rattle.rb_parser.specs.ReadsBundle.{ReadsBundle}
-use Rattle.rb_parser.proofs.Wholes.{good, good_same, good_memory, good_fits}
+use Rattle.rb_parser.proofs.Wholes.{good, good_same, good_memory, good_fits, refused, too_large}
 use Rattle.rb_parser.proofs.source.parse.Goals as goal
 
 pub returns-in_err-tokens-clause-only : goal.returns-in_err-tokens-clause-only
@@ -37,3 +37,20 @@ returns-clause-only c = λ name tree g.
     let found = c.in_ok-tokens.ensures.found in
     let read = subst (λ (ts : List Token). ReadsBundle c.new-cursor.result.end (Ok c.in-Ok.source) (bundle the_tests ts)) c.new-cursor.ensures.rest c.in-Ok.ensures in
     good_same c.args.bytes.now c.in_ok-tokens.tokens.items c.in-Ok.source c.new-cursor.result.end name tree found.1 read g
+
+pub returns-in_err-tokens-clause-fault : goal.returns-in_err-tokens-clause-fault
+returns-in_err-tokens-clause-fault c =
+    let p = err_from_is_err_and c.from_residual.result c.from_residual.ensures.1 in
+    rw (p.1, p.2) (elim c.in_err-tokens.ensures.fault [ inl m ↦ inl m | inr f ↦ inr (inl f) ])
+
+pub returns-in-Err-clause-fault : goal.returns-in-Err-clause-fault
+returns-in-Err-clause-fault c =
+    let found = c.in_ok-tokens.ensures.found in
+    let read = subst (λ (ts : List Token). ReadsBundle c.new-cursor.result.end (Err c.in-Err.fault) (bundle the_tests ts)) c.new-cursor.ensures.rest c.in-Err.ensures in
+    refused c.args.bytes.now c.in_ok-tokens.tokens.items c.new-cursor.result.end c.in-Err.fault c.settled.result found.0 found.1 (c.new-cursor.ensures.end ∙ c.last_line.ensures) read c.settled.ensures.kind c.settled.ensures.line c.settled.ensures.same
+
+pub returns-then-not-fits-clause-fault : goal.returns-then-not-fits-clause-fault
+returns-then-not-fits-clause-fault c =
+    let found = c.in_ok-tokens.ensures.found in
+    let read = subst (λ (ts : List Token). ReadsBundle c.new-cursor.result.end (Ok c.in-Ok.source) (bundle the_tests ts)) c.new-cursor.ensures.rest c.in-Ok.ensures in
+    inr (too_large c.args.bytes.now c.in_ok-tokens.tokens.items c.in-Ok.source c.new-cursor.result.end found.0 found.1 read (λ h. false≢true (sym c.if-not-fits.true ∙ c.fits.ensures.1 h)))

@@ -1,4 +1,4 @@
-use Rattle.std.proofs.Common.{◌≡◌, List, ℕ, Option, Some, None, sym}
+use Rattle.std.proofs.Common.{◌≡◌, None, sym}
 use Rattle.rb_format.specs.FirstFault.{first_fault}
 use Rattle.rb_format.proofs.Root.{fault_free}
 use Rattle.rb_validator.proofs.bundle.accept.Goals as goal

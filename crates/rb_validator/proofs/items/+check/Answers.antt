@@ -1,8 +1,8 @@
-use Rattle.std.proofs.Common.{◌≡◌, ℕ, suc, ◌+◌, ◌-◌, ◌<◌, ◌≤◌, List, [], Result, Ok, Err, Option, Some, None, arith, refl, sym, ap, ◌∙◌}
+use Rattle.std.proofs.Common.{◌≡◌, suc, ◌+◌, ◌-◌, Some, None, arith, refl, sym, ap, ◌∙◌}
 use Rattle.std.proofs.lemmas.Result.{err_from_is_err_and}
-use Rattle.rb_format.specs.FirstFault.{fault_of, read, value, contents, trees, keys}
+use Rattle.rb_format.specs.FirstFault.{fault_of, read, value, contents, trees}
 use Rattle.rb_format.specs.Place as stands
-use Rattle.rb_format.proofs.Faults.{trees_on, trees_stop, trees_end, read_zero, read_kind, read_no_kind, value_there, array_fault, table_fault, table_key_fault}
+use Rattle.rb_format.proofs.Faults.{trees_on, trees_stop, trees_end, read_zero, read_kind, read_no_kind, value_there, array_fault, table_fault}
 use Rattle.rb_validator.specs.Places.{key_offset}
 use Rattle.rb_validator.proofs.items.+check.Goals as goal
 

@@ -1,6 +1,6 @@
-use Rattle.std.proofs.Common.{◌≡◌, ℕ, suc, ◌+◌, ◌-◌, List, [], Result, Ok, Err, arith, sym, ap, ◌∙◌}
+use Rattle.std.proofs.Common.{◌≡◌, suc, ◌+◌, ◌-◌, Ok, Err, arith, sym}
 use Rattle.std.proofs.lemmas.Result.{err_from_is_err_and}
-use Rattle.rb_format.specs.FirstFault.{fault_of, next_key, keys}
+use Rattle.rb_format.specs.FirstFault.{next_key}
 use Rattle.rb_format.proofs.Faults.{keys_on, keys_stop, keys_end}
 use Rattle.rb_validator.specs.Places as stands
 use Rattle.rb_validator.proofs.keys.check_keys.Goals as goal

@@ -1,4 +1,4 @@
-use Rattle.std.proofs.Common.{◌≡◌, ℕ, [], ◌-◌}
+use Rattle.std.proofs.Common.{◌≡◌, [], ◌-◌}
 use Rattle.rb_format.specs.FirstFault.{fault_of, keys}
 use Rattle.rb_validator.specs.Places as stands
 use Rattle.rb_validator.proofs.keys.check_keys.Given as goal

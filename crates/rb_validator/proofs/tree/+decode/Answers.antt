@@ -1,10 +1,10 @@
-use Rattle.std.proofs.Common.{rules, ◌≡◌, ℕ, ◌+◌, ◌-◌, ◌*◌, ◌/◌, ◌<◌, ◌≤◌, ◌∙◌, Bool, true, Result, Ok, Err, List, map, take, arith, sym, ap, refl}
+use Rattle.std.proofs.Common.{◌≡◌, ℕ, ◌+◌, ◌-◌, ◌*◌, ◌/◌, ◌≤◌, ◌∙◌, true, Ok, Err, arith, sym, ap}
 use Rattle.std.proofs.lemmas.Result.{IfOk-weaker}
-use Rattle.std.specs.Prelude.{IsOk, IfOk}
+use Rattle.std.specs.Prelude.{IfOk}
 use Rattle.rb_tree.specs.Resource.{table}
 use Rattle.rb_tree.specs.View.{view_of, views_of}
-use Rattle.rb_format.specs.Item.{kind_of, offset_of, has_data, bare}
-use Rattle.rb_format.specs.Place.{word_at, half_at, key}
+use Rattle.rb_format.specs.Item.{offset_of, has_data}
+use Rattle.rb_format.specs.Place.{word_at}
 use Rattle.rb_format.specs.FirstFault.{read, contents, trees, array_at, table16_at, table32_at, table_of, result_map}
 use Rattle.rb_validator.specs.declared.keys.KeyPlaces.TheVariants.{Halves, Words}
 use Rattle.rb_validator.specs.Places as offsets

@@ -1,4 +1,4 @@
-use Rattle.std.proofs.Common.{◌≡◌, ℕ, ◌+◌, ◌*◌, map, take}
+use Rattle.std.proofs.Common.{◌≡◌, ◌+◌, ◌*◌, map, take}
 use Rattle.rb_tree.specs.Keys.{items, pairs}
 use Rattle.rb_tree.specs.Table.{seen_pairs}
 use Rattle.rb_tree.specs.View.{view_of}

@@ -1,8 +1,8 @@
-use Rattle.std.proofs.Common.{◌≡◌, List, [], ◌∷◌, ℕ, refl, sym, arith}
+use Rattle.std.proofs.Common.{[], refl, arith}
 use Rattle.std.specs.List.Sorted.{IsStrictlySortedBy}
 use Rattle.rb_tree.specs.Keys.{IsTable}
-use Rattle.rb_tree.specs.Resource.{Resource, table, no_entries}
-use Rattle.rb_tree.specs.Table.{seen_pairs, IsTableOf}
+use Rattle.rb_tree.specs.Resource.{table, no_entries}
+use Rattle.rb_tree.specs.Table.{IsTableOf}
 use Rattle.rb_tree.specs.View.{view_of}
 use Rattle.rb_tree.proofs.OneTable.{one_table}
 use Rattle.rb_validator.proofs.values.empty_table.Goals as goal
