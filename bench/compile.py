@@ -1,0 +1,59 @@
+#!/usr/bin/env python3
+"""Speed of `resb compile` and `resb check`, beside `genrb --formatVersion 1` where it is installed (Debian's icu-devtools).
+
+usage: compile.py [PROGRAM]   (default: crates/rb_tool/out/rb_tool)
+"""
+import os
+import shutil
+import subprocess
+import sys
+import tempfile
+
+TOP = os.path.dirname(os.path.dirname(os.path.abspath(__file__)))
+PROGRAM = sys.argv[1] if len(sys.argv) > 1 else os.path.join(TOP, "crates/rb_tool/out/rb_tool")
+
+
+def nested(size):
+    with open(os.path.join(TOP, "examples/nested.txt"), encoding="utf-8") as file:
+        body = file.read()
+    inner = body[body.index("{") + 1:body.rindex("}")]
+    count = size // (len(inner.encode()) + 16) + 1
+    return "root{\n" + "".join(f"part{number:05}{{{inner}}}\n" for number in range(count)) + "}\n"
+
+
+def keys(count):
+    return "root{\n" + "".join(f'key{number * 7919 % count:06}{{"value {number}"}}\n' for number in range(count)) + "}\n"
+
+
+def measured(words, folder):
+    """Seconds of processor time and peak memory in MB."""
+    pid = os.posix_spawn(words[0], words, os.environ, file_actions=[
+        (os.POSIX_SPAWN_OPEN, 1, os.path.join(folder, "log"), os.O_WRONLY | os.O_CREAT | os.O_TRUNC, 0o644)])
+    _, status, used = os.wait4(pid, 0)
+    return used.ru_utime + used.ru_stime, used.ru_maxrss / 1024, os.waitstatus_to_exitcode(status)
+
+
+def main():
+    genrb = shutil.which("genrb")
+    if genrb is None:
+        print("genrb: skipped, it isn't installed")
+    with tempfile.TemporaryDirectory() as folder:
+        for name, text in (("nested text", nested(4_000_000)), ("10,000 keys", keys(10_000)), ("40,000 keys", keys(40_000))):
+            source = os.path.join(folder, "root.txt")
+            with open(source, "w", encoding="utf-8") as file:
+                file.write(text)
+            size = len(text.encode()) / 1e6
+            output = os.path.join(folder, "out.res")
+            seconds, memory, status = measured([PROGRAM, "compile", source, output], folder)
+            print(f"{name}, {size:.2f} MB: resb {seconds / size:.3f} s/MB, peak {memory:.0f} MB ({memory / size:.0f} times the text), status {status}")
+            if genrb:
+                seconds, memory, status = measured([genrb, "--formatVersion", "1", "-q", "-d", folder, source], folder)
+                print(f"{name}, {size:.2f} MB: genrb {seconds / size:.3f} s/MB, peak {memory:.0f} MB ({memory / size:.1f} times the text), status {status}")
+            if status == 0 or os.path.exists(output):
+                length = os.path.getsize(output) / 1e6
+                seconds, memory, status = measured([PROGRAM, "check", output], folder)
+                print(f"{name}: check {length / max(seconds, 1e-6):.0f} MB/s of {length:.2f} MB, peak {memory:.0f} MB, status {status}")
+
+
+if __name__ == "__main__":
+    main()
