@@ -38,7 +38,7 @@ def main():
     if genrb is None:
         print("genrb: skipped, it isn't installed")
     with tempfile.TemporaryDirectory() as folder:
-        for name, text in (("nested text", nested(4_000_000)), ("10,000 keys", keys(10_000)), ("40,000 keys", keys(40_000))):
+        for name, text in (("nested text", nested(8_000_000)), ("10,000 keys", keys(10_000)), ("40,000 keys", keys(40_000))):
             source = os.path.join(folder, "root.txt")
             with open(source, "w", encoding="utf-8") as file:
                 file.write(text)

@@ -26,6 +26,7 @@ pub fn commands<'a>(alloc: Global) -> Result<Command<'a>, AllocError> {
         "Answers requests, a line each, from standard input",
     );
     Command::new(alloc, "resb")
+        .bin_name("resb")?
         .about("Compiles, checks and serves ICU resource bundles")
         .subcommand_required(true)
         .subcommand(compile_command(alloc)?)?

@@ -1,0 +1,118 @@
+#!/usr/bin/env python3
+"""Holds `resb` against ICU's own tools, over each bundle text in examples/.
+
+A file of `genrb --formatVersion 1`, its minor version set to 1, must be accepted, and denote the tree that our own file of
+the text denotes; `derb` must print both files alike. Trees are read by the reader below, which shares nothing with `resb`.
+Needs genrb and derb (Debian: icu-devtools); says `skipped` and ends well where they aren't there.
+
+usage: genrb.py [PROGRAM]   (default: bin/resb)
+"""
+import glob
+import os
+import shutil
+import struct
+import subprocess
+import sys
+import tempfile
+
+TOP = os.path.dirname(os.path.dirname(os.path.abspath(__file__)))
+PROGRAM = sys.argv[1] if len(sys.argv) > 1 else os.path.join(TOP, "bin/resb")
+
+
+class Reader:
+    """The tree of a little-endian file of format 1, as uresdata.h has it."""
+
+    def __init__(self, file):
+        self.data = file[struct.unpack_from("<H", file)[0]:]
+
+    def word(self, index):
+        return struct.unpack_from("<I", self.data, 4 * index)[0]
+
+    def key(self, offset):
+        return self.data[offset:self.data.index(b"\0", offset)].decode("ascii")
+
+    def string(self, index):
+        length = self.word(index) if index else 0
+        return list(struct.unpack_from(f"<{length}H", self.data, 4 * index + 4))
+
+    def words(self, index):
+        return [self.word(index + 1 + i) for i in range(self.word(index))] if index else []
+
+    def table(self, index):
+        count = struct.unpack_from("<H", self.data, 4 * index)[0] if index else 0
+        keys = struct.unpack_from(f"<{count}H", self.data, 4 * index + 2)
+        first = index + (count + 2) // 2
+        return {self.key(key): self.item(self.word(first + i)) for i, key in enumerate(keys)}
+
+    def item(self, word):
+        kind, index = word >> 28, word & 0x0FFFFFFF
+        if kind == 0:
+            return ("string", self.string(index))
+        if kind == 1:
+            return ("binary", self.data[4 * index + 4:4 * index + 4 + self.word(index)] if index else b"")
+        if kind == 2:
+            return ("table", self.table(index))
+        if kind == 3:
+            return ("alias", self.string(index))
+        if kind == 4:
+            count = self.word(index)
+            keys = [self.word(index + 1 + i) for i in range(count)]
+            return ("table", {self.key(key): self.item(self.word(index + 1 + count + i)) for i, key in enumerate(keys)})
+        if kind == 7:
+            return ("int", index)
+        if kind == 8:
+            return ("array", [self.item(word) for word in self.words(index)])
+        if kind == 14:
+            return ("intvector", self.words(index))
+        raise ValueError(f"an item of type {kind}")
+
+    def tree(self):
+        return self.item(self.word(0))
+
+
+def contents(path):
+    """What derb prints of a file, without its comments."""
+    folder, name = os.path.split(path)
+    printed = subprocess.run(["derb", "-s", folder, "-c", os.path.splitext(name)[0]], check=True, capture_output=True)
+    return [line for line in printed.stdout.decode().splitlines() if not line.startswith("//")]
+
+
+def compare(text):
+    """The first thing in which the two compilers differ over a text, or None."""
+    with tempfile.TemporaryDirectory() as folder:
+        for name in ("theirs", "ours"):
+            os.mkdir(os.path.join(folder, name))
+        subprocess.run(["genrb", "--formatVersion", "1", "-q", "-d", os.path.join(folder, "theirs"), text], check=True, capture_output=True)
+        theirs = glob.glob(os.path.join(folder, "theirs", "*.res"))[0]
+        with open(theirs, "rb") as file:
+            file_of_genrb = bytearray(file.read())
+        file_of_genrb[17] = 1
+        with open(theirs, "wb") as file:
+            file.write(file_of_genrb)
+        checked = subprocess.run([PROGRAM, "check", theirs], capture_output=True, text=True)
+        if checked.stdout != "ok\n":
+            return f"genrb's file is refused: {checked.stderr.strip()}"
+        ours = os.path.join(folder, "ours", os.path.basename(theirs))
+        subprocess.run([PROGRAM, "compile", text, ours], check=True, capture_output=True)
+        with open(ours, "rb") as file:
+            if Reader(file.read()).tree() != Reader(bytes(file_of_genrb)).tree():
+                return "the trees differ"
+        if contents(ours) != contents(theirs):
+            return "derb prints them differently"
+    return None
+
+
+def main():
+    if not shutil.which("genrb") or not shutil.which("derb"):
+        print("skipped: genrb or derb isn't there")
+        return 0
+    failed = 0
+    for text in sorted(glob.glob(os.path.join(TOP, "examples", "*.txt"))):
+        fault = compare(text)
+        failed += fault is not None
+        print(f"{os.path.basename(text)}: {fault or 'ok'}")
+    return 1 if failed else 0
+
+
+if __name__ == "__main__":
+    sys.exit(main())
