@@ -25,12 +25,20 @@ def keys(count):
     return "root{\n" + "".join(f'key{number * 7919 % count:06}{{"value {number}"}}\n' for number in range(count)) + "}\n"
 
 
-def measured(words, folder):
-    """Seconds of processor time and peak memory in MB."""
-    pid = os.posix_spawn(words[0], words, os.environ, file_actions=[
-        (os.POSIX_SPAWN_OPEN, 1, os.path.join(folder, "log"), os.O_WRONLY | os.O_CREAT | os.O_TRUNC, 0o644)])
-    _, status, used = os.wait4(pid, 0)
-    return used.ru_utime + used.ru_stime, used.ru_maxrss / 1024, os.waitstatus_to_exitcode(status)
+# run by an interpreter of its own, as a child's peak memory is at least that of the process that starts it
+MEASURE = """
+import os, resource, sys
+pid = os.posix_spawn(sys.argv[1], sys.argv[1:], os.environ, file_actions=[(os.POSIX_SPAWN_OPEN, 1, os.devnull, os.O_WRONLY, 0)])
+_, status, used = os.wait4(pid, 0)
+print(used.ru_utime + used.ru_stime, used.ru_maxrss / 1024, os.waitstatus_to_exitcode(status))
+"""
+
+
+def measured(words):
+    """Seconds of processor time, peak memory in MB (no less than some 10, this script's own), and the status."""
+    printed = subprocess.run([sys.executable, "-S", "-c", MEASURE, *words], check=True, capture_output=True, text=True).stdout
+    seconds, memory, status = printed.split()
+    return float(seconds), float(memory), int(status)
 
 
 def main():
@@ -44,14 +52,14 @@ def main():
                 file.write(text)
             size = len(text.encode()) / 1e6
             output = os.path.join(folder, "out.res")
-            seconds, memory, status = measured([PROGRAM, "compile", source, output], folder)
+            seconds, memory, status = measured([PROGRAM, "compile", source, output])
             print(f"{name}, {size:.2f} MB: resb {seconds / size:.3f} s/MB, peak {memory:.0f} MB ({memory / size:.0f} times the text), status {status}")
             if genrb:
-                seconds, memory, status = measured([genrb, "--formatVersion", "1", "-q", "-d", folder, source], folder)
+                seconds, memory, status = measured([genrb, "--formatVersion", "1", "-q", "-d", folder, source])
                 print(f"{name}, {size:.2f} MB: genrb {seconds / size:.3f} s/MB, peak {memory:.0f} MB ({memory / size:.1f} times the text), status {status}")
             if status == 0 or os.path.exists(output):
                 length = os.path.getsize(output) / 1e6
-                seconds, memory, status = measured([PROGRAM, "check", output], folder)
+                seconds, memory, status = measured([PROGRAM, "check", output])
                 print(f"{name}: check {length / max(seconds, 1e-6):.0f} MB/s of {length:.2f} MB, peak {memory:.0f} MB, status {status}")
 
 

@@ -1,4 +1,6 @@
 //! Worked examples: lines with their replies, and the engine's own calls.
+ghost use Rattle.std.specs.Prelude.{None};
+
 use crate::app::{App, AppFault};
 use crate::device::{Failed, Feed, ReadFeed, Sink, WriteSink};
 use crate::engine::Engine;
@@ -287,28 +289,33 @@ fn names_faults(rt: HostRuntime) {
 
 /// A feed that fails, and a sink that does.
 #[derive(Drop)]
-struct Broken;
+struct Broken {
+    failed: u64,
+}
 
 impl Feed for Broken {
-    ghost left = { λ _. None };
+    ghost left = { λ b. None };
 
-    ghost faults = { λ _. 2 ^ 64 - 1 };
+    ghost faults = { λ b. b.failed };
 
     fn pull(&mut self) -> Result<Option<u8>, Failed> {
+        self.failed = self.failed.saturating_add(1);
         Err(Failed)
     }
 }
 
 impl Sink for Broken {
-    ghost written = { λ _. None };
+    ghost written = { λ b. None };
 
-    ghost faults = { λ _. 2 ^ 64 - 1 };
+    ghost faults = { λ b. b.failed };
 
     fn put(&mut self, _bytes: &[u8]) -> Result<usize, Failed> {
+        self.failed = self.failed.saturating_add(1);
         Err(Failed)
     }
 
     fn settle(&mut self) -> Result<(), Failed> {
+        self.failed = self.failed.saturating_add(1);
         Err(Failed)
     }
 }
@@ -321,12 +328,12 @@ fn tells_of_failing_devices(rt: HostRuntime) {
     let read = serve(
         alloc,
         &mut engine,
-        &mut Broken,
+        &mut Broken { failed: 0 },
         &mut WriteSink::new(&mut written),
         9,
     );
     assert_eq!(rt; read.err(), Some(ServeFault::Read));
     let mut feed = ReadFeed::new(b"x\n".as_slice());
-    let write = serve(alloc, &mut engine, &mut feed, &mut Broken, 9);
+    let write = serve(alloc, &mut engine, &mut feed, &mut Broken { failed: 0 }, 9);
     assert_eq!(rt; write.err(), Some(ServeFault::Write));
 }
