@@ -52,12 +52,14 @@ def main():
                 file.write(text)
             size = len(text.encode()) / 1e6
             output = os.path.join(folder, "out.res")
-            seconds, memory, status = measured([PROGRAM, "compile", source, output])
-            print(f"{name}, {size:.2f} MB: resb {seconds / size:.3f} s/MB, peak {memory:.0f} MB ({memory / size:.0f} times the text), status {status}")
+            if os.path.exists(output):
+                os.remove(output)
+            seconds, memory, compiled = measured([PROGRAM, "compile", source, output])
+            print(f"{name}, {size:.2f} MB: resb {seconds / size:.3f} s/MB, peak {memory:.0f} MB ({memory / size:.0f} times the text), status {compiled}")
             if genrb:
                 seconds, memory, status = measured([genrb, "--formatVersion", "1", "-q", "-d", folder, source])
                 print(f"{name}, {size:.2f} MB: genrb {seconds / size:.3f} s/MB, peak {memory:.0f} MB ({memory / size:.1f} times the text), status {status}")
-            if status == 0 or os.path.exists(output):
+            if compiled == 0:
                 length = os.path.getsize(output) / 1e6
                 seconds, memory, status = measured([PROGRAM, "check", output])
                 print(f"{name}: check {length / max(seconds, 1e-6):.0f} MB/s of {length:.2f} MB, peak {memory:.0f} MB, status {status}")

@@ -1,6 +1,6 @@
 //! Files, read and written whole.
 use rb_format::FILE_LIMIT;
-use std::fs::File;
+use std::fs::OpenFile;
 use std::io::{ErrorKind, Read, Write};
 use std::process::ExitCode;
 use std::rt::Files;
@@ -15,11 +15,13 @@ pub fn read_file<R: Files + AllocGlobal>(rt: &R, name: &str) -> io::Result<Vec<u
     Ok(bytes)
 }
 
-/// Writes a file. Where that fails once the file is there, the half of it is taken away again.
+/// Writes a file. Where that fails once the file is there, the half of it is taken away again; a device stays.
 pub fn write_file<R: Files + AllocGlobal>(rt: &R, name: &str, bytes: &[u8]) -> io::Result<()> {
-    let mut file = File::create(rt, name)?;
+    let mut file = fs::create(rt, name)?;
     let written = file.write_all(bytes);
-    if written.is_err() {
+    if written.is_err() && file.metadata().is_ok_and(|told| told.is_file()) {
+        // where the name is a link, what it leads to is emptied
+        let _ = file.set_len(0);
         let _ = fs::remove_file(rt, name);
     }
     written

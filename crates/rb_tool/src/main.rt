@@ -5,6 +5,8 @@ mod command_line;
 mod compile;
 mod files;
 mod serve;
+#[cfg(test)]
+mod tests;
 
 use crate::command_line::commands;
 use clap::ArgMatches;

@@ -1,0 +1,270 @@
+//! A runtime for tests: files in memory on a disk of a given size, and what is printed.
+use std::alloc::{Allocator, Global};
+use std::cell::RefCell;
+use std::fmt::Display;
+use std::fs::{Metadata, OpenFile, OpenOptions};
+use std::io;
+use std::io::{ErrorKind, Read, Seek, SeekFrom, Write};
+use std::rc::Rc;
+use std::rt::Files;
+
+/// Bytes that all openings of a file share.
+type Bytes = Rc<RefCell<Vec<u8>>>;
+
+/// A file that is open.
+#[derive(Drop)]
+pub struct Paper {
+    bytes: Bytes,
+    at: usize,
+    room: usize,
+    is_device: bool,
+}
+
+impl Read for Paper {
+    fn read(&mut self, buf: &mut [u8]) -> io::Result<usize> {
+        let Ok(bytes) = self.bytes.try_borrow() else {
+            return Err(io::Error::from(ErrorKind::ResourceBusy));
+        };
+        let rest = bytes.get(self.at..).unwrap_or(&[]);
+        let count = rest.len().min(buf.len());
+        buf[..count].copy_from_slice(&rest[..count]);
+        self.at = self.at.saturating_add(count);
+        Ok(count)
+    }
+}
+
+impl Write for Paper {
+    fn write(&mut self, buf: &[u8]) -> io::Result<usize> {
+        let Ok(mut bytes) = self.bytes.try_borrow_mut() else {
+            return Err(io::Error::from(ErrorKind::ResourceBusy));
+        };
+        let count = self.room.saturating_sub(bytes.len()).min(buf.len());
+        if count == 0 && !buf.is_empty() {
+            return Err(io::Error::from(ErrorKind::StorageFull));
+        }
+        bytes.extend_from_slice(&buf[..count])?;
+        Ok(count)
+    }
+
+    fn flush(&mut self) -> io::Result<()> {
+        Ok(())
+    }
+}
+
+impl Seek for Paper {
+    fn seek(&mut self, _to: SeekFrom) -> io::Result<u64> {
+        Err(io::Error::from(ErrorKind::Unsupported))
+    }
+}
+
+impl OpenFile for Paper {
+    fn metadata(&self) -> io::Result<Metadata> {
+        if self.is_device {
+            return Err(io::Error::from(ErrorKind::Unsupported));
+        }
+        match self.bytes.try_borrow() {
+            Ok(bytes) => Ok(Metadata::of_file(bytes.len() as u64)),
+            Err(_) => Err(io::Error::from(ErrorKind::ResourceBusy)),
+        }
+    }
+
+    fn set_len(&self, size: u64) -> io::Result<()> {
+        if let Ok(mut bytes) = self.bytes.try_borrow_mut() {
+            bytes.truncate(size as usize);
+        }
+        Ok(())
+    }
+
+    fn sync_all(&self) -> io::Result<()> {
+        Ok(())
+    }
+
+    fn sync_data(&self) -> io::Result<()> {
+        Ok(())
+    }
+}
+
+/// A desk with files, a disk that takes `room` bytes a file, and what was printed. Files below `/dev/` are devices.
+#[derive(Drop)]
+pub struct Desk {
+    alloc: Global,
+    room: usize,
+    files: RefCell<Vec<(String, Bytes)>>,
+    output: RefCell<String>,
+    errors: RefCell<String>,
+}
+
+impl Desk {
+    pub fn new(alloc: Global, room: usize) -> Desk {
+        Desk {
+            alloc,
+            room,
+            files: RefCell::new(Vec::new(alloc)),
+            output: RefCell::new(String::new(alloc)),
+            errors: RefCell::new(String::new(alloc)),
+        }
+    }
+
+    /// Where a file stands.
+    fn find(&self, path: &str) -> Option<usize> {
+        match self.files.try_borrow() {
+            Ok(files) => files.iter().position(|file| file.0.as_str() == path),
+            Err(_) => None,
+        }
+    }
+
+    /// A file's bytes, shared.
+    fn shared(&self, path: &str) -> Option<Bytes> {
+        let files = self.files.try_borrow().ok()?;
+        let file = files.iter().find(|file| file.0.as_str() == path)?;
+        file.1.clone().ok()
+    }
+
+    /// Puts a file on the desk.
+    pub fn put(&self, path: &str, bytes: &[u8]) -> io::Result<Bytes> {
+        let held = Rc::new(self.alloc, RefCell::new(bytes.to_vec(self.alloc)?))?;
+        let Ok(mut files) = self.files.try_borrow_mut() else {
+            return Err(io::Error::from(ErrorKind::ResourceBusy));
+        };
+        let name = String::from_str(self.alloc, path)?;
+        if files.push((name, held.clone()?)).is_err() {
+            return Err(io::Error::from(ErrorKind::OutOfMemory));
+        }
+        Ok(held)
+    }
+
+    /// A file's bytes, copied.
+    pub fn bytes(&self, path: &str) -> Option<Vec<u8>> {
+        let shared = self.shared(path)?;
+        let bytes = shared.try_borrow().ok()?;
+        bytes.to_vec(self.alloc).ok()
+    }
+
+    /// What was printed to standard output since the last call.
+    pub fn output(&self) -> String {
+        self.output
+            .try_replace(String::new(self.alloc))
+            .unwrap_or(String::new(self.alloc))
+    }
+
+    /// What was printed to standard error since the last call.
+    pub fn errors(&self) -> String {
+        self.errors
+            .try_replace(String::new(self.alloc))
+            .unwrap_or(String::new(self.alloc))
+    }
+
+    fn say<D: Display + Drop>(
+        &self,
+        said: &RefCell<String>,
+        value: D,
+        end: &str,
+    ) -> io::Result<()> {
+        let text = format!(in self.alloc; "{value}{end}")?;
+        match said.try_borrow_mut() {
+            Ok(mut said) => Ok(said.push_str(text.as_str())?),
+            Err(_) => Err(io::Error::from(ErrorKind::ResourceBusy)),
+        }
+    }
+}
+
+impl Alloc for Desk {
+    type A = Global;
+
+    fn alloc(&self) -> Global {
+        self.alloc
+    }
+}
+
+impl Print for Desk {
+    fn print<D: Display + Drop>(&self, value: D) -> io::Result<()> {
+        self.say(&self.output, value, "")
+    }
+
+    fn println<D: Display + Drop>(&self, value: D) -> io::Result<()> {
+        self.say(&self.output, value, "\n")
+    }
+
+    fn write_all(&self, _bytes: &[u8]) -> io::Result<()> {
+        Err(io::Error::from(ErrorKind::Unsupported))
+    }
+}
+
+impl Eprint for Desk {
+    fn eprint<D: Display + Drop>(&self, value: D) -> io::Result<()> {
+        self.say(&self.errors, value, "")
+    }
+
+    fn eprintln<D: Display + Drop>(&self, value: D) -> io::Result<()> {
+        self.say(&self.errors, value, "\n")
+    }
+}
+
+impl Files for Desk {
+    type File = Paper;
+
+    type Dir = Paper;
+
+    fn open_file(&self, how: &OpenOptions, path: &str) -> io::Result<Paper> {
+        how.check()?;
+        let bytes = match self.shared(path) {
+            Some(bytes) => bytes,
+            None if how.asks_create() => self.put(path, &[])?,
+            None => return Err(io::Error::from(ErrorKind::NotFound)),
+        };
+        let paper = Paper {
+            bytes,
+            at: 0,
+            room: self.room,
+            is_device: path.starts_with("/dev/"),
+        };
+        if how.asks_truncate() {
+            paper.set_len(0)?;
+        }
+        Ok(paper)
+    }
+
+    fn open_dir(&self, _path: &str) -> io::Result<Paper> {
+        Err(io::Error::from(ErrorKind::Unsupported))
+    }
+
+    fn metadata(&self, _path: &str) -> io::Result<Metadata> {
+        Err(io::Error::from(ErrorKind::Unsupported))
+    }
+
+    fn symlink_metadata(&self, _path: &str) -> io::Result<Metadata> {
+        Err(io::Error::from(ErrorKind::Unsupported))
+    }
+
+    fn copy(&self, _from: &str, _to: &str) -> io::Result<u64> {
+        Err(io::Error::from(ErrorKind::Unsupported))
+    }
+
+    fn rename(&self, _from: &str, _to: &str) -> io::Result<()> {
+        Err(io::Error::from(ErrorKind::Unsupported))
+    }
+
+    fn remove_file(&self, path: &str) -> io::Result<()> {
+        let Some(i) = self.find(path) else {
+            return Err(io::Error::from(ErrorKind::NotFound));
+        };
+        if let Ok(mut files) = self.files.try_borrow_mut() {
+            if i < files.len() {
+                let _ = files.remove(i);
+            }
+        }
+        Ok(())
+    }
+
+    fn create_dir(&self, _path: &str) -> io::Result<()> {
+        Err(io::Error::from(ErrorKind::Unsupported))
+    }
+
+    fn remove_dir(&self, _path: &str) -> io::Result<()> {
+        Err(io::Error::from(ErrorKind::Unsupported))
+    }
+
+    fn remove_dir_all<B: Allocator>(&self, _alloc: B, _path: &str) -> io::Result<()> {
+        Err(io::Error::from(ErrorKind::Unsupported))
+    }
+}
