@@ -1,4 +1,4 @@
--- The parts of a tree.
+-- The parts of a tree, by the kinds of resources of `uresdata.h`. The limits of height and weight are a rule of this project.
 use Rattle.std.specs.Prelude.{◌≡◌, ◌≤◌, ℕ, ℤ, List, [], length, Option, nat_eq}
 use Rattle.rb_tree.specs.declared.kind.Kind.{Kind}
 use Rattle.rb_tree.specs.declared.kind.Kind.TheVariants as kind
