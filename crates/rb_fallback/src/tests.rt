@@ -100,6 +100,7 @@ fn answer(
 #[test]
 fn trails_are_looked_up(rt: HostRuntime) -> Result<(), Fail> {
     let alloc = rt.alloc();
+    let parents = Parents::none(alloc);
     let own = bundles(
         alloc,
         &[
@@ -109,44 +110,88 @@ fn trails_are_looked_up(rt: HostRuntime) -> Result<(), Fail> {
                 b"O".as_slice(),
             ),
             (b"de", b"menu/close", b"C"),
-            (b"en_GB", b"%%Parent", b"en_001"),
-            (b"en_001", b"x", b"1"),
-            (b"en", b"x", b"E"),
-            (b"zh", b"x", b"Z"),
             (b"root", b"x", b"R"),
-            (b"iw", b"%%ALIAS", b"he"),
-            (b"he", b"x", b"H"),
-            (b"xc", b"%%Parent", b"?"),
-            (b"xe", b"%%ALIAS", b"xe"),
             (b"xd", b"%%Parent", b""),
+            (b"de_CH", b"%%Parent", b""),
+            (b"xe", b"%%ALIAS", b"xe"),
+            (b"xt", b"%%Parent/a", b"de"),
         ],
     )?;
-    let rows: [(&[u8], &[u8], &[u8]); 16] = [
+    let rows: [(&[u8], &[u8], &[u8]); 14] = [
         (b"de_AT", b"menu/close", b"C de/de_AT"),
         (b"de-at", b"menu/open", b"O de_AT/de_AT"),
         (b"de", b"menu/open", b"Missing"),
         (b"de", b"", b" de/de"),
-        (b"en_GB", b"x", b"1 en_001/en_GB"),
-        (b"zh_Hant_TW", b"x", b"R root/root"),
-        (b"iw_IL", b"x", b"H he/he"),
-        (b"xc", b"k", b"BadParent"),
-        (b"xc", b"%%Parent", b"BadParent"),
-        (b"xe", b"x", b"Chain"),
+        (b"fr", b"x", b"R root/root"),
         (b"xd", b"x", b"R root/xd"),
         (b"xd", b"%%Parent", b" xd/xd"),
-        (b"fr", b"x", b"R root/root"),
+        (b"de_CH", b"menu/close", b"Missing"),
+        (b"xe", b"x", b"Chain"),
+        // A table at `%%Parent` isn't looked at, and is an ordinary item.
+        (b"xt", b"menu/close", b"Missing"),
+        (b"xt", b"%%Parent/a", b"de xt/xt"),
         (b"de", b"a//b", b"BadPath"),
         (b"de", b"/", b"BadPath"),
         (b"de", b"\x7F", b"BadPath"),
     ];
-    let locales = branch(alloc, b"parentLocales/root", b"zh_Hant")?;
-    let parents = Parents::read(alloc, &locales).map_err(|fault| fault.word())?;
     for (from, path, want) in rows {
         let found = answer(alloc, own.as_slice(), &[], &parents, from, path)?;
         assert!(rt; found.as_slice() == want, "from {:?}", from);
     }
     let found = answer(alloc, &[], &[], &parents, b"de", b"x")?;
     assert!(rt; found.as_slice() == b"NoBundle".as_slice());
+    Ok(())
+}
+
+#[test]
+fn bundles_come_before_explicit_parents(rt: HostRuntime) -> Result<(), Fail> {
+    let alloc = rt.alloc();
+    let entries = vec![in alloc;
+        (b"en".as_slice(), leaf(alloc, b"en_GB")?),
+        (b"root".as_slice(), leaf(alloc, b"zh_Hant")?),
+    ]?;
+    let locales = table(alloc, entries)?;
+    let tree = table(
+        alloc,
+        vec![in alloc; (b"parentLocales".as_slice(), locales)]?,
+    )?;
+    let parents = Parents::read(alloc, &tree).map_err(|fault| fault.word())?;
+    let mut own = bundles(
+        alloc,
+        &[
+            (
+                b"en_GB".as_slice(),
+                b"%%Parent".as_slice(),
+                b"en_001".as_slice(),
+            ),
+            (b"en_001", b"x", b"1"),
+            (b"en", b"x", b"E"),
+            (b"zh", b"x", b"Z"),
+            (b"root", b"x", b"R"),
+            (b"iw", b"%%ALIAS", b"he"),
+            (b"he", b"x", b"H"),
+            (b"xb", b"%%Parent", b"xa"),
+        ],
+    )?;
+    // The item stands in the first bundle already, and yet the trail's fault is the answer.
+    for (locale, next) in [(b"xa".as_slice(), b"xb".as_slice()), (b"xc", b"?")] {
+        let entries = vec![in alloc;
+            (b"%%Parent".as_slice(), leaf(alloc, next)?),
+            (b"k".as_slice(), leaf(alloc, b"K")?),
+        ]?;
+        own.push((name(locale)?, table(alloc, entries)?))?;
+    }
+    let rows: [(&[u8], &[u8], &[u8]); 5] = [
+        (b"en_GB", b"x", b"1 en_001/en_GB"),
+        (b"zh_Hant_TW", b"x", b"R root/root"),
+        (b"iw_IL", b"x", b"H he/he"),
+        (b"xa", b"k", b"Chain"),
+        (b"xc", b"k", b"BadParent"),
+    ];
+    for (from, path, want) in rows {
+        let found = answer(alloc, own.as_slice(), &[], &parents, from, path)?;
+        assert!(rt; found.as_slice() == want, "from {:?}", from);
+    }
     Ok(())
 }
 
@@ -266,22 +311,20 @@ fn limits_are_met(rt: HostRuntime) -> Result<(), Fail> {
 }
 
 #[test]
-fn trails_come_before_walks(rt: HostRuntime) -> Result<(), Fail> {
+fn trails_have_32_names(rt: HostRuntime) -> Result<(), Fail> {
     let alloc = rt.alloc();
     let parents = Parents::none(alloc);
     let mut own = bundles(
         alloc,
         &[
-            (b"xb".as_slice(), b"%%Parent".as_slice(), b"xa".as_slice()),
-            (b"qq_31", b"%%Parent", b"root"),
+            (
+                b"qq_31".as_slice(),
+                b"%%Parent".as_slice(),
+                b"root".as_slice(),
+            ),
             (b"root", b"x", b"R"),
         ],
     )?;
-    let cycle = vec![in alloc;
-        (b"%%Parent".as_slice(), leaf(alloc, b"xb")?),
-        (b"k".as_slice(), leaf(alloc, b"K")?),
-    ]?;
-    own.push((name(b"xa")?, table(alloc, cycle)?))?;
     for i in 0..31u8 {
         let at = format!(in alloc; "qq_{i}")?;
         let next = format!(in alloc; "qq_{}", i + 1)?;
@@ -290,13 +333,9 @@ fn trails_come_before_walks(rt: HostRuntime) -> Result<(), Fail> {
             branch(alloc, b"%%Parent", next.as_bytes())?,
         ))?;
     }
-    let rows: [(&[u8], &[u8], &[u8]); 3] = [
-        (b"xa", b"k", b"Chain"),
-        (b"qq_1", b"x", b"R root/qq_1"),
-        (b"qq_0", b"x", b"Chain"),
-    ];
-    for (from, path, want) in rows {
-        let found = answer(alloc, own.as_slice(), &[], &parents, from, path)?;
+    let rows: [(&[u8], &[u8]); 2] = [(b"qq_1", b"R root/qq_1"), (b"qq_0", b"Chain")];
+    for (from, want) in rows {
+        let found = answer(alloc, own.as_slice(), &[], &parents, from, b"x")?;
         assert!(rt; found.as_slice() == want);
     }
     Ok(())

@@ -188,6 +188,7 @@ fn trails_follow_bundles_and_parents(rt: HostRuntime) -> Result<(), Fail> {
         bundle(alloc, b"iw", b"%%ALIAS", b"he")?,
         bundle(alloc, b"he", b"x", b"H")?,
         bundle(alloc, b"xd", b"%%Parent", b"")?,
+        bundle(alloc, b"en_IE", b"%%Parent", b"")?,
         bundle(alloc, b"de", b"x", b"D")?,
         bundle(alloc, b"de", b"%%ALIAS", b"fr")?,
     ]?;
@@ -220,6 +221,15 @@ fn trails_follow_bundles_and_parents(rt: HostRuntime) -> Result<(), Fail> {
         )
     );
     assert!(rt; is_trail(shelf, &parents, b"xd", &[b"xd".as_slice(), b"root"], &[0]));
+    assert!(rt;
+        is_trail(
+            shelf,
+            &parents,
+            b"en_IE",
+            &[b"en_IE".as_slice(), b"root"],
+            &[0]
+        )
+    );
     // Of two bundles with one name the first counts.
     assert!(rt; is_trail(shelf, &parents, b"de", &[b"de".as_slice(), b"root"], &[0]));
     let first = ListShelf { pairs: shelf }
@@ -280,8 +290,17 @@ fn trails_are_refused(rt: HostRuntime) -> Result<(), Fail> {
 fn a_root_with_a_parent_has_no_end(rt: HostRuntime) -> Result<(), Fail> {
     let alloc = rt.alloc();
     let parents = Parents::none(alloc);
-    let pairs = vec![in alloc; bundle(alloc, b"root", b"%%Parent", b"de")?]?;
-    assert!(rt; trail_word(pairs.as_slice(), &parents, b"root") == "Chain");
+    for key in [b"%%Parent".as_slice(), b"%%ALIAS"] {
+        let root = vec![in alloc; bundle(alloc, b"root", key, b"de")?]?;
+        assert!(rt; trail_word(root.as_slice(), &parents, b"root") == "Chain");
+        // The name behind the root is `de`: what stands there is met.
+        let both = vec![in alloc;
+            bundle(alloc, b"root", key, b"de")?,
+            bundle(alloc, b"de", b"%%Parent", b"?")?,
+        ]?;
+        assert!(rt; trail_word(both.as_slice(), &parents, b"root") == "BadParent");
+        assert!(rt; trail_word(both.as_slice(), &parents, b"fr") == "BadParent");
+    }
     let inner = table(
         alloc,
         vec![in alloc; (b"a".as_slice(), string(alloc, b"de")?)]?,
