@@ -1,4 +1,4 @@
--- For proofs and for what is private. An engine as a value: its start, and the bundles of all applications in one list.
+-- What an engine is seen as: its start, and the bundles of all applications in one list.
 use Rattle.std.specs.Prelude.{ℕ, Bool, List, [], ◌∷◌, map, filter, if◌then◌else◌, Option}
 use Rattle.std.specs.List.{position_from}
 use Rattle.std.specs.Str.{bytes_eq}

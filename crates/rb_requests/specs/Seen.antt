@@ -1,4 +1,4 @@
--- For what is private. What a look-up answers, as what the application is told.
+-- What an answer of a look-up is seen as: what the application is told.
 use Rattle.std.specs.Prelude.{ℕ, List, Result, Ok, Err}
 use Rattle.rb_tree.specs.Resource.{Resource}
 use Rattle.rb_requests.specs.Answer.{Told, Finds, Refuses}

@@ -1,5 +1,5 @@
 -- For what is private. How a line is taken from what is left.
-use Rattle.std.specs.Prelude.{◌≡◌, ℕ, List, [], ◌∷◌, ◌++◌, ◌==◌, if◌then◌else◌, ⊤, Option, Some, None}
+use Rattle.std.specs.Prelude.{◌≡◌, ◌<◌, length, ℕ, List, [], ◌∷◌, ◌++◌, ◌==◌, if◌then◌else◌, ⊤, Option, Some, None}
 
 -- the next line, of which the front is read already, with what is left after it
 abbrev pub next_line : List ℕ → List ℕ → Option (List ℕ × List ℕ)
@@ -19,6 +19,11 @@ TakesLine None new line = ⊤
 TakesLine (Some xs) None line = ⊥
 TakesLine (Some xs) (Some ys) None = (xs ≡ []) × (ys ≡ [])
 TakesLine (Some xs) (Some ys) (Some line) = next_line [] xs ≡ Some (line, ys)
+
+-- a byte was left
+abbrev pub IsLeft : Option (List ℕ) → Type 0
+IsLeft None = ⊤
+IsLeft (Some xs) = 0 < length xs
 
 -- nothing was left, and nothing is
 abbrev pub TakesEnd : Option (List ℕ) → Option (List ℕ) → Type 0

@@ -1,10 +1,11 @@
 //! Requests and replies by the line.
-ghost use Rattle.std.specs.Prelude.{◌≡◌, ◌≤◌, IfOk, OnOk, option_map, length, drop, []};
+ghost use Rattle.std.specs.Prelude.{◌≡◌, ◌≢◌, ◌≤◌, Err, IfOk, OnOk, option_map, length, drop, []};
 ghost use Rattle.std.specs.Io.KnownBytes.{Appends};
 ghost use Rattle.rb_requests.specs.Rows.{state_of};
 ghost use Rattle.rb_requests.specs.Lines.{AnswersLine};
-ghost use Rattle.rb_requests.specs.Taken.{TakesLine, TakesEnd, next_line};
-ghost use Rattle.rb_requests.specs.Served.{AnswersAll, Wrote};
+ghost use Rattle.rb_requests.specs.Taken.{TakesLine, TakesEnd, IsLeft, next_line};
+ghost use Rattle.rb_requests.specs.Served.{AnswersAll, AnswersFirst, Wrote};
+ghost use Rattle.rb_requests.specs.declared.lines.ServeFault.TheVariants as faults;
 ghost use Rattle.rb_requests.specs.Words.{serve_word};
 
 use crate::answer::reply_of;
@@ -57,7 +58,8 @@ pub struct Served {
 
 /// The next line, without its line feed. The byte past the limit is read, and no more.
 fn read_line<F: Feed>(alloc: Global, feed: &mut F) -> Result<Option<Vec<u8>>, ServeFault>
-    ensures { IfOk result (λ line. TakesLine (F.left feed.old) (F.left feed.new) (option_map (λ v. v.items) line)) }
+    ensures line { IfOk result (λ line. TakesLine (F.left feed.old) (F.left feed.new) (option_map (λ v. v.items) line)) }
+    ensures fault { result ≢ Err faults.LineLimit }
 {
     let mut line = Vec::new(alloc);
     'bytes: for _ in 0..LINE_LIMIT + 1 {
@@ -89,9 +91,10 @@ fn last_line(line: Vec<u8>) -> Option<Vec<u8>>
 }
 
 /// Whether the input is at its end. Of an input that isn't, a byte is read.
-#[tactic(auto, using(crate::proofs::Serving::ended))]
+#[tactic(auto, using(crate::proofs::Serving::ended, crate::proofs::Serving::left_over))]
 fn at_end<F: Feed>(feed: &mut F) -> Result<(), ServeFault>
-    ensures { OnOk result (TakesEnd (F.left feed.old) (F.left feed.new)) }
+    ensures end { OnOk result (TakesEnd (F.left feed.old) (F.left feed.new)) }
+    ensures more { result ≡ Err faults.LineLimit → IsLeft (F.left feed.old) }
 {
     match feed.pull() {
         Ok(None) => Ok(()),
@@ -103,7 +106,8 @@ fn at_end<F: Feed>(feed: &mut F) -> Result<(), ServeFault>
 /// Writes bytes, whatever pieces the sink takes.
 #[tactic(auto, using(crate::proofs::Putting::at_first))]
 fn put_all<S: Sink>(sink: &mut S, bytes: &[u8]) -> Result<(), ServeFault>
-    ensures { OnOk result (Appends (S.written sink.old) (S.written sink.new) bytes.now) }
+    ensures bytes { OnOk result (Appends (S.written sink.old) (S.written sink.new) bytes.now) }
+    ensures fault { result ≢ Err faults.LineLimit }
 {
     let mut rest = bytes;
     while !rest.is_empty() {
@@ -125,7 +129,8 @@ fn after(bytes: &[u8], n: usize) -> &[u8]
 /// Writes a reply, and settles.
 #[tactic(auto, using(crate::proofs::Serving::settled))]
 fn put_reply<S: Sink>(sink: &mut S, reply: &[u8]) -> Result<(), ServeFault>
-    ensures { OnOk result (Appends (S.written sink.old) (S.written sink.new) reply.now) }
+    ensures bytes { OnOk result (Appends (S.written sink.old) (S.written sink.new) reply.now) }
+    ensures fault { result ≢ Err faults.LineLimit }
 {
     put_all(sink, reply)?;
     match sink.settle() {
@@ -141,7 +146,8 @@ fn serve_line<S: Sink>(
     sink: &mut S,
     line: &[u8],
 ) -> Result<(), ServeFault>
-    ensures { OnOk result (Wrote (state_of engine.old) line.now (S.written sink.old) (S.written sink.new) (state_of engine.new)) }
+    ensures line { OnOk result (Wrote (state_of engine.old) line.now (S.written sink.old) (S.written sink.new) (state_of engine.new)) }
+    ensures fault { result ≢ Err faults.LineLimit }
 {
     let reply = match reply_of(alloc, engine, line) {
         Ok(reply) => reply,
@@ -156,7 +162,7 @@ fn serve_line<S: Sink>(
 /// the reader or the writer fails, `LineLimit` where a byte follows `max_lines` lines, `LineTooLong` at the byte past the
 /// longest line, and `Memory` where memory is wanting for a line. At `Write` the line's request has taken effect, at `Memory`
 /// it may have, and the lines before it have in any case.
-#[tactic(auto, using(crate::proofs::Serving::at_first, crate::proofs::Serving::all_read))]
+#[tactic(auto, using(crate::proofs::Serving::at_first, crate::proofs::Serving::all_read, crate::proofs::Serving::stopped))]
 pub fn serve<F: Feed, S: Sink>(
     alloc: Global,
     engine: &mut Engine,
@@ -168,6 +174,9 @@ pub fn serve<F: Feed, S: Sink>(
     ensures all { IfOk result (λ served. AnswersAll (state_of engine.old) (state_of engine.new)
         (F.left feed.old) (F.left feed.new) (S.written sink.old) (S.written sink.new) served.lines) }
     ensures most { IfOk result (λ served. served.lines ≤ max_lines) }
+    // The first max_lines lines are answered, others follow, and no other has taken effect.
+    ensures limit { result ≡ Err faults.LineLimit → AnswersFirst (state_of engine.old) (state_of engine.new)
+        (F.left feed.old) (S.written sink.old) (S.written sink.new) max_lines }
 {
     'lines: for lines in 0..max_lines {
         let Some(line) = read_line(alloc, feed)? else {

@@ -138,7 +138,7 @@ pub enum LookFault {
     Chain,
     /// A text at `%%ALIAS` or `%%Parent` is no name.
     BadParent,
-    /// No name of the trail has a bundle.
+    /// No name of the trail is a stop: none has a bundle without a text at `%%ALIAS`.
     NoBundle,
     /// No bundle of the trail has the item.
     Missing,

@@ -6,8 +6,10 @@ use crate::device::{Failed, Feed, ReadFeed, Sink, WriteSink};
 use crate::engine::Engine;
 use crate::lines::{ServeFault, serve};
 use crate::request::{LookFault, Payload, Reply, Request};
-use rb_tree::{ByteList, Kind, Node};
+use rb_tree::ByteList;
 use std::alloc::Global;
+use std::io;
+use std::io::{ErrorKind, Write};
 use std::test::Fail;
 
 /// What an engine writes for some lines, and how serving ended.
@@ -28,9 +30,9 @@ fn served(
 }
 
 /// Lines with their replies, one engine for all.
-const LINES: [(&str, &str); 29] = [
+const LINES: [(&str, &str); 31] = [
     (
-        "{\"op\":\"install\",\"app\":\"shop\",\"locale\":\"de\",\"text\":\"de{hello{\\\"Hallo\\\"}}\"}",
+        "{\"op\":\"install\",\"app\":\"shop\",\"locale\":\"de\",\"text\":\"de{hello{\\\"Hallo\\\"} menu{close{\\\"C\\\"}}}\"}",
         "{\"ok\":true}",
     ),
     (
@@ -64,6 +66,14 @@ const LINES: [(&str, &str); 29] = [
     (
         "{\"op\":\"install\",\"app\":\"shop\",\"locale\":\"de-at\",\"text\":\"de_AT{menu{open{\\\"O\\\"}}}\"}",
         "{\"ok\":true}",
+    ),
+    (
+        "{\"op\":\"look\",\"app\":\"shop\",\"locale\":\"de-at\",\"path\":\"menu/close\"}",
+        "{\"actual\":\"de\",\"type\":\"string\",\"valid\":\"de_AT\",\"value\":\"C\"}",
+    ),
+    (
+        "{\"op\":\"look\",\"app\":\"shop\",\"locale\":\"de_AT\",\"path\":\"menu/open\"}",
+        "{\"actual\":\"de_AT\",\"type\":\"string\",\"valid\":\"de_AT\",\"value\":\"O\"}",
     ),
     (
         "{\"op\":\"look\",\"app\":\"shop\",\"locale\":\"de-at\",\"path\":\"hello\"}",
@@ -208,6 +218,48 @@ fn install(alloc: Global, app: &[u8], locale: &[u8], text: &[u8]) -> Result<Requ
     })
 }
 
+/// Why a look-up finds nothing.
+fn refusal(engine: &Engine, app: &[u8], locale: &[u8], path: &[u8]) -> Option<LookFault> {
+    match engine.look(app, locale, path) {
+        Ok(_) => None,
+        Err(fault) => Some(fault),
+    }
+}
+
+#[test]
+fn limits_paths(rt: HostRuntime) -> Result<(), Fail> {
+    let alloc = rt.alloc();
+    let mut engine = Engine::start(alloc);
+    let reply = engine.handle(
+        alloc,
+        install(alloc, b"shop", b"de", b"de{hello{\"Hallo\"}}")?,
+    );
+    assert_eq!(rt; reply.word(), "Done");
+    let letters = [b'a'; 1025];
+    assert_eq!(rt;
+        refusal(&engine, b"shop", b"de", &letters),
+        Some(LookFault::PathTooLong)
+    );
+    assert_eq!(rt;
+        refusal(&engine, b"shop", b"de", &letters[..1024]),
+        Some(LookFault::Missing)
+    );
+    Ok(())
+}
+
+#[test]
+fn refuses_a_file_cut_short(rt: HostRuntime) -> Result<(), Fail> {
+    let alloc = rt.alloc();
+    let mut engine = Engine::start(alloc);
+    let line = format!(in alloc;
+        "{{\"op\":\"install\",\"app\":\"shop\",\"locale\":\"root\",\"file\":\"{}\"}}",
+        SAMPLE.get(..150).unwrap_or("")
+    )?;
+    let (written, _) = served(alloc, &mut engine, line.as_bytes(), 1)?;
+    assert_eq!(rt; written.as_str(), "{\"error\":\"BadFile\"}\n");
+    Ok(())
+}
+
 /// The file of a bundle `root` with the string `b` at `a`.
 const SAMPLE: &str =
     "2000da27140000000000020052657342010100000000000000000000000000000900002005000000070000000b0000000b000000010000006100aaaa01000000620000000100180007000000";
@@ -221,16 +273,16 @@ fn takes_files(rt: HostRuntime) -> Result<(), Fail> {
     )?;
     let (written, _) = served(alloc, &mut engine, line.as_bytes(), 1)?;
     assert_eq!(rt; written.as_str(), "{\"ok\":true}\n");
-    let found = match engine.look(b"shop", b"root", b"a") {
-        Ok(found) => found.node.kind() == Kind::String && found.node.len() == 1,
-        Err(_) => false,
-    };
-    assert!(rt; found);
-    let fault = match engine.look(b"bank", b"root", b"a") {
-        Ok(_) => None,
-        Err(fault) => Some(fault),
-    };
-    assert_eq!(rt; fault, Some(LookFault::NoBundle));
+    let look = b"{\"op\":\"look\",\"app\":\"shop\",\"locale\":\"root\",\"path\":\"a\"}";
+    let (written, _) = served(alloc, &mut engine, look, 1)?;
+    assert_eq!(rt;
+        written.as_str(),
+        "{\"actual\":\"root\",\"type\":\"string\",\"valid\":\"root\",\"value\":\"b\"}\n"
+    );
+    assert_eq!(rt;
+        refusal(&engine, b"bank", b"root", b"a"),
+        Some(LookFault::NoBundle)
+    );
     Ok(())
 }
 
@@ -320,6 +372,20 @@ impl Sink for Broken {
     }
 }
 
+/// A writer that takes everything and hands nothing on.
+#[derive(Drop)]
+struct Stuck;
+
+impl Write for Stuck {
+    fn write(&mut self, bytes: &[u8]) -> io::Result<usize> {
+        Ok(bytes.len())
+    }
+
+    fn flush(&mut self) -> io::Result<()> {
+        Err(io::Error::from(ErrorKind::BrokenPipe))
+    }
+}
+
 #[test]
 fn tells_of_failing_devices(rt: HostRuntime) {
     let alloc = rt.alloc();
@@ -336,4 +402,7 @@ fn tells_of_failing_devices(rt: HostRuntime) {
     let mut feed = ReadFeed::new(b"x\n".as_slice());
     let write = serve(alloc, &mut engine, &mut feed, &mut Broken { failed: 0 }, 9);
     assert_eq!(rt; write.err(), Some(ServeFault::Write));
+    let mut feed = ReadFeed::new(b"x\n".as_slice());
+    let settle = serve(alloc, &mut engine, &mut feed, &mut WriteSink::new(Stuck), 9);
+    assert_eq!(rt; settle.err(), Some(ServeFault::Write));
 }

@@ -7,7 +7,7 @@ use crate::tree::decode;
 use plain::plain_fault;
 use rb_format::FileFault;
 use rb_tree::{Node, Tree};
-use samples::{S1, S2, S3, S4, S5, S7};
+use samples::{EMPTY, HOLDS_ITSELF, ONE_STRING, THREE_NUMBERS, TWO_BINARIES, TWO_NUMBERS};
 use std::alloc::Global;
 use std::test::Fail;
 
@@ -39,10 +39,16 @@ fn with(alloc: Global, bytes: &[u8], place: usize, over: &[u8]) -> Result<Vec<u8
 #[test]
 fn samples_stand(rt: HostRuntime) -> Result<(), Fail> {
     let alloc = rt.alloc();
-    for sample in [&S1[..], &S2[..], &S3[..], &S4[..], &S5[..]] {
+    for sample in [
+        &EMPTY[..],
+        &ONE_STRING[..],
+        &TWO_NUMBERS[..],
+        &THREE_NUMBERS[..],
+        &TWO_BINARIES[..],
+    ] {
         assert_eq!(rt; fault_of(alloc, sample)?, None, "{sample:?}");
     }
-    assert_eq!(rt; fault_of(alloc, &S7)?, Some(FileFault::TooDeep));
+    assert_eq!(rt; fault_of(alloc, &HOLDS_ITSELF)?, Some(FileFault::TooDeep));
     Ok(())
 }
 
@@ -61,11 +67,11 @@ fn damage_is_named(rt: HostRuntime) -> Result<(), Fail> {
         (60, 100, FileFault::Length),
         (70, 0x1C, FileFault::Key),
     ] {
-        let file = with(alloc, &S2, place, &[byte])?;
+        let file = with(alloc, &ONE_STRING, place, &[byte])?;
         assert_eq!(rt; fault_of(alloc, &file)?, Some(fault), "byte {place}");
     }
     for offsets in [[0x1A, 0, 0x18, 0], [0x18, 0, 0x18, 0]] {
-        let file = with(alloc, &S3, 62, &offsets)?;
+        let file = with(alloc, &TWO_NUMBERS, 62, &offsets)?;
         assert_eq!(rt; fault_of(alloc, &file)?, Some(FileFault::KeyOrder));
     }
     Ok(())
@@ -88,7 +94,7 @@ fn length_is_limited(rt: HostRuntime) -> Result<(), Fail> {
 #[test]
 fn a_plain_checker_agrees(rt: HostRuntime) -> Result<(), Fail> {
     let alloc = rt.alloc();
-    for n in 0..=S2.len() {
+    for n in 0..=ONE_STRING.len() {
         let fault = if n < 32 {
             Some(FileFault::Header)
         } else if n < 76 {
@@ -96,16 +102,20 @@ fn a_plain_checker_agrees(rt: HostRuntime) -> Result<(), Fail> {
         } else {
             None
         };
-        assert_eq!(rt; fault_of(alloc, &S2[..n])?, fault, "S2 cut to {n}");
-    }
-    for n in 0..=S4.len() {
         assert_eq!(rt;
-            fault_of(alloc, &S4[..n])?,
-            plain_fault(&S4[..n]),
-            "S4 cut to {n}"
+            fault_of(alloc, &ONE_STRING[..n])?,
+            fault,
+            "one string cut to {n}"
         );
     }
-    for sample in [&S2[..], &S4[..]] {
+    for n in 0..=THREE_NUMBERS.len() {
+        assert_eq!(rt;
+            fault_of(alloc, &THREE_NUMBERS[..n])?,
+            plain_fault(&THREE_NUMBERS[..n]),
+            "three numbers cut to {n}"
+        );
+    }
+    for sample in [&ONE_STRING[..], &THREE_NUMBERS[..]] {
         for i in 0..sample.len() / 4 {
             let mut next = [0; 4];
             next.copy_from_slice(&sample[4 * i..4 * i + 4]);
@@ -136,7 +146,7 @@ fn binary_at<'a>(tree: &'a Tree, key: &[u8]) -> Option<&'a [u8]> {
 #[test]
 fn a_bundle_is_decoded(rt: HostRuntime) -> Result<(), Fail> {
     let alloc = rt.alloc();
-    let bundle = accept(alloc, S5.to_vec(alloc)?).map_err(|refusal| refusal.0.word())?;
+    let bundle = accept(alloc, TWO_BINARIES.to_vec(alloc)?).map_err(|refusal| refusal.0.word())?;
     let tree = decode(alloc, &bundle)?;
     assert_eq!(rt; (&tree).len(), 2);
     assert_eq!(rt; binary_at(&tree, b"b"), Some(&[0x00, 0xFF, 0x7F][..]));

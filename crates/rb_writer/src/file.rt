@@ -12,13 +12,47 @@ use crate::collect::{longest_table, sorted_keys};
 use crate::keys::write_keys;
 use crate::put::{put_bytes, put_word};
 use crate::tree::write_value;
+use rb_format::{
+    CHARSET_FAMILY, DATA_FORMAT, FORMAT_VERSION, HEADER_SIZE, INDEX_COUNT, INFO_SIZE, MAGIC,
+    UNIT_SIZE,
+};
 use rb_tree::Tree;
 use std::alloc::{AllocError, Global};
 
 /// What stands before the data.
 pub const HEADER: [u8; 32] = [
-    32, 0, 0xDA, 0x27, 20, 0, 0, 0, 0, 0, 2, 0, b'R', b'e', b's', b'B', 1, 1, 0, 0, 0, 0, 0, 0, 0,
-    0, 0, 0, 0, 0, 0, 0,
+    HEADER_SIZE as u8,
+    0,
+    MAGIC[0],
+    MAGIC[1],
+    INFO_SIZE as u8,
+    0,
+    0,
+    0,
+    0,
+    CHARSET_FAMILY,
+    UNIT_SIZE,
+    0,
+    DATA_FORMAT[0],
+    DATA_FORMAT[1],
+    DATA_FORMAT[2],
+    DATA_FORMAT[3],
+    FORMAT_VERSION[0],
+    FORMAT_VERSION[1],
+    0,
+    0,
+    0,
+    0,
+    0,
+    0,
+    0,
+    0,
+    0,
+    0,
+    0,
+    0,
+    0,
+    0,
 ];
 
 /// The header, the indexes and what stands behind them.
@@ -38,7 +72,7 @@ pub fn finish(
     let mut file = Vec::new(alloc);
     put_bytes(&mut file, &HEADER)?;
     put_word(&mut file, root)?;
-    put_word(&mut file, 5)?;
+    put_word(&mut file, INDEX_COUNT)?;
     put_word(&mut file, keys_top)?;
     put_word(&mut file, top)?;
     put_word(&mut file, top)?;

@@ -3,7 +3,7 @@ ghost use Rattle.std.specs.Prelude.{IfOk, length, ◌≡◌, ◌+◌, ◌*◌, �
 ghost use Rattle.rb_format.specs.FirstFault.{units, bytes};
 ghost use Rattle.rb_writer.specs.Growth.{IsDraft, Put, signed_numbers};
 
-use crate::put::{pad, put_bytes, put_half, put_halves, put_numbers, put_word};
+use crate::put::{PADDING, pad, put_bytes, put_half, put_halves, put_numbers, put_word};
 use std::alloc::AllocError;
 
 /// Writes units with a zero unit behind them, and answers the offset.
@@ -54,7 +54,7 @@ pub fn write_bytes(out: &mut Vec<u8>, binary: &[u8]) -> Result<u32, AllocError>
         return Ok(0);
     }
     let skipped = (28 - out.len() % 16) % 16;
-    put_bytes(out, &[0xAA; 12][..skipped])?;
+    put_bytes(out, &[PADDING; 12][..skipped])?;
     let offset = out.len() / 4;
     put_word(out, binary.len() as u32)?;
     put_bytes(out, binary)?;

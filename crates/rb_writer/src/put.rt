@@ -4,6 +4,9 @@ ghost use Rattle.rb_writer.specs.Growth.{Adds, PutsWord, PutsHalf, PutsBytes, Pu
 
 use std::alloc::AllocError;
 
+/// What stands between values.
+pub const PADDING: u8 = 0xAA;
+
 /// Puts a word behind the data.
 #[tactic(auto, using(crate::proofs::Puts::puts_word))]
 pub fn put_word(out: &mut Vec<u8>, word: u32) -> Result<(), AllocError>
@@ -66,7 +69,7 @@ pub fn pad(out: &mut Vec<u8>) -> Result<(), AllocError>
 {
     let over = out.len() % 4;
     if over > 0 {
-        put_bytes(out, &[0xAA; 3][over - 1..])?;
+        put_bytes(out, &[PADDING; 3][over - 1..])?;
     }
     Ok(())
 }

@@ -7,7 +7,7 @@ mod samples;
 
 use crate::file::write;
 use rb_tree::{ByteList, Int28, Tree, UnitList, key_ok};
-use samples::{S1, S2, S3, S4, S5};
+use samples::{EMPTY, ONE_STRING, THREE_NUMBERS, TWO_BINARIES, TWO_NUMBERS};
 use std::alloc::Global;
 use std::test::Fail;
 
@@ -86,11 +86,23 @@ fn two_binaries(alloc: Global) -> Result<Tree, Fail> {
 fn samples_are_written(rt: HostRuntime) -> Result<(), Fail> {
     let alloc = rt.alloc();
     let empty = table(alloc, Vec::new(alloc))?;
-    assert_eq!(rt; file(alloc, &empty)?.as_slice(), &S1[..]);
-    assert_eq!(rt; file(alloc, &one_string(alloc)?)?.as_slice(), &S2[..]);
-    assert_eq!(rt; file(alloc, &two_numbers(alloc)?)?.as_slice(), &S3[..]);
-    assert_eq!(rt; file(alloc, &three_numbers(alloc)?)?.as_slice(), &S4[..]);
-    assert_eq!(rt; file(alloc, &two_binaries(alloc)?)?.as_slice(), &S5[..]);
+    assert_eq!(rt; file(alloc, &empty)?.as_slice(), &EMPTY[..]);
+    assert_eq!(rt;
+        file(alloc, &one_string(alloc)?)?.as_slice(),
+        &ONE_STRING[..]
+    );
+    assert_eq!(rt;
+        file(alloc, &two_numbers(alloc)?)?.as_slice(),
+        &TWO_NUMBERS[..]
+    );
+    assert_eq!(rt;
+        file(alloc, &three_numbers(alloc)?)?.as_slice(),
+        &THREE_NUMBERS[..]
+    );
+    assert_eq!(rt;
+        file(alloc, &two_binaries(alloc)?)?.as_slice(),
+        &TWO_BINARIES[..]
+    );
     Ok(())
 }
 
