@@ -2,6 +2,10 @@
 import os
 import sys
 
+sys.path.insert(0, os.path.dirname(os.path.dirname(os.path.abspath(__file__))))
+
+from written import write
+
 SIZE = 8_388_608
 
 
@@ -16,12 +20,4 @@ def texts():
     yield "nested", "root{\n" + group * ((SIZE - 8) // len(group)) + "}\n"
 
 
-def main():
-    folder = sys.argv[1]
-    os.makedirs(folder, exist_ok=True)
-    for name, text in texts():
-        with open(os.path.join(folder, name), "w") as file:
-            file.write(text)
-
-
-main()
+write(texts())

@@ -3,6 +3,10 @@ import os
 import random
 import sys
 
+sys.path.insert(0, os.path.dirname(os.path.dirname(os.path.abspath(__file__))))
+
+from written import write
+
 WORDS = "afrika amerika asien europa ozeanien norden osten westen inseln republik koenigreich gebiete vereinigte arabische".split()
 
 
@@ -60,12 +64,4 @@ def texts():
     yield "endless", "root{" + "a{" * 4_000_000
 
 
-def main():
-    folder = sys.argv[1]
-    os.makedirs(folder, exist_ok=True)
-    for name, text in texts():
-        with open(os.path.join(folder, name), "w") as file:
-            file.write(text)
-
-
-main()
+write(texts())

@@ -1,5 +1,5 @@
 -- What a list of steps does to one application.
-use Rattle.std.proofs.Common.{◌≡◌, ◌≢◌, ℕ, ◌⊎◌, inl, inr, Bool, true, false, not, cond, List, [], ◌∷◌, ◌++◌, Option, Some, None, Result, Ok, Err, map, filter, refl, sym, ◌∙◌, ap, subst}
+use Rattle.std.proofs.Common.{◌≡◌, ℕ, inl, inr, Bool, true, false, cond, List, [], ◌∷◌, ◌++◌, Some, None, Result, Ok, Err, refl, sym, ◌∙◌, ap, subst}
 use Rattle.std.specs.Str.{bytes_eq}
 use Rattle.std.proofs.lemmas.Slice.Eq.{bytes_eq-Decides}
 use Rattle.std.proofs.lemmas.Bool.{false≢true}
@@ -20,12 +20,12 @@ use Rattle.rb_requests.specs.declared.request.Payload.TheVariants.{Text, File}
 use Rattle.rb_requests.specs.declared.request.Request.{Request}
 use Rattle.rb_requests.specs.declared.request.Request.TheVariants as request
 use Rattle.rb_requests.specs.declared.request.Reply.{Reply}
-use Rattle.rb_requests.specs.declared.request.Reply.TheVariants.{Done, Names, BadApp, Reserved, BadLocale, BadText, BadFile, Exists, Absent, Full, Memory}
+use Rattle.rb_requests.specs.declared.request.Reply.TheVariants.{Done, Exists, Absent, Full, Memory}
 use Rattle.rb_requests.specs.declared.request.LookFault.TheVariants as fault
 use Rattle.rb_requests.specs.Shelf.{Shelf, bundle_at, holds, is_full}
 use Rattle.rb_requests.specs.Ask.{Call, Requests, LooksUp, caller, Content, spelled, denoted, unread, IsContent, IsRead, Ask, Installs, Replaces, Removes, Lists, Looks, Means, RequestMeans}
-use Rattle.rb_requests.specs.Answer.{Start, Told, Replies, Finds, Refuses, answer_over, answer, shelf_then, shelf_from, refusal, add_reply, install_reply, replace_reply, remove_reply, list_reply, look_reply, looked, found}
-use Rattle.rb_requests.specs.History.{State, Turn, Step, Starves, Serves, Run, own, asked_by, told_to, EachMeans, is_memory, AsksOne, AnswersOwn, IsIsolated, new_state}
+use Rattle.rb_requests.specs.Answer.{Start, Told, Replies, Refuses, answer_over, answer, shelf_then, shelf_from, refusal, add_reply, install_reply, replace_reply, remove_reply, list_reply, look_reply, found}
+use Rattle.rb_requests.specs.History.{State, Turn, Step, Run, own, asked_by, told_to, EachMeans, is_memory, AsksOne, AnswersOwn, IsIsolated, new_state}
 
 -- ---- what a call asks is one thing
 

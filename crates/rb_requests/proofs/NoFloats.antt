@@ -1,17 +1,16 @@
 -- No reply has a number with a point.
-use Rattle.std.proofs.Common.{◌≡◌, ℕ, ℤ, pos, negsuc, Bool, true, false, cond, List, [], ◌∷◌, map, Option, Some, None, refl, ap, ◌∙◌, encode_utf8_all}
+use Rattle.std.proofs.Common.{◌≡◌, ℕ, ℤ, pos, negsuc, Bool, true, false, cond, List, [], ◌∷◌, Option, Some, None, refl}
 use Rattle.std.specs.Str.{is_utf8}
 use Rattle.std.specs.Map.{keys_of}
-use Rattle.std.specs.Char.Utf16.{has_unpaired_surrogate, utf16_lossy_chars}
-use Rattle.serde_json.specs.Data.{Data, null, string, number}
-use Rattle.serde_json.specs.View.{items_of}
-use Rattle.serde_json.specs.Find.{is_float, of_integer}
-use Rattle.serde_json.specs.Written.{has_float, items_have_float, members_have_float}
+use Rattle.std.specs.Char.Utf16.{has_unpaired_surrogate}
+use Rattle.serde_json.specs.Data.{null, string, number}
+use Rattle.serde_json.specs.Find.{of_integer}
+use Rattle.serde_json.specs.Written.{has_float, members_have_float}
 use Rattle.rb_tree.specs.Resource.{Resource, int, ints, binary, alias, table}
 use Rattle.rb_tree.specs.Resource as tree
-use Rattle.rb_tree.specs.Keys.{items, pairs}
+use Rattle.rb_tree.specs.Keys.{pairs}
 use Rattle.rb_requests.specs.Answer.{Told, Replies, Finds, Refuses}
-use Rattle.rb_requests.specs.Item.{text_data, numbers_data, integers_data, texts_data, item_members, signed_of, valid_and, type_and}
+use Rattle.rb_requests.specs.Item.{text_data, numbers_data, integers_data, texts_data, item_members, signed_of}
 use Rattle.rb_requests.specs.Replied.{data_told}
 use Rattle.rb_requests.specs.declared.request.Reply.TheVariants.{Done, Names, BadApp, Reserved, BadLocale, BadText, BadFile, Exists, Absent, Full, Memory}
 

@@ -1,60 +1,18 @@
 -- The list of all rows, as each application sees it.
-use Rattle.std.proofs.Common.{◌≡◌, ◌≢◌, ℕ, zero, suc, ◌+◌, ◌<◌, Bool, true, false, ◌&&◌, cond, List, [], ◌∷◌, ◌++◌, length, get_or, drop, Option, Some, None, is_some, map, filter, set, refl, sym, ◌∙◌, ap, subst, arith, nat_eq}
-use Rattle.std.specs.Prelude.{remove}
+use Rattle.std.proofs.Common.{◌≡◌, ◌≢◌, ℕ, Bool, true, false, ◌&&◌, cond, List, [], ◌∷◌, ◌++◌, length, Option, Some, None, Result, Ok, Err, IfOk, Vec, vec_items, is_some, option_map, option_copied, Bor, map, filter, refl, sym, ◌∙◌, ap, arith}
 use Rattle.std.specs.Str.{bytes_eq}
-use Rattle.std.specs.Map.{lookup}
-use Rattle.std.specs.Cmp.Lexicographic.{pointwise}
-use Rattle.std.proofs.lemmas.List.{at_drop_more, at_drop_all}
+use Rattle.indexmap.specs.IndexMap.{insert_entry}
+use Rattle.std.proofs.lemmas.List.{length-map}
+use Rattle.std.proofs.lemmas.Simd.{map-map}
 use Rattle.std.proofs.lemmas.Slice.Eq.{bytes_eq-Decides}
 use Rattle.std.proofs.lemmas.Bool.{false_from_ne_true}
 use Rattle.std.proofs.lemmas.Bool.Decides.{nat_tests}
-use Rattle.rb_tree.specs.Resource.{Resource}
 use Rattle.rb_tree.specs.View.{view_of}
 use Rattle.rb_tree.specs.declared.tree.Tree.{Tree}
 use Rattle.rb_requests.specs.Place.{same_place}
-use Rattle.rb_requests.specs.Shelf.{Shelf, bundle_at, holds, replaced, removed}
-use Rattle.rb_requests.specs.Rows.{Rows, list_of, row_at, replaced_row, removed_row}
+use Rattle.rb_requests.specs.Shelf.{bundle_at, holds, replaced, removed}
+use Rattle.rb_requests.specs.Rows.{Rows, list_of, rows_of, row_at, replaced_row, removed_row}
 use Rattle.rb_requests.specs.declared.place.Place.{Place}
-
--- where a place is found
-pub record FoundAt (p : Place) (t : Tree) (i j : ℕ) (rows : Rows) (k : ℕ) : Type 0 where
-  pub at : j ≡ i + k
-  pub within : k < length rows
-  pub put : set rows k (p, t) ≡ replaced_row p t rows
-  pub out : remove rows k ≡ removed_row p rows
-
-found_more : (p : Place) (t : Tree) (i j : ℕ) (row : Place × Tree) (rows : Rows) → (row_at p (i + 1) rows ≡ Some j → (k : ℕ) × FoundAt p t (i + 1) j rows k) → (b : Bool) → same_place p row.0 ≡ b → row_at p i (row ∷ rows) ≡ Some j → (k : ℕ) × FoundAt p t i j (row ∷ rows) k
-found_more p t i j row rows rest true e h =
-    let here : Some i ≡ Some j = rw e at h in
-    let same : i ≡ j = cc in
-    (0, record { at = omega arith; within = omega arith; put = rw e refl; out = rw e refl })
-found_more p t i j row rows rest false e h =
-    let later : row_at p (i + 1) rows ≡ Some j = rw e at h in
-    let g = rest later in
-    (suc g.0, record { at = omega arith; within = omega arith; put = rw e (ap (λ (x : Rows). row ∷ x) g.1.put); out = rw e (ap (λ (x : Rows). row ∷ x) g.1.out) })
-
-pub found_at : (p : Place) (t : Tree) (i j : ℕ) (rows : Rows) → row_at p i rows ≡ Some j → (k : ℕ) × FoundAt p t i j rows k
-found_at p t i j [] h = absurd (cc)
-found_at p t i j (row ∷ rows) h = found_more p t i j row rows (found_at p t (i + 1) j rows) (same_place p row.0) refl h
-
--- counted from the first
-pub found : (p : Place) (t : Tree) (j : ℕ) (rows : Rows) → row_at p 0 rows ≡ Some j → FoundAt p t 0 j rows j
-found p t j rows h = let g = found_at p t 0 j rows h in let e : g.0 ≡ j = omega arith in subst (FoundAt p t 0 j rows) e g.1
-
--- where it isn't
-pub record NotFound (p : Place) (t : Tree) (rows : Rows) : Type 0 where
-  pub put : rows ≡ replaced_row p t rows
-  pub out : rows ≡ removed_row p rows
-
-not_more : (p : Place) (t : Tree) (i : ℕ) (row : Place × Tree) (rows : Rows) → (row_at p (i + 1) rows ≡ None → NotFound p t rows) → (b : Bool) → same_place p row.0 ≡ b → row_at p i (row ∷ rows) ≡ None → NotFound p t (row ∷ rows)
-not_more p t i row rows rest true e h = let here : Some i ≡ None = rw e at h in absurd (cc)
-not_more p t i row rows rest false e h =
-    let later : row_at p (i + 1) rows ≡ None = rw e at h in
-    record { put = rw e (ap (λ (x : Rows). row ∷ x) (rest later).put); out = rw e (ap (λ (x : Rows). row ∷ x) (rest later).out) }
-
-pub not_found : (p : Place) (t : Tree) (i : ℕ) (rows : Rows) → row_at p i rows ≡ None → NotFound p t rows
-not_found p t i [] h = record { put = refl; out = refl }
-not_found p t i (row ∷ rows) h = not_more p t i row rows (not_found p t (i + 1) rows) (same_place p row.0) refl h
 
 -- bytes that are the same, and that differ
 pub same_bytes : (a : List ℕ) → bytes_eq a a ≡ true
@@ -71,22 +29,68 @@ not_both_at x a b n false w e f = refl
 not_both : (x a b : List ℕ) → a ≢ b → bytes_eq a x && bytes_eq b x ≡ false
 not_both x a b n = not_both_at x a b n (bytes_eq a x) (bytes_eq b x) refl refl
 
+-- places that are the same have one name
+named : (p q : Place) → bytes_eq p.name q.name ≡ true → p.name ≡ q.name
+named p q h = (bytes_eq-Decides p.name q.name).0 h
+
 -- ---- what an application holds
 
-pub holds-row_at : (p : Place) (i : ℕ) (rows : Rows) → is_some (row_at p i rows) ≡ holds p.name (list_of p.app rows)
-holds-row_at p i [] = refl
-holds-row_at p i (row ∷ rows) = grind (arith, nat_tests, holds-row_at p (i + 1) rows)
+pub holds-row_at : (p : Place) (rows : Rows) → is_some (row_at p rows) ≡ holds p.name (list_of p.app rows)
+holds-row_at p [] = refl
+holds-row_at p (row ∷ rows) = grind (arith, nat_tests, holds-row_at p rows)
 
--- a look-up of a bundle goes on behind a row
-pub bundle_step : (p : Place) (rows : Rows) (i : ℕ) (d : Place × Tree) → d ≡ get_or rows i d → i < length rows → bundle_at (list_of p.app (drop i rows)) p.name ≡ cond (same_place p d.0) (Some (view_of d.1)) (bundle_at (list_of p.app (drop (i + 1) rows)) p.name)
-bundle_step p rows i d e h =
-    at_drop_more (λ xs. bundle_at (list_of p.app xs) p.name) rows i d h ∙ ap (λ (row : Place × Tree). bundle_at (list_of p.app (row ∷ drop (i + 1) rows)) p.name) (sym e) ∙ front p d (drop (i + 1) rows)
+-- the tree at a place, as its application sees it
+pub bundle_here : (p : Place) (rows : Rows) → option_map view_of (row_at p rows) ≡ bundle_at (list_of p.app rows) p.name
+bundle_here p [] = refl
+bundle_here p (row ∷ rows) = grind (arith, nat_tests, bundle_here p rows)
+
+pub bundle_seen : (r : Option (Bor Tree)) (p : Place) (rows : Rows) → option_copied r ≡ row_at p rows → option_map (λ t. view_of t.now) r ≡ bundle_at (list_of p.app rows) p.name
+bundle_seen None p rows h = ap (option_map view_of) h ∙ bundle_here p rows
+bundle_seen (Some t) p rows h = ap (option_map view_of) h ∙ bundle_here p rows
+
+-- no tree there
+pub none_at : (p : Place) (rows : Rows) → is_some (row_at p rows) ≡ false → row_at p rows ≡ None
+none_at p rows h = by (row_at p rows) h
   where
-    front : (p : Place) (row : Place × Tree) (rows : Rows) → bundle_at (list_of p.app (row ∷ rows)) p.name ≡ cond (same_place p row.0) (Some (view_of row.1)) (bundle_at (list_of p.app rows) p.name)
-    front p row rows = grind (arith, nat_tests)
+    by : (o : Option Tree) → is_some o ≡ false → o ≡ None
+    by None h = refl
+    by (Some t) h = absurd cc
 
-pub bundle_end : (p : Place) (rows : Rows) (i : ℕ) → i ≡ length rows → bundle_at (list_of p.app (drop i rows)) p.name ≡ None
-bundle_end p rows i h = at_drop_all (λ xs. bundle_at (list_of p.app xs) p.name) rows i (omega arith)
+-- a tree at a place where there is none
+pub insert_last : (p : Place) (t : Tree) (rows : Rows) → row_at p rows ≡ None → insert_entry same_place rows p t ≡ rows ++ (p, t) ∷ []
+insert_last p t [] h = refl
+insert_last p t (row ∷ rows) h = by (insert_last p t rows) (same_place p row.0) refl
+  where
+    by : (row_at p rows ≡ None → insert_entry same_place rows p t ≡ rows ++ (p, t) ∷ []) → (b : Bool) → same_place p row.0 ≡ b → insert_entry same_place (row ∷ rows) p t ≡ (row ∷ rows) ++ (p, t) ∷ []
+    by rest true e = let here : Some row.1 ≡ None = rw e at h in absurd (cc)
+    by rest false e = let later : row_at p rows ≡ None = rw e at h in rw e (ap (λ (x : Rows). row ∷ x) (rest later))
+
+pub replaced_none : (p : Place) (t : Tree) (rows : Rows) → row_at p rows ≡ None → rows ≡ replaced_row p t rows
+replaced_none p t [] h = refl
+replaced_none p t (row ∷ rows) h = by (replaced_none p t rows) (same_place p row.0) refl
+  where
+    by : (row_at p rows ≡ None → rows ≡ replaced_row p t rows) → (b : Bool) → same_place p row.0 ≡ b → row ∷ rows ≡ replaced_row p t (row ∷ rows)
+    by rest true e = let here : Some row.1 ≡ None = rw e at h in absurd (cc)
+    by rest false e = let later : row_at p rows ≡ None = rw e at h in rw e (ap (λ (x : Rows). row ∷ x) (rest later))
+
+-- the places of one application
+kept : (app : List ℕ) (rows : Rows) → filter (λ (p : Place). bytes_eq app p.app) (map (λ row. row.0) rows) ≡ map (λ row. row.0) (rows_of app rows)
+kept app [] = refl
+kept app (row ∷ rows) = by (kept app rows) (bytes_eq app row.0.app) refl
+  where
+    by : filter (λ (p : Place). bytes_eq app p.app) (map (λ row. row.0) rows) ≡ map (λ row. row.0) (rows_of app rows) → (b : Bool) → bytes_eq app row.0.app ≡ b → filter (λ (p : Place). bytes_eq app p.app) (map (λ row. row.0) (row ∷ rows)) ≡ map (λ row. row.0) (rows_of app (row ∷ rows))
+    by rest true e = rw e (ap (λ (x : List Place). row.0 ∷ x) rest)
+    by rest false e = rw e rest
+
+pub kept_count : (app : List ℕ) (rows : Rows) → length (filter (λ (p : Place). bytes_eq app p.app) (map (λ row. row.0) rows)) ≡ length (rows_of app rows)
+kept_count app rows = ap length (kept app rows) ∙ length-map (rows_of app rows) _
+
+kept_names : (app : List ℕ) (rows : Rows) → map (λ (p : Place). p.name) (filter (λ (p : Place). bytes_eq app p.app) (map (λ row. row.0) rows)) ≡ map (λ row. row.0.name) (rows_of app rows)
+kept_names app rows = ap (map (λ (p : Place). p.name)) (kept app rows) ∙ map-map (λ (p : Place). p.name) (λ row. row.0) (rows_of app rows)
+
+pub names_seen : {Z E : Type 0} (r : Result (Vec (List ℕ) Z) E) (app : List ℕ) (rows : Rows) → IfOk r (λ w. vec_items w ≡ map (λ (p : Place). p.name) (filter (λ (p : Place). bytes_eq app p.app) (map (λ row. row.0) rows))) → IfOk r (λ w. vec_items w ≡ map (λ row. row.0.name) (rows_of app rows))
+names_seen (Ok w) app rows h = h ∙ kept_names app rows
+names_seen (Err e) app rows h = tt
 
 -- a row at the end
 pub list_of-push : (app : List ℕ) (rows : Rows) (row : Place × Tree) → list_of app (rows ++ row ∷ []) ≡ cond (bytes_eq app row.0.app) (list_of app rows ++ (row.0.name, view_of row.1) ∷ []) (list_of app rows)
@@ -96,7 +100,7 @@ list_of-push app (r ∷ rows) row = grind (arith, nat_tests, list_of-push app ro
 -- an exchange
 pub list_of-replaced_row : (p : Place) (t : Tree) (rows : Rows) → list_of p.app (replaced_row p t rows) ≡ replaced p.name (view_of t) (list_of p.app rows)
 list_of-replaced_row p t [] = refl
-list_of-replaced_row p t (row ∷ rows) = grind (arith, nat_tests, list_of-replaced_row p t rows, same_bytes p.app)
+list_of-replaced_row p t (row ∷ rows) = grind (arith, nat_tests, list_of-replaced_row p t rows, same_bytes p.app, named p row.0)
 
 pub list_of-removed_row : (p : Place) (rows : Rows) → list_of p.app (removed_row p rows) ≡ removed p.name (list_of p.app rows)
 list_of-removed_row p [] = refl

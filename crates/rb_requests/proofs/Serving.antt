@@ -4,7 +4,7 @@ use Rattle.std.specs.Prelude.{⊤}
 use Rattle.std.specs.Io.KnownBytes.{Appends, Consumes, Keeps, IsAtEnd}
 use Rattle.rb_requests.specs.History.{State}
 use Rattle.rb_requests.specs.Lines.{AnswersLine, Replies, lines_of, onto_first}
-use Rattle.rb_requests.specs.Served.{Answers, AnswersAll, AnswersFirst, Wrote}
+use Rattle.rb_requests.specs.Served.{AnswersAll, AnswersFirst, Wrote}
 use Rattle.rb_requests.specs.Taken.{next_line, IsLeft, TakesLine, TakesEnd}
 use Rattle.rb_requests.proofs.Reading.{lines_of-taken}
 

@@ -1,5 +1,5 @@
 -- The steps of a request, once it is known which of its tests pass.
-use Rattle.std.proofs.Common.{◌≡◌, ◌≢◌, ℕ, ◌<◌, ◌≤◌, ◌+◌, inl, inr, Bool, true, false, ◌&&◌, not, cond, List, [], ◌∷◌, ◌++◌, length, Option, Some, None, Result, Ok, Err, is_some, map, filter, refl, sym, ◌∙◌, ap, subst, arith, ◌⊎◌}
+use Rattle.std.proofs.Common.{◌≡◌, ℕ, ◌<◌, ◌≤◌, inl, inr, Bool, true, false, not, cond, List, [], ◌∷◌, ◌++◌, length, Option, Some, None, Result, Ok, Err, is_some, map, refl, sym, ◌∙◌, ap, arith, ◌⊎◌}
 use Rattle.std.specs.Prelude.{nat_le, codes}
 use Rattle.std.specs.Str.{bytes_eq}
 use Rattle.std.proofs.lemmas.List.{length-map}
@@ -11,11 +11,10 @@ use Rattle.rb_locales.specs.Locale.{name}
 use Rattle.rb_requests.specs.App.{app_of, is_app}
 use Rattle.rb_requests.specs.Place.{place_of, place_by}
 use Rattle.rb_requests.specs.Shelf.{Shelf, holds, is_full, replaced, removed}
-use Rattle.rb_requests.specs.Rows.{Rows, list_of, rows_of, row_at, replaced_row, removed_row, start_of, state_of}
-use Rattle.rb_requests.specs.RowStep.{RowStep, RowsServe, AddsRow, HoldsTree, HoldsNone}
-use Rattle.rb_requests.specs.Ask.{IsContent, Content, spelled, denoted, unread, Requests, LooksUp, Installs, Replaces, Removes, Lists}
-use Rattle.rb_requests.specs.Answer.{Start, Replies, answer_over, install_reply, add_reply, replace_reply, installed, exchanged, added as added_to, refusal}
-use Rattle.rb_requests.specs.History.{Step}
+use Rattle.rb_requests.specs.Rows.{Rows, list_of, rows_of, row_at, replaced_row, removed_row}
+use Rattle.rb_requests.specs.RowStep.{RowStep, AddsRow, HoldsTree, HoldsNone}
+use Rattle.rb_requests.specs.Ask.{IsContent, Content, spelled, denoted, unread, Installs, Replaces, Removes, Lists}
+use Rattle.rb_requests.specs.Answer.{Replies, install_reply, add_reply, replace_reply, installed, exchanged, added as added_to, refusal}
 use Rattle.rb_requests.specs.declared.limits.TheConstants.{BUNDLE_LIMIT}
 use Rattle.rb_requests.specs.declared.app.AppFault.{AppFault}
 use Rattle.rb_requests.specs.declared.app.AppFault.TheVariants as app
@@ -24,10 +23,9 @@ use Rattle.rb_requests.specs.declared.place.PlaceFault.{PlaceFault}
 use Rattle.rb_requests.specs.declared.request.Payload.{Payload}
 use Rattle.rb_requests.specs.declared.request.Payload.TheVariants.{Text, File}
 use Rattle.rb_tree.specs.Resource.{Resource}
-use Rattle.rb_requests.specs.declared.request.Request.{Request}
 use Rattle.rb_requests.specs.declared.request.Request.TheVariants as request
 use Rattle.rb_requests.specs.declared.request.Reply.{Reply}
-use Rattle.rb_requests.specs.declared.request.Reply.TheVariants.{Exists, Full, Done, Absent, Names, BadText, Memory}
+use Rattle.rb_requests.specs.declared.request.Reply.TheVariants.{Exists, Full, Done, Absent, Names, Memory}
 use Rattle.rb_requests.proofs.RowLemmas.{holds-row_at, list_of-push, list_of-removed_row, list_of_other-removed_row, list_of-replaced_row, list_of_other-replaced_row, same_bytes, other_bytes}
 
 -- ---- the application that is read is the one that was given
@@ -49,8 +47,8 @@ app_by (Ok a) (Some n) p h = cc
 pub app-place_of : (app locale : List ℕ) (p : Place) → place_of app locale ≡ Ok p → p.app ≡ app
 app-place_of app locale p h = app_is app p.app (app_by (app_of app) (name locale) p h)
 
-holds_is : (app : List ℕ) (p : Place) (rows : Rows) (b : Bool) → p.app ≡ app → is_some (row_at p 0 rows) ≡ b → holds p.name (list_of app rows) ≡ b
-holds_is app p rows b e h = ap (λ a. holds p.name (list_of a rows)) (sym e) ∙ sym (holds-row_at p 0 rows) ∙ h
+holds_is : (app : List ℕ) (p : Place) (rows : Rows) (b : Bool) → p.app ≡ app → is_some (row_at p rows) ≡ b → holds p.name (list_of app rows) ≡ b
+holds_is app p rows b e h = ap (λ a. holds p.name (list_of a rows)) (sym e) ∙ sym (holds-row_at p rows) ∙ h
 
 full_is : (app : List ℕ) (p : Place) (rows : Rows) (b : Bool) → p.app ≡ app → nat_le BUNDLE_LIMIT (length (rows_of p.app rows)) ≡ b → is_full (list_of app rows) ≡ b
 full_is app p rows b e h = ap (λ a. is_full (list_of a rows)) (sym e) ∙ ap (nat_le BUNDLE_LIMIT) (length-map (rows_of p.app rows) _) ∙ h
@@ -97,7 +95,7 @@ no_bundle app locale (File bytes) p rows reply h (inr k) = inr (record {
   others = λ a n. refl;
 })
 
-pub exists : (app locale : List ℕ) (payload : Payload) (p : Place) (t : Tree) (rows : Rows) → place_of app locale ≡ Ok p → HoldsTree payload (view_of t) → is_some (row_at p 0 rows) ≡ true → RowStep (request.Install app locale payload) Exists rows rows
+pub exists : (app locale : List ℕ) (payload : Payload) (p : Place) (t : Tree) (rows : Rows) → place_of app locale ≡ Ok p → HoldsTree payload (view_of t) → is_some (row_at p rows) ≡ true → RowStep (request.Install app locale payload) Exists rows rows
 exists app locale payload p t rows h k there =
     let e = holds_is app p rows true (app-place_of app locale p h) there in
     let c = puts payload (view_of t) k in
@@ -109,7 +107,7 @@ exists app locale payload p t rows h k there =
       others = λ a n. refl;
     })
 
-pub full : (app locale : List ℕ) (payload : Payload) (p : Place) (t : Tree) (rows : Rows) → place_of app locale ≡ Ok p → HoldsTree payload (view_of t) → is_some (row_at p 0 rows) ≡ false → BUNDLE_LIMIT ≤ length (rows_of p.app rows) → RowStep (request.Install app locale payload) Full rows rows
+pub full : (app locale : List ℕ) (payload : Payload) (p : Place) (t : Tree) (rows : Rows) → place_of app locale ≡ Ok p → HoldsTree payload (view_of t) → is_some (row_at p rows) ≡ false → BUNDLE_LIMIT ≤ length (rows_of p.app rows) → RowStep (request.Install app locale payload) Full rows rows
 full app locale payload p t rows h k there most =
     let a = app-place_of app locale p h in
     let e = holds_is app p rows false a there in
@@ -123,7 +121,7 @@ full app locale payload p t rows h k there most =
       others = λ a n. refl;
     })
 
-done : (app locale : List ℕ) (payload : Payload) (p : Place) (t : Tree) (rows : Rows) → place_of app locale ≡ Ok p → HoldsTree payload (view_of t) → is_some (row_at p 0 rows) ≡ false → length (rows_of p.app rows) < BUNDLE_LIMIT → RowStep (request.Install app locale payload) Done rows (rows ++ (p, t) ∷ [])
+done : (app locale : List ℕ) (payload : Payload) (p : Place) (t : Tree) (rows : Rows) → place_of app locale ≡ Ok p → HoldsTree payload (view_of t) → is_some (row_at p rows) ≡ false → length (rows_of p.app rows) < BUNDLE_LIMIT → RowStep (request.Install app locale payload) Done rows (rows ++ (p, t) ∷ [])
 done app locale payload p t rows h k there most =
     let a = app-place_of app locale p h in
     let e = holds_is app p rows false a there in
@@ -138,7 +136,7 @@ done app locale payload p t rows h k there most =
       others = λ other n. rw (list_of-push other rows (p, t), a, other_bytes other app n) refl;
     })
 
-pub added : (app locale : List ℕ) (payload : Payload) (p : Place) (t : Tree) (rows : Rows) (reply : Reply) (new : Rows) → place_of app locale ≡ Ok p → HoldsTree payload (view_of t) → is_some (row_at p 0 rows) ≡ false → length (rows_of p.app rows) < BUNDLE_LIMIT → AddsRow p t reply rows new → RowStep (request.Install app locale payload) reply rows new
+pub added : (app locale : List ℕ) (payload : Payload) (p : Place) (t : Tree) (rows : Rows) (reply : Reply) (new : Rows) → place_of app locale ≡ Ok p → HoldsTree payload (view_of t) → is_some (row_at p rows) ≡ false → length (rows_of p.app rows) < BUNDLE_LIMIT → AddsRow p t reply rows new → RowStep (request.Install app locale payload) reply rows new
 added app locale payload p t rows reply new h k there few (inl a) = rw (a.0, a.1) (done app locale payload p t rows h k there few)
 added app locale payload p t rows reply new h k there few (inr a) = inl (record { memory = a.0; may = refl; rows = a.1 })
 
@@ -161,7 +159,7 @@ no_exchange app locale (File bytes) p rows reply h (inr k) = inr (record {
   others = λ a n. refl;
 })
 
-pub exchanged_row : (app locale : List ℕ) (payload : Payload) (p : Place) (t : Tree) (rows : Rows) (b : Bool) → place_of app locale ≡ Ok p → HoldsTree payload (view_of t) → is_some (row_at p 0 rows) ≡ b → RowStep (request.Replace app locale payload) (cond b Done Absent) rows (replaced_row p t rows)
+pub exchanged_row : (app locale : List ℕ) (payload : Payload) (p : Place) (t : Tree) (rows : Rows) (b : Bool) → place_of app locale ≡ Ok p → HoldsTree payload (view_of t) → is_some (row_at p rows) ≡ b → RowStep (request.Replace app locale payload) (cond b Done Absent) rows (replaced_row p t rows)
 exchanged_row app locale payload p t rows b h k there =
     let a = app-place_of app locale p h in
     let e = holds_is app p rows b a there in
@@ -174,7 +172,7 @@ exchanged_row app locale payload p t rows b h k there =
       others = λ other n. list_of_other-replaced_row other p t rows (λ q. n (q ∙ a));
     })
 
-pub taken : (app locale : List ℕ) (p : Place) (rows : Rows) (b : Bool) → place_of app locale ≡ Ok p → is_some (row_at p 0 rows) ≡ b → RowStep (request.Remove app locale) (cond b Done Absent) rows (removed_row p rows)
+pub taken : (app locale : List ℕ) (p : Place) (rows : Rows) (b : Bool) → place_of app locale ≡ Ok p → is_some (row_at p rows) ≡ b → RowStep (request.Remove app locale) (cond b Done Absent) rows (removed_row p rows)
 taken app locale p rows b h there =
     let a = app-place_of app locale p h in
     let e = holds_is app p rows b a there in

@@ -1,14 +1,14 @@
 -- A step of the engine, as an equation of states.
-use Rattle.std.proofs.Common.{◌≡◌, ℕ, ◌⊎◌, inl, inr, Bool, true, false, cond, List, Option, Some, refl, sym, ◌∙◌, ap, subst}
+use Rattle.std.proofs.Common.{◌≡◌, ℕ, inl, inr, Bool, true, false, cond, List, Option, Some, refl, sym, ◌∙◌, ap, subst}
 use Rattle.std.specs.Str.{bytes_eq}
 use Rattle.std.proofs.lemmas.Slice.Eq.{bytes_eq-Decides}
 use Rattle.std.proofs.lemmas.Bool.{false≢true}
 use Rattle.serde_json.specs.Data.{Data}
 use Rattle.rb_requests.specs.Shelf.{Shelf}
-use Rattle.rb_requests.specs.Ask.{Call, Requests, requester, Ask}
-use Rattle.rb_requests.specs.Answer.{Start, Told, answer_over, shelf_then}
-use Rattle.rb_requests.specs.History.{State, Step, Serves, Starves, is_memory}
-use Rattle.rb_requests.specs.Lines.{state_then, Tells, CallTold, LineTold}
+use Rattle.rb_requests.specs.Ask.{Call, Requests, requester}
+use Rattle.rb_requests.specs.Answer.{Start, Told, shelf_then}
+use Rattle.rb_requests.specs.History.{State, Step, Serves, is_memory}
+use Rattle.rb_requests.specs.Lines.{Tells, CallTold, LineTold}
 use Rattle.rb_requests.specs.declared.request.Request.{Request}
 
 funext : {A : Type 0} {B : Type 0} → (f g : A → B) → ((x : A) → f x ≡ g x) → f ≡ g

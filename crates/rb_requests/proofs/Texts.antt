@@ -1,5 +1,5 @@
 -- What is read from a line, by whether it is text.
-use Rattle.std.proofs.Common.{◌≡◌, ℕ, List, Option, None, true, false, refl}
+use Rattle.std.proofs.Common.{◌≡◌, ℕ, List, Option, None, false, refl}
 use Rattle.std.specs.Str.{is_utf8, IsUtf8}
 use Rattle.std.proofs.lemmas.Str.{is_utf8-from_IsUtf8, IsUtf8-from_is_utf8}
 use Rattle.std.proofs.lemmas.Bool.{false_from_ne_true}

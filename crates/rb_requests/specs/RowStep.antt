@@ -1,4 +1,4 @@
--- For proofs and for what is private. A request's step on the list of all bundles.
+-- For proofs and for what is private. A request's step on the bundles of all applications.
 use Rattle.std.specs.Prelude.{◌≡◌, ◌≢◌, ℕ, List, [], ◌∷◌, ◌++◌, true, ◌⊎◌, Some, None, Result, Ok, Err}
 use Rattle.rb_tree.specs.View.{view_of}
 use Rattle.rb_tree.specs.declared.tree.Tree.{Tree}

@@ -1,6 +1,6 @@
 -- What an engine is seen as: its start, and the bundles of all applications in one list.
 use Rattle.std.specs.Prelude.{ℕ, Bool, List, [], ◌∷◌, map, filter, if◌then◌else◌, Option}
-use Rattle.std.specs.List.{position_from}
+use Rattle.std.specs.Map.{lookup, remove_entry, set_value}
 use Rattle.std.specs.Str.{bytes_eq}
 use Rattle.rb_tree.specs.View.{view_of}
 use Rattle.rb_tree.specs.Table.{seen_pairs}
@@ -23,19 +23,17 @@ rows_of app rows = filter (λ row. bytes_eq app row.0.app) rows
 abbrev pub list_of : List ℕ → Rows → Shelf
 list_of app rows = map (λ row. (row.0.name, view_of row.1)) (rows_of app rows)
 
--- the index of the first row at the place, counted from start
-abbrev pub row_at : Place → ℕ → Rows → Option ℕ
-row_at place start rows = position_from (λ row. same_place place row.0) start rows
+-- the tree at the place
+abbrev pub row_at : Place → Rows → Option Tree
+row_at place rows = lookup (same_place place) rows
 
--- with the tree in the place of the first row there
+-- with the tree in the place of the one there
 abbrev pub replaced_row : Place → Tree → Rows → Rows
-replaced_row place tree [] = []
-replaced_row place tree (row ∷ rows) = if same_place place row.0 then (place, tree) ∷ rows else row ∷ replaced_row place tree rows
+replaced_row place tree rows = set_value (same_place place) rows tree
 
--- without the first row there
+-- without the one there
 abbrev pub removed_row : Place → Rows → Rows
-removed_row place [] = []
-removed_row place (row ∷ rows) = if same_place place row.0 then rows else row ∷ removed_row place rows
+removed_row place rows = remove_entry (same_place place) rows
 
 -- an engine
 pub record Stored : Type 0 where

@@ -9,7 +9,7 @@ use std::marker::Model;
 pub const APP_LIMIT: usize = 64;
 
 /// The name of an application: 1 to 64 letters, digits, `_`, `-` and `.`, and not `ICUDATA`. Contracts see it as its bytes.
-#[derive(Clone, Copy, Debug, PartialEq, Eq, Hash)]
+#[derive(Clone, Copy, Debug, Hash)]
 pub struct App {
     bytes: [u8; 64],
     len: u8,
@@ -29,6 +29,28 @@ impl Model for App {
     ghost inverse = { app_fields };
 
     ghost inverse_ok = { app_fields-view };
+}
+
+impl PartialEq for App {
+    ghost use Rattle.std.specs.Prelude.{nat_eq};
+    ghost use Rattle.std.proofs.Common.{rules};
+    ghost use Rattle.std.specs.Cmp.Lexicographic.{pointwise};
+    ghost use Rattle.std.specs.Cmp.Rules.{comparing};
+
+    ghost eq = { pointwise nat_eq };
+
+    ghost laws = { Prim.search (comparing, rules) };
+
+    fn eq(&self, other: &App) -> bool {
+        self.as_bytes() == other.as_bytes()
+    }
+}
+
+impl Eq for App {
+    ghost use Rattle.std.proofs.Common.{rules};
+    ghost use Rattle.std.specs.Cmp.Rules.{comparing};
+
+    ghost laws = { Prim.search (comparing, rules) };
 }
 
 /// Why bytes are no application's name.

@@ -12,7 +12,7 @@ ghost use Rattle.rb_requests.specs.Seen.{seen};
 
 use crate::place::{Place, PlaceFault, place_of};
 use crate::request::{LookFault, Reply, Request};
-use crate::rows::AppShelf;
+use crate::rows::{AppShelf, Rows};
 use crate::steps;
 use rb_fallback::Found;
 use rb_locales::Name;
@@ -28,7 +28,7 @@ use std::marker::Model;
 pub struct Engine {
     icudata: Vec<(Name, Tree)>,
     parents: Parents,
-    rows: Vec<(Place, Tree)>,
+    rows: Rows,
 }
 
 impl Model for Engine {
@@ -42,7 +42,7 @@ impl Model for Engine {
 
     ghost coded = { Prim.hlevel (codes, trees_coded, entries_coded) };
 
-    ghost view = { λ e. record { icudata = e.icudata.items; parents = family_pairs e.parents; rows = e.rows.items } };
+    ghost view = { λ e. record { icudata = e.icudata.items; parents = family_pairs e.parents; rows = e.rows.entries } };
 }
 
 impl Engine {
@@ -55,7 +55,7 @@ impl Engine {
         Engine {
             icudata: Vec::new(alloc),
             parents: Parents::none(alloc),
-            rows: Vec::new(alloc),
+            rows: Rows::new(alloc),
         }
     }
 
@@ -101,13 +101,13 @@ impl Engine {
 
 /// Looks a path up from a place.
 fn look_at<'a>(
-    rows: &'a [(Place, Tree)],
+    rows: &'a Rows,
     icudata: &'a [(Name, Tree)],
     parents: &Parents,
     place: &Place,
     path: &[u8],
 ) -> Result<Found<&'a Tree>, LookFault>
-    ensures { seen (λ t. view_of t.now) result ≡ looked_in (bundle_at (list_of place.now.app rows.now)) (bundle_at (seen_pairs icudata.now)) (parent_of parents.now) place.now.name path.now }
+    ensures { seen (λ t. view_of t.now) result ≡ looked_in (bundle_at (list_of place.now.app rows.now.entries)) (bundle_at (seen_pairs icudata.now)) (parent_of parents.now) place.now.name path.now }
 {
     let own = AppShelf {
         rows,

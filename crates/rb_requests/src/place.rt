@@ -1,6 +1,6 @@
 //! Where a bundle stands: under an application's name and a locale's.
 ghost use Rattle.std.specs.Prelude.{◌≡◌};
-ghost use Rattle.rb_requests.specs.Place.{place_of as placed, same_place};
+ghost use Rattle.rb_requests.specs.Place.{place_of as placed};
 
 use crate::app::{App, AppFault};
 use rb_locales::Name;
@@ -32,14 +32,5 @@ pub(crate) fn place_of(app: &[u8], locale: &[u8]) -> Result<Place, PlaceFault>
     match Name::read(locale) {
         Ok(name) => Ok(Place { app, name }),
         Err(_) => Err(PlaceFault::BadLocale),
-    }
-}
-
-impl Place {
-    /// Whether another place is this one.
-    pub(crate) fn is_at(&self, other: &Place) -> bool
-        ensures { result ≡ same_place self.now other.now }
-    {
-        self.app.as_bytes() == other.app.as_bytes() && self.name.as_bytes() == other.name.as_bytes()
     }
 }

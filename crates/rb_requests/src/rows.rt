@@ -1,54 +1,68 @@
-//! The bundles of all applications in one list, in the order of installing.
-ghost use Rattle.std.specs.Prelude.{◌≡◌, length, IfOk, map, option_map, is_some};
+//! The bundles of all applications, each at its place, in the order of installing.
+ghost use Rattle.std.specs.Prelude.{◌≡◌, length, IfOk, None, map, option_map, is_some};
 ghost use Rattle.rb_tree.specs.View.{view_of};
 ghost use Rattle.rb_requests.specs.Rows.{rows_of, list_of, row_at, replaced_row, removed_row};
+ghost use Rattle.rb_requests.specs.RowStep.{AddsRow};
 ghost use Rattle.rb_requests.specs.Shelf.{bundle_at};
 
 use crate::app::App;
 use crate::place::Place;
+use crate::request::Reply;
+use indexmap::IndexMap;
 use rb_locales::Name;
 use rb_parents::Shelf;
 use rb_tree::Tree;
 use std::alloc::{AllocError, Global};
 
-/// Where a place stands.
-pub(crate) fn find(rows: &[(Place, Tree)], place: &Place) -> Option<usize>
-    ensures { result ≡ row_at place.now 0 rows.now }
+/// The bundles of all applications, each at its place, in the order of installing.
+pub(crate) type Rows = IndexMap<Place, Tree>;
+
+/// Whether a bundle stands at a place.
+pub(crate) fn holds(rows: &Rows, place: &Place) -> bool
+    ensures { result ≡ is_some (row_at place.now rows.now.entries) }
 {
-    rows.iter().position(|row| place.is_at(&row.0))
+    rows.contains_key(place)
 }
 
 /// The names of an application's bundles, in the order of installing.
-pub(crate) fn names_of(
-    alloc: Global,
-    rows: &[(Place, Tree)],
-    app: &App,
-) -> Result<Vec<Name>, AllocError>
-    ensures { IfOk result (λ names. names.items ≡ map (λ row. row.0.name) (rows_of app.now rows.now)) }
+pub(crate) fn names_of(alloc: Global, rows: &Rows, app: &App) -> Result<Vec<Name>, AllocError>
+    ensures { IfOk result (λ names. names.items ≡ map (λ row. row.0.name) (rows_of app.now rows.now.entries)) }
 {
-    rows.iter()
-        .filter(|row| app.as_bytes() == row.0.app.as_bytes())
-        .map(|row| row.0.name)
+    rows.keys()
+        .filter(|place| app.as_bytes() == place.app.as_bytes())
+        .map(|place| place.name)
         .collect(alloc)
 }
 
 /// How many bundles an application has.
-pub(crate) fn count_of(rows: &[(Place, Tree)], app: &App) -> usize
-    ensures { result ≡ length (rows_of app.now rows.now) }
+pub(crate) fn count_of(rows: &Rows, app: &App) -> usize
+    ensures { result ≡ length (rows_of app.now rows.now.entries) }
 {
-    rows.iter()
-        .filter(|row| app.as_bytes() == row.0.app.as_bytes())
+    rows.keys()
+        .filter(|place| app.as_bytes() == place.app.as_bytes())
         .count()
 }
 
-/// Puts a tree in the place of the one that stands there.
-pub(crate) fn exchange(rows: &mut Vec<(Place, Tree)>, place: &Place, tree: Tree) -> bool
-    ensures found { result ≡ is_some (row_at place.now 0 rows.old.items) }
-    ensures rows { rows.new.items ≡ replaced_row place.now tree rows.old.items }
+/// Adds a bundle at the end.
+pub(crate) fn add(rows: &mut Rows, place: Place, tree: Tree) -> Reply
+    requires { row_at place rows.old.entries ≡ None }
+    ensures { AddsRow place tree result rows.old.entries rows.new.entries }
 {
-    match find(rows, place) {
-        Some(i) => {
-            rows[i] = (*place, tree);
+    match rows.insert(place, tree) {
+        Ok(_) => Reply::Done,
+        Err(_) => Reply::Memory,
+    }
+}
+
+/// Puts a tree in the place of the one that stands there.
+#[tactic(auto, using(crate::proofs::RowLemmas::replaced_none))]
+pub(crate) fn exchange(rows: &mut Rows, place: &Place, tree: Tree) -> bool
+    ensures found { result ≡ is_some (row_at place.now rows.old.entries) }
+    ensures rows { rows.new.entries ≡ replaced_row place.now tree rows.old.entries }
+{
+    match rows.get_mut(place) {
+        Some(held) => {
+            *held = tree;
             true
         }
         None => false,
@@ -56,30 +70,24 @@ pub(crate) fn exchange(rows: &mut Vec<(Place, Tree)>, place: &Place, tree: Tree)
 }
 
 /// Takes a tree out.
-pub(crate) fn take_out(rows: &mut Vec<(Place, Tree)>, place: &Place) -> bool
-    ensures found { result ≡ is_some (row_at place.now 0 rows.old.items) }
-    ensures rows { rows.new.items ≡ removed_row place.now rows.old.items }
+pub(crate) fn take_out(rows: &mut Rows, place: &Place) -> bool
+    ensures found { result ≡ is_some (row_at place.now rows.old.entries) }
+    ensures rows { rows.new.entries ≡ removed_row place.now rows.old.entries }
 {
-    match find(rows, place) {
-        Some(i) => {
-            let _ = rows.remove(i);
-            true
-        }
-        None => false,
-    }
+    rows.shift_remove(place).is_some()
 }
 
 /// The bundles of one application.
 #[derive(Clone, Copy)]
 pub(crate) struct AppShelf<'a, 'b> {
-    pub(crate) rows: &'a [(Place, Tree)],
+    pub(crate) rows: &'a Rows,
     pub(crate) app: &'b App,
 }
 
 impl<'a, 'b> Shelf<'a> for AppShelf<'a, 'b> {
     type N = &'a Tree;
 
-    ghost trees = { λ s. bundle_at (list_of s.app.now s.rows.now) };
+    ghost trees = { λ s. bundle_at (list_of s.app.now s.rows.now.entries) };
 
     fn bundle(self, name: &Name) -> Option<&'a Tree> {
         let place = Place {
@@ -91,14 +99,8 @@ impl<'a, 'b> Shelf<'a> for AppShelf<'a, 'b> {
 }
 
 /// The tree at a place.
-#[tactic(auto, using(crate::proofs::RowLemmas::bundle_step, crate::proofs::RowLemmas::bundle_end))]
-fn bundle_of<'a>(rows: &'a [(Place, Tree)], place: &Place) -> Option<&'a Tree>
-    ensures { option_map (λ t. view_of t.now) result ≡ bundle_at (list_of place.now.app rows.now) place.now.name }
+fn bundle_of<'a>(rows: &'a Rows, place: &Place) -> Option<&'a Tree>
+    ensures { option_map (λ t. view_of t.now) result ≡ bundle_at (list_of place.now.app rows.now.entries) place.now.name }
 {
-    for row in rows {
-        if place.is_at(&row.0) {
-            return Some(&row.1);
-        }
-    }
-    None
+    rows.get(place)
 }

@@ -1,17 +1,18 @@
-//! The requests, on the list of all bundles.
+//! The requests, on the bundles of all applications.
 ghost use Rattle.std.specs.Prelude.{◌≡◌, IfOk, option_map};
 ghost use Rattle.rb_tree.specs.View.{view_of};
 ghost use Rattle.rb_requests.specs.Ask.{IsContent, spelled, denoted};
 ghost use Rattle.rb_requests.specs.declared.request.Payload.TheVariants.{Text, File};
 ghost use Rattle.rb_requests.specs.Answer.{refusal};
-ghost use Rattle.rb_requests.specs.RowStep.{RowStep, AddsRow, TreeRead};
+ghost use Rattle.rb_requests.specs.RowStep.{RowStep, TreeRead};
 ghost use Rattle.rb_requests.specs.declared.request.Request.TheVariants.{Install, Replace, Remove, List as Lists};
 
 use crate::app::{App, AppFault};
 use crate::limits::BUNDLE_LIMIT;
-use crate::place::{Place, PlaceFault, place_of};
+use crate::place::{PlaceFault, place_of};
 use crate::request::{NameList, Payload, Reply};
 use crate::rows;
+use crate::rows::Rows;
 use rb_format::FileFault;
 use rb_lexer::SourceKind;
 use rb_parser::parse;
@@ -78,13 +79,13 @@ fn tree_of(alloc: Global, payload: Payload) -> Result<Tree, Reply>
 }
 
 pub(crate) fn install(
-    rows: &mut Vec<(Place, Tree)>,
+    rows: &mut Rows,
     alloc: Global,
     app: &ByteList,
     locale: &ByteList,
     payload: Payload,
 ) -> Reply
-    ensures { RowStep (Install app.now locale.now payload) result rows.old.items rows.new.items }
+    ensures { RowStep (Install app.now locale.now payload) result rows.old.entries rows.new.entries }
 {
     let place = match place_of(app.as_slice(), locale.as_slice()) {
         Ok(place) => place,
@@ -94,33 +95,23 @@ pub(crate) fn install(
         Ok(tree) => tree,
         Err(refusal) => return refusal,
     };
-    if rows::find(rows, &place).is_some() {
+    if rows::holds(rows, &place) {
         return Reply::Exists;
     }
     if rows::count_of(rows, &place.app) >= BUNDLE_LIMIT {
         return Reply::Full;
     }
-    add(rows, place, tree)
-}
-
-/// Adds a bundle at the end.
-fn add(rows: &mut Vec<(Place, Tree)>, place: Place, tree: Tree) -> Reply
-    ensures { AddsRow place tree result rows.old.items rows.new.items }
-{
-    match rows.push((place, tree)) {
-        Ok(()) => Reply::Done,
-        Err(_) => Reply::Memory,
-    }
+    rows::add(rows, place, tree)
 }
 
 pub(crate) fn replace(
-    rows: &mut Vec<(Place, Tree)>,
+    rows: &mut Rows,
     alloc: Global,
     app: &ByteList,
     locale: &ByteList,
     payload: Payload,
 ) -> Reply
-    ensures { RowStep (Replace app.now locale.now payload) result rows.old.items rows.new.items }
+    ensures { RowStep (Replace app.now locale.now payload) result rows.old.entries rows.new.entries }
 {
     let place = match place_of(app.as_slice(), locale.as_slice()) {
         Ok(place) => place,
@@ -137,8 +128,8 @@ pub(crate) fn replace(
     }
 }
 
-pub(crate) fn remove(rows: &mut Vec<(Place, Tree)>, app: &ByteList, locale: &ByteList) -> Reply
-    ensures { RowStep (Remove app.now locale.now) result rows.old.items rows.new.items }
+pub(crate) fn remove(rows: &mut Rows, app: &ByteList, locale: &ByteList) -> Reply
+    ensures { RowStep (Remove app.now locale.now) result rows.old.entries rows.new.entries }
 {
     match place_of(app.as_slice(), locale.as_slice()) {
         Ok(place) => {
@@ -152,8 +143,8 @@ pub(crate) fn remove(rows: &mut Vec<(Place, Tree)>, app: &ByteList, locale: &Byt
     }
 }
 
-pub(crate) fn list(rows: &[(Place, Tree)], alloc: Global, app: &ByteList) -> Reply
-    ensures { RowStep (Lists app.now) result rows.now rows.now }
+pub(crate) fn list(rows: &Rows, alloc: Global, app: &ByteList) -> Reply
+    ensures { RowStep (Lists app.now) result rows.now.entries rows.now.entries }
 {
     let app = match App::read(app.as_slice()) {
         Ok(app) => app,

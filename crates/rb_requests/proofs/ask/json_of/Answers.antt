@@ -1,4 +1,4 @@
-use Rattle.std.proofs.Common.{◌≡◌, sym, ◌∙◌, ap, rules, Some, None}
+use Rattle.std.proofs.Common.{sym, Some}
 use Rattle.serde_json.specs.View.{view}
 use Rattle.rb_requests.proofs.Texts.{data_of-text, data_of-no_text}
 use Rattle.rb_requests.proofs.ask.json_of.Goals as goal

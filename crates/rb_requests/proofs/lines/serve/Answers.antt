@@ -1,4 +1,4 @@
-use Rattle.std.proofs.Common.{◌≡◌, ℕ, ◌+◌, List, Option, Some, option_map, Vec, Global, sym, subst, arith}
+use Rattle.std.proofs.Common.{◌≡◌, ℕ, List, Option, Some, option_map, Vec, Global, sym, subst, arith}
 use Rattle.rb_requests.specs.Rows.{state_of}
 use Rattle.rb_requests.specs.Served.{AnswersAll}
 use Rattle.rb_requests.specs.Taken.{TakesLine}

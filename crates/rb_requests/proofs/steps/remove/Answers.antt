@@ -1,4 +1,4 @@
-use Rattle.std.proofs.Common.{◌≡◌, Ok, Some, Bool, true, false, is_some, arith, sym}
+use Rattle.std.proofs.Common.{◌≡◌, Ok, true, false, is_some}
 use Rattle.rb_requests.specs.Place.{place_of}
 use Rattle.rb_requests.specs.Rows.{row_at}
 use Rattle.rb_requests.proofs.StepLemmas.{taken}
@@ -7,11 +7,11 @@ use Rattle.rb_requests.proofs.steps.remove.Goals as goal
 pub returns-then-take_out : goal.returns-then-take_out
 returns-then-take_out c =
     let h : place_of c.args.app.now c.args.locale.now ≡ Ok c.in-Ok.place = cc in
-    let there : is_some (row_at c.in-Ok.place 0 c.args.rows.now.items) ≡ true = cc in
-    rw c.take_out.ensures.rows (taken c.args.app.now c.args.locale.now c.in-Ok.place c.args.rows.now.items true h there)
+    let there : is_some (row_at c.in-Ok.place c.args.rows.now.entries) ≡ true = cc in
+    rw c.take_out.ensures.rows (taken c.args.app.now c.args.locale.now c.in-Ok.place c.args.rows.now.entries true h there)
 
 pub returns-else-take_out : goal.returns-else-take_out
 returns-else-take_out c =
     let h : place_of c.args.app.now c.args.locale.now ≡ Ok c.in-Ok.place = cc in
-    let there : is_some (row_at c.in-Ok.place 0 c.args.rows.now.items) ≡ false = cc in
-    rw c.take_out.ensures.rows (taken c.args.app.now c.args.locale.now c.in-Ok.place c.args.rows.now.items false h there)
+    let there : is_some (row_at c.in-Ok.place c.args.rows.now.entries) ≡ false = cc in
+    rw c.take_out.ensures.rows (taken c.args.app.now c.args.locale.now c.in-Ok.place c.args.rows.now.entries false h there)

@@ -11,4 +11,4 @@ returns c =
     let h : place_of c.args.app.now c.args.locale.now ≡ Ok c.in-Ok.place = cc in
     let start : Start = start_of c.self.inside.icudata.items (family_pairs c.self.inside.parents) in
     rw (← c.self.view_is)
-    (c.look_at.ensures ∙ rw (c.deref.ensures.value, c.deref-2.ensures.value) (looked_at start c.args.app.now c.args.locale.now c.args.path.now c.in-Ok.place c.self.inside.rows.items h))
+    (c.look_at.ensures ∙ rw c.deref.ensures.value (looked_at start c.args.app.now c.args.locale.now c.args.path.now c.in-Ok.place c.self.inside.rows.entries h))
