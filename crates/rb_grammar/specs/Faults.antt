@@ -1,4 +1,4 @@
--- Which faults a list of marks has, and in which line.
+-- Which faults a list of marks has, and in which line. The syntax is that of ICU's genrb; the faults and their lines are this project's own rule.
 -- A fault at a mark is told by `front`, the marks before it, and `rest`, the marks from it on; at the end of the text rest is empty.
 -- What a mark is there for is told by the forms that begin with the marks so far: a text behind `{` may be a key, a string or an element, until what follows decides.
 use Rattle.std.specs.Prelude.{◌≡◌, ◌<◌, ◌≤◌, ℕ, ℤ, suc, Bool, List, [], ◌∷◌, ◌++◌, Option, Some, None, ◌⊎◌}

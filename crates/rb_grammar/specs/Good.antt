@@ -1,4 +1,4 @@
--- What the written form of a bundle means: which conditions its keys keep, and which tree it spells.
+-- What the written form of a bundle means, after ICU's genrb: which conditions its keys keep, and which tree it spells.
 use Rattle.std.specs.Prelude.{◌≡◌, ℕ, ℤ, Bool, List, [], ◌∷◌, Option, Some, None, nat_eq}
 use Rattle.std.specs.Map.{lookup}
 use Rattle.std.specs.Cmp.Lexicographic.{pointwise}

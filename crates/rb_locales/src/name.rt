@@ -12,7 +12,7 @@ use crate::limits::NAME_LIMIT;
 use std::marker::Model;
 
 /// The canonical name of a locale: at most 64 bytes, held without memory.
-#[derive(Clone, Copy, Debug, Hash)]
+#[derive(Clone, Copy, Debug)]
 pub struct Name {
     bytes: [u8; NAME_LIMIT],
     len: u8,

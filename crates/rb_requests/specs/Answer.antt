@@ -1,4 +1,5 @@
--- What an application is told over its bundles, and what its bundles are then.
+-- What an application is told over its bundles, and what its bundles are then. A look-up is the search of rb_fallback, after ICU's
+-- `ures_getByKeyWithFallback`; the requests are this project's own.
 use Rattle.std.specs.Prelude.{◌≡◌, ℕ, Bool, true, false, List, [], ◌∷◌, ◌++◌, ◌||◌, map, if◌then◌else◌, Option, Some, None, Result, Ok, Err}
 use Rattle.rb_tree.specs.Resource.{Resource}
 use Rattle.rb_tree.specs.Path.{is_path, segments}

@@ -1,4 +1,4 @@
--- What an application calls, and what it asks by that: a payload counts by the tree that it stands for.
+-- What an application calls, and what it asks by that: a payload counts by the tree that it stands for. The requests are this project's own.
 use Rattle.std.specs.Prelude.{◌≡◌, ℕ, List, Option, Some, None, Result, Ok, Err}
 use Rattle.rb_tree.specs.Resource.{Resource}
 use Rattle.rb_parser.specs.Source.{IsGoodSource}

@@ -1,4 +1,4 @@
--- What a line asks. A line is read as a `Value` of serde_json; an object of one of the forms below is a request, and further members count for nothing.
+-- What a line asks, in a form of this project. A line is read as a `Value` of serde_json; an object of one of the forms below is a request, and further members count for nothing.
 use Rattle.std.specs.Prelude.{ℕ, Bool, List, is_some, if◌then◌else◌, Option, Some, None, codes, option_and_then, option_map, Result, Ok, Err}
 use Rattle.std.specs.Str.{bytes_eq, is_utf8}
 use Rattle.serde_json.specs.Data.{Data}

@@ -1,4 +1,4 @@
--- Histories of many applications on one engine, and what holds of them all.
+-- Histories of many applications on one engine, and what holds of them all: this project's own rule that none sees another's bundles.
 use Rattle.std.specs.Prelude.{◌≡◌, ◌≢◌, ℕ, Bool, true, false, List, [], ◌∷◌, ◌++◌, not, map, filter, ◌⊎◌}
 use Rattle.std.specs.Str.{bytes_eq}
 use Rattle.rb_requests.specs.Shelf.{Shelf}

@@ -5,4 +5,4 @@ use Rattle.rb_requests.specs.declared.ask.Line.TheVariants.{Request, Look}
 
 abbrev pub line_view : Line → Call
 line_view (Request request) = Requests request
-line_view (Look app locale path) = LooksUp app locale path
+line_view (Look app locale path) = LooksUp app.now locale.now path.now

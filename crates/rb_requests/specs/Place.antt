@@ -1,4 +1,4 @@
--- Where a request's bundle is to stand.
+-- Where a request's bundle is to stand, this project's own rule: under an application's name and a locale's.
 use Rattle.std.specs.Prelude.{ℕ, Bool, ◌&&◌, List, Option, Some, None, Result, Ok, Err}
 use Rattle.std.specs.Str.{bytes_eq}
 use Rattle.rb_locales.specs.Locale.{name}

@@ -1,4 +1,4 @@
--- The line that answers a line: a compact object with its members in ascending order, as serde_json writes it, and a line feed.
+-- The line that answers a line, a form of this project: a compact object with its members in ascending order, as serde_json writes it, and a line feed.
 use Rattle.std.specs.Prelude.{ℕ, true, List, [], ◌∷◌, ◌++◌, Option, Some, None, codes}
 use Rattle.serde_json.specs.Data.{Data, boolean, string, object, no_members, member}
 use Rattle.serde_json.specs.Written.{compact_text}

@@ -1,4 +1,4 @@
--- What serving a whole input comes to.
+-- What serving a whole input comes to, this project's own rule: each line is answered before the next.
 use Rattle.std.specs.Prelude.{◌≡◌, ◌<◌, ◌++◌, ℕ, List, [], length, ⊤, Option, Some, None}
 use Rattle.std.specs.Io.KnownBytes.{Appends}
 use Rattle.rb_requests.specs.History.{State}

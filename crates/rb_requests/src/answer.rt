@@ -1,19 +1,19 @@
 //! The answer to one line.
-ghost use Rattle.std.specs.Prelude.{◌≡◌, ◌++◌, ◌∷◌, [], IfOk, false};
+ghost use Rattle.std.specs.Prelude.{◌≡◌, ◌++◌, ◌∷◌, [], IfOk, None, false};
 ghost use Rattle.serde_json.specs.View.{view};
 ghost use Rattle.serde_json.specs.Written.{compact_text, has_float};
 ghost use Rattle.rb_requests.specs.Rows.{state_of};
 ghost use Rattle.rb_requests.specs.Ask.{Requests, LooksUp};
 ghost use Rattle.rb_requests.specs.Answer.{Replies as Told};
 ghost use Rattle.rb_requests.specs.History.{is_memory_reply};
-ghost use Rattle.rb_requests.specs.Asked.{call_of};
+ghost use Rattle.rb_requests.specs.Asked.{call_of, call_in};
+ghost use Rattle.rb_requests.specs.Replied.{data_told};
 ghost use Rattle.rb_requests.specs.Lines.{CallTold, LineTold, AnswersLine};
 
-use crate::ask::{Line, line_of};
+use crate::ask::{Line, json_of, line_of};
 use crate::engine::Engine;
 use crate::request::{Reply, Request};
 use crate::told::{error_value, look_value, reply_value};
-use rb_tree::ByteList;
 use serde_json::Value;
 use std::alloc::{AllocError, Global};
 
@@ -36,24 +36,41 @@ fn answer_request(alloc: Global, engine: &mut Engine, request: Request) -> Resul
 fn answer_look(
     alloc: Global,
     engine: &mut Engine,
-    app: &ByteList,
-    locale: &ByteList,
-    path: &ByteList,
+    app: &str,
+    locale: &str,
+    path: &str,
 ) -> Result<Value, AllocError>
     ensures { IfOk result (λ v. CallTold (state_of engine.old) (LooksUp app.now locale.now path.now) (view v) (state_of engine.new)) }
 {
-    let found = engine.look(app.as_slice(), locale.as_slice(), path.as_slice());
+    let found = engine.look(app.as_bytes(), locale.as_bytes(), path.as_bytes());
     look_value(alloc, &found)
+}
+
+/// What a line is told that is no request.
+fn bad_line(alloc: Global) -> Result<Value, AllocError>
+    ensures { IfOk result (λ v. view v ≡ data_told None) }
+{
+    error_value(alloc, "BadLine")
+}
+
+/// What a line is told whose data are these.
+fn answer_data(alloc: Global, engine: &mut Engine, data: &Value) -> Result<Value, AllocError>
+    ensures { IfOk result (λ v. LineTold (state_of engine.old) (call_in (view data.now)) (view v) (state_of engine.new)) }
+{
+    match line_of(alloc, data)? {
+        None => bad_line(alloc),
+        Some(Line::Request(request)) => answer_request(alloc, engine, request),
+        Some(Line::Look { app, locale, path }) => answer_look(alloc, engine, app, locale, path),
+    }
 }
 
 /// What a line is told.
 fn answer(alloc: Global, engine: &mut Engine, line: &[u8]) -> Result<Value, AllocError>
     ensures { IfOk result (λ v. LineTold (state_of engine.old) (call_of line.now) (view v) (state_of engine.new)) }
 {
-    match line_of(alloc, line)? {
-        None => error_value(alloc, "BadLine"),
-        Some(Line::Request(request)) => answer_request(alloc, engine, request),
-        Some(Line::Look { app, locale, path }) => answer_look(alloc, engine, &app, &locale, &path),
+    match json_of(alloc, line)? {
+        None => bad_line(alloc),
+        Some(data) => answer_data(alloc, engine, &data),
     }
 }
 

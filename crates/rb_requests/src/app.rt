@@ -3,13 +3,14 @@ ghost use Rattle.std.specs.Prelude.{◌≡◌, ◌≤◌, ◌++◌, drop, length
 ghost use Rattle.std.specs.List.{list_all};
 ghost use Rattle.rb_requests.specs.App.{app_of, is_app_byte as passes};
 
+use std::hash::{Hash, Hasher};
 use std::marker::Model;
 
 /// The longest name of an application, in bytes.
 pub const APP_LIMIT: usize = 64;
 
 /// The name of an application: 1 to 64 letters, digits, `_`, `-` and `.`, and not `ICUDATA`. Contracts see it as its bytes.
-#[derive(Clone, Copy, Debug, Hash)]
+#[derive(Clone, Copy, Debug)]
 pub struct App {
     bytes: [u8; 64],
     len: u8,
@@ -51,6 +52,21 @@ impl Eq for App {
     ghost use Rattle.std.specs.Cmp.Rules.{comparing};
 
     ghost laws = { Prim.search (comparing, rules) };
+}
+
+// The bytes are written whole, as a hash of them one by one takes many times as long.
+impl Hash for App {
+    ghost use Rattle.std.specs.Prelude.{◌∷◌, []};
+    ghost use Rattle.std.proofs.Common.{rules};
+    ghost use Rattle.std.specs.Cmp.Rules.{hashing};
+
+    ghost hash_input = { λ n. n ∷ [] };
+
+    ghost respects_eq = { Prim.search (hashing, rules) };
+
+    fn hash<H: Hasher>(&self, state: &mut H) {
+        state.write(self.as_bytes());
+    }
 }
 
 /// Why bytes are no application's name.

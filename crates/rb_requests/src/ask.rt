@@ -1,7 +1,7 @@
 //! What a line asks.
 ghost use Rattle.std.specs.Prelude.{◌≡◌, codes, IfOk, option_map, option_and_then, is_some};
 ghost use Rattle.serde_json.specs.View.{view};
-ghost use Rattle.rb_requests.specs.Asked.{call_of, text_at, has as holds, call_in, payload_in, decoded, install_in, replace_in, remove_in, list_in, look_in, data_of};
+ghost use Rattle.rb_requests.specs.Asked.{text_at, has as holds, call_in, payload_in, decoded, install_in, replace_in, remove_in, list_in, look_in, data_of};
 ghost use Rattle.hex.specs.Hex.{decode_of};
 ghost use Rattle.rb_requests.specs.Line.{line_view};
 
@@ -11,14 +11,14 @@ use rb_tree::ByteList;
 use serde_json::Value;
 use std::alloc::{AllocError, Global};
 
-/// What a line asks.
+/// What a line asks. The texts of a look-up are lent out of the line's data.
 #[derive(Drop)]
-pub(crate) enum Line {
+pub(crate) enum Line<'a> {
     Request(Request),
     Look {
-        app: ByteList,
-        locale: ByteList,
-        path: ByteList,
+        app: &'a str,
+        locale: &'a str,
+        path: &'a str,
     },
 }
 
@@ -77,7 +77,7 @@ fn decode(alloc: Global, digits: &str) -> Result<Option<Payload>, AllocError>
     }
 }
 
-fn install_of(alloc: Global, value: &Value) -> Result<Option<Line>, AllocError>
+fn install_of<'a>(alloc: Global, value: &'a Value) -> Result<Option<Line<'a>>, AllocError>
     ensures { IfOk result (λ o. option_map line_view o ≡ install_in (view value.now)) }
 {
     let Some(app) = text_of(value, "app") else {
@@ -98,7 +98,7 @@ fn install_of(alloc: Global, value: &Value) -> Result<Option<Line>, AllocError>
     })))
 }
 
-fn replace_of(alloc: Global, value: &Value) -> Result<Option<Line>, AllocError>
+fn replace_of<'a>(alloc: Global, value: &'a Value) -> Result<Option<Line<'a>>, AllocError>
     ensures { IfOk result (λ o. option_map line_view o ≡ replace_in (view value.now)) }
 {
     let Some(app) = text_of(value, "app") else {
@@ -119,7 +119,7 @@ fn replace_of(alloc: Global, value: &Value) -> Result<Option<Line>, AllocError>
     })))
 }
 
-fn remove_of(alloc: Global, value: &Value) -> Result<Option<Line>, AllocError>
+fn remove_of<'a>(alloc: Global, value: &'a Value) -> Result<Option<Line<'a>>, AllocError>
     ensures { IfOk result (λ o. option_map line_view o ≡ remove_in (view value.now)) }
 {
     let Some(app) = text_of(value, "app") else {
@@ -133,7 +133,7 @@ fn remove_of(alloc: Global, value: &Value) -> Result<Option<Line>, AllocError>
     Ok(Some(Line::Request(Request::Remove { app, locale })))
 }
 
-fn list_of(alloc: Global, value: &Value) -> Result<Option<Line>, AllocError>
+fn list_of<'a>(alloc: Global, value: &'a Value) -> Result<Option<Line<'a>>, AllocError>
     ensures { IfOk result (λ o. option_map line_view o ≡ list_in (view value.now)) }
 {
     let Some(app) = text_of(value, "app") else {
@@ -143,25 +143,17 @@ fn list_of(alloc: Global, value: &Value) -> Result<Option<Line>, AllocError>
     Ok(Some(Line::Request(Request::List { app })))
 }
 
-fn look_of(alloc: Global, value: &Value) -> Result<Option<Line>, AllocError>
-    ensures { IfOk result (λ o. option_map line_view o ≡ look_in (view value.now)) }
+fn look_of<'a>(value: &'a Value) -> Option<Line<'a>>
+    ensures { option_map line_view result ≡ look_in (view value.now) }
 {
-    let Some(app) = text_of(value, "app") else {
-        return Ok(None);
-    };
-    let Some(locale) = text_of(value, "locale") else {
-        return Ok(None);
-    };
-    let Some(path) = text_of(value, "path") else {
-        return Ok(None);
-    };
-    let app = bytes_of(alloc, app)?;
-    let locale = bytes_of(alloc, locale)?;
-    let path = bytes_of(alloc, path)?;
-    Ok(Some(Line::Look { app, locale, path }))
+    let app = text_of(value, "app")?;
+    let locale = text_of(value, "locale")?;
+    let path = text_of(value, "path")?;
+    Some(Line::Look { app, locale, path })
 }
 
-fn ask(alloc: Global, value: &Value) -> Result<Option<Line>, AllocError>
+/// What a line's data ask, if they are a request.
+pub(crate) fn line_of<'a>(alloc: Global, value: &'a Value) -> Result<Option<Line<'a>>, AllocError>
     ensures { IfOk result (λ o. option_map line_view o ≡ call_in (view value.now)) }
 {
     let Some(op) = text_of(value, "op") else {
@@ -176,14 +168,14 @@ fn ask(alloc: Global, value: &Value) -> Result<Option<Line>, AllocError>
     } else if op == "list" {
         list_of(alloc, value)
     } else if op == "look" {
-        look_of(alloc, value)
+        Ok(look_of(value))
     } else {
         Ok(None)
     }
 }
 
-/// The JSON of a line, if it is JSON.
-fn json_of(alloc: Global, line: &[u8]) -> Result<Option<Value>, AllocError>
+/// The data of a line, if it is JSON.
+pub(crate) fn json_of(alloc: Global, line: &[u8]) -> Result<Option<Value>, AllocError>
     ensures { IfOk result (λ o. option_map view o ≡ data_of line.now) }
 {
     let Ok(text) = str::from_utf8(line) else {
@@ -199,14 +191,4 @@ fn json_of(alloc: Global, line: &[u8]) -> Result<Option<Value>, AllocError>
             }
         }
     }
-}
-
-/// What a line asks, if it is a request.
-pub(crate) fn line_of(alloc: Global, line: &[u8]) -> Result<Option<Line>, AllocError>
-    ensures { IfOk result (λ o. option_map line_view o ≡ call_of line.now) }
-{
-    let Some(value) = json_of(alloc, line)? else {
-        return Ok(None);
-    };
-    ask(alloc, &value)
 }
