@@ -1,76 +1,118 @@
--- How lines are taken one by one, and the lines of the whole text.
-use Rattle.std.proofs.Common.{◌≡◌, ℕ, Bool, true, false, cond, eqb, List, [], ◌∷◌, ◌++◌, Option, Some, None, option_map, refl, sym, ◌∙◌, ap}
-use Rattle.std.specs.Io.KnownBytes.{Keeps, IsAtEnd}
-use Rattle.rb_requests.specs.Taken.{next_line, ReadsOn, TakesLine}
+-- The bytes that are read of an input, and the lines of the whole text.
+use Rattle.std.proofs.Common.{◌≡◌, ◌<◌, ◌≤◌, ℕ, ◌+◌, Bool, true, false, cond, eqb, List, [], ◌∷◌, ◌++◌, length, Option, Some, None, refl, sym, ◌∙◌, ap, subst, arith, length-append}
+use Rattle.std.specs.Io.KnownBytes.{Consumes, Keeps, IsAtEnd}
+use Rattle.std.proofs.KnownBytes.{Consumes-nil, Consumes-trans, Consumes-kept, Consumes-all}
+use Rattle.std.proofs.lemmas.Bool.Decides.{nat_tests}
+use Rattle.rb_requests.specs.Taken.{ReadsPlain, ReadsPart, ReadsEnded, ReadsLast, ReadsEnd}
+use Rattle.rb_requests.specs.Served.{feeds}
 use Rattle.rb_requests.specs.Lines.{onto_first, lines_of}
 
-not_empty : (front : List ℕ) (b : ℕ) → front ++ b ∷ [] ≡ [] → ⊥
-not_empty [] b h = cc
-not_empty (f ∷ fs) b h = cc
+-- ---- line feeds
 
-no_line_more : (front : List ℕ) (b : ℕ) (bs : List ℕ) → (next_line (front ++ b ∷ []) bs ≡ None → (front ++ b ∷ [] ≡ []) × (bs ≡ [])) → (v : Bool) → eqb b 10 ≡ v → cond (eqb b 10) (Some (front, bs)) (next_line (front ++ b ∷ []) bs) ≡ None → ⊥
-no_line_more front b bs rest true e h = let k : Some (front, bs) ≡ None = rw e at h in cc
-no_line_more front b bs rest false e h = let k : next_line (front ++ b ∷ []) bs ≡ None = rw e at h in not_empty front b (rest k).0
+pub feeds-append : (a b : List ℕ) → feeds (a ++ b) ≡ feeds a + feeds b
+feeds-append [] b = omega arith
+feeds-append (x ∷ a) b = rw (feeds-append a b) (omega arith)
 
-no_line : (front text : List ℕ) → next_line front text ≡ None → (front ≡ []) × (text ≡ [])
-no_line [] [] h = (refl, refl)
-no_line (f ∷ fs) [] h = absurd cc
-no_line [] (b ∷ bs) h = absurd (no_line_more [] b bs (no_line ([] ++ b ∷ []) bs) (eqb b 10) refl h)
-no_line (f ∷ fs) (b ∷ bs) h = absurd (no_line_more (f ∷ fs) b bs (no_line ((f ∷ fs) ++ b ∷ []) bs) (eqb b 10) refl h)
+-- a byte that is no line feed, and the rest
+plain_byte : (n m : ℕ) (v : Bool) → cond v 1 0 + m ≡ 0 → (v ≡ false) × (m ≡ 0)
+plain_byte n m true h = absurd (omega arith)
+plain_byte n m false h = (refl, omega arith)
 
-pub ends : (first mid new : Option (List ℕ)) (front : List ℕ) (line : Option (List ℕ)) → ReadsOn first front mid → IsAtEnd mid × Keeps mid new → option_map (λ l. (l, [])) line ≡ next_line front [] → TakesLine first new line
-ends None mid new front line r e h = tt
-ends (Some xs) None new front line r e h = absurd r
-ends (Some xs) (Some ys) None front line r e h = absurd e.1
-ends (Some xs) (Some ys) (Some zs) front None r e h =
-    let k : next_line [] xs ≡ None = r ∙ (ap (next_line front) e.0 ∙ sym h) in
-    ((no_line [] xs k).1, e.1 ∙ e.0)
-ends (Some xs) (Some ys) (Some zs) front (Some l) r e h =
-    let z : zs ≡ [] = e.1 ∙ e.0 in
-    rw z (r ∙ (ap (next_line front) e.0 ∙ sym h))
+plain_front : (b : ℕ) (bs : List ℕ) → feeds (b ∷ bs) ≡ 0 → (eqb b 10 ≡ false) × (feeds bs ≡ 0)
+plain_front b bs h = plain_byte b (feeds bs) (eqb b 10) h
 
--- the front of a line before the lines
-joined : List ℕ → List (List ℕ) → List (List ℕ)
-joined [] ls = ls
-joined (f ∷ fs) ls = onto_first f (joined fs ls)
+-- ---- the lines of a text whose front is known
 
-joined-push : (front : List ℕ) (b : ℕ) (ls : List (List ℕ)) → joined (front ++ b ∷ []) ls ≡ joined front (onto_first b ls)
-unfolding joined
-joined-push [] b ls = refl
-joined-push (f ∷ fs) b ls = ap (onto_first f) (joined-push fs b ls)
+pub lines_of-ended : (line rest : List ℕ) → feeds line ≡ 0 → lines_of (line ++ 10 ∷ rest) ≡ line ∷ lines_of rest
+lines_of-ended [] rest h = refl
+lines_of-ended (b ∷ line) rest h =
+    let p = plain_front b line h in
+    rw p.0 (ap (onto_first b) (lines_of-ended line rest p.1))
 
-joined-feed : (front : List ℕ) (ls : List (List ℕ)) → joined front ([] ∷ ls) ≡ front ∷ ls
-unfolding joined
-joined-feed [] ls = refl
-joined-feed (f ∷ fs) ls = ap (onto_first f) (joined-feed fs ls)
+pub lines_of-last : (line : List ℕ) → feeds line ≡ 0 → 0 < length line → lines_of line ≡ line ∷ []
+lines_of-last [] h n = absurd (omega arith)
+lines_of-last (b ∷ []) h n = rw (plain_front b [] h).0 refl
+lines_of-last (b ∷ c ∷ line) h n =
+    let p = plain_front b (c ∷ line) h in
+    rw p.0 (ap (onto_first b) (lines_of-last (c ∷ line) p.1 (omega arith)))
 
-joined-end : (f : ℕ) (fs : List ℕ) → joined (f ∷ fs) [] ≡ (f ∷ fs) ∷ []
-unfolding joined
-joined-end f [] = refl
-joined-end f (g ∷ gs) = ap (onto_first f) (joined-end g gs)
+-- a line at least as long as its front
+pub record LongLine (bytes : List ℕ) (lines : List (List ℕ)) : Type 0 where
+  pub line : List ℕ
+  pub others : List (List ℕ)
+  pub is : lines ≡ line ∷ others
+  pub long : length bytes ≤ length line
 
-lines_more : (front : List ℕ) (b : ℕ) (bs line rest : List ℕ) → (next_line (front ++ b ∷ []) bs ≡ Some (line, rest) → joined (front ++ b ∷ []) (lines_of bs) ≡ line ∷ lines_of rest) → (v : Bool) → eqb b 10 ≡ v → cond (eqb b 10) (Some (front, bs)) (next_line (front ++ b ∷ []) bs) ≡ Some (line, rest) → joined front (lines_of (b ∷ bs)) ≡ line ∷ lines_of rest
-lines_more front b bs line rest ih true e h =
-    let k : Some (front, bs) ≡ Some (line, rest) = rw e at h in
-    let both : (front, bs) ≡ (line, rest) = cc in
-    let same = ap (λ (x : List ℕ × List ℕ). x.0) both in
-    let after = ap (λ (x : List ℕ × List ℕ). x.1) both in
-    rw e (joined-feed front (lines_of bs) ∙ ap (λ x. x ∷ lines_of bs) same ∙ ap (λ x. line ∷ lines_of x) after)
-lines_more front b bs line rest ih false e h =
-    let k : next_line (front ++ b ∷ []) bs ≡ Some (line, rest) = rw e at h in
-    rw e (sym (joined-push front b (lines_of bs)) ∙ ih k)
+long_one : (b : ℕ) (lines : List (List ℕ)) → LongLine (b ∷ []) (onto_first b lines)
+long_one b [] = record { line = b ∷ []; others = []; is = refl; long = omega arith }
+long_one b (l ∷ ls) = record { line = b ∷ l; others = ls; is = refl; long = omega arith }
 
-lines_from : (front text line rest : List ℕ) → next_line front text ≡ Some (line, rest) → joined front (lines_of text) ≡ line ∷ lines_of rest
-lines_from [] [] line rest h = absurd cc
-lines_from (f ∷ fs) [] line rest h =
-    let both : (f ∷ fs, []) ≡ (line, rest) = cc in
-    let same = ap (λ (x : List ℕ × List ℕ). x.0) both in
-    let after = ap (λ (x : List ℕ × List ℕ). x.1) both in
-    joined-end f fs ∙ ap (λ x. x ∷ []) same ∙ ap (λ x. line ∷ lines_of x) after
-lines_from [] (b ∷ bs) line rest h = lines_more [] b bs line rest (lines_from ([] ++ b ∷ []) bs line rest) (eqb b 10) refl h
-lines_from (f ∷ fs) (b ∷ bs) line rest h = lines_more (f ∷ fs) b bs line rest (lines_from ((f ∷ fs) ++ b ∷ []) bs line rest) (eqb b 10) refl h
+long_more : (b : ℕ) (bytes : List ℕ) (lines : List (List ℕ)) → LongLine bytes lines → LongLine (b ∷ bytes) (onto_first b lines)
+long_more b bytes lines h = let l = h.long in record { line = b ∷ h.line; others = h.others; is = ap (onto_first b) h.is; long = omega arith }
 
--- the line that is taken is the first of the text's lines
-pub lines_of-taken : (text line rest : List ℕ) → next_line [] text ≡ Some (line, rest) → lines_of text ≡ line ∷ lines_of rest
-unfolding joined
-lines_of-taken text line rest h = lines_from [] text line rest h
+pub lines_of-long : (bytes rest : List ℕ) → feeds bytes ≡ 0 → 0 < length bytes → LongLine bytes (lines_of (bytes ++ rest))
+lines_of-long [] rest h n = absurd (omega arith)
+lines_of-long (b ∷ []) rest h n = rw (plain_front b [] h).0 (long_one b (lines_of rest))
+lines_of-long (b ∷ c ∷ bytes) rest h n =
+    let p = plain_front b (c ∷ bytes) h in
+    rw p.0 (long_more b (c ∷ bytes) (lines_of ((c ∷ bytes) ++ rest)) (lines_of-long (c ∷ bytes) rest p.1 (omega arith)))
+
+-- ---- the bytes that are read
+
+-- the bytes so far, with so many, and no call has failed
+pub record ReadSoFar (first now : Option (List ℕ)) (line : List ℕ) (taken faults faults' : ℕ) : Type 0 where
+  pub part : ReadsPlain first now line
+  pub count : length line ≡ taken
+  pub quiet : faults' ≡ faults
+
+pub read_none : (a : Option (List ℕ)) (faults : ℕ) → ReadSoFar a a [] 0 faults faults
+read_none a faults = record { part = record { read = Consumes-nil a; plain = refl }; count = refl; quiet = refl }
+
+not_a_feed : (b : ℕ) → (b ≡ 10 → ⊥) → eqb b 10 ≡ false
+not_a_feed b n = grind (arith, nat_tests)
+
+pub plain_more : (a b c : Option (List ℕ)) (line : List ℕ) (byte : ℕ) → ReadsPlain a b line → Consumes b c (byte ∷ []) → (byte ≡ 10 → ⊥) → ReadsPlain a c (line ++ byte ∷ [])
+plain_more a b c line byte h k n = record {
+  read = Consumes-trans a b c line (byte ∷ []) h.read k;
+  plain = feeds-append line (byte ∷ []) ∙ rw h.plain (rw (not_a_feed byte n) refl);
+}
+
+pub read_more : (a b c : Option (List ℕ)) (line line' : List ℕ) (byte taken f f' f'' : ℕ) → ReadSoFar a b line taken f f' → Consumes b c (byte ∷ []) → (byte ≡ 10 → ⊥) → line' ≡ line ++ byte ∷ [] → f'' ≡ f' → ReadSoFar a c line' (taken + 1) f f''
+read_more a b c line line' byte taken f f' f'' h k n e q = record {
+  part = rw e (plain_more a b c line byte h.part k n);
+  count = rw e (length-append line (byte ∷ []) ∙ ap (λ x. x + 1) h.count);
+  quiet = q ∙ h.quiet;
+}
+
+pub plain_kept : (a b c : Option (List ℕ)) (line : List ℕ) → ReadsPlain a b line → Keeps b c → ReadsPlain a c line
+plain_kept a b c line h k = record { read = Consumes-kept a b c line h.read k; plain = h.plain }
+
+pub part_of : (a b : Option (List ℕ)) (line : List ℕ) → ReadsPlain a b line → ReadsPart a b 0
+part_of a b line h = record { bytes = line; part = h; long = omega arith }
+
+pub long_part : (a b : Option (List ℕ)) (line : List ℕ) (least : ℕ) → ReadsPlain a b line → least ≤ length line → ReadsPart a b least
+long_part a b line least h l = record { bytes = line; part = h; long = l }
+
+pub ended : (a b c : Option (List ℕ)) (line : List ℕ) (byte : ℕ) → ReadsPlain a b line → Consumes b c (byte ∷ []) → byte ≡ 10 → ReadsEnded a c line
+ended a b c line byte h k e = record { read = Consumes-trans a b c line (10 ∷ []) h.read (subst (λ (x : ℕ). Consumes b c (x ∷ [])) e k); plain = h.plain }
+
+-- ---- the end of the input
+
+nothing_left : (a b : Option (List ℕ)) → Consumes a b [] → IsAtEnd b → IsAtEnd a
+nothing_left None b h k = tt
+nothing_left (Some xs) None h k = absurd h
+nothing_left (Some xs) (Some ys) h k = h ∙ k
+
+nothing_read : (a b c : Option (List ℕ)) → Consumes a b [] → Keeps b c → Keeps a c
+nothing_read None b c h k = tt
+nothing_read (Some xs) None c h k = absurd h
+nothing_read (Some xs) (Some ys) None h k = absurd k
+nothing_read (Some xs) (Some ys) (Some zs) h k = k ∙ sym h
+
+pub last_of : (a b c : Option (List ℕ)) (line : List ℕ) → ReadsPlain a b line → IsAtEnd b → Keeps b c → 0 < length line → ReadsLast a c line
+last_of a b c line h e k n = record { part = plain_kept a b c line h k; some = n; all = Consumes-all a b line [] line h.read e refl }
+
+pub end_of : (a b c : Option (List ℕ)) (line : List ℕ) → ReadsPlain a b line → IsAtEnd b → Keeps b c → line ≡ [] → ReadsEnd a c
+end_of a b c line h e k n =
+    let none = subst (λ (x : List ℕ). Consumes a b x) n h.read in
+    record { end = nothing_left a b none e; kept = nothing_read a b c none k }

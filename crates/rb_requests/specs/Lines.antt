@@ -1,5 +1,5 @@
 -- The lines of a text, and the replies to them: one line of JSON for each (JSON Lines).
-use Rattle.std.specs.Prelude.{◌≡◌, ℕ, Bool, List, [], ◌∷◌, ◌++◌, ◌==◌, if◌then◌else◌, Option, Some, None}
+use Rattle.std.specs.Prelude.{◌≡◌, ◌⊎◌, ℕ, Bool, List, [], ◌∷◌, ◌++◌, ◌==◌, if◌then◌else◌, Option, Some, None}
 use Rattle.std.specs.Str.{bytes_eq}
 use Rattle.serde_json.specs.Data.{Data}
 use Rattle.rb_requests.specs.Ask.{Call, Requests, LooksUp, caller, Ask, Means}
@@ -50,3 +50,10 @@ CallTold s call d new = (told : Told) × Tells s call told new × (d ≡ data_to
 
 abbrev pub LineTold : State → Option Call → Data → State → Type 0
 LineTold s call d new = (told : Option Told) × TellsLine s call told new × (d ≡ data_told told)
+
+-- For what is private. A call or a line has taken effect, or has not.
+abbrev pub CallMayTell : State → Call → State → Type 0
+CallMayTell s call new = (new ≡ s) ⊎ ((told : Told) × Tells s call told new)
+
+abbrev pub LineMayTell : State → Option Call → State → Type 0
+LineMayTell s call new = (new ≡ s) ⊎ ((told : Option Told) × TellsLine s call told new)

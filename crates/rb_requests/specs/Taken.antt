@@ -1,30 +1,55 @@
--- For what is private. How a line is taken from what is left.
-use Rattle.std.specs.Prelude.{◌≡◌, ◌<◌, length, ℕ, List, [], ◌∷◌, ◌++◌, ◌==◌, if◌then◌else◌, ⊤, Option, Some, None}
+-- For what is private. What is read of an input where a line is taken from it.
+use Rattle.std.specs.Prelude.{◌≡◌, ◌<◌, ◌≤◌, ◌+◌, length, ℕ, List, [], ◌∷◌, ◌++◌, ⊤, Option, IfSome, Result, Ok, Err}
+use Rattle.std.specs.Io.KnownBytes.{Consumes, Keeps, IsAtEnd}
+use Rattle.rb_requests.specs.Served.{feeds}
+use Rattle.rb_requests.specs.declared.limits.TheConstants.{LINE_LIMIT}
+use Rattle.rb_requests.specs.declared.lines.NextLine.{NextLine}
+use Rattle.rb_requests.specs.declared.lines.NextLine.TheVariants.{Ended, Last, End}
+use Rattle.rb_requests.specs.declared.lines.ServeFault.{ServeFault}
+use Rattle.rb_requests.specs.declared.lines.ServeFault.TheVariants.{Read, Write, LineLimit, LineTooLong, Memory}
 
--- the next line, of which the front is read already, with what is left after it
-abbrev pub next_line : List ℕ → List ℕ → Option (List ℕ × List ℕ)
-next_line [] [] = None
-next_line (f ∷ fs) [] = Some (f ∷ fs, [])
-next_line front (b ∷ bs) = if b == 10 then Some (front, bs) else next_line (front ++ b ∷ []) bs
+-- bytes without a line feed are read
+pub record ReadsPlain (old new : Option (List ℕ)) (bytes : List ℕ) : Type 0 where
+  pub read : Consumes old new bytes
+  pub plain : feeds bytes ≡ 0
 
--- of what was left, the front of the next line is read
-abbrev pub ReadsOn : Option (List ℕ) → List ℕ → Option (List ℕ) → Type 0
-ReadsOn None front now = ⊤
-ReadsOn (Some xs) front None = ⊥
-ReadsOn (Some xs) front (Some ys) = next_line [] xs ≡ next_line front ys
+-- a part of a line is read
+pub record ReadsPart (old new : Option (List ℕ)) (least : ℕ) : Type 0 where
+  pub bytes : List ℕ
+  pub part : ReadsPlain old new bytes
+  pub long : least ≤ length bytes
 
--- a line is taken, or there is none
-abbrev pub TakesLine : Option (List ℕ) → Option (List ℕ) → Option (List ℕ) → Type 0
-TakesLine None new line = ⊤
-TakesLine (Some xs) None line = ⊥
-TakesLine (Some xs) (Some ys) None = (xs ≡ []) × (ys ≡ [])
-TakesLine (Some xs) (Some ys) (Some line) = next_line [] xs ≡ Some (line, ys)
+-- a line and its line feed are read
+pub record ReadsEnded (old new : Option (List ℕ)) (line : List ℕ) : Type 0 where
+  pub read : Consumes old new (line ++ 10 ∷ [])
+  pub plain : feeds line ≡ 0
 
--- a byte was left
-abbrev pub IsLeft : Option (List ℕ) → Type 0
-IsLeft None = ⊤
-IsLeft (Some xs) = 0 < length xs
+-- all that is left is read, a line without a line feed
+pub record ReadsLast (old new : Option (List ℕ)) (line : List ℕ) : Type 0 where
+  pub part : ReadsPlain old new line
+  pub some : 0 < length line
+  pub all : IfSome old (λ xs. line ≡ xs)
 
--- nothing was left, and nothing is
-abbrev pub TakesEnd : Option (List ℕ) → Option (List ℕ) → Type 0
-TakesEnd old new = TakesLine old new None
+-- nothing was left
+pub record ReadsEnd (old new : Option (List ℕ)) : Type 0 where
+  pub end : IsAtEnd old
+  pub kept : Keeps old new
+
+abbrev pub ReadsLine : Option (List ℕ) → Option (List ℕ) → Result NextLine ServeFault → Type 0
+ReadsLine old new (Ok (Ended line)) = ReadsEnded old new line.items
+ReadsLine old new (Ok (Last line)) = ReadsLast old new line.items
+ReadsLine old new (Ok End) = ReadsEnd old new
+ReadsLine old new (Err Read) = ReadsPart old new 0
+ReadsLine old new (Err Memory) = ReadsPart old new 0
+ReadsLine old new (Err LineTooLong) = ReadsPart old new (LINE_LIMIT + 1)
+ReadsLine old new (Err LineLimit) = ⊥
+ReadsLine old new (Err Write) = ⊥
+
+-- where no line may follow: nothing does, or a byte, or that is not known
+abbrev pub LooksAtEnd : Option (List ℕ) → Option (List ℕ) → Result ⊤ ServeFault → Type 0
+LooksAtEnd old new (Ok x) = ReadsEnd old new
+LooksAtEnd old new (Err LineLimit) = (byte : ℕ) × Consumes old new (byte ∷ [])
+LooksAtEnd old new (Err Read) = Keeps old new
+LooksAtEnd old new (Err Write) = ⊥
+LooksAtEnd old new (Err LineTooLong) = ⊥
+LooksAtEnd old new (Err Memory) = ⊥

@@ -1,5 +1,5 @@
 //! The answer to one line.
-ghost use Rattle.std.specs.Prelude.{◌≡◌, ◌++◌, ◌∷◌, [], IfOk, None, false};
+ghost use Rattle.std.specs.Prelude.{◌≡◌, ◌++◌, ◌∷◌, [], IfOk, IfErr, None, false};
 ghost use Rattle.serde_json.specs.View.{view};
 ghost use Rattle.serde_json.specs.Written.{compact_text, has_float};
 ghost use Rattle.rb_requests.specs.Rows.{state_of};
@@ -8,7 +8,7 @@ ghost use Rattle.rb_requests.specs.Answer.{Replies as Told};
 ghost use Rattle.rb_requests.specs.History.{is_memory_reply};
 ghost use Rattle.rb_requests.specs.Asked.{call_of, call_in};
 ghost use Rattle.rb_requests.specs.Replied.{data_told};
-ghost use Rattle.rb_requests.specs.Lines.{CallTold, LineTold, AnswersLine};
+ghost use Rattle.rb_requests.specs.Lines.{CallTold, LineTold, AnswersLine, CallMayTell, LineMayTell};
 
 use crate::ask::{Line, json_of, line_of};
 use crate::engine::Engine;
@@ -24,7 +24,8 @@ fn is_memory(reply: &Reply) -> bool
 }
 
 fn answer_request(alloc: Global, engine: &mut Engine, request: Request) -> Result<Value, AllocError>
-    ensures { IfOk result (λ v. CallTold (state_of engine.old) (Requests request) (view v) (state_of engine.new)) }
+    ensures told { IfOk result (λ v. CallTold (state_of engine.old) (Requests request) (view v) (state_of engine.new)) }
+    ensures fault { IfErr result (λ e. CallMayTell (state_of engine.old) (Requests request) (state_of engine.new)) }
 {
     let reply = engine.handle(alloc, request);
     if is_memory(&reply) {
@@ -35,12 +36,12 @@ fn answer_request(alloc: Global, engine: &mut Engine, request: Request) -> Resul
 
 fn answer_look(
     alloc: Global,
-    engine: &mut Engine,
+    engine: &Engine,
     app: &str,
     locale: &str,
     path: &str,
 ) -> Result<Value, AllocError>
-    ensures { IfOk result (λ v. CallTold (state_of engine.old) (LooksUp app.now locale.now path.now) (view v) (state_of engine.new)) }
+    ensures { IfOk result (λ v. CallTold (state_of engine.now) (LooksUp app.now locale.now path.now) (view v) (state_of engine.now)) }
 {
     let found = engine.look(app.as_bytes(), locale.as_bytes(), path.as_bytes());
     look_value(alloc, &found)
@@ -53,11 +54,12 @@ fn bad_line(alloc: Global) -> Result<Value, AllocError>
     error_value(alloc, "BadLine")
 }
 
-/// What a line is told whose data are these.
-fn answer_data(alloc: Global, engine: &mut Engine, data: &Value) -> Result<Value, AllocError>
-    ensures { IfOk result (λ v. LineTold (state_of engine.old) (call_in (view data.now)) (view v) (state_of engine.new)) }
+/// What a line is told that holds a value.
+fn answer_value(alloc: Global, engine: &mut Engine, value: &Value) -> Result<Value, AllocError>
+    ensures told { IfOk result (λ v. LineTold (state_of engine.old) (call_in (view value.now)) (view v) (state_of engine.new)) }
+    ensures fault { IfErr result (λ e. LineMayTell (state_of engine.old) (call_in (view value.now)) (state_of engine.new)) }
 {
-    match line_of(alloc, data)? {
+    match line_of(alloc, value)? {
         None => bad_line(alloc),
         Some(Line::Request(request)) => answer_request(alloc, engine, request),
         Some(Line::Look { app, locale, path }) => answer_look(alloc, engine, app, locale, path),
@@ -66,11 +68,12 @@ fn answer_data(alloc: Global, engine: &mut Engine, data: &Value) -> Result<Value
 
 /// What a line is told.
 fn answer(alloc: Global, engine: &mut Engine, line: &[u8]) -> Result<Value, AllocError>
-    ensures { IfOk result (λ v. LineTold (state_of engine.old) (call_of line.now) (view v) (state_of engine.new)) }
+    ensures told { IfOk result (λ v. LineTold (state_of engine.old) (call_of line.now) (view v) (state_of engine.new)) }
+    ensures fault { IfErr result (λ e. LineMayTell (state_of engine.old) (call_of line.now) (state_of engine.new)) }
 {
     match json_of(alloc, line)? {
         None => bad_line(alloc),
-        Some(data) => answer_data(alloc, engine, &data),
+        Some(value) => answer_value(alloc, engine, &value),
     }
 }
 
@@ -89,7 +92,8 @@ pub(crate) fn reply_of(
     engine: &mut Engine,
     line: &[u8],
 ) -> Result<Vec<u8>, AllocError>
-    ensures { IfOk result (λ text. AnswersLine (state_of engine.old) line.now text.items (state_of engine.new)) }
+    ensures told { IfOk result (λ text. AnswersLine (state_of engine.old) line.now text.items (state_of engine.new)) }
+    ensures fault { IfErr result (λ e. LineMayTell (state_of engine.old) (call_of line.now) (state_of engine.new)) }
 {
     let value = answer(alloc, engine, line)?;
     text_of(alloc, &value)

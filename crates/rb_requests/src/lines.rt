@@ -1,10 +1,10 @@
 //! Requests and replies by the line.
-ghost use Rattle.std.specs.Prelude.{◌≡◌, ◌≢◌, ◌≤◌, Err, IfOk, OnOk, option_map, length, drop, []};
-ghost use Rattle.std.specs.Io.KnownBytes.{Appends};
+ghost use Rattle.std.specs.Prelude.{◌≡◌, ◌≤◌, Ok, IfOk, IfErr, OnOk, Option, List, ℕ, length, drop};
+ghost use Rattle.std.specs.Io.KnownBytes.{Appends, IsAtEnd, Keeps};
 ghost use Rattle.rb_requests.specs.Rows.{state_of};
 ghost use Rattle.rb_requests.specs.Lines.{AnswersLine};
-ghost use Rattle.rb_requests.specs.Taken.{TakesLine, TakesEnd, IsLeft, next_line};
-ghost use Rattle.rb_requests.specs.Served.{AnswersAll, AnswersFirst, Wrote};
+ghost use Rattle.rb_requests.specs.Taken.{ReadsLine, ReadsPlain, LooksAtEnd};
+ghost use Rattle.rb_requests.specs.Served.{AnswersAll, AfterFault, Wrote, WrotePart, FailsLine, reads_failed, writes_failed};
 ghost use Rattle.rb_requests.specs.declared.lines.ServeFault.TheVariants as faults;
 ghost use Rattle.rb_requests.specs.Words.{serve_word};
 
@@ -56,13 +56,25 @@ pub struct Served {
     pub lines: u64,
 }
 
+/// What is read of an input for a line.
+#[derive(Drop)]
+pub(crate) enum NextLine {
+    /// A line; its line feed is read too.
+    Ended(Vec<u8>),
+    /// The rest of the input, which ends in no line feed.
+    Last(Vec<u8>),
+    /// Nothing was left.
+    End,
+}
+
 /// The next line, without its line feed. The byte past the limit is read, and no more.
-fn read_line<F: Feed>(alloc: Global, feed: &mut F) -> Result<Option<Vec<u8>>, ServeFault>
-    ensures line { IfOk result (λ line. TakesLine (F.left feed.old) (F.left feed.new) (option_map (λ v. v.items) line)) }
-    ensures fault { result ≢ Err faults.LineLimit }
+#[tactic(auto, using(crate::proofs::Reading::read_none))]
+fn read_line<F: Feed>(alloc: Global, feed: &mut F) -> Result<NextLine, ServeFault>
+    ensures line { ReadsLine (F.left feed.old) (F.left feed.new) result }
+    ensures count { F.faults feed.new ≡ reads_failed (F.faults feed.old) result }
 {
     let mut line = Vec::new(alloc);
-    'bytes: for _ in 0..LINE_LIMIT + 1 {
+    'bytes: for taken in 0..LINE_LIMIT + 1 {
         let pulled = match feed.pull() {
             Ok(pulled) => pulled,
             Err(Failed) => return Err(ServeFault::Read),
@@ -71,9 +83,9 @@ fn read_line<F: Feed>(alloc: Global, feed: &mut F) -> Result<Option<Vec<u8>>, Se
             return Ok(last_line(line));
         };
         if byte == b'\n' {
-            return Ok(Some(line));
+            return Ok(NextLine::Ended(line));
         }
-        if line.len() >= LINE_LIMIT {
+        if taken == LINE_LIMIT {
             return Err(ServeFault::LineTooLong);
         }
         if line.push(byte).is_err() {
@@ -84,17 +96,21 @@ fn read_line<F: Feed>(alloc: Global, feed: &mut F) -> Result<Option<Vec<u8>>, Se
 }
 
 /// A rest with no line feed is a line, if it isn't empty.
-fn last_line(line: Vec<u8>) -> Option<Vec<u8>>
-    ensures { option_map (λ l. (l, [])) (option_map (λ v. v.items) result) ≡ next_line line.items [] }
+#[tactic(auto, using(crate::proofs::Reading::last_of, crate::proofs::Reading::end_of))]
+fn last_line(line: Vec<u8>) -> NextLine
+    ensures { (old left new : Option (List ℕ)) → ReadsPlain old left line.items → IsAtEnd left → Keeps left new → ReadsLine old new (Ok result) }
 {
-    if line.is_empty() { None } else { Some(line) }
+    if line.is_empty() {
+        NextLine::End
+    } else {
+        NextLine::Last(line)
+    }
 }
 
 /// Whether the input is at its end. Of an input that isn't, a byte is read.
-#[tactic(auto, using(crate::proofs::Serving::ended, crate::proofs::Serving::left_over))]
 fn at_end<F: Feed>(feed: &mut F) -> Result<(), ServeFault>
-    ensures end { OnOk result (TakesEnd (F.left feed.old) (F.left feed.new)) }
-    ensures more { result ≡ Err faults.LineLimit → IsLeft (F.left feed.old) }
+    ensures end { LooksAtEnd (F.left feed.old) (F.left feed.new) result }
+    ensures count { F.faults feed.new ≡ reads_failed (F.faults feed.old) result }
 {
     match feed.pull() {
         Ok(None) => Ok(()),
@@ -104,10 +120,11 @@ fn at_end<F: Feed>(feed: &mut F) -> Result<(), ServeFault>
 }
 
 /// Writes bytes, whatever pieces the sink takes.
-#[tactic(auto, using(crate::proofs::Putting::at_first))]
+#[tactic(auto, using(crate::proofs::Putting::at_first, crate::proofs::Putting::put_part))]
 fn put_all<S: Sink>(sink: &mut S, bytes: &[u8]) -> Result<(), ServeFault>
     ensures bytes { OnOk result (Appends (S.written sink.old) (S.written sink.new) bytes.now) }
-    ensures fault { result ≢ Err faults.LineLimit }
+    ensures fault { IfErr result (λ fault. (fault ≡ faults.Write) × WrotePart (S.written sink.old) (S.written sink.new) bytes.now) }
+    ensures count { S.faults sink.new ≡ writes_failed (S.faults sink.old) result }
 {
     let mut rest = bytes;
     while !rest.is_empty() {
@@ -127,10 +144,11 @@ fn after(bytes: &[u8], n: usize) -> &[u8]
 }
 
 /// Writes a reply, and settles.
-#[tactic(auto, using(crate::proofs::Serving::settled))]
+#[tactic(auto, using(crate::proofs::Serving::settled, crate::proofs::Putting::put_whole))]
 fn put_reply<S: Sink>(sink: &mut S, reply: &[u8]) -> Result<(), ServeFault>
     ensures bytes { OnOk result (Appends (S.written sink.old) (S.written sink.new) reply.now) }
-    ensures fault { result ≢ Err faults.LineLimit }
+    ensures fault { IfErr result (λ fault. (fault ≡ faults.Write) × WrotePart (S.written sink.old) (S.written sink.new) reply.now) }
+    ensures count { S.faults sink.new ≡ writes_failed (S.faults sink.old) result }
 {
     put_all(sink, reply)?;
     match sink.settle() {
@@ -140,6 +158,7 @@ fn put_reply<S: Sink>(sink: &mut S, reply: &[u8]) -> Result<(), ServeFault>
 }
 
 /// Answers a line.
+#[tactic(auto, using(crate::proofs::Serving::not_written, crate::proofs::Serving::not_told))]
 fn serve_line<S: Sink>(
     alloc: Global,
     engine: &mut Engine,
@@ -147,7 +166,8 @@ fn serve_line<S: Sink>(
     line: &[u8],
 ) -> Result<(), ServeFault>
     ensures line { OnOk result (Wrote (state_of engine.old) line.now (S.written sink.old) (S.written sink.new) (state_of engine.new)) }
-    ensures fault { result ≢ Err faults.LineLimit }
+    ensures fault { IfErr result (λ fault. FailsLine fault (state_of engine.old) line.now (S.written sink.old) (S.written sink.new) (state_of engine.new)) }
+    ensures count { S.faults sink.new ≡ writes_failed (S.faults sink.old) result }
 {
     let reply = match reply_of(alloc, engine, line) {
         Ok(reply) => reply,
@@ -158,11 +178,12 @@ fn serve_line<S: Sink>(
 
 /// Answers the lines of an input, each with one line: a line is read, answered and settled before the next one is read.
 ///
-/// At `Ok` all the input is read, and what is written is the replies to its lines. `Read` and `Write` come where a call of
-/// the reader or the writer fails, `LineLimit` where a byte follows `max_lines` lines, `LineTooLong` at the byte past the
-/// longest line, and `Memory` where memory is wanting for a line. At `Write` the line's request has taken effect, at `Memory`
-/// it may have, and the lines before it have in any case.
-#[tactic(auto, using(crate::proofs::Serving::at_first, crate::proofs::Serving::all_read, crate::proofs::Serving::stopped))]
+/// At `Ok` all the input is read, and what is written is the replies to its lines. After a fault the replies to the first
+/// lines stand, and these have taken effect. `Read` comes where a call of the reader failed: the lines are answered whose line
+/// feeds were read. `LineTooLong` comes at the byte past the longest line, and `LineLimit` at a byte behind `max_lines` lines;
+/// all lines before it are answered. `Write` comes where a call of the writer failed: the next line has taken effect too, and
+/// a part of its reply is written. `Memory` comes where memory is wanting for the next line, which may have taken effect.
+#[tactic(auto, using(crate::proofs::Serving::at_first))]
 pub fn serve<F: Feed, S: Sink>(
     alloc: Global,
     engine: &mut Engine,
@@ -174,15 +195,22 @@ pub fn serve<F: Feed, S: Sink>(
     ensures all { IfOk result (λ served. AnswersAll (state_of engine.old) (state_of engine.new)
         (F.left feed.old) (F.left feed.new) (S.written sink.old) (S.written sink.new) served.lines) }
     ensures most { IfOk result (λ served. served.lines ≤ max_lines) }
-    // The first max_lines lines are answered, others follow, and no other has taken effect.
-    ensures limit { result ≡ Err faults.LineLimit → AnswersFirst (state_of engine.old) (state_of engine.new)
-        (F.left feed.old) (S.written sink.old) (S.written sink.new) max_lines }
+    // The first lines are answered, and so far has the next one come.
+    ensures fault { IfErr result (λ fault. AfterFault fault (state_of engine.old) (state_of engine.new)
+        (F.left feed.old) (F.left feed.new) (S.written sink.old) (S.written sink.new) max_lines) }
+    // A fault of a device comes from a call of it that failed, and from the last one.
+    ensures reads { F.faults feed.new ≡ reads_failed (F.faults feed.old) result }
+    ensures writes { S.faults sink.new ≡ writes_failed (S.faults sink.old) result }
 {
     'lines: for lines in 0..max_lines {
-        let Some(line) = read_line(alloc, feed)? else {
-            return Ok(Served { lines });
-        };
-        serve_line(alloc, engine, sink, &line)?;
+        match read_line(alloc, feed)? {
+            NextLine::Ended(line) => serve_line(alloc, engine, sink, &line)?,
+            NextLine::Last(line) => {
+                serve_line(alloc, engine, sink, &line)?;
+                return Ok(Served { lines: lines + 1 });
+            }
+            NextLine::End => return Ok(Served { lines }),
+        }
     }
     at_end(feed)?;
     Ok(Served { lines: max_lines })

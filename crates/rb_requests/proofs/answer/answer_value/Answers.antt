@@ -1,0 +1,26 @@
+use Rattle.std.proofs.Common.{◌≡◌, Some, option_map, sym, ◌∙◌, ap}
+use Rattle.std.proofs.lemmas.Result.{IfOk-weaker, IfErr-weaker}
+use Rattle.serde_json.specs.View.{view}
+use Rattle.rb_requests.specs.Ask.{Call, Requests, LooksUp}
+use Rattle.rb_requests.specs.Asked.{call_in}
+use Rattle.rb_requests.specs.Line.{line_view}
+use Rattle.rb_requests.specs.declared.ask.Line.{Line}
+use Rattle.rb_requests.specs.Rows.{state_of}
+use Rattle.rb_requests.proofs.Stepping.{line_told, line_may_tell}
+use Rattle.rb_requests.proofs.answer.answer_value.Goals as goal
+
+pub returns-in-Some-Request-clause-told : goal.returns-in-Some-Request-clause-told
+returns-in-Some-Request-clause-told c =
+    let e : call_in (view c.args.value.now) ≡ Some (Requests c.in-Some-Request.request) = sym c.in_ok-line_of.ensures ∙ ap (option_map line_view) (c.in-Some-Request.is ∙ ap (λ (l : Line). Some l) c.in-Some-Request.field-0-is) in
+    IfOk-weaker c.answer_request.result _ _ (λ v t. line_told (state_of c.args.engine.now) (call_in (view c.args.value.now)) (Requests c.in-Some-Request.request) (view v) (state_of c.answer_request.new.engine) e t) c.answer_request.ensures.told
+
+pub returns-in-Some-Request-clause-fault : goal.returns-in-Some-Request-clause-fault
+returns-in-Some-Request-clause-fault c =
+    let e : call_in (view c.args.value.now) ≡ Some (Requests c.in-Some-Request.request) = sym c.in_ok-line_of.ensures ∙ ap (option_map line_view) (c.in-Some-Request.is ∙ ap (λ (l : Line). Some l) c.in-Some-Request.field-0-is) in
+    IfErr-weaker c.answer_request.result _ _ (λ v t. line_may_tell (state_of c.args.engine.now) (call_in (view c.args.value.now)) (Requests c.in-Some-Request.request) (state_of c.answer_request.new.engine) e t) c.answer_request.ensures.fault
+
+pub returns-in-Some-Look-clause-told : goal.returns-in-Some-Look-clause-told
+returns-in-Some-Look-clause-told c =
+    let k : Call = LooksUp c.in-Some-Look.app.now c.in-Some-Look.locale.now c.in-Some-Look.path.now in
+    let e : call_in (view c.args.value.now) ≡ Some k = sym c.in_ok-line_of.ensures ∙ ap (option_map line_view) (c.in-Some-Look.is ∙ ap (λ (l : Line). Some l) c.in-Some-Look.field-0-is) in
+    IfOk-weaker c.answer_look.result _ _ (λ v t. line_told (state_of c.args.engine.now) (call_in (view c.args.value.now)) k (view v) (state_of c.args.engine.now) e t) c.answer_look.ensures
