@@ -1,17 +1,17 @@
 -- Serving line by line, and the lines of the whole input.
 use Rattle.std.proofs.Common.{◌≡◌, ◌<◌, ◌≤◌, ℕ, ◌+◌, inl, inr, ◌⊎◌, Bool, true, false, eqb, List, [], ◌∷◌, ◌++◌, length, Option, Some, None, Err, refl, sym, ◌∙◌, ap, subst, arith, append_assoc, append-nil, length-append}
 use Rattle.std.specs.Prelude.{⊤}
-use Rattle.std.specs.Io.KnownBytes.{Appends, Consumes, Keeps}
+use Rattle.std.specs.Io.KnownBytes.{Appends, Keeps}
 use Rattle.std.proofs.KnownBytes.{Appends-nil, Appends-trans, Appends-kept}
 use Rattle.rb_requests.specs.Asked.{call_of}
 use Rattle.rb_requests.specs.History.{State}
 use Rattle.rb_requests.specs.Lines.{AnswersLine, LineMayTell, Replies, lines_of, onto_first}
-use Rattle.rb_requests.specs.Served.{AnswersAll, Answers, feeds, Stands, NextTooLong, NextTold, NextAnswered, AfterRead, AfterLong, AfterLimit, AfterMemory, AfterWrite, AfterFault, Wrote, WrotePart, WroteNone, WroteSome, FailsLine}
-use Rattle.rb_requests.specs.Taken.{ReadsPlain, ReadsPart, ReadsEnded, ReadsLast, ReadsEnd, ReadsLine, LooksAtEnd}
+use Rattle.rb_requests.specs.Served.{AnswersAll, Answers, feeds, Stands, NextTooLong, NextTold, AfterFault, Wrote, WrotePart, WroteNone, WroteSome, FailsLine}
+use Rattle.rb_requests.specs.Taken.{ReadsEnded, ReadsLast, ReadsEnd, ReadsLine, LooksAtEnd}
 use Rattle.rb_requests.specs.declared.limits.TheConstants.{LINE_LIMIT}
 use Rattle.rb_requests.specs.declared.lines.ServeFault.{ServeFault}
 use Rattle.rb_requests.specs.declared.lines.ServeFault.TheVariants.{Read, Write, LineLimit, LineTooLong, Memory}
-use Rattle.rb_requests.proofs.Reading.{feeds-append, lines_of-ended, lines_of-last, lines_of-long, LongLine}
+use Rattle.rb_requests.proofs.Reading.{feeds-append, lines_of-ended, lines_of-last, lines_of-long}
 
 -- the lines that were answered, each of which had a line feed, and what was written
 pub record SoFar (first now : State) (input left : List ℕ) (written written' : Option (List ℕ)) (count : ℕ) : Type 0 where

@@ -1,6 +1,6 @@
 -- What an application is told over its bundles, and what its bundles are then. A look-up is the search of rb_fallback, after ICU's
 -- `ures_getByKeyWithFallback`; the requests are this project's own.
-use Rattle.std.specs.Prelude.{◌≡◌, ℕ, Bool, true, false, List, [], ◌∷◌, ◌++◌, ◌||◌, map, if◌then◌else◌, Option, Some, None, Result, Ok, Err}
+use Rattle.std.specs.Prelude.{ℕ, List, [], ◌∷◌, ◌++◌, ◌||◌, map, if◌then◌else◌, Some, None, Result, Ok, Err}
 use Rattle.rb_tree.specs.Resource.{Resource}
 use Rattle.rb_tree.specs.Path.{is_path, segments}
 use Rattle.rb_parents.specs.Trail.{Bundles, ParentsOf}

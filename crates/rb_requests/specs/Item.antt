@@ -1,5 +1,5 @@
 -- The reply for an item that was found, a form of this project: an object with its members in ascending order.
-use Rattle.std.specs.Prelude.{ℕ, ℤ, pos, ◌-ℤ◌, ◌^◌, List, [], ◌∷◌, length, map, nat_lt, if◌then◌else◌, codes, encode_utf8_all}
+use Rattle.std.specs.Prelude.{ℕ, ℤ, pos, ◌-ℤ◌, ◌^◌, List, length, map, nat_lt, if◌then◌else◌, codes, encode_utf8_all}
 use Rattle.std.specs.Str.{is_utf8}
 use Rattle.std.specs.Char.Utf16.{has_unpaired_surrogate, utf16_lossy_chars}
 use Rattle.std.specs.Map.{keys_of}

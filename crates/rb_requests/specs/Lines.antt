@@ -1,5 +1,5 @@
 -- The lines of a text, and the replies to them: one line of JSON for each (JSON Lines).
-use Rattle.std.specs.Prelude.{◌≡◌, ◌⊎◌, ℕ, Bool, List, [], ◌∷◌, ◌++◌, ◌==◌, if◌then◌else◌, Option, Some, None}
+use Rattle.std.specs.Prelude.{◌≡◌, ◌⊎◌, ℕ, List, [], ◌∷◌, ◌++◌, ◌==◌, if◌then◌else◌, Option, Some, None}
 use Rattle.std.specs.Str.{bytes_eq}
 use Rattle.serde_json.specs.Data.{Data}
 use Rattle.rb_requests.specs.Ask.{Call, Requests, LooksUp, caller, Ask, Means}

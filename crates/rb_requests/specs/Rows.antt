@@ -1,5 +1,5 @@
 -- What an engine is seen as: its start, and the bundles of all applications in one list.
-use Rattle.std.specs.Prelude.{ℕ, Bool, List, [], ◌∷◌, map, filter, if◌then◌else◌, Option}
+use Rattle.std.specs.Prelude.{ℕ, List, map, filter, Option}
 use Rattle.std.specs.Map.{lookup, remove_entry, set_value}
 use Rattle.std.specs.Str.{bytes_eq}
 use Rattle.rb_tree.specs.View.{view_of}

@@ -1,5 +1,5 @@
 -- What an answer of a look-up is seen as: what the application is told.
-use Rattle.std.specs.Prelude.{ℕ, List, Result, Ok, Err}
+use Rattle.std.specs.Prelude.{Result, Ok, Err}
 use Rattle.rb_tree.specs.Resource.{Resource}
 use Rattle.rb_requests.specs.Answer.{Told, Finds, Refuses}
 use Rattle.rb_fallback.specs.declared.found.Found.{Found}

@@ -1,5 +1,5 @@
 -- The bundles of one application, in the order of installing, each with its locale's name: this project's own rule.
-use Rattle.std.specs.Prelude.{ℕ, Bool, List, [], ◌∷◌, ◌++◌, length, nat_le, nat_eq, is_some, if◌then◌else◌, Option}
+use Rattle.std.specs.Prelude.{ℕ, Bool, List, [], ◌∷◌, length, nat_le, nat_eq, is_some, if◌then◌else◌, Option}
 use Rattle.std.specs.Map.{lookup}
 use Rattle.std.specs.Cmp.Lexicographic.{pointwise}
 use Rattle.rb_tree.specs.Resource.{Resource}

@@ -1,15 +1,14 @@
 //! Worked examples: lines with their replies, and the engine's own calls.
-ghost use Rattle.std.specs.Prelude.{None};
+
+mod devices;
 
 use crate::app::{App, AppFault};
-use crate::device::{Failed, Feed, ReadFeed, Sink, WriteSink};
+use crate::device::{ReadFeed, WriteSink};
 use crate::engine::Engine;
 use crate::lines::{ServeFault, serve};
 use crate::request::{LookFault, Payload, Reply, Request};
 use rb_tree::ByteList;
 use std::alloc::Global;
-use std::io;
-use std::io::{ErrorKind, Write};
 use std::test::Fail;
 
 /// What an engine writes for some lines, and how serving ended.
@@ -337,72 +336,4 @@ fn names_faults(rt: HostRuntime) {
     assert_eq!(rt; AppFault::Reserved.word(), "Reserved");
     assert_eq!(rt; LookFault::TooManyAliases.word(), "TooManyAliases");
     assert_eq!(rt; ServeFault::LineTooLong.word(), "LineTooLong");
-}
-
-/// A feed that fails, and a sink that does.
-#[derive(Drop)]
-struct Broken {
-    failed: u64,
-}
-
-impl Feed for Broken {
-    ghost left = { λ b. None };
-
-    ghost faults = { λ b. b.failed };
-
-    fn pull(&mut self) -> Result<Option<u8>, Failed> {
-        self.failed = self.failed.saturating_add(1);
-        Err(Failed)
-    }
-}
-
-impl Sink for Broken {
-    ghost written = { λ b. None };
-
-    ghost faults = { λ b. b.failed };
-
-    fn put(&mut self, _bytes: &[u8]) -> Result<usize, Failed> {
-        self.failed = self.failed.saturating_add(1);
-        Err(Failed)
-    }
-
-    fn settle(&mut self) -> Result<(), Failed> {
-        self.failed = self.failed.saturating_add(1);
-        Err(Failed)
-    }
-}
-
-/// A writer that takes everything and hands nothing on.
-#[derive(Drop)]
-struct Stuck;
-
-impl Write for Stuck {
-    fn write(&mut self, bytes: &[u8]) -> io::Result<usize> {
-        Ok(bytes.len())
-    }
-
-    fn flush(&mut self) -> io::Result<()> {
-        Err(io::Error::from(ErrorKind::BrokenPipe))
-    }
-}
-
-#[test]
-fn tells_of_failing_devices(rt: HostRuntime) {
-    let alloc = rt.alloc();
-    let mut engine = Engine::start(alloc);
-    let mut written: Vec<u8> = Vec::new(alloc);
-    let read = serve(
-        alloc,
-        &mut engine,
-        &mut Broken { failed: 0 },
-        &mut WriteSink::new(&mut written),
-        9,
-    );
-    assert_eq!(rt; read.err(), Some(ServeFault::Read));
-    let mut feed = ReadFeed::new(b"x\n".as_slice());
-    let write = serve(alloc, &mut engine, &mut feed, &mut Broken { failed: 0 }, 9);
-    assert_eq!(rt; write.err(), Some(ServeFault::Write));
-    let mut feed = ReadFeed::new(b"x\n".as_slice());
-    let settle = serve(alloc, &mut engine, &mut feed, &mut WriteSink::new(Stuck), 9);
-    assert_eq!(rt; settle.err(), Some(ServeFault::Write));
 }

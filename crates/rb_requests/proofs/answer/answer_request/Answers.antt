@@ -1,4 +1,4 @@
-use Rattle.std.proofs.Common.{◌≡◌, inr, false, sym, ◌∙◌}
+use Rattle.std.proofs.Common.{◌≡◌, false, sym, ◌∙◌}
 use Rattle.std.proofs.lemmas.Result.{IfOk-weaker}
 use Rattle.rb_requests.specs.Rows.{state_of}
 use Rattle.rb_requests.specs.Answer.{Replies}

@@ -1,5 +1,4 @@
-use Rattle.std.proofs.Common.{rules, tests, refl, true, is_ok, ◌≡◌, ◌≤◌, ℕ, [], ◌∷◌, ◌++◌, length, ◌+◌, Option, Some, Ok, subst, arith, length-append, ◌∙◌}
-use Rattle.std.specs.Io.KnownBytes.{Consumes}
+use Rattle.std.proofs.Common.{rules, tests, refl, true, is_ok, ◌≡◌, ℕ, [], ◌∷◌, ◌++◌, length, ◌+◌, Option, Ok, subst, arith, length-append, ◌∙◌}
 use Rattle.rb_requests.specs.Device.{Pulls}
 use Rattle.rb_requests.specs.declared.limits.TheConstants.{LINE_LIMIT}
 use Rattle.rb_requests.proofs.Reading.{plain_more, part_of, long_part, read_more}

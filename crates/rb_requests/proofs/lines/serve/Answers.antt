@@ -1,4 +1,4 @@
-use Rattle.std.proofs.Common.{◌≡◌, ℕ, ◌+◌, List, Option, Ok, sym, subst, arith}
+use Rattle.std.proofs.Common.{◌≡◌, ℕ, List, Ok, sym, subst, arith}
 use Rattle.std.proofs.lemmas.Result.{err_from_is_err_and}
 use Rattle.rb_requests.specs.Rows.{state_of}
 use Rattle.rb_requests.specs.Served.{AfterFault}

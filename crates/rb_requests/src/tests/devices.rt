@@ -1,0 +1,231 @@
+//! Serving over devices of which a call fails.
+ghost use Rattle.std.specs.Prelude.{None};
+
+use crate::device::{Failed, Feed, ReadFeed, Sink, WriteSink};
+use crate::engine::Engine;
+use crate::lines::{ServeFault, serve};
+use std::io;
+use std::io::{ErrorKind, Write};
+use std::test::Fail;
+
+/// The reply to a line that is no request.
+const BAD_LINE: &str = "{\"error\":\"BadLine\"}\n";
+
+/// Bytes, of which one pull fails.
+#[derive(Drop)]
+struct FailingFeed<'a> {
+    bytes: &'a [u8],
+    calls: usize,
+    failing: usize,
+    failed: u64,
+}
+
+impl<'a> Feed for FailingFeed<'a> {
+    ghost left = { λ f. None };
+
+    ghost faults = { λ f. f.failed };
+
+    fn pull(&mut self) -> Result<Option<u8>, Failed> {
+        let call = self.calls;
+        self.calls = call.saturating_add(1);
+        if call == self.failing {
+            self.failed = self.failed.saturating_add(1);
+            return Err(Failed);
+        }
+        match self.bytes.split_first() {
+            Some((byte, rest)) => {
+                self.bytes = rest;
+                Ok(Some(*byte))
+            }
+            None => Ok(None),
+        }
+    }
+}
+
+/// What was taken byte by byte, by calls of which one fails.
+#[derive(Drop)]
+struct FailingSink {
+    taken: Vec<u8>,
+    calls: usize,
+    failing: usize,
+    failed: u64,
+}
+
+impl Sink for FailingSink {
+    ghost written = { λ s. None };
+
+    ghost faults = { λ s. s.failed };
+
+    fn put(&mut self, bytes: &[u8]) -> Result<usize, Failed> {
+        let Some(byte) = bytes.first() else {
+            return Ok(0);
+        };
+        let call = self.calls;
+        self.calls = call.saturating_add(1);
+        if call == self.failing || self.taken.push(*byte).is_err() {
+            self.failed = self.failed.saturating_add(1);
+            return Err(Failed);
+        }
+        Ok(1)
+    }
+
+    fn settle(&mut self) -> Result<(), Failed> {
+        let call = self.calls;
+        self.calls = call.saturating_add(1);
+        if call == self.failing {
+            self.failed = self.failed.saturating_add(1);
+            return Err(Failed);
+        }
+        Ok(())
+    }
+}
+
+/// Empty lines without an end.
+#[derive(Drop)]
+struct Endless;
+
+impl Feed for Endless {
+    ghost left = { λ e. None };
+
+    ghost faults = { λ e. 0 };
+
+    fn pull(&mut self) -> Result<Option<u8>, Failed> {
+        Ok(Some(b'\n'))
+    }
+}
+
+/// A writer that takes everything and hands nothing on.
+#[derive(Drop)]
+struct Stuck;
+
+impl Write for Stuck {
+    fn write(&mut self, bytes: &[u8]) -> io::Result<usize> {
+        Ok(bytes.len())
+    }
+
+    fn flush(&mut self) -> io::Result<()> {
+        Err(io::Error::from(ErrorKind::BrokenPipe))
+    }
+}
+
+/// A writer that takes nothing.
+#[derive(Drop)]
+struct Full;
+
+impl Write for Full {
+    fn write(&mut self, _bytes: &[u8]) -> io::Result<usize> {
+        Ok(0)
+    }
+
+    fn flush(&mut self) -> io::Result<()> {
+        Ok(())
+    }
+}
+
+#[test]
+fn answers_the_lines_before_a_failed_read(rt: HostRuntime) -> Result<(), Fail> {
+    let alloc = rt.alloc();
+    // The last line has no line feed: the fifth call tells the end, and there is no sixth.
+    for (failing, lines) in [(0, 0), (1, 0), (2, 1), (3, 2), (4, 2), (5, 3)] {
+        let mut engine = Engine::start(alloc);
+        let mut written: Vec<u8> = Vec::new(alloc);
+        let mut feed = FailingFeed {
+            bytes: b"x\n\ny",
+            calls: 0,
+            failing,
+            failed: 0,
+        };
+        let ended = serve(
+            alloc,
+            &mut engine,
+            &mut feed,
+            &mut WriteSink::new(&mut written),
+            9,
+        );
+        let wanted = BAD_LINE.repeat(alloc, lines)?;
+        assert_eq!(rt; written.as_slice(), wanted.as_bytes());
+        assert_eq!(rt;
+            ended.err(),
+            if failing < 5 {
+                Some(ServeFault::Read)
+            } else {
+                None
+            }
+        );
+        assert_eq!(rt; feed.failed, if failing < 5 { 1 } else { 0 });
+    }
+    Ok(())
+}
+
+#[test]
+fn writes_a_part_of_a_reply_before_a_failed_write(rt: HostRuntime) -> Result<(), Fail> {
+    let alloc = rt.alloc();
+    let replies = BAD_LINE.repeat(alloc, 2)?;
+    // Of the calls for each line the last one hands the reply on.
+    for (failing, taken) in [
+        (0, 0),
+        (1, 1),
+        (19, 19),
+        (20, 20),
+        (21, 20),
+        (22, 21),
+        (41, 40),
+    ] {
+        let mut engine = Engine::start(alloc);
+        let mut sink = FailingSink {
+            taken: Vec::new(alloc),
+            calls: 0,
+            failing,
+            failed: 0,
+        };
+        let mut feed = ReadFeed::new(b"x\n\n".as_slice());
+        let ended = serve(alloc, &mut engine, &mut feed, &mut sink, 9);
+        assert_eq!(rt; ended.err(), Some(ServeFault::Write));
+        assert_eq!(rt;
+            Some(sink.taken.as_slice()),
+            replies.as_bytes().get(..taken)
+        );
+        assert_eq!(rt; sink.failed, 1);
+    }
+    Ok(())
+}
+
+#[test]
+fn keeps_a_bundle_whose_reply_is_not_written(rt: HostRuntime) -> Result<(), Fail> {
+    let alloc = rt.alloc();
+    let mut engine = Engine::start(alloc);
+    let line =
+        b"{\"op\":\"install\",\"app\":\"shop\",\"locale\":\"de\",\"text\":\"de{a{\\\"b\\\"}}\"}\n";
+    let mut feed = ReadFeed::new(line.as_slice());
+    let ended = serve(alloc, &mut engine, &mut feed, &mut WriteSink::new(Full), 9);
+    assert_eq!(rt; ended.err(), Some(ServeFault::Write));
+    assert!(rt; engine.look(b"shop", b"de", b"a").is_ok());
+    Ok(())
+}
+
+#[test]
+fn stops_at_lines_without_an_end(rt: HostRuntime) -> Result<(), Fail> {
+    let alloc = rt.alloc();
+    let mut engine = Engine::start(alloc);
+    let mut written: Vec<u8> = Vec::new(alloc);
+    let ended = serve(
+        alloc,
+        &mut engine,
+        &mut Endless,
+        &mut WriteSink::new(&mut written),
+        3,
+    );
+    assert_eq!(rt; ended.err(), Some(ServeFault::LineLimit));
+    let wanted = BAD_LINE.repeat(alloc, 3)?;
+    assert_eq!(rt; written.as_slice(), wanted.as_bytes());
+    Ok(())
+}
+
+#[test]
+fn tells_of_a_reply_that_is_not_handed_on(rt: HostRuntime) {
+    let alloc = rt.alloc();
+    let mut engine = Engine::start(alloc);
+    let mut feed = ReadFeed::new(b"x\n".as_slice());
+    let ended = serve(alloc, &mut engine, &mut feed, &mut WriteSink::new(Stuck), 9);
+    assert_eq!(rt; ended.err(), Some(ServeFault::Write));
+}
