@@ -1,10 +1,10 @@
 -- The bytes that are read of an input, and the lines of the whole text.
-use Rattle.std.proofs.Common.{◌≡◌, ◌<◌, ◌≤◌, ℕ, ◌+◌, Bool, true, false, cond, eqb, List, [], ◌∷◌, ◌++◌, length, Option, Some, None, refl, sym, ◌∙◌, ap, subst, arith, length-append}
+use Rattle.std.proofs.Common.{◌≡◌, ◌<◌, ℕ, ◌+◌, Bool, true, false, cond, eqb, List, [], ◌∷◌, ◌++◌, length, Option, Some, None, refl, sym, ◌∙◌, ap, subst, arith, length-append}
 use Rattle.std.specs.Io.KnownBytes.{Consumes, Keeps, IsAtEnd}
 use Rattle.std.proofs.KnownBytes.{Consumes-nil, Consumes-trans, Consumes-kept, Consumes-all}
 use Rattle.std.proofs.lemmas.Bool.Decides.{nat_tests}
 use Rattle.rb_requests.specs.Taken.{ReadsPlain, ReadsPart, ReadsEnded, ReadsLast, ReadsEnd}
-use Rattle.rb_requests.specs.Served.{feeds}
+use Rattle.rb_requests.specs.Served.{feeds, IsShort}
 use Rattle.rb_requests.specs.Lines.{onto_first, lines_of}
 
 -- ---- line feeds
@@ -36,27 +36,6 @@ lines_of-last (b ∷ c ∷ line) h n =
     let p = plain_front b (c ∷ line) h in
     rw p.0 (ap (onto_first b) (lines_of-last (c ∷ line) p.1 (omega arith)))
 
--- a line at least as long as its front
-pub record LongLine (bytes : List ℕ) (lines : List (List ℕ)) : Type 0 where
-  pub line : List ℕ
-  pub others : List (List ℕ)
-  pub is : lines ≡ line ∷ others
-  pub long : length bytes ≤ length line
-
-long_one : (b : ℕ) (lines : List (List ℕ)) → LongLine (b ∷ []) (onto_first b lines)
-long_one b [] = record { line = b ∷ []; others = []; is = refl; long = omega arith }
-long_one b (l ∷ ls) = record { line = b ∷ l; others = ls; is = refl; long = omega arith }
-
-long_more : (b : ℕ) (bytes : List ℕ) (lines : List (List ℕ)) → LongLine bytes lines → LongLine (b ∷ bytes) (onto_first b lines)
-long_more b bytes lines h = let l = h.long in record { line = b ∷ h.line; others = h.others; is = ap (onto_first b) h.is; long = omega arith }
-
-pub lines_of-long : (bytes rest : List ℕ) → feeds bytes ≡ 0 → 0 < length bytes → LongLine bytes (lines_of (bytes ++ rest))
-lines_of-long [] rest h n = absurd (omega arith)
-lines_of-long (b ∷ []) rest h n = rw (plain_front b [] h).0 (long_one b (lines_of rest))
-lines_of-long (b ∷ c ∷ bytes) rest h n =
-    let p = plain_front b (c ∷ bytes) h in
-    rw p.0 (long_more b (c ∷ bytes) (lines_of ((c ∷ bytes) ++ rest)) (lines_of-long (c ∷ bytes) rest p.1 (omega arith)))
-
 -- ---- the bytes that are read
 
 -- the bytes so far, with so many, and no call has failed
@@ -87,14 +66,11 @@ read_more a b c line line' byte taken f f' f'' h k n e q = record {
 pub plain_kept : (a b c : Option (List ℕ)) (line : List ℕ) → ReadsPlain a b line → Keeps b c → ReadsPlain a c line
 plain_kept a b c line h k = record { read = Consumes-kept a b c line h.read k; plain = h.plain }
 
-pub part_of : (a b : Option (List ℕ)) (line : List ℕ) → ReadsPlain a b line → ReadsPart a b 0
-part_of a b line h = record { bytes = line; part = h; long = omega arith }
+pub part_of : (a b : Option (List ℕ)) (line : List ℕ) → ReadsPlain a b line → ReadsPart a b
+part_of a b line h = record { bytes = line; part = h }
 
-pub long_part : (a b : Option (List ℕ)) (line : List ℕ) (least : ℕ) → ReadsPlain a b line → least ≤ length line → ReadsPart a b least
-long_part a b line least h l = record { bytes = line; part = h; long = l }
-
-pub ended : (a b c : Option (List ℕ)) (line : List ℕ) (byte : ℕ) → ReadsPlain a b line → Consumes b c (byte ∷ []) → byte ≡ 10 → ReadsEnded a c line
-ended a b c line byte h k e = record { read = Consumes-trans a b c line (10 ∷ []) h.read (subst (λ (x : ℕ). Consumes b c (x ∷ [])) e k); plain = h.plain }
+pub ended : (a b c : Option (List ℕ)) (line : List ℕ) (byte : ℕ) → ReadsPlain a b line → Consumes b c (byte ∷ []) → byte ≡ 10 → IsShort line → ReadsEnded a c line
+ended a b c line byte h k e o = record { short = o; read = Consumes-trans a b c line (10 ∷ []) h.read (subst (λ (x : ℕ). Consumes b c (x ∷ [])) e k); plain = h.plain }
 
 -- ---- the end of the input
 
@@ -109,8 +85,8 @@ nothing_read (Some xs) None c h k = absurd h
 nothing_read (Some xs) (Some ys) None h k = absurd k
 nothing_read (Some xs) (Some ys) (Some zs) h k = k ∙ sym h
 
-pub last_of : (a b c : Option (List ℕ)) (line : List ℕ) → ReadsPlain a b line → IsAtEnd b → Keeps b c → 0 < length line → ReadsLast a c line
-last_of a b c line h e k n = record { part = plain_kept a b c line h k; some = n; all = Consumes-all a b line [] line h.read e refl }
+pub last_of : (a b c : Option (List ℕ)) (line : List ℕ) → ReadsPlain a b line → IsAtEnd b → Keeps b c → 0 < length line → IsShort line → ReadsLast a c line
+last_of a b c line h e k n o = record { short = o; part = plain_kept a b c line h k; some = n; all = Consumes-all a b line [] line h.read e refl }
 
 pub end_of : (a b c : Option (List ℕ)) (line : List ℕ) → ReadsPlain a b line → IsAtEnd b → Keeps b c → line ≡ [] → ReadsEnd a c
 end_of a b c line h e k n =

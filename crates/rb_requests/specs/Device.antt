@@ -9,7 +9,11 @@ Pulls old new (Ok (Some byte)) = Consumes old new (byte ∷ [])
 Pulls old new (Ok None) = IsAtEnd old × Keeps old new
 Pulls old new (Err e) = Keeps old new
 
--- a failed call raises the count, up to the largest number of 64 bits
+-- a count that rises by one, up to the largest number of 64 bits
+abbrev pub risen : ℕ → ℕ
+risen count = min (count + 1) (2 ^ 64 - 1)
+
+-- a failed call raises the count
 abbrev pub counted : {T : Type 0} → ℕ → Result T Failed → ℕ
 counted old (Ok x) = old
-counted old (Err e) = min (old + 1) (2 ^ 64 - 1)
+counted old (Err e) = risen old

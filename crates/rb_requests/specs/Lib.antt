@@ -11,6 +11,7 @@ pub mod Item
 pub mod Replied
 pub mod Lines
 pub mod Served
+pub mod OneLine
 pub mod Device
 pub mod Padded
 pub mod Rows

@@ -1,7 +1,7 @@
 -- For what is private. What is read of an input where a line is taken from it.
-use Rattle.std.specs.Prelude.{◌≡◌, ◌<◌, ◌≤◌, ◌+◌, length, ℕ, List, [], ◌∷◌, ◌++◌, ⊤, Option, IfSome, Result, Ok, Err}
+use Rattle.std.specs.Prelude.{◌≡◌, ◌<◌, ◌+◌, length, ℕ, List, [], ◌∷◌, ◌++◌, ⊤, Option, IfSome, Result, Ok, Err}
 use Rattle.std.specs.Io.KnownBytes.{Consumes, Keeps, IsAtEnd}
-use Rattle.rb_requests.specs.Served.{feeds}
+use Rattle.rb_requests.specs.Served.{feeds, IsShort}
 use Rattle.rb_requests.specs.declared.limits.TheConstants.{LINE_LIMIT}
 use Rattle.rb_requests.specs.declared.lines.NextLine.{NextLine}
 use Rattle.rb_requests.specs.declared.lines.NextLine.TheVariants.{Ended, Last, End}
@@ -14,21 +14,28 @@ pub record ReadsPlain (old new : Option (List ℕ)) (bytes : List ℕ) : Type 0 
   pub plain : feeds bytes ≡ 0
 
 -- a part of a line is read
-pub record ReadsPart (old new : Option (List ℕ)) (least : ℕ) : Type 0 where
+pub record ReadsPart (old new : Option (List ℕ)) : Type 0 where
   pub bytes : List ℕ
   pub part : ReadsPlain old new bytes
-  pub long : least ≤ length bytes
+
+-- a part is read that is one byte longer than a line may be
+pub record ReadsLong (old new : Option (List ℕ)) : Type 0 where
+  pub bytes : List ℕ
+  pub part : ReadsPlain old new bytes
+  pub long : length bytes ≡ LINE_LIMIT + 1
 
 -- a line and its line feed are read
 pub record ReadsEnded (old new : Option (List ℕ)) (line : List ℕ) : Type 0 where
   pub read : Consumes old new (line ++ 10 ∷ [])
   pub plain : feeds line ≡ 0
+  pub short : IsShort line
 
 -- all that is left is read, a line without a line feed
 pub record ReadsLast (old new : Option (List ℕ)) (line : List ℕ) : Type 0 where
   pub part : ReadsPlain old new line
   pub some : 0 < length line
   pub all : IfSome old (λ xs. line ≡ xs)
+  pub short : IsShort line
 
 -- nothing was left
 pub record ReadsEnd (old new : Option (List ℕ)) : Type 0 where
@@ -39,9 +46,9 @@ abbrev pub ReadsLine : Option (List ℕ) → Option (List ℕ) → Result NextLi
 ReadsLine old new (Ok (Ended line)) = ReadsEnded old new line.items
 ReadsLine old new (Ok (Last line)) = ReadsLast old new line.items
 ReadsLine old new (Ok End) = ReadsEnd old new
-ReadsLine old new (Err Read) = ReadsPart old new 0
-ReadsLine old new (Err Memory) = ReadsPart old new 0
-ReadsLine old new (Err LineTooLong) = ReadsPart old new (LINE_LIMIT + 1)
+ReadsLine old new (Err Read) = ReadsPart old new
+ReadsLine old new (Err Memory) = ReadsPart old new
+ReadsLine old new (Err LineTooLong) = ReadsLong old new
 ReadsLine old new (Err LineLimit) = ⊥
 ReadsLine old new (Err Write) = ⊥
 

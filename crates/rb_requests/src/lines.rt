@@ -4,7 +4,8 @@ ghost use Rattle.std.specs.Io.KnownBytes.{Appends, IsAtEnd, Keeps};
 ghost use Rattle.rb_requests.specs.Rows.{state_of};
 ghost use Rattle.rb_requests.specs.Lines.{AnswersLine};
 ghost use Rattle.rb_requests.specs.Taken.{ReadsLine, ReadsPlain, LooksAtEnd};
-ghost use Rattle.rb_requests.specs.Served.{AnswersAll, AfterFault, Wrote, WrotePart, FailsLine, reads_failed, writes_failed};
+ghost use Rattle.rb_requests.specs.Served.{AnswersAll, AfterFault, IsShort, reads_failed, writes_failed};
+ghost use Rattle.rb_requests.specs.OneLine.{Wrote, WrotePart, FailsLine};
 ghost use Rattle.rb_requests.specs.declared.lines.ServeFault.TheVariants as faults;
 ghost use Rattle.rb_requests.specs.Words.{serve_word};
 
@@ -98,7 +99,7 @@ fn read_line<F: Feed>(alloc: Global, feed: &mut F) -> Result<NextLine, ServeFaul
 /// A rest with no line feed is a line, if it isn't empty.
 #[tactic(auto, using(crate::proofs::Reading::last_of, crate::proofs::Reading::end_of))]
 fn last_line(line: Vec<u8>) -> NextLine
-    ensures { (old left new : Option (List ℕ)) → ReadsPlain old left line.items → IsAtEnd left → Keeps left new → ReadsLine old new (Ok result) }
+    ensures { (old left new : Option (List ℕ)) → ReadsPlain old left line.items → IsAtEnd left → Keeps left new → IsShort line.items → ReadsLine old new (Ok result) }
 {
     if line.is_empty() {
         NextLine::End
@@ -180,7 +181,7 @@ fn serve_line<S: Sink>(
 ///
 /// At `Ok` all the input is read, and what is written is the replies to its lines. After a fault the replies to the first
 /// lines stand, and these have taken effect. `Read` comes where a call of the reader failed: the lines are answered whose line
-/// feeds were read. `LineTooLong` comes at the byte past the longest line, and `LineLimit` at a byte behind `max_lines` lines;
+/// feeds were read. `LineTooLong` comes at the byte past a line's limit, and `LineLimit` at a byte behind `max_lines` lines;
 /// all lines before it are answered. `Write` comes where a call of the writer failed: the next line has taken effect too, and
 /// a part of its reply is written. `Memory` comes where memory is wanting for the next line, which may have taken effect.
 #[tactic(auto, using(crate::proofs::Serving::at_first))]
@@ -195,10 +196,10 @@ pub fn serve<F: Feed, S: Sink>(
     ensures all { IfOk result (λ served. AnswersAll (state_of engine.old) (state_of engine.new)
         (F.left feed.old) (F.left feed.new) (S.written sink.old) (S.written sink.new) served.lines) }
     ensures most { IfOk result (λ served. served.lines ≤ max_lines) }
-    // The first lines are answered, and so far has the next one come.
+    // The first lines are answered; this is how far the next one came.
     ensures fault { IfErr result (λ fault. AfterFault fault (state_of engine.old) (state_of engine.new)
         (F.left feed.old) (F.left feed.new) (S.written sink.old) (S.written sink.new) max_lines) }
-    // A fault of a device comes from a call of it that failed, and from the last one.
+    // A count of failed calls rises by one at its device's fault, and else stays.
     ensures reads { F.faults feed.new ≡ reads_failed (F.faults feed.old) result }
     ensures writes { S.faults sink.new ≡ writes_failed (S.faults sink.old) result }
 {

@@ -29,7 +29,7 @@ fn served(
 }
 
 /// Lines with their replies, one engine for all.
-const LINES: [(&str, &str); 31] = [
+const LINES: [(&str, &str); 34] = [
     (
         "{\"op\":\"install\",\"app\":\"shop\",\"locale\":\"de\",\"text\":\"de{hello{\\\"Hallo\\\"} menu{close{\\\"C\\\"}}}\"}",
         "{\"ok\":true}",
@@ -106,6 +106,12 @@ const LINES: [(&str, &str); 31] = [
     ("nonsense", "{\"error\":\"BadLine\"}"),
     ("[1]", "{\"error\":\"BadLine\"}"),
     ("{\"op\":\"install\",\"app\":1}", "{\"error\":\"BadLine\"}"),
+    ("{\"op\":\"list\",\"app\":1}", "{\"error\":\"BadLine\"}"),
+    (
+        "{\"op\":\"list\",\"app\":\"\\ud800\"}",
+        "{\"error\":\"BadLine\"}",
+    ),
+    ("{\"op\":\"list\",\"app\":\"é\"}", "{\"error\":\"BadApp\"}"),
     (
         "{\"op\":\"install\",\"app\":\"shop\",\"locale\":\"it\"}",
         "{\"error\":\"BadLine\"}",
@@ -299,6 +305,9 @@ fn stops_at_the_last_line(rt: HostRuntime) -> Result<(), Fail> {
     assert_eq!(rt; written.as_str(), "");
     assert_eq!(rt; ended, Ok(0));
     let (written, _) = served(alloc, &mut engine, b"\xFF\n", 9)?;
+    assert_eq!(rt; written.as_str(), "{\"error\":\"BadLine\"}\n");
+    let nested = format!(in alloc; "{}{}", "[".repeat(alloc, 128)?, "]".repeat(alloc, 128)?)?;
+    let (written, _) = served(alloc, &mut engine, nested.as_bytes(), 9)?;
     assert_eq!(rt; written.as_str(), "{\"error\":\"BadLine\"}\n");
     Ok(())
 }

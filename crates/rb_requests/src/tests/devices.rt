@@ -125,7 +125,7 @@ impl Write for Full {
 #[test]
 fn answers_the_lines_before_a_failed_read(rt: HostRuntime) -> Result<(), Fail> {
     let alloc = rt.alloc();
-    // The last line has no line feed: the fifth call tells the end, and there is no sixth.
+    // Calls count from 0. The last line has no line feed: call 4 tells the end, and there is no call 5.
     for (failing, lines) in [(0, 0), (1, 0), (2, 1), (3, 2), (4, 2), (5, 3)] {
         let mut engine = Engine::start(alloc);
         let mut written: Vec<u8> = Vec::new(alloc);
@@ -161,7 +161,7 @@ fn answers_the_lines_before_a_failed_read(rt: HostRuntime) -> Result<(), Fail> {
 fn writes_a_part_of_a_reply_before_a_failed_write(rt: HostRuntime) -> Result<(), Fail> {
     let alloc = rt.alloc();
     let replies = BAD_LINE.repeat(alloc, 2)?;
-    // Of the calls for each line the last one hands the reply on.
+    // Calls 0 to 19 take a reply's bytes, call 20 hands it on, and so for the next.
     for (failing, taken) in [
         (0, 0),
         (1, 1),

@@ -15,7 +15,7 @@ returns-in_err-line-clause-fault g c =
     let left = g.F.Feed.left in
     let written = g.S.Sink.written in
     let p = err_from_is_err_and c.from_residual.result c.from_residual.ensures.1 in
-    rw (p.1, p.2) (not_read c.in_err-line.field-0.0 (state_of c.args.engine.now) (state_of c.lines.engine) (left c.args.feed.now) (left c.lines.feed) (left c.read_line.new.feed) (written c.args.sink.now) (written c.lines.sink) c.lines.lines c.args.max_lines c.lines.invariant.known c.in_err-line.ensures.line)
+    rw (p.1, p.2) (not_read c.in_err-line.field-0.0 (state_of c.args.engine.now) (state_of c.lines.engine) (left c.args.feed.now) (left c.lines.feed) (left c.read_line.new.feed) (written c.args.sink.now) (written c.lines.sink) c.lines.lines c.args.max_lines c.lines.invariant.known (omega arith) c.in_err-line.ensures.line)
 
 pub returns-in_err-serve_line-in-Ended-clause-fault : goal.returns-in_err-serve_line-in-Ended-clause-fault
 returns-in_err-serve_line-in-Ended-clause-fault g c =
@@ -24,7 +24,7 @@ returns-in_err-serve_line-in-Ended-clause-fault g c =
     let p = err_from_is_err_and c.from_residual-in_err-serve_line-in-Ended.result c.from_residual-in_err-serve_line-in-Ended.ensures.1 in
     let taken = subst (λ (x : NextLine). ReadsLine (left c.lines.feed) (left c.read_line.new.feed) (Ok x)) c.in-Ended.is c.in_ok-line.ensures.line in
     let line = subst (λ (x : List ℕ). ReadsEnded (left c.lines.feed) (left c.read_line.new.feed) x) (sym c.deref.ensures.value) taken in
-    rw (p.1, p.2) (not_answered c.in_err-serve_line-in-Ended.field-0.0 (state_of c.args.engine.now) (state_of c.lines.engine) (state_of c.serve_line.new.engine) (left c.args.feed.now) (left c.lines.feed) (left c.read_line.new.feed) (written c.args.sink.now) (written c.lines.sink) (written c.serve_line.new.sink) c.deref.result.now c.lines.lines c.args.max_lines c.lines.invariant.known line c.in_err-serve_line-in-Ended.ensures.fault)
+    rw (p.1, p.2) (not_answered c.in_err-serve_line-in-Ended.field-0.0 (state_of c.args.engine.now) (state_of c.lines.engine) (state_of c.serve_line.new.engine) (left c.args.feed.now) (left c.lines.feed) (left c.read_line.new.feed) (written c.args.sink.now) (written c.lines.sink) (written c.serve_line.new.sink) c.deref.result.now c.lines.lines c.args.max_lines c.lines.invariant.known (omega arith) line c.in_err-serve_line-in-Ended.ensures.fault)
 
 pub returns-in_err-serve_line-in-Last-clause-fault : goal.returns-in_err-serve_line-in-Last-clause-fault
 returns-in_err-serve_line-in-Last-clause-fault g c =
@@ -33,7 +33,7 @@ returns-in_err-serve_line-in-Last-clause-fault g c =
     let p = err_from_is_err_and c.from_residual-in_err-serve_line-in-Last.result c.from_residual-in_err-serve_line-in-Last.ensures.1 in
     let taken = subst (λ (x : NextLine). ReadsLine (left c.lines.feed) (left c.read_line.new.feed) (Ok x)) c.in-Last.is c.in_ok-line.ensures.line in
     let line = subst (λ (x : List ℕ). ReadsLast (left c.lines.feed) (left c.read_line.new.feed) x) (sym c.deref-in-Last.ensures.value) taken in
-    rw (p.1, p.2) (last_not_answered c.in_err-serve_line-in-Last.field-0.0 (state_of c.args.engine.now) (state_of c.lines.engine) (state_of c.serve_line-in-Last.new.engine) (left c.args.feed.now) (left c.lines.feed) (left c.read_line.new.feed) (written c.args.sink.now) (written c.lines.sink) (written c.serve_line-in-Last.new.sink) c.deref-in-Last.result.now c.lines.lines c.args.max_lines c.lines.invariant.known line c.in_err-serve_line-in-Last.ensures.fault)
+    rw (p.1, p.2) (last_not_answered c.in_err-serve_line-in-Last.field-0.0 (state_of c.args.engine.now) (state_of c.lines.engine) (state_of c.serve_line-in-Last.new.engine) (left c.args.feed.now) (left c.lines.feed) (left c.read_line.new.feed) (written c.args.sink.now) (written c.lines.sink) (written c.serve_line-in-Last.new.sink) c.deref-in-Last.result.now c.lines.lines c.args.max_lines c.lines.invariant.known (omega arith) line c.in_err-serve_line-in-Last.ensures.fault)
 
 pub returns-in-Last-clause-all : goal.returns-in-Last-clause-all
 returns-in-Last-clause-all g c =

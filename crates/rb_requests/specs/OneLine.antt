@@ -1,0 +1,38 @@
+-- For what is private. What answering one line comes to.
+use Rattle.std.specs.Prelude.{◌≡◌, ◌++◌, ◌⊎◌, ℕ, List, [], Option}
+use Rattle.std.specs.Io.KnownBytes.{Appends}
+use Rattle.rb_requests.specs.History.{State}
+use Rattle.rb_requests.specs.Lines.{AnswersLine}
+use Rattle.rb_requests.specs.Served.{TakesEffect}
+use Rattle.rb_requests.specs.declared.lines.ServeFault.{ServeFault}
+use Rattle.rb_requests.specs.declared.lines.ServeFault.TheVariants.{Read, Write, LineLimit, LineTooLong, Memory}
+
+-- a line's reply is written, and the line has taken effect
+abbrev pub Wrote : State → List ℕ → Option (List ℕ) → Option (List ℕ) → State → Type 0
+Wrote old line written written' new = (text : List ℕ) × AnswersLine old line text new × Appends written written' text
+
+-- a part of bytes is written
+pub record WrotePart (written written' : Option (List ℕ)) (bytes : List ℕ) : Type 0 where
+  pub part : List ℕ
+  pub missing : List ℕ
+  pub whole : part ++ missing ≡ bytes
+  pub wrote : Appends written written' part
+
+-- a line has taken effect, and a part of its reply is written
+pub record WroteSome (old : State) (line : List ℕ) (written written' : Option (List ℕ)) (new : State) : Type 0 where
+  pub reply : List ℕ
+  pub answers : AnswersLine old line reply new
+  pub wrote : WrotePart written written' reply
+
+-- a line has taken effect or has not, and nothing is written
+pub record WroteNone (old : State) (line : List ℕ) (written written' : Option (List ℕ)) (new : State) : Type 0 where
+  pub tells : (new ≡ old) ⊎ TakesEffect old line new
+  pub kept : Appends written written' []
+
+-- why a line is not answered
+abbrev pub FailsLine : ServeFault → State → List ℕ → Option (List ℕ) → Option (List ℕ) → State → Type 0
+FailsLine Memory old line written written' new = WroteNone old line written written' new
+FailsLine Write old line written written' new = WroteSome old line written written' new
+FailsLine Read old line written written' new = ⊥
+FailsLine LineLimit old line written written' new = ⊥
+FailsLine LineTooLong old line written written' new = ⊥
