@@ -38,7 +38,7 @@ impl Model for Engine {
     ghost Value = { Stored };
 
     ghost use Rattle.std.specs.Coded.{codes};
-    ghost use Rattle.rb_tree.specs.Resource.{trees_coded, entries_coded};
+    ghost use Rattle.rb_tree.specs.Codes.{trees_coded, entries_coded};
 
     ghost coded = { Prim.hlevel (codes, trees_coded, entries_coded) };
 

@@ -3,7 +3,6 @@ use Rattle.std.specs.Prelude.{◌≡◌, ◌≤◌, ℕ, ℤ, List, [], length, 
 use Rattle.rb_tree.specs.declared.kind.Kind.{Kind}
 use Rattle.rb_tree.specs.declared.kind.Kind.TheVariants as kind
 use Rattle.rb_tree.specs.Resource.{Resource, string, int, ints, binary, alias, array, table, height, weight}
-use Rattle.rb_tree.specs.declared.limits.TheConstants.{HEIGHT_LIMIT, WEIGHT_LIMIT}
 use Rattle.rb_tree.specs.Keys.{items, pairs}
 use Rattle.std.specs.Map.{lookup, values_of}
 use Rattle.std.specs.Cmp.Lexicographic.{pointwise}
@@ -110,5 +109,5 @@ HasUnits kind.Table = ⊥
 -- a table within the limits of a bundle
 pub record Fits (t : Resource) : Type 0 where
   pub is_table : kind_of t ≡ kind.Table
-  pub low : height t ≤ HEIGHT_LIMIT
-  pub light : weight t ≤ WEIGHT_LIMIT
+  pub low : height t ≤ 64
+  pub light : weight t ≤ 33554432

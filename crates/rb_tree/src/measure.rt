@@ -21,7 +21,10 @@ impl Tree {
         }
     }
 
-    /// A bound on the bytes that the tree takes in a file of its own; `u64::MAX` at the most.
+    /// The tree's size as the limit of a bundle counts it, in bytes; `u64::MAX` at the most. A String or an Alias of n units counts
+    /// 8 + 2n, an Int nothing, a vector of n numbers 4 + 4n, a Binary of n bytes 20 + n, an array of n items 4 + 4n and its items,
+    /// a table of n entries 8 + 8n, each key's length and one more, and its items. It is no file's length: a file has a header
+    /// and indexes besides, and may hold a key or an item once for many.
     #[cycle(weight)]
     #[tactic(auto, using(crate::proofs::Measures::measures))]
     pub fn weight(&self) -> u64
@@ -40,7 +43,7 @@ impl Tree {
         }
     }
 
-    /// Whether the tree is a table whose height and weight are within the limits of a bundle.
+    /// Whether the tree is a table of height at most 64 and weight at most 33,554,432, as a bundle's is.
     pub fn fits(&self) -> bool
         ensures { IsTrue result ↔ Fits (view_of self.now) }
     {
