@@ -5,7 +5,6 @@ use Rattle.std.proofs.lemmas.Str.{encodes_same, utf8_valid_len-IsValidUpTo}
 use Rattle.rb_lexer.specs.declared.token.Token.{Token}
 use Rattle.rb_lexer.specs.declared.fault.SourceKind.{SourceKind}
 use Rattle.rb_lexer.specs.declared.fault.SourceKind.TheVariants.{Memory}
-use Rattle.rb_lexer.specs.declared.limits.TheConstants.{SOURCE_LIMIT}
 use Rattle.rb_lexer.specs.declared.fault.SourceFault.{SourceFault}
 use Rattle.rb_lexer.specs.Lexeme.{Lexeme, chars_of, AreLexemes}
 use Rattle.rb_lexer.specs.Tokens.{width, line_of, HasTokens}
@@ -87,19 +86,19 @@ fault_one bytes kind other line at a b =
 not_valid : (bytes : List ℕ) (at : ℕ) → IsValidUpTo bytes at → IsUtf8 bytes → ⊥
 not_valid bytes at v u = v.longest (length bytes) v.short (rw (take_all (length bytes) bytes (le_refl (length bytes))) u)
 
-text_or_utf8 : (bytes : List ℕ) (kind : SourceKind) (line : ℕ) → IsTextFault bytes kind line → length bytes ≤ SOURCE_LIMIT → IsUtf8 bytes → ⊥
+text_or_utf8 : (bytes : List ℕ) (kind : SourceKind) (line : ℕ) → IsTextFault bytes kind line → length bytes ≤ 8388608 → IsUtf8 bytes → ⊥
 text_or_utf8 bytes kind line f short u = ⊎_elim (λ x. omega (arith, x.1.0)) (λ x. not_valid bytes x.1.1.0 x.1.1.1 u) f
 
 utf8_of : (bytes : List ℕ) (ts : List Token) → HasTokens bytes ts → IsUtf8 bytes
 utf8_of bytes ts h = (chars_of h.lexemes [], (h.scalars, sym h.spelled))
 
-pub source_or : (bytes : List ℕ) (ts : List Token) (kind : SourceKind) (line : ℕ) → length bytes ≤ SOURCE_LIMIT → HasTokens bytes ts → IsSourceFault bytes kind line → ⊥
+pub source_or : (bytes : List ℕ) (ts : List Token) (kind : SourceKind) (line : ℕ) → length bytes ≤ 8388608 → HasTokens bytes ts → IsSourceFault bytes kind line → ⊥
 source_or bytes ts kind line short h f = ⊎_elim (λ t. text_or_utf8 bytes kind line t short (utf8_of bytes ts h)) (λ t. not_both bytes ts kind line h t.1) f
 
 pub only_ok : (bytes : List ℕ) (tokens ts : List Token) → HasTokens bytes tokens → HasTokens bytes ts → tokens ≡ ts
 only_ok bytes tokens ts a b = tokens_one bytes tokens ts a b
 
-pub only_err : (bytes : List ℕ) (e : SourceFault) → IsRefusal bytes e → (ts : List Token) → length bytes ≤ SOURCE_LIMIT → HasTokens bytes ts → e.kind ≡ Memory
+pub only_err : (bytes : List ℕ) (e : SourceFault) → IsRefusal bytes e → (ts : List Token) → length bytes ≤ 8388608 → HasTokens bytes ts → e.kind ≡ Memory
 only_err bytes e r ts short h = ⊎_elim (λ m. m.0) (λ f. absurd (source_or bytes ts e.kind e.line short h f)) r
 
 -- ---- any fault of a source

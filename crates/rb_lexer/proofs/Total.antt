@@ -3,7 +3,6 @@ use Rattle.std.proofs.Common.{◌≡◌, ◌≢◌, ℕ, zero, suc, ◌≤◌, �
 use Rattle.std.proofs.lemmas.Bool.{cases_Bool}
 use Rattle.std.proofs.lemmas.Str.{IsUtf8-from_is_utf8, is_utf8-from_IsUtf8, IsUtf8-nil}
 use Rattle.std.specs.Str.{all_scalars, IsValidUpTo, is_utf8}
-use Rattle.rb_lexer.specs.declared.limits.TheConstants.{SOURCE_LIMIT}
 use Rattle.rb_lexer.specs.declared.token.Token.{Token}
 use Rattle.rb_lexer.specs.declared.fault.SourceKind.{SourceKind}
 use Rattle.rb_lexer.specs.declared.fault.SourceKind.TheVariants.{TooLong, NotUtf8, BadEscape, OpenQuote}
@@ -208,10 +207,10 @@ valid_up_to bytes garbled =
 -- ---- any source
 pub source_answered : (bytes : List ℕ) → ((ts : List Token) × HasTokens bytes ts) ⊎ ((kind : SourceKind) × ((line : ℕ) × IsSourceFault bytes kind line))
 source_answered bytes =
-    ⊎_elim (λ long. inr (TooLong, (1, inl (inl (refl, (ltb-true SOURCE_LIMIT (length bytes) long, refl))))))
+    ⊎_elim (λ long. inr (TooLong, (1, inl (inl (refl, (ltb-true 8388608 (length bytes) long, refl))))))
     (λ short. ⊎_elim
-    (λ a. ⊎_elim (λ w. inl w) (λ w. inr (w.0, (w.1.0, inr (ltb-false SOURCE_LIMIT (length bytes) short, w.1.1)))) (utf8_answered bytes (IsUtf8-from_is_utf8 bytes a)))
+    (λ a. ⊎_elim (λ w. inl w) (λ w. inr (w.0, (w.1.0, inr (ltb-false 8388608 (length bytes) short, w.1.1)))) (utf8_answered bytes (IsUtf8-from_is_utf8 bytes a)))
     (λ a. let w = valid_up_to bytes (λ u. let k = is_utf8-from_IsUtf8 bytes u in cc) in
-    inr (NotUtf8, (line_of bytes w.0, inl (inr (refl, (ltb-false SOURCE_LIMIT (length bytes) short, (w.0, w.1, refl)))))))
+    inr (NotUtf8, (line_of bytes w.0, inl (inr (refl, (ltb-false 8388608 (length bytes) short, (w.0, w.1, refl)))))))
     (cases_Bool (is_utf8 bytes)))
-    (cases_Bool (nat_lt SOURCE_LIMIT (length bytes)))
+    (cases_Bool (nat_lt 8388608 (length bytes)))
