@@ -7,7 +7,7 @@ use Rattle.rb_lexer.specs.declared.fault.SourceKind.{SourceKind}
 use Rattle.rb_lexer.specs.declared.fault.SourceKind.TheVariants.{Memory}
 use Rattle.rb_lexer.specs.declared.fault.SourceFault.{SourceFault}
 use Rattle.rb_lexer.specs.Lexeme.{Lexeme, chars_of, AreLexemes}
-use Rattle.rb_lexer.specs.Tokens.{width, line_of, HasTokens}
+use Rattle.rb_lexer.specs.Tokens.{width, line_of, HasTokens, LexesTo}
 use Rattle.rb_lexer.specs.Faults.{Broken, broken_chars, IsBroken, broken_kind, from_fault, HasFault}
 use Rattle.rb_lexer.specs.Atom.{Atom, atoms_chars, AreAtoms, atoms_tokens}
 use Rattle.rb_lexer.specs.Faults.{IsGarbled, IsTextFault, IsSourceFault, IsRefusal}
@@ -95,11 +95,17 @@ utf8_of bytes ts h = (chars_of h.lexemes [], (h.scalars, sym h.spelled))
 pub source_or : (bytes : List ℕ) (ts : List Token) (kind : SourceKind) (line : ℕ) → length bytes ≤ 8388608 → HasTokens bytes ts → IsSourceFault bytes kind line → ⊥
 source_or bytes ts kind line short h f = ⊎_elim (λ t. text_or_utf8 bytes kind line t short (utf8_of bytes ts h)) (λ t. not_both bytes ts kind line h t.1) f
 
+pub lexed_one : (bytes : List ℕ) (ts us : List Token) → LexesTo bytes ts → LexesTo bytes us → ts ≡ us
+lexed_one bytes ts us a b = tokens_one bytes ts us a.1 b.1
+
+pub lexed_or : (bytes : List ℕ) (ts : List Token) (kind : SourceKind) (line : ℕ) → LexesTo bytes ts → IsSourceFault bytes kind line → ⊥
+lexed_or bytes ts kind line h f = source_or bytes ts kind line h.0 h.1 f
+
 pub only_ok : (bytes : List ℕ) (tokens ts : List Token) → HasTokens bytes tokens → HasTokens bytes ts → tokens ≡ ts
 only_ok bytes tokens ts a b = tokens_one bytes tokens ts a b
 
-pub only_err : (bytes : List ℕ) (e : SourceFault) → IsRefusal bytes e → (ts : List Token) → length bytes ≤ 8388608 → HasTokens bytes ts → e.kind ≡ Memory
-only_err bytes e r ts short h = ⊎_elim (λ m. m.0) (λ f. absurd (source_or bytes ts e.kind e.line short h f)) r
+pub only_err : (bytes : List ℕ) (e : SourceFault) → IsRefusal bytes e → (ts : List Token) → LexesTo bytes ts → e.kind ≡ Memory
+only_err bytes e r ts h = ⊎_elim (λ m. m.0) (λ f. absurd (lexed_or bytes ts e.kind e.line h f)) r
 
 -- ---- any fault of a source
 garbled_one : (bytes : List ℕ) (line at : ℕ) → IsGarbled bytes line → IsGarbled bytes at → line ≡ at

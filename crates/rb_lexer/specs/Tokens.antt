@@ -70,6 +70,10 @@ pub record HasTokens (bytes : List ℕ) (ts : List Token) : Type 0 where
   pub good : AreLexemes lexemes []
   pub tokens : ts ≡ tokens_from bytes 0 None lexemes
 
+-- The source is within the limit of 8,388,608 bytes and has these tokens.
+abbrev pub LexesTo : List ℕ → List Token → Type 0
+LexesTo bytes ts = (length bytes ≤ 8388608) × HasTokens bytes ts
+
 -- From `at` on, each token takes a byte at least and begins where the one before ends or behind it; none goes past `end`.
 abbrev pub AreInOrder : ℕ → List Token → ℕ → Type 0
 AreInOrder at [] end = at ≤ end

@@ -4,7 +4,7 @@ ghost use Rattle.std.specs.Str.{chars, all_scalars};
 ghost use Rattle.rb_lexer.specs.declared.fault.SourceKind.{SourceKind};
 ghost use Rattle.rb_lexer.specs.declared.fault.SourceKind.TheVariants.{Memory};
 ghost use Rattle.rb_lexer.specs.declared.token.Token.{Token};
-ghost use Rattle.rb_lexer.specs.Tokens.{width, line_of, HasTokens, AreInOrder};
+ghost use Rattle.rb_lexer.specs.Tokens.{width, line_of, LexesTo, AreInOrder};
 ghost use Rattle.rb_lexer.specs.Faults.{IsSourceFault, IsRefusal};
 ghost use Rattle.rb_lexer.specs.Atom.{EndsSo};
 
@@ -66,13 +66,13 @@ fn located(bytes: &[u8], stop: Stop) -> SourceFault
 /// where an allocation was refused. Nothing is left behind on a refusal.
 pub fn lex(alloc: Global, bytes: &[u8]) -> Result<Vec<Token>, SourceFault>
     // What is answered are the source's tokens.
-    ensures found { IfOk result (λ tokens. (length bytes.now ≤ 8388608) × HasTokens bytes.now tokens.items) }
+    ensures found { IfOk result (λ tokens. LexesTo bytes.now tokens.items) }
     // Spans are in order and inside the source.
     ensures in_order { IfOk result (λ tokens. AreInOrder 0 tokens.items (length bytes.now)) }
     // A refusal is a fault of the source, with its line, unless memory ran out.
     ensures fault { IfErr result (λ e. IsRefusal bytes.now e) }
     // A source that has tokens is read, unless memory runs out.
-    ensures only { (tokens : List Token) → length bytes.now ≤ 8388608 → HasTokens bytes.now tokens
+    ensures only { (tokens : List Token) → LexesTo bytes.now tokens
         → MatchResult result (λ found. found.items ≡ tokens) (λ e. e.kind ≡ Memory) }
     // A source that has a fault is refused for it, unless memory runs out.
     ensures refused { (kind : SourceKind) (line : ℕ) → IsSourceFault bytes.now kind line
