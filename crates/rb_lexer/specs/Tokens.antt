@@ -6,7 +6,7 @@ use Rattle.rb_lexer.specs.Lexeme.{Lexeme, white, comment, sign, quoted, unquoted
 use Rattle.rb_lexer.specs.declared.token.Mark.{Mark}
 use Rattle.rb_lexer.specs.declared.token.Mark.TheVariants.{Text, LeftBrace, RightBrace, Colon, Comma}
 use Rattle.rb_lexer.specs.declared.token.Token.{Token}
-use Rattle.rb_lexer.specs.declared.piece.Piece.{Piece}
+use Rattle.rb_lexer.specs.declared.pending.PendingText.{PendingText}
 
 -- how many bytes the characters take
 abbrev pub width : List ℕ → ℕ
@@ -24,24 +24,24 @@ is_empty [] = true
 is_empty (u ∷ us) = false
 
 -- Two quoted pieces are joined directly, and so is what follows nothing. Otherwise a space goes between.
-abbrev pub between : Piece → Piece → List ℕ
+abbrev pub between : PendingText → PendingText → List ℕ
 between a b = if (is_empty a.units || (a.is_quoted && b.is_quoted)) then [] else 0x20 ∷ []
 
-abbrev pub joined : Piece → Piece → Piece
+abbrev pub joined : PendingText → PendingText → PendingText
 joined a b = record { units = (a.units ++ between a b) ++ b.units; is_quoted = b.is_quoted; first = a.first; past = b.past; line = a.line }
 
-abbrev pub grown : Option Piece → Piece → Piece
+abbrev pub grown : Option PendingText → PendingText → PendingText
 grown None b = b
 grown (Some a) b = joined a b
 
-abbrev pub text_token : Piece → Token
+abbrev pub text_token : PendingText → Token
 text_token p = record { what = Text p.units; first = p.first; past = p.past; line = p.line }
 
-abbrev pub flushed : Option Piece → List Token → List Token
+abbrev pub flushed : Option PendingText → List Token → List Token
 flushed None ts = ts
 flushed (Some p) ts = text_token p ∷ ts
 
-abbrev pub piece : List ℕ → List ℕ → Bool → ℕ → ℕ → Piece
+abbrev pub piece : List ℕ → List ℕ → Bool → ℕ → ℕ → PendingText
 piece bytes units is_quoted first past = record { units = units; is_quoted = is_quoted; first = first; past = past; line = line_of bytes first }
 
 abbrev pub sign_token : List ℕ → ℕ → ℕ → ℕ → Token
@@ -52,15 +52,15 @@ abbrev pub past_lexeme : ℕ → Lexeme → ℕ
 past_lexeme at l = at + width (lexeme_chars l [])
 
 -- The tokens of lexemes that begin at a byte, behind a text that may still grow.
-abbrev pub tokens_from : List ℕ → ℕ → Option Piece → List Lexeme → List Token
-tokens_from bytes at held [] = flushed held []
-tokens_from bytes at held (white c ∷ ls) = tokens_from bytes (past_lexeme at (white c)) held ls
-tokens_from bytes at held (comment c ∷ ls) = tokens_from bytes (past_lexeme at (comment c)) held ls
-tokens_from bytes at held (sign c ∷ ls) = flushed held (sign_token bytes c at (past_lexeme at (sign c)) ∷ tokens_from bytes (past_lexeme at (sign c)) None ls)
-tokens_from bytes at held (quoted ps ∷ ls) =
-    tokens_from bytes (past_lexeme at (quoted ps)) (Some (grown held (piece bytes (parts_units ps) true at (past_lexeme at (quoted ps))))) ls
-tokens_from bytes at held (unquoted ps ∷ ls) =
-    tokens_from bytes (past_lexeme at (unquoted ps)) (Some (grown held (piece bytes (parts_units ps) false at (past_lexeme at (unquoted ps))))) ls
+abbrev pub tokens_from : List ℕ → ℕ → Option PendingText → List Lexeme → List Token
+tokens_from bytes at pending [] = flushed pending []
+tokens_from bytes at pending (white c ∷ ls) = tokens_from bytes (past_lexeme at (white c)) pending ls
+tokens_from bytes at pending (comment c ∷ ls) = tokens_from bytes (past_lexeme at (comment c)) pending ls
+tokens_from bytes at pending (sign c ∷ ls) = flushed pending (sign_token bytes c at (past_lexeme at (sign c)) ∷ tokens_from bytes (past_lexeme at (sign c)) None ls)
+tokens_from bytes at pending (quoted ps ∷ ls) =
+    tokens_from bytes (past_lexeme at (quoted ps)) (Some (grown pending (piece bytes (parts_units ps) true at (past_lexeme at (quoted ps))))) ls
+tokens_from bytes at pending (unquoted ps ∷ ls) =
+    tokens_from bytes (past_lexeme at (unquoted ps)) (Some (grown pending (piece bytes (parts_units ps) false at (past_lexeme at (unquoted ps))))) ls
 
 -- The tokens of a source, which is UTF-8.
 pub record HasTokens (bytes : List ℕ) (ts : List Token) : Type 0 where

@@ -26,7 +26,7 @@ fn tokens_of(alloc: Global, text: &str) -> Result<Vec<Token>, Stop>
 {
     let mut builder = Builder {
         tokens: Vec::new(alloc),
-        held: None,
+        pending: None,
         is_open: false,
     };
     let mut rest = text;
