@@ -3,7 +3,8 @@ use Rattle.std.proofs.Common.{◌≡◌, ℕ, ◌+◌, Bool, true, false, List, 
 use Rattle.rb_lexer.specs.declared.token.Token.{Token}
 use Rattle.rb_lexer.specs.declared.pending.PendingText.{PendingText}
 use Rattle.rb_lexer.specs.Lexeme.{Part, part_chars, part_units, parts_chars, parts_units}
-use Rattle.rb_lexer.specs.Tokens.{width, line_of, grown, between, piece}
+use Rattle.rb_lexer.specs.Tokens.{width, line_of}
+use Rattle.rb_lexer.specs.Merging.{grown, between, piece}
 use Rattle.rb_lexer.specs.Atom.{Atom, single, singles, atoms_chars, atoms_tokens, past_atom, with_character, extended, Shows}
 use Rattle.rb_lexer.specs.declared.item.Item.TheVariants.{Run}
 use Rattle.rb_lexer.proofs.Turns.{width_part}

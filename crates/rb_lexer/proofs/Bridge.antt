@@ -3,9 +3,11 @@ use Rattle.std.proofs.Common.{◌≡◌, ℕ, ◌+◌, true, false, List, [], �
 use Rattle.rb_lexer.specs.declared.token.Token.{Token}
 use Rattle.rb_lexer.specs.declared.pending.PendingText.{PendingText}
 use Rattle.rb_lexer.specs.Lexeme.{quote, Comment, comment_chars, IsComment, Part, plain, escaped, dropped, part_chars, parts_chars, part_units, parts_units, IsUnquotedPart, AreParts, Stays, LastStays, FirstStays, Lexeme, white, comment, sign, quoted, unquoted, chars_of, EndsUnquoted, AreLexemes}
-use Rattle.rb_lexer.specs.Tokens.{width, grown, between, piece, tokens_from, past_lexeme, sign_token, flushed}
+use Rattle.rb_lexer.specs.Tokens.{width, past_lexeme, tokens_of}
+use Rattle.rb_lexer.specs.Merging.{grown, between, piece, tokens_from, sign_token, flushed}
 use Rattle.rb_lexer.specs.Atom.{Atom, blank, remark, punct, cited, single, atom_chars, IsAtom, atoms_chars, AreAtoms, past_atom, atoms_tokens, longer}
 use Rattle.rb_lexer.proofs.Turns.{width_atom}
+use Rattle.rb_lexer.proofs.Merged.{merged}
 
 abbrev pub part_atom : Part → Atom
 part_atom (plain c) = single (plain c)
@@ -184,7 +186,7 @@ unquoted_tokens bytes pending at xs (escaped d ∷ ps) h k =
     ∙ ap (λ n. atoms_tokens bytes n (Some (grown pending (piece bytes (parts_units (escaped d ∷ ps)) false at n))) true xs) (sym place)
 unquoted_tokens bytes pending at xs (dropped c ∷ ps) h k = absurd h
 
-pub flat_tokens : (bytes : List ℕ) (ls : List Lexeme) (rest : List ℕ) → AreLexemes ls rest → (at : ℕ) (pending : Option PendingText) → atoms_tokens bytes at pending false (flat ls) ≡ tokens_from bytes at pending ls
+flat_tokens : (bytes : List ℕ) (ls : List Lexeme) (rest : List ℕ) → AreLexemes ls rest → (at : ℕ) (pending : Option PendingText) → atoms_tokens bytes at pending false (flat ls) ≡ tokens_from bytes at pending ls
 flat_tokens bytes [] rest h at pending = refl
 flat_tokens bytes (white c ∷ ls) rest h at pending = flat_tokens bytes ls rest h.1 (past_lexeme at (white c)) pending
 flat_tokens bytes (comment c ∷ ls) rest h at pending = flat_tokens bytes ls rest h.1 (past_lexeme at (comment c)) pending
@@ -194,3 +196,6 @@ flat_tokens bytes (unquoted ps ∷ ls) rest h at pending =
     unquoted_tokens bytes pending at (flat ls) ps h.1 h.2
     ∙ open_or bytes (past_lexeme at (unquoted ps)) (Some (grown pending (piece bytes (parts_units ps) false at (past_lexeme at (unquoted ps))))) ls h.3
     ∙ flat_tokens bytes ls rest h.4 (past_lexeme at (unquoted ps)) (Some (grown pending (piece bytes (parts_units ps) false at (past_lexeme at (unquoted ps)))))
+
+pub flat_tokens_of : (bytes : List ℕ) (ls : List Lexeme) → AreLexemes ls [] → atoms_tokens bytes 0 None false (flat ls) ≡ tokens_of bytes ls
+flat_tokens_of bytes ls good = flat_tokens bytes ls [] good 0 None ∙ merged bytes ls

@@ -11,7 +11,7 @@ use Rattle.rb_lexer.specs.Tokens.{width, line_of, HasTokens, LexesTo}
 use Rattle.rb_lexer.specs.Faults.{Broken, broken_chars, IsBroken, broken_kind, from_fault, HasFault}
 use Rattle.rb_lexer.specs.Atom.{Atom, atoms_chars, AreAtoms, atoms_tokens}
 use Rattle.rb_lexer.specs.Faults.{IsGarbled, IsTextFault, IsSourceFault, IsRefusal}
-use Rattle.rb_lexer.proofs.Bridge.{flat, flat_chars, flat_good, flat_tokens}
+use Rattle.rb_lexer.proofs.Bridge.{flat, flat_chars, flat_good, flat_tokens_of}
 use Rattle.rb_lexer.proofs.Unique.{Front, at_atom, at_broken, at_end, front_one}
 
 abbrev pub tail : Option Broken → List ℕ
@@ -60,7 +60,7 @@ lexemes_one ls ms b c g h p q e = texts_one (flat ls) (flat ms) b c g h (flat_go
 pub tokens_one : (bytes : List ℕ) (ts us : List Token) → HasTokens bytes ts → HasTokens bytes us → ts ≡ us
 tokens_one bytes ts us a b =
     let w = lexemes_one a.lexemes b.lexemes None None tt tt a.good b.good (encodes_same _ _ (sym a.spelled ∙ b.spelled)) in
-    a.tokens ∙ sym (flat_tokens bytes a.lexemes [] a.good 0 None) ∙ ap (atoms_tokens bytes 0 None false) w.0 ∙ flat_tokens bytes b.lexemes [] b.good 0 None ∙ sym b.tokens
+    a.tokens ∙ sym (flat_tokens_of bytes a.lexemes a.good) ∙ ap (atoms_tokens bytes 0 None false) w.0 ∙ flat_tokens_of bytes b.lexemes b.good ∙ sym b.tokens
 
 pub not_both : (bytes : List ℕ) (ts : List Token) (kind : SourceKind) (line : ℕ) → HasTokens bytes ts → HasFault bytes kind line → ⊥
 not_both bytes ts kind line a b =

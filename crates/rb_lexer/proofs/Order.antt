@@ -4,7 +4,9 @@ use Rattle.std.proofs.lemmas.Str.{length-le-encodes}
 use Rattle.rb_lexer.specs.declared.token.Token.{Token}
 use Rattle.rb_lexer.specs.declared.pending.PendingText.{PendingText}
 use Rattle.rb_lexer.specs.Lexeme.{quote, Part, plain, escaped, dropped, parts_chars, parts_units, FirstStays, Lexeme, white, comment, sign, quoted, unquoted, lexeme_chars, chars_of, AreLexemes}
-use Rattle.rb_lexer.specs.Tokens.{width, flushed, grown, piece, tokens_from, past_lexeme, HasTokens, AreInOrder}
+use Rattle.rb_lexer.specs.Tokens.{width, past_lexeme, HasTokens, AreInOrder}
+use Rattle.rb_lexer.specs.Merging.{flushed, grown, piece, tokens_from}
+use Rattle.rb_lexer.proofs.Merged.{merged}
 use Rattle.rb_lexer.proofs.Turns.{comment_front, parts_front, width_append}
 
 -- ---- widths of lexemes
@@ -24,7 +26,7 @@ unquoted_length (plain c ∷ ps) h = omega arith
 unquoted_length (escaped e ∷ ps) h = omega arith
 unquoted_length (dropped c ∷ ps) h = absurd h
 
--- ---- a text that may still grow lies between two bytes
+-- ---- a pending text lies between two bytes
 abbrev PendingFits : ℕ → ℕ → Option PendingText → Type 0
 PendingFits low at None = low ≤ at
 PendingFits low at (Some p) = (low ≤ p.first) × (p.first < p.past) × (p.past ≤ at)
@@ -61,4 +63,4 @@ module _ (bytes : List ℕ) (end : ℕ) where
       in_order ls good.4 low past _ (grown_fits bytes (parts_units ps) _ low at past pending (omega (arith, unquoted_length ps good.1, length-le-encodes (parts_chars ps []))) h) (omega (arith, width_lexeme (unquoted ps) (chars_of ls [])))
 
 pub spans_in_order : (bytes : List ℕ) (ts : List Token) → HasTokens bytes ts → AreInOrder 0 ts (length bytes)
-spans_in_order bytes ts h = rw h.tokens (in_order bytes (length bytes) h.lexemes h.good 0 0 None (omega arith) (omega (arith, ap length h.spelled)))
+spans_in_order bytes ts h = rw (h.tokens, ← merged bytes h.lexemes) (in_order bytes (length bytes) h.lexemes h.good 0 0 None (omega arith) (omega (arith, ap length h.spelled)))

@@ -9,7 +9,8 @@ use Rattle.rb_lexer.specs.declared.fault.SourceKind.TheVariants.{Memory}
 use Rattle.rb_lexer.specs.declared.fault.Stop.{Stop}
 use Rattle.rb_lexer.specs.Lexeme.{quote, Escape, four, eight, hex, octal, letter, escape_chars, Comment, line_comment, block_comment, comment_chars, Part, plain, escaped, dropped, part_chars, parts_chars, slash, star}
 use Rattle.rb_lexer.specs.Faults.{Broken, open_quote, open_comment, bad_escape, bad_quoted, broken_chars, IsBroken, broken_kind, from_fault}
-use Rattle.rb_lexer.specs.Tokens.{width, line_of, flushed}
+use Rattle.rb_lexer.specs.Tokens.{width, line_of}
+use Rattle.rb_lexer.specs.Merging.{flushed}
 use Rattle.rb_lexer.specs.Atom.{Atom, blank, remark, punct, cited, single, atom_chars, atoms_chars, AreAtoms, atoms_tokens, Stops, EndsSo}
 
 -- ---- widths

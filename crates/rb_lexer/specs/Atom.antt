@@ -3,7 +3,8 @@ use Rattle.std.specs.Global.{Vec}
 use Rattle.std.specs.Prelude.{◌≡◌, ℕ, ◌+◌, Bool, true, false, cond, List, [], ◌∷◌, ◌++◌, Option, Some, None, Result, Ok, Err, IsTrue}
 use Rattle.rb_lexer.specs.Lexeme.{is_white, is_sign, quote, Comment, comment_chars, IsComment, Part, part_chars, part_units, parts_chars, parts_units, AreParts, IsQuotedPart, IsUnquotedPart, Stays}
 use Rattle.rb_lexer.specs.Faults.{Broken, broken_chars, IsBroken, broken_kind, from_fault}
-use Rattle.rb_lexer.specs.Tokens.{width, sign_mark, flushed, grown, piece, sign_token}
+use Rattle.rb_lexer.specs.Tokens.{width, sign_mark}
+use Rattle.rb_lexer.specs.Merging.{flushed, grown, piece, sign_token}
 use Rattle.rb_lexer.specs.declared.token.Token.{Token}
 use Rattle.rb_lexer.specs.declared.pending.PendingText.{PendingText}
 use Rattle.rb_lexer.specs.declared.item.Item.{Item}
@@ -81,7 +82,7 @@ with_character is_open pending b = cond is_open (longer pending b) (grown pendin
 abbrev pub past_atom : ℕ → Atom → ℕ
 past_atom at a = at + width (atom_chars a [])
 
--- The tokens of atoms that begin at a byte, behind a text that may still grow, and that is open where an unquoted piece may go on.
+-- The tokens of atoms that begin at a byte, after a pending text that is open where an unquoted piece may go on.
 abbrev pub atoms_tokens : List ℕ → ℕ → Option PendingText → Bool → List Atom → List Token
 atoms_tokens bytes at pending is_open [] = flushed pending []
 atoms_tokens bytes at pending is_open (blank c ∷ xs) = atoms_tokens bytes (past_atom at (blank c)) pending false xs

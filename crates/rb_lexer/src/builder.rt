@@ -1,7 +1,8 @@
 // Tokens as they come.
 ghost use Rattle.std.specs.Prelude.{◌≡◌, ◌++◌, ◌≤◌, ℕ, List, [], ◌+◌, ◌&&◌, is_some, None, Some, OnOk, IfOk, IfErr};
 ghost use Rattle.rb_lexer.specs.declared.fault.SourceKind.TheVariants.{Memory};
-ghost use Rattle.rb_lexer.specs.Tokens.{flushed, grown, line_of, width};
+ghost use Rattle.rb_lexer.specs.Tokens.{line_of, width};
+ghost use Rattle.rb_lexer.specs.Merging.{flushed, grown};
 ghost use Rattle.rb_lexer.specs.Atom.{Atom, Shows, atoms_chars, atoms_tokens, extended};
 
 use crate::fault::Stop;

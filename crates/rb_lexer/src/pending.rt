@@ -1,6 +1,6 @@
 // Pending text.
 ghost use Rattle.std.specs.Prelude.{◌≡◌, OnOk};
-ghost use Rattle.rb_lexer.specs.Tokens.{joined};
+ghost use Rattle.rb_lexer.specs.Merging.{joined};
 
 use crate::units::UnitBuffer;
 use std::alloc::AllocError;
