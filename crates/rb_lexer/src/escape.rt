@@ -6,11 +6,11 @@ ghost use Rattle.rb_lexer.specs.Lexeme.{Escape, escape_value, letter_value, unit
 ghost use Rattle.rb_lexer.specs.Escapes.{digits_at, escape_at};
 
 use crate::front::split_first;
-use rb_tree::UnitList;
+use crate::units::UnitBuffer;
 use std::alloc::AllocError;
 
 /// Adds the units of a code point.
-pub fn push_code(units: &mut UnitList, code: u32) -> Result<(), AllocError>
+pub fn push_code(units: &mut UnitBuffer, code: u32) -> Result<(), AllocError>
     requires { code ≤ 0x10FFFF }
     ensures { OnOk result (units.new ≡ units.old ++ units_of code) }
 {
