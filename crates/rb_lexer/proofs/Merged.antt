@@ -1,11 +1,10 @@
 -- The tokens that the code makes with a pending text are those of the runs of text pieces.
-use Rattle.std.proofs.Common.{◌≡◌, ℕ, Bool, true, false, List, [], ◌∷◌, ◌++◌, map, Option, Some, None, refl, sym, ap, ◌∙◌}
+use Rattle.std.proofs.Common.{◌≡◌, ℕ, true, false, List, [], ◌∷◌, map, Option, Some, None, refl, sym, ap, ◌∙◌}
 use Rattle.rb_lexer.specs.declared.token.Token.{Token}
-use Rattle.rb_lexer.specs.declared.token.Mark.{Mark}
 use Rattle.rb_lexer.specs.declared.token.Mark.TheVariants.{Text}
 use Rattle.rb_lexer.specs.declared.pending.PendingText.{PendingText}
 use Rattle.rb_lexer.specs.Lexeme.{Lexeme, white, comment, sign, quoted, unquoted, parts_units}
-use Rattle.rb_lexer.specs.Tokens.{line_of, TextPiece, Piece, text, punctuation, past_lexeme, pieces_from, Group, run, alone, in_front, groups, joined_units, past_last, token, tokens_of}
+use Rattle.rb_lexer.specs.Tokens.{TextPiece, Piece, text, punctuation, past_lexeme, pieces_from, Group, run, alone, in_front, groups, joined_units, past_last, token, tokens_of}
 use Rattle.rb_lexer.specs.Merging.{joined, grown, text_token, flushed, piece, sign_token, tokens_from}
 
 abbrev pending_of : List ℕ → TextPiece → PendingText

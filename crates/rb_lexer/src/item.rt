@@ -16,7 +16,7 @@ use crate::unquoted::{is_white, run};
 use std::alloc::Global;
 
 /// What a text begins with. An unquoted piece is one run or several, with comments between them.
-#[derive(Debug, Drop)]
+#[derive(Drop)]
 pub enum Item {
     White,
     Comment,

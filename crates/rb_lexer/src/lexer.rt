@@ -59,11 +59,14 @@ fn located(bytes: &[u8], stop: Stop) -> SourceFault
     }
 }
 
-/// The tokens of a source, with their spans and lines.
+/// The tokens of a source in the syntax of ICU's `genrb`, with their spans in bytes and their lines. A text token has the
+/// units of UTF-16 of all pieces that only white space and comments separate.
+///
+/// # Errors
 ///
 /// `TooLong` (line 1) where the source has more than 8,388,608 bytes, else `NotUtf8` at the first byte from which no
 /// character reads, else what comes first in the text of `BadEscape`, `OpenQuote` and `OpenComment`. `Memory` (line 0)
-/// where an allocation was refused. Nothing is left behind on a refusal.
+/// where an allocation was refused.
 pub fn lex(alloc: Global, bytes: &[u8]) -> Result<Vec<Token>, SourceFault>
     // What is answered are the source's tokens.
     ensures found { IfOk result (λ tokens. LexesTo bytes.now tokens.items) }

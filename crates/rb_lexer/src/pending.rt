@@ -6,7 +6,7 @@ use crate::units::UnitBuffer;
 use std::alloc::AllocError;
 
 /// A text that the next piece may still join: its units, whether its last piece is quoted, its span and its line.
-#[derive(Debug, Drop)]
+#[derive(Drop)]
 pub struct PendingText {
     pub units: UnitBuffer,
     pub is_quoted: bool,

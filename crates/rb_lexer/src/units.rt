@@ -6,7 +6,7 @@ use std::alloc::{AllocError, Global};
 use std::marker::Model;
 
 /// The units of a text that is still read, seen by contracts as a list.
-#[derive(Debug, Drop)]
+#[derive(Drop)]
 pub struct UnitBuffer {
     units: Vec<u16>,
 }
