@@ -126,7 +126,7 @@ pub record IsRoot (bytes body : List ℕ) : Type 0 where
 sizes_inside : (bytes : List ℕ) → has_sizes bytes ≡ true → half_at bytes 0 ≤ length bytes
 sizes_inside bytes e = grind (arith, nat_tests)
 
-header_size : (bytes : List ℕ) (h : Header) → header bytes ≡ Ok h → (h.size ≡ half_at bytes 0) × (24 ≤ length bytes) × (half_at bytes 0 ≤ length bytes)
+pub header_size : (bytes : List ℕ) (h : Header) → header bytes ≡ Ok h → (h.size ≡ half_at bytes 0) × (24 ≤ length bytes) × (half_at bytes 0 ≤ length bytes)
 unfolding header
 header_size bytes h e =
     let a = guard (ltb (length bytes) 24) faults.Header _ h e in

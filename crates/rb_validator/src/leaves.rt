@@ -1,6 +1,8 @@
 // The checks of values without children.
-ghost use Rattle.std.specs.Prelude.{◌≡◌, ℕ, ◌+◌, ◌*◌, ◌≤◌, ◌<◌, length};
-ghost use Rattle.rb_format.specs.FirstFault.{fault_of, units, bytes, numbers, within};
+ghost use Rattle.std.specs.Prelude.{◌≡◌, false, ℕ, ◌+◌, ◌*◌, ◌≤◌, ◌<◌, length, Result};
+ghost use Rattle.rb_format.specs.FirstFault.{fault_of, units, bytes, numbers, within, contents};
+ghost use Rattle.rb_tree.specs.Resource.{Resource};
+ghost use Rattle.rb_validator.specs.Visits.{has_children};
 
 use rb_format::{FileFault, ItemKind, Layout, half_at, word_at};
 
@@ -66,5 +68,28 @@ pub fn check_numbers(layout: &Layout, body: &[u8], offset: u32) -> Result<(), Fi
         Err(FileFault::Length)
     } else {
         Ok(())
+    }
+}
+
+/// The checks of a value without children.
+#[tactic(auto, unfolding(rb_format::specs::FirstFault::contents))]
+pub fn check_leaf(
+    layout: &Layout,
+    body: &[u8],
+    kind: ItemKind,
+    offset: u32,
+) -> Result<(), FileFault>
+    requires room { 4 * layout.now.top ≤ length body.now }
+    requires below { offset < layout.now.top }
+    requires bare { has_children kind ≡ false }
+    ensures { (child : ℕ → Result Resource FileFault) → fault_of result ≡ fault_of (contents layout.now body.now child offset kind) }
+{
+    match kind {
+        ItemKind::String => check_units(layout, body, offset),
+        ItemKind::Binary => check_bytes(layout, body, offset),
+        ItemKind::Alias => check_units(layout, body, offset),
+        ItemKind::Ints => check_numbers(layout, body, offset),
+        ItemKind::Int => Ok(()),
+        ItemKind::Table | ItemKind::LongTable | ItemKind::Array => unreachable!(),
     }
 }

@@ -2,10 +2,18 @@
 #![tactic(auto)]
 
 mod bundle;
+mod children;
 mod file;
+mod found;
+mod guess;
 mod items;
+mod key_memo;
 mod keys;
 mod leaves;
+mod memo;
+mod ranks;
+mod runs;
+mod seen;
 #[cfg(test)]
 mod tests;
 mod tree;

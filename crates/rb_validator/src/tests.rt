@@ -1,6 +1,7 @@
 // The sample files, damaged ones, and files that a plain checker judges beside the code.
 mod plain;
 mod samples;
+mod shared;
 
 use crate::bundle::accept;
 use crate::tree::decode;
@@ -8,6 +9,7 @@ use plain::plain_fault;
 use rb_format::FileFault;
 use rb_tree::{Node, Tree};
 use samples::{EMPTY, HOLDS_ITSELF, ONE_STRING, THREE_NUMBERS, TWO_BINARIES, TWO_NUMBERS};
+use shared::{chain, chain_and_more, overlapping, suffixes};
 use std::alloc::Global;
 use std::test::Fail;
 
@@ -133,6 +135,25 @@ fn a_plain_checker_agrees(rt: HostRuntime) -> Result<(), Fail> {
     Ok(())
 }
 
+#[test]
+fn long_keys_are_ranked(rt: HostRuntime) -> Result<(), Fail> {
+    let alloc = rt.alloc();
+    for (last, fault) in [
+        (24, None),
+        (25, Some(FileFault::KeyOrder)),
+        (26, Some(FileFault::KeyOrder)),
+        (323, Some(FileFault::KeyOrder)),
+        (324, Some(FileFault::Key)),
+        (328, Some(FileFault::Key)),
+        (23, Some(FileFault::Key)),
+    ] {
+        let file = suffixes(alloc, 300, last)?;
+        assert_eq!(rt; plain_fault(&file), fault, "the last key at {last}");
+        assert_eq!(rt; fault_of(alloc, &file)?, fault, "the last key at {last}");
+    }
+    Ok(())
+}
+
 fn binary_at<'a>(tree: &'a Tree, key: &[u8]) -> Option<&'a [u8]> {
     match tree {
         Tree::Table(entries) => match entries.get(key) {
@@ -151,5 +172,58 @@ fn a_bundle_is_decoded(rt: HostRuntime) -> Result<(), Fail> {
     assert_eq!(rt; (&tree).len(), 2);
     assert_eq!(rt; binary_at(&tree, b"b"), Some(&[0x00, 0xFF, 0x7F][..]));
     assert_eq!(rt; binary_at(&tree, b"c"), Some(&[0x02][..]));
+    Ok(())
+}
+
+/// The number of visits, or the fault.
+fn visits_of(alloc: Global, file: Vec<u8>) -> Result<u64, FileFault> {
+    match accept(alloc, file) {
+        Ok(bundle) => Ok(bundle.visits()),
+        Err((fault, _)) => Err(fault),
+    }
+}
+
+#[test]
+fn places_are_entered_once(rt: HostRuntime) -> Result<(), Fail> {
+    let alloc = rt.alloc();
+    assert_eq!(rt; visits_of(alloc, EMPTY.to_vec(alloc)?), Ok(0));
+    assert_eq!(rt; visits_of(alloc, ONE_STRING.to_vec(alloc)?), Ok(1));
+    for (arrays, length, visits) in [
+        (30, 428, Ok(31)),
+        (31, 440, Ok(32)),
+        (62, 812, Ok(63)),
+        (63, 824, Err(FileFault::TooDeep)),
+    ] {
+        let file = chain(alloc, arrays)?;
+        assert_eq!(rt; file.len(), length, "{arrays} arrays");
+        assert_eq!(rt; visits_of(alloc, file), visits, "{arrays} arrays");
+    }
+    for (arrays, length, visits) in [(30, 444, Ok(32)), (62, 828, Err(FileFault::TooDeep))] {
+        let file = chain_and_more(alloc, arrays)?;
+        assert_eq!(rt; file.len(), length, "{arrays} arrays and one more");
+        assert_eq!(rt;
+            visits_of(alloc, file),
+            visits,
+            "{arrays} arrays and one more"
+        );
+    }
+    let lower = with(alloc, &chain_and_more(alloc, 30)?, 424, &[0x5B])?;
+    assert_eq!(rt; visits_of(alloc, lower), Ok(32));
+    assert_eq!(rt;
+        visits_of(alloc, HOLDS_ITSELF.to_vec(alloc)?),
+        Err(FileFault::TooDeep)
+    );
+    Ok(())
+}
+
+#[test]
+fn overlapping_arrays_are_entered_once(rt: HostRuntime) -> Result<(), Fail> {
+    let alloc = rt.alloc();
+    assert_eq!(rt; visits_of(alloc, overlapping(alloc, 100, 0)?), Ok(103));
+    assert_eq!(rt; visits_of(alloc, overlapping(alloc, 100, 60)?), Ok(163));
+    assert_eq!(rt;
+        visits_of(alloc, overlapping(alloc, 100, 61)?),
+        Err(FileFault::TooDeep)
+    );
     Ok(())
 }

@@ -84,7 +84,7 @@ fn data_fault(bytes: &[u8]) -> Option<FileFault> {
     if root >> 28 != 2 && root >> 28 != 4 {
         return Some(FileFault::Root);
     }
-    item_fault(data, root, 32)
+    item_fault(data, root, 64)
 }
 
 /// The first fault of an item below which so many levels are left.
