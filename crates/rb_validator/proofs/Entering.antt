@@ -26,14 +26,6 @@ use Rattle.rb_validator.proofs.Ways.{met_again, met_place, met_child}
 
 -- ---- marks
 
-pub new_is : (x : ℕ) → New ≡ mark_of x → x ≡ 0
-new_is x e = by_tests (eqb x 0) (eqb x 255) refl refl e
-  where
-    by_tests : (a b : Bool) → eqb x 0 ≡ a → eqb x 255 ≡ b → New ≡ cond a New (cond b Open (Done x)) → x ≡ 0
-    by_tests true b p q e = grind (arith, nat_tests)
-    by_tests false true p q e = absurd cc
-    by_tests false false p q e = absurd cc
-
 pub open_is : (x : ℕ) → Open ≡ mark_of x → x ≡ 255
 open_is x e = by_tests (eqb x 0) (eqb x 255) refl refl e
   where
@@ -87,19 +79,6 @@ item_bare y body left item k l e f =
 
 pub item_inner : (y : Layout) (body : List ℕ) (left item : ℕ) (k : ItemKind) → 0 < left → kind_of item ≡ Some k → within y k (offset_of item) ≡ Ok true → read y body left item ≡ contents y body (λ w. read y body (left - 1) w) (offset_of item) k
 item_inner y body left item k l e w = read_kind y body left item k l e ∙ value_there y body (λ w. read y body (left - 1) w) (offset_of item) k true w refl
-
-pub within_full : (y : Layout) (k : ItemKind) (o : ℕ) → has_children k ≡ true → within y k o ≡ Ok true → 0 < o
-within_full y k o h w = full k h (within_data y k o w)
-  where
-    full : (k : ItemKind) → has_children k ≡ true → has_data k o ≡ true → 0 < o
-    full Table h e = grind (arith, nat_tests)
-    full LongTable h e = grind (arith, nat_tests)
-    full Array h e = grind (arith, nat_tests)
-    full String h e = absurd cc
-    full Binary h e = absurd cc
-    full Alias h e = absurd cc
-    full Int h e = absurd cc
-    full Ints h e = absurd cc
 
 -- ---- items one by one
 

@@ -5,9 +5,6 @@ use Rattle.std.proofs.lemmas.Bool.{cases_eq}
 use Rattle.std.proofs.lemmas.Bool.Decides.{nat_tests}
 use Rattle.rb_validator.specs.Marks.{marked}
 
-step_is : (b : Bool) (m n k l : ℕ) → m ≡ k → n ≡ l → cond b m n ≡ cond b k l
-step_is b m n k l e f = cc
-
 pub marked_le : (cells : List ℕ) (n : ℕ) → marked cells n ≤ n
 marked_le cells zero = omega arith
 marked_le cells (suc n) = let h = marked_le cells n in cases (eqb (get_or cells n 0) 0) (marked cells n) h

@@ -10,8 +10,8 @@ use Rattle.rb_format.specs.declared.layout.Layout.{Layout}
 use Rattle.rb_format.specs.Place.{key, half_at, word_at}
 use Rattle.rb_format.specs.FirstFault.{◌>>=◌, fault_of, key_or_fault, next_key, keys}
 use Rattle.rb_format.proofs.Faults.{keys_on, keys_stop, keys_end}
-use Rattle.rb_validator.specs.KeyMarks.{key_run, key_or_none, key_behind, last_key, IsGood, AreGood, IsPair, IsLinked, IsDrawn}
-use Rattle.rb_validator.specs.Ranks.{IsRanked, rank_at, rank_behind}
+use Rattle.rb_validator.specs.KnownKeys.{key_run, key_or_none, previous_key, last_key, IsGood, AreGood, IsPair, IsLinked, IsRedirected}
+use Rattle.rb_validator.specs.Ranks.{IsRanked, rank_at, previous_rank}
 use Rattle.rb_validator.proofs.Ranking.{nonempty, front, Climbs, IsRead, read_all, ranked_nodes, ranked_climbs, rank_none, rank_some, rank_order, stands}
 
 -- ---- one key
@@ -67,7 +67,7 @@ ranked_none y body ranks last o r l =
     let none = rank_none (key_run y body) ranks r.heads s.place _ read (omega arith) in
     rw (next_is y body last o) (none_fault (key y body o) last (s.read ∙ none))
 
-ranked_test : (y : Layout) (body ranks : List ℕ) (before : Option ℕ) (o : ℕ) → IsRanked (key_run y body) ranks → 2 ≤ rank_at y ranks o → (k : List ℕ) × (key y body o ≡ Some k) × (is_lt (slice_cmp nat_cmp (key_behind y body before) k) ≡ ltb (rank_behind y ranks before) (rank_at y ranks o))
+ranked_test : (y : Layout) (body ranks : List ℕ) (before : Option ℕ) (o : ℕ) → IsRanked (key_run y body) ranks → 2 ≤ rank_at y ranks o → (k : List ℕ) × (key y body o ≡ Some k) × (is_lt (slice_cmp nat_cmp (previous_key y body before) k) ≡ ltb (previous_rank y ranks before) (rank_at y ranks o))
 ranked_test y body ranks None o r l =
     let run = key_run y body in
     let s = stands y body ranks o r.long in
@@ -92,15 +92,15 @@ ranked_test y body ranks (Some j) o r l =
     let same : ltb (get_or ranks t.place 0) (get_or ranks s.place 0) ≡ ltb (rank_at y ranks j) (rank_at y ranks o) = cc in
     (k.0, s.read ∙ k.1, ap (λ (x : Option (List ℕ)). is_lt (slice_cmp nat_cmp (key_or_none x) k.0)) t.read ∙ order ∙ same)
 
-pub ranked_less : (y : Layout) (body ranks : List ℕ) (before : Option ℕ) (o : ℕ) → IsRanked (key_run y body) ranks → 2 ≤ rank_at y ranks o → rank_behind y ranks before < rank_at y ranks o → None ≡ fault_of (next_key y body (key_behind y body before) o)
+pub ranked_less : (y : Layout) (body ranks : List ℕ) (before : Option ℕ) (o : ℕ) → IsRanked (key_run y body) ranks → 2 ≤ rank_at y ranks o → previous_rank y ranks before < rank_at y ranks o → None ≡ fault_of (next_key y body (previous_key y body before) o)
 ranked_less y body ranks before o r l h =
     let t = ranked_test y body ranks before o r l in
-    rw (next_is y body (key_behind y body before) o) (less_fault (key y body o) (key_behind y body before) t.0 t.1 (t.2 ∙ lt-ltb _ _ h))
+    rw (next_is y body (previous_key y body before) o) (less_fault (key y body o) (previous_key y body before) t.0 t.1 (t.2 ∙ lt-ltb _ _ h))
 
-pub ranked_more : (y : Layout) (body ranks : List ℕ) (before : Option ℕ) (o : ℕ) → IsRanked (key_run y body) ranks → 2 ≤ rank_at y ranks o → rank_at y ranks o ≤ rank_behind y ranks before → Some KeyOrder ≡ fault_of (next_key y body (key_behind y body before) o)
+pub ranked_more : (y : Layout) (body ranks : List ℕ) (before : Option ℕ) (o : ℕ) → IsRanked (key_run y body) ranks → 2 ≤ rank_at y ranks o → rank_at y ranks o ≤ previous_rank y ranks before → Some KeyOrder ≡ fault_of (next_key y body (previous_key y body before) o)
 ranked_more y body ranks before o r l h =
     let t = ranked_test y body ranks before o r l in
-    rw (next_is y body (key_behind y body before) o) (more_fault (key y body o) (key_behind y body before) t.0 t.1 (t.2 ∙ le-ltb _ _ h))
+    rw (next_is y body (previous_key y body before) o) (more_fault (key y body o) (previous_key y body before) t.0 t.1 (t.2 ∙ le-ltb _ _ h))
 
 -- ---- many keys
 
@@ -142,20 +142,20 @@ linked_good y body links offset place first m r at h e zero a b = absurd (omega 
 linked_good y body links offset place first m r at h e (suc i) a b = pair_good y body offset place first at i (h (first + m) (first + i) (omega arith) (omega arith))
 
 -- good keys as a link
-pub drawn_linked : (y : Layout) (body old new : List ℕ) (offset place : ℕ → ℕ) (first n : ℕ) → ((i : ℕ) → place i ≡ offset (first + i)) → IsLinked y body offset old → AreGood y body place n → ((p : ℕ) → IsDrawn old new first (first + (n - 1)) p) → IsLinked y body offset new
-drawn_linked y body old new offset place first n at h g d p q a b = by (d p)
+pub redirected_linked : (y : Layout) (body old new : List ℕ) (offset place : ℕ → ℕ) (first n : ℕ) → ((i : ℕ) → place i ≡ offset (first + i)) → IsLinked y body offset old → AreGood y body place n → ((p : ℕ) → IsRedirected old new first (first + (n - 1)) p) → IsLinked y body offset new
+redirected_linked y body old new offset place first n at h g d p q a b = by (d p)
   where
-    by : IsDrawn old new first (first + (n - 1)) p → IsPair y body offset q
+    by : IsRedirected old new first (first + (n - 1)) p → IsPair y body offset q
     by (inl e) = h p q a (omega arith)
     by (inr x) =
         let l = x.0 in let e = x.1 in
         let is : first + (q - first) ≡ q = omega arith in
         subst (IsPair y body offset) is (good_pair y body offset place first at (q - first) (g (suc (q - first)) (omega arith)))
 
-pub drawn_put : (old links : List ℕ) (first to place end : ℕ) → first ≤ place → end ≡ to → place < length links → ((p : ℕ) → IsDrawn old links first to p) → (p : ℕ) → IsDrawn old (set links place end) first to p
-drawn_put old links first to place end l is low d p = by (cases_eq p place) (d p)
+pub redirected_put : (old links : List ℕ) (first to place end : ℕ) → first ≤ place → end ≡ to → place < length links → ((p : ℕ) → IsRedirected old links first to p) → (p : ℕ) → IsRedirected old (set links place end) first to p
+redirected_put old links first to place end l is low d p = by (cases_eq p place) (d p)
   where
-    by : ((p ≡ place) ⊎ (p ≡ place → ⊥)) → IsDrawn old links first to p → IsDrawn old (set links place end) first to p
+    by : ((p ≡ place) ⊎ (p ≡ place → ⊥)) → IsRedirected old links first to p → IsRedirected old (set links place end) first to p
     by (inl e) w = inr (omega arith, ap (λ (x : ℕ). get_or (set links place end) x 0) e ∙ get_or-set_same links place end 0 low ∙ is)
     by (inr ne) (inl a) = inl (get_or-set_other links place p end 0 ne ∙ a)
     by (inr ne) (inr x) = inr (x.0, get_or-set_other links place p end 0 ne ∙ x.1)

@@ -13,7 +13,7 @@ use Rattle.rb_format.specs.FirstFault.{◌>>=◌, result_map, limited, read, tre
 use Rattle.rb_format.proofs.Steps.{bind_ok, ok_is}
 use Rattle.rb_format.proofs.Levels.{read-limited, trees-limited}
 use Rattle.rb_validator.specs.declared.runs.Run.{Run}
-use Rattle.rb_validator.specs.Marks.{IsKnown, Follows, Leads, run_of, IsRunKnown, IsRun, IsRunOf, Holds}
+use Rattle.rb_validator.specs.Marks.{IsKnown, Follows, Leads, run_of, IsRunKnown, IsRun, IsRunOf, AreRuns}
 use Rattle.rb_validator.proofs.Cells.{known_after, known_set}
 use Rattle.rb_validator.proofs.Ways.{leads_map}
 use Rattle.rb_validator.proofs.Entering.{above, items_none}
@@ -173,35 +173,32 @@ known_both body cells from m n mid q f g i l = by_order (leb (suc i) m) refl
 run_map : (y : Layout) (body cells after : List ℕ) (from n h : ℕ) → ((w : ℕ) → IsKnown cells w → IsKnown after w) → IsRun y body cells from n h → IsRun y body after from n h
 run_map y body cells after from n h f r = record { items = r.items; level = r.level; is = r.is; high = r.high; known = λ i l. f (word_at body (from + i)) (r.known i l) }
 
-pub holds_after : (y : Layout) (body cells after : List ℕ) (runs : List Run) → Follows cells after → Holds y body cells runs → Holds y body after runs
-holds_after y body cells after runs f h = All-weaker (IsRunOf y body cells) (IsRunOf y body after) (λ r q. run_map y body cells after r.first r.count r.height (λ w k. known_after cells after w f k) q) runs h
-
-pub holds_set : (y : Layout) (body cells : List ℕ) (p v : ℕ) (runs : List Run) → v ≢ 0 → p < length cells → Holds y body cells runs → Holds y body (set cells p v) runs
-holds_set y body cells p v runs f l h = All-weaker (IsRunOf y body cells) (IsRunOf y body (set cells p v)) (λ r q. run_map y body cells (set cells p v) r.first r.count r.height (λ w k. known_set cells p v w f l k) q) runs h
+pub runs_set : (y : Layout) (body cells : List ℕ) (p v : ℕ) (runs : List Run) → v ≢ 0 → p < length cells → AreRuns y body cells runs → AreRuns y body (set cells p v) runs
+runs_set y body cells p v runs f l h = All-weaker (IsRunOf y body cells) (IsRunOf y body (set cells p v)) (λ r q. run_map y body cells (set cells p v) r.first r.count r.height (λ w k. known_set cells p v w f l k) q) runs h
 
 -- a run of no items
 none_run : (y : Layout) (body cells : List ℕ) (from n h : ℕ) → n ≡ 0 → h ≡ 0 → IsRun y body cells from n h
 unfolding trees
 none_run y body cells from n h e f = rw (e, f) (record { items = no_trees; level = 0; is = refl; high = refl; known = λ i l. absurd (omega arith) })
 
-pub holds_none : (y : Layout) (body cells : List ℕ) (runs : List Run) → All (λ r. r.count ≡ 0 × r.height ≡ 0) runs → Holds y body cells runs
-holds_none y body cells runs h = All-weaker (λ r. r.count ≡ 0 × r.height ≡ 0) (IsRunOf y body cells) (λ r q. none_run y body cells r.first r.count r.height q.0 q.1) runs h
+pub runs_none : (y : Layout) (body cells : List ℕ) (runs : List Run) → All (λ r. r.count ≡ 0 × r.height ≡ 0) runs → AreRuns y body cells runs
+runs_none y body cells runs h = All-weaker (λ r. r.count ≡ 0 × r.height ≡ 0) (IsRunOf y body cells) (λ r q. none_run y body cells r.first r.count r.height q.0 q.1) runs h
 
-pub kept_run : (y : Layout) (body cells : List ℕ) (runs : List Run) (from n h : ℕ) → Holds y body cells runs → Contains runs (record { first = from; count = n; height = h }) → IsRun y body cells from n h
+pub kept_run : (y : Layout) (body cells : List ℕ) (runs : List Run) (from n h : ℕ) → AreRuns y body cells runs → Contains runs (record { first = from; count = n; height = h }) → IsRun y body cells from n h
 kept_run y body cells runs from n h k c = All-contains (IsRunOf y body cells) runs (record { first = from; count = n; height = h }) k c
 
 -- the parts make the run
 pub made_run : (y : Layout) (body cells : List ℕ) (left from n h : ℕ) → Ok h ≡ result_map trees_height (run_of y body left from n) → IsRunKnown body cells from n → IsRun y body cells from n h
 made_run y body cells left from n h e k = let t = trees_ok (run_of y body left from n) h e in record { items = t.0; level = left; is = t.1; high = t.2; known = k }
 
-pub holds_kept : (y : Layout) (body cells : List ℕ) (runs after : List Run) (at from n h : ℕ) → Holds y body cells runs → IsRun y body cells from n h → (after ≡ runs) ⊎ (after ≡ set runs at (record { first = from; count = n; height = h })) → Holds y body cells after
-holds_kept y body cells runs after at from n h k r e = elim e [
+pub runs_kept : (y : Layout) (body cells : List ℕ) (runs after : List Run) (at from n h : ℕ) → AreRuns y body cells runs → IsRun y body cells from n h → (after ≡ runs) ⊎ (after ≡ set runs at (record { first = from; count = n; height = h })) → AreRuns y body cells after
+runs_kept y body cells runs after at from n h k r e = elim e [
   | inl q ↦ rw q k
   | inr q ↦ rw q (All-set (IsRunOf y body cells) runs at (record { first = from; count = n; height = h }) r k)
 ]
 
-pub holds_ready : (y : Layout) (body cells : List ℕ) (runs after : List Run) → Holds y body cells runs → (after ≡ runs) ⊎ All (λ r. r.count ≡ 0 × r.height ≡ 0) after → Holds y body cells after
-holds_ready y body cells runs after h e = elim e [
+pub runs_ready : (y : Layout) (body cells : List ℕ) (runs after : List Run) → AreRuns y body cells runs → (after ≡ runs) ⊎ All (λ r. r.count ≡ 0 × r.height ≡ 0) after → AreRuns y body cells after
+runs_ready y body cells runs after h e = elim e [
   | inl q ↦ rw q h
-  | inr q ↦ holds_none y body cells after q
+  | inr q ↦ runs_none y body cells after q
 ]

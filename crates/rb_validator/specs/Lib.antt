@@ -3,4 +3,4 @@ pub mod Marks
 pub mod Places
 pub mod Visits
 pub mod Ranks
-pub mod KeyMarks
+pub mod KnownKeys

@@ -1,4 +1,4 @@
--- What the memo of the acceptance keeps; only proofs and private contracts read this.
+-- For proofs only: what the memo of an acceptance keeps.
 use Rattle.std.specs.Prelude.{◌≡◌, ◌≢◌, true, ℕ, zero, suc, ◌+◌, ◌*◌, ◌/◌, ◌≤◌, ◌<◌, ◌==◌, if◌then◌else◌, nat_lt, List, [], length, slice_index, Some, Result, Ok, Err, All}
 use Rattle.rb_tree.specs.Resource.{Resource, Resources, height, trees_height}
 use Rattle.rb_format.specs.declared.layout.Layout.{Layout}
@@ -15,7 +15,7 @@ use Rattle.rb_validator.specs.declared.runs.Run.{Run}
 use Rattle.rb_validator.specs.declared.memo.Mark.TheVariants.{New, Open, Done}
 use Rattle.rb_validator.specs.Visits.{has_children, child_count, first_child, IsWay, IsPlace}
 
--- ---- where the children of a table or an array stand
+-- ---- the items of a table or an array
 
 abbrev pub table_children : Layout → List ℕ → (ℕ → ℕ) → ℕ → ℕ → Result Children FileFault
 table_children y body place from n = if nat_lt y.top (from + n) then Err Length else (keys y body place [] 0 n >>= λ ks. Ok (record { first = from; count = n }))
@@ -107,5 +107,5 @@ abbrev pub IsRunOf : Layout → List ℕ → List ℕ → Run → Type 0
 IsRunOf y body cells r = IsRun y body cells r.first r.count r.height
 
 -- what is true of the runs at all times
-abbrev pub Holds : Layout → List ℕ → List ℕ → List Run → Type 0
-Holds y body cells runs = All (IsRunOf y body cells) runs
+abbrev pub AreRuns : Layout → List ℕ → List ℕ → List Run → Type 0
+AreRuns y body cells runs = All (IsRunOf y body cells) runs

@@ -1,12 +1,12 @@
-// Where the children of a table or an array stand, behind the checks of its length and its keys.
+// The items of a table or an array, after the checks of its length and its keys.
 ghost use Rattle.std.specs.Prelude.{◌≡◌, ◌+◌, ◌*◌, ◌≤◌, ◌<◌, ◌^◌, length, true};
-ghost use Rattle.rb_validator.specs.KeyMarks.{IsSound};
+ghost use Rattle.rb_validator.specs.KnownKeys.{IsSound};
 ghost use Rattle.rb_validator.specs.Marks as marks;
 ghost use Rattle.rb_validator.specs.Marks.{table_children};
 ghost use Rattle.rb_validator.specs.Places.{IsIn, key_offset};
 ghost use Rattle.rb_validator.specs.Visits as visits;
 
-use crate::key_memo::KeyMemo;
+use crate::key_checker::KeyChecker;
 use crate::keys::KeyPlaces;
 use rb_format::{FileFault, ItemKind, Layout, half_at, word_at};
 
@@ -27,22 +27,22 @@ pub fn has_children(kind: ItemKind) -> bool
     )
 }
 
-/// Where the children of a table or an array stand, once its length and its keys are right.
+/// The items of a table or an array, if its length and its keys are right.
 #[tactic(auto, unfolding(crate::specs::Marks::children_at))]
 pub fn find_children(
     layout: &Layout,
     body: &[u8],
-    keys: &mut KeyMemo,
+    keys: &mut KeyChecker,
     kind: ItemKind,
     offset: u32,
 ) -> Result<Children, FileFault>
     requires room { 4 * layout.now.top ≤ length body.now }
     requires tops { layout.now.keys_top ≤ layout.now.top }
-    requires sound { IsSound layout.now body.now keys.old.found }
+    requires sound { IsSound layout.now body.now keys.old.known }
     requires below { offset < layout.now.top }
     requires inner { visits.has_children kind ≡ true }
     ensures value { result ≡ marks.children_at layout.now body.now kind offset }
-    ensures sound { IsSound layout.now body.now keys.new.found }
+    ensures sound { IsSound layout.now body.now keys.new.known }
 {
     let offset = offset as usize;
     match kind {
@@ -84,21 +84,22 @@ pub fn find_children(
     }
 }
 
+/// The items of a table, if its length and its keys are right.
 fn table_children(
     layout: &Layout,
     body: &[u8],
-    keys: &mut KeyMemo,
+    keys: &mut KeyChecker,
     places: KeyPlaces,
     first: usize,
     count: usize,
 ) -> Result<Children, FileFault>
     requires room { 4 * layout.now.top ≤ length body.now }
     requires tops { layout.now.keys_top ≤ layout.now.top }
-    requires sound { IsSound layout.now body.now keys.old.found }
+    requires sound { IsSound layout.now body.now keys.old.known }
     requires small { first + count < 2 ^ 40 }
     requires places { first + count ≤ layout.now.top → IsIn body.now places count }
     ensures value { result ≡ table_children layout.now body.now (key_offset body.now places) first count }
-    ensures sound { IsSound layout.now body.now keys.new.found }
+    ensures sound { IsSound layout.now body.now keys.new.known }
 {
     if (layout.top as usize) < first + count {
         return Err(FileFault::Length);

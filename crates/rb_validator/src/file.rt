@@ -5,15 +5,17 @@ ghost use Rattle.rb_format.specs.Place as stands;
 ghost use Rattle.rb_validator.specs.Visits.{IsPlaceAt, IsCount, HasVisits};
 
 use crate::items::check_item;
-use crate::key_memo::KeyMemo;
+use crate::key_checker::KeyChecker;
 use crate::memo::Memo;
 use crate::runs::Runs;
-use crate::seen::Seen;
-use rb_format::{FILE_LIMIT, FileFault, Header, Layout, is_laid, is_table, item_kind, word_at};
+use crate::state::CheckState;
+use rb_format::{
+    Attributes, FILE_LIMIT, FileFault, Header, Layout, is_laid, is_table, item_kind, word_at,
+};
 use rb_tree::HEIGHT_LIMIT;
 use std::alloc::Global;
 
-/// How many places of a file were entered, or the first fault; `Memory` may come in place of an answer.
+/// How many places a file has, or its first fault; `Memory` may come in place of an answer.
 #[tactic(auto, unfolding(rb_format::specs::FirstFault::read_file))]
 pub fn check_file(alloc: Global, bytes: &[u8]) -> Result<u64, FileFault>
     ensures answer { MatchResult result (λ _. first_fault bytes.now ≡ None) (λ e. (e ≡ FileFault.Memory) ⊎ (first_fault bytes.now ≡ Some e)) }
@@ -23,17 +25,20 @@ pub fn check_file(alloc: Global, bytes: &[u8]) -> Result<u64, FileFault>
         return Err(FileFault::TooLong);
     }
     let header = Header::read(bytes)?;
-    check_data(alloc, &bytes[header.size as usize..])
+    check_data(alloc, header.minor, &bytes[header.size as usize..])
 }
 
-/// The same of the data behind the header.
+/// The same of the data after the header of a file of a minor version.
 #[tactic(auto, unfolding(rb_format::specs::FirstFault::read_data))]
-fn check_data(alloc: Global, body: &[u8]) -> Result<u64, FileFault>
-    ensures answer { MatchResult result (λ _. fault_of (read_data body.now) ≡ None) (λ e. (e ≡ FileFault.Memory) ⊎ (fault_of (read_data body.now) ≡ Some e)) }
+fn check_data(alloc: Global, minor: u8, body: &[u8]) -> Result<u64, FileFault>
+    ensures answer { MatchResult result (λ _. fault_of (read_data 64 minor body.now) ≡ None) (λ e. (e ≡ FileFault.Memory) ⊎ (fault_of (read_data 64 minor body.now) ≡ Some e)) }
     ensures visits { IfOk result (λ n. IsCount (IsPlaceAt body.now) (3 * stands.word_at body.now 4) n) }
 {
     if !is_laid(body) {
         return Err(FileFault::Indexes);
+    }
+    if Attributes::of(minor, body).has_pool() {
+        return Err(FileFault::Attributes);
     }
     let layout = Layout::of(body);
     let root = word_at(body, 0);
@@ -44,8 +49,8 @@ fn check_data(alloc: Global, body: &[u8]) -> Result<u64, FileFault>
         return Err(FileFault::Memory);
     };
     let runs = Runs::new(alloc, layout.top);
-    let keys = KeyMemo::new(alloc, &layout, body);
-    let mut seen = Seen { memo, runs, keys };
-    check_item(&layout, body, &mut seen, root, HEIGHT_LIMIT)?;
-    Ok(seen.memo.visits())
+    let keys = KeyChecker::new(alloc, &layout, body);
+    let mut state = CheckState { memo, runs, keys };
+    check_item(&layout, body, &mut state, root, HEIGHT_LIMIT)?;
+    Ok(state.memo.visits())
 }

@@ -1,26 +1,26 @@
-// The checks of an item and of what is below it. Each table and array is entered once.
+// The checks of an item and of all below it. Each table and array is entered once.
 ghost use Rattle.std.specs.Prelude.{◌≡◌, ◌≢◌, true, ℕ, ◌+◌, ◌*◌, ◌≤◌, ◌<◌, length, Some, Ok, Err, IfOk};
 ghost use Rattle.rb_format.specs.FirstFault.{result_map, within, contents, read};
 ghost use Rattle.rb_format.specs.Item.{kind_of, offset_of};
 ghost use Rattle.rb_format.specs.Place as stands;
 ghost use Rattle.rb_tree.specs.Resource.{height, trees_height};
-ghost use Rattle.rb_validator.specs.KeyMarks.{IsSound};
-ghost use Rattle.rb_validator.specs.Marks.{mark_at, IsKnown, IsMet, Keeps, Leads, After, Holds, run_of, IsRunKnown};
+ghost use Rattle.rb_validator.specs.KnownKeys.{IsSound};
+ghost use Rattle.rb_validator.specs.Marks.{mark_at, IsKnown, IsMet, Keeps, Leads, After, AreRuns, run_of, IsRunKnown};
 ghost use Rattle.rb_validator.specs.Visits as visits;
 
 use crate::children::{find_children, has_children};
 use crate::leaves::{check_leaf, check_offset};
 use crate::memo::Mark;
 use crate::runs::split;
-use crate::seen::Seen;
+use crate::state::CheckState;
 use rb_format::{FileFault, ItemKind, Layout, item_kind, item_offset, word_at};
 
-/// The height of the tree for which an item stands, which is at most `left`.
+/// The height of the tree for which an item stands, where that is at most `left`, or its first fault.
 #[cycle(check)]
 pub fn check_item(
     layout: &Layout,
     body: &[u8],
-    seen: &mut Seen,
+    state: &mut CheckState,
     item: u32,
     left: u64,
 ) -> Result<u64, FileFault>
@@ -28,15 +28,15 @@ pub fn check_item(
     requires tops { layout.now.keys_top ≤ layout.now.top }
     requires small { left < 255 }
     requires met { IsMet body.now item }
-    requires sound { IsSound layout.now body.now seen.old.keys.found }
-    requires keeps { Keeps layout.now body.now seen.old.memo }
-    requires holds { Holds layout.now body.now seen.old.memo seen.old.runs }
-    requires leads { Leads layout.now body.now seen.old.memo (λ e. read layout.now body.now e item ≡ Err FileFault.TooDeep) }
+    requires sound { IsSound layout.now body.now state.old.keys.known }
+    requires keeps { Keeps layout.now body.now state.old.memo }
+    requires holds { AreRuns layout.now body.now state.old.memo state.old.runs }
+    requires leads { Leads layout.now body.now state.old.memo (λ e. read layout.now body.now e item ≡ Err FileFault.TooDeep) }
     ensures value { result ≡ result_map height (read layout.now body.now left item) }
-    ensures sound { IsSound layout.now body.now seen.new.keys.found }
-    ensures after { IfOk result (λ _. After layout.now body.now seen.old.memo seen.new.memo) }
-    ensures holds { IfOk result (λ _. Holds layout.now body.now seen.new.memo seen.new.runs) }
-    ensures known { IfOk result (λ _. IsKnown seen.new.memo item) }
+    ensures sound { IsSound layout.now body.now state.new.keys.known }
+    ensures after { IfOk result (λ _. After layout.now body.now state.old.memo state.new.memo) }
+    ensures holds { IfOk result (λ _. AreRuns layout.now body.now state.new.memo state.new.runs) }
+    ensures known { IfOk result (λ _. IsKnown state.new.memo item) }
 {
     if left == 0 {
         return Err(FileFault::TooDeep);
@@ -48,7 +48,7 @@ pub fn check_item(
                 return Ok(1);
             }
             if has_children(kind) {
-                check_inner(layout, body, seen, item, kind, left - 1)
+                check_inner(layout, body, state, item, kind, left - 1)
             } else {
                 check_leaf(layout, body, kind, offset)?;
                 Ok(1)
@@ -58,12 +58,12 @@ pub fn check_item(
     }
 }
 
-/// A table or an array with data: the height that it was found to have, or what an entry finds.
+/// The height of the tree of a table or an array with data: the one that is kept, or what an entry finds.
 #[cycle(check)]
 fn check_inner(
     layout: &Layout,
     body: &[u8],
-    seen: &mut Seen,
+    state: &mut CheckState,
     item: u32,
     kind: ItemKind,
     left: u64,
@@ -77,18 +77,18 @@ fn check_inner(
     requires full { 0 < offset_of item }
     requires there { within layout.now kind (offset_of item) ≡ Ok true }
     requires below { offset_of item < layout.now.top }
-    requires sound { IsSound layout.now body.now seen.old.keys.found }
-    requires keeps { Keeps layout.now body.now seen.old.memo }
-    requires holds { Holds layout.now body.now seen.old.memo seen.old.runs }
-    requires leads { Leads layout.now body.now seen.old.memo (λ e. read layout.now body.now e item ≡ Err FileFault.TooDeep) }
+    requires sound { IsSound layout.now body.now state.old.keys.known }
+    requires keeps { Keeps layout.now body.now state.old.memo }
+    requires holds { AreRuns layout.now body.now state.old.memo state.old.runs }
+    requires leads { Leads layout.now body.now state.old.memo (λ e. read layout.now body.now e item ≡ Err FileFault.TooDeep) }
     ensures value { result ≡ result_map height (contents layout.now body.now (λ w. read layout.now body.now left w) (offset_of item) kind) }
-    ensures sound { IsSound layout.now body.now seen.new.keys.found }
-    ensures after { IfOk result (λ _. After layout.now body.now seen.old.memo seen.new.memo) }
-    ensures holds { IfOk result (λ _. Holds layout.now body.now seen.new.memo seen.new.runs) }
-    ensures known { IfOk result (λ _. mark_at seen.new.memo kind (offset_of item) ≢ 0) }
+    ensures sound { IsSound layout.now body.now state.new.keys.known }
+    ensures after { IfOk result (λ _. After layout.now body.now state.old.memo state.new.memo) }
+    ensures holds { IfOk result (λ _. AreRuns layout.now body.now state.new.memo state.new.runs) }
+    ensures known { IfOk result (λ _. mark_at state.new.memo kind (offset_of item) ≢ 0) }
 {
-    match seen.memo.mark(kind, item_offset(item)) {
-        Mark::New => enter(layout, body, seen, item, kind, left),
+    match state.memo.mark(kind, item_offset(item)) {
+        Mark::New => enter(layout, body, state, item, kind, left),
         Mark::Open => Err(FileFault::TooDeep),
         Mark::Done(height) => {
             if height <= left + 1 {
@@ -100,12 +100,12 @@ fn check_inner(
     }
 }
 
-/// Enters a table or an array that wasn't met before.
+/// Enters a table or an array that was not entered before, and keeps the height of its tree.
 #[cycle(check)]
 fn enter(
     layout: &Layout,
     body: &[u8],
-    seen: &mut Seen,
+    state: &mut CheckState,
     item: u32,
     kind: ItemKind,
     left: u64,
@@ -119,31 +119,31 @@ fn enter(
     requires full { 0 < offset_of item }
     requires there { within layout.now kind (offset_of item) ≡ Ok true }
     requires below { offset_of item < layout.now.top }
-    requires sound { IsSound layout.now body.now seen.old.keys.found }
-    requires keeps { Keeps layout.now body.now seen.old.memo }
-    requires holds { Holds layout.now body.now seen.old.memo seen.old.runs }
-    requires leads { Leads layout.now body.now seen.old.memo (λ e. read layout.now body.now e item ≡ Err FileFault.TooDeep) }
-    requires fresh { mark_at seen.old.memo kind (offset_of item) ≡ 0 }
+    requires sound { IsSound layout.now body.now state.old.keys.known }
+    requires keeps { Keeps layout.now body.now state.old.memo }
+    requires holds { AreRuns layout.now body.now state.old.memo state.old.runs }
+    requires leads { Leads layout.now body.now state.old.memo (λ e. read layout.now body.now e item ≡ Err FileFault.TooDeep) }
+    requires fresh { mark_at state.old.memo kind (offset_of item) ≡ 0 }
     ensures value { result ≡ result_map height (contents layout.now body.now (λ w. read layout.now body.now left w) (offset_of item) kind) }
-    ensures sound { IsSound layout.now body.now seen.new.keys.found }
-    ensures after { IfOk result (λ _. After layout.now body.now seen.old.memo seen.new.memo) }
-    ensures holds { IfOk result (λ _. Holds layout.now body.now seen.new.memo seen.new.runs) }
-    ensures known { IfOk result (λ _. mark_at seen.new.memo kind (offset_of item) ≢ 0) }
+    ensures sound { IsSound layout.now body.now state.new.keys.known }
+    ensures after { IfOk result (λ _. After layout.now body.now state.old.memo state.new.memo) }
+    ensures holds { IfOk result (λ _. AreRuns layout.now body.now state.new.memo state.new.runs) }
+    ensures known { IfOk result (λ _. mark_at state.new.memo kind (offset_of item) ≢ 0) }
 {
     let offset = item_offset(item);
-    seen.memo.enter(kind, offset);
-    let found = find_children(layout, body, &mut seen.keys, kind, offset)?;
-    let below = check_items(layout, body, seen, found.first, found.count, left)?;
-    seen.memo.finish(kind, offset, below as u8 + 1);
+    state.memo.enter(kind, offset);
+    let found = find_children(layout, body, &mut state.keys, kind, offset)?;
+    let below = check_items(layout, body, state, found.first, found.count, left)?;
+    state.memo.finish(kind, offset, below as u8 + 1);
     Ok(below + 1)
 }
 
-/// The height of the highest of so many items. What is found of a block of them is kept.
+/// The greatest height of so many items from a word on. What is found of a block of them is kept.
 #[cycle(check)]
 fn check_items(
     layout: &Layout,
     body: &[u8],
-    seen: &mut Seen,
+    state: &mut CheckState,
     first: usize,
     count: usize,
     left: u64,
@@ -153,41 +153,41 @@ fn check_items(
     requires small { left < 254 }
     requires items { first + count ≤ layout.now.top }
     requires met { (i : ℕ) → i < count → IsMet body.now (stands.word_at body.now (first + i)) }
-    requires sound { IsSound layout.now body.now seen.old.keys.found }
-    requires keeps { Keeps layout.now body.now seen.old.memo }
-    requires holds { Holds layout.now body.now seen.old.memo seen.old.runs }
-    requires leads { Leads layout.now body.now seen.old.memo (λ e. run_of layout.now body.now e first count ≡ Err FileFault.TooDeep) }
+    requires sound { IsSound layout.now body.now state.old.keys.known }
+    requires keeps { Keeps layout.now body.now state.old.memo }
+    requires holds { AreRuns layout.now body.now state.old.memo state.old.runs }
+    requires leads { Leads layout.now body.now state.old.memo (λ e. run_of layout.now body.now e first count ≡ Err FileFault.TooDeep) }
     ensures value { result ≡ result_map trees_height (run_of layout.now body.now left first count) }
     ensures low { IfOk result (λ h. h ≤ left) }
-    ensures sound { IsSound layout.now body.now seen.new.keys.found }
-    ensures after { IfOk result (λ _. After layout.now body.now seen.old.memo seen.new.memo) }
-    ensures holds { IfOk result (λ _. Holds layout.now body.now seen.new.memo seen.new.runs) }
-    ensures known { IfOk result (λ _. IsRunKnown body.now seen.new.memo first count) }
+    ensures sound { IsSound layout.now body.now state.new.keys.known }
+    ensures after { IfOk result (λ _. After layout.now body.now state.old.memo state.new.memo) }
+    ensures holds { IfOk result (λ _. AreRuns layout.now body.now state.new.memo state.new.runs) }
+    ensures known { IfOk result (λ _. IsRunKnown body.now state.new.memo first count) }
 {
-    if seen.runs.is_plain(count) {
-        return check_each(layout, body, seen, first, count, left);
+    if state.runs.is_plain(count) {
+        return check_each(layout, body, state, first, count, left);
     }
     let parts = split(first, count);
-    if let Some(height) = seen.runs.height(parts, first, count) {
+    if let Some(height) = state.runs.height(parts, first, count) {
         if height as u64 <= left {
             return Ok(height as u64);
         }
         return Err(FileFault::TooDeep);
     }
     let before = parts.middle - first;
-    let low = check_items(layout, body, seen, first, before, left)?;
-    let high = check_items(layout, body, seen, parts.middle, count - before, left)?;
+    let low = check_items(layout, body, state, first, before, left)?;
+    let high = check_items(layout, body, state, parts.middle, count - before, left)?;
     let height = low.max(high);
-    seen.runs.keep(parts, first, count, height as u8);
+    state.runs.keep(parts, first, count, height as u8);
     Ok(height)
 }
 
-/// The same, one by one.
+/// The greatest height of so many items from a word on, which are checked one by one.
 #[cycle(check)]
 fn check_each(
     layout: &Layout,
     body: &[u8],
-    seen: &mut Seen,
+    state: &mut CheckState,
     first: usize,
     count: usize,
     left: u64,
@@ -197,20 +197,20 @@ fn check_each(
     requires small { left < 254 }
     requires items { first + count ≤ layout.now.top }
     requires met { (i : ℕ) → i < count → IsMet body.now (stands.word_at body.now (first + i)) }
-    requires sound { IsSound layout.now body.now seen.old.keys.found }
-    requires keeps { Keeps layout.now body.now seen.old.memo }
-    requires holds { Holds layout.now body.now seen.old.memo seen.old.runs }
-    requires leads { Leads layout.now body.now seen.old.memo (λ e. run_of layout.now body.now e first count ≡ Err FileFault.TooDeep) }
+    requires sound { IsSound layout.now body.now state.old.keys.known }
+    requires keeps { Keeps layout.now body.now state.old.memo }
+    requires holds { AreRuns layout.now body.now state.old.memo state.old.runs }
+    requires leads { Leads layout.now body.now state.old.memo (λ e. run_of layout.now body.now e first count ≡ Err FileFault.TooDeep) }
     ensures value { result ≡ result_map trees_height (run_of layout.now body.now left first count) }
     ensures low { IfOk result (λ h. h ≤ left) }
-    ensures sound { IsSound layout.now body.now seen.new.keys.found }
-    ensures after { IfOk result (λ _. After layout.now body.now seen.old.memo seen.new.memo) }
-    ensures holds { IfOk result (λ _. Holds layout.now body.now seen.new.memo seen.new.runs) }
-    ensures known { IfOk result (λ _. IsRunKnown body.now seen.new.memo first count) }
+    ensures sound { IsSound layout.now body.now state.new.keys.known }
+    ensures after { IfOk result (λ _. After layout.now body.now state.old.memo state.new.memo) }
+    ensures holds { IfOk result (λ _. AreRuns layout.now body.now state.new.memo state.new.runs) }
+    ensures known { IfOk result (λ _. IsRunKnown body.now state.new.memo first count) }
 {
     let mut height = 0;
     for i in first..first + count {
-        let child = check_item(layout, body, seen, word_at(body, i), left)?;
+        let child = check_item(layout, body, state, word_at(body, i), left)?;
         height = height.max(child);
     }
     Ok(height)

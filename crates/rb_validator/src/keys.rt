@@ -1,4 +1,4 @@
-// A key of a table beside the one before it.
+// A key of a table, compared with the one before it byte by byte.
 ghost use Rattle.std.specs.Prelude.{◌≡◌, ℕ, ◌+◌, ◌*◌, ◌≤◌, ◌<◌, length};
 ghost use Rattle.rb_format.specs.FirstFault.{result_map, next_key};
 ghost use Rattle.std.specs.Ordering.{is_lt, nat_cmp};
@@ -8,10 +8,12 @@ ghost use Rattle.rb_validator.specs.Places as stands;
 
 use rb_format::{FileFault, Layout, half_at, key_within, word_at};
 
-/// Where the key offsets of a table stand: the first half word, or the first word.
+/// The place of the key offsets of a table.
 #[derive(Clone, Copy)]
 pub enum KeyPlaces {
+    /// Short ones, from this half word on.
     Halves(usize),
+    /// Long ones, from this word on.
     Words(usize),
 }
 
@@ -26,12 +28,14 @@ pub fn key_offset(body: &[u8], places: KeyPlaces, i: usize) -> u32
     }
 }
 
+/// Whether bytes are below others.
 fn is_below(a: &[u8], b: &[u8]) -> bool
     ensures { result ≡ is_lt (slice_cmp nat_cmp a.now b.now) }
 {
     a.cmp(b).is_lt()
 }
 
+/// The key at an offset, if it is above the last one.
 #[tactic(auto, unfolding(rb_format::specs::FirstFault::next_key))]
 pub fn next_key<'a>(
     layout: &Layout,

@@ -4,13 +4,14 @@ ghost use Rattle.rb_format.specs.FirstFault.{fault_of, units, bytes, numbers, wi
 ghost use Rattle.rb_tree.specs.Resource.{Resource};
 ghost use Rattle.rb_validator.specs.Visits.{has_children};
 
+use crate::values::has_data;
 use rb_format::{FileFault, ItemKind, Layout, half_at, word_at};
 
-/// Whether an item has data, which then lie between the keys and the top.
+/// Whether an item has data, which then begin between the keys and the top.
 pub fn check_offset(layout: &Layout, kind: ItemKind, offset: u32) -> Result<bool, FileFault>
     ensures { result ≡ within layout.now kind offset }
 {
-    if kind == ItemKind::Int || offset == 0 {
+    if !has_data(kind, offset) {
         return Ok(false);
     }
     if offset < layout.keys_top {
@@ -23,6 +24,7 @@ pub fn check_offset(layout: &Layout, kind: ItemKind, offset: u32) -> Result<bool
     }
 }
 
+/// The checks of a String or an Alias: its units, and a zero unit after them, end at or below the top.
 #[tactic(auto, unfolding(rb_format::specs::FirstFault::units))]
 pub fn check_units(layout: &Layout, body: &[u8], offset: u32) -> Result<(), FileFault>
     requires room { 4 * layout.now.top ≤ length body.now }
@@ -41,6 +43,7 @@ pub fn check_units(layout: &Layout, body: &[u8], offset: u32) -> Result<(), File
     }
 }
 
+/// The check of a Binary: its bytes end at or below the top.
 #[tactic(auto, unfolding(rb_format::specs::FirstFault::bytes))]
 pub fn check_bytes(layout: &Layout, body: &[u8], offset: u32) -> Result<(), FileFault>
     requires room { 4 * layout.now.top ≤ length body.now }
@@ -56,6 +59,7 @@ pub fn check_bytes(layout: &Layout, body: &[u8], offset: u32) -> Result<(), File
     }
 }
 
+/// The check of Ints: they end at or below the top.
 #[tactic(auto, unfolding(rb_format::specs::FirstFault::numbers))]
 pub fn check_numbers(layout: &Layout, body: &[u8], offset: u32) -> Result<(), FileFault>
     requires room { 4 * layout.now.top ≤ length body.now }

@@ -4,16 +4,19 @@
 mod bundle;
 mod children;
 mod file;
-mod found;
-mod guess;
 mod items;
-mod key_memo;
+mod key_checker;
 mod keys;
+mod known_keys;
 mod leaves;
+mod links;
+mod lists;
 mod memo;
+mod rank_builder;
 mod ranks;
 mod runs;
-mod seen;
+mod state;
+mod suffixes;
 #[cfg(test)]
 mod tests;
 mod tree;

@@ -1,4 +1,4 @@
-// The marks of the tables and arrays that the acceptance has entered.
+// The marks of the tables and arrays that an acceptance has entered.
 ghost use Rattle.std.specs.Prelude.{◌≡◌, ◌≢◌, ℕ, ◌*◌, ◌<◌, List, length, slice_index, slice_set, IfOk};
 ghost use Rattle.rb_validator.specs.Marks.{cell, mark_of, mark_at, marked};
 
@@ -6,18 +6,18 @@ use rb_format::ItemKind;
 use std::alloc::{AllocError, Global};
 use std::marker::Model;
 
-/// What is known of an offset and a kind.
+/// What is known of the table or array of an offset and a kind.
 #[derive(Clone, Copy)]
 pub enum Mark {
-    /// It wasn't met before.
+    /// Nothing: it was not entered so far.
     New,
-    /// It is being checked.
+    /// It was entered, and is being checked.
     Open,
-    /// It stands for a tree of this height.
+    /// It was checked: it has a tree of this height.
     Done(u64),
 }
 
-/// The byte of an offset and a kind that are being checked. A height is less, and 0 is for those that weren't met.
+/// The byte of what is being checked. A height is less, and 0 is for what was not entered.
 const OPEN: u8 = 255;
 
 /// A mark for each offset and kind with children, and how many were entered.
@@ -35,7 +35,7 @@ impl Model for Memo {
     ghost invariant = { λ m. m.visits ≡ marked m.heights.items (length m.heights.items) };
 }
 
-/// Where the byte of an offset and a kind stands.
+/// The place of the byte of an offset and a kind.
 fn cell_of(kind: ItemKind, offset: u32) -> usize
     ensures { result ≡ cell kind offset }
 {
@@ -48,7 +48,7 @@ fn cell_of(kind: ItemKind, offset: u32) -> usize
 }
 
 impl Memo {
-    /// No offset below the top was met.
+    /// Nothing below the top was entered.
     pub fn new(alloc: Global, top: u32) -> Result<Memo, AllocError>
         ensures long { IfOk result (λ m. length m ≡ 3 * top) }
         ensures fresh { IfOk result (λ m. (n : ℕ) → slice_index m n ≡ 0) }
@@ -64,6 +64,7 @@ impl Memo {
         self.visits
     }
 
+    /// What is known of an offset and a kind.
     pub fn mark(&self, kind: ItemKind, offset: u32) -> Mark
         requires { cell kind offset < length self.now }
         ensures { result ≡ mark_of (mark_at self.now kind offset) }
@@ -75,7 +76,7 @@ impl Memo {
         }
     }
 
-    /// Marks an offset and a kind that weren't met before. This is the one place where an entry is counted.
+    /// Marks an offset and a kind as being checked. This is the one place where an entry is counted.
     pub fn enter(&mut self, kind: ItemKind, offset: u32)
         requires inside { cell kind offset < length self.old }
         requires fresh { mark_at self.old kind offset ≡ 0 }
@@ -85,7 +86,7 @@ impl Memo {
         self.visits += 1;
     }
 
-    /// Keeps the height of the tree for which an offset and a kind stand.
+    /// Keeps the height of the tree of an offset and a kind.
     pub fn finish(&mut self, kind: ItemKind, offset: u32, height: u8)
         requires inside { cell kind offset < length self.old }
         requires entered { mark_at self.old kind offset ≢ 0 }

@@ -1,15 +1,15 @@
-// The runs of items of which the greatest height is known. Containers may overlap, so that a file's words are the items of very
-// many of them: a run is split where blocks of the words meet, and of each block the items are looked at once.
+// The runs of items of which the greatest height is known. Tables and arrays may overlap, so that a file's words are the items of
+// very many of them: a run is split where blocks of the words meet, and the items of each block are checked once.
 ghost use Rattle.std.specs.Prelude.{◌≡◌, ◌⊎◌, true, ◌+◌, ◌*◌, ◌≤◌, ◌<◌, ◌/◌, ◌^◌, List, All, Contains, slice_set, IfSome};
 ghost use Rattle.rb_validator.specs.declared.runs.Run.{Run};
 
 use std::alloc::Global;
 use std::marker::Model;
 
-/// So many items are looked at one by one.
+/// Up to so many items are checked one by one.
 const SHORT: usize = 16;
 
-/// A run of items, by its first word and its length, and their greatest height. One of no items says nothing.
+/// A run of items, by its first word and how many they are, and their greatest height. One of no items says nothing.
 #[derive(Clone, Copy)]
 pub struct Run {
     pub first: usize,
@@ -25,7 +25,7 @@ pub struct Parts {
     pub is_block: bool,
 }
 
-/// Where a run falls apart: at the word whose number has the highest power of two.
+/// Splits a run before the word whose number is a multiple of the highest power of two.
 pub fn split(first: usize, count: usize) -> Parts
     requires long { 1 < count }
     requires small { first + count < 2 ^ 62 }
@@ -44,14 +44,15 @@ pub fn split(first: usize, count: usize) -> Parts
     }
 }
 
-/// For each block, by its middle, what was found of a run. Nothing is kept before so many items were looked at as the file has
-/// words, which no file reaches whose containers do not overlap.
+/// For each block, by its middle, what was found of a run. Nothing is kept before as many items were checked as the file has words:
+/// no file whose tables and arrays do not overlap gets there.
 #[derive(Drop)]
 pub struct Runs {
     alloc: Global,
     runs: Vec<Run>,
     top: usize,
-    spare: usize,
+    /// How many items may still be checked one by one.
+    budget: usize,
 }
 
 impl Model for Runs {
@@ -69,18 +70,18 @@ impl Runs {
             alloc,
             runs: Vec::new(alloc),
             top: top as usize,
-            spare: top as usize,
+            budget: top as usize,
         }
     }
 
-    /// Whether so many more items are looked at one by one: a few of them, or while there are spare ones. Where there is no memory
-    /// to keep runs in, all are.
+    /// Whether so many more items are checked one by one: a few of them, or those within the budget. Where there is no memory to keep
+    /// runs in, all are.
     pub fn is_plain(&mut self, count: usize) -> bool
         ensures long { (result ≡ true) ⊎ (1 < count) }
         ensures runs { (self.new ≡ self.old) ⊎ All (λ run. run.count ≡ 0 × run.height ≡ 0) self.new }
     {
-        if count <= self.spare {
-            self.spare -= count;
+        if count <= self.budget {
+            self.budget -= count;
             return true;
         }
         if count <= SHORT {
@@ -106,7 +107,7 @@ impl Runs {
         }
     }
 
-    /// The greatest height of a block's items, once they were looked at.
+    /// The greatest height of a run's items, if it is known.
     pub fn height(&self, parts: Parts, first: usize, count: usize) -> Option<u8>
         ensures { IfSome result (λ h. Contains self.now (record { first = first; count = count; height = h })) }
     {

@@ -8,8 +8,11 @@ use crate::tree::decode;
 use plain::plain_fault;
 use rb_format::FileFault;
 use rb_tree::{Node, Tree};
-use samples::{EMPTY, HOLDS_ITSELF, ONE_STRING, THREE_NUMBERS, TWO_BINARIES, TWO_NUMBERS};
-use shared::{chain, chain_and_more, overlapping, suffixes};
+use samples::{
+    EMPTY, EVERY_TYPE, HOLDS_ITSELF, NO_FALLBACK, ONE_STRING, THREE_NUMBERS, TWO_BINARIES,
+    TWO_NUMBERS,
+};
+use shared::{chain, chain_and_more, numbers, overlapping, suffixes};
 use std::alloc::Global;
 use std::test::Fail;
 
@@ -39,7 +42,7 @@ fn with(alloc: Global, bytes: &[u8], place: usize, over: &[u8]) -> Result<Vec<u8
 }
 
 #[test]
-fn samples_stand(rt: HostRuntime) -> Result<(), Fail> {
+fn samples_are_accepted(rt: HostRuntime) -> Result<(), Fail> {
     let alloc = rt.alloc();
     for sample in [
         &EMPTY[..],
@@ -47,6 +50,7 @@ fn samples_stand(rt: HostRuntime) -> Result<(), Fail> {
         &TWO_NUMBERS[..],
         &THREE_NUMBERS[..],
         &TWO_BINARIES[..],
+        &EVERY_TYPE[..],
     ] {
         assert_eq!(rt; fault_of(alloc, sample)?, None, "{sample:?}");
     }
@@ -79,6 +83,36 @@ fn damage_is_named(rt: HostRuntime) -> Result<(), Fail> {
     Ok(())
 }
 
+/// The flag of the bundle, or the fault.
+fn no_fallback_of(alloc: Global, file: Vec<u8>) -> Result<bool, FileFault> {
+    match accept(alloc, file) {
+        Ok(bundle) => Ok(bundle.no_fallback()),
+        Err((fault, _)) => Err(fault),
+    }
+}
+
+#[test]
+fn minor_versions_have_attributes(rt: HostRuntime) -> Result<(), Fail> {
+    let alloc = rt.alloc();
+    for (sample, place, byte, flag) in [
+        (&ONE_STRING[..], 17, 0, Err(FileFault::FormatVersion)),
+        (&ONE_STRING[..], 17, 1, Ok(false)),
+        (&ONE_STRING[..], 17, 2, Ok(false)),
+        (&ONE_STRING[..], 17, 3, Ok(false)),
+        (&NO_FALLBACK[..], 17, 1, Ok(false)),
+        (&NO_FALLBACK[..], 17, 2, Ok(true)),
+        (&NO_FALLBACK[..], 56, 8, Ok(false)),
+        (&NO_FALLBACK[..], 56, 2, Err(FileFault::Attributes)),
+        (&NO_FALLBACK[..], 56, 3, Err(FileFault::Attributes)),
+        (&NO_FALLBACK[..], 56, 4, Err(FileFault::Attributes)),
+        (&NO_FALLBACK[..], 56, 5, Err(FileFault::Attributes)),
+    ] {
+        let file = with(alloc, sample, place, &[byte])?;
+        assert_eq!(rt; no_fallback_of(alloc, file), flag, "byte {place} as {byte}");
+    }
+    Ok(())
+}
+
 #[test]
 fn length_is_limited(rt: HostRuntime) -> Result<(), Fail> {
     let alloc = rt.alloc();
@@ -94,43 +128,44 @@ fn length_is_limited(rt: HostRuntime) -> Result<(), Fail> {
 }
 
 #[test]
-fn a_plain_checker_agrees(rt: HostRuntime) -> Result<(), Fail> {
+fn cut_files_are_refused(rt: HostRuntime) -> Result<(), Fail> {
     let alloc = rt.alloc();
-    for n in 0..=ONE_STRING.len() {
+    for n in 0..ONE_STRING.len() {
         let fault = if n < 32 {
-            Some(FileFault::Header)
-        } else if n < 76 {
-            Some(FileFault::Indexes)
+            FileFault::Header
         } else {
-            None
+            FileFault::Indexes
         };
-        assert_eq!(rt;
-            fault_of(alloc, &ONE_STRING[..n])?,
-            fault,
-            "one string cut to {n}"
-        );
+        let cut = &ONE_STRING[..n];
+        assert_eq!(rt; fault_of(alloc, cut)?, Some(fault), "cut to {n}");
+        assert_eq!(rt; plain_fault(cut), Some(fault), "cut to {n}");
     }
-    for n in 0..=THREE_NUMBERS.len() {
-        assert_eq!(rt;
-            fault_of(alloc, &THREE_NUMBERS[..n])?,
-            plain_fault(&THREE_NUMBERS[..n]),
-            "three numbers cut to {n}"
-        );
-    }
-    for sample in [&ONE_STRING[..], &THREE_NUMBERS[..]] {
-        for i in 0..sample.len() / 4 {
-            let mut next = [0; 4];
-            next.copy_from_slice(&sample[4 * i..4 * i + 4]);
-            let next = u32::from_le_bytes(next).wrapping_add(1);
-            for word in [0, 0x7FFF_FFFF, 0xFFFF_FFFF, next] {
-                let file = with(alloc, sample, 4 * i, &word.to_le_bytes())?;
-                assert_eq!(rt;
-                    fault_of(alloc, &file)?,
-                    plain_fault(&file),
-                    "word {i} as {word}"
-                );
+    Ok(())
+}
+
+/// The first damage of a word of a file, by its place and what is written there, that `accept` and the plain checker judge
+/// differently.
+fn first_difference(alloc: Global, file: &[u8]) -> Result<Option<(usize, u32)>, Fail> {
+    for i in 0..file.len() / 4 {
+        let mut bytes = [0; 4];
+        bytes.copy_from_slice(&file[4 * i..4 * i + 4]);
+        let word = u32::from_le_bytes(bytes);
+        let (next, other_kind) = (word.wrapping_add(1), word.wrapping_add(0x1000_0000));
+        for word in [0, 0x7FFF_FFFF, 0xFFFF_FFFF, next, other_kind] {
+            let damaged = with(alloc, file, 4 * i, &word.to_le_bytes())?;
+            if fault_of(alloc, &damaged)? != plain_fault(&damaged) {
+                return Ok(Some((i, word)));
             }
         }
+    }
+    Ok(None)
+}
+
+#[test]
+fn a_plain_checker_agrees(rt: HostRuntime) -> Result<(), Fail> {
+    let alloc = rt.alloc();
+    for file in [&EVERY_TYPE[..], &ONE_STRING[..], &NO_FALLBACK[..]] {
+        assert_eq!(rt; first_difference(alloc, file)?, None, "{file:?}");
     }
     Ok(())
 }
@@ -188,6 +223,7 @@ fn places_are_entered_once(rt: HostRuntime) -> Result<(), Fail> {
     let alloc = rt.alloc();
     assert_eq!(rt; visits_of(alloc, EMPTY.to_vec(alloc)?), Ok(0));
     assert_eq!(rt; visits_of(alloc, ONE_STRING.to_vec(alloc)?), Ok(1));
+    assert_eq!(rt; visits_of(alloc, EVERY_TYPE.to_vec(alloc)?), Ok(4));
     for (arrays, length, visits) in [
         (30, 428, Ok(31)),
         (31, 440, Ok(32)),
@@ -225,5 +261,14 @@ fn overlapping_arrays_are_entered_once(rt: HostRuntime) -> Result<(), Fail> {
         visits_of(alloc, overlapping(alloc, 100, 61)?),
         Err(FileFault::TooDeep)
     );
+    Ok(())
+}
+
+#[test]
+fn a_large_file_is_accepted(rt: HostRuntime) -> Result<(), Fail> {
+    let alloc = rt.alloc();
+    let file = numbers(alloc, 200_000)?;
+    assert_eq!(rt; file.len(), 3_200_060);
+    assert_eq!(rt; visits_of(alloc, file), Ok(1));
     Ok(())
 }

@@ -1,4 +1,4 @@
-// Files that share items, made word by word.
+// Large files and files that share items, made word by word.
 ghost use Rattle.std.specs.Prelude.{◌<◌, ◌^◌};
 
 use super::samples::EMPTY;
@@ -81,7 +81,7 @@ pub fn chain_and_more(alloc: Global, arrays: u32) -> Result<Vec<u8>, Fail>
 }
 
 /// A table whose `a` is an array of so many arrays, one word apart, each word the count of one and an item of others; and whose
-/// `b` is an array that begins one word behind `a`, below so many arrays of one item.
+/// `b` is an array that begins one word after `a`, below so many arrays of one item.
 pub fn overlapping(alloc: Global, arrays: u32, above: u32) -> Result<Vec<u8>, Fail>
     requires many { arrays < 2 ^ 20 }
     requires deep { above < 2 ^ 20 }
@@ -154,6 +154,39 @@ pub fn suffixes(alloc: Global, keys: u32, last: u32) -> Result<Vec<u8>, Fail>
     put(&mut file, last)?;
     for _ in 0..keys {
         put(&mut file, 0x7000_0000)?;
+    }
+    Ok(file)
+}
+
+/// A key of seven letters for a number, and its NUL.
+fn put_key(file: &mut Vec<u8>, number: u32) -> Result<(), Fail> {
+    for digit in 0..7 {
+        let letter = (number >> (24 - 4 * digit)) % 16;
+        file.push(b'a' + letter as u8)?;
+    }
+    file.push(0)?;
+    Ok(())
+}
+
+/// A table of so many Ints.
+pub fn numbers(alloc: Global, count: u32) -> Result<Vec<u8>, Fail>
+    requires { count < 2 ^ 20 }
+{
+    let mut file = EMPTY[..32].to_vec(alloc)?;
+    let table = 6 + 2 * count;
+    let top = table + 1 + 2 * count;
+    for word in [0x4000_0000 + table, 5, table, top, top, count] {
+        put(&mut file, word)?;
+    }
+    for i in 0..count {
+        put_key(&mut file, i)?;
+    }
+    put(&mut file, count)?;
+    for i in 0..count {
+        put(&mut file, 24 + 8 * i)?;
+    }
+    for i in 0..count {
+        put(&mut file, 0x7000_0000 + i)?;
     }
     Ok(file)
 }

@@ -13,27 +13,27 @@ use Rattle.rb_validator.proofs.Cells.{cell_low, follows_same, follows_then, know
 use Rattle.rb_validator.proofs.Shapes.{leaf_height, fault_height, err_height, height_ok, height_err, children_err, children_fault, children_there}
 use Rattle.rb_validator.proofs.Ways.{cycle_deep, leads_children, leads_first, leads_next}
 use Rattle.rb_validator.proofs.Entering.{open_is, met_done, limit_fits, limit_passed, item_refused, item_bare, item_inner, items_none, items_stop, items_next, items_end, some_fault, entered_height, entered_after, opened_keeps, opened_met, read_low, max_is}
-use Rattle.rb_validator.proofs.Spans.{run_shift, leads_shift, holds_set, run_low_err, run_high_err, run_both, run_fits, run_passed, leads_low, leads_high, known_both, kept_run, made_run, holds_kept, holds_ready}
+use Rattle.rb_validator.proofs.Spans.{run_shift, leads_shift, runs_set, run_low_err, run_high_err, run_both, run_fits, run_passed, leads_low, leads_high, known_both, kept_run, made_run, runs_kept, runs_ready}
 use Rattle.rb_validator.proofs.items.+check.Goals as goal
 
 -- ---- a pair that may have been met before
 
 pub check_inner-returns-in-Open-clause-value : goal.check_inner-returns-in-Open-clause-value
 check_inner-returns-in-Open-clause-value t c =
-    let cells = c.args.seen.now.memo in
+    let cells = c.args.state.now.memo in
     let is : mark_at cells c.args.kind (offset_of c.args.item) ≡ 255 = open_is _ (rw c.item_offset.ensures at c.in-Open.ensures) in
     sym (err_height _ TooDeep (cycle_deep c.args.layout.now c.args.body.now cells c.args.left c.args.item c.args.kind c.requires.leads c.requires.is_kind c.requires.there c.requires.inner is))
 
 pub check_inner-returns-then-height-left-clause-value : goal.check_inner-returns-then-height-left-clause-value
 check_inner-returns-then-height-left-clause-value t c =
-    let done : Done c.in-Done.height ≡ mark_of (mark_at c.args.seen.now.memo c.args.kind (offset_of c.args.item)) = rw c.item_offset.ensures at c.in-Done.ensures in
-    let is = met_done c.args.layout.now c.args.body.now c.args.seen.now.memo c.args.left c.args.item c.in-Done.height c.args.kind c.requires.keeps c.requires.is_kind c.requires.there c.requires.inner done in
+    let done : Done c.in-Done.height ≡ mark_of (mark_at c.args.state.now.memo c.args.kind (offset_of c.args.item)) = rw c.item_offset.ensures at c.in-Done.ensures in
+    let is = met_done c.args.layout.now c.args.body.now c.args.state.now.memo c.args.left c.args.item c.in-Done.height c.args.kind c.requires.keeps c.requires.is_kind c.requires.there c.requires.inner done in
     sym (is ∙ limit_fits c.args.left c.in-Done.height (omega arith))
 
 pub check_inner-returns-else-height-left-clause-value : goal.check_inner-returns-else-height-left-clause-value
 check_inner-returns-else-height-left-clause-value t c =
-    let done : Done c.in-Done.height ≡ mark_of (mark_at c.args.seen.now.memo c.args.kind (offset_of c.args.item)) = rw c.item_offset.ensures at c.in-Done.ensures in
-    let is = met_done c.args.layout.now c.args.body.now c.args.seen.now.memo c.args.left c.args.item c.in-Done.height c.args.kind c.requires.keeps c.requires.is_kind c.requires.there c.requires.inner done in
+    let done : Done c.in-Done.height ≡ mark_of (mark_at c.args.state.now.memo c.args.kind (offset_of c.args.item)) = rw c.item_offset.ensures at c.in-Done.ensures in
+    let is = met_done c.args.layout.now c.args.body.now c.args.state.now.memo c.args.left c.args.item c.in-Done.height c.args.kind c.requires.keeps c.requires.is_kind c.requires.there c.requires.inner done in
     sym (is ∙ limit_passed c.args.left c.in-Done.height (omega arith))
 
 -- ---- an item
@@ -87,7 +87,7 @@ check_each-loop-i-init t c =
       value = rw all (items_none (run_of y body c.args.left c.args.first c.args.count));
       low = omega arith;
       sound = c.requires.sound;
-      after = record { keeps = c.requires.keeps; follows = follows_same c.args.seen.now.memo };
+      after = record { keeps = c.requires.keeps; follows = follows_same c.args.state.now.memo };
       holds = c.requires.holds;
       known = λ j h l. absurd (omega arith);
       leads = rw all c.requires.leads;
@@ -116,7 +116,7 @@ check_each-check_item-requires t c =
                   c.loop-i.invariant.after.keeps,
                   (
                     c.loop-i.invariant.holds,
-                    rw c.word_at.ensures (leads_first y body c.loop-i.seen.memo item i (end - i) (end - (i + 1)) step c.loop-i.invariant.leads),
+                    rw c.word_at.ensures (leads_first y body c.loop-i.state.memo item i (end - i) (end - (i + 1)) step c.loop-i.invariant.leads),
                   ),
                 ),
               ),
@@ -170,20 +170,20 @@ check_each-returns-clause-value t c =
 pub check_items-check_each-requires : goal.check_items-check_each-requires
 check_items-check_each-requires t c =
     let y = c.args.layout.now in let body = c.args.body.now in
-    let ready = holds_ready y body c.args.seen.now.memo c.args.seen.now.runs c.is_plain.new.self c.requires.holds c.is_plain.ensures.runs in
+    let ready = runs_ready y body c.args.state.now.memo c.args.state.now.runs c.is_plain.new.self c.requires.holds c.is_plain.ensures.runs in
     (omega arith, (c.requires.room, (c.requires.tops, (c.requires.small, (c.requires.items, (c.requires.met, (c.requires.sound, (c.requires.keeps, (ready, c.requires.leads)))))))))
 
 pub check_items-returns-then-height-left-clause-value : goal.check_items-returns-then-height-left-clause-value
 check_items-returns-then-height-left-clause-value t c =
     let y = c.args.layout.now in let body = c.args.body.now in let from = c.args.first in let n = c.args.count in
-    let ready = holds_ready y body c.args.seen.now.memo c.args.seen.now.runs c.is_plain.new.self c.requires.holds c.is_plain.ensures.runs in
-    run_fits y body c.args.seen.now.memo c.args.left from n c.in-Some.height (kept_run y body c.args.seen.now.memo c.is_plain.new.self from n c.in-Some.height ready c.in-Some.ensures) (omega arith)
+    let ready = runs_ready y body c.args.state.now.memo c.args.state.now.runs c.is_plain.new.self c.requires.holds c.is_plain.ensures.runs in
+    run_fits y body c.args.state.now.memo c.args.left from n c.in-Some.height (kept_run y body c.args.state.now.memo c.is_plain.new.self from n c.in-Some.height ready c.in-Some.ensures) (omega arith)
 
 pub check_items-returns-in-Some-clause-value : goal.check_items-returns-in-Some-clause-value
 check_items-returns-in-Some-clause-value t c =
     let y = c.args.layout.now in let body = c.args.body.now in let from = c.args.first in let n = c.args.count in
-    let ready = holds_ready y body c.args.seen.now.memo c.args.seen.now.runs c.is_plain.new.self c.requires.holds c.is_plain.ensures.runs in
-    run_passed y body c.args.seen.now.memo c.args.left from n c.in-Some.height (kept_run y body c.args.seen.now.memo c.is_plain.new.self from n c.in-Some.height ready c.in-Some.ensures) (omega arith)
+    let ready = runs_ready y body c.args.state.now.memo c.args.state.now.runs c.is_plain.new.self c.requires.holds c.is_plain.ensures.runs in
+    run_passed y body c.args.state.now.memo c.args.left from n c.in-Some.height (kept_run y body c.args.state.now.memo c.is_plain.new.self from n c.in-Some.height ready c.in-Some.ensures) (omega arith)
 
 pub check_items-check_items-requires : goal.check_items-check_items-requires
 check_items-check_items-requires t c =
@@ -191,7 +191,7 @@ check_items-check_items-requires t c =
     let mid = c.split-parts.result.middle in let m = mid - from in
     let part : m ≤ n = omega arith in
     let q : mid ≡ from + m = omega arith in
-    let ready = holds_ready y body c.args.seen.now.memo c.args.seen.now.runs c.is_plain.new.self c.requires.holds c.is_plain.ensures.runs in (
+    let ready = runs_ready y body c.args.state.now.memo c.args.state.now.runs c.is_plain.new.self c.requires.holds c.is_plain.ensures.runs in (
       omega arith,
       (
         c.requires.room,
@@ -209,7 +209,7 @@ check_items-check_items-requires t c =
                     c.requires.keeps,
                     (
                       ready,
-                      leads_low y body c.args.seen.now.memo from m n part c.requires.leads,
+                      leads_low y body c.args.state.now.memo from m n part c.requires.leads,
                     ),
                   ),
                 ),
@@ -289,14 +289,14 @@ check_items-returns-clause-known t c =
     let mid = c.split-parts.result.middle in let m = mid - from in
     let part : m ≤ n = omega arith in
     let q : mid ≡ from + m = omega arith in
-    known_both body c.check_items-2.new.seen.memo from m n mid q (λ i l. known_after _ _ _ c.in_ok-high.ensures.after.follows (c.in_ok-low.ensures.known i l)) c.in_ok-high.ensures.known
+    known_both body c.check_items-2.new.state.memo from m n mid q (λ i l. known_after _ _ _ c.in_ok-high.ensures.after.follows (c.in_ok-low.ensures.known i l)) c.in_ok-high.ensures.known
 
 pub check_items-returns-clause-holds : goal.check_items-returns-clause-holds
 check_items-returns-clause-holds t c =
     let y = c.args.layout.now in let body = c.args.body.now in let from = c.args.first in let n = c.args.count in
-    let cells = c.check_items-2.new.seen.memo in
+    let cells = c.check_items-2.new.state.memo in
     let run = made_run y body cells c.args.left from n c.max-height.result (check_items-returns-clause-value t c) (check_items-returns-clause-known t c) in
-    holds_kept y body cells c.check_items-2.new.seen.runs c.keep.new.self _ from n c.max-height.result c.in_ok-high.ensures.holds run c.keep.ensures
+    runs_kept y body cells c.check_items-2.new.state.runs c.keep.new.self _ from n c.max-height.result c.in_ok-high.ensures.holds run c.keep.ensures
 
 -- ---- an entry
 
@@ -310,7 +310,7 @@ enter-returns-in_err-found-clause-value t c =
 pub enter-check_items-requires : goal.enter-check_items-requires
 enter-check_items-requires t c =
     let y = c.args.layout.now in let body = c.args.body.now in let o = offset_of c.args.item in let k = c.args.kind in
-    let cells = c.args.seen.now.memo in
+    let cells = c.args.state.now.memo in
     let inside : cell k o < length cells = rw c.requires.keeps.long (cell_low k o y.top c.requires.below) in
     let there : Ok c.in_ok-found.found ≡ children_at y body k o = rw c.item_offset-offset.ensures at c.in_ok-found.ensures.value in
     let at = children_there y body k o c.in_ok-found.found c.requires.inner (sym there) in
@@ -331,7 +331,7 @@ enter-check_items-requires t c =
                   (
                     rw new (opened_keeps y body cells c.args.item k c.requires.keeps c.requires.met c.requires.is_kind c.requires.inner c.requires.full inside),
                     (
-                      rw new (holds_set y body cells (cell k o) 255 c.args.seen.now.runs (λ z. omega arith) inside c.requires.holds),
+                      rw new (runs_set y body cells (cell k o) 255 c.args.state.now.runs (λ z. omega arith) inside c.requires.holds),
                       rw new (leads_shift y body (set cells (cell k o) 255) c.in_ok-found.found.first c.in_ok-found.found.count (leads_children y body cells c.args.item k c.in_ok-found.found c.requires.leads c.requires.is_kind c.requires.there c.requires.inner inside (sym there))),
                     ),
                   ),
@@ -362,18 +362,18 @@ enter-returns-clause-value t c =
 pub enter-returns-clause-after : goal.enter-returns-clause-after
 enter-returns-clause-after t c =
     let y = c.args.layout.now in let body = c.args.body.now in let o = offset_of c.args.item in let k = c.args.kind in
-    let cells = c.args.seen.now.memo in
+    let cells = c.args.state.now.memo in
     let inside : cell k o < length cells = rw c.requires.keeps.long (cell_low k o y.top c.requires.below) in
     let there : Ok c.in_ok-found.found ≡ children_at y body k o = rw c.item_offset-offset.ensures at c.in_ok-found.ensures.value in
     let new : c.enter.new.self ≡ set cells (cell k o) 255 = rw c.item_offset-offset.ensures at c.enter.ensures in
     let a = rw new at c.in_ok-below.ensures.after in
     let low = c.in_ok-below.ensures.low in
     let value = λ (h : Result ℕ FileFault) (e : h ≡ result_map trees_height (run_of y body c.args.left c.in_ok-found.found.first c.in_ok-found.found.count)). e ∙ ap (result_map trees_height) (sym (run_shift y body c.args.left c.in_ok-found.found.first c.in_ok-found.found.count)) in
-    rw (c.finish.ensures, c.item_offset-offset.ensures) (entered_after y body cells c.check_items.new.seen.memo c.args.left c.args.item k c.in_ok-below.below c.in_ok-found.found c.requires.keeps c.requires.met c.requires.is_kind c.requires.inner c.requires.full inside c.requires.fresh there (value _ c.in_ok-below.ensures.value) (omega arith) a c.in_ok-below.ensures.known)
+    rw (c.finish.ensures, c.item_offset-offset.ensures) (entered_after y body cells c.check_items.new.state.memo c.args.left c.args.item k c.in_ok-below.below c.in_ok-found.found c.requires.keeps c.requires.met c.requires.is_kind c.requires.inner c.requires.full inside c.requires.fresh there (value _ c.in_ok-below.ensures.value) (omega arith) a c.in_ok-below.ensures.known)
 
 pub enter-returns-clause-holds : goal.enter-returns-clause-holds
 enter-returns-clause-holds t c =
     let y = c.args.layout.now in let body = c.args.body.now in let o = offset_of c.args.item in let k = c.args.kind in
     let a = c.in_ok-below.ensures.after in
-    let inside : cell k o < length c.check_items.new.seen.memo = rw a.keeps.long (cell_low k o y.top c.requires.below) in
-    rw (c.finish.ensures, c.item_offset-offset.ensures) (holds_set y body c.check_items.new.seen.memo (cell k o) (c.in_ok-below.below + 1) c.check_items.new.seen.runs (λ z. omega arith) inside c.in_ok-below.ensures.holds)
+    let inside : cell k o < length c.check_items.new.state.memo = rw a.keeps.long (cell_low k o y.top c.requires.below) in
+    rw (c.finish.ensures, c.item_offset-offset.ensures) (runs_set y body c.check_items.new.state.memo (cell k o) (c.in_ok-below.below + 1) c.check_items.new.state.runs (λ z. omega arith) inside c.in_ok-below.ensures.holds)
