@@ -1,8 +1,4 @@
-pub mod Histories
-pub mod RowLemmas
-pub mod StepLemmas
 pub mod Texts
-pub mod Lookups
 pub mod KeyTexts
 pub mod Stepping
 pub mod NoFloats

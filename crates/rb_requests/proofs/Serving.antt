@@ -5,7 +5,7 @@ use Rattle.std.specs.Io.KnownBytes.{Appends, Keeps}
 use Rattle.std.proofs.lemmas.List.Elements.{All-nil, All-push}
 use Rattle.std.proofs.KnownBytes.{Appends-nil, Appends-trans, Appends-kept}
 use Rattle.rb_requests.specs.Asked.{call_of}
-use Rattle.rb_requests.specs.History.{State}
+use Rattle.rb_engine.specs.History.{State}
 use Rattle.rb_requests.specs.Lines.{AnswersLine, LineMayTell, Replies, lines_of}
 use Rattle.rb_requests.specs.Served.{AnswersAll, Answers, IsShort, feeds, Stands, IsNext, TakesEffect, AfterFault}
 use Rattle.rb_requests.specs.OneLine.{Wrote, WrotePart, WroteNone, WroteSome, FailsLine}

@@ -2,9 +2,9 @@
 use Rattle.std.specs.Prelude.{◌≡◌, ◌≤◌, ◌<◌, ◌+◌, ◌==◌, ◌++◌, ◌⊎◌, if◌then◌else◌, ℕ, List, [], ◌∷◌, length, All, ⊤, Option, Some, None, Result, Ok, Err}
 use Rattle.std.specs.Io.KnownBytes.{Appends}
 use Rattle.rb_requests.specs.Asked.{call_of}
-use Rattle.rb_requests.specs.Answer.{Told}
+use Rattle.rb_engine.specs.Answer.{Told}
 use Rattle.rb_requests.specs.Device.{risen}
-use Rattle.rb_requests.specs.History.{State}
+use Rattle.rb_engine.specs.History.{State}
 use Rattle.rb_requests.specs.Lines.{TellsLine, AnswersLine, Replies, lines_of}
 use Rattle.rb_requests.specs.declared.limits.TheConstants.{LINE_LIMIT}
 use Rattle.rb_requests.specs.declared.lines.ServeFault.{ServeFault}
