@@ -3,7 +3,6 @@ use Rattle.std.specs.Prelude.{ℕ, ◌==◌, ◌&&◌, ◌||◌, Bool, not, List
 use Rattle.std.specs.List.{list_all}
 use Rattle.std.specs.Str.{bytes_eq}
 use Rattle.std.specs.Char.{is_ascii_alphanumeric}
-use Rattle.rb_engine.specs.declared.app.TheConstants.{APP_LIMIT}
 use Rattle.rb_engine.specs.declared.app.AppFault.{AppFault}
 use Rattle.rb_engine.specs.declared.app.AppFault.TheVariants.{BadApp, Reserved}
 
@@ -12,7 +11,7 @@ abbrev pub is_app_byte : ℕ → Bool
 is_app_byte b = is_ascii_alphanumeric b || (b == 0x5F || (b == 0x2D || b == 0x2E))
 
 abbrev pub is_app : List ℕ → Bool
-is_app bytes = (nat_le 1 (length bytes) && nat_le (length bytes) APP_LIMIT) && list_all is_app_byte bytes
+is_app bytes = (nat_le 1 (length bytes) && nat_le (length bytes) 64) && list_all is_app_byte bytes
 
 -- the name that bytes are, or why they are none
 abbrev pub app_of : List ℕ → Result (List ℕ) AppFault

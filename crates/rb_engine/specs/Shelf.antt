@@ -3,7 +3,6 @@ use Rattle.std.specs.Prelude.{ℕ, Bool, List, [], ◌∷◌, length, nat_le, na
 use Rattle.std.specs.Map.{lookup}
 use Rattle.std.specs.Cmp.Lexicographic.{pointwise}
 use Rattle.rb_tree.specs.Resource.{Resource}
-use Rattle.rb_engine.specs.declared.limits.TheConstants.{BUNDLE_LIMIT}
 
 abbrev pub Shelf : Type 0
 Shelf = List (List ℕ × Resource)
@@ -16,7 +15,7 @@ abbrev pub holds : List ℕ → Shelf → Bool
 holds name shelf = is_some (bundle_at shelf name)
 
 abbrev pub is_full : Shelf → Bool
-is_full shelf = nat_le BUNDLE_LIMIT (length shelf)
+is_full shelf = nat_le 4096 (length shelf)
 
 -- with the tree in the old one's place
 abbrev pub replaced : List ℕ → Resource → Shelf → Shelf

@@ -127,10 +127,10 @@ fn takes_files(rt: HostRuntime) -> Result<(), Fail> {
 fn keeps_to_the_most_bundles_of_one_application(rt: HostRuntime) -> Result<(), Fail> {
     let alloc = rt.alloc();
     let mut engine = Engine::start(alloc);
-    for i in 0..513u32 {
+    for i in 0..4097u32 {
         let locale = format!(in alloc; "qq_{i}")?;
         let word = install_text(alloc, &mut engine, b"shop", locale.as_bytes(), b"x{}")?;
-        assert_eq!(rt; word, if i < 512 { "Done" } else { "Full" });
+        assert_eq!(rt; word, if i < 4096 { "Done" } else { "Full" });
     }
     for (app, locale, reply) in [("shop", "qq_7", "Exists"), ("bank", "qq", "Done")] {
         let word = install_text(

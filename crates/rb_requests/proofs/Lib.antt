@@ -5,3 +5,4 @@ pub mod NoFloats
 pub mod Putting
 pub mod Reading
 pub mod Serving
+pub mod LineIsolation

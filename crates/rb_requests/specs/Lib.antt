@@ -8,3 +8,4 @@ pub mod OneLine
 pub mod Device
 pub mod Line
 pub mod Taken
+pub mod Isolation
