@@ -12,7 +12,7 @@ use Rattle.rb_grammar.proofs.Bundles.{bundle_takes, bundle_again}
 use Rattle.rb_grammar.proofs.Trees.{tree_one, tree_height, tree_there, passed_rows, rows_keys}
 use Rattle.rb_grammar.proofs.Unique.{bundle_one}
 
-same_source : (c d : SourceTree) → c.tree ≡ d.tree → c.no_fallback ≡ d.no_fallback → c ≡ d
+pub same_source : (c d : SourceTree) → c.tree ≡ d.tree → c.no_fallback ≡ d.no_fallback → c ≡ d
 same_source c d p q = λ i. record { tree = p i; no_fallback = q i }
 
 pub spelled_one : (ms : List Mark) (m n : List ℕ) (c d : SourceTree) → IsSpelled ms m c → IsSpelled ms n d → (m ≡ n) × (c ≡ d)
