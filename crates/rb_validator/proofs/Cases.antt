@@ -56,7 +56,7 @@ value_of_item y body d item k h e = read_kind y body d item k (levels_left y bod
 -- an item with data, and one without
 pub record HasData (y : Layout) (body : List ℕ) (d item : ℕ) (k : ItemKind) : Type 0 where
   pub below : offset_of item < y.top
-  pub stands : IsOk (contents y body (λ w. read y body (d - 1) w) (offset_of item) k)
+  pub readable : IsOk (contents y body (λ w. read y body (d - 1) w) (offset_of item) k)
   pub is : read y body d item ≡ contents y body (λ w. read y body (d - 1) w) (offset_of item) k
 
 with_data : (y : Layout) (body : List ℕ) (child : ℕ → Result Resource FileFault) (o : ℕ) (k : ItemKind) (t : Resource) → value y body child o k ≡ Ok t → has_data k o ≡ true → (o < y.top) × (contents y body child o k ≡ Ok t)
@@ -73,7 +73,7 @@ item_data y body d item k h e data_there =
     let r = some_ok (read y body d item) h in
     let v : value y body (λ w. read y body (d - 1) w) (offset_of item) k ≡ Ok r.0 = sym (value_of_item y body d item k h e) ∙ r.1 in
     let p = with_data y body (λ w. read y body (d - 1) w) (offset_of item) k r.0 v data_there in
-    record { below = p.0; stands = ok_from _ r.0 p.1; is = r.1 ∙ sym p.1 }
+    record { below = p.0; readable = ok_from _ r.0 p.1; is = r.1 ∙ sym p.1 }
 
 without_data : (y : Layout) (body : List ℕ) (child : ℕ → Result Resource FileFault) (o : ℕ) (k : ItemKind) → has_data k o ≡ false → value y body child o k ≡ Ok (bare k o)
 unfolding value

@@ -12,7 +12,7 @@ use Rattle.rb_format.specs.FirstFault.{◌>>=◌, fault_of, key_or_fault, next_k
 use Rattle.rb_format.proofs.Faults.{keys_on, keys_stop, keys_end}
 use Rattle.rb_validator.specs.KnownKeys.{key_run, key_or_none, previous_key, last_key, IsGood, AreGood, IsPair, IsLinked, IsRedirected}
 use Rattle.rb_validator.specs.Ranks.{IsRanked, rank_at, previous_rank}
-use Rattle.rb_validator.proofs.Ranking.{nonempty, front, Climbs, IsRead, read_all, ranked_nodes, ranked_climbs, rank_none, rank_some, rank_order, stands}
+use Rattle.rb_validator.proofs.Ranking.{nonempty, front, Climbs, IsRead, read_all, ranked_nodes, ranked_climbs, rank_none, rank_some, rank_order, placed}
 
 -- ---- one key
 
@@ -61,7 +61,7 @@ more_fault o last s e f = rw (e, f) refl
 
 pub ranked_none : (y : Layout) (body ranks last : List ℕ) (o : ℕ) → IsRanked (key_run y body) ranks → rank_at y ranks o < 2 → Some Key ≡ fault_of (next_key y body last o)
 ranked_none y body ranks last o r l =
-    let s = stands y body ranks o r.long in
+    let s = placed y body ranks o r.long in
     let read = read_all (key_run y body) ranks r.heads (ranked_nodes (key_run y body) ranks r) _ s.place refl in
     let rank = s.rank in
     let none = rank_none (key_run y body) ranks r.heads s.place _ read (omega arith) in
@@ -70,7 +70,7 @@ ranked_none y body ranks last o r l =
 ranked_test : (y : Layout) (body ranks : List ℕ) (before : Option ℕ) (o : ℕ) → IsRanked (key_run y body) ranks → 2 ≤ rank_at y ranks o → (k : List ℕ) × (key y body o ≡ Some k) × (is_lt (slice_cmp nat_cmp (previous_key y body before) k) ≡ ltb (previous_rank y ranks before) (rank_at y ranks o))
 ranked_test y body ranks None o r l =
     let run = key_run y body in
-    let s = stands y body ranks o r.long in
+    let s = placed y body ranks o r.long in
     let read = read_all run ranks r.heads (ranked_nodes run ranks r) _ s.place refl in
     let rank = s.rank in
     let k = rank_some run ranks r.heads s.place _ read (omega arith) in
@@ -81,8 +81,8 @@ ranked_test y body ranks None o r l =
     (k.0, s.read ∙ k.1, order ∙ same)
 ranked_test y body ranks (Some j) o r l =
     let run = key_run y body in
-    let s = stands y body ranks o r.long in
-    let t = stands y body ranks j r.long in
+    let s = placed y body ranks o r.long in
+    let t = placed y body ranks j r.long in
     let read = read_all run ranks r.heads (ranked_nodes run ranks r) _ s.place refl in
     let before = read_all run ranks r.heads (ranked_nodes run ranks r) _ t.place refl in
     let rank = s.rank in
@@ -104,7 +104,7 @@ ranked_more y body ranks before o r l h =
 
 -- ---- many keys
 
--- the fault of all keys is that of the keys behind the good ones
+-- the fault of all keys is that of the keys after the good ones
 good_from : (y : Layout) (body : List ℕ) (place : ℕ → ℕ) (n i : ℕ) → i ≤ n → AreGood y body place i → fault_of (keys y body place (last_key y body place i) i (n - i)) ≡ fault_of (keys y body place [] 0 n)
 good_from y body place n zero l g = let e : n - 0 ≡ n = omega arith in rw e refl
 good_from y body place n (suc i) l g =
@@ -136,7 +136,7 @@ good_pair y body offset place first at i h =
     let next : place (suc i) ≡ offset (suc (first + i)) = at (suc i) ∙ ap offset e in
     rw (sym next, sym (at i)) h
 
--- what a link says of the keys behind so many
+-- what a link says of the keys after so many
 pub linked_good : (y : Layout) (body links : List ℕ) (offset place : ℕ → ℕ) (first m r : ℕ) → ((i : ℕ) → place i ≡ offset (first + i)) → IsLinked y body offset links → r ≡ get_or links (first + m) 0 - (first + m) → (i : ℕ) → suc m ≤ i → i < suc m + r → IsGood y body place i
 linked_good y body links offset place first m r at h e zero a b = absurd (omega arith)
 linked_good y body links offset place first m r at h e (suc i) a b = pair_good y body offset place first at i (h (first + m) (first + i) (omega arith) (omega arith))

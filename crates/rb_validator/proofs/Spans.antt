@@ -33,6 +33,10 @@ run_shift y body e from n =
     let z : from + 0 ≡ from = omega arith in
     shift (λ w. read y body e w) (word_at body) from 0 n ∙ ap (λ (x : ℕ). trees (λ w. read y body e w) (word_at body) x n) z
 
+-- a height of the items from 0 on is one of the run
+pub run_height : (y : Layout) (body : List ℕ) (e from n : ℕ) (h : Result ℕ FileFault) → h ≡ result_map trees_height (run_of y body e from n) → h ≡ result_map trees_height (trees (λ w. read y body e w) (λ i. word_at body (from + i)) 0 n)
+run_height y body e from n h q = q ∙ ap (result_map trees_height) (sym (run_shift y body e from n))
+
 -- ---- two parts of a run
 
 pub trees_ok : (r : Result Resources FileFault) (h : ℕ) → Ok h ≡ result_map trees_height r → (ts : Resources) × (r ≡ Ok ts) × (trees_height ts ≡ h)

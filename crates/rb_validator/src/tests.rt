@@ -175,11 +175,12 @@ fn long_keys_are_ranked(rt: HostRuntime) -> Result<(), Fail> {
     let alloc = rt.alloc();
     for (last, fault) in [
         (24, None),
-        (25, Some(FileFault::KeyOrder)),
-        (26, Some(FileFault::KeyOrder)),
-        (323, Some(FileFault::KeyOrder)),
-        (324, Some(FileFault::Key)),
+        (28, None),
+        (29, Some(FileFault::KeyOrder)),
+        (30, Some(FileFault::KeyOrder)),
+        (327, Some(FileFault::KeyOrder)),
         (328, Some(FileFault::Key)),
+        (332, Some(FileFault::Key)),
         (23, Some(FileFault::Key)),
     ] {
         let file = suffixes(alloc, 300, last)?;
@@ -269,6 +270,15 @@ fn a_large_file_is_accepted(rt: HostRuntime) -> Result<(), Fail> {
     let alloc = rt.alloc();
     let file = numbers(alloc, 200_000)?;
     assert_eq!(rt; file.len(), 3_200_060);
+    assert_eq!(rt; visits_of(alloc, file), Ok(1));
+    Ok(())
+}
+
+/// Compared byte by byte, these keys would take longer than a test may.
+#[test]
+fn many_keys_that_share_bytes_are_accepted(rt: HostRuntime) -> Result<(), Fail> {
+    let alloc = rt.alloc();
+    let file = suffixes(alloc, 400_000, 24)?;
     assert_eq!(rt; visits_of(alloc, file), Ok(1));
     Ok(())
 }

@@ -5,6 +5,15 @@ use super::samples::EMPTY;
 use std::alloc::Global;
 use std::test::Fail;
 
+/// The type bits of a table, a long table, an Int and an array.
+const TABLE: u32 = 0x2000_0000;
+
+const LONG_TABLE: u32 = 0x4000_0000;
+
+const INT: u32 = 0x7000_0000;
+
+const ARRAY: u32 = 0x8000_0000;
+
 fn put(file: &mut Vec<u8>, word: u32) -> Result<(), Fail> {
     for byte in word.to_le_bytes() {
         file.push(byte)?;
@@ -12,33 +21,38 @@ fn put(file: &mut Vec<u8>, word: u32) -> Result<(), Fail> {
     Ok(())
 }
 
-/// The header, the root item, the indexes, one word of keys, and so many arrays, the first of two Ints and each other one of the
-/// one before it, twice.
-fn with_arrays(
-    alloc: Global,
-    root: u32,
-    top: u32,
-    longest: u32,
-    keys: u32,
-    arrays: u32,
-) -> Result<Vec<u8>, Fail>
+fn put_all(file: &mut Vec<u8>, words: &[u32]) -> Result<(), Fail> {
+    for word in words {
+        put(file, *word)?;
+    }
+    Ok(())
+}
+
+/// The same word so many times.
+fn repeat(file: &mut Vec<u8>, word: u32, count: u32) -> Result<(), Fail> {
+    for _ in 0..count {
+        put(file, word)?;
+    }
+    Ok(())
+}
+
+/// The header, the root item and the indexes.
+fn front(alloc: Global, root: u32, keys_top: u32, top: u32) -> Result<Vec<u8>, Fail> {
+    let mut file = EMPTY[..32].to_vec(alloc)?;
+    put_all(&mut file, &[root, 5, keys_top, top, top, 0])?;
+    Ok(file)
+}
+
+/// So many arrays from word 7 on, the first of two Ints and each other one of the one before it, twice.
+fn put_arrays(file: &mut Vec<u8>, arrays: u32) -> Result<(), Fail>
     requires { arrays < 2 ^ 20 }
 {
-    let mut file = EMPTY[..32].to_vec(alloc)?;
-    for word in [root, 5, 7, top, top, longest, keys] {
-        put(&mut file, word)?;
-    }
+    let mut item = INT;
     for k in 0..arrays {
-        let item = if k == 0 {
-            0x7000_0000
-        } else {
-            0x8000_0000 + 7 + 3 * (k - 1)
-        };
-        for word in [2, item, item] {
-            put(&mut file, word)?;
-        }
+        put_all(file, &[2, item, item])?;
+        item = ARRAY + 7 + 3 * k;
     }
-    Ok(file)
+    Ok(())
 }
 
 /// A table whose `a` is the last of so many arrays.
@@ -46,17 +60,10 @@ pub fn chain(alloc: Global, arrays: u32) -> Result<Vec<u8>, Fail>
     requires { arrays < 2 ^ 20 }
 {
     let table = 7 + 3 * arrays;
-    let mut file = with_arrays(
-        alloc,
-        0x2000_0000 + table,
-        table + 2,
-        1,
-        0xAAAA_0061,
-        arrays,
-    )?;
-    for word in [0x0018_0001, 0x8000_0000 + table - 3] {
-        put(&mut file, word)?;
-    }
+    let mut file = front(alloc, TABLE + table, 7, table + 2)?;
+    put(&mut file, 0xAAAA_0061)?;
+    put_arrays(&mut file, arrays)?;
+    put_all(&mut file, &[0x0018_0001, ARRAY + table - 3])?;
     Ok(file)
 }
 
@@ -65,19 +72,26 @@ pub fn chain_and_more(alloc: Global, arrays: u32) -> Result<Vec<u8>, Fail>
     requires { arrays < 2 ^ 20 }
 {
     let more = 7 + 3 * arrays;
-    let mut file = with_arrays(
-        alloc,
-        0x2000_0000 + more + 2,
-        more + 6,
-        2,
-        0x0062_0061,
-        arrays,
-    )?;
-    let last = 0x8000_0000 + more - 3;
-    for word in [1, last, 0x0018_0002, 0xAAAA_001A, last, 0x8000_0000 + more] {
-        put(&mut file, word)?;
-    }
+    let last = ARRAY + more - 3;
+    let mut file = front(alloc, TABLE + more + 2, 7, more + 6)?;
+    put(&mut file, 0x0062_0061)?;
+    put_arrays(&mut file, arrays)?;
+    put_all(&mut file, &[1, last, 0x0018_0002, 0xAAAA_001A])?;
+    put_all(&mut file, &[last, ARRAY + more])?;
     Ok(file)
+}
+
+/// So many arrays of one item each, from a word on, each of the one before it and the first of an item.
+fn put_wraps(file: &mut Vec<u8>, item: u32, first: u32, wraps: u32) -> Result<(), Fail>
+    requires first { first < 2 ^ 24 }
+    requires wraps { wraps < 2 ^ 20 }
+{
+    let mut item = item;
+    for i in 0..wraps {
+        put_all(file, &[1, item])?;
+        item = ARRAY + first + 2 * i;
+    }
+    Ok(())
 }
 
 /// A table whose `a` is an array of so many arrays, one word apart, each word the count of one and an item of others; and whose
@@ -86,48 +100,25 @@ pub fn overlapping(alloc: Global, arrays: u32, above: u32) -> Result<Vec<u8>, Fa
     requires many { arrays < 2 ^ 20 }
     requires deep { above < 2 ^ 20 }
 {
-    // each of these words is a string's offset, and the count of an array: word 7 + arrays and the next are the string
+    // each of these words is a string's offset, and the count of an array; words 7 + arrays and the next are the string
     let word = 7 + arrays;
     let outer = 7 + 2 * word;
     let wraps = outer + 2 + word;
     let table = wraps + 2 * above;
-    let mut file = EMPTY[..32].to_vec(alloc)?;
-    for x in [
-        0x2000_0000 + table,
-        5,
-        7,
-        table + 4,
-        table + 4,
-        2,
-        0x0062_0061,
-    ] {
-        put(&mut file, x)?;
-    }
-    for i in 0..2 * word {
-        put(
-            &mut file,
-            if i == arrays || i == arrays + 1 {
-                0
-            } else {
-                word
-            },
-        )?;
-    }
-    for x in [word + 1, word] {
-        put(&mut file, x)?;
-    }
+    let inner = ARRAY + outer + 1;
+    let last = if above == 0 { inner } else { ARRAY + table - 2 };
+    let mut file = front(alloc, TABLE + table, 7, table + 4)?;
+    put(&mut file, 0x0062_0061)?;
+    repeat(&mut file, word, arrays)?;
+    put_all(&mut file, &[0, 0])?;
+    repeat(&mut file, word, 12 + arrays)?;
+    put_all(&mut file, &[word + 1, word])?;
     for i in 0..word {
-        put(&mut file, 0x8000_0000 + 7 + i % arrays.max(1))?;
+        put(&mut file, ARRAY + 7 + i % arrays.max(1))?;
     }
-    let mut below = 0x8000_0000 + outer + 1;
-    for i in 0..above {
-        put(&mut file, 1)?;
-        put(&mut file, below)?;
-        below = 0x8000_0000 + wraps + 2 * i;
-    }
-    for x in [0x0018_0002, 0xAAAA_001A, 0x8000_0000 + outer, below] {
-        put(&mut file, x)?;
-    }
+    put_wraps(&mut file, inner, wraps, above)?;
+    put_all(&mut file, &[0x0018_0002, 0xAAAA_001A])?;
+    put_all(&mut file, &[ARRAY + outer, last])?;
     Ok(file)
 }
 
@@ -135,32 +126,22 @@ pub fn overlapping(alloc: Global, arrays: u32, above: u32) -> Result<Vec<u8>, Fa
 pub fn suffixes(alloc: Global, keys: u32, last: u32) -> Result<Vec<u8>, Fail>
     requires { keys < 2 ^ 20 }
 {
-    let mut file = EMPTY[..32].to_vec(alloc)?;
-    let table = 6 + (keys + 4) / 4;
-    let top = table + 1 + 2 * keys;
-    for word in [0x4000_0000 + table, 5, table, top, top, keys] {
-        put(&mut file, word)?;
-    }
-    for _ in 0..keys {
-        file.push(b'a')?;
-    }
-    for _ in 0..4 - keys % 4 {
-        file.push(0)?;
-    }
-    put(&mut file, keys)?;
+    let letters = 1 + keys / 4;
+    let table = 6 + letters + 1;
+    let mut file = front(alloc, LONG_TABLE + table, table, table + 1 + 2 * keys)?;
+    repeat(&mut file, 0x6161_6161, letters)?;
+    put_all(&mut file, &[0, keys])?;
     for i in 1..keys {
-        put(&mut file, 24 + keys - i)?;
+        put(&mut file, 24 + 4 * letters - i)?;
     }
     put(&mut file, last)?;
-    for _ in 0..keys {
-        put(&mut file, 0x7000_0000)?;
-    }
+    repeat(&mut file, INT, keys)?;
     Ok(file)
 }
 
 /// A key of seven letters for a number, and its NUL.
 fn put_key(file: &mut Vec<u8>, number: u32) -> Result<(), Fail> {
-    for digit in 0..7 {
+    for digit in 0..7u32 {
         let letter = (number >> (24 - 4 * digit)) % 16;
         file.push(b'a' + letter as u8)?;
     }
@@ -172,12 +153,8 @@ fn put_key(file: &mut Vec<u8>, number: u32) -> Result<(), Fail> {
 pub fn numbers(alloc: Global, count: u32) -> Result<Vec<u8>, Fail>
     requires { count < 2 ^ 20 }
 {
-    let mut file = EMPTY[..32].to_vec(alloc)?;
     let table = 6 + 2 * count;
-    let top = table + 1 + 2 * count;
-    for word in [0x4000_0000 + table, 5, table, top, top, count] {
-        put(&mut file, word)?;
-    }
+    let mut file = front(alloc, LONG_TABLE + table, table, table + 1 + 2 * count)?;
     for i in 0..count {
         put_key(&mut file, i)?;
     }
@@ -185,8 +162,6 @@ pub fn numbers(alloc: Global, count: u32) -> Result<Vec<u8>, Fail>
     for i in 0..count {
         put(&mut file, 24 + 8 * i)?;
     }
-    for i in 0..count {
-        put(&mut file, 0x7000_0000 + i)?;
-    }
+    repeat(&mut file, INT, count)?;
     Ok(file)
 }

@@ -4,7 +4,7 @@ use Rattle.rb_tree.specs.Resource.{height, trees_height}
 use Rattle.rb_format.specs.declared.fault.FileFault.TheVariants.{TooDeep}
 use Rattle.rb_format.specs.declared.fault.FileFault.{FileFault}
 use Rattle.rb_format.specs.Item.{offset_of}
-use Rattle.rb_format.specs.Place as stands
+use Rattle.rb_format.specs.Place as fields
 use Rattle.rb_format.specs.FirstFault.{result_map, read}
 use Rattle.rb_format.proofs.Faults.{read_zero, read_no_kind}
 use Rattle.rb_validator.specs.declared.memo.Mark.TheVariants.{Done}
@@ -13,7 +13,7 @@ use Rattle.rb_validator.proofs.Cells.{cell_low, follows_same, follows_then, know
 use Rattle.rb_validator.proofs.Shapes.{leaf_height, fault_height, err_height, height_ok, height_err, children_err, children_fault, children_there}
 use Rattle.rb_validator.proofs.Ways.{cycle_deep, leads_children, leads_first, leads_next}
 use Rattle.rb_validator.proofs.Entering.{open_is, met_done, limit_fits, limit_passed, item_refused, item_bare, item_inner, items_none, items_stop, items_next, items_end, some_fault, entered_height, entered_after, opened_keeps, opened_met, read_low, max_is}
-use Rattle.rb_validator.proofs.Spans.{run_shift, leads_shift, runs_set, run_low_err, run_high_err, run_both, run_fits, run_passed, leads_low, leads_high, known_both, kept_run, made_run, runs_kept, runs_ready}
+use Rattle.rb_validator.proofs.Spans.{run_height, leads_shift, runs_set, run_low_err, run_high_err, run_both, run_fits, run_passed, leads_low, leads_high, known_both, kept_run, made_run, runs_kept, runs_ready}
 use Rattle.rb_validator.proofs.items.+check.Goals as goal
 
 -- ---- a pair that may have been met before
@@ -96,7 +96,7 @@ check_each-loop-i-init t c =
 pub check_each-check_item-requires : goal.check_each-check_item-requires
 check_each-check_item-requires t c =
     let y = c.args.layout.now in let body = c.args.body.now in let i = c.loop-i.i in
-    let item = stands.word_at body in
+    let item = fields.word_at body in
     let end = c.args.first + c.args.count in
     let here : c.args.first + (i - c.args.first) ≡ i = omega arith in
     let met = subst (λ (x : ℕ). IsMet body (item x)) here (c.requires.met (i - c.args.first) (omega arith)) in
@@ -134,12 +134,12 @@ check_each-returns-in_err-child-clause-value t c =
     let step : end - i ≡ suc (end - (i + 1)) = omega arith in
     let v = rw c.word_at.ensures at c.in_err-child.ensures.value in
     let e = height_err _ _ (sym v) in
-    rw (p.1, p.2) (sym (items_stop (λ w. read y body c.args.left w) (stands.word_at body) i (end - i) (end - (i + 1)) c.loop-i.height _ _ step e c.loop-i.invariant.value))
+    rw (p.1, p.2) (sym (items_stop (λ w. read y body c.args.left w) (fields.word_at body) i (end - i) (end - (i + 1)) c.loop-i.height _ _ step e c.loop-i.invariant.value))
 
 pub check_each-loop-i-preserved : goal.check_each-loop-i-preserved
 check_each-loop-i-preserved t c =
     let y = c.args.layout.now in let body = c.args.body.now in let i = c.loop-i.i in
-    let item = stands.word_at body in
+    let item = fields.word_at body in
     let end = c.args.first + c.args.count in
     let step : end - i ≡ suc (end - (i + 1)) = omega arith in
     let next : i + 1 ≡ suc i = omega arith in
@@ -163,7 +163,7 @@ pub check_each-returns-clause-value : goal.check_each-returns-clause-value
 check_each-returns-clause-value t c =
     let y = c.args.layout.now in let body = c.args.body.now in let i = c.loop-i.i in
     let none : c.args.first + c.args.count - i ≡ 0 = omega arith in
-    items_end (λ w. read y body c.args.left w) (stands.word_at body) i (c.args.first + c.args.count - i) c.loop-i.height _ none c.loop-i.invariant.value
+    items_end (λ w. read y body c.args.left w) (fields.word_at body) i (c.args.first + c.args.count - i) c.loop-i.height _ none c.loop-i.invariant.value
 
 -- ---- several items, in two parts
 
@@ -236,7 +236,7 @@ check_items-check_items-requires-2 t c =
     let part : m ≤ n = omega arith in
     let q : mid ≡ from + m = omega arith in
     let a = c.in_ok-low.ensures.after in
-    let met = λ (i : ℕ) (l : i < n - m). let s : from + (m + i) ≡ mid + i = omega arith in subst (λ (x : ℕ). IsMet body (stands.word_at body x)) s (c.requires.met (m + i) (omega arith)) in (
+    let met = λ (i : ℕ) (l : i < n - m). let s : from + (m + i) ≡ mid + i = omega arith in subst (λ (x : ℕ). IsMet body (fields.word_at body x)) s (c.requires.met (m + i) (omega arith)) in (
       omega arith,
       (
         c.requires.room,
@@ -348,16 +348,14 @@ enter-returns-in_err-below-clause-value t c =
     let y = c.args.layout.now in let body = c.args.body.now in let o = offset_of c.args.item in let k = c.args.kind in
     let p = err_from_is_err_and c.from_residual-in_err-below.result c.from_residual-in_err-below.ensures.1 in
     let there : Ok c.in_ok-found.found ≡ children_at y body k o = rw c.item_offset-offset.ensures at c.in_ok-found.ensures.value in
-    let value = λ (h : Result ℕ FileFault) (e : h ≡ result_map trees_height (run_of y body c.args.left c.in_ok-found.found.first c.in_ok-found.found.count)). e ∙ ap (result_map trees_height) (sym (run_shift y body c.args.left c.in_ok-found.found.first c.in_ok-found.found.count)) in
-    let f = some_fault _ _ (value _ c.in_err-below.ensures.value) in
+    let f = some_fault _ _ (run_height y body c.args.left _ _ _ c.in_err-below.ensures.value) in
     rw (p.1, p.2) (sym (err_height _ _ (children_fault y body (λ w. read y body c.args.left w) k o c.in_ok-found.found _ c.requires.inner (sym there) f)))
 
 pub enter-returns-clause-value : goal.enter-returns-clause-value
 enter-returns-clause-value t c =
     let y = c.args.layout.now in let body = c.args.body.now in let o = offset_of c.args.item in let k = c.args.kind in
     let there : Ok c.in_ok-found.found ≡ children_at y body k o = rw c.item_offset-offset.ensures at c.in_ok-found.ensures.value in
-    let value = λ (h : Result ℕ FileFault) (e : h ≡ result_map trees_height (run_of y body c.args.left c.in_ok-found.found.first c.in_ok-found.found.count)). e ∙ ap (result_map trees_height) (sym (run_shift y body c.args.left c.in_ok-found.found.first c.in_ok-found.found.count)) in
-    sym (entered_height y body (λ w. read y body c.args.left w) k o c.in_ok-below.below c.in_ok-found.found c.requires.inner there (value _ c.in_ok-below.ensures.value))
+    sym (entered_height y body (λ w. read y body c.args.left w) k o c.in_ok-below.below c.in_ok-found.found c.requires.inner there (run_height y body c.args.left _ _ _ c.in_ok-below.ensures.value))
 
 pub enter-returns-clause-after : goal.enter-returns-clause-after
 enter-returns-clause-after t c =
@@ -368,8 +366,7 @@ enter-returns-clause-after t c =
     let new : c.enter.new.self ≡ set cells (cell k o) 255 = rw c.item_offset-offset.ensures at c.enter.ensures in
     let a = rw new at c.in_ok-below.ensures.after in
     let low = c.in_ok-below.ensures.low in
-    let value = λ (h : Result ℕ FileFault) (e : h ≡ result_map trees_height (run_of y body c.args.left c.in_ok-found.found.first c.in_ok-found.found.count)). e ∙ ap (result_map trees_height) (sym (run_shift y body c.args.left c.in_ok-found.found.first c.in_ok-found.found.count)) in
-    rw (c.finish.ensures, c.item_offset-offset.ensures) (entered_after y body cells c.check_items.new.state.memo c.args.left c.args.item k c.in_ok-below.below c.in_ok-found.found c.requires.keeps c.requires.met c.requires.is_kind c.requires.inner c.requires.full inside c.requires.fresh there (value _ c.in_ok-below.ensures.value) (omega arith) a c.in_ok-below.ensures.known)
+    rw (c.finish.ensures, c.item_offset-offset.ensures) (entered_after y body cells c.check_items.new.state.memo c.args.left c.args.item k c.in_ok-below.below c.in_ok-found.found c.requires.keeps c.requires.met c.requires.is_kind c.requires.inner c.requires.full inside c.requires.fresh there (run_height y body c.args.left _ _ _ c.in_ok-below.ensures.value) (omega arith) a c.in_ok-below.ensures.known)
 
 pub enter-returns-clause-holds : goal.enter-returns-clause-holds
 enter-returns-clause-holds t c =

@@ -16,53 +16,53 @@ use Rattle.rb_validator.proofs.tree.+decode.Goals as goal
 -- ---- an item
 
 pub decode_item-overflow_sub-left : goal.decode_item-overflow_sub-left
-decode_item-overflow_sub-left t c = let p = item_levels c.args.layout.now c.args.body.now c.args.left c.args.item c.requires.stands in omega (arith, p)
+decode_item-overflow_sub-left t c = let p = item_levels c.args.layout.now c.args.body.now c.args.left c.args.item c.requires.readable in omega (arith, p)
 
 pub decode_item-decode_data-requires : goal.decode_item-decode_data-requires
 decode_item-decode_data-requires t c =
-    let p = item_levels c.args.layout.now c.args.body.now c.args.left c.args.item c.requires.stands in
+    let p = item_levels c.args.layout.now c.args.body.now c.args.left c.args.item c.requires.readable in
     let there : has_data c.in-Some.kind (offset_of c.args.item) ≡ true = rw c.item_offset-offset.ensures at (sym c.has_data.ensures ∙ c.if-has_data.true) in
-    let d : HasData c.args.layout.now c.args.body.now c.args.left c.args.item c.in-Some.kind = item_data _ _ _ _ _ c.requires.stands (sym c.in-Some.ensures) there in
-    (omega (arith, p), (c.requires.room, (rw c.item_offset-offset.ensures d.below, (sym c.has_data.ensures ∙ c.if-has_data.true, rw c.item_offset-offset.ensures d.stands))))
+    let d : HasData c.args.layout.now c.args.body.now c.args.left c.args.item c.in-Some.kind = item_data _ _ _ _ _ c.requires.readable (sym c.in-Some.ensures) there in
+    (omega (arith, p), (c.requires.room, (rw c.item_offset-offset.ensures d.below, (sym c.has_data.ensures ∙ c.if-has_data.true, rw c.item_offset-offset.ensures d.readable))))
 
 pub decode_item-unreachable-requires : goal.decode_item-unreachable-requires
-decode_item-unreachable-requires t c = item_kind_there c.args.layout.now c.args.body.now c.args.left c.args.item c.requires.stands (sym c.in-None.ensures)
+decode_item-unreachable-requires t c = item_kind_there c.args.layout.now c.args.body.now c.args.left c.args.item c.requires.readable (sym c.in-None.ensures)
 
 pub decode_item-returns-then-has_data : goal.decode_item-returns-then-has_data
 decode_item-returns-then-has_data t c =
     let y = c.args.layout.now in let body = c.args.body.now in
     let there : has_data c.in-Some.kind (offset_of c.args.item) ≡ true = rw c.item_offset-offset.ensures at (sym c.has_data.ensures ∙ c.if-has_data.true) in
-    let d : HasData y body c.args.left c.args.item c.in-Some.kind = item_data _ _ _ _ _ c.requires.stands (sym c.in-Some.ensures) there in
+    let d : HasData y body c.args.left c.args.item c.in-Some.kind = item_data _ _ _ _ _ c.requires.readable (sym c.in-Some.ensures) there in
     let h : IfOk c.decode_data.result (λ tree. contents y body (λ w. read y body (c.args.left - 1) w) c.item_offset-offset.result c.in-Some.kind ≡ Ok (view_of tree)) = c.decode_data.ensures in
     IfOk-weaker c.decode_data.result _ _ (λ tree p. d.is ∙ (rw c.item_offset-offset.ensures at p)) h
 
 pub decode_item-returns-else-has_data : goal.decode_item-returns-else-has_data
 decode_item-returns-else-has_data t c =
     let none = rw c.item_offset-offset.ensures at (sym c.has_data.ensures ∙ c.if-has_data.false) in
-    IfOk-weaker c.bare_value.result _ _ (λ tree p. item_bare c.args.layout.now c.args.body.now c.args.left c.args.item c.in-Some.kind c.requires.stands (sym c.in-Some.ensures) none ∙ ap Ok (sym (rw c.item_offset-offset.ensures at p))) c.bare_value.ensures
+    IfOk-weaker c.bare_value.result _ _ (λ tree p. item_bare c.args.layout.now c.args.body.now c.args.left c.args.item c.in-Some.kind c.requires.readable (sym c.in-Some.ensures) none ∙ ap Ok (sym (rw c.item_offset-offset.ensures at p))) c.bare_value.ensures
 
 -- ---- data
 
-pub decode_data-read_units-requires-clause-stands : goal.decode_data-read_units-requires-clause-stands
-decode_data-read_units-requires-clause-stands t c = string_units _ _ _ _ _ c.in-String.is c.requires.stands
+pub decode_data-read_units-requires-clause-readable : goal.decode_data-read_units-requires-clause-readable
+decode_data-read_units-requires-clause-readable t c = string_units _ _ _ _ _ c.in-String.is c.requires.readable
 
-pub decode_data-read_units-requires-in-Alias-clause-stands : goal.decode_data-read_units-requires-in-Alias-clause-stands
-decode_data-read_units-requires-in-Alias-clause-stands t c = alias_units _ _ _ _ _ c.in-Alias.is c.requires.stands
+pub decode_data-read_units-requires-in-Alias-clause-readable : goal.decode_data-read_units-requires-in-Alias-clause-readable
+decode_data-read_units-requires-in-Alias-clause-readable t c = alias_units _ _ _ _ _ c.in-Alias.is c.requires.readable
 
-pub decode_data-read_bytes-requires-clause-stands : goal.decode_data-read_bytes-requires-clause-stands
-decode_data-read_bytes-requires-clause-stands t c = binary_bytes _ _ _ _ _ c.in-Binary.is c.requires.stands
+pub decode_data-read_bytes-requires-clause-readable : goal.decode_data-read_bytes-requires-clause-readable
+decode_data-read_bytes-requires-clause-readable t c = binary_bytes _ _ _ _ _ c.in-Binary.is c.requires.readable
 
-pub decode_data-read_numbers-requires-clause-stands : goal.decode_data-read_numbers-requires-clause-stands
-decode_data-read_numbers-requires-clause-stands t c = ints_numbers _ _ _ _ _ c.in-Ints.is c.requires.stands
+pub decode_data-read_numbers-requires-clause-readable : goal.decode_data-read_numbers-requires-clause-readable
+decode_data-read_numbers-requires-clause-readable t c = ints_numbers _ _ _ _ _ c.in-Ints.is c.requires.readable
 
 pub decode_data-decode_array-requires : goal.decode_data-decode_array-requires
-decode_data-decode_array-requires t c = (omega arith, (c.requires.room, (c.requires.below, array_array _ _ _ _ _ c.in-Array.is c.requires.stands)))
+decode_data-decode_array-requires t c = (omega arith, (c.requires.room, (c.requires.below, array_array _ _ _ _ _ c.in-Array.is c.requires.readable)))
 
 pub decode_data-decode_table-requires : goal.decode_data-decode_table-requires
-decode_data-decode_table-requires t c = (omega arith, (c.requires.room, (c.requires.below, table_table _ _ _ _ _ c.in-Table.is c.requires.stands)))
+decode_data-decode_table-requires t c = (omega arith, (c.requires.room, (c.requires.below, table_table _ _ _ _ _ c.in-Table.is c.requires.readable)))
 
 pub decode_data-decode_long_table-requires : goal.decode_data-decode_long_table-requires
-decode_data-decode_long_table-requires t c = (omega arith, (c.requires.room, (c.requires.below, long_table _ _ _ _ _ c.in-LongTable.is c.requires.stands)))
+decode_data-decode_long_table-requires t c = (omega arith, (c.requires.room, (c.requires.below, long_table _ _ _ _ _ c.in-LongTable.is c.requires.readable)))
 
 pub decode_data-returns-in_ok-read_units-in-String : goal.decode_data-returns-in_ok-read_units-in-String
 decode_data-returns-in_ok-read_units-in-String t c = rw c.from_vec.ensures (string_is c.args.layout.now c.args.body.now (λ w. read c.args.layout.now c.args.body.now c.args.left w) c.args.offset c.args.kind _ c.in-String.is c.in_ok-read_units-in-String.ensures)
@@ -100,14 +100,14 @@ pub decode_array-decode_item-requires : goal.decode_array-decode_item-requires
 decode_array-decode_item-requires t c =
     let y = c.args.layout.now in let body = c.args.body.now in
     let child = λ (w : ℕ). read y body c.args.left w in
-    let all = array_trees y body child c.args.offset c.word_at-count.result c.word_at-count.ensures c.requires.stands in
+    let all = array_trees y body child c.args.offset c.word_at-count.result c.word_at-count.ensures c.requires.readable in
     (omega arith, (c.requires.room, rw c.word_at.ensures (item_stands child (λ (i : ℕ). word_at body (c.args.offset + 1 + i)) c.word_at-count.result c.loop-i.i all c.loop-i-test.true)))
 
 pub decode_array-loop-i-preserved : goal.decode_array-loop-i-preserved
 decode_array-loop-i-preserved t c =
     let y = c.args.layout.now in let body = c.args.body.now in
     let child = λ (w : ℕ). read y body c.args.left w in
-    let all = array_trees y body child c.args.offset c.word_at-count.result c.word_at-count.ensures c.requires.stands in
+    let all = array_trees y body child c.args.offset c.word_at-count.result c.word_at-count.ensures c.requires.readable in
     let h : read y body c.args.left c.word_at.result ≡ Ok (view_of c.in_ok-tree.tree) = c.in_ok-tree.ensures in
     rw c.in_ok-push.ensures.items (trees_more child (λ (i : ℕ). word_at body (c.args.offset + 1 + i)) c.word_at-count.result c.loop-i.i c.loop-i.trees.items c.in_ok-tree.tree all c.loop-i-test.true (rw c.word_at.ensures at h) c.loop-i.invariant)
 
@@ -116,8 +116,8 @@ decode_array-returns t c =
     let y = c.args.layout.now in let body = c.args.body.now in
     let child = λ (w : ℕ). read y body c.args.left w in
     let item = λ (i : ℕ). word_at body (c.args.offset + 1 + i) in
-    let all = array_trees y body child c.args.offset c.word_at-count.result c.word_at-count.ensures c.requires.stands in
-    (array_there y body child c.args.offset c.requires.stands).1 ∙ ap (λ m. trees child item 0 m) (sym c.word_at-count.ensures) ∙ trees_made child item c.word_at-count.result c.loop-i.i c.loop-i.trees.items all c.loop-i-test.false c.loop-i.invariant
+    let all = array_trees y body child c.args.offset c.word_at-count.result c.word_at-count.ensures c.requires.readable in
+    (array_there y body child c.args.offset c.requires.readable).1 ∙ ap (λ m. trees child item 0 m) (sym c.word_at-count.ensures) ∙ trees_made child item c.word_at-count.result c.loop-i.i c.loop-i.trees.items all c.loop-i-test.false c.loop-i.invariant
 
 -- ---- tables
 
@@ -126,7 +126,7 @@ decode_table-decode_entries-requires t c =
     let y = c.args.layout.now in let body = c.args.body.now in
     let child = λ (w : ℕ). read y body c.args.left w in
     let n = c.half_at-count.result in
-    let s = short_entries y body child c.args.offset n c.half_at-count.ensures c.requires.stands in
+    let s = short_entries y body child c.args.offset n c.half_at-count.ensures c.requires.readable in
     let f : c.args.offset + (n + 2) / 2 + n ≤ y.top = table_fits y body child (offsets.key_offset body (Halves (2 * c.args.offset + 1))) (c.args.offset + (n + 2) / 2) n s in
     (omega arith, (c.requires.room, (f, (omega (arith, f, c.requires.room), s))))
 
@@ -143,7 +143,7 @@ decode_long_table-decode_entries-requires t c =
     let y = c.args.layout.now in let body = c.args.body.now in
     let child = λ (w : ℕ). read y body c.args.left w in
     let n = c.word_at-count.result in
-    let s = long_entries y body child c.args.offset n c.word_at-count.ensures c.requires.stands in
+    let s = long_entries y body child c.args.offset n c.word_at-count.ensures c.requires.readable in
     let f : c.args.offset + 1 + n + n ≤ y.top = table_fits y body child (offsets.key_offset body (Words (c.args.offset + 1))) (c.args.offset + 1 + n) n s in
     (omega arith, (c.requires.room, (f, (omega (arith, f, c.requires.room), s))))
 
@@ -163,32 +163,32 @@ decode_entries-key_offset-requires t c = is_in_less c.args.body.now c.args.place
 pub decode_entries-decode_key-requires : goal.decode_entries-decode_key-requires
 decode_entries-decode_key-requires t c =
     let y = c.args.layout.now in let body = c.args.body.now in
-    rw c.key_offset.ensures (entry_key_there y body (λ w. read y body c.args.left w) (offsets.key_offset body c.args.places) c.args.first c.args.count c.loop-i.i c.requires.stands c.loop-i-test.true)
+    rw c.key_offset.ensures (entry_key_there y body (λ w. read y body c.args.left w) (offsets.key_offset body c.args.places) c.args.first c.args.count c.loop-i.i c.requires.readable c.loop-i-test.true)
 
 pub decode_entries-decode_item-requires : goal.decode_entries-decode_item-requires
 decode_entries-decode_item-requires t c =
     let y = c.args.layout.now in let body = c.args.body.now in
-    (omega arith, (c.requires.room, rw c.word_at.ensures (entry_stands y body (λ w. read y body c.args.left w) (offsets.key_offset body c.args.places) c.args.first c.args.count c.loop-i.i c.requires.stands c.loop-i-test.true)))
+    (omega arith, (c.requires.room, rw c.word_at.ensures (entry_stands y body (λ w. read y body c.args.left w) (offsets.key_offset body c.args.places) c.args.first c.args.count c.loop-i.i c.requires.readable c.loop-i-test.true)))
 
 pub decode_entries-loop-i-preserved : goal.decode_entries-loop-i-preserved
 decode_entries-loop-i-preserved t c =
     let y = c.args.layout.now in let body = c.args.body.now in
     let h : read y body c.args.left c.word_at.result ≡ Ok (view_of c.in_ok-tree.tree) = c.in_ok-tree.ensures in
     let k = rw c.key_offset.ensures at c.in_ok-key.ensures in
-    rw c.in_ok-push.ensures.items (entries_more y body (λ w. read y body c.args.left w) (offsets.key_offset body c.args.places) c.args.first c.args.count c.loop-i.i c.loop-i.pairs.items c.in_ok-key.key c.in_ok-tree.tree c.requires.stands c.loop-i-test.true k (rw c.word_at.ensures at h) c.loop-i.invariant)
+    rw c.in_ok-push.ensures.items (entries_more y body (λ w. read y body c.args.left w) (offsets.key_offset body c.args.places) c.args.first c.args.count c.loop-i.i c.loop-i.pairs.items c.in_ok-key.key c.in_ok-tree.tree c.requires.readable c.loop-i-test.true k (rw c.word_at.ensures at h) c.loop-i.invariant)
 
 pub decode_entries-table-requires : goal.decode_entries-table-requires
 decode_entries-table-requires t c =
     let y = c.args.layout.now in let body = c.args.body.now in
-    made_are_keys y body (λ w. read y body c.args.left w) (offsets.key_offset body c.args.places) c.args.first c.args.count c.loop-i.pairs.items (entries_made y body (λ w. read y body c.args.left w) (offsets.key_offset body c.args.places) c.args.first c.args.count c.loop-i.i c.loop-i.pairs.items c.requires.stands c.loop-i-test.false c.loop-i.invariant)
+    made_are_keys y body (λ w. read y body c.args.left w) (offsets.key_offset body c.args.places) c.args.first c.args.count c.loop-i.pairs.items (entries_made y body (λ w. read y body c.args.left w) (offsets.key_offset body c.args.places) c.args.first c.args.count c.loop-i.i c.loop-i.pairs.items c.requires.readable c.loop-i-test.false c.loop-i.invariant)
 
 pub decode_entries-unreachable-requires : goal.decode_entries-unreachable-requires
 decode_entries-unreachable-requires t c =
     let y = c.args.layout.now in let body = c.args.body.now in
-    let m = entries_made y body (λ w. read y body c.args.left w) (offsets.key_offset body c.args.places) c.args.first c.args.count c.loop-i.i c.loop-i.pairs.items c.requires.stands c.loop-i-test.false c.loop-i.invariant in
+    let m = entries_made y body (λ w. read y body c.args.left w) (offsets.key_offset body c.args.places) c.args.first c.args.count c.loop-i.i c.loop-i.pairs.items c.requires.readable c.loop-i-test.false c.loop-i.invariant in
     made_apart y body (λ w. read y body c.args.left w) (offsets.key_offset body c.args.places) c.args.first c.args.count c.loop-i.pairs.items c.in-Err-DuplicateKey.field-0-0 m (c.table.ensures.duplicate c.in-Err-DuplicateKey.field-0-0 (c.in-Err-DuplicateKey.is ∙ ap Err c.in-Err-DuplicateKey.field-0-is))
 
 pub decode_entries-returns-in-Ok : goal.decode_entries-returns-in-Ok
 decode_entries-returns-in-Ok t c =
     let y = c.args.layout.now in let body = c.args.body.now in
-    made_table y body (λ w. read y body c.args.left w) (offsets.key_offset body c.args.places) c.args.first c.args.count c.loop-i.pairs.items c.in-Ok.table (entries_made y body (λ w. read y body c.args.left w) (offsets.key_offset body c.args.places) c.args.first c.args.count c.loop-i.i c.loop-i.pairs.items c.requires.stands c.loop-i-test.false c.loop-i.invariant) c.in-Ok.ensures.table
+    made_table y body (λ w. read y body c.args.left w) (offsets.key_offset body c.args.places) c.args.first c.args.count c.loop-i.pairs.items c.in-Ok.table (entries_made y body (λ w. read y body c.args.left w) (offsets.key_offset body c.args.places) c.args.first c.args.count c.loop-i.i c.loop-i.pairs.items c.requires.readable c.loop-i-test.false c.loop-i.invariant) c.in-Ok.ensures.table

@@ -7,7 +7,7 @@ use Rattle.rb_validator.proofs.Cases.{numbers_there, values_more}
 use Rattle.rb_validator.proofs.values.read_numbers.Goals as goal
 
 pub word_at-requires : goal.word_at-requires
-word_at-requires c = let p = numbers_there c.args.layout.now c.args.body.now c.args.offset c.requires.stands in let n = c.word_at-count.ensures in omega (arith, p.0)
+word_at-requires c = let p = numbers_there c.args.layout.now c.args.body.now c.args.offset c.requires.readable in let n = c.word_at-count.ensures in omega (arith, p.0)
 
 pub loop-i-preserved : goal.loop-i-preserved
 loop-i-preserved c =
@@ -19,7 +19,7 @@ loop-i-preserved c =
 
 pub returns : goal.returns
 returns c =
-    let p = numbers_there c.args.layout.now c.args.body.now c.args.offset c.requires.stands in
+    let p = numbers_there c.args.layout.now c.args.body.now c.args.offset c.requires.readable in
     let n = c.word_at-count.ensures in
     let e : c.loop-i.i ≡ word_at c.args.body.now c.args.offset = omega arith in
     ap (result_map (map (cast_signed w32))) p.1 ∙ ap Ok (sym (c.loop-i.invariant ∙ ap (λ m. map (cast_signed w32) (values (word_at c.args.body.now) (c.args.offset + 1) m)) e))
