@@ -1,5 +1,6 @@
 pub mod Place
 pub mod Item
+pub mod Attributes
 pub mod Denotation
 pub mod File
 pub mod FirstFault
