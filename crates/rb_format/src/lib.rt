@@ -3,6 +3,7 @@
 
 mod constants;
 mod fault;
+mod geometry;
 mod header;
 mod kind;
 pub mod laws;
@@ -16,6 +17,7 @@ pub use constants::{
     MAGIC, UNIT_SIZE,
 };
 pub use fault::FileFault;
+pub use geometry::{KeyPlaces, TableParts, long_table_parts, table_parts};
 pub use header::{Header, body};
 pub use kind::{ItemKind, is_table, item_kind, item_offset, item_type};
 pub use layout::{Layout, is_laid};
