@@ -1,5 +1,6 @@
 #!/usr/bin/env python3
-"""Speed of `resb compile` and `resb check`, beside `genrb --formatVersion 1` where it is installed (Debian's icu-devtools).
+"""Speed of `resb compile` and `resb check`, beside `genrb --formatVersion 1` where it is installed (Debian's icu-devtools), and
+of `resb check` over files that are made to be dear (hostile.py), each beside a plain table of its size.
 
 usage: compile.py [PROGRAM]   (default: crates/rb_tool/out/rb_tool)
 """
@@ -8,6 +9,8 @@ import shutil
 import subprocess
 import sys
 import tempfile
+
+import hostile
 
 TOP = os.path.dirname(os.path.dirname(os.path.abspath(__file__)))
 PROGRAM = sys.argv[1] if len(sys.argv) > 1 else os.path.join(TOP, "crates/rb_tool/out/rb_tool")
@@ -41,6 +44,25 @@ def measured(words):
     return float(seconds), float(memory), int(status)
 
 
+def checked(folder, data):
+    """The least of three runs of `resb check`: its seconds, peak memory in MB and status."""
+    name = os.path.join(folder, "made.res")
+    with open(name, "wb") as file:
+        file.write(data)
+    return min(measured([PROGRAM, "check", name]) for _ in range(3))
+
+
+def check_hostile(folder):
+    for name, make in hostile.FORMS:
+        data = make()
+        plain, plain_memory, _ = checked(folder, hostile.plain_table(len(data)))
+        seconds, memory, status = checked(folder, data)
+        print(
+            f"{name}, {len(data) / 1e6:.2f} MB: check {seconds:.3f} s, {memory:.0f} MB, status {status};"
+            f" a plain table {plain:.3f} s, {plain_memory:.0f} MB; {seconds / max(plain, 1e-3):.1f} times"
+        )
+
+
 def main():
     genrb = shutil.which("genrb")
     if genrb is None:
@@ -63,6 +85,7 @@ def main():
                 length = os.path.getsize(output) / 1e6
                 seconds, memory, status = measured([PROGRAM, "check", output])
                 print(f"{name}: check {length / max(seconds, 1e-6):.0f} MB/s of {length:.2f} MB, peak {memory:.0f} MB, status {status}")
+        check_hostile(folder)
 
 
 if __name__ == "__main__":

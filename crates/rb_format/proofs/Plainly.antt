@@ -1,5 +1,5 @@
 -- The reading with faults and the plain one agree on what an item stands for.
-use Rattle.std.proofs.Common.{◌≡◌, ℕ, zero, suc, ◌+◌, ◌*◌, Bool, true, false, cond, ltb, leb, List, [], ◌∷◌, map, Result, Ok, Err, Option, Some, None, refl, sym, ap, ◌∙◌, arith}
+use Rattle.std.proofs.Common.{◌≡◌, ℕ, zero, suc, ◌+◌, ◌*◌, ◌≤◌, Bool, true, false, cond, ltb, leb, List, [], ◌∷◌, map, Result, Ok, Err, Option, Some, None, refl, sym, ap, ◌∙◌, arith}
 use Rattle.std.proofs.lemmas.Bool.Decides.{nat_tests}
 use Rattle.std.specs.Prelude.{option_map, ◌==◌, ◌&&◌}
 use Rattle.std.specs.Ordering.{is_lt, nat_cmp}
@@ -15,7 +15,7 @@ use Rattle.rb_format.specs.Place.{word_at, half_at, key}
 use Rattle.rb_format.specs.FirstFault.{◌>>=◌, result_map, trees, node, read, contents, value, kind_or_fault, units, bytes, numbers, array_at, table_of, table16_at, table32_at, next_key, keys, members, key_or_fault}
 use Rattle.rb_format.specs.Item.{has_data, bare, kind_of, offset_of}
 use Rattle.rb_format.specs.Denotation.{where_holds, ◌>>?◌, trees_at, keys_at, members_at, table_at, units_at, value_at, item_at, tree_at}
-use Rattle.rb_format.proofs.Levels.{read-limited}
+use Rattle.rb_format.proofs.Levels.{read-limited, read_raise}
 
 -- what was read, if there is no fault
 abbrev pub ok_part : {A : Type 0} → Result A FileFault → Option A
@@ -26,7 +26,7 @@ agree_then : {A B : Type 0} (r : Result A FileFault) (o : Option A) (f : A → R
 agree_then (Ok x) o f g e h = h x ∙ ap (λ m. m >>? g) e
 agree_then (Err d) o f g e h = ap (λ m. m >>? g) e
 
-agree_map : {A B : Type 0} (f : A → B) (r : Result A FileFault) (o : Option A) → ok_part r ≡ o → ok_part (result_map f r) ≡ option_map f o
+pub agree_map : {A B : Type 0} (f : A → B) (r : Result A FileFault) (o : Option A) → ok_part r ≡ o → ok_part (result_map f r) ≡ option_map f o
 agree_map f (Ok x) o e = ap (option_map f) e
 agree_map f (Err d) o e = ap (option_map f) e
 
@@ -131,3 +131,7 @@ read_is (Err d) t e = absurd cc
 pub plain_limited : (y : Layout) (body : List ℕ) (d e item : ℕ) (t : Resource) → tree_at y body d item ≡ Some t → tree_at y body e item ≡ cond (leb (height t) e) (Some t) None
 plain_limited y body d e item t p =
     sym (read_agrees y body e item) ∙ ap ok_part (read-limited y body d e item t (read_is (read y body d item) t (read_agrees y body d item ∙ p))) ∙ limit_agrees (leb (height t) e) t
+
+pub plain_raise : (y : Layout) (body : List ℕ) (d e item : ℕ) (t : Resource) → tree_at y body d item ≡ Some t → d ≤ e → tree_at y body e item ≡ Some t
+plain_raise y body d e item t p q =
+    sym (read_agrees y body e item) ∙ ap ok_part (read_raise y body d e item t (read_is (read y body d item) t (read_agrees y body d item ∙ p)) q)

@@ -40,7 +40,7 @@ members_at child item i (k ∷ ks) = child (item i) >>? λ t. members_at child i
 abbrev pub table_at : Layout → List ℕ → (ℕ → Option Resource) → (ℕ → ℕ) → ℕ → ℕ → Option Members
 table_at y body child place from n = where_holds (nat_le (from + n) y.top) (keys_at y body place [] 0 n >>? λ ks. members_at child (λ i. word_at body (from + i)) 0 ks)
 
--- the units at an offset, with a zero unit behind them
+-- the units at an offset, with a zero unit after them
 abbrev pub units_at : Layout → List ℕ → ℕ → Option (List ℕ)
 units_at y body o = where_holds (nat_le (4 * o + 6 + 2 * word_at body o) (4 * y.top)) (where_holds (half_at body (2 * o + 2 + word_at body o) == 0) (Some (values (half_at body) (2 * o + 2) (word_at body o))))
 

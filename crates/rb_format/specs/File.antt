@@ -1,32 +1,37 @@
--- What a file denotes: the tree for which its root item stands, where the header and the indexes are right (ICU's `UDataInfo`
--- and `uresdata.h`, format version 1.1).
-use Rattle.std.specs.Prelude.{◌≡◌, Bool, ℕ, ◌+◌, ◌/◌, ◌%◌, ◌==◌, ◌&&◌, nat_lt, nat_le, List, length, drop, slice_index, Option, Some, unwrap_or}
-use Rattle.rb_tree.specs.declared.limits.TheConstants.{HEIGHT_LIMIT}
+-- What a file denotes: the tree for which its root item stands and its flag, where the header and the indexes are right (ICU's
+-- `UDataInfo` and `uresdata.h`, format version 1.1 and later minor versions). The greatest height of a tree and the greatest
+-- length of a file are rules of this project.
+use Rattle.std.specs.Prelude.{◌≡◌, Bool, false, ℕ, ◌+◌, ◌/◌, ◌%◌, ◌==◌, ◌&&◌, not, nat_lt, nat_le, List, length, drop, slice_index, Option, Some, option_map, unwrap_or}
 use Rattle.rb_tree.specs.Resource.{Resource, int}
-use Rattle.rb_format.specs.declared.constants.TheConstants.{FILE_LIMIT, MAGIC, DATA_FORMAT, FORMAT_VERSION, CHARSET_FAMILY, UNIT_SIZE, INFO_SIZE, HEADER_SIZE, INDEX_COUNT}
+use Rattle.rb_tree.specs.SourceTree.{SourceTree}
 use Rattle.rb_format.specs.Place.{word_at, half_at, layout_of}
 use Rattle.rb_format.specs.Item.{kind_of, is_table}
+use Rattle.rb_format.specs.Attributes.{attributes_of, no_fallback, has_pool}
 use Rattle.rb_format.specs.Denotation.{where_holds, tree_at}
 
--- the two magic bytes, and `ResB`
+-- the greatest length of a file
+abbrev pub is_short_enough : List ℕ → Bool
+is_short_enough bytes = nat_le (length bytes) 67108864
+
+-- the two magic bytes 0xDA and 0x27, and `ResB`
 abbrev pub has_magic : List ℕ → Bool
 has_magic bytes =
-    slice_index bytes 2 == slice_index MAGIC 0 && slice_index bytes 3 == slice_index MAGIC 1
-    && slice_index bytes 12 == slice_index DATA_FORMAT 0 && slice_index bytes 13 == slice_index DATA_FORMAT 1
-    && slice_index bytes 14 == slice_index DATA_FORMAT 2 && slice_index bytes 15 == slice_index DATA_FORMAT 3
+    slice_index bytes 2 == 218 && slice_index bytes 3 == 39
+    && slice_index bytes 12 == 82 && slice_index bytes 13 == 101 && slice_index bytes 14 == 115 && slice_index bytes 15 == 66
 
 -- ASCII keys, and units of two bytes
 abbrev pub has_family : List ℕ → Bool
-has_family bytes = slice_index bytes 9 == CHARSET_FAMILY && slice_index bytes 10 == UNIT_SIZE
+has_family bytes = slice_index bytes 9 == 0 && slice_index bytes 10 == 2
 
+-- version 1.1 or 1 with a later minor version
 abbrev pub has_version : List ℕ → Bool
-has_version bytes = slice_index bytes 16 == slice_index FORMAT_VERSION 0 && slice_index bytes 17 == slice_index FORMAT_VERSION 1
+has_version bytes = slice_index bytes 16 == 1 && nat_le 1 (slice_index bytes 17)
 
 -- a header within the file, whose size is a multiple of 16 and leaves room for the info block
 abbrev pub has_sizes : List ℕ → Bool
 has_sizes bytes =
-    half_at bytes 0 % 16 == 0 && nat_le HEADER_SIZE (half_at bytes 0) && nat_le (half_at bytes 0) (length bytes)
-    && nat_le INFO_SIZE (half_at bytes 2) && nat_le (half_at bytes 2 + 4) (half_at bytes 0)
+    half_at bytes 0 % 16 == 0 && nat_le 32 (half_at bytes 0) && nat_le (half_at bytes 0) (length bytes)
+    && nat_le 20 (half_at bytes 2) && nat_le (half_at bytes 2 + 4) (half_at bytes 0)
 
 -- the header of a resource bundle with little-endian numbers
 abbrev pub has_header : List ℕ → Bool
@@ -35,24 +40,39 @@ has_header bytes = nat_le 24 (length bytes) && has_magic bytes && slice_index by
 -- enough indexes, and the tops of the keys, the resources and the bundle in order, within the data
 abbrev pub are_in_order : List ℕ → Bool
 are_in_order body =
-    nat_le INDEX_COUNT (word_at body 1) && nat_lt (word_at body 1) (word_at body 2)
+    nat_le 5 (word_at body 1) && nat_lt (word_at body 1) (word_at body 2)
     && nat_le (word_at body 2) (word_at body 3) && nat_le (word_at body 3) (word_at body 4) && nat_le (word_at body 4) (length body / 4)
 
 abbrev pub is_laid : List ℕ → Bool
 is_laid body = nat_le 24 (length body) && are_in_order body
 
--- the tree of the data, which begin with the root item, a table
-unfoldable pub tree_of_data : List ℕ → Option Resource
-tree_of_data body = where_holds (is_laid body && is_table (kind_of (word_at body 0))) (tree_at (layout_of body) body HEIGHT_LIMIT (word_at body 0))
+-- a tree, with the flag that the attributes give
+abbrev pub flagged : ℕ → Resource → SourceTree
+flagged bits t = record { tree = t; no_fallback = no_fallback bits }
 
--- the tree of a file, whose data follow the header
-unfoldable pub tree_of_file : List ℕ → Option Resource
-tree_of_file bytes = where_holds (nat_le (length bytes) FILE_LIMIT && has_header bytes) (tree_of_data (drop (half_at bytes 0) bytes))
+-- what data denote in a file of a minor version: a tree of height at most h, for which the first word stands, a table's item, and
+-- a flag
+unfoldable pub source_of_data : ℕ → ℕ → List ℕ → Option SourceTree
+source_of_data h minor body =
+    where_holds (is_laid body && not (has_pool (attributes_of minor body)) && is_table (kind_of (word_at body 0)))
+    (option_map (flagged (attributes_of minor body)) (tree_at (layout_of body) body h (word_at body 0)))
 
--- the file denotes the tree
-abbrev pub Denotes : List ℕ → Resource → Type 0
-Denotes bytes t = tree_of_file bytes ≡ Some t
+-- what a file denotes, whose data follow the header
+unfoldable pub source_of_file : ℕ → List ℕ → Option SourceTree
+source_of_file h bytes = where_holds (is_short_enough bytes && has_header bytes) (source_of_data h (slice_index bytes 17) (drop (half_at bytes 0) bytes))
 
--- the tree of a file that denotes one
+-- the file denotes the bundle, whose tree has a height of at most h
+abbrev pub DenotesWithin : ℕ → List ℕ → SourceTree → Type 0
+DenotesWithin h bytes s = source_of_file h bytes ≡ Some s
+
+-- the file denotes the bundle
+abbrev pub Denotes : List ℕ → SourceTree → Type 0
+Denotes bytes s = DenotesWithin 64 bytes s
+
+-- the bundle of a file that denotes one
+abbrev pub source_tree_of : List ℕ → SourceTree
+source_tree_of bytes = unwrap_or (source_of_file 64 bytes) (record { tree = int 0; no_fallback = false })
+
+-- its tree
 abbrev pub tree_of : List ℕ → Resource
-tree_of bytes = unwrap_or (tree_of_file bytes) (int 0)
+tree_of bytes = (source_tree_of bytes).tree

@@ -1,13 +1,12 @@
--- The first fault of a file, in the order in which a reader checks it: the length, the header, the indexes, the root item, and
--- then the items depth first; of an item its level, its type, its offset, its length, its zero unit or its keys one by one, and
--- its children. What is read without a fault is the tree that the file denotes.
+-- The first fault of a file, in the order in which a reader checks it: the length, the header, the indexes, the attributes, the
+-- root item, and then the items depth first; of an item its level, its type, its offset, its length, its zero unit or its keys one
+-- by one, and its children. What is read without a fault is what the file denotes.
 use Rattle.std.specs.Prelude.{Bool, true, false, ℕ, zero, suc, ◌+◌, ◌*◌, ◌/◌, ◌==◌, nat_lt, nat_le, if◌then◌else◌, List, [], ◌∷◌, length, take, drop, map, slice_index, Option, Some, None, Result, Ok, Err}
 use Rattle.std.specs.Ordering.{is_lt, nat_cmp}
 use Rattle.std.specs.Cmp.Lexicographic.{slice_cmp}
 use Rattle.std.specs.Int.{cast_signed, w32}
-use Rattle.rb_tree.specs.declared.limits.TheConstants.{HEIGHT_LIMIT}
 use Rattle.rb_tree.specs.Resource.{Resource, string, binary, table, alias, int, array, ints, Resources, no_trees, tree_and, Members, no_entries, entry_and}
-use Rattle.rb_format.specs.declared.constants.TheConstants.{FILE_LIMIT}
+use Rattle.rb_tree.specs.SourceTree.{SourceTree}
 use Rattle.rb_format.specs.declared.layout.Layout.{Layout}
 use Rattle.rb_format.specs.declared.header.Header.{Header}
 use Rattle.rb_format.specs.declared.kind.ItemKind.{ItemKind}
@@ -17,7 +16,8 @@ use Rattle.rb_format.specs.declared.fault.FileFault.TheVariants as faults
 use Rattle.rb_format.specs.declared.fault.FileFault.TheVariants.{TooLong, BigEndian, Family, FormatVersion, Indexes, Root, ItemType, Offset, Length, NotTerminated, Key, KeyOrder, TooDeep}
 use Rattle.rb_format.specs.Place.{word_at, half_at, key, values, layout_of}
 use Rattle.rb_format.specs.Item.{kind_of, offset_of, is_table, has_data, bare}
-use Rattle.rb_format.specs.File.{has_magic, has_family, has_version, has_sizes, is_laid}
+use Rattle.rb_format.specs.Attributes.{attributes_of, has_pool}
+use Rattle.rb_format.specs.File.{has_magic, has_family, has_version, has_sizes, is_laid, flagged}
 
 infixl 10 ◌>>=◌
 abbrev pub ◌>>=◌ : {A B : Type 0} → Result A FileFault → (A → Result B FileFault) → Result B FileFault
@@ -166,17 +166,20 @@ header bytes =
     else Err BigEndian)
     else Err faults.Header)
 
--- the data behind a header
-unfoldable pub read_data : List ℕ → Result Resource FileFault
-read_data body =
-    if is_laid body then (if is_table (kind_of (word_at body 0)) then read (layout_of body) body HEIGHT_LIMIT (word_at body 0) else Err Root) else Err Indexes
+-- the data of a file of a minor version, whose tree has a height of at most d
+unfoldable pub read_data : ℕ → ℕ → List ℕ → Result SourceTree FileFault
+read_data d minor body =
+    if is_laid body then
+    (if has_pool (attributes_of minor body) then Err faults.Attributes else
+    (if is_table (kind_of (word_at body 0)) then result_map (flagged (attributes_of minor body)) (read (layout_of body) body d (word_at body 0)) else Err Root))
+    else Err Indexes
 
-unfoldable pub read_file : List ℕ → Result Resource FileFault
-read_file bytes =
-    if nat_lt FILE_LIMIT (length bytes) then Err TooLong else (do
+unfoldable pub read_file : ℕ → List ℕ → Result SourceTree FileFault
+read_file d bytes =
+    if nat_lt 67108864 (length bytes) then Err TooLong else (do
       h ← header bytes
-      read_data (drop h.size bytes))
+      read_data d h.minor (drop h.size bytes))
 
 -- the first fault of a file
 abbrev pub first_fault : List ℕ → Option FileFault
-first_fault bytes = fault_of (read_file bytes)
+first_fault bytes = fault_of (read_file 64 bytes)

@@ -9,31 +9,33 @@ pub enum FileFault {
     TooLong,
     /// No header of a resource bundle, or one with sizes that can't be.
     Header,
-    /// The bytes of its numbers stand the other way round.
+    /// Big-endian numbers.
     BigEndian,
     /// Keys that aren't ASCII, or units that don't have two bytes.
     Family,
-    /// Another format version.
+    /// A format version other than 1, or 1.0.
     FormatVersion,
     /// Indexes that are missing or out of order.
     Indexes,
+    /// A pool bundle, or one that uses a pool bundle.
+    Attributes,
     /// A root item that is no table.
     Root,
-    /// An item of a type that isn't there.
+    /// An item of an unknown type.
     ItemType,
-    /// An offset before the items or behind them.
+    /// An offset before the items or after them.
     Offset,
     /// A value that goes past the end.
     Length,
-    /// A text without a zero unit behind it.
+    /// A text without a zero unit after it.
     NotTerminated,
-    /// A key that is none.
+    /// A key that is empty, has other bytes than 0x20 to 0x7E, or does not lie among the keys with its NUL.
     Key,
     /// A key that isn't above the one before it.
     KeyOrder,
     /// An item below more levels than a tree may have.
     TooDeep,
-    /// No memory.
+    /// Out of memory.
     Memory,
 }
 
@@ -49,6 +51,7 @@ impl FileFault {
             FileFault::Family => "Family",
             FileFault::FormatVersion => "FormatVersion",
             FileFault::Indexes => "Indexes",
+            FileFault::Attributes => "Attributes",
             FileFault::Root => "Root",
             FileFault::ItemType => "ItemType",
             FileFault::Offset => "Offset",

@@ -5,12 +5,13 @@ ghost use Rattle.rb_format.specs.File as files;
 ghost use Rattle.rb_format.specs.FirstFault.{header};
 
 use crate::constants::{
-    CHARSET_FAMILY, DATA_FORMAT, FORMAT_VERSION, HEADER_SIZE, INFO_SIZE, MAGIC, UNIT_SIZE,
+    CHARSET_FAMILY, DATA_FORMAT, FILE_LIMIT, HEADER_SIZE, INFO_SIZE, MAGIC, MAJOR_VERSION,
+    MINOR_VERSION, UNIT_SIZE,
 };
 use crate::fault::FileFault;
 use crate::place::half_at;
 
-/// The header of a file: its size, and the second byte of its format version.
+/// The header of a file: its size in bytes, and its minor format version, byte 17.
 #[derive(Clone, Copy, Debug, PartialEq, Eq)]
 pub struct Header {
     pub size: u16,
@@ -19,8 +20,8 @@ pub struct Header {
 
 impl Header {
     /// The header at the front of a file. It is refused for the first of these: fewer than 24 bytes or other magic bytes
-    /// (`Header`), big-endian numbers (`BigEndian`), another charset family or size of units (`Family`), another format
-    /// version (`FormatVersion`), and sizes that can't be (`Header`).
+    /// (`Header`), big-endian numbers (`BigEndian`), another charset family or size of units (`Family`), a format
+    /// version other than 1.1 and 1 with a later minor version (`FormatVersion`), and sizes that can't be (`Header`).
     #[tactic(auto, unfolding(crate::specs::FirstFault::header))]
     pub fn read(bytes: &[u8]) -> Result<Header, FileFault>
         ensures value { result ≡ header bytes.now }
@@ -35,7 +36,7 @@ impl Header {
         if bytes[9] != CHARSET_FAMILY || bytes[10] != UNIT_SIZE {
             return Err(FileFault::Family);
         }
-        if bytes[16] != FORMAT_VERSION[0] || bytes[17] != FORMAT_VERSION[1] {
+        if bytes[16] != MAJOR_VERSION || bytes[17] < MINOR_VERSION {
             return Err(FileFault::FormatVersion);
         }
         if !has_sizes(bytes) {
@@ -74,6 +75,13 @@ fn has_sizes(bytes: &[u8]) -> bool
         && size as usize <= bytes.len()
         && INFO_SIZE <= info
         && info as usize + 4 <= size as usize
+}
+
+/// Whether the file is no longer than `FILE_LIMIT`, the first check of a reader.
+pub fn is_short_enough(bytes: &[u8]) -> bool
+    ensures { result ≡ files.is_short_enough bytes.now }
+{
+    bytes.len() <= FILE_LIMIT
 }
 
 /// What follows the header.

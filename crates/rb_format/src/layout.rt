@@ -9,7 +9,7 @@ use crate::place::word_at;
 /// The bounds that the indexes of a file give, in words from the root item.
 #[derive(Clone, Copy, Debug, PartialEq, Eq)]
 pub struct Layout {
-    /// The number of the indexes, which stand behind the root item.
+    /// The number of the indexes, which follow the root item.
     pub indexes: u32,
     /// Where the keys end.
     pub keys_top: u32,

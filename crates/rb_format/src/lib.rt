@@ -1,6 +1,7 @@
-//! The layout of a resource bundle's file, ResB format 1.1, and what a file denotes.
+//! The layout of a resource bundle's file, ResB format 1.1 and later minor versions, and what a file denotes.
 #![tactic(auto)]
 
+mod attributes;
 mod constants;
 mod fault;
 mod geometry;
@@ -12,13 +13,14 @@ mod place;
 #[cfg(test)]
 mod tests;
 
+pub use attributes::Attributes;
 pub use constants::{
-    CHARSET_FAMILY, DATA_FORMAT, FILE_LIMIT, FORMAT_VERSION, HEADER_SIZE, INDEX_COUNT, INFO_SIZE,
-    MAGIC, UNIT_SIZE,
+    ATTRIBUTES_INDEX_COUNT, ATTRIBUTES_VERSION, CHARSET_FAMILY, DATA_FORMAT, FILE_LIMIT,
+    HEADER_SIZE, INDEX_COUNT, INFO_SIZE, MAGIC, MAJOR_VERSION, MINOR_VERSION, UNIT_SIZE,
 };
 pub use fault::FileFault;
 pub use geometry::{KeyPlaces, TableParts, long_table_parts, table_parts};
-pub use header::{Header, body};
+pub use header::{Header, body, is_short_enough};
 pub use kind::{ItemKind, is_table, item_kind, item_offset, item_type};
 pub use layout::{Layout, is_laid};
 pub use place::{half, half_at, key_at, key_within, word, word_at};

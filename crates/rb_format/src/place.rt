@@ -32,7 +32,7 @@ pub fn half(body: &[u8], i: usize) -> Option<u16>
     }
 }
 
-/// The key from byte k of the data: the bytes up to the next NUL, which lie behind the indexes and below the top of the
+/// The key from byte k of the data: the bytes up to the next NUL, which lie after the indexes and below the top of the
 /// keys. None where there is no key.
 pub fn key_at(body: &[u8], k: u32) -> Option<&[u8]>
     ensures { option_copied result ≡ key_at body.now k }

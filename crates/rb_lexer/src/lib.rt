@@ -10,12 +10,13 @@ mod item;
 pub mod laws;
 mod lexer;
 mod limits;
-mod piece;
+mod pending;
 mod quoted;
 #[cfg(test)]
 mod tests;
 mod text;
 mod token;
+mod units;
 mod unquoted;
 
 pub use fault::{SourceFault, SourceKind};

@@ -1,11 +1,8 @@
-pub mod Histories
-pub mod RowLemmas
-pub mod StepLemmas
 pub mod Texts
-pub mod Lookups
 pub mod KeyTexts
 pub mod Stepping
 pub mod NoFloats
 pub mod Putting
 pub mod Reading
 pub mod Serving
+pub mod LineIsolation

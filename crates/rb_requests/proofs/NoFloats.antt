@@ -9,10 +9,10 @@ use Rattle.serde_json.specs.Written.{has_float, members_have_float}
 use Rattle.rb_tree.specs.Resource.{Resource, int, ints, binary, alias, table}
 use Rattle.rb_tree.specs.Resource as tree
 use Rattle.rb_tree.specs.Keys.{pairs}
-use Rattle.rb_requests.specs.Answer.{Told, Replies, Finds, Refuses}
+use Rattle.rb_engine.specs.Answer.{Told, Replies, Finds, Refuses}
 use Rattle.rb_requests.specs.Item.{text_data, numbers_data, integers_data, texts_data, item_members, signed_of}
 use Rattle.rb_requests.specs.Replied.{data_told}
-use Rattle.rb_requests.specs.declared.request.Reply.TheVariants.{Done, Names, BadApp, Reserved, BadLocale, BadText, BadFile, Exists, Absent, Full, Memory}
+use Rattle.rb_engine.specs.declared.request.Reply.TheVariants.{Done, Names, BadApp, Reserved, BadLocale, BadText, BadFile, Exists, Absent, Full, Memory}
 
 text_at : (b : Bool) (bytes : List ℕ) → has_float (cond b (string bytes) null) ≡ false
 text_at true bytes = refl

@@ -66,8 +66,8 @@ read_more a b c line line' byte taken f f' f'' h k n e q = record {
 pub plain_kept : (a b c : Option (List ℕ)) (line : List ℕ) → ReadsPlain a b line → Keeps b c → ReadsPlain a c line
 plain_kept a b c line h k = record { read = Consumes-kept a b c line h.read k; plain = h.plain }
 
-pub part_of : (a b : Option (List ℕ)) (line : List ℕ) → ReadsPlain a b line → ReadsPart a b
-part_of a b line h = record { bytes = line; part = h }
+pub part_of : (a b : Option (List ℕ)) (line : List ℕ) → ReadsPlain a b line → IsShort line → ReadsPart a b
+part_of a b line h o = record { bytes = line; part = h; short = o }
 
 pub ended : (a b c : Option (List ℕ)) (line : List ℕ) (byte : ℕ) → ReadsPlain a b line → Consumes b c (byte ∷ []) → byte ≡ 10 → IsShort line → ReadsEnded a c line
 ended a b c line byte h k e o = record { short = o; read = Consumes-trans a b c line (10 ∷ []) h.read (subst (λ (x : ℕ). Consumes b c (x ∷ [])) e k); plain = h.plain }

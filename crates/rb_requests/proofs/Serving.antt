@@ -5,7 +5,7 @@ use Rattle.std.specs.Io.KnownBytes.{Appends, Keeps}
 use Rattle.std.proofs.lemmas.List.Elements.{All-nil, All-push}
 use Rattle.std.proofs.KnownBytes.{Appends-nil, Appends-trans, Appends-kept}
 use Rattle.rb_requests.specs.Asked.{call_of}
-use Rattle.rb_requests.specs.History.{State}
+use Rattle.rb_engine.specs.History.{State}
 use Rattle.rb_requests.specs.Lines.{AnswersLine, LineMayTell, Replies, lines_of}
 use Rattle.rb_requests.specs.Served.{AnswersAll, Answers, IsShort, feeds, Stands, IsNext, TakesEffect, AfterFault}
 use Rattle.rb_requests.specs.OneLine.{Wrote, WrotePart, WroteNone, WroteSome, FailsLine}
@@ -152,17 +152,27 @@ part_lines : (bytes : List ℕ) → feeds bytes ≡ 0 → length (lines_of bytes
 part_lines [] p = omega arith
 part_lines (b ∷ bytes) p = rw (lines_of-last (b ∷ bytes) p (omega arith)) (omega arith)
 
+part_short : (bytes : List ℕ) → feeds bytes ≡ 0 → IsShort bytes → All IsShort (lines_of bytes)
+part_short [] p s = All-nil IsShort
+part_short (b ∷ bytes) p s = rw (lines_of-last (b ∷ bytes) p (omega arith)) (All-push IsShort [] (b ∷ bytes) (All-nil IsShort) s)
+
+below_most : (n count most : ℕ) → n ≡ count → count < most → n ≡ most → ⊥
+below_most n count most e m f = omega arith
+
 unread : (fault : ServeFault) (first now : State) (input left left' : List ℕ) (a b : Option (List ℕ)) (count most : ℕ) → SoFar first now input left a b count → count < most → ReadsLine (Some left) (Some left') (Err fault) → AfterFault fault first now (Some input) (Some left') a b most
 unread Read first now input left left' a b count most h m k = record {
   stands = stand first now input left left' k.bytes a b count most h k.part.read (omega arith);
   wrote = h.wrote;
   part = k.part.plain;
+  short = k.short;
+  last = λ e. absurd (below_most (length h.lines) count most h.many m e);
 }
 unread Memory first now input left left' a b count most h m k = record {
   now = now;
   stands = stand first now input left left' k.bytes a b count most h k.part.read (omega arith);
   wrote = h.wrote;
   part = part_lines k.bytes k.part.plain;
+  short = part_short k.bytes k.part.plain k.short;
   more = fewer (length h.lines) count most h.many m;
   next = inl refl;
 }
@@ -205,6 +215,7 @@ unanswered Memory first now new input left left' bytes line a b c count most h m
   stands = stand first now input left left' bytes a b count most h e (omega arith);
   wrote = subst (λ (x : List ℕ). Appends a c x) (append-nil h.text) (Appends-trans a b c h.text [] h.wrote k.kept);
   part = one_line bytes line n.read;
+  short = subst (All IsShort) (sym n.read) (All-push IsShort [] line (All-nil IsShort) n.short);
   more = fewer (length h.lines) count most h.many m;
   next = may_have_told now new bytes left' line n k.tells;
 }
@@ -228,7 +239,7 @@ not_answered fault first now new None left left' a b c line count most h m k w =
 not_answered fault first now new (Some input) None left' a b c line count most h m k w = absurd h
 not_answered fault first now new (Some input) (Some l) None a b c line count most h m k w = absurd k.read
 not_answered fault first now new (Some input) (Some l) (Some l') a b c line count most h m k w =
-    let n : IsNext (line ++ 10 ∷ []) l' line = record { read = lines_of-ended line [] k.plain; whole = ended_lines ((line ++ 10 ∷ []) ++ l') l' line refl k.plain } in
+    let n : IsNext (line ++ 10 ∷ []) l' line = record { read = lines_of-ended line [] k.plain; whole = ended_lines ((line ++ 10 ∷ []) ++ l') l' line refl k.plain; short = k.short } in
     unanswered fault first now new input l l' (line ++ 10 ∷ []) line a b c count most h m k.read n w
 
 pub last_not_answered : (fault : ServeFault) (first now new : State) (input left left' a b c : Option (List ℕ)) (line : List ℕ) (count most : ℕ) → Known first now input left a b count → count < most → ReadsLast left left' line → FailsLine fault now line b c new → AfterFault fault first new input left' a c most
@@ -238,7 +249,7 @@ last_not_answered fault first now new (Some input) (Some l) None a b c line coun
 last_not_answered fault first now new (Some input) (Some l) (Some l') a b c line count most h m k w =
     let one = lines_of-last line k.part.plain k.some in
     let none : l' ≡ [] = nothing_behind line l' (k.all ∙ k.part.read) in
-    let n : IsNext line l' line = record { read = one; whole = rw none (ap lines_of (append-nil line) ∙ one) } in
+    let n : IsNext line l' line = record { read = one; whole = rw none (ap lines_of (append-nil line) ∙ one); short = k.short } in
     unanswered fault first now new input l l' line line a b c count most h m k.part.read n w
 
 -- ---- where no line may follow
@@ -254,6 +265,8 @@ ends Read first now input left left' a b count h k = record {
   stands = stand first now input left left' [] a b count count h (sym k) (omega arith);
   wrote = h.wrote;
   part = refl;
+  short = omega arith;
+  last = λ e. refl;
 }
 ends Write first now input left left' a b count h k = absurd k
 ends LineTooLong first now input left left' a b count h k = absurd k

@@ -4,12 +4,12 @@ use Rattle.std.specs.Str.{bytes_eq}
 use Rattle.std.proofs.lemmas.Slice.Eq.{bytes_eq-Decides}
 use Rattle.std.proofs.lemmas.Bool.{false≢true}
 use Rattle.serde_json.specs.Data.{Data}
-use Rattle.rb_requests.specs.Shelf.{Shelf}
-use Rattle.rb_requests.specs.Ask.{Call, Requests, requester}
-use Rattle.rb_requests.specs.Answer.{Start, Told, shelf_then}
-use Rattle.rb_requests.specs.History.{State, Step, Serves, is_memory}
+use Rattle.rb_engine.specs.Shelf.{Shelf}
+use Rattle.rb_engine.specs.Ask.{Call, Requests, requester}
+use Rattle.rb_engine.specs.Answer.{Start, Told, shelf_then}
+use Rattle.rb_engine.specs.History.{State, Step, Serves, is_memory}
 use Rattle.rb_requests.specs.Lines.{Tells, TellsLine, CallTold, LineTold, CallMayTell, LineMayTell}
-use Rattle.rb_requests.specs.declared.request.Request.{Request}
+use Rattle.rb_engine.specs.declared.request.Request.{Request}
 
 funext : {A : Type 0} {B : Type 0} → (f g : A → B) → ((x : A) → f x ≡ g x) → f ≡ g
 funext f g h = λ i x. h x i

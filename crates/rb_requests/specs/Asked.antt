@@ -6,10 +6,10 @@ use Rattle.serde_json.specs.Read.{read}
 use Rattle.serde_json.specs.Find.{get, as_str}
 use Rattle.hex.specs.Hex.{decode_of}
 use Rattle.hex.specs.declared.error.FromHexError.{FromHexError}
-use Rattle.rb_requests.specs.Ask.{Call, Requests, LooksUp}
-use Rattle.rb_requests.specs.declared.request.Payload.{Payload}
-use Rattle.rb_requests.specs.declared.request.Payload.TheVariants.{Text, File}
-use Rattle.rb_requests.specs.declared.request.Request.TheVariants.{Install, Replace, Remove, List as Lists}
+use Rattle.rb_engine.specs.Ask.{Call, Requests, LooksUp}
+use Rattle.rb_engine.specs.declared.request.Payload.{Payload}
+use Rattle.rb_engine.specs.declared.request.Payload.TheVariants.{Text, File}
+use Rattle.rb_engine.specs.declared.request.Request.TheVariants.{Install, Replace, Remove, List as Lists}
 
 -- a member that is a string
 abbrev pub text_at : List ℕ → Data → Option (List ℕ)

@@ -1,11 +1,4 @@
-pub mod App
-pub mod Place
-pub mod Shelf
-pub mod Ask
-pub mod Answer
-pub mod History
 pub mod Words
-pub mod Looked
 pub mod Asked
 pub mod Item
 pub mod Replied
@@ -13,9 +6,6 @@ pub mod Lines
 pub mod Served
 pub mod OneLine
 pub mod Device
-pub mod Padded
-pub mod Rows
-pub mod RowStep
-pub mod Seen
 pub mod Line
 pub mod Taken
+pub mod Isolation

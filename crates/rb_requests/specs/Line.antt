@@ -1,5 +1,5 @@
 -- For what is private. A line that was read, as what it calls.
-use Rattle.rb_requests.specs.Ask.{Call, Requests, LooksUp}
+use Rattle.rb_engine.specs.Ask.{Call, Requests, LooksUp}
 use Rattle.rb_requests.specs.declared.ask.Line.{Line}
 use Rattle.rb_requests.specs.declared.ask.Line.TheVariants.{Request, Look}
 

@@ -2,9 +2,9 @@
 use Rattle.std.specs.Prelude.{◌≡◌, ◌⊎◌, ℕ, List, [], ◌∷◌, ◌++◌, ◌==◌, if◌then◌else◌, Option, Some, None}
 use Rattle.std.specs.Str.{bytes_eq}
 use Rattle.serde_json.specs.Data.{Data}
-use Rattle.rb_requests.specs.Ask.{Call, Requests, LooksUp, caller, Ask, Means}
-use Rattle.rb_requests.specs.Answer.{Told, answer_over, shelf_then}
-use Rattle.rb_requests.specs.History.{State}
+use Rattle.rb_engine.specs.Ask.{Call, Requests, LooksUp, caller, Ask, Means}
+use Rattle.rb_engine.specs.Answer.{Told, answer_over, shelf_then}
+use Rattle.rb_engine.specs.History.{State}
 use Rattle.rb_requests.specs.Asked.{call_of}
 use Rattle.rb_requests.specs.Replied.{data_told, reply_line}
 

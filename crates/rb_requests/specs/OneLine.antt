@@ -1,7 +1,7 @@
 -- For what is private. What answering one line comes to.
 use Rattle.std.specs.Prelude.{◌≡◌, ◌++◌, ◌⊎◌, ℕ, List, [], Option}
 use Rattle.std.specs.Io.KnownBytes.{Appends}
-use Rattle.rb_requests.specs.History.{State}
+use Rattle.rb_engine.specs.History.{State}
 use Rattle.rb_requests.specs.Lines.{AnswersLine}
 use Rattle.rb_requests.specs.Served.{TakesEffect}
 use Rattle.rb_requests.specs.declared.lines.ServeFault.{ServeFault}

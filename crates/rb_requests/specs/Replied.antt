@@ -2,11 +2,11 @@
 use Rattle.std.specs.Prelude.{ℕ, true, List, [], ◌∷◌, ◌++◌, Option, Some, None, codes}
 use Rattle.serde_json.specs.Data.{Data, boolean, string, object, no_members, member}
 use Rattle.serde_json.specs.Written.{compact_text}
-use Rattle.rb_requests.specs.Answer.{Told, Replies, Finds, Refuses}
+use Rattle.rb_engine.specs.Answer.{Told, Replies, Finds, Refuses}
 use Rattle.rb_requests.specs.Item.{texts_data, found_data}
-use Rattle.rb_requests.specs.Words.{reply_word, look_word}
-use Rattle.rb_requests.specs.declared.request.Reply.{Reply}
-use Rattle.rb_requests.specs.declared.request.Reply.TheVariants.{Done, Names, BadApp, Reserved, BadLocale, BadText, BadFile, Exists, Absent, Full, Memory}
+use Rattle.rb_engine.specs.Words.{reply_word, look_word}
+use Rattle.rb_engine.specs.declared.request.Reply.{Reply}
+use Rattle.rb_engine.specs.declared.request.Reply.TheVariants.{Done, Names, BadApp, Reserved, BadLocale, BadText, BadFile, Exists, Absent, Full, Memory}
 
 abbrev pub error : List ℕ → Data
 error word = object (member (codes "error") (string word) no_members)

@@ -2,18 +2,17 @@
 use Rattle.std.specs.Prelude.{◌≡◌, ◌≤◌, ◌<◌, ◌+◌, ◌==◌, ◌++◌, ◌⊎◌, if◌then◌else◌, ℕ, List, [], ◌∷◌, length, All, ⊤, Option, Some, None, Result, Ok, Err}
 use Rattle.std.specs.Io.KnownBytes.{Appends}
 use Rattle.rb_requests.specs.Asked.{call_of}
-use Rattle.rb_requests.specs.Answer.{Told}
+use Rattle.rb_engine.specs.Answer.{Told}
 use Rattle.rb_requests.specs.Device.{risen}
-use Rattle.rb_requests.specs.History.{State}
+use Rattle.rb_engine.specs.History.{State}
 use Rattle.rb_requests.specs.Lines.{TellsLine, AnswersLine, Replies, lines_of}
-use Rattle.rb_requests.specs.declared.limits.TheConstants.{LINE_LIMIT}
 use Rattle.rb_requests.specs.declared.lines.ServeFault.{ServeFault}
 use Rattle.rb_requests.specs.declared.lines.ServeFault.TheVariants.{Read, Write, LineLimit, LineTooLong, Memory}
 
 -- ---- the whole input
 
 abbrev pub IsShort : List ℕ → Type 0
-IsShort line = length line ≤ LINE_LIMIT
+IsShort line = length line ≤ 268435456
 
 -- all the input is read, what is written is the replies to its lines and nothing else, and their requests have taken effect
 pub record Answers (old new : State) (input : List ℕ) (left written written' : Option (List ℕ)) (count : ℕ) : Type 0 where
@@ -50,18 +49,20 @@ pub record Stands (old now : State) (input left : List ℕ) (most : ℕ) : Type 
   pub text : List ℕ
   pub replies : Replies old first text now
 
--- after `Read`: of the next line a part is read
+-- after `Read`: of the next line a part is read that is no longer than a line may be, and where no further line may come nothing is
 pub record AfterRead (old new : State) (input left : List ℕ) (written written' : Option (List ℕ)) (most : ℕ) : Type 0 where
   pub stands : Stands old new input left most
   pub wrote : Appends written written' stands.text
   pub part : feeds stands.begun ≡ 0
+  pub short : IsShort stands.begun
+  pub last : length stands.first ≡ most → stands.begun ≡ []
 
 -- after `LineTooLong`: a part is read that is one byte longer than a line may be
 pub record AfterLong (old new : State) (input left : List ℕ) (written written' : Option (List ℕ)) (most : ℕ) : Type 0 where
   pub stands : Stands old new input left most
   pub wrote : Appends written written' stands.text
   pub part : feeds stands.begun ≡ 0
-  pub long : length stands.begun ≡ LINE_LIMIT + 1
+  pub long : length stands.begun ≡ 268435457
   pub more : length stands.first < most
 
 -- after `LineLimit`: as many lines are answered as may be, and one byte more is read
@@ -71,21 +72,23 @@ pub record AfterLimit (old new : State) (input left : List ℕ) (written written
   pub byte : length stands.begun ≡ 1
   pub all : length stands.first ≡ most
 
--- the next line, which is read whole, with its line feed if it has one
+-- the next line, which keeps the limit and is read whole, with its line feed if it has one
 pub record IsNext (begun left line : List ℕ) : Type 0 where
   pub read : lines_of begun ≡ line ∷ []
   pub whole : lines_of (begun ++ left) ≡ line ∷ lines_of left
+  pub short : IsShort line
 
 -- a line has taken effect
 abbrev pub TakesEffect : State → List ℕ → State → Type 0
 TakesEffect old line new = (told : Option Told) × TellsLine old (call_of line) told new
 
--- after `Memory`: the next line is read, or a part of it; where it is read, it has taken effect or has not
+-- after `Memory`: the next line is read, or a part of it, within the limit; where it is read, it has taken effect or has not
 pub record AfterMemory (old new : State) (input left : List ℕ) (written written' : Option (List ℕ)) (most : ℕ) : Type 0 where
   pub now : State
   pub stands : Stands old now input left most
   pub wrote : Appends written written' stands.text
   pub part : length (lines_of stands.begun) ≤ 1
+  pub short : All IsShort (lines_of stands.begun)
   pub more : length stands.first < most
   pub next : (new ≡ now) ⊎ ((line : List ℕ) × IsNext stands.begun left line × TakesEffect now line new)
 

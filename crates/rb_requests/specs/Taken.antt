@@ -1,8 +1,7 @@
 -- For what is private. What is read of an input where a line is taken from it.
-use Rattle.std.specs.Prelude.{◌≡◌, ◌<◌, ◌+◌, length, ℕ, List, [], ◌∷◌, ◌++◌, ⊤, Option, IfSome, Result, Ok, Err}
+use Rattle.std.specs.Prelude.{◌≡◌, ◌<◌, length, ℕ, List, [], ◌∷◌, ◌++◌, ⊤, Option, IfSome, Result, Ok, Err}
 use Rattle.std.specs.Io.KnownBytes.{Consumes, Keeps, IsAtEnd}
 use Rattle.rb_requests.specs.Served.{feeds, IsShort}
-use Rattle.rb_requests.specs.declared.limits.TheConstants.{LINE_LIMIT}
 use Rattle.rb_requests.specs.declared.lines.NextLine.{NextLine}
 use Rattle.rb_requests.specs.declared.lines.NextLine.TheVariants.{Ended, Last, End}
 use Rattle.rb_requests.specs.declared.lines.ServeFault.{ServeFault}
@@ -13,16 +12,17 @@ pub record ReadsPlain (old new : Option (List ℕ)) (bytes : List ℕ) : Type 0 
   pub read : Consumes old new bytes
   pub plain : feeds bytes ≡ 0
 
--- a part of a line is read
+-- a part of a line is read, no longer than a line may be
 pub record ReadsPart (old new : Option (List ℕ)) : Type 0 where
   pub bytes : List ℕ
   pub part : ReadsPlain old new bytes
+  pub short : IsShort bytes
 
 -- a part is read that is one byte longer than a line may be
 pub record ReadsLong (old new : Option (List ℕ)) : Type 0 where
   pub bytes : List ℕ
   pub part : ReadsPlain old new bytes
-  pub long : length bytes ≡ LINE_LIMIT + 1
+  pub long : length bytes ≡ 268435457
 
 -- a line and its line feed are read
 pub record ReadsEnded (old new : Option (List ℕ)) (line : List ℕ) : Type 0 where

@@ -2,18 +2,17 @@
 ghost use Rattle.std.specs.Prelude.{◌≡◌, ◌++◌, ◌∷◌, [], IfOk, IfErr, None, false};
 ghost use Rattle.serde_json.specs.View.{view};
 ghost use Rattle.serde_json.specs.Written.{compact_text, has_float};
-ghost use Rattle.rb_requests.specs.Rows.{state_of};
-ghost use Rattle.rb_requests.specs.Ask.{Requests, LooksUp};
-ghost use Rattle.rb_requests.specs.Answer.{Replies as Told};
-ghost use Rattle.rb_requests.specs.History.{is_memory_reply};
+ghost use Rattle.rb_engine.specs.Rows.{state_of};
+ghost use Rattle.rb_engine.specs.Ask.{Requests, LooksUp};
+ghost use Rattle.rb_engine.specs.Answer.{Replies as Told};
+ghost use Rattle.rb_engine.specs.History.{is_memory_reply};
 ghost use Rattle.rb_requests.specs.Asked.{call_of, call_in};
 ghost use Rattle.rb_requests.specs.Replied.{data_told};
 ghost use Rattle.rb_requests.specs.Lines.{CallTold, LineTold, AnswersLine, CallMayTell, LineMayTell};
 
 use crate::ask::{Line, json_of, line_of};
-use crate::engine::Engine;
-use crate::request::{Reply, Request};
 use crate::told::{error_value, look_value, reply_value};
+use rb_engine::{Engine, Reply, Request};
 use serde_json::Value;
 use std::alloc::{AllocError, Global};
 

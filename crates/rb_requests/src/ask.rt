@@ -5,8 +5,8 @@ ghost use Rattle.rb_requests.specs.Asked.{text_at, has as holds, call_in, payloa
 ghost use Rattle.hex.specs.Hex.{decode_of};
 ghost use Rattle.rb_requests.specs.Line.{line_view};
 
-use crate::request::{Payload, Request};
 use hex::FromHexError;
+use rb_engine::{Payload, Request};
 use rb_tree::ByteList;
 use serde_json::Value;
 use std::alloc::{AllocError, Global};

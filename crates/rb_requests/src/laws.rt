@@ -1,8 +1,9 @@
-//! What holds of every history.
-ghost use Rattle.rb_requests.specs.History.{AsksOne, AnswersOwn, IsIsolated};
+//! What holds of every history, and of the lines of every text.
+ghost use Rattle.rb_engine.specs.History.{AsksOne, AnswersOwn, IsIsolated};
+ghost use Rattle.rb_requests.specs.Isolation.{AreWrittenByLine, AreLinesIsolated};
 
 /// Does nothing: whatever the applications ask in whatever order, each is answered over its own bundles, those of ICUDATA and
-/// the explicit parents.
+/// the explicit parents, and so are the lines of a text.
 pub fn isolated()
     // A call asks one thing, since a payload stands for at most one tree.
     ensures one { AsksOne }
@@ -10,6 +11,10 @@ pub fn isolated()
     ensures own { AnswersOwn }
     // What an application is told depends on its own calls and wants of memory alone.
     ensures alone { IsIsolated }
+    // What is written for lines is the reply to each of them.
+    ensures replies { AreWrittenByLine }
+    // The replies to an application's lines depend on these lines alone.
+    ensures lines { AreLinesIsolated }
 {
-    rb_parser::laws::one_source();
+    rb_engine::laws::isolated();
 }

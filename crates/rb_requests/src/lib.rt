@@ -1,26 +1,22 @@
-//! The bundles of many applications, requests on them, and the lines that carry requests and replies.
+//! Requests and replies by the line: what a line asks of an engine, the line that answers it, and the loop that serves them.
+//!
+//! The engine itself is rb_engine's; all its public items are here too.
 #![tactic(auto)]
 
 mod answer;
-mod app;
 mod ask;
 mod device;
-mod engine;
 mod item;
 pub mod laws;
 mod limits;
 mod lines;
-mod place;
-mod request;
-mod rows;
-mod steps;
 #[cfg(test)]
 mod tests;
 mod told;
 
-pub use app::{App, AppFault};
 pub use device::{Failed, Feed, ReadFeed, Sink, WriteSink};
-pub use engine::Engine;
-pub use limits::{BUNDLE_LIMIT, LINE_LIMIT};
+pub use limits::LINE_LIMIT;
 pub use lines::{ServeFault, Served, serve};
-pub use request::{LookFault, NameList, Payload, Reply, Request};
+pub use rb_engine::{
+    App, AppFault, BUNDLE_LIMIT, Engine, LookFault, NameList, Payload, Reply, Request,
+};

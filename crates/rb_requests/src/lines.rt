@@ -1,7 +1,7 @@
 //! Requests and replies by the line.
 ghost use Rattle.std.specs.Prelude.{◌≡◌, ◌≤◌, Ok, IfOk, IfErr, OnOk, Option, List, ℕ, length, drop};
 ghost use Rattle.std.specs.Io.KnownBytes.{Appends, IsAtEnd, Keeps};
-ghost use Rattle.rb_requests.specs.Rows.{state_of};
+ghost use Rattle.rb_engine.specs.Rows.{state_of};
 ghost use Rattle.rb_requests.specs.Lines.{AnswersLine};
 ghost use Rattle.rb_requests.specs.Taken.{ReadsLine, ReadsPlain, LooksAtEnd};
 ghost use Rattle.rb_requests.specs.Served.{AnswersAll, AfterFault, IsShort, reads_failed, writes_failed};
@@ -11,8 +11,8 @@ ghost use Rattle.rb_requests.specs.Words.{serve_word};
 
 use crate::answer::reply_of;
 use crate::device::{Failed, Feed, Sink};
-use crate::engine::Engine;
 use crate::limits::LINE_LIMIT;
+use rb_engine::Engine;
 use std::alloc::Global;
 use thiserror::Error;
 

@@ -2,30 +2,36 @@
 
 mod devices;
 
-use crate::app::{App, AppFault};
 use crate::device::{ReadFeed, WriteSink};
-use crate::engine::Engine;
 use crate::lines::{ServeFault, serve};
-use crate::request::{LookFault, Payload, Reply, Request};
-use rb_tree::ByteList;
+use rb_engine::Engine;
 use std::alloc::Global;
 use std::test::Fail;
 
-/// What an engine writes for some lines, and how serving ended.
-fn served(
+/// What an engine writes for some lines.
+fn written(
     alloc: Global,
     engine: &mut Engine,
     lines: &[u8],
     max_lines: u64,
-) -> Result<(String, Result<u64, ServeFault>), Fail> {
+    ended: Result<u64, ServeFault>,
+) -> Result<Vec<u8>, Fail> {
     let mut written: Vec<u8> = Vec::new(alloc);
     let mut feed = ReadFeed::new(lines);
     let mut sink = WriteSink::new(&mut written);
-    let ended = match serve(alloc, engine, &mut feed, &mut sink, max_lines) {
-        Ok(served) => Ok(served.lines),
-        Err(fault) => Err(fault),
-    };
-    Ok((String::from_utf8(written)?, ended))
+    let served = serve(alloc, engine, &mut feed, &mut sink, max_lines);
+    if served.map(|served| served.lines) == ended {
+        Ok(written)
+    } else {
+        Ok(Vec::new(alloc))
+    }
+}
+
+/// Whether this is the reply to one line.
+fn answers(alloc: Global, engine: &mut Engine, line: &str, reply: &str) -> Result<bool, Fail> {
+    let line = format!(in alloc; "{line}\n")?;
+    let written = written(alloc, engine, line.as_bytes(), 1, Ok(1))?;
+    Ok(written.strip_suffix(b"\n") == Some(reply.as_bytes()))
 }
 
 /// Lines with their replies, one engine for all.
@@ -149,16 +155,16 @@ fn answers_lines(rt: HostRuntime) -> Result<(), Fail> {
     let alloc = rt.alloc();
     let mut engine = Engine::start(alloc);
     for (line, reply) in LINES {
-        let line = format!(in alloc; "{line}\n")?;
-        let (written, ended) = served(alloc, &mut engine, line.as_bytes(), 1)?;
-        let wanted = format!(in alloc; "{reply}\n")?;
-        assert_eq!(rt; written.as_str(), wanted.as_str());
-        assert_eq!(rt; ended, Ok(1));
+        assert!(rt; answers(alloc, &mut engine, line, reply)?, "{line}");
     }
     Ok(())
 }
 
-/// A bundle with an item of each kind, and what a look-up of each is answered.
+/// The install of a bundle with an item of each kind.
+const BUNDLE: &str =
+    "{\"op\":\"install\",\"app\":\"shop\",\"locale\":\"root\",\"text\":\"root{a{:int{1},\\\"x\\\"} b:bin{00 ff 7F} i:int{268435455} m:alias{\\\"/ICUDATA/de/x\\\"} s{\\\"\\\\u00e9\\\\U0001F600\\\\uD800\\\\101\\\\{\\\"} t{b:int{1} a:int{2}} v:intvector{1,-1}}\"}";
+
+/// What a lookup of each is answered.
 const ITEMS: [(&str, &str); 9] = [
     (
         "a",
@@ -192,157 +198,85 @@ const ITEMS: [(&str, &str); 9] = [
     ("a/01", "{\"error\":\"Missing\"}"),
 ];
 
+/// Whether this is the reply to a lookup by `shop` from `root`.
+fn finds(alloc: Global, engine: &mut Engine, path: &str, reply: &str) -> Result<bool, Fail> {
+    let line = format!(in alloc;
+        "{{\"op\":\"look\",\"app\":\"shop\",\"locale\":\"root\",\"path\":\"{path}\"}}"
+    )?;
+    answers(alloc, engine, line.as_str(), reply)
+}
+
 #[test]
 fn answers_items(rt: HostRuntime) -> Result<(), Fail> {
     let alloc = rt.alloc();
     let mut engine = Engine::start(alloc);
-    let text =
-        b"root{a{:int{1},\"x\"} b:bin{00 ff 7F} i:int{268435455} m:alias{\"/ICUDATA/de/x\"} s{\"\\u00e9\\U0001F600\\uD800\\101\\{\"} t{b:int{1} a:int{2}} v:intvector{1,-1}}";
-    let reply = engine.handle(alloc, install(alloc, b"shop", b"root", text)?);
-    assert_eq!(rt; reply.word(), "Done");
-    for (path, wanted) in ITEMS {
-        let line = format!(in alloc;
-            "{{\"op\":\"look\",\"app\":\"shop\",\"locale\":\"root\",\"path\":\"{path}\"}}"
-        )?;
-        let (written, _) = served(alloc, &mut engine, line.as_bytes(), 1)?;
-        let wanted = format!(in alloc; "{wanted}\n")?;
-        assert_eq!(rt; written.as_str(), wanted.as_str());
+    assert!(rt; answers(alloc, &mut engine, BUNDLE, "{\"ok\":true}")?);
+    for (path, reply) in ITEMS {
+        assert!(rt; finds(alloc, &mut engine, path, reply)?, "{path}");
     }
     Ok(())
 }
 
-fn bytes(alloc: Global, text: &[u8]) -> Result<ByteList, Fail> {
-    Ok(ByteList::from_vec(text.to_vec(alloc)?))
-}
-
-fn install(alloc: Global, app: &[u8], locale: &[u8], text: &[u8]) -> Result<Request, Fail> {
-    Ok(Request::Install {
-        app: bytes(alloc, app)?,
-        locale: bytes(alloc, locale)?,
-        payload: Payload::Text(bytes(alloc, text)?),
-    })
-}
-
-/// Why a look-up finds nothing.
-fn refusal(engine: &Engine, app: &[u8], locale: &[u8], path: &[u8]) -> Option<LookFault> {
-    match engine.look(app, locale, path) {
-        Ok(_) => None,
-        Err(fault) => Some(fault),
-    }
-}
-
-#[test]
-fn limits_paths(rt: HostRuntime) -> Result<(), Fail> {
-    let alloc = rt.alloc();
-    let mut engine = Engine::start(alloc);
-    let reply = engine.handle(
-        alloc,
-        install(alloc, b"shop", b"de", b"de{hello{\"Hallo\"}}")?,
-    );
-    assert_eq!(rt; reply.word(), "Done");
-    let letters = [b'a'; 1025];
-    assert_eq!(rt;
-        refusal(&engine, b"shop", b"de", &letters),
-        Some(LookFault::PathTooLong)
-    );
-    assert_eq!(rt;
-        refusal(&engine, b"shop", b"de", &letters[..1024]),
-        Some(LookFault::Missing)
-    );
-    Ok(())
-}
-
-#[test]
-fn refuses_a_file_cut_short(rt: HostRuntime) -> Result<(), Fail> {
-    let alloc = rt.alloc();
-    let mut engine = Engine::start(alloc);
-    let line = format!(in alloc;
-        "{{\"op\":\"install\",\"app\":\"shop\",\"locale\":\"root\",\"file\":\"{}\"}}",
-        SAMPLE.get(..150).unwrap_or("")
-    )?;
-    let (written, _) = served(alloc, &mut engine, line.as_bytes(), 1)?;
-    assert_eq!(rt; written.as_str(), "{\"error\":\"BadFile\"}\n");
-    Ok(())
-}
-
-/// The file of a bundle `root` with the string `b` at `a`.
-const SAMPLE: &str =
-    "2000da27140000000000020052657342010100000000000000000000000000000900002005000000070000000b0000000b000000010000006100aaaa01000000620000000100180007000000";
+/// A file with the string `b` at `a`, and lookups of it.
+const FILES: [(&str, &str); 4] = [
+    (
+        "{\"op\":\"install\",\"app\":\"shop\",\"locale\":\"root\",\"file\":\"2000DA27\"}",
+        "{\"error\":\"BadFile\"}",
+    ),
+    (
+        "{\"op\":\"install\",\"app\":\"shop\",\"locale\":\"root\",\"file\":\"2000Da27140000000000020052657342010100000000000000000000000000000900002005000000070000000b0000000b000000010000006100aaaa01000000620000000100180007000000\"}",
+        "{\"ok\":true}",
+    ),
+    (
+        "{\"op\":\"look\",\"app\":\"shop\",\"locale\":\"root\",\"path\":\"a\"}",
+        "{\"actual\":\"root\",\"type\":\"string\",\"valid\":\"root\",\"value\":\"b\"}",
+    ),
+    (
+        "{\"op\":\"look\",\"app\":\"bank\",\"locale\":\"root\",\"path\":\"a\"}",
+        "{\"error\":\"NoBundle\"}",
+    ),
+];
 
 #[test]
 fn takes_files(rt: HostRuntime) -> Result<(), Fail> {
     let alloc = rt.alloc();
     let mut engine = Engine::start(alloc);
-    let line = format!(in alloc;
-        "{{\"op\":\"install\",\"app\":\"shop\",\"locale\":\"root\",\"file\":\"{SAMPLE}\"}}"
-    )?;
-    let (written, _) = served(alloc, &mut engine, line.as_bytes(), 1)?;
-    assert_eq!(rt; written.as_str(), "{\"ok\":true}\n");
-    let look = b"{\"op\":\"look\",\"app\":\"shop\",\"locale\":\"root\",\"path\":\"a\"}";
-    let (written, _) = served(alloc, &mut engine, look, 1)?;
-    assert_eq!(rt;
-        written.as_str(),
-        "{\"actual\":\"root\",\"type\":\"string\",\"valid\":\"root\",\"value\":\"b\"}\n"
-    );
-    assert_eq!(rt;
-        refusal(&engine, b"bank", b"root", b"a"),
-        Some(LookFault::NoBundle)
-    );
+    for (line, reply) in FILES {
+        assert!(rt; answers(alloc, &mut engine, line, reply)?, "{line}");
+    }
     Ok(())
+}
+
+/// Whether lists nested too deep are no request.
+fn refuses_nesting(alloc: Global, engine: &mut Engine) -> Result<bool, Fail> {
+    let mut line = "[".repeat(alloc, 128)?;
+    line.push_str("]".repeat(alloc, 128)?.as_str())?;
+    answers(alloc, engine, line.as_str(), "{\"error\":\"BadLine\"}")
 }
 
 #[test]
 fn stops_at_the_last_line(rt: HostRuntime) -> Result<(), Fail> {
     let alloc = rt.alloc();
     let mut engine = Engine::start(alloc);
-    let (written, ended) = served(alloc, &mut engine, b"\n\n", 1)?;
-    assert_eq!(rt; written.as_str(), "{\"error\":\"BadLine\"}\n");
-    assert_eq!(rt; ended, Err(ServeFault::LineLimit));
-    let (written, ended) = served(alloc, &mut engine, b"x", 9)?;
-    assert_eq!(rt; written.as_str(), "{\"error\":\"BadLine\"}\n");
-    assert_eq!(rt; ended, Ok(1));
-    let (written, ended) = served(alloc, &mut engine, b"", 9)?;
-    assert_eq!(rt; written.as_str(), "");
-    assert_eq!(rt; ended, Ok(0));
-    let (written, _) = served(alloc, &mut engine, b"\xFF\n", 9)?;
-    assert_eq!(rt; written.as_str(), "{\"error\":\"BadLine\"}\n");
-    let nested = format!(in alloc; "{}{}", "[".repeat(alloc, 128)?, "]".repeat(alloc, 128)?)?;
-    let (written, _) = served(alloc, &mut engine, nested.as_bytes(), 9)?;
-    assert_eq!(rt; written.as_str(), "{\"error\":\"BadLine\"}\n");
-    Ok(())
-}
-
-#[test]
-fn keeps_to_the_most_bundles_of_one_application(rt: HostRuntime) -> Result<(), Fail> {
-    let alloc = rt.alloc();
-    let mut engine = Engine::start(alloc);
-    for i in 0..513u32 {
-        let locale = format!(in alloc; "qq_{i}")?;
-        let reply = engine.handle(alloc, install(alloc, b"shop", locale.as_bytes(), b"x{}")?);
-        assert_eq!(rt; reply.word(), if i < 512 { "Done" } else { "Full" });
+    let inputs: [(&[u8], u64, Result<u64, ServeFault>, &[u8]); 4] = [
+        (
+            b"\n\n",
+            1,
+            Err(ServeFault::LineLimit),
+            b"{\"error\":\"BadLine\"}\n",
+        ),
+        (b"x", 9, Ok(1), b"{\"error\":\"BadLine\"}\n"),
+        (b"", 9, Ok(0), b""),
+        (b"\xFF\n", 9, Ok(1), b"{\"error\":\"BadLine\"}\n"),
+    ];
+    for (input, max_lines, ended, wanted) in inputs {
+        assert!(rt; written(alloc, &mut engine, input, max_lines, ended)?.as_slice() == wanted);
     }
-    let reply = engine.handle(alloc, install(alloc, b"shop", b"qq_7", b"x{}")?);
-    assert_eq!(rt; reply.word(), "Exists");
-    let reply = engine.handle(alloc, install(alloc, b"bank", b"qq", b"x{}")?);
-    assert_eq!(rt; reply.word(), "Done");
-    let names = match engine.handle(
-        alloc,
-        Request::List {
-            app: bytes(alloc, b"bank")?,
-        },
-    ) {
-        Reply::Names(names) => names.as_slice().len(),
-        _ => 0,
-    };
-    assert_eq!(rt; names, 1);
+    assert!(rt; refuses_nesting(alloc, &mut engine)?);
     Ok(())
 }
 
 #[test]
 fn names_faults(rt: HostRuntime) {
-    assert_eq!(rt; App::read(&[b'a'; 65]).err(), Some(AppFault::BadApp));
-    assert!(rt; App::read(&[b'a'; 64]).is_ok());
-    assert_eq!(rt; AppFault::Reserved.word(), "Reserved");
-    assert_eq!(rt; LookFault::TooManyAliases.word(), "TooManyAliases");
     assert_eq!(rt; ServeFault::LineTooLong.word(), "LineTooLong");
 }

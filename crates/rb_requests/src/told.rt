@@ -4,10 +4,10 @@ ghost use Rattle.serde_json.specs.View.{view};
 ghost use Rattle.rb_tree.specs.View.{view_of};
 ghost use Rattle.rb_requests.specs.Item.{texts_data};
 ghost use Rattle.rb_requests.specs.Replied.{error, reply_data, told_data};
-ghost use Rattle.rb_requests.specs.Seen.{seen};
+ghost use Rattle.rb_engine.specs.Seen.{seen};
 
 use crate::item::{found_value, text_value};
-use crate::request::{LookFault, Reply};
+use rb_engine::{LookFault, Reply};
 use rb_fallback::Found;
 use rb_locales::Name;
 use rb_tree::Tree;

@@ -52,7 +52,10 @@ pub fn check<R: Files + AllocGlobal + Print + Eprint>(rt: &R, name: &str) -> Exi
         Err(error) => return cannot_read(rt, name, error, "Memory"),
     };
     match accept(rt.alloc(), bytes) {
-        Ok(_) => printed(rt, println!(rt; "ok")),
+        Ok(bundle) => {
+            let visits = bundle.visits();
+            printed(rt, println!(rt; "ok, {visits} visits"))
+        }
         Err((fault, _)) => {
             let _ = eprintln!(rt; "{name}: {}", fault.word());
             ExitCode::from(1)

@@ -99,7 +99,7 @@ fn checks_files(rt: HostRuntime) -> Result<(), Fail> {
     desk.put("good.res", &ONE_STRING)?;
     desk.put("bad.res", &HOLDS_ITSELF)?;
     assert!(rt; check(&desk, "good.res") == ExitCode::SUCCESS);
-    assert_eq!(rt; desk.output().as_str(), "ok\n");
+    assert_eq!(rt; desk.output().as_str(), "ok, 1 visits\n");
     assert_eq!(rt; desk.errors().as_str(), "");
     assert!(rt; check(&desk, "bad.res") == ExitCode::from(1));
     assert_eq!(rt; desk.errors().as_str(), "bad.res: TooDeep\n");

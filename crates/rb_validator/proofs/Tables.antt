@@ -267,7 +267,7 @@ entries_more y body child place from n j made q t h l e f s =
 -- all the entries: their keys are keys and ascend, so the pairs make the table
 pub record Made (y : Layout) (body : List ℕ) (child : ℕ → Result Resource FileFault) (place : ℕ → ℕ) (from n : ℕ) (made : List (List ℕ × Tree)) : Type 0 where
   pub ordered : IsTable (entries_or (table_of y body child place from n))
-  pub seen : seen_pairs made ≡ pairs (entries_or (table_of y body child place from n))
+  pub state : seen_pairs made ≡ pairs (entries_or (table_of y body child place from n))
   pub is : table_of y body child place from n ≡ Ok (entries_or (table_of y body child place from n))
 
 pub entries_made : (y : Layout) (body : List ℕ) (child : ℕ → Result Resource FileFault) (place : ℕ → ℕ) (from n j : ℕ) (made : List (List ℕ × Tree)) → IsOk (table_of y body child place from n) → n ≤ j → seen_pairs made ≡ take j (pairs (entries_or (table_of y body child place from n))) → Made y body child place from n made
@@ -278,7 +278,7 @@ entries_made y body child place from n j made h l s =
     let all : take j (pairs es) ≡ pairs es = take_all j (pairs es) (omega (arith, pairs_len es p.ks ks, keys_count y body place [] 0 n p.ks p.keys_read)) in
     record {
       ordered = record { keys_ok = subst (All IsKey) (sym ks) (keys_are y body place [] 0 n p.ks p.keys_read); ascend = subst (IsStrictlySortedBy (slice_cmp nat_cmp)) (sym ks) (keys_ascend y body place [] 0 n p.ks p.keys_read) };
-      seen = s ∙ all;
+      state = s ∙ all;
       is = p.is;
     }
   where
@@ -295,16 +295,16 @@ made_keys : (made : List (List ℕ × Tree)) (es : Members) → seen_pairs made 
 made_keys made es s = ap keys_of (sym s) ∙ keys_seen made
 
 pub made_are_keys : (y : Layout) (body : List ℕ) (child : ℕ → Result Resource FileFault) (place : ℕ → ℕ) (from n : ℕ) (made : List (List ℕ × Tree)) → Made y body child place from n made → All IsKey (keys_in made)
-made_are_keys y body child place from n made m = subst (All IsKey) (made_keys made (entries_or (table_of y body child place from n)) m.seen) m.ordered.keys_ok
+made_are_keys y body child place from n made m = subst (All IsKey) (made_keys made (entries_or (table_of y body child place from n)) m.state) m.ordered.keys_ok
 
 pub made_apart : (y : Layout) (body : List ℕ) (child : ℕ → Result Resource FileFault) (place : ℕ → ℕ) (from n : ℕ) (made : List (List ℕ × Tree)) (i : ℕ) → Made y body child place from n made → IsFirstRepeat (keys_in made) i → ⊥
 made_apart y body child place from n made i m r =
-    no_repeat (keys_in made) i (subst (IsStrictlySortedBy (slice_cmp nat_cmp)) (made_keys made (entries_or (table_of y body child place from n)) m.seen) m.ordered.ascend) r
+    no_repeat (keys_in made) i (subst (IsStrictlySortedBy (slice_cmp nat_cmp)) (made_keys made (entries_or (table_of y body child place from n)) m.state) m.ordered.ascend) r
 
 pub made_table : (y : Layout) (body : List ℕ) (child : ℕ → Result Resource FileFault) (place : ℕ → ℕ) (from n : ℕ) (made : List (List ℕ × Tree)) (t : Tree) → Made y body child place from n made → IsTableOf (seen_pairs made) (view_of t) → result_map table (table_of y body child place from n) ≡ Ok (view_of t)
 made_table y body child place from n made t m h =
     let es = entries_or (table_of y body child place from n) in
-    let same : IsTableOf (seen_pairs made) (table es) = record { entries = es; is = refl; ordered = m.ordered; same = λ k. ap (lookup (pointwise nat_eq k)) (sym m.seen) } in
+    let same : IsTableOf (seen_pairs made) (table es) = record { entries = es; is = refl; ordered = m.ordered; same = λ k. ap (lookup (pointwise nat_eq k)) (sym m.state) } in
     let one : table es ≡ view_of t = one_table (seen_pairs made) (table es) (view_of t) same h in
     ap (result_map table) m.is ∙ ap Ok one
 

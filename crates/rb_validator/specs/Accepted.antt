@@ -1,7 +1,9 @@
--- What each bundle keeps; only proofs read this.
+-- For proofs only: what each bundle keeps.
 use Rattle.std.specs.Prelude.{ℕ, List}
-use Rattle.rb_format.specs.File.{Denotes, tree_of}
+use Rattle.rb_format.specs.File.{Denotes, source_tree_of}
+use Rattle.rb_validator.specs.Visits.{HasVisits}
 
--- its bytes denote a tree
-pub record IsAccepted (bytes : List ℕ) : Type 0 where
-  pub denoted : Denotes bytes (tree_of bytes)
+-- its bytes denote a bundle, and have so many places
+pub record IsAccepted (bytes : List ℕ) (visits : ℕ) : Type 0 where
+  pub denoted : Denotes bytes (source_tree_of bytes)
+  pub counted : HasVisits bytes visits

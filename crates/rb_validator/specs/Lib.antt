@@ -1,2 +1,6 @@
 pub mod Accepted
+pub mod Marks
 pub mod Places
+pub mod Visits
+pub mod Ranks
+pub mod KnownKeys

@@ -1,4 +1,4 @@
--- Where the key offsets of a table stand; only proofs and private contracts read this.
+-- For proofs only: the key offsets of a table.
 use Rattle.std.specs.Prelude.{ℕ, ◌+◌, ◌*◌, ◌≤◌, List, length}
 use Rattle.rb_format.specs.Place.{word_at, half_at}
 use Rattle.rb_validator.specs.declared.keys.KeyPlaces.{KeyPlaces}

@@ -1,17 +1,20 @@
-// Files that denote a tree.
-ghost use Rattle.std.specs.Prelude.{◌≡◌, ◌⊎◌, Some, IfOk, IfErr};
-ghost use Rattle.rb_format.specs.File.{Denotes, tree_of};
+// Files that denote a bundle.
+ghost use Rattle.std.specs.Prelude.{◌≡◌, ◌⊎◌, ◌*◌, ◌≤◌, Some, IfOk, IfErr, drop};
+ghost use Rattle.rb_format.specs.Place.{half_at, layout_of};
+ghost use Rattle.rb_validator.specs.Visits.{HasVisits};
+ghost use Rattle.rb_format.specs.File.{Denotes, source_tree_of};
 ghost use Rattle.rb_format.specs.FirstFault.{first_fault};
 
 use crate::file::check_file;
-use rb_format::FileFault;
+use rb_format::{Attributes, FileFault, body};
 use std::alloc::Global;
 use std::marker::Model;
 
-/// A file that denotes a tree.
+/// A file that denotes a bundle: a tree, and whether a lookup stops there. It keeps the bytes of the file.
 #[derive(Drop)]
 pub struct Bundle {
     bytes: Vec<u8>,
+    visits: u64,
 }
 
 impl Model for Bundle {
@@ -22,19 +25,20 @@ impl Model for Bundle {
 
     ghost view = { λ b. b.bytes.items };
 
-    ghost invariant = { λ b. IsAccepted b.bytes.items };
+    ghost invariant = { λ b. IsAccepted b.bytes.items b.visits };
 }
 
-/// The bundle of a file that denotes a tree. Any other file is refused for its first fault. A refusal hands the bytes back, and
-/// `Memory` may come in place of an answer.
-pub fn accept(_alloc: Global, bytes: Vec<u8>) -> Result<Bundle, (FileFault, Vec<u8>)>
+/// The bundle of a file that denotes one. Any other file is refused for its first fault, in the order of a reader's checks: the length,
+/// the header, the indexes, the attributes, the root item and the items, depth first. `Memory` comes in place of an answer where there
+/// is no memory for the marks of the tables and arrays, three bytes for each word of the file. An error gives the bytes back as they were.
+pub fn accept(alloc: Global, bytes: Vec<u8>) -> Result<Bundle, (FileFault, Vec<u8>)>
     ensures bytes { IfOk result (λ b. b ≡ bytes.items) }
-    ensures tree { IfOk result (λ b. Denotes bytes.items (tree_of b)) }
+    ensures tree { IfOk result (λ b. Denotes bytes.items (source_tree_of b)) }
     ensures fault { IfErr result (λ e. (e.0 ≡ FileFault.Memory) ⊎ (first_fault bytes.items ≡ Some e.0)) }
     ensures back { IfErr result (λ e. e.1.items ≡ bytes.items) }
 {
-    match check_file(&bytes) {
-        Ok(()) => Ok(Bundle { bytes }),
+    match check_file(alloc, &bytes) {
+        Ok(visits) => Ok(Bundle { bytes, visits }),
         Err(fault) => Err((fault, bytes)),
     }
 }
@@ -43,8 +47,25 @@ impl Bundle {
     /// The bytes of the file.
     pub fn bytes(&self) -> &[u8]
         ensures bytes { result.now ≡ self.now }
-        ensures denoted { Denotes self.now (tree_of self.now) }
+        ensures denoted { Denotes self.now (source_tree_of self.now) }
     {
         &self.bytes
+    }
+
+    /// Whether a lookup stops at the bundle, the attribute `URES_ATT_NO_FALLBACK` of `uresdata.h`.
+    pub fn no_fallback(&self) -> bool
+        ensures { result ≡ (source_tree_of self.now).no_fallback }
+    {
+        let bytes = self.bytes();
+        Attributes::of(bytes[17], body(bytes)).no_fallback()
+    }
+
+    /// How many tables and arrays the acceptance entered: each offset and kind of one with data that the root item leads to, once. It is
+    /// at most three for each word of the bundle.
+    pub fn visits(&self) -> u64
+        ensures counted { HasVisits self.now result }
+        ensures few { let body = drop (half_at self.now 0) self.now in result ≤ 3 * (layout_of body).top }
+    {
+        self.visits
     }
 }

@@ -1,35 +1,56 @@
 // The checks of a whole file.
-ghost use Rattle.std.specs.Prelude.{◌≡◌};
+ghost use Rattle.std.specs.Prelude.{◌≡◌, ◌⊎◌, ◌+◌, ◌*◌, ◌≤◌, None, Some, IfOk, MatchResult};
 ghost use Rattle.rb_format.specs.FirstFault.{fault_of, first_fault, read_data};
+ghost use Rattle.rb_format.specs.Place as stands;
+ghost use Rattle.rb_validator.specs.Visits.{IsPlaceAt, IsCount, HasVisits};
 
 use crate::items::check_item;
-use rb_format::{FILE_LIMIT, FileFault, Header, Layout, is_laid, is_table, item_kind, word_at};
+use crate::key_checker::KeyChecker;
+use crate::memo::Memo;
+use crate::runs::Runs;
+use crate::state::CheckState;
+use rb_format::{
+    Attributes, FILE_LIMIT, FileFault, Header, Layout, is_laid, is_table, item_kind, word_at,
+};
 use rb_tree::HEIGHT_LIMIT;
+use std::alloc::Global;
 
-/// The first fault of a file, if it has one.
+/// How many places a file has, or its first fault; `Memory` may come in place of an answer.
 #[tactic(auto, unfolding(rb_format::specs::FirstFault::read_file))]
-pub fn check_file(bytes: &[u8]) -> Result<(), FileFault>
-    ensures { fault_of result ≡ first_fault bytes.now }
+pub fn check_file(alloc: Global, bytes: &[u8]) -> Result<u64, FileFault>
+    ensures answer { MatchResult result (λ _. first_fault bytes.now ≡ None) (λ e. (e ≡ FileFault.Memory) ⊎ (first_fault bytes.now ≡ Some e)) }
+    ensures visits { IfOk result (λ n. HasVisits bytes.now n) }
 {
     if bytes.len() > FILE_LIMIT {
         return Err(FileFault::TooLong);
     }
     let header = Header::read(bytes)?;
-    check_data(&bytes[header.size as usize..])
+    check_data(alloc, header.minor, &bytes[header.size as usize..])
 }
 
-/// The first fault of the data behind the header.
+/// The same of the data after the header of a file of a minor version.
 #[tactic(auto, unfolding(rb_format::specs::FirstFault::read_data))]
-fn check_data(body: &[u8]) -> Result<(), FileFault>
-    ensures { fault_of result ≡ fault_of (read_data body.now) }
+fn check_data(alloc: Global, minor: u8, body: &[u8]) -> Result<u64, FileFault>
+    ensures answer { MatchResult result (λ _. fault_of (read_data 64 minor body.now) ≡ None) (λ e. (e ≡ FileFault.Memory) ⊎ (fault_of (read_data 64 minor body.now) ≡ Some e)) }
+    ensures visits { IfOk result (λ n. IsCount (IsPlaceAt body.now) (3 * stands.word_at body.now 4) n) }
 {
     if !is_laid(body) {
         return Err(FileFault::Indexes);
+    }
+    if Attributes::of(minor, body).has_pool() {
+        return Err(FileFault::Attributes);
     }
     let layout = Layout::of(body);
     let root = word_at(body, 0);
     if !is_table(item_kind(root)) {
         return Err(FileFault::Root);
     }
-    check_item(&layout, body, root, HEIGHT_LIMIT)
+    let Ok(memo) = Memo::new(alloc, layout.top) else {
+        return Err(FileFault::Memory);
+    };
+    let runs = Runs::new(alloc, layout.top);
+    let keys = KeyChecker::new(alloc, &layout, body);
+    let mut state = CheckState { memo, runs, keys };
+    check_item(&layout, body, &mut state, root, HEIGHT_LIMIT)?;
+    Ok(state.memo.visits())
 }

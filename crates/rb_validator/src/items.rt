@@ -1,171 +1,217 @@
-// The checks of an item and of what is below it.
-ghost use Rattle.std.specs.Prelude.{◌≡◌, ℕ, ◌+◌, ◌*◌, ◌≤◌, ◌<◌, ◌^◌, length};
-ghost use Rattle.rb_format.specs.FirstFault.{fault_of, result_map, value, contents, read, trees, array_at, table_of, table16_at, table32_at};
+// The checks of an item and of all below it. Each table and array is entered once.
+ghost use Rattle.std.specs.Prelude.{◌≡◌, ◌≢◌, true, ℕ, ◌+◌, ◌*◌, ◌≤◌, ◌<◌, length, Some, Ok, Err, IfOk};
+ghost use Rattle.rb_format.specs.FirstFault.{result_map, within, contents, read};
+ghost use Rattle.rb_format.specs.Item.{kind_of, offset_of};
 ghost use Rattle.rb_format.specs.Place as stands;
-ghost use Rattle.rb_validator.specs.Places.{IsIn, key_offset};
+ghost use Rattle.rb_tree.specs.Resource.{height, trees_height};
+ghost use Rattle.rb_validator.specs.KnownKeys.{IsSound};
+ghost use Rattle.rb_validator.specs.Marks.{mark_at, IsKnown, IsMet, Keeps, Leads, After, AreRuns, run_of, IsRunKnown};
+ghost use Rattle.rb_validator.specs.Visits as visits;
 
-use crate::keys::{KeyPlaces, check_keys};
-use crate::leaves::{check_bytes, check_numbers, check_offset, check_units};
-use rb_format::{FileFault, ItemKind, Layout, half_at, item_kind, item_offset, word_at};
+use crate::children::{find_children, has_children};
+use crate::leaves::{check_leaf, check_offset};
+use crate::memo::Mark;
+use crate::runs::split;
+use crate::state::CheckState;
+use rb_format::{FileFault, ItemKind, Layout, item_kind, item_offset, word_at};
 
-/// Whether an item stands for a tree of at most this height.
+/// The height of the tree for which an item stands, where that is at most `left`, or its first fault.
 #[cycle(check)]
-#[tactic(auto, unfolding(rb_format::specs::FirstFault::node))]
-pub fn check_item(layout: &Layout, body: &[u8], item: u32, left: u64) -> Result<(), FileFault>
+pub fn check_item(
+    layout: &Layout,
+    body: &[u8],
+    state: &mut CheckState,
+    item: u32,
+    left: u64,
+) -> Result<u64, FileFault>
     requires room { 4 * layout.now.top ≤ length body.now }
-    requires keys { layout.now.keys_top ≤ layout.now.top }
-    ensures { fault_of result ≡ fault_of (read layout.now body.now left item) }
+    requires tops { layout.now.keys_top ≤ layout.now.top }
+    requires small { left < 255 }
+    requires met { IsMet body.now item }
+    requires sound { IsSound layout.now body.now state.old.keys.known }
+    requires keeps { Keeps layout.now body.now state.old.memo }
+    requires holds { AreRuns layout.now body.now state.old.memo state.old.runs }
+    requires leads { Leads layout.now body.now state.old.memo (λ e. read layout.now body.now e item ≡ Err FileFault.TooDeep) }
+    ensures value { result ≡ result_map height (read layout.now body.now left item) }
+    ensures sound { IsSound layout.now body.now state.new.keys.known }
+    ensures after { IfOk result (λ _. After layout.now body.now state.old.memo state.new.memo) }
+    ensures holds { IfOk result (λ _. AreRuns layout.now body.now state.new.memo state.new.runs) }
+    ensures known { IfOk result (λ _. IsKnown state.new.memo item) }
 {
     if left == 0 {
         return Err(FileFault::TooDeep);
     }
     match item_kind(item) {
-        Some(kind) => check_value(layout, body, kind, item_offset(item), left - 1),
+        Some(kind) => {
+            let offset = item_offset(item);
+            if !check_offset(layout, kind, offset)? {
+                return Ok(1);
+            }
+            if has_children(kind) {
+                check_inner(layout, body, state, item, kind, left - 1)
+            } else {
+                check_leaf(layout, body, kind, offset)?;
+                Ok(1)
+            }
+        }
         None => Err(FileFault::ItemType),
     }
 }
 
+/// The height of the tree of a table or an array with data: the one that is kept, or what an entry finds.
 #[cycle(check)]
-#[tactic(auto, unfolding(rb_format::specs::FirstFault::value))]
-fn check_value(
+fn check_inner(
     layout: &Layout,
     body: &[u8],
+    state: &mut CheckState,
+    item: u32,
     kind: ItemKind,
-    offset: u32,
     left: u64,
-) -> Result<(), FileFault>
+) -> Result<u64, FileFault>
     requires room { 4 * layout.now.top ≤ length body.now }
-    requires keys { layout.now.keys_top ≤ layout.now.top }
-    ensures { fault_of result ≡ fault_of (value layout.now body.now (λ w. read layout.now body.now left w) offset kind) }
+    requires tops { layout.now.keys_top ≤ layout.now.top }
+    requires small { left < 254 }
+    requires met { IsMet body.now item }
+    requires is_kind { kind_of item ≡ Some kind }
+    requires inner { visits.has_children kind ≡ true }
+    requires full { 0 < offset_of item }
+    requires there { within layout.now kind (offset_of item) ≡ Ok true }
+    requires below { offset_of item < layout.now.top }
+    requires sound { IsSound layout.now body.now state.old.keys.known }
+    requires keeps { Keeps layout.now body.now state.old.memo }
+    requires holds { AreRuns layout.now body.now state.old.memo state.old.runs }
+    requires leads { Leads layout.now body.now state.old.memo (λ e. read layout.now body.now e item ≡ Err FileFault.TooDeep) }
+    ensures value { result ≡ result_map height (contents layout.now body.now (λ w. read layout.now body.now left w) (offset_of item) kind) }
+    ensures sound { IsSound layout.now body.now state.new.keys.known }
+    ensures after { IfOk result (λ _. After layout.now body.now state.old.memo state.new.memo) }
+    ensures holds { IfOk result (λ _. AreRuns layout.now body.now state.new.memo state.new.runs) }
+    ensures known { IfOk result (λ _. mark_at state.new.memo kind (offset_of item) ≢ 0) }
 {
-    if check_offset(layout, kind, offset)? {
-        check_contents(layout, body, kind, offset, left)
-    } else {
-        Ok(())
+    match state.memo.mark(kind, item_offset(item)) {
+        Mark::New => enter(layout, body, state, item, kind, left),
+        Mark::Open => Err(FileFault::TooDeep),
+        Mark::Done(height) => {
+            if height <= left + 1 {
+                Ok(height)
+            } else {
+                Err(FileFault::TooDeep)
+            }
+        }
     }
 }
 
+/// Enters a table or an array that was not entered before, and keeps the height of its tree.
 #[cycle(check)]
-#[tactic(auto, unfolding(rb_format::specs::FirstFault::contents))]
-fn check_contents(
+fn enter(
     layout: &Layout,
     body: &[u8],
+    state: &mut CheckState,
+    item: u32,
     kind: ItemKind,
-    offset: u32,
     left: u64,
-) -> Result<(), FileFault>
+) -> Result<u64, FileFault>
     requires room { 4 * layout.now.top ≤ length body.now }
-    requires keys { layout.now.keys_top ≤ layout.now.top }
-    requires below { offset < layout.now.top }
-    ensures { fault_of result ≡ fault_of (contents layout.now body.now (λ w. read layout.now body.now left w) offset kind) }
+    requires tops { layout.now.keys_top ≤ layout.now.top }
+    requires small { left < 254 }
+    requires met { IsMet body.now item }
+    requires is_kind { kind_of item ≡ Some kind }
+    requires inner { visits.has_children kind ≡ true }
+    requires full { 0 < offset_of item }
+    requires there { within layout.now kind (offset_of item) ≡ Ok true }
+    requires below { offset_of item < layout.now.top }
+    requires sound { IsSound layout.now body.now state.old.keys.known }
+    requires keeps { Keeps layout.now body.now state.old.memo }
+    requires holds { AreRuns layout.now body.now state.old.memo state.old.runs }
+    requires leads { Leads layout.now body.now state.old.memo (λ e. read layout.now body.now e item ≡ Err FileFault.TooDeep) }
+    requires fresh { mark_at state.old.memo kind (offset_of item) ≡ 0 }
+    ensures value { result ≡ result_map height (contents layout.now body.now (λ w. read layout.now body.now left w) (offset_of item) kind) }
+    ensures sound { IsSound layout.now body.now state.new.keys.known }
+    ensures after { IfOk result (λ _. After layout.now body.now state.old.memo state.new.memo) }
+    ensures holds { IfOk result (λ _. AreRuns layout.now body.now state.new.memo state.new.runs) }
+    ensures known { IfOk result (λ _. mark_at state.new.memo kind (offset_of item) ≢ 0) }
 {
-    match kind {
-        ItemKind::String => check_units(layout, body, offset),
-        ItemKind::Binary => check_bytes(layout, body, offset),
-        ItemKind::Table => check_table(layout, body, offset, left),
-        ItemKind::Alias => check_units(layout, body, offset),
-        ItemKind::LongTable => check_long_table(layout, body, offset, left),
-        ItemKind::Int => Ok(()),
-        ItemKind::Array => check_array(layout, body, offset, left),
-        ItemKind::Ints => check_numbers(layout, body, offset),
-    }
+    let offset = item_offset(item);
+    state.memo.enter(kind, offset);
+    let found = find_children(layout, body, &mut state.keys, kind, offset)?;
+    let below = check_items(layout, body, state, found.first, found.count, left)?;
+    state.memo.finish(kind, offset, below as u8 + 1);
+    Ok(below + 1)
 }
 
-#[cycle(check)]
-#[tactic(auto, unfolding(rb_format::specs::FirstFault::array_at))]
-fn check_array(layout: &Layout, body: &[u8], offset: u32, left: u64) -> Result<(), FileFault>
-    requires room { 4 * layout.now.top ≤ length body.now }
-    requires keys { layout.now.keys_top ≤ layout.now.top }
-    requires below { offset < layout.now.top }
-    ensures { fault_of result ≡ fault_of (array_at layout.now body.now (λ w. read layout.now body.now left w) offset) }
-{
-    let offset = offset as usize;
-    let count = word_at(body, offset) as usize;
-    if (layout.top as usize) < offset + 1 + count {
-        return Err(FileFault::Length);
-    }
-    check_items(layout, body, offset + 1, count, left)
-}
-
-#[cycle(check)]
-#[tactic(auto, unfolding(rb_format::specs::FirstFault::table16_at))]
-fn check_table(layout: &Layout, body: &[u8], offset: u32, left: u64) -> Result<(), FileFault>
-    requires room { 4 * layout.now.top ≤ length body.now }
-    requires keys { layout.now.keys_top ≤ layout.now.top }
-    requires below { offset < layout.now.top }
-    ensures { fault_of result ≡ fault_of (table16_at layout.now body.now (λ w. read layout.now body.now left w) offset) }
-{
-    let offset = offset as usize;
-    let count = half_at(body, 2 * offset) as usize;
-    let first = offset + (count + 2) / 2;
-    check_entries(
-        layout,
-        body,
-        KeyPlaces::Halves(2 * offset + 1),
-        first,
-        count,
-        left,
-    )
-}
-
-#[cycle(check)]
-#[tactic(auto, unfolding(rb_format::specs::FirstFault::table32_at))]
-fn check_long_table(layout: &Layout, body: &[u8], offset: u32, left: u64) -> Result<(), FileFault>
-    requires room { 4 * layout.now.top ≤ length body.now }
-    requires keys { layout.now.keys_top ≤ layout.now.top }
-    requires below { offset < layout.now.top }
-    ensures { fault_of result ≡ fault_of (table32_at layout.now body.now (λ w. read layout.now body.now left w) offset) }
-{
-    let offset = offset as usize;
-    let count = word_at(body, offset) as usize;
-    check_entries(
-        layout,
-        body,
-        KeyPlaces::Words(offset + 1),
-        offset + 1 + count,
-        count,
-        left,
-    )
-}
-
-#[cycle(check)]
-#[tactic(auto, unfolding(rb_format::specs::FirstFault::table_of))]
-fn check_entries(
-    layout: &Layout,
-    body: &[u8],
-    places: KeyPlaces,
-    first: usize,
-    count: usize,
-    left: u64,
-) -> Result<(), FileFault>
-    requires room { 4 * layout.now.top ≤ length body.now }
-    requires keys { layout.now.keys_top ≤ layout.now.top }
-    requires small { first + count < 2 ^ 40 }
-    requires places { first + count ≤ layout.now.top → IsIn body.now places count }
-    ensures { fault_of result ≡ fault_of (table_of layout.now body.now (λ w. read layout.now body.now left w) (key_offset body.now places) first count) }
-{
-    if (layout.top as usize) < first + count {
-        return Err(FileFault::Length);
-    }
-    check_keys(layout, body, places, count)?;
-    check_items(layout, body, first, count, left)
-}
-
+/// The greatest height of so many items from a word on. What is found of a block of them is kept.
 #[cycle(check)]
 fn check_items(
     layout: &Layout,
     body: &[u8],
+    state: &mut CheckState,
     first: usize,
     count: usize,
     left: u64,
-) -> Result<(), FileFault>
+) -> Result<u64, FileFault>
     requires room { 4 * layout.now.top ≤ length body.now }
-    requires keys { layout.now.keys_top ≤ layout.now.top }
+    requires tops { layout.now.keys_top ≤ layout.now.top }
+    requires small { left < 254 }
     requires items { first + count ≤ layout.now.top }
-    ensures { fault_of result ≡ fault_of (trees (λ w. read layout.now body.now left w) (λ i. stands.word_at body.now (first + i)) 0 count) }
+    requires met { (i : ℕ) → i < count → IsMet body.now (stands.word_at body.now (first + i)) }
+    requires sound { IsSound layout.now body.now state.old.keys.known }
+    requires keeps { Keeps layout.now body.now state.old.memo }
+    requires holds { AreRuns layout.now body.now state.old.memo state.old.runs }
+    requires leads { Leads layout.now body.now state.old.memo (λ e. run_of layout.now body.now e first count ≡ Err FileFault.TooDeep) }
+    ensures value { result ≡ result_map trees_height (run_of layout.now body.now left first count) }
+    ensures low { IfOk result (λ h. h ≤ left) }
+    ensures sound { IsSound layout.now body.now state.new.keys.known }
+    ensures after { IfOk result (λ _. After layout.now body.now state.old.memo state.new.memo) }
+    ensures holds { IfOk result (λ _. AreRuns layout.now body.now state.new.memo state.new.runs) }
+    ensures known { IfOk result (λ _. IsRunKnown body.now state.new.memo first count) }
 {
-    for i in 0..count {
-        check_item(layout, body, word_at(body, first + i), left)?;
+    if state.runs.is_plain(count) {
+        return check_each(layout, body, state, first, count, left);
     }
-    Ok(())
+    let parts = split(first, count);
+    if let Some(height) = state.runs.height(parts, first, count) {
+        if height as u64 <= left {
+            return Ok(height as u64);
+        }
+        return Err(FileFault::TooDeep);
+    }
+    let before = parts.middle - first;
+    let low = check_items(layout, body, state, first, before, left)?;
+    let high = check_items(layout, body, state, parts.middle, count - before, left)?;
+    let height = low.max(high);
+    state.runs.keep(parts, first, count, height as u8);
+    Ok(height)
+}
+
+/// The greatest height of so many items from a word on, which are checked one by one.
+#[cycle(check)]
+fn check_each(
+    layout: &Layout,
+    body: &[u8],
+    state: &mut CheckState,
+    first: usize,
+    count: usize,
+    left: u64,
+) -> Result<u64, FileFault>
+    requires room { 4 * layout.now.top ≤ length body.now }
+    requires tops { layout.now.keys_top ≤ layout.now.top }
+    requires small { left < 254 }
+    requires items { first + count ≤ layout.now.top }
+    requires met { (i : ℕ) → i < count → IsMet body.now (stands.word_at body.now (first + i)) }
+    requires sound { IsSound layout.now body.now state.old.keys.known }
+    requires keeps { Keeps layout.now body.now state.old.memo }
+    requires holds { AreRuns layout.now body.now state.old.memo state.old.runs }
+    requires leads { Leads layout.now body.now state.old.memo (λ e. run_of layout.now body.now e first count ≡ Err FileFault.TooDeep) }
+    ensures value { result ≡ result_map trees_height (run_of layout.now body.now left first count) }
+    ensures low { IfOk result (λ h. h ≤ left) }
+    ensures sound { IsSound layout.now body.now state.new.keys.known }
+    ensures after { IfOk result (λ _. After layout.now body.now state.old.memo state.new.memo) }
+    ensures holds { IfOk result (λ _. AreRuns layout.now body.now state.new.memo state.new.runs) }
+    ensures known { IfOk result (λ _. IsRunKnown body.now state.new.memo first count) }
+{
+    let mut height = 0;
+    for i in first..first + count {
+        let child = check_item(layout, body, state, word_at(body, i), left)?;
+        height = height.max(child);
+    }
+    Ok(height)
 }

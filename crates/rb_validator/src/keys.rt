@@ -1,6 +1,6 @@
-// The checks of a table's keys.
-ghost use Rattle.std.specs.Prelude.{◌≡◌, ℕ, [], ◌+◌, ◌*◌, ◌≤◌, ◌<◌, length};
-ghost use Rattle.rb_format.specs.FirstFault.{fault_of, result_map, next_key, keys};
+// A key of a table, compared with the one before it byte by byte.
+ghost use Rattle.std.specs.Prelude.{◌≡◌, ℕ, ◌+◌, ◌*◌, ◌≤◌, ◌<◌, length};
+ghost use Rattle.rb_format.specs.FirstFault.{result_map, next_key};
 ghost use Rattle.std.specs.Ordering.{is_lt, nat_cmp};
 ghost use Rattle.std.specs.Cmp.Lexicographic.{slice_cmp};
 ghost use Rattle.rb_validator.specs.Places.{IsIn};
@@ -8,10 +8,12 @@ ghost use Rattle.rb_validator.specs.Places as stands;
 
 use rb_format::{FileFault, Layout, half_at, key_within, word_at};
 
-/// Where the key offsets of a table stand: the first half word, or the first word.
+/// The place of the key offsets of a table.
 #[derive(Clone, Copy)]
 pub enum KeyPlaces {
+    /// Short ones, from this half word on.
     Halves(usize),
+    /// Long ones, from this word on.
     Words(usize),
 }
 
@@ -26,14 +28,16 @@ pub fn key_offset(body: &[u8], places: KeyPlaces, i: usize) -> u32
     }
 }
 
+/// Whether bytes are below others.
 fn is_below(a: &[u8], b: &[u8]) -> bool
     ensures { result ≡ is_lt (slice_cmp nat_cmp a.now b.now) }
 {
     a.cmp(b).is_lt()
 }
 
+/// The key at an offset, if it is above the last one.
 #[tactic(auto, unfolding(rb_format::specs::FirstFault::next_key))]
-fn next_key<'a>(
+pub fn next_key<'a>(
     layout: &Layout,
     body: &'a [u8],
     last: &[u8],
@@ -52,22 +56,4 @@ fn next_key<'a>(
         }
         None => Err(FileFault::Key),
     }
-}
-
-/// Whether the keys of a table are keys, each above the one before.
-pub fn check_keys(
-    layout: &Layout,
-    body: &[u8],
-    places: KeyPlaces,
-    count: usize,
-) -> Result<(), FileFault>
-    requires keys { 4 * layout.now.keys_top ≤ length body.now }
-    requires places { IsIn body.now places count }
-    ensures { fault_of result ≡ fault_of (keys layout.now body.now (stands.key_offset body.now places) [] 0 count) }
-{
-    let mut last: &[u8] = &[];
-    for i in 0..count {
-        last = next_key(layout, body, last, key_offset(body, places, i))?;
-    }
-    Ok(())
 }

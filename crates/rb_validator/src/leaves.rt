@@ -1,14 +1,17 @@
 // The checks of values without children.
-ghost use Rattle.std.specs.Prelude.{◌≡◌, ℕ, ◌+◌, ◌*◌, ◌≤◌, ◌<◌, length};
-ghost use Rattle.rb_format.specs.FirstFault.{fault_of, units, bytes, numbers, within};
+ghost use Rattle.std.specs.Prelude.{◌≡◌, false, ℕ, ◌+◌, ◌*◌, ◌≤◌, ◌<◌, length, Result};
+ghost use Rattle.rb_format.specs.FirstFault.{fault_of, units, bytes, numbers, within, contents};
+ghost use Rattle.rb_tree.specs.Resource.{Resource};
+ghost use Rattle.rb_validator.specs.Visits.{has_children};
 
+use crate::values::has_data;
 use rb_format::{FileFault, ItemKind, Layout, half_at, word_at};
 
-/// Whether an item has data, which then lie between the keys and the top.
+/// Whether an item has data, which then begin between the keys and the top.
 pub fn check_offset(layout: &Layout, kind: ItemKind, offset: u32) -> Result<bool, FileFault>
     ensures { result ≡ within layout.now kind offset }
 {
-    if kind == ItemKind::Int || offset == 0 {
+    if !has_data(kind, offset) {
         return Ok(false);
     }
     if offset < layout.keys_top {
@@ -21,6 +24,7 @@ pub fn check_offset(layout: &Layout, kind: ItemKind, offset: u32) -> Result<bool
     }
 }
 
+/// The checks of a String or an Alias: its units, and a zero unit after them, end at or below the top.
 #[tactic(auto, unfolding(rb_format::specs::FirstFault::units))]
 pub fn check_units(layout: &Layout, body: &[u8], offset: u32) -> Result<(), FileFault>
     requires room { 4 * layout.now.top ≤ length body.now }
@@ -39,6 +43,7 @@ pub fn check_units(layout: &Layout, body: &[u8], offset: u32) -> Result<(), File
     }
 }
 
+/// The check of a Binary: its bytes end at or below the top.
 #[tactic(auto, unfolding(rb_format::specs::FirstFault::bytes))]
 pub fn check_bytes(layout: &Layout, body: &[u8], offset: u32) -> Result<(), FileFault>
     requires room { 4 * layout.now.top ≤ length body.now }
@@ -54,6 +59,7 @@ pub fn check_bytes(layout: &Layout, body: &[u8], offset: u32) -> Result<(), File
     }
 }
 
+/// The check of Ints: they end at or below the top.
 #[tactic(auto, unfolding(rb_format::specs::FirstFault::numbers))]
 pub fn check_numbers(layout: &Layout, body: &[u8], offset: u32) -> Result<(), FileFault>
     requires room { 4 * layout.now.top ≤ length body.now }
@@ -66,5 +72,28 @@ pub fn check_numbers(layout: &Layout, body: &[u8], offset: u32) -> Result<(), Fi
         Err(FileFault::Length)
     } else {
         Ok(())
+    }
+}
+
+/// The checks of a value without children.
+#[tactic(auto, unfolding(rb_format::specs::FirstFault::contents))]
+pub fn check_leaf(
+    layout: &Layout,
+    body: &[u8],
+    kind: ItemKind,
+    offset: u32,
+) -> Result<(), FileFault>
+    requires room { 4 * layout.now.top ≤ length body.now }
+    requires below { offset < layout.now.top }
+    requires bare { has_children kind ≡ false }
+    ensures { (child : ℕ → Result Resource FileFault) → fault_of result ≡ fault_of (contents layout.now body.now child offset kind) }
+{
+    match kind {
+        ItemKind::String => check_units(layout, body, offset),
+        ItemKind::Binary => check_bytes(layout, body, offset),
+        ItemKind::Alias => check_units(layout, body, offset),
+        ItemKind::Ints => check_numbers(layout, body, offset),
+        ItemKind::Int => Ok(()),
+        ItemKind::Table | ItemKind::LongTable | ItemKind::Array => unreachable!(),
     }
 }

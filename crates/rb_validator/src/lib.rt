@@ -2,10 +2,21 @@
 #![tactic(auto)]
 
 mod bundle;
+mod children;
 mod file;
 mod items;
+mod key_checker;
 mod keys;
+mod known_keys;
 mod leaves;
+mod links;
+mod lists;
+mod memo;
+mod rank_builder;
+mod ranks;
+mod runs;
+mod state;
+mod suffixes;
 #[cfg(test)]
 mod tests;
 mod tree;

@@ -1,13 +1,18 @@
 // The sample files, damaged ones, and files that a plain checker judges beside the code.
 mod plain;
 mod samples;
+mod shared;
 
 use crate::bundle::accept;
 use crate::tree::decode;
 use plain::plain_fault;
 use rb_format::FileFault;
 use rb_tree::{Node, Tree};
-use samples::{EMPTY, HOLDS_ITSELF, ONE_STRING, THREE_NUMBERS, TWO_BINARIES, TWO_NUMBERS};
+use samples::{
+    EMPTY, EVERY_TYPE, HOLDS_ITSELF, NO_FALLBACK, ONE_STRING, THREE_NUMBERS, TWO_BINARIES,
+    TWO_NUMBERS,
+};
+use shared::{chain, chain_and_more, numbers, overlapping, suffixes};
 use std::alloc::Global;
 use std::test::Fail;
 
@@ -37,7 +42,7 @@ fn with(alloc: Global, bytes: &[u8], place: usize, over: &[u8]) -> Result<Vec<u8
 }
 
 #[test]
-fn samples_stand(rt: HostRuntime) -> Result<(), Fail> {
+fn samples_are_accepted(rt: HostRuntime) -> Result<(), Fail> {
     let alloc = rt.alloc();
     for sample in [
         &EMPTY[..],
@@ -45,6 +50,7 @@ fn samples_stand(rt: HostRuntime) -> Result<(), Fail> {
         &TWO_NUMBERS[..],
         &THREE_NUMBERS[..],
         &TWO_BINARIES[..],
+        &EVERY_TYPE[..],
     ] {
         assert_eq!(rt; fault_of(alloc, sample)?, None, "{sample:?}");
     }
@@ -77,6 +83,36 @@ fn damage_is_named(rt: HostRuntime) -> Result<(), Fail> {
     Ok(())
 }
 
+/// The flag of the bundle, or the fault.
+fn no_fallback_of(alloc: Global, file: Vec<u8>) -> Result<bool, FileFault> {
+    match accept(alloc, file) {
+        Ok(bundle) => Ok(bundle.no_fallback()),
+        Err((fault, _)) => Err(fault),
+    }
+}
+
+#[test]
+fn minor_versions_have_attributes(rt: HostRuntime) -> Result<(), Fail> {
+    let alloc = rt.alloc();
+    for (sample, place, byte, flag) in [
+        (&ONE_STRING[..], 17, 0, Err(FileFault::FormatVersion)),
+        (&ONE_STRING[..], 17, 1, Ok(false)),
+        (&ONE_STRING[..], 17, 2, Ok(false)),
+        (&ONE_STRING[..], 17, 3, Ok(false)),
+        (&NO_FALLBACK[..], 17, 1, Ok(false)),
+        (&NO_FALLBACK[..], 17, 2, Ok(true)),
+        (&NO_FALLBACK[..], 56, 8, Ok(false)),
+        (&NO_FALLBACK[..], 56, 2, Err(FileFault::Attributes)),
+        (&NO_FALLBACK[..], 56, 3, Err(FileFault::Attributes)),
+        (&NO_FALLBACK[..], 56, 4, Err(FileFault::Attributes)),
+        (&NO_FALLBACK[..], 56, 5, Err(FileFault::Attributes)),
+    ] {
+        let file = with(alloc, sample, place, &[byte])?;
+        assert_eq!(rt; no_fallback_of(alloc, file), flag, "byte {place} as {byte}");
+    }
+    Ok(())
+}
+
 #[test]
 fn length_is_limited(rt: HostRuntime) -> Result<(), Fail> {
     let alloc = rt.alloc();
@@ -92,43 +128,63 @@ fn length_is_limited(rt: HostRuntime) -> Result<(), Fail> {
 }
 
 #[test]
-fn a_plain_checker_agrees(rt: HostRuntime) -> Result<(), Fail> {
+fn cut_files_are_refused(rt: HostRuntime) -> Result<(), Fail> {
     let alloc = rt.alloc();
-    for n in 0..=ONE_STRING.len() {
+    for n in 0..ONE_STRING.len() {
         let fault = if n < 32 {
-            Some(FileFault::Header)
-        } else if n < 76 {
-            Some(FileFault::Indexes)
+            FileFault::Header
         } else {
-            None
+            FileFault::Indexes
         };
-        assert_eq!(rt;
-            fault_of(alloc, &ONE_STRING[..n])?,
-            fault,
-            "one string cut to {n}"
-        );
+        let cut = &ONE_STRING[..n];
+        assert_eq!(rt; fault_of(alloc, cut)?, Some(fault), "cut to {n}");
+        assert_eq!(rt; plain_fault(cut), Some(fault), "cut to {n}");
     }
-    for n in 0..=THREE_NUMBERS.len() {
-        assert_eq!(rt;
-            fault_of(alloc, &THREE_NUMBERS[..n])?,
-            plain_fault(&THREE_NUMBERS[..n]),
-            "three numbers cut to {n}"
-        );
-    }
-    for sample in [&ONE_STRING[..], &THREE_NUMBERS[..]] {
-        for i in 0..sample.len() / 4 {
-            let mut next = [0; 4];
-            next.copy_from_slice(&sample[4 * i..4 * i + 4]);
-            let next = u32::from_le_bytes(next).wrapping_add(1);
-            for word in [0, 0x7FFF_FFFF, 0xFFFF_FFFF, next] {
-                let file = with(alloc, sample, 4 * i, &word.to_le_bytes())?;
-                assert_eq!(rt;
-                    fault_of(alloc, &file)?,
-                    plain_fault(&file),
-                    "word {i} as {word}"
-                );
+    Ok(())
+}
+
+/// The first damage of a word of a file, by its place and what is written there, that `accept` and the plain checker judge
+/// differently.
+fn first_difference(alloc: Global, file: &[u8]) -> Result<Option<(usize, u32)>, Fail> {
+    for i in 0..file.len() / 4 {
+        let mut bytes = [0; 4];
+        bytes.copy_from_slice(&file[4 * i..4 * i + 4]);
+        let word = u32::from_le_bytes(bytes);
+        let (next, other_kind) = (word.wrapping_add(1), word.wrapping_add(0x1000_0000));
+        for word in [0, 0x7FFF_FFFF, 0xFFFF_FFFF, next, other_kind] {
+            let damaged = with(alloc, file, 4 * i, &word.to_le_bytes())?;
+            if fault_of(alloc, &damaged)? != plain_fault(&damaged) {
+                return Ok(Some((i, word)));
             }
         }
+    }
+    Ok(None)
+}
+
+#[test]
+fn a_plain_checker_agrees(rt: HostRuntime) -> Result<(), Fail> {
+    let alloc = rt.alloc();
+    for file in [&EVERY_TYPE[..], &ONE_STRING[..], &NO_FALLBACK[..]] {
+        assert_eq!(rt; first_difference(alloc, file)?, None, "{file:?}");
+    }
+    Ok(())
+}
+
+#[test]
+fn long_keys_are_ranked(rt: HostRuntime) -> Result<(), Fail> {
+    let alloc = rt.alloc();
+    for (last, fault) in [
+        (24, None),
+        (25, Some(FileFault::KeyOrder)),
+        (26, Some(FileFault::KeyOrder)),
+        (323, Some(FileFault::KeyOrder)),
+        (324, Some(FileFault::Key)),
+        (328, Some(FileFault::Key)),
+        (23, Some(FileFault::Key)),
+    ] {
+        let file = suffixes(alloc, 300, last)?;
+        assert_eq!(rt; plain_fault(&file), fault, "the last key at {last}");
+        assert_eq!(rt; fault_of(alloc, &file)?, fault, "the last key at {last}");
     }
     Ok(())
 }
@@ -151,5 +207,68 @@ fn a_bundle_is_decoded(rt: HostRuntime) -> Result<(), Fail> {
     assert_eq!(rt; (&tree).len(), 2);
     assert_eq!(rt; binary_at(&tree, b"b"), Some(&[0x00, 0xFF, 0x7F][..]));
     assert_eq!(rt; binary_at(&tree, b"c"), Some(&[0x02][..]));
+    Ok(())
+}
+
+/// The number of visits, or the fault.
+fn visits_of(alloc: Global, file: Vec<u8>) -> Result<u64, FileFault> {
+    match accept(alloc, file) {
+        Ok(bundle) => Ok(bundle.visits()),
+        Err((fault, _)) => Err(fault),
+    }
+}
+
+#[test]
+fn places_are_entered_once(rt: HostRuntime) -> Result<(), Fail> {
+    let alloc = rt.alloc();
+    assert_eq!(rt; visits_of(alloc, EMPTY.to_vec(alloc)?), Ok(0));
+    assert_eq!(rt; visits_of(alloc, ONE_STRING.to_vec(alloc)?), Ok(1));
+    assert_eq!(rt; visits_of(alloc, EVERY_TYPE.to_vec(alloc)?), Ok(4));
+    for (arrays, length, visits) in [
+        (30, 428, Ok(31)),
+        (31, 440, Ok(32)),
+        (62, 812, Ok(63)),
+        (63, 824, Err(FileFault::TooDeep)),
+    ] {
+        let file = chain(alloc, arrays)?;
+        assert_eq!(rt; file.len(), length, "{arrays} arrays");
+        assert_eq!(rt; visits_of(alloc, file), visits, "{arrays} arrays");
+    }
+    for (arrays, length, visits) in [(30, 444, Ok(32)), (62, 828, Err(FileFault::TooDeep))] {
+        let file = chain_and_more(alloc, arrays)?;
+        assert_eq!(rt; file.len(), length, "{arrays} arrays and one more");
+        assert_eq!(rt;
+            visits_of(alloc, file),
+            visits,
+            "{arrays} arrays and one more"
+        );
+    }
+    let lower = with(alloc, &chain_and_more(alloc, 30)?, 424, &[0x5B])?;
+    assert_eq!(rt; visits_of(alloc, lower), Ok(32));
+    assert_eq!(rt;
+        visits_of(alloc, HOLDS_ITSELF.to_vec(alloc)?),
+        Err(FileFault::TooDeep)
+    );
+    Ok(())
+}
+
+#[test]
+fn overlapping_arrays_are_entered_once(rt: HostRuntime) -> Result<(), Fail> {
+    let alloc = rt.alloc();
+    assert_eq!(rt; visits_of(alloc, overlapping(alloc, 100, 0)?), Ok(103));
+    assert_eq!(rt; visits_of(alloc, overlapping(alloc, 100, 60)?), Ok(163));
+    assert_eq!(rt;
+        visits_of(alloc, overlapping(alloc, 100, 61)?),
+        Err(FileFault::TooDeep)
+    );
+    Ok(())
+}
+
+#[test]
+fn a_large_file_is_accepted(rt: HostRuntime) -> Result<(), Fail> {
+    let alloc = rt.alloc();
+    let file = numbers(alloc, 200_000)?;
+    assert_eq!(rt; file.len(), 3_200_060);
+    assert_eq!(rt; visits_of(alloc, file), Ok(1));
     Ok(())
 }

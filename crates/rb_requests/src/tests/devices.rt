@@ -2,8 +2,8 @@
 ghost use Rattle.std.specs.Prelude.{None};
 
 use crate::device::{Failed, Feed, ReadFeed, Sink, WriteSink};
-use crate::engine::Engine;
 use crate::lines::{ServeFault, serve};
+use rb_engine::Engine;
 use std::io;
 use std::io::{ErrorKind, Write};
 use std::test::Fail;

@@ -3,7 +3,7 @@ ghost use Rattle.std.specs.Prelude.{◌+◌, ◌<◌, ◌^◌};
 
 use rb_format::FileFault;
 
-/// The data behind the header, and its bounds in words.
+/// The data after the header, and its bounds in words.
 #[derive(Clone, Copy)]
 struct Data<'a> {
     bytes: &'a [u8],
@@ -51,7 +51,7 @@ pub fn plain_fault(file: &[u8]) -> Option<FileFault> {
     if half(file, 9) != 0x0200 {
         return Some(FileFault::Family);
     }
-    if half(file, 16) != 0x0101 {
+    if byte(file, 16) != 1 || byte(file, 17) == 0 {
         return Some(FileFault::FormatVersion);
     }
     let size = half(file, 0);
@@ -61,10 +61,11 @@ pub fn plain_fault(file: &[u8]) -> Option<FileFault> {
     if half(file, 4) < 20 || half(file, 4) > size - 4 {
         return Some(FileFault::Header);
     }
-    data_fault(&file[size as usize..])
+    data_fault(byte(file, 17), &file[size as usize..])
 }
 
-fn data_fault(bytes: &[u8]) -> Option<FileFault> {
+/// The first fault of the data of a file of a minor version.
+fn data_fault(minor: u64, bytes: &[u8]) -> Option<FileFault> {
     let words = bytes.len() as u64 / 4;
     let data = Data {
         bytes,
@@ -80,11 +81,19 @@ fn data_fault(bytes: &[u8]) -> Option<FileFault> {
     if words < 6 || data.indexes < 5 || !in_order {
         return Some(FileFault::Indexes);
     }
+    let attributes = if minor > 1 && data.indexes > 5 {
+        word(bytes, 24)
+    } else {
+        0
+    };
+    if attributes % 8 > 1 {
+        return Some(FileFault::Attributes);
+    }
     let root = word(bytes, 0);
     if root >> 28 != 2 && root >> 28 != 4 {
         return Some(FileFault::Root);
     }
-    item_fault(data, root, 32)
+    item_fault(data, root, 64)
 }
 
 /// The first fault of an item below which so many levels are left.

@@ -1,11 +1,8 @@
-use Rattle.rb_requests.proofs.Histories.{asks_one, answers_own, is_isolated}
+use Rattle.rb_requests.proofs.LineIsolation.{written_by_line, lines_isolated}
 use Rattle.rb_requests.proofs.laws.isolated.Goals as goal
 
-pub returns-clause-one : goal.returns-clause-one
-returns-clause-one c = asks_one c.one_source.ensures
+pub returns-clause-replies : goal.returns-clause-replies
+returns-clause-replies c = written_by_line
 
-pub returns-clause-own : goal.returns-clause-own
-returns-clause-own c = answers_own
-
-pub returns-clause-alone : goal.returns-clause-alone
-returns-clause-alone c = is_isolated (asks_one c.one_source.ensures)
+pub returns-clause-lines : goal.returns-clause-lines
+returns-clause-lines c = lines_isolated c.isolated.ensures.one

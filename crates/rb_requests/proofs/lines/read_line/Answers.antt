@@ -1,7 +1,7 @@
-use Rattle.std.proofs.Common.{rules, tests, refl, true, is_ok, ◌≡◌, ℕ, [], ◌∷◌, ◌++◌, length, ◌+◌, Option, Ok, subst, arith, length-append, ◌∙◌}
+use Rattle.std.proofs.Common.{rules, tests, refl, true, is_ok, ◌≡◌, ℕ, [], ◌∷◌, ◌++◌, length, ◌+◌, ◌≤◌, Option, Ok, subst, arith, length-append, ◌∙◌}
 use Rattle.rb_requests.specs.Device.{Pulls}
 use Rattle.rb_requests.specs.declared.limits.TheConstants.{LINE_LIMIT}
-use Rattle.rb_requests.proofs.Reading.{plain_more, part_of, read_more}
+use Rattle.rb_requests.proofs.Reading.{plain_more, plain_kept, part_of, read_more}
 use Rattle.rb_requests.proofs.lines.read_line.Goals as goal
 
 pub returns-in_default-clause-line : goal.returns-in_default-clause-line
@@ -24,7 +24,13 @@ returns-then-is_err-clause-line g c =
     let left = g.F.Feed.left in
     let byte = c.in-Some.byte in
     let pulled = subst (λ (p : Option ℕ). Pulls (left c.bytes.feed) (left c.pull.new.self) (Ok p)) c.in-Some.is c.in-Ok.ensures.bytes in
-    part_of (left c.args.feed.now) (left c.pull.new.self) (c.bytes.line.items ++ byte ∷ []) (plain_more (left c.args.feed.now) (left c.bytes.feed) (left c.pull.new.self) c.bytes.line.items byte c.bytes.invariant.part pulled c.if-byte-eq10.false)
+    let len : length (c.bytes.line.items ++ byte ∷ []) ≤ LINE_LIMIT = rw (length-append c.bytes.line.items (byte ∷ [])) (rw c.bytes.invariant.count (omega arith)) in
+    part_of (left c.args.feed.now) (left c.pull.new.self) (c.bytes.line.items ++ byte ∷ []) (plain_more (left c.args.feed.now) (left c.bytes.feed) (left c.pull.new.self) c.bytes.line.items byte c.bytes.invariant.part pulled c.if-byte-eq10.false) len
+
+pub returns-in-Err-clause-line : goal.returns-in-Err-clause-line
+returns-in-Err-clause-line g c =
+    let left = g.F.Feed.left in
+    part_of (left c.args.feed.now) (left c.pull.new.self) c.bytes.line.items (plain_kept (left c.args.feed.now) (left c.bytes.feed) (left c.pull.new.self) c.bytes.line.items c.bytes.invariant.part c.in-Err.ensures.bytes) (rw c.bytes.invariant.count (omega arith))
 
 pub bytes-preserved : goal.bytes-preserved
 bytes-preserved g c =

@@ -1,14 +1,16 @@
-use Rattle.std.proofs.Common.{◌≡◌, None, sym}
+use Rattle.std.proofs.Common.{◌≡◌, None}
 use Rattle.rb_format.specs.FirstFault.{first_fault}
 use Rattle.rb_format.proofs.Root.{fault_free}
+use Rattle.rb_validator.specs.Visits.{HasVisits}
 use Rattle.rb_validator.proofs.bundle.accept.Goals as goal
 
 pub invariant_of-result : goal.invariant_of-result
 invariant_of-result c =
-    let none : first_fault c.args.bytes.items ≡ None = rw (← c.deref.ensures.value) (sym c.in-Ok.ensures) in
-    record { denoted = fault_free c.args.bytes.items none }
+    let none : first_fault c.args.bytes.items ≡ None = rw (← c.deref.ensures.value) c.in-Ok.ensures.answer in
+    let counted : HasVisits c.args.bytes.items c.in-Ok.visits = rw (← c.deref.ensures.value) c.in-Ok.ensures.visits in
+    record { denoted = fault_free c.args.bytes.items none; counted = counted }
 
 pub returns-in-Ok-clause-tree : goal.returns-in-Ok-clause-tree
 returns-in-Ok-clause-tree c =
-    let none : first_fault c.args.bytes.items ≡ None = rw (← c.deref.ensures.value) (sym c.in-Ok.ensures) in
+    let none : first_fault c.args.bytes.items ≡ None = rw (← c.deref.ensures.value) c.in-Ok.ensures.answer in
     fault_free c.args.bytes.items none

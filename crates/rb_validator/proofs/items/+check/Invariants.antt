@@ -1,34 +1,36 @@
-use Rattle.std.proofs.Common.{◌≡◌, ℕ, ◌+◌, ◌*◌, ◌-◌}
-use Rattle.rb_format.specs.FirstFault.{fault_of, read, trees}
+use Rattle.std.proofs.Common.{◌≡◌, ℕ, ◌+◌, ◌*◌, ◌-◌, ◌≤◌, ◌<◌, max, Err}
+use Rattle.rb_tree.specs.Resource.{trees_height}
+use Rattle.rb_format.specs.declared.fault.FileFault.TheVariants.{TooDeep}
+use Rattle.rb_format.specs.FirstFault.{result_map}
 use Rattle.rb_format.specs.Place as stands
+use Rattle.rb_validator.specs.KnownKeys.{IsSound}
+use Rattle.rb_validator.specs.Marks.{IsKnown, Leads, After, AreRuns, run_of}
 use Rattle.rb_validator.proofs.items.+check.Given as goal
 
+-- 2 ^ 66 for a level, and below it a run's length
 abbrev pub decreases-check_item : goal.decreases-check_item
-decreases-check_item l = 6 * l.left
+decreases-check_item l = 73786976294838206464 * l.left
 
-abbrev pub decreases-check_value : goal.decreases-check_value
-decreases-check_value l = 6 * l.left + 5
+abbrev pub decreases-check_inner : goal.decreases-check_inner
+decreases-check_inner l = 73786976294838206464 * l.left + 73786976294838206463
 
-abbrev pub decreases-check_contents : goal.decreases-check_contents
-decreases-check_contents l = 6 * l.left + 4
-
-abbrev pub decreases-check_array : goal.decreases-check_array
-decreases-check_array l = 6 * l.left + 3
-
-abbrev pub decreases-check_table : goal.decreases-check_table
-decreases-check_table l = 6 * l.left + 3
-
-abbrev pub decreases-check_long_table : goal.decreases-check_long_table
-decreases-check_long_table l = 6 * l.left + 3
-
-abbrev pub decreases-check_entries : goal.decreases-check_entries
-decreases-check_entries l = 6 * l.left + 2
+abbrev pub decreases-enter : goal.decreases-enter
+decreases-enter l = 73786976294838206464 * l.left + 73786976294838206462
 
 abbrev pub decreases-check_items : goal.decreases-check_items
-decreases-check_items l = 6 * l.left + 1
+decreases-check_items l = 73786976294838206464 * l.left + 2 * l.count + 2
 
-abbrev pub invariant-check_items-loop-i : goal.invariant-check_items-loop-i
-invariant-check_items-loop-i l =
-    let child = λ (w : ℕ). read l.layout l.body l.left w in
-    let item = λ (i : ℕ). stands.word_at l.body (l.first + i) in
-    fault_of (trees child item l.i (l.count - l.i)) ≡ fault_of (trees child item 0 l.count)
+abbrev pub decreases-check_each : goal.decreases-check_each
+decreases-check_each l = 73786976294838206464 * l.left + 2 * l.count + 1
+
+abbrev pub invariant-check_each-loop-i : goal.invariant-check_each-loop-i
+invariant-check_each-loop-i l =
+    record {
+      value : result_map (λ ts. max l.height (trees_height ts)) (run_of l.layout l.body l.left l.i (l.first + l.count - l.i)) ≡ result_map trees_height (run_of l.layout l.body l.left l.first l.count);
+      low : l.height ≤ l.left;
+      sound : IsSound l.layout l.body l.state.keys.known;
+      after : After l.layout l.body l.initial.state.memo l.state.memo;
+      holds : AreRuns l.layout l.body l.state.memo l.state.runs;
+      known : (j : ℕ) → j < l.i → l.first ≤ j → IsKnown l.state.memo (stands.word_at l.body j);
+      leads : Leads l.layout l.body l.state.memo (λ e. run_of l.layout l.body e l.i (l.first + l.count - l.i) ≡ Err TooDeep);
+    }

@@ -1,0 +1,229 @@
+-- What a list of steps does to one application.
+use Rattle.std.proofs.Common.{◌≡◌, ℕ, inl, inr, Bool, true, false, cond, List, [], ◌∷◌, ◌++◌, Some, None, Result, Ok, Err, refl, sym, ◌∙◌, ap, subst}
+use Rattle.std.specs.Str.{bytes_eq}
+use Rattle.std.proofs.lemmas.Slice.Eq.{bytes_eq-Decides}
+use Rattle.std.proofs.lemmas.Bool.{false≢true}
+use Rattle.rb_tree.specs.Resource.{Resource}
+use Rattle.rb_tree.specs.Path.{is_path, segments}
+use Rattle.rb_fallback.specs.Search.{look_up, first_stop}
+use Rattle.rb_fallback.specs.declared.fault.LookError.{LookError}
+use Rattle.rb_parser.specs.Source.{IsGoodSource}
+use Rattle.rb_engine.specs.App.{app_of}
+use Rattle.rb_engine.specs.Place.{place_of}
+use Rattle.rb_engine.specs.declared.app.AppFault.{AppFault}
+use Rattle.rb_engine.specs.declared.app.AppFault.TheVariants as app
+use Rattle.rb_engine.specs.declared.place.Place.{Place}
+use Rattle.rb_engine.specs.declared.place.PlaceFault.{PlaceFault}
+use Rattle.rb_engine.specs.declared.place.PlaceFault.TheVariants as place
+use Rattle.rb_engine.specs.declared.request.Payload.{Payload}
+use Rattle.rb_engine.specs.declared.request.Payload.TheVariants.{Text, File}
+use Rattle.rb_engine.specs.declared.request.Request.{Request}
+use Rattle.rb_engine.specs.declared.request.Request.TheVariants as request
+use Rattle.rb_engine.specs.declared.request.Reply.{Reply}
+use Rattle.rb_engine.specs.declared.request.Reply.TheVariants.{Done, Exists, Absent, Full, Memory}
+use Rattle.rb_engine.specs.declared.request.LookFault.TheVariants as fault
+use Rattle.rb_engine.specs.Shelf.{Shelf, bundle_at, holds, is_full}
+use Rattle.rb_engine.specs.Ask.{Call, Requests, LooksUp, caller, Content, spelled, denoted, unread, IsContent, IsRead, Ask, Installs, Replaces, Removes, Lists, Looks, Means, RequestMeans}
+use Rattle.rb_engine.specs.Answer.{Start, Told, Replies, Refuses, answer_over, answer, shelf_then, shelf_from, refusal, add_reply, install_reply, replace_reply, remove_reply, list_reply, look_reply, found}
+use Rattle.rb_engine.specs.History.{State, Turn, Step, Run, own, asked_by, told_to, EachMeans, is_memory, AsksOne, AnswersOwn, IsIsolated, new_state}
+
+-- ---- what a call asks is one thing
+
+-- a source is good for at most one tree
+abbrev pub SpellsOne : Type 0
+SpellsOne = (bytes n m : List ℕ) (t u : Resource) → IsGoodSource bytes n t → IsGoodSource bytes m u → (n ≡ m) × (t ≡ u)
+
+one_content : SpellsOne → (payload : Payload) (a b : Content) → IsContent payload a → IsContent payload b → a ≡ b
+one_content one (Text bytes) unread b p q = absurd p
+one_content one (Text bytes) (denoted a) b p q = absurd p
+one_content one (Text bytes) (spelled a) unread p q = absurd q
+one_content one (Text bytes) (spelled a) (denoted b) p q = absurd q
+one_content one (File bytes) unread b p q = absurd p
+one_content one (File bytes) (spelled a) b p q = absurd p
+one_content one (File bytes) (denoted a) unread p q = absurd q
+one_content one (File bytes) (denoted a) (spelled b) p q = absurd q
+one_content one (File bytes) (denoted None) (denoted None) p q = refl
+one_content one (File bytes) (denoted None) (denoted (Some u)) p q = absurd (p u q)
+one_content one (File bytes) (denoted (Some t)) (denoted None) p q = absurd (q t p)
+one_content one (File bytes) (denoted (Some t)) (denoted (Some u)) p q = ap denoted (sym p ∙ q)
+one_content one (Text bytes) (spelled None) (spelled None) p q = refl
+one_content one (Text bytes) (spelled None) (spelled (Some u)) p q = absurd (p q.0 u q.1)
+one_content one (Text bytes) (spelled (Some t)) (spelled None) p q = absurd (q p.0 t p.1)
+one_content one (Text bytes) (spelled (Some t)) (spelled (Some u)) p q = ap (λ x. spelled (Some x)) (one bytes p.0 q.0 t u p.1 q.1).1
+
+one_read : SpellsOne → (r : Result Place PlaceFault) (payload : Payload) (a b : Content) → IsRead r payload a → IsRead r payload b → a ≡ b
+one_read one (Err e) payload a b p q = p ∙ sym q
+one_read one (Ok place) payload a b p q = one_content one payload a b p q
+
+one_request : SpellsOne → (r : Request) (a b : Ask) → RequestMeans r a → RequestMeans r b → a ≡ b
+one_request one (request.Install app locale payload) a b p q = p.2 ∙ ap (Installs app locale) (one_read one (place_of app locale) payload p.0 q.0 p.1 q.1) ∙ sym q.2
+one_request one (request.Replace app locale payload) a b p q = p.2 ∙ ap (Replaces app locale) (one_read one (place_of app locale) payload p.0 q.0 p.1 q.1) ∙ sym q.2
+one_request one (request.Remove app locale) a b p q = p ∙ sym q
+one_request one (request.List app) a b p q = p ∙ sym q
+
+pub asks_one : SpellsOne → AsksOne
+asks_one one (Requests r) a b p q = one_request one r a b p q
+asks_one one (LooksUp app locale path) a b p q = p ∙ sym q
+
+-- ---- no answer over bundles is want of memory
+
+refusal_not_memory : (e : PlaceFault) → is_memory (Replies (refusal e)) ≡ false
+refusal_not_memory place.BadApp = refl
+refusal_not_memory place.Reserved = refl
+refusal_not_memory place.BadLocale = refl
+
+chosen_not_memory : (b : Bool) (x y : Reply) → is_memory (Replies x) ≡ false → is_memory (Replies y) ≡ false → is_memory (Replies (cond b x y)) ≡ false
+chosen_not_memory true x y h k = h
+chosen_not_memory false x y h k = k
+
+add_not_memory : (p : Place) (shelf : Shelf) → is_memory (Replies (add_reply p shelf)) ≡ false
+add_not_memory p shelf = chosen_not_memory (holds p.name shelf) Exists (cond (is_full shelf) Full Done) refl (chosen_not_memory (is_full shelf) Full Done refl refl)
+
+install_not_memory : (p : Result Place PlaceFault) (c : Content) (shelf : Shelf) → is_memory (Replies (install_reply p c shelf)) ≡ false
+install_not_memory (Err e) c shelf = refusal_not_memory e
+install_not_memory (Ok p) unread shelf = refl
+install_not_memory (Ok p) (spelled None) shelf = refl
+install_not_memory (Ok p) (denoted None) shelf = refl
+install_not_memory (Ok p) (spelled (Some t)) shelf = add_not_memory p shelf
+install_not_memory (Ok p) (denoted (Some t)) shelf = add_not_memory p shelf
+
+replace_not_memory : (p : Result Place PlaceFault) (c : Content) (shelf : Shelf) → is_memory (Replies (replace_reply p c shelf)) ≡ false
+replace_not_memory (Err e) c shelf = refusal_not_memory e
+replace_not_memory (Ok p) unread shelf = refl
+replace_not_memory (Ok p) (spelled None) shelf = refl
+replace_not_memory (Ok p) (denoted None) shelf = refl
+replace_not_memory (Ok p) (spelled (Some t)) shelf = chosen_not_memory (holds p.name shelf) Done Absent refl refl
+replace_not_memory (Ok p) (denoted (Some t)) shelf = chosen_not_memory (holds p.name shelf) Done Absent refl refl
+
+remove_not_memory : (p : Result Place PlaceFault) (shelf : Shelf) → is_memory (Replies (remove_reply p shelf)) ≡ false
+remove_not_memory (Err e) shelf = refusal_not_memory e
+remove_not_memory (Ok p) shelf = chosen_not_memory (holds p.name shelf) Done Absent refl refl
+
+list_not_memory : (r : Result (List ℕ) AppFault) (shelf : Shelf) → is_memory (Replies (list_reply r shelf)) ≡ false
+list_not_memory (Err app.BadApp) shelf = refl
+list_not_memory (Err app.Reserved) shelf = refl
+list_not_memory (Ok a) shelf = refl
+
+-- a look-up finds or refuses
+found_not_memory : (valid : List ℕ) (r : Result (Resource × List ℕ) LookError) → is_memory (found valid r) ≡ false
+found_not_memory valid (Err e) = refl
+found_not_memory valid (Ok r) = refl
+
+looked_not_memory : (valid : List ℕ) (r : Result (Resource × List ℕ) LookError) (b : Bool) → is_memory (cond b (found valid r) (Refuses fault.BadPath)) ≡ false
+looked_not_memory valid r true = found_not_memory valid r
+looked_not_memory valid r false = refl
+
+look_not_memory : (start : Start) (shelf : Shelf) (p : Result Place PlaceFault) (path : List ℕ) → is_memory (look_reply start shelf p path) ≡ false
+look_not_memory start shelf (Err e) path = refl
+look_not_memory start shelf (Ok p) path =
+    looked_not_memory (first_stop (bundle_at shelf) start.parents p.name) (look_up (bundle_at shelf) (bundle_at start.icudata) start.parents p.name (segments path)) (is_path path)
+
+answer_not_memory : (start : Start) (shelf : Shelf) (ask : Ask) → is_memory (answer_over start shelf ask) ≡ false
+answer_not_memory start shelf (Installs a l c) = install_not_memory (place_of a l) c shelf
+answer_not_memory start shelf (Replaces a l c) = replace_not_memory (place_of a l) c shelf
+answer_not_memory start shelf (Removes a l) = remove_not_memory (place_of a l) shelf
+answer_not_memory start shelf (Lists a) = list_not_memory (app_of a) shelf
+answer_not_memory start shelf (Looks a l path) = look_not_memory start shelf (place_of a l) path
+
+-- ---- a step as one application sees it
+
+pub data Seen (app : List ℕ) (old : State) (turn : Turn) (mid : State) : Type 0 where
+  Elsewhere : bytes_eq (caller turn.call) app ≡ false → mid.lists app ≡ old.lists app → Seen app old turn mid
+  Starved : bytes_eq (caller turn.call) app ≡ true → turn.told ≡ Replies Memory → mid.lists app ≡ old.lists app → Seen app old turn mid
+  Served : bytes_eq (caller turn.call) app ≡ true → (ask : Ask) → Means turn.call ask → turn.told ≡ answer_over old.start (old.lists app) ask → mid.lists app ≡ shelf_then ask (old.lists app) → Seen app old turn mid
+
+seen_by : (app : List ℕ) (old : State) (turn : Turn) (mid : State) (b : Bool) → bytes_eq (caller turn.call) app ≡ b → Step old turn.call turn.told mid → Seen app old turn mid
+seen_by app old turn mid false e (inl s) = Elsewhere e (s.lists app)
+seen_by app old turn mid true e (inl s) = Starved e s.memory (s.lists app)
+seen_by app old turn mid false e (inr s) = Elsewhere e (s.others app (λ h. false≢true (sym e ∙ (bytes_eq-Decides (caller turn.call) app).1 (sym h))))
+seen_by app old turn mid true e (inr s) =
+    let same : caller turn.call ≡ app = (bytes_eq-Decides (caller turn.call) app).0 e in
+    Served e s.ask s.means
+    (s.right ∙ ap (λ a. answer_over old.start (old.lists a) s.ask) same)
+    (ap mid.lists (sym same) ∙ s.own ∙ ap (λ a. shelf_then s.ask (old.lists a)) same)
+
+keeps_start : (old : State) (turn : Turn) (mid : State) → Step old turn.call turn.told mid → mid.start ≡ old.start
+keeps_start old turn mid (inl s) = s.start
+keeps_start old turn mid (inr s) = s.start
+
+served_not_memory : (old : State) (app : List ℕ) (turn : Turn) (ask : Ask) → turn.told ≡ answer_over old.start (old.lists app) ask → is_memory turn.told ≡ false
+served_not_memory old app turn ask m = ap is_memory m ∙ answer_not_memory old.start (old.lists app) ask
+
+-- ---- an application's bundles after a list of steps
+
+-- what the application asked, with the bundles that it has then
+abbrev Asked : List ℕ → Shelf → List Turn → Shelf → Type 0
+Asked app shelf turns end = (asks : List Ask) × EachMeans (own app turns) asks × (end ≡ shelf_from shelf asks)
+
+asked-step : (app : List ℕ) (old : State) (turn : Turn) (turns : List Turn) (mid : State) (end : Shelf) → Seen app old turn mid → Asked app (mid.lists app) turns end → Asked app (old.lists app) (turn ∷ turns) end
+asked-step app old turn turns mid end (Elsewhere e k) (asks, means, is) = (asks, rw e means, is ∙ ap (λ s. shelf_from s asks) k)
+asked-step app old turn turns mid end (Starved e m k) (asks, means, is) = (asks, rw (e, m) means, is ∙ ap (λ s. shelf_from s asks) k)
+asked-step app old turn turns mid end (Served e ask mean m k) (asks, means, is) =
+    (ask ∷ asks, rw (e, served_not_memory old app turn ask m) (mean, means), is ∙ ap (λ s. shelf_from s asks) k)
+
+asked-run : (app : List ℕ) (old : State) (turns : List Turn) (new : State) → Run old turns new → Asked app (old.lists app) turns (new.lists app)
+asked-run app old [] new r = ([], tt, r.1 app)
+asked-run app old (turn ∷ turns) new (mid, s, r) =
+    asked-step app old turn turns mid (new.lists app) (seen_by app old turn mid (bytes_eq (caller turn.call) app) refl s) (asked-run app mid turns new r)
+
+start-run : (old : State) (turns : List Turn) (new : State) → Run old turns new → new.start ≡ old.start
+start-run old [] new r = r.0
+start-run old (turn ∷ turns) new (mid, s, r) = start-run mid turns new r ∙ keeps_start old turn mid s
+
+-- a run up to a turn, and the step of that turn
+up_to : (old : State) (before after : List Turn) (turn : Turn) (new : State) → Run old (before ++ turn ∷ after) new → (mid : State) × (next : State) × Run old before mid × Step mid turn.call turn.told next
+up_to old [] after turn new (next, s, r) = (old, next, (refl, λ app. refl), s)
+up_to old (t ∷ before) after turn new (m, s, r) = let h = up_to m before after turn new r in (h.0, h.1, (m, s, h.2), h.3)
+
+answers : (start : Start) (asked : List Ask) (mid : State) (turn : Turn) (next : State) → mid.start ≡ start → mid.lists (caller turn.call) ≡ shelf_from [] asked → Step mid turn.call turn.told next → is_memory turn.told ≡ false → (ask : Ask) × Means turn.call ask × (turn.told ≡ answer start asked ask)
+answers start asked mid turn next st ls (inl s) told = let e : is_memory turn.told ≡ true = rw s.memory refl in absurd (false≢true (sym told ∙ e))
+answers start asked mid turn next st ls (inr s) told =
+    (s.ask, s.means, s.right ∙ ap (λ z. answer_over z (mid.lists (caller turn.call)) s.ask) st ∙ ap (λ z. answer_over start z s.ask) ls)
+
+pub answers_own : AnswersOwn
+answers_own start before after turn end r told =
+    let h = up_to (new_state start) before after turn end r in
+    let a = asked-run (caller turn.call) (new_state start) before h.0 h.2 in
+    let b = answers start a.0 h.0 turn h.1 (start-run (new_state start) before h.0 h.2) a.2 h.3 told in
+    (a.0, b.0, a.1, b.1, b.2)
+
+-- ---- what an application is told by a list of steps
+
+abbrev Tells : Start → Shelf → List (Call × Bool) → List Told → Type 0
+Tells start shelf [] told = told ≡ []
+Tells start shelf ((call, true) ∷ rest) told = (more : List Told) × (told ≡ Replies Memory ∷ more) × Tells start shelf rest more
+Tells start shelf ((call, false) ∷ rest) told =
+    (ask : Ask) × (more : List Told) × Means call ask × (told ≡ answer_over start shelf ask ∷ more) × Tells start (shelf_then ask shelf) rest more
+
+tells_one : AsksOne → (start : Start) (shelf : Shelf) (asked : List (Call × Bool)) (a b : List Told) → Tells start shelf asked a → Tells start shelf asked b → a ≡ b
+tells_one one start shelf [] a b p q = p ∙ sym q
+tells_one one start shelf ((call, true) ∷ rest) a b p q =
+    p.1 ∙ ap (λ ts. Replies Memory ∷ ts) (tells_one one start shelf rest p.0 q.0 p.2 q.2) ∙ sym q.1
+tells_one one start shelf ((call, false) ∷ rest) a b p q =
+    let same : q.0 ≡ p.0 = one call q.0 p.0 q.2 p.2 in
+    let later : Tells start (shelf_then p.0 shelf) rest q.1 = subst (λ (x : Ask). Tells start (shelf_then x shelf) rest q.1) same q.4 in
+    p.3 ∙ ap (λ ts. answer_over start shelf p.0 ∷ ts) (tells_one one start (shelf_then p.0 shelf) rest p.1 q.1 p.4 later) ∙ ap (λ x. answer_over start shelf x ∷ q.1) (sym same) ∙ sym q.3
+
+-- the same from equal starts and bundles
+moved : (asked : List (Call × Bool)) (told : List Told) (s t : Start) (x y : Shelf) → s ≡ t → x ≡ y → Tells s x asked told → Tells t y asked told
+moved asked told s t x y e k h = subst (λ (z : Shelf). Tells t z asked told) k (subst (λ (z : Start). Tells z x asked told) e h)
+
+tells-step : (app : List ℕ) (old : State) (turn : Turn) (turns : List Turn) (mid : State) → mid.start ≡ old.start → Seen app old turn mid → Tells mid.start (mid.lists app) (asked_by app turns) (told_to app turns) → Tells old.start (old.lists app) (asked_by app (turn ∷ turns)) (told_to app (turn ∷ turns))
+tells-step app old turn turns mid st (Elsewhere e k) h = rw e (moved (asked_by app turns) (told_to app turns) mid.start old.start (mid.lists app) (old.lists app) st k h)
+tells-step app old turn turns mid st (Starved e m k) h =
+    rw (e, m) (told_to app turns, refl, moved (asked_by app turns) (told_to app turns) mid.start old.start (mid.lists app) (old.lists app) st k h)
+tells-step app old turn turns mid st (Served e ask mean m k) h =
+    rw (e, served_not_memory old app turn ask m)
+    (ask, told_to app turns, mean, ap (λ t. t ∷ told_to app turns) m, moved (asked_by app turns) (told_to app turns) mid.start old.start (mid.lists app) (shelf_then ask (old.lists app)) st k h)
+
+tells-run : (app : List ℕ) (old : State) (turns : List Turn) (new : State) → Run old turns new → Tells old.start (old.lists app) (asked_by app turns) (told_to app turns)
+tells-run app old [] new r = refl
+tells-run app old (turn ∷ turns) new (mid, s, r) =
+    tells-step app old turn turns mid (keeps_start old turn mid s)
+    (seen_by app old turn mid (bytes_eq (caller turn.call) app) refl s) (tells-run app mid turns new r)
+
+pub is_isolated : AsksOne → IsIsolated
+is_isolated one start app first second end end' r r' same =
+    tells_one one start [] (asked_by app second) (told_to app first) (told_to app second)
+    (subst (λ (a : List (Call × Bool)). Tells start [] a (told_to app first)) same (tells-run app (new_state start) first end r))
+    (tells-run app (new_state start) second end' r')

@@ -1,0 +1,4 @@
+pub mod Histories
+pub mod RowLemmas
+pub mod StepLemmas
+pub mod Lookups

@@ -1,0 +1,143 @@
+-- What an application is told over its bundles, and what its bundles are then. A look-up is the search of rb_fallback, after ICU's
+-- `ures_getByKeyWithFallback`; the requests are this project's own.
+use Rattle.std.specs.Prelude.{ℕ, List, [], ◌∷◌, ◌++◌, ◌||◌, map, if◌then◌else◌, Some, None, Result, Ok, Err}
+use Rattle.rb_tree.specs.Resource.{Resource}
+use Rattle.rb_tree.specs.Path.{is_path, segments}
+use Rattle.rb_parents.specs.Trail.{Bundles, ParentsOf}
+use Rattle.rb_fallback.specs.Search.{look_up, first_stop}
+use Rattle.rb_fallback.specs.declared.fault.LookError.{LookError}
+use Rattle.rb_engine.specs.App.{app_of}
+use Rattle.rb_engine.specs.Place.{place_of}
+use Rattle.rb_engine.specs.Shelf.{Shelf, bundle_at, holds, is_full, replaced, removed}
+use Rattle.rb_engine.specs.Ask.{Content, spelled, denoted, unread, Ask, Installs, Replaces, Removes, Lists, Looks}
+use Rattle.rb_engine.specs.Looked.{fault_from}
+use Rattle.rb_engine.specs.declared.app.AppFault.{AppFault}
+use Rattle.rb_engine.specs.declared.app.AppFault.TheVariants as app
+use Rattle.rb_engine.specs.declared.place.Place.{Place}
+use Rattle.rb_engine.specs.declared.place.PlaceFault.{PlaceFault}
+use Rattle.rb_engine.specs.declared.place.PlaceFault.TheVariants as place
+use Rattle.rb_engine.specs.declared.request.Reply.{Reply}
+use Rattle.rb_engine.specs.declared.request.Reply.TheVariants.{Done, Names, BadApp, Reserved, BadLocale, BadText, BadFile, Exists, Absent, Full}
+use Rattle.rb_engine.specs.declared.request.LookFault.{LookFault}
+use Rattle.rb_engine.specs.declared.request.LookFault.TheVariants as fault
+
+-- what is there from the start: the common bundles of ICUDATA, and the explicit parents
+pub record Start : Type 0 where
+  pub icudata : Shelf
+  pub parents : ParentsOf
+
+-- what an application is told: a reply, an item with the names of its bundle and of the first bundle asked, or why there is none
+pub data Told : Type 0 where
+  Replies : Reply → Told
+  Finds : Resource → (actual valid : List ℕ) → Told
+  Refuses : LookFault → Told
+
+-- ---- its bundles after what it asks
+
+-- a bundle goes behind the others where its name is new and fewer than the most are there
+abbrev pub added : Place → Resource → Shelf → Shelf
+added p tree shelf = if holds p.name shelf || is_full shelf then shelf else shelf ++ (p.name, tree) ∷ []
+
+abbrev pub installed : Result Place PlaceFault → Content → Shelf → Shelf
+installed (Err e) content shelf = shelf
+installed (Ok p) unread shelf = shelf
+installed (Ok p) (spelled None) shelf = shelf
+installed (Ok p) (denoted None) shelf = shelf
+installed (Ok p) (spelled (Some tree)) shelf = added p tree shelf
+installed (Ok p) (denoted (Some tree)) shelf = added p tree shelf
+
+abbrev pub exchanged : Result Place PlaceFault → Content → Shelf → Shelf
+exchanged (Err e) content shelf = shelf
+exchanged (Ok p) unread shelf = shelf
+exchanged (Ok p) (spelled None) shelf = shelf
+exchanged (Ok p) (denoted None) shelf = shelf
+exchanged (Ok p) (spelled (Some tree)) shelf = replaced p.name tree shelf
+exchanged (Ok p) (denoted (Some tree)) shelf = replaced p.name tree shelf
+
+abbrev pub taken_out : Result Place PlaceFault → Shelf → Shelf
+taken_out (Err e) shelf = shelf
+taken_out (Ok p) shelf = removed p.name shelf
+
+abbrev pub shelf_then : Ask → Shelf → Shelf
+shelf_then (Installs app locale content) shelf = installed (place_of app locale) content shelf
+shelf_then (Replaces app locale content) shelf = exchanged (place_of app locale) content shelf
+shelf_then (Removes app locale) shelf = taken_out (place_of app locale) shelf
+shelf_then (Lists app) shelf = shelf
+shelf_then (Looks app locale path) shelf = shelf
+
+-- ---- the reply
+
+abbrev pub refusal : PlaceFault → Reply
+refusal place.BadApp = BadApp
+refusal place.Reserved = Reserved
+refusal place.BadLocale = BadLocale
+
+abbrev pub add_reply : Place → Shelf → Reply
+add_reply p shelf = if holds p.name shelf then Exists else if is_full shelf then Full else Done
+
+abbrev pub install_reply : Result Place PlaceFault → Content → Shelf → Reply
+install_reply (Err e) content shelf = refusal e
+install_reply (Ok p) unread shelf = BadText
+install_reply (Ok p) (spelled None) shelf = BadText
+install_reply (Ok p) (denoted None) shelf = BadFile
+install_reply (Ok p) (spelled (Some tree)) shelf = add_reply p shelf
+install_reply (Ok p) (denoted (Some tree)) shelf = add_reply p shelf
+
+abbrev pub replace_reply : Result Place PlaceFault → Content → Shelf → Reply
+replace_reply (Err e) content shelf = refusal e
+replace_reply (Ok p) unread shelf = BadText
+replace_reply (Ok p) (spelled None) shelf = BadText
+replace_reply (Ok p) (denoted None) shelf = BadFile
+replace_reply (Ok p) (spelled (Some tree)) shelf = if holds p.name shelf then Done else Absent
+replace_reply (Ok p) (denoted (Some tree)) shelf = if holds p.name shelf then Done else Absent
+
+abbrev pub remove_reply : Result Place PlaceFault → Shelf → Reply
+remove_reply (Err e) shelf = refusal e
+remove_reply (Ok p) shelf = if holds p.name shelf then Done else Absent
+
+abbrev pub list_reply : Result (List ℕ) AppFault → Shelf → Reply
+list_reply (Err app.BadApp) shelf = BadApp
+list_reply (Err app.Reserved) shelf = Reserved
+list_reply (Ok a) shelf = Names (map (λ e. e.0) shelf)
+
+-- ---- a look-up
+
+abbrev pub look_refusal : PlaceFault → LookFault
+look_refusal place.BadApp = fault.BadApp
+look_refusal place.Reserved = fault.Reserved
+look_refusal place.BadLocale = fault.BadLocale
+
+abbrev pub found : List ℕ → Result (Resource × List ℕ) LookError → Told
+found valid (Err e) = Refuses (fault_from e)
+found valid (Ok r) = Finds r.0 r.1 valid
+
+-- a path that is none is refused before anything is looked for; the first stop of the name's trail is the valid locale, whatever is found
+abbrev pub looked_in : Bundles → Bundles → ParentsOf → List ℕ → List ℕ → Told
+looked_in own icu parents name path =
+    if is_path path then found (first_stop own parents name) (look_up own icu parents name (segments path))
+    else Refuses fault.BadPath
+
+abbrev pub looked : Start → Shelf → List ℕ → List ℕ → Told
+looked start shelf name path = looked_in (bundle_at shelf) (bundle_at start.icudata) start.parents name path
+
+abbrev pub look_reply : Start → Shelf → Result Place PlaceFault → List ℕ → Told
+look_reply start shelf (Err e) path = Refuses (look_refusal e)
+look_reply start shelf (Ok p) path = looked start shelf p.name path
+
+-- ---- what is told over these bundles
+
+abbrev pub answer_over : Start → Shelf → Ask → Told
+answer_over start shelf (Installs app locale content) = Replies (install_reply (place_of app locale) content shelf)
+answer_over start shelf (Replaces app locale content) = Replies (replace_reply (place_of app locale) content shelf)
+answer_over start shelf (Removes app locale) = Replies (remove_reply (place_of app locale) shelf)
+answer_over start shelf (Lists app) = Replies (list_reply (app_of app) shelf)
+answer_over start shelf (Looks app locale path) = look_reply start shelf (place_of app locale) path
+
+-- the bundles after what an application asks, one by one
+abbrev pub shelf_from : Shelf → List Ask → Shelf
+shelf_from shelf [] = shelf
+shelf_from shelf (ask ∷ asks) = shelf_from (shelf_then ask shelf) asks
+
+-- the answer to an application that asked this before, from no bundles
+abbrev pub answer : Start → List Ask → Ask → Told
+answer start asked ask = answer_over start (shelf_from [] asked) ask

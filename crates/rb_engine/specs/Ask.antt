@@ -1,0 +1,68 @@
+-- What an application calls, and what it asks by that: a payload counts by the tree that it stands for. The requests are this project's own.
+use Rattle.std.specs.Prelude.{◌≡◌, ℕ, List, Option, Some, None, Result, Ok, Err}
+use Rattle.rb_tree.specs.Resource.{Resource}
+use Rattle.rb_parser.specs.Source.{IsGoodSource}
+use Rattle.rb_format.specs.File.{Denotes}
+use Rattle.rb_engine.specs.Place.{place_of}
+use Rattle.rb_engine.specs.declared.place.Place.{Place}
+use Rattle.rb_engine.specs.declared.place.PlaceFault.{PlaceFault}
+use Rattle.rb_engine.specs.declared.request.Payload.{Payload}
+use Rattle.rb_engine.specs.declared.request.Payload.TheVariants.{Text, File}
+use Rattle.rb_engine.specs.declared.request.Request.{Request}
+use Rattle.rb_engine.specs.declared.request.Request.TheVariants as request
+
+-- a call of the engine, as it comes
+pub data Call : Type 0 where
+  Requests : Request → Call
+  LooksUp : (app locale path : List ℕ) → Call
+
+abbrev pub requester : Request → List ℕ
+requester (request.Install app locale payload) = app
+requester (request.Replace app locale payload) = app
+requester (request.Remove app locale) = app
+requester (request.List app) = app
+
+-- the application that calls
+abbrev pub caller : Call → List ℕ
+caller (Requests r) = requester r
+caller (LooksUp app locale path) = app
+
+-- the tree that a bundle text spells, or nothing where it is no good text; the tree that a file denotes, or nothing; and a payload at which nobody looks
+pub data Content : Type 0 where
+  spelled : Option Resource → Content
+  denoted : Option Resource → Content
+  unread : Content
+
+abbrev pub IsContent : Payload → Content → Type 0
+IsContent (Text bytes) (spelled (Some tree)) = (name : List ℕ) × IsGoodSource bytes name tree
+IsContent (Text bytes) (spelled None) = (name : List ℕ) (tree : Resource) → IsGoodSource bytes name tree → ⊥
+IsContent (Text bytes) (denoted tree) = ⊥
+IsContent (Text bytes) unread = ⊥
+IsContent (File bytes) (denoted (Some tree)) = Denotes bytes tree
+IsContent (File bytes) (denoted None) = (tree : Resource) → Denotes bytes tree → ⊥
+IsContent (File bytes) (spelled tree) = ⊥
+IsContent (File bytes) unread = ⊥
+
+-- a payload is looked at only where the request names a place
+abbrev pub IsRead : Result Place PlaceFault → Payload → Content → Type 0
+IsRead (Err e) payload content = content ≡ unread
+IsRead (Ok p) payload content = IsContent payload content
+
+-- what is asked
+pub data Ask : Type 0 where
+  Installs : (app locale : List ℕ) → Content → Ask
+  Replaces : (app locale : List ℕ) → Content → Ask
+  Removes : (app locale : List ℕ) → Ask
+  Lists : (app : List ℕ) → Ask
+  Looks : (app locale path : List ℕ) → Ask
+
+abbrev pub RequestMeans : Request → Ask → Type 0
+RequestMeans (request.Install app locale payload) ask = (content : Content) × IsRead (place_of app locale) payload content × (ask ≡ Installs app locale content)
+RequestMeans (request.Replace app locale payload) ask = (content : Content) × IsRead (place_of app locale) payload content × (ask ≡ Replaces app locale content)
+RequestMeans (request.Remove app locale) ask = ask ≡ Removes app locale
+RequestMeans (request.List app) ask = ask ≡ Lists app
+
+-- what a call asks
+abbrev pub Means : Call → Ask → Type 0
+Means (Requests r) ask = RequestMeans r ask
+Means (LooksUp app locale path) ask = ask ≡ Looks app locale path

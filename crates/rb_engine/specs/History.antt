@@ -1,0 +1,119 @@
+-- Histories of many applications on one engine, and what holds of them all: this project's own rule that none sees another's bundles.
+use Rattle.std.specs.Prelude.{◌≡◌, ◌≢◌, ℕ, Bool, true, false, List, [], ◌∷◌, ◌++◌, not, map, filter, ◌⊎◌}
+use Rattle.std.specs.Str.{bytes_eq}
+use Rattle.rb_engine.specs.Shelf.{Shelf}
+use Rattle.rb_engine.specs.Ask.{Call, Requests, LooksUp, caller, Ask, Means}
+use Rattle.rb_engine.specs.Answer.{Start, Told, Replies, Finds, Refuses, answer_over, answer, shelf_then}
+use Rattle.rb_engine.specs.declared.request.Request.TheVariants as request
+use Rattle.rb_engine.specs.declared.request.Reply.{Reply}
+use Rattle.rb_engine.specs.declared.request.Reply.TheVariants.{Done, Names, BadApp, Reserved, BadLocale, BadText, BadFile, Exists, Absent, Full, Memory}
+
+-- an engine: its start, and the bundles of each application
+pub record State : Type 0 where
+  pub start : Start
+  pub lists : List ℕ → Shelf
+
+-- an engine at its start has no bundles of any application
+abbrev pub new_state : Start → State
+new_state start = record { start = start; lists = λ app. [] }
+
+-- a call with what it was told
+pub record Turn : Type 0 where
+  pub call : Call
+  pub told : Told
+
+abbrev pub is_memory_reply : Reply → Bool
+is_memory_reply Memory = true
+is_memory_reply Done = false
+is_memory_reply (Names names) = false
+is_memory_reply BadApp = false
+is_memory_reply Reserved = false
+is_memory_reply BadLocale = false
+is_memory_reply BadText = false
+is_memory_reply BadFile = false
+is_memory_reply Exists = false
+is_memory_reply Absent = false
+is_memory_reply Full = false
+
+abbrev pub is_memory : Told → Bool
+is_memory (Replies reply) = is_memory_reply reply
+is_memory (Finds tree actual valid) = false
+is_memory (Refuses e) = false
+
+-- which calls may want memory: a removal and a look-up never do
+abbrev pub may_want_memory : Call → Bool
+may_want_memory (Requests (request.Install app locale payload)) = true
+may_want_memory (Requests (request.Replace app locale payload)) = true
+may_want_memory (Requests (request.Remove app locale)) = false
+may_want_memory (Requests (request.List app)) = true
+may_want_memory (LooksUp app locale path) = false
+
+-- memory was wanting, and nothing changes
+pub record Starves (old : State) (call : Call) (told : Told) (new : State) : Type 0 where
+  pub memory : told ≡ Replies Memory
+  pub may : may_want_memory call ≡ true
+  pub start : new.start ≡ old.start
+  pub lists : (app : List ℕ) → new.lists app ≡ old.lists app
+
+-- the caller is told the answer over its own bundles, which change as it asks; no other application's do
+pub record Serves (old : State) (call : Call) (told : Told) (new : State) : Type 0 where
+  pub ask : Ask
+  pub means : Means call ask
+  pub right : told ≡ answer_over old.start (old.lists (caller call)) ask
+  pub start : new.start ≡ old.start
+  pub own : new.lists (caller call) ≡ shelf_then ask (old.lists (caller call))
+  pub others : (app : List ℕ) → app ≢ caller call → new.lists app ≡ old.lists app
+
+abbrev pub Step : State → Call → Told → State → Type 0
+Step old call told new = Starves old call told new ⊎ Serves old call told new
+
+-- a list of steps
+abbrev pub Run : State → List Turn → State → Type 0
+Run old [] new = (new.start ≡ old.start) × ((app : List ℕ) → new.lists app ≡ old.lists app)
+Run old (turn ∷ turns) new = (mid : State) × Step old turn.call turn.told mid × Run mid turns new
+
+-- the application's turns
+abbrev pub turns_of : List ℕ → List Turn → List Turn
+turns_of app history = filter (λ turn. bytes_eq (caller turn.call) app) history
+
+-- the application's own calls, without those answered for want of memory
+abbrev pub own : List ℕ → List Turn → List Call
+own app history = map (λ turn. turn.call) (filter (λ turn. not (is_memory turn.told)) (turns_of app history))
+
+-- what each of the calls asks
+abbrev pub EachMeans : List Call → List Ask → Type 0
+EachMeans [] [] = Unit {0}
+EachMeans [] (ask ∷ asks) = ⊥
+EachMeans (call ∷ calls) [] = ⊥
+EachMeans (call ∷ calls) (ask ∷ asks) = Means call ask × EachMeans calls asks
+
+-- the application's calls, each with whether it was answered for want of memory
+abbrev pub asked_by : List ℕ → List Turn → List (Call × Bool)
+asked_by app history = map (λ turn. (turn.call, is_memory turn.told)) (turns_of app history)
+
+-- what the application was told
+abbrev pub told_to : List ℕ → List Turn → List Told
+told_to app history = map (λ turn. turn.told) (turns_of app history)
+
+-- ---- what holds of every history
+
+-- a call asks one thing
+abbrev pub AsksOne : Type 0
+AsksOne = (call : Call) (a b : Ask) → Means call a → Means call b → a ≡ b
+
+-- each answer but for want of memory is that over what the caller itself asked before
+abbrev pub AnswersOwn : Type 0
+AnswersOwn =
+    (start : Start) (before after : List Turn) (turn : Turn) (end : State)
+    → Run (new_state start) (before ++ turn ∷ after) end
+    → is_memory turn.told ≡ false
+    → (asked : List Ask) × (ask : Ask) × EachMeans (own (caller turn.call) before) asked × Means turn.call ask × (turn.told ≡ answer start asked ask)
+
+-- two histories with the same start, and with the same calls and wants of memory of one application, tell it the same
+abbrev pub IsIsolated : Type 0
+IsIsolated =
+    (start : Start) (app : List ℕ) (first second : List Turn) (end end' : State)
+    → Run (new_state start) first end
+    → Run (new_state start) second end'
+    → asked_by app first ≡ asked_by app second
+    → told_to app first ≡ told_to app second

@@ -1,0 +1,23 @@
+-- Where a request's bundle is to stand, this project's own rule: under an application's name and a locale's.
+use Rattle.std.specs.Prelude.{ℕ, Bool, ◌&&◌, List, Option, Some, None, Result, Ok, Err}
+use Rattle.std.specs.Str.{bytes_eq}
+use Rattle.rb_locales.specs.Locale.{name}
+use Rattle.rb_engine.specs.App.{app_of}
+use Rattle.rb_engine.specs.declared.app.AppFault.{AppFault}
+use Rattle.rb_engine.specs.declared.app.AppFault.TheVariants as app
+use Rattle.rb_engine.specs.declared.place.Place.{Place}
+use Rattle.rb_engine.specs.declared.place.PlaceFault.{PlaceFault}
+use Rattle.rb_engine.specs.declared.place.PlaceFault.TheVariants as place
+
+-- the application is judged before the locale
+abbrev pub place_by : Result (List ℕ) AppFault → Option (List ℕ) → Result Place PlaceFault
+place_by (Err app.BadApp) n = Err place.BadApp
+place_by (Err app.Reserved) n = Err place.Reserved
+place_by (Ok a) None = Err place.BadLocale
+place_by (Ok a) (Some n) = Ok (record { app = a; name = n })
+
+abbrev pub place_of : List ℕ → List ℕ → Result Place PlaceFault
+place_of app locale = place_by (app_of app) (name locale)
+
+abbrev pub same_place : Place → Place → Bool
+same_place a b = bytes_eq a.app b.app && bytes_eq a.name b.name

@@ -1,0 +1,15 @@
+//! What holds of every history.
+ghost use Rattle.rb_engine.specs.History.{AsksOne, AnswersOwn, IsIsolated};
+
+/// Does nothing: whatever the applications ask in whatever order, each is answered over its own bundles, those of ICUDATA and
+/// the explicit parents.
+pub fn isolated()
+    // A call asks one thing, since a payload stands for at most one tree.
+    ensures one { AsksOne }
+    // Each answer but for want of memory is that over what the caller itself asked before.
+    ensures own { AnswersOwn }
+    // What an application is told depends on its own calls and wants of memory alone.
+    ensures alone { IsIsolated }
+{
+    rb_parser::laws::one_source();
+}

@@ -1,0 +1,195 @@
+//! What is asked of an engine, and what it answers.
+ghost use Rattle.std.specs.Prelude.{◌≡◌};
+
+use rb_fallback::LookError;
+use rb_locales::Name;
+use rb_tree::ByteList;
+use std::marker::Model;
+
+/// What a bundle is made of.
+#[derive(Debug, Drop)]
+pub enum Payload {
+    /// A bundle text.
+    Text(ByteList),
+    /// A `.res` file.
+    File(ByteList),
+}
+
+/// A request of an application. Its name and the locale are as they came.
+#[derive(Debug, Drop)]
+pub enum Request {
+    /// Puts a bundle where none stands.
+    Install {
+        app: ByteList,
+        locale: ByteList,
+        payload: Payload,
+    },
+    /// Puts a bundle in the place of the one that stands there.
+    Replace {
+        app: ByteList,
+        locale: ByteList,
+        payload: Payload,
+    },
+    /// Takes a bundle out.
+    Remove {
+        app: ByteList,
+        locale: ByteList,
+    },
+    /// Asks for the names of the application's bundles.
+    List {
+        app: ByteList,
+    },
+}
+
+/// Names of locales, seen by contracts as a list.
+#[derive(Debug, Drop)]
+pub struct NameList {
+    names: Vec<Name>,
+}
+
+impl Model for NameList {
+    ghost use Rattle.std.specs.Prelude.{List, ℕ};
+
+    ghost Value = { List (List ℕ) };
+
+    ghost view = { λ n. n.names.items };
+}
+
+impl NameList {
+    /// The names of a `Vec`, which keeps its memory.
+    pub(crate) fn from_vec(names: Vec<Name>) -> Self
+        ensures { result ≡ names.items }
+    {
+        NameList { names }
+    }
+
+    /// The names, in order.
+    pub fn as_slice(&self) -> &[Name]
+        ensures { result.now ≡ self.now }
+    {
+        &self.names
+    }
+}
+
+/// The reply to a request.
+#[derive(Debug, Drop)]
+pub enum Reply {
+    /// It is done.
+    Done,
+    /// The names of the application's bundles, in the order of installing.
+    Names(NameList),
+    /// The application's name is none.
+    BadApp,
+    /// The application's name is that of the common bundles.
+    Reserved,
+    /// The locale is no name.
+    BadLocale,
+    /// The text is no good bundle text.
+    BadText,
+    /// The file denotes no bundle.
+    BadFile,
+    /// A bundle stands there already.
+    Exists,
+    /// No bundle stands there.
+    Absent,
+    /// The application has as many bundles as it may.
+    Full,
+    /// Memory was wanting. Nothing has changed.
+    Memory,
+}
+
+impl Reply {
+    ghost use Rattle.rb_engine.specs.Words.{reply_word};
+
+    /// The variant's name.
+    pub fn word(&self) -> &'static str
+        ensures { result.now ≡ reply_word self.now }
+    {
+        match self {
+            Reply::Done => "Done",
+            Reply::Names(_) => "Names",
+            Reply::BadApp => "BadApp",
+            Reply::Reserved => "Reserved",
+            Reply::BadLocale => "BadLocale",
+            Reply::BadText => "BadText",
+            Reply::BadFile => "BadFile",
+            Reply::Exists => "Exists",
+            Reply::Absent => "Absent",
+            Reply::Full => "Full",
+            Reply::Memory => "Memory",
+        }
+    }
+}
+
+/// Why a look-up found nothing.
+#[derive(Clone, Copy, Debug, PartialEq, Eq)]
+pub enum LookFault {
+    /// The application's name is none.
+    BadApp,
+    /// The application's name is that of the common bundles.
+    Reserved,
+    /// The locale is no name.
+    BadLocale,
+    /// The path has a byte that no path has, or an empty segment.
+    BadPath,
+    /// A path, the given one or one that an alias made, is too long.
+    PathTooLong,
+    /// A trail does not end.
+    Chain,
+    /// A text at `%%ALIAS` or `%%Parent` is no name.
+    BadParent,
+    /// No name of the trail is a stop: none has a bundle without a text at `%%ALIAS`.
+    NoBundle,
+    /// No bundle of the trail has the item.
+    Missing,
+    /// An alias has a text that leads nowhere.
+    AliasText,
+    /// An alias leads to a package that it may not.
+    AliasPackage,
+    /// Too many aliases lead to one another.
+    TooManyAliases,
+}
+
+impl LookFault {
+    ghost use Rattle.rb_engine.specs.Words.{look_word};
+
+    /// The variant's name.
+    pub fn word(self) -> &'static str
+        ensures { result.now ≡ look_word self }
+    {
+        match self {
+            LookFault::BadApp => "BadApp",
+            LookFault::Reserved => "Reserved",
+            LookFault::BadLocale => "BadLocale",
+            LookFault::BadPath => "BadPath",
+            LookFault::PathTooLong => "PathTooLong",
+            LookFault::Chain => "Chain",
+            LookFault::BadParent => "BadParent",
+            LookFault::NoBundle => "NoBundle",
+            LookFault::Missing => "Missing",
+            LookFault::AliasText => "AliasText",
+            LookFault::AliasPackage => "AliasPackage",
+            LookFault::TooManyAliases => "TooManyAliases",
+        }
+    }
+}
+
+impl From<LookError> for LookFault {
+    ghost use Rattle.rb_engine.specs.Looked.{fault_from};
+
+    ghost from_gives = { λ e f. f ≡ fault_from e };
+
+    fn from(error: LookError) -> Self {
+        match error {
+            LookError::BadPath => LookFault::BadPath,
+            LookError::PathTooLong => LookFault::PathTooLong,
+            LookError::Chain => LookFault::Chain,
+            LookError::BadParent => LookFault::BadParent,
+            LookError::NoBundle => LookFault::NoBundle,
+            LookError::Missing => LookFault::Missing,
+            LookError::AliasText => LookFault::AliasText,
+            LookError::AliasPackage => LookFault::AliasPackage,
+            LookError::TooManyAliases => LookFault::TooManyAliases,
+        }
+    }
+}

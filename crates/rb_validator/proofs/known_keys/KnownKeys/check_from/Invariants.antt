@@ -1,0 +1,10 @@
+use Rattle.std.proofs.Common.{◌-◌}
+use Rattle.rb_validator.specs.KnownKeys.{AreGood}
+use Rattle.rb_validator.specs.Places.{key_offset as offset_in}
+use Rattle.rb_validator.proofs.known_keys.KnownKeys.check_from.Given as goal
+
+abbrev pub invariant-loop-good : goal.invariant-loop-good
+invariant-loop-good l = AreGood l.layout l.body (offset_in l.body l.places) l.good
+
+abbrev pub decreases-loop-good : goal.decreases-loop-good
+decreases-loop-good l = l.count - l.good

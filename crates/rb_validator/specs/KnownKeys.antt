@@ -1,0 +1,55 @@
+-- For proofs only: what is known of the keys of a file.
+use Rattle.std.specs.Prelude.{◌≡◌, ◌⊎◌, ℕ, zero, suc, ◌+◌, ◌-◌, ◌*◌, ◌≤◌, ◌<◌, List, [], length, take, drop, slice_index, Option, None, Some, Result, Ok, Err, IfSome}
+use Rattle.rb_format.specs.declared.layout.Layout.{Layout}
+use Rattle.rb_format.specs.Place.{word_at, half_at, key}
+use Rattle.rb_format.specs.FirstFault.{next_key}
+use Rattle.rb_validator.specs.declared.keys.KeyPlaces.{KeyPlaces}
+use Rattle.rb_validator.specs.declared.keys.KeyPlaces.TheVariants.{Halves, Words}
+use Rattle.rb_validator.specs.declared.known_keys.KnownKeys.{KnownKeys}
+use Rattle.rb_validator.specs.Places.{key_offset}
+use Rattle.rb_validator.specs.Ranks.{IsRanked}
+
+-- the bytes of the keys
+abbrev pub key_run : Layout → List ℕ → List ℕ
+key_run y body = take (4 * y.keys_top - 4 * (1 + y.indexes)) (drop (4 * (1 + y.indexes)) body)
+
+-- a key, or nothing where there is none
+abbrev pub key_or_none : Option (List ℕ) → List ℕ
+key_or_none None = []
+key_or_none (Some k) = k
+
+-- the key before, of which the offset is given
+abbrev pub previous_key : Layout → List ℕ → Option ℕ → List ℕ
+previous_key y body None = []
+previous_key y body (Some k) = key_or_none (key y body k)
+
+-- the key before place i
+abbrev pub last_key : Layout → List ℕ → (ℕ → ℕ) → ℕ → List ℕ
+last_key y body place zero = []
+last_key y body place (suc i) = key_or_none (key y body (place i))
+
+-- the key at place i is a key, above the one before
+abbrev pub IsGood : Layout → List ℕ → (ℕ → ℕ) → ℕ → Type 0
+IsGood y body place i = next_key y body (last_key y body place i) (place i) ≡ Ok (key_or_none (key y body (place i)))
+
+-- the first n keys
+abbrev pub AreGood : Layout → List ℕ → (ℕ → ℕ) → ℕ → Type 0
+AreGood y body place n = (i : ℕ) → i < n → IsGood y body place i
+
+-- the key offset after place p is that of a key, above the one at p
+abbrev pub IsPair : Layout → List ℕ → (ℕ → ℕ) → ℕ → Type 0
+IsPair y body offset p = next_key y body (key_or_none (key y body (offset p))) (offset (suc p)) ≡ Ok (key_or_none (key y body (offset (suc p))))
+
+-- links lead over pairs alone
+abbrev pub IsLinked : Layout → List ℕ → (ℕ → ℕ) → List ℕ → Type 0
+IsLinked y body offset links = (p q : ℕ) → p ≤ q → q < slice_index links p → IsPair y body offset q
+
+-- a link is as it was, or leads from a place at or after the first one to the end
+abbrev pub IsRedirected : List ℕ → List ℕ → ℕ → ℕ → ℕ → Type 0
+IsRedirected old new from to p = (slice_index new p ≡ slice_index old p) ⊎ ((from ≤ p) × (slice_index new p ≡ to))
+
+-- what is true of it at all times
+pub record IsSound (y : Layout) (body : List ℕ) (m : KnownKeys) : Type 0 where
+  pub ranks : IfSome m.ranks (λ v. IsRanked (key_run y body) v.items)
+  pub halves : IsLinked y body (half_at body) m.halves.items
+  pub words : IsLinked y body (word_at body) m.words.items

@@ -1,0 +1,47 @@
+// Links over a list of key offsets: the link of place p is a place q, so that the offsets from p to q are those of ascending keys. A
+// link that is 0 says nothing.
+ghost use Rattle.std.specs.Prelude.{◌≡◌, ℕ, ◌+◌, ◌-◌, slice_index};
+ghost use Rattle.rb_validator.specs.KnownKeys.{IsRedirected};
+
+use crate::lists::number_at;
+use std::alloc::Global;
+
+/// Links of so many places that say nothing; none where there is no memory for them.
+pub fn no_links(alloc: Global, count: usize) -> Vec<u32>
+    ensures { (n : ℕ) → slice_index result.items n ≡ 0 }
+{
+    match vec![in alloc; 0u32; count] {
+        Ok(links) => links,
+        Err(_) => Vec::new(alloc),
+    }
+}
+
+/// How far the link of the place `skip` after `first` leads.
+pub fn count_linked(links: &[u32], first: usize, skip: usize) -> usize
+    ensures { result ≡ slice_index links.now (first + skip) - (first + skip) }
+{
+    match first.checked_add(skip) {
+        Some(place) => (number_at(links, place) as usize).saturating_sub(place),
+        None => 0,
+    }
+}
+
+/// Links so many places from one on. Each link on the way is redirected to the end, so that no way is gone twice.
+pub fn link(links: &mut [u32], first: usize, count: usize)
+    ensures { (p : ℕ) → IsRedirected links.old links.new first (first + count) p }
+{
+    let Some(to) = first.checked_add(count) else {
+        return;
+    };
+    let Ok(end) = u32::try_from(to) else {
+        return;
+    };
+    let mut place = first;
+    while place < to {
+        let known = count_linked(links, place, 0);
+        if place < links.len() {
+            links[place] = end;
+        }
+        place = place.saturating_add(known.max(1));
+    }
+}
