@@ -60,8 +60,9 @@ impl<'a> Table<'a> {
     pub fn get(self, key: &[u8]) -> Option<Item<'a>>
         ensures { option_map tree_seen result ≡ lookup (pointwise nat_eq key.now) (entries_seen self.entry) }
     {
+        let count = self.len();
         let mut low = 0;
-        let mut high = self.len();
+        let mut high = count;
         while low < high {
             let middle = low + (high - low) / 2;
             match key.cmp(self.key(middle)) {
@@ -103,7 +104,8 @@ impl<'a> Iterator for Pairs<'a> {
 
     fn next(&mut self) -> Option<(&'a [u8], Item<'a>)> {
         let i = self.next;
-        if i < self.table.len() {
+        let count = self.table.len();
+        if i < count {
             self.next += 1;
             Some((self.table.key(i), self.table.item(i)))
         } else {
