@@ -1,5 +1,6 @@
 pub mod Place
 pub mod Item
+pub mod Geometry
 pub mod Attributes
 pub mod Denotation
 pub mod File
