@@ -8,8 +8,6 @@ mod kind;
 pub mod laws;
 mod layout;
 mod place;
-#[cfg(test)]
-mod tests;
 
 pub use constants::{
     CHARSET_FAMILY, DATA_FORMAT, FILE_LIMIT, FORMAT_VERSION, HEADER_SIZE, INDEX_COUNT, INFO_SIZE,

@@ -6,8 +6,6 @@ mod file;
 mod items;
 mod keys;
 mod leaves;
-#[cfg(test)]
-mod tests;
 mod tree;
 mod values;
 

@@ -5,8 +5,8 @@ ghost use Rattle.rb_tree.specs.Table.{keys_in};
 
 mod samples;
 
-use crate::file::write;
 use rb_tree::{ByteList, Int28, Tree, UnitList, key_ok};
+use rb_writer::write;
 use samples::{EMPTY, ONE_STRING, THREE_NUMBERS, TWO_BINARIES, TWO_NUMBERS};
 use std::alloc::Global;
 use std::test::Fail;
@@ -39,6 +39,32 @@ fn put(
     }
 }
 
+/// Adds an Int.
+fn put_number(
+    alloc: Global,
+    pairs: &mut Vec<(ByteList, Tree)>,
+    text: &[u8],
+    n: u32,
+) -> Result<(), Fail>
+    requires { All IsKey (keys_in pairs.old.items) }
+    ensures { All IsKey (keys_in pairs.new.items) }
+{
+    put(alloc, pairs, text, number(n)?)
+}
+
+/// Adds a Binary.
+fn put_binary(
+    alloc: Global,
+    pairs: &mut Vec<(ByteList, Tree)>,
+    text: &[u8],
+    bytes: &[u8],
+) -> Result<(), Fail>
+    requires { All IsKey (keys_in pairs.old.items) }
+    ensures { All IsKey (keys_in pairs.new.items) }
+{
+    put(alloc, pairs, text, binary(alloc, bytes)?)
+}
+
 fn table(alloc: Global, pairs: Vec<(ByteList, Tree)>) -> Result<Tree, Fail>
     requires { All IsKey (keys_in pairs.items) }
 {
@@ -62,23 +88,23 @@ fn one_string(alloc: Global) -> Result<Tree, Fail> {
 
 fn two_numbers(alloc: Global) -> Result<Tree, Fail> {
     let mut pairs = Vec::new(alloc);
-    put(alloc, &mut pairs, b"b", number(2)?)?;
-    put(alloc, &mut pairs, b"a", number(1)?)?;
+    put_number(alloc, &mut pairs, b"b", 2)?;
+    put_number(alloc, &mut pairs, b"a", 1)?;
     table(alloc, pairs)
 }
 
 fn three_numbers(alloc: Global) -> Result<Tree, Fail> {
     let mut pairs = Vec::new(alloc);
-    put(alloc, &mut pairs, b"a", number(1)?)?;
-    put(alloc, &mut pairs, b"b", number(2)?)?;
-    put(alloc, &mut pairs, b"c", number(3)?)?;
+    put_number(alloc, &mut pairs, b"a", 1)?;
+    put_number(alloc, &mut pairs, b"b", 2)?;
+    put_number(alloc, &mut pairs, b"c", 3)?;
     table(alloc, pairs)
 }
 
 fn two_binaries(alloc: Global) -> Result<Tree, Fail> {
     let mut pairs = Vec::new(alloc);
-    put(alloc, &mut pairs, b"b", binary(alloc, &[0x00, 0xFF, 0x7F])?)?;
-    put(alloc, &mut pairs, b"c", binary(alloc, &[0x02])?)?;
+    put_binary(alloc, &mut pairs, b"b", &[0x00, 0xFF, 0x7F])?;
+    put_binary(alloc, &mut pairs, b"c", &[0x02])?;
     table(alloc, pairs)
 }
 
@@ -116,7 +142,7 @@ fn numbered(alloc: Global, count: u32) -> Result<Tree, Fail> {
             text[place] = b'0' + (rest % 10) as u8;
             rest /= 10;
         }
-        put(alloc, &mut pairs, &text, number(0)?)?;
+        put_number(alloc, &mut pairs, &text, 0)?;
     }
     table(alloc, pairs)
 }

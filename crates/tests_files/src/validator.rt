@@ -2,11 +2,10 @@
 mod plain;
 mod samples;
 
-use crate::bundle::accept;
-use crate::tree::decode;
 use plain::plain_fault;
 use rb_format::FileFault;
 use rb_tree::{Node, Tree};
+use rb_validator::{accept, decode};
 use samples::{EMPTY, HOLDS_ITSELF, ONE_STRING, THREE_NUMBERS, TWO_BINARIES, TWO_NUMBERS};
 use std::alloc::Global;
 use std::test::Fail;

@@ -1,7 +1,5 @@
 // Numbers, bytes and keys of worked examples.
-use crate::bytes::read_bytes;
-use crate::key::is_key;
-use crate::number::{read_element, read_int};
+use rb_grammar::{is_key, read_bytes, read_element, read_int};
 use std::alloc::Global;
 use std::test::Fail;
 

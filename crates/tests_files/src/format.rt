@@ -1,8 +1,7 @@
 // The fields of a sample file.
-use crate::fault::FileFault;
-use crate::header::Header;
-use crate::kind::{ItemKind, item_kind, item_offset, item_type};
-use crate::place::{half, key_at, word};
+use rb_format::{
+    FileFault, Header, ItemKind, half, item_kind, item_offset, item_type, key_at, word,
+};
 use std::test::Fail;
 
 /// `root{a{"b"}}`.

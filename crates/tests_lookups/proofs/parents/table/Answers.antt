@@ -4,7 +4,7 @@ use Rattle.std.proofs.lemmas.List.Elements.{All-append, All-cons, All-nil}
 use Rattle.rb_tree.specs.Keys.{IsKey}
 use Rattle.rb_tree.specs.Table.{keys_in}
 use Rattle.rb_tree.specs.declared.tree.Tree.{Tree}
-use Rattle.rb_fallback.proofs.tests.table.Goals as goal
+use Rattle.tests_lookups.proofs.parents.table.Goals as goal
 
 keys_push : (xs : List (List ℕ × Tree)) (k : List ℕ) (t : Tree) → All IsKey (keys_in xs) → IsKey k → All IsKey (keys_in (xs ++ (k, t) ∷ []))
 keys_push xs k t h o = subst (All IsKey) (sym (map-append (λ (p : List ℕ × Tree). p.0) xs ((k, t) ∷ []))) (All-append IsKey (keys_in xs) (k ∷ []) h (All-cons IsKey k [] o (All-nil IsKey)))

@@ -1,7 +1,7 @@
 use Rattle.std.proofs.Common.{All}
 use Rattle.rb_tree.specs.Keys.{IsKey}
 use Rattle.rb_tree.specs.Table.{keys_in}
-use Rattle.rb_parents.proofs.tests.table.Given as goal
+use Rattle.tests_lookups.proofs.parents.table.Given as goal
 
 abbrev pub invariant-loop-text : goal.invariant-loop-text
 invariant-loop-text l =

@@ -1,7 +1,5 @@
 // Worked sources, with what they must give.
-use crate::fault::SourceKind;
-use crate::lexer::lex;
-use crate::token::{Mark, Token};
+use rb_lexer::{Mark, SourceKind, Token, lex};
 use std::alloc::Global;
 use std::test::Fail;
 

@@ -1,5 +1,5 @@
 use Rattle.std.proofs.Common.{◌+◌, ◌*◌}
-use Rattle.rb_validator.proofs.tests.plain.+plain.Given as goal
+use Rattle.tests_files.proofs.validator.plain.+plain.Given as goal
 
 abbrev pub decreases-item_fault : goal.decreases-item_fault
 decreases-item_fault l = 2 * l.left

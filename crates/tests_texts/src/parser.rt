@@ -1,6 +1,6 @@
 // Worked bundle texts, with what they must give.
-use crate::source::{Source, parse};
 use rb_lexer::{SourceFault, SourceKind};
+use rb_parser::{Source, parse};
 use rb_tree::{Ending, Kind, Node, Tree, path_ok, walk};
 use std::alloc::{AllocError, Global};
 use std::test::Fail;

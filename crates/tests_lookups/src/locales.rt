@@ -3,8 +3,7 @@ ghost use Rattle.std.specs.Prelude.{IfOk};
 ghost use Rattle.rb_tree.specs.Parts.{HasUnits, kind_of};
 ghost use Rattle.rb_tree.specs.View.{view_of};
 
-use crate::fault::BadLocale;
-use crate::name::Name;
+use rb_locales::{BadLocale, Name};
 use rb_tree::{Tree, UnitList};
 use std::alloc::Global;
 use std::test::Fail;
@@ -17,6 +16,24 @@ fn string(alloc: Global, text: &[u8]) -> Result<Tree, Fail>
         units.push(*b as u16)?;
     }
     Ok(Tree::String(UnitList::from_vec(units)))
+}
+
+// Whether a text is read as this name.
+fn reads(text: &[u8], want: &[u8]) -> bool {
+    match Name::read(text) {
+        Ok(name) => name.as_bytes() == want,
+        Err(_) => false,
+    }
+}
+
+// Whether a tree's units are read as this name.
+fn reads_units(tree: &Tree, want: &[u8]) -> bool
+    requires { HasUnits (kind_of (view_of tree.now)) }
+{
+    match Name::read_units(tree) {
+        Ok(name) => name.as_bytes() == want,
+        Err(_) => false,
+    }
 }
 
 #[test]
@@ -42,13 +59,17 @@ fn names_are_canonical(rt: HostRuntime) -> Result<(), Fail> {
         (b"sr_latn_hant", b"sr_Latn_HANT"),
     ];
     for (text, want) in rows {
-        let name = Name::read(text).map_err(|fault| fault.word())?;
-        assert!(rt; name.as_bytes() == want);
         let tree = string(alloc, text)?;
-        let held = Name::read_units(&tree).map_err(|fault| fault.word())?;
-        assert!(rt; held == name);
+        assert!(rt; reads(text, want) && reads_units(&tree, want));
     }
     Ok(())
+}
+
+// Whether a tree's units are no name.
+fn refuses_units(tree: &Tree) -> bool
+    requires { HasUnits (kind_of (view_of tree.now)) }
+{
+    matches!(Name::read_units(tree), Err(BadLocale))
 }
 
 #[test]
@@ -67,22 +88,26 @@ fn other_texts_are_refused(rt: HostRuntime) -> Result<(), Fail> {
         b"?",
     ];
     for text in rows {
-        assert!(rt; Name::read(text) == Err(BadLocale));
         let tree = string(alloc, text)?;
-        assert!(rt; Name::read_units(&tree) == Err(BadLocale));
+        assert!(rt; matches!(Name::read(text), Err(BadLocale)) && refuses_units(&tree));
     }
-    assert_eq!(rt; BadLocale.word(), "BadLocale");
+    assert!(rt; BadLocale.word() == "BadLocale");
     Ok(())
 }
 
-#[test]
-fn names_shorten_to_their_first_part(rt: HostRuntime) -> Result<(), Fail> {
-    let mut name = Name::read(b"zh_Hant_TW").map_err(|_| "refused")?;
-    for want in [b"zh_Hant".as_slice(), b"zh".as_slice()] {
-        name = name.shorter().ok_or("no shorter name")?;
-        assert!(rt; name.as_bytes() == want);
+// Whether a name's first part is this one, and `None` stands for no shorter name.
+fn shortens(text: &[u8], want: Option<&[u8]>) -> bool {
+    match (Name::read(text), want) {
+        (Ok(name), Some(want)) => name.shorter().is_some_and(|part| part.as_bytes() == want),
+        (Ok(name), None) => name.shorter().is_none(),
+        (Err(_), _) => false,
     }
-    assert!(rt; name.shorter().is_none());
+}
+
+#[test]
+fn names_shorten_to_their_first_part(rt: HostRuntime) {
+    assert!(rt; shortens(b"zh_Hant_TW", Some(b"zh_Hant".as_slice())));
+    assert!(rt; shortens(b"zh_Hant", Some(b"zh".as_slice())));
+    assert!(rt; shortens(b"zh", None));
     assert!(rt; Name::default() == Name::root());
-    Ok(())
 }

@@ -3,8 +3,7 @@ ghost use Rattle.std.specs.Prelude.{All};
 ghost use Rattle.rb_tree.specs.Keys.{IsKey};
 ghost use Rattle.rb_tree.specs.Table.{keys_in};
 
-use crate::fault::{AliasFault, LookError};
-use crate::search::look;
+use rb_fallback::{AliasFault, LookError, look};
 use rb_locales::Name;
 use rb_parents::{ListShelf, Parents};
 use rb_tree::{ByteList, Kind, Node, Tree, UnitList, key_ok};

@@ -3,11 +3,8 @@ ghost use Rattle.std.specs.Prelude.{All};
 ghost use Rattle.rb_tree.specs.Keys.{IsKey};
 ghost use Rattle.rb_tree.specs.Table.{keys_in};
 
-use crate::fault::{ParentsFault, TrailFault};
-use crate::parents::Parents;
-use crate::route::trail;
-use crate::shelf::{ListShelf, Shelf};
 use rb_locales::Name;
+use rb_parents::{ListShelf, Parents, ParentsFault, Shelf, TrailFault, trail};
 use rb_tree::{ByteList, Kind, Node, Tree, TreeList, UnitList, key_ok};
 use std::alloc::Global;
 use std::test::Fail;
