@@ -19,7 +19,8 @@ fn serve_buffered<R: Input + Print + AllocGlobal>(rt: &R) -> io::Result<Result<(
     }
 }
 
-/// Answers the lines of standard input. Want of memory for the buffers is want of memory.
+/// Answers the lines of standard input on standard output. The status is 0 once the input is read, and else 1, with the fault's name
+/// on standard error; `Memory` also where there is none for the buffers.
 pub fn serve_input<R: Input + Print + Eprint + AllocGlobal>(rt: &R) -> ExitCode {
     let fault = match serve_buffered(rt) {
         Ok(Ok(())) => return ExitCode::SUCCESS,

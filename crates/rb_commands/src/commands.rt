@@ -20,7 +20,9 @@ fn compiled(alloc: Global, text: &[u8]) -> Result<Vec<u8>, SourceFault> {
     }
 }
 
-/// Compiles a text before anything is written.
+/// Compiles the bundle text `input` to the file `output`, and says how many bytes it has. The text is compiled before anything is
+/// written. The status is 0; 1 where the text is refused, with its line and the fault's name on standard error, or out of memory;
+/// 2 where a file or standard output can't be read or written, and then no half file is left.
 pub fn compile<R: Files + AllocGlobal + Print + Eprint>(
     rt: &R,
     input: &str,
@@ -45,7 +47,8 @@ pub fn compile<R: Files + AllocGlobal + Print + Eprint>(
     printed(rt, println!(rt; "wrote {count} bytes"))
 }
 
-/// Checks a file.
+/// Checks the file `name`, and prints `ok` where it is accepted. The status is 0; 1 where the file is refused, with the fault's name
+/// on standard error; 2 where it can't be read or standard output can't be written.
 pub fn check<R: Files + AllocGlobal + Print + Eprint>(rt: &R, name: &str) -> ExitCode {
     let bytes = match read_file(rt, name) {
         Ok(bytes) => bytes,
