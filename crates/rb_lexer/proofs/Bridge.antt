@@ -1,11 +1,13 @@
 -- Both readings have the same tokens: lexemes, and the atoms that they are made of.
 use Rattle.std.proofs.Common.{◌≡◌, ℕ, ◌+◌, true, false, List, [], ◌∷◌, ◌++◌, Option, Some, None, refl, sym, ap, ◌∙◌, arith, append_assoc, append-nil, ◌⊎◌, inl, inr, ⊎_elim}
 use Rattle.rb_lexer.specs.declared.token.Token.{Token}
-use Rattle.rb_lexer.specs.declared.piece.Piece.{Piece}
+use Rattle.rb_lexer.specs.declared.pending.PendingText.{PendingText}
 use Rattle.rb_lexer.specs.Lexeme.{quote, Comment, comment_chars, IsComment, Part, plain, escaped, dropped, part_chars, parts_chars, part_units, parts_units, IsUnquotedPart, AreParts, Stays, LastStays, FirstStays, Lexeme, white, comment, sign, quoted, unquoted, chars_of, EndsUnquoted, AreLexemes}
-use Rattle.rb_lexer.specs.Tokens.{width, grown, between, piece, tokens_from, past_lexeme, sign_token, flushed}
+use Rattle.rb_lexer.specs.Tokens.{width, past_lexeme, tokens_of}
+use Rattle.rb_lexer.specs.Merging.{grown, between, piece, tokens_from, sign_token, flushed}
 use Rattle.rb_lexer.specs.Atom.{Atom, blank, remark, punct, cited, single, atom_chars, IsAtom, atoms_chars, AreAtoms, past_atom, atoms_tokens, longer}
 use Rattle.rb_lexer.proofs.Turns.{width_atom}
+use Rattle.rb_lexer.proofs.Merged.{merged}
 
 abbrev pub part_atom : Part → Atom
 part_atom (plain c) = single (plain c)
@@ -116,7 +118,7 @@ grouped (cited ps ∷ xs) rest h = let w = grouped xs rest h.1 in (quoted ps ∷
 grouped (single p ∷ xs) rest h = let w = grouped xs rest h.1 in single_with p w.0 xs rest w.1 h.0 w.2
 
 -- ---- the tokens
-longer_grown : (bytes : List ℕ) (held : Option Piece) (at q r first : ℕ) (us vs : List ℕ) → longer (Some (grown held (piece bytes us false at q))) (piece bytes vs false first r) ≡ grown held (piece bytes (us ++ vs) false at r)
+longer_grown : (bytes : List ℕ) (pending : Option PendingText) (at q r first : ℕ) (us vs : List ℕ) → longer (Some (grown pending (piece bytes us false at q))) (piece bytes vs false first r) ≡ grown pending (piece bytes (us ++ vs) false at r)
 longer_grown bytes None at q r first us vs = refl
 longer_grown bytes (Some a) at q r first us vs =
     ap (λ (ws : List ℕ). record { units = ws; is_quoted = false; first = a.first; past = r; line = a.line }) (append_assoc (a.units ++ between a (piece bytes us false at q)) us vs)
@@ -136,20 +138,20 @@ place_kept c (p ∷ ps) q cur h = h
 parts_width : (p : Part) (ps : List Part) → width (parts_chars (p ∷ ps) []) ≡ width (atom_chars (part_atom p) []) + width (parts_chars ps [])
 parts_width p ps = ap width (sym (part_same p (parts_chars ps []))) ∙ width_atom (part_atom p) (parts_chars ps [])
 
-module _ (bytes : List ℕ) (held : Option Piece) (at : ℕ) (xs : List Atom) where
+module _ (bytes : List ℕ) (pending : Option PendingText) (at : ℕ) (xs : List Atom) where
   abbrev Run : List Part → List ℕ → ℕ → ℕ → Type 0
-  Run ps us q cur = atoms_tokens bytes cur (Some (grown held (piece bytes us false at q))) true (parts_atoms ps xs)
-      ≡ atoms_tokens bytes (cur + width (parts_chars ps [])) (Some (grown held (piece bytes (us ++ parts_units ps) false at (cur + width (parts_chars ps []))))) true xs
+  Run ps us q cur = atoms_tokens bytes cur (Some (grown pending (piece bytes us false at q))) true (parts_atoms ps xs)
+      ≡ atoms_tokens bytes (cur + width (parts_chars ps [])) (Some (grown pending (piece bytes (us ++ parts_units ps) false at (cur + width (parts_chars ps []))))) true xs
 
   stay_run : (p : Part) (ps : List Part) (us : List ℕ) (q cur : ℕ) → part_atom p ≡ single p → ((vs : List ℕ) (r : ℕ) → PlaceOr ps r r → Run ps vs r r) → LastStays (p ∷ ps) → Run (p ∷ ps) us q cur
   stay_run p ps us q cur is again last =
       let r = past_atom cur (single p) in
       let place : cur + width (parts_chars (p ∷ ps) []) ≡ r + width (parts_chars ps []) = omega (arith, parts_width p ps, ap (λ (a : Atom). width (atom_chars a [])) is) in
-      ap (λ (a : Atom). atoms_tokens bytes cur (Some (grown held (piece bytes us false at q))) true (a ∷ parts_atoms ps xs)) is
-      ∙ ap (λ (h : Piece). atoms_tokens bytes r (Some h) true (parts_atoms ps xs)) (longer_grown bytes held at q r cur us (part_units p))
+      ap (λ (a : Atom). atoms_tokens bytes cur (Some (grown pending (piece bytes us false at q))) true (a ∷ parts_atoms ps xs)) is
+      ∙ ap (λ (h : PendingText). atoms_tokens bytes r (Some h) true (parts_atoms ps xs)) (longer_grown bytes pending at q r cur us (part_units p))
       ∙ again (us ++ part_units p) r (place_next p ps r last)
-      ∙ ap (λ n. atoms_tokens bytes n (Some (grown held (piece bytes ((us ++ part_units p) ++ parts_units ps) false at n))) true xs) (sym place)
-      ∙ ap (λ (ws : List ℕ). atoms_tokens bytes (cur + width (parts_chars (p ∷ ps) [])) (Some (grown held (piece bytes ws false at (cur + width (parts_chars (p ∷ ps) []))))) true xs) (append_assoc us (part_units p) (parts_units ps))
+      ∙ ap (λ n. atoms_tokens bytes n (Some (grown pending (piece bytes ((us ++ part_units p) ++ parts_units ps) false at n))) true xs) (sym place)
+      ∙ ap (λ (ws : List ℕ). atoms_tokens bytes (cur + width (parts_chars (p ∷ ps) [])) (Some (grown pending (piece bytes ws false at (cur + width (parts_chars (p ∷ ps) []))))) true xs) (append_assoc us (part_units p) (parts_units ps))
 
   parts_run : (ps : List Part) (us : List ℕ) (q cur : ℕ) → PlaceOr ps q cur → Run ps us q cur
   parts_run [] us q cur h = let e : cur + width [] ≡ q = omega (arith, h) in rw (append-nil us, e, h) refl
@@ -159,38 +161,41 @@ module _ (bytes : List ℕ) (held : Option Piece) (at : ℕ) (xs : List Atom) wh
       let r = past_atom cur (remark c) in
       let place : cur + width (parts_chars (dropped c ∷ ps) []) ≡ r + width (parts_chars ps []) = omega (arith, parts_width (dropped c) ps) in
       parts_run ps us q r (place_kept c ps q r h)
-      ∙ ap (λ n. atoms_tokens bytes n (Some (grown held (piece bytes (us ++ parts_units ps) false at n))) true xs) (sym place)
+      ∙ ap (λ n. atoms_tokens bytes n (Some (grown pending (piece bytes (us ++ parts_units ps) false at n))) true xs) (sym place)
 
-open_or : (bytes : List ℕ) (at : ℕ) (held : Option Piece) (ls : List Lexeme) → EndsUnquoted ls → atoms_tokens bytes at held true (flat ls) ≡ atoms_tokens bytes at held false (flat ls)
-open_or bytes at held [] h = refl
-open_or bytes at held (white c ∷ ls) h = refl
-open_or bytes at held (comment c ∷ ls) h = open_or bytes (past_atom at (remark c)) held ls h
-open_or bytes at held (sign c ∷ ls) h = refl
-open_or bytes at held (quoted ps ∷ ls) h = refl
-open_or bytes at held (unquoted ps ∷ ls) h = absurd h
+open_or : (bytes : List ℕ) (at : ℕ) (pending : Option PendingText) (ls : List Lexeme) → EndsUnquoted ls → atoms_tokens bytes at pending true (flat ls) ≡ atoms_tokens bytes at pending false (flat ls)
+open_or bytes at pending [] h = refl
+open_or bytes at pending (white c ∷ ls) h = refl
+open_or bytes at pending (comment c ∷ ls) h = open_or bytes (past_atom at (remark c)) pending ls h
+open_or bytes at pending (sign c ∷ ls) h = refl
+open_or bytes at pending (quoted ps ∷ ls) h = refl
+open_or bytes at pending (unquoted ps ∷ ls) h = absurd h
 
-unquoted_tokens : (bytes : List ℕ) (held : Option Piece) (at : ℕ) (xs : List Atom) (ps : List Part) → FirstStays ps → LastStays ps
-    → atoms_tokens bytes at held false (parts_atoms ps xs) ≡ atoms_tokens bytes (at + width (parts_chars ps [])) (Some (grown held (piece bytes (parts_units ps) false at (at + width (parts_chars ps []))))) true xs
-unquoted_tokens bytes held at xs [] h k = absurd h
-unquoted_tokens bytes held at xs (plain c ∷ ps) h k =
+unquoted_tokens : (bytes : List ℕ) (pending : Option PendingText) (at : ℕ) (xs : List Atom) (ps : List Part) → FirstStays ps → LastStays ps
+    → atoms_tokens bytes at pending false (parts_atoms ps xs) ≡ atoms_tokens bytes (at + width (parts_chars ps [])) (Some (grown pending (piece bytes (parts_units ps) false at (at + width (parts_chars ps []))))) true xs
+unquoted_tokens bytes pending at xs [] h k = absurd h
+unquoted_tokens bytes pending at xs (plain c ∷ ps) h k =
     let r = past_atom at (single (plain c)) in
     let place : at + width (parts_chars (plain c ∷ ps) []) ≡ r + width (parts_chars ps []) = omega (arith, parts_width (plain c) ps) in
-    parts_run bytes held at xs ps (part_units (plain c)) r r (place_next (plain c) ps r k)
-    ∙ ap (λ n. atoms_tokens bytes n (Some (grown held (piece bytes (parts_units (plain c ∷ ps)) false at n))) true xs) (sym place)
-unquoted_tokens bytes held at xs (escaped d ∷ ps) h k =
+    parts_run bytes pending at xs ps (part_units (plain c)) r r (place_next (plain c) ps r k)
+    ∙ ap (λ n. atoms_tokens bytes n (Some (grown pending (piece bytes (parts_units (plain c ∷ ps)) false at n))) true xs) (sym place)
+unquoted_tokens bytes pending at xs (escaped d ∷ ps) h k =
     let r = past_atom at (single (escaped d)) in
     let place : at + width (parts_chars (escaped d ∷ ps) []) ≡ r + width (parts_chars ps []) = omega (arith, parts_width (escaped d) ps) in
-    parts_run bytes held at xs ps (part_units (escaped d)) r r (place_next (escaped d) ps r k)
-    ∙ ap (λ n. atoms_tokens bytes n (Some (grown held (piece bytes (parts_units (escaped d ∷ ps)) false at n))) true xs) (sym place)
-unquoted_tokens bytes held at xs (dropped c ∷ ps) h k = absurd h
+    parts_run bytes pending at xs ps (part_units (escaped d)) r r (place_next (escaped d) ps r k)
+    ∙ ap (λ n. atoms_tokens bytes n (Some (grown pending (piece bytes (parts_units (escaped d ∷ ps)) false at n))) true xs) (sym place)
+unquoted_tokens bytes pending at xs (dropped c ∷ ps) h k = absurd h
 
-pub flat_tokens : (bytes : List ℕ) (ls : List Lexeme) (rest : List ℕ) → AreLexemes ls rest → (at : ℕ) (held : Option Piece) → atoms_tokens bytes at held false (flat ls) ≡ tokens_from bytes at held ls
-flat_tokens bytes [] rest h at held = refl
-flat_tokens bytes (white c ∷ ls) rest h at held = flat_tokens bytes ls rest h.1 (past_lexeme at (white c)) held
-flat_tokens bytes (comment c ∷ ls) rest h at held = flat_tokens bytes ls rest h.1 (past_lexeme at (comment c)) held
-flat_tokens bytes (sign c ∷ ls) rest h at held = ap (λ (ts : List Token). flushed held (sign_token bytes c at (past_lexeme at (sign c)) ∷ ts)) (flat_tokens bytes ls rest h.1 (past_lexeme at (sign c)) None)
-flat_tokens bytes (quoted ps ∷ ls) rest h at held = flat_tokens bytes ls rest h.1 (past_lexeme at (quoted ps)) (Some (grown held (piece bytes (parts_units ps) true at (past_lexeme at (quoted ps)))))
-flat_tokens bytes (unquoted ps ∷ ls) rest h at held =
-    unquoted_tokens bytes held at (flat ls) ps h.1 h.2
-    ∙ open_or bytes (past_lexeme at (unquoted ps)) (Some (grown held (piece bytes (parts_units ps) false at (past_lexeme at (unquoted ps))))) ls h.3
-    ∙ flat_tokens bytes ls rest h.4 (past_lexeme at (unquoted ps)) (Some (grown held (piece bytes (parts_units ps) false at (past_lexeme at (unquoted ps)))))
+flat_tokens : (bytes : List ℕ) (ls : List Lexeme) (rest : List ℕ) → AreLexemes ls rest → (at : ℕ) (pending : Option PendingText) → atoms_tokens bytes at pending false (flat ls) ≡ tokens_from bytes at pending ls
+flat_tokens bytes [] rest h at pending = refl
+flat_tokens bytes (white c ∷ ls) rest h at pending = flat_tokens bytes ls rest h.1 (past_lexeme at (white c)) pending
+flat_tokens bytes (comment c ∷ ls) rest h at pending = flat_tokens bytes ls rest h.1 (past_lexeme at (comment c)) pending
+flat_tokens bytes (sign c ∷ ls) rest h at pending = ap (λ (ts : List Token). flushed pending (sign_token bytes c at (past_lexeme at (sign c)) ∷ ts)) (flat_tokens bytes ls rest h.1 (past_lexeme at (sign c)) None)
+flat_tokens bytes (quoted ps ∷ ls) rest h at pending = flat_tokens bytes ls rest h.1 (past_lexeme at (quoted ps)) (Some (grown pending (piece bytes (parts_units ps) true at (past_lexeme at (quoted ps)))))
+flat_tokens bytes (unquoted ps ∷ ls) rest h at pending =
+    unquoted_tokens bytes pending at (flat ls) ps h.1 h.2
+    ∙ open_or bytes (past_lexeme at (unquoted ps)) (Some (grown pending (piece bytes (parts_units ps) false at (past_lexeme at (unquoted ps))))) ls h.3
+    ∙ flat_tokens bytes ls rest h.4 (past_lexeme at (unquoted ps)) (Some (grown pending (piece bytes (parts_units ps) false at (past_lexeme at (unquoted ps)))))
+
+pub flat_tokens_of : (bytes : List ℕ) (ls : List Lexeme) → AreLexemes ls [] → atoms_tokens bytes 0 None false (flat ls) ≡ tokens_of bytes ls
+flat_tokens_of bytes ls good = flat_tokens bytes ls [] good 0 None ∙ merged bytes ls

@@ -5,14 +5,13 @@ use Rattle.std.proofs.lemmas.Str.{encodes_same, utf8_valid_len-IsValidUpTo}
 use Rattle.rb_lexer.specs.declared.token.Token.{Token}
 use Rattle.rb_lexer.specs.declared.fault.SourceKind.{SourceKind}
 use Rattle.rb_lexer.specs.declared.fault.SourceKind.TheVariants.{Memory}
-use Rattle.rb_lexer.specs.declared.limits.TheConstants.{SOURCE_LIMIT}
 use Rattle.rb_lexer.specs.declared.fault.SourceFault.{SourceFault}
 use Rattle.rb_lexer.specs.Lexeme.{Lexeme, chars_of, AreLexemes}
-use Rattle.rb_lexer.specs.Tokens.{width, line_of, HasTokens}
+use Rattle.rb_lexer.specs.Tokens.{width, line_of, HasTokens, LexesTo}
 use Rattle.rb_lexer.specs.Faults.{Broken, broken_chars, IsBroken, broken_kind, from_fault, HasFault}
 use Rattle.rb_lexer.specs.Atom.{Atom, atoms_chars, AreAtoms, atoms_tokens}
 use Rattle.rb_lexer.specs.Faults.{IsGarbled, IsTextFault, IsSourceFault, IsRefusal}
-use Rattle.rb_lexer.proofs.Bridge.{flat, flat_chars, flat_good, flat_tokens}
+use Rattle.rb_lexer.proofs.Bridge.{flat, flat_chars, flat_good, flat_tokens_of}
 use Rattle.rb_lexer.proofs.Unique.{Front, at_atom, at_broken, at_end, front_one}
 
 abbrev pub tail : Option Broken → List ℕ
@@ -61,7 +60,7 @@ lexemes_one ls ms b c g h p q e = texts_one (flat ls) (flat ms) b c g h (flat_go
 pub tokens_one : (bytes : List ℕ) (ts us : List Token) → HasTokens bytes ts → HasTokens bytes us → ts ≡ us
 tokens_one bytes ts us a b =
     let w = lexemes_one a.lexemes b.lexemes None None tt tt a.good b.good (encodes_same _ _ (sym a.spelled ∙ b.spelled)) in
-    a.tokens ∙ sym (flat_tokens bytes a.lexemes [] a.good 0 None) ∙ ap (atoms_tokens bytes 0 None false) w.0 ∙ flat_tokens bytes b.lexemes [] b.good 0 None ∙ sym b.tokens
+    a.tokens ∙ sym (flat_tokens_of bytes a.lexemes a.good) ∙ ap (atoms_tokens bytes 0 None false) w.0 ∙ flat_tokens_of bytes b.lexemes b.good ∙ sym b.tokens
 
 pub not_both : (bytes : List ℕ) (ts : List Token) (kind : SourceKind) (line : ℕ) → HasTokens bytes ts → HasFault bytes kind line → ⊥
 not_both bytes ts kind line a b =
@@ -87,20 +86,26 @@ fault_one bytes kind other line at a b =
 not_valid : (bytes : List ℕ) (at : ℕ) → IsValidUpTo bytes at → IsUtf8 bytes → ⊥
 not_valid bytes at v u = v.longest (length bytes) v.short (rw (take_all (length bytes) bytes (le_refl (length bytes))) u)
 
-text_or_utf8 : (bytes : List ℕ) (kind : SourceKind) (line : ℕ) → IsTextFault bytes kind line → length bytes ≤ SOURCE_LIMIT → IsUtf8 bytes → ⊥
+text_or_utf8 : (bytes : List ℕ) (kind : SourceKind) (line : ℕ) → IsTextFault bytes kind line → length bytes ≤ 8388608 → IsUtf8 bytes → ⊥
 text_or_utf8 bytes kind line f short u = ⊎_elim (λ x. omega (arith, x.1.0)) (λ x. not_valid bytes x.1.1.0 x.1.1.1 u) f
 
 utf8_of : (bytes : List ℕ) (ts : List Token) → HasTokens bytes ts → IsUtf8 bytes
 utf8_of bytes ts h = (chars_of h.lexemes [], (h.scalars, sym h.spelled))
 
-pub source_or : (bytes : List ℕ) (ts : List Token) (kind : SourceKind) (line : ℕ) → length bytes ≤ SOURCE_LIMIT → HasTokens bytes ts → IsSourceFault bytes kind line → ⊥
+pub source_or : (bytes : List ℕ) (ts : List Token) (kind : SourceKind) (line : ℕ) → length bytes ≤ 8388608 → HasTokens bytes ts → IsSourceFault bytes kind line → ⊥
 source_or bytes ts kind line short h f = ⊎_elim (λ t. text_or_utf8 bytes kind line t short (utf8_of bytes ts h)) (λ t. not_both bytes ts kind line h t.1) f
+
+pub lexed_one : (bytes : List ℕ) (ts us : List Token) → LexesTo bytes ts → LexesTo bytes us → ts ≡ us
+lexed_one bytes ts us a b = tokens_one bytes ts us a.1 b.1
+
+pub lexed_or : (bytes : List ℕ) (ts : List Token) (kind : SourceKind) (line : ℕ) → LexesTo bytes ts → IsSourceFault bytes kind line → ⊥
+lexed_or bytes ts kind line h f = source_or bytes ts kind line h.0 h.1 f
 
 pub only_ok : (bytes : List ℕ) (tokens ts : List Token) → HasTokens bytes tokens → HasTokens bytes ts → tokens ≡ ts
 only_ok bytes tokens ts a b = tokens_one bytes tokens ts a b
 
-pub only_err : (bytes : List ℕ) (e : SourceFault) → IsRefusal bytes e → (ts : List Token) → length bytes ≤ SOURCE_LIMIT → HasTokens bytes ts → e.kind ≡ Memory
-only_err bytes e r ts short h = ⊎_elim (λ m. m.0) (λ f. absurd (source_or bytes ts e.kind e.line short h f)) r
+pub only_err : (bytes : List ℕ) (e : SourceFault) → IsRefusal bytes e → (ts : List Token) → LexesTo bytes ts → e.kind ≡ Memory
+only_err bytes e r ts h = ⊎_elim (λ m. m.0) (λ f. absurd (lexed_or bytes ts e.kind e.line h f)) r
 
 -- ---- any fault of a source
 garbled_one : (bytes : List ℕ) (line at : ℕ) → IsGarbled bytes line → IsGarbled bytes at → line ≡ at

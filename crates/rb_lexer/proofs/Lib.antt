@@ -4,6 +4,7 @@ pub mod Comments
 pub mod Parts
 pub mod Items
 pub mod Turns
+pub mod Merged
 pub mod Bridge
 pub mod Whole
 pub mod Unique

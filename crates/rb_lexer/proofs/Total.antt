@@ -3,14 +3,13 @@ use Rattle.std.proofs.Common.{◌≡◌, ◌≢◌, ℕ, zero, suc, ◌≤◌, �
 use Rattle.std.proofs.lemmas.Bool.{cases_Bool}
 use Rattle.std.proofs.lemmas.Str.{IsUtf8-from_is_utf8, is_utf8-from_IsUtf8, IsUtf8-nil}
 use Rattle.std.specs.Str.{all_scalars, IsValidUpTo, is_utf8}
-use Rattle.rb_lexer.specs.declared.limits.TheConstants.{SOURCE_LIMIT}
 use Rattle.rb_lexer.specs.declared.token.Token.{Token}
 use Rattle.rb_lexer.specs.declared.fault.SourceKind.{SourceKind}
 use Rattle.rb_lexer.specs.declared.fault.SourceKind.TheVariants.{TooLong, NotUtf8, BadEscape, OpenQuote}
 use Rattle.rb_lexer.specs.declared.fault.Stop.{Stop}
 use Rattle.rb_lexer.specs.Lexeme.{quote, backslash, slash, star, is_white, is_sign, begins_comment, ends_line, Escape, escape_chars, escape_value, units_of, Comment, line_comment, block_comment, comment_chars, HasNoEnd, plain, escaped, dropped, IsQuotedPart}
 use Rattle.rb_lexer.specs.Escapes.{escape_at}
-use Rattle.rb_lexer.specs.Tokens.{width, line_of, HasTokens}
+use Rattle.rb_lexer.specs.Tokens.{width, line_of, HasTokens, LexesTo}
 use Rattle.rb_lexer.specs.Faults.{Broken, open_comment, bad_escape, broken_chars, IsBroken, broken_kind, from_fault, HasFault, IsSourceFault}
 use Rattle.rb_lexer.specs.Atom.{Atom, blank, remark, punct, cited, single, atom_chars, IsAtom, atoms_chars, AreAtoms, atoms_tokens}
 use Rattle.rb_lexer.proofs.Escapes.{escape_takes, no_escape}
@@ -206,12 +205,15 @@ valid_up_to bytes garbled =
     )
 
 -- ---- any source
-pub source_answered : (bytes : List ℕ) → ((ts : List Token) × HasTokens bytes ts) ⊎ ((kind : SourceKind) × ((line : ℕ) × IsSourceFault bytes kind line))
-source_answered bytes =
-    ⊎_elim (λ long. inr (TooLong, (1, inl (inl (refl, (ltb-true SOURCE_LIMIT (length bytes) long, refl))))))
+pub lexed_answered : (bytes : List ℕ) → ((ts : List Token) × LexesTo bytes ts) ⊎ ((kind : SourceKind) × ((line : ℕ) × IsSourceFault bytes kind line))
+lexed_answered bytes =
+    ⊎_elim (λ long. inr (TooLong, (1, inl (inl (refl, (ltb-true 8388608 (length bytes) long, refl))))))
     (λ short. ⊎_elim
-    (λ a. ⊎_elim (λ w. inl w) (λ w. inr (w.0, (w.1.0, inr (ltb-false SOURCE_LIMIT (length bytes) short, w.1.1)))) (utf8_answered bytes (IsUtf8-from_is_utf8 bytes a)))
+    (λ a. ⊎_elim (λ w. inl (w.0, (ltb-false 8388608 (length bytes) short, w.1))) (λ w. inr (w.0, (w.1.0, inr (ltb-false 8388608 (length bytes) short, w.1.1)))) (utf8_answered bytes (IsUtf8-from_is_utf8 bytes a)))
     (λ a. let w = valid_up_to bytes (λ u. let k = is_utf8-from_IsUtf8 bytes u in cc) in
-    inr (NotUtf8, (line_of bytes w.0, inl (inr (refl, (ltb-false SOURCE_LIMIT (length bytes) short, (w.0, w.1, refl)))))))
+    inr (NotUtf8, (line_of bytes w.0, inl (inr (refl, (ltb-false 8388608 (length bytes) short, (w.0, w.1, refl)))))))
     (cases_Bool (is_utf8 bytes)))
-    (cases_Bool (nat_lt SOURCE_LIMIT (length bytes)))
+    (cases_Bool (nat_lt 8388608 (length bytes)))
+
+pub source_answered : (bytes : List ℕ) → ((ts : List Token) × HasTokens bytes ts) ⊎ ((kind : SourceKind) × ((line : ℕ) × IsSourceFault bytes kind line))
+source_answered bytes = ⊎_elim (λ w. inl (w.0, w.1.1)) (λ w. inr w) (lexed_answered bytes)

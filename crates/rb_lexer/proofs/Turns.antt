@@ -4,12 +4,13 @@ use Rattle.std.specs.Global.{Vec}
 use Rattle.std.proofs.lemmas.List.Sums.{sum_by-append}
 use Rattle.std.proofs.lemmas.Str.{encodes-append}
 use Rattle.rb_lexer.specs.declared.token.Token.{Token}
-use Rattle.rb_lexer.specs.declared.piece.Piece.{Piece}
+use Rattle.rb_lexer.specs.declared.pending.PendingText.{PendingText}
 use Rattle.rb_lexer.specs.declared.fault.SourceKind.TheVariants.{Memory}
 use Rattle.rb_lexer.specs.declared.fault.Stop.{Stop}
 use Rattle.rb_lexer.specs.Lexeme.{quote, Escape, four, eight, hex, octal, letter, escape_chars, Comment, line_comment, block_comment, comment_chars, Part, plain, escaped, dropped, part_chars, parts_chars, slash, star}
 use Rattle.rb_lexer.specs.Faults.{Broken, open_quote, open_comment, bad_escape, bad_quoted, broken_chars, IsBroken, broken_kind, from_fault}
-use Rattle.rb_lexer.specs.Tokens.{width, line_of, flushed}
+use Rattle.rb_lexer.specs.Tokens.{width, line_of}
+use Rattle.rb_lexer.specs.Merging.{flushed}
 use Rattle.rb_lexer.specs.Atom.{Atom, blank, remark, punct, cited, single, atom_chars, atoms_chars, AreAtoms, atoms_tokens, Stops, EndsSo}
 
 -- ---- widths
@@ -68,21 +69,21 @@ are_front [] ys rest h k = k
 are_front (a ∷ xs) ys rest h k = (rw (chars_front xs ys rest) h.0, are_front xs ys rest h.1 k)
 
 -- ---- the loop
-abbrev pub GoesOn : List ℕ → List ℕ → List Token → ℕ → Option Piece → Bool → List ℕ → Type 0
-GoesOn bytes text tokens at held is_open rest = (xs : List Atom) (end : List ℕ) → rest ≡ atoms_chars xs end → AreAtoms xs end
-    → (ys : List Atom) × (text ≡ atoms_chars ys end) × AreAtoms ys end × (atoms_tokens bytes 0 None false ys ≡ tokens ++ atoms_tokens bytes at held is_open xs)
+abbrev pub GoesOn : List ℕ → List ℕ → List Token → ℕ → Option PendingText → Bool → List ℕ → Type 0
+GoesOn bytes text tokens at pending is_open rest = (xs : List Atom) (end : List ℕ) → rest ≡ atoms_chars xs end → AreAtoms xs end
+    → (ys : List Atom) × (text ≡ atoms_chars ys end) × AreAtoms ys end × (atoms_tokens bytes 0 None false ys ≡ tokens ++ atoms_tokens bytes at pending is_open xs)
 
 pub items_start : (bytes text : List ℕ) → GoesOn bytes text [] 0 None false text
 items_start bytes text xs end e good = (xs, e, good, refl)
 
-module _ (bytes text : List ℕ) (tokens : List Token) (at : ℕ) (held : Option Piece) (is_open : Bool) (rest : List ℕ) (so_far : GoesOn bytes text tokens at held is_open rest) where
-  pub items_more : (front : List Atom) (after : List ℕ) → rest ≡ atoms_chars front after → AreAtoms front after → (past : ℕ) (tokens' : List Token) (held' : Option Piece) (is_open' : Bool)
-      → ((xs : List Atom) → tokens ++ atoms_tokens bytes at held is_open (front ++ xs) ≡ tokens' ++ atoms_tokens bytes past held' is_open' xs) → GoesOn bytes text tokens' past held' is_open' after
-  items_more front after e are past tokens' held' is_open' added xs end spelled good =
+module _ (bytes text : List ℕ) (tokens : List Token) (at : ℕ) (pending : Option PendingText) (is_open : Bool) (rest : List ℕ) (so_far : GoesOn bytes text tokens at pending is_open rest) where
+  pub items_more : (front : List Atom) (after : List ℕ) → rest ≡ atoms_chars front after → AreAtoms front after → (past : ℕ) (tokens' : List Token) (pending' : Option PendingText) (is_open' : Bool)
+      → ((xs : List Atom) → tokens ++ atoms_tokens bytes at pending is_open (front ++ xs) ≡ tokens' ++ atoms_tokens bytes past pending' is_open' xs) → GoesOn bytes text tokens' past pending' is_open' after
+  items_more front after e are past tokens' pending' is_open' added xs end spelled good =
       let w = so_far (front ++ xs) end (e ∙ ap (atoms_chars front) spelled ∙ sym (chars_front front xs end)) (are_front front xs end (rw (sym spelled) are) good) in
       (w.0, w.1, w.2, w.3 ∙ added xs)
 
-  pub items_end : rest ≡ [] → (all : List Token) → all ≡ tokens ++ flushed held [] → (xs : List Atom) × (text ≡ atoms_chars xs []) × AreAtoms xs [] × (all ≡ atoms_tokens bytes 0 None false xs)
+  pub items_end : rest ≡ [] → (all : List Token) → all ≡ tokens ++ flushed pending [] → (xs : List Atom) × (text ≡ atoms_chars xs []) × AreAtoms xs [] × (all ≡ atoms_tokens bytes 0 None false xs)
   items_end e all is = let w = so_far [] [] e tt in (w.0, w.1, w.2, is ∙ sym w.3)
 
   pub items_stop : (s : Stop) → Stops s rest → (s.kind ≡ Memory → ⊥) → (xs : List Atom) × ((b : Broken) × ((text ≡ atoms_chars xs (broken_chars b)) × AreAtoms xs (broken_chars b) × IsBroken b × (s.kind ≡ broken_kind b) × (s.left ≡ width (from_fault b))))
@@ -91,12 +92,12 @@ module _ (bytes text : List ℕ) (tokens : List Token) (at : ℕ) (held : Option
 pub turn_place : (first : ℕ) (rest after : List ℕ) (all : ℕ) → first + width rest ≡ all → (front : List Atom) → rest ≡ atoms_chars front after → first + (width (atoms_chars front []) + width after) ≡ all
 turn_place first rest after all at front e = ap (λ n. first + n) (sym (ap width e ∙ width_atoms front after)) ∙ at
 
-module _ (bytes text : List ℕ) (tokens : List Token) (at : ℕ) (held : Option Piece) (is_open : Bool) (rest : List ℕ) (so_far : GoesOn bytes text tokens at held is_open rest) where
-  pub items_turn : (all : ℕ) → at + width rest ≡ all → (front : List Atom) (after : List ℕ) → rest ≡ atoms_chars front after → AreAtoms front after → (past : ℕ) → past ≡ all - width after → (tokens' : List Token) (held' : Option Piece) (is_open' : Bool)
-      → ((xs : List Atom) → past ≡ at + width (atoms_chars front []) → tokens ++ atoms_tokens bytes at held is_open (front ++ xs) ≡ tokens' ++ atoms_tokens bytes past held' is_open' xs) → GoesOn bytes text tokens' past held' is_open' after
-  items_turn all place front after e are past at_past tokens' held' is_open' added =
+module _ (bytes text : List ℕ) (tokens : List Token) (at : ℕ) (pending : Option PendingText) (is_open : Bool) (rest : List ℕ) (so_far : GoesOn bytes text tokens at pending is_open rest) where
+  pub items_turn : (all : ℕ) → at + width rest ≡ all → (front : List Atom) (after : List ℕ) → rest ≡ atoms_chars front after → AreAtoms front after → (past : ℕ) → past ≡ all - width after → (tokens' : List Token) (pending' : Option PendingText) (is_open' : Bool)
+      → ((xs : List Atom) → past ≡ at + width (atoms_chars front []) → tokens ++ atoms_tokens bytes at pending is_open (front ++ xs) ≡ tokens' ++ atoms_tokens bytes past pending' is_open' xs) → GoesOn bytes text tokens' past pending' is_open' after
+  items_turn all place front after e are past at_past tokens' pending' is_open' added =
       let p = turn_place at rest after all place front e in
-      items_more bytes text tokens at held is_open rest so_far front after e are past tokens' held' is_open' (λ xs. added xs (omega (arith, p, at_past)))
+      items_more bytes text tokens at pending is_open rest so_far front after e are past tokens' pending' is_open' (λ xs. added xs (omega (arith, p, at_past)))
 
 pub lines_between : (bytes : List ℕ) (first past : ℕ) → first ≤ past → line_of bytes first + count_by (λ b. eqb b 0x0A) (take (past - first) (drop first bytes)) ≡ line_of bytes past
 lines_between bytes first past order =
@@ -104,10 +105,10 @@ lines_between bytes first past order =
     let parts = ap (λ n. count_by (λ b. eqb b 0x0A) (take n bytes)) whole ∙ ap (count_by (λ b. eqb b 0x0A)) (take-add first (past - first) bytes) ∙ sum_by-append (λ b. cond (eqb b 0x0A) 1 0) (take first bytes) (take (past - first) (drop first bytes)) in
     omega (arith, parts)
 
-pub finish_so : (r : Result (Vec Token) Stop) (bytes text : List ℕ) (tokens : List Token) (at : ℕ) (held : Option Piece) (is_open : Bool) (rest : List ℕ) → GoesOn bytes text tokens at held is_open rest → rest ≡ []
-    → IfErr r (λ stop. stop.kind ≡ Memory) → IfOk r (λ all. all.items ≡ tokens ++ flushed held []) → EndsSo r bytes text
-finish_so (Ok all) bytes text tokens at held is_open rest so_far e memory is = items_end bytes text tokens at held is_open rest so_far e all.items is
-finish_so (Err stop) bytes text tokens at held is_open rest so_far e memory is = λ not_memory. absurd (not_memory memory)
+pub finish_so : (r : Result (Vec Token) Stop) (bytes text : List ℕ) (tokens : List Token) (at : ℕ) (pending : Option PendingText) (is_open : Bool) (rest : List ℕ) → GoesOn bytes text tokens at pending is_open rest → rest ≡ []
+    → IfErr r (λ stop. stop.kind ≡ Memory) → IfOk r (λ all. all.items ≡ tokens ++ flushed pending []) → EndsSo r bytes text
+finish_so (Ok all) bytes text tokens at pending is_open rest so_far e memory is = items_end bytes text tokens at pending is_open rest so_far e all.items is
+finish_so (Err stop) bytes text tokens at pending is_open rest so_far e memory is = λ not_memory. absurd (not_memory memory)
 
 -- ---- where a fault is
 atoms_width : (xs : List Atom) (end : List ℕ) → width end ≤ width (atoms_chars xs end)

@@ -1,6 +1,6 @@
 -- A text is read in one way.
-use Rattle.std.proofs.Common.{◌≡◌, ℕ, Bool, true, false, cond, eqb, not, ◌||◌, ◌⊎◌, inl, inr, ⊎_elim, List, [], ◌∷◌, ◌++◌, Option, Some, None, refl, sym, ap, subst, ◌∙◌, arith, IsTrue, eqb-true, eq-eqb}
-use Rattle.rb_lexer.specs.Lexeme.{is_white, is_sign, quote, backslash, slash, star, begins, begins_comment, ends_line, Escape, escape_chars, IsEscape, line_comment, block_comment, option_chars, IsComment, HasNoEnd, Part, plain, escaped, dropped, parts_chars, IsQuotedPart, AreParts}
+use Rattle.std.proofs.Common.{◌≡◌, ℕ, ◌+◌, ◌*◌, Bool, true, false, cond, eqb, not, ◌||◌, ◌⊎◌, inl, inr, ⊎_elim, List, [], ◌∷◌, ◌++◌, Option, Some, None, refl, sym, ap, subst, ◌∙◌, arith, IsTrue, eqb-true, eq-eqb}
+use Rattle.rb_lexer.specs.Lexeme.{is_white, is_sign, quote, backslash, slash, star, begins, begins_comment, ends_line, Escape, escape_chars, IsEscape, Comment, line_comment, block_comment, option_chars, IsComment, HasNoEnd, Part, plain, escaped, dropped, parts_chars, IsQuotedPart, AreParts}
 use Rattle.rb_lexer.specs.Faults.{Broken, open_quote, open_comment, bad_escape, bad_quoted, broken_chars, IsBroken, NoEscape}
 use Rattle.rb_lexer.specs.Atom.{Atom, blank, remark, punct, cited, single, atom_chars, IsAtom}
 use Rattle.rb_lexer.proofs.Escapes.{escape_one}
@@ -118,24 +118,34 @@ IsFront (at_atom a r) = IsAtom a r
 IsFront (at_broken b) = IsBroken b
 IsFront at_end = Unit {0}
 
+abbrev comment_class : Comment → ℕ
+comment_class (line_comment a b) = 0
+comment_class (block_comment a) = 1
+
+abbrev part_class : Part → ℕ
+part_class (plain c) = 0
+part_class (escaped e) = 1
+part_class (dropped c) = 2
+
+abbrev broken_class : Broken → ℕ
+broken_class (open_quote ps) = 0
+broken_class (open_comment cs) = 1
+broken_class (bad_escape r) = 2
+broken_class (bad_quoted ps r) = 0
+
+-- Two fronts of one text have one class: 1 white space, 2 a sign, 3 a line comment, 4 a character, 10 a quote, 11 a block comment, 12 a backslash.
 abbrev class : Front → ℕ
 class (at_atom (blank c) r) = 1
-class (at_atom (remark (line_comment a b)) r) = 5
-class (at_atom (remark (block_comment a)) r) = 6
+class (at_atom (remark c) r) = 3 + 8 * comment_class c
 class (at_atom (punct c) r) = 2
-class (at_atom (cited ps) r) = 3
-class (at_atom (single (plain c)) r) = 7
-class (at_atom (single (escaped e)) r) = 4
-class (at_atom (single (dropped c)) r) = 8
-class (at_broken (open_quote ps)) = 3
-class (at_broken (open_comment cs)) = 6
-class (at_broken (bad_escape r)) = 4
-class (at_broken (bad_quoted ps r)) = 3
+class (at_atom (cited ps) r) = 10
+class (at_atom (single p) r) = 4 + 8 * part_class p
+class (at_broken b) = 10 + broken_class b
 class at_end = 0
 
 abbrev text_class : List ℕ → ℕ
 text_class [] = 0
-text_class (c ∷ cs) = cond (is_white c) 1 (cond (is_sign c) 2 (cond (eqb c quote) 3 (cond (eqb c backslash) 4 (cond (begins_comment (c ∷ cs)) (cond (begins (λ d. eqb d slash) cs) 5 6) 7))))
+text_class (c ∷ cs) = cond (is_white c) 1 (cond (is_sign c) 2 (cond (eqb c quote) 10 (cond (eqb c backslash) 12 (cond (begins_comment (c ∷ cs)) (cond (begins (λ d. eqb d slash) cs) 3 11) 4))))
 
 or_true : (a b : Bool) → (a || b) ≡ true → (a ≡ true) ⊎ (b ≡ true)
 or_true true b e = inl refl
@@ -156,7 +166,7 @@ not_false : (b : Bool) → IsTrue (not b) → b ≡ false
 not_false true h = cc
 not_false false h = refl
 
-plain_class : (c : ℕ) (r : List ℕ) → IsTrue (not (((is_white c || eqb c quote) || eqb c backslash) || is_sign c)) → IsTrue (not (begins_comment (c ∷ r))) → text_class (c ∷ r) ≡ 7
+plain_class : (c : ℕ) (r : List ℕ) → IsTrue (not (((is_white c || eqb c quote) || eqb c backslash) || is_sign c)) → IsTrue (not (begins_comment (c ∷ r))) → text_class (c ∷ r) ≡ 4
 plain_class c r h k = let w = four_false (is_white c) (eqb c quote) (eqb c backslash) (is_sign c) h in rw (w.0, w.3, w.1, w.2, not_false (begins_comment (c ∷ r)) k) refl
 
 classed : (x : Front) → IsFront x → text_class (front_chars x) ≡ class x
@@ -191,174 +201,41 @@ escaped_same a r aa rr w = rw (w.0, w.1) refl
 
 one : (x y : Front) → IsFront x → IsFront y → front_chars x ≡ front_chars y → class x ≡ class y → x ≡ y
 one (at_atom (blank a) r) (at_atom (blank aa) rr) g h e k = cc
-one (at_atom (blank a) r) (at_atom (remark (line_comment aa bb)) rr) g h e k = absurd (omega arith)
-one (at_atom (blank a) r) (at_atom (remark (block_comment aa)) rr) g h e k = absurd (omega arith)
-one (at_atom (blank a) r) (at_atom (punct aa) rr) g h e k = absurd (omega arith)
-one (at_atom (blank a) r) (at_atom (cited aa) rr) g h e k = absurd (omega arith)
-one (at_atom (blank a) r) (at_atom (single (plain aa)) rr) g h e k = absurd (omega arith)
-one (at_atom (blank a) r) (at_atom (single (escaped aa)) rr) g h e k = absurd (omega arith)
-one (at_atom (blank a) r) (at_atom (single (dropped aa)) rr) g h e k = absurd (omega arith)
-one (at_atom (blank a) r) (at_broken (open_quote aa)) g h e k = absurd (omega arith)
-one (at_atom (blank a) r) (at_broken (open_comment aa)) g h e k = absurd (omega arith)
-one (at_atom (blank a) r) (at_broken (bad_escape rr)) g h e k = absurd (omega arith)
-one (at_atom (blank a) r) (at_broken (bad_quoted aa rr)) g h e k = absurd (omega arith)
-one (at_atom (blank a) r) at_end g h e k = absurd (omega arith)
-one (at_atom (remark (line_comment a b)) r) (at_atom (blank aa) rr) g h e k = absurd (omega arith)
+one (at_atom (blank a) r) y g h e k = absurd (omega arith)
 one (at_atom (remark (line_comment a b)) r) (at_atom (remark (line_comment aa bb)) rr) g h e k = line_same a b r aa bb rr (line_one a aa b bb r rr g h (tails2 e))
-one (at_atom (remark (line_comment a b)) r) (at_atom (remark (block_comment aa)) rr) g h e k = absurd (omega arith)
-one (at_atom (remark (line_comment a b)) r) (at_atom (punct aa) rr) g h e k = absurd (omega arith)
-one (at_atom (remark (line_comment a b)) r) (at_atom (cited aa) rr) g h e k = absurd (omega arith)
-one (at_atom (remark (line_comment a b)) r) (at_atom (single (plain aa)) rr) g h e k = absurd (omega arith)
-one (at_atom (remark (line_comment a b)) r) (at_atom (single (escaped aa)) rr) g h e k = absurd (omega arith)
-one (at_atom (remark (line_comment a b)) r) (at_atom (single (dropped aa)) rr) g h e k = absurd (omega arith)
-one (at_atom (remark (line_comment a b)) r) (at_broken (open_quote aa)) g h e k = absurd (omega arith)
-one (at_atom (remark (line_comment a b)) r) (at_broken (open_comment aa)) g h e k = absurd (omega arith)
-one (at_atom (remark (line_comment a b)) r) (at_broken (bad_escape rr)) g h e k = absurd (omega arith)
-one (at_atom (remark (line_comment a b)) r) (at_broken (bad_quoted aa rr)) g h e k = absurd (omega arith)
-one (at_atom (remark (line_comment a b)) r) at_end g h e k = absurd (omega arith)
-one (at_atom (remark (block_comment a)) r) (at_atom (blank aa) rr) g h e k = absurd (omega arith)
-one (at_atom (remark (block_comment a)) r) (at_atom (remark (line_comment aa bb)) rr) g h e k = absurd (omega arith)
+one (at_atom (remark (line_comment a b)) r) y g h e k = absurd (omega arith)
 one (at_atom (remark (block_comment a)) r) (at_atom (remark (block_comment aa)) rr) g h e k = block_same a r aa rr (block_one a aa r rr g h (tails2 e))
-one (at_atom (remark (block_comment a)) r) (at_atom (punct aa) rr) g h e k = absurd (omega arith)
-one (at_atom (remark (block_comment a)) r) (at_atom (cited aa) rr) g h e k = absurd (omega arith)
-one (at_atom (remark (block_comment a)) r) (at_atom (single (plain aa)) rr) g h e k = absurd (omega arith)
-one (at_atom (remark (block_comment a)) r) (at_atom (single (escaped aa)) rr) g h e k = absurd (omega arith)
-one (at_atom (remark (block_comment a)) r) (at_atom (single (dropped aa)) rr) g h e k = absurd (omega arith)
-one (at_atom (remark (block_comment a)) r) (at_broken (open_quote aa)) g h e k = absurd (omega arith)
 one (at_atom (remark (block_comment a)) r) (at_broken (open_comment aa)) g h e k = absurd (block_never a r aa g h (tails2 e))
-one (at_atom (remark (block_comment a)) r) (at_broken (bad_escape rr)) g h e k = absurd (omega arith)
-one (at_atom (remark (block_comment a)) r) (at_broken (bad_quoted aa rr)) g h e k = absurd (omega arith)
-one (at_atom (remark (block_comment a)) r) at_end g h e k = absurd (omega arith)
-one (at_atom (punct a) r) (at_atom (blank aa) rr) g h e k = absurd (omega arith)
-one (at_atom (punct a) r) (at_atom (remark (line_comment aa bb)) rr) g h e k = absurd (omega arith)
-one (at_atom (punct a) r) (at_atom (remark (block_comment aa)) rr) g h e k = absurd (omega arith)
+one (at_atom (remark (block_comment a)) r) y g h e k = absurd (omega arith)
 one (at_atom (punct a) r) (at_atom (punct aa) rr) g h e k = cc
-one (at_atom (punct a) r) (at_atom (cited aa) rr) g h e k = absurd (omega arith)
-one (at_atom (punct a) r) (at_atom (single (plain aa)) rr) g h e k = absurd (omega arith)
-one (at_atom (punct a) r) (at_atom (single (escaped aa)) rr) g h e k = absurd (omega arith)
-one (at_atom (punct a) r) (at_atom (single (dropped aa)) rr) g h e k = absurd (omega arith)
-one (at_atom (punct a) r) (at_broken (open_quote aa)) g h e k = absurd (omega arith)
-one (at_atom (punct a) r) (at_broken (open_comment aa)) g h e k = absurd (omega arith)
-one (at_atom (punct a) r) (at_broken (bad_escape rr)) g h e k = absurd (omega arith)
-one (at_atom (punct a) r) (at_broken (bad_quoted aa rr)) g h e k = absurd (omega arith)
-one (at_atom (punct a) r) at_end g h e k = absurd (omega arith)
-one (at_atom (cited a) r) (at_atom (blank aa) rr) g h e k = absurd (omega arith)
-one (at_atom (cited a) r) (at_atom (remark (line_comment aa bb)) rr) g h e k = absurd (omega arith)
-one (at_atom (cited a) r) (at_atom (remark (block_comment aa)) rr) g h e k = absurd (omega arith)
-one (at_atom (cited a) r) (at_atom (punct aa) rr) g h e k = absurd (omega arith)
+one (at_atom (punct a) r) y g h e k = absurd (omega arith)
 one (at_atom (cited a) r) (at_atom (cited aa) rr) g h e k = cited_same a r aa rr (parts_one a aa (quote ∷ r) (quote ∷ rr) (inl refl) (inl refl) g h (tails e))
-one (at_atom (cited a) r) (at_atom (single (plain aa)) rr) g h e k = absurd (omega arith)
-one (at_atom (cited a) r) (at_atom (single (escaped aa)) rr) g h e k = absurd (omega arith)
-one (at_atom (cited a) r) (at_atom (single (dropped aa)) rr) g h e k = absurd (omega arith)
 one (at_atom (cited a) r) (at_broken (open_quote aa)) g h e k = absurd (quote_nil r (parts_one a aa (quote ∷ r) [] (inl refl) tt g h (tails e)).1)
-one (at_atom (cited a) r) (at_broken (open_comment aa)) g h e k = absurd (omega arith)
-one (at_atom (cited a) r) (at_broken (bad_escape rr)) g h e k = absurd (omega arith)
 one (at_atom (cited a) r) (at_broken (bad_quoted aa rr)) g h e k = absurd (quote_back r rr (parts_one a aa (quote ∷ r) (backslash ∷ rr) (inl refl) (inr (refl, h.1)) g h.0 (tails e)).1)
-one (at_atom (cited a) r) at_end g h e k = absurd (omega arith)
-one (at_atom (single (plain a)) r) (at_atom (blank aa) rr) g h e k = absurd (omega arith)
-one (at_atom (single (plain a)) r) (at_atom (remark (line_comment aa bb)) rr) g h e k = absurd (omega arith)
-one (at_atom (single (plain a)) r) (at_atom (remark (block_comment aa)) rr) g h e k = absurd (omega arith)
-one (at_atom (single (plain a)) r) (at_atom (punct aa) rr) g h e k = absurd (omega arith)
-one (at_atom (single (plain a)) r) (at_atom (cited aa) rr) g h e k = absurd (omega arith)
+one (at_atom (cited a) r) y g h e k = absurd (omega arith)
 one (at_atom (single (plain a)) r) (at_atom (single (plain aa)) rr) g h e k = cc
-one (at_atom (single (plain a)) r) (at_atom (single (escaped aa)) rr) g h e k = absurd (omega arith)
-one (at_atom (single (plain a)) r) (at_atom (single (dropped aa)) rr) g h e k = absurd (omega arith)
-one (at_atom (single (plain a)) r) (at_broken (open_quote aa)) g h e k = absurd (omega arith)
-one (at_atom (single (plain a)) r) (at_broken (open_comment aa)) g h e k = absurd (omega arith)
-one (at_atom (single (plain a)) r) (at_broken (bad_escape rr)) g h e k = absurd (omega arith)
-one (at_atom (single (plain a)) r) (at_broken (bad_quoted aa rr)) g h e k = absurd (omega arith)
-one (at_atom (single (plain a)) r) at_end g h e k = absurd (omega arith)
-one (at_atom (single (escaped a)) r) (at_atom (blank aa) rr) g h e k = absurd (omega arith)
-one (at_atom (single (escaped a)) r) (at_atom (remark (line_comment aa bb)) rr) g h e k = absurd (omega arith)
-one (at_atom (single (escaped a)) r) (at_atom (remark (block_comment aa)) rr) g h e k = absurd (omega arith)
-one (at_atom (single (escaped a)) r) (at_atom (punct aa) rr) g h e k = absurd (omega arith)
-one (at_atom (single (escaped a)) r) (at_atom (cited aa) rr) g h e k = absurd (omega arith)
-one (at_atom (single (escaped a)) r) (at_atom (single (plain aa)) rr) g h e k = absurd (omega arith)
+one (at_atom (single (plain a)) r) y g h e k = absurd (omega arith)
 one (at_atom (single (escaped a)) r) (at_atom (single (escaped aa)) rr) g h e k = escaped_same a r aa rr (escape_one a aa r rr g.1 h.1 (tails e))
-one (at_atom (single (escaped a)) r) (at_atom (single (dropped aa)) rr) g h e k = absurd (omega arith)
-one (at_atom (single (escaped a)) r) (at_broken (open_quote aa)) g h e k = absurd (omega arith)
-one (at_atom (single (escaped a)) r) (at_broken (open_comment aa)) g h e k = absurd (omega arith)
 one (at_atom (single (escaped a)) r) (at_broken (bad_escape rr)) g h e k = absurd (h a r (sym (tails e)) g.1)
-one (at_atom (single (escaped a)) r) (at_broken (bad_quoted aa rr)) g h e k = absurd (omega arith)
-one (at_atom (single (escaped a)) r) at_end g h e k = absurd (omega arith)
-one (at_atom (single (dropped a)) r) (at_atom (blank aa) rr) g h e k = absurd (omega arith)
-one (at_atom (single (dropped a)) r) (at_atom (remark (line_comment aa bb)) rr) g h e k = absurd (omega arith)
-one (at_atom (single (dropped a)) r) (at_atom (remark (block_comment aa)) rr) g h e k = absurd (omega arith)
-one (at_atom (single (dropped a)) r) (at_atom (punct aa) rr) g h e k = absurd (omega arith)
-one (at_atom (single (dropped a)) r) (at_atom (cited aa) rr) g h e k = absurd (omega arith)
-one (at_atom (single (dropped a)) r) (at_atom (single (plain aa)) rr) g h e k = absurd (omega arith)
-one (at_atom (single (dropped a)) r) (at_atom (single (escaped aa)) rr) g h e k = absurd (omega arith)
-one (at_atom (single (dropped a)) r) (at_atom (single (dropped aa)) rr) g h e k = absurd g.0
-one (at_atom (single (dropped a)) r) (at_broken (open_quote aa)) g h e k = absurd (omega arith)
-one (at_atom (single (dropped a)) r) (at_broken (open_comment aa)) g h e k = absurd (omega arith)
-one (at_atom (single (dropped a)) r) (at_broken (bad_escape rr)) g h e k = absurd (omega arith)
-one (at_atom (single (dropped a)) r) (at_broken (bad_quoted aa rr)) g h e k = absurd (omega arith)
-one (at_atom (single (dropped a)) r) at_end g h e k = absurd (omega arith)
-one (at_broken (open_quote a)) (at_atom (blank aa) rr) g h e k = absurd (omega arith)
-one (at_broken (open_quote a)) (at_atom (remark (line_comment aa bb)) rr) g h e k = absurd (omega arith)
-one (at_broken (open_quote a)) (at_atom (remark (block_comment aa)) rr) g h e k = absurd (omega arith)
-one (at_broken (open_quote a)) (at_atom (punct aa) rr) g h e k = absurd (omega arith)
+one (at_atom (single (escaped a)) r) y g h e k = absurd (omega arith)
+one (at_atom (single (dropped a)) r) y g h e k = absurd g.0
 one (at_broken (open_quote a)) (at_atom (cited aa) rr) g h e k = absurd (quote_nil rr (sym (parts_one a aa [] (quote ∷ rr) tt (inl refl) g h (tails e)).1))
-one (at_broken (open_quote a)) (at_atom (single (plain aa)) rr) g h e k = absurd (omega arith)
-one (at_broken (open_quote a)) (at_atom (single (escaped aa)) rr) g h e k = absurd (omega arith)
-one (at_broken (open_quote a)) (at_atom (single (dropped aa)) rr) g h e k = absurd (omega arith)
 one (at_broken (open_quote a)) (at_broken (open_quote aa)) g h e k = ap (λ (ps : List Part). at_broken (open_quote ps)) (parts_one a aa [] [] tt tt g h (tails e)).0
-one (at_broken (open_quote a)) (at_broken (open_comment aa)) g h e k = absurd (omega arith)
-one (at_broken (open_quote a)) (at_broken (bad_escape rr)) g h e k = absurd (omega arith)
 one (at_broken (open_quote a)) (at_broken (bad_quoted aa rr)) g h e k = absurd (nil_back rr (parts_one a aa [] (backslash ∷ rr) tt (inr (refl, h.1)) g h.0 (tails e)).1)
-one (at_broken (open_quote a)) at_end g h e k = absurd (omega arith)
-one (at_broken (open_comment a)) (at_atom (blank aa) rr) g h e k = absurd (omega arith)
-one (at_broken (open_comment a)) (at_atom (remark (line_comment aa bb)) rr) g h e k = absurd (omega arith)
+one (at_broken (open_quote a)) y g h e k = absurd (omega arith)
 one (at_broken (open_comment a)) (at_atom (remark (block_comment aa)) rr) g h e k = absurd (block_never aa rr a h g (tails2 (sym e)))
-one (at_broken (open_comment a)) (at_atom (punct aa) rr) g h e k = absurd (omega arith)
-one (at_broken (open_comment a)) (at_atom (cited aa) rr) g h e k = absurd (omega arith)
-one (at_broken (open_comment a)) (at_atom (single (plain aa)) rr) g h e k = absurd (omega arith)
-one (at_broken (open_comment a)) (at_atom (single (escaped aa)) rr) g h e k = absurd (omega arith)
-one (at_broken (open_comment a)) (at_atom (single (dropped aa)) rr) g h e k = absurd (omega arith)
-one (at_broken (open_comment a)) (at_broken (open_quote aa)) g h e k = absurd (omega arith)
 one (at_broken (open_comment a)) (at_broken (open_comment aa)) g h e k = ap (λ (xs : List ℕ). at_broken (open_comment xs)) (tails2 e)
-one (at_broken (open_comment a)) (at_broken (bad_escape rr)) g h e k = absurd (omega arith)
-one (at_broken (open_comment a)) (at_broken (bad_quoted aa rr)) g h e k = absurd (omega arith)
-one (at_broken (open_comment a)) at_end g h e k = absurd (omega arith)
-one (at_broken (bad_escape r)) (at_atom (blank aa) rr) g h e k = absurd (omega arith)
-one (at_broken (bad_escape r)) (at_atom (remark (line_comment aa bb)) rr) g h e k = absurd (omega arith)
-one (at_broken (bad_escape r)) (at_atom (remark (block_comment aa)) rr) g h e k = absurd (omega arith)
-one (at_broken (bad_escape r)) (at_atom (punct aa) rr) g h e k = absurd (omega arith)
-one (at_broken (bad_escape r)) (at_atom (cited aa) rr) g h e k = absurd (omega arith)
-one (at_broken (bad_escape r)) (at_atom (single (plain aa)) rr) g h e k = absurd (omega arith)
+one (at_broken (open_comment a)) y g h e k = absurd (omega arith)
 one (at_broken (bad_escape r)) (at_atom (single (escaped aa)) rr) g h e k = absurd (g aa rr (tails e) h.1)
-one (at_broken (bad_escape r)) (at_atom (single (dropped aa)) rr) g h e k = absurd (omega arith)
-one (at_broken (bad_escape r)) (at_broken (open_quote aa)) g h e k = absurd (omega arith)
-one (at_broken (bad_escape r)) (at_broken (open_comment aa)) g h e k = absurd (omega arith)
 one (at_broken (bad_escape r)) (at_broken (bad_escape rr)) g h e k = ap (λ (xs : List ℕ). at_broken (bad_escape xs)) (tails e)
-one (at_broken (bad_escape r)) (at_broken (bad_quoted aa rr)) g h e k = absurd (omega arith)
-one (at_broken (bad_escape r)) at_end g h e k = absurd (omega arith)
-one (at_broken (bad_quoted a r)) (at_atom (blank aa) rr) g h e k = absurd (omega arith)
-one (at_broken (bad_quoted a r)) (at_atom (remark (line_comment aa bb)) rr) g h e k = absurd (omega arith)
-one (at_broken (bad_quoted a r)) (at_atom (remark (block_comment aa)) rr) g h e k = absurd (omega arith)
-one (at_broken (bad_quoted a r)) (at_atom (punct aa) rr) g h e k = absurd (omega arith)
+one (at_broken (bad_escape r)) y g h e k = absurd (omega arith)
 one (at_broken (bad_quoted a r)) (at_atom (cited aa) rr) g h e k = absurd (quote_back rr r (sym (parts_one a aa (backslash ∷ r) (quote ∷ rr) (inr (refl, g.1)) (inl refl) g.0 h (tails e)).1))
-one (at_broken (bad_quoted a r)) (at_atom (single (plain aa)) rr) g h e k = absurd (omega arith)
-one (at_broken (bad_quoted a r)) (at_atom (single (escaped aa)) rr) g h e k = absurd (omega arith)
-one (at_broken (bad_quoted a r)) (at_atom (single (dropped aa)) rr) g h e k = absurd (omega arith)
 one (at_broken (bad_quoted a r)) (at_broken (open_quote aa)) g h e k = absurd (nil_back r (sym (parts_one a aa (backslash ∷ r) [] (inr (refl, g.1)) tt g.0 h (tails e)).1))
-one (at_broken (bad_quoted a r)) (at_broken (open_comment aa)) g h e k = absurd (omega arith)
-one (at_broken (bad_quoted a r)) (at_broken (bad_escape rr)) g h e k = absurd (omega arith)
 one (at_broken (bad_quoted a r)) (at_broken (bad_quoted aa rr)) g h e k = bad_same a r aa rr (parts_one a aa (backslash ∷ r) (backslash ∷ rr) (inr (refl, g.1)) (inr (refl, h.1)) g.0 h.0 (tails e))
-one (at_broken (bad_quoted a r)) at_end g h e k = absurd (omega arith)
-one at_end (at_atom (blank aa) rr) g h e k = absurd (omega arith)
-one at_end (at_atom (remark (line_comment aa bb)) rr) g h e k = absurd (omega arith)
-one at_end (at_atom (remark (block_comment aa)) rr) g h e k = absurd (omega arith)
-one at_end (at_atom (punct aa) rr) g h e k = absurd (omega arith)
-one at_end (at_atom (cited aa) rr) g h e k = absurd (omega arith)
-one at_end (at_atom (single (plain aa)) rr) g h e k = absurd (omega arith)
-one at_end (at_atom (single (escaped aa)) rr) g h e k = absurd (omega arith)
-one at_end (at_atom (single (dropped aa)) rr) g h e k = absurd (omega arith)
-one at_end (at_broken (open_quote aa)) g h e k = absurd (omega arith)
-one at_end (at_broken (open_comment aa)) g h e k = absurd (omega arith)
-one at_end (at_broken (bad_escape rr)) g h e k = absurd (omega arith)
-one at_end (at_broken (bad_quoted aa rr)) g h e k = absurd (omega arith)
+one (at_broken (bad_quoted a r)) y g h e k = absurd (omega arith)
 one at_end at_end g h e k = refl
+one at_end (at_atom (blank aa) rr) g h e k = absurd (omega arith)
+one at_end y g h e k = absurd (omega arith)
 
 pub front_one : (x y : Front) → IsFront x → IsFront y → front_chars x ≡ front_chars y → x ≡ y
 front_one x y g h e = one x y g h e (sym (classed x g) ∙ ap text_class e ∙ classed y h)

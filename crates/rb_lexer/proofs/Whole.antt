@@ -9,7 +9,7 @@ use Rattle.rb_lexer.specs.Tokens.{width, line_of, HasTokens}
 use Rattle.rb_lexer.specs.Faults.{Broken, broken_chars, IsBroken, broken_kind, from_fault, HasFault}
 use Rattle.rb_lexer.specs.Atom.{Atom, atoms_chars, AreAtoms, atoms_tokens}
 use Rattle.rb_lexer.proofs.Turns.{fault_width}
-use Rattle.rb_lexer.proofs.Bridge.{flat_chars, flat_tokens, grouped}
+use Rattle.rb_lexer.proofs.Bridge.{flat_chars, flat_tokens_of, grouped}
 
 module _ (bytes cs : List ℕ) (encoded : encode_utf8_all cs ≡ bytes) (scalars : IsTrue (all_scalars cs)) where
   pub found : (ts : List Token) → (xs : List Atom) × (cs ≡ atoms_chars xs []) × AreAtoms xs [] × (ts ≡ atoms_tokens bytes 0 None false xs) → HasTokens bytes ts
@@ -21,7 +21,7 @@ module _ (bytes cs : List ℕ) (encoded : encode_utf8_all cs ≡ bytes) (scalars
         spelled = sym encoded ∙ ap encode_utf8_all same;
         scalars = rw (sym same) scalars;
         good = g.2;
-        tokens = w.3 ∙ ap (atoms_tokens bytes 0 None false) (sym g.1) ∙ flat_tokens bytes g.0 [] g.2 0 None;
+        tokens = w.3 ∙ ap (atoms_tokens bytes 0 None false) (sym g.1) ∙ flat_tokens_of bytes g.0 g.2;
       }
 
   pub left_fits : (left : ℕ) (xs : List Atom) (b : Broken) → cs ≡ atoms_chars xs (broken_chars b) → left ≡ width (from_fault b) → left ≤ length bytes

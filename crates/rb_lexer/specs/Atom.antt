@@ -3,9 +3,10 @@ use Rattle.std.specs.Global.{Vec}
 use Rattle.std.specs.Prelude.{◌≡◌, ℕ, ◌+◌, Bool, true, false, cond, List, [], ◌∷◌, ◌++◌, Option, Some, None, Result, Ok, Err, IsTrue}
 use Rattle.rb_lexer.specs.Lexeme.{is_white, is_sign, quote, Comment, comment_chars, IsComment, Part, part_chars, part_units, parts_chars, parts_units, AreParts, IsQuotedPart, IsUnquotedPart, Stays}
 use Rattle.rb_lexer.specs.Faults.{Broken, broken_chars, IsBroken, broken_kind, from_fault}
-use Rattle.rb_lexer.specs.Tokens.{width, sign_mark, flushed, grown, piece, sign_token}
+use Rattle.rb_lexer.specs.Tokens.{width, sign_mark}
+use Rattle.rb_lexer.specs.Merging.{flushed, grown, piece, sign_token}
 use Rattle.rb_lexer.specs.declared.token.Token.{Token}
-use Rattle.rb_lexer.specs.declared.piece.Piece.{Piece}
+use Rattle.rb_lexer.specs.declared.pending.PendingText.{PendingText}
 use Rattle.rb_lexer.specs.declared.item.Item.{Item}
 use Rattle.rb_lexer.specs.declared.item.Item.TheVariants.{White, Comment as CommentItem, Sign, Quoted, Run}
 use Rattle.rb_lexer.specs.declared.fault.SourceKind.TheVariants.{Memory}
@@ -65,32 +66,32 @@ abbrev pub Stops : Stop → List ℕ → Type 0
 Stops stop cs = (stop.kind ≡ Memory → ⊥) → (b : Broken) × (cs ≡ broken_chars b) × IsBroken b × (stop.kind ≡ broken_kind b) × (stop.left ≡ width (from_fault b))
 
 -- a piece that goes on
-abbrev pub longer : Option Piece → Piece → Piece
+abbrev pub longer : Option PendingText → PendingText → PendingText
 longer None b = b
 longer (Some a) b = record { units = a.units ++ b.units; is_quoted = a.is_quoted; first = a.first; past = b.past; line = a.line }
 
 -- the same where there is one, with more units
-abbrev pub lengthened : Option Piece → List ℕ → ℕ → Option Piece
-lengthened None us past = None
-lengthened (Some a) us past = Some (record { units = a.units ++ us; is_quoted = a.is_quoted; first = a.first; past = past; line = a.line })
+abbrev pub extended : Option PendingText → List ℕ → ℕ → Option PendingText
+extended None us past = None
+extended (Some a) us past = Some (record { units = a.units ++ us; is_quoted = a.is_quoted; first = a.first; past = past; line = a.line })
 
 -- with one more unquoted character
-abbrev pub with_character : Bool → Option Piece → Piece → Piece
-with_character is_open held b = cond is_open (longer held b) (grown held b)
+abbrev pub with_character : Bool → Option PendingText → PendingText → PendingText
+with_character is_open pending b = cond is_open (longer pending b) (grown pending b)
 
 abbrev pub past_atom : ℕ → Atom → ℕ
 past_atom at a = at + width (atom_chars a [])
 
--- The tokens of atoms that begin at a byte, behind a text that may still grow, and that is open where an unquoted piece may go on.
-abbrev pub atoms_tokens : List ℕ → ℕ → Option Piece → Bool → List Atom → List Token
-atoms_tokens bytes at held is_open [] = flushed held []
-atoms_tokens bytes at held is_open (blank c ∷ xs) = atoms_tokens bytes (past_atom at (blank c)) held false xs
-atoms_tokens bytes at held is_open (remark c ∷ xs) = atoms_tokens bytes (past_atom at (remark c)) held is_open xs
-atoms_tokens bytes at held is_open (punct c ∷ xs) = flushed held (sign_token bytes c at (past_atom at (punct c)) ∷ atoms_tokens bytes (past_atom at (punct c)) None false xs)
-atoms_tokens bytes at held is_open (cited ps ∷ xs) =
-    atoms_tokens bytes (past_atom at (cited ps)) (Some (grown held (piece bytes (parts_units ps) true at (past_atom at (cited ps))))) false xs
-atoms_tokens bytes at held is_open (single p ∷ xs) =
-    atoms_tokens bytes (past_atom at (single p)) (Some (with_character is_open held (piece bytes (part_units p) false at (past_atom at (single p))))) true xs
+-- The tokens of atoms that begin at a byte, after a pending text that is open where an unquoted piece may go on.
+abbrev pub atoms_tokens : List ℕ → ℕ → Option PendingText → Bool → List Atom → List Token
+atoms_tokens bytes at pending is_open [] = flushed pending []
+atoms_tokens bytes at pending is_open (blank c ∷ xs) = atoms_tokens bytes (past_atom at (blank c)) pending false xs
+atoms_tokens bytes at pending is_open (remark c ∷ xs) = atoms_tokens bytes (past_atom at (remark c)) pending is_open xs
+atoms_tokens bytes at pending is_open (punct c ∷ xs) = flushed pending (sign_token bytes c at (past_atom at (punct c)) ∷ atoms_tokens bytes (past_atom at (punct c)) None false xs)
+atoms_tokens bytes at pending is_open (cited ps ∷ xs) =
+    atoms_tokens bytes (past_atom at (cited ps)) (Some (grown pending (piece bytes (parts_units ps) true at (past_atom at (cited ps))))) false xs
+atoms_tokens bytes at pending is_open (single p ∷ xs) =
+    atoms_tokens bytes (past_atom at (single p)) (Some (with_character is_open pending (piece bytes (part_units p) false at (past_atom at (single p))))) true xs
 
 -- The tokens of a text by the second reading, or what is broken in it, unless memory ran out.
 abbrev pub EndsSo : Result (Vec Token) Stop → List ℕ → List ℕ → Type 0

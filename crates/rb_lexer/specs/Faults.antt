@@ -3,7 +3,6 @@
 -- the text of an escape that is none, a quoted piece that is never closed and a comment that is never closed.
 use Rattle.std.specs.Prelude.{◌≡◌, ℕ, ◌+◌, ◌<◌, ◌≤◌, ◌⊎◌, List, [], ◌∷◌, length, encode_utf8_all, IsTrue}
 use Rattle.std.specs.Str.{all_scalars, IsValidUpTo}
-use Rattle.rb_lexer.specs.declared.limits.TheConstants.{SOURCE_LIMIT}
 use Rattle.rb_lexer.specs.declared.fault.SourceKind.{SourceKind}
 use Rattle.rb_lexer.specs.declared.fault.SourceKind.TheVariants.{TooLong, NotUtf8, BadEscape, OpenQuote, OpenComment, Memory}
 use Rattle.rb_lexer.specs.declared.fault.SourceFault.{SourceFault}
@@ -62,11 +61,11 @@ pub record HasFault (bytes : List ℕ) (kind : SourceKind) (line : ℕ) : Type 0
 
 -- too many bytes
 abbrev pub IsLong : List ℕ → ℕ → Type 0
-IsLong bytes line = (SOURCE_LIMIT < length bytes) × (line ≡ 1)
+IsLong bytes line = (8388608 < length bytes) × (line ≡ 1)
 
 -- a first byte from which no character reads
 abbrev pub IsGarbled : List ℕ → ℕ → Type 0
-IsGarbled bytes line = (length bytes ≤ SOURCE_LIMIT) × ((at : ℕ) × IsValidUpTo bytes at × (line ≡ line_of bytes at))
+IsGarbled bytes line = (length bytes ≤ 8388608) × ((at : ℕ) × IsValidUpTo bytes at × (line ≡ line_of bytes at))
 
 -- what keeps a source from being a text
 abbrev pub IsTextFault : List ℕ → SourceKind → ℕ → Type 0
@@ -74,7 +73,7 @@ IsTextFault bytes kind line = ((kind ≡ TooLong) × IsLong bytes line) ⊎ ((ki
 
 -- The source is no text, or it is one with a lexical fault.
 abbrev pub IsSourceFault : List ℕ → SourceKind → ℕ → Type 0
-IsSourceFault bytes kind line = IsTextFault bytes kind line ⊎ ((length bytes ≤ SOURCE_LIMIT) × HasFault bytes kind line)
+IsSourceFault bytes kind line = IsTextFault bytes kind line ⊎ ((length bytes ≤ 8388608) × HasFault bytes kind line)
 
 -- Why a source is refused: for want of memory, or for a fault that it has.
 abbrev pub IsRefusal : List ℕ → SourceFault → Type 0

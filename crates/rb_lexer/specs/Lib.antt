@@ -1,5 +1,6 @@
 pub mod Lexeme
 pub mod Tokens
+pub mod Merging
 pub mod Faults
 pub mod Words
 pub mod Atom

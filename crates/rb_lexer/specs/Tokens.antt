@@ -1,12 +1,11 @@
 -- The tokens of a source: its texts and signs in the syntax of ICU's genrb, each with its span and its line. That pieces
 -- side by side are one text, and when a space goes between them, is this project's own rule.
-use Rattle.std.specs.Prelude.{◌≡◌, ◌<◌, ◌≤◌, ℕ, suc, ◌+◌, ◌==◌, Bool, true, false, ◌&&◌, ◌||◌, if◌then◌else◌, List, [], ◌∷◌, ◌++◌, length, take, count_by, Option, Some, None, encode_utf8_all, IsTrue}
+use Rattle.std.specs.Prelude.{◌≡◌, ◌<◌, ◌≤◌, ℕ, suc, ◌+◌, ◌==◌, Bool, true, false, ◌&&◌, ◌||◌, if◌then◌else◌, List, [], ◌∷◌, ◌++◌, length, map, take, count_by, encode_utf8_all, IsTrue}
 use Rattle.std.specs.Str.{all_scalars}
 use Rattle.rb_lexer.specs.Lexeme.{Lexeme, white, comment, sign, quoted, unquoted, lexeme_chars, chars_of, parts_units, AreLexemes}
 use Rattle.rb_lexer.specs.declared.token.Mark.{Mark}
 use Rattle.rb_lexer.specs.declared.token.Mark.TheVariants.{Text, LeftBrace, RightBrace, Colon, Comma}
 use Rattle.rb_lexer.specs.declared.token.Token.{Token}
-use Rattle.rb_lexer.specs.declared.piece.Piece.{Piece}
 
 -- how many bytes the characters take
 abbrev pub width : List ℕ → ℕ
@@ -19,48 +18,79 @@ line_of bytes at = suc (count_by (λ b. b == 0x0A) (take at bytes))
 abbrev pub sign_mark : ℕ → Mark
 sign_mark c = if c == 0x7B then LeftBrace else (if c == 0x7D then RightBrace else (if c == 0x3A then Colon else Comma))
 
+-- ---- pieces
+
+-- A text piece: its units, whether it is quoted, its first byte and the byte after its last.
+pub record TextPiece : Type 0 where
+  pub units : List ℕ
+  pub is_quoted : Bool
+  pub first : ℕ
+  pub past : ℕ
+
+-- a text piece, or a sign with its first byte and the byte after it
+pub data Piece : Type 0 where
+  text : TextPiece → Piece
+  punctuation : Mark → ℕ → ℕ → Piece
+
+-- the byte after a lexeme that begins at a byte
+abbrev pub past_lexeme : ℕ → Lexeme → ℕ
+past_lexeme at l = at + width (lexeme_chars l [])
+
+-- The pieces of lexemes that begin at a byte: white space and comments are dropped.
+abbrev pub pieces_from : ℕ → List Lexeme → List Piece
+pieces_from at [] = []
+pieces_from at (white c ∷ ls) = pieces_from (past_lexeme at (white c)) ls
+pieces_from at (comment c ∷ ls) = pieces_from (past_lexeme at (comment c)) ls
+pieces_from at (sign c ∷ ls) = punctuation (sign_mark c) at (past_lexeme at (sign c)) ∷ pieces_from (past_lexeme at (sign c)) ls
+pieces_from at (quoted ps ∷ ls) =
+    text (record { units = parts_units ps; is_quoted = true; first = at; past = past_lexeme at (quoted ps) }) ∷ pieces_from (past_lexeme at (quoted ps)) ls
+pieces_from at (unquoted ps ∷ ls) =
+    text (record { units = parts_units ps; is_quoted = false; first = at; past = past_lexeme at (unquoted ps) }) ∷ pieces_from (past_lexeme at (unquoted ps)) ls
+
+-- ---- merging
+
+-- a maximal run of text pieces, of which there is one at least, or a sign
+pub data Group : Type 0 where
+  run : TextPiece → List TextPiece → Group
+  alone : Mark → ℕ → ℕ → Group
+
+-- with a text piece in front, which is of the first group's run, if the first group is one
+abbrev pub in_front : TextPiece → List Group → List Group
+in_front p [] = run p [] ∷ []
+in_front p (run q qs ∷ gs) = run p (q ∷ qs) ∷ gs
+in_front p (alone m first past ∷ gs) = run p [] ∷ alone m first past ∷ gs
+
+-- The pieces split into maximal runs of text pieces, and signs.
+abbrev pub groups : List Piece → List Group
+groups [] = []
+groups (text p ∷ ps) = in_front p (groups ps)
+groups (punctuation m first past ∷ ps) = alone m first past ∷ groups ps
+
 abbrev pub is_empty : List ℕ → Bool
 is_empty [] = true
 is_empty (u ∷ us) = false
 
 -- Two quoted pieces are joined directly, and so is what follows nothing. Otherwise a space goes between.
-abbrev pub between : Piece → Piece → List ℕ
-between a b = if (is_empty a.units || (a.is_quoted && b.is_quoted)) then [] else 0x20 ∷ []
+abbrev pub separator : List ℕ → Bool → Bool → List ℕ
+separator units is_quoted next_is_quoted = if (is_empty units || (is_quoted && next_is_quoted)) then [] else 0x20 ∷ []
 
-abbrev pub joined : Piece → Piece → Piece
-joined a b = record { units = (a.units ++ between a b) ++ b.units; is_quoted = b.is_quoted; first = a.first; past = b.past; line = a.line }
+-- The units of a run: those of its first pieces, the last of them quoted or not, joined with each of its other pieces in turn.
+abbrev pub joined_units : List ℕ → Bool → List TextPiece → List ℕ
+joined_units units is_quoted [] = units
+joined_units units is_quoted (p ∷ ps) = joined_units ((units ++ separator units is_quoted p.is_quoted) ++ p.units) p.is_quoted ps
 
-abbrev pub grown : Option Piece → Piece → Piece
-grown None b = b
-grown (Some a) b = joined a b
+-- the byte after the last piece of a run
+abbrev pub past_last : ℕ → List TextPiece → ℕ
+past_last past [] = past
+past_last past (p ∷ ps) = past_last p.past ps
 
-abbrev pub text_token : Piece → Token
-text_token p = record { what = Text p.units; first = p.first; past = p.past; line = p.line }
+abbrev pub token : List ℕ → Group → Token
+token bytes (run p ps) = record { what = Text (joined_units p.units p.is_quoted ps); first = p.first; past = past_last p.past ps; line = line_of bytes p.first }
+token bytes (alone m first past) = record { what = m; first = first; past = past; line = line_of bytes first }
 
-abbrev pub flushed : Option Piece → List Token → List Token
-flushed None ts = ts
-flushed (Some p) ts = text_token p ∷ ts
-
-abbrev pub piece : List ℕ → List ℕ → Bool → ℕ → ℕ → Piece
-piece bytes units is_quoted first past = record { units = units; is_quoted = is_quoted; first = first; past = past; line = line_of bytes first }
-
-abbrev pub sign_token : List ℕ → ℕ → ℕ → ℕ → Token
-sign_token bytes c first past = record { what = sign_mark c; first = first; past = past; line = line_of bytes first }
-
--- where a lexeme ends that begins at a byte
-abbrev pub past_lexeme : ℕ → Lexeme → ℕ
-past_lexeme at l = at + width (lexeme_chars l [])
-
--- The tokens of lexemes that begin at a byte, behind a text that may still grow.
-abbrev pub tokens_from : List ℕ → ℕ → Option Piece → List Lexeme → List Token
-tokens_from bytes at held [] = flushed held []
-tokens_from bytes at held (white c ∷ ls) = tokens_from bytes (past_lexeme at (white c)) held ls
-tokens_from bytes at held (comment c ∷ ls) = tokens_from bytes (past_lexeme at (comment c)) held ls
-tokens_from bytes at held (sign c ∷ ls) = flushed held (sign_token bytes c at (past_lexeme at (sign c)) ∷ tokens_from bytes (past_lexeme at (sign c)) None ls)
-tokens_from bytes at held (quoted ps ∷ ls) =
-    tokens_from bytes (past_lexeme at (quoted ps)) (Some (grown held (piece bytes (parts_units ps) true at (past_lexeme at (quoted ps))))) ls
-tokens_from bytes at held (unquoted ps ∷ ls) =
-    tokens_from bytes (past_lexeme at (unquoted ps)) (Some (grown held (piece bytes (parts_units ps) false at (past_lexeme at (unquoted ps))))) ls
+-- The tokens of lexemes: one of each run of text pieces and one of each sign.
+abbrev pub tokens_of : List ℕ → List Lexeme → List Token
+tokens_of bytes ls = map (token bytes) (groups (pieces_from 0 ls))
 
 -- The tokens of a source, which is UTF-8.
 pub record HasTokens (bytes : List ℕ) (ts : List Token) : Type 0 where
@@ -68,7 +98,11 @@ pub record HasTokens (bytes : List ℕ) (ts : List Token) : Type 0 where
   pub spelled : bytes ≡ encode_utf8_all (chars_of lexemes [])
   pub scalars : IsTrue (all_scalars (chars_of lexemes []))
   pub good : AreLexemes lexemes []
-  pub tokens : ts ≡ tokens_from bytes 0 None lexemes
+  pub tokens : ts ≡ tokens_of bytes lexemes
+
+-- The source is within the limit of 8,388,608 bytes and has these tokens.
+abbrev pub LexesTo : List ℕ → List Token → Type 0
+LexesTo bytes ts = (length bytes ≤ 8388608) × HasTokens bytes ts
 
 -- From `at` on, each token takes a byte at least and begins where the one before ends or behind it; none goes past `end`.
 abbrev pub AreInOrder : ℕ → List Token → ℕ → Type 0

@@ -1,50 +1,51 @@
 // Tokens as they come.
 ghost use Rattle.std.specs.Prelude.{◌≡◌, ◌++◌, ◌≤◌, ℕ, List, [], ◌+◌, ◌&&◌, is_some, None, Some, OnOk, IfOk, IfErr};
 ghost use Rattle.rb_lexer.specs.declared.fault.SourceKind.TheVariants.{Memory};
-ghost use Rattle.rb_lexer.specs.Tokens.{flushed, grown, line_of, width};
-ghost use Rattle.rb_lexer.specs.Atom.{Atom, Shows, atoms_chars, atoms_tokens, lengthened};
+ghost use Rattle.rb_lexer.specs.Tokens.{line_of, width};
+ghost use Rattle.rb_lexer.specs.Merging.{flushed, grown};
+ghost use Rattle.rb_lexer.specs.Atom.{Atom, Shows, atoms_chars, atoms_tokens, extended};
 
 use crate::fault::Stop;
 use crate::item::Item;
-use crate::piece::Piece;
+use crate::pending::PendingText;
 use crate::token::{Mark, Token};
-use rb_tree::UnitList;
+use crate::units::UnitBuffer;
 
-/// The tokens so far, and behind them a text that may still grow. It is open where an unquoted piece may go on.
+/// The tokens so far, and the pending text after them. It is open where an unquoted piece may go on.
 #[derive(Drop)]
 pub struct Builder {
     pub tokens: Vec<Token>,
-    pub held: Option<Piece>,
+    pub pending: Option<PendingText>,
     pub is_open: bool,
 }
 
 impl Builder {
-    /// Ends the text that may still grow.
+    /// Adds the pending text as a token.
     fn flush(&mut self) -> Result<(), Stop>
         ensures memory { IfErr result (λ stop. stop.kind ≡ Memory) }
-        ensures flushed { OnOk result ((self.new.tokens.items ≡ self.old.tokens.items ++ flushed self.old.held []) × (self.new.held ≡ None)) }
+        ensures flushed { OnOk result ((self.new.tokens.items ≡ self.old.tokens.items ++ flushed self.old.pending []) × (self.new.pending ≡ None)) }
     {
-        if let Some(piece) = self.held.take() {
+        if let Some(pending) = self.pending.take() {
             self.tokens.push(Token {
-                what: Mark::Text(piece.units),
-                first: piece.first,
-                past: piece.past,
-                line: piece.line,
+                what: Mark::Text(pending.units.into_list()),
+                first: pending.first,
+                past: pending.past,
+                line: pending.line,
             })?;
         }
         Ok(())
     }
 
-    /// Adds a piece to the text that may still grow.
-    fn join(&mut self, piece: Piece) -> Result<(), Stop>
+    /// Joins a piece to the pending text.
+    fn join(&mut self, piece: PendingText) -> Result<(), Stop>
         ensures memory { IfErr result (λ stop. stop.kind ≡ Memory) }
-        ensures joined { OnOk result ((self.new.tokens.items ≡ self.old.tokens.items) × (self.new.held ≡ Some (grown self.old.held piece))) }
+        ensures joined { OnOk result ((self.new.tokens.items ≡ self.old.tokens.items) × (self.new.pending ≡ Some (grown self.old.pending piece))) }
     {
-        match self.held.take() {
-            None => self.held = Some(piece),
-            Some(mut held) => {
-                held.join(&piece)?;
-                self.held = Some(held);
+        match self.pending.take() {
+            None => self.pending = Some(piece),
+            Some(mut pending) => {
+                pending.join(&piece)?;
+                self.pending = Some(pending);
             }
         }
         Ok(())
@@ -52,20 +53,20 @@ impl Builder {
 
     /// Whether an unquoted piece may go on.
     fn goes_on(&self) -> bool
-        ensures { result ≡ (self.now.is_open && is_some self.now.held) }
+        ensures { result ≡ (self.now.is_open && is_some self.now.pending) }
     {
-        self.is_open && self.held.is_some()
+        self.is_open && self.pending.is_some()
     }
 
-    /// Puts units behind the text that may still grow.
-    fn lengthen(&mut self, units: &UnitList, past: usize) -> Result<(), Stop>
+    /// Extends the pending text by units of its last piece.
+    fn extend(&mut self, units: &UnitBuffer, past: usize) -> Result<(), Stop>
         ensures memory { IfErr result (λ stop. stop.kind ≡ Memory) }
-        ensures longer { OnOk result ((self.new.tokens.items ≡ self.old.tokens.items) × (self.new.held ≡ lengthened self.old.held units.now past) × (self.new.is_open ≡ self.old.is_open)) }
+        ensures longer { OnOk result ((self.new.tokens.items ≡ self.old.tokens.items) × (self.new.pending ≡ extended self.old.pending units.now past) × (self.new.is_open ≡ self.old.is_open)) }
     {
-        if let Some(mut held) = self.held.take() {
-            held.units.append(units)?;
-            held.past = past;
-            self.held = Some(held);
+        if let Some(mut pending) = self.pending.take() {
+            pending.units.extend(units)?;
+            pending.past = past;
+            self.pending = Some(pending);
         }
         Ok(())
     }
@@ -74,8 +75,8 @@ impl Builder {
     pub fn add(&mut self, item: Item, first: usize, past: usize, line: u64) -> Result<(), Stop>
         ensures memory { IfErr result (λ stop. stop.kind ≡ Memory) }
         ensures added { OnOk result ((bytes : List ℕ) (xs rest : List Atom) → Shows item xs → line ≡ line_of bytes first → past ≡ first + width (atoms_chars xs [])
-            → self.old.tokens.items ++ atoms_tokens bytes first self.old.held self.old.is_open (xs ++ rest)
-            ≡ self.new.tokens.items ++ atoms_tokens bytes past self.new.held self.new.is_open rest) }
+            → self.old.tokens.items ++ atoms_tokens bytes first self.old.pending self.old.is_open (xs ++ rest)
+            ≡ self.new.tokens.items ++ atoms_tokens bytes past self.new.pending self.new.is_open rest) }
     {
         match item {
             Item::White => self.is_open = false,
@@ -91,7 +92,7 @@ impl Builder {
                 })?;
             }
             Item::Quoted(units) => {
-                self.join(Piece {
+                self.join(PendingText {
                     units,
                     is_quoted: true,
                     first,
@@ -102,10 +103,10 @@ impl Builder {
             }
             Item::Run(units) => {
                 if self.goes_on() {
-                    self.lengthen(&units, past)?;
+                    self.extend(&units, past)?;
                     return Ok(());
                 }
-                self.join(Piece {
+                self.join(PendingText {
                     units,
                     is_quoted: false,
                     first,
@@ -121,7 +122,7 @@ impl Builder {
     /// All tokens.
     pub fn finish(mut self) -> Result<Vec<Token>, Stop>
         ensures memory { IfErr result (λ stop. stop.kind ≡ Memory) }
-        ensures tokens { IfOk result (λ tokens. tokens.items ≡ self.tokens.items ++ flushed self.held []) }
+        ensures tokens { IfOk result (λ tokens. tokens.items ≡ self.tokens.items ++ flushed self.pending []) }
     {
         self.flush()?;
         Ok(self.tokens)

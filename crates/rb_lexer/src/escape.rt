@@ -6,11 +6,11 @@ ghost use Rattle.rb_lexer.specs.Lexeme.{Escape, escape_value, letter_value, unit
 ghost use Rattle.rb_lexer.specs.Escapes.{digits_at, escape_at};
 
 use crate::front::split_first;
-use rb_tree::UnitList;
+use crate::units::UnitBuffer;
 use std::alloc::AllocError;
 
 /// Adds the units of a code point.
-pub fn push_code(units: &mut UnitList, code: u32) -> Result<(), AllocError>
+pub fn push_code(units: &mut UnitBuffer, code: u32) -> Result<(), AllocError>
     requires { code ≤ 0x10FFFF }
     ensures { OnOk result (units.new ≡ units.old ++ units_of code) }
 {
@@ -53,7 +53,7 @@ fn digits(text: &str, radix: u32, most: usize) -> (u32, usize, &str)
     (value, count, rest)
 }
 
-/// The value of the letter behind a backslash.
+/// The value of the letter after a backslash.
 fn letter(c: char) -> u32
     ensures { result ≡ letter_value c }
 {
@@ -70,7 +70,7 @@ fn letter(c: char) -> u32
     }
 }
 
-/// The value of the escape behind a backslash, and what follows it.
+/// The value of the escape after a backslash, and what follows it.
 pub fn escape(text: &str) -> Option<(u32, &str)>
     ensures taken { MatchOption result (escape_at (chars text.now) ≡ None)
         (λ x. (x.0 ≤ 0x10FFFF) × ((e : Escape) × (escape_at (chars text.now) ≡ Some (e, chars x.1.now)) × (x.0 ≡ escape_value e))) }

@@ -12,27 +12,27 @@ pub enum SourceKind {
     TooLong,
     /// The bytes are not UTF-8.
     NotUtf8,
-    /// A backslash begins no escape.
+    /// A backslash does not begin an escape.
     BadEscape,
     /// A quoted piece is never closed.
     OpenQuote,
     /// A block comment is never closed.
     OpenComment,
-    /// A token stands where it cannot, or the text ends too early.
+    /// A token is where none may be, or the text ends too early.
     Unexpected,
-    /// What stands behind a colon is no type.
+    /// The text after a colon is not a type.
     UnknownType,
     /// A key is empty or has a unit outside a space to a tilde.
     BadKey,
-    /// A key stands twice in a table.
+    /// A table has a key twice.
     DuplicateKey,
-    /// A number is no number, or outside its limits.
+    /// A text is not a number, or the number is outside its limits.
     BadInt,
-    /// A binary is no even number of hexadecimal digits.
+    /// A binary is not an even number of hexadecimal digits.
     BadHex,
-    /// A value stands too deep.
+    /// A value is nested too deep.
     TooDeep,
-    /// A token stands behind the bundle.
+    /// A token follows the bundle.
     TrailingText,
     /// The tree weighs too much.
     TooLarge,
@@ -65,7 +65,7 @@ impl SourceKind {
     }
 }
 
-/// Why a text is refused, and in which line. Want of memory has line 0.
+/// Why a text is refused, and in which line. Out of memory has line 0.
 #[derive(Clone, Copy, Debug, PartialEq, Eq)]
 pub struct SourceFault {
     pub kind: SourceKind,

@@ -11,18 +11,18 @@ use crate::fault::{SourceKind, Stop};
 use crate::front::{split_first, strip, width};
 use crate::quoted::quoted;
 use crate::token::Mark;
+use crate::units::UnitBuffer;
 use crate::unquoted::{is_white, run};
-use rb_tree::UnitList;
 use std::alloc::Global;
 
 /// What a text begins with. An unquoted piece is one run or several, with comments between them.
-#[derive(Debug, Drop)]
+#[derive(Drop)]
 pub enum Item {
     White,
     Comment,
     Sign(Mark),
-    Quoted(UnitList),
-    Run(UnitList),
+    Quoted(UnitBuffer),
+    Run(UnitBuffer),
 }
 
 /// The mark of a sign.

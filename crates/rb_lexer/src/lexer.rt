@@ -4,7 +4,7 @@ ghost use Rattle.std.specs.Str.{chars, all_scalars};
 ghost use Rattle.rb_lexer.specs.declared.fault.SourceKind.{SourceKind};
 ghost use Rattle.rb_lexer.specs.declared.fault.SourceKind.TheVariants.{Memory};
 ghost use Rattle.rb_lexer.specs.declared.token.Token.{Token};
-ghost use Rattle.rb_lexer.specs.Tokens.{width, line_of, HasTokens, AreInOrder};
+ghost use Rattle.rb_lexer.specs.Tokens.{width, line_of, LexesTo, AreInOrder};
 ghost use Rattle.rb_lexer.specs.Faults.{IsSourceFault, IsRefusal};
 ghost use Rattle.rb_lexer.specs.Atom.{EndsSo};
 
@@ -12,14 +12,13 @@ use crate::builder::Builder;
 use crate::fault::{SourceFault, SourceKind, Stop};
 use crate::front::width;
 use crate::item::first_item;
-use crate::limits::SOURCE_LIMIT;
 use crate::text::{line_at, line_feeds, text_of};
 use crate::token::Token;
 use std::alloc::Global;
 
 /// The tokens of a text.
 fn tokens_of(alloc: Global, text: &str) -> Result<Vec<Token>, Stop>
-    requires { length text.now ≤ SOURCE_LIMIT }
+    requires { length text.now ≤ 8388608 }
     ensures ends { EndsSo result text.now (chars text.now) }
     ensures whole { width (chars text.now) ≡ length text.now }
     ensures scalars { IsTrue (all_scalars (chars text.now)) }
@@ -27,7 +26,7 @@ fn tokens_of(alloc: Global, text: &str) -> Result<Vec<Token>, Stop>
 {
     let mut builder = Builder {
         tokens: Vec::new(alloc),
-        held: None,
+        pending: None,
         is_open: false,
     };
     let mut rest = text;
@@ -60,20 +59,23 @@ fn located(bytes: &[u8], stop: Stop) -> SourceFault
     }
 }
 
-/// The tokens of a source, with their spans and lines.
+/// The tokens of a source in the syntax of ICU's `genrb`, with their spans in bytes and their lines. A text token has the
+/// units of UTF-16 of all pieces that only white space and comments separate.
 ///
-/// `TooLong` (line 1) where the source has more than `SOURCE_LIMIT` bytes, else `NotUtf8` at the first byte from which no
+/// # Errors
+///
+/// `TooLong` (line 1) where the source has more than 8,388,608 bytes, else `NotUtf8` at the first byte from which no
 /// character reads, else what comes first in the text of `BadEscape`, `OpenQuote` and `OpenComment`. `Memory` (line 0)
-/// where an allocation was refused. Nothing is left behind on a refusal.
+/// where an allocation was refused.
 pub fn lex(alloc: Global, bytes: &[u8]) -> Result<Vec<Token>, SourceFault>
     // What is answered are the source's tokens.
-    ensures found { IfOk result (λ tokens. (length bytes.now ≤ SOURCE_LIMIT) × HasTokens bytes.now tokens.items) }
+    ensures found { IfOk result (λ tokens. LexesTo bytes.now tokens.items) }
     // Spans are in order and inside the source.
     ensures in_order { IfOk result (λ tokens. AreInOrder 0 tokens.items (length bytes.now)) }
     // A refusal is a fault of the source, with its line, unless memory ran out.
     ensures fault { IfErr result (λ e. IsRefusal bytes.now e) }
     // A source that has tokens is read, unless memory runs out.
-    ensures only { (tokens : List Token) → length bytes.now ≤ SOURCE_LIMIT → HasTokens bytes.now tokens
+    ensures only { (tokens : List Token) → LexesTo bytes.now tokens
         → MatchResult result (λ found. found.items ≡ tokens) (λ e. e.kind ≡ Memory) }
     // A source that has a fault is refused for it, unless memory runs out.
     ensures refused { (kind : SourceKind) (line : ℕ) → IsSourceFault bytes.now kind line

@@ -10,10 +10,11 @@ mod item;
 pub mod laws;
 mod lexer;
 mod limits;
-mod piece;
+mod pending;
 mod quoted;
 mod text;
 mod token;
+mod units;
 mod unquoted;
 
 pub use fault::{SourceFault, SourceKind};

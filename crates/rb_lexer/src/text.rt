@@ -35,7 +35,7 @@ pub fn line_at(bytes: &[u8], at: usize) -> u64
 /// The source as text.
 pub fn text_of(bytes: &[u8]) -> Result<&str, SourceFault>
     ensures { MatchResult result
-        (λ text. (length bytes.now ≤ SOURCE_LIMIT) × (text.now ≡ bytes.now) × IsUtf8 bytes.now)
+        (λ text. (length bytes.now ≤ 8388608) × (text.now ≡ bytes.now) × IsUtf8 bytes.now)
         (λ e. IsTextFault bytes.now e.kind e.line) }
 {
     if bytes.len() > SOURCE_LIMIT {

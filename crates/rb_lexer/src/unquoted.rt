@@ -6,7 +6,7 @@ ghost use Rattle.rb_lexer.specs.Atom.{IsSingle};
 
 use crate::escape::{escape, push_code};
 use crate::front::{split_first, strip};
-use rb_tree::UnitList;
+use crate::units::UnitBuffer;
 use std::alloc::{AllocError, Global};
 
 pub fn is_white(c: char) -> bool
@@ -37,12 +37,12 @@ fn ends_run(c: char, after: &str) -> bool
 
 /// The units of a run of an unquoted piece, which begins with a character, and what follows it. A run ends where the
 /// piece does, before a comment, and before a backslash that begins no escape.
-pub fn run(alloc: Global, first: u32, text: &str) -> Result<(UnitList, &str), AllocError>
+pub fn run(alloc: Global, first: u32, text: &str) -> Result<(UnitBuffer, &str), AllocError>
     requires { first ≤ 0x10FFFF }
     ensures taken { IfOk result (λ x. (ps : List Part) × (chars text.now ≡ parts_chars ps (chars x.1.now)) × AreParts IsSingle ps (chars x.1.now) × (x.0 ≡ units_of first ++ parts_units ps)) }
     ensures no_longer { IfOk result (λ x. length x.1.now ≤ length text.now) }
 {
-    let mut units = UnitList::new(alloc);
+    let mut units = UnitBuffer::new(alloc);
     push_code(&mut units, first)?;
     let mut rest = text;
     'parts: while let Some((c, after)) = split_first(rest) {

@@ -1,5 +1,5 @@
 -- Entries in order are told apart by what stands at each key.
-use Rattle.std.proofs.Common.{◌≡◌, ℕ, List, [], ◌∷◌, Option, Some, None, Bool, true, false, cond, nat_eq, refl, sym, ap, subst, ◌∙◌}
+use Rattle.std.proofs.Common.{◌≡◌, ℕ, List, Option, Some, None, Bool, true, false, cond, nat_eq, refl, sym, ap, subst, ◌∙◌}
 use Rattle.std.proofs.lemmas.Cmp.{nat_list_cmp_total}
 use Rattle.std.proofs.lemmas.Map.Text.{is_eq-slice_cmp}
 use Rattle.std.proofs.lemmas.Map.Keys.{sorted_head, sorted_tail}
@@ -12,7 +12,7 @@ use Rattle.std.specs.List.{AllByRecursion}
 use Rattle.std.specs.List.Sorted.{IsStrictlySortedBy}
 use Rattle.std.specs.Map.{lookup, keys_of}
 use Rattle.rb_tree.specs.Resource.{Resource, table, Members, no_entries, entry_and}
-use Rattle.rb_tree.specs.Keys.{pairs, IsTable}
+use Rattle.rb_tree.specs.Keys.{pairs}
 use Rattle.rb_tree.specs.Table.{IsTableOf}
 
 abbrev at : List ℕ → Members → Option Resource

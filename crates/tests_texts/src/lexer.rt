@@ -128,7 +128,14 @@ fn reads_long_sources(rt: HostRuntime) -> Result<(), Fail> {
     let tokens = lex(rt.alloc(), &source)?;
     assert_eq!(rt; tokens.len(), 20_000);
     assert_eq!(rt; units(&tokens[0]).len(), 50_002);
-    let spaces = vec![in rt.alloc(); b' '; 8_388_609]?;
+    Ok(())
+}
+
+#[test]
+fn reads_texts_up_to_the_limit(rt: HostRuntime) -> Result<(), Fail> {
+    let mut spaces = vec![in rt.alloc(); b' '; 8_388_608]?;
+    assert_eq!(rt; lex(rt.alloc(), &spaces)?.len(), 0);
+    spaces.push(b' ')?;
     assert_eq!(rt;
         fault_of(rt.alloc(), &spaces),
         Some((SourceKind::TooLong, 1))

@@ -21,13 +21,13 @@ refused c =
     (memory_or c.in-Err.stop.kind)
 
 pub returns-in-Ok-clause-only : goal.returns-in-Ok-clause-only
-returns-in-Ok-clause-only c = λ ts short has.
+returns-in-Ok-clause-only c = λ ts has.
     let same = c.in_ok-text.ensures.1 in
     let w = c.in-Ok.ensures.ends in
-    only_ok c.args.bytes.now c.in-Ok.tokens.items ts (found c.args.bytes.now (chars c.in_ok-text.text.now) (c.in-Ok.ensures.bytes ∙ same) c.in-Ok.ensures.scalars c.in-Ok.tokens.items (w.0, w.1, w.2, w.3 ∙ ap (λ bytes. atoms_tokens bytes 0 None false w.0) same)) has
+    only_ok c.args.bytes.now c.in-Ok.tokens.items ts (found c.args.bytes.now (chars c.in_ok-text.text.now) (c.in-Ok.ensures.bytes ∙ same) c.in-Ok.ensures.scalars c.in-Ok.tokens.items (w.0, w.1, w.2, w.3 ∙ ap (λ bytes. atoms_tokens bytes 0 None false w.0) same)) has.1
 
 pub returns-in-Err-clause-only : goal.returns-in-Err-clause-only
-returns-in-Err-clause-only c = λ ts short has. only_err c.args.bytes.now c.located.result (refused c) ts short has
+returns-in-Err-clause-only c = λ ts has. only_err c.args.bytes.now c.located.result (refused c) ts has
 
 pub returns-in-Ok-clause-found : goal.returns-in-Ok-clause-found
 returns-in-Ok-clause-found c =
@@ -45,7 +45,7 @@ pub returns-in-Err-clause-fault : goal.returns-in-Err-clause-fault
 returns-in-Err-clause-fault c = refused c
 
 pub returns-in_err-text-clause-only : goal.returns-in_err-text-clause-only
-returns-in_err-text-clause-only c = λ ts short has. let p = err_from_is_err_and c.from_residual.result c.from_residual.ensures.1 in rw (p.1, p.2) (only_err c.args.bytes.now c.in_err-text.field-0.0 (inr (inl c.in_err-text.ensures)) ts short has)
+returns-in_err-text-clause-only c = λ ts has. let p = err_from_is_err_and c.from_residual.result c.from_residual.ensures.1 in rw (p.1, p.2) (only_err c.args.bytes.now c.in_err-text.field-0.0 (inr (inl c.in_err-text.ensures)) ts has)
 
 pub returns-in-Ok-clause-refused : goal.returns-in-Ok-clause-refused
 returns-in-Ok-clause-refused c = λ kind line f.

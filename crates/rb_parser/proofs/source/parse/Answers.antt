@@ -12,7 +12,7 @@ use Rattle.rb_parser.proofs.source.parse.Goals as goal
 pub returns-in_err-tokens-clause-only : goal.returns-in_err-tokens-clause-only
 returns-in_err-tokens-clause-only c = λ name tree g.
     let p = err_from_is_err_and c.from_residual.result c.from_residual.ensures.1 in
-    rw (p.1, p.2) (c.in_err-tokens.ensures.only g.tokens g.short g.cut)
+    rw (p.1, p.2) (c.in_err-tokens.ensures.only g.tokens (g.short, g.cut))
 
 pub returns-in-Err-clause-only : goal.returns-in-Err-clause-only
 returns-in-Err-clause-only c = λ name tree g.

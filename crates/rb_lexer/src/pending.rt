@@ -1,30 +1,30 @@
-// A text that may still grow.
+// Pending text.
 ghost use Rattle.std.specs.Prelude.{◌≡◌, OnOk};
-ghost use Rattle.rb_lexer.specs.Tokens.{joined};
+ghost use Rattle.rb_lexer.specs.Merging.{joined};
 
-use rb_tree::UnitList;
+use crate::units::UnitBuffer;
 use std::alloc::AllocError;
 
-/// A text that may still grow: whether its last piece is quoted, its span and its line.
-#[derive(Debug, Drop)]
-pub struct Piece {
-    pub units: UnitList,
+/// A text that the next piece may still join: its units, whether its last piece is quoted, its span and its line.
+#[derive(Drop)]
+pub struct PendingText {
+    pub units: UnitBuffer,
     pub is_quoted: bool,
     pub first: usize,
     pub past: usize,
     pub line: u64,
 }
 
-impl Piece {
+impl PendingText {
     /// Adds a piece with nothing but white space and comments before it.
-    pub fn join(&mut self, next: &Piece) -> Result<(), AllocError>
+    pub fn join(&mut self, next: &PendingText) -> Result<(), AllocError>
         ensures { OnOk result (self.new ≡ joined self.old next.now) }
     {
         let joins_directly = self.units.is_empty() || self.is_quoted && next.is_quoted;
         if !joins_directly {
             self.units.push(0x20)?;
         }
-        self.units.append(&next.units)?;
+        self.units.extend(&next.units)?;
         self.is_quoted = next.is_quoted;
         self.past = next.past;
         Ok(())
