@@ -15,8 +15,7 @@ use Rattle.rb_locales.proofs.Canon.{both_true}
 use Rattle.rb_fallback.specs.Alias.{Aim, aims, no_text, no_package, is_plain, aim, plain_aim, packaged, located, named, with_path, target, target_of}
 use Rattle.rb_fallback.specs.Behind.{are_filled, led}
 use Rattle.rb_fallback.specs.Search.{follow, goes}
-use Rattle.rb_fallback.specs.Turns.{GoesLong}
-use Rattle.rb_fallback.specs.declared.limits.TheConstants.{PATH_LIMIT}
+use Rattle.rb_fallback.specs.Steps.{GoesLong}
 use Rattle.rb_fallback.proofs.Paths.{path_is_filled, aim_is_plain, split_append, long_is}
 
 pub behind_more : (cut : ℕ) → cut ≢ 0 → behind cut ≡ cut + 1
@@ -83,7 +82,7 @@ some_segments (x ∷ a) h = refl
 
 -- ---- where an alias leads whose text has a path
 pub record Leads (us valid : List ℕ) (icu in_icu : Bool) (n q : List ℕ) (walked rest : List (List ℕ)) : Type 0 where
-  pub onto : follow rest (target us in_icu valid walked) ≡ Ok (goes (icu || in_icu) n (segments q))
+  pub onto : follow valid rest (target us in_icu valid walked) ≡ Ok (goes valid (icu || in_icu) n (segments q))
   pub path : IsPath q
 
 pub led_goes : (us valid n : List ℕ) (icu in_icu : Bool) (at cut : ℕ) (p q : List ℕ) (walked rest : List (List ℕ)) → aim us valid ≡ aims icu n (Some (slice_split is_slash (drop at us))) → q ≡ led (drop at us) (drop (behind cut) p) → IsPath p → walked ++ rest ≡ segments p → rest ≡ segments (drop (behind cut) p) → Leads us valid icu in_icu n q walked rest
@@ -96,7 +95,7 @@ led_goes us valid n icu in_icu at cut p q walked rest e f path whole left =
     let rest_filled : All (λ s. 0 < length s) rest =
     subst (All (λ s. 0 < length s)) (ap (drop (length walked)) (sym whole) ∙ drop_at walked rest (length walked) refl) (All-drop (λ s. 0 < length s) (length walked) (segments p) path.filled) in
     record {
-      onto = ap (λ x. follow rest (target_of x in_icu walked)) e ∙ ap (λ ss. Ok (goes (icu || in_icu) n ss)) (sym joined);
+      onto = ap (λ x. follow valid rest (target_of x in_icu walked)) e ∙ ap (λ ss. Ok (goes valid (icu || in_icu) n ss)) (sym joined);
       path = record {
         plain = subst (All IsPlain) (sym f) (plain_led a b (All-drop IsPlain at us (plain_all us (aim_is_plain us valid n icu (Some (slice_split is_slash (drop at us))) e))) (All-drop IsPlain (behind cut) p path.plain));
         filled = subst (All (λ s. 0 < length s)) (sym joined) (All-append (λ s. 0 < length s) (slice_split is_slash a) rest (filled_all (slice_split is_slash a) filled) rest_filled);
@@ -104,15 +103,16 @@ led_goes us valid n icu in_icu at cut p q walked rest e f path whole left =
     }
 
 -- where the text has no path, the path stays
-pub same_goes : (us valid n : List ℕ) (icu in_icu : Bool) (p : List ℕ) (walked rest : List (List ℕ)) → aim us valid ≡ aims icu n None → walked ++ rest ≡ segments p → follow rest (target us in_icu valid walked) ≡ Ok (goes (icu || in_icu) n (segments p))
-same_goes us valid n icu in_icu p walked rest e whole = ap (λ x. follow rest (target_of x in_icu walked)) e ∙ ap (λ ss. Ok (goes (icu || in_icu) n ss)) whole
+pub same_goes : (us valid n : List ℕ) (icu in_icu : Bool) (p : List ℕ) (walked rest : List (List ℕ)) → aim us valid ≡ aims icu n None → walked ++ rest ≡ segments p → follow valid rest (target us in_icu valid walked) ≡ Ok (goes valid (icu || in_icu) n (segments p))
+same_goes us valid n icu in_icu p walked rest e whole = ap (λ x. follow valid rest (target_of x in_icu walked)) e ∙ ap (λ ss. Ok (goes valid (icu || in_icu) n ss)) whole
 
 -- a path that is too long
-pub long_goes : (us valid n : List ℕ) (icu in_icu : Bool) (q : List ℕ) (walked rest : List (List ℕ)) → Leads us valid icu in_icu n q walked rest → PATH_LIMIT < length q → GoesLong (follow rest (target us in_icu valid walked))
+pub long_goes : (us valid n : List ℕ) (icu in_icu : Bool) (q : List ℕ) (walked rest : List (List ℕ)) → Leads us valid icu in_icu n q walked rest → 1024 < length q → GoesLong (follow valid rest (target us in_icu valid walked))
 long_goes us valid n icu in_icu q walked rest h l = record {
+  valid = valid;
   in_icu = icu || in_icu;
   name = n;
   rest = segments q;
   onto = h.onto;
-  long = long_is q ∙ lt-ltb PATH_LIMIT (length q) l;
+  long = long_is q ∙ lt-ltb 1024 (length q) l;
 }

@@ -1,17 +1,19 @@
 -- A scan of stops, name by name.
-use Rattle.std.proofs.Common.{◌≡◌, ◌+◌, ◌<◌, ◌≤◌, ℕ, List, [], ◌∷◌, length, drop, get_or, Bool, true, false, cond, Option, Some, None, unwrap_or, map, zero, suc, Err, refl, ap, sym, ◌∙◌, arith, subst}
+use Rattle.std.proofs.Common.{◌≡◌, ◌+◌, ◌<◌, ◌≤◌, ℕ, List, [], ◌∷◌, length, drop, get_or, Bool, true, false, cond, Option, Some, None, unwrap_or, map, zero, suc, Result, Ok, Err, refl, ap, sym, ◌∙◌, arith, subst}
 use Rattle.std.proofs.lemmas.List.{at_drop_more, drop_all, length-map}
 use Rattle.std.proofs.lemmas.Option.{get_or_from_slice_get, slice_get_within}
 use Rattle.std.specs.List.{filter, slice_get}
 use Rattle.rb_tree.specs.Resource.{Resource}
+use Rattle.rb_tree.specs.SourceTree.{SourceTree}
 use Rattle.rb_tree.specs.Path.{segments}
 use Rattle.rb_tree.specs.Walk.{Walked, ends, links, gone, walk, stop_of, rest_of, nowhere}
 use Rattle.rb_tree.specs.Ending.{stop_at, RestIs}
 use Rattle.rb_tree.specs.declared.ending.Ending.{Ending}
 use Rattle.rb_tree.specs.declared.ending.Ending.TheVariants.{End, Link, Gone}
 use Rattle.rb_parents.specs.Trail.{Bundles, is_stop, stops_at, stops}
-use Rattle.rb_fallback.specs.Search.{walk_of, unless_gone, decide, decided, by_stops, first_of}
-use Rattle.rb_fallback.specs.Hits.{IsHit, Progress}
+use Rattle.rb_fallback.specs.Search.{Decided, walk_of, unless_gone, by_stops}
+use Rattle.rb_fallback.specs.Hits.{IsHit}
+use Rattle.rb_fallback.specs.declared.fault.LookError.{LookError}
 use Rattle.rb_fallback.specs.declared.fault.LookError.TheVariants as fault
 
 -- the name at the index of a stop
@@ -45,7 +47,7 @@ passes test (m ∷ ns) k n e = by (test m) refl (λ j f. passes test ns j n f) k
     by true t h (suc i) f = h i f
     by false t h i f = h i f
 
-stop_some : (o : Option Resource) → stops_at o ≡ true → o ≡ None → ⊥
+stop_some : (o : Option SourceTree) → stops_at o ≡ true → o ≡ None → ⊥
 stop_some None e f = cc
 stop_some (Some t) e f = cc
 
@@ -69,52 +71,51 @@ stops_on b names k n h =
     at_drop_more (λ xs. xs) (stops b names) k n (slice_get_within (stops b names) k n h.there)
     ∙ ap (λ m. m ∷ drop (k + 1) (stops b names)) (get_or_from_slice_get (stops b names) k n n h.there)
 
-begun : (b : Bundles) (ss : List (List ℕ)) (first : Option (List ℕ)) (all rest : List (List ℕ)) (n f : List ℕ) → f ≡ unwrap_or first n → Progress b ss first all (n ∷ rest) → (first_of all ≡ f) × (by_stops b all ss ≡ decided (decide b (n ∷ rest) ss))
-begun b ss None all rest n f e p = (ap first_of p ∙ sym e, ap (λ l. by_stops b l ss) p)
-begun b ss (Some g) all rest n f e p = (p.0 ∙ sym e, p.1)
-
-not_gone : (w : Walked) (n : List ℕ) (o : Option (List ℕ × Walked)) → (stop_of w ≡ nowhere → ⊥) → unless_gone n w o ≡ Some (n, w)
-not_gone (ends t) n o h = refl
-not_gone (links us walked rest) n o h = refl
-not_gone gone n o h = absurd (h refl)
-
-is_gone : (w : Walked) (n : List ℕ) (o : Option (List ℕ × Walked)) → nowhere ≡ stop_of w → unless_gone n w o ≡ o
-is_gone (ends t) n o h = cc
-is_gone (links us walked rest) n o h = cc
-is_gone gone n o h = refl
-
-pub scan_gone : (b : Bundles) (ns ss : List (List ℕ)) (i : ℕ) (n f : List ℕ) (t : Resource) (first : Option (List ℕ)) → IsStopAt b ns i n → b n ≡ Some t → f ≡ unwrap_or first n → nowhere ≡ stop_of (walk t ss) → Progress b ss first (stops b ns) (drop i (stops b ns)) → Progress b ss (Some f) (stops b ns) (drop (i + 1) (stops b ns))
-scan_gone b ns ss i n f t first h s u w p =
+-- one stop on
+stop_on : (b : Bundles) (ns ss : List (List ℕ)) (i : ℕ) (n f : List ℕ) (t : SourceTree) (first : Option (List ℕ)) → IsStopAt b ns i n → b n ≡ Some t → f ≡ unwrap_or first n → by_stops b first (drop i (stops b ns)) ss ≡ unless_gone f n (walk t.tree ss) (by_stops b (Some f) (drop (i + 1) (stops b ns)) ss)
+stop_on b ns ss i n f t first h s u =
     let left = drop (i + 1) (stops b ns) in
-    let q = begun b ss first (stops b ns) left n f u (subst (Progress b ss first (stops b ns)) (stops_on b ns i n h) p) in
-    (q.0, q.1 ∙ ap (λ o. decided (unless_gone n (walk_of o ss) (decide b left ss))) s ∙ ap decided (is_gone (walk t ss) n (decide b left ss) w))
+    let g = unwrap_or first n in
+    ap (λ l. by_stops b first l ss) (stops_on b ns i n h)
+    ∙ ap (λ o. unless_gone g n (walk_of o ss) (by_stops b (Some g) left ss)) s
+    ∙ ap (λ x. unless_gone x n (walk t.tree ss) (by_stops b (Some x) left ss)) (sym u)
+
+not_gone : (w : Walked) (f n : List ℕ) (r : Result Decided LookError) → (stop_of w ≡ nowhere → ⊥) → unless_gone f n w r ≡ Ok (record { first = f; stop = n; walked = w })
+not_gone (ends t) f n r h = refl
+not_gone (links us walked rest) f n r h = refl
+not_gone gone f n r h = absurd (h refl)
+
+is_gone : (w : Walked) (f n : List ℕ) (r : Result Decided LookError) → nowhere ≡ stop_of w → unless_gone f n w r ≡ r
+is_gone (ends t) f n r h = cc
+is_gone (links us walked rest) f n r h = cc
+is_gone gone f n r h = refl
+
+pub scan_gone : (b : Bundles) (ns ss : List (List ℕ)) (i : ℕ) (n f : List ℕ) (t : SourceTree) (first : Option (List ℕ)) → IsStopAt b ns i n → b n ≡ Some t → f ≡ unwrap_or first n → nowhere ≡ stop_of (walk t.tree ss) → by_stops b first (drop i (stops b ns)) ss ≡ by_stops b None (stops b ns) ss → by_stops b (Some f) (drop (i + 1) (stops b ns)) ss ≡ by_stops b None (stops b ns) ss
+scan_gone b ns ss i n f t first h s u w p =
+    sym (stop_on b ns ss i n f t first h s u ∙ is_gone (walk t.tree ss) f n (by_stops b (Some f) (drop (i + 1) (stops b ns)) ss) w) ∙ p
 
 ends_somewhere : {N : Type 0} (tree : N → Resource) (x : Ending N) → (x ≡ Gone → ⊥) → stop_at tree x ≡ nowhere → ⊥
 ends_somewhere tree (End n) g e = cc
 ends_somewhere tree (Link n k) g e = cc
 ends_somewhere tree Gone g e = g refl
 
-pub scan_hit : {N : Type 0} (tree : N → Resource) (x : Ending N) (b : Bundles) (ns : List (List ℕ)) (path : List ℕ) (i : ℕ) (n f : List ℕ) (t : Resource) (first : Option (List ℕ)) → IsStopAt b ns i n → b n ≡ Some t → f ≡ unwrap_or first n → stop_at tree x ≡ stop_of (walk t (segments path)) → RestIs x path (rest_of (walk t (segments path))) → (x ≡ Gone → ⊥) → Progress b (segments path) first (stops b ns) (drop i (stops b ns)) → IsHit tree (record { first = f; actual = n; ending = x }) path (by_stops b (stops b ns) (segments path)) (first_of (stops b ns))
-scan_hit tree x b ns path i n f t first h s u stop rest other p =
-    let left = drop (i + 1) (stops b ns) in
-    let q = begun b (segments path) first (stops b ns) left n f u (subst (Progress b (segments path) first (stops b ns)) (stops_on b ns i n h) p) in
-    record {
-      walked = walk t (segments path);
-      decides =
-          q.1
-          ∙ ap (λ o. decided (unless_gone n (walk_of o (segments path)) (decide b left (segments path)))) s
-          ∙ ap decided (not_gone (walk t (segments path)) n (decide b left (segments path)) (λ z. ends_somewhere tree x other (stop ∙ z)));
-      stop = stop;
-      rest = rest;
-      first = sym q.0;
-    }
+pub scan_hit : {N : Type 0} (tree : N → Resource) (x : Ending N) (b : Bundles) (ns : List (List ℕ)) (path : List ℕ) (i : ℕ) (n f : List ℕ) (t : SourceTree) (first : Option (List ℕ)) → IsStopAt b ns i n → b n ≡ Some t → f ≡ unwrap_or first n → stop_at tree x ≡ stop_of (walk t.tree (segments path)) → RestIs x path (rest_of (walk t.tree (segments path))) → (x ≡ Gone → ⊥) → by_stops b first (drop i (stops b ns)) (segments path) ≡ by_stops b None (stops b ns) (segments path) → IsHit tree (record { first = f; actual = n; ending = x }) path (by_stops b None (stops b ns) (segments path))
+scan_hit tree x b ns path i n f t first h s u stop rest other p = record {
+  walked = walk t.tree (segments path);
+  decides =
+      sym p
+      ∙ stop_on b ns (segments path) i n f t first h s u
+      ∙ not_gone (walk t.tree (segments path)) f n (by_stops b (Some f) (drop (i + 1) (stops b ns)) (segments path)) (λ z. ends_somewhere tree x other (stop ∙ z));
+  stop = stop;
+  rest = rest;
+}
 
 -- the end of a scan
 all_gone : (all : List (List ℕ)) (is : List ℕ) (names : List (List ℕ)) (k : ℕ) → map (slice_get names) is ≡ map Some all → length is ≤ k → drop k all ≡ []
 all_gone all is names k e h = drop_all k all (omega (arith, simp length-map at (ap length e)))
 
-pub scan_missing : (b : Bundles) (ns ss : List (List ℕ)) (is : List ℕ) (k : ℕ) (f : List ℕ) → map (slice_get ns) is ≡ map Some (stops b ns) → length is ≤ k → Progress b ss (Some f) (stops b ns) (drop k (stops b ns)) → by_stops b (stops b ns) ss ≡ Err fault.Missing
-scan_missing b ns ss is k f e h p = p.1 ∙ ap (λ l. decided (decide b l ss)) (all_gone (stops b ns) is ns k e h)
+pub scan_missing : (b : Bundles) (ns ss : List (List ℕ)) (is : List ℕ) (k : ℕ) (f : List ℕ) → map (slice_get ns) is ≡ map Some (stops b ns) → length is ≤ k → by_stops b (Some f) (drop k (stops b ns)) ss ≡ by_stops b None (stops b ns) ss → by_stops b None (stops b ns) ss ≡ Err fault.Missing
+scan_missing b ns ss is k f e h p = sym p ∙ ap (λ l. by_stops b (Some f) l ss) (all_gone (stops b ns) is ns k e h)
 
-pub scan_none : (b : Bundles) (ns ss : List (List ℕ)) (is : List ℕ) (k : ℕ) → map (slice_get ns) is ≡ map Some (stops b ns) → length is ≤ k → Progress b ss None (stops b ns) (drop k (stops b ns)) → by_stops b (stops b ns) ss ≡ Err fault.NoBundle
-scan_none b ns ss is k e h p = ap (λ l. by_stops b l ss) (p ∙ all_gone (stops b ns) is ns k e h)
+pub scan_none : (b : Bundles) (ns ss : List (List ℕ)) (is : List ℕ) (k : ℕ) → map (slice_get ns) is ≡ map Some (stops b ns) → length is ≤ k → by_stops b None (drop k (stops b ns)) ss ≡ by_stops b None (stops b ns) ss → by_stops b None (stops b ns) ss ≡ Err fault.NoBundle
+scan_none b ns ss is k e h p = sym p ∙ ap (λ l. by_stops b None l ss) (all_gone (stops b ns) is ns k e h)

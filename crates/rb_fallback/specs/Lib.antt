@@ -4,4 +4,4 @@ pub mod Answers
 pub mod Words
 pub mod Behind
 pub mod Hits
-pub mod Turns
+pub mod Steps

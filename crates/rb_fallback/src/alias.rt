@@ -1,11 +1,10 @@
 // The texts of aliases.
-ghost use Rattle.std.specs.Prelude.{◌≡◌, ◌<◌, ◌≤◌, ◌+◌, ◌⊎◌, length, drop};
+ghost use Rattle.std.specs.Prelude.{◌≡◌, ◌<◌, ◌≤◌, ◌+◌, ◌⊎◌, length, drop, slice_range};
 ghost use Rattle.std.specs.List.{list_all, slice_split, position_or_len};
 ghost use Rattle.std.specs.Str.{bytes_eq};
 ghost use Rattle.rb_tree.specs.Parts.{HasUnits, kind_of, len_of, units_of};
 ghost use Rattle.rb_tree.specs.declared.kind.Kind.TheVariants as Kinds;
 ghost use Rattle.rb_tree.specs.Path.{is_slash};
-ghost use Rattle.rb_locales.specs.Stretch.{stretch};
 ghost use Rattle.rb_fallback.specs.Alias.{is_plain, aim, with_path, located};
 ghost use Rattle.rb_fallback.specs.Answers.{aim_of};
 ghost use Rattle.rb_fallback.specs.Behind.{are_filled, behind_parts};
@@ -62,7 +61,7 @@ fn is_word<N: Node>(node: N, from: usize, past: usize, word: &[u8]) -> bool
     requires units { HasUnits (kind_of (N.tree node)) }
     requires order { from ≤ past }
     requires within { past ≤ len_of (N.tree node) }
-    ensures { result ≡ bytes_eq (stretch from past (units_of (N.tree node))) word.now }
+    ensures { result ≡ bytes_eq (slice_range (units_of (N.tree node)) from past) word.now }
 {
     if past - from != word.len() {
         return false;

@@ -1,9 +1,9 @@
 // One level of a search.
-ghost use Rattle.std.specs.Prelude.{◌≡◌, Some, map, slice_get};
+ghost use Rattle.std.specs.Prelude.{◌≡◌, Some, None, map, slice_get};
 ghost use Rattle.rb_tree.specs.Path.{IsPath, segments};
 ghost use Rattle.rb_parents.specs.Trail.{stops};
 ghost use Rattle.rb_parents.specs.Family.{parent_of};
-ghost use Rattle.rb_fallback.specs.Search.{by_stops, first_of, level, first_stop};
+ghost use Rattle.rb_fallback.specs.Search.{by_stops, level};
 ghost use Rattle.rb_fallback.specs.Hits.{IsLevel};
 
 use crate::fault::LookError;
@@ -27,19 +27,19 @@ pub(crate) fn scan<'a, S: Shelf<'a>>(
     path: &[u8],
 ) -> Result<Hit<S::N>, LookError>
     requires path { IsPath path.now }
-    requires stops { map (slice_get route.now.names.items) route.now.stops.items ≡ map Some (stops (S.trees shelf) route.now.names.items) }
-    ensures { IsLevel S.N.tree result path.now (by_stops (S.trees shelf) (stops (S.trees shelf) route.now.names.items) (segments path.now)) (first_of (stops (S.trees shelf) route.now.names.items)) }
+    requires stops { map (slice_get route.now.names.items) route.now.stops.items ≡ map Some (stops (S.bundles shelf) route.now.names.items) }
+    ensures { IsLevel S.N.tree result path.now (by_stops (S.bundles shelf) None (stops (S.bundles shelf) route.now.names.items) (segments path.now)) }
 {
     let names = route.names.as_slice();
     let mut first = None;
     for stop in route.stops.as_slice() {
         let name = names[*stop as usize];
-        let bundle = match shelf.bundle(&name) {
+        let (root, _) = match shelf.bundle(&name) {
             Some(bundle) => bundle,
             None => continue,
         };
         let begun = first.unwrap_or(name);
-        match walk(bundle, path) {
+        match walk(root, path) {
             Ending::Gone => first = Some(begun),
             ending => return Ok(Hit {
                 first: begun,
@@ -62,7 +62,7 @@ pub(crate) fn level<'a, S: Shelf<'a>>(
     path: &[u8],
 ) -> Result<Hit<S::N>, LookError>
     requires { IsPath path.now }
-    ensures { IsLevel S.N.tree result path.now (level (S.trees shelf) (parent_of parents.now) name.now (segments path.now)) (first_stop (S.trees shelf) (parent_of parents.now) name.now) }
+    ensures { IsLevel S.N.tree result path.now (level (S.bundles shelf) (parent_of parents.now) name.now (segments path.now)) }
 {
     match trail(shelf, parents, name) {
         Ok(route) => scan(shelf, &route, path),

@@ -1,6 +1,6 @@
-//! The limits of a look-up, each in the one place that code and definitions read.
+//! The limits of a lookup. The definitions in specs/ have the same numbers written out, so that a proof compares the two.
 
-/// The number of searches that a look-up makes at most.
+/// The greatest number of levels of a lookup.
 pub const LEVEL_LIMIT: u16 = 256;
 
 /// The greatest number of bytes in a path, also after an alias has replaced its front.

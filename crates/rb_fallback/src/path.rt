@@ -5,7 +5,6 @@ ghost use Rattle.std.specs.List.{list_all};
 ghost use Rattle.arrayvec.specs.ArrayVec.{array_vec_len};
 ghost use Rattle.rb_tree.specs.Parts.{HasUnits, kind_of, len_of, units_of};
 ghost use Rattle.rb_tree.specs.Walk.{behind};
-ghost use Rattle.rb_fallback.specs.declared.limits.TheConstants.{PATH_LIMIT};
 ghost use Rattle.rb_fallback.specs.Alias.{is_plain};
 ghost use Rattle.rb_fallback.specs.Behind.{led};
 
@@ -21,7 +20,7 @@ pub(crate) fn append_units<N: Node>(path: &mut ArrayVec<u8, PATH_LIMIT>, node: N
     requires within { at ≤ len_of (N.tree node) }
     requires empty { array_vec_len path.old ≡ 0 }
     ensures fits { OnTrue result (path.new.items ≡ drop at (units_of (N.tree node))) }
-    ensures room { IsTrue result ↔ (length (drop at (units_of (N.tree node))) ≤ PATH_LIMIT) }
+    ensures room { IsTrue result ↔ (length (drop at (units_of (N.tree node))) ≤ 1024) }
 {
     for i in at..node.len() {
         if path.try_push(node.unit(i) as u8).is_err() {
@@ -35,7 +34,7 @@ pub(crate) fn append_units<N: Node>(path: &mut ArrayVec<u8, PATH_LIMIT>, node: N
 // A path that is short enough.
 pub(crate) fn short_path(path: &[u8]) -> Option<ArrayVec<u8, PATH_LIMIT>>
     ensures some { IfSome result (λ p. p.items ≡ path.now) }
-    ensures none { IfNone result (PATH_LIMIT < length path.now) }
+    ensures none { IfNone result (1024 < length path.now) }
 {
     let mut short = ArrayVec::new();
     if short.try_extend_from_slice(path).is_err() {
@@ -64,7 +63,7 @@ pub(crate) fn replaced<N: Node>(node: N, at: usize, rest: &[u8]) -> Option<Array
     requires plain { list_all is_plain (units_of (N.tree node)) ≡ true }
     requires within { at ≤ len_of (N.tree node) }
     ensures some { IfSome result (λ p. p.items ≡ led (drop at (units_of (N.tree node))) rest.now) }
-    ensures none { IfNone result (PATH_LIMIT < length (led (drop at (units_of (N.tree node))) rest.now)) }
+    ensures none { IfNone result (1024 < length (led (drop at (units_of (N.tree node))) rest.now)) }
 {
     let mut path = ArrayVec::new();
     if !append_units(&mut path, node, at) {

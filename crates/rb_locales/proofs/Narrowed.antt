@@ -1,5 +1,5 @@
 -- Names that are read from units.
-use Rattle.std.proofs.Common.{◌≡◌, ℕ, ◌+◌, ◌-◌, ◌<◌, ◌≤◌, List, [], ◌∷◌, length, take, drop, map, Bool, true, false, cond, None, get_or, slice_index, option_map, refl, ap, sym, ◌∙◌, arith, length-drop, ◌&&◌, ◌==◌, nat_le}
+use Rattle.std.proofs.Common.{◌≡◌, ℕ, ◌+◌, ◌-◌, ◌<◌, ◌≤◌, List, [], ◌∷◌, length, take, drop, map, Bool, true, false, cond, None, get_or, slice_index, option_map, refl, ap, sym, ◌∙◌, arith, length-drop, ◌&&◌, ◌==◌, nat_le, slice_range}
 use Rattle.std.proofs.lemmas.List.{get_or-take, get_or-drop, length-take-le, length-map, get_or-map, ext_get_or, take_all, take-take}
 use Rattle.std.proofs.lemmas.List.Sums.{position_or_len_is, fails_before_first}
 use Rattle.std.proofs.lemmas.Bool.Decides.{nat_tests}
@@ -7,12 +7,11 @@ use Rattle.std.specs.List.{slice_split, position_or_len, join_with_byte, onto_fi
 use Rattle.std.specs.Char.{is_ascii_alphabetic, is_ascii_alphanumeric}
 use Rattle.rb_locales.specs.Locale.{Place, first, second, later, next_place, is_at, is_between, subtag, part_at, in_front, parts_from, written, before_at, named, name}
 use Rattle.rb_locales.specs.Narrow.{narrow}
-use Rattle.rb_locales.specs.Stretch.{stretch}
 use Rattle.rb_locales.proofs.Canon.{is_clean, all_same, all_weaker, alpha_sign, both_true}
 use Rattle.rb_tree.specs.Resource.{Resource, string, int, ints, binary, alias, array, table}
 use Rattle.rb_tree.specs.Parts.{kind_of, len_of, units_of, HasUnits}
 
--- ---- stretches
+-- ---- slices
 pub units_len : (t : Resource) → HasUnits (kind_of t) → length (units_of t) ≡ len_of t
 units_len (string us) h = refl
 units_len (int n) h = absurd h
@@ -22,29 +21,29 @@ units_len (alias us) h = refl
 units_len (array ts) h = absurd h
 units_len (table es) h = absurd h
 
-pub length-stretch : (from past : ℕ) (us : List ℕ) → past ≤ length us → length (stretch from past us) ≡ past - from
-length-stretch from past us h = length-take-le (past - from) (drop from us) (omega (arith, length-drop from us))
+pub length-slice : (from past : ℕ) (us : List ℕ) → past ≤ length us → length (slice_range us from past) ≡ past - from
+length-slice from past us h = length-take-le (past - from) (drop from us) (omega (arith, length-drop from us))
 
-pub stretch_at : (from past : ℕ) (us : List ℕ) (k : ℕ) → k < past - from → get_or (stretch from past us) k 0 ≡ slice_index us (from + k)
-stretch_at from past us k h = get_or-take (past - from) (drop from us) k 0 h ∙ get_or-drop from us k 0
+pub slice_at : (from past : ℕ) (us : List ℕ) (k : ℕ) → k < past - from → get_or (slice_range us from past) k 0 ≡ slice_index us (from + k)
+slice_at from past us k h = get_or-take (past - from) (drop from us) k 0 h ∙ get_or-drop from us k 0
 
-pub before_here : (t : Resource) (from past i : ℕ) → HasUnits (kind_of t) → past ≤ len_of t → from ≤ i → i < past → ((k : ℕ) → from ≤ k → k < i → is_at (slice_index (units_of t) k) ≡ false) → slice_index (units_of t) i ≡ 64 → i - from ≡ position_or_len is_at (stretch from past (units_of t))
+pub before_here : (t : Resource) (from past i : ℕ) → HasUnits (kind_of t) → past ≤ len_of t → from ≤ i → i < past → ((k : ℕ) → from ≤ k → k < i → is_at (slice_index (units_of t) k) ≡ false) → slice_index (units_of t) i ≡ 64 → i - from ≡ position_or_len is_at (slice_range (units_of t) from past)
 before_here t from past i u w l h none here =
     let us = units_of t in
     let len : length us ≡ len_of t = units_len t u in
-    let many : length (stretch from past us) ≡ past - from = length-stretch from past us (omega arith) in
+    let many : length (slice_range us from past) ≡ past - from = length-slice from past us (omega arith) in
     let place : from + (i - from) ≡ i = omega arith in
-    sym (position_or_len_is is_at (stretch from past us) (i - from) 0 (omega arith)
-    (λ k b. ap is_at (stretch_at from past us k (omega arith)) ∙ none (from + k) (omega arith) (omega arith))
-    (λ b. ap is_at (stretch_at from past us (i - from) (omega arith) ∙ ap (slice_index us) place ∙ here)))
+    sym (position_or_len_is is_at (slice_range us from past) (i - from) 0 (omega arith)
+    (λ k b. ap is_at (slice_at from past us k (omega arith)) ∙ none (from + k) (omega arith) (omega arith))
+    (λ b. ap is_at (slice_at from past us (i - from) (omega arith) ∙ ap (slice_index us) place ∙ here)))
 
-pub before_none : (t : Resource) (from past : ℕ) → HasUnits (kind_of t) → past ≤ len_of t → from ≤ past → ((k : ℕ) → from ≤ k → k < past → is_at (slice_index (units_of t) k) ≡ false) → past - from ≡ position_or_len is_at (stretch from past (units_of t))
+pub before_none : (t : Resource) (from past : ℕ) → HasUnits (kind_of t) → past ≤ len_of t → from ≤ past → ((k : ℕ) → from ≤ k → k < past → is_at (slice_index (units_of t) k) ≡ false) → past - from ≡ position_or_len is_at (slice_range (units_of t) from past)
 before_none t from past u w l none =
     let us = units_of t in
     let len : length us ≡ len_of t = units_len t u in
-    let many : length (stretch from past us) ≡ past - from = length-stretch from past us (omega arith) in
-    sym (position_or_len_is is_at (stretch from past us) (past - from) 0 (omega arith)
-    (λ k b. ap is_at (stretch_at from past us k b) ∙ none (from + k) (omega arith) (omega arith))
+    let many : length (slice_range us from past) ≡ past - from = length-slice from past us (omega arith) in
+    sym (position_or_len_is is_at (slice_range us from past) (past - from) 0 (omega arith)
+    (λ k b. ap is_at (slice_at from past us k b) ∙ none (from + k) (omega arith) (omega arith))
     (λ b. absurd (omega arith)))
 
 pub filled : (t : Resource) (from past : ℕ) (field old : List ℕ) → HasUnits (kind_of t) → past ≤ len_of t → from + length old ≤ past → length field ≡ length old → ((k : ℕ) → k < length old → get_or field k 0 ≡ narrow (slice_index (units_of t) (from + k))) → field ≡ map narrow (take (length old) (drop from (units_of t)))
@@ -134,10 +133,10 @@ front_narrow s n e l =
     ap is_at (get_or-map narrow (take n s) k 0 0 (omega arith)) ∙ at_narrow (get_or (take n s) k 0) ∙ ap is_at (get_or-take n s k 0 h) ∙ fails_before_first is_at s k 0 (omega arith))
 
 -- a name that is read from units narrowed up to an `@` is that of the units
-pub name_narrow : (from past n : ℕ) (us f : List ℕ) → n ≡ position_or_len is_at (stretch from past us) → n ≤ past - from → past ≤ length us → f ≡ map narrow (take n (drop from us)) → name f ≡ name (stretch from past us)
+pub name_narrow : (from past n : ℕ) (us f : List ℕ) → n ≡ position_or_len is_at (slice_range us from past) → n ≤ past - from → past ≤ length us → f ≡ map narrow (take n (drop from us)) → name f ≡ name (slice_range us from past)
 name_narrow from past n us f e l w is =
-    let s = stretch from past us in
-    let few : length s ≡ past - from = length-stretch from past us w in
+    let s = slice_range us from past in
+    let few : length s ≡ past - from = length-slice from past us w in
     let front : take n s ≡ take n (drop from us) = take-take n (past - from) (drop from us) l in
     ap name (is ∙ ap (map narrow) (sym front))
     ∙ ap named (front_narrow s n e (omega arith))

@@ -3,5 +3,4 @@ pub mod Places
 pub mod Short
 pub mod Last
 pub mod Narrow
-pub mod Stretch
 pub mod Words

@@ -1,11 +1,10 @@
 -- The canonical names of locales, in this profile of the identifiers of UTS #35 (LDML) and of ICU's
 -- `uloc_canonicalize`: parts between underscores, the first a language in lower case, a second part of
--- four letters a script in title case, every other part in upper case; what stands behind an `@` is no
--- part of the name. It speaks of parts, never of places in a text.
+-- four letters a script in title case, every other part in upper case; what follows an `@` is no
+-- part of the name. That a name has at most 64 bytes is this project's own rule. It speaks of parts, never of places in a text.
 use Rattle.std.specs.Prelude.{◌==◌, ◌&&◌, ◌||◌, ℕ, List, [], ◌∷◌, length, Bool, Option, Some, None, option_map, take, map, if◌then◌else◌, nat_le, codes}
 use Rattle.std.specs.Option.{option_zip}
 use Rattle.std.specs.List.{slice_split, list_all, join_with_byte, position_or_len}
-use Rattle.rb_locales.specs.declared.limits.TheConstants.{NAME_LIMIT}
 use Rattle.std.specs.Char.{is_ascii_alphabetic, is_ascii_alphanumeric, to_ascii_lowercase, to_ascii_uppercase}
 
 -- what stands before the first `@`
@@ -67,10 +66,10 @@ parts_from place (p ∷ ps) = in_front (part_at place p) (parts_from (next_place
 abbrev pub written : Place → List ℕ → Option (List ℕ)
 written place bs = option_map (join_with_byte 95) (parts_from place (slice_split is_between bs))
 
--- the empty name is that of the root, and a name has at most so many bytes
+-- the empty name is that of the root, and a name has at most 64 bytes
 abbrev pub named : List ℕ → Option (List ℕ)
 named [] = Some (codes "root")
-named (b ∷ bs) = if nat_le (length (b ∷ bs)) NAME_LIMIT then written first (b ∷ bs) else None
+named (b ∷ bs) = if nat_le (length (b ∷ bs)) 64 then written first (b ∷ bs) else None
 
 -- the canonical name of a locale, if a text is one
 abbrev pub name : List ℕ → Option (List ℕ)

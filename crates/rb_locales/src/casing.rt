@@ -26,7 +26,7 @@ fn are_letters(part: &[u8]) -> bool
 }
 
 #[tactic(auto, using(std::proofs::lemmas::List::Folds::list_all_more, std::proofs::lemmas::List::Folds::list_all_at))]
-fn are_signs(part: &[u8]) -> bool
+fn are_alphanumeric(part: &[u8]) -> bool
     ensures { result ≡ list_all is_ascii_alphanumeric part.now }
 {
     for b in part {
@@ -48,7 +48,7 @@ fn write_title(part: &mut [u8])
 fn write_subtag(part: &mut [u8]) -> bool
     ensures { subtag part.old ≡ (if result then Some part.new else None) }
 {
-    if part.is_empty() || part.len() > 8 || !are_signs(part) {
+    if part.is_empty() || part.len() > 8 || !are_alphanumeric(part) {
         return false;
     }
     part.make_ascii_uppercase();
@@ -91,7 +91,7 @@ fn part_end(rest: &[u8]) -> usize
     rest.len()
 }
 
-fn behind(place: Place) -> Place
+fn following(place: Place) -> Place
     ensures { place_of result ≡ next_place (place_of place) }
 {
     match place {
@@ -113,5 +113,5 @@ pub(crate) fn write_parts(place: Place, rest: &mut [u8]) -> bool
         return true;
     }
     rest[end] = b'_';
-    write_parts(behind(place), &mut rest[end + 1..])
+    write_parts(following(place), &mut rest[end + 1..])
 }

@@ -3,7 +3,6 @@ ghost use Rattle.std.specs.Prelude.{◌≡◌, ◌≤◌, ◌++◌, ◌↔◌, �
 ghost use Rattle.std.specs.Result.{result_ok};
 ghost use Rattle.std.specs.List.{position_or_len};
 ghost use Rattle.rb_locales.specs.Locale.{name, shorter, is_at};
-ghost use Rattle.rb_locales.specs.declared.limits.TheConstants.{NAME_LIMIT};
 ghost use Rattle.rb_locales.specs.Last.{IsLastPlace};
 
 use crate::casing::{Place, write_parts};
@@ -69,8 +68,10 @@ impl Name {
         }
     }
 
-    /// The canonical name that a text gives; what stands from the first `@` on is left aside, and
-    /// no bytes give the root. `BadLocale` for any other text than a name of at most 64 bytes.
+    /// The canonical name of a locale identifier (UTS #35, in this project's profile): `de-at@x=y` is `de_AT`.
+    ///
+    /// What follows the first `@` is left out, and the empty name is `root`. `BadLocale`: the text is no name, or has more than 64
+    /// bytes before the `@`.
     #[tactic(auto, using(crate::proofs::Canon::own_name))]
     pub fn read(bytes: &[u8]) -> Result<Name, BadLocale>
         ensures name { result_ok result ≡ name bytes.now }
@@ -100,7 +101,7 @@ impl Name {
     pub fn as_bytes(&self) -> &[u8]
         ensures bytes { result.now ≡ self.now }
         ensures canonical { name self.now ≡ Some self.now }
-        ensures short { length self.now ≤ NAME_LIMIT }
+        ensures short { length self.now ≤ 64 }
     {
         &self.bytes[..self.len as usize]
     }

@@ -1,11 +1,10 @@
 // Names that are read from units.
-ghost use Rattle.std.specs.Prelude.{◌≡◌, ◌≤◌, ◌+◌, ◌-◌, length, take, drop, map};
+ghost use Rattle.std.specs.Prelude.{◌≡◌, ◌≤◌, ◌+◌, ◌-◌, length, take, drop, map, slice_range};
 ghost use Rattle.std.specs.Result.{result_ok};
 ghost use Rattle.std.specs.List.{position_or_len};
 ghost use Rattle.rb_tree.specs.Parts.{HasUnits, kind_of, len_of, units_of};
 ghost use Rattle.rb_locales.specs.Locale.{name, is_at};
 ghost use Rattle.rb_locales.specs.Narrow.{narrow};
-ghost use Rattle.rb_locales.specs.Stretch.{stretch};
 
 use crate::fault::BadLocale;
 use crate::limits::NAME_LIMIT;
@@ -18,7 +17,7 @@ fn units_before_at<N: Node>(node: N, from: usize, past: usize) -> usize
     requires units { HasUnits (kind_of (N.tree node)) }
     requires order { from ≤ past }
     requires within { past ≤ len_of (N.tree node) }
-    ensures first { result ≡ position_or_len is_at (stretch from past (units_of (N.tree node))) }
+    ensures first { result ≡ position_or_len is_at (slice_range (units_of (N.tree node)) from past) }
     ensures within { result ≤ past - from }
 {
     for i in from..past {
@@ -62,7 +61,7 @@ impl Name {
         requires units { HasUnits (kind_of (N.tree node)) }
         requires order { from ≤ past }
         requires within { past ≤ len_of (N.tree node) }
-        ensures { result_ok result ≡ name (stretch from past (units_of (N.tree node))) }
+        ensures { result_ok result ≡ name (slice_range (units_of (N.tree node)) from past) }
     {
         let len = units_before_at(node, from, past);
         if len > NAME_LIMIT {

@@ -1,7 +1,7 @@
 -- A trail, name by name.
 use Rattle.std.proofs.Common.{◌≡◌, ◌+◌, ◌-◌, ◌<◌, ◌≤◌, ℕ, suc, List, [], ◌∷◌, ◌++◌, length, Bool, true, false, cond, refl, ap, sym, ◌∙◌, arith, length-append, map, Some}
 use Rattle.std.specs.List.{filter, slice_get}
-use Rattle.rb_parents.specs.Trail.{Bundles, ParentsOf, Next, goes, stays, bad, next, Trail, names, chain, bad_parent, begins, onward, trail_within, places}
+use Rattle.rb_parents.specs.Trail.{Bundles, ParentsOf, Next, goes_to, end, bad, next, Trail, names, chain, bad_parent, begins, onward, trail_within, places}
 use Rattle.rb_parents.specs.Steps.{trail_on, trail_past}
 
 -- names in front of a trail
@@ -29,20 +29,20 @@ one_on : (bundles : Bundles) (parents : ParentsOf) (n : List ℕ) (ns : List (Li
 one_on bundles parents n ns k j x e f =
     ap (all_begin ns) (trail_on k j bundles parents n e ∙ ap (λ y. begins n (onward (λ m. trail_within j bundles parents m) y)) f) ∙ sym (all_begin_push ns n (onward (λ m. trail_within j bundles parents m) x))
 
-pub trail_goes : (bundles : Bundles) (parents : ParentsOf) (n m : List ℕ) (ns : List (List ℕ)) (i : ℕ) → i < 32 → next bundles parents n ≡ goes m → all_begin ns (trail_within (32 - i) bundles parents n) ≡ all_begin (ns ++ n ∷ []) (trail_within (32 - (i + 1)) bundles parents m)
-trail_goes bundles parents n m ns i h f = one_on bundles parents n ns (32 - i) (32 - (i + 1)) (goes m) (omega arith) f
+pub trail_goes : (bundles : Bundles) (parents : ParentsOf) (n m : List ℕ) (ns : List (List ℕ)) (most i : ℕ) → i < most → next bundles parents n ≡ goes_to m → all_begin ns (trail_within (most - i) bundles parents n) ≡ all_begin (ns ++ n ∷ []) (trail_within (most - (i + 1)) bundles parents m)
+trail_goes bundles parents n m ns most i h f = one_on bundles parents n ns (most - i) (most - (i + 1)) (goes_to m) (omega arith) f
 
-pub trail_stays : (bundles : Bundles) (parents : ParentsOf) (n : List ℕ) (ns : List (List ℕ)) (i : ℕ) → i < 32 → next bundles parents n ≡ stays → all_begin ns (trail_within (32 - i) bundles parents n) ≡ names (ns ++ n ∷ [])
-trail_stays bundles parents n ns i h f = one_on bundles parents n ns (32 - i) (32 - (i + 1)) stays (omega arith) f ∙ all_begin_none (ns ++ n ∷ [])
+pub trail_end : (bundles : Bundles) (parents : ParentsOf) (n : List ℕ) (ns : List (List ℕ)) (most i : ℕ) → i < most → next bundles parents n ≡ end → all_begin ns (trail_within (most - i) bundles parents n) ≡ names (ns ++ n ∷ [])
+trail_end bundles parents n ns most i h f = one_on bundles parents n ns (most - i) (most - (i + 1)) end (omega arith) f ∙ all_begin_none (ns ++ n ∷ [])
 
-pub trail_bad : (bundles : Bundles) (parents : ParentsOf) (n : List ℕ) (ns : List (List ℕ)) (i : ℕ) → i < 32 → next bundles parents n ≡ bad → all_begin ns (trail_within (32 - i) bundles parents n) ≡ bad_parent
-trail_bad bundles parents n ns i h f = one_on bundles parents n ns (32 - i) (32 - (i + 1)) bad (omega arith) f ∙ all_begin_bad (ns ++ n ∷ [])
+pub trail_bad : (bundles : Bundles) (parents : ParentsOf) (n : List ℕ) (ns : List (List ℕ)) (most i : ℕ) → i < most → next bundles parents n ≡ bad → all_begin ns (trail_within (most - i) bundles parents n) ≡ bad_parent
+trail_bad bundles parents n ns most i h f = one_on bundles parents n ns (most - i) (most - (i + 1)) bad (omega arith) f ∙ all_begin_bad (ns ++ n ∷ [])
 
-pub trail_long : (bundles : Bundles) (parents : ParentsOf) (n : List ℕ) (ns : List (List ℕ)) (i : ℕ) → i ≡ 32 → all_begin ns (trail_within (32 - i) bundles parents n) ≡ chain
-trail_long bundles parents n ns i h = ap (all_begin ns) (trail_past (32 - i) bundles parents n (omega arith)) ∙ all_begin_chain ns
+pub trail_long : (bundles : Bundles) (parents : ParentsOf) (n : List ℕ) (ns : List (List ℕ)) (most i : ℕ) → i ≡ most → all_begin ns (trail_within (most - i) bundles parents n) ≡ chain
+trail_long bundles parents n ns most i h = ap (all_begin ns) (trail_past (most - i) bundles parents n (omega arith)) ∙ all_begin_chain ns
 
-pub trail_start : (bundles : Bundles) (parents : ParentsOf) (n : List ℕ) (ns : List (List ℕ)) → ns ≡ [] → all_begin ns (trail_within (32 - 0) bundles parents n) ≡ trail_within 32 bundles parents n
-trail_start bundles parents n ns e = ap (λ l. all_begin l (trail_within 32 bundles parents n)) e
+pub trail_start : (bundles : Bundles) (parents : ParentsOf) (n : List ℕ) (ns : List (List ℕ)) (most : ℕ) → ns ≡ [] → all_begin ns (trail_within most bundles parents n) ≡ trail_within most bundles parents n
+trail_start bundles parents n ns most e = ap (λ l. all_begin l (trail_within most bundles parents n)) e
 
 places_more : (test : List ℕ → Bool) (k : ℕ) (ns : List (List ℕ)) (n : List ℕ) → places test k (ns ++ n ∷ []) ≡ places test k ns ++ cond (test n) ((k + length ns) ∷ []) []
 places_more test k [] n = ap (λ (j : ℕ). cond (test n) (j ∷ []) []) (omega arith)

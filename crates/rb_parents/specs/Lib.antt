@@ -1,4 +1,5 @@
 pub mod Trail
+pub mod Shelf
 pub mod Explicit
 pub mod Family
 pub mod Answers

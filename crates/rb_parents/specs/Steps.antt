@@ -1,13 +1,13 @@
 -- For proofs only: what follows a name in the program, and a trail name by name.
 use Rattle.std.specs.Prelude.{◌≡◌, ℕ, zero, suc, List}
 use Rattle.std.proofs.Common.{refl, ap}
-use Rattle.rb_parents.specs.Trail.{Bundles, ParentsOf, Next, goes, stays, bad, next, Trail, chain, begins, onward, trail_within}
-use Rattle.rb_parents.specs.declared.route.Onward.{Onward}
-use Rattle.rb_parents.specs.declared.route.Onward.TheVariants as step
+use Rattle.rb_parents.specs.Trail.{Bundles, ParentsOf, Next, goes_to, end, bad, next, Trail, chain, begins, onward, trail_within}
+use Rattle.rb_parents.specs.declared.route.Next as program
+use Rattle.rb_parents.specs.declared.route.Next.TheVariants as step
 
-abbrev pub next_of : Onward → Next
-next_of (step.Goes n) = goes n
-next_of step.Stays = stays
+abbrev pub next_of : program.Next → Next
+next_of (step.Name n) = goes_to n
+next_of step.End = end
 next_of step.Bad = bad
 
 -- a trail of at most so many names, one name on

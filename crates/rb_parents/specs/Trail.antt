@@ -1,17 +1,18 @@
 -- The trail of a name: the names whose bundles are asked, in the order of locale inheritance of
 -- UTS #35 (LDML), with `%%ALIAS` and `%%Parent` as ICU's `ures_open` reads them. This profile has no
--- default locale and no rule for scripts, and a trail that does not end is a fault.
+-- default locale and no rule for scripts, and a trail of more than 32 names is an error. That a lookup ends at a bundle
+-- without fallback is `URES_ATT_NO_FALLBACK` of `uresdata.h`.
 use Rattle.std.specs.Prelude.{ℕ, zero, suc, List, [], ◌∷◌, Bool, true, false, Option, Some, None, option_and_then, unwrap_or, codes, is_none, if◌then◌else◌}
 use Rattle.std.specs.List.{filter}
 use Rattle.std.specs.Str.{bytes_eq}
 use Rattle.rb_tree.specs.Resource.{Resource, string, int, ints, binary, alias, array, table}
 use Rattle.rb_tree.specs.Parts.{child_of}
-use Rattle.rb_parents.specs.declared.limits.TheConstants.{TRAIL_LIMIT}
+use Rattle.rb_tree.specs.SourceTree.{SourceTree}
 use Rattle.rb_locales.specs.Locale.{name, shorter}
 
 -- bundles by their names, and explicit parents by their children
 abbrev pub Bundles : Type 0
-Bundles = List ℕ → Option Resource
+Bundles = List ℕ → Option SourceTree
 
 abbrev pub ParentsOf : Type 0
 ParentsOf = List ℕ → Option (List ℕ)
@@ -41,13 +42,13 @@ root = codes "root"
 
 -- what follows a name on a trail
 pub data Next : Type 0 where
-  goes : List ℕ → Next
-  stays : Next
+  goes_to : List ℕ → Next
+  end : Next
   bad : Next
 
 abbrev pub named_next : Option (List ℕ) → Next
 named_next None = bad
-named_next (Some n) = goes n
+named_next (Some n) = goes_to n
 
 -- the explicit parent, else the shorter name, else the root; the root has no next name
 abbrev pub or_else : Option (List ℕ) → List ℕ → List ℕ
@@ -57,25 +58,27 @@ abbrev pub plain_next : ParentsOf → List ℕ → Next
 plain_next parents n = by_root (bytes_eq n root)
   where
     by_root : Bool → Next
-    by_root true = stays
-    by_root false = goes (or_else (parents n) (or_else (shorter n) root))
+    by_root true = end
+    by_root false = goes_to (or_else (parents n) (or_else (shorter n) root))
 
--- behind a bundle: its `%%ALIAS`, else its `%%Parent`, else as without a bundle
-abbrev pub told_next : Option (List ℕ) → Next → Next
-told_next None other = other
-told_next (Some us) other = named_next (name us)
+-- a name that a text gives, else another
+abbrev pub named_or : Option (List ℕ) → Next → Next
+named_or None other = other
+named_or (Some us) other = named_next (name us)
 
-abbrev pub bundle_next : ParentsOf → List ℕ → Option Resource → Next
+-- after a bundle: its `%%ALIAS`; else the end, where it has no fallback; else its `%%Parent`; else as without a bundle
+abbrev pub bundle_next : ParentsOf → List ℕ → Option SourceTree → Next
 bundle_next parents n None = plain_next parents n
-bundle_next parents n (Some t) = told_next (text_at alias_key t) (told_next (text_at parent_key t) (plain_next parents n))
+bundle_next parents n (Some b) =
+    named_or (text_at alias_key b.tree) (if b.no_fallback then end else named_or (text_at parent_key b.tree) (plain_next parents n))
 
 abbrev pub next : Bundles → ParentsOf → List ℕ → Next
 next bundles parents n = bundle_next parents n (bundles n)
 
 -- a stop has a bundle without a string at `%%ALIAS`
-abbrev pub stops_at : Option Resource → Bool
+abbrev pub stops_at : Option SourceTree → Bool
 stops_at None = false
-stops_at (Some t) = is_none (text_at alias_key t)
+stops_at (Some b) = is_none (text_at alias_key b.tree)
 
 abbrev pub is_stop : Bundles → List ℕ → Bool
 is_stop bundles n = stops_at (bundles n)
@@ -92,8 +95,8 @@ begins n chain = chain
 begins n bad_parent = bad_parent
 
 abbrev pub onward : (List ℕ → Trail) → Next → Trail
-onward go (goes n) = go n
-onward go stays = names []
+onward go (goes_to n) = go n
+onward go end = names []
 onward go bad = bad_parent
 
 -- the trail of a name, of at most so many names
@@ -101,9 +104,9 @@ unfoldable pub trail_within : ℕ → Bundles → ParentsOf → List ℕ → Tra
 trail_within zero bundles parents n = chain
 trail_within (suc k) bundles parents n = begins n (onward (λ m. trail_within k bundles parents m) (next bundles parents n))
 
--- a trail has at most so many names
+-- a trail has at most 32 names
 abbrev pub trail : Bundles → ParentsOf → List ℕ → Trail
-trail bundles parents n = trail_within TRAIL_LIMIT bundles parents n
+trail bundles parents n = trail_within 32 bundles parents n
 
 -- its stops, in order
 abbrev pub stops : Bundles → List (List ℕ) → List (List ℕ)

@@ -1,4 +1,4 @@
-// Why explicit parents are refused, and why a name has no trail.
+// The errors of explicit parents and of trails.
 ghost use Rattle.std.specs.Prelude.{◌≡◌};
 
 /// Why a tree gives no explicit parents.
@@ -7,18 +7,18 @@ pub enum ParentsFault {
     /// No table at `parentLocales`, or a value there that is neither a String nor an Array of
     /// Strings.
     Shape,
-    /// A parent or a child that is no name of a locale.
+    /// A parent or a child that is no locale name.
     BadLocale,
-    /// A child that was named before.
+    /// A child that an earlier entry or item names.
     TwoParents,
-    /// Memory was wanting.
+    /// Out of memory.
     Memory,
 }
 
 impl ParentsFault {
     ghost use Rattle.rb_parents.specs.Words.{parents_word};
 
-    /// The name of the fault.
+    /// The error's name.
     pub fn word(self) -> &'static str
         ensures { result.now ≡ parents_word self }
     {
@@ -36,14 +36,14 @@ impl ParentsFault {
 pub enum TrailFault {
     /// More than 32 names.
     Chain,
-    /// A `%%ALIAS` or `%%Parent` that is no name of a locale.
+    /// A `%%ALIAS` or `%%Parent` that is no locale name.
     BadParent,
 }
 
 impl TrailFault {
     ghost use Rattle.rb_parents.specs.Words.{trail_word};
 
-    /// The name of the fault.
+    /// The error's name.
     pub fn word(self) -> &'static str
         ensures { result.now ≡ trail_word self }
     {

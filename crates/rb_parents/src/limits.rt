@@ -1,4 +1,4 @@
-//! The limit of a trail, in the one place that code and definitions read.
+//! The limit of a trail. The definitions in specs/ have the same number written out, so that a proof compares the two.
 
 /// The greatest number of names in a trail.
 pub const TRAIL_LIMIT: usize = 32;

@@ -34,11 +34,11 @@ impl Parents {
     /// The explicit parents that a tree has at `parentLocales`, where each key is a parent and each
     /// value an Array of Strings, the children, or one String.
     ///
-    /// The first fault in the order of keys and items is answered. `Shape`: the tree has no table
-    /// there, or a value has another shape. `BadLocale`: a key or a child is no name of a locale.
-    /// `TwoParents`: a child was named before, also under the same parent. `Memory`: want of memory.
-    /// Of an entry the key is read first, then the whole value's shape, then its children. Nothing is
-    /// left behind by a refusal.
+    /// The first error in the order of keys and items is answered. `Shape`: the tree has no table
+    /// there, or a value has another shape. `BadLocale`: a key or a child is no locale name.
+    /// `TwoParents`: a child was named before, also under the same parent. `Memory`: out of memory.
+    /// Of an entry the key is read first, then the whole value's shape, then its children. An error
+    /// leaves nothing allocated.
     pub fn read(alloc: Global, tree: &Tree) -> Result<Parents, ParentsFault>
         ensures parents { IfOk result (λ p. explicit (view_of tree.now) ≡ Ok (parent_of p)) }
         ensures fault { IfErr result (λ e. (e ≡ Faults.Memory) ⊎ (explicit (view_of tree.now) ≡ Err e)) }

@@ -29,60 +29,94 @@ fn table(alloc: Global, entries: Vec<(&[u8], Tree)>) -> Result<Tree, Fail> {
     Tree::table(alloc, pairs).map_err(|_| "no table".into())
 }
 
+// A table of one entry.
+fn one(alloc: Global, key: &[u8], tree: Tree) -> Result<Tree, Fail> {
+    let mut entries = Vec::new(alloc);
+    entries.push((key, tree))?;
+    table(alloc, entries)
+}
+
+// A table of strings.
+fn texts(alloc: Global, rows: &[(&[u8], &[u8])]) -> Result<Tree, Fail> {
+    let mut entries = Vec::new(alloc);
+    for (key, text) in rows {
+        entries.push((*key, string(alloc, text)?))?;
+    }
+    table(alloc, entries)
+}
+
+// An array of strings.
+fn array(alloc: Global, rows: &[&[u8]]) -> Result<Tree, Fail> {
+    let mut items = Vec::new(alloc);
+    for text in rows {
+        items.push(string(alloc, text)?)?;
+    }
+    Ok(Tree::Array(TreeList::from_vec(items)))
+}
+
 fn name(text: &[u8]) -> Result<Name, Fail> {
     Name::read(text).map_err(|_| "no name".into())
 }
 
-// A bundle with a text at one key.
-fn bundle(alloc: Global, at: &[u8], key: &[u8], text: &[u8]) -> Result<(Name, Tree), Fail> {
-    let tree = table(alloc, vec![in alloc; (key, string(alloc, text)?)]?)?;
-    Ok((name(at)?, tree))
+// Bundles with one string each: the locale, the key, the text, and whether there is no fallback.
+fn bundles(
+    alloc: Global,
+    rows: &[(&[u8], &[u8], &[u8], bool)],
+) -> Result<Vec<(Name, Tree, bool)>, Fail> {
+    let mut list = Vec::new(alloc);
+    for (locale, key, text, no_fallback) in rows {
+        let tree = one(alloc, key, string(alloc, text)?)?;
+        list.push((name(locale)?, tree, *no_fallback))?;
+    }
+    Ok(list)
 }
 
 // The parents of a table at `parentLocales`.
-fn parents(alloc: Global, entries: Vec<(&[u8], Tree)>) -> Result<Parents, Fail> {
-    let locales = table(alloc, entries)?;
-    let tree = table(
-        alloc,
-        vec![in alloc; (b"parentLocales".as_slice(), locales)]?,
-    )?;
+fn parents(alloc: Global, locales: Tree) -> Result<Parents, Fail> {
+    let tree = one(alloc, b"parentLocales", locales)?;
     Parents::read(alloc, &tree).map_err(|fault| fault.word().into())
+}
+
+// The word that `Parents::read` answers for a table at `parentLocales`.
+fn read_word(alloc: Global, locales: Tree) -> Result<&'static str, Fail> {
+    let tree = one(alloc, b"parentLocales", locales)?;
+    Ok(match Parents::read(alloc, &tree) {
+        Ok(_) => "Ok",
+        Err(fault) => fault.word(),
+    })
+}
+
+fn has_parent(parents: &Parents, child: &[u8], parent: &[u8]) -> bool {
+    let child = match Name::read(child) {
+        Ok(child) => child,
+        Err(_) => return false,
+    };
+    match parents.parent(&child) {
+        Some(found) => found.as_bytes() == parent,
+        None => false,
+    }
 }
 
 #[test]
 fn parents_are_read(rt: HostRuntime) -> Result<(), Fail> {
     let alloc = rt.alloc();
-    let children = vec![in alloc; string(alloc, b"en_GB")?, string(alloc, b"en-ie@x=y")?]?;
-    let both = Tree::Array(TreeList::from_vec(children));
-    let entries = vec![in alloc;
-        (b"en".as_slice(), both),
-        (b"root".as_slice(), string(alloc, b"zh_Hant")?),
-    ]?;
-    let parents = parents(alloc, entries)?;
-    for (child, want) in [
-        (b"en_GB".as_slice(), b"en".as_slice()),
-        (b"en_IE", b"en"),
-        (b"zh_Hant", b"root"),
-    ] {
-        let parent = parents.parent(&name(child)?).ok_or("no parent")?;
-        assert!(rt; parent.as_bytes() == want);
-    }
-    assert!(rt; parents.parent(&name(b"en")?).is_none());
+    let both = parents(
+        alloc,
+        one(
+            alloc,
+            b"en",
+            array(alloc, &[b"en_GB".as_slice(), b"en-ie@x=y"])?,
+        )?,
+    )?;
+    assert!(rt; has_parent(&both, b"en_GB", b"en") && has_parent(&both, b"en_IE", b"en"));
+    assert!(rt; both.parent(&name(b"en")?).is_none());
+    let hant = parents(
+        alloc,
+        texts(alloc, &[(b"root".as_slice(), b"zh_Hant".as_slice())])?,
+    )?;
+    assert!(rt; has_parent(&hant, b"zh_Hant", b"root"));
     assert!(rt; Parents::none(alloc).parent(&name(b"en_GB")?).is_none());
     Ok(())
-}
-
-// The word that stands for a reading of parents.
-fn read_word(alloc: Global, tree: &Tree) -> &'static str {
-    match Parents::read(alloc, tree) {
-        Ok(_) => "Ok",
-        Err(fault) => fault.word(),
-    }
-}
-
-// A table at `parentLocales`.
-fn at_locales(alloc: Global, tree: Tree) -> Result<Tree, Fail> {
-    table(alloc, vec![in alloc; (b"parentLocales".as_slice(), tree)]?)
 }
 
 #[test]
@@ -98,187 +132,209 @@ fn parents_are_refused(rt: HostRuntime) -> Result<(), Fail> {
         (b"en", b"en_GB", b"fr", b"fr_CA", "Ok"),
     ];
     for (parent, child, other, next, want) in rows {
-        let entries = vec![in alloc;
-            (parent, string(alloc, child)?),
-            (other, string(alloc, next)?),
-        ]?;
-        let tree = at_locales(alloc, table(alloc, entries)?)?;
-        assert!(rt; read_word(alloc, &tree) == want);
+        let locales = texts(alloc, &[(parent, child), (other, next)])?;
+        assert!(rt; read_word(alloc, locales)? == want);
     }
-    let twice = vec![in alloc; string(alloc, b"en_GB")?, string(alloc, b"en_GB")?]?;
-    let locales = table(
+    let twice = one(
         alloc,
-        vec![in alloc; (b"en".as_slice(), Tree::Array(TreeList::from_vec(twice)))]?,
+        b"en",
+        array(alloc, &[b"en_GB".as_slice(), b"en_GB"])?,
     )?;
-    assert!(rt; read_word(alloc, &at_locales(alloc, locales)?) == "TwoParents");
+    assert!(rt; read_word(alloc, twice)? == "TwoParents");
     Ok(())
+}
+
+// An array whose first item is no locale name and whose second is no string.
+fn mixed(alloc: Global) -> Result<Tree, Fail> {
+    let mut items = Vec::new(alloc);
+    items.push(string(alloc, b"?")?)?;
+    items.push(array(alloc, &[])?)?;
+    Ok(Tree::Array(TreeList::from_vec(items)))
 }
 
 #[test]
 fn shapes_of_parents_are_refused(rt: HostRuntime) -> Result<(), Fail> {
     let alloc = rt.alloc();
-    let entry = table(
-        alloc,
-        vec![in alloc; (b"a".as_slice(), string(alloc, b"b")?)]?,
-    )?;
-    assert!(rt; read_word(alloc, &entry) == "Shape");
-    assert!(rt; read_word(alloc, &string(alloc, b"b")?) == "Shape");
-    let empty = Tree::Array(TreeList::from_vec(Vec::new(alloc)));
-    assert!(rt; read_word(alloc, &at_locales(alloc, empty)?) == "Shape");
+    let no_locales = texts(alloc, &[(b"a".as_slice(), b"b".as_slice())])?;
+    assert!(rt; matches!(Parents::read(alloc, &no_locales), Err(ParentsFault::Shape)));
+    let no_table = string(alloc, b"b")?;
+    assert!(rt; matches!(Parents::read(alloc, &no_table), Err(ParentsFault::Shape)));
+    assert!(rt; read_word(alloc, array(alloc, &[])?)? == "Shape");
     // The whole value's shape comes before its first child.
-    let items = vec![in alloc; string(alloc, b"?")?, entry]?;
-    let locales = table(
-        alloc,
-        vec![in alloc; (b"en".as_slice(), Tree::Array(TreeList::from_vec(items)))]?,
-    )?;
-    assert!(rt; read_word(alloc, &at_locales(alloc, locales)?) == "Shape");
-    for (fault, want) in [
-        (ParentsFault::Memory, "Memory"),
-        (ParentsFault::Shape, "Shape"),
-    ] {
-        assert!(rt; fault.word() == want);
-    }
+    assert!(rt; read_word(alloc, one(alloc, b"en", mixed(alloc)?)?)? == "Shape");
+    assert!(rt; ParentsFault::Memory.word() == "Memory");
     Ok(())
 }
 
-// Whether a trail has these names and stops.
-fn is_trail(
-    pairs: &[(Name, Tree)],
-    parents: &Parents,
-    from: &[u8],
-    names: &[&[u8]],
-    stops: &[u8],
-) -> bool {
-    let from = match Name::read(from) {
-        Ok(from) => from,
-        Err(_) => return false,
-    };
-    let route = match trail(ListShelf { pairs }, parents, &from) {
-        Ok(route) => route,
-        Err(_) => return false,
-    };
-    let found = route.names.as_slice();
-    if found.len() != names.len() {
-        return false;
-    }
-    for i in 0..names.len() {
-        if found[i].as_bytes() != names[i] {
-            return false;
+fn is_stop(stops: &[u8], i: usize) -> bool {
+    for stop in stops {
+        if *stop as usize == i {
+            return true;
         }
     }
-    route.stops.as_slice() == stops
+    false
+}
+
+// The names of a trail with a space between them, and a star after each stop; else the error's word.
+fn route_text(
+    alloc: Global,
+    entries: &[(Name, Tree, bool)],
+    parents: &Parents,
+    from: &[u8],
+) -> Result<Vec<u8>, Fail> {
+    let mut text = Vec::new(alloc);
+    let route = match trail(ListShelf { entries }, parents, &name(from)?) {
+        Ok(route) => route,
+        Err(fault) => {
+            text.extend_from_slice(fault.word().as_bytes())?;
+            return Ok(text);
+        }
+    };
+    for (i, name) in route.names.as_slice().iter().enumerate() {
+        if i > 0 {
+            text.push(b' ')?;
+        }
+        text.extend_from_slice(name.as_bytes())?;
+        if is_stop(route.stops.as_slice(), i) {
+            text.push(b'*')?;
+        }
+    }
+    Ok(text)
+}
+
+// Whether each trail is the one beside its first name.
+fn are_trails(
+    alloc: Global,
+    entries: &[(Name, Tree, bool)],
+    parents: &Parents,
+    rows: &[(&[u8], &[u8])],
+) -> Result<bool, Fail> {
+    for (from, want) in rows {
+        let text = route_text(alloc, entries, parents, from)?;
+        if text.as_slice() != *want {
+            return Ok(false);
+        }
+    }
+    Ok(true)
 }
 
 #[test]
 fn trails_follow_bundles_and_parents(rt: HostRuntime) -> Result<(), Fail> {
     let alloc = rt.alloc();
-    let entries = vec![in alloc;
-        (b"en".as_slice(), string(alloc, b"en_GB")?),
-        (b"root".as_slice(), string(alloc, b"zh_Hant")?),
-    ]?;
-    let parents = parents(alloc, entries)?;
-    let pairs = vec![in alloc;
-        bundle(alloc, b"en_GB", b"%%Parent", b"en_001")?,
-        bundle(alloc, b"en_001", b"x", b"1")?,
-        bundle(alloc, b"en", b"x", b"E")?,
-        bundle(alloc, b"zh", b"x", b"Z")?,
-        bundle(alloc, b"iw", b"%%ALIAS", b"he")?,
-        bundle(alloc, b"he", b"x", b"H")?,
-        bundle(alloc, b"xd", b"%%Parent", b"")?,
-        bundle(alloc, b"en_IE", b"%%Parent", b"")?,
-        bundle(alloc, b"de", b"x", b"D")?,
-        bundle(alloc, b"de", b"%%ALIAS", b"fr")?,
-    ]?;
-    let shelf = pairs.as_slice();
-    assert!(rt;
-        is_trail(
-            shelf,
-            &parents,
-            b"en_GB",
-            &[b"en_GB".as_slice(), b"en_001", b"en", b"root"],
-            &[0, 1, 2]
-        )
-    );
-    assert!(rt;
-        is_trail(
-            shelf,
-            &parents,
-            b"zh_Hant_TW",
-            &[b"zh_Hant_TW".as_slice(), b"zh_Hant", b"root"],
-            &[]
-        )
-    );
-    assert!(rt;
-        is_trail(
-            shelf,
-            &parents,
-            b"iw_IL",
-            &[b"iw_IL".as_slice(), b"iw", b"he", b"root"],
-            &[2]
-        )
-    );
-    assert!(rt; is_trail(shelf, &parents, b"xd", &[b"xd".as_slice(), b"root"], &[0]));
-    assert!(rt;
-        is_trail(
-            shelf,
-            &parents,
-            b"en_IE",
-            &[b"en_IE".as_slice(), b"root"],
-            &[0]
-        )
-    );
-    // Of two bundles with one name the first counts.
-    assert!(rt; is_trail(shelf, &parents, b"de", &[b"de".as_slice(), b"root"], &[0]));
-    let first = ListShelf { pairs: shelf }
-        .bundle(&name(b"de")?)
-        .ok_or("no bundle")?;
-    assert!(rt; first.kind() == Kind::Table && first.child(b"x").is_some());
+    let rows: [(&[u8], &[u8], &[u8], bool); 10] = [
+        (b"en_GB", b"%%Parent", b"en_001", false),
+        (b"en_001", b"x", b"1", false),
+        (b"en", b"x", b"E", false),
+        (b"zh", b"x", b"Z", false),
+        (b"iw", b"%%ALIAS", b"he", false),
+        (b"he", b"x", b"H", false),
+        (b"xd", b"%%Parent", b"", false),
+        (b"en_IE", b"%%Parent", b"", false),
+        (b"de", b"x", b"D", false),
+        (b"de", b"%%ALIAS", b"fr", false),
+    ];
+    let list = bundles(alloc, &rows)?;
+    let explicit: [(&[u8], &[u8]); 2] = [(b"en", b"en_GB"), (b"root", b"zh_Hant")];
+    let parents = parents(alloc, texts(alloc, &explicit)?)?;
+    let trails: [(&[u8], &[u8]); 6] = [
+        (b"en_GB", b"en_GB* en_001* en* root"),
+        (b"zh_Hant_TW", b"zh_Hant_TW zh_Hant root"),
+        (b"iw_IL", b"iw_IL iw he* root"),
+        (b"xd", b"xd* root"),
+        (b"en_IE", b"en_IE* root"),
+        // Of two bundles with one name the first counts.
+        (b"de", b"de* root"),
+    ];
+    assert!(rt; are_trails(alloc, list.as_slice(), &parents, &trails)?);
     Ok(())
 }
 
-// The word that stands for a trail.
-fn trail_word(pairs: &[(Name, Tree)], parents: &Parents, from: &[u8]) -> &'static str {
-    let from = match Name::read(from) {
-        Ok(from) => from,
-        Err(_) => return "BadLocale",
-    };
-    match trail(ListShelf { pairs }, parents, &from) {
-        Ok(_) => "Ok",
-        Err(fault) => fault.word(),
+#[test]
+fn trails_end_at_bundles_without_fallback(rt: HostRuntime) -> Result<(), Fail> {
+    let alloc = rt.alloc();
+    let rows: [(&[u8], &[u8], &[u8], bool); 5] = [
+        (b"de", b"x", b"D", true),
+        (b"fr", b"%%Parent", b"?", true),
+        (b"iw", b"%%ALIAS", b"he", true),
+        (b"he", b"x", b"H", false),
+        (b"root", b"%%Parent", b"de", true),
+    ];
+    let list = bundles(alloc, &rows)?;
+    let trails: [(&[u8], &[u8]); 5] = [
+        (b"de_AT", b"de_AT de*"),
+        (b"de", b"de*"),
+        // Its `%%Parent` isn't looked at.
+        (b"fr", b"fr*"),
+        // Its `%%ALIAS` comes before its flag.
+        (b"iw", b"iw he* root*"),
+        (b"es", b"es root*"),
+    ];
+    assert!(rt; are_trails(alloc, list.as_slice(), &Parents::none(alloc), &trails)?);
+    let named = ListShelf {
+        entries: list.as_slice(),
     }
+    .bundle(&name(b"de")?);
+    assert!(rt; matches!(named, Some((_, true))));
+    Ok(())
+}
+
+// A row of bundles `qq_0` to `qq_31`, each the next one's child, and the last a child of `root`.
+fn long_row(alloc: Global) -> Result<Vec<(Name, Tree, bool)>, Fail> {
+    let mut list = bundles(
+        alloc,
+        &[(
+            b"qq_31".as_slice(),
+            b"%%Parent".as_slice(),
+            b"root".as_slice(),
+            false,
+        )],
+    )?;
+    for i in 0..31u8 {
+        let at = format!(in alloc; "qq_{i}")?;
+        let next = format!(in alloc; "qq_{}", i + 1)?;
+        let tree = one(alloc, b"%%Parent", string(alloc, next.as_bytes())?)?;
+        list.push((name(at.as_bytes())?, tree, false))?;
+    }
+    Ok(list)
+}
+
+#[test]
+fn trails_have_32_names(rt: HostRuntime) -> Result<(), Fail> {
+    let alloc = rt.alloc();
+    let list = long_row(alloc)?;
+    let parents = Parents::none(alloc);
+    let chains: [(&[u8], &[u8]); 2] = [(b"qq_0", b"Chain"), (b"qq_0_X", b"Chain")];
+    assert!(rt; are_trails(alloc, list.as_slice(), &parents, &chains)?);
+    let whole = trail(
+        ListShelf {
+            entries: list.as_slice(),
+        },
+        &parents,
+        &name(b"qq_1")?,
+    );
+    assert!(rt; matches!(whole, Ok(_)));
+    Ok(())
 }
 
 #[test]
 fn trails_are_refused(rt: HostRuntime) -> Result<(), Fail> {
     let alloc = rt.alloc();
-    let parents = Parents::none(alloc);
-    let mut pairs = vec![in alloc;
-        bundle(alloc, b"xa", b"%%Parent", b"xb")?,
-        bundle(alloc, b"xb", b"%%Parent", b"xa")?,
-        bundle(alloc, b"xc", b"%%Parent", b"?")?,
-        bundle(alloc, b"xe", b"%%ALIAS", b"xe")?,
-        bundle(alloc, b"xf", b"%%ALIAS", b"??")?,
-        bundle(alloc, b"qq_31", b"%%Parent", b"root")?,
-    ]?;
-    for i in 0..31u8 {
-        let at = format!(in alloc; "qq_{i}")?;
-        let next = format!(in alloc; "qq_{}", i + 1)?;
-        pairs.push(bundle(alloc, at.as_bytes(), b"%%Parent", next.as_bytes())?)?;
-    }
-    let shelf = pairs.as_slice();
-    let rows: [(&[u8], &str); 8] = [
-        (b"xa", "Chain"),
-        (b"xb_XX", "Chain"),
-        (b"xc", "BadParent"),
-        (b"xe", "Chain"),
-        (b"xf", "BadParent"),
-        (b"qq_1", "Ok"),
-        (b"qq_0", "Chain"),
-        (b"qq_0_X", "Chain"),
+    let rows: [(&[u8], &[u8], &[u8], bool); 5] = [
+        (b"xa", b"%%Parent", b"xb", false),
+        (b"xb", b"%%Parent", b"xa", false),
+        (b"xc", b"%%Parent", b"?", false),
+        (b"xe", b"%%ALIAS", b"xe", false),
+        (b"xf", b"%%ALIAS", b"??", false),
     ];
-    for (from, want) in rows {
-        assert!(rt; trail_word(shelf, &parents, from) == want);
-    }
+    let list = bundles(alloc, &rows)?;
+    let errors: [(&[u8], &[u8]); 5] = [
+        (b"xa", b"Chain"),
+        (b"xb_XX", b"Chain"),
+        (b"xc", b"BadParent"),
+        (b"xe", b"Chain"),
+        (b"xf", b"BadParent"),
+    ];
+    assert!(rt; are_trails(alloc, list.as_slice(), &Parents::none(alloc), &errors)?);
     assert!(rt; TrailFault::Chain.word() == "Chain");
     Ok(())
 }
@@ -288,30 +344,36 @@ fn a_root_with_a_parent_has_no_end(rt: HostRuntime) -> Result<(), Fail> {
     let alloc = rt.alloc();
     let parents = Parents::none(alloc);
     for key in [b"%%Parent".as_slice(), b"%%ALIAS"] {
-        let root = vec![in alloc; bundle(alloc, b"root", key, b"de")?]?;
-        assert!(rt; trail_word(root.as_slice(), &parents, b"root") == "Chain");
-        // The name behind the root is `de`: what stands there is met.
-        let both = vec![in alloc;
-            bundle(alloc, b"root", key, b"de")?,
-            bundle(alloc, b"de", b"%%Parent", b"?")?,
-        ]?;
-        assert!(rt; trail_word(both.as_slice(), &parents, b"root") == "BadParent");
-        assert!(rt; trail_word(both.as_slice(), &parents, b"fr") == "BadParent");
+        let root = bundles(alloc, &[(b"root".as_slice(), key, b"de".as_slice(), false)])?;
+        assert!(rt;
+            are_trails(
+                alloc,
+                root.as_slice(),
+                &parents,
+                &[(b"root".as_slice(), b"Chain".as_slice())]
+            )?
+        );
+        // The name after the root is `de`, and its bundle is met.
+        let rows = [
+            (b"root".as_slice(), key, b"de".as_slice(), false),
+            (b"de", b"%%Parent", b"?", false),
+        ];
+        let both = bundles(alloc, &rows)?;
+        let errors: [(&[u8], &[u8]); 2] = [(b"root", b"BadParent"), (b"fr", b"BadParent")];
+        assert!(rt; are_trails(alloc, both.as_slice(), &parents, &errors)?);
     }
-    let inner = table(
-        alloc,
-        vec![in alloc; (b"a".as_slice(), string(alloc, b"de")?)]?,
-    )?;
-    let ignored = table(alloc, vec![in alloc; (b"%%Parent".as_slice(), inner)]?)?;
-    let pairs = vec![in alloc; (name(b"root")?, ignored)]?;
-    assert!(rt;
-        is_trail(
-            pairs.as_slice(),
-            &parents,
-            b"fr",
-            &[b"fr".as_slice(), b"root"],
-            &[1]
-        )
-    );
+    Ok(())
+}
+
+#[test]
+fn a_table_at_a_parent_is_not_looked_at(rt: HostRuntime) -> Result<(), Fail> {
+    let alloc = rt.alloc();
+    let inner = texts(alloc, &[(b"a".as_slice(), b"de".as_slice())])?;
+    let root = one(alloc, b"%%Parent", inner)?;
+    assert!(rt; root.kind() == Kind::Table);
+    let mut list = Vec::new(alloc);
+    list.push((name(b"root")?, root, false))?;
+    let trails: [(&[u8], &[u8]); 1] = [(b"fr", b"fr root*")];
+    assert!(rt; are_trails(alloc, list.as_slice(), &Parents::none(alloc), &trails)?);
     Ok(())
 }

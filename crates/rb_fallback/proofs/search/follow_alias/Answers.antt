@@ -9,11 +9,11 @@ use Rattle.rb_fallback.specs.Alias.{aim, aims, target}
 use Rattle.rb_fallback.specs.Answers.{aim_of}
 use Rattle.rb_fallback.specs.Behind.{led}
 use Rattle.rb_fallback.specs.Search.{follow}
-use Rattle.rb_fallback.specs.Turns.{GoesOn}
+use Rattle.rb_fallback.specs.Steps.{GoesOn}
 use Rattle.rb_fallback.proofs.Texts.{alias_units}
 use Rattle.rb_fallback.proofs.Follows.{aim_is_filled, filled_some, led_goes, long_goes}
-use Rattle.rb_fallback.proofs.search.lead.Goals.{then-target, else-target}
-use Rattle.rb_fallback.proofs.search.lead.Goals as goal
+use Rattle.rb_fallback.proofs.search.follow_alias.Goals.{then-target, else-target}
+use Rattle.rb_fallback.proofs.search.follow_alias.Goals as goal
 
 pub replaced-requires-clause-within : goal.replaced-requires-clause-within
 replaced-requires-clause-within g c =
@@ -42,7 +42,7 @@ returns-in-Some-replaced g c = λ walked rest whole left.
       | then-target w ↦ w.icudata-is ∙ w.if-target.true ∙ sym (ap (λ b. b || c.args.place.icudata) w.if-target.true)
       | else-target w ↦ w.icudata-is ∙ sym (ap (λ b. b || c.args.place.icudata) w.if-target.false)
     ] in
-    subst (λ b. GoesOn (record { icudata = b; name = to.name; path = c.in-Some-replaced.path }) (follow rest (target us c.args.place.icudata c.args.valid.now walked))) (sym icudata) (record { onto = h.onto; path = h.path })
+    subst (λ b. GoesOn (record { icudata = b; name = to.name; path = c.in-Some-replaced.path }) c.args.valid.now (follow c.args.valid.now rest (target us c.args.place.icudata c.args.valid.now walked))) (sym icudata) (record { onto = h.onto; path = h.path })
 
 pub returns-in-None-replaced : goal.returns-in-None-replaced
 returns-in-None-replaced g c = λ walked rest whole left.
