@@ -1,23 +1,24 @@
 -- Stops in a body: at its type, at its brace, or behind it.
-use Rattle.std.proofs.Common.{◌≡◌, ℕ, zero, suc, ◌+◌, Bool, true, false, cond, ◌||◌, nat_lt, List, [], ◌∷◌, ◌++◌, length, Option, Some, None, Result, Ok, Err, refl, sym, ap, subst, ◌∙◌, arith, inl, inr}
+use Rattle.std.proofs.Common.{◌≡◌, ℕ, zero, suc, ◌+◌, Bool, true, false, cond, ◌||◌, nat_lt, List, [], ◌∷◌, ◌++◌, length, Option, Some, None, Result, Ok, Err, refl, sym, ap, subst, ◌∙◌, arith, ◌⊎◌, inl, inr}
 use Rattle.std.proofs.lemmas.List.{append-nil}
+use Rattle.std.proofs.lemmas.Slice.Eq.{bytes_eq-Decides}
 use Rattle.std.proofs.lemmas.Bool.{false≢true, lt-ltb}
+use Rattle.rb_lexer.specs.declared.fault.SourceKind.{SourceKind}
 use Rattle.rb_lexer.specs.declared.fault.SourceKind.TheVariants.{Unexpected, UnknownType, TooDeep}
 use Rattle.rb_lexer.specs.declared.token.Token.{Token}
 use Rattle.rb_lexer.specs.declared.token.Mark.{Mark}
 use Rattle.rb_lexer.specs.declared.token.Mark.TheVariants.{Text, LeftBrace, RightBrace, Colon, Comma}
-use Rattle.rb_tree.specs.declared.limits.TheConstants.{HEIGHT_LIMIT}
-use Rattle.rb_grammar.specs.Form.{marks, string, alias, binary, int, ints, Body, plain, group, listed, leaf, table, array, no_entries, entry, no_elements, one_text, one_body, string_word, leaf_inner, comma_marks, body_marks, entries_marks, elements_marks, IsForm}
-use Rattle.rb_grammar.specs.Reading.{Stop, stop, ◌>>=◌, left, right, colon, comma, begins, tail, sign_at, text_at, first_text, Tests, Word, string_type, alias_type, binary_type, int_type, ints_type, table_type, array_type, word_units, first_word, all_words, word_or, word_at, Inner, table_at, array_at, closed, typed_at, Guess, as_text, as_table, as_array, none_at, guess_or, guess, untyped_at, body_at, body}
+use Rattle.rb_grammar.specs.Form.{marks, string, alias, binary, int, ints, Body, plain, group, listed, leaf, table, array, no_entries, entry, no_elements, one_text, one_body, string_word, no_fallback_table_word, leaf_inner, comma_marks, body_marks, entries_marks, elements_marks, IsForm}
+use Rattle.rb_grammar.specs.Reading.{Stop, stop, ◌>>=◌, left, right, colon, comma, begins, tail, punctuation_at, text_at, first_text, Tests, Word, string_type, alias_type, binary_type, int_type, ints_type, table_type, array_type, word_units, first_word, all_words, is_no_fallback_word, word_or, word_at, Inner, table_at, array_at, closed, typed_at, Guess, as_text, as_table, as_array, none_at, guess_or, guess, untyped_at, body_at, body}
 use Rattle.rb_grammar.specs.Tests.{AreTests}
-use Rattle.rb_grammar.specs.Faults.{IsWord, is_string, is_alias, is_binary, is_int, is_ints, is_table, is_array, NoWord, BodyHas, IsBad}
-use Rattle.rb_grammar.proofs.Blame.{Tail, Blame, bodies, tables, arrays, IsArrayStart, Blames, no_word_none, word_past, outside, bind_err}
+use Rattle.rb_grammar.specs.Faults.{IsWord, is_string, is_alias, is_binary, is_int, is_ints, is_table, is_no_fallback_table, is_array, NoWord, BodyHas, IsBad}
+use Rattle.rb_grammar.proofs.Blame.{Tail, IsSeen, Says, Blame, bodies, tables, arrays, IsArrayStart, Blames, no_word_none, word_past, outside, bind_err}
 use Rattle.rb_grammar.proofs.BlameLists.{no_sign, no_text, either_sign, neither_sign, not_opened, text_colon, entries_blame}
 use Rattle.rb_grammar.proofs.BlameElements.{elements_blame}
-use Rattle.rb_grammar.proofs.BlameTyped.{body_word, inner_marks, typed_spelled, typed_of, text_read, typed, Inside, typed_blame}
+use Rattle.rb_grammar.proofs.BlameTyped.{body_word, inner_marks, typed_spelled, typed_of, typed, Inside, typed_blame}
 use Rattle.rb_grammar.proofs.Complete.{text_is}
 use Rattle.rb_grammar.proofs.Guess.{Alike, not_text, not_sign, not_body, unguessed_first, unguessed_second}
-use Rattle.rb_grammar.proofs.Marks.{text_first, sign_there, sign_takes}
+use Rattle.rb_grammar.proofs.Marks.{text_read, text_first, sign_there, sign_takes}
 use Rattle.rb_grammar.proofs.Sound.{chosen}
 use Rattle.rb_grammar.proofs.SoundBody.{word_takes, body_takes}
 use Rattle.rb_grammar.proofs.Unique.{IsOpening, word_found, leaf_type, leaf_typed, body_opens}
@@ -44,7 +45,7 @@ unopened level ts no_colon no_left = record {
   start = λ ms t. tt;
 }
 
-at_value : (f : Body) (level : ℕ) (after ms : List Mark) → level ≡ suc HEIGHT_LIMIT → body_marks f after ≡ ms → BodyHas (IsBad TooDeep) f level after ms
+at_value : (f : Body) (level : ℕ) (after ms : List Mark) → level ≡ 65 → body_marks f after ≡ ms → BodyHas (IsBad TooDeep) f level after ms
 at_value (plain s) level after ms deep e = (sym e, deep)
 at_value (group es) level after ms deep e = inl (sym e, deep)
 at_value (listed xs) level after ms deep e = inl (sym e, deep)
@@ -52,7 +53,7 @@ at_value (leaf l) level after ms deep e = inl (sym e, deep)
 at_value (table es) level after ms deep e = inl (sym e, deep)
 at_value (array xs) level after ms deep e = inl (sym e, deep)
 
-deep_left : (level : ℕ) (ts : List Token) → level ≡ suc HEIGHT_LIMIT → begins left ts ≡ true → Blame (bodies level) ts (stop TooDeep ts)
+deep_left : (level : ℕ) (ts : List Token) → level ≡ 65 → begins left ts ≡ true → Blame (bodies level) ts (stop TooDeep ts)
 deep_left level ts deep opens = record {
   front = [];
   seen = LeftBrace ∷ [];
@@ -71,7 +72,7 @@ deep_left level ts deep opens = record {
   start = λ ms t. tt;
 }
 
-deep_colon : (level : ℕ) (ts : List Token) → level ≡ suc HEIGHT_LIMIT → begins colon ts ≡ true → Blame (bodies level) ts (stop TooDeep ts)
+deep_colon : (level : ℕ) (ts : List Token) → level ≡ 65 → begins colon ts ≡ true → Blame (bodies level) ts (stop TooDeep ts)
 deep_colon level ts deep opens = record {
   front = [];
   seen = Colon ∷ [];
@@ -113,14 +114,15 @@ unknown_word ts s ms comes none a (w, r, e) =
     let bad : None ≡ Some w = sym none ∙ ap (λ x. first_word x all_words) same ∙ word_found w in
     cc
 
-word_units_of : (s : List ℕ) → IsWord s → (w : Word) × (s ≡ word_units w)
-word_units_of s is_string = (string_type, refl)
-word_units_of s is_alias = (alias_type, refl)
-word_units_of s (is_binary long) = (binary_type long, refl)
-word_units_of s (is_int long) = (int_type long, refl)
-word_units_of s is_ints = (ints_type, refl)
-word_units_of s is_table = (table_type, refl)
-word_units_of s is_array = (array_type, refl)
+word_units_of : (s : List ℕ) → IsWord s → ((w : Word) × (s ≡ word_units w)) ⊎ (s ≡ no_fallback_table_word)
+word_units_of s is_string = inl (string_type, refl)
+word_units_of s is_alias = inl (alias_type, refl)
+word_units_of s (is_binary long) = inl (binary_type long, refl)
+word_units_of s (is_int long) = inl (int_type long, refl)
+word_units_of s is_ints = inl (ints_type, refl)
+word_units_of s is_table = inl (table_type, refl)
+word_units_of s is_no_fallback_table = inr refl
+word_units_of s is_array = inl (array_type, refl)
 
 pub is_word : (w : Word) → IsWord (word_units w)
 is_word string_type = is_string
@@ -131,21 +133,33 @@ is_word ints_type = is_ints
 is_word table_type = is_table
 is_word array_type = is_array
 
-pub not_word : (s : List ℕ) → first_word s all_words ≡ None → IsWord s → ⊥
-not_word s none is = let w = word_units_of s is in let bad : None ≡ Some w.0 = sym none ∙ ap (λ x. first_word x all_words) w.1 ∙ word_found w.0 in cc
+-- the test tells the word of a bundle without fallback
+pub no_fallback_is : (s : List ℕ) → s ≡ no_fallback_table_word → is_no_fallback_word s ≡ true
+no_fallback_is s same = ap is_no_fallback_word same
 
--- why no type word is read
+pub not_word : (s : List ℕ) → is_no_fallback_word s ≡ false → first_word s all_words ≡ None → IsWord s → ⊥
+not_word s other none is = elim (word_units_of s is) [
+  | inl w ↦ let bad : None ≡ Some w.0 = sym none ∙ ap (λ x. first_word x all_words) w.1 ∙ word_found w.0 in cc
+  | inr same ↦ false≢true (sym other ∙ no_fallback_is s same)
+]
+
+-- why no type word of a value is read
 pub data WordStop (ts : List Token) (s : Stop) : Type 0 where
   no_text_there : first_text ts ≡ None → stop Unexpected ts ≡ s → WordStop ts s
-  no_word_there : (r : List ℕ) → first_text ts ≡ Some r → first_word r all_words ≡ None → stop UnknownType ts ≡ s → WordStop ts s
+  no_word_there : (r : List ℕ) → first_text ts ≡ Some r → is_no_fallback_word r ≡ false → first_word r all_words ≡ None → stop UnknownType ts ≡ s → WordStop ts s
+  out_of_place : (r : List ℕ) → first_text ts ≡ Some r → is_no_fallback_word r ≡ true → first_word r all_words ≡ None → stop Unexpected ts ≡ s → WordStop ts s
 
 pub word_stop : (ts : List Token) (s : Stop) → word_at ts ≡ Err s → WordStop ts s
-word_stop ts s e = elim (bind_err (text_at ts) (λ t. word_or ts (first_word t.0 all_words)) s e) [
+word_stop ts s e = elim (bind_err (text_at ts) (λ t. word_or ts t.0 (first_word t.0 all_words)) s e) [
   | inl h ↦ let g = no_text ts s h in no_text_there g.0 g.1
   | inr h ↦ let t = text_read ts h.0 h.1 in by h.0.0 t.0 (first_word h.0.0 all_words) refl h.2
 ] where
-  by : (r : List ℕ) → first_text ts ≡ Some r → (o : Option Word) → first_word r all_words ≡ o → word_or ts o ≡ Err s → WordStop ts s
-  by r comes None is e = no_word_there r comes is cc
+  by_test : (r : List ℕ) → first_text ts ≡ Some r → first_word r all_words ≡ None → (b : Bool) → is_no_fallback_word r ≡ b → ◌≡◌ {A = Result (Word × List Token) Stop} (Err (stop (cond b Unexpected UnknownType) ts)) (Err s) → WordStop ts s
+  by_test r comes none true is e = out_of_place r comes is none cc
+  by_test r comes none false is e = no_word_there r comes is none cc
+
+  by : (r : List ℕ) → first_text ts ≡ Some r → (o : Option Word) → first_word r all_words ≡ o → word_or ts r o ≡ Err s → WordStop ts s
+  by r comes None is e = by_test r comes is (is_no_fallback_word r) refl e
   by r comes (Some w) is e = absurd cc
 
 pub no_text_word : (before : List Mark) (ts : List Token) → first_text ts ≡ None → NoWord before (marks ts) → ⊥
@@ -170,24 +184,38 @@ no_type level ts after there none = record {
   start = λ ms t. tt;
 }
 
-unknown_type : (level : ℕ) (ts after : List Token) (r : List ℕ) → marks ts ≡ Colon ∷ marks after → first_text after ≡ Some r → first_word r all_words ≡ None → Blame (bodies level) ts (stop UnknownType after)
-unknown_type level ts after r there comes none = record {
-  front = Colon ∷ [];
-  seen = [];
-  left = marks after;
-  shows = refl;
-  says = record { before = []; word = r; after = marks (tail after); colon = refl; text = text_first after r comes; unknown = not_word r none };
-  parts = there;
-  sees = refl;
-  form = leaf (string None);
-  next = Text string_word;
-  others = LeftBrace ∷ RightBrace ∷ [];
-  good = tt;
-  fit = tt;
-  whole = refl;
-  blame = λ f rest ms good t e. absurd (unknown_word after r ms comes none t.alike (colon_word f rest ms e));
-  start = λ ms t. tt;
-}
+-- behind the colon of a value, a text that names no type of a value
+module _ (level : ℕ) (ts after : List Token) (r : List ℕ) (there : marks ts ≡ Colon ∷ marks after) (comes : first_text after ≡ Some r) (none : first_word r all_words ≡ None) where
+  no_value_type : (kind : SourceKind) → IsSeen kind [] → Says kind (Colon ∷ []) (marks after) → Blame (bodies level) ts (stop kind after)
+  no_value_type kind shows says = record {
+    front = Colon ∷ [];
+    seen = [];
+    left = marks after;
+    shows = shows;
+    says = says;
+    parts = there;
+    sees = refl;
+    form = leaf (string None);
+    next = Text string_word;
+    others = LeftBrace ∷ RightBrace ∷ [];
+    good = tt;
+    fit = tt;
+    whole = refl;
+    blame = λ f rest ms good t e. absurd (unknown_word after r ms comes none t.alike (colon_word f rest ms e));
+    start = λ ms t. tt;
+  }
+
+  unknown_type : is_no_fallback_word r ≡ false → Blame (bodies level) ts (stop UnknownType after)
+  unknown_type other = no_value_type UnknownType refl (record { before = []; word = r; after = marks (tail after); colon = refl; text = text_first after r comes; unknown = not_word r other none })
+
+  misplaced_type : is_no_fallback_word r ≡ true → Blame (bodies level) ts (stop Unexpected after)
+  misplaced_type same = no_value_type Unexpected refl (λ n. known n) where
+    known : NoWord (Colon ∷ []) (marks after) → ⊥
+    known n =
+        let both : Text r ∷ marks (tail after) ≡ Text n.word ∷ n.after = sym (text_first after r comes) ∙ n.text in
+        let units : r ≡ n.word = cc in
+        let word : no_fallback_table_word ≡ n.word = sym ((bytes_eq-Decides r no_fallback_table_word).0 same) ∙ units in
+        n.unknown (subst IsWord word is_no_fallback_table)
 
 -- a body with each type
 word_body : Word → Body
@@ -238,20 +266,21 @@ behind_type level ts after w s there b =
       inside : (f : Body) (rest ms : List Mark) → IsForm f → Tail s.rest b.seen ms → body_marks f rest ≡ Colon ∷ Text (word_units w) ∷ LeftBrace ∷ (b.front ++ ms) → BodyHas (IsBad s.kind) f level rest ms
       inside f rest ms good t e = let h = typed_of f w rest (LeftBrace ∷ (b.front ++ ms)) e in let same : inner_marks f rest ≡ b.front ++ ms = cc in b.blame f rest ms (h.0, good) t same
 
-typed_stop : (tests : Tests) (are : AreTests tests) (level : ℕ) (inner : Inner) (inside : Inside tests level inner) (ts : List Token) (s : Stop) → begins colon ts ≡ true → (word_at (tail ts) >>= λ w. sign_at left w.1 >>= λ after. typed_at tests inner w.0 after) ≡ Err s
+typed_stop : (tests : Tests) (are : AreTests tests) (level : ℕ) (inner : Inner) (inside : Inside tests level inner) (ts : List Token) (s : Stop) → begins colon ts ≡ true → (word_at (tail ts) >>= λ w. punctuation_at left w.1 >>= λ after. typed_at tests inner w.0 after) ≡ Err s
     → Blame (bodies level) ts s
-typed_stop tests are level inner inside ts s opens e = elim (bind_err (word_at (tail ts)) (λ w. sign_at left w.1 >>= λ after. typed_at tests inner w.0 after) s e) [
+typed_stop tests are level inner inside ts s opens e = elim (bind_err (word_at (tail ts)) (λ w. punctuation_at left w.1 >>= λ after. typed_at tests inner w.0 after) s e) [
   | inl h ↦ at_word (word_stop (tail ts) s h)
   | inr h ↦
       let there : marks ts ≡ Colon ∷ Text (word_units h.0.0) ∷ marks h.0.1 = sign_there colon ts opens ∙ ap (λ ms. Colon ∷ ms) (word_takes (tail ts) h.0 h.1) in
-      elim (bind_err (sign_at left h.0.1) (λ after. typed_at tests inner h.0.0 after) s h.2) [
+      elim (bind_err (punctuation_at left h.0.1) (λ after. typed_at tests inner h.0.0 after) s h.2) [
         | inl g ↦ let q = no_sign left h.0.1 s g in subst (Blame (bodies level) ts) q.1 (no_brace level ts h.0.1 h.0.0 there q.0)
         | inr g ↦ behind_type level ts g.0 h.0.0 s (there ∙ ap (λ ms. Colon ∷ Text (word_units h.0.0) ∷ ms) (sign_takes left h.0.1 g.0 g.1)) (typed_blame tests are level inner inside h.0.0 g.0 s g.2)
       ]
 ] where
   at_word : WordStop (tail ts) s → Blame (bodies level) ts s
   at_word (no_text_there none is) = subst (Blame (bodies level) ts) is (no_type level ts (tail ts) (sign_there colon ts opens) none)
-  at_word (no_word_there r comes none is) = subst (Blame (bodies level) ts) is (unknown_type level ts (tail ts) r (sign_there colon ts opens) comes none)
+  at_word (no_word_there r comes other none is) = subst (Blame (bodies level) ts) is (unknown_type level ts (tail ts) r (sign_there colon ts opens) comes none other)
+  at_word (out_of_place r comes same none is) = subst (Blame (bodies level) ts) is (misplaced_type level ts (tail ts) r (sign_there colon ts opens) comes none same)
 
 -- ---- behind the brace of a body without a type
 
@@ -345,7 +374,7 @@ text_there ts e = by (first_text ts) refl e where
   by (Some r) n e = (r, n, some (begins comma (tail ts)) (begins right (tail ts)) (begins left (tail ts) || begins colon (tail ts)) e)
 
 -- no room is left one level above the deepest
-room_none : (depth level : ℕ) → nat_lt 0 depth ≡ false → level + suc depth ≡ suc HEIGHT_LIMIT → suc level ≡ suc HEIGHT_LIMIT
+room_none : (depth level : ℕ) → nat_lt 0 depth ≡ false → level + suc depth ≡ 65 → suc level ≡ 65
 room_none zero level none high = omega arith
 room_none (suc depth) level none high = absurd (false≢true (sym none ∙ lt-ltb 0 (suc depth) (omega arith)))
 
@@ -417,21 +446,21 @@ module _ (tests : Tests) (are : AreTests tests) (level : ℕ) (inner : Inner) (i
         none_second level ts rest r (there ∙ ap (λ ms. LeftBrace ∷ ms) (text_first after r comes ∙ ap (λ xs. Text r ∷ marks xs) is)) no_left no_colon no_right no_comma
 
   body_stop : (ts : List Token) (s : Stop) → body_at tests inner ts ≡ Err s → Blame (bodies level) ts s
-  body_stop ts s e = elim (chosen (begins colon ts) (word_at (tail ts) >>= λ w. sign_at left w.1 >>= λ after. typed_at tests inner w.0 after) (sign_at left ts >>= λ after. untyped_at tests inner (guess after) after) (Err s) e) [
+  body_stop ts s e = elim (chosen (begins colon ts) (word_at (tail ts) >>= λ w. punctuation_at left w.1 >>= λ after. typed_at tests inner w.0 after) (punctuation_at left ts >>= λ after. untyped_at tests inner (guess after) after) (Err s) e) [
     | inl h ↦ typed_stop tests are level inner inside ts s h.0 h.1
-    | inr h ↦ elim (bind_err (sign_at left ts) (λ after. untyped_at tests inner (guess after) after) s h.1) [
+    | inr h ↦ elim (bind_err (punctuation_at left ts) (λ after. untyped_at tests inner (guess after) after) s h.1) [
       | inl g ↦ let q = no_sign left ts s g in subst (Blame (bodies level) ts) q.1 (unopened level ts h.0 q.0)
       | inr g ↦ untyped_stop ts g.0 (guess g.0) s (sign_takes left ts g.0 g.1) refl g.2
     ]
   ]
 
 -- Where reading a body stops, each form that has the marks up to there has the fault there.
-pub body_blames : (tests : Tests) (are : AreTests tests) (depth level : ℕ) → level + depth ≡ suc HEIGHT_LIMIT → Blames level (body tests depth)
+pub body_blames : (tests : Tests) (are : AreTests tests) (depth level : ℕ) → level + depth ≡ 65 → Blames level (body tests depth)
 unfolding body
 body_blames tests are zero level high ts s e = elim (chosen (begins colon ts || begins left ts) (Err (stop TooDeep ts)) (Err (stop Unexpected ts)) (Err s) e) [
   | inl h ↦
       let same : stop TooDeep ts ≡ s = cc in
-      let deep : level ≡ suc HEIGHT_LIMIT = omega arith in
+      let deep : level ≡ 65 = omega arith in
       subst (Blame (bodies level) ts) same (elim (either_sign (begins colon ts) (begins left ts) h.0) [ inl c ↦ deep_colon level ts deep c | inr b ↦ deep_left level ts deep b ])
   | inr h ↦
       let same : stop Unexpected ts ≡ s = cc in

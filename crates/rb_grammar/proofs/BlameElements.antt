@@ -6,9 +6,8 @@ use Rattle.rb_lexer.specs.declared.fault.SourceKind.TheVariants.{Unexpected, Bad
 use Rattle.rb_lexer.specs.declared.token.Token.{Token}
 use Rattle.rb_lexer.specs.declared.token.Mark.{Mark}
 use Rattle.rb_lexer.specs.declared.token.Mark.TheVariants.{Text, RightBrace, Colon, Comma}
-use Rattle.rb_tree.specs.declared.limits.TheConstants.{HEIGHT_LIMIT}
 use Rattle.rb_grammar.specs.Form.{marks, Body, Elements, no_elements, one_text, one_body, comma_marks, numbers_marks, body_marks, elements_marks, IsForm, EachIsForm}
-use Rattle.rb_grammar.specs.Reading.{Stop, stop, Read, ◌>>=◌, left, right, colon, comma, begins, tail, sign_at, first_text, has_comma, after_comma, Tests, numbers_step, numbers, elements_step, elements}
+use Rattle.rb_grammar.specs.Reading.{Stop, stop, Read, ◌>>=◌, left, right, colon, comma, begins, tail, punctuation_at, first_text, has_comma, after_comma, Tests, numbers_step, numbers, elements_step, elements}
 use Rattle.rb_grammar.specs.Tests.{AreTests}
 use Rattle.rb_grammar.specs.Faults.{element_text, NumbersHave, ElementsHave, IsBad}
 use Rattle.rb_grammar.proofs.Blame.{Tail, same_comma, Blame, bodies, arrays, vectors, Opened, Blames, no_word_none, outside, bind_err}
@@ -47,14 +46,14 @@ unclosed level ts none no_colon no_left no_right = record {
   no_such (one_body b c xs) after ms a e = not_body b ts (comma_marks c (elements_marks xs (RightBrace ∷ after))) ms no_left no_colon a e
 
 -- a text one level too deep
-at_text : (level : ℕ) (s : List ℕ) → level ≡ suc HEIGHT_LIMIT → (xs : Elements) (after ms more : List Mark) → ms ≡ Text s ∷ more → elements_marks xs (RightBrace ∷ after) ≡ ms → ElementsHave (IsBad TooDeep) xs level (RightBrace ∷ after) ms
+at_text : (level : ℕ) (s : List ℕ) → level ≡ 65 → (xs : Elements) (after ms more : List Mark) → ms ≡ Text s ∷ more → elements_marks xs (RightBrace ∷ after) ≡ ms → ElementsHave (IsBad TooDeep) xs level (RightBrace ∷ after) ms
 at_text level s deep no_elements after ms more shown e = let both : RightBrace ∷ after ≡ Text s ∷ more = e ∙ shown in absurd cc
 at_text level s deep (one_text r c xs) after ms more shown e = inl (sym e, deep)
 at_text level s deep (one_body b c xs) after ms more shown e = absurd (not_opened (Text s) more (body_marks b (comma_marks c (elements_marks xs (RightBrace ∷ after)))) (λ o. o) (opens (comma_marks c (elements_marks xs (RightBrace ∷ after)))) (sym shown ∙ sym e)) where
   opens : (ms : List Mark) → Opened (body_marks b ms)
   opens ms = let o = body_opens b ms in (o.first, o.others, o.opening, o.is)
 
-text_deep : (level : ℕ) (ts : List Token) (s : List ℕ) (c : Bool) → has_comma (tail ts) ≡ c → level ≡ suc HEIGHT_LIMIT → first_text ts ≡ Some s → Blame (arrays level) ts (stop TooDeep ts)
+text_deep : (level : ℕ) (ts : List Token) (s : List ℕ) (c : Bool) → has_comma (tail ts) ≡ c → level ≡ 65 → first_text ts ≡ Some s → Blame (arrays level) ts (stop TooDeep ts)
 text_deep level ts s true follows deep comes = record {
   front = [];
   seen = Text s ∷ Comma ∷ [];
@@ -172,11 +171,11 @@ behind_text level ts r s comes b =
           inr (b.blame xs after ms good t others)
 
 module _ (tests : Tests) where
-  each_blames : (level depth : ℕ) (room : Bool) (reads : List Token → Read Body) (law : Law tests depth reads) (blames : Blames level reads) (deep : room ≡ false → level ≡ suc HEIGHT_LIMIT) (n : ℕ)
+  each_blames : (level depth : ℕ) (room : Bool) (reads : List Token → Read Body) (law : Law tests depth reads) (blames : Blames level reads) (deep : room ≡ false → level ≡ 65) (n : ℕ)
       (later : (ts : List Token) (s : Stop) → length ts < n → elements room reads n ts ≡ Err s → Blame (arrays level) ts s)
       (ts : List Token) (o : Option (List ℕ)) (s : Stop) → length ts < suc n → first_text ts ≡ o → elements_step room reads (elements room reads n) ts o ≡ Err s → Blame (arrays level) ts s
   each_blames level depth room reads law blames deep n later ts None s enough comes e =
-      elim (chosen (begins colon ts || begins left ts) (reads ts >>= λ b. elements room reads n (after_comma b.1) >>= λ xs. Ok (one_body b.0 (has_comma b.1) xs.0, xs.1)) (sign_at right ts >>= λ after. Ok (no_elements, after)) (Err s) e) [
+      elim (chosen (begins colon ts || begins left ts) (reads ts >>= λ b. elements room reads n (after_comma b.1) >>= λ xs. Ok (one_body b.0 (has_comma b.1) xs.0, xs.1)) (punctuation_at right ts >>= λ after. Ok (no_elements, after)) (Err s) e) [
         | inl h ↦ elim (bind_err (reads ts) (λ b. elements room reads n (after_comma b.1) >>= λ xs. Ok (one_body b.0 (has_comma b.1) xs.0, xs.1)) s h.1) [
           | inl g ↦ in_body level ts s h.0 (blames ts s g)
           | inr g ↦
@@ -189,7 +188,7 @@ module _ (tests : Tests) where
                 | inr q ↦ absurd (cc)
               ]
         ]
-        | inr h ↦ elim (bind_err (sign_at right ts) (λ after. Ok (no_elements, after)) s h.1) [
+        | inr h ↦ elim (bind_err (punctuation_at right ts) (λ after. Ok (no_elements, after)) s h.1) [
           | inl g ↦ let q = no_sign right ts s g in let p = neither_sign (begins colon ts) (begins left ts) h.0 in subst (Blame (arrays level) ts) q.1 (unclosed level ts comes p.0 p.1 q.0)
           | inr g ↦ absurd (cc)
         ]
@@ -202,7 +201,7 @@ module _ (tests : Tests) where
     ]
     by false is e = let same : stop TooDeep ts ≡ s = cc in subst (Blame (arrays level) ts) same (text_deep level ts r (has_comma (tail ts)) refl (deep is) comes)
 
-  pub elements_blame : (level depth : ℕ) (room : Bool) (reads : List Token → Read Body) (law : Law tests depth reads) (blames : Blames level reads) (deep : room ≡ false → level ≡ suc HEIGHT_LIMIT) (n : ℕ) (ts : List Token) (s : Stop)
+  pub elements_blame : (level depth : ℕ) (room : Bool) (reads : List Token → Read Body) (law : Law tests depth reads) (blames : Blames level reads) (deep : room ≡ false → level ≡ 65) (n : ℕ) (ts : List Token) (s : Stop)
       → length ts < n → elements room reads n ts ≡ Err s → Blame (arrays level) ts s
   unfolding elements
   elements_blame level depth room reads law blames deep zero ts s enough e = absurd (omega arith)
@@ -281,7 +280,7 @@ Numbers = List (List ℕ × Bool) × List Token
 
 -- reading stops at a number, or at the brace behind them
 abbrev pub StopsNumbers : Read (List (List ℕ × Bool)) → Stop → Type 0
-StopsNumbers read s = (read ≡ Err s) ⊎ ((x : Numbers) × (read ≡ Ok x) × (sign_at right x.1 ≡ Err s))
+StopsNumbers read s = (read ≡ Err s) ⊎ ((x : Numbers) × (read ≡ Ok x) × (punctuation_at right x.1 ≡ Err s))
 
 module _ (tests : Tests) (are : AreTests tests) where
   number_blames : (n : ℕ) (later : (ts : List Token) (s : Stop) → length ts < n → StopsNumbers (numbers tests.is_element n ts) s → Blame vectors ts s) (ts : List Token) (o : Option (List ℕ)) (s : Stop)
@@ -290,7 +289,7 @@ module _ (tests : Tests) (are : AreTests tests) where
   number_blames n later ts None s enough comes (inr (x, is, e)) =
       let made : Numbers = ([], ts) in
       let same : made ≡ x = ok_is made x is in
-      let g = no_sign right ts s (ap (λ (y : Numbers). sign_at right y.1) same ∙ e) in
+      let g = no_sign right ts s (ap (λ (y : Numbers). punctuation_at right y.1) same ∙ e) in
       subst (Blame vectors ts) g.1 (no_number ts comes g.0)
   number_blames n later ts (Some r) s enough comes e = by (tests.is_element r) refl e where
     less : length (after_comma (tail ts)) < n
@@ -305,7 +304,7 @@ module _ (tests : Tests) (are : AreTests tests) where
         let g = bind_ok (numbers tests.is_element n (after_comma (tail ts))) (λ ns. Ok ((r, has_comma (tail ts)) ∷ ns.0, ns.1)) x h in
         let made : Numbers = ((r, has_comma (tail ts)) ∷ g.0.0, g.0.1) in
         let same : made ≡ x = ok_is made x g.2 in
-        behind_number ts r s comes (later (after_comma (tail ts)) s less (inr (g.0, g.1, ap (λ (y : Numbers). sign_at right y.1) same ∙ e)))
+        behind_number ts r s comes (later (after_comma (tail ts)) s less (inr (g.0, g.1, ap (λ (y : Numbers). punctuation_at right y.1) same ∙ e)))
     by false is (inl h) = let same : stop BadInt ts ≡ s = cc in subst (Blame vectors ts) same (bad_number ts r comes (are.elements.1 r is))
     by false is (inr (x, h, e)) = absurd cc
 

@@ -11,7 +11,7 @@ use Rattle.rb_lexer.specs.declared.token.Token.{Token}
 use Rattle.rb_lexer.specs.declared.token.Mark.{Mark}
 use Rattle.rb_lexer.specs.declared.token.Mark.TheVariants.{Text, LeftBrace, RightBrace, Colon, Comma}
 use Rattle.rb_grammar.specs.Form.{marks, string, Body, plain, group, listed, leaf, table, array, table_word, array_word, leaf_word, leaf_inner, Entries, no_entries, entry, string_word, comma_marks, body_marks, entries_marks, elements_marks, IsForm, AreForms}
-use Rattle.rb_grammar.specs.Reading.{Stop, stop, Read, ◌>>=◌, left, right, colon, comma, Sign, begins, tail, sign_at, text_or, text_at, first_text, has_comma, after_comma, Tests, is_among, entry_at, entries_step, entries, as_text, as_table, as_array, none_at, guess_second, guess_or, guess}
+use Rattle.rb_grammar.specs.Reading.{Stop, stop, Read, ◌>>=◌, left, right, colon, comma, Punctuation, begins, tail, punctuation_at, text_or, text_at, first_text, has_comma, after_comma, Tests, is_among, entry_at, entries_step, entries, as_text, as_table, as_array, none_at, guess_second, guess_or, guess}
 use Rattle.rb_grammar.specs.Tests.{AreTests}
 use Rattle.rb_grammar.specs.Faults.{key, IsAmong, EntriesHas, IsBad}
 use Rattle.rb_grammar.proofs.Blame.{Tail, alike_front, starts_alike, same_comma, comma_left, IsSeen, Blame, bodies, tables, Opened, Blames, no_word_none, Says, outside, bind_err}
@@ -24,7 +24,7 @@ use Rattle.rb_grammar.proofs.Unique.{starts_comma, IsOpening, body_opens, no_com
 
 -- ---- why the small readers stop
 
-pub no_sign : (sign : Sign) (ts : List Token) (s : Stop) → sign_at sign ts ≡ Err s → (begins sign ts ≡ false) × (stop Unexpected ts ≡ s)
+pub no_sign : (sign : Punctuation) (ts : List Token) (s : Stop) → punctuation_at sign ts ≡ Err s → (begins sign ts ≡ false) × (stop Unexpected ts ≡ s)
 no_sign sign ts s e = seen (begins sign ts) refl e where
   seen : (b : Bool) → begins sign ts ≡ b → cond b (Ok (tail ts)) (Err (stop Unexpected ts)) ≡ Err s → (begins sign ts ≡ false) × (stop Unexpected ts ≡ s)
   seen true is e = absurd cc
@@ -293,7 +293,7 @@ module _ (tests : Tests) (are : AreTests tests) where
   step_blames : (level depth : ℕ) (reads : List Token → Read Body) (law : Law tests depth reads) (blames : Blames level reads) (n : ℕ)
       (later : (earlier : List (List ℕ)) (ts : List Token) (s : Stop) → length ts < n → entries tests reads n earlier ts ≡ Err s → Blame (tables level earlier) ts s)
       (earlier : List (List ℕ)) (ts : List Token) (o : Option (List ℕ)) (s : Stop) → length ts < suc n → first_text ts ≡ o → entries_step tests reads (entries tests reads n) earlier ts o ≡ Err s → Blame (tables level earlier) ts s
-  step_blames level depth reads law blames n later earlier ts None s enough comes e = elim (bind_err (sign_at right ts) (λ after. Ok (no_entries, after)) s e) [
+  step_blames level depth reads law blames n later earlier ts None s enough comes e = elim (bind_err (punctuation_at right ts) (λ after. Ok (no_entries, after)) s e) [
     | inl h ↦ let g = no_sign right ts s h in subst (Blame (tables level earlier) ts) g.1 (unclosed level earlier ts comes g.0)
     | inr h ↦ absurd (cc)
   ]

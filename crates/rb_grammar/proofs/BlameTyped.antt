@@ -4,16 +4,15 @@ use Rattle.rb_lexer.specs.declared.fault.SourceKind.TheVariants.{Unexpected, Bad
 use Rattle.rb_lexer.specs.declared.token.Token.{Token}
 use Rattle.rb_lexer.specs.declared.token.Mark.{Mark}
 use Rattle.rb_lexer.specs.declared.token.Mark.TheVariants.{Text, LeftBrace, RightBrace, Colon}
-use Rattle.rb_tree.specs.declared.limits.TheConstants.{HEIGHT_LIMIT}
 use Rattle.rb_grammar.specs.Form.{marks, Leaf, string, alias, binary, int, ints, Body, plain, group, listed, leaf, table, array, Entries, Elements, table_word, array_word, text_marks, leaf_word, leaf_inner, body_marks, entries_marks, elements_marks, IsForm}
-use Rattle.rb_grammar.specs.Reading.{Stop, stop, ◌>>=◌, right, begins, tail, sign_at, text_or, text_at, first_text, Tests, Word, string_type, alias_type, binary_type, int_type, ints_type, table_type, array_type, word_units, checked_at, maybe_or, numbers, anything, Inner, table_at, array_at, closed, typed_at}
+use Rattle.rb_grammar.specs.Reading.{Stop, stop, ◌>>=◌, right, begins, tail, punctuation_at, text_or, text_at, first_text, Tests, Word, string_type, alias_type, binary_type, int_type, ints_type, table_type, array_type, word_units, checked_at, maybe_or, numbers, anything, Inner, table_at, array_at, closed, typed_at}
 use Rattle.rb_grammar.specs.Tests.{AreTests}
 use Rattle.rb_grammar.specs.Faults.{Role, NoWord, int_text, BodyHas, LeafHas, IsBad}
 use Rattle.rb_grammar.proofs.Blame.{Sort, Blame, tables, arrays, vectors, Blames, no_word_none, word_past, bind_err}
 use Rattle.rb_grammar.proofs.BlameLists.{no_sign, no_text, text_colon, entries_blame}
 use Rattle.rb_grammar.proofs.BlameElements.{elements_blame, numbers_blame}
 use Rattle.rb_grammar.proofs.Guess.{Alike, not_text, not_sign}
-use Rattle.rb_grammar.proofs.Marks.{text_first}
+use Rattle.rb_grammar.proofs.Marks.{text_read, text_first}
 use Rattle.rb_grammar.proofs.Sound.{Law, bind_ok, guard_ok, ok_is}
 use Rattle.rb_grammar.proofs.Unique.{word_one, leaf_type, leaf_typed, not_table, not_array}
 
@@ -196,13 +195,13 @@ module _ (w : Word) (level : ℕ) (make : Option (List ℕ) → Leaf) (word : (t
 
   maybe_blame : (passes : List ℕ → Bool) (bad : (r : List ℕ) → passes r ≡ false → (after : List Mark) → LeafHas (IsBad BadHex) (make (Some r)) (RightBrace ∷ after) (Text r ∷ RightBrace ∷ after)) (ts : List Token) (o : Option (List ℕ)) (s : Stop)
       → first_text ts ≡ o → closed (λ t. leaf (make t)) (maybe_or BadHex passes ts o) ≡ Err s → Blame (typed w level) ts s
-  maybe_blame passes bad ts None s comes e = elim (bind_err (sign_at right ts) (λ after. Ok (leaf (make None), after)) s e) [
+  maybe_blame passes bad ts None s comes e = elim (bind_err (punctuation_at right ts) (λ after. Ok (leaf (make None), after)) s e) [
     | inl h ↦ let g = no_sign right ts s h in subst (Blame (typed w level) ts) g.1 (none_there ts comes g.0)
     | inr h ↦ absurd (cc)
   ]
   maybe_blame passes bad ts (Some r) s comes e = by (passes r) refl e where
     by : (b : Bool) → passes r ≡ b → closed (λ t. leaf (make t)) (cond b (Ok (Some r, tail ts)) (Err (stop BadHex ts))) ≡ Err s → Blame (typed w level) ts s
-    by true is e = elim (bind_err (sign_at right (tail ts)) (λ after. Ok (leaf (make (Some r)), after)) s e) [
+    by true is e = elim (bind_err (punctuation_at right (tail ts)) (λ after. Ok (leaf (make (Some r)), after)) s e) [
       | inl h ↦ let g = no_sign right (tail ts) s h in subst (Blame (typed w level) ts) g.1 (not_closed ts r comes g.0)
       | inr h ↦ absurd (cc)
     ]
@@ -279,15 +278,9 @@ module _ (long : Bool) (level : ℕ) where
     start = λ ms t. tt;
   }
 
-pub text_read : (ts : List Token) (x : List ℕ × List Token) → text_at ts ≡ Ok x → (first_text ts ≡ Some x.0) × (tail ts ≡ x.1)
-text_read ts x e = seen (first_text ts) refl e where
-  seen : (o : Option (List ℕ)) → first_text ts ≡ o → text_or ts o ≡ Ok x → (first_text ts ≡ Some x.0) × (tail ts ≡ x.1)
-  seen None is e = absurd cc
-  seen (Some t) is e = let same : ◌≡◌ {A = List ℕ × List Token} (t, tail ts) x = cc in (is ∙ ap (λ (y : List ℕ × List Token). Some y.0) same, ap (λ (y : List ℕ × List Token). y.1) same)
-
 module _ (tests : Tests) (are : AreTests tests) (long : Bool) (level : ℕ) where
   int_blame : (ts : List Token) (s : Stop) → closed (λ x. leaf (int long x)) (checked_at BadInt tests.is_int ts) ≡ Err s → Blame (typed (int_type long) level) ts s
-  int_blame ts s e = elim (bind_err (checked_at BadInt tests.is_int ts) (λ x. sign_at right x.1 >>= λ after. Ok (leaf (int long x.0), after)) s e) [
+  int_blame ts s e = elim (bind_err (checked_at BadInt tests.is_int ts) (λ x. punctuation_at right x.1 >>= λ after. Ok (leaf (int long x.0), after)) s e) [
     | inl h ↦ elim (bind_err (text_at ts) (λ x. cond (tests.is_int x.0) (Ok x) (Err (stop BadInt ts))) s h) [
       | inl g ↦ let q = no_text ts s g in subst (Blame (typed (int_type long) level) ts) q.1 (no_int long level ts q.0)
       | inr g ↦ failed g.0 (text_read ts g.0 g.1) (tests.is_int g.0.0) refl g.2
@@ -297,10 +290,10 @@ module _ (tests : Tests) (are : AreTests tests) (long : Bool) (level : ℕ) wher
         let t = text_read ts a.0 a.1 in
         let g = guard_ok (tests.is_int a.0.0) (stop BadInt ts) (Ok a.0) h.0 a.2 in
         let same : a.0 ≡ h.0 = ok_is a.0 h.0 g.1 in
-        elim (bind_err (sign_at right h.0.1) (λ after. Ok (leaf (int long h.0.0), after)) s h.2) [
+        elim (bind_err (punctuation_at right h.0.1) (λ after. Ok (leaf (int long h.0.0), after)) s h.2) [
           | inl q ↦
               let there : tail ts ≡ h.0.1 = t.1 ∙ ap (λ (y : List ℕ × List Token). y.1) same in
-              let p = no_sign right (tail ts) s (ap (sign_at right) there ∙ q) in
+              let p = no_sign right (tail ts) s (ap (punctuation_at right) there ∙ q) in
               subst (Blame (typed (int_type long) level) ts) p.1 (int_open long level ts a.0.0 t.0 p.0)
           | inr q ↦ absurd (cc)
         ]
@@ -377,7 +370,7 @@ pub record Inside (tests : Tests) (level : ℕ) (inner : Inner) : Type 0 where
   pub depth : ℕ
   pub law : Law tests depth inner.reads
   pub blames : Blames (suc level) inner.reads
-  pub deep : inner.room ≡ false → suc level ≡ suc HEIGHT_LIMIT
+  pub deep : inner.room ≡ false → suc level ≡ 65
 
 pub typed_blame : (tests : Tests) (are : AreTests tests) (level : ℕ) (inner : Inner) (inside : Inside tests level inner) (w : Word) (ts : List Token) (s : Stop) → typed_at tests inner w ts ≡ Err s → Blame (typed w level) ts s
 typed_blame tests are level inner inside string_type ts s e = maybe_blame string_type level string (λ t. refl) (λ t rest. refl) is_string anything (λ r is. absurd cc) ts (first_text ts) s refl e
@@ -385,9 +378,9 @@ typed_blame tests are level inner inside alias_type ts s e = maybe_blame alias_t
 typed_blame tests are level inner inside (binary_type long) ts s e =
     maybe_blame (binary_type long) level (binary long) (λ t. refl) (λ t rest. refl) (is_binary long) tests.is_hex (λ r is after. (refl, are.bytes.1 r is)) ts (first_text ts) s refl e
 typed_blame tests are level inner inside (int_type long) ts s e = int_blame tests are long level ts s e
-typed_blame tests are level inner inside ints_type ts s e = elim (bind_err (numbers tests.is_element (suc (length ts)) ts) (λ t. sign_at right t.1 >>= λ after. Ok (leaf (ints t.0), after)) s e) [
+typed_blame tests are level inner inside ints_type ts s e = elim (bind_err (numbers tests.is_element (suc (length ts)) ts) (λ t. punctuation_at right t.1 >>= λ after. Ok (leaf (ints t.0), after)) s e) [
   | inl h ↦ in_vector level ts s (numbers_blame tests are (suc (length ts)) ts s (omega arith) (inl h))
-  | inr h ↦ elim (bind_err (sign_at right h.0.1) (λ after. Ok (leaf (ints h.0.0), after)) s h.2) [
+  | inr h ↦ elim (bind_err (punctuation_at right h.0.1) (λ after. Ok (leaf (ints h.0.0), after)) s h.2) [
     | inl q ↦ in_vector level ts s (numbers_blame tests are (suc (length ts)) ts s (omega arith) (inr (h.0, h.1, q)))
     | inr q ↦ absurd (cc)
   ]

@@ -9,16 +9,17 @@ use Rattle.rb_lexer.specs.declared.token.Mark.{Mark}
 use Rattle.rb_lexer.specs.declared.token.Mark.TheVariants.{Text, LeftBrace, RightBrace, Colon, Comma}
 use Rattle.rb_lexer.specs.declared.fault.SourceKind.{SourceKind}
 use Rattle.rb_lexer.specs.declared.fault.SourceKind.TheVariants.{BadInt, BadHex}
-use Rattle.rb_grammar.specs.Form.{marks, Leaf, string, alias, binary, int, ints, Body, plain, group, listed, leaf, table, array, Entries, no_entries, entry, Elements, no_elements, one_text, one_body, table_word, array_word, comma_marks, text_marks, numbers_marks, leaf_inner, body_marks, entries_marks, elements_marks, AreSome, BeginArray, IsForm, AreForms, EachIsForm, body_height, entries_height, elements_height, IsKeyOf}
-use Rattle.rb_grammar.specs.Reading.{Read, Sign, left, right, colon, comma, sign_mark, is_sign, text_of, begins, tail, sign_at, text_at, first_text, has_comma, after_comma, Tests, Word, table_type, array_type, word_units, checked_at, maybe_at, numbers, anything, is_among, entries, elements, Inner, table_at, array_at, closed, typed_at, Guess, as_text, as_table, as_array, guess, untyped_at, body_at, body}
+use Rattle.rb_grammar.specs.Form.{marks, Leaf, string, alias, binary, int, ints, Body, plain, group, listed, leaf, table, array, Entries, no_entries, entry, Elements, no_elements, one_text, one_body, table_word, array_word, comma_marks, text_marks, numbers_marks, leaf_inner, body_marks, entries_marks, elements_marks, AreSome, BeginArray, IsForm, AreForms, EachIsForm, IsKeyOf}
+use Rattle.rb_grammar.specs.Reading.{Read, Punctuation, left, right, colon, comma, punctuation_mark, is_punctuation, text_of, begins, tail, punctuation_at, text_at, first_text, has_comma, after_comma, Tests, Word, table_type, array_type, word_units, checked_at, maybe_at, numbers, anything, is_among, entries, elements, Inner, table_at, array_at, closed, typed_at, Guess, as_text, as_table, as_array, guess, untyped_at, body_at, body}
 use Rattle.rb_grammar.proofs.Unique.{starts_comma, no_comma_entries, no_comma_elements, no_comma_numbers, IsOpening, body_opens, leaf_type, leaf_typed, word_found}
 use Rattle.rb_grammar.proofs.Sound.{TextPassed, NumbersPassed, LeafPassed, Passed, AllPassed, EachPassed, AreNew}
+use Rattle.rb_grammar.proofs.Height.{body_height, entries_height, elements_height}
 
 -- ---- the first mark
 
-pub begins_is : (s : Sign) (ts : List Token) (m : Mark) (ms : List Mark) → marks ts ≡ m ∷ ms → begins s ts ≡ is_sign s m
+pub begins_is : (s : Punctuation) (ts : List Token) (m : Mark) (ms : List Mark) → marks ts ≡ m ∷ ms → begins s ts ≡ is_punctuation s m
 begins_is s [] m ms e = absurd cc
-begins_is s (t ∷ ts) m ms e = let same : t.what ≡ m = cc in ap (is_sign s) same
+begins_is s (t ∷ ts) m ms e = let same : t.what ≡ m = cc in ap (is_punctuation s) same
 
 pub text_is : (ts : List Token) (m : Mark) (ms : List Mark) → marks ts ≡ m ∷ ms → first_text ts ≡ text_of m
 text_is [] m ms e = absurd cc
@@ -28,14 +29,14 @@ pub tail_is : (ts : List Token) (m : Mark) (ms : List Mark) → marks ts ≡ m �
 tail_is [] m ms e = absurd cc
 tail_is (t ∷ ts) m ms e = cc
 
-sign_same : (s : Sign) → is_sign s (sign_mark s) ≡ true
+sign_same : (s : Punctuation) → is_punctuation s (punctuation_mark s) ≡ true
 sign_same left = refl
 sign_same right = refl
 sign_same colon = refl
 sign_same comma = refl
 
-pub sign_again : (s : Sign) (ts : List Token) (ms : List Mark) → marks ts ≡ sign_mark s ∷ ms → sign_at s ts ≡ Ok (tail ts)
-sign_again s ts ms e = rw (begins_is s ts (sign_mark s) ms e, sign_same s) refl
+pub sign_again : (s : Punctuation) (ts : List Token) (ms : List Mark) → marks ts ≡ punctuation_mark s ∷ ms → punctuation_at s ts ≡ Ok (tail ts)
+sign_again s ts ms e = rw (begins_is s ts (punctuation_mark s) ms e, sign_same s) refl
 
 -- ---- lengths
 
@@ -84,7 +85,7 @@ mutual
 
 -- ---- commas
 
-pub comma_first : (m : Mark) (ms : List Mark) → starts_comma (m ∷ ms) ≡ is_sign comma m
+pub comma_first : (m : Mark) (ms : List Mark) → starts_comma (m ∷ ms) ≡ is_punctuation comma m
 comma_first (Text s) ms = refl
 comma_first LeftBrace ms = refl
 comma_first RightBrace ms = refl
@@ -100,7 +101,7 @@ comma_again false (m ∷ ms) (t ∷ ts) other e = let is : has_comma (t ∷ ts) 
 
 -- ---- the guess
 
-opening_left : (m : Mark) → IsOpening m → (text_of m ≡ None) × ((is_sign colon m || is_sign left m) ≡ true) × ((is_sign left m || is_sign colon m) ≡ true) × (is_sign comma m ≡ false) × (is_sign right m ≡ false)
+opening_left : (m : Mark) → IsOpening m → (text_of m ≡ None) × ((is_punctuation colon m || is_punctuation left m) ≡ true) × ((is_punctuation left m || is_punctuation colon m) ≡ true) × (is_punctuation comma m ≡ false) × (is_punctuation right m ≡ false)
 opening_left LeftBrace o = (refl, refl, refl, refl, refl)
 opening_left Colon o = (refl, refl, refl, refl, refl)
 opening_left (Text s) o = absurd o

@@ -1,5 +1,5 @@
 -- The tests that reading makes are the conditions.
-use Rattle.std.proofs.Common.{◌≡◌, ℕ, suc, ◌&&◌, Bool, true, false, not, nat_lt, nat_le, List, [], ◌∷◌, length, All, Option, Some, None, refl, sym, ap, ◌∙◌, arith}
+use Rattle.std.proofs.Common.{◌≡◌, ℕ, suc, ◌&&◌, ◌^◌, Bool, true, false, not, nat_lt, nat_le, List, [], ◌∷◌, length, All, Option, Some, None, refl, sym, ap, ◌∙◌, arith}
 use Rattle.std.specs.Prelude.{MatchOption}
 use Rattle.std.specs.List.{filter, list_all}
 use Rattle.std.specs.Char.{digit_value}
@@ -7,7 +7,6 @@ use Rattle.std.specs.Str.Parse.{AllDigits}
 use Rattle.std.proofs.lemmas.Bool.{false≢true, ltb-true, lt-ltb, leb-true, le-leb, and_parts}
 use Rattle.std.proofs.lemmas.List.Elements.{All-cons}
 use Rattle.rb_tree.specs.Keys.{IsKey, IsPlain}
-use Rattle.rb_grammar.specs.declared.limits.TheConstants.{INT_MODULUS, INT_DEPTH, ELEMENT_MODULUS, ELEMENT_DEPTH}
 use Rattle.rb_grammar.specs.Numeral.{Numeral, hexadecimal, octal, decimal, BeginsAbove0, IsNumeral, numeral_value, is_minus, Writes, IsIntSize, int_kept, IsIntText, IsElementSize, element_kept, IsElementText, is_gap, pairs_digits, pairs_bytes, ArePairs, IsHexText}
 use Rattle.rb_grammar.specs.Shape.{sign_of}
 use Rattle.rb_grammar.specs.Tests.{Tells, AreTests, is_plain, is_key, are_digits, begins_above_0, is_numeral, is_int_size, is_element_size, numeral_of, is_number, are_pairs, is_hex, the_tests}
@@ -66,20 +65,20 @@ numeral_tests (octal ds) h = digits_test 8 ds h
 numeral_tests (decimal ds) h = both (begins_above_0 ds) (are_digits 10 ds) (above_tests ds h.0) (digits_test 10 ds h.1)
 
 int_size_passes : (negative : Bool) (size : ℕ) → is_int_size negative size ≡ true → IsIntSize negative size
-int_size_passes false size e = ltb-true size INT_MODULUS e
-int_size_passes true size e = leb-true size INT_DEPTH e
+int_size_passes false size e = ltb-true size (2 ^ 28) e
+int_size_passes true size e = leb-true size (2 ^ 27) e
 
 int_size_tests : (negative : Bool) (size : ℕ) → IsIntSize negative size → is_int_size negative size ≡ true
-int_size_tests false size h = lt-ltb size INT_MODULUS h
-int_size_tests true size h = le-leb size INT_DEPTH h
+int_size_tests false size h = lt-ltb size (2 ^ 28) h
+int_size_tests true size h = le-leb size (2 ^ 27) h
 
 element_size_passes : (negative : Bool) (size : ℕ) → is_element_size negative size ≡ true → IsElementSize negative size
-element_size_passes false size e = ltb-true size ELEMENT_MODULUS e
-element_size_passes true size e = leb-true size ELEMENT_DEPTH e
+element_size_passes false size e = ltb-true size (2 ^ 32) e
+element_size_passes true size e = leb-true size (2 ^ 31) e
 
 element_size_tests : (negative : Bool) (size : ℕ) → IsElementSize negative size → is_element_size negative size ≡ true
-element_size_tests false size h = lt-ltb size ELEMENT_MODULUS h
-element_size_tests true size h = le-leb size ELEMENT_DEPTH h
+element_size_tests false size h = lt-ltb size (2 ^ 32) h
+element_size_tests true size h = le-leb size (2 ^ 31) h
 
 number_passes : (fits : Bool → ℕ → Bool) (us : List ℕ) → is_number fits us ≡ true → Writes us (is_minus (sign_of us)) (numeral_value (numeral_of us)) × (fits (is_minus (sign_of us)) (numeral_value (numeral_of us)) ≡ true)
 number_passes fits us e =

@@ -1,36 +1,36 @@
 -- A list of tokens that isn't read has the fault at which reading stops.
 use Rattle.std.proofs.Common.{◌≡◌, ℕ, suc, ◌-◌, Bool, true, false, List, [], ◌∷◌, ◌++◌, length, Option, Some, None, Ok, Err, refl, sym, ap, subst, ◌∙◌, arith, append_assoc, ◌⊎◌, inl, inr}
+use Rattle.std.proofs.lemmas.Bool.{false≢true}
 use Rattle.std.proofs.lemmas.List.{append-nil, append_cancel_right, map-append}
 use Rattle.rb_lexer.specs.declared.fault.SourceKind.{SourceKind}
 use Rattle.rb_lexer.specs.declared.fault.SourceKind.TheVariants.{Unexpected, UnknownType, BadKey, DuplicateKey, BadInt, BadHex, TooDeep, TrailingText}
 use Rattle.rb_lexer.specs.declared.token.Token.{Token}
 use Rattle.rb_lexer.specs.declared.token.Mark.{Mark}
 use Rattle.rb_lexer.specs.declared.token.Mark.TheVariants.{Text, LeftBrace, RightBrace, Colon}
-use Rattle.rb_tree.specs.declared.limits.TheConstants.{HEIGHT_LIMIT}
-use Rattle.rb_grammar.specs.Form.{marks, Leaf, string, alias, binary, int, ints, Body, plain, group, listed, leaf, table, array, Entries, no_entries, entry, Elements, no_elements, one_text, one_body, table_word, comma_marks, entries_marks, elements_marks, type_marks, bundle_marks, AreForms}
-use Rattle.rb_grammar.specs.Reading.{Stop, stop, ◌>>=◌, left, colon, begins, tail, sign_at, text_at, first_text, Tests, Word, string_type, alias_type, binary_type, int_type, ints_type, table_type, array_type, word_units, word_at, entries, body, ended, table_word_or, type_at, bundle}
+use Rattle.rb_grammar.specs.Form.{marks, Head, untyped, plain_table, no_fallback_table, Leaf, string, alias, binary, int, ints, Body, plain, group, listed, leaf, table, array, Entries, no_entries, entry, Elements, no_elements, one_text, one_body, table_word, no_fallback_table_word, comma_marks, entries_marks, elements_marks, head_marks, bundle_marks, AreForms}
+use Rattle.rb_grammar.specs.Reading.{Stop, stop, ◌>>=◌, left, colon, begins, tail, punctuation_at, text_at, first_text, Tests, Word, string_type, alias_type, binary_type, int_type, ints_type, table_type, array_type, word_units, first_word, all_words, word_at, is_no_fallback_word, is_no_fallback_text, head_word_at, entries, body, ended, table_word_or, type_at, bundle}
 use Rattle.rb_grammar.specs.Tests.{AreTests}
 use Rattle.rb_grammar.specs.Faults.{IsWord, Role, NumbersHave, BytesHave, LeafHas, BodyHas, EntriesHas, ElementsHave, IsBad, Begun, IsBundle, IsFront, NoWord, Breaks, HasFault, line_at, IsFault}
 use Rattle.rb_grammar.proofs.Blame.{Tail, IsSeen, Says, Sort, Blame, tables, no_word_none, word_past, outside, bind_err}
 use Rattle.rb_grammar.proofs.BlameLists.{no_sign, no_text, text_colon, entries_blame}
-use Rattle.rb_grammar.proofs.BlameBody.{WordStop, no_text_there, no_word_there, word_stop, no_text_word, not_word, is_word, unknown_word, body_blames}
-use Rattle.rb_grammar.proofs.Bundles.{type_takes}
+use Rattle.rb_grammar.proofs.BlameBody.{WordStop, no_text_there, no_word_there, out_of_place, word_stop, no_text_word, not_word, no_fallback_is, is_word, body_blames}
+use Rattle.rb_grammar.proofs.Bundles.{HeadRead, no_fallback_read, word_read, head_read, type_takes}
 use Rattle.rb_grammar.proofs.Front.{entries_front}
 use Rattle.rb_grammar.proofs.Guess.{Alike, not_text, not_sign}
 use Rattle.rb_grammar.proofs.Marks.{text_first, text_takes, sign_there, sign_takes}
 use Rattle.rb_grammar.proofs.Sound.{chosen, bind_ok, ok_is, entries_take}
 use Rattle.rb_grammar.proofs.SoundBody.{word_takes, body_takes}
 use Rattle.rb_grammar.proofs.Suffix.{bundle_ends}
-use Rattle.rb_grammar.proofs.Unique.{entries_one, word_one}
+use Rattle.rb_grammar.proofs.Unique.{entries_one, word_found, word_one}
 
 -- ---- bundles
 
 abbrev Whole : Type 0
-Whole = List ℕ × Bool × Entries
+Whole = List ℕ × Head × Entries
 
 -- the spelling in front of something
 abbrev pub bundle_in : Whole → List Mark → List Mark
-bundle_in x rest = Text x.0 ∷ type_marks x.1 (LeftBrace ∷ entries_marks x.2 (RightBrace ∷ rest))
+bundle_in x rest = Text x.0 ∷ head_marks x.1 (LeftBrace ∷ entries_marks x.2 (RightBrace ∷ rest))
 
 abbrev pub bundles : Sort
 bundles = record {
@@ -51,23 +51,27 @@ unnamed ts none = record {
   says = λ w. no_word_none (marks ts) w;
   parts = refl;
   sees = refl;
-  form = ([], false, no_entries);
+  form = ([], untyped, no_entries);
   next = Text [];
   others = LeftBrace ∷ RightBrace ∷ [];
   good = tt;
   fit = tt;
   whole = refl;
-  blame = λ x after ms good t e. absurd (not_text ts x.0 (type_marks x.1 (LeftBrace ∷ entries_marks x.2 (RightBrace ∷ after))) ms none t.alike e);
+  blame = λ x after ms good t e. absurd (not_text ts x.0 (head_marks x.1 (LeftBrace ∷ entries_marks x.2 (RightBrace ∷ after))) ms none t.alike e);
   start = λ ms t. tt;
 }
 
--- behind the colon of a bundle only `table` comes
-table_there : (x : Whole) (name : List ℕ) (after ms : List Mark) → bundle_in x after ≡ Text name ∷ Colon ∷ ms → (r : List Mark) × (ms ≡ Text table_word ∷ r)
-table_there (n, true, es) name after ms e = (LeftBrace ∷ entries_marks es (RightBrace ∷ after), cc)
-table_there (n, false, es) name after ms e = absurd cc
+-- behind the colon of a bundle one of two words comes
+abbrev IsHeadWord : List ℕ → Type 0
+IsHeadWord s = (s ≡ table_word) ⊎ (s ≡ no_fallback_table_word)
+
+word_there : (x : Whole) (name : List ℕ) (after ms : List Mark) → bundle_in x after ≡ Text name ∷ Colon ∷ ms → (s : List ℕ) × IsHeadWord s × (r : List Mark) × (ms ≡ Text s ∷ r)
+word_there (n, untyped, es) name after ms e = absurd cc
+word_there (n, plain_table, es) name after ms e = (table_word, inl refl, LeftBrace ∷ entries_marks es (RightBrace ∷ after), cc)
+word_there (n, no_fallback_table, es) name after ms e = (no_fallback_table_word, inr refl, LeftBrace ∷ entries_marks es (RightBrace ∷ after), cc)
 
 at_type : (kind : SourceKind) (ts rest : List Token) (name : List ℕ) → IsSeen kind [] → Says kind (Text name ∷ Colon ∷ []) (marks rest) → marks ts ≡ Text name ∷ Colon ∷ marks rest
-    → ((ms r : List Mark) → Alike (marks rest) ms → ms ≡ Text table_word ∷ r → ⊥) → Blame bundles ts (stop kind rest)
+    → ((s : List ℕ) (ms r : List Mark) → IsHeadWord s → Alike (marks rest) ms → ms ≡ Text s ∷ r → ⊥) → Blame bundles ts (stop kind rest)
 at_type kind ts rest name shows says there other = record {
   front = Text name ∷ Colon ∷ [];
   seen = [];
@@ -76,47 +80,72 @@ at_type kind ts rest name shows says there other = record {
   says = says;
   parts = there;
   sees = refl;
-  form = (name, true, no_entries);
+  form = (name, plain_table, no_entries);
   next = Text table_word;
   others = LeftBrace ∷ RightBrace ∷ [];
   good = tt;
   fit = tt;
   whole = refl;
-  blame = λ x after ms good t e. let h = table_there x name after ms e in absurd (other ms h.0 t.alike h.1);
+  blame = λ x after ms good t e. let h = word_there x name after ms e in absurd (other h.0 ms h.2 h.1 t.alike h.3);
   start = λ ms t. tt;
 }
 
-other_word : (ts : List Token) (w : Word) (rest ms r : List Mark) → (w ≡ table_type → ⊥) → marks ts ≡ Text (word_units w) ∷ rest → Alike (marks ts) ms → ms ≡ Text table_word ∷ r → ⊥
-other_word ts w rest ms r other there a e =
-    let alike : (more : List Mark) × (ms ≡ Text (word_units w) ∷ more) = subst (λ xs. Alike xs ms) there a in
-    other (word_one w table_type (same_text (word_units w) table_word alike.0 r (sym alike.1 ∙ e))) where
-      same_text : (s q : List ℕ) (xs ys : List Mark) → Text s ∷ xs ≡ Text q ∷ ys → s ≡ q
-      same_text s q xs ys e = cc
+-- a text that comes is the one in its place
+text_alike : (ts : List Token) (u s : List ℕ) (rest ms r : List Mark) → marks ts ≡ Text u ∷ rest → Alike (marks ts) ms → ms ≡ Text s ∷ r → u ≡ s
+text_alike ts u s rest ms r there a e =
+    let alike : (more : List Mark) × (ms ≡ Text u ∷ more) = subst (λ xs. Alike xs ms) there a in
+    let both : Text u ∷ alike.0 ≡ Text s ∷ r = sym alike.1 ∙ e in
+    cc
 
-no_brace : (ts rest : List Token) (name : List ℕ) (typed : Bool) → marks ts ≡ Text name ∷ type_marks typed (marks rest) → (typed ≡ false → begins colon rest ≡ false) → begins left rest ≡ false → Blame bundles ts (stop Unexpected rest)
-no_brace ts rest name true there no_colon none = record {
-  front = Text name ∷ Colon ∷ Text table_word ∷ [];
+-- no type of a value has the word of a bundle without fallback
+no_value_word : (w : Word) → word_units w ≡ no_fallback_table_word → ⊥
+no_value_word w e = let bad : Some w ≡ None = sym (word_found w) ∙ ap (λ s. first_word s all_words) e in cc
+
+other_word : (ts : List Token) (w : Word) (rest : List Mark) (s : List ℕ) (ms r : List Mark) → (w ≡ table_type → ⊥) → marks ts ≡ Text (word_units w) ∷ rest → IsHeadWord s → Alike (marks ts) ms → ms ≡ Text s ∷ r → ⊥
+other_word ts w rest s ms r other there (inl is) a e = other (word_one w table_type (text_alike ts (word_units w) s rest ms r there a e ∙ is))
+other_word ts w rest s ms r other there (inr is) a e = no_value_word w (text_alike ts (word_units w) s rest ms r there a e ∙ is)
+
+unknown_head : (ts : List Token) (u s : List ℕ) (ms r : List Mark) → first_text ts ≡ Some u → is_no_fallback_word u ≡ false → first_word u all_words ≡ None → IsHeadWord s → Alike (marks ts) ms → ms ≡ Text s ∷ r → ⊥
+unknown_head ts u s ms r comes other none (inl is) a e =
+    let same : u ≡ table_word = text_alike ts u s (marks (tail ts)) ms r (text_first ts u comes) a e ∙ is in
+    let bad : None ≡ Some table_type = sym none ∙ ap (λ x. first_word x all_words) same in
+    cc
+unknown_head ts u s ms r comes other none (inr is) a e =
+    false≢true (sym other ∙ no_fallback_is u (text_alike ts u s (marks (tail ts)) ms r (text_first ts u comes) a e ∙ is))
+
+-- behind the type of a bundle its brace comes
+no_brace_typed : (ts rest : List Token) (name : List ℕ) (head : Head) (word : List ℕ) → ((ms : List Mark) → head_marks head ms ≡ Colon ∷ Text word ∷ ms) → marks ts ≡ Text name ∷ head_marks head (marks rest) → begins left rest ≡ false
+    → Blame bundles ts (stop Unexpected rest)
+no_brace_typed ts rest name head word is there none = record {
+  front = Text name ∷ Colon ∷ Text word ∷ [];
   seen = [];
   left = marks rest;
   shows = refl;
-  says = λ w. no_word_none (marks rest) (word_past (Text name ∷ Colon ∷ []) (Text table_word) [] (marks rest) (text_colon table_word) w);
-  parts = there;
+  says = λ w. no_word_none (marks rest) (word_past (Text name ∷ Colon ∷ []) (Text word) [] (marks rest) (text_colon word) w);
+  parts = there ∙ ap (λ ms. Text name ∷ ms) (is (marks rest));
   sees = refl;
-  form = (name, true, no_entries);
+  form = (name, head, no_entries);
   next = LeftBrace;
   others = RightBrace ∷ [];
   good = tt;
   fit = tt;
-  whole = refl;
+  whole = ap (λ ms. Text name ∷ ms) (sym (is (LeftBrace ∷ RightBrace ∷ [])));
   blame = λ x after ms good t e. absurd (no_such x after ms t.alike e);
   start = λ ms t. tt;
 } where
-  no_such : (x : Whole) (after ms : List Mark) → Alike (marks rest) ms → bundle_in x after ≡ Text name ∷ Colon ∷ Text table_word ∷ ms → ⊥
-  no_such (n, true, es) after ms a e = not_sign left rest (entries_marks es (RightBrace ∷ after)) ms none a (behind (Text n) (Text name) (LeftBrace ∷ entries_marks es (RightBrace ∷ after)) ms e) where
-    behind : (a b : Mark) (xs ys : List Mark) → a ∷ Colon ∷ Text table_word ∷ xs ≡ b ∷ Colon ∷ Text table_word ∷ ys → xs ≡ ys
-    behind a b xs ys e = cc
-  no_such (n, false, es) after ms a e = cc
-no_brace ts rest name false there no_colon none = record {
+  behind : (a b c d : Mark) (xs ys : List Mark) → a ∷ Colon ∷ c ∷ xs ≡ b ∷ Colon ∷ d ∷ ys → xs ≡ ys
+  behind a b c d xs ys e = cc
+
+  no_such : (x : Whole) (after ms : List Mark) → Alike (marks rest) ms → bundle_in x after ≡ Text name ∷ Colon ∷ Text word ∷ ms → ⊥
+  no_such (n, untyped, es) after ms a e = cc
+  no_such (n, plain_table, es) after ms a e = not_sign left rest (entries_marks es (RightBrace ∷ after)) ms none a (behind (Text n) (Text name) (Text table_word) (Text word) (LeftBrace ∷ entries_marks es (RightBrace ∷ after)) ms e)
+  no_such (n, no_fallback_table, es) after ms a e =
+      not_sign left rest (entries_marks es (RightBrace ∷ after)) ms none a (behind (Text n) (Text name) (Text no_fallback_table_word) (Text word) (LeftBrace ∷ entries_marks es (RightBrace ∷ after)) ms e)
+
+no_brace : (ts rest : List Token) (name : List ℕ) (head : Head) → marks ts ≡ Text name ∷ head_marks head (marks rest) → (head ≡ untyped → begins colon rest ≡ false) → begins left rest ≡ false → Blame bundles ts (stop Unexpected rest)
+no_brace ts rest name plain_table there no_colon none = no_brace_typed ts rest name plain_table table_word (λ ms. refl) there none
+no_brace ts rest name no_fallback_table there no_colon none = no_brace_typed ts rest name no_fallback_table no_fallback_table_word (λ ms. refl) there none
+no_brace ts rest name untyped there no_colon none = record {
   front = Text name ∷ [];
   seen = [];
   left = marks rest;
@@ -124,7 +153,7 @@ no_brace ts rest name false there no_colon none = record {
   says = λ w. no_word_none (marks rest) (word_past [] (Text name) [] (marks rest) (text_colon name) w);
   parts = there;
   sees = refl;
-  form = (name, false, no_entries);
+  form = (name, untyped, no_entries);
   next = LeftBrace;
   others = RightBrace ∷ [];
   good = tt;
@@ -134,33 +163,42 @@ no_brace ts rest name false there no_colon none = record {
   start = λ ms t. tt;
 } where
   no_such : (x : Whole) (after ms : List Mark) → Alike (marks rest) ms → bundle_in x after ≡ Text name ∷ ms → ⊥
-  no_such (n, true, es) after ms a e = not_sign colon rest (Text table_word ∷ LeftBrace ∷ entries_marks es (RightBrace ∷ after)) ms (no_colon refl) a cc
-  no_such (n, false, es) after ms a e = not_sign left rest (entries_marks es (RightBrace ∷ after)) ms none a cc
+  no_such (n, untyped, es) after ms a e = not_sign left rest (entries_marks es (RightBrace ∷ after)) ms none a cc
+  no_such (n, plain_table, es) after ms a e = not_sign colon rest (Text table_word ∷ LeftBrace ∷ entries_marks es (RightBrace ∷ after)) ms (no_colon refl) a cc
+  no_such (n, no_fallback_table, es) after ms a e = not_sign colon rest (Text no_fallback_table_word ∷ LeftBrace ∷ entries_marks es (RightBrace ∷ after)) ms (no_colon refl) a cc
 
-type_pre : Bool → List Mark
-type_pre true = Colon ∷ Text table_word ∷ []
-type_pre false = []
+type_pre : Head → List Mark
+type_pre untyped = []
+type_pre plain_table = Colon ∷ Text table_word ∷ []
+type_pre no_fallback_table = Colon ∷ Text no_fallback_table_word ∷ []
 
-type_is : (typed : Bool) (rest : List Mark) → type_marks typed rest ≡ type_pre typed ++ rest
+type_is : (head : Head) (rest : List Mark) → head_marks head rest ≡ type_pre head ++ rest
 unfolding type_pre
-type_is true rest = refl
-type_is false rest = refl
+type_is untyped rest = refl
+type_is plain_table rest = refl
+type_is no_fallback_table rest = refl
+
+-- what follows two heads that are spelled alike
+same_head : (n m : List ℕ) (c d : Head) (xs ys : List Mark) → Text n ∷ head_marks c (LeftBrace ∷ xs) ≡ Text m ∷ head_marks d (LeftBrace ∷ ys) → xs ≡ ys
+same_head n m untyped untyped xs ys e = cc
+same_head n m untyped plain_table xs ys e = absurd cc
+same_head n m untyped no_fallback_table xs ys e = absurd cc
+same_head n m plain_table untyped xs ys e = absurd cc
+same_head n m plain_table plain_table xs ys e = cc
+same_head n m plain_table no_fallback_table xs ys e = cc
+same_head n m no_fallback_table untyped xs ys e = absurd cc
+same_head n m no_fallback_table plain_table xs ys e = cc
+same_head n m no_fallback_table no_fallback_table xs ys e = cc
 
 brace_colon : LeftBrace ≡ Colon → ⊥
 brace_colon e = cc
 
-within : (ts after : List Token) (name : List ℕ) (typed : Bool) (s : Stop) → marks ts ≡ Text name ∷ type_marks typed (LeftBrace ∷ marks after) → Blame (tables 2 []) after s → Blame bundles ts s
-within ts after name typed s there b =
-    outside (tables 2 []) bundles ts after s b (Text name ∷ type_pre typed) LeftBrace brace_colon (there ∙ ap (λ ms. Text name ∷ ms) (type_is typed (LeftBrace ∷ marks after))) (name, typed, b.form) [] b.good
-    (ap (λ ms. Text name ∷ ms) (type_is typed (LeftBrace ∷ entries_marks b.form (RightBrace ∷ [])))) (sym (append-nil (entries_marks b.form (RightBrace ∷ [])))) inside tt (λ ms t. tt) where
-      same : (x : Whole) (typed : Bool) (rest ms : List Mark) → bundle_in x rest ≡ Text name ∷ type_marks typed (LeftBrace ∷ ms) → entries_marks x.2 (RightBrace ∷ rest) ≡ ms
-      same (n, true, es) true rest ms e = cc
-      same (n, true, es) false rest ms e = absurd cc
-      same (n, false, es) true rest ms e = absurd cc
-      same (n, false, es) false rest ms e = cc
-
-      inside : (x : Whole) (rest ms : List Mark) → AreForms x.2 → Tail s.rest b.seen ms → bundle_in x rest ≡ Text name ∷ (type_pre typed ++ LeftBrace ∷ (b.front ++ ms)) → EntriesHas (IsBad s.kind) x.2 2 [] (RightBrace ∷ rest) ms
-      inside x rest ms good t e = b.blame x.2 rest ms good t (same x typed rest (b.front ++ ms) (e ∙ ap (λ xs. Text name ∷ xs) (sym (type_is typed (LeftBrace ∷ (b.front ++ ms))))))
+within : (ts after : List Token) (name : List ℕ) (head : Head) (s : Stop) → marks ts ≡ Text name ∷ head_marks head (LeftBrace ∷ marks after) → Blame (tables 2 []) after s → Blame bundles ts s
+within ts after name head s there b =
+    outside (tables 2 []) bundles ts after s b (Text name ∷ type_pre head) LeftBrace brace_colon (there ∙ ap (λ ms. Text name ∷ ms) (type_is head (LeftBrace ∷ marks after))) (name, head, b.form) [] b.good
+    (ap (λ ms. Text name ∷ ms) (type_is head (LeftBrace ∷ entries_marks b.form (RightBrace ∷ [])))) (sym (append-nil (entries_marks b.form (RightBrace ∷ [])))) inside tt (λ ms t. tt) where
+      inside : (x : Whole) (rest ms : List Mark) → AreForms x.2 → Tail s.rest b.seen ms → bundle_in x rest ≡ Text name ∷ (type_pre head ++ LeftBrace ∷ (b.front ++ ms)) → EntriesHas (IsBad s.kind) x.2 2 [] (RightBrace ∷ rest) ms
+      inside x rest ms good t e = b.blame x.2 rest ms good t (same_head x.0 name x.1 head (entries_marks x.2 (RightBrace ∷ rest)) (b.front ++ ms) (e ∙ ap (λ xs. Text name ∷ xs) (sym (type_is head (LeftBrace ∷ (b.front ++ ms))))))
 
 -- ---- the fault
 
@@ -208,21 +246,17 @@ module _ (P : Role → Type 0) (never : (r : Role) → P r → ⊥) where
     no_element (one_body b c xs) level after from (inl h) = no_body b level (comma_marks c (elements_marks xs after)) from h
     no_element (one_body b c xs) level after from (inr h) = no_element xs level after from h
 
-type_front : (typed : Bool) (xs ys : List Mark) → type_marks typed xs ++ ys ≡ type_marks typed (xs ++ ys)
-type_front true xs ys = refl
-type_front false xs ys = refl
+type_front : (head : Head) (xs ys : List Mark) → head_marks head xs ++ ys ≡ head_marks head (xs ++ ys)
+type_front untyped xs ys = refl
+type_front plain_table xs ys = refl
+type_front no_fallback_table xs ys = refl
 
-pub bundle_front : (name : List ℕ) (typed : Bool) (es : Entries) (ms : List Mark) → bundle_marks name typed es ++ ms ≡ bundle_in (name, typed, es) ms
-bundle_front name typed es ms = ap (λ xs. Text name ∷ xs) (type_front typed (LeftBrace ∷ entries_marks es (RightBrace ∷ [])) ms ∙ ap (λ xs. type_marks typed (LeftBrace ∷ xs)) (sym (entries_front es (RightBrace ∷ []) ms)))
+pub bundle_front : (name : List ℕ) (head : Head) (es : Entries) (ms : List Mark) → bundle_marks name head es ++ ms ≡ bundle_in (name, head, es) ms
+bundle_front name head es ms = ap (λ xs. Text name ∷ xs) (type_front head (LeftBrace ∷ entries_marks es (RightBrace ∷ [])) ms ∙ ap (λ xs. head_marks head (LeftBrace ∷ xs)) (sym (entries_front es (RightBrace ∷ []) ms)))
 
 -- nothing follows a bundle
-pub alone : (m n : List ℕ) (c d : Bool) (es fs : Entries) (ms : List Mark) → AreForms es → AreForms fs → bundle_marks m c es ++ ms ≡ bundle_marks n d fs → ms ≡ []
-alone m n c d es fs ms p q e = (entries_one es fs ms [] p q (same c d (sym (bundle_front m c es ms) ∙ e))).1 where
-  same : (c d : Bool) → bundle_in (m, c, es) ms ≡ bundle_in (n, d, fs) [] → entries_marks es (RightBrace ∷ ms) ≡ entries_marks fs (RightBrace ∷ [])
-  same true true e = cc
-  same true false e = absurd cc
-  same false true e = absurd cc
-  same false false e = cc
+pub alone : (m n : List ℕ) (c d : Head) (es fs : Entries) (ms : List Mark) → AreForms es → AreForms fs → bundle_marks m c es ++ ms ≡ bundle_marks n d fs → ms ≡ []
+alone m n c d es fs ms p q e = (entries_one es fs ms [] p q (same_head m n c d (entries_marks es (RightBrace ∷ ms)) (entries_marks fs (RightBrace ∷ [])) (sym (bundle_front m c es ms) ∙ e))).1
 
 -- Some marks behind front decide that the first of them breaks a condition, in each bundle that begins so.
 record Decided (kind : SourceKind) (front rest : List Mark) : Type 0 where
@@ -248,7 +282,7 @@ two_cuts (p ∷ ps) qs (u ∷ us) vs e =
     ]
 
 shorter : (front more : List Mark) (r : Begun (front ++ more)) → Begun front
-shorter front more r = record { name = r.name; typed = r.typed; form = r.form; more = more ++ r.more; good = r.good; whole = sym (append_assoc front more r.more) ∙ r.whole }
+shorter front more r = record { name = r.name; head = r.head; form = r.form; more = more ++ r.more; good = r.good; whole = sym (append_assoc front more r.more) ∙ r.whole }
 
 decided_breaks : (kind : SourceKind) (front rest : List Mark) → Decided kind front rest → Breaks kind front rest
 decided_breaks kind front rest d = record {
@@ -261,14 +295,14 @@ decided_breaks kind front rest d = record {
   by : (seen remain : List Mark) → IsFront (front ++ d.at ∷ seen) remain → (r : Begun (front ++ d.at ∷ seen)) → Cut d.seen d.left seen remain → EntriesHas (IsBad kind) r.form 2 [] (RightBrace ∷ []) (d.at ∷ (seen ++ r.more))
   by seen remain f r (inl (x, e)) =
       let same : d.seen ++ (x ++ r.more) ≡ seen ++ r.more = sym (append_assoc d.seen x r.more) ∙ ap (λ ms. ms ++ r.more) (sym e) in
-      let whole : (front ++ d.at ∷ d.seen) ++ (x ++ r.more) ≡ bundle_marks r.name r.typed r.form = append_assoc front (d.at ∷ d.seen) (x ++ r.more) ∙ ap (λ ms. front ++ d.at ∷ ms) same ∙ sym (append_assoc front (d.at ∷ seen) r.more) ∙ r.whole in
-      subst (λ ms. EntriesHas (IsBad kind) r.form 2 [] (RightBrace ∷ []) (d.at ∷ ms)) same (d.each (record { name = r.name; typed = r.typed; form = r.form; more = x ++ r.more; good = r.good; whole = whole }))
+      let whole : (front ++ d.at ∷ d.seen) ++ (x ++ r.more) ≡ bundle_marks r.name r.head r.form = append_assoc front (d.at ∷ d.seen) (x ++ r.more) ∙ ap (λ ms. front ++ d.at ∷ ms) same ∙ sym (append_assoc front (d.at ∷ seen) r.more) ∙ r.whole in
+      subst (λ ms. EntriesHas (IsBad kind) r.form 2 [] (RightBrace ∷ []) (d.at ∷ ms)) same (d.each (record { name = r.name; head = r.head; form = r.form; more = x ++ r.more; good = r.good; whole = whole }))
   by seen remain f r (inr (m, x, e, g)) =
       let begun : Begun ((front ++ d.at ∷ seen) ++ (m ∷ x)) = subst Begun (ap (λ ms. front ++ d.at ∷ ms) e ∙ sym (append_assoc front (d.at ∷ seen) (m ∷ x))) d.begun in
       absurd (f.longest m (x ++ d.left) g (shorter ((front ++ d.at ∷ seen) ++ m ∷ []) x (subst Begun (sym (append_assoc (front ++ d.at ∷ seen) (m ∷ []) x)) begun)))
 
 begun_of : (front more : List Mark) (x : Whole) → AreForms x.2 → front ++ more ≡ bundle_in x [] → Begun front
-begun_of front more x good e = record { name = x.0; typed = x.1; form = x.2; more = more; good = good; whole = e }
+begun_of front more x good e = record { name = x.0; head = x.1; form = x.2; more = more; good = good; whole = e }
 
 module _ (rest : List Token) (ts : List Token) where
   at_mark : (seen : List Mark) (m : Mark) (ms more : List Mark) → seen ≡ [] → marks rest ≡ m ∷ ms → Tail rest seen (m ∷ more)
@@ -280,7 +314,7 @@ module _ (rest : List Token) (ts : List Token) where
   stuck : (kind : SourceKind) (b : Blame bundles ts (stop kind rest)) → b.seen ≡ [] → ((r : Role) → IsBad kind r → ⊥) → IsFront b.front (marks rest)
   stuck kind b none never = record {
     begun = begun_of b.front (b.seen ++ b.next ∷ b.others) b.form b.good b.whole;
-    longest = λ m ms e r. no_entry (IsBad kind) never r.form 2 [] (RightBrace ∷ []) (m ∷ r.more) (b.blame (r.name, r.typed, r.form) [] (m ∷ r.more) r.good (at_mark b.seen m ms r.more none e) (sym r.whole ∙ append_assoc b.front (m ∷ []) r.more));
+    longest = λ m ms e r. no_entry (IsBad kind) never r.form 2 [] (RightBrace ∷ []) (m ∷ r.more) (b.blame (r.name, r.head, r.form) [] (m ∷ r.more) r.good (at_mark b.seen m ms r.more none e) (sym r.whole ∙ append_assoc b.front (m ∷ []) r.more));
   }
 
   no_bundle : (kind : SourceKind) (b : Blame bundles ts (stop kind rest)) → b.seen ≡ [] → IsBundle b.front → ⊥
@@ -297,7 +331,7 @@ module _ (rest : List Token) (ts : List Token) where
     left = b.left;
     parts = b.sees ∙ ap (λ xs. xs ++ b.left) seen;
     begun = begun_of (b.front ++ m ∷ ms) (b.next ∷ b.others) b.form b.good (append_assoc b.front (m ∷ ms) (b.next ∷ b.others) ∙ ap (λ xs. b.front ++ (xs ++ b.next ∷ b.others)) (sym seen) ∙ b.whole);
-    each = λ r. b.blame (r.name, r.typed, r.form) [] (m ∷ (ms ++ r.more)) r.good (shown r.more) (sym r.whole ∙ append_assoc b.front (m ∷ ms) r.more);
+    each = λ r. b.blame (r.name, r.head, r.form) [] (m ∷ (ms ++ r.more)) r.good (shown r.more) (sym r.whole ∙ append_assoc b.front (m ∷ ms) r.more);
   } where
     shown : (more : List Mark) → Tail rest b.seen (m ∷ (ms ++ more))
     shown more = record {
@@ -328,48 +362,55 @@ Found ts s = (front : List Mark) × (marks ts ≡ front ++ marks s.rest) × HasF
 blamed_found : (ts : List Token) (s : Stop) → Blame bundles ts s → Found ts s
 blamed_found ts s b = (b.front, b.parts, fault_of s.rest ts s.kind b)
 
-trailing : (ts : List Token) (t : Token) (rest : List Token) (name : List ℕ) (typed : Bool) (es : Entries) → AreForms es → marks ts ≡ bundle_in (name, typed, es) (marks (t ∷ rest)) → Found ts (stop TrailingText (t ∷ rest))
-trailing ts t rest name typed es good spelled = (
-  bundle_marks name typed es,
-  spelled ∙ sym (bundle_front name typed es (marks (t ∷ rest))),
+trailing : (ts : List Token) (t : Token) (rest : List Token) (name : List ℕ) (head : Head) (es : Entries) → AreForms es → marks ts ≡ bundle_in (name, head, es) (marks (t ∷ rest)) → Found ts (stop TrailingText (t ∷ rest))
+trailing ts t rest name head es good spelled = (
+  bundle_marks name head es,
+  spelled ∙ sym (bundle_front name head es (marks (t ∷ rest))),
   (
     record {
-      begun = record { name = name; typed = typed; form = es; more = []; good = good; whole = append-nil (bundle_marks name typed es) };
-      longest = λ m ms e r. no_more m r.more (alone name r.name typed r.typed es r.form (m ∷ r.more) good r.good (sym (append_assoc (bundle_marks name typed es) (m ∷ []) r.more) ∙ r.whole));
+      begun = record { name = name; head = head; form = es; more = []; good = good; whole = append-nil (bundle_marks name head es) };
+      longest = λ m ms e r. no_more m r.more (alone name r.name head r.head es r.form (m ∷ r.more) good r.good (sym (append_assoc (bundle_marks name head es) (m ∷ []) r.more) ∙ r.whole));
     },
-    (name, typed, es, good, refl),
+    (name, head, es, good, refl),
     λ none. cc,
   ),
 ) where
   no_more : (m : Mark) (ms : List Mark) → m ∷ ms ≡ [] → ⊥
   no_more m ms e = cc
 
-ended_found : (ts rest : List Token) (name : List ℕ) (typed : Bool) (es : Entries) (s : Stop) → AreForms es → marks ts ≡ bundle_in (name, typed, es) (marks rest) → ended name typed es rest ≡ Err s → Found ts s
-ended_found ts [] name typed es s good spelled e = absurd cc
-ended_found ts (t ∷ rest) name typed es s good spelled e = let same : stop TrailingText (t ∷ rest) ≡ s = cc in subst (Found ts) same (trailing ts t rest name typed es good spelled)
+ended_found : (ts rest : List Token) (name : List ℕ) (head : Head) (es : Entries) (s : Stop) → AreForms es → marks ts ≡ bundle_in (name, head, es) (marks rest) → ended name head es rest ≡ Err s → Found ts s
+ended_found ts [] name head es s good spelled e = absurd cc
+ended_found ts (t ∷ rest) name head es s good spelled e = let same : stop TrailingText (t ∷ rest) ≡ s = cc in subst (Found ts) same (trailing ts t rest name head es good spelled)
 
 -- ---- the stops of a bundle
 
+-- why no type of a bundle is read behind its colon
+data HeadStop (ts : List Token) (s : Stop) : Type 0 where
+  no_text_comes : first_text ts ≡ None → stop Unexpected ts ≡ s → HeadStop ts s
+  no_word_comes : (r : List ℕ) → first_text ts ≡ Some r → is_no_fallback_word r ≡ false → first_word r all_words ≡ None → stop UnknownType ts ≡ s → HeadStop ts s
+  other_comes : (w : Word) (after : List Token) → marks ts ≡ Text (word_units w) ∷ marks after → table_word_or ts w after ≡ Err s → HeadStop ts s
+
+head_stop : (ts : List Token) (s : Stop) → head_word_at ts ≡ Err s → HeadStop ts s
+head_stop ts s e = elim (chosen (is_no_fallback_text (first_text ts)) (Ok (no_fallback_table, tail ts)) (word_at ts >>= λ w. table_word_or ts w.0 w.1) (Err s) e) [
+  | inl h ↦ absurd (cc)
+  | inr h ↦ elim (bind_err (word_at ts) (λ w. table_word_or ts w.0 w.1) s h.1) [
+    | inl g ↦ by_word h.0 (word_stop ts s g)
+    | inr g ↦ other_comes g.0.0 g.0.1 (word_takes ts g.0 g.1) g.2
+  ]
+] where
+  by_word : is_no_fallback_text (first_text ts) ≡ false → WordStop ts s → HeadStop ts s
+  by_word other (no_text_there none is) = no_text_comes none is
+  by_word other (no_word_there r comes differs none is) = no_word_comes r comes differs none is
+  by_word other (out_of_place r comes same none is) = absurd (false≢true (sym other ∙ ap is_no_fallback_text comes ∙ same))
+
 type_blame : (ts rest : List Token) (name : List ℕ) (s : Stop) → marks ts ≡ Text name ∷ marks rest → type_at rest ≡ Err s → Blame bundles ts s
-type_blame ts rest name s named e = elim (chosen (begins colon rest) (word_at (tail rest) >>= λ w. table_word_or (tail rest) w.0 w.1) (Ok (false, rest)) (Err s) e) [
-  | inl h ↦
-      let there : marks ts ≡ Text name ∷ Colon ∷ marks (tail rest) = named ∙ ap (λ ms. Text name ∷ ms) (sign_there colon rest h.0) in
-      elim (bind_err (word_at (tail rest)) (λ w. table_word_or (tail rest) w.0 w.1) s h.1) [
-        | inl g ↦ at_word there (word_stop (tail rest) s g)
-        | inr g ↦ other there g.0.0 g.0.1 (word_takes (tail rest) g.0 g.1) g.2
-      ]
+type_blame ts rest name s named e = elim (chosen (begins colon rest) (head_word_at (tail rest)) (Ok (untyped, rest)) (Err s) e) [
+  | inl h ↦ at_head (named ∙ ap (λ ms. Text name ∷ ms) (sign_there colon rest h.0)) (head_stop (tail rest) s h.1)
   | inr h ↦ absurd (cc)
 ] where
-  at_word : marks ts ≡ Text name ∷ Colon ∷ marks (tail rest) → WordStop (tail rest) s → Blame bundles ts s
-  at_word there (no_text_there none is) =
-      subst (Blame bundles ts) is (at_type Unexpected ts (tail rest) name refl (λ w. no_text_word (Text name ∷ Colon ∷ []) (tail rest) none w) there (λ ms r a e. not_text (tail rest) table_word r ms none a (sym e)))
-  at_word there (no_word_there u comes none is) =
-      subst (Blame bundles ts) is (at_type UnknownType ts (tail rest) name refl (record { before = Text name ∷ []; word = u; after = marks (tail (tail rest)); colon = refl; text = text_first (tail rest) u comes; unknown = not_word u none }) there
-      (λ ms r a e. unknown_word (tail rest) u ms comes none a (table_type, r, e)))
-
   no_table : (w : Word) (after : List Token) → (w ≡ table_type → ⊥) → marks ts ≡ Text name ∷ Colon ∷ marks (tail rest) → marks (tail rest) ≡ Text (word_units w) ∷ marks after → stop Unexpected (tail rest) ≡ s → Blame bundles ts s
   no_table w after different there word is =
-      subst (Blame bundles ts) is (at_type Unexpected ts (tail rest) name refl (λ n. known w (marks after) word n) there (λ ms r a e. other_word (tail rest) w (marks after) ms r different word a e)) where
+      subst (Blame bundles ts) is (at_type Unexpected ts (tail rest) name refl (λ n. known w (marks after) word n) there (λ q ms r head a e. other_word (tail rest) w (marks after) q ms r different word head a e)) where
         known : (w : Word) (after : List Mark) → marks (tail rest) ≡ Text (word_units w) ∷ after → NoWord (Text name ∷ Colon ∷ []) (marks (tail rest)) → ⊥
         known w after word n = let both : Text (word_units w) ∷ after ≡ Text n.word ∷ n.after = sym word ∙ n.text in let same : word_units w ≡ n.word = cc in n.unknown (subst IsWord same (is_word w))
 
@@ -382,17 +423,25 @@ type_blame ts rest name s named e = elim (chosen (begins colon rest) (word_at (t
   other there ints_type after word e = no_table ints_type after (λ x. cc) there word cc
   other there array_type after word e = no_table array_type after (λ x. cc) there word cc
 
--- where no type is written, no colon comes
-untyped : (ts : List Token) (x : Bool × List Token) → type_at ts ≡ Ok x → x.0 ≡ false → begins colon x.1 ≡ false
-untyped ts x e none = elim (chosen (begins colon ts) (word_at (tail ts) >>= λ w. table_word_or (tail ts) w.0 w.1) (Ok (false, ts)) (Ok x) e) [
-  | inl h ↦ let a = bind_ok (word_at (tail ts)) (λ w. table_word_or (tail ts) w.0 w.1) x h.1 in absurd (by_word a.0.0 a.0.1 a.2)
-  | inr h ↦ let made : Bool × List Token = (false, ts) in ap (λ (y : Bool × List Token). begins colon y.1) (sym (ok_is made x h.1)) ∙ h.0
-] where
-  is_typed : (rest : List Token) → ◌≡◌ {A = Bool × List Token} (true, rest) x → ⊥
-  is_typed rest same = let bad : true ≡ false = ap (λ (y : Bool × List Token). y.0) same ∙ none in cc
+  at_head : marks ts ≡ Text name ∷ Colon ∷ marks (tail rest) → HeadStop (tail rest) s → Blame bundles ts s
+  at_head there (no_text_comes none is) =
+      subst (Blame bundles ts) is (at_type Unexpected ts (tail rest) name refl (λ w. no_text_word (Text name ∷ Colon ∷ []) (tail rest) none w) there (λ q ms r head a e. not_text (tail rest) q r ms none a (sym e)))
+  at_head there (no_word_comes u comes differs none is) =
+      subst (Blame bundles ts) is (at_type UnknownType ts (tail rest) name refl (record { before = Text name ∷ []; word = u; after = marks (tail (tail rest)); colon = refl; text = text_first (tail rest) u comes; unknown = not_word u differs none }) there
+      (λ q ms r head a e. unknown_head (tail rest) u q ms r comes differs none head a e))
+  at_head there (other_comes w after word e) = other there w after word e
 
+-- where no type is written, no colon comes
+no_colon_after : (ts : List Token) (x : Head × List Token) → type_at ts ≡ Ok x → x.0 ≡ untyped → begins colon x.1 ≡ false
+no_colon_after ts x e none = elim (chosen (begins colon ts) (head_word_at (tail ts)) (Ok (untyped, ts)) (Ok x) e) [
+  | inl h ↦ absurd (by_head (head_read (tail ts) x h.1))
+  | inr h ↦ let made : Head × List Token = (untyped, ts) in ap (λ (y : Head × List Token). begins colon y.1) (sym (ok_is made x h.1)) ∙ h.0
+] where
   by_word : (w : Word) (rest : List Token) → table_word_or (tail ts) w rest ≡ Ok x → ⊥
-  by_word table_type rest e = let made : Bool × List Token = (true, rest) in is_typed rest (ok_is made x e)
+  by_word table_type rest e =
+      let made : Head × List Token = (plain_table, rest) in
+      let bad : plain_table ≡ untyped = ap (λ (y : Head × List Token). y.0) (ok_is made x e) ∙ none in
+      cc
   by_word string_type rest e = cc
   by_word alias_type rest e = cc
   by_word (binary_type long) rest e = cc
@@ -400,25 +449,29 @@ untyped ts x e none = elim (chosen (begins colon ts) (word_at (tail ts) >>= λ w
   by_word ints_type rest e = cc
   by_word array_type rest e = cc
 
+  by_head : HeadRead (tail ts) x → ⊥
+  by_head (no_fallback_read comes same) = let bad : no_fallback_table ≡ untyped = ap (λ (y : Head × List Token). y.0) same ∙ none in cc
+  by_head (word_read w is e) = by_word w.0 w.1 e
+
 module _ (tests : Tests) (are : AreTests tests) where
   bundle_found : (ts : List Token) (s : Stop) → bundle tests ts ≡ Err s → Found ts s
   unfolding bundle
-  bundle_found ts s e = elim (bind_err (text_at ts) (λ name. type_at name.1 >>= λ typed. sign_at left typed.1 >>= λ after. entries tests (body tests (HEIGHT_LIMIT - 1)) (suc (length after)) [] after >>= λ es. ended name.0 typed.0 es.0 es.1) s e) [
+  bundle_found ts s e = elim (bind_err (text_at ts) (λ name. type_at name.1 >>= λ head. punctuation_at left head.1 >>= λ after. entries tests (body tests 63) (suc (length after)) [] after >>= λ es. ended name.0 head.0 es.0 es.1) s e) [
     | inl h ↦ let g = no_text ts s h in subst (Found ts) g.1 (blamed_found ts (stop Unexpected ts) (unnamed ts g.0))
-    | inr a ↦ elim (bind_err (type_at a.0.1) (λ typed. sign_at left typed.1 >>= λ after. entries tests (body tests (HEIGHT_LIMIT - 1)) (suc (length after)) [] after >>= λ es. ended a.0.0 typed.0 es.0 es.1) s a.2) [
+    | inr a ↦ elim (bind_err (type_at a.0.1) (λ head. punctuation_at left head.1 >>= λ after. entries tests (body tests 63) (suc (length after)) [] after >>= λ es. ended a.0.0 head.0 es.0 es.1) s a.2) [
       | inl h ↦ blamed_found ts s (type_blame ts a.0.1 a.0.0 s (text_takes ts a.0 a.1) h)
       | inr b ↦
-          let typed : marks ts ≡ Text a.0.0 ∷ type_marks b.0.0 (marks b.0.1) = text_takes ts a.0 a.1 ∙ ap (λ ms. Text a.0.0 ∷ ms) (type_takes a.0.1 b.0 b.1) in
-          elim (bind_err (sign_at left b.0.1) (λ after. entries tests (body tests (HEIGHT_LIMIT - 1)) (suc (length after)) [] after >>= λ es. ended a.0.0 b.0.0 es.0 es.1) s b.2) [
-            | inl h ↦ let g = no_sign left b.0.1 s h in subst (Found ts) g.1 (blamed_found ts (stop Unexpected b.0.1) (no_brace ts b.0.1 a.0.0 b.0.0 typed (λ none. untyped a.0.1 b.0 b.1 none) g.0))
+          let head : marks ts ≡ Text a.0.0 ∷ head_marks b.0.0 (marks b.0.1) = text_takes ts a.0 a.1 ∙ ap (λ ms. Text a.0.0 ∷ ms) (type_takes a.0.1 b.0 b.1) in
+          elim (bind_err (punctuation_at left b.0.1) (λ after. entries tests (body tests 63) (suc (length after)) [] after >>= λ es. ended a.0.0 b.0.0 es.0 es.1) s b.2) [
+            | inl h ↦ let g = no_sign left b.0.1 s h in subst (Found ts) g.1 (blamed_found ts (stop Unexpected b.0.1) (no_brace ts b.0.1 a.0.0 b.0.0 head (λ none. no_colon_after a.0.1 b.0 b.1 none) g.0))
             | inr c ↦
-                let opened : marks ts ≡ Text a.0.0 ∷ type_marks b.0.0 (LeftBrace ∷ marks c.0) = typed ∙ ap (λ ms. Text a.0.0 ∷ type_marks b.0.0 ms) (sign_takes left b.0.1 c.0 c.1) in
-                elim (bind_err (entries tests (body tests (HEIGHT_LIMIT - 1)) (suc (length c.0)) [] c.0) (λ es. ended a.0.0 b.0.0 es.0 es.1) s c.2) [
+                let opened : marks ts ≡ Text a.0.0 ∷ head_marks b.0.0 (LeftBrace ∷ marks c.0) = head ∙ ap (λ ms. Text a.0.0 ∷ head_marks b.0.0 ms) (sign_takes left b.0.1 c.0 c.1) in
+                elim (bind_err (entries tests (body tests 63) (suc (length c.0)) [] c.0) (λ es. ended a.0.0 b.0.0 es.0 es.1) s c.2) [
                   | inl h ↦
-                      blamed_found ts s (within ts c.0 a.0.0 b.0.0 s opened (entries_blame tests are 2 (HEIGHT_LIMIT - 1) (body tests (HEIGHT_LIMIT - 1)) (body_takes tests (HEIGHT_LIMIT - 1)) (body_blames tests are (HEIGHT_LIMIT - 1) 2 (omega arith)) (suc (length c.0)) [] c.0 s (omega arith) h))
+                      blamed_found ts s (within ts c.0 a.0.0 b.0.0 s opened (entries_blame tests are 2 63 (body tests 63) (body_takes tests 63) (body_blames tests are 63 2 (omega arith)) (suc (length c.0)) [] c.0 s (omega arith) h))
                   | inr d ↦
-                      let t = entries_take tests (HEIGHT_LIMIT - 1) (body tests (HEIGHT_LIMIT - 1)) (body_takes tests (HEIGHT_LIMIT - 1)) (suc (length c.0)) [] c.0 d.0 d.1 in
-                      ended_found ts d.0.1 a.0.0 b.0.0 d.0.0 s t.form (opened ∙ ap (λ ms. Text a.0.0 ∷ type_marks b.0.0 (LeftBrace ∷ ms)) t.spelled) d.2
+                      let t = entries_take tests 63 (body tests 63) (body_takes tests 63) (suc (length c.0)) [] c.0 d.0 d.1 in
+                      ended_found ts d.0.1 a.0.0 b.0.0 d.0.0 s t.form (opened ∙ ap (λ ms. Text a.0.0 ∷ head_marks b.0.0 (LeftBrace ∷ ms)) t.spelled) d.2
                 ]
           ]
     ]

@@ -9,11 +9,9 @@ use Rattle.rb_lexer.specs.declared.token.Mark.{Mark}
 use Rattle.rb_lexer.specs.declared.token.Mark.TheVariants.{Text, RightBrace}
 use Rattle.rb_tree.specs.Resource.{Resource, height, weight, Resources, Members}
 use Rattle.rb_tree.specs.Keys.{IsKey}
-use Rattle.rb_tree.specs.Parts.{kind_of}
-use Rattle.rb_tree.specs.declared.kind.Kind.TheVariants.{Table}
-use Rattle.rb_tree.specs.declared.limits.TheConstants.{HEIGHT_LIMIT, WEIGHT_LIMIT}
+use Rattle.rb_tree.specs.SourceTree.{SourceTree}
 use Rattle.rb_grammar.specs.Numeral.{IsIntText, IsElementText, IsHexText}
-use Rattle.rb_grammar.specs.Form.{marks, Leaf, string, alias, binary, int, ints, Body, plain, group, listed, leaf, table, array, Entries, no_entries, entry, Elements, no_elements, one_text, one_body, comma_marks, entries_marks, elements_marks, body_height, entries_height, elements_height, IsKeyOf}
+use Rattle.rb_grammar.specs.Form.{marks, Head, Leaf, string, alias, binary, int, ints, Body, plain, group, listed, leaf, table, array, Entries, no_entries, entry, Elements, no_elements, one_text, one_body, comma_marks, entries_marks, elements_marks, IsKeyOf}
 use Rattle.rb_grammar.specs.Good.{HasKeys, HaveKeys, EachHasKeys, text_or_none, AreElementTexts, LeafSpells, Spells, EachStands, EachSpells, IsSpelled, IsGood}
 use Rattle.rb_grammar.specs.Faults.{key, value, int_text, element_text, hex_text, IsAmong, NumbersHave, BytesHave, LeafHas, BodyHas, EntriesHas, ElementsHave, IsBad, IsBundle, Begun, IsFront, Breaks, HasFault, line_at, IsFault}
 use Rattle.rb_grammar.specs.Reading.{Stop, Tests, bundle}
@@ -21,6 +19,7 @@ use Rattle.rb_grammar.specs.Tests.{AreTests}
 use Rattle.rb_grammar.proofs.Fault.{stop_is_fault}
 use Rattle.rb_grammar.proofs.Meaning.{spelled_one, read_spelled}
 use Rattle.rb_grammar.proofs.Trees.{tree_height}
+use Rattle.rb_grammar.proofs.Height.{body_height, entries_height, elements_height}
 
 -- ---- what breaks a condition
 
@@ -29,7 +28,7 @@ bad_key BadKey earlier k h = inl h
 bad_key DuplicateKey earlier k h = inr h
 bad_key kind earlier k h = absurd h
 
-bad_value : (kind : SourceKind) (level : ℕ) → IsBad kind (value level) → level ≡ suc HEIGHT_LIMIT
+bad_value : (kind : SourceKind) (level : ℕ) → IsBad kind (value level) → level ≡ 65
 bad_value TooDeep level h = h
 bad_value kind level h = absurd h
 
@@ -65,7 +64,7 @@ module _ (kind : SourceKind) where
   good_leaf (int long s) d after from is h = bad_int kind s h.1 is.0 is.1
   good_leaf (ints ns) d after from is h = good_numbers ns is.0 after from is.1 h
 
-  not_deep : (level n : ℕ) → level + suc n ≤ suc HEIGHT_LIMIT → IsBad kind (value level) → ⊥
+  not_deep : (level n : ℕ) → level + suc n ≤ 65 → IsBad kind (value level) → ⊥
   not_deep level n low h = let deep = bad_value kind level h in absurd (omega arith)
 
   abbrev AreNew : Entries → List (List ℕ) → Type 0
@@ -76,7 +75,7 @@ module _ (kind : SourceKind) where
   still_new k b c es earlier once new q h (inr among) = new q (inr h) among
 
   mutual
-    good_body : (b : Body) (d : Resource) (level : ℕ) (after from : List Mark) → HasKeys b → Spells b d → level + body_height b ≤ suc HEIGHT_LIMIT → BodyHas (IsBad kind) b level after from → ⊥
+    good_body : (b : Body) (d : Resource) (level : ℕ) (after from : List Mark) → HasKeys b → Spells b d → level + body_height b ≤ 65 → BodyHas (IsBad kind) b level after from → ⊥
     good_body (plain s) d level after from keys is low h = not_deep level 0 low h.1
     good_body (group es) d level after from keys is low (inl h) = not_deep level (entries_height es) low h.1
     good_body (group es) d level after from keys is low (inr h) = good_entries es is.0 (suc level) [] (RightBrace ∷ after) from keys is.4 (omega arith) (λ q h among. among) h
@@ -89,14 +88,14 @@ module _ (kind : SourceKind) where
     good_body (array xs) d level after from keys is low (inl h) = not_deep level (elements_height xs) low h.1
     good_body (array xs) d level after from keys is low (inr h) = good_elements xs is.0 (suc level) (RightBrace ∷ after) from keys is.2 (omega arith) h
 
-    pub good_entries : (es : Entries) (rows : Members) (level : ℕ) (earlier : List (List ℕ)) (after from : List Mark) → HaveKeys es → EachStands es rows → level + entries_height es ≤ suc HEIGHT_LIMIT → AreNew es earlier
+    pub good_entries : (es : Entries) (rows : Members) (level : ℕ) (earlier : List (List ℕ)) (after from : List Mark) → HaveKeys es → EachStands es rows → level + entries_height es ≤ 65 → AreNew es earlier
         → EntriesHas (IsBad kind) es level earlier after from → ⊥
     good_entries no_entries rows level earlier after from keys is low new h = h
     good_entries (entry k b c es) rows level earlier after from keys is low new (inl h) = elim (bad_key kind earlier k h.1) [ inl bad ↦ bad keys.0 | inr among ↦ new k (inl refl) among ]
     good_entries (entry k b c es) rows level earlier after from keys is low new (inr (inl h)) = good_body b is.0.0 level (comma_marks c (entries_marks es after)) from keys.2 is.0.2 (omega arith) h
     good_entries (entry k b c es) rows level earlier after from keys is low new (inr (inr h)) = good_entries es rows level (k ∷ earlier) after from keys.3 is.1 (omega arith) (still_new k b c es earlier keys.1 new) h
 
-    good_elements : (xs : Elements) (ts : Resources) (level : ℕ) (after from : List Mark) → EachHasKeys xs → EachSpells xs ts → level + elements_height xs ≤ suc HEIGHT_LIMIT → ElementsHave (IsBad kind) xs level after from → ⊥
+    good_elements : (xs : Elements) (ts : Resources) (level : ℕ) (after from : List Mark) → EachHasKeys xs → EachSpells xs ts → level + elements_height xs ≤ 65 → ElementsHave (IsBad kind) xs level after from → ⊥
     good_elements no_elements ts level after from keys is low h = h
     good_elements (one_text s c xs) ts level after from keys is low (inl h) = not_deep level 0 (omega arith) h.1
     good_elements (one_text s c xs) ts level after from keys is low (inr h) = good_elements xs is.0 level after from keys is.2 (omega arith) h
@@ -105,12 +104,12 @@ module _ (kind : SourceKind) where
 
 -- ---- good marks have no fault
 
-module _ (ms : List Mark) (name : List ℕ) (d : Resource) (whole : IsSpelled ms name d) (low : height d ≤ HEIGHT_LIMIT) (front rest : List Mark) (cut : ms ≡ front ++ rest) where
+module _ (ms : List Mark) (name : List ℕ) (d : SourceTree) (whole : IsSpelled ms name d) (low : height d.tree ≤ 64) (front rest : List Mark) (cut : ms ≡ front ++ rest) where
   -- a front of a bundle that is not all of it goes on
   not_longest : (m : Mark) (more : List Mark) → rest ≡ m ∷ more → IsFront front rest → ⊥
   not_longest m more e f = f.longest m more e (record {
     name = name;
-    typed = whole.typed;
+    head = whole.head;
     form = whole.form;
     more = more;
     good = whole.good;
@@ -124,13 +123,13 @@ module _ (ms : List Mark) (name : List ℕ) (d : Resource) (whole : IsSpelled ms
     by (m ∷ more) e = not_longest m more e f
 
   is_bundle : rest ≡ [] → IsBundle front
-  is_bundle none = (name, whole.typed, whole.form, whole.good, sym (append-nil front) ∙ ap (λ xs. front ++ xs) (sym none) ∙ sym cut ∙ whole.spelled)
+  is_bundle none = (name, whole.head, whole.form, whole.good, sym (append-nil front) ∙ ap (λ xs. front ++ xs) (sym none) ∙ sym cut ∙ whole.spelled)
 
   -- all of the marks are the longest front
   all_begun : (at : Mark) (others : List Mark) → rest ≡ at ∷ others → Begun (front ++ at ∷ others)
   all_begun at others parts = record {
     name = name;
-    typed = whole.typed;
+    head = whole.head;
     form = whole.form;
     more = [];
     good = whole.good;
@@ -140,7 +139,7 @@ module _ (ms : List Mark) (name : List ℕ) (d : Resource) (whole : IsSpelled ms
   not_broken : (kind : SourceKind) → Breaks kind front rest → ⊥
   unfolding all_begun
   not_broken kind b =
-      let high = tree_height (table whole.form) d whole.means in
+      let high = tree_height (table whole.form) d.tree whole.means in
       let r = all_begun b.at b.others b.parts in
       let longest : IsFront (front ++ b.at ∷ b.others) [] = record { begun = r; longest = λ m ms e. absurd cc } in
       good_entries kind whole.form whole.means.0 2 [] (RightBrace ∷ []) (b.at ∷ (b.others ++ [])) whole.keys whole.means.4 (omega arith) (λ q h among. among) (b.each b.others [] (sym (append-nil b.others)) longest r)
@@ -156,33 +155,33 @@ module _ (ms : List Mark) (name : List ℕ) (d : Resource) (whole : IsSpelled ms
   faultless TooDeep h = not_broken TooDeep h
   faultless kind h = h
 
-pub good_faultless : (ts : List Token) (name : List ℕ) (d : Resource) (end : ℕ) (kind : SourceKind) (line : ℕ) → IsGood (marks ts) name d → IsFault ts end kind line → ⊥
+pub good_faultless : (ts : List Token) (name : List ℕ) (d : SourceTree) (end : ℕ) (kind : SourceKind) (line : ℕ) → IsGood (marks ts) name d → IsFault ts end kind line → ⊥
 good_faultless ts name d end kind line g (inl (front, rest, cut, h, l)) =
-    faultless (marks ts) name d g.whole g.fits.low (marks front) (marks rest) (ap marks cut ∙ map-append (λ (t : Token). t.what) front rest) kind h
+    faultless (marks ts) name d g.whole g.low (marks front) (marks rest) (ap marks cut ∙ map-append (λ (t : Token). t.what) front rest) kind h
 good_faultless ts name d end kind line g (inr (is, large, l)) =
-    let same = spelled_one (marks ts) name large.name d large.tree g.whole large.whole in
-    let light : weight large.tree ≤ WEIGHT_LIMIT = subst (λ (t : Resource). weight t ≤ WEIGHT_LIMIT) same.1 g.fits.light in
+    let same = spelled_one (marks ts) name large.name d large.source g.whole large.whole in
+    let light : weight large.source.tree ≤ 33554432 = subst (λ (s : SourceTree). weight s.tree ≤ 33554432) same.1 g.light in
     let heavy = large.heavy in
     absurd (omega arith)
 
 -- ---- marks that are not good have one
 
 abbrev pub Good : List Token → Type 0
-Good ts = (name : List ℕ) × (tree : Resource) × IsGood (marks ts) name tree
+Good ts = (name : List ℕ) × (source : SourceTree) × IsGood (marks ts) name source
 
 abbrev pub Faulty : List Token → ℕ → Type 0
 Faulty ts end = (kind : SourceKind) × (line : ℕ) × IsFault ts end kind line
 
 pub good_or_faulty : (tests : Tests) (are : AreTests tests) (ts : List Token) (end : ℕ) → Good ts ⊎ Faulty ts end
 good_or_faulty tests are ts end = by (bundle tests ts) refl where
-  weighed : (name : List ℕ) (d : Resource) → IsSpelled (marks ts) name d → kind_of d ≡ Table → height d ≤ HEIGHT_LIMIT → Good ts ⊎ Faulty ts end
-  weighed name d whole is low = elim (leb_tells (weight d) WEIGHT_LIMIT) [
-    | inl h ↦ inl (name, d, record { whole = whole; fits = record { is_table = is; low = low; light = h.1 } })
-    | inr h ↦ inr (TooLarge, 1, inr (refl, record { name = name; tree = d; whole = whole; low = low; heavy = h.1 }, refl))
+  weighed : (name : List ℕ) (d : SourceTree) → IsSpelled (marks ts) name d → height d.tree ≤ 64 → Good ts ⊎ Faulty ts end
+  weighed name d whole low = elim (leb_tells (weight d.tree) 33554432) [
+    | inl h ↦ inl (name, d, record { whole = whole; low = low; light = h.1 })
+    | inr h ↦ inr (TooLarge, 1, inr (refl, record { name = name; source = d; whole = whole; low = low; heavy = h.1 }, refl))
   ]
 
-  by : (r : Result (List ℕ × Bool × Entries) Stop) → bundle tests ts ≡ r → Good ts ⊎ Faulty ts end
-  by (Ok (name, typed, form)) e =
-      let r = read_spelled tests are ts name typed form e in
-      weighed name r.tree r.spelled (ap kind_of r.means.1) r.low
+  by : (r : Result (List ℕ × Head × Entries) Stop) → bundle tests ts ≡ r → Good ts ⊎ Faulty ts end
+  by (Ok (name, head, form)) e =
+      let r = read_spelled tests are ts name head form e in
+      weighed name r.source r.spelled r.low
   by (Err s) e = inr (s.kind, line_at end s.rest, stop_is_fault tests are ts end s e)

@@ -5,7 +5,7 @@ use Rattle.rb_lexer.specs.declared.token.Token.{Token}
 use Rattle.rb_lexer.specs.declared.token.Mark.{Mark}
 use Rattle.rb_lexer.specs.declared.token.Mark.TheVariants.{Text, LeftBrace, RightBrace, Colon, Comma}
 use Rattle.rb_grammar.specs.Form.{marks, Body, plain, group, listed, leaf, table, array, no_entries, entry, no_elements, one_text, one_body, comma_marks, body_marks, entries_marks, elements_marks, IsForm}
-use Rattle.rb_grammar.specs.Reading.{Sign, left, right, colon, comma, sign_mark, is_sign, text_of, begins, first_text}
+use Rattle.rb_grammar.specs.Reading.{Punctuation, left, right, colon, comma, punctuation_mark, is_punctuation, text_of, begins, first_text}
 use Rattle.rb_grammar.proofs.Unique.{IsOpening, Opens, body_opens}
 
 -- both begin with the same mark, or there is none in both
@@ -13,7 +13,7 @@ abbrev pub Alike : List Mark → List Mark → Type 0
 Alike [] ys = ys ≡ []
 Alike (x ∷ xs) ys = (more : List Mark) × (ys ≡ x ∷ more)
 
-sign_same : (s : Sign) → is_sign s (sign_mark s) ≡ true
+sign_same : (s : Punctuation) → is_punctuation s (punctuation_mark s) ≡ true
 sign_same left = refl
 sign_same right = refl
 sign_same colon = refl
@@ -28,11 +28,11 @@ not_text (t ∷ ts) s ms tail none a e =
     let same : t.what ≡ Text s = sym (heads (Text s) t.what ms a.0 (e ∙ a.1)) in
     let bad : None ≡ Some s = sym none ∙ ap text_of same in cc
 
-pub not_sign : (s : Sign) (ts : List Token) (ms tail : List Mark) → begins s ts ≡ false → Alike (marks ts) tail → sign_mark s ∷ ms ≡ tail → ⊥
-not_sign s [] ms tail none a e = let bad : sign_mark s ∷ ms ≡ [] = e ∙ a in cc
+pub not_sign : (s : Punctuation) (ts : List Token) (ms tail : List Mark) → begins s ts ≡ false → Alike (marks ts) tail → punctuation_mark s ∷ ms ≡ tail → ⊥
+not_sign s [] ms tail none a e = let bad : punctuation_mark s ∷ ms ≡ [] = e ∙ a in cc
 not_sign s (t ∷ ts) ms tail none a e =
-    let same : t.what ≡ sign_mark s = sym (heads (sign_mark s) t.what ms a.0 (e ∙ a.1)) in
-    false≢true (sym none ∙ ap (is_sign s) same ∙ sign_same s)
+    let same : t.what ≡ punctuation_mark s = sym (heads (punctuation_mark s) t.what ms a.0 (e ∙ a.1)) in
+    false≢true (sym none ∙ ap (is_punctuation s) same ∙ sign_same s)
 
 pub not_body : (b : Body) (ts : List Token) (ms tail : List Mark) → begins left ts ≡ false → begins colon ts ≡ false → Alike (marks ts) tail → body_marks b ms ≡ tail → ⊥
 not_body b ts ms tail no_left no_colon a e = by_mark (body_opens b ms) where

@@ -11,6 +11,7 @@ pub mod Guess
 pub mod Numbers
 pub mod Conditions
 pub mod Rows
+pub mod Height
 pub mod Trees
 pub mod Meaning
 pub mod Blame

@@ -5,7 +5,7 @@ use Rattle.rb_lexer.specs.declared.token.Mark.TheVariants.{Text, LeftBrace, Righ
 use Rattle.rb_lexer.specs.declared.token.Token.{Token}
 use Rattle.rb_lexer.specs.declared.fault.SourceKind.TheVariants.{Unexpected}
 use Rattle.rb_grammar.specs.Form.{marks, comma_marks}
-use Rattle.rb_grammar.specs.Reading.{Stop, stop, Sign, left, right, colon, comma, sign_mark, is_sign, text_of, begins, tail, sign_at, text_or, text_at, first_text, has_comma, after_comma}
+use Rattle.rb_grammar.specs.Reading.{Stop, stop, Punctuation, left, right, colon, comma, punctuation_mark, is_punctuation, text_of, begins, tail, punctuation_at, text_or, text_at, first_text, has_comma, after_comma}
 
 text_is : (m : Mark) (s : List ℕ) → text_of m ≡ Some s → m ≡ Text s
 text_is (Text r) s e = let same : r ≡ s = cc in ap Text same
@@ -14,7 +14,7 @@ text_is RightBrace s e = absurd cc
 text_is Colon s e = absurd cc
 text_is Comma s e = absurd cc
 
-pub sign_is : (s : Sign) (m : Mark) → is_sign s m ≡ true → m ≡ sign_mark s
+pub sign_is : (s : Punctuation) (m : Mark) → is_punctuation s m ≡ true → m ≡ punctuation_mark s
 sign_is left (Text r) e = absurd cc
 sign_is left LeftBrace e = refl
 sign_is left RightBrace e = absurd cc
@@ -40,7 +40,7 @@ pub text_first : (ts : List Token) (s : List ℕ) → first_text ts ≡ Some s �
 text_first [] s e = absurd cc
 text_first (t ∷ ts) s e = ap (λ m. m ∷ marks ts) (text_is t.what s e)
 
-pub sign_there : (s : Sign) (ts : List Token) → begins s ts ≡ true → marks ts ≡ sign_mark s ∷ marks (tail ts)
+pub sign_there : (s : Punctuation) (ts : List Token) → begins s ts ≡ true → marks ts ≡ punctuation_mark s ∷ marks (tail ts)
 sign_there s [] e = absurd cc
 sign_there s (t ∷ ts) e = ap (λ m. m ∷ marks ts) (sign_is s t.what e)
 
@@ -48,8 +48,8 @@ guarded : (b : Bool) (x y : List Token) (s : Stop) → cond b (Ok x) (Err s) ≡
 guarded true x y s e = (refl, cc)
 guarded false x y s e = absurd cc
 
-pub sign_takes : (s : Sign) (ts r : List Token) → sign_at s ts ≡ Ok r → marks ts ≡ sign_mark s ∷ marks r
-sign_takes s ts r e = let g = guarded (begins s ts) (tail ts) r (stop Unexpected ts) e in sign_there s ts g.0 ∙ ap (λ us. sign_mark s ∷ marks us) g.1
+pub sign_takes : (s : Punctuation) (ts r : List Token) → punctuation_at s ts ≡ Ok r → marks ts ≡ punctuation_mark s ∷ marks r
+sign_takes s ts r e = let g = guarded (begins s ts) (tail ts) r (stop Unexpected ts) e in sign_there s ts g.0 ∙ ap (λ us. punctuation_mark s ∷ marks us) g.1
 
 pub comma_takes : (ts : List Token) → marks ts ≡ comma_marks (has_comma ts) (marks (after_comma ts))
 comma_takes ts = at_comma (has_comma ts) refl where
@@ -62,3 +62,9 @@ text_takes ts x e = seen (first_text ts) refl e where
   seen : (o : Option (List ℕ)) → first_text ts ≡ o → text_or ts o ≡ Ok x → marks ts ≡ Text x.0 ∷ marks x.1
   seen None is e = absurd cc
   seen (Some s) is e = let same : ◌≡◌ {A = List ℕ × List Token} (s, tail ts) x = cc in text_first ts s is ∙ ap (λ (y : List ℕ × List Token). Text y.0 ∷ marks y.1) same
+
+pub text_read : (ts : List Token) (x : List ℕ × List Token) → text_at ts ≡ Ok x → (first_text ts ≡ Some x.0) × (tail ts ≡ x.1)
+text_read ts x e = seen (first_text ts) refl e where
+  seen : (o : Option (List ℕ)) → first_text ts ≡ o → text_or ts o ≡ Ok x → (first_text ts ≡ Some x.0) × (tail ts ≡ x.1)
+  seen None is e = absurd cc
+  seen (Some t) is e = let same : ◌≡◌ {A = List ℕ × List Token} (t, tail ts) x = cc in (is ∙ ap (λ (y : List ℕ × List Token). Some y.0) same, ap (λ (y : List ℕ × List Token). y.1) same)

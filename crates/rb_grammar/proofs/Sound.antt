@@ -8,10 +8,11 @@ use Rattle.rb_lexer.specs.declared.token.Token.{Token}
 use Rattle.rb_lexer.specs.declared.token.Mark.{Mark}
 use Rattle.rb_lexer.specs.declared.token.Mark.TheVariants.{Text, RightBrace}
 use Rattle.rb_lexer.specs.declared.fault.SourceKind.TheVariants.{BadKey, DuplicateKey, BadInt, TooDeep}
-use Rattle.rb_grammar.specs.Form.{marks, Leaf, string, alias, binary, int, ints, Body, plain, group, listed, leaf, table, array, Entries, no_entries, entry, Elements, no_elements, one_text, one_body, comma_marks, numbers_marks, body_marks, entries_marks, elements_marks, AreSome, BeginArray, IsForm, AreForms, EachIsForm, body_height, entries_height, elements_height, IsKeyOf}
-use Rattle.rb_grammar.specs.Reading.{Stop, stop, Read, ◌>>=◌, left, right, colon, comma, text_of, begins, tail, sign_at, first_text, has_comma, after_comma, Tests, numbers_step, numbers, is_among, entry_at, entries_step, entries, elements_step, elements, as_text, as_table, as_array, none_at, guess_second, guess_or, guess}
+use Rattle.rb_grammar.specs.Form.{marks, Leaf, string, alias, binary, int, ints, Body, plain, group, listed, leaf, table, array, Entries, no_entries, entry, Elements, no_elements, one_text, one_body, comma_marks, numbers_marks, body_marks, entries_marks, elements_marks, AreSome, BeginArray, IsForm, AreForms, EachIsForm, IsKeyOf}
+use Rattle.rb_grammar.specs.Reading.{Stop, stop, Read, ◌>>=◌, left, right, colon, comma, text_of, begins, tail, punctuation_at, first_text, has_comma, after_comma, Tests, numbers_step, numbers, is_among, entry_at, entries_step, entries, elements_step, elements, as_text, as_table, as_array, none_at, guess_second, guess_or, guess}
 use Rattle.rb_grammar.proofs.Marks.{text_first, sign_there, sign_takes, comma_takes}
 use Rattle.rb_grammar.proofs.Unique.{starts_comma, no_comma_elements}
+use Rattle.rb_grammar.proofs.Height.{body_height, entries_height, elements_height}
 
 pub bind_ok : {A B : Type 0} (r : Result A Stop) (f : A → Result B Stop) (y : B) → (r >>= f) ≡ Ok y → (x : A) × (r ≡ Ok x) × (f x ≡ Ok y)
 bind_ok (Ok x) f y e = (x, refl, e)
@@ -128,7 +129,7 @@ module _ (tests : Tests) where
       (later : (earlier : List (List ℕ)) (ts : List Token) (x : Entries × List Token) → more earlier ts ≡ Ok x → TookAll depth earlier ts x)
       (earlier : List (List ℕ)) (ts : List Token) (o : Option (List ℕ)) (x : Entries × List Token) → first_text ts ≡ o → entries_step tests reads more earlier ts o ≡ Ok x → TookAll depth earlier ts x
   step_takes depth reads law more later earlier ts None x comes e =
-      let a = bind_ok (sign_at right ts) (λ after. Ok (no_entries, after)) x e in
+      let a = bind_ok (punctuation_at right ts) (λ after. Ok (no_entries, after)) x e in
       let made : Entries × List Token = (no_entries, a.0) in
       subst (TookAll depth earlier ts) (ok_is made x a.2) (record { spelled = sign_takes right ts a.0 a.1; form = tt; passed = tt; new = λ k h. absurd h; high = omega arith })
   step_takes depth reads law more later earlier ts (Some k) x comes e =
@@ -149,7 +150,7 @@ module _ (tests : Tests) where
   each_takes : (depth : ℕ) (room : Bool) (reads : List Token → Read Body) (law : Law depth reads) (fits : room ≡ true → 1 ≤ depth) (more : List Token → Read Elements)
       (later : (ts : List Token) (x : Elements × List Token) → more ts ≡ Ok x → TookEach depth ts x)
       (ts : List Token) (o : Option (List ℕ)) (x : Elements × List Token) → first_text ts ≡ o → elements_step room reads more ts o ≡ Ok x → TookEach depth ts x
-  each_takes depth room reads law fits more later ts None x comes e = elim (chosen (begins colon ts || begins left ts) (reads ts >>= λ b. more (after_comma b.1) >>= λ xs. Ok (one_body b.0 (has_comma b.1) xs.0, xs.1)) (sign_at right ts >>= λ after. Ok (no_elements, after)) (Ok x) e) [
+  each_takes depth room reads law fits more later ts None x comes e = elim (chosen (begins colon ts || begins left ts) (reads ts >>= λ b. more (after_comma b.1) >>= λ xs. Ok (one_body b.0 (has_comma b.1) xs.0, xs.1)) (punctuation_at right ts >>= λ after. Ok (no_elements, after)) (Ok x) e) [
     | inl h ↦
         let a = bind_ok (reads ts) (λ b. more (after_comma b.1) >>= λ xs. Ok (one_body b.0 (has_comma b.1) xs.0, xs.1)) x h.1 in
         let b = bind_ok (more (after_comma a.0.1)) (λ xs. Ok (one_body a.0.0 (has_comma a.0.1) xs.0, xs.1)) x a.2 in
@@ -163,7 +164,7 @@ module _ (tests : Tests) where
           high = omega (arith, one.high, rest.high);
         })
     | inr h ↦
-        let a = bind_ok (sign_at right ts) (λ after. Ok (no_elements, after)) x h.1 in
+        let a = bind_ok (punctuation_at right ts) (λ after. Ok (no_elements, after)) x h.1 in
         let made : Elements × List Token = (no_elements, a.0) in
         subst (TookEach depth ts) (ok_is made x a.2) (record { spelled = sign_takes right ts a.0 a.1; form = tt; passed = tt; high = omega arith })
   ]

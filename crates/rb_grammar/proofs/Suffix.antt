@@ -3,9 +3,8 @@ use Rattle.std.proofs.Common.{◌≡◌, ℕ, zero, suc, ◌-◌, Bool, true, fa
 use Rattle.rb_lexer.specs.declared.fault.SourceKind.{SourceKind}
 use Rattle.rb_lexer.specs.declared.fault.SourceKind.TheVariants.{Unexpected, BadKey, DuplicateKey, BadInt, BadHex, TooDeep}
 use Rattle.rb_lexer.specs.declared.token.Token.{Token}
-use Rattle.rb_tree.specs.declared.limits.TheConstants.{HEIGHT_LIMIT}
-use Rattle.rb_grammar.specs.Form.{string, alias, binary, int, ints, Body, plain, group, listed, leaf, table, array, Entries, no_entries, entry, Elements, no_elements, one_text, one_body}
-use Rattle.rb_grammar.specs.Reading.{Stop, stop, Read, ◌>>=◌, Sign, left, right, colon, comma, begins, tail, sign_at, text_or, text_at, first_text, has_comma, after_comma, Tests, Word, string_type, alias_type, binary_type, int_type, ints_type, table_type, array_type, first_word, all_words, word_or, word_at, checked_at, maybe_or, maybe_at, numbers_step, numbers, anything, is_among, entry_at, entries_step, entries, elements_step, elements, Inner, table_at, array_at, closed, typed_at, Guess, as_text, as_table, as_array, none_at, guess_or, guess, untyped_at, body_at, body, ended, table_word_or, type_at, bundle}
+use Rattle.rb_grammar.specs.Form.{Head, untyped, no_fallback_table, string, alias, binary, int, ints, Body, plain, group, listed, leaf, table, array, Entries, no_entries, entry, Elements, no_elements, one_text, one_body}
+use Rattle.rb_grammar.specs.Reading.{Stop, stop, Read, ◌>>=◌, Punctuation, left, right, colon, comma, begins, tail, punctuation_at, text_or, text_at, first_text, has_comma, after_comma, Tests, Word, string_type, alias_type, binary_type, int_type, ints_type, table_type, array_type, first_word, all_words, word_or, word_at, is_no_fallback_text, head_word_at, checked_at, maybe_or, maybe_at, numbers_step, numbers, anything, is_among, entry_at, entries_step, entries, elements_step, elements, Inner, table_at, array_at, closed, typed_at, Guess, as_text, as_table, as_array, none_at, guess_or, guess, untyped_at, body_at, body, ended, table_word_or, type_at, bundle}
 
 abbrev pub Suffix : List Token → List Token → Type 0
 Suffix rest all = (front : List Token) × (all ≡ front ++ rest)
@@ -35,7 +34,7 @@ comma_ends ts all e = at_comma (has_comma ts) where
 abbrev itself : List Token → List Token
 itself ts = ts
 
-sign_ends : (s : Sign) (ts all : List Token) → Suffix ts all → Ends itself all (sign_at s ts)
+sign_ends : (s : Punctuation) (ts all : List Token) → Suffix ts all → Ends itself all (punctuation_at s ts)
 sign_ends s ts all e = cond_ends itself all (begins s ts) (Ok (tail ts)) (Err (stop Unexpected ts)) (tail_ends ts all e) e
 
 abbrev behind : {A : Type 0} → A × List Token → List Token
@@ -47,11 +46,12 @@ text_ends ts all e = at_text (first_text ts) where
   at_text None = e
   at_text (Some s) = tail_ends ts all e
 
+word_or_ends : (ts : List Token) (s : List ℕ) (o : Option Word) (all : List Token) → Suffix ts all → Ends (behind {A = Word}) all (word_or ts s o)
+word_or_ends ts s None all e = e
+word_or_ends ts s (Some w) all e = tail_ends ts all e
+
 word_ends : (ts all : List Token) → Suffix ts all → Ends (behind {A = Word}) all (word_at ts)
-word_ends ts all e = bind_ends (behind {A = List ℕ}) (behind {A = Word}) all (text_at ts) (λ s. word_or ts (first_word s.0 all_words)) (text_ends ts all e) (λ s p. at_word (first_word s.0 all_words)) where
-  at_word : (o : Option Word) → Ends (behind {A = Word}) all (word_or ts o)
-  at_word None = e
-  at_word (Some w) = tail_ends ts all e
+word_ends ts all e = bind_ends (behind {A = List ℕ}) (behind {A = Word}) all (text_at ts) (λ s. word_or ts s.0 (first_word s.0 all_words)) (text_ends ts all e) (λ s p. word_or_ends ts s.0 (first_word s.0 all_words) all e)
 
 -- ---- leaves
 
@@ -81,7 +81,7 @@ numbers_end passes all zero ts e = e
 numbers_end passes all (suc n) ts e = numbers_step_ends passes all (numbers passes n) (λ ts e. numbers_end passes all n ts e) ts (first_text ts) e
 
 closed_ends : {A : Type 0} (make : A → Body) (read : Read A) (all : List Token) → Ends (behind {A = A}) all read → Ends (behind {A = Body}) all (closed make read)
-closed_ends {A} make read all e = bind_ends (behind {A = A}) (behind {A = Body}) all read (λ x. sign_at right x.1 >>= λ after. Ok (make x.0, after)) e (λ x p. bind_ends itself (behind {A = Body}) all (sign_at right x.1) (λ after. Ok (make x.0, after)) (sign_ends right x.1 all p) (λ after q. q))
+closed_ends {A} make read all e = bind_ends (behind {A = A}) (behind {A = Body}) all read (λ x. punctuation_at right x.1 >>= λ after. Ok (make x.0, after)) e (λ x p. bind_ends itself (behind {A = Body}) all (punctuation_at right x.1) (λ after. Ok (make x.0, after)) (sign_ends right x.1 all p) (λ after q. q))
 
 -- ---- entries and elements
 
@@ -96,7 +96,7 @@ module _ (tests : Tests) (all : List Token) (reads : List Token → Read Body) (
 
   entries_step_ends : (more : List (List ℕ) → List Token → Read Entries) → ((earlier : List (List ℕ)) (ts : List Token) → Suffix ts all → Ends (behind {A = Entries}) all (more earlier ts)) → (earlier : List (List ℕ)) (ts : List Token) (o : Option (List ℕ)) → Suffix ts all
       → Ends (behind {A = Entries}) all (entries_step tests reads more earlier ts o)
-  entries_step_ends more later earlier ts None e = bind_ends itself (behind {A = Entries}) all (sign_at right ts) (λ after. Ok (no_entries, after)) (sign_ends right ts all e) (λ x s. s)
+  entries_step_ends more later earlier ts None e = bind_ends itself (behind {A = Entries}) all (punctuation_at right ts) (λ after. Ok (no_entries, after)) (sign_ends right ts all e) (λ x s. s)
   entries_step_ends more later earlier ts (Some k) e =
       bind_ends (behind {A = Body}) (behind {A = Entries}) all (entry_at tests reads earlier k ts) (λ b. more (k ∷ earlier) (after_comma b.1) >>= λ es. Ok (entry k b.0 (has_comma b.1) es.0, es.1)) (entry_ends earlier k ts e)
       (λ b s. bind_ends (behind {A = Entries}) (behind {A = Entries}) all (more (k ∷ earlier) (after_comma b.1)) (λ es. Ok (entry k b.0 (has_comma b.1) es.0, es.1)) (later (k ∷ earlier) (after_comma b.1) (comma_ends b.1 all s)) (λ es q. q))
@@ -108,10 +108,10 @@ module _ (tests : Tests) (all : List Token) (reads : List Token → Read Body) (
 
   elements_step_ends : (room : Bool) (more : List Token → Read Elements) → ((ts : List Token) → Suffix ts all → Ends (behind {A = Elements}) all (more ts)) → (ts : List Token) (o : Option (List ℕ)) → Suffix ts all → Ends (behind {A = Elements}) all (elements_step room reads more ts o)
   elements_step_ends room more later ts None e =
-      cond_ends (behind {A = Elements}) all (begins colon ts || begins left ts) (reads ts >>= λ b. more (after_comma b.1) >>= λ xs. Ok (one_body b.0 (has_comma b.1) xs.0, xs.1)) (sign_at right ts >>= λ after. Ok (no_elements, after))
+      cond_ends (behind {A = Elements}) all (begins colon ts || begins left ts) (reads ts >>= λ b. more (after_comma b.1) >>= λ xs. Ok (one_body b.0 (has_comma b.1) xs.0, xs.1)) (punctuation_at right ts >>= λ after. Ok (no_elements, after))
       (bind_ends (behind {A = Body}) (behind {A = Elements}) all (reads ts) (λ b. more (after_comma b.1) >>= λ xs. Ok (one_body b.0 (has_comma b.1) xs.0, xs.1)) (h ts e)
       (λ b s. bind_ends (behind {A = Elements}) (behind {A = Elements}) all (more (after_comma b.1)) (λ xs. Ok (one_body b.0 (has_comma b.1) xs.0, xs.1)) (later (after_comma b.1) (comma_ends b.1 all s)) (λ xs q. q)))
-      (bind_ends itself (behind {A = Elements}) all (sign_at right ts) (λ after. Ok (no_elements, after)) (sign_ends right ts all e) (λ x s. s))
+      (bind_ends itself (behind {A = Elements}) all (punctuation_at right ts) (λ after. Ok (no_elements, after)) (sign_ends right ts all e) (λ x s. s))
   elements_step_ends room more later ts (Some r) e =
       cond_ends (behind {A = Elements}) all room (more (after_comma (tail ts)) >>= λ xs. Ok (one_text r (has_comma (tail ts)) xs.0, xs.1)) (Err (stop TooDeep ts))
       (bind_ends (behind {A = Elements}) (behind {A = Elements}) all (more (after_comma (tail ts))) (λ xs. Ok (one_text r (has_comma (tail ts)) xs.0, xs.1)) (later (after_comma (tail ts)) (comma_ends (tail ts) all (tail_ends ts all e))) (λ xs q. q)) e
@@ -166,10 +166,10 @@ module _ (tests : Tests) (all : List Token) (inner : Inner) (h : AllEnd all inne
 
   body_at_ends : AllEnd all (body_at tests inner)
   body_at_ends ts e =
-      cond_ends (behind {A = Body}) all (begins colon ts) (word_at (tail ts) >>= λ w. sign_at left w.1 >>= λ after. typed_at tests inner w.0 after) (sign_at left ts >>= λ after. untyped_at tests inner (guess after) after)
-      (bind_ends (behind {A = Word}) (behind {A = Body}) all (word_at (tail ts)) (λ w. sign_at left w.1 >>= λ after. typed_at tests inner w.0 after) (word_ends (tail ts) all (tail_ends ts all e))
-      (λ w p. bind_ends itself (behind {A = Body}) all (sign_at left w.1) (λ after. typed_at tests inner w.0 after) (sign_ends left w.1 all p) (λ after q. typed_ends w.0 after q)))
-      (bind_ends itself (behind {A = Body}) all (sign_at left ts) (λ after. untyped_at tests inner (guess after) after) (sign_ends left ts all e) (λ after q. untyped_ends (guess after) after refl q))
+      cond_ends (behind {A = Body}) all (begins colon ts) (word_at (tail ts) >>= λ w. punctuation_at left w.1 >>= λ after. typed_at tests inner w.0 after) (punctuation_at left ts >>= λ after. untyped_at tests inner (guess after) after)
+      (bind_ends (behind {A = Word}) (behind {A = Body}) all (word_at (tail ts)) (λ w. punctuation_at left w.1 >>= λ after. typed_at tests inner w.0 after) (word_ends (tail ts) all (tail_ends ts all e))
+      (λ w p. bind_ends itself (behind {A = Body}) all (punctuation_at left w.1) (λ after. typed_at tests inner w.0 after) (sign_ends left w.1 all p) (λ after q. typed_ends w.0 after q)))
+      (bind_ends itself (behind {A = Body}) all (punctuation_at left ts) (λ after. untyped_at tests inner (guess after) after) (sign_ends left ts all e) (λ after q. untyped_ends (guess after) after refl q))
 
 body_ends : (tests : Tests) (depth : ℕ) (all : List Token) → AllEnd all (body tests depth)
 unfolding body
@@ -179,32 +179,35 @@ body_ends tests (suc depth) all ts e = body_at_ends tests all (record { room = n
 -- ---- the bundle
 
 abbrev Whole : Type 0
-Whole = List ℕ × Bool × Entries
+Whole = List ℕ × Head × Entries
 
 none_left : Whole → List Token
 none_left x = []
 
-type_ends : (ts all : List Token) → Suffix ts all → Ends (behind {A = Bool}) all (type_at ts)
-type_ends ts all e =
-    cond_ends (behind {A = Bool}) all (begins colon ts) (word_at (tail ts) >>= λ w. table_word_or (tail ts) w.0 w.1) (Ok (false, ts))
-    (bind_ends (behind {A = Word}) (behind {A = Bool}) all (word_at (tail ts)) (λ w. table_word_or (tail ts) w.0 w.1) (word_ends (tail ts) all (tail_ends ts all e)) (λ w p. at_word w.0 w.1 p)) e where
-      at_word : (w : Word) (rest : List Token) → Suffix rest all → Ends (behind {A = Bool}) all (table_word_or (tail ts) w rest)
+head_ends : (ts all : List Token) → Suffix ts all → Ends (behind {A = Head}) all (head_word_at ts)
+head_ends ts all e =
+    cond_ends (behind {A = Head}) all (is_no_fallback_text (first_text ts)) (Ok (no_fallback_table, tail ts)) (word_at ts >>= λ w. table_word_or ts w.0 w.1) (tail_ends ts all e)
+    (bind_ends (behind {A = Word}) (behind {A = Head}) all (word_at ts) (λ w. table_word_or ts w.0 w.1) (word_ends ts all e) (λ w p. at_word w.0 w.1 p)) where
+      at_word : (w : Word) (rest : List Token) → Suffix rest all → Ends (behind {A = Head}) all (table_word_or ts w rest)
       at_word table_type rest p = p
-      at_word w rest p = tail_ends ts all e
+      at_word w rest p = e
 
-ended_ends : (name : List ℕ) (typed : Bool) (es : Entries) (ts all : List Token) → Suffix ts all → Ends (λ x. none_left x) all (ended name typed es ts)
+type_ends : (ts all : List Token) → Suffix ts all → Ends (behind {A = Head}) all (type_at ts)
+type_ends ts all e = cond_ends (behind {A = Head}) all (begins colon ts) (head_word_at (tail ts)) (Ok (untyped, ts)) (head_ends (tail ts) all (tail_ends ts all e)) e
+
+ended_ends : (name : List ℕ) (head : Head) (es : Entries) (ts all : List Token) → Suffix ts all → Ends (λ x. none_left x) all (ended name head es ts)
 unfolding none_left
-ended_ends name typed es [] all e = e
-ended_ends name typed es (t ∷ ts) all e = e
+ended_ends name head es [] all e = e
+ended_ends name head es (t ∷ ts) all e = e
 
 pub bundle_ends : (tests : Tests) (ts : List Token) (s : Stop) → bundle tests ts ≡ Err s → Suffix s.rest ts
 unfolding bundle
 bundle_ends tests ts s e = at_stop (bundle tests ts) e
-    (bind_ends (behind {A = List ℕ}) (λ x. none_left x) ts (text_at ts) (λ name. type_at name.1 >>= λ typed. sign_at left typed.1 >>= λ after. entries tests (body tests (HEIGHT_LIMIT - 1)) (suc (length after)) [] after >>= λ es. ended name.0 typed.0 es.0 es.1) (text_ends ts ts ([], refl)) (λ name p.
-    bind_ends (behind {A = Bool}) (λ x. none_left x) ts (type_at name.1) (λ typed. sign_at left typed.1 >>= λ after. entries tests (body tests (HEIGHT_LIMIT - 1)) (suc (length after)) [] after >>= λ es. ended name.0 typed.0 es.0 es.1) (type_ends name.1 ts p) (λ typed t.
-    bind_ends itself (λ x. none_left x) ts (sign_at left typed.1) (λ after. entries tests (body tests (HEIGHT_LIMIT - 1)) (suc (length after)) [] after >>= λ es. ended name.0 typed.0 es.0 es.1) (sign_ends left typed.1 ts t) (λ after q.
-    bind_ends (behind {A = Entries}) (λ x. none_left x) ts (entries tests (body tests (HEIGHT_LIMIT - 1)) (suc (length after)) [] after) (λ es. ended name.0 typed.0 es.0 es.1) (entries_end tests ts (body tests (HEIGHT_LIMIT - 1)) (body_ends tests (HEIGHT_LIMIT - 1) ts) (suc (length after)) [] after q) (λ es r.
-    ended_ends name.0 typed.0 es.0 es.1 ts r))))) where
+    (bind_ends (behind {A = List ℕ}) (λ x. none_left x) ts (text_at ts) (λ name. type_at name.1 >>= λ head. punctuation_at left head.1 >>= λ after. entries tests (body tests 63) (suc (length after)) [] after >>= λ es. ended name.0 head.0 es.0 es.1) (text_ends ts ts ([], refl)) (λ name p.
+    bind_ends (behind {A = Head}) (λ x. none_left x) ts (type_at name.1) (λ head. punctuation_at left head.1 >>= λ after. entries tests (body tests 63) (suc (length after)) [] after >>= λ es. ended name.0 head.0 es.0 es.1) (type_ends name.1 ts p) (λ head t.
+    bind_ends itself (λ x. none_left x) ts (punctuation_at left head.1) (λ after. entries tests (body tests 63) (suc (length after)) [] after >>= λ es. ended name.0 head.0 es.0 es.1) (sign_ends left head.1 ts t) (λ after q.
+    bind_ends (behind {A = Entries}) (λ x. none_left x) ts (entries tests (body tests 63) (suc (length after)) [] after) (λ es. ended name.0 head.0 es.0 es.1) (entries_end tests ts (body tests 63) (body_ends tests 63 ts) (suc (length after)) [] after q) (λ es r.
+    ended_ends name.0 head.0 es.0 es.1 ts r))))) where
       at_stop : (r : Result Whole Stop) → r ≡ Err s → Ends (λ x. none_left x) ts r → Suffix s.rest ts
       at_stop (Ok x) is h = absurd cc
       at_stop (Err d) is h = let same : d ≡ s = cc in (h.0, h.1 ∙ ap (λ (x : Stop). h.0 ++ x.rest) same)

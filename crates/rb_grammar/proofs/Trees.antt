@@ -4,13 +4,14 @@ use Rattle.rb_tree.specs.Resource.{Resource, height, Resources, no_trees, tree_a
 use Rattle.rb_tree.specs.Resource as resource
 use Rattle.rb_tree.specs.Keys.{IsKey, IsTable}
 use Rattle.rb_grammar.specs.Numeral.{IsIntText, IsElementText, IsHexText}
-use Rattle.rb_grammar.specs.Form.{Leaf, string, alias, binary, int, ints, Body, plain, group, listed, leaf, table, array, Entries, no_entries, entry, Elements, no_elements, one_text, one_body, body_height, entries_height, elements_height, IsKeyOf}
+use Rattle.rb_grammar.specs.Form.{Leaf, string, alias, binary, int, ints, Body, plain, group, listed, leaf, table, array, Entries, no_entries, entry, Elements, no_elements, one_text, one_body, IsKeyOf}
 use Rattle.rb_grammar.specs.Good.{HasKeys, HaveKeys, EachHasKeys, text_or_none, AreElementTexts, LeafSpells, item_at, HasJust, Spells, EachStands, EachSpells}
 use Rattle.rb_grammar.specs.Reading.{Tests}
 use Rattle.rb_grammar.specs.Tests.{AreTests}
 use Rattle.rb_grammar.proofs.Numbers.{int_one, element_one, bytes_one}
 use Rattle.rb_grammar.proofs.Rows.{same_or_not, some_is, absent, ascend_of, rows_same, put, item-put, item-put_other, table_none, table_put, item_low, rows_low}
 use Rattle.rb_grammar.proofs.Sound.{TextPassed, NumbersPassed, LeafPassed, Passed, AllPassed, EachPassed}
+use Rattle.rb_grammar.proofs.Height.{body_height, entries_height, elements_height}
 
 -- ---- one tree
 

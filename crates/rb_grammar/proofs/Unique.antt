@@ -2,7 +2,7 @@
 use Rattle.std.proofs.Common.{◌≡◌, ℕ, Bool, true, false, List, [], ◌∷◌, Option, Some, None, refl, sym, ap, subst, ◌∙◌}
 use Rattle.rb_lexer.specs.declared.token.Mark.{Mark}
 use Rattle.rb_lexer.specs.declared.token.Mark.TheVariants.{Text, LeftBrace, RightBrace, Colon, Comma}
-use Rattle.rb_grammar.specs.Form.{Leaf, string, alias, binary, int, ints, Body, plain, group, listed, leaf, table, array, Entries, no_entries, entry, Elements, no_elements, one_text, one_body, table_word, array_word, comma_marks, text_marks, numbers_marks, leaf_word, leaf_inner, body_marks, entries_marks, elements_marks, bundle_marks, AreSome, BeginArray, IsForm, AreForms, EachIsForm}
+use Rattle.rb_grammar.specs.Form.{Head, untyped, plain_table, no_fallback_table, Leaf, string, alias, binary, int, ints, Body, plain, group, listed, leaf, table, array, Entries, no_entries, entry, Elements, no_elements, one_text, one_body, table_word, array_word, comma_marks, text_marks, numbers_marks, leaf_word, leaf_inner, body_marks, entries_marks, elements_marks, bundle_marks, AreSome, BeginArray, IsForm, AreForms, EachIsForm}
 use Rattle.rb_grammar.specs.Reading.{Word, string_type, alias_type, binary_type, int_type, ints_type, table_type, array_type, word_units, first_word, all_words}
 
 -- ---- first marks
@@ -284,8 +284,13 @@ mutual
       (ap (λ q. one_body q c es) h.0 ∙ ap (λ q. one_body a q es) g.0 ∙ ap (λ q. one_body a d q) o.0, o.1)
 
 -- One list of marks is at most one bundle.
-pub bundle_one : (m n : List ℕ) (c d : Bool) (es fs : Entries) → AreForms es → AreForms fs → bundle_marks m c es ≡ bundle_marks n d fs → (m ≡ n) × (c ≡ d) × (es ≡ fs)
-bundle_one m n true true es fs p q e = let name : m ≡ n = cc in let h = entries_one es fs [] [] p q cc in (name, refl, h.0)
-bundle_one m n false false es fs p q e = let name : m ≡ n = cc in let h = entries_one es fs [] [] p q cc in (name, refl, h.0)
-bundle_one m n true false es fs p q e = absurd cc
-bundle_one m n false true es fs p q e = absurd cc
+pub bundle_one : (m n : List ℕ) (c d : Head) (es fs : Entries) → AreForms es → AreForms fs → bundle_marks m c es ≡ bundle_marks n d fs → (m ≡ n) × (c ≡ d) × (es ≡ fs)
+bundle_one m n untyped untyped es fs p q e = let name : m ≡ n = cc in let h = entries_one es fs [] [] p q cc in (name, refl, h.0)
+bundle_one m n plain_table plain_table es fs p q e = let name : m ≡ n = cc in let h = entries_one es fs [] [] p q cc in (name, refl, h.0)
+bundle_one m n no_fallback_table no_fallback_table es fs p q e = let name : m ≡ n = cc in let h = entries_one es fs [] [] p q cc in (name, refl, h.0)
+bundle_one m n untyped plain_table es fs p q e = absurd cc
+bundle_one m n untyped no_fallback_table es fs p q e = absurd cc
+bundle_one m n plain_table untyped es fs p q e = absurd cc
+bundle_one m n plain_table no_fallback_table es fs p q e = absurd cc
+bundle_one m n no_fallback_table untyped es fs p q e = absurd cc
+bundle_one m n no_fallback_table plain_table es fs p q e = absurd cc

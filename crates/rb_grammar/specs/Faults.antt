@@ -8,10 +8,10 @@ use Rattle.rb_lexer.specs.declared.token.Token.{Token}
 use Rattle.rb_lexer.specs.declared.fault.SourceKind.{SourceKind}
 use Rattle.rb_lexer.specs.declared.fault.SourceKind.TheVariants.{Unexpected, UnknownType, BadKey, DuplicateKey, BadInt, BadHex, TooDeep, TrailingText, TooLarge}
 use Rattle.rb_tree.specs.Keys.{IsKey}
-use Rattle.rb_tree.specs.Resource.{Resource, height, weight}
-use Rattle.rb_tree.specs.declared.limits.TheConstants.{HEIGHT_LIMIT, WEIGHT_LIMIT}
+use Rattle.rb_tree.specs.Resource.{height, weight}
+use Rattle.rb_tree.specs.SourceTree.{SourceTree}
 use Rattle.rb_grammar.specs.Numeral.{IsIntText, IsElementText, IsHexText}
-use Rattle.rb_grammar.specs.Form.{marks, Leaf, string, alias, binary, int, ints, Body, plain, group, listed, leaf, table, array, Entries, no_entries, entry, Elements, no_elements, one_text, one_body, string_word, alias_word, binary_word, int_word, ints_word, table_word, array_word, comma_marks, numbers_marks, body_marks, entries_marks, elements_marks, bundle_marks, AreForms}
+use Rattle.rb_grammar.specs.Form.{marks, Leaf, string, alias, binary, int, ints, Body, plain, group, listed, leaf, table, array, Entries, no_entries, entry, Elements, no_elements, one_text, one_body, string_word, alias_word, binary_word, int_word, ints_word, table_word, no_fallback_table_word, array_word, Head, comma_marks, numbers_marks, body_marks, entries_marks, elements_marks, bundle_marks, AreForms}
 use Rattle.rb_grammar.specs.Good.{IsSpelled}
 
 -- What a mark is in a form: a key, with the earlier keys of its table; the first mark of a value, at a level; the text of an Int, of an element of a vector, of bytes.
@@ -71,7 +71,7 @@ IsBad DuplicateKey (key earlier k) = IsAmong earlier k
 IsBad BadInt (int_text s) = (n : ℕ) → IsIntText s n → ⊥
 IsBad BadInt (element_text s) = (z : ℤ) → IsElementText s z → ⊥
 IsBad BadHex (hex_text s) = (bytes : List ℕ) → IsHexText s bytes → ⊥
-IsBad TooDeep (value level) = level ≡ suc HEIGHT_LIMIT
+IsBad TooDeep (value level) = level ≡ 65
 IsBad other role = ⊥
 
 -- ---- what some first marks may still become
@@ -79,14 +79,14 @@ IsBad other role = ⊥
 -- a bundle that begins with these marks
 pub record Begun (ms : List Mark) : Type 0 where
   pub name : List ℕ
-  pub typed : Bool
+  pub head : Head
   pub form : Entries
   pub more : List Mark
   pub good : AreForms form
-  pub whole : ms ++ more ≡ bundle_marks name typed form
+  pub whole : ms ++ more ≡ bundle_marks name head form
 
 abbrev pub IsBundle : List Mark → Type 0
-IsBundle ms = (name : List ℕ) × (typed : Bool) × (es : Entries) × AreForms es × (ms ≡ bundle_marks name typed es)
+IsBundle ms = (name : List ℕ) × (head : Head) × (es : Entries) × AreForms es × (ms ≡ bundle_marks name head es)
 
 -- some bundle begins with the marks of front, and none with those and the next: front is the longest such list
 pub record IsFront (front rest : List Mark) : Type 0 where
@@ -101,6 +101,7 @@ pub data IsWord : List ℕ → Type 0 where
   is_int : (long : Bool) → IsWord (int_word long)
   is_ints : IsWord ints_word
   is_table : IsWord table_word
+  is_no_fallback_table : IsWord no_fallback_table_word
   is_array : IsWord array_word
 
 -- behind a colon a text comes that is no type word
@@ -135,13 +136,13 @@ HasFault BadHex front rest = Breaks BadHex front rest
 HasFault TooDeep front rest = Breaks TooDeep front rest
 HasFault other front rest = ⊥
 
--- the marks spell a tree that is not too high, but too heavy
+-- the marks spell a bundle whose tree is not too high, but too heavy
 pub record IsTooLarge (ms : List Mark) : Type 0 where
   pub name : List ℕ
-  pub tree : Resource
-  pub whole : IsSpelled ms name tree
-  pub low : height tree ≤ HEIGHT_LIMIT
-  pub heavy : WEIGHT_LIMIT < weight tree
+  pub source : SourceTree
+  pub whole : IsSpelled ms name source
+  pub low : height source.tree ≤ 64
+  pub heavy : 33554432 < weight source.tree
 
 -- the line of the first token, or that of the end of the text
 abbrev pub line_at : ℕ → List Token → ℕ

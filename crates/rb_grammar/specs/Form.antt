@@ -1,6 +1,6 @@
--- The written form of a bundle text, after the bundle syntax of ICU's genrb, and the marks (texts and signs) that spell it.
+-- The written form of a bundle text, after the bundle syntax of ICU's genrb, and the marks (texts and punctuation) that spell it.
 -- A list of marks is in the grammar where some form is spelled so. Each spelling stands in front of what follows it.
-use Rattle.std.specs.Prelude.{◌≡◌, ℕ, suc, max, Bool, true, false, List, [], ◌∷◌, map, Option, Some, None, ◌⊎◌}
+use Rattle.std.specs.Prelude.{◌≡◌, ℕ, Bool, true, false, List, [], ◌∷◌, map, Option, Some, None, ◌⊎◌}
 use Rattle.rb_lexer.specs.declared.token.Mark.{Mark}
 use Rattle.rb_lexer.specs.declared.token.Mark.TheVariants.{Text, LeftBrace, RightBrace, Colon, Comma}
 use Rattle.rb_lexer.specs.declared.token.Token.{Token}
@@ -63,6 +63,10 @@ ints_word = 0x69 ∷ 0x6E ∷ 0x74 ∷ 0x76 ∷ 0x65 ∷ 0x63 ∷ 0x74 ∷ 0x6F 
 abbrev pub table_word : List ℕ
 table_word = 0x74 ∷ 0x61 ∷ 0x62 ∷ 0x6C ∷ 0x65 ∷ []
 
+-- `table(nofallback)`, which only a bundle's own table may have
+abbrev pub no_fallback_table_word : List ℕ
+no_fallback_table_word = 0x74 ∷ 0x61 ∷ 0x62 ∷ 0x6C ∷ 0x65 ∷ 0x28 ∷ 0x6E ∷ 0x6F ∷ 0x66 ∷ 0x61 ∷ 0x6C ∷ 0x6C ∷ 0x62 ∷ 0x61 ∷ 0x63 ∷ 0x6B ∷ 0x29 ∷ []
+
 abbrev pub array_word : List ℕ
 array_word = 0x61 ∷ 0x72 ∷ 0x72 ∷ 0x61 ∷ 0x79 ∷ []
 
@@ -112,13 +116,26 @@ abbrev mutual
   elements_marks (one_text s c xs) rest = Text s ∷ comma_marks c (elements_marks xs rest)
   elements_marks (one_body b c xs) rest = body_marks b (comma_marks c (elements_marks xs rest))
 
--- what stands between the name of a bundle and its brace: nothing, or `:table`
-abbrev pub type_marks : Bool → List Mark → List Mark
-type_marks true rest = Colon ∷ Text table_word ∷ rest
-type_marks false rest = rest
+-- ---- a bundle
 
-abbrev pub bundle_marks : List ℕ → Bool → Entries → List Mark
-bundle_marks name typed es = Text name ∷ type_marks typed (LeftBrace ∷ entries_marks es (RightBrace ∷ []))
+-- what is written between the name of a bundle and its brace: nothing, `:table`, or `:table(nofallback)`
+pub data Head : Type 0 where
+  untyped : Head
+  plain_table : Head
+  no_fallback_table : Head
+
+abbrev pub head_marks : Head → List Mark → List Mark
+head_marks untyped rest = rest
+head_marks plain_table rest = Colon ∷ Text table_word ∷ rest
+head_marks no_fallback_table rest = Colon ∷ Text no_fallback_table_word ∷ rest
+
+abbrev pub has_no_fallback : Head → Bool
+has_no_fallback untyped = false
+has_no_fallback plain_table = false
+has_no_fallback no_fallback_table = true
+
+abbrev pub bundle_marks : List ℕ → Head → Entries → List Mark
+bundle_marks name head es = Text name ∷ head_marks head (LeftBrace ∷ entries_marks es (RightBrace ∷ []))
 
 -- ---- the guess where no type is written
 
@@ -150,26 +167,6 @@ abbrev mutual
   EachIsForm no_elements = Unit {0}
   EachIsForm (one_text s c xs) = EachIsForm xs
   EachIsForm (one_body b c xs) = IsForm b × EachIsForm xs
-
--- ---- height
-
-abbrev mutual
-  pub body_height : Body → ℕ
-  body_height (plain s) = 1
-  body_height (group es) = suc (entries_height es)
-  body_height (listed xs) = suc (elements_height xs)
-  body_height (leaf l) = 1
-  body_height (table es) = suc (entries_height es)
-  body_height (array xs) = suc (elements_height xs)
-
-  pub entries_height : Entries → ℕ
-  entries_height no_entries = 0
-  entries_height (entry k b c es) = max (body_height b) (entries_height es)
-
-  pub elements_height : Elements → ℕ
-  elements_height no_elements = 0
-  elements_height (one_text s c xs) = max 1 (elements_height xs)
-  elements_height (one_body b c xs) = max (body_height b) (elements_height xs)
 
 -- the key of one of the entries
 abbrev pub IsKeyOf : Entries → List ℕ → Type 0

@@ -1,14 +1,14 @@
 -- What the written form of a bundle means, after ICU's genrb: which conditions its keys keep, and which tree it spells.
-use Rattle.std.specs.Prelude.{◌≡◌, ℕ, ℤ, Bool, List, [], ◌∷◌, Option, Some, None, nat_eq}
+use Rattle.std.specs.Prelude.{◌≡◌, ◌≤◌, ℕ, ℤ, Bool, List, [], ◌∷◌, Option, Some, None, nat_eq}
 use Rattle.std.specs.Map.{lookup}
 use Rattle.std.specs.Cmp.Lexicographic.{pointwise}
 use Rattle.rb_lexer.specs.declared.token.Mark.{Mark}
-use Rattle.rb_tree.specs.Resource.{Resource, Resources, no_trees, tree_and, Members}
+use Rattle.rb_tree.specs.Resource.{Resource, Resources, no_trees, tree_and, Members, height, weight}
 use Rattle.rb_tree.specs.Resource as resource
 use Rattle.rb_tree.specs.Keys.{IsKey, IsTable, pairs}
-use Rattle.rb_tree.specs.Parts.{Fits}
+use Rattle.rb_tree.specs.SourceTree.{SourceTree}
 use Rattle.rb_grammar.specs.Numeral.{IsIntText, IsElementText, IsHexText}
-use Rattle.rb_grammar.specs.Form.{Leaf, string, alias, binary, int, ints, Body, plain, group, listed, leaf, table, array, Entries, no_entries, entry, Elements, no_elements, one_text, one_body, bundle_marks, AreForms, IsKeyOf}
+use Rattle.rb_grammar.specs.Form.{Leaf, string, alias, binary, int, ints, Body, plain, group, listed, leaf, table, array, Entries, no_entries, entry, Elements, no_elements, one_text, one_body, Head, bundle_marks, has_no_fallback, AreForms, IsKeyOf}
 
 -- Each key is one, and none comes twice in one table.
 abbrev mutual
@@ -75,16 +75,22 @@ abbrev mutual
   EachSpells (one_text t c xs) ts = (us : Resources) × (ts ≡ tree_and (resource.string t) us) × EachSpells xs us
   EachSpells (one_body b c xs) ts = (d : Resource) × (us : Resources) × (ts ≡ tree_and d us) × Spells b d × EachSpells xs us
 
--- The marks spell a bundle of this name and tree.
-pub record IsSpelled (marks : List Mark) (name : List ℕ) (d : Resource) : Type 0 where
-  pub typed : Bool
+-- The marks spell a bundle of this name, tree and flag.
+pub record IsSpelled (marks : List Mark) (name : List ℕ) (source : SourceTree) : Type 0 where
+  pub head : Head
   pub form : Entries
-  pub spelled : marks ≡ bundle_marks name typed form
+  pub spelled : marks ≡ bundle_marks name head form
   pub good : AreForms form
   pub keys : HaveKeys form
-  pub means : Spells (table form) d
+  pub means : Spells (table form) source.tree
+  pub flag : source.no_fallback ≡ has_no_fallback head
 
--- They spell it, and it is a table within the limits of height and weight.
-pub record IsGood (marks : List Mark) (name : List ℕ) (d : Resource) : Type 0 where
-  pub whole : IsSpelled marks name d
-  pub fits : Fits d
+-- They spell it, and its table has at most so many levels, and the weight that a bundle may have.
+pub record IsGoodWithin (levels : ℕ) (marks : List Mark) (name : List ℕ) (source : SourceTree) : Type 0 where
+  pub whole : IsSpelled marks name source
+  pub low : height source.tree ≤ levels
+  pub light : weight source.tree ≤ 33554432
+
+-- a good bundle: within 64 levels
+abbrev pub IsGood : List Mark → List ℕ → SourceTree → Type 0
+IsGood marks name source = IsGoodWithin 64 marks name source

@@ -1,8 +1,7 @@
 -- Numbers and bytes that a text spells, after genrb's `int`, `intvector` and `bin`.
-use Rattle.std.specs.Prelude.{◌≡◌, ◌<◌, ◌≤◌, ◌+◌, ◌-◌, ◌*◌, ◌%◌, ℕ, ℤ, pos, neg_ℤ, Bool, true, false, List, [], ◌∷◌, length, filter, not, ◌||◌, ◌==◌, if◌then◌else◌, nat_lt}
+use Rattle.std.specs.Prelude.{◌≡◌, ◌<◌, ◌≤◌, ◌+◌, ◌-◌, ◌*◌, ◌%◌, ◌^◌, ℕ, ℤ, pos, neg_ℤ, Bool, true, false, List, [], ◌∷◌, length, filter, not, ◌||◌, ◌==◌, if◌then◌else◌, nat_lt}
 use Rattle.std.specs.Char.{digit_value}
 use Rattle.std.specs.Str.Parse.{digits_value, AllDigits}
-use Rattle.rb_grammar.specs.declared.limits.TheConstants.{INT_MODULUS, INT_DEPTH, ELEMENT_MODULUS, ELEMENT_DEPTH}
 
 pub data Sign : Type 0 where
   bare : Sign
@@ -25,7 +24,7 @@ numeral_units (hexadecimal upper ds) = 0x30 ∷ (if upper then 0x58 else 0x78) �
 numeral_units (octal ds) = 0x30 ∷ ds
 numeral_units (decimal ds) = ds
 
--- no digits, or others than 0 first
+-- at least one digit, of which the first is not 0
 abbrev pub BeginsAbove0 : List ℕ → Type 0
 BeginsAbove0 [] = ⊥
 BeginsAbove0 (d ∷ ds) = 0 < digit_value d
@@ -57,23 +56,23 @@ pub record Writes (units : List ℕ) (negative : Bool) (size : ℕ) : Type 0 whe
 
 -- ---- an Int, kept modulo 2^28
 abbrev pub IsIntSize : Bool → ℕ → Type 0
-IsIntSize false size = size < INT_MODULUS
-IsIntSize true size = size ≤ INT_DEPTH
+IsIntSize false size = size < 2 ^ 28
+IsIntSize true size = size ≤ 2 ^ 27
 
 abbrev pub int_kept : Bool → ℕ → ℕ
 int_kept false size = size
-int_kept true size = (INT_MODULUS - size) % INT_MODULUS
+int_kept true size = (2 ^ 28 - size) % 2 ^ 28
 
 abbrev pub IsIntText : List ℕ → ℕ → Type 0
 IsIntText units n = (negative : Bool) × (size : ℕ) × Writes units negative size × IsIntSize negative size × (n ≡ int_kept negative size)
 
 -- ---- an element of a vector, kept modulo 2^32 as a signed number
 abbrev pub IsElementSize : Bool → ℕ → Type 0
-IsElementSize false size = size < ELEMENT_MODULUS
-IsElementSize true size = size ≤ ELEMENT_DEPTH
+IsElementSize false size = size < 2 ^ 32
+IsElementSize true size = size ≤ 2 ^ 31
 
 abbrev pub element_kept : Bool → ℕ → ℤ
-element_kept false size = if nat_lt size ELEMENT_DEPTH then pos size else neg_ℤ (pos (ELEMENT_MODULUS - size))
+element_kept false size = if nat_lt size (2 ^ 31) then pos size else neg_ℤ (pos (2 ^ 32 - size))
 element_kept true size = neg_ℤ (pos size)
 
 abbrev pub IsElementText : List ℕ → ℤ → Type 0

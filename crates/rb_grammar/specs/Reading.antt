@@ -7,8 +7,7 @@ use Rattle.rb_lexer.specs.declared.token.Mark.TheVariants.{Text, LeftBrace, Righ
 use Rattle.rb_lexer.specs.declared.token.Token.{Token}
 use Rattle.rb_lexer.specs.declared.fault.SourceKind.{SourceKind}
 use Rattle.rb_lexer.specs.declared.fault.SourceKind.TheVariants.{Unexpected, UnknownType, BadKey, DuplicateKey, BadInt, BadHex, TooDeep, TrailingText}
-use Rattle.rb_tree.specs.declared.limits.TheConstants.{HEIGHT_LIMIT}
-use Rattle.rb_grammar.specs.Form.{string, alias, binary, int, ints, Body, plain, group, listed, leaf, table, array, Entries, no_entries, entry, Elements, no_elements, one_text, one_body, string_word, alias_word, binary_word, int_word, ints_word, table_word, array_word}
+use Rattle.rb_grammar.specs.Form.{string, alias, binary, int, ints, Body, plain, group, listed, leaf, table, array, Entries, no_entries, entry, Elements, no_elements, one_text, one_body, string_word, alias_word, binary_word, int_word, ints_word, table_word, no_fallback_table_word, array_word, Head, untyped, plain_table, no_fallback_table}
 
 -- why reading stops, and the tokens from the one at fault on
 pub record Stop : Type 0 where
@@ -34,37 +33,37 @@ text_of RightBrace = None
 text_of Colon = None
 text_of Comma = None
 
--- the signs
-pub data Sign : Type 0 where
-  left : Sign
-  right : Sign
-  colon : Sign
-  comma : Sign
+-- punctuation
+pub data Punctuation : Type 0 where
+  left : Punctuation
+  right : Punctuation
+  colon : Punctuation
+  comma : Punctuation
 
-abbrev pub sign_mark : Sign → Mark
-sign_mark left = LeftBrace
-sign_mark right = RightBrace
-sign_mark colon = Colon
-sign_mark comma = Comma
+abbrev pub punctuation_mark : Punctuation → Mark
+punctuation_mark left = LeftBrace
+punctuation_mark right = RightBrace
+punctuation_mark colon = Colon
+punctuation_mark comma = Comma
 
-abbrev pub is_sign : Sign → Mark → Bool
-is_sign left LeftBrace = true
-is_sign right RightBrace = true
-is_sign colon Colon = true
-is_sign comma Comma = true
-is_sign s m = false
+abbrev pub is_punctuation : Punctuation → Mark → Bool
+is_punctuation left LeftBrace = true
+is_punctuation right RightBrace = true
+is_punctuation colon Colon = true
+is_punctuation comma Comma = true
+is_punctuation s m = false
 
-abbrev pub begins : Sign → List Token → Bool
+abbrev pub begins : Punctuation → List Token → Bool
 begins s [] = false
-begins s (t ∷ ts) = is_sign s t.what
+begins s (t ∷ ts) = is_punctuation s t.what
 
 abbrev pub tail : List Token → List Token
 tail [] = []
 tail (t ∷ ts) = ts
 
--- the sign, which has to come
-abbrev pub sign_at : Sign → List Token → Result (List Token) Stop
-sign_at s ts = if begins s ts then Ok (tail ts) else Err (stop Unexpected ts)
+-- the punctuation mark, which has to come
+abbrev pub punctuation_at : Punctuation → List Token → Result (List Token) Stop
+punctuation_at s ts = if begins s ts then Ok (tail ts) else Err (stop Unexpected ts)
 
 -- the text, if one comes
 abbrev pub first_text : List Token → Option (List ℕ)
@@ -119,13 +118,25 @@ first_word s (w ∷ ws) = if pointwise nat_eq s (word_units w) then Some w else 
 abbrev pub all_words : List Word
 all_words = string_type ∷ alias_type ∷ binary_type true ∷ binary_type false ∷ int_type true ∷ int_type false ∷ ints_type ∷ table_type ∷ array_type ∷ []
 
-abbrev pub word_or : List Token → Option Word → Read Word
-word_or ts None = Err (stop UnknownType ts)
-word_or ts (Some w) = Ok (w, tail ts)
+-- the type word that only a bundle's own table may have
+abbrev pub is_no_fallback_word : List ℕ → Bool
+is_no_fallback_word s = pointwise nat_eq s no_fallback_table_word
 
--- behind a colon: a type word
+abbrev pub is_no_fallback_text : Option (List ℕ) → Bool
+is_no_fallback_text None = false
+is_no_fallback_text (Some s) = is_no_fallback_word s
+
+-- why a text that names no type of a value is refused: it names a type out of place, or none
+abbrev pub word_fault : List ℕ → SourceKind
+word_fault s = if is_no_fallback_word s then Unexpected else UnknownType
+
+abbrev pub word_or : List Token → List ℕ → Option Word → Read Word
+word_or ts s None = Err (stop (word_fault s) ts)
+word_or ts s (Some w) = Ok (w, tail ts)
+
+-- behind a colon: the type word of a value
 abbrev pub word_at : List Token → Read Word
-word_at ts = text_at ts >>= λ s. word_or ts (first_word s.0 all_words)
+word_at ts = text_at ts >>= λ s. word_or ts s.0 (first_word s.0 all_words)
 
 -- ---- leaves
 
@@ -162,7 +173,7 @@ abbrev pub entry_at : Tests → (List Token → Read Body) → List (List ℕ) �
 entry_at tests body earlier k ts = if tests.is_key k then (if is_among earlier k then Err (stop DuplicateKey ts) else body (tail ts)) else Err (stop BadKey ts)
 
 abbrev pub entries_step : Tests → (List Token → Read Body) → (List (List ℕ) → List Token → Read Entries) → List (List ℕ) → List Token → Option (List ℕ) → Read Entries
-entries_step tests body more earlier ts None = sign_at right ts >>= λ after. Ok (no_entries, after)
+entries_step tests body more earlier ts None = punctuation_at right ts >>= λ after. Ok (no_entries, after)
 entries_step tests body more earlier ts (Some k) = do
   b ← entry_at tests body earlier k ts
   es ← more (k ∷ earlier) (after_comma b.1)
@@ -175,7 +186,7 @@ entries tests body (suc n) earlier ts = entries_step tests body (entries tests b
 -- room: an element may be one level deeper
 abbrev pub elements_step : Bool → (List Token → Read Body) → (List Token → Read Elements) → List Token → Option (List ℕ) → Read Elements
 elements_step room body more ts None =
-    if begins colon ts || begins left ts then (body ts >>= λ b. more (after_comma b.1) >>= λ xs. Ok (one_body b.0 (has_comma b.1) xs.0, xs.1)) else (sign_at right ts >>= λ after. Ok (no_elements, after))
+    if begins colon ts || begins left ts then (body ts >>= λ b. more (after_comma b.1) >>= λ xs. Ok (one_body b.0 (has_comma b.1) xs.0, xs.1)) else (punctuation_at right ts >>= λ after. Ok (no_elements, after))
 elements_step room body more ts (Some s) = if room then (more (after_comma (tail ts)) >>= λ xs. Ok (one_text s (has_comma (tail ts)) xs.0, xs.1)) else Err (stop TooDeep ts)
 
 unfoldable pub elements : Bool → (List Token → Read Body) → ℕ → List Token → Read Elements
@@ -196,7 +207,7 @@ abbrev pub array_at : Inner → List Token → Read Elements
 array_at inner ts = elements inner.room inner.reads (suc (length ts)) ts
 
 abbrev pub closed : {A : Type 0} → (A → Body) → Read A → Read Body
-closed make read = read >>= λ x. sign_at right x.1 >>= λ after. Ok (make x.0, after)
+closed make read = read >>= λ x. punctuation_at right x.1 >>= λ after. Ok (make x.0, after)
 
 -- behind the brace of a body with a type
 abbrev pub typed_at : Tests → Inner → Word → List Token → Read Body
@@ -235,8 +246,8 @@ untyped_at tests inner (none_at rest) ts = Err (stop Unexpected rest)
 abbrev pub body_at : Tests → Inner → List Token → Read Body
 body_at tests inner ts =
     if begins colon ts
-    then (word_at (tail ts) >>= λ w. sign_at left w.1 >>= λ after. typed_at tests inner w.0 after)
-    else (sign_at left ts >>= λ after. untyped_at tests inner (guess after) after)
+    then (word_at (tail ts) >>= λ w. punctuation_at left w.1 >>= λ after. typed_at tests inner w.0 after)
+    else (punctuation_at left ts >>= λ after. untyped_at tests inner (guess after) after)
 
 -- A body with others inside it no deeper than the number.
 unfoldable pub body : Tests → ℕ → List Token → Read Body
@@ -246,23 +257,27 @@ body tests (suc depth) ts = body_at tests (record { room = nat_lt 0 depth; reads
 
 -- ---- the bundle, all of the tokens
 
-abbrev pub ended : List ℕ → Bool → Entries → List Token → Result (List ℕ × Bool × Entries) Stop
-ended name typed es [] = Ok (name, typed, es)
-ended name typed es (t ∷ ts) = Err (stop TrailingText (t ∷ ts))
+abbrev pub ended : List ℕ → Head → Entries → List Token → Result (List ℕ × Head × Entries) Stop
+ended name head es [] = Ok (name, head, es)
+ended name head es (t ∷ ts) = Err (stop TrailingText (t ∷ ts))
 
-abbrev pub table_word_or : List Token → Word → List Token → Read Bool
-table_word_or ts table_type rest = Ok (true, rest)
+abbrev pub table_word_or : List Token → Word → List Token → Read Head
+table_word_or ts table_type rest = Ok (plain_table, rest)
 table_word_or ts other rest = Err (stop Unexpected ts)
 
--- the type of the bundle, if one is written
-abbrev pub type_at : List Token → Read Bool
-type_at ts = if begins colon ts then (word_at (tail ts) >>= λ w. table_word_or (tail ts) w.0 w.1) else Ok (false, ts)
+-- behind the colon of a bundle
+abbrev pub head_word_at : List Token → Read Head
+head_word_at ts = if is_no_fallback_text (first_text ts) then Ok (no_fallback_table, tail ts) else (word_at ts >>= λ w. table_word_or ts w.0 w.1)
 
-unfoldable pub bundle : Tests → List Token → Result (List ℕ × Bool × Entries) Stop
+-- the type of the bundle, if one is written
+abbrev pub type_at : List Token → Read Head
+type_at ts = if begins colon ts then head_word_at (tail ts) else Ok (untyped, ts)
+
+unfoldable pub bundle : Tests → List Token → Result (List ℕ × Head × Entries) Stop
 unfolding entries
 bundle tests ts = do
   name ← text_at ts
-  typed ← type_at name.1
-  after ← sign_at left typed.1
-  es ← entries tests (body tests (HEIGHT_LIMIT - 1)) (suc (length after)) [] after
-  ended name.0 typed.0 es.0 es.1
+  head ← type_at name.1
+  after ← punctuation_at left head.1
+  es ← entries tests (body tests 63) (suc (length after)) [] after
+  ended name.0 head.0 es.0 es.1

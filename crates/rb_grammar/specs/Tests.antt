@@ -1,9 +1,8 @@
 -- For proofs, and the contracts of a parser's own functions: the tests that reading makes of keys, numbers and bytes, and that they are the conditions.
-use Rattle.std.specs.Prelude.{◌≡◌, ◌&&◌, ℕ, Bool, true, false, List, [], ◌∷◌, length, filter, not, nat_lt, nat_le}
+use Rattle.std.specs.Prelude.{◌≡◌, ◌&&◌, ◌^◌, ℕ, Bool, true, false, List, [], ◌∷◌, length, filter, not, nat_lt, nat_le}
 use Rattle.std.specs.List.{list_all}
 use Rattle.std.specs.Char.{digit_value}
 use Rattle.rb_tree.specs.Keys.{IsKey}
-use Rattle.rb_grammar.specs.declared.limits.TheConstants.{INT_MODULUS, INT_DEPTH, ELEMENT_MODULUS, ELEMENT_DEPTH}
 use Rattle.rb_grammar.specs.Numeral.{Numeral, hexadecimal, octal, decimal, numeral_value, is_minus, is_gap, IsIntText, IsElementText, IsHexText}
 use Rattle.rb_grammar.specs.Reading.{Tests}
 use Rattle.rb_grammar.specs.Shape.{shape, sign_of, unsigned_of}
@@ -40,12 +39,12 @@ is_numeral (octal ds) = are_digits 8 ds
 is_numeral (decimal ds) = begins_above_0 ds && are_digits 10 ds
 
 abbrev pub is_int_size : Bool → ℕ → Bool
-is_int_size false size = nat_lt size INT_MODULUS
-is_int_size true size = nat_le size INT_DEPTH
+is_int_size false size = nat_lt size (2 ^ 28)
+is_int_size true size = nat_le size (2 ^ 27)
 
 abbrev pub is_element_size : Bool → ℕ → Bool
-is_element_size false size = nat_lt size ELEMENT_MODULUS
-is_element_size true size = nat_le size ELEMENT_DEPTH
+is_element_size false size = nat_lt size (2 ^ 32)
+is_element_size true size = nat_le size (2 ^ 31)
 
 -- the numeral behind the sign, if there is one
 abbrev pub numeral_of : List ℕ → Numeral

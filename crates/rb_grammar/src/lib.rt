@@ -9,5 +9,5 @@ mod number;
 
 pub use bytes::read_bytes;
 pub use key::is_key;
-pub use limits::{ELEMENT_DEPTH, ELEMENT_MODULUS, INT_DEPTH, INT_MODULUS};
+pub use limits::{ELEMENT_MODULUS, INT_MODULUS, LEAST_ELEMENT_MAGNITUDE, LEAST_INT_MAGNITUDE};
 pub use number::{read_element, read_int};

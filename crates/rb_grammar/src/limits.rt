@@ -1,13 +1,13 @@
-//! The limits of numbers in a text, each in the one place that code and definitions read.
+//! The limits of numbers in a text. The definitions in specs/ have the same numbers written out, so that a proof compares the two.
 
 /// An Int is below this, and is kept modulo this.
 pub const INT_MODULUS: u64 = 1 << 28;
 
-/// How far below zero an Int may be.
-pub const INT_DEPTH: u64 = 1 << 27;
+/// The magnitude of the least Int.
+pub const LEAST_INT_MAGNITUDE: u64 = 1 << 27;
 
 /// An element of a vector is below this, and is kept modulo this.
 pub const ELEMENT_MODULUS: u64 = 1 << 32;
 
-/// How far below zero an element of a vector may be. From here on up it is kept as a number below zero.
-pub const ELEMENT_DEPTH: u64 = 1 << 31;
+/// The magnitude of the least element of a vector. From here on up an element is kept as a number below zero.
+pub const LEAST_ELEMENT_MAGNITUDE: u64 = 1 << 31;

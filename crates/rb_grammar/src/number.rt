@@ -5,7 +5,7 @@ ghost use Rattle.std.specs.Str.Parse.{digits_value, AllDigits};
 ghost use Rattle.rb_grammar.specs.Numeral.{IsNumeral, numeral_value, is_minus, IsIntText, IsElementText};
 ghost use Rattle.rb_grammar.specs.Shape.{shape, behind_0, sign_of, unsigned_of};
 
-use crate::limits::{ELEMENT_DEPTH, ELEMENT_MODULUS, INT_DEPTH, INT_MODULUS};
+use crate::limits::{ELEMENT_MODULUS, INT_MODULUS, LEAST_ELEMENT_MAGNITUDE, LEAST_INT_MAGNITUDE};
 
 /// More than any limit.
 const CEILING: u64 = 1 << 33;
@@ -95,7 +95,7 @@ pub fn read_int(units: &[u16]) -> Option<u32>
 {
     let Signed { negative, size } = number(units)?;
     if negative {
-        if size > INT_DEPTH {
+        if size > LEAST_INT_MAGNITUDE {
             return None;
         }
         if size == 0 {
@@ -116,7 +116,7 @@ pub fn read_element(units: &[u16]) -> Option<i32>
 {
     let Signed { negative, size } = number(units)?;
     if negative {
-        if size > ELEMENT_DEPTH {
+        if size > LEAST_ELEMENT_MAGNITUDE {
             return None;
         }
         Some((-(size as i64)) as i32)
@@ -124,7 +124,7 @@ pub fn read_element(units: &[u16]) -> Option<i32>
         if size >= ELEMENT_MODULUS {
             return None;
         }
-        if size < ELEMENT_DEPTH {
+        if size < LEAST_ELEMENT_MAGNITUDE {
             Some(size as i32)
         } else {
             Some((size as i64 - ELEMENT_MODULUS as i64) as i32)

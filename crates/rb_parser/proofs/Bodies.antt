@@ -17,7 +17,7 @@ use Rattle.rb_tree.specs.declared.tree.Tree.{Tree}
 use Rattle.rb_grammar.specs.Faults.{line_at}
 use Rattle.rb_grammar.specs.Form.{Leaf, string, alias, binary, int, ints, Body, plain, leaf, Entries, no_entries, entry, IsKeyOf}
 use Rattle.rb_grammar.specs.Good.{Spells, EachStands, item_at}
-use Rattle.rb_grammar.specs.Reading.{Stop, stop, Read, ◌>>=◌, left, right, colon, begins, tail, sign_at, text_at, Word, string_type, alias_type, binary_type, int_type, ints_type, table_type, array_type, word_at, closed, maybe_at, anything, checked_at, numbers, Inner, typed_at, Guess, as_text, as_table, as_array, none_at, guess, untyped_at, body_at, body, entries}
+use Rattle.rb_grammar.specs.Reading.{Stop, stop, Read, ◌>>=◌, left, right, colon, begins, tail, punctuation_at, text_at, Word, string_type, alias_type, binary_type, int_type, ints_type, table_type, array_type, word_at, closed, maybe_at, anything, checked_at, numbers, Inner, typed_at, Guess, as_text, as_table, as_array, none_at, guess, untyped_at, body_at, body, entries}
 use Rattle.rb_lexer.specs.declared.fault.SourceKind.TheVariants.{BadInt, BadHex}
 use Rattle.rb_grammar.specs.Tests.{the_tests}
 use Rattle.rb_grammar.proofs.Sound.{AllPassed, entries_take}
@@ -40,9 +40,9 @@ located_same {Y} end at read other e same is h = ap (located end) is ∙ ap (λ 
 
 -- ---- where there is no room
 
-pub no_room : (end depth : ℕ) (ts : List Token) (e : SourceFault) → depth ≡ 0 → e.kind ≡ cond (begins colon ts || begins left ts) TooDeep Unexpected → e.line ≡ line_at end ts → located end (body the_tests depth ts) ≡ Err e
+pub depth_error : (end depth : ℕ) (ts : List Token) (e : SourceFault) → depth ≡ 0 → e.kind ≡ cond (begins colon ts || begins left ts) TooDeep Unexpected → e.line ≡ line_at end ts → located end (body the_tests depth ts) ≡ Err e
 unfolding body
-no_room end depth ts e none kind line = rw none (by (begins colon ts || begins left ts) kind) where
+depth_error end depth ts e none kind line = rw none (by (begins colon ts || begins left ts) kind) where
   by : (b : Bool) → e.kind ≡ cond b TooDeep Unexpected → located {A = Body × List Token} end (cond b (Err (stop TooDeep ts)) (Err (stop Unexpected ts))) ≡ Err e
   by true k = ap Err (fault_is e TooDeep (line_at end ts) k line)
   by false k = ap Err (fault_is e Unexpected (line_at end ts) k line)
@@ -54,35 +54,35 @@ module _ (depth below : ℕ) (ts next : List Token) (b : Bool) (some : depth ≡
   unfolding body
   body_is = rw some refl
 
-  typed_is : b ≡ true → body the_tests depth ts ≡ (word_at next >>= λ w. sign_at left w.1 >>= λ after. typed_at the_tests (inner_at below) w.0 after)
+  typed_is : b ≡ true → body the_tests depth ts ≡ (word_at next >>= λ w. punctuation_at left w.1 >>= λ after. typed_at the_tests (inner_at below) w.0 after)
   typed_is comes =
       let opens : begins colon ts ≡ true = sym value ∙ comes in
       let same : next ≡ tail ts = goes ∙ ap (λ c. cond c (tail ts) ts) opens in
       body_is ∙ rw (opens, same) refl
 
-  untyped_is : b ≡ false → body the_tests depth ts ≡ (sign_at left next >>= λ after. untyped_at the_tests (inner_at below) (guess after) after)
+  untyped_is : b ≡ false → body the_tests depth ts ≡ (punctuation_at left next >>= λ after. untyped_at the_tests (inner_at below) (guess after) after)
   untyped_is no_colon =
       let opens : begins colon ts ≡ false = sym value ∙ no_colon in
       let same : next ≡ ts = goes ∙ ap (λ c. cond c (tail ts) ts) opens in
       body_is ∙ rw (opens, same) refl
 
   pub bad_word : (end at : ℕ) (e : SourceFault) → b ≡ true → at ≡ end → located at (word_at next) ≡ Err e → located end (body the_tests depth ts) ≡ Err e
-  bad_word end at e comes same h = located_same end at (word_at next >>= λ w. sign_at left w.1 >>= λ after. typed_at the_tests (inner_at below) w.0 after) (body the_tests depth ts) e same (typed_is comes) (located_bind at (word_at next) (λ w. sign_at left w.1 >>= λ after. typed_at the_tests (inner_at below) w.0 after) e h)
+  bad_word end at e comes same h = located_same end at (word_at next >>= λ w. punctuation_at left w.1 >>= λ after. typed_at the_tests (inner_at below) w.0 after) (body the_tests depth ts) e same (typed_is comes) (located_bind at (word_at next) (λ w. punctuation_at left w.1 >>= λ after. typed_at the_tests (inner_at below) w.0 after) e h)
 
   module _ (w : Word) (mid : List Token) (comes : b ≡ true) (named : word_at next ≡ Ok (w, mid)) where
-    behind_word : body the_tests depth ts ≡ (sign_at left mid >>= λ after. typed_at the_tests (inner_at below) w after)
+    behind_word : body the_tests depth ts ≡ (punctuation_at left mid >>= λ after. typed_at the_tests (inner_at below) w after)
     behind_word = typed_is comes ∙ rw named refl
 
-    pub no_brace : (end at : ℕ) (e : SourceFault) → at ≡ end → located at (sign_at left mid) ≡ Err e → located end (body the_tests depth ts) ≡ Err e
-    no_brace end at e same h = located_same end at (sign_at left mid >>= λ after. typed_at the_tests (inner_at below) w after) (body the_tests depth ts) e same behind_word (located_bind at (sign_at left mid) (λ after. typed_at the_tests (inner_at below) w after) e h)
+    pub no_brace : (end at : ℕ) (e : SourceFault) → at ≡ end → located at (punctuation_at left mid) ≡ Err e → located end (body the_tests depth ts) ≡ Err e
+    no_brace end at e same h = located_same end at (punctuation_at left mid >>= λ after. typed_at the_tests (inner_at below) w after) (body the_tests depth ts) e same behind_word (located_bind at (punctuation_at left mid) (λ after. typed_at the_tests (inner_at below) w after) e h)
 
-    pub typed_body : (after : List Token) → sign_at left mid ≡ Ok after → body the_tests depth ts ≡ typed_at the_tests (inner_at below) w after
+    pub typed_body : (after : List Token) → punctuation_at left mid ≡ Ok after → body the_tests depth ts ≡ typed_at the_tests (inner_at below) w after
     typed_body after opened = behind_word ∙ rw opened refl
 
-  pub unopened : (end at : ℕ) (e : SourceFault) → b ≡ false → at ≡ end → located at (sign_at left next) ≡ Err e → located end (body the_tests depth ts) ≡ Err e
-  unopened end at e no_colon same h = located_same end at (sign_at left next >>= λ after. untyped_at the_tests (inner_at below) (guess after) after) (body the_tests depth ts) e same (untyped_is no_colon) (located_bind at (sign_at left next) (λ after. untyped_at the_tests (inner_at below) (guess after) after) e h)
+  pub unopened : (end at : ℕ) (e : SourceFault) → b ≡ false → at ≡ end → located at (punctuation_at left next) ≡ Err e → located end (body the_tests depth ts) ≡ Err e
+  unopened end at e no_colon same h = located_same end at (punctuation_at left next >>= λ after. untyped_at the_tests (inner_at below) (guess after) after) (body the_tests depth ts) e same (untyped_is no_colon) (located_bind at (punctuation_at left next) (λ after. untyped_at the_tests (inner_at below) (guess after) after) e h)
 
-  pub untyped_body : (after : List Token) → b ≡ false → sign_at left next ≡ Ok after → body the_tests depth ts ≡ untyped_at the_tests (inner_at below) (guess after) after
+  pub untyped_body : (after : List Token) → b ≡ false → punctuation_at left next ≡ Ok after → body the_tests depth ts ≡ untyped_at the_tests (inner_at below) (guess after) after
   untyped_body after no_colon opened = untyped_is no_colon ∙ rw opened refl
 
 -- ---- leaves with their closing brace
@@ -102,16 +102,16 @@ typed_leaf inner array_type l ts e = absurd cc
 
 module _ (inner : Inner) (w : Word) (l : word_leaf.Leaf) (ts : List Token) (is : word_of w ≡ word.Leaf l) where
   pub leaf_stops : (end : ℕ) (e : SourceFault) → located end (leaf_at w ts) ≡ Err e → located end (typed_at the_tests inner w ts) ≡ Err e
-  leaf_stops end e h = located_same end end (closed leaf (leaf_at w ts)) (typed_at the_tests inner w ts) e refl (typed_leaf inner w l ts is) (located_bind end (leaf_at w ts) (λ x. sign_at right x.1 >>= λ after. Ok (leaf x.0, after)) e h)
+  leaf_stops end e h = located_same end end (closed leaf (leaf_at w ts)) (typed_at the_tests inner w ts) e refl (typed_leaf inner w l ts is) (located_bind end (leaf_at w ts) (λ x. punctuation_at right x.1 >>= λ after. Ok (leaf x.0, after)) e h)
 
   module _ (y : Leaf) (mid : List Token) (read : leaf_at w ts ≡ Ok (y, mid)) where
-    behind_leaf : typed_at the_tests inner w ts ≡ (sign_at right mid >>= λ after. Ok (leaf y, after))
+    behind_leaf : typed_at the_tests inner w ts ≡ (punctuation_at right mid >>= λ after. Ok (leaf y, after))
     behind_leaf = typed_leaf inner w l ts is ∙ rw read refl
 
-    pub leaf_open : (end at : ℕ) (e : SourceFault) → at ≡ end → located at (sign_at right mid) ≡ Err e → located end (typed_at the_tests inner w ts) ≡ Err e
-    leaf_open end at e same h = located_same end at (sign_at right mid >>= λ after. Ok (leaf y, after)) (typed_at the_tests inner w ts) e same behind_leaf (located_bind at (sign_at right mid) (λ after. Ok (leaf y, after)) e h)
+    pub leaf_open : (end at : ℕ) (e : SourceFault) → at ≡ end → located at (punctuation_at right mid) ≡ Err e → located end (typed_at the_tests inner w ts) ≡ Err e
+    leaf_open end at e same h = located_same end at (punctuation_at right mid >>= λ after. Ok (leaf y, after)) (typed_at the_tests inner w ts) e same behind_leaf (located_bind at (punctuation_at right mid) (λ after. Ok (leaf y, after)) e h)
 
-    pub leaf_reads : (after : List Token) → sign_at right mid ≡ Ok after → typed_at the_tests inner w ts ≡ Ok (leaf y, after)
+    pub leaf_reads : (after : List Token) → punctuation_at right mid ≡ Ok after → typed_at the_tests inner w ts ≡ Ok (leaf y, after)
     leaf_reads after h = behind_leaf ∙ rw h refl
 
 -- ---- one text
@@ -125,7 +125,7 @@ is_text end as_table e = absurd cc
 is_text end as_array e = absurd cc
 is_text end (none_at rest) e = absurd cc
 
-pub plain_reads : (inner : Inner) (end : ℕ) (ts mid after : List Token) (s : List ℕ) (r : Result program.Guess SourceFault) → r ≡ Ok Text → r ≡ guessed end (guess ts) → text_at ts ≡ Ok (s, mid) → sign_at right mid ≡ Ok after → untyped_at the_tests inner (guess ts) ts ≡ Ok (plain s, after)
+pub plain_reads : (inner : Inner) (end : ℕ) (ts mid after : List Token) (s : List ℕ) (r : Result program.Guess SourceFault) → r ≡ Ok Text → r ≡ guessed end (guess ts) → text_at ts ≡ Ok (s, mid) → punctuation_at right mid ≡ Ok after → untyped_at the_tests inner (guess ts) ts ≡ Ok (plain s, after)
 plain_reads inner end ts mid after s r is told text close = ap (λ g. untyped_at the_tests inner g ts) (is_text end (guess ts) (sym is ∙ told)) ∙ rw (text, close) refl
 
 -- ---- tables

@@ -11,7 +11,7 @@ use Rattle.rb_tree.specs.declared.tree.Tree.TheVariants.{String}
 use Rattle.rb_grammar.specs.Faults.{line_at}
 use Rattle.rb_grammar.specs.Form.{Body, Elements, no_elements, one_text, one_body}
 use Rattle.rb_grammar.specs.Good.{Spells, EachSpells}
-use Rattle.rb_grammar.specs.Reading.{Stop, stop, Read, ◌>>=◌, left, right, colon, begins, tail, first_text, sign_at, has_comma, after_comma, elements_step, elements}
+use Rattle.rb_grammar.specs.Reading.{Stop, stop, Read, ◌>>=◌, left, right, colon, begins, tail, first_text, punctuation_at, has_comma, after_comma, elements_step, elements}
 use Rattle.rb_parser.specs.Reads.{located, IsBodyTree}
 use Rattle.rb_parser.proofs.Steps.{located_bind, stops_at}
 
@@ -96,11 +96,11 @@ module _ (room : Bool) (reads : List Token → Read Body) where
     unfolding elements
     step_is = rw some refl
 
-    closed : (r : List Token) → first_text ts ≡ None → (begins colon ts || begins left ts) ≡ false → sign_at right ts ≡ Ok r → elements room reads m ts ≡ Ok (no_elements, r)
+    closed : (r : List Token) → first_text ts ≡ None → (begins colon ts || begins left ts) ≡ false → punctuation_at right ts ≡ Ok r → elements room reads m ts ≡ Ok (no_elements, r)
     closed r none other h = rw (step_is, none, other, h) refl
 
-    not_closed : (end : ℕ) (e : SourceFault) → first_text ts ≡ None → (begins colon ts || begins left ts) ≡ false → located end (sign_at right ts) ≡ Err e → located end (elements room reads m ts) ≡ Err e
-    not_closed end e none other h = rw (step_is, none, other) (located_bind end (sign_at right ts) (λ after. Ok (no_elements, after)) e h)
+    not_closed : (end : ℕ) (e : SourceFault) → first_text ts ≡ None → (begins colon ts || begins left ts) ≡ false → located end (punctuation_at right ts) ≡ Err e → located end (elements room reads m ts) ≡ Err e
+    not_closed end e none other h = rw (step_is, none, other) (located_bind end (punctuation_at right ts) (λ after. Ok (no_elements, after)) e h)
 
     too_deep : (s : List ℕ) → first_text ts ≡ Some s → room ≡ false → elements room reads m ts ≡ Err (stop TooDeep ts)
     too_deep s comes full = rw (step_is, comes, full) refl
@@ -127,10 +127,10 @@ module _ (room : Bool) (reads : List Token → Read Body) where
     pub stop_element : (end : ℕ) (e : SourceFault) → first_text ts ≡ None → (begins colon ts || begins left ts) ≡ true → located end (reads ts) ≡ Err e → located end (elements room reads n start) ≡ Err e
     stop_element end e none opens h = stops end e (bad_body so.turns below.0 ts below.1 end e none opens h)
 
-    pub stop_open : (end : ℕ) (e : SourceFault) → first_text ts ≡ None → (begins colon ts || begins left ts) ≡ false → located end (sign_at right ts) ≡ Err e → located end (elements room reads n start) ≡ Err e
+    pub stop_open : (end : ℕ) (e : SourceFault) → first_text ts ≡ None → (begins colon ts || begins left ts) ≡ false → located end (punctuation_at right ts) ≡ Err e → located end (elements room reads n start) ≡ Err e
     stop_open end e none other h = stops end e (not_closed so.turns below.0 ts below.1 end e none other h)
 
-    pub elements_end : (r : List Token) → first_text ts ≡ None → (begins colon ts || begins left ts) ≡ false → sign_at right ts ≡ Ok r → (xs : Elements) × (elements room reads n start ≡ Ok (xs, r)) × EachSpells xs (views_of trees)
+    pub elements_end : (r : List Token) → first_text ts ≡ None → (begins colon ts || begins left ts) ≡ false → punctuation_at right ts ≡ Ok r → (xs : Elements) × (elements room reads n start ≡ Ok (xs, r)) × EachSpells xs (views_of trees)
     elements_end r none other h = (
       parts_first so.parts no_elements,
       so.same ∙ ap (λ (x : Read Elements). x >>= put_parts so.parts) (closed so.turns below.0 ts below.1 r none other h),

@@ -13,7 +13,7 @@ use Rattle.rb_tree.specs.Keys.{IsKey}
 use Rattle.rb_tree.specs.declared.tree.Tree.{Tree}
 use Rattle.rb_grammar.specs.Faults.{line_at}
 use Rattle.rb_grammar.specs.Form.{Body, Entries, no_entries, entry}
-use Rattle.rb_grammar.specs.Reading.{Stop, stop, Read, ◌>>=◌, right, tail, first_text, sign_at, has_comma, after_comma, is_among, entry_at, entries_step, entries}
+use Rattle.rb_grammar.specs.Reading.{Stop, stop, Read, ◌>>=◌, right, tail, first_text, punctuation_at, has_comma, after_comma, is_among, entry_at, entries_step, entries}
 use Rattle.rb_grammar.specs.Tests.{the_tests}
 use Rattle.rb_grammar.proofs.Conditions.{are_tests}
 use Rattle.rb_parser.specs.Reads.{located, IsBodyTree, AreEntries}
@@ -104,11 +104,11 @@ module _ (reads : List Token → Read Body) where
     unfolding entries
     step_is = rw some refl
 
-    closed : (r : List Token) → first_text ts ≡ None → sign_at right ts ≡ Ok r → entries the_tests reads m ks ts ≡ Ok (no_entries, r)
+    closed : (r : List Token) → first_text ts ≡ None → punctuation_at right ts ≡ Ok r → entries the_tests reads m ks ts ≡ Ok (no_entries, r)
     closed r none h = rw (step_is, none, h) refl
 
-    not_closed : (end : ℕ) (e : SourceFault) → first_text ts ≡ None → located end (sign_at right ts) ≡ Err e → located end (entries the_tests reads m ks ts) ≡ Err e
-    not_closed end e none h = rw (step_is, none) (located_bind end (sign_at right ts) (λ after. Ok (no_entries, after)) e h)
+    not_closed : (end : ℕ) (e : SourceFault) → first_text ts ≡ None → located end (punctuation_at right ts) ≡ Err e → located end (entries the_tests reads m ks ts) ≡ Err e
+    not_closed end e none h = rw (step_is, none) (located_bind end (punctuation_at right ts) (λ after. Ok (no_entries, after)) e h)
 
     bad_key : (s : List ℕ) → first_text ts ≡ Some s → (IsKey s → ⊥) → entries the_tests reads m ks ts ≡ Err (stop BadKey ts)
     bad_key s comes bad = let fails = key_fails s bad in rw (step_is, comes, fails) refl
@@ -141,10 +141,10 @@ module _ (reads : List Token → Read Body) where
     pub stop_body : (end : ℕ) (s : List ℕ) (e : SourceFault) → first_text ts ≡ Some s → IsKey s → is_among (keys_behind ps []) s ≡ false → located end (reads (tail ts)) ≡ Err e → located end (entries the_tests reads n [] start) ≡ Err e
     stop_body end s e comes good new h = stops end e (bad_body so.turns below.0 (keys_behind ps []) ts below.1 end s e comes good new h)
 
-    pub stop_open : (end : ℕ) (e : SourceFault) → first_text ts ≡ None → located end (sign_at right ts) ≡ Err e → located end (entries the_tests reads n [] start) ≡ Err e
+    pub stop_open : (end : ℕ) (e : SourceFault) → first_text ts ≡ None → located end (punctuation_at right ts) ≡ Err e → located end (entries the_tests reads n [] start) ≡ Err e
     stop_open end e none h = stops end e (not_closed so.turns below.0 (keys_behind ps []) ts below.1 end e none h)
 
-    pub entries_end : (r : List Token) → first_text ts ≡ None → sign_at right ts ≡ Ok r → (es : Entries) × (entries the_tests reads n [] start ≡ Ok (es, r)) × AreEntries ps es
+    pub entries_end : (r : List Token) → first_text ts ≡ None → punctuation_at right ts ≡ Ok r → (es : Entries) × (entries the_tests reads n [] start ≡ Ok (es, r)) × AreEntries ps es
     entries_end r none h = (
       rows_first so.rows no_entries,
       so.same ∙ ap (λ (x : Read Entries). x >>= put_rows so.rows) (closed so.turns below.0 (keys_behind ps []) ts below.1 r none h),

@@ -7,7 +7,7 @@ use Rattle.rb_tree.specs.Resource.{Resource}
 use Rattle.rb_tree.specs.View.{view_of}
 use Rattle.rb_tree.specs.declared.tree.Tree.{Tree}
 use Rattle.rb_grammar.specs.Faults.{line_at}
-use Rattle.rb_grammar.specs.Form.{Leaf, string, alias, binary, int, ints, Body, table, array, Entries, no_entries, entry, Elements}
+use Rattle.rb_grammar.specs.Form.{Leaf, string, alias, binary, int, ints, Body, table, array, Entries, no_entries, entry, Elements, Head, has_no_fallback}
 use Rattle.rb_grammar.specs.Good.{AreElementTexts, LeafSpells, Spells}
 use Rattle.rb_grammar.specs.Reading.{Stop, stop, Read, ◌>>=◌, Inner, Word, string_type, alias_type, binary_type, int_type, ints_type, table_type, array_type, maybe_at, anything, checked_at, numbers, body}
 use Rattle.rb_grammar.specs.Tests.{the_tests}
@@ -64,6 +64,6 @@ AreEntries [] (entry k b c es) = ⊥
 AreEntries (p ∷ ps) no_entries = ⊥
 AreEntries (p ∷ ps) (entry k b c es) = (p.0 ≡ k) × IsBodyTree p.1 b × AreEntries ps es
 
--- whether the type of a bundle is written
-abbrev pub IsTyped : Unit {0} → Bool → Type 0
-IsTyped done typed = Unit {0}
+-- what the head of a bundle says of its lookups
+abbrev pub IsFlag : Bool → Head → Type 0
+IsFlag flag head = flag ≡ has_no_fallback head

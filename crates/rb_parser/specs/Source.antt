@@ -1,24 +1,34 @@
 -- Good bundle texts, after the bundle syntax of ICU's genrb, and why another text is refused.
--- A text is good where it is short, cuts into tokens, and these spell a name and a table within the limits of height and weight.
+-- A text is good where it is short, cuts into tokens, and these spell a bundle within the limits of height and weight.
 use Rattle.std.specs.Prelude.{◌≡◌, ◌≤◌, ◌==◌, ◌⊎◌, ℕ, suc, List, length, count_by}
-use Rattle.rb_lexer.specs.declared.limits.TheConstants.{SOURCE_LIMIT}
 use Rattle.rb_lexer.specs.declared.token.Token.{Token}
 use Rattle.rb_lexer.specs.declared.fault.SourceKind.{SourceKind}
 use Rattle.rb_lexer.specs.declared.fault.SourceKind.TheVariants.{Memory}
 use Rattle.rb_lexer.specs.declared.fault.SourceFault.{SourceFault}
 use Rattle.rb_lexer.specs.Tokens.{HasTokens}
 use Rattle.rb_lexer.specs.Faults.{IsSourceFault}
-use Rattle.rb_tree.specs.Resource.{Resource}
+use Rattle.rb_tree.specs.SourceTree.{SourceTree}
+use Rattle.rb_tree.specs.View.{view_of}
 use Rattle.rb_grammar.specs.Form.{marks}
-use Rattle.rb_grammar.specs.Good.{IsGood}
+use Rattle.rb_grammar.specs.Good.{IsGoodWithin}
 use Rattle.rb_grammar.specs.Faults as grammar
+use Rattle.rb_parser.specs.declared.source.Source.{Source}
 
--- The source, which is UTF-8, is the text of a bundle of this name and tree. The tree is a table within the limits.
-pub record IsGoodSource (bytes : List ℕ) (name : List ℕ) (tree : Resource) : Type 0 where
-  pub short : length bytes ≤ SOURCE_LIMIT
+-- the bundle of a source that was read: its tree and its flag
+abbrev pub source_tree : Source → SourceTree
+source_tree s = record { tree = view_of s.tree; no_fallback = s.no_fallback }
+
+-- The source, which is UTF-8, is the text of a bundle of this name, tree and flag, whose table has at most so many levels, and
+-- the weight that a bundle may have.
+pub record IsGoodSourceWithin (levels : ℕ) (bytes : List ℕ) (name : List ℕ) (source : SourceTree) : Type 0 where
+  pub short : length bytes ≤ 8388608
   pub tokens : List Token
   pub cut : HasTokens bytes tokens
-  pub good : IsGood (marks tokens) name tree
+  pub good : IsGoodWithin levels (marks tokens) name source
+
+-- a good source: within 64 levels
+abbrev pub IsGoodSource : List ℕ → List ℕ → SourceTree → Type 0
+IsGoodSource bytes name source = IsGoodSourceWithin 64 bytes name source
 
 -- the line in which the source ends: 1 and all its line feeds
 abbrev pub last_line : List ℕ → ℕ
@@ -26,7 +36,7 @@ last_line bytes = suc (count_by (λ b. b == 0x0A) bytes)
 
 -- The source cuts into tokens, and these have a fault in this line.
 pub record HasTokenFault (bytes : List ℕ) (kind : SourceKind) (line : ℕ) : Type 0 where
-  pub short : length bytes ≤ SOURCE_LIMIT
+  pub short : length bytes ≤ 8388608
   pub tokens : List Token
   pub cut : HasTokens bytes tokens
   pub fault : grammar.IsFault tokens (last_line bytes) kind line

@@ -1,22 +1,22 @@
--- For the contracts of this crate's own functions: the program's signs, guesses and types beside those of the grammar's reading function.
+-- For the contracts of this crate's own functions: the program's punctuation, guesses and types beside those of the grammar's reading function.
 use Rattle.std.specs.Prelude.{ℕ, Result, Ok, Err}
 use Rattle.rb_lexer.specs.declared.fault.SourceKind.TheVariants.{Unexpected}
 use Rattle.rb_lexer.specs.declared.fault.SourceFault.{SourceFault}
 use Rattle.rb_grammar.specs.Faults.{line_at}
 use Rattle.rb_grammar.specs.Reading as reading
-use Rattle.rb_parser.specs.declared.cursor.Sign.{Sign}
-use Rattle.rb_parser.specs.declared.cursor.Sign.TheVariants.{Left, Right, Colon, Comma}
+use Rattle.rb_parser.specs.declared.cursor.Punctuation.{Punctuation}
+use Rattle.rb_parser.specs.declared.cursor.Punctuation.TheVariants.{Left, Right, Colon, Comma}
 use Rattle.rb_parser.specs.declared.cursor.Guess.{Guess}
 use Rattle.rb_parser.specs.declared.cursor.Guess.TheVariants.{Text, Table, Array}
 use Rattle.rb_parser.specs.declared.word.Word.{Word}
 use Rattle.rb_parser.specs.declared.word.Word.TheVariants as word
 use Rattle.rb_parser.specs.declared.word.Leaf.TheVariants as leaf
 
-abbrev pub sign_of : Sign → reading.Sign
-sign_of Left = reading.left
-sign_of Right = reading.right
-sign_of Colon = reading.colon
-sign_of Comma = reading.comma
+abbrev pub punctuation_of : Punctuation → reading.Punctuation
+punctuation_of Left = reading.left
+punctuation_of Right = reading.right
+punctuation_of Colon = reading.colon
+punctuation_of Comma = reading.comma
 
 -- what is guessed, or the fault at the token that decides
 abbrev pub guessed : ℕ → reading.Guess → Result Guess SourceFault

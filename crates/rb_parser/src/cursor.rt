@@ -2,18 +2,18 @@
 ghost use Rattle.std.specs.Prelude.{◌≡◌, ◌||◌, ◌∷◌, [], ◌<◌, ◌≤◌, length, if◌then◌else◌, IsTrue, ◌↔◌, is_some, MatchOption, MatchResult, Some, None, Ok, Err, OnOk};
 ghost use Rattle.rb_grammar.specs.Faults.{line_at};
 ghost use Rattle.rb_lexer.specs.declared.fault.SourceKind.TheVariants.{TooDeep, Unexpected};
-ghost use Rattle.rb_grammar.specs.Reading.{left, colon, begins, is_sign, tail, first_text, sign_at, text_at, word_at, guess, guess_second};
+ghost use Rattle.rb_grammar.specs.Reading.{left, colon, begins, is_punctuation, tail, first_text, is_no_fallback_text, punctuation_at, text_at, word_at, guess, guess_second};
 ghost use Rattle.rb_parser.specs.Reads.{located, Reads};
-ghost use Rattle.rb_parser.specs.Views.{sign_of, guessed, word_of};
+ghost use Rattle.rb_parser.specs.Views.{punctuation_of, guessed, word_of};
 
-use crate::word::Word;
+use crate::word::{Word, is_no_fallback_table, word_fault};
 use rb_lexer::{Mark, SourceFault, SourceKind, Token};
 use rb_tree::UnitList;
 use std::collections::VecDeque;
 
-/// A sign of the bundle syntax.
+/// A punctuation mark of the bundle syntax.
 #[derive(Clone, Copy)]
-pub enum Sign {
+pub enum Punctuation {
     Left,
     Right,
     Colon,
@@ -75,24 +75,33 @@ impl Cursor {
         self.rest.is_empty()
     }
 
-    /// A fault at the next token, or at the end.
+    /// The line of the next token, or of the end.
+    fn line(&self) -> u64
+        ensures { result ≡ line_at self.now.end self.now.rest.items }
+    {
+        match self.first() {
+            Some(token) => token.line,
+            None => self.end,
+        }
+    }
+
+    /// An error at the next token, or at the end.
     pub fn fault(&self, kind: SourceKind) -> SourceFault
         ensures kind { result.kind ≡ kind }
         ensures line { result.line ≡ line_at self.now.end self.now.rest.items }
     {
-        let line = match self.first() {
-            Some(token) => token.line,
-            None => self.end,
-        };
-        SourceFault { kind, line }
+        SourceFault {
+            kind,
+            line: self.line(),
+        }
     }
 
-    /// Whether a sign comes next.
-    pub fn is_at(&self, sign: Sign) -> bool
-        ensures { result ≡ begins (sign_of sign) self.now.rest.items }
+    /// Whether a punctuation mark comes next.
+    pub fn is_at(&self, sign: Punctuation) -> bool
+        ensures { result ≡ begins (punctuation_of sign) self.now.rest.items }
     {
         match self.first() {
-            Some(token) => is_sign(&token.what, sign),
+            Some(token) => is_punctuation(&token.what, sign),
             None => false,
         }
     }
@@ -101,11 +110,11 @@ impl Cursor {
     pub fn is_at_body(&self) -> bool
         ensures { result ≡ begins colon self.now.rest.items || begins left self.now.rest.items }
     {
-        self.is_at(Sign::Colon) || self.is_at(Sign::Left)
+        self.is_at(Punctuation::Colon) || self.is_at(Punctuation::Left)
     }
 
-    /// The fault at the next token where no value has room: it begins one, or it is out of place.
-    pub fn no_room(&self) -> SourceFault
+    /// The error at the next token where no deeper value is allowed: it begins one, or it is out of place.
+    pub fn depth_error(&self) -> SourceFault
         ensures kind { result.kind ≡ (if begins colon self.now.rest.items || begins left self.now.rest.items then TooDeep else Unexpected) }
         ensures line { result.line ≡ line_at self.now.end self.now.rest.items }
     {
@@ -116,11 +125,11 @@ impl Cursor {
         }
     }
 
-    /// Takes a sign, if it comes next.
-    pub fn take(&mut self, sign: Sign) -> bool
+    /// Takes a punctuation mark, if it comes next.
+    pub fn take(&mut self, sign: Punctuation) -> bool
         ensures same_end { self.new.end ≡ self.old.end }
-        ensures value { result ≡ begins (sign_of sign) self.old.rest.items }
-        ensures rest { self.new.rest.items ≡ (if begins (sign_of sign) self.old.rest.items then tail self.old.rest.items else self.old.rest.items) }
+        ensures value { result ≡ begins (punctuation_of sign) self.old.rest.items }
+        ensures rest { self.new.rest.items ≡ (if begins (punctuation_of sign) self.old.rest.items then tail self.old.rest.items else self.old.rest.items) }
         ensures shorter { IsTrue result → length self.new.rest.items < length self.old.rest.items }
         ensures no_longer { length self.new.rest.items ≤ length self.old.rest.items }
     {
@@ -131,11 +140,11 @@ impl Cursor {
         comes
     }
 
-    /// Takes a sign, which has to come next.
-    pub fn expect(&mut self, sign: Sign) -> Result<(), SourceFault>
+    /// Takes a punctuation mark, which has to come next.
+    pub fn expect(&mut self, sign: Punctuation) -> Result<(), SourceFault>
         ensures same_end { self.new.end ≡ self.old.end }
-        ensures exact { MatchResult result (λ _. sign_at (sign_of sign) self.old.rest.items ≡ Ok self.new.rest.items)
-            (λ e. located self.old.end (sign_at (sign_of sign) self.old.rest.items) ≡ Err e) }
+        ensures exact { MatchResult result (λ _. punctuation_at (punctuation_of sign) self.old.rest.items ≡ Ok self.new.rest.items)
+            (λ e. located self.old.end (punctuation_at (punctuation_of sign) self.old.rest.items) ≡ Err e) }
         ensures shorter { OnOk result (length self.new.rest.items < length self.old.rest.items) }
     {
         if self.take(sign) {
@@ -189,6 +198,32 @@ impl Cursor {
         }
     }
 
+    fn is_at_no_fallback_table(&self) -> bool
+        ensures { result ≡ is_no_fallback_text (first_text self.now.rest.items) }
+    {
+        match self.first() {
+            Some(token) => match &token.what {
+                Mark::Text(text) => is_no_fallback_table(text.as_slice()),
+                _ => false,
+            },
+            None => false,
+        }
+    }
+
+    /// Takes the text `table(nofallback)`, if it comes next.
+    pub fn take_no_fallback_table(&mut self) -> bool
+        ensures same_end { self.new.end ≡ self.old.end }
+        ensures value { result ≡ is_no_fallback_text (first_text self.old.rest.items) }
+        ensures rest { self.new.rest.items ≡ (if is_no_fallback_text (first_text self.old.rest.items) then tail self.old.rest.items
+            else self.old.rest.items) }
+    {
+        let comes = self.is_at_no_fallback_table();
+        if comes {
+            drop(self.pop());
+        }
+        comes
+    }
+
     /// What a body without a type is, whose brace was taken: the next two tokens decide.
     pub fn guess(&self) -> Result<Guess, SourceFault>
         ensures { result ≡ guessed self.now.end (guess self.now.rest.items) }
@@ -222,28 +257,31 @@ impl Cursor {
         }
     }
 
-    /// The type that a text names, which has to come next.
+    /// The type of a value that a text names, which has to come next.
     pub fn word(&mut self) -> Result<Word, SourceFault>
         ensures same_end { self.new.end ≡ self.old.end }
         ensures exact { Reads (λ w v. w ≡ word_of v) self.old.end result self.new.rest.items (word_at self.old.rest.items) }
         ensures shorter { OnOk result (length self.new.rest.items < length self.old.rest.items) }
     {
-        let unknown = self.fault(SourceKind::UnknownType);
+        let line = self.line();
         let text = self.text()?;
         match Word::read(text.as_slice()) {
             Some(word) => Ok(word),
-            None => Err(unknown),
+            None => Err(SourceFault {
+                kind: word_fault(text.as_slice()),
+                line,
+            }),
         }
     }
 }
 
-fn is_sign(mark: &Mark, sign: Sign) -> bool
-    ensures { result ≡ is_sign (sign_of sign) mark.now }
+fn is_punctuation(mark: &Mark, sign: Punctuation) -> bool
+    ensures { result ≡ is_punctuation (punctuation_of sign) mark.now }
 {
     match sign {
-        Sign::Left => matches!(mark, Mark::LeftBrace),
-        Sign::Right => matches!(mark, Mark::RightBrace),
-        Sign::Colon => matches!(mark, Mark::Colon),
-        Sign::Comma => matches!(mark, Mark::Comma),
+        Punctuation::Left => matches!(mark, Mark::LeftBrace),
+        Punctuation::Right => matches!(mark, Mark::RightBrace),
+        Punctuation::Colon => matches!(mark, Mark::Colon),
+        Punctuation::Comma => matches!(mark, Mark::Comma),
     }
 }

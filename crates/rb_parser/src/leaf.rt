@@ -10,7 +10,7 @@ ghost use Rattle.rb_parser.specs.Reads.{Reads, leaf_at, IsLeafTree, AreNumbers};
 ghost use Rattle.rb_parser.specs.Views.{word_of};
 ghost use Rattle.rb_parser.specs.declared.word.Word.TheVariants as word;
 
-use crate::cursor::{Cursor, Sign};
+use crate::cursor::{Cursor, Punctuation};
 use crate::word::Leaf;
 use rb_grammar::{read_bytes, read_element, read_int};
 use rb_lexer::{SourceFault, SourceKind};
@@ -82,7 +82,7 @@ fn read_numbers(alloc: Global, cursor: &mut Cursor) -> Result<Vec<i32>, SourceFa
             return Err(bad);
         };
         found.push(number)?;
-        cursor.take(Sign::Comma);
+        cursor.take(Punctuation::Comma);
     }
     Ok(found)
 }

@@ -8,7 +8,7 @@ ghost use Rattle.rb_grammar.specs.Tests.{the_tests};
 ghost use Rattle.rb_parser.specs.Reads.{Reads, inner_at, IsBodyTree, IsTableTree, IsArrayTree, AreEntries};
 ghost use Rattle.rb_parser.specs.Views.{word_of};
 
-use crate::cursor::{Cursor, Guess, Sign};
+use crate::cursor::{Cursor, Guess, Punctuation};
 use crate::key::key_bytes;
 use crate::leaf::read_leaf;
 use crate::word::Word;
@@ -26,14 +26,14 @@ pub fn read_body(alloc: Global, cursor: &mut Cursor, depth: u64) -> Result<Tree,
     ensures shorter { OnOk result (length cursor.new.rest.items < length cursor.old.rest.items) }
 {
     if depth == 0 {
-        return Err(cursor.no_room());
+        return Err(cursor.depth_error());
     }
-    if cursor.take(Sign::Colon) {
+    if cursor.take(Punctuation::Colon) {
         let word = cursor.word()?;
-        cursor.expect(Sign::Left)?;
+        cursor.expect(Punctuation::Left)?;
         read_typed(alloc, cursor, word, depth - 1)
     } else {
-        cursor.expect(Sign::Left)?;
+        cursor.expect(Punctuation::Left)?;
         read_untyped(alloc, cursor, depth - 1)
     }
 }
@@ -54,7 +54,7 @@ fn read_typed(
     match word {
         Word::Leaf(leaf) => {
             let tree = read_leaf(alloc, cursor, leaf)?;
-            cursor.expect(Sign::Right)?;
+            cursor.expect(Punctuation::Right)?;
             Ok(tree)
         }
         Word::Table => read_table(alloc, cursor, depth),
@@ -73,7 +73,7 @@ fn read_untyped(alloc: Global, cursor: &mut Cursor, depth: u64) -> Result<Tree, 
     match cursor.guess()? {
         Guess::Text => {
             let text = cursor.text()?;
-            cursor.expect(Sign::Right)?;
+            cursor.expect(Punctuation::Right)?;
             Ok(Tree::String(text))
         }
         Guess::Table => read_table(alloc, cursor, depth),
@@ -131,9 +131,9 @@ fn read_entries(
         }
         let tree = read_body(alloc, cursor, depth)?;
         pairs.push((key, tree))?;
-        cursor.take(Sign::Comma);
+        cursor.take(Punctuation::Comma);
     }
-    cursor.expect(Sign::Right)?;
+    cursor.expect(Punctuation::Right)?;
     Ok(pairs)
 }
 
@@ -157,8 +157,8 @@ fn read_array(alloc: Global, cursor: &mut Cursor, depth: u64) -> Result<Tree, So
         } else {
             break;
         }
-        cursor.take(Sign::Comma);
+        cursor.take(Punctuation::Comma);
     }
-    cursor.expect(Sign::Right)?;
+    cursor.expect(Punctuation::Right)?;
     Ok(Tree::Array(TreeList::from_vec(trees)))
 }

@@ -1,9 +1,11 @@
 // Type words.
 ghost use Rattle.std.specs.Prelude.{◌≡◌, option_map};
-ghost use Rattle.rb_grammar.specs.Reading.{first_word, all_words};
+ghost use Rattle.rb_grammar.specs.Reading.{first_word, all_words, is_no_fallback_word, word_fault};
 ghost use Rattle.rb_parser.specs.Views.{word_of};
 
-/// The type of a body that is written before its brace.
+use rb_lexer::SourceKind;
+
+/// The type of a value, which is written before its brace.
 #[derive(Clone, Copy)]
 pub enum Word {
     Leaf(Leaf),
@@ -21,7 +23,7 @@ pub enum Leaf {
     Ints,
 }
 
-// `string`, `alias`, `binary`, `bin`, `integer`, `int`, `intvector`, `table`, `array`
+// `string`, `alias`, `binary`, `bin`, `integer`, `int`, `intvector`, `table`, `array`, `table(nofallback)`
 const STRING: [u16; 6] = [0x73, 0x74, 0x72, 0x69, 0x6E, 0x67];
 
 const ALIAS: [u16; 5] = [0x61, 0x6C, 0x69, 0x61, 0x73];
@@ -40,8 +42,31 @@ const TABLE: [u16; 5] = [0x74, 0x61, 0x62, 0x6C, 0x65];
 
 const ARRAY: [u16; 5] = [0x61, 0x72, 0x72, 0x61, 0x79];
 
+const NO_FALLBACK_TABLE: [u16; 17] = [
+    0x74, 0x61, 0x62, 0x6C, 0x65, 0x28, 0x6E, 0x6F, 0x66, 0x61, 0x6C, 0x6C, 0x62, 0x61, 0x63, 0x6B,
+    0x29,
+];
+
+/// Whether a text names the type that only a bundle may have.
+pub fn is_no_fallback_table(units: &[u16]) -> bool
+    ensures { result ≡ is_no_fallback_word units.now }
+{
+    units == NO_FALLBACK_TABLE.as_slice()
+}
+
+/// Why a text that names no type of a value is refused.
+pub fn word_fault(units: &[u16]) -> SourceKind
+    ensures { result ≡ word_fault units.now }
+{
+    if is_no_fallback_table(units) {
+        SourceKind::Unexpected
+    } else {
+        SourceKind::UnknownType
+    }
+}
+
 impl Word {
-    /// The type that a text names, if it names one.
+    /// The type of a value that a text names, if it names one.
     pub fn read(units: &[u16]) -> Option<Word>
         ensures { result ≡ option_map word_of (first_word units.now all_words) }
     {

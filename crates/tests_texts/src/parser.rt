@@ -130,6 +130,13 @@ fn refuses_with_the_line(rt: HostRuntime) -> Result<(), Fail> {
         (b"root{a:int{\"\"}}", SourceKind::BadInt, 1),
         (b"root{a:string{a,}}", SourceKind::Unexpected, 1),
         (b"root{a{,}}", SourceKind::Unexpected, 1),
+        (b"root{a:table(nofallback){}}", SourceKind::Unexpected, 1),
+        (
+            b"root{a{:\n\"table(nofallback)\"{}}}",
+            SourceKind::Unexpected,
+            2,
+        ),
+        (b"root:table(fallback){}", SourceKind::UnknownType, 1),
     ];
     for (text, kind, line) in rows {
         assert_eq!(rt; fault_of(rt.alloc(), text), Some((kind, line)));
@@ -143,8 +150,23 @@ fn refuses_with_the_line(rt: HostRuntime) -> Result<(), Fail> {
 }
 
 #[test]
+fn reads_the_flag(rt: HostRuntime) -> Result<(), Fail> {
+    let rows = [
+        (b"de:table(nofallback){a{\"b\"}}".as_slice(), true),
+        (b"de:\"table(nofallback)\"{}", true),
+        (b"de:table{a{\"b\"}}", false),
+        (b"de{a{\"b\"}}", false),
+    ];
+    for (text, expected) in rows {
+        let source = parse(rt.alloc(), text).map_err(|e| e.kind.word())?;
+        assert_eq!(rt; source.no_fallback, expected);
+    }
+    Ok(())
+}
+
+#[test]
 fn bounds_the_height(rt: HostRuntime) -> Result<(), Fail> {
-    for (n, expected) in [(31, None), (32, Some((SourceKind::TooDeep, 1)))] {
+    for (n, expected) in [(63, None), (64, Some((SourceKind::TooDeep, 1)))] {
         let arrays = text_of(rt.alloc(), b"root{", b"a{", n, n + 1)?;
         assert_eq!(rt; fault_of(rt.alloc(), arrays.as_slice()), expected);
         let mut texts = text_of(rt.alloc(), b"root{", b"a{", n, 0)?;

@@ -4,4 +4,4 @@ use Rattle.rb_grammar.proofs.Meaning.{read_spelled}
 use Rattle.rb_grammar.proofs.laws.read_is_spelled.Goals as goal
 
 pub returns : goal.returns
-returns c = λ ts name typed form e. let r = read_spelled the_tests are_tests ts name typed form e in (r.tree, r.spelled, r.means, r.low)
+returns c = λ ts name head form e. let r = read_spelled the_tests are_tests ts name head form e in (r.source, r.spelled, r.means, r.flag, r.low)

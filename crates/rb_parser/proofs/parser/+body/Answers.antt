@@ -9,20 +9,20 @@ use Rattle.rb_tree.specs.Keys.{IsKey}
 use Rattle.rb_tree.specs.Table.{IsFirstRepeat, keys_in}
 use Rattle.rb_grammar.specs.Faults.{line_at}
 use Rattle.rb_grammar.specs.Form.{leaf, plain}
-use Rattle.rb_grammar.specs.Reading.{left, right, colon, begins, tail, first_text, after_comma, sign_at, is_among, word_at, typed_at, untyped_at, guess, body, entries, elements}
+use Rattle.rb_grammar.specs.Reading.{left, right, colon, begins, tail, first_text, after_comma, punctuation_at, is_among, word_at, typed_at, untyped_at, guess, body, entries, elements}
 use Rattle.rb_grammar.specs.Tests.{the_tests}
 use Rattle.rb_parser.specs.Reads.{located, inner_at, leaf_at, IsBodyTree}
 use Rattle.rb_parser.specs.Views.{word_of}
 use Rattle.rb_parser.proofs.Steps.{fault_is}
 use Rattle.rb_parser.proofs.Rows.{Pair, keys_behind, entries_start, entries_turn, entries_end, stop_bad_key, stop_twice, stop_body, stop_open, was_seen, was_held, was_new, same_keys_none, same_keys_push}
 use Rattle.rb_parser.proofs.Parts as parts
-use Rattle.rb_parser.proofs.Bodies.{reads_same, located_same, no_room, bad_word, no_brace, typed_body, unopened, untyped_body, leaf_stops, leaf_open, leaf_reads, plain_reads, keys_more, keys_none, table_spells, table_passed, no_repeat}
+use Rattle.rb_parser.proofs.Bodies.{reads_same, located_same, depth_error, bad_word, no_brace, typed_body, unopened, untyped_body, leaf_stops, leaf_open, leaf_reads, plain_reads, keys_more, keys_none, table_spells, table_passed, no_repeat}
 use Rattle.rb_parser.proofs.parser.+body.Goals.{read_array-in-Some+else-depth-eq0+in_ok-push, read_array-in_default+then-is_at_body+in_ok-read_body+in_ok-push-2}
 use Rattle.rb_parser.proofs.parser.+body.Goals as goal
 
 pub read_body-returns-then-depth-eq0-clause-exact : goal.read_body-returns-then-depth-eq0-clause-exact
 read_body-returns-then-depth-eq0-clause-exact t c = λ other.
-    no_room c.args.cursor.now.end c.args.depth c.args.cursor.now.rest.items c.no_room.result c.if-depth-eq0.true c.no_room.ensures.kind c.no_room.ensures.line
+    depth_error c.args.cursor.now.end c.args.depth c.args.cursor.now.rest.items c.depth_error.result c.if-depth-eq0.true c.depth_error.ensures.kind c.depth_error.ensures.line
 
 pub read_body-returns-in_err-word-clause-exact : goal.read_body-returns-in_err-word-clause-exact
 read_body-returns-in_err-word-clause-exact t c =
@@ -185,7 +185,7 @@ read_entries-returns-in_err-expect-clause-exact t c =
     let same : c.take_text.new.self.end ≡ c.args.cursor.now.end = c.take_text.ensures.same_end ∙ inv.same_end in
     let p = err_from_is_err_and c.from_residual-in_err-expect.result c.from_residual-in_err-expect.ensures.1 in
     λ n enough. rw (p.1, p.2) (λ other. stop_open reads n start ts pairs (inv.so_far n enough) c.args.cursor.now.end _ none
-    (ap₂ (λ e r. located e (sign_at right r)) (sym same) (sym c.in_default.ensures.rest) ∙ c.in_err-expect.ensures.exact))
+    (ap₂ (λ e r. located e (punctuation_at right r)) (sym same) (sym c.in_default.ensures.rest) ∙ c.in_err-expect.ensures.exact))
 
 pub read_entries-returns-clause-exact : goal.read_entries-returns-clause-exact
 read_entries-returns-clause-exact t c =
@@ -196,7 +196,7 @@ read_entries-returns-clause-exact t c =
     let inv = c.entries.invariant in
     let none : first_text ts ≡ None = c.in_default.ensures.text in
     let same : c.take_text.new.self.end ≡ c.args.cursor.now.end = c.take_text.ensures.same_end ∙ inv.same_end in
-    λ n enough. entries_end reads n start ts pairs (inv.so_far n enough) c.expect.new.self.rest.items none (ap (sign_at right) (sym c.in_default.ensures.rest) ∙ c.in_ok-expect.ensures.exact)
+    λ n enough. entries_end reads n start ts pairs (inv.so_far n enough) c.expect.new.self.rest.items none (ap (punctuation_at right) (sym c.in_default.ensures.rest) ∙ c.in_ok-expect.ensures.exact)
 
 pub read_array-returns-then-depth-eq0-clause-exact : goal.read_array-returns-then-depth-eq0-clause-exact
 read_array-returns-then-depth-eq0-clause-exact t c =
@@ -242,7 +242,7 @@ read_array-returns-in_err-expect-clause-exact t c =
     let at : c.is_at_body.result ≡ (begins colon ts || begins left ts) = c.is_at_body.ensures ∙ ap (λ r. begins colon r || begins left r) stays in
     let p = err_from_is_err_and c.from_residual-in_err-expect.result c.from_residual-in_err-expect.ensures.1 in
     rw (p.1, p.2) (λ other. parts.stop_open room reads n start ts trees inv.so_far c.args.cursor.now.end _ none (sym at ∙ c.if-is_at_body.false)
-    (ap₂ (λ e r. located e (sign_at right r)) (sym same) (sym stays) ∙ c.in_err-expect.ensures.exact))
+    (ap₂ (λ e r. located e (punctuation_at right r)) (sym same) (sym stays) ∙ c.in_err-expect.ensures.exact))
 
 pub read_array-returns-clause-exact : goal.read_array-returns-clause-exact
 read_array-returns-clause-exact t c =
@@ -257,7 +257,7 @@ read_array-returns-clause-exact t c =
     let same : c.take_text.new.self.end ≡ c.args.cursor.now.end = c.take_text.ensures.same_end ∙ inv.same_end in
     let stays : c.take_text.new.self.rest.items ≡ ts = c.in_default.ensures.rest in
     let at : c.is_at_body.result ≡ (begins colon ts || begins left ts) = c.is_at_body.ensures ∙ ap (λ r. begins colon r || begins left r) stays in
-    let x = parts.elements_end room reads n start ts trees inv.so_far c.expect.new.self.rest.items none (sym at ∙ c.if-is_at_body.false) (ap (sign_at right) (sym stays) ∙ c.in_ok-expect.ensures.exact) in
+    let x = parts.elements_end room reads n start ts trees inv.so_far c.expect.new.self.rest.items none (sym at ∙ c.if-is_at_body.false) (ap (punctuation_at right) (sym stays) ∙ c.in_ok-expect.ensures.exact) in
     (x.0, x.1, (_, ap (λ v. Rattle.rb_tree.specs.Resource.array v) c.from_vec.ensures, x.2))
 
 pub read_array-elements-preserved : goal.read_array-elements-preserved
