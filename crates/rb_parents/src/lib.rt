@@ -7,8 +7,6 @@ mod limits;
 mod parents;
 mod route;
 mod shelf;
-#[cfg(test)]
-mod tests;
 
 pub use fault::{ParentsFault, TrailFault};
 pub use limits::TRAIL_LIMIT;

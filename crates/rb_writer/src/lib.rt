@@ -12,8 +12,6 @@ mod keys;
 mod leaves;
 mod put;
 mod table;
-#[cfg(test)]
-mod tests;
 mod tree;
 
 pub use file::write;
