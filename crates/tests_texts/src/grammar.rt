@@ -11,6 +11,11 @@ fn units(alloc: Global, text: &str) -> Result<Vec<u16>, Fail> {
     Ok(units)
 }
 
+/// The Int that a text spells.
+fn int(alloc: Global, text: &str) -> Result<Option<u32>, Fail> {
+    Ok(read_int(&units(alloc, text)?))
+}
+
 #[test]
 fn reads_ints(rt: HostRuntime) -> Result<(), Fail> {
     let alloc = rt.alloc();
@@ -27,12 +32,16 @@ fn reads_ints(rt: HostRuntime) -> Result<(), Fail> {
         ("", None),
     ];
     for (text, want) in rows {
-        assert_eq!(rt; read_int(&units(alloc, text)?), want, "at {text}");
+        assert!(rt; int(alloc, text)? == want, "at {text}");
     }
     let nines = vec![in alloc; b'9' as u16; 1_000_000]?;
-    assert_eq!(rt; read_int(&nines), None);
-    assert_eq!(rt; read_element(&nines), None);
+    assert!(rt; read_int(&nines).is_none() && read_element(&nines).is_none());
     Ok(())
+}
+
+/// The element of a vector that a text spells.
+fn element(alloc: Global, text: &str) -> Result<Option<i32>, Fail> {
+    Ok(read_element(&units(alloc, text)?))
 }
 
 #[test]
@@ -48,22 +57,37 @@ fn reads_elements(rt: HostRuntime) -> Result<(), Fail> {
         ("-2147483649", None),
     ];
     for (text, want) in rows {
-        assert_eq!(rt; read_element(&units(alloc, text)?), want, "at {text}");
+        assert!(rt; element(alloc, text)? == want, "at {text}");
     }
     Ok(())
+}
+
+/// Whether a text spells these bytes.
+fn spells(alloc: Global, text: &str, bytes: &[u8]) -> Result<bool, Fail> {
+    Ok(match read_bytes(alloc, &units(alloc, text)?)? {
+        Some(found) => found.as_slice() == bytes,
+        None => false,
+    })
+}
+
+/// Whether a text spells no bytes, not even none.
+fn spells_nothing(alloc: Global, text: &str) -> Result<bool, Fail> {
+    Ok(read_bytes(alloc, &units(alloc, text)?)?.is_none())
+}
+
+/// Whether a text is a key.
+fn is_key_text(alloc: Global, text: &str) -> Result<bool, Fail> {
+    Ok(is_key(&units(alloc, text)?))
 }
 
 #[test]
 fn reads_bytes_and_keys(rt: HostRuntime) -> Result<(), Fail> {
     let alloc = rt.alloc();
-    let bytes = read_bytes(alloc, &units(alloc, "00 ff 7F")?)?.ok_or("refused")?;
-    assert_eq!(rt; bytes.as_slice(), [0, 255, 127].as_slice());
-    let split = read_bytes(alloc, &units(alloc, "0 0")?)?.ok_or("refused")?;
-    assert_eq!(rt; split.as_slice(), [0].as_slice());
-    let none = read_bytes(alloc, &units(alloc, " ")?)?.ok_or("refused")?;
-    assert!(rt; none.is_empty());
-    assert!(rt; read_bytes(alloc, &units(alloc, "0")?)?.is_none());
-    assert!(rt; is_key(&units(alloc, "a b~")?));
-    assert!(rt; !is_key(&units(alloc, "")?));
+    assert!(rt; spells(alloc, "00 ff 7F", &[0, 255, 127])?);
+    assert!(rt; spells(alloc, "0 0", &[0])?);
+    assert!(rt; spells(alloc, " ", &[])?);
+    assert!(rt; spells_nothing(alloc, "0")?);
+    assert!(rt; is_key_text(alloc, "a b~")?);
+    assert!(rt; !is_key_text(alloc, "")?);
     Ok(())
 }

@@ -1,43 +1,83 @@
 // Worked sources, with what they must give.
-use rb_lexer::{Mark, SourceKind, Token, lex};
+use rb_lexer::{Mark, SourceFault, SourceKind, Token, lex};
 use std::alloc::Global;
 use std::test::Fail;
 
-fn units(token: &Token) -> &[u16] {
+/// Whether a token is this text.
+fn is_text(token: &Token, units: &[u16]) -> bool {
     match &token.what {
-        Mark::Text(units) => units.as_slice(),
-        _ => &[],
+        Mark::Text(text) => text.as_slice() == units,
+        _ => false,
     }
 }
 
-fn fault_of(alloc: Global, source: &[u8]) -> Option<(SourceKind, u64)> {
+/// Whether a source is refused with this fault at this line.
+fn is_refused(alloc: Global, source: &[u8], kind: SourceKind, line: u64) -> bool {
     match lex(alloc, source) {
-        Ok(_) => None,
-        Err(e) => Some((e.kind, e.line)),
+        Ok(_) => false,
+        Err(fault) => fault.kind == kind && fault.line == line,
     }
+}
+
+/// Whether tokens are `a`, a brace, `b c` and a brace.
+fn are_marks(tokens: &[Token]) -> bool {
+    tokens.len() == 4
+        && is_text(&tokens[0], &[97])
+        && matches!(tokens[1].what, Mark::LeftBrace)
+        && is_text(&tokens[2], &[98, 32, 99])
+        && matches!(tokens[3].what, Mark::RightBrace)
+}
+
+/// Whether tokens have these spans, all in line 1.
+fn are_at(tokens: &[Token], spans: &[(usize, usize)]) -> bool {
+    if tokens.len() != spans.len() {
+        return false;
+    }
+    for i in 0..tokens.len() {
+        let (first, past) = spans[i];
+        if tokens[i].first != first || tokens[i].past != past || tokens[i].line != 1 {
+            return false;
+        }
+    }
+    true
 }
 
 #[test]
-fn tells_spans_and_lines(rt: HostRuntime) -> Result<(), Fail> {
+fn tells_spans(rt: HostRuntime) -> Result<(), Fail> {
     let tokens = lex(rt.alloc(), b"a{\"b\" /* x */ c}")?;
-    assert_eq!(rt; tokens.len(), 4);
-    assert_eq!(rt; units(&tokens[0]), [97].as_slice());
-    assert!(rt; matches!(tokens[1].what, Mark::LeftBrace));
-    assert_eq!(rt; units(&tokens[2]), [98, 32, 99].as_slice());
-    assert!(rt; matches!(tokens[3].what, Mark::RightBrace));
-    let spans = [(0, 1), (1, 2), (2, 15), (15, 16)];
-    for (token, (first, past)) in tokens.iter().zip(spans) {
-        assert_eq!(rt; token.first, first);
-        assert_eq!(rt; token.past, past);
-        assert_eq!(rt; token.line, 1);
-    }
-    let lines = lex(rt.alloc(), b"a:\r\n/*\n*/ ,\"\r\n\" {")?;
-    for (token, line) in lines.iter().zip([1, 1, 3, 3, 4]) {
-        assert_eq!(rt; token.line, line);
-    }
-    assert_eq!(rt; lines.len(), 5);
-    assert!(rt; std::mem::size_of::<Token>() <= 64);
+    assert!(rt; are_marks(&tokens));
+    assert!(rt; are_at(&tokens, &[(0, 1), (1, 2), (2, 15), (15, 16)]));
     Ok(())
+}
+
+/// Whether tokens begin in these lines.
+fn are_in(tokens: &[Token], lines: &[u64]) -> bool {
+    if tokens.len() != lines.len() {
+        return false;
+    }
+    for i in 0..tokens.len() {
+        if tokens[i].line != lines[i] {
+            return false;
+        }
+    }
+    true
+}
+
+#[test]
+fn tells_lines(rt: HostRuntime) -> Result<(), Fail> {
+    let tokens = lex(rt.alloc(), b"a:\r\n/*\n*/ ,\"\r\n\" {")?;
+    assert!(rt; are_in(&tokens, &[1, 1, 3, 3, 4]));
+    Ok(())
+}
+
+#[test]
+fn tokens_are_small(rt: HostRuntime) {
+    assert!(rt; std::mem::size_of::<Token>() <= 64);
+}
+
+/// How many tokens a source has.
+fn count(alloc: Global, source: &[u8]) -> Result<usize, SourceFault> {
+    Ok(lex(alloc, source)?.len())
 }
 
 #[test]
@@ -50,11 +90,16 @@ fn counts_tokens(rt: HostRuntime) -> Result<(), Fail> {
         ("\u{FEFF}a\u{FEFF}{\u{2029}}", 3),
         ("//\u{2029}a//\r{", 2),
     ];
-    for (source, count) in rows {
-        let tokens = lex(rt.alloc(), source.as_bytes())?;
-        assert_eq!(rt; tokens.len(), count);
+    for (source, want) in rows {
+        assert!(rt; count(rt.alloc(), source.as_bytes())? == want);
     }
     Ok(())
+}
+
+/// Whether a source is this one text.
+fn is_one_text(alloc: Global, source: &[u8], units: &[u16]) -> Result<bool, SourceFault> {
+    let tokens = lex(alloc, source)?;
+    Ok(tokens.len() == 1 && is_text(&tokens[0], units))
 }
 
 #[test]
@@ -83,9 +128,7 @@ fn reads_one_text(rt: HostRuntime) -> Result<(), Fail> {
         ("\u{FEFF}\u{E9}\u{1F600}", &[233, 55357, 56832]),
     ];
     for (source, text) in rows {
-        let tokens = lex(rt.alloc(), source.as_bytes())?;
-        assert_eq!(rt; tokens.len(), 1);
-        assert_eq!(rt; units(&tokens[0]), text);
+        assert!(rt; is_one_text(rt.alloc(), source.as_bytes(), text)?);
     }
     Ok(())
 }
@@ -106,17 +149,19 @@ fn refuses(rt: HostRuntime) {
         ("/*/", SourceKind::OpenComment, 1),
     ];
     for (source, kind, line) in rows {
-        assert_eq!(rt; fault_of(rt.alloc(), source.as_bytes()), Some((kind, line)));
+        assert!(rt; is_refused(rt.alloc(), source.as_bytes(), kind, line));
     }
-    assert_eq!(rt;
-        fault_of(rt.alloc(), b"\xFF"),
-        Some((SourceKind::NotUtf8, 1))
-    );
-    assert_eq!(rt;
-        fault_of(rt.alloc(), b"\\c\n\n\xE2\x80"),
-        Some((SourceKind::NotUtf8, 3))
-    );
-    assert_eq!(rt; SourceKind::NotUtf8.word(), "NotUtf8");
+    assert!(rt; is_refused(rt.alloc(), b"\xFF", SourceKind::NotUtf8, 1));
+    assert!(rt; is_refused(rt.alloc(), b"\\c\n\n\xE2\x80", SourceKind::NotUtf8, 3));
+    assert!(rt; SourceKind::NotUtf8.word() == "NotUtf8");
+}
+
+/// Whether a token is a text of so many units.
+fn has_units(token: &Token, count: usize) -> bool {
+    match &token.what {
+        Mark::Text(text) => text.as_slice().len() == count,
+        _ => false,
+    }
 }
 
 #[test]
@@ -126,19 +171,15 @@ fn reads_long_sources(rt: HostRuntime) -> Result<(), Fail> {
         source.extend_from_slice(b" \"b\",")?;
     }
     let tokens = lex(rt.alloc(), &source)?;
-    assert_eq!(rt; tokens.len(), 20_000);
-    assert_eq!(rt; units(&tokens[0]).len(), 50_002);
+    assert!(rt; tokens.len() == 20_000 && has_units(&tokens[0], 50_002));
     Ok(())
 }
 
 #[test]
 fn reads_texts_up_to_the_limit(rt: HostRuntime) -> Result<(), Fail> {
     let mut spaces = vec![in rt.alloc(); b' '; 8_388_608]?;
-    assert_eq!(rt; lex(rt.alloc(), &spaces)?.len(), 0);
+    assert!(rt; count(rt.alloc(), &spaces)? == 0);
     spaces.push(b' ')?;
-    assert_eq!(rt;
-        fault_of(rt.alloc(), &spaces),
-        Some((SourceKind::TooLong, 1))
-    );
+    assert!(rt; is_refused(rt.alloc(), &spaces, SourceKind::TooLong, 1));
     Ok(())
 }

@@ -72,33 +72,36 @@ fn guesses_and_reads_types(rt: HostRuntime) -> Result<(), Fail> {
         (b"root{m:alias{\"fr/x\"}}", b"m", Some((Kind::Alias, 4))),
     ];
     for (text, path, expected) in rows {
-        assert_eq!(rt;
-            shape(rt.alloc(), text, path).map_err(|e| e.kind.word())?,
-            expected
-        );
+        assert!(rt; shape(rt.alloc(), text, path)? == expected);
     }
     Ok(())
+}
+
+/// Whether an Int is at a path.
+fn is_int(source: &Source, path: &[u8], n: u32) -> bool {
+    match at(source, path) {
+        Some(Tree::Int(number)) => number.get() == n,
+        _ => false,
+    }
+}
+
+/// Whether these numbers are at a path.
+fn is_ints(source: &Source, path: &[u8], numbers: &[i32]) -> bool {
+    match at(source, path) {
+        Some(Tree::Ints(found)) => found.as_slice() == numbers,
+        _ => false,
+    }
 }
 
 #[test]
 fn reads_numbers(rt: HostRuntime) -> Result<(), Fail> {
     let text =
         b"root{a:int{268435455} b:int{-134217728} c:int{010} d:int{0x10} v:intvector{1,-1,4294967295,0x80000000}}";
-    let source = parse(rt.alloc(), text).map_err(|e| e.kind.word())?;
-    for (path, expected) in [(b"a", 268435455), (b"b", 134217728), (b"c", 8), (b"d", 16)] {
-        let number = match at(&source, path) {
-            Some(tree) if tree.kind() == Kind::Int => Some(tree.int()),
-            _ => None,
-        };
-        assert_eq!(rt; number, Some(expected));
+    let source = parse(rt.alloc(), text)?;
+    for (path, n) in [(b"a", 268435455), (b"b", 134217728), (b"c", 8), (b"d", 16)] {
+        assert!(rt; is_int(&source, path, n));
     }
-    match at(&source, b"v") {
-        Some(Tree::Ints(numbers)) => assert_eq!(rt;
-            numbers.as_slice(),
-            [1, -1, -1, -2147483648].as_slice()
-        ),
-        _ => assert!(rt; false),
-    }
+    assert!(rt; is_ints(&source, b"v", &[1, -1, -1, -2147483648]));
     Ok(())
 }
 
@@ -139,14 +142,16 @@ fn refuses_with_the_line(rt: HostRuntime) -> Result<(), Fail> {
         (b"root:table(fallback){}", SourceKind::UnknownType, 1),
     ];
     for (text, kind, line) in rows {
-        assert_eq!(rt; fault_of(rt.alloc(), text), Some((kind, line)));
+        assert!(rt; fault_of(rt.alloc(), text) == Some((kind, line)));
     }
     let nines = text_of(rt.alloc(), b"root{a:int{", b"9", 1_000_000, 2)?;
-    assert_eq!(rt;
-        fault_of(rt.alloc(), nines.as_slice()),
-        Some((SourceKind::BadInt, 1))
-    );
+    assert!(rt; fault_of(rt.alloc(), nines.as_slice()) == Some((SourceKind::BadInt, 1)));
     Ok(())
+}
+
+/// The flag of a bundle text.
+fn flag(alloc: Global, text: &[u8]) -> Result<bool, SourceFault> {
+    Ok(parse(alloc, text)?.no_fallback)
 }
 
 #[test]
@@ -158,8 +163,7 @@ fn reads_the_flag(rt: HostRuntime) -> Result<(), Fail> {
         (b"de{a{\"b\"}}", false),
     ];
     for (text, expected) in rows {
-        let source = parse(rt.alloc(), text).map_err(|e| e.kind.word())?;
-        assert_eq!(rt; source.no_fallback, expected);
+        assert!(rt; flag(rt.alloc(), text)? == expected);
     }
     Ok(())
 }
@@ -168,32 +172,29 @@ fn reads_the_flag(rt: HostRuntime) -> Result<(), Fail> {
 fn bounds_the_height(rt: HostRuntime) -> Result<(), Fail> {
     for (n, expected) in [(63, None), (64, Some((SourceKind::TooDeep, 1)))] {
         let arrays = text_of(rt.alloc(), b"root{", b"a{", n, n + 1)?;
-        assert_eq!(rt; fault_of(rt.alloc(), arrays.as_slice()), expected);
+        assert!(rt; fault_of(rt.alloc(), arrays.as_slice()) == expected);
         let mut texts = text_of(rt.alloc(), b"root{", b"a{", n, 0)?;
         texts.extend_from_slice(b"\"x\"")?;
         for _ in 0..=n {
             texts.push(b'}')?;
         }
-        assert_eq!(rt; fault_of(rt.alloc(), texts.as_slice()), expected);
+        assert!(rt; fault_of(rt.alloc(), texts.as_slice()) == expected);
     }
     let endless = text_of(rt.alloc(), b"root{", b"a{", 4_000_000, 0)?;
-    assert_eq!(rt;
-        fault_of(rt.alloc(), endless.as_slice()),
-        Some((SourceKind::TooDeep, 1))
-    );
+    assert!(rt; fault_of(rt.alloc(), endless.as_slice()) == Some((SourceKind::TooDeep, 1)));
     Ok(())
+}
+
+/// The weight of a bundle text's tree.
+fn weight(alloc: Global, text: &[u8]) -> Result<u64, SourceFault> {
+    Ok(parse(alloc, text)?.tree.weight())
 }
 
 #[test]
 fn bounds_the_weight(rt: HostRuntime) -> Result<(), Fail> {
     let most = text_of(rt.alloc(), b"root{a{", b"a,", 2_396_743, 2)?;
-    let source = parse(rt.alloc(), most.as_slice()).map_err(|e| e.kind.word())?;
-    assert_eq!(rt; source.tree.weight(), 33_554_424);
-    drop(source);
+    assert!(rt; weight(rt.alloc(), most.as_slice())? == 33_554_424);
     let more = text_of(rt.alloc(), b"root{a{", b"a,", 2_396_744, 2)?;
-    assert_eq!(rt;
-        fault_of(rt.alloc(), more.as_slice()),
-        Some((SourceKind::TooLarge, 1))
-    );
+    assert!(rt; fault_of(rt.alloc(), more.as_slice()) == Some((SourceKind::TooLarge, 1)));
     Ok(())
 }
