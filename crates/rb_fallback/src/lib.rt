@@ -1,4 +1,4 @@
-//! Look-ups that follow locale inheritance and aliases.
+//! Lookups that follow locale inheritance and aliases.
 #![tactic(auto)]
 
 mod alias;

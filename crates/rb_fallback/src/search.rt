@@ -82,7 +82,7 @@ fn follow_alias<N: Node>(
     }
 }
 
-// The deciding walk of a level, in the package where the search stands.
+// The deciding walk of a level, in the package of a place.
 fn level_at<'a, S: Shelf<'a>, I: Shelf<'a, N = S::N>>(
     own: S,
     icu: I,
