@@ -1,9 +1,12 @@
 //! Writing a tree as a resource bundle's file.
 #![tactic(auto)]
 
+mod area;
 mod collect;
 mod containers;
+mod data;
 mod file;
+mod header;
 mod item;
 mod keys;
 mod leaves;
@@ -13,4 +16,4 @@ mod table;
 mod tests;
 mod tree;
 
-pub use file::{HEADER, write};
+pub use file::write;
