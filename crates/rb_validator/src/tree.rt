@@ -186,7 +186,8 @@ fn decode_entries(
     requires items { first + count ≤ layout.now.top }
     requires places { IsIn body.now places count }
     requires readable { IsOk (table_of layout.now body.now (λ w. read layout.now body.now left w) (offsets.key_offset body.now places) first count) }
-    ensures { IfOk result (λ tree. result_map table (table_of layout.now body.now (λ w. read layout.now body.now left w) (offsets.key_offset body.now places) first count) ≡ Ok (view_of tree)) }
+    ensures { IfOk result (λ tree. result_map table (table_of layout.now body.now (λ w. read layout.now body.now left w)
+        (offsets.key_offset body.now places) first count) ≡ Ok (view_of tree)) }
 {
     let mut pairs = Vec::with_capacity(alloc, count)?;
     for i in 0..count {

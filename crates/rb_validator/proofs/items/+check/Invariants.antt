@@ -26,7 +26,8 @@ decreases-check_each l = 73786976294838206464 * l.left + 2 * l.count + 1
 abbrev pub invariant-check_each-loop-i : goal.invariant-check_each-loop-i
 invariant-check_each-loop-i l =
     record {
-      value : result_map (λ ts. max l.height (trees_height ts)) (run_of l.layout l.body l.left l.i (l.first + l.count - l.i)) ≡ result_map trees_height (run_of l.layout l.body l.left l.first l.count);
+      value : result_map (λ ts. max l.height (trees_height ts)) (run_of l.layout l.body l.left l.i (l.first + l.count - l.i)) ≡ result_map trees_height
+          (run_of l.layout l.body l.left l.first l.count);
       low : l.height ≤ l.left;
       sound : IsSound l.layout l.body l.state.keys.known;
       after : After l.layout l.body l.initial.state.memo l.state.memo;
