@@ -36,16 +36,13 @@ map_is_ok f (Err e) h = absurd cc
 
 -- ---- an item
 
-levels_left : (y : Layout) (body : List ℕ) (d item : ℕ) → IsOk (read y body d item) → 0 < d
-unfolding read
-levels_left y body zero item h = absurd cc
-levels_left y body (suc d) item h = omega arith
-
 pub item_levels : (y : Layout) (body : List ℕ) (d item : ℕ) → IsOk (read y body d item) → 0 < d
-item_levels = levels_left
+unfolding read
+item_levels y body zero item h = absurd cc
+item_levels y body (suc d) item h = omega arith
 
 pub item_kind_there : (y : Layout) (body : List ℕ) (d item : ℕ) → IsOk (read y body d item) → kind_of item ≡ None → ⊥
-item_kind_there y body d item h e = refused (read y body d item) h (read_no_kind y body d item (levels_left y body d item h) e)
+item_kind_there y body d item h e = refused (read y body d item) h (read_no_kind y body d item (item_levels y body d item h) e)
   where
     refused : (r : Result Resource FileFault) → IsOk r → r ≡ Err faults.ItemType → ⊥
     refused (Ok t) h e = cc
@@ -53,7 +50,7 @@ item_kind_there y body d item h e = refused (read y body d item) h (read_no_kind
 
 value_of_item : (y : Layout) (body : List ℕ) (d item : ℕ) (k : ItemKind) → IsOk (read y body d item) → kind_of item ≡ Some k
     → read y body d item ≡ value y body (λ w. read y body (d - 1) w) (offset_of item) k
-value_of_item y body d item k h e = read_kind y body d item k (levels_left y body d item h) e
+value_of_item y body d item k h e = read_kind y body d item k (item_levels y body d item h) e
 
 -- an item with data, and one without
 pub record HasData (y : Layout) (body : List ℕ) (d item : ℕ) (k : ItemKind) : Type 0 where
