@@ -4,6 +4,7 @@
 mod attributes;
 mod constants;
 mod fault;
+mod geometry;
 mod header;
 mod kind;
 pub mod laws;
@@ -18,6 +19,7 @@ pub use constants::{
     HEADER_SIZE, INDEX_COUNT, INFO_SIZE, MAGIC, MAJOR_VERSION, MINOR_VERSION, UNIT_SIZE,
 };
 pub use fault::FileFault;
+pub use geometry::{KeyPlaces, TableParts, long_table_parts, table_parts};
 pub use header::{Header, body, is_short_enough};
 pub use kind::{ItemKind, is_table, item_kind, item_offset, item_type};
 pub use layout::{Layout, is_laid};

@@ -1,0 +1,65 @@
+// Where the parts of tables stand.
+ghost use Rattle.std.specs.Prelude.{◌≡◌, ◌+◌, ◌*◌, ◌≤◌, ◌<◌, ◌^◌, length};
+ghost use Rattle.rb_format.specs.Geometry as parts;
+ghost use Rattle.rb_format.specs.Geometry.{key_offset, keys_end};
+
+use crate::place::{half_at, word_at};
+
+/// Where the key offsets of a table begin: at a half word, or at a word.
+#[derive(Clone, Copy, Debug, PartialEq, Eq)]
+pub enum KeyPlaces {
+    Halves(usize),
+    Words(usize),
+}
+
+impl KeyPlaces {
+    /// The offset of key i, in bytes from the root item.
+    pub fn offset(self, body: &[u8], i: usize) -> u32
+        requires { keys_end self (i + 1) ≤ length body.now }
+        ensures { result ≡ key_offset body.now self i }
+    {
+        match self {
+            KeyPlaces::Halves(first) => u32::from(half_at(body, first + i)),
+            KeyPlaces::Words(first) => word_at(body, first + i),
+        }
+    }
+}
+
+/// Where the parts of a table stand.
+#[derive(Clone, Copy, Debug, PartialEq, Eq)]
+pub struct TableParts {
+    /// The offsets of its keys.
+    pub keys: KeyPlaces,
+    /// The word of its first item, behind which the others follow.
+    pub first: usize,
+    /// How many entries it has.
+    pub count: usize,
+}
+
+/// The parts of the table at a word, whose count is a half word.
+pub fn table_parts(body: &[u8], offset: u32) -> TableParts
+    requires { 4 * offset + 2 ≤ length body.now }
+    ensures { result ≡ parts.table_parts body.now offset }
+{
+    let offset = offset as usize;
+    let count = half_at(body, 2 * offset) as usize;
+    TableParts {
+        keys: KeyPlaces::Halves(2 * offset + 1),
+        first: offset + (count + 2) / 2,
+        count,
+    }
+}
+
+/// The parts of the long table at a word, whose count is a word.
+pub fn long_table_parts(body: &[u8], offset: u32) -> TableParts
+    requires { 4 * offset + 4 ≤ length body.now }
+    ensures { result ≡ parts.long_table_parts body.now offset }
+{
+    let offset = offset as usize;
+    let count = word_at(body, offset) as usize;
+    TableParts {
+        keys: KeyPlaces::Words(offset + 1),
+        first: offset + 1 + count,
+        count,
+    }
+}

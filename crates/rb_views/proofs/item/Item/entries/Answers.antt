@@ -1,0 +1,14 @@
+use Rattle.std.proofs.Common.{arith}
+use Rattle.rb_views.proofs.Readings.{laid_room}
+use Rattle.rb_views.proofs.item.Item.entries.Goals as goal
+
+pub invariant_of-result : goal.invariant_of-result
+invariant_of-result c =
+    let s = c.args.self in
+    let e = c.parts.ensures in
+    let b = e.below in
+    let r = laid_room s.body.now s.laid in
+    record { laid = s.laid; keys = omega arith; stands = e.stand }
+
+pub returns : goal.returns
+returns c = c.parts.ensures.are

@@ -1,0 +1,4 @@
+pub mod Trees
+pub mod Stands
+pub mod Parts
+pub mod Seen

@@ -1,0 +1,40 @@
+// Views of arrays.
+ghost use Rattle.std.specs.Prelude.{◌≡◌, ◌<◌, IsTrue, Some, length, slice_get};
+ghost use Rattle.rb_format.specs.File.{is_laid};
+ghost use Rattle.rb_views.specs.Stands.{AllStand};
+
+use crate::item::Item;
+use rb_format::word_at;
+
+/// The items of an Array.
+#[derive(Clone, Copy)]
+pub struct Array<'a> {
+    pub(crate) body: &'a [u8],
+    pub(crate) first: u32,
+    pub(crate) count: u32,
+    ghost laid: { IsTrue (is_laid body.now) },
+    ghost stands: { AllStand body.now first count },
+}
+
+impl<'a> Array<'a> {
+    ghost use Rattle.rb_views.specs.Seen.{tree_seen, trees_seen};
+
+    /// How many items there are.
+    #[tactic(auto, using(crate::proofs::Values::values_length))]
+    pub fn len(self) -> usize
+        ensures { result ≡ length (trees_seen self.entry) }
+    {
+        self.count as usize
+    }
+
+    /// Item i.
+    pub fn item(self, i: usize) -> Item<'a>
+        requires { i < length (trees_seen self) }
+        ensures { Some (tree_seen result) ≡ slice_get (trees_seen self.entry) i }
+    {
+        Item {
+            body: self.body,
+            word: word_at(self.body, self.first as usize + i),
+        }
+    }
+}

@@ -1,0 +1,267 @@
+// Items of a bundle.
+ghost use Rattle.std.specs.Prelude.{◌≡◌, ◌+◌, ◌*◌, ◌<◌, ◌≤◌, IsTrue, Some, IfSome, option_map, length, take, drop};
+ghost use Rattle.std.specs.Option.{option_copied};
+ghost use Rattle.rb_tree.specs.Parts.{HasUnits, kind_of, units_of, numbers_of, bytes_of, children_of, pairs_of};
+ghost use Rattle.rb_tree.specs.declared.kind.Kind.TheVariants as Kinds;
+ghost use Rattle.rb_format.specs.File.{is_laid};
+ghost use Rattle.rb_format.specs.Item as items;
+ghost use Rattle.rb_format.specs.Item.{offset_of};
+ghost use Rattle.rb_format.specs.Place as places;
+ghost use Rattle.rb_views.specs.Stands.{StandsFor, HasEntriesAt, kind_named};
+ghost use Rattle.rb_views.specs.Parts.{text_of, alias_of, ints_of, binary_of, uint_of, signed, array_of, table_of};
+
+use crate::array::Array;
+use crate::leaves::{Ints, Units};
+use crate::table::Table;
+use rb_format::{
+    ItemKind, KeyPlaces, TableParts, item_kind, item_offset, long_table_parts, table_parts, word_at,
+};
+use rb_tree::Kind;
+
+/// An item of a bundle, seen as the tree for which it stands. It holds a slice of the file and one word.
+#[derive(Clone, Copy)]
+pub struct Item<'a> {
+    pub(crate) body: &'a [u8],
+    pub(crate) word: u32,
+    ghost laid: { IsTrue (is_laid body.now) },
+    ghost stands: { StandsFor body.now word },
+}
+
+/// The `count` bytes from byte `first` on.
+fn part(body: &[u8], first: usize, count: usize) -> &[u8]
+    requires { first + count ≤ length body.now }
+    ensures { result.now ≡ take count (drop first body.now) }
+{
+    &body[first..first + count]
+}
+
+/// The kind of tree for which an item of this kind stands.
+fn kind_named(kind: ItemKind) -> Kind
+    ensures { result ≡ kind_named kind }
+{
+    match kind {
+        ItemKind::String => Kind::String,
+        ItemKind::Binary => Kind::Binary,
+        ItemKind::Table | ItemKind::LongTable => Kind::Table,
+        ItemKind::Alias => Kind::Alias,
+        ItemKind::Int => Kind::Int,
+        ItemKind::Array => Kind::Array,
+        ItemKind::Ints => Kind::Ints,
+    }
+}
+
+/// The number of an Int with its sign, which is the uppermost of its 28 bits.
+fn signed(number: u32) -> i32
+    requires { number < 268435456 }
+    ensures { result ≡ signed number }
+{
+    if number < 0x0800_0000 {
+        number as i32
+    } else {
+        number as i32 - 0x1000_0000
+    }
+}
+
+impl<'a> Item<'a> {
+    ghost use Rattle.rb_views.specs.Seen.{tree_seen, units_seen, numbers_seen, trees_seen, entries_seen};
+
+    /// The kind of the tree.
+    pub(crate) fn kind_here(self) -> Kind
+        ensures { result ≡ kind_of (tree_seen self.entry) }
+    {
+        kind_named(self.item_kind())
+    }
+
+    fn item_kind(self) -> ItemKind
+        ensures { items.kind_of self.entry.word ≡ Some result }
+    {
+        match item_kind(self.word) {
+            Some(kind) => kind,
+            None => unreachable!(),
+        }
+    }
+
+    /// The units of a String.
+    pub fn text(self) -> Option<Units<'a>>
+        ensures { option_map units_seen result ≡ text_of (tree_seen self.entry) }
+    {
+        match self.kind_here() {
+            Kind::String => Some(self.units()),
+            _ => None,
+        }
+    }
+
+    /// The units of an Alias.
+    pub fn alias(self) -> Option<Units<'a>>
+        ensures { option_map units_seen result ≡ alias_of (tree_seen self.entry) }
+    {
+        match self.kind_here() {
+            Kind::Alias => Some(self.units()),
+            _ => None,
+        }
+    }
+
+    /// The numbers of an integer vector.
+    pub fn ints(self) -> Option<Ints<'a>>
+        ensures { option_map numbers_seen result ≡ ints_of (tree_seen self.entry) }
+    {
+        match self.kind_here() {
+            Kind::Ints => Some(self.numbers()),
+            _ => None,
+        }
+    }
+
+    /// The bytes of a Binary, lent from the file.
+    pub fn binary(self) -> Option<&'a [u8]>
+        ensures contents { option_copied result ≡ binary_of (tree_seen self.entry) }
+        ensures place { IfSome result (λ b. let o = offset_of self.entry.word in 0 < o → b.now ≡ take (places.word_at self.entry.body.now o) (drop (4 * o + 4) self.entry.body.now)) }
+    {
+        match self.kind_here() {
+            Kind::Binary => Some(self.bytes()),
+            _ => None,
+        }
+    }
+
+    /// The number of an Int, its 28 bits read with a sign.
+    pub fn int(self) -> Option<i32>
+        ensures { result ≡ option_map signed (uint_of (tree_seen self.entry)) }
+    {
+        match self.kind_here() {
+            Kind::Int => Some(signed(item_offset(self.word))),
+            _ => None,
+        }
+    }
+
+    /// The number of an Int, its 28 bits read without a sign.
+    pub fn uint(self) -> Option<u32>
+        ensures { result ≡ uint_of (tree_seen self.entry) }
+    {
+        match self.kind_here() {
+            Kind::Int => Some(item_offset(self.word)),
+            _ => None,
+        }
+    }
+
+    /// The items of an Array.
+    pub fn array(self) -> Option<Array<'a>>
+        ensures { option_map trees_seen result ≡ array_of (tree_seen self.entry) }
+    {
+        match self.kind_here() {
+            Kind::Array => Some(self.items()),
+            _ => None,
+        }
+    }
+
+    /// The entries of a Table.
+    pub fn table(self) -> Option<Table<'a>>
+        ensures { option_map entries_seen result ≡ table_of (tree_seen self.entry) }
+    {
+        match self.kind_here() {
+            Kind::Table => Some(self.entries()),
+            _ => None,
+        }
+    }
+
+    pub(crate) fn units(self) -> Units<'a>
+        requires { HasUnits (kind_of (tree_seen self)) }
+        ensures { units_seen result ≡ units_of (tree_seen self.entry) }
+    {
+        let offset = item_offset(self.word);
+        if offset == 0 {
+            return Units {
+                body: self.body,
+                first: 0,
+                count: 0,
+            };
+        }
+        Units {
+            body: self.body,
+            first: 2 * offset + 2,
+            count: word_at(self.body, offset as usize),
+        }
+    }
+
+    pub(crate) fn numbers(self) -> Ints<'a>
+        requires { kind_of (tree_seen self) ≡ Kinds.Ints }
+        ensures { numbers_seen result ≡ numbers_of (tree_seen self.entry) }
+    {
+        let offset = item_offset(self.word);
+        if offset == 0 {
+            return Ints {
+                body: self.body,
+                first: 0,
+                count: 0,
+            };
+        }
+        Ints {
+            body: self.body,
+            first: offset + 1,
+            count: word_at(self.body, offset as usize),
+        }
+    }
+
+    pub(crate) fn bytes(self) -> &'a [u8]
+        requires { kind_of (tree_seen self) ≡ Kinds.Binary }
+        ensures contents { result.now ≡ bytes_of (tree_seen self.entry) }
+        ensures place { let o = offset_of self.entry.word in 0 < o → result.now ≡ take (places.word_at self.entry.body.now o) (drop (4 * o + 4) self.entry.body.now) }
+    {
+        let offset = item_offset(self.word);
+        if offset == 0 {
+            return &[];
+        }
+        let offset = offset as usize;
+        part(
+            self.body,
+            4 * offset + 4,
+            word_at(self.body, offset) as usize,
+        )
+    }
+
+    pub(crate) fn items(self) -> Array<'a>
+        requires { kind_of (tree_seen self) ≡ Kinds.Array }
+        ensures { trees_seen result ≡ children_of (tree_seen self.entry) }
+    {
+        let offset = item_offset(self.word);
+        if offset == 0 {
+            return Array {
+                body: self.body,
+                first: 0,
+                count: 0,
+            };
+        }
+        Array {
+            body: self.body,
+            first: offset + 1,
+            count: word_at(self.body, offset as usize),
+        }
+    }
+
+    pub(crate) fn entries(self) -> Table<'a>
+        requires { kind_of (tree_seen self) ≡ Kinds.Table }
+        ensures { entries_seen result ≡ pairs_of (tree_seen self.entry) }
+    {
+        Table {
+            body: self.body,
+            parts: self.parts(),
+        }
+    }
+
+    fn parts(self) -> TableParts
+        requires { kind_of (tree_seen self) ≡ Kinds.Table }
+        ensures { HasEntriesAt self.entry.body.now result (tree_seen self.entry) }
+    {
+        let offset = item_offset(self.word);
+        if offset == 0 {
+            return TableParts {
+                keys: KeyPlaces::Halves(0),
+                first: 0,
+                count: 0,
+            };
+        }
+        match self.item_kind() {
+            ItemKind::Table => table_parts(self.body, offset),
+            ItemKind::LongTable => long_table_parts(self.body, offset),
+            _ => unreachable!(),
+        }
+    }
+}

@@ -1,0 +1,15 @@
+//! Borrowed views of a bundle: its items, each seen as the tree for which it stands. No call takes memory.
+#![tactic(auto)]
+
+mod array;
+mod bundle;
+mod item;
+mod leaves;
+mod node;
+mod table;
+
+pub use array::Array;
+pub use bundle::root;
+pub use item::Item;
+pub use leaves::{Ints, Units};
+pub use table::{Pairs, Table};

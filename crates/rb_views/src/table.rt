@@ -1,0 +1,113 @@
+// Views of tables.
+ghost use Rattle.std.specs.Prelude.{◌≡◌, ◌<◌, ◌≤◌, IsTrue, Some, length, slice_get, option_map, nat_eq, IfSome};
+ghost use Rattle.std.specs.Map.{lookup, keys_of, values_of};
+ghost use Rattle.std.specs.Cmp.Lexicographic.{pointwise};
+ghost use Rattle.rb_format.specs.File.{is_laid};
+ghost use Rattle.rb_format.specs.Geometry.{keys_end, key_offset};
+ghost use Rattle.rb_format.specs.Place.{key, layout_of};
+ghost use Rattle.rb_views.specs.Stands.{TableStands};
+
+use crate::item::Item;
+use rb_format::{Layout, TableParts, key_within};
+use std::cmp::Ordering;
+
+/// The entries of a Table.
+#[derive(Clone, Copy)]
+pub struct Table<'a> {
+    pub(crate) body: &'a [u8],
+    pub(crate) parts: TableParts,
+    ghost laid: { IsTrue (is_laid body.now) },
+    ghost keys: { keys_end parts.keys parts.count ≤ length body.now },
+    ghost stands: { TableStands body.now parts },
+}
+
+impl<'a> Table<'a> {
+    ghost use Rattle.rb_views.specs.Seen.{tree_seen, entries_seen, rest_seen};
+
+    /// How many entries there are.
+    #[tactic(auto, using(crate::proofs::Values::values_length))]
+    pub fn len(self) -> usize
+        ensures { result ≡ length (entries_seen self.entry) }
+    {
+        self.parts.count
+    }
+
+    /// The key of entry i, lent from the file.
+    pub fn key(self, i: usize) -> &'a [u8]
+        requires { i < length (entries_seen self) }
+        ensures key { Some result.now ≡ slice_get (keys_of (entries_seen self.entry)) i }
+        ensures place { Some result.now ≡ key (layout_of self.entry.body.now) self.entry.body.now (key_offset self.entry.body.now self.entry.parts.keys i) }
+    {
+        let layout = Layout::of(self.body);
+        match key_within(&layout, self.body, self.parts.keys.offset(self.body, i)) {
+            Some(key) => key,
+            None => unreachable!(),
+        }
+    }
+
+    /// The item of entry i.
+    pub fn item(self, i: usize) -> Item<'a>
+        requires { i < length (entries_seen self) }
+        ensures { Some (tree_seen result) ≡ slice_get (values_of (entries_seen self.entry)) i }
+    {
+        Item {
+            body: self.body,
+            word: self.parts.item(self.body, i),
+        }
+    }
+
+    /// The item with a key, by halving over the key offsets; None where the table has no such key.
+    pub fn get(self, key: &[u8]) -> Option<Item<'a>>
+        ensures { option_map tree_seen result ≡ lookup (pointwise nat_eq key.now) (entries_seen self.entry) }
+    {
+        let mut low = 0;
+        let mut high = self.len();
+        while low < high {
+            let middle = low + (high - low) / 2;
+            match key.cmp(self.key(middle)) {
+                Ordering::Less => high = middle,
+                Ordering::Greater => low = middle + 1,
+                Ordering::Equal => return Some(self.item(middle)),
+            }
+        }
+        None
+    }
+
+    /// The entries in order, each a key and its item.
+    pub fn iter(self) -> Pairs<'a>
+        ensures { rest_seen result ≡ entries_seen self.entry }
+    {
+        Pairs {
+            table: self,
+            next: 0,
+        }
+    }
+}
+
+/// The entries of a Table in order, each a key and its item.
+#[derive(Clone, Drop)]
+pub struct Pairs<'a> {
+    pub(crate) table: Table<'a>,
+    pub(crate) next: usize,
+}
+
+impl<'a> Iterator for Pairs<'a> {
+    ghost use Rattle.std.specs.Iterator.{YieldsFirstBy, item_count};
+    ghost use Rattle.rb_views.specs.Seen.{tree_seen, rest_seen};
+
+    type Item = (&'a [u8], Item<'a>);
+
+    ghost next_gives = { YieldsFirstBy (λ e. (e.0.now, tree_seen e.1)) rest_seen };
+
+    ghost remaining = { item_count rest_seen };
+
+    fn next(&mut self) -> Option<(&'a [u8], Item<'a>)> {
+        let i = self.next;
+        if i < self.table.len() {
+            self.next += 1;
+            Some((self.table.key(i), self.table.item(i)))
+        } else {
+            None
+        }
+    }
+}
