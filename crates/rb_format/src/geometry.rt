@@ -2,6 +2,7 @@
 ghost use Rattle.std.specs.Prelude.{◌≡◌, ◌+◌, ◌*◌, ◌≤◌, ◌<◌, ◌^◌, length};
 ghost use Rattle.rb_format.specs.Geometry as parts;
 ghost use Rattle.rb_format.specs.Geometry.{key_offset, keys_end};
+ghost use Rattle.rb_format.specs.Place as places;
 
 use crate::place::{half_at, word_at};
 
@@ -34,6 +35,16 @@ pub struct TableParts {
     pub first: usize,
     /// How many entries it has.
     pub count: usize,
+}
+
+impl TableParts {
+    /// The word of item i.
+    pub fn item(self, body: &[u8], i: usize) -> u32
+        requires { 4 * (self.first + i + 1) ≤ length body.now }
+        ensures { result ≡ places.word_at body.now (self.first + i) }
+    {
+        word_at(body, self.first + i)
+    }
 }
 
 /// The parts of the table at a word, whose count is a half word.

@@ -1,18 +1,20 @@
--- The root item of a file that denotes a tree.
-use Rattle.std.proofs.Common.{◌≡◌, ℕ, ◌≤◌, true, leb, List, length, drop, Some, arith}
-use Rattle.std.specs.Prelude.{◌&&◌}
+-- The root item of a file that denotes a bundle.
+use Rattle.std.proofs.Common.{◌≡◌, ℕ, ◌+◌, ◌≤◌, true, List, length, drop, Option, Some, sym, ap, ◌∙◌}
+use Rattle.std.specs.Prelude.{◌&&◌, not, option_map, slice_index}
 use Rattle.std.proofs.lemmas.Bool.{and_parts}
 use Rattle.std.proofs.lemmas.Bool.Decides.{nat_tests}
+use Rattle.std.proofs.Common.{arith}
 use Rattle.rb_tree.specs.Resource.{Resource}
-use Rattle.rb_format.specs.declared.constants.TheConstants.{FILE_LIMIT}
+use Rattle.rb_tree.specs.SourceTree.{SourceTree}
+use Rattle.rb_format.specs.Attributes.{attributes_of, has_pool}
 use Rattle.rb_format.specs.Place.{word_at, half_at, layout_of}
 use Rattle.rb_format.specs.Item.{kind_of, is_table}
 use Rattle.rb_format.specs.Denotation.{tree_at}
-use Rattle.rb_format.specs.File.{has_header, is_laid, tree_of_data, tree_of_file, Denotes, tree_of}
+use Rattle.rb_format.specs.File.{is_short_enough, has_header, is_laid, flagged, source_of_data, source_of_file, Denotes, source_tree_of, tree_of}
 use Rattle.rb_views.specs.Stands.{StandsFor}
 use Rattle.rb_views.specs.Trees.{item_tree}
 use Rattle.rb_views.proofs.Values.{where_some}
-use Rattle.rb_views.proofs.Readings.{stands_from}
+use Rattle.rb_views.proofs.Readings.{map_some, stands_from}
 
 pub record IsRoot (bytes body : List ℕ) : Type 0 where
   pub long : 24 ≤ length bytes
@@ -27,22 +29,25 @@ header_long bytes e = grind (arith, nat_tests)
 header_inside : (bytes : List ℕ) → has_header bytes ≡ true → half_at bytes 0 ≤ length bytes
 header_inside bytes e = grind (arith, nat_tests)
 
-read_file : (bytes : List ℕ) (t : Resource) → tree_of_file bytes ≡ Some t → (has_header bytes ≡ true) × (tree_of_data (drop (half_at bytes 0) bytes) ≡ Some t)
-unfolding tree_of_file
-read_file bytes t e =
-    let a = where_some (leb (length bytes) FILE_LIMIT && has_header bytes) (tree_of_data (drop (half_at bytes 0) bytes)) t e in
-    ((and_parts (leb (length bytes) FILE_LIMIT) (has_header bytes) a.0).1, a.1)
+read_file : (h : ℕ) (bytes : List ℕ) (s : SourceTree) → source_of_file h bytes ≡ Some s → (has_header bytes ≡ true) × (source_of_data h (slice_index bytes 17) (drop (half_at bytes 0) bytes) ≡ Some s)
+unfolding source_of_file
+read_file h bytes s e =
+    let a = where_some (is_short_enough bytes && has_header bytes) (source_of_data h (slice_index bytes 17) (drop (half_at bytes 0) bytes)) s e in
+    ((and_parts (is_short_enough bytes) (has_header bytes) a.0).1, a.1)
 
-read_data : (body : List ℕ) (t : Resource) → tree_of_data body ≡ Some t → (is_laid body ≡ true) × (tree_at (layout_of body) body 64 (word_at body 0) ≡ Some t)
-unfolding tree_of_data
-read_data body t e =
-    let a = where_some (is_laid body && is_table (kind_of (word_at body 0))) (tree_at (layout_of body) body 64 (word_at body 0)) t e in
-    ((and_parts (is_laid body) (is_table (kind_of (word_at body 0))) a.0).0, a.1)
+read_data : (h minor : ℕ) (body : List ℕ) (s : SourceTree) → source_of_data h minor body ≡ Some s → (is_laid body ≡ true) × (tree_at (layout_of body) body h (word_at body 0) ≡ Some s.tree)
+unfolding source_of_data
+read_data h minor body s e =
+    let bits = attributes_of minor body in
+    let read = tree_at (layout_of body) body h (word_at body 0) in
+    let a = where_some (is_laid body && not (has_pool bits) && is_table (kind_of (word_at body 0))) (option_map (flagged bits) read) s e in
+    let m = map_some (flagged bits) read s a.1 in
+    ((and_parts (is_laid body) (not (has_pool bits)) (and_parts (is_laid body && not (has_pool bits)) (is_table (kind_of (word_at body 0))) a.0).0).0, m.1 ∙ ap (λ (x : SourceTree). Some x.tree) m.2)
 
-pub root_is : (bytes : List ℕ) → Denotes bytes (tree_of bytes) → IsRoot bytes (drop (half_at bytes 0) bytes)
+pub root_is : (bytes : List ℕ) → Denotes bytes (source_tree_of bytes) → IsRoot bytes (drop (half_at bytes 0) bytes)
 root_is bytes e =
     let body = drop (half_at bytes 0) bytes in
-    let a = read_file bytes (tree_of bytes) e in
-    let b = read_data body (tree_of bytes) a.1 in
+    let a = read_file 64 bytes (source_tree_of bytes) e in
+    let b = read_data 64 (slice_index bytes 17) body (source_tree_of bytes) a.1 in
     let s = stands_from body (word_at body 0) (tree_of bytes) b.1 in
     record { long = header_long bytes a.0; inside = header_inside bytes a.0; laid = b.0; stands = s.0; tree = s.1 }

@@ -1,11 +1,11 @@
 use Rattle.std.proofs.Common.{◌≡◌, drop, List, ℕ, arith}
-use Rattle.rb_format.specs.File.{Denotes, tree_of}
+use Rattle.rb_format.specs.File.{Denotes, source_tree_of}
 use Rattle.rb_format.specs.Place.{half_at}
 use Rattle.rb_views.proofs.Readings.{laid_long}
 use Rattle.rb_views.proofs.RootItem.{IsRoot, root_is}
 use Rattle.rb_views.proofs.bundle.root.Goals as goal
 
-root_of : (file bytes body : List ℕ) → bytes ≡ file → body ≡ drop (half_at bytes 0) bytes → Denotes file (tree_of file) → IsRoot file body
+root_of : (file bytes body : List ℕ) → bytes ≡ file → body ≡ drop (half_at bytes 0) bytes → Denotes file (source_tree_of file) → IsRoot file body
 root_of file bytes body e f d = rw (f, e) (root_is file d)
 
 pub body-body-requires-clause-long : goal.body-body-requires-clause-long
