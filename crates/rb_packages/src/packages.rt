@@ -6,12 +6,11 @@ ghost use Rattle.rb_packages.specs.Packages.{icudata_of, list_of, install_fault,
 ghost use Rattle.rb_packages.specs.Lent.{bundles_lent};
 
 use crate::app::App;
-use crate::bundles;
 use crate::bundles::Bundles;
 use crate::fault::{Absent, PackFault};
-use crate::owned;
 use crate::owned::Owned;
 use crate::shelf::AppShelf;
+use crate::{bundles, owned};
 use indexmap::IndexMap;
 use rb_locales::Name;
 use rb_validator::Bundle;
