@@ -1,7 +1,7 @@
 pub mod Place
 pub mod Item
-pub mod Geometry
 pub mod Attributes
+pub mod Geometry
 pub mod Denotation
 pub mod File
 pub mod FirstFault

@@ -1,5 +1,5 @@
 pub mod Texts
-pub mod KeyTexts
+pub mod Elements
 pub mod Stepping
 pub mod NoFloats
 pub mod Putting

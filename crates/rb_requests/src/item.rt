@@ -9,7 +9,7 @@ ghost use Rattle.rb_tree.specs.View.{view_of};
 ghost use Rattle.rb_requests.specs.Item.{text_data, numbers_data, integers_data, texts_data, found_data, signed_of};
 
 use rb_fallback::Found;
-use rb_tree::{ByteList, Entries, Int28, Tree};
+use rb_tree::{ByteList, Entries, Int28, Tree, TreeList};
 use serde_json::{Value, json};
 use std::alloc::{AllocError, Global};
 
@@ -91,6 +91,26 @@ fn string_reply(
     }
 }
 
+fn int_reply(alloc: Global, actual: Value, valid: Value, number: Int28) -> Result<Value, AllocError>
+    ensures { (a v : List ℕ) → view actual ≡ text_data a → view valid ≡ text_data v → IfOk result (λ reply. view reply ≡ found_data (tree.int number) a v) }
+{
+    let signed = signed(number);
+    let unsigned = number.get();
+    json!(in alloc; {"actual": actual, "signed": signed, "type": "int", "unsigned": unsigned, "valid": valid})
+}
+
+fn ints_reply(
+    alloc: Global,
+    actual: Value,
+    valid: Value,
+    numbers: &[i32],
+) -> Result<Value, AllocError>
+    ensures { (a v : List ℕ) → view actual ≡ text_data a → view valid ≡ text_data v → IfOk result (λ reply. view reply ≡ found_data (tree.ints numbers.now) a v) }
+{
+    let values = integers_value(alloc, numbers)?;
+    json!(in alloc; {"actual": actual, "type": "intvector", "valid": valid, "values": values})
+}
+
 fn bytes_reply(
     alloc: Global,
     actual: Value,
@@ -101,6 +121,18 @@ fn bytes_reply(
 {
     let hex = hex::encode(alloc, bytes.as_slice())?;
     json!(in alloc; {"actual": actual, "hex": hex, "type": "bin", "valid": valid})
+}
+
+fn array_reply(
+    alloc: Global,
+    actual: Value,
+    valid: Value,
+    trees: &TreeList,
+) -> Result<Value, AllocError>
+    ensures { (a v : List ℕ) → view actual ≡ text_data a → view valid ≡ text_data v → IfOk result (λ reply. view reply ≡ found_data (tree.array trees.now) a v) }
+{
+    let len = trees.len();
+    json!(in alloc; {"actual": actual, "len": len, "type": "array", "valid": valid})
 }
 
 fn table_reply(
@@ -123,21 +155,11 @@ pub(crate) fn found_value(alloc: Global, found: &Found<&Tree>) -> Result<Value, 
     let valid = text_value(alloc, found.valid.as_bytes())?;
     match found.node {
         Tree::String(units) => string_reply(alloc, actual, valid, units.as_slice()),
-        Tree::Int(number) => {
-            let signed = signed(*number);
-            let unsigned = number.get();
-            json!(in alloc; {"actual": actual, "signed": signed, "type": "int", "unsigned": unsigned, "valid": valid})
-        }
-        Tree::Ints(numbers) => {
-            let values = integers_value(alloc, numbers.as_slice())?;
-            json!(in alloc; {"actual": actual, "type": "intvector", "valid": valid, "values": values})
-        }
+        Tree::Int(number) => int_reply(alloc, actual, valid, *number),
+        Tree::Ints(numbers) => ints_reply(alloc, actual, valid, numbers.as_slice()),
         Tree::Binary(bytes) => bytes_reply(alloc, actual, valid, bytes),
         Tree::Alias(_) => json!(in alloc; {"actual": actual, "type": "alias", "valid": valid}),
-        Tree::Array(trees) => {
-            let len = trees.len();
-            json!(in alloc; {"actual": actual, "len": len, "type": "array", "valid": valid})
-        }
+        Tree::Array(trees) => array_reply(alloc, actual, valid, trees),
         Tree::Table(entries) => table_reply(alloc, actual, valid, entries),
     }
 }

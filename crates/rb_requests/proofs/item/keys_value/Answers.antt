@@ -6,7 +6,7 @@ use Rattle.serde_json.specs.declared.value.Value.TheVariants as value
 use Rattle.serde_json.specs.Data.{Data, array}
 use Rattle.rb_tree.specs.Keys.{pairs}
 use Rattle.rb_requests.specs.Item.{text_data}
-use Rattle.rb_requests.proofs.KeyTexts.{key_told, all_told}
+use Rattle.rb_requests.proofs.Elements.{key_told, all_told}
 use Rattle.rb_requests.proofs.item.keys_value.Goals as goal
 
 pub loop-i-preserved : goal.loop-i-preserved

@@ -1,0 +1,17 @@
+use Rattle.std.proofs.Common.{◌≡◌, Some, None, sym, ap, ◌∙◌, option_map}
+use Rattle.std.specs.Map.{lookup}
+use Rattle.std.specs.Option.{option_copied}
+use Rattle.std.specs.Str.{bytes_eq}
+use Rattle.rb_format.specs.File.{source_tree_of}
+use Rattle.rb_packages.proofs.Lists.{bundle_at-shelf_of}
+use Rattle.rb_packages.proofs.shelf.bundle_in.Goals as goal
+
+pub returns-in-Some : goal.returns-in-Some
+returns-in-Some c =
+    let there : lookup (bytes_eq c.args.name.now) c.args.bundles.now.entries ≡ Some c.in-Some.bundle.now = sym c.get.ensures.value ∙ ap option_copied c.in-Some.is in
+    (λ i. Some (record { tree = c.root.ensures i; no_fallback = c.no_fallback.ensures i })) ∙ sym (bundle_at-shelf_of c.args.bundles.now.entries c.args.name.now ∙ ap (option_map source_tree_of) there)
+
+pub returns-in-None : goal.returns-in-None
+returns-in-None c =
+    let there : lookup (bytes_eq c.args.name.now) c.args.bundles.now.entries ≡ None = sym c.get.ensures.value ∙ ap option_copied c.in-None.is in
+    sym (bundle_at-shelf_of c.args.bundles.now.entries c.args.name.now ∙ ap (option_map source_tree_of) there)

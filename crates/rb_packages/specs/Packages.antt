@@ -1,0 +1,47 @@
+-- The bundles of ICUDATA and of each application, this project's own rule: each package is a list of its own.
+use Rattle.std.specs.Prelude.{◌≡◌, ◌≢◌, ℕ, List, [], Option, Some, None, Result, Ok, Err, map, unwrap_or, if◌then◌else◌}
+use Rattle.std.specs.Map.{lookup}
+use Rattle.std.specs.Str.{bytes_eq}
+use Rattle.rb_format.specs.File.{source_tree_of}
+use Rattle.rb_packages.specs.Shelf.{Shelf, holds, is_full}
+use Rattle.rb_packages.specs.declared.fault.PackFault.{PackFault}
+use Rattle.rb_packages.specs.declared.fault.PackFault.TheVariants.{Twice, Exists, Full, Memory}
+
+-- the names of bundles and their files, in the order of installing
+abbrev pub Files : Type 0
+Files = List (List ℕ × List ℕ)
+
+abbrev pub shelf_of : Files → Shelf
+shelf_of files = map (λ e. (e.0, source_tree_of e.1)) files
+
+-- what packages are seen as
+pub record Stored : Type 0 where
+  pub icudata : Files
+  pub owned : List (List ℕ × Files)
+
+-- the bundles of ICUDATA
+abbrev pub icudata_of : Stored → Shelf
+icudata_of stored = shelf_of stored.icudata
+
+-- the bundles of an application; none of one that isn't there
+abbrev pub list_of : List ℕ → Stored → Shelf
+list_of app stored = shelf_of (unwrap_or (lookup (bytes_eq app) stored.owned) [])
+
+-- the bundles of ICUDATA and of all other applications stay
+pub record OthersStay (app : List ℕ) (old new : Stored) : Type 0 where
+  pub icudata : icudata_of new ≡ icudata_of old
+  pub others : (other : List ℕ) → other ≢ app → list_of other new ≡ list_of other old
+
+-- why a bundle can't be installed at a name
+abbrev pub install_fault : List ℕ → Shelf → Option PackFault
+install_fault name shelf = if holds name shelf then Some Exists else if is_full shelf then Some Full else None
+
+-- why a bundle can't be loaded at a name
+abbrev pub load_fault : List ℕ → Shelf → Option PackFault
+load_fault name shelf = if holds name shelf then Some Twice else None
+
+-- the fault where there is one, else none or `Memory`
+abbrev pub IsJudged : {A B : Type 0} → Option PackFault → Result A (PackFault × B) → Type 0
+IsJudged fault (Ok a) = fault ≡ None
+IsJudged None (Err e) = e.0 ≡ Memory
+IsJudged (Some fault) (Err e) = e.0 ≡ fault

@@ -1,0 +1,24 @@
+-- For proofs only. The map of all applications' bundles, read as their lists.
+use Rattle.std.specs.Prelude.{◌≡◌, ◌≢◌, ℕ, List, [], Option, Some, None, map}
+use Rattle.std.specs.Map.{lookup}
+use Rattle.std.specs.Str.{bytes_eq}
+use Rattle.indexmap.specs.IndexMap.{IndexMap}
+use Rattle.rb_packages.specs.Packages.{Files}
+
+module _ {S : Type 0} where
+  -- a package's files, where there is one
+  abbrev pub entries_of : Option (IndexMap (List ℕ) (List ℕ) S) → Files
+  entries_of None = []
+  entries_of (Some bundles) = bundles.entries
+
+  -- an application's files
+  abbrev pub files_at : List ℕ → List (List ℕ × IndexMap (List ℕ) (List ℕ) S) → Files
+  files_at app rows = entries_of (lookup (bytes_eq app) rows)
+
+  -- all applications' files
+  abbrev pub seen : List (List ℕ × IndexMap (List ℕ) (List ℕ) S) → List (List ℕ × Files)
+  seen rows = map (λ e. (e.0, e.1.entries)) rows
+
+  -- the files of all other applications stay
+  abbrev pub KeepsOthers : List ℕ → List (List ℕ × IndexMap (List ℕ) (List ℕ) S) → List (List ℕ × IndexMap (List ℕ) (List ℕ) S) → Type 0
+  KeepsOthers app old new = (other : List ℕ) → other ≢ app → files_at other new ≡ files_at other old

@@ -1,0 +1,16 @@
+-- The words of refusals, this project's own rule: each is its variant's name.
+use Rattle.std.specs.Prelude.{ℕ, List, codes}
+use Rattle.rb_packages.specs.declared.app.AppFault.{AppFault}
+use Rattle.rb_packages.specs.declared.app.AppFault.TheVariants as app
+use Rattle.rb_packages.specs.declared.fault.PackFault.{PackFault}
+use Rattle.rb_packages.specs.declared.fault.PackFault.TheVariants as pack
+
+abbrev pub app_word : AppFault → List ℕ
+app_word app.BadApp = codes "BadApp"
+app_word app.Reserved = codes "Reserved"
+
+abbrev pub pack_word : PackFault → List ℕ
+pack_word pack.Twice = codes "Twice"
+pack_word pack.Exists = codes "Exists"
+pack_word pack.Full = codes "Full"
+pack_word pack.Memory = codes "Memory"

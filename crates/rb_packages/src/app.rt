@@ -1,0 +1,141 @@
+//! The names of applications.
+ghost use Rattle.std.specs.Prelude.{◌≡◌, ◌≤◌, ◌++◌, drop, length};
+ghost use Rattle.std.specs.List.{list_all};
+ghost use Rattle.rb_packages.specs.App.{app_of, is_app_byte as passes};
+
+use std::hash::{Hash, Hasher};
+use std::marker::Model;
+
+/// The longest name of an application, in bytes.
+pub const APP_LIMIT: usize = 64;
+
+/// The name of an application: 1 to 64 letters, digits, `_`, `-` and `.`, and not `ICUDATA`. Contracts see it as its bytes.
+#[derive(Clone, Copy, Debug)]
+pub struct App {
+    bytes: [u8; 64],
+    len: u8,
+}
+
+impl Model for App {
+    ghost use Rattle.std.specs.Prelude.{List, ℕ, take};
+
+    ghost Value = { List ℕ };
+
+    ghost use Rattle.rb_packages.specs.Padded.{IsApp, app_fields, app_fields-view};
+
+    ghost view = { λ n. take n.len n.bytes };
+
+    ghost invariant = { IsApp };
+
+    ghost inverse = { app_fields };
+
+    ghost inverse_ok = { app_fields-view };
+}
+
+impl PartialEq for App {
+    ghost use Rattle.std.specs.Prelude.{nat_eq};
+    ghost use Rattle.std.proofs.Common.{rules};
+    ghost use Rattle.std.specs.Cmp.Lexicographic.{pointwise};
+    ghost use Rattle.std.specs.Cmp.Rules.{comparing};
+
+    ghost eq = { pointwise nat_eq };
+
+    ghost laws = { Prim.search (comparing, rules) };
+
+    fn eq(&self, other: &App) -> bool {
+        self.as_bytes() == other.as_bytes()
+    }
+}
+
+impl Eq for App {
+    ghost use Rattle.std.proofs.Common.{rules};
+    ghost use Rattle.std.specs.Cmp.Rules.{comparing};
+
+    ghost laws = { Prim.search (comparing, rules) };
+}
+
+// The bytes are written whole, as a hash of them one by one takes many times as long.
+impl Hash for App {
+    ghost use Rattle.std.specs.Prelude.{◌∷◌, []};
+    ghost use Rattle.std.proofs.Common.{rules};
+    ghost use Rattle.std.specs.Cmp.Rules.{hashing};
+
+    ghost hash_input = { λ n. n ∷ [] };
+
+    ghost respects_eq = { Prim.search (hashing, rules) };
+
+    fn hash<H: Hasher>(&self, state: &mut H) {
+        state.write(self.as_bytes());
+    }
+}
+
+/// Why bytes are no application's name.
+#[derive(Clone, Copy, Debug, PartialEq, Eq)]
+pub enum AppFault {
+    /// They are none, too many, or one of them may not stand in a name.
+    BadApp,
+    /// They are `ICUDATA`, the name of the common bundles.
+    Reserved,
+}
+
+impl AppFault {
+    ghost use Rattle.rb_packages.specs.Words.{app_word};
+
+    /// The variant's name.
+    pub fn word(self) -> &'static str
+        ensures { result.now ≡ app_word self }
+    {
+        match self {
+            AppFault::BadApp => "BadApp",
+            AppFault::Reserved => "Reserved",
+        }
+    }
+}
+
+impl App {
+    /// Reads an application's name. It takes no memory.
+    pub fn read(bytes: &[u8]) -> Result<App, AppFault>
+        ensures { result ≡ app_of bytes.now }
+    {
+        if bytes.is_empty() || bytes.len() > APP_LIMIT || !are_app_bytes(bytes) {
+            return Err(AppFault::BadApp);
+        }
+        if bytes == b"ICUDATA".as_slice() {
+            return Err(AppFault::Reserved);
+        }
+        let mut field = [0u8; 64];
+        put_front(&mut field, bytes);
+        Ok(App {
+            bytes: field,
+            len: bytes.len() as u8,
+        })
+    }
+
+    /// The name's bytes.
+    pub fn as_bytes(&self) -> &[u8]
+        ensures { result.now ≡ self.now }
+    {
+        &self.bytes[..self.len as usize]
+    }
+}
+
+/// Whether a byte may stand in an application's name.
+fn is_app_byte(b: u8) -> bool
+    ensures { result ≡ passes b }
+{
+    b.is_ascii_alphanumeric() || b == b'_' || b == b'-' || b == b'.'
+}
+
+fn are_app_bytes(bytes: &[u8]) -> bool
+    ensures { result ≡ list_all passes bytes.now }
+{
+    bytes.iter().all(|&b| is_app_byte(b))
+}
+
+/// Writes bytes over the front of a field.
+fn put_front(field: &mut [u8], bytes: &[u8])
+    requires { length bytes.now ≤ length field.old }
+    ensures { field.new ≡ bytes.now ++ drop (length bytes.now) field.old }
+{
+    field[..bytes.len()].copy_from_slice(bytes);
+}

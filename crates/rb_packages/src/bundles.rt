@@ -1,0 +1,116 @@
+//! The bundles of one package, in the order of installing.
+ghost use Rattle.std.specs.Prelude.{◌≡◌, [], ◌∷◌, ◌++◌, Some, None, IfOk, IfErr, OnOk, OnErr};
+ghost use Rattle.std.specs.Map.{lookup, keys_of, set_value};
+ghost use Rattle.std.specs.Str.{bytes_eq};
+ghost use Rattle.rb_packages.specs.Packages.{shelf_of, install_fault, load_fault, IsJudged};
+ghost use Rattle.rb_packages.specs.declared.fault.PackFault.TheVariants as faults;
+
+use crate::fault::{Absent, PackFault};
+use crate::limits::BUNDLE_LIMIT;
+use indexmap::IndexMap;
+use rb_locales::Name;
+use rb_validator::Bundle;
+use std::alloc::{AllocError, Global};
+use std::hash::RandomState;
+use std::mem;
+
+/// The bundles of one package, in the order of installing.
+pub(crate) type Bundles = IndexMap<Name, Bundle, RandomState>;
+
+/// A package of one bundle. Where there is no memory, the bundle comes back.
+pub(crate) fn of_one(
+    alloc: Global,
+    state: RandomState,
+    name: Name,
+    bundle: Bundle,
+) -> Result<Bundles, Bundle>
+    ensures made { IfOk result (λ bundles. bundles.entries ≡ (name, bundle) ∷ []) }
+    ensures back { IfErr result (λ b. b ≡ bundle) }
+{
+    let mut bundles = IndexMap::with_hasher(alloc, state);
+    match bundles.insert(name, bundle) {
+        Ok(_) => Ok(bundles),
+        Err(error) => {
+            let (_, bundle) = error.value;
+            Err(bundle)
+        }
+    }
+}
+
+/// Adds a bundle at the end, under a name that isn't there.
+fn add(bundles: &mut Bundles, name: Name, bundle: Bundle) -> Result<(), (PackFault, Bundle)>
+    requires { lookup (bytes_eq name) bundles.old.entries ≡ None }
+    ensures added { OnOk result (bundles.new.entries ≡ bundles.old.entries ++ (name, bundle) ∷ []) }
+    ensures error { IfErr result (λ e. e ≡ (faults.Memory, bundle)) }
+    ensures stays { OnErr result (bundles.new.entries ≡ bundles.old.entries) }
+{
+    match bundles.insert(name, bundle) {
+        Ok(_) => Ok(()),
+        Err(error) => {
+            let (_, bundle) = error.value;
+            Err((PackFault::Memory, bundle))
+        }
+    }
+}
+
+/// Adds a bundle at the end, up to the limit.
+pub(crate) fn install(
+    bundles: &mut Bundles,
+    name: Name,
+    bundle: Bundle,
+) -> Result<(), (PackFault, Bundle)>
+    ensures judged { IsJudged (install_fault name (shelf_of bundles.old.entries)) result }
+    ensures added { OnOk result (bundles.new.entries ≡ bundles.old.entries ++ (name, bundle) ∷ []) }
+    ensures back { IfErr result (λ e. e.1 ≡ bundle) }
+    ensures stays { OnErr result (bundles.new.entries ≡ bundles.old.entries) }
+{
+    if bundles.contains_key(&name) {
+        return Err((PackFault::Exists, bundle));
+    }
+    if bundles.len() >= BUNDLE_LIMIT {
+        return Err((PackFault::Full, bundle));
+    }
+    add(bundles, name, bundle)
+}
+
+/// Adds a bundle at the end.
+pub(crate) fn load(
+    bundles: &mut Bundles,
+    name: Name,
+    bundle: Bundle,
+) -> Result<(), (PackFault, Bundle)>
+    ensures judged { IsJudged (load_fault name (shelf_of bundles.old.entries)) result }
+    ensures added { OnOk result (bundles.new.entries ≡ bundles.old.entries ++ (name, bundle) ∷ []) }
+    ensures back { IfErr result (λ e. e.1 ≡ bundle) }
+    ensures stays { OnErr result (bundles.new.entries ≡ bundles.old.entries) }
+{
+    if bundles.contains_key(&name) {
+        return Err((PackFault::Twice, bundle));
+    }
+    add(bundles, name, bundle)
+}
+
+/// Puts a bundle in the place of the one of its name, and gives that one.
+pub(crate) fn exchange(
+    bundles: &mut Bundles,
+    name: &Name,
+    bundle: Bundle,
+) -> Result<Bundle, (Absent, Bundle)>
+    ensures found { IfOk result (λ b. lookup (bytes_eq name.now) bundles.old.entries ≡ Some b) }
+    ensures absent { OnErr result (lookup (bytes_eq name.now) bundles.old.entries ≡ None) }
+    ensures replaced { OnOk result (bundles.new.entries ≡ set_value (bytes_eq name.now) bundles.old.entries bundle) }
+    ensures back { IfErr result (λ e. e.1 ≡ bundle) }
+    ensures stays { OnErr result (bundles.new.entries ≡ bundles.old.entries) }
+{
+    match bundles.get_mut(name) {
+        Some(held) => Ok(mem::replace(held, bundle)),
+        None => Err((Absent, bundle)),
+    }
+}
+
+/// The names, in the order of installing.
+pub(crate) fn names(alloc: Global, bundles: &Bundles) -> Result<Vec<Name>, AllocError>
+    ensures { IfOk result (λ names. names.items ≡ keys_of bundles.now.entries) }
+{
+    bundles.keys().map(|name| *name).collect(alloc)
+}

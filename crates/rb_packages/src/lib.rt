@@ -1,0 +1,18 @@
+//! The bundles of many applications and those of ICUDATA, each package a list of its own, in one index.
+#![tactic(auto)]
+
+mod app;
+mod bundles;
+mod fault;
+mod limits;
+mod owned;
+mod packages;
+mod shelf;
+#[cfg(test)]
+mod tests;
+
+pub use app::{App, AppFault};
+pub use fault::{Absent, PackFault};
+pub use limits::BUNDLE_LIMIT;
+pub use packages::Packages;
+pub use shelf::AppShelf;

@@ -1,0 +1,119 @@
+//! The bundles of all applications, each application's in a list of its own.
+ghost use Rattle.std.specs.Prelude.{◌≡◌, [], ◌∷◌, ◌++◌, Some, None, IfOk, IfErr, IfNone, OnOk, OnErr};
+ghost use Rattle.std.specs.Map.{lookup, set_value, remove_entry};
+ghost use Rattle.std.specs.Str.{bytes_eq};
+ghost use Rattle.rb_packages.specs.Packages.{shelf_of, install_fault, IsJudged};
+ghost use Rattle.rb_packages.specs.Raw.{files_at, seen, KeepsOthers};
+
+use crate::app::App;
+use crate::bundles;
+use crate::bundles::Bundles;
+use crate::fault::{Absent, PackFault};
+use indexmap::IndexMap;
+use rb_locales::Name;
+use rb_validator::Bundle;
+use std::hash::RandomState;
+
+/// The bundles of all applications. An application without bundles isn't there.
+pub(crate) type Owned = IndexMap<App, Bundles, RandomState>;
+
+/// Installs the first bundle of an application that isn't there. Where there is no memory, the bundle comes back.
+fn install_first(owned: &mut Owned, app: &App, name: Name, bundle: Bundle) -> Result<(), Bundle>
+    ensures own { OnOk result (files_at app.now owned.new.entries ≡ (name, bundle) ∷ []) }
+    ensures others { KeepsOthers app.now owned.old.entries owned.new.entries }
+    ensures back { IfErr result (λ b. b ≡ bundle) }
+    ensures stays { OnErr result (owned.new.entries ≡ owned.old.entries) }
+{
+    if owned.reserve(1).is_err() {
+        return Err(bundle);
+    }
+    let bundles = bundles::of_one(*owned.allocator(), *owned.hasher(), name, bundle)?;
+    owned.insert(*app, bundles).unwrap();
+    Ok(())
+}
+
+/// Installs a bundle of an application.
+pub(crate) fn install(
+    owned: &mut Owned,
+    app: &App,
+    name: Name,
+    bundle: Bundle,
+) -> Result<(), (PackFault, Bundle)>
+    ensures judged { IsJudged (install_fault name (shelf_of (files_at app.now owned.old.entries))) result }
+    ensures own { OnOk result (files_at app.now owned.new.entries ≡ files_at app.now owned.old.entries ++ (name, bundle) ∷ []) }
+    ensures others { KeepsOthers app.now owned.old.entries owned.new.entries }
+    ensures back { IfErr result (λ e. e.1 ≡ bundle) }
+    ensures stays { OnErr result (seen owned.new.entries ≡ seen owned.old.entries) }
+{
+    if let Some(bundles) = owned.get_mut(app) {
+        return bundles::install(bundles, name, bundle);
+    }
+    match install_first(owned, app, name, bundle) {
+        Ok(()) => Ok(()),
+        Err(bundle) => Err((PackFault::Memory, bundle)),
+    }
+}
+
+/// Puts a bundle in the place of the application's bundle of that name, and gives that one.
+pub(crate) fn exchange(
+    owned: &mut Owned,
+    app: &App,
+    name: &Name,
+    bundle: Bundle,
+) -> Result<Bundle, (Absent, Bundle)>
+    ensures found { IfOk result (λ b. lookup (bytes_eq name.now) (files_at app.now owned.old.entries) ≡ Some b) }
+    ensures absent { OnErr result (lookup (bytes_eq name.now) (files_at app.now owned.old.entries) ≡ None) }
+    ensures own { OnOk result (files_at app.now owned.new.entries ≡ set_value (bytes_eq name.now) (files_at app.now owned.old.entries) bundle) }
+    ensures others { KeepsOthers app.now owned.old.entries owned.new.entries }
+    ensures back { IfErr result (λ e. e.1 ≡ bundle) }
+    ensures stays { OnErr result (seen owned.new.entries ≡ seen owned.old.entries) }
+{
+    match owned.get_mut(app) {
+        Some(bundles) => bundles::exchange(bundles, name, bundle),
+        None => Err((Absent, bundle)),
+    }
+}
+
+/// Takes a bundle out of the application's.
+fn take_out(owned: &mut Owned, app: &App, name: &Name) -> Option<Bundle>
+    ensures found { result ≡ lookup (bytes_eq name.now) (files_at app.now owned.old.entries) }
+    ensures own { files_at app.now owned.new.entries ≡ remove_entry (bytes_eq name.now) (files_at app.now owned.old.entries) }
+    ensures others { KeepsOthers app.now owned.old.entries owned.new.entries }
+    ensures stays { IfNone result (seen owned.new.entries ≡ seen owned.old.entries) }
+{
+    match owned.get_mut(app) {
+        Some(bundles) => bundles.shift_remove(name),
+        None => None,
+    }
+}
+
+/// Takes an application without bundles out.
+fn forget_if_empty(owned: &mut Owned, app: &App)
+    ensures own { files_at app.now owned.new.entries ≡ files_at app.now owned.old.entries }
+    ensures others { KeepsOthers app.now owned.old.entries owned.new.entries }
+{
+    let is_empty = match owned.get(app) {
+        Some(bundles) => bundles.is_empty(),
+        None => false,
+    };
+    if is_empty {
+        owned.swap_remove(app);
+    }
+}
+
+/// Takes a bundle out of the application's, and the application with its last one.
+pub(crate) fn remove(owned: &mut Owned, app: &App, name: &Name) -> Result<Bundle, Absent>
+    ensures found { IfOk result (λ b. lookup (bytes_eq name.now) (files_at app.now owned.old.entries) ≡ Some b) }
+    ensures absent { OnErr result (lookup (bytes_eq name.now) (files_at app.now owned.old.entries) ≡ None) }
+    ensures own { OnOk result (files_at app.now owned.new.entries ≡ remove_entry (bytes_eq name.now) (files_at app.now owned.old.entries)) }
+    ensures others { KeepsOthers app.now owned.old.entries owned.new.entries }
+    ensures stays { OnErr result (seen owned.new.entries ≡ seen owned.old.entries) }
+{
+    match take_out(owned, app, name) {
+        Some(bundle) => {
+            forget_if_empty(owned, app);
+            Ok(bundle)
+        }
+        None => Err(Absent),
+    }
+}

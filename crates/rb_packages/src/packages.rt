@@ -1,0 +1,141 @@
+//! The bundles of ICUDATA and of all applications.
+ghost use Rattle.std.specs.Prelude.{◌≡◌, ℕ, [], ◌∷◌, ◌++◌, List, Some, None, IfOk, IfErr, OnOk, OnErr, map};
+ghost use Rattle.rb_format.specs.File.{source_tree_of};
+ghost use Rattle.rb_packages.specs.Shelf.{bundle_at, replaced, removed};
+ghost use Rattle.rb_packages.specs.Packages.{icudata_of, list_of, install_fault, load_fault, IsJudged, OthersStay};
+ghost use Rattle.rb_packages.specs.Lent.{bundles_lent};
+
+use crate::app::App;
+use crate::bundles::Bundles;
+use crate::fault::{Absent, PackFault};
+use crate::owned::Owned;
+use crate::shelf::AppShelf;
+use crate::{bundles, owned};
+use indexmap::IndexMap;
+use rb_locales::Name;
+use rb_validator::Bundle;
+use std::alloc::{AllocError, Global};
+use std::hash::RandomState;
+use std::marker::Model;
+
+/// The bundles of ICUDATA and those of many applications, each package with its bundles by their names, in the order of installing.
+///
+/// One index holds all applications, and each application's bundles stand in an index of their own. So a call takes time for the
+/// caller's bundles alone. An application without bundles takes no memory.
+#[derive(Drop)]
+pub struct Packages {
+    icudata: Bundles,
+    owned: Owned,
+}
+
+impl Model for Packages {
+    ghost use Rattle.rb_packages.specs.Packages.{Stored};
+    ghost use Rattle.rb_packages.specs.Raw.{seen};
+
+    ghost Value = { Stored };
+
+    ghost use Rattle.std.specs.Coded.{codes};
+
+    ghost coded = { Prim.hlevel codes };
+
+    ghost view = { λ p. record { icudata = p.icudata.entries; owned = seen p.owned.entries } };
+}
+
+impl Packages {
+    /// Packages without bundles, whose index hashes by `state`. It takes no memory.
+    pub fn new(alloc: Global, state: RandomState) -> Packages
+        ensures icudata { icudata_of result ≡ [] }
+        ensures lists { (app : List ℕ) → list_of app result ≡ [] }
+    {
+        Packages {
+            icudata: IndexMap::with_hasher(alloc, state),
+            owned: IndexMap::with_hasher(alloc, state),
+        }
+    }
+
+    /// Adds a bundle of ICUDATA, last in its order. `Twice`: there is one of that name. `Memory`: out of memory. An error changes
+    /// nothing and gives the bundle back.
+    pub fn load(&mut self, name: Name, bundle: Bundle) -> Result<(), (PackFault, Bundle)>
+        ensures judged { IsJudged (load_fault name (icudata_of self.old)) result }
+        ensures loaded { OnOk result (icudata_of self.new ≡ icudata_of self.old ++ (name, source_tree_of bundle) ∷ []) }
+        ensures others { (app : List ℕ) → list_of app self.new ≡ list_of app self.old }
+        ensures unchanged { OnErr result (self.new ≡ self.old) }
+        ensures back { IfErr result (λ e. e.1 ≡ bundle) }
+    {
+        bundles::load(&mut self.icudata, name, bundle)
+    }
+
+    /// Adds a bundle of an application, last in its order. `Exists`: the application has one of that name. `Full`: it has 4,096
+    /// bundles. `Memory`: out of memory. An error changes nothing and gives the bundle back.
+    pub fn install(
+        &mut self,
+        app: &App,
+        name: Name,
+        bundle: Bundle,
+    ) -> Result<(), (PackFault, Bundle)>
+        ensures judged { IsJudged (install_fault name (list_of app.now self.old)) result }
+        ensures installed { OnOk result (list_of app.now self.new ≡ list_of app.now self.old ++ (name, source_tree_of bundle) ∷ []) }
+        ensures others { OthersStay app.now self.old self.new }
+        ensures unchanged { OnErr result (self.new ≡ self.old) }
+        ensures back { IfErr result (λ e. e.1 ≡ bundle) }
+    {
+        owned::install(&mut self.owned, app, name, bundle)
+    }
+
+    /// Puts a bundle in the place of the application's bundle of that name, and gives the old one. `Absent`: there is none; nothing
+    /// is changed, and the bundle comes back. It takes no memory.
+    pub fn replace(
+        &mut self,
+        app: &App,
+        name: &Name,
+        bundle: Bundle,
+    ) -> Result<Bundle, (Absent, Bundle)>
+        ensures old { IfOk result (λ b. bundle_at (list_of app.now self.old) name.now ≡ Some (source_tree_of b)) }
+        ensures absent { OnErr result (bundle_at (list_of app.now self.old) name.now ≡ None) }
+        ensures replaced { OnOk result (list_of app.now self.new ≡ replaced name.now (source_tree_of bundle) (list_of app.now self.old)) }
+        ensures others { OthersStay app.now self.old self.new }
+        ensures unchanged { OnErr result (self.new ≡ self.old) }
+        ensures back { IfErr result (λ e. e.1 ≡ bundle) }
+    {
+        owned::exchange(&mut self.owned, app, name, bundle)
+    }
+
+    /// Takes the application's bundle of that name out and gives it. `Absent`: there is none; nothing is changed. It takes no memory.
+    pub fn remove(&mut self, app: &App, name: &Name) -> Result<Bundle, Absent>
+        ensures old { IfOk result (λ b. bundle_at (list_of app.now self.old) name.now ≡ Some (source_tree_of b)) }
+        ensures absent { OnErr result (bundle_at (list_of app.now self.old) name.now ≡ None) }
+        ensures removed { OnOk result (list_of app.now self.new ≡ removed name.now (list_of app.now self.old)) }
+        ensures others { OthersStay app.now self.old self.new }
+        ensures unchanged { OnErr result (self.new ≡ self.old) }
+    {
+        owned::remove(&mut self.owned, app, name)
+    }
+
+    /// The names of an application's bundles, in the order of installing; none of an application without bundles.
+    pub fn list(&self, alloc: Global, app: &App) -> Result<Vec<Name>, AllocError>
+        ensures { IfOk result (λ names. names.items ≡ map (λ e. e.0) (list_of app.now self.now)) }
+    {
+        match self.owned.get(app) {
+            Some(bundles) => bundles::names(alloc, bundles),
+            None => Ok(Vec::new(alloc)),
+        }
+    }
+
+    /// The bundles of an application, lent. It takes no memory.
+    pub fn shelf(&self, app: &App) -> AppShelf<'_>
+        ensures { bundles_lent result ≡ bundle_at (list_of app.now self.now) }
+    {
+        AppShelf {
+            bundles: self.owned.get(app),
+        }
+    }
+
+    /// The bundles of ICUDATA, lent. It takes no memory.
+    pub fn icu_shelf(&self) -> AppShelf<'_>
+        ensures { bundles_lent result ≡ bundle_at (icudata_of self.now) }
+    {
+        AppShelf {
+            bundles: Some(&self.icudata),
+        }
+    }
+}

@@ -1,0 +1,41 @@
+//! The bundles of one package, lent.
+ghost use Rattle.std.specs.Prelude.{◌≡◌, option_map};
+ghost use Rattle.rb_parents.specs.Shelf.{bundle_of};
+ghost use Rattle.rb_packages.specs.Shelf.{bundle_at};
+ghost use Rattle.rb_packages.specs.Packages.{shelf_of};
+ghost use Rattle.rb_packages.specs.Lent.{bundles_lent};
+ghost use Rattle.rb_views.specs.Seen.{tree_seen};
+
+use crate::bundles::Bundles;
+use rb_locales::Name;
+use rb_parents::Shelf;
+use rb_views::{Item, root};
+
+/// The bundles of ICUDATA or of one application, by their names. It lends the roots of their files.
+#[derive(Clone, Copy)]
+pub struct AppShelf<'a> {
+    pub(crate) bundles: Option<&'a Bundles>,
+}
+
+impl<'a> Shelf<'a> for AppShelf<'a> {
+    type N = Item<'a>;
+
+    ghost bundles = { bundles_lent };
+
+    fn bundle(self, name: &Name) -> Option<(Item<'a>, bool)> {
+        match self.bundles {
+            Some(bundles) => bundle_in(bundles, name),
+            None => None,
+        }
+    }
+}
+
+/// The root of a name's bundle, and whether the bundle has no fallback.
+fn bundle_in<'a>(bundles: &'a Bundles, name: &Name) -> Option<(Item<'a>, bool)>
+    ensures { option_map (bundle_of tree_seen) result ≡ bundle_at (shelf_of bundles.now.entries) name.now }
+{
+    match bundles.get(name) {
+        Some(bundle) => Some((root(bundle), bundle.no_fallback())),
+        None => None,
+    }
+}
