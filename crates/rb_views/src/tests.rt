@@ -19,13 +19,6 @@ fn bundle(alloc: Global, bytes: &[u8]) -> Result<Bundle, Fail> {
     }
 }
 
-fn top(bundle: &Bundle) -> Result<Table<'_>, Fail> {
-    match root(bundle).table() {
-        Some(table) => Ok(table),
-        None => Err("the root is no table".into()),
-    }
-}
-
 fn int_at(table: Table<'_>, key: &[u8]) -> Option<i32> {
     table.get(key)?.int()
 }
@@ -68,77 +61,112 @@ fn first_of_two(array: Option<Array<'_>>) -> Option<u32> {
     }
 }
 
+fn finds_both_keys(item: Item<'_>) -> bool {
+    match item.table() {
+        Some(table) => {
+            table.len() == 2
+                && int_at(table, b"ab") == Some(1)
+                && int_at(table, b"b") == Some(2)
+                && int_at(table, b"a").is_none()
+        }
+        None => false,
+    }
+}
+
 #[test]
 fn a_key_that_ends_another_is_found(rt: HostRuntime) -> Result<(), Fail> {
     let bundle = bundle(rt.alloc(), &SUFFIX_KEY)?;
-    let table = top(&bundle)?;
-    assert_eq!(rt; table.len(), 2);
-    assert_eq!(rt; int_at(table, b"ab"), Some(1));
-    assert_eq!(rt; int_at(table, b"b"), Some(2));
-    assert_eq!(rt; int_at(table, b"a"), None);
+    assert!(rt; finds_both_keys(root(&bundle)));
     Ok(())
+}
+
+fn is_entry(entry: Option<(&[u8], Item<'_>)>, wanted: &[u8], number: i32) -> bool {
+    match entry {
+        Some((key, item)) => key == wanted && item.int() == Some(number),
+        None => false,
+    }
+}
+
+fn gives_both_entries(item: Item<'_>) -> bool {
+    match item.table() {
+        Some(table) => {
+            let mut entries = table.iter();
+            is_entry(entries.next(), b"ab", 1)
+                && is_entry(entries.next(), b"b", 2)
+                && entries.next().is_none()
+        }
+        None => false,
+    }
 }
 
 #[test]
 fn entries_come_in_order(rt: HostRuntime) -> Result<(), Fail> {
     let bundle = bundle(rt.alloc(), &SUFFIX_KEY)?;
-    let mut entries = top(&bundle)?.iter();
-    for (wanted, number) in [(&b"ab"[..], 1), (&b"b"[..], 2)] {
-        match entries.next() {
-            Some((key, item)) => {
-                assert_eq!(rt; key, wanted);
-                assert_eq!(rt; item.int(), Some(number));
-            }
-            None => return Err("no entry".into()),
-        }
-    }
-    assert!(rt; entries.next().is_none());
+    assert!(rt; gives_both_entries(root(&bundle)));
     Ok(())
 }
 
-#[test]
-fn texts_and_bytes_are_lent(rt: HostRuntime) -> Result<(), Fail> {
-    let bundle = bundle(rt.alloc(), &EVERY_TYPE)?;
-    let table = top(&bundle)?;
-    for (key, text, alias, binary) in [
-        (b"a", true, false, false),
-        (b"b", false, false, true),
-        (b"c", false, true, false),
-        (b"d", false, false, false),
-    ] {
-        match table.get(key) {
-            Some(item) => {
-                assert_eq!(rt; is_text(item.text(), &[0x78]), text);
-                assert_eq!(rt; is_text(item.alias(), &[0x64, 0x65]), alias);
-                assert_eq!(rt; item.binary() == Some(&[0x00, 0xFF, 0x7F][..]), binary);
-            }
-            None => return Err("no entry".into()),
-        }
+fn is_string(item: Item<'_>) -> bool {
+    is_text(item.text(), &[0x78]) && item.alias().is_none() && item.binary().is_none()
+}
+
+fn is_binary(item: Item<'_>) -> bool {
+    item.binary() == Some(&[0x00, 0xFF, 0x7F][..]) && item.text().is_none() && item.int().is_none()
+}
+
+fn is_alias(item: Item<'_>) -> bool {
+    is_text(item.alias(), &[0x64, 0x65]) && item.text().is_none() && item.table().is_none()
+}
+
+fn is_int(item: Item<'_>) -> bool {
+    item.int() == Some(-3) && item.uint() == Some(0x0FFF_FFFD) && item.ints().is_none()
+}
+
+fn is_vector(item: Item<'_>) -> bool {
+    are_numbers(item.ints(), &[1, -1]) && item.uint().is_none() && item.array().is_none()
+}
+
+fn is_array(item: Item<'_>) -> bool {
+    first_of_two(item.array()) == Some(5) && item.table().is_none() && item.ints().is_none()
+}
+
+fn is_table(item: Item<'_>) -> bool {
+    item.len() == 2 && item.table().is_some() && item.array().is_none()
+}
+
+fn has_texts(table: Table<'_>) -> bool {
+    match (table.get(b"a"), table.get(b"b"), table.get(b"c")) {
+        (Some(a), Some(b), Some(c)) => is_string(a) && is_binary(b) && is_alias(c),
+        _ => false,
     }
-    Ok(())
+}
+
+fn has_numbers(table: Table<'_>) -> bool {
+    match (table.get(b"d"), table.get(b"e")) {
+        (Some(d), Some(e)) => is_int(d) && is_vector(e),
+        _ => false,
+    }
+}
+
+fn has_children(table: Table<'_>) -> bool {
+    match (table.get(b"f"), table.get(b"g"), table.get(b"h")) {
+        (Some(f), Some(g), Some(h)) => is_array(f) && g.table().is_some() && is_table(h),
+        _ => false,
+    }
+}
+
+fn has_every_kind(item: Item<'_>) -> bool {
+    match item.table() {
+        Some(table) => has_texts(table) && has_numbers(table) && has_children(table),
+        None => false,
+    }
 }
 
 #[test]
-fn numbers_and_children_are_read(rt: HostRuntime) -> Result<(), Fail> {
+fn every_kind_is_viewed(rt: HostRuntime) -> Result<(), Fail> {
     let bundle = bundle(rt.alloc(), &EVERY_TYPE)?;
-    let table = top(&bundle)?;
-    assert_eq!(rt; int_at(table, b"d"), Some(-3));
-    match (
-        table.get(b"d"),
-        table.get(b"e"),
-        table.get(b"f"),
-        table.get(b"h"),
-    ) {
-        (Some(d), Some(e), Some(f), Some(h)) => {
-            assert_eq!(rt; d.uint(), Some(0x0FFF_FFFD));
-            assert!(rt; are_numbers(e.ints(), &[1, -1]));
-            assert_eq!(rt; first_of_two(f.array()), Some(5));
-            assert!(rt; f.table().is_none() && h.array().is_none());
-            assert_eq!(rt; h.len(), 2);
-            Ok(())
-        }
-        _ => Err("no entry".into()),
-    }
+    assert!(rt; has_every_kind(root(&bundle)));
+    Ok(())
 }
 
 /// The Int at which a walk ends.
@@ -164,8 +192,21 @@ fn put(file: &mut Vec<u8>, words: &[u32]) -> Result<(), Fail> {
 /// A table whose `a` is the last of 30 arrays, the first of two Ints 0 and each other one of the one before it, twice.
 fn nested_arrays(alloc: Global) -> Result<Vec<u8>, Fail> {
     let mut file = SUFFIX_KEY[..32].to_vec(alloc)?;
-    put(&mut file, &[0x2000_0061, 5, 7, 99, 99, 1, 0xAAAA_0061])?;
-    put(&mut file, &[2, 0x7000_0000, 0x7000_0000])?;
+    put(
+        &mut file,
+        &[
+            0x2000_0061,
+            5,
+            7,
+            99,
+            99,
+            1,
+            0xAAAA_0061,
+            2,
+            0x7000_0000,
+            0x7000_0000,
+        ],
+    )?;
     for k in 0..29 {
         let item = 0x8000_0007 + 3 * k;
         put(&mut file, &[2, item, item])?;
@@ -174,16 +215,22 @@ fn nested_arrays(alloc: Global) -> Result<Vec<u8>, Fail> {
     Ok(file)
 }
 
+/// The key `a`, and the first item so many times.
+fn path_down(alloc: Global, levels: usize) -> Result<Vec<u8>, Fail> {
+    let mut path = b"a".to_vec(alloc)?;
+    for _ in 0..levels {
+        path.extend_from_slice(b"/0")?;
+    }
+    Ok(path)
+}
+
 #[test]
 fn a_walk_goes_through_nested_arrays(rt: HostRuntime) -> Result<(), Fail> {
     let alloc = rt.alloc();
+    let path = path_down(alloc, 30)?;
+    let longer = path_down(alloc, 31)?;
     let bundle = bundle(alloc, &nested_arrays(alloc)?)?;
-    let mut path = b"a".to_vec(alloc)?;
-    for _ in 0..30 {
-        path.extend_from_slice(b"/0")?;
-    }
     assert_eq!(rt; int_along(root(&bundle), &path), Some(0));
-    path.extend_from_slice(b"/0")?;
-    assert_eq!(rt; int_along(root(&bundle), &path), None);
+    assert_eq!(rt; int_along(root(&bundle), &longer), None);
     Ok(())
 }
