@@ -14,7 +14,6 @@ use Rattle.rb_engine.specs.Rows.{Rows, list_of, rows_of, row_at, replaced_row, r
 use Rattle.rb_engine.specs.RowStep.{RowStep, AddsRow, HoldsBundle, HoldsNone}
 use Rattle.rb_engine.specs.Ask.{IsContent, Content, spelled, denoted, unread, Installs, Replaces, Removes, Lists}
 use Rattle.rb_engine.specs.Answer.{Replies, install_reply, add_reply, replace_reply, installed, exchanged, added as added_to, refusal}
-use Rattle.rb_engine.specs.declared.limits.TheConstants.{BUNDLE_LIMIT}
 use Rattle.rb_engine.specs.declared.app.AppFault.{AppFault}
 use Rattle.rb_engine.specs.declared.app.AppFault.TheVariants as app
 use Rattle.rb_engine.specs.declared.place.Place.{Place}
@@ -49,8 +48,8 @@ app-place_of app locale p h = app_is app p.app (app_by (app_of app) (name locale
 holds_is : (app : List ℕ) (p : Place) (rows : Rows) (b : Bool) → p.app ≡ app → is_some (row_at p rows) ≡ b → holds p.name (list_of app rows) ≡ b
 holds_is app p rows b e h = ap (λ a. holds p.name (list_of a rows)) (sym e) ∙ sym (holds-row_at p rows) ∙ h
 
-full_is : (app : List ℕ) (p : Place) (rows : Rows) (b : Bool) → p.app ≡ app → nat_le BUNDLE_LIMIT (length (rows_of p.app rows)) ≡ b → is_full (list_of app rows) ≡ b
-full_is app p rows b e h = ap (λ a. is_full (list_of a rows)) (sym e) ∙ ap (nat_le BUNDLE_LIMIT) (length-map (rows_of p.app rows) _) ∙ h
+full_is : (app : List ℕ) (p : Place) (rows : Rows) (b : Bool) → p.app ≡ app → nat_le 4096 (length (rows_of p.app rows)) ≡ b → is_full (list_of app rows) ≡ b
+full_is app p rows b e h = ap (λ a. is_full (list_of a rows)) (sym e) ∙ ap (nat_le 4096) (length-map (rows_of p.app rows) _) ∙ h
 
 -- ---- a request that names no place
 
@@ -106,7 +105,7 @@ exists app locale payload p t rows h k there =
       others = λ a n. refl;
     })
 
-pub full : (app locale : List ℕ) (payload : Payload) (p : Place) (t : KeptBundle) (rows : Rows) → place_of app locale ≡ Ok p → HoldsBundle payload (source_kept t) → is_some (row_at p rows) ≡ false → BUNDLE_LIMIT ≤ length (rows_of p.app rows) → RowStep (request.Install app locale payload) Full rows rows
+pub full : (app locale : List ℕ) (payload : Payload) (p : Place) (t : KeptBundle) (rows : Rows) → place_of app locale ≡ Ok p → HoldsBundle payload (source_kept t) → is_some (row_at p rows) ≡ false → 4096 ≤ length (rows_of p.app rows) → RowStep (request.Install app locale payload) Full rows rows
 full app locale payload p t rows h k there most =
     let a = app-place_of app locale p h in
     let e = holds_is app p rows false a there in
@@ -120,7 +119,7 @@ full app locale payload p t rows h k there most =
       others = λ a n. refl;
     })
 
-done : (app locale : List ℕ) (payload : Payload) (p : Place) (t : KeptBundle) (rows : Rows) → place_of app locale ≡ Ok p → HoldsBundle payload (source_kept t) → is_some (row_at p rows) ≡ false → length (rows_of p.app rows) < BUNDLE_LIMIT → RowStep (request.Install app locale payload) Done rows (rows ++ (p, t) ∷ [])
+done : (app locale : List ℕ) (payload : Payload) (p : Place) (t : KeptBundle) (rows : Rows) → place_of app locale ≡ Ok p → HoldsBundle payload (source_kept t) → is_some (row_at p rows) ≡ false → length (rows_of p.app rows) < 4096 → RowStep (request.Install app locale payload) Done rows (rows ++ (p, t) ∷ [])
 done app locale payload p t rows h k there most =
     let a = app-place_of app locale p h in
     let e = holds_is app p rows false a there in
@@ -135,7 +134,7 @@ done app locale payload p t rows h k there most =
       others = λ other n. rw (list_of-push other rows (p, t), a, other_bytes other app n) refl;
     })
 
-pub added : (app locale : List ℕ) (payload : Payload) (p : Place) (t : KeptBundle) (rows : Rows) (reply : Reply) (new : Rows) → place_of app locale ≡ Ok p → HoldsBundle payload (source_kept t) → is_some (row_at p rows) ≡ false → length (rows_of p.app rows) < BUNDLE_LIMIT → AddsRow p t reply rows new → RowStep (request.Install app locale payload) reply rows new
+pub added : (app locale : List ℕ) (payload : Payload) (p : Place) (t : KeptBundle) (rows : Rows) (reply : Reply) (new : Rows) → place_of app locale ≡ Ok p → HoldsBundle payload (source_kept t) → is_some (row_at p rows) ≡ false → length (rows_of p.app rows) < 4096 → AddsRow p t reply rows new → RowStep (request.Install app locale payload) reply rows new
 added app locale payload p t rows reply new h k there few (inl a) = rw (a.0, a.1) (done app locale payload p t rows h k there few)
 added app locale payload p t rows reply new h k there few (inr a) = inl (record { memory = a.0; may = refl; rows = a.1 })
 
