@@ -15,6 +15,7 @@ mod tests;
 mod told;
 
 pub use device::{Failed, Feed, ReadFeed, Sink, WriteSink};
+pub use item::item_text;
 pub use limits::LINE_LIMIT;
 pub use lines::{ServeFault, Served, serve};
 pub use rb_engine::{

@@ -1,6 +1,7 @@
 //! Worked examples: lines with their replies, and the engine's own calls.
 
 mod devices;
+mod items;
 
 use crate::device::{ReadFeed, WriteSink};
 use crate::lines::{ServeFault, serve};
