@@ -4,6 +4,7 @@
 mod commands;
 mod files;
 mod serve;
+mod start;
 #[cfg(test)]
 mod tests;
 

@@ -1,28 +1,33 @@
 //! `resb serve`.
+use crate::start::{not_started, start};
 use rb_requests::{Engine, ReadFeed, ServeFault, WriteSink, serve};
 use std::io;
 use std::io::{BufReader, BufWriter};
 use std::process::ExitCode;
+use std::random::RandomSource;
+use std::rt::Files;
 
 /// The most lines of one run.
 const MAX_LINES: u64 = 1_099_511_627_776;
 
 /// Serves standard input, each side behind a buffer; the writer's is flushed after each reply.
-fn serve_buffered<R: Input + Print + AllocGlobal>(rt: &R) -> io::Result<Result<(), ServeFault>> {
+fn serve_buffered<R: Input + Print + AllocGlobal>(
+    rt: &R,
+    engine: &mut Engine,
+) -> io::Result<Result<(), ServeFault>> {
     let alloc = rt.alloc();
-    let mut engine = Engine::start(alloc);
     let mut feed = ReadFeed::new(BufReader::new(alloc, rt.reader())?);
     let mut sink = WriteSink::new(BufWriter::new(alloc, io::writer(rt))?);
-    match serve(alloc, &mut engine, &mut feed, &mut sink, MAX_LINES) {
+    match serve(alloc, engine, &mut feed, &mut sink, MAX_LINES) {
         Ok(_) => Ok(Ok(())),
         Err(fault) => Ok(Err(fault)),
     }
 }
 
-/// Answers the lines of standard input on standard output. The status is 0 once the input is read, and else 1, with the fault's name
-/// on standard error; `Memory` also where there is none for the buffers.
-pub fn serve_input<R: Input + Print + Eprint + AllocGlobal>(rt: &R) -> ExitCode {
-    let fault = match serve_buffered(rt) {
+/// Answers the lines of standard input. The status is 0 once the input is read, and else 1, with the fault's name on standard error;
+/// `Memory` also where there is none for the buffers.
+fn serve_lines<R: Input + Print + Eprint + AllocGlobal>(rt: &R, engine: &mut Engine) -> ExitCode {
+    let fault = match serve_buffered(rt, engine) {
         Ok(Ok(())) => return ExitCode::SUCCESS,
         Ok(Err(fault)) => fault,
         Err(_) => ServeFault::Memory,
@@ -30,4 +35,23 @@ pub fn serve_input<R: Input + Print + Eprint + AllocGlobal>(rt: &R) -> ExitCode 
     let word = fault.word();
     let _ = eprintln!(rt; "{word}");
     ExitCode::from(1)
+}
+
+/// Answers the lines of standard input on standard output, with the explicit parents of the file `parents`, a bundle text, and with
+/// `bundles` as ICUDATA, each a `LOCALE=FILE` that is split at its first `=`. A file whose name ends in `.txt` is bundle text, any
+/// other a `.res` file.
+///
+/// The status is 0 once the input is read. It is 2 for an argument that isn't `LOCALE=FILE`, a file that can't be read, and a runtime
+/// without random numbers; 1 where a file is refused, with its error's name, out of memory, and where serving ends early, with the
+/// name of the error. Each is a line on standard error. All arguments are split before a file is read, and the parents are judged
+/// before another file is read.
+pub fn serve_input<R: Files + RandomSource + Input + Print + Eprint + AllocGlobal>(
+    rt: &R,
+    parents: Option<&str>,
+    bundles: &[&str],
+) -> ExitCode {
+    match start(rt, parents, bundles) {
+        Ok(mut engine) => serve_lines(rt, &mut engine),
+        Err(error) => not_started(rt, error),
+    }
 }

@@ -2,7 +2,9 @@
 mod desk;
 
 use crate::commands::{check, compile};
+use crate::start::{StartError, not_started, start};
 use desk::Desk;
+use std::alloc::Global;
 use std::process::ExitCode;
 use std::test::Fail;
 
@@ -117,5 +119,92 @@ fn checks_files(rt: HostRuntime) -> Result<(), Fail> {
     assert!(rt; check(&desk, "absent.res") == ExitCode::from(2));
     assert_eq!(rt; desk.errors().as_str(), "cannot read absent.res\n");
     assert_eq!(rt; desk.output().as_str(), "");
+    Ok(())
+}
+
+/// The files that starts are given.
+const GIVEN: [(&str, &[u8]); 9] = [
+    ("a.txt", b"x{}"),
+    ("b.txt", b"x{}"),
+    ("c.txt", b"x"),
+    ("d.res", &HOLDS_ITSELF),
+    ("good.res", &ONE_STRING),
+    ("none.txt", b"x{a{\"b\"}}"),
+    ("two.txt", b"x{parentLocales{en{\"de\"} fr{\"de\"}}}"),
+    ("good.txt", b"x{parentLocales{root{\"zh_Hant\"}}}"),
+    ("text.TXT", b"x{}"),
+];
+
+/// Starts that are refused: the file of explicit parents, the arguments, what is said, and the status.
+const REFUSED: [(Option<&str>, &[&str], &str, u8); 15] = [
+    (None, &["de"], "bad bundle argument: de\n", 2),
+    (None, &["d=x.txt"], "bad bundle argument: d=x.txt\n", 2),
+    (None, &["=a.txt", "de=c.txt"], "c.txt: BadText\n", 1),
+    (None, &["de=x=a.txt"], "cannot read x=a.txt\n", 2),
+    (None, &["de=a.txt", "de=b.txt"], "b.txt: Twice\n", 1),
+    (None, &["de=c.txt"], "c.txt: BadText\n", 1),
+    (None, &["de=d.res"], "d.res: BadFile\n", 1),
+    (None, &["de=text.TXT"], "text.TXT: BadFile\n", 1),
+    (None, &["de=a.txt", "de=c.txt"], "c.txt: BadText\n", 1),
+    (Some("none.txt"), &[], "none.txt: Shape\n", 1),
+    (Some("two.txt"), &[], "two.txt: TwoParents\n", 1),
+    (Some("c.txt"), &[], "c.txt: Unexpected\n", 1),
+    (Some("absent.txt"), &["de"], "bad bundle argument: de\n", 2),
+    (Some("none.txt"), &["de=absent.txt"], "none.txt: Shape\n", 1),
+    (
+        Some("good.txt"),
+        &["de=c.txt", "fr=absent.txt"],
+        "cannot read absent.txt\n",
+        2,
+    ),
+];
+
+/// A desk with the files that starts are given.
+fn desk_with_files(alloc: Global) -> Result<Desk, Fail> {
+    let desk = Desk::new(alloc, ROOM);
+    for (name, bytes) in GIVEN {
+        desk.put(name, bytes)?;
+    }
+    Ok(desk)
+}
+
+/// The status of a start that is refused, or none.
+fn refusal(desk: &Desk, parents: Option<&str>, arguments: &[&str]) -> Option<ExitCode> {
+    match start(desk, parents, arguments) {
+        Ok(_) => None,
+        Err(error) => Some(not_started(desk, error)),
+    }
+}
+
+#[test]
+fn refuses_to_start(rt: HostRuntime) -> Result<(), Fail> {
+    let desk = desk_with_files(rt.alloc())?;
+    desk.put("/dev/random", b"")?;
+    for (parents, arguments, said, status) in REFUSED {
+        let found = refusal(&desk, parents, arguments);
+        assert!(rt; found == Some(ExitCode::from(status)));
+        assert_eq!(rt; desk.errors().as_str(), said);
+    }
+    Ok(())
+}
+
+#[test]
+fn starts_with_a_random_state(rt: HostRuntime) -> Result<(), Fail> {
+    let desk = desk_with_files(rt.alloc())?;
+    let arguments = ["root=good.res", "de-at=a.txt"];
+    let status = refusal(&desk, Some("good.txt"), &arguments);
+    assert!(rt; status == Some(ExitCode::from(2)));
+    assert_eq!(rt; desk.errors().as_str(), "no random state\n");
+    desk.put("/dev/random", b"")?;
+    assert!(rt; refusal(&desk, Some("good.txt"), &arguments).is_none());
+    assert_eq!(rt; desk.errors().as_str(), "");
+    Ok(())
+}
+
+#[test]
+fn says_that_memory_is_out(rt: HostRuntime) -> Result<(), Fail> {
+    let desk = Desk::new(rt.alloc(), ROOM);
+    assert!(rt; not_started(&desk, StartError::Memory) == ExitCode::from(1));
+    assert_eq!(rt; desk.errors().as_str(), "Memory\n");
     Ok(())
 }

@@ -23,8 +23,36 @@ fn check_command<'a>(alloc: Global) -> Result<Command<'a>, AllocError> {
     with_word(alloc, command, "FILE", "a .res file")
 }
 
-fn serve_command<'a>(alloc: Global) -> Command<'a> {
-    Command::new(alloc, "serve").about("Answers requests, a line each, from standard input")
+/// The end of the help of `serve`.
+const SERVE_HELP: &str = "\
+Example:
+  resb serve --parents parents.txt root=root.txt de=de.res < requests.jsonl
+
+Status:
+  0  the input is read
+  1  a file is refused, or serving ended early; the error's name is on standard error
+  2  the command line is invalid, a file can't be read, or there is no random state";
+
+fn parents_argument<'a>(alloc: Global) -> Arg<'a> {
+    Arg::new(alloc, "parents")
+        .long("parents")
+        .value_name("FILE")
+        .help("a bundle text with the explicit parents, at parentLocales")
+}
+
+fn bundles_argument<'a>(alloc: Global) -> Arg<'a> {
+    Arg::new(alloc, "bundles")
+        .value_name("LOCALE=FILE")
+        .num_args(0..)
+        .help("a bundle of ICUDATA: bundle text where FILE ends in .txt, else a .res file")
+}
+
+fn serve_command<'a>(alloc: Global) -> Result<Command<'a>, AllocError> {
+    Command::new(alloc, "serve")
+        .about("Answers requests, a line each, from standard input")
+        .after_help(SERVE_HELP)
+        .arg(parents_argument(alloc))?
+        .arg(bundles_argument(alloc))
 }
 
 /// The command without its subcommands.
@@ -50,5 +78,5 @@ pub fn commands<'a>(alloc: Global) -> Result<Command<'a>, AllocError> {
     let command = bare(alloc)?;
     let command = with_compile(alloc, command)?;
     let command = with_check(alloc, command)?;
-    command.subcommand(serve_command(alloc))
+    command.subcommand(serve_command(alloc)?)
 }

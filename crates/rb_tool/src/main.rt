@@ -9,11 +9,12 @@ use crate::command_line::commands;
 use clap::ArgMatches;
 use rb_commands::{check, compile, serve_input};
 use std::process::ExitCode;
+use std::random::RandomSource;
 use std::rt::{Env, Files};
 use std::{env, io};
 
 /// Runs the command that was chosen.
-fn chosen<R: Files + AllocGlobal + Input + Print + Eprint>(
+fn chosen<R: Files + RandomSource + AllocGlobal + Input + Print + Eprint>(
     rt: &R,
     matches: &ArgMatches<'_>,
 ) -> ExitCode {
@@ -24,12 +25,18 @@ fn chosen<R: Files + AllocGlobal + Input + Print + Eprint>(
             inner.get_str("OUT").unwrap_or(""),
         ),
         Some(("check", inner)) => check(rt, inner.get_str("FILE").unwrap_or("")),
-        Some(("serve", _)) => serve_input(rt),
+        Some(("serve", inner)) => serve_input(
+            rt,
+            inner.get_str("parents"),
+            inner.get_strs("bundles").unwrap_or(&[]),
+        ),
         _ => ExitCode::from(2),
     }
 }
 
-fn run<R: Files + AllocGlobal + Input + Print + Eprint + Env>(rt: &R) -> io::Result<ExitCode> {
+fn run<R: Files + RandomSource + AllocGlobal + Input + Print + Eprint + Env>(
+    rt: &R,
+) -> io::Result<ExitCode> {
     let alloc = rt.alloc();
     let words: Vec<String> = env::args(rt)?.collect(alloc)?;
     let command = commands(alloc)?;

@@ -4,11 +4,25 @@ use std::alloc::Global;
 use std::test::Fail;
 
 /// Command lines, with the status of those that are refused.
-const LINES: [(&[&str], i32); 8] = [
+const LINES: [(&[&str], i32); 12] = [
     (&["resb"], 2),
     (&["resb", "get"], 2),
     (&["resb", "serve"], 0),
-    (&["resb", "serve", "x"], 2),
+    (&["resb", "serve", "x"], 0),
+    (
+        &[
+            "resb",
+            "serve",
+            "--parents",
+            "p.txt",
+            "de=a.txt",
+            "root=b.res",
+        ],
+        0,
+    ),
+    (&["resb", "serve", "de=a.txt", "--parents", "p.txt"], 0),
+    (&["resb", "serve", "--parents"], 2),
+    (&["resb", "serve", "--locale", "de"], 2),
     (&["resb", "check"], 2),
     (&["resb", "check", "a.res"], 0),
     (&["resb", "compile", "a.txt"], 2),

@@ -5,6 +5,7 @@ use std::fmt::Display;
 use std::fs::{Metadata, OpenFile, OpenOptions};
 use std::io;
 use std::io::{ErrorKind, Read, Seek, SeekFrom, Write};
+use std::random::RandomSource;
 use std::rc::Rc;
 use std::rt::Files;
 
@@ -84,7 +85,8 @@ impl OpenFile for Paper {
     }
 }
 
-/// A desk with files, a disk that takes `room` bytes a file, and what was printed. Files below `/dev/` are devices.
+/// A desk with files, a disk that takes `room` bytes a file, and what was printed. Files below `/dev/` are devices, and there are random
+/// bytes only where there is a `/dev/random`.
 #[derive(Drop)]
 pub struct Desk {
     alloc: Global,
@@ -197,6 +199,16 @@ impl Eprint for Desk {
 
     fn eprintln<D: Display + Drop>(&self, value: D) -> io::Result<()> {
         self.say(&self.errors, value, "\n")
+    }
+}
+
+impl RandomSource for Desk {
+    fn fill_bytes(&self, buf: &mut [u8]) -> io::Result<()> {
+        if self.find("/dev/random").is_none() {
+            return Err(io::Error::from(ErrorKind::NotFound));
+        }
+        buf.fill(7);
+        Ok(())
     }
 }
 
