@@ -1,13 +1,10 @@
-// Views of sample files.
+// Views of sample files, and of a long table.
 mod samples;
 
-use crate::array::Array;
-use crate::bundle::root;
-use crate::item::Item;
-use crate::leaves::{Ints, Units};
-use crate::table::Table;
+use crate::writer::{file, numbered, numbered_key};
 use rb_tree::{Ending, Node, path_ok, walk};
 use rb_validator::{Bundle, accept};
+use rb_views::{Array, Ints, Item, Table, Units, root};
 use samples::{EVERY_TYPE, SUFFIX_KEY};
 use std::alloc::Global;
 use std::test::Fail;
@@ -166,6 +163,29 @@ fn has_every_kind(item: Item<'_>) -> bool {
 fn every_kind_is_viewed(rt: HostRuntime) -> Result<(), Fail> {
     let bundle = bundle(rt.alloc(), &EVERY_TYPE)?;
     assert!(rt; has_every_kind(root(&bundle)));
+    Ok(())
+}
+
+fn finds_each_number(item: Item<'_>, count: u32) -> bool {
+    match item.table() {
+        Some(table) => {
+            for i in 0..count {
+                if int_at(table, &numbered_key(i)) != Some(0) {
+                    return false;
+                }
+            }
+            table.get(&numbered_key(count)).is_none()
+        }
+        None => false,
+    }
+}
+
+#[test]
+fn each_key_of_a_long_table_is_found(rt: HostRuntime) -> Result<(), Fail> {
+    let alloc = rt.alloc();
+    let bytes = file(alloc, &numbered(alloc, 9_360)?, false)?;
+    let bundle = bundle(alloc, &bytes)?;
+    assert!(rt; finds_each_number(root(&bundle), 9_360));
     Ok(())
 }
 
