@@ -1,4 +1,6 @@
 // Views of sample files, and of a long table.
+ghost use Rattle.std.specs.Prelude.{◌≤◌};
+
 mod samples;
 
 use crate::writer::{file, numbered, numbered_key};
@@ -7,6 +9,7 @@ use rb_validator::{Bundle, accept};
 use rb_views::{Array, Ints, Item, Table, Units, root};
 use samples::{EVERY_TYPE, SUFFIX_KEY};
 use std::alloc::Global;
+use std::process::Abort;
 use std::test::Fail;
 
 fn bundle(alloc: Global, bytes: &[u8]) -> Result<Bundle, Fail> {
@@ -209,29 +212,25 @@ fn put(file: &mut Vec<u8>, words: &[u32]) -> Result<(), Fail> {
     Ok(())
 }
 
-/// A table whose `a` is the last of 30 arrays, the first of two Ints 0 and each other one of the one before it, twice.
-fn nested_arrays(alloc: Global) -> Result<Vec<u8>, Fail> {
+/// A table whose `a` is the last of so many arrays, from 1 to 100: the first has two Ints 0, and each other one has the one before
+/// it, twice.
+fn nested_arrays(alloc: Global, count: u32) -> Result<Vec<u8>, Fail>
+    requires low { 1 ≤ count }
+    requires high { count ≤ 100 }
+{
+    let table = 7 + 3 * count;
+    let top = table + 2;
     let mut file = SUFFIX_KEY[..32].to_vec(alloc)?;
     put(
         &mut file,
-        &[
-            0x2000_0061,
-            5,
-            7,
-            99,
-            99,
-            1,
-            0xAAAA_0061,
-            2,
-            0x7000_0000,
-            0x7000_0000,
-        ],
+        &[0x2000_0000 + table, 5, 7, top, top, 1, 0xAAAA_0061],
     )?;
-    for k in 0..29 {
+    put(&mut file, &[2, 0x7000_0000, 0x7000_0000])?;
+    for k in 0..count - 1 {
         let item = 0x8000_0007 + 3 * k;
         put(&mut file, &[2, item, item])?;
     }
-    put(&mut file, &[0x0018_0001, 0x8000_005E])?;
+    put(&mut file, &[0x0018_0001, 0x8000_0000 + table - 3])?;
     Ok(file)
 }
 
@@ -244,13 +243,20 @@ fn path_down(alloc: Global, levels: usize) -> Result<Vec<u8>, Fail> {
     Ok(path)
 }
 
-#[test]
-fn a_walk_goes_through_nested_arrays(rt: HostRuntime) -> Result<(), Fail> {
-    let alloc = rt.alloc();
-    let path = path_down(alloc, 30)?;
-    let longer = path_down(alloc, 31)?;
-    let bundle = bundle(alloc, &nested_arrays(alloc)?)?;
+fn walks_down(rt: &impl Abort, alloc: Global, count: u32) -> Result<(), Fail>
+    requires low { 1 ≤ count }
+    requires high { count ≤ 100 }
+{
+    let path = path_down(alloc, count as usize)?;
+    let longer = path_down(alloc, count as usize + 1)?;
+    let bundle = bundle(alloc, &nested_arrays(alloc, count)?)?;
     assert_eq!(rt; int_along(root(&bundle), &path), Some(0));
     assert_eq!(rt; int_along(root(&bundle), &longer), None);
     Ok(())
+}
+
+#[test]
+fn a_walk_goes_through_nested_arrays(rt: HostRuntime) -> Result<(), Fail> {
+    walks_down(&rt, rt.alloc(), 30)?;
+    walks_down(&rt, rt.alloc(), 62)
 }
