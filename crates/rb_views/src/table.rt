@@ -21,7 +21,7 @@ pub struct Table<'a> {
 }
 
 impl<'a> Table<'a> {
-    ghost use Rattle.rb_views.specs.Seen.{tree_seen, entries_seen, rest_seen, item_data, table_data, pairs_data, key_placed};
+    ghost use Rattle.rb_views.specs.Seen.{tree_seen, entries_seen, rest_seen, pairs_table, key_placed, IsItemOf, IsItemWith};
 
     /// How many entries there are.
     #[tactic(auto, using(crate::proofs::Values::values_length))]
@@ -48,7 +48,7 @@ impl<'a> Table<'a> {
     pub fn item(self, i: usize) -> Item<'a>
         requires { i < length (entries_seen self) }
         ensures tree { Some (tree_seen result) ≡ slice_get (values_of (entries_seen self.entry)) i }
-        ensures data { item_data result ≡ table_data self.entry }
+        ensures place { IsItemOf self.entry i result }
     {
         Item {
             body: self.body,
@@ -59,7 +59,7 @@ impl<'a> Table<'a> {
     /// The item with a key, by halving over the key offsets, which stand in the order of their keys; None where the table has no such key.
     pub fn get(self, key: &[u8]) -> Option<Item<'a>>
         ensures tree { option_map tree_seen result ≡ lookup (pointwise nat_eq key.now) (entries_seen self.entry) }
-        ensures data { IfSome result (λ item. item_data item ≡ table_data self.entry) }
+        ensures place { IfSome result (λ item. IsItemWith self.entry key.now item) }
     {
         let count = self.len();
         let mut low = 0;
@@ -78,7 +78,7 @@ impl<'a> Table<'a> {
     /// The entries in order, each a key and its item.
     pub fn iter(self) -> Pairs<'a>
         ensures entries { rest_seen result ≡ entries_seen self.entry }
-        ensures data { pairs_data result ≡ table_data self.entry }
+        ensures table { pairs_table result ≡ self.entry }
     {
         Pairs {
             table: self,

@@ -19,4 +19,4 @@ returns-then-i-count-clause-steps c =
     let h : i < n = omega arith in
     let k : c.key.result.now ≡ name i = ap (λ (o : Option (List ℕ)). unwrap_or o []) c.key.ensures.place in
     let t : item_tree c.item.result.body.now c.item.result.word ≡ tree i = some_eq _ (tree i) (c.item.ensures.tree ∙ second_at name tree n i h) in
-    record { first = rw (k, t) (values_left (λ (j : ℕ). (name j, tree j)) n i h); item = c.item.ensures.data; others = refl }
+    record { first = rw (k, t) (values_left (λ (j : ℕ). (name j, tree j)) n i h); item = c.item.ensures.place; others = refl }

@@ -1,4 +1,4 @@
-use Rattle.std.proofs.Common.{◌≡◌, ℕ, ◌+◌, ◌-◌, ◌/◌, ◌<◌, List, Option, sym, ap, subst, ◌∙◌, arith}
+use Rattle.std.proofs.Common.{◌≡◌, ℕ, ◌+◌, ◌-◌, ◌/◌, ◌<◌, List, Option, Some, sym, ap, subst, ◌∙◌, arith}
 use Rattle.std.specs.Prelude.{unwrap_or, []}
 use Rattle.std.specs.Ordering.{nat_cmp}
 use Rattle.std.specs.declared.cmp.Ordering.TheVariants.{Less, Equal, Greater}
@@ -59,6 +59,12 @@ returns-in-Equal-clause-tree c =
     c.item.ensures.tree ∙ second_at (name s.body.now s.parts) (tree s.body.now s.parts) s.parts.count m within
     ∙ sym (lookup_found c.args.key.now (name s.body.now s.parts) (tree s.body.now s.parts) s.parts.count m within found
     (earlier_differ (name s.body.now s.parts) s.parts.count m c.args.key.now (λ i j h l. table_rises s.body.now s.parts i j s.stands h l) within found))
+
+pub returns-in-Equal-clause-place : goal.returns-in-Equal-clause-place
+returns-in-Equal-clause-place c =
+    let m = c.loop-low.low + (c.loop-low.high - c.loop-low.low) / 2 in
+    let found : c.args.key.now ≡ c.key.result.now = equal_is c.args.key.now c.key.result.now (sym c.in-Equal.ensures) in
+    (m, sym c.key.ensures.key ∙ ap Some (sym found), c.item.ensures.place)
 
 pub returns-clause-tree : goal.returns-clause-tree
 returns-clause-tree c =
