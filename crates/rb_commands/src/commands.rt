@@ -1,8 +1,10 @@
-//! `resb compile` and `resb check`.
-use crate::files::{cannot_read, printed, read_file, write_file};
+//! `resb compile`, `resb check` and `resb get`.
+use crate::files::{cannot_read, printed, read_file, refused, write_file};
+use crate::item::{ItemError, text_at};
 use rb_lexer::{SourceFault, SourceKind};
 use rb_parser::parse;
-use rb_validator::accept;
+use rb_validator::{Bundle, accept};
+use rb_views::root;
 use rb_writer::write;
 use std::alloc::Global;
 use std::process::ExitCode;
@@ -47,21 +49,41 @@ pub fn compile<R: Files + AllocGlobal + Print + Eprint>(
     printed(rt, println!(rt; "wrote {count} bytes"))
 }
 
+/// The bundle in the file `name`. Where there is none, that is printed, and the status is given.
+fn accepted<R: Files + AllocGlobal + Eprint>(rt: &R, name: &str) -> Result<Bundle, ExitCode> {
+    let bytes = match read_file(rt, name) {
+        Ok(bytes) => bytes,
+        Err(error) => return Err(cannot_read(rt, name, error, "Memory")),
+    };
+    match accept(rt.alloc(), bytes) {
+        Ok(bundle) => Ok(bundle),
+        Err((fault, _)) => Err(refused(rt, name, fault.word())),
+    }
+}
+
 /// Checks the file `name`, and prints `ok` and how many of its tables and arrays were entered where it is accepted. The status is 0; 1
 /// where the file is refused, with the error's name on standard error; 2 where it can't be read or standard output can't be written.
 pub fn check<R: Files + AllocGlobal + Print + Eprint>(rt: &R, name: &str) -> ExitCode {
-    let bytes = match read_file(rt, name) {
-        Ok(bytes) => bytes,
-        Err(error) => return cannot_read(rt, name, error, "Memory"),
-    };
-    match accept(rt.alloc(), bytes) {
+    match accepted(rt, name) {
         Ok(bundle) => {
             let visits = bundle.visits();
             printed(rt, println!(rt; "ok, {visits} visits"))
         }
-        Err((fault, _)) => {
-            let _ = eprintln!(rt; "{name}: {}", fault.word());
-            ExitCode::from(1)
-        }
+        Err(status) => status,
+    }
+}
+
+/// Prints the item of the file `name` at a path as JSON, without fallback; of an alias on the way what it is, with the rest of the path.
+/// The status is 0; 1 where the file is refused or has no such item, with the file or the path and the error's name on standard error;
+/// 2 where the file can't be read or standard output can't be written.
+pub fn get<R: Files + AllocGlobal + Print + Eprint>(rt: &R, name: &str, path: &str) -> ExitCode {
+    let bundle = match accepted(rt, name) {
+        Ok(bundle) => bundle,
+        Err(status) => return status,
+    };
+    match text_at(rt.alloc(), root(&bundle), path.as_bytes()) {
+        Ok(text) => printed(rt, println!(rt; "{text}")),
+        Err(ItemError::Memory) => refused(rt, name, "Memory"),
+        Err(error) => refused(rt, path, error.word()),
     }
 }

@@ -37,6 +37,12 @@ pub fn cannot_read<R: Eprint>(rt: &R, name: &str, error: io::Error, memory: &str
     ExitCode::from(2)
 }
 
+/// Says that a file or a path is refused, by the error's name.
+pub fn refused<R: Eprint>(rt: &R, place: &str, word: &str) -> ExitCode {
+    let _ = eprintln!(rt; "{place}: {word}");
+    ExitCode::from(1)
+}
+
 /// Ends a command whose output was written, or not.
 pub fn printed<R: Eprint>(rt: &R, written: io::Result<()>) -> ExitCode {
     if written.is_err() {

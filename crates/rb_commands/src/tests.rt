@@ -1,5 +1,6 @@
 //! The commands over files in memory: what they print, what they leave, and their statuses.
 mod desk;
+mod get;
 
 use crate::commands::{check, compile};
 use desk::Desk;

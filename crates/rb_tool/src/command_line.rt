@@ -23,6 +23,12 @@ fn check_command<'a>(alloc: Global) -> Result<Command<'a>, AllocError> {
     with_word(alloc, command, "FILE", "a .res file")
 }
 
+fn get_command<'a>(alloc: Global) -> Result<Command<'a>, AllocError> {
+    let command = Command::new(alloc, "get").about("Prints the item at a path of a .res file");
+    let command = with_word(alloc, command, "FILE", "a .res file")?;
+    with_word(alloc, command, "PATH", "keys and indexes, with slashes")
+}
+
 fn serve_command<'a>(alloc: Global) -> Command<'a> {
     Command::new(alloc, "serve").about("Answers requests, a line each, from standard input")
 }
@@ -32,7 +38,7 @@ fn bare<'a>(alloc: Global) -> Result<Command<'a>, AllocError> {
     Ok(
         Command::new(alloc, "resb")
             .bin_name("resb")?
-            .about("Compiles, checks and serves ICU resource bundles")
+            .about("Compiles, checks, reads and serves ICU resource bundles")
             .subcommand_required(true),
     )
 }
@@ -45,10 +51,15 @@ fn with_check<'a>(alloc: Global, command: Command<'a>) -> Result<Command<'a>, Al
     command.subcommand(check_command(alloc)?)
 }
 
+fn with_get<'a>(alloc: Global, command: Command<'a>) -> Result<Command<'a>, AllocError> {
+    command.subcommand(get_command(alloc)?)
+}
+
 /// The commands.
 pub fn commands<'a>(alloc: Global) -> Result<Command<'a>, AllocError> {
     let command = bare(alloc)?;
     let command = with_compile(alloc, command)?;
     let command = with_check(alloc, command)?;
+    let command = with_get(alloc, command)?;
     command.subcommand(serve_command(alloc))
 }

@@ -1,4 +1,4 @@
-//! `resb`: compiles bundle texts, checks files, and serves lookups.
+//! `resb`: compiles bundle texts, checks files, prints their items, and serves lookups.
 #![tactic(auto)]
 
 mod command_line;
@@ -7,7 +7,7 @@ mod tests;
 
 use crate::command_line::commands;
 use clap::ArgMatches;
-use rb_commands::{check, compile, serve_input};
+use rb_commands::{check, compile, get, serve_input};
 use std::process::ExitCode;
 use std::rt::{Env, Files};
 use std::{env, io};
@@ -24,6 +24,11 @@ fn chosen<R: Files + AllocGlobal + Input + Print + Eprint>(
             inner.get_str("OUT").unwrap_or(""),
         ),
         Some(("check", inner)) => check(rt, inner.get_str("FILE").unwrap_or("")),
+        Some(("get", inner)) => get(
+            rt,
+            inner.get_str("FILE").unwrap_or(""),
+            inner.get_str("PATH").unwrap_or(""),
+        ),
         Some(("serve", _)) => serve_input(rt),
         _ => ExitCode::from(2),
     }

@@ -4,9 +4,11 @@ use std::alloc::Global;
 use std::test::Fail;
 
 /// Command lines, with the status of those that are refused.
-const LINES: [(&[&str], i32); 8] = [
+const LINES: [(&[&str], i32); 10] = [
     (&["resb"], 2),
-    (&["resb", "get"], 2),
+    (&["resb", "get", "a.res"], 2),
+    (&["resb", "get", "a.res", "a/b"], 0),
+    (&["resb", "get", "a.res", ""], 0),
     (&["resb", "serve"], 0),
     (&["resb", "serve", "x"], 2),
     (&["resb", "check"], 2),

@@ -1,0 +1,18 @@
+use Rattle.std.proofs.Common.{ap, subst, sym, ◌∙◌}
+use Rattle.rb_tree.specs.Path.{IsPath}
+use Rattle.rb_tree.specs.Walk.{walk}
+use Rattle.rb_tree.specs.Path.{segments}
+use Rattle.rb_commands.proofs.Shown.{shown_end, shown_link, rest_is_path}
+use Rattle.rb_commands.proofs.item.shown_text.Goals as goal
+
+pub item_text-requires-in-Link : goal.item_text-requires-in-Link
+item_text-requires-in-Link g c =
+    subst IsPath (sym c.rest_after.ensures) (rest_is_path (g.N.Node.tree c.args.root) (g.N.Node.tree c.in-Link.node) c.in-Link.cut c.args.path.now c.requires c.in-Link.ensures.stop c.in-Link.ensures.rest)
+
+pub returns-in_ok-item_text-in-End-clause-text : goal.returns-in_ok-item_text-in-End-clause-text
+returns-in_ok-item_text-in-End-clause-text g c =
+    (_, shown_end (walk (g.N.Node.tree c.args.root) (segments c.args.path.now)) (g.N.Node.tree c.in-End.node) c.in-End.ensures.stop, c.in_ok-item_text-in-End.ensures)
+
+pub returns-in_ok-item_text-in-Link-clause-text : goal.returns-in_ok-item_text-in-Link-clause-text
+returns-in_ok-item_text-in-Link-clause-text g c =
+    (_, shown_link (walk (g.N.Node.tree c.args.root) (segments c.args.path.now)) (g.N.Node.tree c.in-Link.node) c.in-Link.cut c.rest_after.result.now c.in-Link.ensures.stop (c.in-Link.ensures.rest ∙ ap segments (sym c.rest_after.ensures)), c.in_ok-item_text-in-Link.ensures)

@@ -1,0 +1,90 @@
+//! One item of a file, as JSON.
+ghost use Rattle.std.specs.Prelude.{◌≡◌, ◌⊎◌, Ok, Err, IfOk, IfErr, drop, string_bytes};
+ghost use Rattle.serde_json.specs.Data.{Data};
+ghost use Rattle.serde_json.specs.Written.{compact_text};
+ghost use Rattle.rb_tree.specs.Path.{IsPath, segments};
+ghost use Rattle.rb_tree.specs.Walk.{behind, walk};
+ghost use Rattle.rb_commands.specs.declared.item.ItemError.TheVariants as errors;
+ghost use Rattle.rb_commands.specs.Got.{got, item_word, shown};
+
+use rb_fallback::PATH_LIMIT;
+use rb_requests::item_text;
+use rb_tree::{Ending, Node, path_ok, walk};
+use std::alloc::{AllocError, Global};
+
+/// Why there is no item to print.
+#[derive(Clone, Copy, Debug, PartialEq, Eq)]
+pub enum ItemError {
+    /// The path has an empty segment, or a byte that is no plain ASCII character.
+    BadPath,
+    /// The path has more bytes than a path may have.
+    PathTooLong,
+    /// The path leads nowhere.
+    Missing,
+    /// Out of memory.
+    Memory,
+}
+
+impl ItemError {
+    /// The variant's name.
+    pub fn word(self) -> &'static str
+        ensures { result.now ≡ item_word self }
+    {
+        match self {
+            ItemError::BadPath => "BadPath",
+            ItemError::PathTooLong => "PathTooLong",
+            ItemError::Missing => "Missing",
+            ItemError::Memory => "Memory",
+        }
+    }
+}
+
+impl From<AllocError> for ItemError {
+    ghost from_gives = { λ x e. e ≡ errors.Memory };
+
+    fn from(_: AllocError) -> ItemError {
+        ItemError::Memory
+    }
+}
+
+/// What is left of a path after the slash that follows its first bytes.
+#[tactic(auto, using(crate::proofs::Shown::behind_more))]
+fn rest_after(path: &[u8], cut: usize) -> &[u8]
+    ensures { result.now ≡ drop (behind cut) path.now }
+{
+    if cut == 0 {
+        return path;
+    }
+    if cut >= path.len() {
+        return &[];
+    }
+    &path[cut + 1..]
+}
+
+/// The item to which a path leads.
+fn shown_text<N: Node>(alloc: Global, root: N, path: &[u8]) -> Result<String, ItemError>
+    requires { IsPath path.now }
+    ensures text { IfOk result (λ text. (d : Data) × (shown (walk (N.tree root) (segments path.now)) ≡ Ok d) × (string_bytes text ≡ compact_text d)) }
+    ensures error { IfErr result (λ e. (e ≡ errors.Memory) ⊎ (shown (walk (N.tree root) (segments path.now)) ≡ Err e)) }
+{
+    match walk(root, path) {
+        Ending::End(node) => Ok(item_text(alloc, node, b"")?),
+        Ending::Link(node, cut) => Ok(item_text(alloc, node, rest_after(path, cut))?),
+        Ending::Gone => Err(ItemError::Missing),
+    }
+}
+
+/// The item at a path within one tree as JSON, without fallback. An alias on the way is not followed: it is the item, with the rest
+/// of the path. Errors: `BadPath`, then `PathTooLong`, then `Missing` where the path leads nowhere; `Memory` where out of memory.
+pub fn text_at<N: Node>(alloc: Global, root: N, path: &[u8]) -> Result<String, ItemError>
+    ensures text { IfOk result (λ text. (d : Data) × (got (N.tree root) path.now ≡ Ok d) × (string_bytes text ≡ compact_text d)) }
+    ensures error { IfErr result (λ e. (e ≡ errors.Memory) ⊎ (got (N.tree root) path.now ≡ Err e)) }
+{
+    if !path_ok(path) {
+        return Err(ItemError::BadPath);
+    }
+    if path.len() > PATH_LIMIT {
+        return Err(ItemError::PathTooLong);
+    }
+    shown_text(alloc, root, path)
+}
