@@ -10,7 +10,7 @@ use Rattle.std.proofs.lemmas.List.{length-map}
 use Rattle.indexmap.specs.IndexMap.{IndexMap, UpdatesBy}
 use Rattle.rb_format.specs.File.{source_tree_of}
 use Rattle.rb_packages.specs.Shelf.{bundle_at, holds, is_full, replaced, removed}
-use Rattle.rb_packages.specs.Packages.{Files, Stored, shelf_of, list_of, icudata_of, install_fault, load_fault, IsJudged, OthersStay}
+use Rattle.rb_packages.specs.Packages.{Files, Stored, shelf_of, files_of, list_of, file_at, icudata_of, install_fault, load_fault, IsJudged, OthersStay}
 use Rattle.rb_packages.specs.Lent.{files_lent}
 use Rattle.rb_packages.specs.declared.fault.PackFault.{PackFault}
 use Rattle.rb_packages.specs.declared.fault.PackFault.TheVariants.{Twice, Exists, Full, Memory}
@@ -121,8 +121,14 @@ judged_add (Err e) bundle fault f h = rw f (ap (λ (p : PackFault × List ℕ). 
 -- ---- what packages are seen as
 
 module _ {S : Type 0} (stored : Stored) (icudata : Files) (rows : List (List ℕ × IndexMap (List ℕ) (List ℕ) S)) (e : record { icudata = icudata; owned = seen rows } ≡ stored) where
+  files_seen : (app : List ℕ) → files_of app stored ≡ files_at app rows
+  files_seen app = ap (files_of app) (sym e) ∙ lookup-seen app rows
+
   pub list_seen : (app : List ℕ) → list_of app stored ≡ shelf_of (files_at app rows)
-  list_seen app = ap (list_of app) (sym e) ∙ ap shelf_of (lookup-seen app rows)
+  list_seen app = ap shelf_of (files_seen app)
+
+  pub file_seen : (app name file : List ℕ) → lookup (bytes_eq name) (files_at app rows) ≡ Some file → file_at app name stored ≡ Some file
+  file_seen app name file h = ap (lookup (bytes_eq name)) (files_seen app) ∙ h
 
   pub icudata_seen : icudata_of stored ≡ shelf_of icudata
   icudata_seen = ap icudata_of (sym e)
@@ -136,7 +142,12 @@ module _ {S : Type 0} (stored : Stored) (icudata : Files) (rows : List (List ℕ
     others_seen = record {
       icudata = ap icudata_of e;
       others = λ other n. ap shelf_of (lookup-seen other rows' ∙ stays other n) ∙ sym (list_seen other);
+      files = λ other n. lookup-seen other rows' ∙ stays other n ∙ sym (files_seen other);
     }
+
+  -- an application's files, changed by a function of them
+  pub files_changed : (app : List ℕ) (rows' : List (List ℕ × IndexMap (List ℕ) (List ℕ) S)) (change : Files → Files) → files_at app rows' ≡ change (files_at app rows) → files_of app (record { icudata = icudata; owned = seen rows' }) ≡ change (files_of app stored)
+  files_changed app rows' change h = lookup-seen app rows' ∙ h ∙ ap change (sym (files_seen app))
 
   module _ (app name file : List ℕ) (rows' : List (List ℕ × IndexMap (List ℕ) (List ℕ) S)) where
     pub pushed_seen : files_at app rows' ≡ files_at app rows ++ (name, file) ∷ [] → list_of app (record { icudata = icudata; owned = seen rows' }) ≡ list_of app stored ++ (name, source_tree_of file) ∷ []

@@ -23,14 +23,23 @@ pub record Stored : Type 0 where
 abbrev pub icudata_of : Stored → Shelf
 icudata_of stored = shelf_of stored.icudata
 
--- the bundles of an application; none of one that isn't there
+-- the files of an application's bundles; none of one that isn't there
+abbrev pub files_of : List ℕ → Stored → Files
+files_of app stored = unwrap_or (lookup (bytes_eq app) stored.owned) []
+
+-- an application's bundles
 abbrev pub list_of : List ℕ → Stored → Shelf
-list_of app stored = shelf_of (unwrap_or (lookup (bytes_eq app) stored.owned) [])
+list_of app stored = shelf_of (files_of app stored)
+
+-- the file of the application's bundle of a name
+abbrev pub file_at : List ℕ → List ℕ → Stored → Option (List ℕ)
+file_at app name stored = lookup (bytes_eq name) (files_of app stored)
 
 -- the bundles of ICUDATA and of all other applications stay
 pub record OthersStay (app : List ℕ) (old new : Stored) : Type 0 where
   pub icudata : icudata_of new ≡ icudata_of old
   pub others : (other : List ℕ) → other ≢ app → list_of other new ≡ list_of other old
+  pub files : (other : List ℕ) → other ≢ app → files_of other new ≡ files_of other old
 
 -- why a bundle can't be installed at a name
 abbrev pub install_fault : List ℕ → Shelf → Option PackFault

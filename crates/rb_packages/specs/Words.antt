@@ -1,4 +1,4 @@
--- The words of refusals, this project's own rule: each is its variant's name.
+-- The words of refusals, this project's own rule: each is its variant's or its type's name.
 use Rattle.std.specs.Prelude.{ℕ, List, codes}
 use Rattle.rb_packages.specs.declared.app.AppFault.{AppFault}
 use Rattle.rb_packages.specs.declared.app.AppFault.TheVariants as app
@@ -14,3 +14,6 @@ pack_word pack.Twice = codes "Twice"
 pack_word pack.Exists = codes "Exists"
 pack_word pack.Full = codes "Full"
 pack_word pack.Memory = codes "Memory"
+
+abbrev pub absent_word : List ℕ
+absent_word = codes "Absent"

@@ -12,7 +12,7 @@ pub const APP_LIMIT: usize = 64;
 /// The name of an application: 1 to 64 letters, digits, `_`, `-` and `.`, and not `ICUDATA`. Contracts see it as its bytes.
 #[derive(Clone, Copy, Debug)]
 pub struct App {
-    bytes: [u8; 64],
+    bytes: [u8; APP_LIMIT],
     len: u8,
 }
 
@@ -103,7 +103,7 @@ impl App {
         if bytes == b"ICUDATA".as_slice() {
             return Err(AppFault::Reserved);
         }
-        let mut field = [0u8; 64];
+        let mut field = [0u8; APP_LIMIT];
         put_front(&mut field, bytes);
         Ok(App {
             bytes: field,

@@ -1,8 +1,10 @@
 //! The bundles of ICUDATA and of all applications.
 ghost use Rattle.std.specs.Prelude.{◌≡◌, ℕ, [], ◌∷◌, ◌++◌, List, Some, None, IfOk, IfErr, OnOk, OnErr, map};
+ghost use Rattle.std.specs.Map.{set_value, remove_entry};
+ghost use Rattle.std.specs.Str.{bytes_eq};
 ghost use Rattle.rb_format.specs.File.{source_tree_of};
 ghost use Rattle.rb_packages.specs.Shelf.{bundle_at, replaced, removed};
-ghost use Rattle.rb_packages.specs.Packages.{icudata_of, list_of, install_fault, load_fault, IsJudged, OthersStay};
+ghost use Rattle.rb_packages.specs.Packages.{icudata_of, files_of, list_of, file_at, install_fault, load_fault, IsJudged, OthersStay};
 ghost use Rattle.rb_packages.specs.Lent.{bundles_lent};
 
 use crate::app::App;
@@ -59,6 +61,7 @@ impl Packages {
         ensures judged { IsJudged (load_fault name (icudata_of self.old)) result }
         ensures loaded { OnOk result (icudata_of self.new ≡ icudata_of self.old ++ (name, source_tree_of bundle) ∷ []) }
         ensures others { (app : List ℕ) → list_of app self.new ≡ list_of app self.old }
+        ensures files { (app : List ℕ) → files_of app self.new ≡ files_of app self.old }
         ensures unchanged { OnErr result (self.new ≡ self.old) }
         ensures back { IfErr result (λ e. e.1 ≡ bundle) }
     {
@@ -74,6 +77,7 @@ impl Packages {
         bundle: Bundle,
     ) -> Result<(), (PackFault, Bundle)>
         ensures judged { IsJudged (install_fault name (list_of app.now self.old)) result }
+        ensures files { OnOk result (files_of app.now self.new ≡ files_of app.now self.old ++ (name, bundle) ∷ []) }
         ensures installed { OnOk result (list_of app.now self.new ≡ list_of app.now self.old ++ (name, source_tree_of bundle) ∷ []) }
         ensures others { OthersStay app.now self.old self.new }
         ensures unchanged { OnErr result (self.new ≡ self.old) }
@@ -90,8 +94,10 @@ impl Packages {
         name: &Name,
         bundle: Bundle,
     ) -> Result<Bundle, (Absent, Bundle)>
+        ensures file { IfOk result (λ b. file_at app.now name.now self.old ≡ Some b) }
         ensures old { IfOk result (λ b. bundle_at (list_of app.now self.old) name.now ≡ Some (source_tree_of b)) }
         ensures absent { OnErr result (bundle_at (list_of app.now self.old) name.now ≡ None) }
+        ensures files { OnOk result (files_of app.now self.new ≡ set_value (bytes_eq name.now) (files_of app.now self.old) bundle) }
         ensures replaced { OnOk result (list_of app.now self.new ≡ replaced name.now (source_tree_of bundle) (list_of app.now self.old)) }
         ensures others { OthersStay app.now self.old self.new }
         ensures unchanged { OnErr result (self.new ≡ self.old) }
@@ -102,8 +108,10 @@ impl Packages {
 
     /// Takes the application's bundle of that name out and gives it. `Absent`: there is none; nothing is changed. It takes no memory.
     pub fn remove(&mut self, app: &App, name: &Name) -> Result<Bundle, Absent>
+        ensures file { IfOk result (λ b. file_at app.now name.now self.old ≡ Some b) }
         ensures old { IfOk result (λ b. bundle_at (list_of app.now self.old) name.now ≡ Some (source_tree_of b)) }
         ensures absent { OnErr result (bundle_at (list_of app.now self.old) name.now ≡ None) }
+        ensures files { OnOk result (files_of app.now self.new ≡ remove_entry (bytes_eq name.now) (files_of app.now self.old)) }
         ensures removed { OnOk result (list_of app.now self.new ≡ removed name.now (list_of app.now self.old)) }
         ensures others { OthersStay app.now self.old self.new }
         ensures unchanged { OnErr result (self.new ≡ self.old) }

@@ -1,9 +1,14 @@
 -- What the views are seen as: an item as the tree for which it stands, and each view of its contents as the list of them, which
--- stand one behind the other in the file (`uresdata.h`, format version 1).
-use Rattle.std.specs.Prelude.{ℕ, ℤ, ◌+◌, List, drop}
+-- follow one another in the file (`uresdata.h`, format version 1); and the data of the file that each one reads.
+use Rattle.std.specs.Prelude.{◌≡◌, ℕ, ℤ, ◌+◌, List, Option, Some, IfSome, drop, slice_get}
+use Rattle.std.specs.Map.{keys_of}
+use Rattle.std.specs.Borrow.{Bor}
+use Rattle.std.specs.Iterator.{YieldsFirstBy}
 use Rattle.std.specs.Int.{cast_signed, w32}
 use Rattle.rb_tree.specs.Resource.{Resource}
-use Rattle.rb_format.specs.Place.{word_at, half_at, values}
+use Rattle.rb_format.specs.Place.{word_at, half_at, values, key, layout_of}
+use Rattle.rb_format.specs.declared.geometry.TableParts.{TableParts}
+use Rattle.rb_format.specs.Geometry.{key_offset}
 use Rattle.rb_views.specs.Trees.{item_tree, entry_at}
 use Rattle.rb_views.specs.declared.item.Item.{Item}
 use Rattle.rb_views.specs.declared.leaves.Units.{Units}
@@ -30,3 +35,51 @@ entries_seen table = values (λ i. entry_at table.body.now table.parts i) 0 tabl
 -- what an iterator still gives
 abbrev pub rest_seen : Pairs → List (List ℕ × Resource)
 rest_seen pairs = drop pairs.next (entries_seen pairs.table)
+
+-- the data of the file that a view reads, and the word of an item, which has its kind and its offset
+abbrev pub item_data : Item → List ℕ
+item_data item = item.body.now
+
+abbrev pub item_word : Item → ℕ
+item_word item = item.word
+
+abbrev pub array_data : Array → List ℕ
+array_data array = array.body.now
+
+abbrev pub table_data : Table → List ℕ
+table_data table = table.body.now
+
+-- the word at which an array's items begin, and where the parts of a table are
+abbrev pub array_first : Array → ℕ
+array_first array = array.first
+
+abbrev pub parts_seen : Table → TableParts
+parts_seen table = table.parts
+
+-- the word of item i
+abbrev pub array_word : Array → ℕ → ℕ
+array_word array i = word_at (array_data array) (array_first array + i)
+
+abbrev pub table_word : Table → ℕ → ℕ
+table_word table i = word_at (table_data table) ((parts_seen table).first + i)
+
+-- the key where the table's key offset i points
+abbrev pub key_placed : Table → ℕ → Option (List ℕ)
+key_placed table i = key (layout_of (table_data table)) (table_data table) (key_offset (table_data table) (parts_seen table).keys i)
+
+-- the item reads a table's data, and its word is that of entry i
+abbrev pub IsItemOf : Table → ℕ → Item → Type 0
+IsItemOf table i item = (item_data item ≡ table_data table) × (item_word item ≡ table_word table i)
+
+-- the same of the entry with a key
+abbrev pub IsItemWith : Table → List ℕ → Item → Type 0
+IsItemWith table key item = (i : ℕ) × (slice_get (keys_of (entries_seen table)) i ≡ Some key) × IsItemOf table i item
+
+abbrev pub pairs_table : Pairs → Table
+pairs_table pairs = pairs.table
+
+-- a step of an iterator gives the first entry of what was left, with its item, and leaves the others
+pub record GivesFirst (old : Pairs) (given : Option (Bor (List ℕ) × Item)) (new : Pairs) : Type 0 where
+  pub first : YieldsFirstBy (λ e. (e.0.now, tree_seen e.1)) rest_seen old given new
+  pub item : IfSome given (λ e. IsItemOf (pairs_table old) old.next e.1)
+  pub others : pairs_table new ≡ pairs_table old

@@ -1,15 +1,15 @@
-// Views of sample files.
+// Views of sample files, and of a long table.
+ghost use Rattle.std.specs.Prelude.{◌≤◌};
+
 mod samples;
 
-use crate::array::Array;
-use crate::bundle::root;
-use crate::item::Item;
-use crate::leaves::{Ints, Units};
-use crate::table::Table;
+use crate::writer::{file, numbered, numbered_key};
 use rb_tree::{Ending, Node, path_ok, walk};
 use rb_validator::{Bundle, accept};
+use rb_views::{Array, Ints, Item, Table, Units, root};
 use samples::{EVERY_TYPE, SUFFIX_KEY};
 use std::alloc::Global;
+use std::process::Abort;
 use std::test::Fail;
 
 fn bundle(alloc: Global, bytes: &[u8]) -> Result<Bundle, Fail> {
@@ -169,6 +169,29 @@ fn every_kind_is_viewed(rt: HostRuntime) -> Result<(), Fail> {
     Ok(())
 }
 
+fn finds_each_number(item: Item<'_>, count: u32) -> bool {
+    match item.table() {
+        Some(table) => {
+            for i in 0..count {
+                if int_at(table, &numbered_key(i)) != Some(0) {
+                    return false;
+                }
+            }
+            table.get(&numbered_key(count)).is_none()
+        }
+        None => false,
+    }
+}
+
+#[test]
+fn each_key_of_a_long_table_is_found(rt: HostRuntime) -> Result<(), Fail> {
+    let alloc = rt.alloc();
+    let bytes = file(alloc, &numbered(alloc, 9_360)?, false)?;
+    let bundle = bundle(alloc, &bytes)?;
+    assert!(rt; finds_each_number(root(&bundle), 9_360));
+    Ok(())
+}
+
 /// The Int at which a walk ends.
 fn int_along(item: Item<'_>, path: &[u8]) -> Option<i32> {
     if !path_ok(path) {
@@ -189,29 +212,25 @@ fn put(file: &mut Vec<u8>, words: &[u32]) -> Result<(), Fail> {
     Ok(())
 }
 
-/// A table whose `a` is the last of 30 arrays, the first of two Ints 0 and each other one of the one before it, twice.
-fn nested_arrays(alloc: Global) -> Result<Vec<u8>, Fail> {
+/// A table whose `a` is the last of so many arrays, from 1 to 100: the first has two Ints 0, and each other one has the one before
+/// it, twice.
+fn nested_arrays(alloc: Global, count: u32) -> Result<Vec<u8>, Fail>
+    requires low { 1 ≤ count }
+    requires high { count ≤ 100 }
+{
+    let table = 7 + 3 * count;
+    let top = table + 2;
     let mut file = SUFFIX_KEY[..32].to_vec(alloc)?;
     put(
         &mut file,
-        &[
-            0x2000_0061,
-            5,
-            7,
-            99,
-            99,
-            1,
-            0xAAAA_0061,
-            2,
-            0x7000_0000,
-            0x7000_0000,
-        ],
+        &[0x2000_0000 + table, 5, 7, top, top, 1, 0xAAAA_0061],
     )?;
-    for k in 0..29 {
+    put(&mut file, &[2, 0x7000_0000, 0x7000_0000])?;
+    for k in 0..count - 1 {
         let item = 0x8000_0007 + 3 * k;
         put(&mut file, &[2, item, item])?;
     }
-    put(&mut file, &[0x0018_0001, 0x8000_005E])?;
+    put(&mut file, &[0x0018_0001, 0x8000_0000 + table - 3])?;
     Ok(file)
 }
 
@@ -224,13 +243,20 @@ fn path_down(alloc: Global, levels: usize) -> Result<Vec<u8>, Fail> {
     Ok(path)
 }
 
-#[test]
-fn a_walk_goes_through_nested_arrays(rt: HostRuntime) -> Result<(), Fail> {
-    let alloc = rt.alloc();
-    let path = path_down(alloc, 30)?;
-    let longer = path_down(alloc, 31)?;
-    let bundle = bundle(alloc, &nested_arrays(alloc)?)?;
+fn walks_down(rt: &impl Abort, alloc: Global, count: u32) -> Result<(), Fail>
+    requires low { 1 ≤ count }
+    requires high { count ≤ 100 }
+{
+    let path = path_down(alloc, count as usize)?;
+    let longer = path_down(alloc, count as usize + 1)?;
+    let bundle = bundle(alloc, &nested_arrays(alloc, count)?)?;
     assert_eq!(rt; int_along(root(&bundle), &path), Some(0));
     assert_eq!(rt; int_along(root(&bundle), &longer), None);
     Ok(())
+}
+
+#[test]
+fn a_walk_goes_through_nested_arrays(rt: HostRuntime) -> Result<(), Fail> {
+    walks_down(&rt, rt.alloc(), 30)?;
+    walks_down(&rt, rt.alloc(), 62)
 }
