@@ -1,9 +1,10 @@
 -- What a list of steps does to one application.
-use Rattle.std.proofs.Common.{◌≡◌, ℕ, inl, inr, Bool, true, false, cond, List, [], ◌∷◌, ◌++◌, Some, None, Result, Ok, Err, refl, sym, ◌∙◌, ap, subst}
+use Rattle.std.proofs.Common.{◌≡◌, ℕ, inl, inr, Bool, true, false, cond, List, [], ◌∷◌, ◌++◌, Option, Some, None, Result, Ok, Err, refl, sym, ◌∙◌, ap, subst}
 use Rattle.std.specs.Str.{bytes_eq}
 use Rattle.std.proofs.lemmas.Slice.Eq.{bytes_eq-Decides}
 use Rattle.std.proofs.lemmas.Bool.{false≢true}
 use Rattle.rb_tree.specs.Resource.{Resource}
+use Rattle.rb_tree.specs.SourceTree.{SourceTree}
 use Rattle.rb_tree.specs.Path.{is_path, segments}
 use Rattle.rb_fallback.specs.Search.{look_up, first_stop}
 use Rattle.rb_fallback.specs.declared.fault.LookError.{LookError}
@@ -29,9 +30,9 @@ use Rattle.rb_engine.specs.History.{State, Turn, Step, Run, own, asked_by, told_
 
 -- ---- what a call asks is one thing
 
--- a source is good for at most one tree
+-- a source is good for at most one bundle
 abbrev pub SpellsOne : Type 0
-SpellsOne = (bytes n m : List ℕ) (t u : Resource) → IsGoodSource bytes n t → IsGoodSource bytes m u → (n ≡ m) × (t ≡ u)
+SpellsOne = (bytes n m : List ℕ) (t u : SourceTree) → IsGoodSource bytes n t → IsGoodSource bytes m u → (n ≡ m) × (t ≡ u)
 
 one_content : SpellsOne → (payload : Payload) (a b : Content) → IsContent payload a → IsContent payload b → a ≡ b
 one_content one (Text bytes) unread b p q = absurd p
@@ -105,11 +106,13 @@ list_not_memory (Err app.Reserved) shelf = refl
 list_not_memory (Ok a) shelf = refl
 
 -- a look-up finds or refuses
-found_not_memory : (valid : List ℕ) (r : Result (Resource × List ℕ) LookError) → is_memory (found valid r) ≡ false
-found_not_memory valid (Err e) = refl
-found_not_memory valid (Ok r) = refl
+found_not_memory : (valid : Option (List ℕ)) (r : Result (Resource × List ℕ) LookError) → is_memory (found valid r) ≡ false
+found_not_memory None (Err e) = refl
+found_not_memory None (Ok r) = refl
+found_not_memory (Some valid) (Err e) = refl
+found_not_memory (Some valid) (Ok r) = refl
 
-looked_not_memory : (valid : List ℕ) (r : Result (Resource × List ℕ) LookError) (b : Bool) → is_memory (cond b (found valid r) (Refuses fault.BadPath)) ≡ false
+looked_not_memory : (valid : Option (List ℕ)) (r : Result (Resource × List ℕ) LookError) (b : Bool) → is_memory (cond b (found valid r) (Refuses fault.BadPath)) ≡ false
 looked_not_memory valid r true = found_not_memory valid r
 looked_not_memory valid r false = refl
 

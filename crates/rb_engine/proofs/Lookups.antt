@@ -1,5 +1,5 @@
 -- A look-up as an answer.
-use Rattle.std.proofs.Common.{◌≡◌, ℕ, Bool, true, false, cond, List, Result, Ok, Err, MatchResult, IfOk, IsErrAnd, refl, sym, ◌∙◌, ap, subst}
+use Rattle.std.proofs.Common.{◌≡◌, ℕ, Bool, true, false, cond, List, Option, Some, Result, Ok, Err, MatchResult, IfOk, IsErrAnd, refl, sym, ◌∙◌, ap, subst}
 use Rattle.std.proofs.lemmas.Bool.{false≢true}
 use Rattle.rb_tree.specs.Resource.{Resource}
 use Rattle.rb_tree.specs.Path.{IsPath, is_path, segments}
@@ -12,7 +12,7 @@ use Rattle.rb_fallback.specs.declared.fault.LookError.{LookError}
 use Rattle.rb_fallback.specs.declared.fault.LookError.TheVariants.{BadPath}
 use Rattle.rb_engine.specs.declared.request.LookFault.{LookFault}
 use Rattle.rb_engine.specs.declared.request.LookFault.TheVariants as fault
-use Rattle.rb_engine.specs.Answer.{Start, Finds, Refuses, found, looked_in, look_reply}
+use Rattle.rb_engine.specs.Answer.{Start, Refuses, found, looked_in, look_reply}
 use Rattle.rb_engine.specs.Looked.{fault_from}
 use Rattle.rb_engine.specs.Shelf.{bundle_at}
 use Rattle.rb_engine.specs.Rows.{Rows, list_of}
@@ -27,11 +27,11 @@ mapped (Ok x) m P same h = h
 mapped (Err e) (Ok x) P same h = absurd h
 mapped (Err e) (Err f) P same h = ap (λ d. Err d) (same e f h)
 
-found_is : {N : Type 0} (tree : N → Resource) (r : Result (Found N) LookError) (m : Result (Found N) LookFault) (valid : List ℕ) (answer : Result (Resource × List ℕ) LookError) → MatchResult r (λ x. m ≡ Ok x) (λ e. m ≡ Err (fault_from e)) → answer_of tree r ≡ answer → IfOk r (λ f. f.valid ≡ valid) → seen tree m ≡ found valid answer
-found_is tree (Ok f) m valid answer h e v = ap (seen tree) h ∙ ap (Finds (tree f.node) f.actual) v ∙ ap (found valid) e
+found_is : {N : Type 0} (tree : N → Resource) (r : Result (Found N) LookError) (m : Result (Found N) LookFault) (valid : Option (List ℕ)) (answer : Result (Resource × List ℕ) LookError) → MatchResult r (λ x. m ≡ Ok x) (λ e. m ≡ Err (fault_from e)) → answer_of tree r ≡ answer → IfOk r (λ f. valid ≡ Some f.valid) → seen tree m ≡ found valid answer
+found_is tree (Ok f) m valid answer h e v = ap (seen tree) h ∙ ap (λ o. found o (Ok (tree f.node, f.actual))) (sym v) ∙ ap (found valid) e
 found_is tree (Err d) m valid answer h e v = ap (seen tree) h ∙ ap (found valid) e
 
-pub looked_is : {N : Type 0} (tree : N → Resource) (r : Result (Found N) LookError) (m : Result (Found N) LookFault) (own icu : Bundles) (parents : ParentsOf) (name path : List ℕ) → MatchResult r (λ x. m ≡ Ok x) (λ e. m ≡ Err (fault_from e)) → ((IsPath path → ⊥) → r ≡ Err BadPath) → (IsPath path → answer_of tree r ≡ look_up own icu parents name (segments path)) → IfOk r (λ f. f.valid ≡ first_stop own parents name) → seen tree m ≡ looked_in own icu parents name path
+pub looked_is : {N : Type 0} (tree : N → Resource) (r : Result (Found N) LookError) (m : Result (Found N) LookFault) (own icu : Bundles) (parents : ParentsOf) (name path : List ℕ) → MatchResult r (λ x. m ≡ Ok x) (λ e. m ≡ Err (fault_from e)) → ((IsPath path → ⊥) → r ≡ Err BadPath) → (IsPath path → answer_of tree r ≡ look_up own icu parents name (segments path)) → IfOk r (λ f. first_stop own parents name ≡ Some f.valid) → seen tree m ≡ looked_in own icu parents name path
 looked_is tree r m own icu parents name path h bad good v = by (is_path path) refl
   where
     by : (b : Bool) → is_path path ≡ b → seen tree m ≡ cond b (found (first_stop own parents name) (look_up own icu parents name (segments path))) (Refuses fault.BadPath)

@@ -7,11 +7,10 @@ use Rattle.std.proofs.lemmas.Simd.{map-map}
 use Rattle.std.proofs.lemmas.Slice.Eq.{bytes_eq-Decides}
 use Rattle.std.proofs.lemmas.Bool.{false_from_ne_true}
 use Rattle.std.proofs.lemmas.Bool.Decides.{nat_tests}
-use Rattle.rb_tree.specs.View.{view_of}
-use Rattle.rb_tree.specs.declared.tree.Tree.{Tree}
+use Rattle.rb_engine.specs.declared.rows.KeptBundle.{KeptBundle}
 use Rattle.rb_engine.specs.Place.{same_place}
 use Rattle.rb_engine.specs.Shelf.{bundle_at, holds, replaced, removed}
-use Rattle.rb_engine.specs.Rows.{Rows, list_of, rows_of, row_at, replaced_row, removed_row}
+use Rattle.rb_engine.specs.Rows.{Rows, list_of, rows_of, row_at, replaced_row, removed_row, source_kept}
 use Rattle.rb_engine.specs.declared.place.Place.{Place}
 
 -- bytes that are the same, and that differ
@@ -39,25 +38,27 @@ pub holds-row_at : (p : Place) (rows : Rows) → is_some (row_at p rows) ≡ hol
 holds-row_at p [] = refl
 holds-row_at p (row ∷ rows) = grind (arith, nat_tests, holds-row_at p rows)
 
--- the tree at a place, as its application sees it
-pub bundle_here : (p : Place) (rows : Rows) → option_map view_of (row_at p rows) ≡ bundle_at (list_of p.app rows) p.name
+-- the bundle at a place, as its application sees it
+pub bundle_here : (p : Place) (rows : Rows) → option_map source_kept (row_at p rows) ≡ bundle_at (list_of p.app rows) p.name
 bundle_here p [] = refl
 bundle_here p (row ∷ rows) = grind (arith, nat_tests, bundle_here p rows)
 
-pub bundle_seen : (r : Option (Bor Tree)) (p : Place) (rows : Rows) → option_copied r ≡ row_at p rows → option_map (λ t. view_of t.now) r ≡ bundle_at (list_of p.app rows) p.name
-bundle_seen None p rows h = ap (option_map view_of) h ∙ bundle_here p rows
-bundle_seen (Some t) p rows h = ap (option_map view_of) h ∙ bundle_here p rows
+pub bundle_there : (r : Option (Bor KeptBundle)) (b : Bor KeptBundle) (p : Place) (rows : Rows) → option_copied r ≡ row_at p rows → r ≡ Some b → Some (source_kept b.now) ≡ bundle_at (list_of p.app rows) p.name
+bundle_there r b p rows h e = ap (λ (o : Option (Bor KeptBundle)). option_map source_kept (option_copied o)) (sym e) ∙ ap (option_map source_kept) h ∙ bundle_here p rows
 
--- no tree there
+pub bundle_missing : (r : Option (Bor KeptBundle)) (p : Place) (rows : Rows) → option_copied r ≡ row_at p rows → r ≡ None → None ≡ bundle_at (list_of p.app rows) p.name
+bundle_missing r p rows h e = ap (λ (o : Option (Bor KeptBundle)). option_map source_kept (option_copied o)) (sym e) ∙ ap (option_map source_kept) h ∙ bundle_here p rows
+
+-- no bundle there
 pub none_at : (p : Place) (rows : Rows) → is_some (row_at p rows) ≡ false → row_at p rows ≡ None
 none_at p rows h = by (row_at p rows) h
   where
-    by : (o : Option Tree) → is_some o ≡ false → o ≡ None
+    by : (o : Option KeptBundle) → is_some o ≡ false → o ≡ None
     by None h = refl
     by (Some t) h = absurd cc
 
--- a tree at a place where there is none
-pub insert_last : (p : Place) (t : Tree) (rows : Rows) → row_at p rows ≡ None → insert_entry same_place rows p t ≡ rows ++ (p, t) ∷ []
+-- a bundle at a place where there is none
+pub insert_last : (p : Place) (t : KeptBundle) (rows : Rows) → row_at p rows ≡ None → insert_entry same_place rows p t ≡ rows ++ (p, t) ∷ []
 insert_last p t [] h = refl
 insert_last p t (row ∷ rows) h = by (insert_last p t rows) (same_place p row.0) refl
   where
@@ -65,7 +66,7 @@ insert_last p t (row ∷ rows) h = by (insert_last p t rows) (same_place p row.0
     by rest true e = let here : Some row.1 ≡ None = rw e at h in absurd (cc)
     by rest false e = let later : row_at p rows ≡ None = rw e at h in rw e (ap (λ (x : Rows). row ∷ x) (rest later))
 
-pub replaced_none : (p : Place) (t : Tree) (rows : Rows) → row_at p rows ≡ None → rows ≡ replaced_row p t rows
+pub replaced_none : (p : Place) (t : KeptBundle) (rows : Rows) → row_at p rows ≡ None → rows ≡ replaced_row p t rows
 replaced_none p t [] h = refl
 replaced_none p t (row ∷ rows) h = by (replaced_none p t rows) (same_place p row.0) refl
   where
@@ -93,12 +94,12 @@ names_seen (Ok w) app rows h = h ∙ kept_names app rows
 names_seen (Err e) app rows h = tt
 
 -- a row at the end
-pub list_of-push : (app : List ℕ) (rows : Rows) (row : Place × Tree) → list_of app (rows ++ row ∷ []) ≡ cond (bytes_eq app row.0.app) (list_of app rows ++ (row.0.name, view_of row.1) ∷ []) (list_of app rows)
+pub list_of-push : (app : List ℕ) (rows : Rows) (row : Place × KeptBundle) → list_of app (rows ++ row ∷ []) ≡ cond (bytes_eq app row.0.app) (list_of app rows ++ (row.0.name, source_kept row.1) ∷ []) (list_of app rows)
 list_of-push app [] row = grind (arith, nat_tests)
 list_of-push app (r ∷ rows) row = grind (arith, nat_tests, list_of-push app rows row)
 
 -- an exchange
-pub list_of-replaced_row : (p : Place) (t : Tree) (rows : Rows) → list_of p.app (replaced_row p t rows) ≡ replaced p.name (view_of t) (list_of p.app rows)
+pub list_of-replaced_row : (p : Place) (t : KeptBundle) (rows : Rows) → list_of p.app (replaced_row p t rows) ≡ replaced p.name (source_kept t) (list_of p.app rows)
 list_of-replaced_row p t [] = refl
 list_of-replaced_row p t (row ∷ rows) = grind (arith, nat_tests, list_of-replaced_row p t rows, same_bytes p.app, named p row.0)
 
@@ -107,7 +108,7 @@ list_of-removed_row p [] = refl
 list_of-removed_row p (row ∷ rows) = grind (arith, nat_tests, list_of-removed_row p rows)
 
 -- of another application's row nothing is seen
-pub list_of_other-replaced_row : (app : List ℕ) (p : Place) (t : Tree) (rows : Rows) → app ≢ p.app → list_of app (replaced_row p t rows) ≡ list_of app rows
+pub list_of_other-replaced_row : (app : List ℕ) (p : Place) (t : KeptBundle) (rows : Rows) → app ≢ p.app → list_of app (replaced_row p t rows) ≡ list_of app rows
 list_of_other-replaced_row app p t [] n = refl
 list_of_other-replaced_row app p t (row ∷ rows) n = grind (arith, nat_tests, list_of_other-replaced_row app p t rows n, other_bytes app p.app n, not_both row.0.app app p.app n)
 

@@ -1,7 +1,8 @@
 -- What an application is told over its bundles, and what its bundles are then. A look-up is the search of rb_fallback, after ICU's
 -- `ures_getByKeyWithFallback`; the requests are this project's own.
-use Rattle.std.specs.Prelude.{ℕ, List, [], ◌∷◌, ◌++◌, ◌||◌, map, if◌then◌else◌, Some, None, Result, Ok, Err}
+use Rattle.std.specs.Prelude.{ℕ, List, [], ◌∷◌, ◌++◌, ◌||◌, map, if◌then◌else◌, Option, Some, None, Result, Ok, Err}
 use Rattle.rb_tree.specs.Resource.{Resource}
+use Rattle.rb_tree.specs.SourceTree.{SourceTree}
 use Rattle.rb_tree.specs.Path.{is_path, segments}
 use Rattle.rb_parents.specs.Trail.{Bundles, ParentsOf}
 use Rattle.rb_fallback.specs.Search.{look_up, first_stop}
@@ -35,24 +36,24 @@ pub data Told : Type 0 where
 -- ---- its bundles after what it asks
 
 -- a bundle goes behind the others where its name is new and fewer than the most are there
-abbrev pub added : Place → Resource → Shelf → Shelf
-added p tree shelf = if holds p.name shelf || is_full shelf then shelf else shelf ++ (p.name, tree) ∷ []
+abbrev pub added : Place → SourceTree → Shelf → Shelf
+added p source shelf = if holds p.name shelf || is_full shelf then shelf else shelf ++ (p.name, source) ∷ []
 
 abbrev pub installed : Result Place PlaceFault → Content → Shelf → Shelf
 installed (Err e) content shelf = shelf
 installed (Ok p) unread shelf = shelf
 installed (Ok p) (spelled None) shelf = shelf
 installed (Ok p) (denoted None) shelf = shelf
-installed (Ok p) (spelled (Some tree)) shelf = added p tree shelf
-installed (Ok p) (denoted (Some tree)) shelf = added p tree shelf
+installed (Ok p) (spelled (Some source)) shelf = added p source shelf
+installed (Ok p) (denoted (Some source)) shelf = added p source shelf
 
 abbrev pub exchanged : Result Place PlaceFault → Content → Shelf → Shelf
 exchanged (Err e) content shelf = shelf
 exchanged (Ok p) unread shelf = shelf
 exchanged (Ok p) (spelled None) shelf = shelf
 exchanged (Ok p) (denoted None) shelf = shelf
-exchanged (Ok p) (spelled (Some tree)) shelf = replaced p.name tree shelf
-exchanged (Ok p) (denoted (Some tree)) shelf = replaced p.name tree shelf
+exchanged (Ok p) (spelled (Some source)) shelf = replaced p.name source shelf
+exchanged (Ok p) (denoted (Some source)) shelf = replaced p.name source shelf
 
 abbrev pub taken_out : Result Place PlaceFault → Shelf → Shelf
 taken_out (Err e) shelf = shelf
@@ -80,16 +81,16 @@ install_reply (Err e) content shelf = refusal e
 install_reply (Ok p) unread shelf = BadText
 install_reply (Ok p) (spelled None) shelf = BadText
 install_reply (Ok p) (denoted None) shelf = BadFile
-install_reply (Ok p) (spelled (Some tree)) shelf = add_reply p shelf
-install_reply (Ok p) (denoted (Some tree)) shelf = add_reply p shelf
+install_reply (Ok p) (spelled (Some source)) shelf = add_reply p shelf
+install_reply (Ok p) (denoted (Some source)) shelf = add_reply p shelf
 
 abbrev pub replace_reply : Result Place PlaceFault → Content → Shelf → Reply
 replace_reply (Err e) content shelf = refusal e
 replace_reply (Ok p) unread shelf = BadText
 replace_reply (Ok p) (spelled None) shelf = BadText
 replace_reply (Ok p) (denoted None) shelf = BadFile
-replace_reply (Ok p) (spelled (Some tree)) shelf = if holds p.name shelf then Done else Absent
-replace_reply (Ok p) (denoted (Some tree)) shelf = if holds p.name shelf then Done else Absent
+replace_reply (Ok p) (spelled (Some source)) shelf = if holds p.name shelf then Done else Absent
+replace_reply (Ok p) (denoted (Some source)) shelf = if holds p.name shelf then Done else Absent
 
 abbrev pub remove_reply : Result Place PlaceFault → Shelf → Reply
 remove_reply (Err e) shelf = refusal e
@@ -107,11 +108,13 @@ look_refusal place.BadApp = fault.BadApp
 look_refusal place.Reserved = fault.Reserved
 look_refusal place.BadLocale = fault.BadLocale
 
-abbrev pub found : List ℕ → Result (Resource × List ℕ) LookError → Told
+-- the valid locale is the first stop of the trail; where the trail has none there is nothing to find
+abbrev pub found : Option (List ℕ) → Result (Resource × List ℕ) LookError → Told
 found valid (Err e) = Refuses (fault_from e)
-found valid (Ok r) = Finds r.0 r.1 valid
+found None (Ok r) = Refuses fault.NoBundle
+found (Some valid) (Ok r) = Finds r.0 r.1 valid
 
--- a path that is none is refused before anything is looked for; the first stop of the name's trail is the valid locale, whatever is found
+-- a path that is invalid is refused before anything is looked for
 abbrev pub looked_in : Bundles → Bundles → ParentsOf → List ℕ → List ℕ → Told
 looked_in own icu parents name path =
     if is_path path then found (first_stop own parents name) (look_up own icu parents name (segments path))

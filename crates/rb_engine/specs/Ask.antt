@@ -1,6 +1,6 @@
--- What an application calls, and what it asks by that: a payload counts by the tree that it stands for. The requests are this project's own.
+-- What an application calls, and what it asks by that: a payload counts by the bundle that it is. The requests are this project's own.
 use Rattle.std.specs.Prelude.{◌≡◌, ℕ, List, Option, Some, None, Result, Ok, Err}
-use Rattle.rb_tree.specs.Resource.{Resource}
+use Rattle.rb_tree.specs.SourceTree.{SourceTree}
 use Rattle.rb_parser.specs.Source.{IsGoodSource}
 use Rattle.rb_format.specs.File.{Denotes}
 use Rattle.rb_engine.specs.Place.{place_of}
@@ -27,20 +27,20 @@ abbrev pub caller : Call → List ℕ
 caller (Requests r) = requester r
 caller (LooksUp app locale path) = app
 
--- the tree that a bundle text spells, or nothing where it is no good text; the tree that a file denotes, or nothing; and a payload at which nobody looks
+-- the bundle that a text spells, or nothing where it is not a good text; the bundle that a file denotes, or nothing; and a payload that is not looked at
 pub data Content : Type 0 where
-  spelled : Option Resource → Content
-  denoted : Option Resource → Content
+  spelled : Option SourceTree → Content
+  denoted : Option SourceTree → Content
   unread : Content
 
 abbrev pub IsContent : Payload → Content → Type 0
-IsContent (Text bytes) (spelled (Some tree)) = (name : List ℕ) × IsGoodSource bytes name tree
-IsContent (Text bytes) (spelled None) = (name : List ℕ) (tree : Resource) → IsGoodSource bytes name tree → ⊥
-IsContent (Text bytes) (denoted tree) = ⊥
+IsContent (Text bytes) (spelled (Some source)) = (name : List ℕ) × IsGoodSource bytes name source
+IsContent (Text bytes) (spelled None) = (name : List ℕ) (source : SourceTree) → IsGoodSource bytes name source → ⊥
+IsContent (Text bytes) (denoted source) = ⊥
 IsContent (Text bytes) unread = ⊥
-IsContent (File bytes) (denoted (Some tree)) = Denotes bytes tree
-IsContent (File bytes) (denoted None) = (tree : Resource) → Denotes bytes tree → ⊥
-IsContent (File bytes) (spelled tree) = ⊥
+IsContent (File bytes) (denoted (Some source)) = Denotes bytes source
+IsContent (File bytes) (denoted None) = (source : SourceTree) → Denotes bytes source → ⊥
+IsContent (File bytes) (spelled source) = ⊥
 IsContent (File bytes) unread = ⊥
 
 -- a payload is looked at only where the request names a place

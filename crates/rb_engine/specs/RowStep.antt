@@ -1,8 +1,6 @@
 -- For proofs and for what is private. A request's step on the bundles of all applications.
 use Rattle.std.specs.Prelude.{◌≡◌, ◌≢◌, ℕ, List, [], ◌∷◌, ◌++◌, true, ◌⊎◌, Some, None, Result, Ok, Err}
-use Rattle.rb_tree.specs.View.{view_of}
-use Rattle.rb_tree.specs.declared.tree.Tree.{Tree}
-use Rattle.rb_engine.specs.Rows.{Rows, list_of}
+use Rattle.rb_engine.specs.Rows.{Rows, list_of, source_kept}
 use Rattle.rb_engine.specs.Ask.{Requests, requester, IsContent, spelled, denoted, Ask, RequestMeans}
 use Rattle.rb_engine.specs.Answer.{Replies, answer_over, Start, shelf_then}
 use Rattle.rb_engine.specs.History.{may_want_memory}
@@ -12,7 +10,8 @@ use Rattle.rb_engine.specs.declared.request.Reply.{Reply}
 use Rattle.rb_engine.specs.declared.request.Reply.TheVariants.{Done, BadText, BadFile, Memory}
 use Rattle.rb_engine.specs.declared.request.Payload.{Payload}
 use Rattle.rb_engine.specs.declared.request.Payload.TheVariants.{Text, File}
-use Rattle.rb_tree.specs.Resource.{Resource}
+use Rattle.rb_engine.specs.declared.rows.KeptBundle.{KeptBundle}
+use Rattle.rb_tree.specs.SourceTree.{SourceTree}
 
 pub record RowsStay (request : Request) (reply : Reply) (old new : Rows) : Type 0 where
   pub memory : reply ≡ Memory
@@ -29,20 +28,21 @@ pub record RowsServe (request : Request) (reply : Reply) (old new : Rows) : Type
 abbrev pub RowStep : Request → Reply → Rows → Rows → Type 0
 RowStep request reply old new = RowsStay request reply old new ⊎ RowsServe request reply old new
 
--- a row at the end, or want of memory
-abbrev pub AddsRow : Place → Tree → Reply → Rows → Rows → Type 0
-AddsRow place tree reply old new = ((reply ≡ Done) × (new ≡ old ++ (place, tree) ∷ [])) ⊎ ((reply ≡ Memory) × (new ≡ old))
+-- a row at the end, or out of memory
+abbrev pub AddsRow : Place → KeptBundle → Reply → Rows → Rows → Type 0
+AddsRow place bundle reply old new = ((reply ≡ Done) × (new ≡ old ++ (place, bundle) ∷ [])) ⊎ ((reply ≡ Memory) × (new ≡ old))
 
--- a payload of a bundle's tree
-abbrev pub HoldsTree : Payload → Resource → Type 0
-HoldsTree (Text bytes) tree = IsContent (Text bytes) (spelled (Some tree))
-HoldsTree (File bytes) tree = IsContent (File bytes) (denoted (Some tree))
+-- a payload that is a bundle
+abbrev pub HoldsBundle : Payload → SourceTree → Type 0
+HoldsBundle (Text bytes) source = IsContent (Text bytes) (spelled (Some source))
+HoldsBundle (File bytes) source = IsContent (File bytes) (denoted (Some source))
 
--- why a payload has no tree: it stands for none, or memory is wanting
+-- a payload that is none
 abbrev pub HoldsNone : Payload → Reply → Type 0
 HoldsNone (Text bytes) reply = (reply ≡ BadText) × IsContent (Text bytes) (spelled None)
 HoldsNone (File bytes) reply = (reply ≡ BadFile) × IsContent (File bytes) (denoted None)
 
-abbrev pub TreeRead : Payload → Result Tree Reply → Type 0
-TreeRead payload (Ok tree) = HoldsTree payload (view_of tree)
-TreeRead payload (Err reply) = (reply ≡ Memory) ⊎ HoldsNone payload reply
+-- the bundle of a payload, or why there is none: the payload is none, or memory ran out
+abbrev pub BundleRead : Payload → Result KeptBundle Reply → Type 0
+BundleRead payload (Ok bundle) = HoldsBundle payload (source_kept bundle)
+BundleRead payload (Err reply) = (reply ≡ Memory) ⊎ HoldsNone payload reply

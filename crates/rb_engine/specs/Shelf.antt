@@ -2,13 +2,13 @@
 use Rattle.std.specs.Prelude.{ℕ, Bool, List, [], ◌∷◌, length, nat_le, nat_eq, is_some, if◌then◌else◌, Option}
 use Rattle.std.specs.Map.{lookup}
 use Rattle.std.specs.Cmp.Lexicographic.{pointwise}
-use Rattle.rb_tree.specs.Resource.{Resource}
+use Rattle.rb_tree.specs.SourceTree.{SourceTree}
 
 abbrev pub Shelf : Type 0
-Shelf = List (List ℕ × Resource)
+Shelf = List (List ℕ × SourceTree)
 
 -- the bundle at a name
-abbrev pub bundle_at : Shelf → List ℕ → Option Resource
+abbrev pub bundle_at : Shelf → List ℕ → Option SourceTree
 bundle_at shelf name = lookup (pointwise nat_eq name) shelf
 
 abbrev pub holds : List ℕ → Shelf → Bool
@@ -17,10 +17,10 @@ holds name shelf = is_some (bundle_at shelf name)
 abbrev pub is_full : Shelf → Bool
 is_full shelf = nat_le 4096 (length shelf)
 
--- with the tree in the old one's place
-abbrev pub replaced : List ℕ → Resource → Shelf → Shelf
-replaced name tree [] = []
-replaced name tree (e ∷ es) = if pointwise nat_eq name e.0 then (name, tree) ∷ es else e ∷ replaced name tree es
+-- with the bundle in the old one's place
+abbrev pub replaced : List ℕ → SourceTree → Shelf → Shelf
+replaced name source [] = []
+replaced name source (e ∷ es) = if pointwise nat_eq name e.0 then (name, source) ∷ es else e ∷ replaced name source es
 
 -- without the pair
 abbrev pub removed : List ℕ → Shelf → Shelf

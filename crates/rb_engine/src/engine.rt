@@ -1,7 +1,7 @@
 //! The engine of many applications.
 ghost use Rattle.std.specs.Prelude.{◌≡◌, [], ℕ, List, None};
 ghost use Rattle.rb_tree.specs.View.{view_of};
-ghost use Rattle.rb_tree.specs.Table.{seen_pairs};
+ghost use Rattle.rb_parents.specs.Shelf.{seen_bundles};
 ghost use Rattle.rb_parents.specs.Family.{parent_of, parent_in};
 ghost use Rattle.rb_engine.specs.Shelf.{bundle_at};
 ghost use Rattle.rb_engine.specs.Rows.{state_of, list_of};
@@ -26,7 +26,7 @@ use std::marker::Model;
 /// An application sees its own bundles and those of ICUDATA, and nothing of another application's.
 #[derive(Drop)]
 pub struct Engine {
-    icudata: Vec<(Name, Tree)>,
+    icudata: Vec<(Name, Tree, bool)>,
     parents: Parents,
     rows: Rows,
 }
@@ -102,12 +102,12 @@ impl Engine {
 /// Looks a path up from a place.
 fn look_at<'a>(
     rows: &'a Rows,
-    icudata: &'a [(Name, Tree)],
+    icudata: &'a [(Name, Tree, bool)],
     parents: &Parents,
     place: &Place,
     path: &[u8],
 ) -> Result<Found<&'a Tree>, LookFault>
-    ensures { seen (λ t. view_of t.now) result ≡ looked_in (bundle_at (list_of place.now.app rows.now.entries)) (bundle_at (seen_pairs icudata.now)) (parent_of parents.now) place.now.name path.now }
+    ensures { seen (λ t. view_of t.now) result ≡ looked_in (bundle_at (list_of place.now.app rows.now.entries)) (bundle_at (seen_bundles icudata.now)) (parent_of parents.now) place.now.name path.now }
 {
     let own = AppShelf {
         rows,
@@ -115,7 +115,7 @@ fn look_at<'a>(
     };
     look_in(
         own,
-        ListShelf { pairs: icudata },
+        ListShelf { entries: icudata },
         parents,
         &place.name,
         path,
@@ -130,7 +130,7 @@ fn look_in<'a, S: Shelf<'a>, I: Shelf<'a, N = S::N>>(
     name: &Name,
     path: &[u8],
 ) -> Result<Found<S::N>, LookFault>
-    ensures { seen S.N.tree result ≡ looked_in (S.trees own) (I.trees icudata) (parent_of parents.now) name.now path.now }
+    ensures { seen S.N.tree result ≡ looked_in (S.bundles own) (I.bundles icudata) (parent_of parents.now) name.now path.now }
 {
     rb_fallback::look(own, icudata, parents, name, path).map_err(LookFault::from)
 }

@@ -1,6 +1,7 @@
 //! The bundles of all applications, each at its place, in the order of installing.
 ghost use Rattle.std.specs.Prelude.{◌≡◌, length, IfOk, None, map, option_map, is_some};
 ghost use Rattle.rb_tree.specs.View.{view_of};
+ghost use Rattle.rb_parents.specs.Shelf.{bundle_of as seen_bundle};
 ghost use Rattle.rb_engine.specs.Rows.{rows_of, list_of, row_at, replaced_row, removed_row};
 ghost use Rattle.rb_engine.specs.RowStep.{AddsRow};
 ghost use Rattle.rb_engine.specs.Shelf.{bundle_at};
@@ -15,7 +16,14 @@ use rb_tree::Tree;
 use std::alloc::{AllocError, Global};
 
 /// The bundles of all applications, each at its place, in the order of installing.
-pub(crate) type Rows = IndexMap<Place, Tree>;
+pub(crate) type Rows = IndexMap<Place, KeptBundle>;
+
+/// A bundle as it is kept.
+#[derive(Debug, Drop)]
+pub struct KeptBundle {
+    pub tree: Tree,
+    pub no_fallback: bool,
+}
 
 /// Whether a bundle stands at a place.
 pub(crate) fn holds(rows: &Rows, place: &Place) -> bool
@@ -44,33 +52,33 @@ pub(crate) fn count_of(rows: &Rows, app: &App) -> usize
 }
 
 /// Adds a bundle at the end.
-pub(crate) fn add(rows: &mut Rows, place: Place, tree: Tree) -> Reply
+pub(crate) fn add(rows: &mut Rows, place: Place, bundle: KeptBundle) -> Reply
     requires { row_at place rows.old.entries ≡ None }
-    ensures { AddsRow place tree result rows.old.entries rows.new.entries }
+    ensures { AddsRow place bundle result rows.old.entries rows.new.entries }
 {
-    match rows.insert(place, tree) {
+    match rows.insert(place, bundle) {
         Ok(_) => Reply::Done,
         Err(_) => Reply::Memory,
     }
 }
 
-/// Puts a tree in the place of the one that stands there.
+/// Puts a bundle in the place of the one that is there.
 #[tactic(auto, using(crate::proofs::RowLemmas::replaced_none))]
-pub(crate) fn exchange(rows: &mut Rows, place: &Place, tree: Tree) -> bool
+pub(crate) fn replace(rows: &mut Rows, place: &Place, bundle: KeptBundle) -> bool
     ensures found { result ≡ is_some (row_at place.now rows.old.entries) }
-    ensures rows { rows.new.entries ≡ replaced_row place.now tree rows.old.entries }
+    ensures rows { rows.new.entries ≡ replaced_row place.now bundle rows.old.entries }
 {
     match rows.get_mut(place) {
         Some(held) => {
-            *held = tree;
+            *held = bundle;
             true
         }
         None => false,
     }
 }
 
-/// Takes a tree out.
-pub(crate) fn take_out(rows: &mut Rows, place: &Place) -> bool
+/// Takes a bundle out.
+pub(crate) fn remove(rows: &mut Rows, place: &Place) -> bool
     ensures found { result ≡ is_some (row_at place.now rows.old.entries) }
     ensures rows { rows.new.entries ≡ removed_row place.now rows.old.entries }
 {
@@ -87,9 +95,9 @@ pub(crate) struct AppShelf<'a, 'b> {
 impl<'a, 'b> Shelf<'a> for AppShelf<'a, 'b> {
     type N = &'a Tree;
 
-    ghost trees = { λ s. bundle_at (list_of s.app.now s.rows.now.entries) };
+    ghost bundles = { λ s. bundle_at (list_of s.app.now s.rows.now.entries) };
 
-    fn bundle(self, name: &Name) -> Option<&'a Tree> {
+    fn bundle(self, name: &Name) -> Option<(&'a Tree, bool)> {
         let place = Place {
             app: *self.app,
             name: *name,
@@ -98,9 +106,12 @@ impl<'a, 'b> Shelf<'a> for AppShelf<'a, 'b> {
     }
 }
 
-/// The tree at a place.
-fn bundle_of<'a>(rows: &'a Rows, place: &Place) -> Option<&'a Tree>
-    ensures { option_map (λ t. view_of t.now) result ≡ bundle_at (list_of place.now.app rows.now.entries) place.now.name }
+/// The bundle at a place.
+fn bundle_of<'a>(rows: &'a Rows, place: &Place) -> Option<(&'a Tree, bool)>
+    ensures { option_map (seen_bundle (λ t. view_of t.now)) result ≡ bundle_at (list_of place.now.app rows.now.entries) place.now.name }
 {
-    rows.get(place)
+    match rows.get(place) {
+        Some(bundle) => Some((&bundle.tree, bundle.no_fallback)),
+        None => None,
+    }
 }

@@ -1,10 +1,11 @@
 //! The requests, on the bundles of all applications.
 ghost use Rattle.std.specs.Prelude.{◌≡◌, IfOk, option_map};
-ghost use Rattle.rb_tree.specs.View.{view_of};
+ghost use Rattle.rb_engine.specs.Rows.{source_kept};
 ghost use Rattle.rb_engine.specs.Ask.{IsContent, spelled, denoted};
 ghost use Rattle.rb_engine.specs.declared.request.Payload.TheVariants.{Text, File};
 ghost use Rattle.rb_engine.specs.Answer.{refusal};
-ghost use Rattle.rb_engine.specs.RowStep.{RowStep, TreeRead};
+ghost use Rattle.rb_format.specs.File.{source_tree_of};
+ghost use Rattle.rb_engine.specs.RowStep.{RowStep, BundleRead};
 ghost use Rattle.rb_engine.specs.declared.request.Request.TheVariants.{Install, Replace, Remove, List as Lists};
 
 use crate::app::{App, AppFault};
@@ -12,12 +13,12 @@ use crate::limits::BUNDLE_LIMIT;
 use crate::place::{PlaceFault, place_of};
 use crate::request::{NameList, Payload, Reply};
 use crate::rows;
-use crate::rows::Rows;
+use crate::rows::{KeptBundle, Rows};
 use rb_format::FileFault;
 use rb_lexer::SourceKind;
 use rb_parser::parse;
-use rb_tree::{ByteList, Tree};
-use rb_validator::{accept, decode};
+use rb_tree::ByteList;
+use rb_validator::{Bundle, accept, decode};
 use std::alloc::{AllocError, Global};
 
 pub(crate) fn refused(fault: PlaceFault) -> Reply
@@ -30,12 +31,15 @@ pub(crate) fn refused(fault: PlaceFault) -> Reply
     }
 }
 
-/// The tree that a bundle text spells, if it spells one.
-fn text_tree(alloc: Global, text: ByteList) -> Result<Option<Tree>, AllocError>
-    ensures { IfOk result (λ tree. IsContent (Text text) (spelled (option_map view_of tree))) }
+/// The bundle that a text spells, if it spells one.
+fn text_bundle(alloc: Global, text: ByteList) -> Result<Option<KeptBundle>, AllocError>
+    ensures { IfOk result (λ bundle. IsContent (Text text) (spelled (option_map source_kept bundle))) }
 {
     match parse(alloc, text.as_slice()) {
-        Ok(source) => Ok(Some(source.tree)),
+        Ok(source) => Ok(Some(KeptBundle {
+            tree: source.tree,
+            no_fallback: source.no_fallback,
+        })),
         Err(fault) => match fault.kind {
             SourceKind::Memory => Err(AllocError),
             _ => Ok(None),
@@ -43,16 +47,13 @@ fn text_tree(alloc: Global, text: ByteList) -> Result<Option<Tree>, AllocError>
     }
 }
 
-/// The tree that a file denotes, if it denotes one.
-fn file_tree(alloc: Global, file: ByteList) -> Result<Option<Tree>, AllocError>
-    ensures { IfOk result (λ tree. IsContent (File file) (denoted (option_map view_of tree))) }
+/// The bundle that a file denotes, if it denotes one.
+fn file_bundle(alloc: Global, file: ByteList) -> Result<Option<KeptBundle>, AllocError>
+    ensures { IfOk result (λ bundle. IsContent (File file) (denoted (option_map source_kept bundle))) }
 {
     rb_format::laws::a_tree_or_a_fault();
     match accept(alloc, file.into_vec()) {
-        Ok(bundle) => {
-            let tree = decode(alloc, &bundle)?;
-            Ok(Some(tree))
-        }
+        Ok(bundle) => Ok(Some(kept_bundle(alloc, &bundle)?)),
         Err((fault, _)) => {
             if fault == FileFault::Memory {
                 Err(AllocError)
@@ -63,16 +64,27 @@ fn file_tree(alloc: Global, file: ByteList) -> Result<Option<Tree>, AllocError>
     }
 }
 
-/// The tree that a payload stands for, or the refusal where it stands for none or memory is wanting.
-fn tree_of(alloc: Global, payload: Payload) -> Result<Tree, Reply>
-    ensures { TreeRead payload result }
+/// A file's bundle, as it is kept.
+fn kept_bundle(alloc: Global, bundle: &Bundle) -> Result<KeptBundle, AllocError>
+    ensures { IfOk result (λ kept. source_kept kept ≡ source_tree_of bundle.now) }
+{
+    let tree = decode(alloc, bundle)?;
+    Ok(KeptBundle {
+        tree,
+        no_fallback: bundle.no_fallback(),
+    })
+}
+
+/// The bundle of a payload, or the refusal where it has none or memory runs out.
+fn read_payload(alloc: Global, payload: Payload) -> Result<KeptBundle, Reply>
+    ensures { BundleRead payload result }
 {
     let (read, bad) = match payload {
-        Payload::Text(text) => (text_tree(alloc, text), Reply::BadText),
-        Payload::File(file) => (file_tree(alloc, file), Reply::BadFile),
+        Payload::Text(text) => (text_bundle(alloc, text), Reply::BadText),
+        Payload::File(file) => (file_bundle(alloc, file), Reply::BadFile),
     };
     match read {
-        Ok(Some(tree)) => Ok(tree),
+        Ok(Some(bundle)) => Ok(bundle),
         Ok(None) => Err(bad),
         Err(_) => Err(Reply::Memory),
     }
@@ -91,8 +103,8 @@ pub(crate) fn install(
         Ok(place) => place,
         Err(fault) => return refused(fault),
     };
-    let tree = match tree_of(alloc, payload) {
-        Ok(tree) => tree,
+    let bundle = match read_payload(alloc, payload) {
+        Ok(bundle) => bundle,
         Err(refusal) => return refusal,
     };
     if rows::holds(rows, &place) {
@@ -101,7 +113,7 @@ pub(crate) fn install(
     if rows::count_of(rows, &place.app) >= BUNDLE_LIMIT {
         return Reply::Full;
     }
-    rows::add(rows, place, tree)
+    rows::add(rows, place, bundle)
 }
 
 pub(crate) fn replace(
@@ -117,11 +129,11 @@ pub(crate) fn replace(
         Ok(place) => place,
         Err(fault) => return refused(fault),
     };
-    let tree = match tree_of(alloc, payload) {
-        Ok(tree) => tree,
+    let new = match read_payload(alloc, payload) {
+        Ok(new) => new,
         Err(refusal) => return refusal,
     };
-    if rows::exchange(rows, &place, tree) {
+    if rows::replace(rows, &place, new) {
         Reply::Done
     } else {
         Reply::Absent
@@ -133,7 +145,7 @@ pub(crate) fn remove(rows: &mut Rows, app: &ByteList, locale: &ByteList) -> Repl
 {
     match place_of(app.as_slice(), locale.as_slice()) {
         Ok(place) => {
-            if rows::take_out(rows, &place) {
+            if rows::remove(rows, &place) {
                 Reply::Done
             } else {
                 Reply::Absent

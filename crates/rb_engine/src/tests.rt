@@ -3,6 +3,7 @@
 use crate::app::{App, AppFault};
 use crate::engine::Engine;
 use crate::request::{LookFault, Payload, Reply, Request};
+use rb_fallback::Found;
 use rb_tree::{ByteList, Tree};
 use std::alloc::Global;
 use std::test::Fail;
@@ -58,13 +59,25 @@ fn refusal(engine: &Engine, app: &[u8], locale: &[u8], path: &[u8]) -> Option<Lo
     }
 }
 
-/// Whether a lookup of `shop` finds this text.
-fn finds(engine: &Engine, locale: &[u8], path: &[u8], text: &str) -> bool {
-    match engine.look(b"shop", locale, path) {
-        Ok(found) => match found.node {
-            Tree::String(units) => text.encode_utf16().eq(units.as_slice().iter().copied()),
-            _ => false,
-        },
+/// A text that a lookup is to find, with the locale that has it and the valid one.
+#[derive(Clone, Copy)]
+struct Hit {
+    text: &'static str,
+    actual: &'static [u8],
+    valid: &'static [u8],
+}
+
+fn is_hit(found: &Found<&Tree>, hit: Hit) -> bool {
+    let same_text = match found.node {
+        Tree::String(units) => hit.text.encode_utf16().eq(units.as_slice().iter().copied()),
+        _ => false,
+    };
+    same_text && found.actual.as_bytes() == hit.actual && found.valid.as_bytes() == hit.valid
+}
+
+fn finds(engine: &Engine, app: &[u8], locale: &[u8], path: &[u8], hit: Hit) -> bool {
+    match engine.look(app, locale, path) {
+        Ok(found) => is_hit(&found, hit),
         Err(_) => false,
     }
 }
@@ -115,10 +128,88 @@ fn takes_files(rt: HostRuntime) -> Result<(), Fail> {
             reply
         );
     }
-    assert!(rt; finds(&engine, b"root", b"a", "b"));
+    let hit = Hit {
+        text: "b",
+        actual: b"root",
+        valid: b"root",
+    };
+    assert!(rt; finds(&engine, b"shop", b"root", b"a", hit));
     assert_eq!(rt;
         refusal(&engine, b"bank", b"root", b"a"),
         Some(LookFault::NoBundle)
+    );
+    Ok(())
+}
+
+/// Applications with bundles, some of which have no fallback.
+const BUNDLES: [(&[u8], &[u8], &[u8]); 6] = [
+    (b"shop", b"de", b"de:table(nofallback){x{\"D\"}}"),
+    (b"shop", b"root", b"root{x{\"R\"} y{\"Y\"}}"),
+    (
+        b"bank",
+        b"de",
+        b"de:table(nofallback){%%Parent{\"?\"} x{\"D\"}}",
+    ),
+    (b"bank", b"root", b"root{x{\"R\"} y{\"Y\"}}"),
+    (b"mill", b"iw", b"iw:table(nofallback){%%ALIAS{\"he\"}}"),
+    (b"mill", b"he", b"he{x{\"H\"}}"),
+];
+
+#[test]
+fn stops_at_bundles_without_fallback(rt: HostRuntime) -> Result<(), Fail> {
+    let alloc = rt.alloc();
+    let mut engine = Engine::start(alloc);
+    for (app, locale, text) in BUNDLES {
+        assert_eq!(rt;
+            install_text(alloc, &mut engine, app, locale, text)?,
+            "Done"
+        );
+    }
+    let from_de = Hit {
+        text: "D",
+        actual: b"de",
+        valid: b"de",
+    };
+    let from_he = Hit {
+        text: "H",
+        actual: b"he",
+        valid: b"he",
+    };
+    assert!(rt; finds(&engine, b"shop", b"de_AT", b"x", from_de));
+    assert!(rt; finds(&engine, b"mill", b"iw", b"x", from_he));
+    let missing = Some(LookFault::Missing);
+    assert_eq!(rt; refusal(&engine, b"shop", b"de", b"y"), missing);
+    assert_eq!(rt; refusal(&engine, b"bank", b"de", b"y"), missing);
+    Ok(())
+}
+
+/// The file of a bundle `de` without fallback, with the string `b` at `a`.
+const FLAGGED: &str =
+    "2000da27140000000000020052657342010200000000000000000000000000000a00002006000000080000000c0000000c00000001000000010000006100aaaa010000006200000001001c0008000000";
+
+#[test]
+fn stops_at_files_without_fallback(rt: HostRuntime) -> Result<(), Fail> {
+    let alloc = rt.alloc();
+    let mut engine = Engine::start(alloc);
+    let file = Payload::File(ByteList::from_vec(decode(alloc, FLAGGED)?));
+    assert_eq!(rt; install(alloc, &mut engine, b"shop", b"de", file)?, "Done");
+    let word = install_text(
+        alloc,
+        &mut engine,
+        b"shop",
+        b"root",
+        b"root{a{\"R\"} y{\"Y\"}}",
+    )?;
+    assert_eq!(rt; word, "Done");
+    let hit = Hit {
+        text: "b",
+        actual: b"de",
+        valid: b"de",
+    };
+    assert!(rt; finds(&engine, b"shop", b"de_AT", b"a", hit));
+    assert_eq!(rt;
+        refusal(&engine, b"shop", b"de_AT", b"y"),
+        Some(LookFault::Missing)
     );
     Ok(())
 }

@@ -94,8 +94,8 @@ fn string_reply(
 fn int_reply(alloc: Global, actual: Value, valid: Value, number: Int28) -> Result<Value, AllocError>
     ensures { (a v : List ℕ) → view actual ≡ text_data a → view valid ≡ text_data v → IfOk result (λ reply. view reply ≡ found_data (tree.int number) a v) }
 {
-    let signed = signed(number);
     let unsigned = number.get();
+    let signed = signed(number);
     json!(in alloc; {"actual": actual, "signed": signed, "type": "int", "unsigned": unsigned, "valid": valid})
 }
 

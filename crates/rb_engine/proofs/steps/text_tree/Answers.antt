@@ -1,7 +1,0 @@
-use Rattle.std.proofs.Common.{ℕ, List, sym, subst}
-use Rattle.rb_parser.specs.Source.{IsGoodSource}
-use Rattle.rb_engine.proofs.steps.text_tree.Goals as goal
-
-pub returns : goal.returns
-returns c = λ name tree good.
-    c.in_default.not-Memory (c.in-Err.ensures.only name tree (subst (λ (bytes : List ℕ). IsGoodSource bytes name tree) (sym c.as_slice.ensures) good))
