@@ -32,7 +32,7 @@ located icu [] = no_text
 located icu ([] ∷ ss) = no_text
 located icu ((u ∷ us) ∷ ss) = named icu (name (u ∷ us)) ss
 
--- behind a slash stands a package
+-- after a slash comes a package
 abbrev pub packaged : List ℕ → List (List ℕ) → Aim
 packaged valid [] = no_package
 packaged valid (s ∷ ss) = cond (bytes_eq s (codes "LOCALE")) (with_path false valid ss) (cond (bytes_eq s (codes "ICUDATA")) (located true ss) no_package)

@@ -1,9 +1,9 @@
--- For proofs only: what stands behind a segment, and behind the path of an alias.
+-- For proofs only: what follows a segment, and what follows the path of an alias.
 use Rattle.std.specs.Prelude.{◌+◌, ℕ, List, [], ◌∷◌, ◌++◌, length, drop, cond, Bool, nat_lt}
 use Rattle.std.specs.List.{slice_split, list_all}
 use Rattle.rb_tree.specs.Path.{is_slash}
 
--- the segments behind one that ends at an index
+-- the segments after one that ends at an index
 abbrev pub behind_parts : List ℕ → ℕ → List (List ℕ)
 behind_parts us past = cond (nat_lt past (length us)) (slice_split is_slash (drop (past + 1) us)) []
 

@@ -1,5 +1,5 @@
 -- For proofs only: what the program says of one step of a search.
-use Rattle.std.specs.Prelude.{◌≡◌, ℕ, List, Bool, true, Option, Result, Ok, Err}
+use Rattle.std.specs.Prelude.{◌≡◌, ℕ, List, Bool, true, Result, Ok, Err}
 use Rattle.rb_tree.specs.Resource.{Resource}
 use Rattle.rb_tree.specs.Path.{segments, IsPath}
 use Rattle.rb_fallback.specs.Search.{found, goes, is_long}

@@ -1,4 +1,4 @@
--- The words of the faults, as programs print them.
+-- The words of the errors, as programs print them.
 use Rattle.std.specs.Prelude.{ℕ, List, codes}
 use Rattle.rb_fallback.specs.declared.fault.AliasFault.{AliasFault}
 use Rattle.rb_fallback.specs.declared.fault.AliasFault.TheVariants as alias

@@ -95,7 +95,7 @@ fn filled_from<N: Node>(node: N, from: usize) -> bool
     }
 }
 
-// A name with the path behind it.
+// A name with the path after it.
 #[tactic(auto, using(crate::proofs::Texts::path_some, crate::proofs::Texts::behind_more))]
 fn with_path<N: Node>(icudata: bool, name: Name, node: N, past: usize) -> Result<Target, AliasFault>
     requires units { HasUnits (kind_of (N.tree node)) }
@@ -137,10 +137,10 @@ fn located<N: Node>(icudata: bool, node: N, from: usize) -> Result<Target, Alias
     }
 }
 
-/// Reads the text of an alias, where `valid` is the valid locale of the look-up.
+/// Reads the text of an alias, where `valid` is the valid locale of the lookup.
 ///
-/// The faults come in this order. `AliasText`: the text is empty or has a unit outside of printable
-/// ASCII. `AliasPackage`: it begins with a slash, and neither `LOCALE` nor `ICUDATA` stands behind it.
+/// The errors come in this order. `AliasText`: the text is empty or has a unit outside of printable
+/// ASCII. `AliasPackage`: it begins with a slash, and neither `LOCALE` nor `ICUDATA` follows.
 /// `AliasText`: its locale is missing, empty or no name, or its path has an empty segment.
 #[tactic(auto, using(crate::proofs::Texts::aim_package, crate::proofs::Texts::behind_more, crate::proofs::Texts::behind_none))]
 pub fn read_alias<N: Node>(node: N, valid: &Name) -> Result<Target, AliasFault>

@@ -1,4 +1,4 @@
-// Why a look-up or the text of an alias is refused.
+// Why a lookup or the text of an alias is refused.
 ghost use Rattle.std.specs.Prelude.{◌≡◌};
 
 /// Why the text of an alias leads nowhere.
@@ -6,14 +6,14 @@ ghost use Rattle.std.specs.Prelude.{◌≡◌};
 pub enum AliasFault {
     /// No text, a unit that is not printable ASCII, no locale, or an empty segment in the path.
     AliasText,
-    /// A package behind the first slash that is neither `LOCALE` nor `ICUDATA`.
+    /// A package after the first slash that is neither `LOCALE` nor `ICUDATA`.
     AliasPackage,
 }
 
 impl AliasFault {
     ghost use Rattle.rb_fallback.specs.Words.{alias_word};
 
-    /// The name of the fault.
+    /// The error's name.
     pub fn word(self) -> &'static str
         ensures { result.now ≡ alias_word self }
     {
@@ -24,16 +24,16 @@ impl AliasFault {
     }
 }
 
-/// Why a look-up finds nothing.
+/// Why a lookup finds nothing.
 #[derive(Clone, Copy, Debug, PartialEq, Eq)]
 pub enum LookError {
     /// The path has a byte that is not printable ASCII, or an empty segment.
     BadPath,
-    /// The path has more than 1,024 bytes, at the beginning or behind an alias.
+    /// The path has more than 1,024 bytes, at the beginning or after an alias.
     PathTooLong,
     /// A trail has more than 32 names.
     Chain,
-    /// A `%%ALIAS` or `%%Parent` on a trail is no name of a locale.
+    /// A `%%ALIAS` or `%%Parent` on a trail is no locale name.
     BadParent,
     /// No name of the trail has a bundle of its own.
     NoBundle,
@@ -50,7 +50,7 @@ pub enum LookError {
 impl LookError {
     ghost use Rattle.rb_fallback.specs.Words.{look_word};
 
-    /// The name of the fault.
+    /// The error's name.
     pub fn word(self) -> &'static str
         ensures { result.now ≡ look_word self }
     {

@@ -1,4 +1,4 @@
-// What a look-up finds.
+// What a lookup finds.
 use rb_locales::Name;
 
 /// What was found: the node, the name of the bundle that has it, and the first bundle of the trail.

@@ -1,4 +1,4 @@
-//! Look-ups that follow locale inheritance and aliases.
+//! Lookups that follow locale inheritance and aliases.
 #![tactic(auto)]
 
 mod alias;
@@ -8,8 +8,6 @@ mod level;
 mod limits;
 mod path;
 mod search;
-#[cfg(test)]
-mod tests;
 
 pub use alias::{Target, read_alias};
 pub use fault::{AliasFault, LookError};

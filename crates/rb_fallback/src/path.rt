@@ -1,4 +1,4 @@
-// Paths of a bounded length, and the path behind an alias.
+// Paths of a bounded length, and the path after an alias.
 ghost use Rattle.std.specs.Prelude.{◌≡◌, ◌<◌, ◌≤◌, ◌+◌, ◌++◌, ◌↔◌, IfNone, IfSome, IsTrue, length, drop, true};
 ghost use Rattle.std.specs.Bool.{OnTrue};
 ghost use Rattle.std.specs.List.{list_all};
@@ -43,7 +43,7 @@ pub(crate) fn short_path(path: &[u8]) -> Option<ArrayVec<u8, PATH_LIMIT>>
     Some(short)
 }
 
-// What is left of a path behind a slash that stands behind its first bytes.
+// What is left of a path after its first `cut` bytes and the slash that follows them.
 #[tactic(auto, using(crate::proofs::Follows::behind_more))]
 pub(crate) fn rest_behind(path: &[u8], cut: usize) -> &[u8]
     ensures { result.now ≡ drop (behind cut) path.now }
@@ -57,7 +57,7 @@ pub(crate) fn rest_behind(path: &[u8], cut: usize) -> &[u8]
     &path[cut + 1..]
 }
 
-// The path in an alias, with a slash and the rest of another path behind it, where it is short enough.
+// The path in an alias, with a slash and the rest of another path after it, where it is short enough.
 pub(crate) fn replaced<N: Node>(node: N, at: usize, rest: &[u8]) -> Option<ArrayVec<u8, PATH_LIMIT>>
     requires units { HasUnits (kind_of (N.tree node)) }
     requires plain { list_all is_plain (units_of (N.tree node)) ≡ true }

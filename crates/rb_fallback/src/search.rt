@@ -48,7 +48,12 @@ pub(crate) struct LevelResult<N> {
 }
 
 // Where an alias leads that was met after the first `cut` bytes of a path.
-fn follow_alias<N: Node>(node: N, cut: usize, valid: &Name, place: Place) -> Result<Step<N>, LookError>
+fn follow_alias<N: Node>(
+    node: N,
+    cut: usize,
+    valid: &Name,
+    place: Place,
+) -> Result<Step<N>, LookError>
     requires alias { kind_of (N.tree node) ≡ Kinds.Alias }
     requires path { IsPath place.path.items }
     ensures { (walked rest : List (List ℕ)) → walked ++ rest ≡ segments place.path.items → rest ≡ segments (drop (behind cut) place.path.items) → IsFollowed N.tree result valid.now (follow valid.now rest (target (units_of (N.tree node)) place.icudata valid.now walked)) }
@@ -77,7 +82,7 @@ fn follow_alias<N: Node>(node: N, cut: usize, valid: &Name, place: Place) -> Res
     }
 }
 
-// The deciding walk of a level, in the package where the search stands.
+// The deciding walk of a level, in the package of a place.
 fn level_at<'a, S: Shelf<'a>, I: Shelf<'a, N = S::N>>(
     own: S,
     icu: I,

@@ -10,8 +10,6 @@ mod kind;
 pub mod laws;
 mod layout;
 mod place;
-#[cfg(test)]
-mod tests;
 
 pub use attributes::Attributes;
 pub use constants::{

@@ -5,7 +5,7 @@ use Rattle.rb_lexer.specs.declared.token.Token.{Token}
 use Rattle.rb_lexer.specs.declared.token.Mark.{Mark}
 use Rattle.rb_lexer.specs.declared.token.Mark.TheVariants.{Text, LeftBrace, RightBrace, Colon}
 use Rattle.rb_grammar.specs.Form.{marks, Leaf, string, alias, binary, int, ints, Body, plain, group, listed, leaf, table, array, Entries, Elements, table_word, array_word, text_marks, leaf_word, leaf_inner, body_marks, entries_marks, elements_marks, IsForm}
-use Rattle.rb_grammar.specs.Reading.{Stop, stop, ◌>>=◌, right, begins, tail, punctuation_at, text_or, text_at, first_text, Tests, Word, string_type, alias_type, binary_type, int_type, ints_type, table_type, array_type, word_units, checked_at, maybe_or, numbers, anything, Inner, table_at, array_at, closed, typed_at}
+use Rattle.rb_grammar.specs.Reading.{Stop, stop, ◌>>=◌, right, begins, tail, punctuation_at, text_at, first_text, Tests, Word, string_type, alias_type, binary_type, int_type, ints_type, table_type, array_type, word_units, checked_at, maybe_or, numbers, anything, Inner, table_at, array_at, closed, typed_at}
 use Rattle.rb_grammar.specs.Tests.{AreTests}
 use Rattle.rb_grammar.specs.Faults.{Role, NoWord, int_text, BodyHas, LeafHas, IsBad}
 use Rattle.rb_grammar.proofs.Blame.{Sort, Blame, tables, arrays, vectors, Blames, no_word_none, word_past, bind_err}

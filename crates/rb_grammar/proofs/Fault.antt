@@ -1,5 +1,5 @@
 -- A list of tokens that isn't read has the fault at which reading stops.
-use Rattle.std.proofs.Common.{◌≡◌, ℕ, suc, ◌-◌, Bool, true, false, List, [], ◌∷◌, ◌++◌, length, Option, Some, None, Ok, Err, refl, sym, ap, subst, ◌∙◌, arith, append_assoc, ◌⊎◌, inl, inr}
+use Rattle.std.proofs.Common.{◌≡◌, ℕ, suc, Bool, false, List, [], ◌∷◌, ◌++◌, length, Option, Some, None, Ok, Err, refl, sym, ap, subst, ◌∙◌, arith, append_assoc, ◌⊎◌, inl, inr}
 use Rattle.std.proofs.lemmas.Bool.{false≢true}
 use Rattle.std.proofs.lemmas.List.{append-nil, append_cancel_right, map-append}
 use Rattle.rb_lexer.specs.declared.fault.SourceKind.{SourceKind}
@@ -18,7 +18,7 @@ use Rattle.rb_grammar.proofs.Bundles.{HeadRead, no_fallback_read, word_read, hea
 use Rattle.rb_grammar.proofs.Front.{entries_front}
 use Rattle.rb_grammar.proofs.Guess.{Alike, not_text, not_sign}
 use Rattle.rb_grammar.proofs.Marks.{text_first, text_takes, sign_there, sign_takes}
-use Rattle.rb_grammar.proofs.Sound.{chosen, bind_ok, ok_is, entries_take}
+use Rattle.rb_grammar.proofs.Sound.{chosen, ok_is, entries_take}
 use Rattle.rb_grammar.proofs.SoundBody.{word_takes, body_takes}
 use Rattle.rb_grammar.proofs.Suffix.{bundle_ends}
 use Rattle.rb_grammar.proofs.Unique.{entries_one, word_found, word_one}

@@ -6,8 +6,6 @@ mod key;
 pub mod laws;
 mod limits;
 mod number;
-#[cfg(test)]
-mod tests;
 
 pub use bytes::read_bytes;
 pub use key::is_key;

@@ -16,7 +16,8 @@ built bytes pending [] = flushed pending []
 built bytes pending (text p ∷ ps) = built bytes (Some (grown pending (pending_of bytes p))) ps
 built bytes pending (punctuation m first past ∷ ps) = flushed pending (token bytes (alone m first past) ∷ built bytes None ps)
 
-from_built : (bytes : List ℕ) (at : ℕ) (pending : Option PendingText) (ls : List Lexeme) → tokens_from bytes at pending ls ≡ built bytes pending (pieces_from at ls)
+from_built : (bytes : List ℕ) (at : ℕ) (pending : Option PendingText) (ls : List Lexeme)
+    → tokens_from bytes at pending ls ≡ built bytes pending (pieces_from at ls)
 from_built bytes at pending [] = refl
 from_built bytes at pending (white c ∷ ls) = from_built bytes (past_lexeme at (white c)) pending ls
 from_built bytes at pending (comment c ∷ ls) = from_built bytes (past_lexeme at (comment c)) pending ls
@@ -62,14 +63,17 @@ is_merged : (bytes : List ℕ) (ps : List Piece) → IsMerged bytes ps
 is_merged bytes [] = ((λ a. refl), refl)
 is_merged bytes (text p ∷ ps) =
     let more = is_merged bytes ps in (
-      (λ a. more.0 (joined a (pending_of bytes p)) ∙ ap (λ (gs : List Group). text_token (with_run bytes a (front gs)) ∷ map (token bytes) (after gs)) (sym (split p (groups ps)))),
+      (λ a. more.0 (joined a (pending_of bytes p))
+          ∙ ap (λ (gs : List Group). text_token (with_run bytes a (front gs)) ∷ map (token bytes) (after gs)) (sym (split p (groups ps)))),
       more.0 (pending_of bytes p)
           ∙ ap (λ (t : Token). t ∷ map (token bytes) (after (groups ps))) (run_token bytes (pending_of bytes p) (front (groups ps)))
           ∙ ap (map (token bytes)) (sym (split p (groups ps))),
     )
 is_merged bytes (punctuation m first past ∷ ps) =
-    let more = is_merged bytes ps in
-    ((λ a. ap (λ (ts : List Token). text_token a ∷ token bytes (alone m first past) ∷ ts) more.1), ap (λ (ts : List Token). token bytes (alone m first past) ∷ ts) more.1)
+    let more = is_merged bytes ps in (
+      (λ a. ap (λ (ts : List Token). text_token a ∷ token bytes (alone m first past) ∷ ts) more.1),
+      ap (λ (ts : List Token). token bytes (alone m first past) ∷ ts) more.1,
+    )
 
 pub merged : (bytes : List ℕ) (ls : List Lexeme) → tokens_from bytes 0 None ls ≡ tokens_of bytes ls
 merged bytes ls = from_built bytes 0 None ls ∙ (is_merged bytes (pieces_from 0 ls)).1

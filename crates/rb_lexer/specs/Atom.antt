@@ -87,7 +87,8 @@ abbrev pub atoms_tokens : List ℕ → ℕ → Option PendingText → Bool → L
 atoms_tokens bytes at pending is_open [] = flushed pending []
 atoms_tokens bytes at pending is_open (blank c ∷ xs) = atoms_tokens bytes (past_atom at (blank c)) pending false xs
 atoms_tokens bytes at pending is_open (remark c ∷ xs) = atoms_tokens bytes (past_atom at (remark c)) pending is_open xs
-atoms_tokens bytes at pending is_open (punct c ∷ xs) = flushed pending (sign_token bytes c at (past_atom at (punct c)) ∷ atoms_tokens bytes (past_atom at (punct c)) None false xs)
+atoms_tokens bytes at pending is_open (punct c ∷ xs) =
+    flushed pending (sign_token bytes c at (past_atom at (punct c)) ∷ atoms_tokens bytes (past_atom at (punct c)) None false xs)
 atoms_tokens bytes at pending is_open (cited ps ∷ xs) =
     atoms_tokens bytes (past_atom at (cited ps)) (Some (grown pending (piece bytes (parts_units ps) true at (past_atom at (cited ps))))) false xs
 atoms_tokens bytes at pending is_open (single p ∷ xs) =
@@ -96,4 +97,6 @@ atoms_tokens bytes at pending is_open (single p ∷ xs) =
 -- The tokens of a text by the second reading, or what is broken in it, unless memory ran out.
 abbrev pub EndsSo : Result (Vec Token) Stop → List ℕ → List ℕ → Type 0
 EndsSo (Ok tokens) bytes cs = (xs : List Atom) × (cs ≡ atoms_chars xs []) × AreAtoms xs [] × (tokens.items ≡ atoms_tokens bytes 0 None false xs)
-EndsSo (Err stop) bytes cs = (stop.kind ≡ Memory → ⊥) → (xs : List Atom) × ((b : Broken) × ((cs ≡ atoms_chars xs (broken_chars b)) × AreAtoms xs (broken_chars b) × IsBroken b × (stop.kind ≡ broken_kind b) × (stop.left ≡ width (from_fault b))))
+EndsSo (Err stop) bytes cs =
+    (stop.kind ≡ Memory → ⊥) → (xs : List Atom) × ((b : Broken) ×
+    ((cs ≡ atoms_chars xs (broken_chars b)) × AreAtoms xs (broken_chars b) × IsBroken b × (stop.kind ≡ broken_kind b) × (stop.left ≡ width (from_fault b))))

@@ -61,7 +61,8 @@ impl Builder {
     /// Extends the pending text by units of its last piece.
     fn extend(&mut self, units: &UnitBuffer, past: usize) -> Result<(), Stop>
         ensures memory { IfErr result (λ stop. stop.kind ≡ Memory) }
-        ensures longer { OnOk result ((self.new.tokens.items ≡ self.old.tokens.items) × (self.new.pending ≡ extended self.old.pending units.now past) × (self.new.is_open ≡ self.old.is_open)) }
+        ensures longer { OnOk result ((self.new.tokens.items ≡ self.old.tokens.items) ×
+            (self.new.pending ≡ extended self.old.pending units.now past) × (self.new.is_open ≡ self.old.is_open)) }
     {
         if let Some(mut pending) = self.pending.take() {
             pending.units.extend(units)?;
@@ -74,7 +75,8 @@ impl Builder {
     /// Adds an item with its span and its line.
     pub fn add(&mut self, item: Item, first: usize, past: usize, line: u64) -> Result<(), Stop>
         ensures memory { IfErr result (λ stop. stop.kind ≡ Memory) }
-        ensures added { OnOk result ((bytes : List ℕ) (xs rest : List Atom) → Shows item xs → line ≡ line_of bytes first → past ≡ first + width (atoms_chars xs [])
+        ensures added { OnOk result ((bytes : List ℕ) (xs rest : List Atom) → Shows item xs
+            → line ≡ line_of bytes first → past ≡ first + width (atoms_chars xs [])
             → self.old.tokens.items ++ atoms_tokens bytes first self.old.pending self.old.is_open (xs ++ rest)
             ≡ self.new.tokens.items ++ atoms_tokens bytes past self.new.pending self.new.is_open rest) }
     {

@@ -12,8 +12,6 @@ mod lexer;
 mod limits;
 mod pending;
 mod quoted;
-#[cfg(test)]
-mod tests;
 mod text;
 mod token;
 mod units;

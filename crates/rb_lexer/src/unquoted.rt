@@ -39,7 +39,8 @@ fn ends_run(c: char, after: &str) -> bool
 /// piece does, before a comment, and before a backslash that begins no escape.
 pub fn run(alloc: Global, first: u32, text: &str) -> Result<(UnitBuffer, &str), AllocError>
     requires { first ≤ 0x10FFFF }
-    ensures taken { IfOk result (λ x. (ps : List Part) × (chars text.now ≡ parts_chars ps (chars x.1.now)) × AreParts IsSingle ps (chars x.1.now) × (x.0 ≡ units_of first ++ parts_units ps)) }
+    ensures taken { IfOk result (λ x. (ps : List Part) ×
+        (chars text.now ≡ parts_chars ps (chars x.1.now)) × AreParts IsSingle ps (chars x.1.now) × (x.0 ≡ units_of first ++ parts_units ps)) }
     ensures no_longer { IfOk result (λ x. length x.1.now ≤ length text.now) }
 {
     let mut units = UnitBuffer::new(alloc);

@@ -1,4 +1,4 @@
--- For proofs only: where the last underscore of a name stands.
+-- For proofs only: where the last underscore of a name is.
 use Rattle.std.specs.Prelude.{◌≡◌, ◌<◌, ◌+◌, ℕ, List, length, Option, Some, None, slice_index, false}
 use Rattle.rb_locales.specs.Locale.{is_underscore}
 

@@ -7,18 +7,18 @@ use Rattle.std.specs.Option.{option_zip}
 use Rattle.std.specs.List.{slice_split, list_all, join_with_byte, position_or_len}
 use Rattle.std.specs.Char.{is_ascii_alphabetic, is_ascii_alphanumeric, to_ascii_lowercase, to_ascii_uppercase}
 
--- what stands before the first `@`
+-- what comes before the first `@`
 abbrev pub is_at : ℕ → Bool
 is_at b = b == 64
 
 abbrev pub before_at : List ℕ → List ℕ
 before_at bs = take (position_or_len is_at bs) bs
 
--- the parts of a name stand between underscores, and `-` counts as one
+-- the parts of a name are between underscores, and `-` counts as one
 abbrev pub is_between : ℕ → Bool
 is_between b = b == 95 || b == 45
 
--- where a part stands
+-- the place of a part in its name
 pub data Place : Type 0 where
   first : Place
   second : Place
@@ -48,7 +48,7 @@ title (b ∷ bs) = to_ascii_uppercase b ∷ map to_ascii_lowercase bs
 abbrev pub subtag : List ℕ → Option (List ℕ)
 subtag p = if is_subtag p then Some (map to_ascii_uppercase p) else None
 
--- a part as it is written at its place, if it may stand there
+-- a part as it is written at its place, if it may be there
 abbrev pub part_at : Place → List ℕ → Option (List ℕ)
 part_at first p = if is_language p then Some (map to_ascii_lowercase p) else None
 part_at second p = if is_script p then Some (title p) else subtag p

@@ -1,4 +1,4 @@
--- For proofs only: a name and its fields. The bytes behind its end are zero, so the fields follow from it.
+-- For proofs only: a name and its fields. The bytes after its end are zero, so the fields follow from it.
 use Rattle.std.specs.Prelude.{◌≡◌, ℕ, ◌≤◌, ◌-◌, List, ◌++◌, length, take, drop, replicate, Some}
 use Rattle.std.proofs.Common.{arith, ◌∙◌, ap, take-append-drop, length-append}
 use Rattle.std.proofs.lemmas.List.{drop_at, drop-replicate, length-replicate, length-take-le}
@@ -6,13 +6,13 @@ use Rattle.rb_locales.specs.Locale.{written, first}
 use Rattle.rb_locales.specs.declared.limits.TheConstants.{NAME_LIMIT}
 use Rattle.rb_locales.specs.declared.name.Name.TheInside.{Inside}
 
--- the first len of so many bytes, and zeros behind them
+-- the first len of so many bytes, and zeros after them
 pub record IsPadded (most len : ℕ) (bytes : List ℕ) : Type 0 where
   pub fits : len ≤ most
   pub all : length bytes ≡ most
   pub rest : drop len bytes ≡ replicate (most - len) 0
 
--- the bytes with zeros behind them
+-- the bytes with zeros after them
 abbrev pub padded : ℕ → List ℕ → List ℕ
 padded most bs = bs ++ replicate (most - length bs) 0
 
@@ -22,7 +22,7 @@ padded-take most len bytes make h =
     let b : take len bytes ++ replicate (most - len) 0 ≡ bytes = rw (← h.rest) (take-append-drop len bytes) in
     ap (λ (k : ℕ). make (take len bytes ++ replicate (most - k) 0) k) l ∙ ap (λ (bs : List ℕ). make bs len) b
 
--- zeros behind the end, and a name that is canonical
+-- zeros after the end, and a name that is canonical
 pub record IsNameFields (n : Inside) : Type 0 where
   pub short : IsPadded NAME_LIMIT n.len n.bytes
   pub canonical : written first (take n.len n.bytes) ≡ Some (take n.len n.bytes)

@@ -1,4 +1,4 @@
--- The word of the fault, as programs print it.
+-- The word of the error, as programs print it.
 use Rattle.std.specs.Prelude.{ℕ, List, codes}
 
 abbrev pub bad_locale : List ℕ

@@ -5,7 +5,7 @@ ghost use Rattle.std.specs.Char.{is_ascii_alphabetic, is_ascii_alphanumeric};
 ghost use Rattle.rb_locales.specs.Locale.{is_between, next_place, part_at, written, title, subtag};
 ghost use Rattle.rb_locales.specs.Places.{place_of};
 
-// Where a part stands.
+// The place of a part in its name.
 #[derive(Clone, Copy)]
 pub(crate) enum Place {
     First,

@@ -6,8 +6,6 @@ mod fault;
 mod limits;
 mod name;
 mod order;
-#[cfg(test)]
-mod tests;
 mod units;
 
 pub use fault::BadLocale;

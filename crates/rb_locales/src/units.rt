@@ -11,7 +11,7 @@ use crate::limits::NAME_LIMIT;
 use crate::name::Name;
 use rb_tree::Node;
 
-// How many units stand before an `@`.
+// How many units come before an `@`.
 #[tactic(auto, using(crate::proofs::Narrowed::before_here, crate::proofs::Narrowed::before_none))]
 fn units_before_at<N: Node>(node: N, from: usize, past: usize) -> usize
     requires units { HasUnits (kind_of (N.tree node)) }

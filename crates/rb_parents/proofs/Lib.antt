@@ -1,3 +1,4 @@
 pub mod Shelves
 pub mod Trails
 pub mod Explicits
+pub mod ParentMaps

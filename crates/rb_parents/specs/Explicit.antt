@@ -1,4 +1,4 @@
--- The explicit parents that a tree gives, as the parent locales of UTS #35 (LDML) stand in ICU's
+-- The explicit parents that a tree gives, as the parent locales of UTS #35 (LDML) are in ICU's
 -- `supplementalData`: in the table at `parentLocales` each key is a parent, and its value names the
 -- parent's children, as an array of strings or as one string. Other entries of the tree say nothing.
 use Rattle.std.specs.Prelude.{ℕ, List, [], ◌∷◌, Option, Some, None, Result, Ok, Err, codes, is_some, if◌then◌else◌, nat_eq}
@@ -12,7 +12,7 @@ use Rattle.rb_parents.specs.Trail.{ParentsOf, text_of}
 use Rattle.rb_parents.specs.declared.fault.ParentsFault.{ParentsFault}
 use Rattle.rb_parents.specs.declared.fault.ParentsFault.TheVariants as fault
 
--- a map from children to parents, or the first fault that is met
+-- a map from children to parents, or the first error that is met
 abbrev pub Read : Type 0
 Read = Result ParentsOf ParentsFault
 

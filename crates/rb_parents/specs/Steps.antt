@@ -1,7 +1,7 @@
 -- For proofs only: what follows a name in the program, and a trail name by name.
 use Rattle.std.specs.Prelude.{◌≡◌, ℕ, zero, suc, List}
 use Rattle.std.proofs.Common.{refl, ap}
-use Rattle.rb_parents.specs.Trail.{Bundles, ParentsOf, Next, goes_to, end, bad, next, Trail, chain, begins, onward, trail_within}
+use Rattle.rb_parents.specs.Trail.{Bundles, ParentsOf, Next, goes_to, end, bad, next, chain, begins, onward, trail_within}
 use Rattle.rb_parents.specs.declared.route.Next as program
 use Rattle.rb_parents.specs.declared.route.Next.TheVariants as step
 

@@ -2,12 +2,11 @@
 #![tactic(auto)]
 
 mod fault;
+pub mod laws;
 mod limits;
 mod parents;
 mod route;
 mod shelf;
-#[cfg(test)]
-mod tests;
 
 pub use fault::{ParentsFault, TrailFault};
 pub use limits::TRAIL_LIMIT;

@@ -13,7 +13,7 @@ use rb_tree::{Kind, Node, Tree};
 use std::alloc::Global;
 use std::collections::BTreeMap;
 
-/// The explicit parents of names, which stand before shorter names on a trail.
+/// The explicit parents of names, which come before shorter names on a trail.
 #[derive(Drop)]
 pub struct Parents {
     by_child: BTreeMap<Name, Name>,
@@ -62,7 +62,7 @@ impl Parents {
     }
 }
 
-// The table of a tree in which explicit parents stand.
+// The table of a tree that has explicit parents.
 fn locales_table(tree: &Tree) -> Option<&Tree>
     ensures kind { IfSome result (λ t. kind_of (view_of t.now) ≡ Kinds.Table) }
     ensures entries { IfSome result (λ t. explicit (view_of tree.now) ≡ put_entries (pairs_of (view_of t.now)) no_parents) }

@@ -1,5 +1,5 @@
 -- Bodies, as the code reads them, and the tables of their entries.
-use Rattle.std.proofs.Common.{◌≡◌, ℕ, zero, suc, ◌<◌, ◌≤◌, ◌++◌, ◌||◌, Bool, true, false, cond, List, [], ◌∷◌, length, get_or, Option, Some, None, Result, Ok, Err, All, refl, sym, ap, ap₂, subst, ◌∙◌, arith, ◌⊎◌, inl, inr, nat_eq, map}
+use Rattle.std.proofs.Common.{◌≡◌, ℕ, zero, suc, ◌<◌, ◌++◌, ◌||◌, Bool, true, false, cond, List, [], ◌∷◌, length, get_or, Option, Some, Result, Ok, Err, All, refl, sym, ap, subst, ◌∙◌, arith, ◌⊎◌, inl, inr, nat_eq}
 use Rattle.std.specs.Map.{lookup}
 use Rattle.std.specs.Cmp.Lexicographic.{pointwise}
 use Rattle.std.proofs.lemmas.List.{map-append}
@@ -10,19 +10,19 @@ use Rattle.rb_lexer.specs.declared.fault.SourceKind.TheVariants.{TooDeep, Unexpe
 use Rattle.rb_lexer.specs.declared.fault.SourceFault.{SourceFault}
 use Rattle.rb_tree.specs.Resource as resource
 use Rattle.rb_tree.specs.Resource.{Resource, Members}
-use Rattle.rb_tree.specs.Keys.{IsKey, IsTable, pairs}
+use Rattle.rb_tree.specs.Keys.{IsKey, IsTable}
 use Rattle.rb_tree.specs.Table.{seen_pairs, keys_in, IsFirstRepeat, IsTableOf}
 use Rattle.rb_tree.specs.View.{view_of}
 use Rattle.rb_tree.specs.declared.tree.Tree.{Tree}
 use Rattle.rb_grammar.specs.Faults.{line_at}
 use Rattle.rb_grammar.specs.Form.{Leaf, string, alias, binary, int, ints, Body, plain, leaf, Entries, no_entries, entry, IsKeyOf}
-use Rattle.rb_grammar.specs.Good.{Spells, EachStands, item_at}
+use Rattle.rb_grammar.specs.Good.{EachStands, item_at}
 use Rattle.rb_grammar.specs.Reading.{Stop, stop, Read, ◌>>=◌, left, right, colon, begins, tail, punctuation_at, text_at, Word, string_type, alias_type, binary_type, int_type, ints_type, table_type, array_type, word_at, closed, maybe_at, anything, checked_at, numbers, Inner, typed_at, Guess, as_text, as_table, as_array, none_at, guess, untyped_at, body_at, body, entries}
 use Rattle.rb_lexer.specs.declared.fault.SourceKind.TheVariants.{BadInt, BadHex}
 use Rattle.rb_grammar.specs.Tests.{the_tests}
 use Rattle.rb_grammar.proofs.Sound.{AllPassed, entries_take}
 use Rattle.rb_grammar.proofs.SoundBody.{body_takes}
-use Rattle.rb_parser.specs.Reads.{located, Reads, inner_at, made, leaf_at, IsBodyTree, IsTableTree, AreEntries}
+use Rattle.rb_parser.specs.Reads.{located, Reads, inner_at, made, leaf_at, AreEntries}
 use Rattle.rb_parser.specs.Views.{guessed, word_of}
 use Rattle.rb_parser.specs.declared.cursor.Guess as program
 use Rattle.rb_parser.specs.declared.cursor.Guess.TheVariants.{Text}

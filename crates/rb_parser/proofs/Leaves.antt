@@ -1,5 +1,5 @@
 -- Texts of leaves, as the code reads them.
-use Rattle.std.proofs.Common.{◌≡◌, ℕ, ℤ, zero, suc, ◌<◌, ◌≤◌, ◌++◌, ◌-◌, Bool, true, false, cond, List, [], ◌∷◌, length, Option, Some, None, Result, Ok, Err, refl, sym, ap, ap₂, subst, ◌∙◌, append_assoc, arith, Vec, Global}
+use Rattle.std.proofs.Common.{◌≡◌, ℕ, ℤ, suc, ◌<◌, ◌++◌, ◌-◌, Bool, true, false, List, [], ◌∷◌, length, Option, Some, None, Ok, Err, refl, sym, ap, subst, ◌∙◌, append_assoc, arith, Vec, Global}
 use Rattle.std.specs.Prelude.{MatchOption}
 use Rattle.rb_lexer.specs.declared.token.Token.{Token}
 use Rattle.rb_lexer.specs.declared.fault.SourceKind.{SourceKind}
@@ -11,7 +11,7 @@ use Rattle.rb_grammar.specs.Numeral.{IsIntText, IsElementText, IsHexText}
 use Rattle.rb_tree.specs.Resource as resource
 use Rattle.rb_tree.specs.declared.tree.Tree.TheVariants.{String, Int, Ints, Binary, Alias}
 use Rattle.rb_grammar.specs.Form.{string, alias, binary, int, ints}
-use Rattle.rb_grammar.specs.Reading.{Word, anything, Stop, stop, Read, ◌>>=◌, tail, first_text, text_at, maybe_or, maybe_at, checked_at, has_comma, after_comma, numbers, numbers_step}
+use Rattle.rb_grammar.specs.Reading.{Word, anything, stop, Read, ◌>>=◌, tail, first_text, text_at, maybe_at, checked_at, has_comma, after_comma, numbers, numbers_step}
 use Rattle.rb_grammar.specs.Tests.{the_tests}
 use Rattle.rb_grammar.proofs.Conditions.{are_tests, told, untold}
 use Rattle.rb_parser.specs.Reads.{located, Reads, leaf_at, IsLeafTree, AreNumbers}

@@ -1,5 +1,5 @@
 -- The elements of an array, one after another, as the code reads them.
-use Rattle.std.proofs.Common.{◌≡◌, ℕ, zero, suc, ◌<◌, ◌≤◌, ◌++◌, ◌-◌, ◌||◌, Bool, true, false, cond, List, [], ◌∷◌, length, Option, Some, None, Result, Ok, Err, refl, sym, ap, ap₂, subst, ◌∙◌, arith, nat_lt}
+use Rattle.std.proofs.Common.{◌≡◌, ℕ, suc, ◌<◌, ◌++◌, ◌-◌, ◌||◌, Bool, true, false, List, [], ◌∷◌, length, Some, None, Ok, Err, refl, sym, ap, ◌∙◌, arith}
 use Rattle.rb_lexer.specs.declared.token.Token.{Token}
 use Rattle.rb_lexer.specs.declared.fault.SourceKind.TheVariants.{TooDeep}
 use Rattle.rb_lexer.specs.declared.fault.SourceFault.{SourceFault}
@@ -10,8 +10,8 @@ use Rattle.rb_tree.specs.declared.tree.Tree.{Tree}
 use Rattle.rb_tree.specs.declared.tree.Tree.TheVariants.{String}
 use Rattle.rb_grammar.specs.Faults.{line_at}
 use Rattle.rb_grammar.specs.Form.{Body, Elements, no_elements, one_text, one_body}
-use Rattle.rb_grammar.specs.Good.{Spells, EachSpells}
-use Rattle.rb_grammar.specs.Reading.{Stop, stop, Read, ◌>>=◌, left, right, colon, begins, tail, first_text, punctuation_at, has_comma, after_comma, elements_step, elements}
+use Rattle.rb_grammar.specs.Good.{EachSpells}
+use Rattle.rb_grammar.specs.Reading.{stop, Read, ◌>>=◌, left, right, colon, begins, tail, first_text, punctuation_at, has_comma, after_comma, elements_step, elements}
 use Rattle.rb_parser.specs.Reads.{located, IsBodyTree}
 use Rattle.rb_parser.proofs.Steps.{located_bind, stops_at}
 

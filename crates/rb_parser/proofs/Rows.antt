@@ -1,5 +1,5 @@
 -- The entries of a table, one after another, as the code reads them.
-use Rattle.std.proofs.Common.{◌≡◌, ℕ, zero, suc, ◌<◌, ◌≤◌, ◌++◌, ◌-◌, ◌||◌, Bool, true, false, not, cond, List, [], ◌∷◌, length, Option, Some, None, Result, Ok, Err, refl, sym, ap, ap₂, subst, ◌∙◌, arith, Vec, Global, nat_eq, Ordering, Less, Equal, Greater, nat_cmp}
+use Rattle.std.proofs.Common.{◌≡◌, ℕ, suc, ◌<◌, ◌++◌, ◌-◌, ◌||◌, Bool, true, false, not, List, [], ◌∷◌, length, Some, None, Ok, Err, refl, sym, ap, ap₂, ◌∙◌, arith, Vec, Global, nat_eq, Ordering, Less, Equal, Greater, nat_cmp}
 use Rattle.std.specs.Cmp.Lexicographic.{pointwise, slice_cmp}
 use Rattle.std.specs.List.{list_any}
 use Rattle.std.specs.Ordering.{match_ordering, is_eq}
@@ -13,11 +13,11 @@ use Rattle.rb_tree.specs.Keys.{IsKey}
 use Rattle.rb_tree.specs.declared.tree.Tree.{Tree}
 use Rattle.rb_grammar.specs.Faults.{line_at}
 use Rattle.rb_grammar.specs.Form.{Body, Entries, no_entries, entry}
-use Rattle.rb_grammar.specs.Reading.{Stop, stop, Read, ◌>>=◌, right, tail, first_text, punctuation_at, has_comma, after_comma, is_among, entry_at, entries_step, entries}
+use Rattle.rb_grammar.specs.Reading.{stop, Read, ◌>>=◌, right, tail, first_text, punctuation_at, has_comma, after_comma, is_among, entries_step, entries}
 use Rattle.rb_grammar.specs.Tests.{the_tests}
 use Rattle.rb_grammar.proofs.Conditions.{are_tests}
 use Rattle.rb_parser.specs.Reads.{located, IsBodyTree, AreEntries}
-use Rattle.rb_parser.proofs.Steps.{located_bind, fault_is, stops_at}
+use Rattle.rb_parser.proofs.Steps.{located_bind, stops_at}
 
 abbrev pub Pair : Type 0
 Pair = List ℕ × Tree

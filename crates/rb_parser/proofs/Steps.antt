@@ -1,9 +1,9 @@
 -- Steps of reading, as the code takes them.
-use Rattle.std.proofs.Common.{◌≡◌, ℕ, List, Option, Some, None, Result, Ok, Err, option_map, refl, sym, ap, ap₂, subst, ◌∙◌}
+use Rattle.std.proofs.Common.{◌≡◌, ℕ, List, Option, Some, None, Result, Ok, Err, option_map, refl, sym, ap, ap₂, ◌∙◌}
 use Rattle.rb_lexer.specs.declared.token.Token.{Token}
 use Rattle.rb_lexer.specs.declared.fault.SourceKind.{SourceKind}
 use Rattle.rb_lexer.specs.declared.fault.SourceFault.{SourceFault}
-use Rattle.rb_grammar.specs.Reading.{Stop, stop, Read, ◌>>=◌, tail, first_text, text_or, text_at, Word, first_word, all_words, word_or, word_at}
+use Rattle.rb_grammar.specs.Reading.{Stop, stop, ◌>>=◌, tail, first_text, text_or, text_at, Word, first_word, all_words, word_at}
 use Rattle.rb_grammar.specs.Faults.{line_at}
 use Rattle.rb_parser.specs.Reads.{located}
 use Rattle.rb_parser.specs.Views.{word_of}

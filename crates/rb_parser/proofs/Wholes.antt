@@ -1,9 +1,8 @@
 -- Whole sources.
-use Rattle.std.proofs.Common.{◌≡◌, ℕ, suc, ◌<◌, ◌≤◌, ◌-◌, Bool, true, false, cond, List, [], ◌∷◌, length, Some, None, Result, Ok, Err, refl, sym, ap, subst, ◌∙◌, arith, ◌⊎◌, inl, inr}
+use Rattle.std.proofs.Common.{◌≡◌, ℕ, suc, ◌<◌, ◌≤◌, List, [], ◌∷◌, length, Result, Ok, Err, refl, sym, ap, subst, ◌∙◌, arith, ◌⊎◌, inl, inr}
 use Rattle.std.proofs.lemmas.Bool.{cases_lt}
-use Rattle.std.specs.Prelude.{◌≢◌, MatchResult}
+use Rattle.std.specs.Prelude.{◌≢◌}
 use Rattle.rb_lexer.specs.declared.token.Token.{Token}
-use Rattle.rb_lexer.specs.declared.token.Mark.{Mark}
 use Rattle.rb_lexer.specs.declared.fault.SourceKind.{SourceKind}
 use Rattle.rb_lexer.specs.declared.fault.SourceKind.TheVariants.{TooLong, NotUtf8, BadEscape, OpenQuote, OpenComment, Unexpected, UnknownType, BadKey, DuplicateKey, BadInt, BadHex, TooDeep, TrailingText, TooLarge, Memory}
 use Rattle.rb_lexer.specs.declared.fault.SourceFault.{SourceFault}
@@ -15,12 +14,11 @@ use Rattle.rb_tree.specs.SourceTree.{SourceTree}
 use Rattle.rb_tree.specs.Parts.{Fits, kind_of}
 use Rattle.rb_tree.specs.declared.kind.Kind.TheVariants.{Table}
 use Rattle.rb_tree.specs.View.{view_of}
-use Rattle.rb_tree.specs.declared.tree.Tree.{Tree}
 use Rattle.rb_grammar.specs.Faults as grammar
 use Rattle.rb_grammar.specs.Faults.{line_at}
 use Rattle.rb_grammar.specs.Form.{marks, table, Entries, Head}
-use Rattle.rb_grammar.specs.Good.{IsSpelled, IsGood, Spells}
-use Rattle.rb_grammar.specs.Reading.{Stop, stop, Read, ◌>>=◌, left, punctuation_at, text_at, type_at, body, entries, table_at, ended, bundle}
+use Rattle.rb_grammar.specs.Good.{IsSpelled, IsGood}
+use Rattle.rb_grammar.specs.Reading.{Stop, Read, ◌>>=◌, left, punctuation_at, text_at, type_at, body, entries, table_at, ended, bundle}
 use Rattle.rb_grammar.specs.Tests.{the_tests}
 use Rattle.rb_grammar.proofs.Conditions.{are_tests}
 use Rattle.rb_grammar.proofs.Trees.{tree_one}

@@ -1,9 +1,8 @@
 -- For the contracts of this crate's own functions: that a function of the parser returns what the grammar's reading function gives.
-use Rattle.std.specs.Prelude.{◌≡◌, ◌≢◌, ℕ, ℤ, suc, Bool, List, [], ◌∷◌, length, Option, Result, Ok, Err, nat_lt}
+use Rattle.std.specs.Prelude.{◌≡◌, ◌≢◌, ℕ, ℤ, suc, Bool, List, [], ◌∷◌, length, Result, Ok, Err, nat_lt}
 use Rattle.rb_lexer.specs.declared.token.Token.{Token}
 use Rattle.rb_lexer.specs.declared.fault.SourceKind.TheVariants.{Unexpected, BadInt, BadHex, Memory}
 use Rattle.rb_lexer.specs.declared.fault.SourceFault.{SourceFault}
-use Rattle.rb_tree.specs.Resource.{Resource}
 use Rattle.rb_tree.specs.View.{view_of}
 use Rattle.rb_tree.specs.declared.tree.Tree.{Tree}
 use Rattle.rb_grammar.specs.Faults.{line_at}

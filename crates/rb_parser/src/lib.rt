@@ -7,8 +7,6 @@ pub mod laws;
 mod leaf;
 mod parser;
 mod source;
-#[cfg(test)]
-mod tests;
 mod word;
 
 pub use source::{Source, parse};

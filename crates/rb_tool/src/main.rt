@@ -1,15 +1,13 @@
-//! `resb`: compiles bundle texts, checks files, and serves look-ups.
+//! `resb`: compiles bundle texts, checks files, and serves lookups.
 #![tactic(auto)]
 
 mod command_line;
-mod compile;
-mod files;
-mod serve;
 #[cfg(test)]
 mod tests;
 
 use crate::command_line::commands;
 use clap::ArgMatches;
+use rb_commands::{check, compile, serve_input};
 use std::process::ExitCode;
 use std::rt::{Env, Files};
 use std::{env, io};
@@ -20,13 +18,13 @@ fn chosen<R: Files + AllocGlobal + Input + Print + Eprint>(
     matches: &ArgMatches<'_>,
 ) -> ExitCode {
     match matches.subcommand() {
-        Some(("compile", inner)) => compile::compile(
+        Some(("compile", inner)) => compile(
             rt,
             inner.get_str("IN").unwrap_or(""),
             inner.get_str("OUT").unwrap_or(""),
         ),
-        Some(("check", inner)) => compile::check(rt, inner.get_str("FILE").unwrap_or("")),
-        Some(("serve", _)) => serve::serve_input(rt),
+        Some(("check", inner)) => check(rt, inner.get_str("FILE").unwrap_or("")),
+        Some(("serve", _)) => serve_input(rt),
         _ => ExitCode::from(2),
     }
 }

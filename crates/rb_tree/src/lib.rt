@@ -11,8 +11,6 @@ mod node;
 mod order;
 mod path;
 mod table;
-#[cfg(test)]
-mod tests;
 mod tree;
 
 pub use ending::{Ending, walk};

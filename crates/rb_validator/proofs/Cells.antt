@@ -1,5 +1,6 @@
 -- Marks that are written, and what is kept.
-use Rattle.std.proofs.Common.{◌≡◌, ◌≢◌, ℕ, zero, suc, ◌+◌, ◌*◌, ◌/◌, ◌%◌, ◌<◌, ◌≤◌, Bool, true, false, cond, eqb, List, length, get_or, set, refl, sym, subst, ◌∙◌, arith, inl, inr, get_or-set_other, get_or-set_same}
+use Rattle.std.proofs.Common.{◌≡◌, ◌≢◌, ℕ, zero, suc, ◌+◌, ◌*◌, ◌/◌, ◌%◌, ◌<◌, ◌≤◌, Bool, true, false, cond, eqb, List, length, get_or, set, refl, sym, subst}
+use Rattle.std.proofs.Common.{◌∙◌, arith, inl, inr, get_or-set_other, get_or-set_same}
 use Rattle.std.proofs.lemmas.Bool.{cases_eq}
 use Rattle.std.proofs.lemmas.List.{length-set}
 use Rattle.rb_format.specs.declared.kind.ItemKind.{ItemKind}
@@ -97,16 +98,26 @@ set_kept cells p v n f l h = elim (cases_eq n p) [
 pub known_set : (cells : List ℕ) (p v w : ℕ) → v ≢ 0 → p < length cells → IsKnown cells w → IsKnown (set cells p v) w
 known_set cells p v w f l h = λ k e i q. set_kept cells p v (cell k (offset_of w)) f l (h k e i q)
 
-done_set : (y : Layout) (body cells : List ℕ) (p v : ℕ) (k : ItemKind) (o h : ℕ) → v ≢ 0 → p < length cells → IsDone y body cells k o h → IsDone y body (set cells p v) k o h
-done_set y body cells p v k o h f l d = record { tree = d.tree; level = d.level; is = d.is; high = d.high; known = λ i q. known_set cells p v _ f l (d.known i q) }
+done_set : (y : Layout) (body cells : List ℕ) (p v : ℕ) (k : ItemKind) (o h : ℕ) → v ≢ 0 → p < length cells → IsDone y body cells k o h
+    → IsDone y body (set cells p v) k o h
+done_set y body cells p v k o h f l d = record {
+  tree = d.tree;
+  level = d.level;
+  is = d.is;
+  high = d.high;
+  known =
+      λ i q. known_set cells p v _ f l (d.known i q);
+}
 
-pub keeps_set : (y : Layout) (body cells : List ℕ) (k : ItemKind) (o v : ℕ) → Keeps y body cells → has_children k ≡ true → cell k o < length cells → v ≢ 0 → (v ≢ 255 → IsDone y body (set cells (cell k o) v) k o v) → IsPlace body k o → Keeps y body (set cells (cell k o) v)
+pub keeps_set : (y : Layout) (body cells : List ℕ) (k : ItemKind) (o v : ℕ) → Keeps y body cells → has_children k ≡ true → cell k o < length cells → v ≢ 0
+    → (v ≢ 255 → IsDone y body (set cells (cell k o) v) k o v) → IsPlace body k o → Keeps y body (set cells (cell k o) v)
 keeps_set y body cells k o v keeps i l f done place = record {
   long = length-set cells (cell k o) v ∙ keeps.long;
   done = λ j p g m n. elim (cases_eq (cell j p) (cell k o)) [
     | inl q ↦
         let same = cell_is j k p o g i q in
-        let here : mark_at (set cells (cell k o) v) j p ≡ v = subst (λ (x : ℕ). get_or (set cells (cell k o) v) x 0 ≡ v) (sym q) (get_or-set_same cells (cell k o) v 0 l) in
+        let here : mark_at (set cells (cell k o) v) j p ≡ v = subst (λ (x : ℕ). get_or (set cells (cell k o) v) x 0 ≡ v) (sym q)
+        (get_or-set_same cells (cell k o) v 0 l) in
         let d = done (λ z. n (here ∙ z)) in
         rw (here, same.0, same.1) d
     | inr ne ↦
@@ -122,7 +133,8 @@ keeps_set y body cells k o v keeps i l f done place = record {
 }
 
 -- an entry as a whole: a cell is opened, others are written, and then its height
-pub follows_entry : (cells after : List ℕ) (p h : ℕ) → p < length cells → length after ≡ length cells → get_or cells p 0 ≡ 0 → h ≢ 255 → Follows (set cells p 255) after → Follows cells (set after p h)
+pub follows_entry : (cells after : List ℕ) (p h : ℕ) → p < length cells → length after ≡ length cells → get_or cells p 0 ≡ 0 → h ≢ 255
+    → Follows (set cells p 255) after → Follows cells (set after p h)
 follows_entry cells after p h l long fresh low f = record {
   stays = λ n m.
       let ne : n ≢ p = λ q. m (subst (λ (x : ℕ). get_or cells x 0 ≡ 0) (sym q) fresh) in

@@ -18,7 +18,8 @@ count_le P (suc n) c h = elim h [
 ]
 
 -- marked cells are counted where the marked ones are those with the property
-pub count_marked : (P : ℕ → Type 0) (cells : List ℕ) (n : ℕ) → ((i : ℕ) → get_or cells i 0 ≢ 0 → P i) → ((i : ℕ) → P i → get_or cells i 0 ≢ 0) → IsCount P n (marked cells n)
+pub count_marked : (P : ℕ → Type 0) (cells : List ℕ) (n : ℕ) → ((i : ℕ) → get_or cells i 0 ≢ 0 → P i) → ((i : ℕ) → P i → get_or cells i 0 ≢ 0)
+    → IsCount P n (marked cells n)
 count_marked P cells zero f g = refl
 count_marked P cells (suc n) f g = elim (cases_eq (get_or cells n 0) 0) [
   | inl z ↦ inr ((λ p. g n p z), rw (eq-eqb (get_or cells n 0) 0 z) (count_marked P cells n f g))
@@ -36,7 +37,8 @@ inner_count body Array o i h = refl
 inner_count body Ints o i h = absurd (omega arith)
 
 -- with no open cell, all items that some way leads to are known
-way_known : (y : Layout) (body cells : List ℕ) → Keeps y body cells → ((n : ℕ) → get_or cells n 0 ≢ 255) → IsKnown cells (word_at body 0) → (before : List ℕ) (item : ℕ) → IsWay body before item → IsKnown cells item
+way_known : (y : Layout) (body cells : List ℕ) → Keeps y body cells → ((n : ℕ) → get_or cells n 0 ≢ 255) → IsKnown cells (word_at body 0)
+    → (before : List ℕ) (item : ℕ) → IsWay body before item → IsKnown cells item
 way_known y body cells keeps closed root [] item e = subst (λ (x : ℕ). IsKnown cells x) (sym e) root
 way_known y body cells keeps closed root (b ∷ before) item w =
     let ch : IsChild body b item = w.0 in
@@ -45,14 +47,16 @@ way_known y body cells keeps closed root (b ∷ before) item w =
     let d = keeps.done ch.kind (offset_of b) inner (up ch.kind ch.is_kind inner ch.full) (closed (cell ch.kind (offset_of b))) in
     subst (λ (x : ℕ). IsKnown cells x) (sym ch.is) (d.known ch.i ch.counted)
 
-place_marked : (y : Layout) (body cells : List ℕ) → Keeps y body cells → ((n : ℕ) → get_or cells n 0 ≢ 255) → IsKnown cells (word_at body 0) → (k : ItemKind) (o : ℕ) → IsPlace body k o → mark_at cells k o ≢ 0
+place_marked : (y : Layout) (body cells : List ℕ) → Keeps y body cells → ((n : ℕ) → get_or cells n 0 ≢ 255) → IsKnown cells (word_at body 0)
+    → (k : ItemKind) (o : ℕ) → IsPlace body k o → mark_at cells k o ≢ 0
 place_marked y body cells keeps closed root k o p =
     let known = way_known y body cells keeps closed root p.before p.item p.way in
     let full : 0 < offset_of p.item = rw p.is_offset p.full in
     subst (λ (x : ℕ). mark_at cells k x ≢ 0) p.is_offset (known k p.is_kind p.inner full)
 
 -- the marks that are left are as many as there are places
-pub count_places : (y : Layout) (body cells : List ℕ) → Keeps y body cells → ((n : ℕ) → get_or cells n 0 ≢ 255) → IsKnown cells (word_at body 0) → IsCount (IsPlaceAt body) (3 * y.top) (marked cells (length cells))
+pub count_places : (y : Layout) (body cells : List ℕ) → Keeps y body cells → ((n : ℕ) → get_or cells n 0 ≢ 255) → IsKnown cells (word_at body 0)
+    → IsCount (IsPlaceAt body) (3 * y.top) (marked cells (length cells))
 count_places y body cells keeps closed root =
     rw keeps.long (count_marked (IsPlaceAt body) cells (3 * y.top)
     (λ i m. keeps.place (kind_at i) (i / 3) (kind_inner i) (subst (λ (x : ℕ). get_or cells x 0 ≢ 0) (sym (cell_at i)) m))

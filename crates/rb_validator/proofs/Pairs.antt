@@ -1,5 +1,6 @@
 -- Keys that are good, pair by pair.
-use Rattle.std.proofs.Common.{◌≡◌, ◌⊎◌, ℕ, zero, suc, ◌+◌, ◌-◌, ◌*◌, ◌<◌, ◌≤◌, Bool, true, false, cond, ltb, List, [], length, get_or, Option, Some, None, Result, Ok, Err, refl, sym, ap, subst, ◌∙◌, arith, inl, inr, set, get_or-set_other, get_or-set_same}
+use Rattle.std.proofs.Common.{◌≡◌, ◌⊎◌, ℕ, zero, suc, ◌+◌, ◌-◌, ◌<◌, ◌≤◌, Bool, true, false, cond, ltb, List, [], length, get_or, Option, Some, None}
+use Rattle.std.proofs.Common.{Result, Ok, Err, refl, sym, ap, subst, ◌∙◌, arith, inl, inr, set, get_or-set_other, get_or-set_same}
 use Rattle.std.specs.Ordering.{nat_cmp, is_lt}
 use Rattle.std.specs.Cmp.Lexicographic.{slice_cmp}
 use Rattle.std.proofs.lemmas.Bool.{lt-ltb, le-ltb, cases_eq}
@@ -7,12 +8,12 @@ use Rattle.std.proofs.lemmas.List.{get_or_past}
 use Rattle.rb_format.specs.declared.fault.FileFault.{FileFault}
 use Rattle.rb_format.specs.declared.fault.FileFault.TheVariants.{Key, KeyOrder}
 use Rattle.rb_format.specs.declared.layout.Layout.{Layout}
-use Rattle.rb_format.specs.Place.{key, half_at, word_at}
+use Rattle.rb_format.specs.Place.{key}
 use Rattle.rb_format.specs.FirstFault.{◌>>=◌, fault_of, key_or_fault, next_key, keys}
 use Rattle.rb_format.proofs.Faults.{keys_on, keys_stop, keys_end}
 use Rattle.rb_validator.specs.KnownKeys.{key_run, key_or_none, previous_key, last_key, IsGood, AreGood, IsPair, IsLinked, IsRedirected}
 use Rattle.rb_validator.specs.Ranks.{IsRanked, rank_at, previous_rank}
-use Rattle.rb_validator.proofs.Ranking.{nonempty, front, Climbs, IsRead, read_all, ranked_nodes, ranked_climbs, rank_none, rank_some, rank_order, stands}
+use Rattle.rb_validator.proofs.Ranking.{read_all, ranked_nodes, ranked_climbs, rank_none, rank_some, rank_order, placed}
 
 -- ---- one key
 
@@ -59,18 +60,21 @@ less_fault o last s e f = rw (e, f) refl
 more_fault : (o : Option (List ℕ)) (last s : List ℕ) → o ≡ Some s → is_lt (slice_cmp nat_cmp last s) ≡ false → Some KeyOrder ≡ fault_of (step_of o last)
 more_fault o last s e f = rw (e, f) refl
 
-pub ranked_none : (y : Layout) (body ranks last : List ℕ) (o : ℕ) → IsRanked (key_run y body) ranks → rank_at y ranks o < 2 → Some Key ≡ fault_of (next_key y body last o)
+pub ranked_none : (y : Layout) (body ranks last : List ℕ) (o : ℕ) → IsRanked (key_run y body) ranks → rank_at y ranks o < 2
+    → Some Key ≡ fault_of (next_key y body last o)
 ranked_none y body ranks last o r l =
-    let s = stands y body ranks o r.long in
+    let s = placed y body ranks o r.long in
     let read = read_all (key_run y body) ranks r.heads (ranked_nodes (key_run y body) ranks r) _ s.place refl in
     let rank = s.rank in
     let none = rank_none (key_run y body) ranks r.heads s.place _ read (omega arith) in
     rw (next_is y body last o) (none_fault (key y body o) last (s.read ∙ none))
 
-ranked_test : (y : Layout) (body ranks : List ℕ) (before : Option ℕ) (o : ℕ) → IsRanked (key_run y body) ranks → 2 ≤ rank_at y ranks o → (k : List ℕ) × (key y body o ≡ Some k) × (is_lt (slice_cmp nat_cmp (previous_key y body before) k) ≡ ltb (previous_rank y ranks before) (rank_at y ranks o))
+ranked_test : (y : Layout) (body ranks : List ℕ) (before : Option ℕ) (o : ℕ) → IsRanked (key_run y body) ranks → 2 ≤ rank_at y ranks o
+    → (k : List ℕ) × (key y body o ≡ Some k) × (is_lt (slice_cmp nat_cmp (previous_key y body before) k) ≡ ltb (previous_rank y ranks before)
+    (rank_at y ranks o))
 ranked_test y body ranks None o r l =
     let run = key_run y body in
-    let s = stands y body ranks o r.long in
+    let s = placed y body ranks o r.long in
     let read = read_all run ranks r.heads (ranked_nodes run ranks r) _ s.place refl in
     let rank = s.rank in
     let k = rank_some run ranks r.heads s.place _ read (omega arith) in
@@ -81,8 +85,8 @@ ranked_test y body ranks None o r l =
     (k.0, s.read ∙ k.1, order ∙ same)
 ranked_test y body ranks (Some j) o r l =
     let run = key_run y body in
-    let s = stands y body ranks o r.long in
-    let t = stands y body ranks j r.long in
+    let s = placed y body ranks o r.long in
+    let t = placed y body ranks j r.long in
     let read = read_all run ranks r.heads (ranked_nodes run ranks r) _ s.place refl in
     let before = read_all run ranks r.heads (ranked_nodes run ranks r) _ t.place refl in
     let rank = s.rank in
@@ -92,20 +96,23 @@ ranked_test y body ranks (Some j) o r l =
     let same : ltb (get_or ranks t.place 0) (get_or ranks s.place 0) ≡ ltb (rank_at y ranks j) (rank_at y ranks o) = cc in
     (k.0, s.read ∙ k.1, ap (λ (x : Option (List ℕ)). is_lt (slice_cmp nat_cmp (key_or_none x) k.0)) t.read ∙ order ∙ same)
 
-pub ranked_less : (y : Layout) (body ranks : List ℕ) (before : Option ℕ) (o : ℕ) → IsRanked (key_run y body) ranks → 2 ≤ rank_at y ranks o → previous_rank y ranks before < rank_at y ranks o → None ≡ fault_of (next_key y body (previous_key y body before) o)
+pub ranked_less : (y : Layout) (body ranks : List ℕ) (before : Option ℕ) (o : ℕ) → IsRanked (key_run y body) ranks → 2 ≤ rank_at y ranks o
+    → previous_rank y ranks before < rank_at y ranks o → None ≡ fault_of (next_key y body (previous_key y body before) o)
 ranked_less y body ranks before o r l h =
     let t = ranked_test y body ranks before o r l in
     rw (next_is y body (previous_key y body before) o) (less_fault (key y body o) (previous_key y body before) t.0 t.1 (t.2 ∙ lt-ltb _ _ h))
 
-pub ranked_more : (y : Layout) (body ranks : List ℕ) (before : Option ℕ) (o : ℕ) → IsRanked (key_run y body) ranks → 2 ≤ rank_at y ranks o → rank_at y ranks o ≤ previous_rank y ranks before → Some KeyOrder ≡ fault_of (next_key y body (previous_key y body before) o)
+pub ranked_more : (y : Layout) (body ranks : List ℕ) (before : Option ℕ) (o : ℕ) → IsRanked (key_run y body) ranks → 2 ≤ rank_at y ranks o
+    → rank_at y ranks o ≤ previous_rank y ranks before → Some KeyOrder ≡ fault_of (next_key y body (previous_key y body before) o)
 ranked_more y body ranks before o r l h =
     let t = ranked_test y body ranks before o r l in
     rw (next_is y body (previous_key y body before) o) (more_fault (key y body o) (previous_key y body before) t.0 t.1 (t.2 ∙ le-ltb _ _ h))
 
 -- ---- many keys
 
--- the fault of all keys is that of the keys behind the good ones
-good_from : (y : Layout) (body : List ℕ) (place : ℕ → ℕ) (n i : ℕ) → i ≤ n → AreGood y body place i → fault_of (keys y body place (last_key y body place i) i (n - i)) ≡ fault_of (keys y body place [] 0 n)
+-- the fault of all keys is that of the keys after the good ones
+good_from : (y : Layout) (body : List ℕ) (place : ℕ → ℕ) (n i : ℕ) → i ≤ n → AreGood y body place i
+    → fault_of (keys y body place (last_key y body place i) i (n - i)) ≡ fault_of (keys y body place [] 0 n)
 good_from y body place n zero l g = let e : n - 0 ≡ n = omega arith in rw e refl
 good_from y body place n (suc i) l g =
     let before = good_from y body place n i (omega arith) (λ j h. g j (omega arith)) in
@@ -117,32 +124,38 @@ good_all y body place n m l g =
     let e : n - n ≡ 0 = omega arith in
     keys_end y body place (last_key y body place n) n (n - n) _ e (good_from y body place n n (omega arith) (λ j h. g j (omega arith)))
 
-pub good_stop : (y : Layout) (body : List ℕ) (place : ℕ → ℕ) (n i : ℕ) (d : FileFault) → i < n → AreGood y body place i → next_key y body (last_key y body place i) (place i) ≡ Err d → fault_of (keys y body place [] 0 n) ≡ Some d
+pub good_stop : (y : Layout) (body : List ℕ) (place : ℕ → ℕ) (n i : ℕ) (d : FileFault) → i < n → AreGood y body place i
+    → next_key y body (last_key y body place i) (place i) ≡ Err d → fault_of (keys y body place [] 0 n) ≡ Some d
 good_stop y body place n i d l g e =
     let f : n - i ≡ suc (n - suc i) = omega arith in
     sym (keys_stop y body place (last_key y body place i) i (n - i) (n - suc i) d _ f e (good_from y body place n i (omega arith) g))
 
 -- ---- links
 
-pub pair_good : (y : Layout) (body : List ℕ) (offset place : ℕ → ℕ) (first : ℕ) → ((i : ℕ) → place i ≡ offset (first + i)) → (i : ℕ) → IsPair y body offset (first + i) → IsGood y body place (suc i)
+pub pair_good : (y : Layout) (body : List ℕ) (offset place : ℕ → ℕ) (first : ℕ) → ((i : ℕ) → place i ≡ offset (first + i)) → (i : ℕ)
+    → IsPair y body offset (first + i) → IsGood y body place (suc i)
 pair_good y body offset place first at i h =
     let e : first + suc i ≡ suc (first + i) = omega arith in
     let next : place (suc i) ≡ offset (suc (first + i)) = at (suc i) ∙ ap offset e in
     rw (next, at i) h
 
-pub good_pair : (y : Layout) (body : List ℕ) (offset place : ℕ → ℕ) (first : ℕ) → ((i : ℕ) → place i ≡ offset (first + i)) → (i : ℕ) → IsGood y body place (suc i) → IsPair y body offset (first + i)
+pub good_pair : (y : Layout) (body : List ℕ) (offset place : ℕ → ℕ) (first : ℕ) → ((i : ℕ) → place i ≡ offset (first + i)) → (i : ℕ)
+    → IsGood y body place (suc i) → IsPair y body offset (first + i)
 good_pair y body offset place first at i h =
     let e : first + suc i ≡ suc (first + i) = omega arith in
     let next : place (suc i) ≡ offset (suc (first + i)) = at (suc i) ∙ ap offset e in
     rw (sym next, sym (at i)) h
 
--- what a link says of the keys behind so many
-pub linked_good : (y : Layout) (body links : List ℕ) (offset place : ℕ → ℕ) (first m r : ℕ) → ((i : ℕ) → place i ≡ offset (first + i)) → IsLinked y body offset links → r ≡ get_or links (first + m) 0 - (first + m) → (i : ℕ) → suc m ≤ i → i < suc m + r → IsGood y body place i
+-- what a link says of the keys after so many
+pub linked_good : (y : Layout) (body links : List ℕ) (offset place : ℕ → ℕ) (first m r : ℕ) → ((i : ℕ) → place i ≡ offset (first + i))
+    → IsLinked y body offset links → r ≡ get_or links (first + m) 0 - (first + m) → (i : ℕ) → suc m ≤ i → i < suc m + r → IsGood y body place i
 linked_good y body links offset place first m r at h e zero a b = absurd (omega arith)
-linked_good y body links offset place first m r at h e (suc i) a b = pair_good y body offset place first at i (h (first + m) (first + i) (omega arith) (omega arith))
+linked_good y body links offset place first m r at h e (suc i) a b = pair_good y body offset place first at i
+    (h (first + m) (first + i) (omega arith) (omega arith))
 
 -- good keys as a link
-pub redirected_linked : (y : Layout) (body old new : List ℕ) (offset place : ℕ → ℕ) (first n : ℕ) → ((i : ℕ) → place i ≡ offset (first + i)) → IsLinked y body offset old → AreGood y body place n → ((p : ℕ) → IsRedirected old new first (first + (n - 1)) p) → IsLinked y body offset new
+pub redirected_linked : (y : Layout) (body old new : List ℕ) (offset place : ℕ → ℕ) (first n : ℕ) → ((i : ℕ) → place i ≡ offset (first + i))
+    → IsLinked y body offset old → AreGood y body place n → ((p : ℕ) → IsRedirected old new first (first + (n - 1)) p) → IsLinked y body offset new
 redirected_linked y body old new offset place first n at h g d p q a b = by (d p)
   where
     by : IsRedirected old new first (first + (n - 1)) p → IsPair y body offset q
@@ -152,7 +165,8 @@ redirected_linked y body old new offset place first n at h g d p q a b = by (d p
         let is : first + (q - first) ≡ q = omega arith in
         subst (IsPair y body offset) is (good_pair y body offset place first at (q - first) (g (suc (q - first)) (omega arith)))
 
-pub redirected_put : (old links : List ℕ) (first to place end : ℕ) → first ≤ place → end ≡ to → place < length links → ((p : ℕ) → IsRedirected old links first to p) → (p : ℕ) → IsRedirected old (set links place end) first to p
+pub redirected_put : (old links : List ℕ) (first to place end : ℕ) → first ≤ place → end ≡ to → place < length links
+    → ((p : ℕ) → IsRedirected old links first to p) → (p : ℕ) → IsRedirected old (set links place end) first to p
 redirected_put old links first to place end l is low d p = by (cases_eq p place) (d p)
   where
     by : ((p ≡ place) ⊎ (p ≡ place → ⊥)) → IsRedirected old links first to p → IsRedirected old (set links place end) first to p

@@ -24,14 +24,16 @@ trees_ok (Ok ts) h = refl
 trees_ok (Err e) h = absurd cc
 
 -- an array's items are within the top
-pub array_there : (y : Layout) (body : List ℕ) (child : ℕ → Result Resource FileFault) (o : ℕ) → IsOk (array_at y body child o) → (o + 1 + word_at body o ≤ y.top) × (array_at y body child o ≡ trees child (λ i. word_at body (o + 1 + i)) 0 (word_at body o))
+pub array_there : (y : Layout) (body : List ℕ) (child : ℕ → Result Resource FileFault) (o : ℕ) → IsOk (array_at y body child o)
+    → (o + 1 + word_at body o ≤ y.top) × (array_at y body child o ≡ trees child (λ i. word_at body (o + 1 + i)) 0 (word_at body o))
 unfolding array_at
 array_there y body child o h =
     let r = some_ok (array_at y body child o) h in
     let a = guard (ltb y.top (o + 1 + word_at body o)) faults.Length _ r.0 r.1 in
     (ltb-false _ _ a.0, r.1 ∙ sym a.1)
 
-pub array_trees : (y : Layout) (body : List ℕ) (child : ℕ → Result Resource FileFault) (o n : ℕ) → n ≡ word_at body o → IsOk (array_at y body child o) → IsOk (trees child (λ i. word_at body (o + 1 + i)) 0 n)
+pub array_trees : (y : Layout) (body : List ℕ) (child : ℕ → Result Resource FileFault) (o n : ℕ) → n ≡ word_at body o → IsOk (array_at y body child o)
+    → IsOk (trees child (λ i. word_at body (o + 1 + i)) 0 n)
 array_trees y body child o n e h =
     let r = some_ok (array_at y body child o) h in
     rw e (ok_from (trees child (λ i. word_at body (o + 1 + i)) 0 (word_at body o)) r.0 (sym (array_there y body child o h).1 ∙ r.1))
@@ -44,7 +46,8 @@ trees_len child item i (suc n) ts e =
     let b = bind_ok (trees child item (suc i) n) (λ us. Ok (tree_and a.0 us)) ts a.2 in
     ap (λ (x : Resources). length (items x)) (sym (ok_is (tree_and a.0 b.0) ts b.2)) ∙ ap suc (trees_len child item (suc i) n b.0 b.1)
 
-pub tree_there : (child : ℕ → Result Resource FileFault) (item : ℕ → ℕ) (i n : ℕ) (ts : Resources) (k : ℕ) → trees child item i n ≡ Ok ts → k < n → (t : Resource) × (child (item (i + k)) ≡ Ok t) × (slice_get (items ts) k ≡ Some t)
+pub tree_there : (child : ℕ → Result Resource FileFault) (item : ℕ → ℕ) (i n : ℕ) (ts : Resources) (k : ℕ) → trees child item i n ≡ Ok ts → k < n
+    → (t : Resource) × (child (item (i + k)) ≡ Ok t) × (slice_get (items ts) k ≡ Some t)
 unfolding trees
 tree_there child item i zero ts k e h = absurd (omega arith)
 tree_there child item i (suc n) ts zero e h =
@@ -72,7 +75,9 @@ item_stands child item n k h l =
     ok_from (child (item k)) r.0 (rw z at r.1)
 
 -- one more tree that was made, and all of them
-pub trees_more : (child : ℕ → Result Resource FileFault) (item : ℕ → ℕ) (n k : ℕ) (made : List Tree) (t : Tree) → IsOk (trees child item 0 n) → k < n → child (item k) ≡ Ok (view_of t) → map view_of made ≡ take k (items (trees_or (trees child item 0 n))) → map view_of (made ++ t ∷ []) ≡ take (k + 1) (items (trees_or (trees child item 0 n)))
+pub trees_more : (child : ℕ → Result Resource FileFault) (item : ℕ → ℕ) (n k : ℕ) (made : List Tree) (t : Tree) → IsOk (trees child item 0 n) → k < n
+    → child (item k) ≡ Ok (view_of t) → map view_of made ≡ take k (items (trees_or (trees child item 0 n)))
+    → map view_of (made ++ t ∷ []) ≡ take (k + 1) (items (trees_or (trees child item 0 n)))
 trees_more child item n k made t h l e p =
     let ts = trees_or (trees child item 0 n) in
     let r = tree_there child item 0 n ts k (trees_ok (trees child item 0 n) h) l in
@@ -89,7 +94,8 @@ views_from (t ∷ made) (tree_and u us) e =
     let rest : map view_of made ≡ items us = cc in
     rw (s, views_from made us rest) refl
 
-pub trees_made : (child : ℕ → Result Resource FileFault) (item : ℕ → ℕ) (n k : ℕ) (made : List Tree) → IsOk (trees child item 0 n) → n ≤ k → map view_of made ≡ take k (items (trees_or (trees child item 0 n))) → trees child item 0 n ≡ Ok (views_of made)
+pub trees_made : (child : ℕ → Result Resource FileFault) (item : ℕ → ℕ) (n k : ℕ) (made : List Tree) → IsOk (trees child item 0 n) → n ≤ k
+    → map view_of made ≡ take k (items (trees_or (trees child item 0 n))) → trees child item 0 n ≡ Ok (views_of made)
 trees_made child item n k made h l p =
     let ts = trees_or (trees child item 0 n) in
     let is = trees_ok (trees child item 0 n) h in

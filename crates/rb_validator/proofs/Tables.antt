@@ -1,5 +1,6 @@
 -- The entries of a table, place by place.
-use Rattle.std.proofs.Common.{◌≡◌, ℕ, zero, suc, ◌+◌, ◌-◌, ◌*◌, ◌/◌, ◌<◌, ◌≤◌, Bool, true, false, cond, ltb, List, [], ◌∷◌, ◌++◌, length, take, drop, get_or, position, Option, Some, None, Result, Ok, Err, refl, sym, ap, subst, ◌∙◌, arith}
+use Rattle.std.proofs.Common.{◌≡◌, ℕ, zero, suc, ◌+◌, ◌-◌, ◌*◌, ◌/◌, ◌<◌, ◌≤◌, Bool, true, false, cond, ltb, List, [], ◌∷◌, ◌++◌, length, take, drop, get_or}
+use Rattle.std.proofs.Common.{position, Option, Some, None, Result, Ok, Err, refl, sym, ap, subst, ◌∙◌, arith}
 use Rattle.std.proofs.lemmas.Bool.{ltb-false, ltb-true}
 use Rattle.std.proofs.lemmas.Bool.Decides.{nat_tests}
 use Rattle.std.proofs.lemmas.List.{map-append, take_all}
@@ -74,7 +75,8 @@ pub key_is_key : (y : Layout) (body : List ℕ) (k : ℕ) (q : List ℕ) → key
 unfolding key
 key_is_key y body k q e = by (ltb k (4 * (1 + y.indexes))) (ltb k (4 * y.keys_top)) e
   where
-    by : (a b : Bool) → cond {A = Option (List ℕ)} a None (cond b (key_before (take (4 * y.keys_top - k) (drop k body)) (position (λ x. x == 0) (take (4 * y.keys_top - k) (drop k body)))) None) ≡ Some q → IsKey q
+    by : (a b : Bool) → cond {A = Option (List ℕ)} a None (cond b (key_before (take (4 * y.keys_top - k) (drop k body))
+        (position (λ x. x == 0) (take (4 * y.keys_top - k) (drop k body)))) None) ≡ Some q → IsKey q
     by true b e = absurd cc
     by false true e = front_is_key (take (4 * y.keys_top - k) (drop k body)) (position (λ x. x == 0) (take (4 * y.keys_top - k) (drop k body))) q e
     by false false e = absurd cc
@@ -99,7 +101,8 @@ next_is y body last offset q e =
     there None r e = absurd cc
     there (Some k) r e = cc
 
-pub key_there : (y : Layout) (body : List ℕ) (place : ℕ → ℕ) (last : List ℕ) (i n : ℕ) (ks : List (List ℕ)) (k : ℕ) → keys y body place last i n ≡ Ok ks → k < n → (q : List ℕ) × (key y body (place (i + k)) ≡ Some q) × (slice_get ks k ≡ Some q)
+pub key_there : (y : Layout) (body : List ℕ) (place : ℕ → ℕ) (last : List ℕ) (i n : ℕ) (ks : List (List ℕ)) (k : ℕ) → keys y body place last i n ≡ Ok ks
+    → k < n → (q : List ℕ) × (key y body (place (i + k)) ≡ Some q) × (slice_get ks k ≡ Some q)
 unfolding keys
 key_there y body place last i zero ks k e h = absurd (omega arith)
 key_there y body place last i (suc n) ks zero e h =
@@ -132,7 +135,8 @@ above_more : (last k : List ℕ) (ks : List (List ℕ)) → Below last k → All
 above_more last k [] h a = tt
 above_more last k (q ∷ ks) h a = (nat_list_cmp_total.trans last k q h a.0, above_more last k ks h a.1)
 
-keys_above : (y : Layout) (body : List ℕ) (place : ℕ → ℕ) (last : List ℕ) (i n : ℕ) (ks : List (List ℕ)) → keys y body place last i n ≡ Ok ks → AllByRecursion (λ q. Below last q) ks
+keys_above : (y : Layout) (body : List ℕ) (place : ℕ → ℕ) (last : List ℕ) (i n : ℕ) (ks : List (List ℕ)) → keys y body place last i n ≡ Ok ks
+    → AllByRecursion (λ q. Below last q) ks
 unfolding keys
 keys_above y body place last i zero ks e = subst (AllByRecursion (λ q. Below last q)) (ok_is [] ks e) tt
 keys_above y body place last i (suc n) ks e =
@@ -141,13 +145,15 @@ keys_above y body place last i (suc n) ks e =
     let p = next_is y body last (place i) a.0 a.1 in
     subst (AllByRecursion (λ q. Below last q)) (ok_is (a.0 ∷ b.0) ks b.2) (p.1, above_more last a.0 b.0 p.1 (keys_above y body place a.0 (suc i) n b.0 b.1))
 
-keys_ascend : (y : Layout) (body : List ℕ) (place : ℕ → ℕ) (last : List ℕ) (i n : ℕ) (ks : List (List ℕ)) → keys y body place last i n ≡ Ok ks → IsStrictlySortedBy (slice_cmp nat_cmp) ks
+keys_ascend : (y : Layout) (body : List ℕ) (place : ℕ → ℕ) (last : List ℕ) (i n : ℕ) (ks : List (List ℕ)) → keys y body place last i n ≡ Ok ks
+    → IsStrictlySortedBy (slice_cmp nat_cmp) ks
 unfolding keys IsStrictlySortedBy
 keys_ascend y body place last i zero ks e = subst (IsStrictlySortedBy (slice_cmp nat_cmp)) (ok_is [] ks e) tt
 keys_ascend y body place last i (suc n) ks e =
     let a = bind_ok (next_key y body last (place i)) (λ k. keys y body place k (suc i) n >>= λ ks. Ok (k ∷ ks)) ks e in
     let b = bind_ok (keys y body place a.0 (suc i) n) (λ ks. Ok (a.0 ∷ ks)) ks a.2 in
-    subst (IsStrictlySortedBy (slice_cmp nat_cmp)) (ok_is (a.0 ∷ b.0) ks b.2) (keys_above y body place a.0 (suc i) n b.0 b.1, keys_ascend y body place a.0 (suc i) n b.0 b.1)
+    subst (IsStrictlySortedBy (slice_cmp nat_cmp)) (ok_is (a.0 ∷ b.0) ks b.2)
+    (keys_above y body place a.0 (suc i) n b.0 b.1, keys_ascend y body place a.0 (suc i) n b.0 b.1)
 
 -- keys that ascend are apart
 below_at : (k : List ℕ) (ks : List (List ℕ)) (i : ℕ) → AllByRecursion (λ q. Below k q) ks → i < length ks → Below k (get_or ks i [])
@@ -171,7 +177,8 @@ not_self a e = reversed (slice_cmp nat_cmp a a) e (nat_list_cmp_total.antisymm a
     reversed Greater e r = cc
 
 pub no_repeat : (ks : List (List ℕ)) (i : ℕ) → IsStrictlySortedBy (slice_cmp nat_cmp) ks → IsFirstRepeat ks i → ⊥
-no_repeat ks i s r = not_self (get_or ks i []) (subst (λ (k : List ℕ). Below k (get_or ks i [])) r.repeats.2 (ascend_at ks r.repeats.0 i s r.repeats.1 r.within))
+no_repeat ks i s r = not_self (get_or ks i []) (subst (λ (k : List ℕ). Below k (get_or ks i [])) r.repeats.2
+    (ascend_at ks r.repeats.0 i s r.repeats.1 r.within))
 
 -- ---- entries
 
@@ -183,15 +190,18 @@ entries_ok : (r : Result Members FileFault) → IsOk r → r ≡ Ok (entries_or 
 entries_ok (Ok es) h = refl
 entries_ok (Err e) h = absurd cc
 
-members_keys : (child : ℕ → Result Resource FileFault) (item : ℕ → ℕ) (i : ℕ) (ks : List (List ℕ)) (es : Members) → members child item i ks ≡ Ok es → keys_of (pairs es) ≡ ks
+members_keys : (child : ℕ → Result Resource FileFault) (item : ℕ → ℕ) (i : ℕ) (ks : List (List ℕ)) (es : Members) → members child item i ks ≡ Ok es
+    → keys_of (pairs es) ≡ ks
 unfolding members
 members_keys child item i [] es e = ap (λ (x : Members). keys_of (pairs x)) (sym (ok_is no_entries es e))
 members_keys child item i (k ∷ ks) es e =
     let a = bind_ok (child (item i)) (λ t. members child item (suc i) ks >>= λ us. Ok (entry_and k t us)) es e in
     let b = bind_ok (members child item (suc i) ks) (λ us. Ok (entry_and k a.0 us)) es a.2 in
-    ap (λ (x : Members). keys_of (pairs x)) (sym (ok_is (entry_and k a.0 b.0) es b.2)) ∙ ap (λ (x : List (List ℕ)). k ∷ x) (members_keys child item (suc i) ks b.0 b.1)
+    ap (λ (x : Members). keys_of (pairs x)) (sym (ok_is (entry_and k a.0 b.0) es b.2))
+    ∙ ap (λ (x : List (List ℕ)). k ∷ x) (members_keys child item (suc i) ks b.0 b.1)
 
-member_there : (child : ℕ → Result Resource FileFault) (item : ℕ → ℕ) (i : ℕ) (ks : List (List ℕ)) (es : Members) (j : ℕ) (q : List ℕ) → members child item i ks ≡ Ok es → slice_get ks j ≡ Some q → (t : Resource) × (child (item (i + j)) ≡ Ok t) × (slice_get (pairs es) j ≡ Some (q, t))
+member_there : (child : ℕ → Result Resource FileFault) (item : ℕ → ℕ) (i : ℕ) (ks : List (List ℕ)) (es : Members) (j : ℕ) (q : List ℕ)
+    → members child item i ks ≡ Ok es → slice_get ks j ≡ Some q → (t : Resource) × (child (item (i + j)) ≡ Ok t) × (slice_get (pairs es) j ≡ Some (q, t))
 unfolding members
 member_there child item i [] es j q e h = absurd cc
 member_there child item i (k ∷ ks) es zero q e h =
@@ -207,7 +217,9 @@ member_there child item i (k ∷ ks) es (suc j) q e h =
     let same : i + suc j ≡ suc i + j = omega arith in
     (r.0, rw same r.1, ap (λ (x : Members). slice_get (pairs x) (suc j)) (sym (ok_is (entry_and k a.0 b.0) es b.2)) ∙ r.2)
 
-entered_parts : (y : Layout) (body : List ℕ) (child : ℕ → Result Resource FileFault) (place : ℕ → ℕ) (from n : ℕ) (es : Members) → table_of y body child place from n ≡ Ok es → (ks : List (List ℕ)) × (from + n ≤ y.top) × (keys y body place [] 0 n ≡ Ok ks) × (members child (λ i. word_at body (from + i)) 0 ks ≡ Ok es)
+entered_parts : (y : Layout) (body : List ℕ) (child : ℕ → Result Resource FileFault) (place : ℕ → ℕ) (from n : ℕ) (es : Members)
+    → table_of y body child place from n ≡ Ok es → (ks : List (List ℕ)) × (from + n ≤ y.top) × (keys y body place [] 0 n ≡ Ok ks) × (members child
+    (λ i. word_at body (from + i)) 0 ks ≡ Ok es)
 unfolding table_of
 entered_parts y body child place from n es e =
     let a = guard (ltb y.top (from + n)) faults.Length _ es e in
@@ -222,23 +234,27 @@ pub record Entered (y : Layout) (body : List ℕ) (child : ℕ → Result Resour
   pub entries_read : members child (λ i. word_at body (from + i)) 0 ks ≡ Ok (entries_or (table_of y body child place from n))
   pub is : table_of y body child place from n ≡ Ok (entries_or (table_of y body child place from n))
 
-pub entered : (y : Layout) (body : List ℕ) (child : ℕ → Result Resource FileFault) (place : ℕ → ℕ) (from n : ℕ) → IsOk (table_of y body child place from n) → Entered y body child place from n
+pub entered : (y : Layout) (body : List ℕ) (child : ℕ → Result Resource FileFault) (place : ℕ → ℕ) (from n : ℕ) → IsOk (table_of y body child place from n)
+    → Entered y body child place from n
 entered y body child place from n h =
     let e = entries_ok (table_of y body child place from n) h in
     let p = entered_parts y body child place from n (entries_or (table_of y body child place from n)) e in
     record { fits = p.1; ks = p.0; keys_read = p.2; entries_read = p.3; is = e }
 
-pub entry_key_there : (y : Layout) (body : List ℕ) (child : ℕ → Result Resource FileFault) (place : ℕ → ℕ) (from n j : ℕ) → IsOk (table_of y body child place from n) → j < n → IsSome (key y body (place j))
+pub entry_key_there : (y : Layout) (body : List ℕ) (child : ℕ → Result Resource FileFault) (place : ℕ → ℕ) (from n j : ℕ)
+    → IsOk (table_of y body child place from n) → j < n → IsSome (key y body (place j))
 entry_key_there y body child place from n j h l =
     let p = entered y body child place from n h in
     let k = key_there y body place [] 0 n p.ks j p.keys_read l in
     let z : 0 + j ≡ j = omega arith in
     ap is_some (rw z at k.1)
 
-pub table_fits : (y : Layout) (body : List ℕ) (child : ℕ → Result Resource FileFault) (place : ℕ → ℕ) (from n : ℕ) → IsOk (table_of y body child place from n) → from + n ≤ y.top
+pub table_fits : (y : Layout) (body : List ℕ) (child : ℕ → Result Resource FileFault) (place : ℕ → ℕ) (from n : ℕ) → IsOk (table_of y body child place from n)
+    → from + n ≤ y.top
 table_fits y body child place from n h = (entered y body child place from n h).fits
 
-pub entry_stands : (y : Layout) (body : List ℕ) (child : ℕ → Result Resource FileFault) (place : ℕ → ℕ) (from n j : ℕ) → IsOk (table_of y body child place from n) → j < n → IsOk (child (word_at body (from + j)))
+pub entry_stands : (y : Layout) (body : List ℕ) (child : ℕ → Result Resource FileFault) (place : ℕ → ℕ) (from n j : ℕ)
+    → IsOk (table_of y body child place from n) → j < n → IsOk (child (word_at body (from + j)))
 entry_stands y body child place from n j h l =
     let p = entered y body child place from n h in
     let k = key_there y body place [] 0 n p.ks j p.keys_read l in
@@ -247,8 +263,11 @@ entry_stands y body child place from n j h l =
     ok_from (child (word_at body (from + j))) m.0 (rw z at m.1)
 
 -- one more entry that was made
-pub entries_more : (y : Layout) (body : List ℕ) (child : ℕ → Result Resource FileFault) (place : ℕ → ℕ) (from n j : ℕ) (made : List (List ℕ × Tree)) (q : List ℕ) (t : Tree) → IsOk (table_of y body child place from n) → j < n → key y body (place j) ≡ Some q → child (word_at body (from + j)) ≡ Ok (view_of t)
-    → seen_pairs made ≡ take j (pairs (entries_or (table_of y body child place from n))) → seen_pairs (made ++ (q, t) ∷ []) ≡ take (j + 1) (pairs (entries_or (table_of y body child place from n)))
+pub entries_more : (y : Layout) (body : List ℕ) (child : ℕ → Result Resource FileFault) (place : ℕ → ℕ) (from n j : ℕ) (made : List (List ℕ × Tree))
+    (q : List ℕ) (t : Tree) → IsOk (table_of y body child place from n) → j < n → key y body (place j) ≡ Some q
+    → child (word_at body (from + j)) ≡ Ok (view_of t)
+    → seen_pairs made ≡ take j (pairs (entries_or (table_of y body child place from n)))
+    → seen_pairs (made ++ (q, t) ∷ []) ≡ take (j + 1) (pairs (entries_or (table_of y body child place from n)))
 entries_more y body child place from n j made q t h l e f s =
     let p = entered y body child place from n h in
     let es = entries_or (table_of y body child place from n) in
@@ -270,14 +289,20 @@ pub record Made (y : Layout) (body : List ℕ) (child : ℕ → Result Resource 
   pub state : seen_pairs made ≡ pairs (entries_or (table_of y body child place from n))
   pub is : table_of y body child place from n ≡ Ok (entries_or (table_of y body child place from n))
 
-pub entries_made : (y : Layout) (body : List ℕ) (child : ℕ → Result Resource FileFault) (place : ℕ → ℕ) (from n j : ℕ) (made : List (List ℕ × Tree)) → IsOk (table_of y body child place from n) → n ≤ j → seen_pairs made ≡ take j (pairs (entries_or (table_of y body child place from n))) → Made y body child place from n made
+pub entries_made : (y : Layout) (body : List ℕ) (child : ℕ → Result Resource FileFault) (place : ℕ → ℕ) (from n j : ℕ) (made : List (List ℕ × Tree))
+    → IsOk (table_of y body child place from n) → n ≤ j → seen_pairs made ≡ take j (pairs (entries_or (table_of y body child place from n)))
+    → Made y body child place from n made
 entries_made y body child place from n j made h l s =
     let p = entered y body child place from n h in
     let es = entries_or (table_of y body child place from n) in
     let ks = members_keys child (λ i. word_at body (from + i)) 0 p.ks es p.entries_read in
     let all : take j (pairs es) ≡ pairs es = take_all j (pairs es) (omega (arith, pairs_len es p.ks ks, keys_count y body place [] 0 n p.ks p.keys_read)) in
     record {
-      ordered = record { keys_ok = subst (All IsKey) (sym ks) (keys_are y body place [] 0 n p.ks p.keys_read); ascend = subst (IsStrictlySortedBy (slice_cmp nat_cmp)) (sym ks) (keys_ascend y body place [] 0 n p.ks p.keys_read) };
+      ordered = record {
+        keys_ok = subst (All IsKey) (sym ks) (keys_are y body place [] 0 n p.ks p.keys_read);
+        ascend =
+            subst (IsStrictlySortedBy (slice_cmp nat_cmp)) (sym ks) (keys_ascend y body place [] 0 n p.ks p.keys_read);
+      };
       state = s ∙ all;
       is = p.is;
     }
@@ -294,17 +319,27 @@ keys_seen (p ∷ made) = ap (λ (ks : List (List ℕ)). p.0 ∷ ks) (keys_seen m
 made_keys : (made : List (List ℕ × Tree)) (es : Members) → seen_pairs made ≡ pairs es → keys_of (pairs es) ≡ keys_in made
 made_keys made es s = ap keys_of (sym s) ∙ keys_seen made
 
-pub made_are_keys : (y : Layout) (body : List ℕ) (child : ℕ → Result Resource FileFault) (place : ℕ → ℕ) (from n : ℕ) (made : List (List ℕ × Tree)) → Made y body child place from n made → All IsKey (keys_in made)
+pub made_are_keys : (y : Layout) (body : List ℕ) (child : ℕ → Result Resource FileFault) (place : ℕ → ℕ) (from n : ℕ) (made : List (List ℕ × Tree))
+    → Made y body child place from n made → All IsKey (keys_in made)
 made_are_keys y body child place from n made m = subst (All IsKey) (made_keys made (entries_or (table_of y body child place from n)) m.state) m.ordered.keys_ok
 
-pub made_apart : (y : Layout) (body : List ℕ) (child : ℕ → Result Resource FileFault) (place : ℕ → ℕ) (from n : ℕ) (made : List (List ℕ × Tree)) (i : ℕ) → Made y body child place from n made → IsFirstRepeat (keys_in made) i → ⊥
+pub made_apart : (y : Layout) (body : List ℕ) (child : ℕ → Result Resource FileFault) (place : ℕ → ℕ) (from n : ℕ) (made : List (List ℕ × Tree)) (i : ℕ)
+    → Made y body child place from n made → IsFirstRepeat (keys_in made) i → ⊥
 made_apart y body child place from n made i m r =
-    no_repeat (keys_in made) i (subst (IsStrictlySortedBy (slice_cmp nat_cmp)) (made_keys made (entries_or (table_of y body child place from n)) m.state) m.ordered.ascend) r
+    no_repeat (keys_in made) i (subst (IsStrictlySortedBy (slice_cmp nat_cmp))
+    (made_keys made (entries_or (table_of y body child place from n)) m.state) m.ordered.ascend) r
 
-pub made_table : (y : Layout) (body : List ℕ) (child : ℕ → Result Resource FileFault) (place : ℕ → ℕ) (from n : ℕ) (made : List (List ℕ × Tree)) (t : Tree) → Made y body child place from n made → IsTableOf (seen_pairs made) (view_of t) → result_map table (table_of y body child place from n) ≡ Ok (view_of t)
+pub made_table : (y : Layout) (body : List ℕ) (child : ℕ → Result Resource FileFault) (place : ℕ → ℕ) (from n : ℕ) (made : List (List ℕ × Tree)) (t : Tree)
+    → Made y body child place from n made → IsTableOf (seen_pairs made) (view_of t) → result_map table (table_of y body child place from n) ≡ Ok (view_of t)
 made_table y body child place from n made t m h =
     let es = entries_or (table_of y body child place from n) in
-    let same : IsTableOf (seen_pairs made) (table es) = record { entries = es; is = refl; ordered = m.ordered; same = λ k. ap (lookup (pointwise nat_eq k)) (sym m.state) } in
+    let same : IsTableOf (seen_pairs made) (table es) = record {
+      entries = es;
+      is = refl;
+      ordered = m.ordered;
+      same =
+          λ k. ap (lookup (pointwise nat_eq k)) (sym m.state);
+    } in
     let one : table es ≡ view_of t = one_table (seen_pairs made) (table es) (view_of t) same h in
     ap (result_map table) m.is ∙ ap Ok one
 
@@ -314,18 +349,23 @@ pub is_in_less : (body : List ℕ) (p : KeyPlaces) (n m : ℕ) → IsIn body p n
 is_in_less body (Halves f) n m h l = omega arith
 is_in_less body (Words f) n m h l = omega arith
 
-pub short_entries : (y : Layout) (body : List ℕ) (child : ℕ → Result Resource FileFault) (o n : ℕ) → n ≡ half_at body (2 * o) → IsOk (table16_at y body child o) → IsOk (table_of y body child (key_offset body (Halves (2 * o + 1))) (o + (n + 2) / 2) n)
+pub short_entries : (y : Layout) (body : List ℕ) (child : ℕ → Result Resource FileFault) (o n : ℕ) → n ≡ half_at body (2 * o)
+    → IsOk (table16_at y body child o) → IsOk (table_of y body child (key_offset body (Halves (2 * o + 1))) (o + (n + 2) / 2) n)
 unfolding table16_at
 short_entries y body child o n e h = rw e h
 
-pub short_table : (y : Layout) (body : List ℕ) (child : ℕ → Result Resource FileFault) (o n : ℕ) (t : Resource) → n ≡ half_at body (2 * o) → result_map table (table_of y body child (key_offset body (Halves (2 * o + 1))) (o + (n + 2) / 2) n) ≡ Ok t → result_map table (table16_at y body child o) ≡ Ok t
+pub short_table : (y : Layout) (body : List ℕ) (child : ℕ → Result Resource FileFault) (o n : ℕ) (t : Resource) → n ≡ half_at body (2 * o)
+    → result_map table (table_of y body child (key_offset body (Halves (2 * o + 1))) (o + (n + 2) / 2) n) ≡ Ok t
+    → result_map table (table16_at y body child o) ≡ Ok t
 unfolding table16_at
 short_table y body child o n t e h = rw e at h
 
-pub long_entries : (y : Layout) (body : List ℕ) (child : ℕ → Result Resource FileFault) (o n : ℕ) → n ≡ word_at body o → IsOk (table32_at y body child o) → IsOk (table_of y body child (key_offset body (Words (o + 1))) (o + 1 + n) n)
+pub long_entries : (y : Layout) (body : List ℕ) (child : ℕ → Result Resource FileFault) (o n : ℕ) → n ≡ word_at body o → IsOk (table32_at y body child o)
+    → IsOk (table_of y body child (key_offset body (Words (o + 1))) (o + 1 + n) n)
 unfolding table32_at
 long_entries y body child o n e h = rw e h
 
-pub long_table_is : (y : Layout) (body : List ℕ) (child : ℕ → Result Resource FileFault) (o n : ℕ) (t : Resource) → n ≡ word_at body o → result_map table (table_of y body child (key_offset body (Words (o + 1))) (o + 1 + n) n) ≡ Ok t → result_map table (table32_at y body child o) ≡ Ok t
+pub long_table_is : (y : Layout) (body : List ℕ) (child : ℕ → Result Resource FileFault) (o n : ℕ) (t : Resource) → n ≡ word_at body o
+    → result_map table (table_of y body child (key_offset body (Words (o + 1))) (o + 1 + n) n) ≡ Ok t → result_map table (table32_at y body child o) ≡ Ok t
 unfolding table32_at
 long_table_is y body child o n t e h = rw e at h

@@ -1,5 +1,6 @@
 -- Items on the way: what an item's level says of its data, and what an open pair says of what is met below it.
-use Rattle.std.proofs.Common.{◌≡◌, ℕ, zero, suc, ◌+◌, ◌<◌, ◌≤◌, Bool, true, false, cond, leb, List, ◌∷◌, length, set, Some, Result, Ok, Err, refl, sym, ap, subst, ◌∙◌, arith, inl, inr, get_or-set_other}
+use Rattle.std.proofs.Common.{◌≡◌, ℕ, zero, suc, ◌+◌, ◌<◌, ◌≤◌, Bool, true, false, cond, leb, List, ◌∷◌, length, set, Some, Result, Ok, Err, refl, sym, ap}
+use Rattle.std.proofs.Common.{subst, ◌∙◌, arith, inl, inr, get_or-set_other}
 use Rattle.std.proofs.lemmas.Bool.{cases_eq}
 use Rattle.rb_tree.specs.Resource.{Resource, Resources, tree_and, height}
 use Rattle.rb_format.specs.declared.fault.FileFault.{FileFault}
@@ -25,31 +26,38 @@ unfolding read
 read_none y body item = refl
 
 -- an item with data, one level above its children
-pub read_data_of : (y : Layout) (body : List ℕ) (d item : ℕ) (k : ItemKind) → kind_of item ≡ Some k → within y k (offset_of item) ≡ Ok true → read y body (suc d) item ≡ contents y body (λ w. read y body d w) (offset_of item) k
+pub read_data_of : (y : Layout) (body : List ℕ) (d item : ℕ) (k : ItemKind) → kind_of item ≡ Some k → within y k (offset_of item) ≡ Ok true
+    → read y body (suc d) item ≡ contents y body (λ w. read y body d w) (offset_of item) k
 unfolding read node
 read_data_of y body d item k e h =
     then_ok (kind_or_fault (kind_of item)) k (λ j. value y body (λ w. read y body d w) (offset_of item) j) (ap kind_or_fault e)
     ∙ value_there y body (λ w. read y body d w) (offset_of item) k true h refl
 
-limited_height : (b : Bool) (t : Resource) (h : ℕ) → height t ≡ h → result_map height (cond {A = Result Resource FileFault} b (Ok t) (Err TooDeep)) ≡ cond b (Ok h) (Err TooDeep)
+limited_height : (b : Bool) (t : Resource) (h : ℕ) → height t ≡ h → result_map height (cond {A = Result Resource FileFault} b (Ok t) (Err TooDeep)) ≡ cond b
+    (Ok h) (Err TooDeep)
 limited_height true t h e = ap Ok e
 limited_height false t h e = refl
 
 -- a pair that is finished stands for its tree wherever its height fits
-pub met_again : (y : Layout) (body cells : List ℕ) (left item h : ℕ) (k : ItemKind) → kind_of item ≡ Some k → within y k (offset_of item) ≡ Ok true → IsDone y body cells k (offset_of item) h
+pub met_again : (y : Layout) (body cells : List ℕ) (left item h : ℕ) (k : ItemKind) → kind_of item ≡ Some k → within y k (offset_of item) ≡ Ok true
+    → IsDone y body cells k (offset_of item) h
     → result_map height (contents y body (λ w. read y body left w) (offset_of item) k) ≡ limited (suc left) h h
 met_again y body cells left item h k e w d =
     let first : read y body (suc d.level) item ≡ Ok d.tree = read_data_of y body d.level item k e w ∙ d.is in
     let again = read-limited y body (suc d.level) (suc left) item d.tree first in
-    let same : contents y body (λ w. read y body left w) (offset_of item) k ≡ limited (suc left) (height d.tree) d.tree = sym (read_data_of y body left item k e w) ∙ again in
-    ap (result_map height) same ∙ limited_height (leb (height d.tree) (suc left)) d.tree h d.high ∙ ap (λ (x : ℕ). cond {A = Result ℕ FileFault} (leb x (suc left)) (Ok h) (Err TooDeep)) d.high
+    let same : contents y body (λ w. read y body left w) (offset_of item) k ≡ limited (suc left) (height d.tree) d.tree =
+    sym (read_data_of y body left item k e w) ∙ again in
+    ap (result_map height) same ∙ limited_height (leb (height d.tree) (suc left)) d.tree h d.high
+    ∙ ap (λ (x : ℕ). cond {A = Result ℕ FileFault} (leb x (suc left)) (Ok h) (Err TooDeep)) d.high
 
 -- ---- ways
 
-pub met_child : (body : List ℕ) (item : ℕ) (k : ItemKind) (i : ℕ) → IsMet body item → kind_of item ≡ Some k → 0 < offset_of item → i < child_count body k (offset_of item) → IsMet body (word_at body (first_child body k (offset_of item) + i))
+pub met_child : (body : List ℕ) (item : ℕ) (k : ItemKind) (i : ℕ) → IsMet body item → kind_of item ≡ Some k → 0 < offset_of item
+    → i < child_count body k (offset_of item) → IsMet body (word_at body (first_child body k (offset_of item) + i))
 met_child body item k i m e f l = record { before = item ∷ m.before; way = (record { kind = k; i = i; is_kind = e; full = f; counted = l; is = refl }, m.way) }
 
-pub met_place : (body : List ℕ) (item : ℕ) (k : ItemKind) → IsMet body item → kind_of item ≡ Some k → 0 < offset_of item → has_children k ≡ true → IsPlace body k (offset_of item)
+pub met_place : (body : List ℕ) (item : ℕ) (k : ItemKind) → IsMet body item → kind_of item ≡ Some k → 0 < offset_of item → has_children k ≡ true
+    → IsPlace body k (offset_of item)
 met_place body item k m e f h = record { before = m.before; item = item; way = m.way; is_kind = e; is_offset = refl; full = f; inner = h }
 
 -- ---- open pairs
@@ -64,7 +72,9 @@ abbrev ItemsDeep : Layout → List ℕ → (ℕ → ℕ) → ℕ → ℕ → ℕ
 ItemsDeep y body item i n e = trees (λ w. read y body e w) item i n ≡ Err TooDeep
 
 -- a pair that is met below itself is too deep at every level
-cycle_below : (y : Layout) (body cells : List ℕ) (item : ℕ) (k : ItemKind) → Leads y body cells (ItemDeep y body item) → kind_of item ≡ Some k → within y k (offset_of item) ≡ Ok true → has_children k ≡ true → mark_at cells k (offset_of item) ≡ 255 → (n e : ℕ) → e < n → contents y body (λ w. read y body e w) (offset_of item) k ≡ Err TooDeep
+cycle_below : (y : Layout) (body cells : List ℕ) (item : ℕ) (k : ItemKind) → Leads y body cells (ItemDeep y body item) → kind_of item ≡ Some k
+    → within y k (offset_of item) ≡ Ok true → has_children k ≡ true → mark_at cells k (offset_of item) ≡ 255 → (n e : ℕ) → e < n
+    → contents y body (λ w. read y body e w) (offset_of item) k ≡ Err TooDeep
 cycle_below y body cells item k l s w h m zero e p = absurd (omega arith)
 cycle_below y body cells item k l s w h m (suc n) e p =
     let a = l.at k (offset_of item) h m e in
@@ -75,11 +85,15 @@ cycle_below y body cells item k l s w h m (suc n) e p =
     deep zero q f = read_none y body item
     deep (suc d) q f = read_data_of y body d item k s w ∙ f d q
 
-pub cycle_deep : (y : Layout) (body cells : List ℕ) (left item : ℕ) (k : ItemKind) → Leads y body cells (λ e. read y body e item ≡ Err TooDeep) → kind_of item ≡ Some k → within y k (offset_of item) ≡ Ok true → has_children k ≡ true → mark_at cells k (offset_of item) ≡ 255 → contents y body (λ w. read y body left w) (offset_of item) k ≡ Err TooDeep
+pub cycle_deep : (y : Layout) (body cells : List ℕ) (left item : ℕ) (k : ItemKind) → Leads y body cells (λ e. read y body e item ≡ Err TooDeep)
+    → kind_of item ≡ Some k → within y k (offset_of item) ≡ Ok true → has_children k ≡ true → mark_at cells k (offset_of item) ≡ 255
+    → contents y body (λ w. read y body left w) (offset_of item) k ≡ Err TooDeep
 cycle_deep y body cells left item k l s w h m = cycle_below y body cells item k l s w h m (suc left) left (omega arith)
 
 -- from an item to its children, when its own pair is opened
-pub leads_children : (y : Layout) (body cells : List ℕ) (item : ℕ) (k : ItemKind) (c : Children) → Leads y body cells (λ e. read y body e item ≡ Err TooDeep) → kind_of item ≡ Some k → within y k (offset_of item) ≡ Ok true → has_children k ≡ true → cell k (offset_of item) < length cells → children_at y body k (offset_of item) ≡ Ok c
+pub leads_children : (y : Layout) (body cells : List ℕ) (item : ℕ) (k : ItemKind) (c : Children) → Leads y body cells (λ e. read y body e item ≡ Err TooDeep)
+    → kind_of item ≡ Some k → within y k (offset_of item) ≡ Ok true → has_children k ≡ true → cell k (offset_of item) < length cells
+    → children_at y body k (offset_of item) ≡ Ok c
     → Leads y body (set cells (cell k (offset_of item)) 255) (λ e. trees (λ w. read y body e w) (λ i. word_at body (c.first + i)) 0 c.count ≡ Err TooDeep)
 leads_children y body cells item k c l s w h inside there = record {
   at = λ j o g m e. elim (cases_eq (cell j o) (cell k (offset_of item))) [
@@ -93,26 +107,38 @@ leads_children y body cells item k c l s w h inside there = record {
   ];
 }
   where
-    down : (j : ItemKind) (o e d : ℕ) → d ≤ e → (ItemDeep y body item d → contents y body (λ w. read y body e w) o j ≡ Err TooDeep) → (d : ℕ) × (d ≤ e) × (ItemsDeep y body (λ i. word_at body (c.first + i)) 0 c.count d → contents y body (λ w. read y body e w) o j ≡ Err TooDeep)
+    down : (j : ItemKind) (o e d : ℕ) → d ≤ e → (ItemDeep y body item d → contents y body (λ w. read y body e w) o j ≡ Err TooDeep)
+        → (d : ℕ) × (d ≤ e) × (ItemsDeep y body (λ i. word_at body (c.first + i)) 0 c.count d → contents y body (λ w. read y body e w) o j ≡ Err TooDeep)
     down j o e zero p f = (0, p, λ q. f (read_none y body item))
-    down j o e (suc d) p f = (d, omega arith, λ q. f (read_data_of y body d item k s w ∙ children_fault y body (λ w. read y body d w) k (offset_of item) c TooDeep h there q))
+    down j o e (suc d) p f = (
+      d,
+      omega arith,
+      λ q. f (read_data_of y body d item k s w
+          ∙ children_fault y body (λ w. read y body d w) k (offset_of item) c TooDeep h there q),
+    )
 
 first_err : {A B : Type 0} (r : Result A FileFault) (f : A → Result B FileFault) (d : FileFault) → r ≡ Err d → (r >>= f) ≡ Err d
 first_err (Ok x) f d e = absurd cc
 first_err (Err c) f d e = cc
 
 -- from several items to the first of them
-pub leads_first : (y : Layout) (body cells : List ℕ) (item : ℕ → ℕ) (i n m : ℕ) → n ≡ suc m → Leads y body cells (λ e. trees (λ w. read y body e w) item i n ≡ Err TooDeep) → Leads y body cells (λ e. read y body e (item i) ≡ Err TooDeep)
+pub leads_first : (y : Layout) (body cells : List ℕ) (item : ℕ → ℕ) (i n m : ℕ) → n ≡ suc m
+    → Leads y body cells (λ e. trees (λ w. read y body e w) item i n ≡ Err TooDeep) → Leads y body cells (λ e. read y body e (item i) ≡ Err TooDeep)
 unfolding trees
 leads_first y body cells item i n m e l =
-    leads_map y body cells _ _ (λ d q. rw e (first_err (read y body d (item i)) (λ t. trees (λ w. read y body d w) item (suc i) m >>= λ ts. Ok (tree_and t ts)) TooDeep q)) l
+    leads_map y body cells _ _ (λ d q. rw e (first_err (read y body d (item i))
+    (λ t. trees (λ w. read y body d w) item (suc i) m >>= λ ts. Ok (tree_and t ts)) TooDeep q)) l
 
-later_deep : (b : Bool) (t : Resource) (r : Result Resources FileFault) → r ≡ Err TooDeep → (cond {A = Result Resource FileFault} b (Ok t) (Err TooDeep) >>= λ u. r >>= λ ts. Ok (tree_and u ts)) ≡ Err TooDeep
+later_deep : (b : Bool) (t : Resource) (r : Result Resources FileFault) → r ≡ Err TooDeep
+    → (cond {A = Result Resource FileFault} b (Ok t) (Err TooDeep) >>= λ u. r >>= λ ts. Ok (tree_and u ts)) ≡ Err TooDeep
 later_deep true t r e = first_err r _ TooDeep e
 later_deep false t r e = refl
 
 -- past an item that stands for a tree
-pub leads_next : (y : Layout) (body cells : List ℕ) (left : ℕ) (item : ℕ → ℕ) (i n j m : ℕ) (t : Resource) → n ≡ suc m → j ≡ suc i → read y body left (item i) ≡ Ok t → Leads y body cells (λ e. trees (λ w. read y body e w) item i n ≡ Err TooDeep) → Leads y body cells (λ e. trees (λ w. read y body e w) item j m ≡ Err TooDeep)
+pub leads_next : (y : Layout) (body cells : List ℕ) (left : ℕ) (item : ℕ → ℕ) (i n j m : ℕ) (t : Resource) → n ≡ suc m → j ≡ suc i
+    → read y body left (item i) ≡ Ok t → Leads y body cells (λ e. trees (λ w. read y body e w) item i n ≡ Err TooDeep)
+    → Leads y body cells (λ e. trees (λ w. read y body e w) item j m ≡ Err TooDeep)
 unfolding trees
 leads_next y body cells left item i n j m t e f g l =
-    leads_map y body cells _ _ (λ d q. rw (e, read-limited y body left d (item i) t g) (later_deep (leb (height t) d) t _ (subst (λ (x : ℕ). trees (λ w. read y body d w) item x m ≡ Err TooDeep) f q))) l
+    leads_map y body cells _ _ (λ d q. rw (e, read-limited y body left d (item i) t g)
+    (later_deep (leb (height t) d) t _ (subst (λ (x : ℕ). trees (λ w. read y body d w) item x m ≡ Err TooDeep) f q))) l

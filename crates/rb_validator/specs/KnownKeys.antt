@@ -1,12 +1,10 @@
 -- For proofs only: what is known of the keys of a file.
-use Rattle.std.specs.Prelude.{◌≡◌, ◌⊎◌, ℕ, zero, suc, ◌+◌, ◌-◌, ◌*◌, ◌≤◌, ◌<◌, List, [], length, take, drop, slice_index, Option, None, Some, Result, Ok, Err, IfSome}
+use Rattle.std.specs.Prelude.{◌≡◌, ◌⊎◌, ℕ, zero, suc, ◌+◌, ◌-◌, ◌*◌, ◌≤◌, ◌<◌, List, [], take, drop, slice_index, Option, None, Some, Ok}
+use Rattle.std.specs.Prelude.{IfSome}
 use Rattle.rb_format.specs.declared.layout.Layout.{Layout}
 use Rattle.rb_format.specs.Place.{word_at, half_at, key}
 use Rattle.rb_format.specs.FirstFault.{next_key}
-use Rattle.rb_validator.specs.declared.keys.KeyPlaces.{KeyPlaces}
-use Rattle.rb_validator.specs.declared.keys.KeyPlaces.TheVariants.{Halves, Words}
 use Rattle.rb_validator.specs.declared.known_keys.KnownKeys.{KnownKeys}
-use Rattle.rb_validator.specs.Places.{key_offset}
 use Rattle.rb_validator.specs.Ranks.{IsRanked}
 
 -- the bytes of the keys

@@ -1,5 +1,6 @@
 -- For proofs only: what the memo of an acceptance keeps.
-use Rattle.std.specs.Prelude.{◌≡◌, ◌≢◌, true, ℕ, zero, suc, ◌+◌, ◌*◌, ◌/◌, ◌≤◌, ◌<◌, ◌==◌, if◌then◌else◌, nat_lt, List, [], length, slice_index, Some, Result, Ok, Err, All}
+use Rattle.std.specs.Prelude.{◌≡◌, ◌≢◌, true, ℕ, zero, suc, ◌+◌, ◌*◌, ◌/◌, ◌≤◌, ◌<◌, ◌==◌, if◌then◌else◌, nat_lt, List, [], length, slice_index, Some, Result}
+use Rattle.std.specs.Prelude.{Ok, Err, All}
 use Rattle.rb_tree.specs.Resource.{Resource, Resources, height, trees_height}
 use Rattle.rb_format.specs.declared.layout.Layout.{Layout}
 use Rattle.rb_format.specs.declared.kind.ItemKind.{ItemKind}
@@ -18,7 +19,8 @@ use Rattle.rb_validator.specs.Visits.{has_children, child_count, first_child, Is
 -- ---- the items of a table or an array
 
 abbrev pub table_children : Layout → List ℕ → (ℕ → ℕ) → ℕ → ℕ → Result Children FileFault
-table_children y body place from n = if nat_lt y.top (from + n) then Err Length else (keys y body place [] 0 n >>= λ ks. Ok (record { first = from; count = n }))
+table_children y body place from n = if nat_lt y.top (from + n) then Err Length else
+    (keys y body place [] 0 n >>= λ ks. Ok (record { first = from; count = n }))
 
 -- all of the kinds without children have none, and no fault
 unfoldable pub children_at : Layout → List ℕ → ItemKind → ℕ → Result Children FileFault
@@ -75,7 +77,8 @@ pub record Follows (cells after : List ℕ) : Type 0 where
 -- each open pair is too deep at a level wherever Q holds at some level that is no higher: all that stands before it on the way
 -- there has no other fault
 pub record Leads (y : Layout) (body cells : List ℕ) (Q : ℕ → Type 0) : Type 0 where
-  pub at : (k : ItemKind) (o : ℕ) → has_children k ≡ true → mark_at cells k o ≡ 255 → (e : ℕ) → (d : ℕ) × (d ≤ e) × (Q d → contents y body (λ w. read y body e w) o k ≡ Err TooDeep)
+  pub at : (k : ItemKind) (o : ℕ) → has_children k ≡ true → mark_at cells k o ≡ 255 → (e : ℕ)
+      → (d : ℕ) × (d ≤ e) × (Q d → contents y body (λ w. read y body e w) o k ≡ Err TooDeep)
 
 -- before an item is checked, and after
 pub record IsMet (body : List ℕ) (item : ℕ) : Type 0 where

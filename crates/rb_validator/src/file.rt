@@ -1,7 +1,7 @@
 // The checks of a whole file.
 ghost use Rattle.std.specs.Prelude.{◌≡◌, ◌⊎◌, ◌+◌, ◌*◌, ◌≤◌, None, Some, IfOk, MatchResult};
 ghost use Rattle.rb_format.specs.FirstFault.{fault_of, first_fault, read_data};
-ghost use Rattle.rb_format.specs.Place as stands;
+ghost use Rattle.rb_format.specs.Place as fields;
 ghost use Rattle.rb_validator.specs.Visits.{IsPlaceAt, IsCount, HasVisits};
 
 use crate::items::check_item;
@@ -31,8 +31,9 @@ pub fn check_file(alloc: Global, bytes: &[u8]) -> Result<u64, FileFault>
 /// The same of the data after the header of a file of a minor version.
 #[tactic(auto, unfolding(rb_format::specs::FirstFault::read_data))]
 fn check_data(alloc: Global, minor: u8, body: &[u8]) -> Result<u64, FileFault>
-    ensures answer { MatchResult result (λ _. fault_of (read_data 64 minor body.now) ≡ None) (λ e. (e ≡ FileFault.Memory) ⊎ (fault_of (read_data 64 minor body.now) ≡ Some e)) }
-    ensures visits { IfOk result (λ n. IsCount (IsPlaceAt body.now) (3 * stands.word_at body.now 4) n) }
+    ensures answer { MatchResult result (λ _. fault_of (read_data 64 minor body.now) ≡ None)
+        (λ e. (e ≡ FileFault.Memory) ⊎ (fault_of (read_data 64 minor body.now) ≡ Some e)) }
+    ensures visits { IfOk result (λ n. IsCount (IsPlaceAt body.now) (3 * fields.word_at body.now 4) n) }
 {
     if !is_laid(body) {
         return Err(FileFault::Indexes);

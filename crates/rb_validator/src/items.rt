@@ -2,7 +2,7 @@
 ghost use Rattle.std.specs.Prelude.{◌≡◌, ◌≢◌, true, ℕ, ◌+◌, ◌*◌, ◌≤◌, ◌<◌, length, Some, Ok, Err, IfOk};
 ghost use Rattle.rb_format.specs.FirstFault.{result_map, within, contents, read};
 ghost use Rattle.rb_format.specs.Item.{kind_of, offset_of};
-ghost use Rattle.rb_format.specs.Place as stands;
+ghost use Rattle.rb_format.specs.Place as fields;
 ghost use Rattle.rb_tree.specs.Resource.{height, trees_height};
 ghost use Rattle.rb_validator.specs.KnownKeys.{IsSound};
 ghost use Rattle.rb_validator.specs.Marks.{mark_at, IsKnown, IsMet, Keeps, Leads, After, AreRuns, run_of, IsRunKnown};
@@ -152,7 +152,7 @@ fn check_items(
     requires tops { layout.now.keys_top ≤ layout.now.top }
     requires small { left < 254 }
     requires items { first + count ≤ layout.now.top }
-    requires met { (i : ℕ) → i < count → IsMet body.now (stands.word_at body.now (first + i)) }
+    requires met { (i : ℕ) → i < count → IsMet body.now (fields.word_at body.now (first + i)) }
     requires sound { IsSound layout.now body.now state.old.keys.known }
     requires keeps { Keeps layout.now body.now state.old.memo }
     requires holds { AreRuns layout.now body.now state.old.memo state.old.runs }
@@ -196,7 +196,7 @@ fn check_each(
     requires tops { layout.now.keys_top ≤ layout.now.top }
     requires small { left < 254 }
     requires items { first + count ≤ layout.now.top }
-    requires met { (i : ℕ) → i < count → IsMet body.now (stands.word_at body.now (first + i)) }
+    requires met { (i : ℕ) → i < count → IsMet body.now (fields.word_at body.now (first + i)) }
     requires sound { IsSound layout.now body.now state.old.keys.known }
     requires keeps { Keeps layout.now body.now state.old.memo }
     requires holds { AreRuns layout.now body.now state.old.memo state.old.runs }

@@ -4,7 +4,7 @@ ghost use Rattle.rb_format.specs.FirstFault.{result_map, next_key};
 ghost use Rattle.std.specs.Ordering.{is_lt, nat_cmp};
 ghost use Rattle.std.specs.Cmp.Lexicographic.{slice_cmp};
 ghost use Rattle.rb_validator.specs.Places.{IsIn};
-ghost use Rattle.rb_validator.specs.Places as stands;
+ghost use Rattle.rb_validator.specs.Places as offsets;
 
 use rb_format::{FileFault, Layout, half_at, key_within, word_at};
 
@@ -20,7 +20,7 @@ pub enum KeyPlaces {
 /// A key offset of a table.
 pub fn key_offset(body: &[u8], places: KeyPlaces, i: usize) -> u32
     requires { IsIn body.now places (i + 1) }
-    ensures { result ≡ stands.key_offset body.now places i }
+    ensures { result ≡ offsets.key_offset body.now places i }
 {
     match places {
         KeyPlaces::Halves(first) => u32::from(half_at(body, first + i)),

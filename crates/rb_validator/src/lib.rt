@@ -17,8 +17,6 @@ mod ranks;
 mod runs;
 mod state;
 mod suffixes;
-#[cfg(test)]
-mod tests;
 mod tree;
 mod values;
 

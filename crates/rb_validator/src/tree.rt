@@ -16,7 +16,7 @@ use rb_format::{ItemKind, Layout, body, half_at, item_kind, item_offset, key_wit
 use rb_tree::{ByteList, HEIGHT_LIMIT, NumberList, TableFault, Tree, TreeList, UnitList};
 use std::alloc::{AllocError, Global};
 
-/// The tree of a bundle. The only error is want of memory.
+/// The tree of a bundle. The only error is out of memory.
 pub fn decode(alloc: Global, bundle: &Bundle) -> Result<Tree, AllocError>
     ensures { IfOk result (λ tree. view_of tree ≡ tree_of bundle.now) }
 {
@@ -35,7 +35,7 @@ fn decode_item(
     left: u64,
 ) -> Result<Tree, AllocError>
     requires room { 4 * layout.now.top ≤ length body.now }
-    requires stands { IsOk (read layout.now body.now left item) }
+    requires readable { IsOk (read layout.now body.now left item) }
     ensures { IfOk result (λ tree. read layout.now body.now left item ≡ Ok (view_of tree)) }
 {
     let offset = item_offset(item);
@@ -64,7 +64,7 @@ fn decode_data(
     requires room { 4 * layout.now.top ≤ length body.now }
     requires below { offset < layout.now.top }
     requires there { IsTrue (items.has_data kind offset) }
-    requires stands { IsOk (contents layout.now body.now (λ w. read layout.now body.now left w) offset kind) }
+    requires readable { IsOk (contents layout.now body.now (λ w. read layout.now body.now left w) offset kind) }
     ensures { IfOk result (λ tree. contents layout.now body.now (λ w. read layout.now body.now left w) offset kind ≡ Ok (view_of tree)) }
 {
     match kind {
@@ -101,7 +101,7 @@ fn decode_array(
 ) -> Result<Vec<Tree>, AllocError>
     requires room { 4 * layout.now.top ≤ length body.now }
     requires below { offset < layout.now.top }
-    requires stands { IsOk (array_at layout.now body.now (λ w. read layout.now body.now left w) offset) }
+    requires readable { IsOk (array_at layout.now body.now (λ w. read layout.now body.now left w) offset) }
     ensures { IfOk result (λ trees. array_at layout.now body.now (λ w. read layout.now body.now left w) offset ≡ Ok (views_of trees.items)) }
 {
     let offset = offset as usize;
@@ -126,7 +126,7 @@ fn decode_table(
 ) -> Result<Tree, AllocError>
     requires room { 4 * layout.now.top ≤ length body.now }
     requires below { offset < layout.now.top }
-    requires stands { IsOk (table16_at layout.now body.now (λ w. read layout.now body.now left w) offset) }
+    requires readable { IsOk (table16_at layout.now body.now (λ w. read layout.now body.now left w) offset) }
     ensures { IfOk result (λ tree. result_map table (table16_at layout.now body.now (λ w. read layout.now body.now left w) offset) ≡ Ok (view_of tree)) }
 {
     let offset = offset as usize;
@@ -155,7 +155,7 @@ fn decode_long_table(
 ) -> Result<Tree, AllocError>
     requires room { 4 * layout.now.top ≤ length body.now }
     requires below { offset < layout.now.top }
-    requires stands { IsOk (table32_at layout.now body.now (λ w. read layout.now body.now left w) offset) }
+    requires readable { IsOk (table32_at layout.now body.now (λ w. read layout.now body.now left w) offset) }
     ensures { IfOk result (λ tree. result_map table (table32_at layout.now body.now (λ w. read layout.now body.now left w) offset) ≡ Ok (view_of tree)) }
 {
     let offset = offset as usize;
@@ -185,8 +185,9 @@ fn decode_entries(
     requires room { 4 * layout.now.top ≤ length body.now }
     requires items { first + count ≤ layout.now.top }
     requires places { IsIn body.now places count }
-    requires stands { IsOk (table_of layout.now body.now (λ w. read layout.now body.now left w) (offsets.key_offset body.now places) first count) }
-    ensures { IfOk result (λ tree. result_map table (table_of layout.now body.now (λ w. read layout.now body.now left w) (offsets.key_offset body.now places) first count) ≡ Ok (view_of tree)) }
+    requires readable { IsOk (table_of layout.now body.now (λ w. read layout.now body.now left w) (offsets.key_offset body.now places) first count) }
+    ensures { IfOk result (λ tree. result_map table (table_of layout.now body.now (λ w. read layout.now body.now left w)
+        (offsets.key_offset body.now places) first count) ≡ Ok (view_of tree)) }
 {
     let mut pairs = Vec::with_capacity(alloc, count)?;
     for i in 0..count {

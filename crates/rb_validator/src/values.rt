@@ -26,7 +26,7 @@ pub fn read_units(
 ) -> Result<Vec<u16>, AllocError>
     requires room { 4 * layout.now.top ≤ length body.now }
     requires below { offset < layout.now.top }
-    requires stands { IsOk (units layout.now body.now offset) }
+    requires readable { IsOk (units layout.now body.now offset) }
     ensures { IfOk result (λ read. units layout.now body.now offset ≡ Ok read.items) }
 {
     let offset = offset as usize;
@@ -48,7 +48,7 @@ pub fn read_bytes(
 ) -> Result<Vec<u8>, AllocError>
     requires room { 4 * layout.now.top ≤ length body.now }
     requires below { offset < layout.now.top }
-    requires stands { IsOk (bytes layout.now body.now offset) }
+    requires readable { IsOk (bytes layout.now body.now offset) }
     ensures { IfOk result (λ read. bytes layout.now body.now offset ≡ Ok read.items) }
 {
     let offset = offset as usize;
@@ -66,7 +66,7 @@ pub fn read_numbers(
 ) -> Result<Vec<i32>, AllocError>
     requires room { 4 * layout.now.top ≤ length body.now }
     requires below { offset < layout.now.top }
-    requires stands { IsOk (numbers layout.now body.now offset) }
+    requires readable { IsOk (numbers layout.now body.now offset) }
     ensures { IfOk result (λ read. result_map (map (cast_signed w32)) (numbers layout.now body.now offset) ≡ Ok read.items) }
 {
     let offset = offset as usize;

@@ -1,10 +1,9 @@
 -- The root item of a file that denotes a bundle.
-use Rattle.std.proofs.Common.{◌≡◌, ℕ, ◌+◌, ◌≤◌, true, List, length, drop, Option, Some, sym, ap, ◌∙◌}
+use Rattle.std.proofs.Common.{◌≡◌, ℕ, ◌≤◌, true, List, length, drop, Some, ap, ◌∙◌}
 use Rattle.std.specs.Prelude.{◌&&◌, not, option_map, slice_index}
 use Rattle.std.proofs.lemmas.Bool.{and_parts}
 use Rattle.std.proofs.lemmas.Bool.Decides.{nat_tests}
 use Rattle.std.proofs.Common.{arith}
-use Rattle.rb_tree.specs.Resource.{Resource}
 use Rattle.rb_tree.specs.SourceTree.{SourceTree}
 use Rattle.rb_format.specs.Attributes.{attributes_of, has_pool}
 use Rattle.rb_format.specs.Place.{word_at, half_at, layout_of}

@@ -4,8 +4,7 @@ use Rattle.std.specs.Prelude.{ℕ, ℤ, ◌+◌, List, drop}
 use Rattle.std.specs.Int.{cast_signed, w32}
 use Rattle.rb_tree.specs.Resource.{Resource}
 use Rattle.rb_format.specs.Place.{word_at, half_at, values}
-use Rattle.rb_format.specs.Geometry.{key_offset}
-use Rattle.rb_views.specs.Trees.{item_tree, key_from}
+use Rattle.rb_views.specs.Trees.{item_tree, entry_at}
 use Rattle.rb_views.specs.declared.item.Item.{Item}
 use Rattle.rb_views.specs.declared.leaves.Units.{Units}
 use Rattle.rb_views.specs.declared.leaves.Ints.{Ints}
@@ -26,7 +25,7 @@ abbrev pub trees_seen : Array → List Resource
 trees_seen array = values (λ i. item_tree array.body.now (word_at array.body.now (array.first + i))) 0 array.count
 
 abbrev pub entries_seen : Table → List (List ℕ × Resource)
-entries_seen table = values (λ i. (key_from table.body.now (key_offset table.body.now table.parts.keys i), item_tree table.body.now (word_at table.body.now (table.parts.first + i)))) 0 table.parts.count
+entries_seen table = values (λ i. entry_at table.body.now table.parts i) 0 table.parts.count
 
 -- what an iterator still gives
 abbrev pub rest_seen : Pairs → List (List ℕ × Resource)

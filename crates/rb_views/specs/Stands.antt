@@ -10,7 +10,7 @@ use Rattle.rb_format.specs.declared.kind.ItemKind.TheVariants.{String, Binary, T
 use Rattle.rb_format.specs.Place.{word_at, values, layout_of}
 use Rattle.rb_format.specs.Geometry.{key_offset, keys_end}
 use Rattle.rb_format.specs.Denotation.{where_holds, trees_at, table_at, tree_at}
-use Rattle.rb_views.specs.Trees.{item_tree, key_from}
+use Rattle.rb_views.specs.Trees.{entry_at}
 
 -- an item stands for a tree
 unfoldable pub stands_for : List ℕ → ℕ → Bool
@@ -21,7 +21,8 @@ StandsFor body item = IsTrue (stands_for body item)
 
 -- each of the items from a word on stands for a tree, one level lower
 unfoldable pub all_stand : List ℕ → ℕ → ℕ → Bool
-all_stand body first count = is_some (where_holds (nat_le (first + count) (layout_of body).top) (trees_at (λ w. tree_at (layout_of body) body 63 w) (λ i. word_at body (first + i)) 0 count))
+all_stand body first count =
+    is_some (where_holds (nat_le (first + count) (layout_of body).top) (trees_at (λ w. tree_at (layout_of body) body 63 w) (λ i. word_at body (first + i)) 0 count))
 
 abbrev pub AllStand : List ℕ → ℕ → ℕ → Type 0
 AllStand body first count = IsTrue (all_stand body first count)
@@ -48,4 +49,4 @@ kind_named Ints = named.Ints
 pub record HasEntriesAt (body : List ℕ) (p : TableParts) (t : Resource) : Type 0 where
   pub below : keys_end p.keys p.count ≤ 4 * (layout_of body).top
   pub stand : TableStands body p
-  pub are : values (λ i. (key_from body (key_offset body p.keys i), item_tree body (word_at body (p.first + i)))) 0 p.count ≡ pairs_of t
+  pub are : values (λ i. entry_at body p i) 0 p.count ≡ pairs_of t

@@ -6,7 +6,7 @@ ghost use Rattle.rb_views.specs.Stands.{AllStand};
 use crate::item::Item;
 use rb_format::word_at;
 
-/// The items of an Array.
+/// The items of an Array, in the file.
 #[derive(Clone, Copy)]
 pub struct Array<'a> {
     pub(crate) body: &'a [u8],
@@ -27,7 +27,7 @@ impl<'a> Array<'a> {
         self.count as usize
     }
 
-    /// Item i.
+    /// Item i, which is one of `len`.
     pub fn item(self, i: usize) -> Item<'a>
         requires { i < length (trees_seen self) }
         ensures { Some (tree_seen result) ≡ slice_get (trees_seen self.entry) i }

@@ -7,7 +7,7 @@ use crate::item::Item;
 use rb_format::{body, word_at};
 use rb_validator::Bundle;
 
-/// The root item of a bundle.
+/// The root item of a bundle, a Table, which is seen as the bundle's tree.
 pub fn root(bundle: &Bundle) -> Item<'_>
     ensures { tree_seen result ≡ tree_of bundle.now }
 {

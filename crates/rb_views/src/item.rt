@@ -6,8 +6,8 @@ ghost use Rattle.rb_tree.specs.declared.kind.Kind.TheVariants as Kinds;
 ghost use Rattle.rb_format.specs.File.{is_laid};
 ghost use Rattle.rb_format.specs.Item as items;
 ghost use Rattle.rb_format.specs.Item.{offset_of};
-ghost use Rattle.rb_format.specs.Place as places;
 ghost use Rattle.rb_views.specs.Stands.{StandsFor, HasEntriesAt, kind_named};
+ghost use Rattle.rb_views.specs.Trees.{bytes_at};
 ghost use Rattle.rb_views.specs.Parts.{text_of, alias_of, ints_of, binary_of, uint_of, signed, array_of, table_of};
 
 use crate::array::Array;
@@ -18,7 +18,8 @@ use rb_format::{
 };
 use rb_tree::Kind;
 
-/// An item of a bundle, seen as the tree for which it stands. It holds a slice of the file and one word.
+/// An item of a bundle: a resource of `uresdata.h`. It is seen as the tree for which it stands, holds a slice of the file and one word, and
+/// lends all that it gives from the file.
 #[derive(Clone, Copy)]
 pub struct Item<'a> {
     pub(crate) body: &'a [u8],
@@ -81,7 +82,7 @@ impl<'a> Item<'a> {
         }
     }
 
-    /// The units of a String.
+    /// The units of a String, as `ures_getString` gives them; None for an item of another kind.
     pub fn text(self) -> Option<Units<'a>>
         ensures { option_map units_seen result ≡ text_of (tree_seen self.entry) }
     {
@@ -91,7 +92,7 @@ impl<'a> Item<'a> {
         }
     }
 
-    /// The units of an Alias.
+    /// The units of an Alias; None for an item of another kind.
     pub fn alias(self) -> Option<Units<'a>>
         ensures { option_map units_seen result ≡ alias_of (tree_seen self.entry) }
     {
@@ -101,7 +102,7 @@ impl<'a> Item<'a> {
         }
     }
 
-    /// The numbers of an integer vector.
+    /// The numbers of an integer vector, as `ures_getIntVector` gives them; None for an item of another kind.
     pub fn ints(self) -> Option<Ints<'a>>
         ensures { option_map numbers_seen result ≡ ints_of (tree_seen self.entry) }
     {
@@ -111,10 +112,10 @@ impl<'a> Item<'a> {
         }
     }
 
-    /// The bytes of a Binary, lent from the file.
+    /// The bytes of a Binary, lent from the file, as `ures_getBinary` gives them; None for an item of another kind.
     pub fn binary(self) -> Option<&'a [u8]>
         ensures contents { option_copied result ≡ binary_of (tree_seen self.entry) }
-        ensures place { IfSome result (λ b. let o = offset_of self.entry.word in 0 < o → b.now ≡ take (places.word_at self.entry.body.now o) (drop (4 * o + 4) self.entry.body.now)) }
+        ensures place { IfSome result (λ b. let o = offset_of self.entry.word in 0 < o → b.now ≡ bytes_at self.entry.body.now o) }
     {
         match self.kind_here() {
             Kind::Binary => Some(self.bytes()),
@@ -122,7 +123,7 @@ impl<'a> Item<'a> {
         }
     }
 
-    /// The number of an Int, its 28 bits read with a sign.
+    /// The number of an Int, its 28 bits read with a sign, as `ures_getInt` does; None for an item of another kind.
     pub fn int(self) -> Option<i32>
         ensures { result ≡ option_map signed (uint_of (tree_seen self.entry)) }
     {
@@ -132,7 +133,7 @@ impl<'a> Item<'a> {
         }
     }
 
-    /// The number of an Int, its 28 bits read without a sign.
+    /// The number of an Int, its 28 bits read without a sign, as `ures_getUInt` does; None for an item of another kind.
     pub fn uint(self) -> Option<u32>
         ensures { result ≡ uint_of (tree_seen self.entry) }
     {
@@ -142,7 +143,7 @@ impl<'a> Item<'a> {
         }
     }
 
-    /// The items of an Array.
+    /// The items of an Array; None for an item of another kind.
     pub fn array(self) -> Option<Array<'a>>
         ensures { option_map trees_seen result ≡ array_of (tree_seen self.entry) }
     {
@@ -152,7 +153,7 @@ impl<'a> Item<'a> {
         }
     }
 
-    /// The entries of a Table.
+    /// The entries of a Table, whether its key offsets are half words or words; None for an item of another kind.
     pub fn table(self) -> Option<Table<'a>>
         ensures { option_map entries_seen result ≡ table_of (tree_seen self.entry) }
     {
@@ -203,7 +204,7 @@ impl<'a> Item<'a> {
     pub(crate) fn bytes(self) -> &'a [u8]
         requires { kind_of (tree_seen self) ≡ Kinds.Binary }
         ensures contents { result.now ≡ bytes_of (tree_seen self.entry) }
-        ensures place { let o = offset_of self.entry.word in 0 < o → result.now ≡ take (places.word_at self.entry.body.now o) (drop (4 * o + 4) self.entry.body.now) }
+        ensures place { let o = offset_of self.entry.word in 0 < o → result.now ≡ bytes_at self.entry.body.now o }
     {
         let offset = item_offset(self.word);
         if offset == 0 {

@@ -3,7 +3,7 @@ ghost use Rattle.std.specs.Prelude.{◌≡◌, ◌+◌, ◌*◌, ◌<◌, ◌≤
 
 use rb_format::{half_at, word_at};
 
-/// The units of a String or an Alias.
+/// The UTF-16 units of a String or an Alias, in the file.
 #[derive(Clone, Copy)]
 pub struct Units<'a> {
     pub(crate) body: &'a [u8],
@@ -23,7 +23,7 @@ impl<'a> Units<'a> {
         self.count as usize
     }
 
-    /// Unit i.
+    /// Unit i, which is one of `len`.
     pub fn at(self, i: usize) -> u16
         requires { i < length (units_seen self) }
         ensures { Some result ≡ slice_get (units_seen self.entry) i }
@@ -32,7 +32,7 @@ impl<'a> Units<'a> {
     }
 }
 
-/// The numbers of an integer vector.
+/// The numbers of an integer vector, in the file.
 #[derive(Clone, Copy)]
 pub struct Ints<'a> {
     pub(crate) body: &'a [u8],
@@ -52,7 +52,7 @@ impl<'a> Ints<'a> {
         self.count as usize
     }
 
-    /// Number i.
+    /// Number i, which is one of `len`.
     pub fn at(self, i: usize) -> i32
         requires { i < length (numbers_seen self) }
         ensures { Some result ≡ slice_get (numbers_seen self.entry) i }

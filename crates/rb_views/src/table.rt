@@ -11,7 +11,7 @@ use crate::item::Item;
 use rb_format::{Layout, TableParts, key_within};
 use std::cmp::Ordering;
 
-/// The entries of a Table.
+/// The entries of a Table, in the file, in the order of their keys.
 #[derive(Clone, Copy)]
 pub struct Table<'a> {
     pub(crate) body: &'a [u8],
@@ -32,7 +32,7 @@ impl<'a> Table<'a> {
         self.parts.count
     }
 
-    /// The key of entry i, lent from the file.
+    /// The key of entry i, which is one of `len`, lent from the file: its bytes without the NUL after them.
     pub fn key(self, i: usize) -> &'a [u8]
         requires { i < length (entries_seen self) }
         ensures key { Some result.now ≡ slice_get (keys_of (entries_seen self.entry)) i }
@@ -45,7 +45,7 @@ impl<'a> Table<'a> {
         }
     }
 
-    /// The item of entry i.
+    /// The item of entry i, which is one of `len`.
     pub fn item(self, i: usize) -> Item<'a>
         requires { i < length (entries_seen self) }
         ensures { Some (tree_seen result) ≡ slice_get (values_of (entries_seen self.entry)) i }
@@ -56,12 +56,13 @@ impl<'a> Table<'a> {
         }
     }
 
-    /// The item with a key, by halving over the key offsets; None where the table has no such key.
+    /// The item with a key, by halving over the key offsets, which stand in the order of their keys; None where the table has no such key.
     pub fn get(self, key: &[u8]) -> Option<Item<'a>>
         ensures { option_map tree_seen result ≡ lookup (pointwise nat_eq key.now) (entries_seen self.entry) }
     {
+        let count = self.len();
         let mut low = 0;
-        let mut high = self.len();
+        let mut high = count;
         while low < high {
             let middle = low + (high - low) / 2;
             match key.cmp(self.key(middle)) {
@@ -103,7 +104,8 @@ impl<'a> Iterator for Pairs<'a> {
 
     fn next(&mut self) -> Option<(&'a [u8], Item<'a>)> {
         let i = self.next;
-        if i < self.table.len() {
+        let count = self.table.len();
+        if i < count {
             self.next += 1;
             Some((self.table.key(i), self.table.item(i)))
         } else {

@@ -1,4 +1,5 @@
 pub mod Puts
+pub mod Patches
 pub mod Values
 pub mod Tabled
 pub mod Nodes

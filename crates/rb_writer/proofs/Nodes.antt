@@ -1,4 +1,5 @@
 -- Items stand for what was written.
+use Rattle.rb_writer.specs.declared.area.KeyArea.{KeyArea}
 use Rattle.std.proofs.Common.{◌≡◌, ℕ, zero, suc, ◌+◌, ◌*◌, ◌/◌, ◌≤◌, ℤ, true, false, ltb, List, [], ◌∷◌, ◌++◌, length, get_or, drop, map, Some, Result, Ok, Err, refl, sym, ap, ◌∙◌, arith, inl, inr}
 use Rattle.std.proofs.lemmas.Bool.{le-ltb, lt-ltb, cases_eq}
 use Rattle.std.proofs.lemmas.List.{get_or_push, get_or_append_left, length_push}
@@ -25,8 +26,8 @@ use Rattle.rb_writer.specs.Standing.{Stands, ChildrenStand, KeysStand, children_
 use Rattle.rb_writer.specs.declared.keys.KeyPlaces.{KeyPlaces}
 use Rattle.rb_writer.proofs.Puts.{adds_refl, adds_trans}
 
-pub grows_draft : (kt : ℕ) (a b : List ℕ) → IsDraft kt a → Adds a b → Grows (draft kt a) a (draft kt b) b
-grows_draft kt a b d h = let w = d.whole in let lo = d.low in let hi = d.high in let l = h.longer in record {
+pub grows_draft : (area : KeyArea) (a b : List ℕ) → IsDraft area a → Adds a b → Grows (draft area a) a (draft area b) b
+grows_draft area a b d h = let w = d.whole in let lo = d.low in let hi = d.high in let l = h.longer in record {
   indexes = refl;
   keys_top = refl;
   low = omega arith;
@@ -38,11 +39,11 @@ grows_draft kt a b d h = let w = d.whole in let lo = d.low in let hi = d.high in
 }
 
 -- keys stay where they stand
-pub keys_stay : (kt : ℕ) (a b : List ℕ) (keys : KeyPlaces) → IsDraft kt a → Adds a b → KeysStand kt a keys → KeysStand kt b keys
-keys_stay kt a b keys d h s = λ k o e. key_same (draft kt a) (draft kt b) a b (grows_draft kt a b d h) o ∙ s k o e
+pub keys_stay : (area : KeyArea) (a b : List ℕ) (keys : KeyPlaces) → IsDraft area a → Adds a b → KeysStand area a keys → KeysStand area b keys
+keys_stay area a b keys d h s = λ k o e. key_same (draft area a) (draft area b) a b (grows_draft area a b d h) o ∙ s k o e
 
-pub stays : (kt : ℕ) (a b : List ℕ) (l item : ℕ) (t : Resource) → IsDraft kt a → Adds a b → read (draft kt a) a l item ≡ Ok t → read (draft kt b) b l item ≡ Ok t
-stays kt a b l item t d h e = read_grow (draft kt a) (draft kt b) a b (grows_draft kt a b d h) l item t e
+pub stays : (area : KeyArea) (a b : List ℕ) (l item : ℕ) (t : Resource) → IsDraft area a → Adds a b → read (draft area a) a l item ≡ Ok t → read (draft area b) b l item ≡ Ok t
+stays area a b l item t d h e = read_grow (draft area a) (draft area b) a b (grows_draft area a b d h) l item t e
 
 -- ---- children
 
@@ -57,14 +58,14 @@ most_part [] (suc i) = omega arith
 most_part (t ∷ cs) zero = omega arith
 most_part (t ∷ cs) (suc i) = omega (arith, most_part cs i)
 
-pub children_none : (kt : ℕ) (old : List ℕ) (cs : List Resource) → IsDraft kt old → ChildrenStand kt old old cs [] 0
-children_none kt old cs d = record { adds = adds_refl old; drafted = d; little = omega arith; count = refl; reads = λ j u h. absurd (omega arith) }
+pub children_none : (area : KeyArea) (old : List ℕ) (cs : List Resource) → IsDraft area old → ChildrenStand area old old cs [] 0
+children_none area old cs d = record { adds = adds_refl old; drafted = d; little = omega arith; count = refl; reads = λ j u h. absurd (omega arith) }
 
-pub child_room : (kt : ℕ) (old mid : List ℕ) (cs : List Resource) (is : List ℕ) (n most : ℕ) (u : Resource) → ChildrenStand kt old mid cs is n → Some u ≡ slice_get cs n → length old + children_most cs ≤ most → length mid + data_most u ≤ most
-child_room kt old mid cs is n most u s e h = let l = s.little in omega (arith, most_turn cs n u e)
+pub child_room : (area : KeyArea) (old mid : List ℕ) (cs : List Resource) (is : List ℕ) (n most : ℕ) (u : Resource) → ChildrenStand area old mid cs is n → Some u ≡ slice_get cs n → length old + children_most cs ≤ most → length mid + data_most u ≤ most
+child_room area old mid cs is n most u s e h = let l = s.little in omega (arith, most_turn cs n u e)
 
-pub children_more : (kt : ℕ) (old mid new : List ℕ) (cs : List Resource) (is : List ℕ) (n item : ℕ) (u : Resource) → ChildrenStand kt old mid cs is n → Some u ≡ slice_get cs n → Stands kt mid new u item → ChildrenStand kt old new cs (is ++ item ∷ []) (n + 1)
-children_more kt old mid new cs is n item u s e p =
+pub children_more : (area : KeyArea) (old mid new : List ℕ) (cs : List Resource) (is : List ℕ) (n item : ℕ) (u : Resource) → ChildrenStand area old mid cs is n → Some u ≡ slice_get cs n → Stands area mid new u item → ChildrenStand area old new cs (is ++ item ∷ []) (n + 1)
+children_more area old mid new cs is n item u s e p =
     let l = s.little in let m = p.little in let c = s.count in
     let up : n + 1 ≡ suc n = omega arith in
     let turn = most_turn cs n u e in
@@ -81,7 +82,7 @@ children_more kt old mid new cs is n item u s e p =
             rw (at, is_u) p.reads
         | inr other ↦
             let at : get_or (is ++ item ∷ []) j 0 ≡ get_or is j 0 = get_or_append_left is (item ∷ []) 0 j (omega arith) in
-            rw at (stays kt mid new (height v) (get_or is j 0) v s.drafted p.adds (s.reads j v (omega arith) g))
+            rw at (stays area mid new (height v) (get_or is j 0) v s.drafted p.adds (s.reads j v (omega arith) g))
       ];
     }
 
@@ -111,12 +112,12 @@ children_le (table es) = omega (arith, members_count es)
 
 -- ---- an item of what was put
 
-pub put_node : {A : Type 0} (kt : ℕ) (old new : List ℕ) (most : ℕ) (reads : Layout → List ℕ → ℕ → Result A FileFault) (x none : A) (o item : ℕ) (k : ItemKind) (f : A → Resource) (child : ℕ → Result Resource FileFault)
-    → Put kt old new most reads x none o → kind_of item ≡ Some k → offset_of item ≡ o → ((p : ℕ) → has_data k p ≡ ltb 0 p)
-    → contents (draft kt new) new child o k ≡ result_map f (reads (draft kt new) new o) → bare k 0 ≡ f none
-    → node (draft kt new) new child item ≡ Ok (f x)
+pub put_node : {A : Type 0} (area : KeyArea) (old new : List ℕ) (most : ℕ) (reads : Layout → List ℕ → ℕ → Result A FileFault) (x none : A) (o item : ℕ) (k : ItemKind) (f : A → Resource) (child : ℕ → Result Resource FileFault)
+    → Put area old new most reads x none o → kind_of item ≡ Some k → offset_of item ≡ o → ((p : ℕ) → has_data k p ≡ ltb 0 p)
+    → contents (draft area new) new child o k ≡ result_map f (reads (draft area new) new o) → bare k 0 ≡ f none
+    → node (draft area new) new child item ≡ Ok (f x)
 unfolding node value
-put_node kt old new most reads x none o item k f child p ki oi filled same none_is =
+put_node area old new most reads x none o item k f child p ki oi filled same none_is =
     let start : kind_or_fault (kind_of item) ≡ Ok k = ap kind_or_fault ki in
     let lo = p.drafted.low in
     rw (start, oi) (elim p.stands [
@@ -126,18 +127,18 @@ put_node kt old new most reads x none o item k f child p ki oi filled same none_
           rw test (ap (λ (m : ℕ). Ok (bare k m)) zero_is ∙ ap Ok (none_is ∙ ap f (sym q.1)))
       | inr q ↦
           let test : has_data k o ≡ true = filled o ∙ lt-ltb 0 o (let h = q.0 in omega arith) in
-          let a : ltb o kt ≡ false = le-ltb _ _ q.0 in
+          let a : ltb o area.top ≡ false = le-ltb _ _ q.0 in
           let b : ltb o (length new / 4) ≡ true = lt-ltb _ _ q.1 in
           rw (test, a, b) (same ∙ ap (result_map f) q.2)
     ])
 
-read_one : (kt : ℕ) (new : List ℕ) (item : ℕ) (t : Resource) → node (draft kt new) new (λ w. read (draft kt new) new 0 w) item ≡ Ok t → read (draft kt new) new 1 item ≡ Ok t
+read_one : (area : KeyArea) (new : List ℕ) (item : ℕ) (t : Resource) → node (draft area new) new (λ w. read (draft area new) new 0 w) item ≡ Ok t → read (draft area new) new 1 item ≡ Ok t
 unfolding read
-read_one kt new item t e = e
+read_one area new item t e = e
 
-pub read_more : (kt : ℕ) (new : List ℕ) (d item : ℕ) (t : Resource) → node (draft kt new) new (λ w. read (draft kt new) new d w) item ≡ Ok t → read (draft kt new) new (suc d) item ≡ Ok t
+pub read_more : (area : KeyArea) (new : List ℕ) (d item : ℕ) (t : Resource) → node (draft area new) new (λ w. read (draft area new) new d w) item ≡ Ok t → read (draft area new) new (suc d) item ≡ Ok t
 unfolding read
-read_more kt new d item t e = e
+read_more area new d item t e = e
 
 string_contents : (y : Layout) (body : List ℕ) (child : ℕ → Result Resource FileFault) (o : ℕ) → contents y body child o kinds.String ≡ result_map string (units y body o)
 unfolding contents
@@ -159,36 +160,36 @@ ints_contents y body child o = both (numbers y body o)
     both (Ok x) = refl
     both (Err e) = refl
 
-pub string_stands : (kt : ℕ) (old new us : List ℕ) (o item : ℕ) (t : Tree) → t ≡ trees.String us → Put kt old new (8 + 2 * length us) units us [] o → kind_of item ≡ Some kinds.String → offset_of item ≡ o → Stands kt old new (view_of t) item
-string_stands kt old new us o item t is p ki oi = rw is (record {
+pub string_stands : (area : KeyArea) (old new us : List ℕ) (o item : ℕ) (t : Tree) → t ≡ trees.String us → Put area old new (8 + 2 * length us) units us [] o → kind_of item ≡ Some kinds.String → offset_of item ≡ o → Stands area old new (view_of t) item
+string_stands area old new us o item t is p ki oi = rw is (record {
   adds = p.adds;
   drafted = p.drafted;
   little = p.little;
-  reads = read_one kt new item (string us) (put_node kt old new _ units us [] o item kinds.String string _ p ki oi (λ q. refl) (string_contents _ _ _ o) refl);
+  reads = read_one area new item (string us) (put_node area old new _ units us [] o item kinds.String string _ p ki oi (λ q. refl) (string_contents _ _ _ o) refl);
 })
 
-pub alias_stands : (kt : ℕ) (old new us : List ℕ) (o item : ℕ) (t : Tree) → t ≡ trees.Alias us → Put kt old new (8 + 2 * length us) units us [] o → kind_of item ≡ Some kinds.Alias → offset_of item ≡ o → Stands kt old new (view_of t) item
-alias_stands kt old new us o item t is p ki oi = rw is (record {
+pub alias_stands : (area : KeyArea) (old new us : List ℕ) (o item : ℕ) (t : Tree) → t ≡ trees.Alias us → Put area old new (8 + 2 * length us) units us [] o → kind_of item ≡ Some kinds.Alias → offset_of item ≡ o → Stands area old new (view_of t) item
+alias_stands area old new us o item t is p ki oi = rw is (record {
   adds = p.adds;
   drafted = p.drafted;
   little = p.little;
-  reads = read_one kt new item (alias us) (put_node kt old new _ units us [] o item kinds.Alias alias _ p ki oi (λ q. refl) (alias_contents _ _ _ o) refl);
+  reads = read_one area new item (alias us) (put_node area old new _ units us [] o item kinds.Alias alias _ p ki oi (λ q. refl) (alias_contents _ _ _ o) refl);
 })
 
-pub binary_stands : (kt : ℕ) (old new bs : List ℕ) (o item : ℕ) (t : Tree) → t ≡ trees.Binary bs → Put kt old new (20 + length bs) bytes bs [] o → kind_of item ≡ Some kinds.Binary → offset_of item ≡ o → Stands kt old new (view_of t) item
-binary_stands kt old new bs o item t is p ki oi = rw is (record {
+pub binary_stands : (area : KeyArea) (old new bs : List ℕ) (o item : ℕ) (t : Tree) → t ≡ trees.Binary bs → Put area old new (20 + length bs) bytes bs [] o → kind_of item ≡ Some kinds.Binary → offset_of item ≡ o → Stands area old new (view_of t) item
+binary_stands area old new bs o item t is p ki oi = rw is (record {
   adds = p.adds;
   drafted = p.drafted;
   little = p.little;
-  reads = read_one kt new item (binary bs) (put_node kt old new _ bytes bs [] o item kinds.Binary binary _ p ki oi (λ q. refl) (binary_contents _ _ _ o) refl);
+  reads = read_one area new item (binary bs) (put_node area old new _ bytes bs [] o item kinds.Binary binary _ p ki oi (λ q. refl) (binary_contents _ _ _ o) refl);
 })
 
-pub ints_stand : (kt : ℕ) (old new : List ℕ) (zs : List ℤ) (o item : ℕ) (t : Tree) → t ≡ trees.Ints zs → Put kt old new (4 + 4 * length zs) signed_numbers zs [] o → kind_of item ≡ Some kinds.Ints → offset_of item ≡ o → Stands kt old new (view_of t) item
-ints_stand kt old new zs o item t is p ki oi = rw is (record {
+pub ints_stand : (area : KeyArea) (old new : List ℕ) (zs : List ℤ) (o item : ℕ) (t : Tree) → t ≡ trees.Ints zs → Put area old new (4 + 4 * length zs) signed_numbers zs [] o → kind_of item ≡ Some kinds.Ints → offset_of item ≡ o → Stands area old new (view_of t) item
+ints_stand area old new zs o item t is p ki oi = rw is (record {
   adds = p.adds;
   drafted = p.drafted;
   little = p.little;
-  reads = read_one kt new item (ints zs) (put_node kt old new _ signed_numbers zs [] o item kinds.Ints ints _ p ki oi (λ q. refl) (ints_contents _ _ _ o) refl);
+  reads = read_one area new item (ints zs) (put_node area old new _ signed_numbers zs [] o item kinds.Ints ints _ p ki oi (λ q. refl) (ints_contents _ _ _ o) refl);
 })
 
 int_node : (y : Layout) (body : List ℕ) (child : ℕ → Result Resource FileFault) (n item : ℕ) → kind_of item ≡ Some kinds.Int → offset_of item ≡ n → node y body child item ≡ Ok (int n)
@@ -197,10 +198,10 @@ int_node y body child n item ki oi =
     let start : kind_or_fault (kind_of item) ≡ Ok kinds.Int = ap kind_or_fault ki in
     rw (start, oi) refl
 
-pub int_stands : (kt : ℕ) (old : List ℕ) (n item : ℕ) (t : Tree) → t ≡ trees.Int n → IsDraft kt old → kind_of item ≡ Some kinds.Int → offset_of item ≡ n → Stands kt old old (view_of t) item
-int_stands kt old n item t is d ki oi = rw is (record {
+pub int_stands : (area : KeyArea) (old : List ℕ) (n item : ℕ) (t : Tree) → t ≡ trees.Int n → IsDraft area old → kind_of item ≡ Some kinds.Int → offset_of item ≡ n → Stands area old old (view_of t) item
+int_stands area old n item t is d ki oi = rw is (record {
   adds = adds_refl old;
   drafted = d;
   little = omega arith;
-  reads = read_one kt old item (int n) (int_node _ _ _ n item ki oi);
+  reads = read_one area old item (int n) (int_node _ _ _ n item ki oi);
 })

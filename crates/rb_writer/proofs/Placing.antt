@@ -1,4 +1,5 @@
 -- A key that was written is read where it stands.
+use Rattle.rb_writer.specs.declared.area.KeyArea.{KeyArea}
 use Rattle.std.proofs.Common.{◌≡◌, ℕ, suc, ◌+◌, ◌-◌, ◌*◌, ◌<◌, ◌≤◌, Bool, true, false, cond, ltb, List, [], ◌∷◌, ◌++◌, length, get_or, take, drop, Option, Some, refl, sym, ap, ◌∙◌, arith, position, subst, inl, inr, ◌⊎◌}
 use Rattle.std.proofs.lemmas.Bool.Decides.{nat_tests}
 use Rattle.std.proofs.lemmas.Bool.{le-ltb, lt-ltb}
@@ -46,23 +47,23 @@ first_nul k run h t l e = let test : ltb (length k) (length run) ≡ true = lt-l
 pub key_front_is : (k run : List ℕ) → IsKey k → take (length k) run ≡ k → length k < length run → get_or run (length k) 0 ≡ 0 → key_front run ≡ Some k
 key_front_is k run h t l e = rw (first_nul k run h.1 t l e, t, ok_key k h) refl
 
-pub key_reads : (kt : ℕ) (body k : List ℕ) (o : ℕ) → KeyAt body k o → length body ≡ 4 * kt → key (draft kt body) body o ≡ Some k
+pub key_reads : (area : KeyArea) (body k : List ℕ) (o : ℕ) → KeyAt (4 * (1 + area.indexes)) body k o → length body ≡ 4 * area.top → key (draft area body) body o ≡ Some k
 unfolding key
-key_reads kt body k o p e =
+key_reads area body k o p e =
     let lo = p.low in let ins = p.inside in
-    let a : ltb o 24 ≡ false = le-ltb _ _ lo in
-    let b : ltb o (4 * kt) ≡ true = lt-ltb _ _ (omega arith) in
-    let len : length (take (4 * kt - o) (drop o body)) ≡ 4 * kt - o = omega (arith, length-take (4 * kt - o) (drop o body), length-drop o body) in
-    let front : take (length k) (take (4 * kt - o) (drop o body)) ≡ k =
-    ext_get_or 0 _ _ (omega (arith, len, length-take (length k) (take (4 * kt - o) (drop o body)))) (λ j h.
-    let below : j < length k = omega (arith, length-take (length k) (take (4 * kt - o) (drop o body))) in
-    get_or-take (length k) (take (4 * kt - o) (drop o body)) j 0 below ∙ get_or-take (4 * kt - o) (drop o body) j 0 (omega arith) ∙ sym (get_or-take (length k) (drop o body) j 0 below) ∙ ap (λ (xs : List ℕ). get_or xs j 0) p.bytes) in
-    let end : get_or (take (4 * kt - o) (drop o body)) (length k) 0 ≡ 0 = get_or-take (4 * kt - o) (drop o body) (length k) 0 (omega arith) ∙ get_or-drop o body (length k) 0 ∙ p.ended in
-    rw (a, b) (key_front_is k (take (4 * kt - o) (drop o body)) p.is_key front (omega arith) end)
+    let a : ltb o (4 * (1 + area.indexes)) ≡ false = le-ltb _ _ lo in
+    let b : ltb o (4 * area.top) ≡ true = lt-ltb _ _ (omega arith) in
+    let len : length (take (4 * area.top - o) (drop o body)) ≡ 4 * area.top - o = omega (arith, length-take (4 * area.top - o) (drop o body), length-drop o body) in
+    let front : take (length k) (take (4 * area.top - o) (drop o body)) ≡ k =
+    ext_get_or 0 _ _ (omega (arith, len, length-take (length k) (take (4 * area.top - o) (drop o body)))) (λ j h.
+    let below : j < length k = omega (arith, length-take (length k) (take (4 * area.top - o) (drop o body))) in
+    get_or-take (length k) (take (4 * area.top - o) (drop o body)) j 0 below ∙ get_or-take (4 * area.top - o) (drop o body) j 0 (omega arith) ∙ sym (get_or-take (length k) (drop o body) j 0 below) ∙ ap (λ (xs : List ℕ). get_or xs j 0) p.bytes) in
+    let end : get_or (take (4 * area.top - o) (drop o body)) (length k) 0 ≡ 0 = get_or-take (4 * area.top - o) (drop o body) (length k) 0 (omega arith) ∙ get_or-drop o body (length k) 0 ∙ p.ended in
+    rw (a, b) (key_front_is k (take (4 * area.top - o) (drop o body)) p.is_key front (omega arith) end)
 
 -- a key stays where it stands
-pub key_at_stays : (a b k : List ℕ) (o : ℕ) → Adds a b → KeyAt a k o → KeyAt b k o
-key_at_stays a b k o h p =
+pub key_at_stays : (start : ℕ) (a b k : List ℕ) (o : ℕ) → Adds a b → KeyAt start a k o → KeyAt start b k o
+key_at_stays start a b k o h p =
     let l = h.longer in let ins = p.inside in
     let len : length (take (length k) (drop o b)) ≡ length k = omega (arith, length-take (length k) (drop o b), length-drop o b) in
     record {
@@ -75,8 +76,11 @@ key_at_stays a b k o h p =
       is_key = p.is_key;
     }
 
-pub key_put : (a b c k : List ℕ) (o : ℕ) → PutsBytes a b k → c ≡ b ++ 0 ∷ [] → o ≡ length a → 24 ≤ length a → IsKey k → KeyAt c k o
-key_put a b c k o p e at low h =
+pub key_at_low : (low start : ℕ) (a k : List ℕ) (o : ℕ) → low ≤ start → KeyAt start a k o → KeyAt low a k o
+key_at_low low start a k o h p = let l = p.low in record { low = omega arith; inside = p.inside; bytes = p.bytes; ended = p.ended; is_key = p.is_key }
+
+pub key_put : (start : ℕ) (a b c k : List ℕ) (o : ℕ) → PutsBytes a b k → c ≡ b ++ 0 ∷ [] → o ≡ length a → start ≤ length a → IsKey k → KeyAt start c k o
+key_put start a b c k o p e at low h =
     let l = p.len in
     rw e (record {
       low = omega arith;
@@ -107,8 +111,8 @@ stand_by false k q w o old new same e f = inl (sym e ∙ f)
 pub stand_from : (k q : List ℕ) (w o : ℕ) (old new : Option ℕ) → new ≡ cond (is_eq (slice_cmp nat_cmp k q)) (Some w) old → new ≡ Some o → (old ≡ Some o) ⊎ ((k ≡ q) × (w ≡ o))
 stand_from k q w o old new e f = stand_by (is_eq (slice_cmp nat_cmp k q)) k q w o old new (λ t. equal_is k q (equal_order _ t)) e f
 
-pub stands_or : (c k q : List ℕ) (w o : ℕ) (old : Option ℕ) → KeyAt c k w → (old ≡ Some o) ⊎ ((k ≡ q) × (w ≡ o)) → (old ≡ Some o) ⊎ KeyAt c q o
-stands_or c k q w o old h s = elim s [
+pub stands_or : (start : ℕ) (c k q : List ℕ) (w o : ℕ) (old : Option ℕ) → KeyAt start c k w → (old ≡ Some o) ⊎ ((k ≡ q) × (w ≡ o)) → (old ≡ Some o) ⊎ KeyAt start c q o
+stands_or start c k q w o old h s = elim s [
   | inl p ↦ inl p
-  | inr p ↦ inr (subst (λ (x : List ℕ). KeyAt c x o) p.0 (subst (KeyAt c k) p.1 h))
+  | inr p ↦ inr (subst (λ (x : List ℕ). KeyAt start c x o) p.0 (subst (KeyAt start c k) p.1 h))
 ]

@@ -1,4 +1,5 @@
 -- Values without children stand where they were written.
+use Rattle.rb_writer.specs.declared.area.KeyArea.{KeyArea}
 use Rattle.std.proofs.Common.{◌≡◌, ℕ, suc, ◌+◌, ◌*◌, ◌/◌, ◌%◌, ◌^◌, ◌<◌, ◌≤◌, ℤ, false, ltb, List, [], ◌∷◌, length, get_or, take, drop, map, Result, refl, sym, ap, ◌∙◌, arith, inl, inr}
 use Rattle.std.proofs.lemmas.Bool.{le-ltb}
 use Rattle.std.proofs.lemmas.List.{length-drop, get_or-drop, get_or-take, length-take, ext_get_or}
@@ -24,15 +25,15 @@ signed_are f i (z ∷ zs) h =
     let rest : map (cast_signed w32) (values f (suc i) (length zs)) ≡ zs = signed_are f (suc i) zs (λ j d g. let same : suc i + j ≡ i + suc j = omega arith in rw same (h (suc j) d (omega arith))) in
     rw (first, rest) refl
 
-pub nothing_put : {A : Type 0} (kt : ℕ) (out : List ℕ) (most : ℕ) (value : Layout → List ℕ → ℕ → Result A FileFault) (x none : A) → IsDraft kt out → x ≡ none → Put kt out out most value x none 0
-nothing_put kt out most value x none d e = record { adds = adds_refl out; drafted = d; little = omega arith; small = omega arith; stands = inl (refl, e) }
+pub nothing_put : {A : Type 0} (area : KeyArea) (out : List ℕ) (most : ℕ) (value : Layout → List ℕ → ℕ → Result A FileFault) (x none : A) → IsDraft area out → x ≡ none → Put area out out most value x none 0
+nothing_put area out most value x none d e = record { adds = adds_refl out; drafted = d; little = omega arith; small = omega arith; stands = inl (refl, e) }
 
-drafted_on : (kt : ℕ) (old new : List ℕ) → IsDraft kt old → length old ≤ length new → length new % 4 ≡ 0 → IsDraft kt new
-drafted_on kt old new d h e = let w = d.whole in let hi = d.high in record { words = length new / 4; whole = omega arith; low = d.low; high = omega arith }
+drafted_on : (area : KeyArea) (old new : List ℕ) → IsDraft area old → length old ≤ length new → length new % 4 ≡ 0 → IsDraft area new
+drafted_on area old new d h e = let w = d.whole in let hi = d.high in record { words = length new / 4; whole = omega arith; low = d.low; high = omega arith }
 
-pub units_put : (kt : ℕ) (old a b c new us : List ℕ) (o : ℕ) → IsDraft kt old → o ≡ length old / 4 → PutsWord old a (length us) → PutsHalves a b us (length us) → PutsHalf b c 0 → Adds c new → length new % 4 ≡ 0 → length new < length c + 4 → length old + (8 + 2 * length us) ≤ 2 ^ 28 → Put kt old new (8 + 2 * length us) units us [] o
+pub units_put : (area : KeyArea) (old a b c new us : List ℕ) (o : ℕ) → IsDraft area old → o ≡ length old / 4 → PutsWord old a (length us) → PutsHalves a b us (length us) → PutsHalf b c 0 → Adds c new → length new % 4 ≡ 0 → length new < length c + 4 → length old + (8 + 2 * length us) ≤ 2 ^ 28 → Put area old new (8 + 2 * length us) units us [] o
 unfolding units
-units_put kt old a b c new us o d at p q r s e f room =
+units_put area old a b c new us o d at p q r s e f room =
     let w = d.whole in let hi = d.high in let pl = p.len in let ql = q.len in let rl = r.len in let sl = s.longer in
     let on_b = adds_trans b c new r.adds s in
     let on_a = adds_trans a b new q.adds on_b in
@@ -43,15 +44,15 @@ units_put kt old a b c new us o d at p q r s e f room =
     let room_is : ltb (4 * (length new / 4)) (4 * o + 6 + 2 * length us) ≡ false = le-ltb _ _ (omega arith) in
     record {
       adds = adds_trans old a new p.adds on_a;
-      drafted = drafted_on kt old new d (omega arith) e;
+      drafted = drafted_on area old new d (omega arith) e;
       little = omega arith;
       small = omega arith;
       stands = inr (omega arith, omega arith, rw (count, room_is, end, list) refl);
     }
 
-pub numbers_put : (kt : ℕ) (old a new : List ℕ) (zs : List ℤ) (o : ℕ) → IsDraft kt old → o ≡ length old / 4 → PutsWord old a (length zs) → PutsNumbers a new zs (length zs) → length old + (4 + 4 * length zs) ≤ 2 ^ 28 → Put kt old new (4 + 4 * length zs) signed_numbers zs [] o
+pub numbers_put : (area : KeyArea) (old a new : List ℕ) (zs : List ℤ) (o : ℕ) → IsDraft area old → o ≡ length old / 4 → PutsWord old a (length zs) → PutsNumbers a new zs (length zs) → length old + (4 + 4 * length zs) ≤ 2 ^ 28 → Put area old new (4 + 4 * length zs) signed_numbers zs [] o
 unfolding numbers
-numbers_put kt old a new zs o d at p q room =
+numbers_put area old a new zs o d at p q room =
     let w = d.whole in let hi = d.high in let pl = p.len in let ql = q.len in
     let start : length old ≡ 4 * o = omega arith in
     let count : word_at new o ≡ length zs = word_stays a new o q.adds (omega arith) ∙ p.word_is o start in
@@ -59,7 +60,7 @@ numbers_put kt old a new zs o d at p q room =
     let room_is : ltb (length new / 4) (o + 1 + length zs) ≡ false = le-ltb _ _ (omega arith) in
     record {
       adds = adds_trans old a new p.adds q.adds;
-      drafted = drafted_on kt old new d (omega arith) (omega arith);
+      drafted = drafted_on area old new d (omega arith) (omega arith);
       little = omega arith;
       small = omega arith;
       stands = inr (omega arith, omega arith, rw (count, room_is, list) refl);
@@ -74,9 +75,9 @@ part_stays a b c bs k p q e =
     let below : j < length bs = omega (arith, length-take (length bs) (drop k c)) in
     get_or-take (length bs) (drop k c) j 0 below ∙ get_or-drop k c j 0 ∙ q.same (k + j) (omega arith) ∙ ap (λ m. get_or b (m + j) 0) e ∙ sym (get_or-drop (length a) b j 0) ∙ ap (λ (xs : List ℕ). get_or xs j 0) p.bytes_are)
 
-pub bytes_put : (kt : ℕ) (old z a b new bs skipped : List ℕ) (o : ℕ) → IsDraft kt old → PutsBytes old z skipped → length skipped ≤ 12 → o ≡ length z / 4 → length z % 4 ≡ 0 → PutsWord z a (length bs) → PutsBytes a b bs → Adds b new → length new % 4 ≡ 0 → length new < length b + 4 → length old + (20 + length bs) ≤ 2 ^ 28 → Put kt old new (20 + length bs) bytes bs [] o
+pub bytes_put : (area : KeyArea) (old z a b new bs skipped : List ℕ) (o : ℕ) → IsDraft area old → PutsBytes old z skipped → length skipped ≤ 12 → o ≡ length z / 4 → length z % 4 ≡ 0 → PutsWord z a (length bs) → PutsBytes a b bs → Adds b new → length new % 4 ≡ 0 → length new < length b + 4 → length old + (20 + length bs) ≤ 2 ^ 28 → Put area old new (20 + length bs) bytes bs [] o
 unfolding bytes
-bytes_put kt old z a b new bs skipped o d k few at whole p q s e f room =
+bytes_put area old z a b new bs skipped o d k few at whole p q s e f room =
     let w = d.whole in let hi = d.high in let kl = k.len in let pl = p.len in let ql = q.len in let sl = s.longer in
     let on_a = adds_trans a b new q.adds s in
     let start : length z ≡ 4 * o = omega arith in
@@ -85,7 +86,7 @@ bytes_put kt old z a b new bs skipped o d k few at whole p q s e f room =
     let room_is : ltb (4 * (length new / 4)) (4 * o + 4 + length bs) ≡ false = le-ltb _ _ (omega arith) in
     record {
       adds = adds_trans old z new k.adds (adds_trans z a new p.adds on_a);
-      drafted = drafted_on kt old new d (omega arith) e;
+      drafted = drafted_on area old new d (omega arith) e;
       little = omega arith;
       small = omega arith;
       stands = inr (omega arith, omega arith, rw (count, room_is, list) refl);

@@ -1,4 +1,5 @@
 -- How data grow while they are written. Only private contracts and proofs read this.
+use Rattle.rb_writer.specs.declared.area.KeyArea.{KeyArea}
 use Rattle.std.specs.Prelude.{◌≡◌, ◌⊎◌, ℕ, ℤ, ◌+◌, ◌*◌, ◌/◌, ◌^◌, ◌<◌, ◌≤◌, List, length, get_or, drop, Result, Ok, map}
 use Rattle.std.specs.Int.{cast_signed, w32}
 use Rattle.rb_format.specs.declared.fault.FileFault.{FileFault}
@@ -48,23 +49,23 @@ pub record PutsBytes (old new : List ℕ) (bytes : List ℕ) : Type 0 where
   pub bytes_are : drop (length old) new ≡ bytes
 
 -- the bounds of data that are being written: all that stands there so far
-abbrev pub draft : ℕ → List ℕ → Layout
-draft kt body = record { indexes = 5; keys_top = kt; top = length body / 4 }
+abbrev pub draft : KeyArea → List ℕ → Layout
+draft area body = record { indexes = area.indexes; keys_top = area.top; top = length body / 4 }
 
--- whole words, with the header's words and the keys in front
-pub record IsDraft (kt : ℕ) (body : List ℕ) : Type 0 where
+-- whole words, with the root item, the indexes and the keys in front
+pub record IsDraft (area : KeyArea) (body : List ℕ) : Type 0 where
   pub words : ℕ
   pub whole : length body ≡ 4 * words
-  pub low : 6 ≤ kt
-  pub high : kt ≤ words
+  pub low : 1 + area.indexes ≤ area.top
+  pub high : area.top ≤ words
 
 -- a value x was written at an offset, or is the value of an item without data, which has none
-pub record Put {A : Type 0} (kt : ℕ) (old new : List ℕ) (most : ℕ) (value : Layout → List ℕ → ℕ → Result A FileFault) (x none : A) (offset : ℕ) : Type 0 where
+pub record Put {A : Type 0} (area : KeyArea) (old new : List ℕ) (most : ℕ) (value : Layout → List ℕ → ℕ → Result A FileFault) (x none : A) (offset : ℕ) : Type 0 where
   pub adds : Adds old new
-  pub drafted : IsDraft kt new
+  pub drafted : IsDraft area new
   pub little : length new ≤ length old + most
   pub small : offset < 2 ^ 28
-  pub stands : ((offset ≡ 0) × (x ≡ none)) ⊎ ((kt ≤ offset) × (offset < length new / 4) × (value (draft kt new) new offset ≡ Ok x))
+  pub stands : ((offset ≡ 0) × (x ≡ none)) ⊎ ((area.top ≤ offset) × (offset < length new / 4) × (value (draft area new) new offset ≡ Ok x))
 
 -- the signed numbers at an offset
 abbrev pub signed_numbers : Layout → List ℕ → ℕ → Result (List ℤ) FileFault

@@ -1,3 +1,4 @@
+pub mod Header
 pub mod Growth
 pub mod Most
 pub mod Places

@@ -1,4 +1,5 @@
 -- Trees that were written, and the items that stand for them. Only private contracts and proofs read this.
+use Rattle.rb_writer.specs.declared.area.KeyArea.{KeyArea}
 use Rattle.std.specs.Prelude.{◌≡◌, ◌⊎◌, ℕ, ◌+◌, ◌/◌, ◌%◌, ◌^◌, ◌<◌, ◌≤◌, List, [], ◌∷◌, length, get_or, drop, Some, Ok, IsSome, slice_get}
 use Rattle.rb_tree.specs.Resource.{Resource, Members, height}
 use Rattle.rb_format.specs.Place.{key}
@@ -14,27 +15,27 @@ use Rattle.rb_writer.specs.Keyed.{place}
 use Rattle.rb_writer.specs.declared.keys.KeyPlaces.{KeyPlaces}
 
 -- a tree was written, and an item stands for it
-pub record Stands (kt : ℕ) (old new : List ℕ) (t : Resource) (item : ℕ) : Type 0 where
+pub record Stands (area : KeyArea) (old new : List ℕ) (t : Resource) (item : ℕ) : Type 0 where
   pub adds : Adds old new
-  pub drafted : IsDraft kt new
+  pub drafted : IsDraft area new
   pub little : length new ≤ length old + data_most t
-  pub reads : read (draft kt new) new (height t) item ≡ Ok t
+  pub reads : read (draft area new) new (height t) item ≡ Ok t
 
 abbrev pub children_most : List Resource → ℕ
 children_most [] = 0
 children_most (t ∷ ts) = data_most t + children_most ts
 
 -- the first n of these trees were written, and items stand for them
-pub record ChildrenStand (kt : ℕ) (old new : List ℕ) (cs : List Resource) (items : List ℕ) (n : ℕ) : Type 0 where
+pub record ChildrenStand (area : KeyArea) (old new : List ℕ) (cs : List Resource) (items : List ℕ) (n : ℕ) : Type 0 where
   pub adds : Adds old new
-  pub drafted : IsDraft kt new
+  pub drafted : IsDraft area new
   pub little : length new + children_most (drop n cs) ≤ length old + children_most cs
   pub count : length items ≡ n
-  pub reads : (j : ℕ) (u : Resource) → j < n → Some u ≡ slice_get cs j → read (draft kt new) new (height u) (get_or items j 0) ≡ Ok u
+  pub reads : (j : ℕ) (u : Resource) → j < n → Some u ≡ slice_get cs j → read (draft area new) new (height u) (get_or items j 0) ≡ Ok u
 
 -- each key that has a place stands there
-abbrev pub KeysStand : ℕ → List ℕ → KeyPlaces → Type 0
-KeysStand kt body keys = (k : List ℕ) (o : ℕ) → place keys k ≡ Some o → key (draft kt body) body o ≡ Some k
+abbrev pub KeysStand : KeyArea → List ℕ → KeyPlaces → Type 0
+KeysStand area body keys = (k : List ℕ) (o : ℕ) → place keys k ≡ Some o → key (draft area body) body o ≡ Some k
 
 -- each key of the tree has a place
 abbrev pub HasPlaces : KeyPlaces → Resource → Type 0

@@ -1,16 +1,34 @@
 -- The file of what was written. Only private contracts and proofs read this.
-use Rattle.std.specs.Prelude.{◌≡◌, ℕ, ◌+◌, ◌/◌, ◌<◌, ◌≤◌, List, length, get_or, take}
+use Rattle.std.specs.Prelude.{◌≡◌, Bool, true, if◌then◌else◌, ℕ, ◌+◌, ◌*◌, ◌/◌, ◌<◌, ◌≤◌, List, length, get_or, take, drop}
 use Rattle.rb_format.specs.Place.{word_at}
-use Rattle.rb_writer.specs.declared.file.TheConstants.{HEADER}
+use Rattle.rb_writer.specs.Header.{header}
+use Rattle.rb_writer.specs.declared.area.KeyArea.{KeyArea}
 
--- the header, the root item, the indexes and what stands behind them in the data
-pub record IsFile (out : List ℕ) (root kt most : ℕ) (file : List ℕ) : Type 0 where
-  pub len : length file ≡ 32 + length out
-  pub front : take 32 file ≡ HEADER
-  pub root_is : word_at file 8 ≡ root
-  pub indexes : word_at file 9 ≡ 5
-  pub keys_top : word_at file 10 ≡ kt
-  pub items_top : word_at file 11 ≡ length out / 4
-  pub top : word_at file 12 ≡ length out / 4
-  pub longest : word_at file 13 ≡ most
-  pub same : (i : ℕ) → 24 ≤ i → i < length out → get_or file (32 + i) 0 ≡ get_or out i 0
+-- the attributes are the sixth index
+abbrev pub index_count : Bool → ℕ
+index_count no_fallback = if no_fallback then 6 else 5
+
+-- a word was replaced
+pub record SetsWord (old new : List ℕ) (i word : ℕ) : Type 0 where
+  pub len : length new ≡ length old
+  pub word_is : word_at new i ≡ word
+  pub before : (j : ℕ) → j < 4 * i → get_or new j 0 ≡ get_or old j 0
+  pub after : (j : ℕ) → 4 * i + 4 ≤ j → get_or new j 0 ≡ get_or old j 0
+
+-- the root item and the indexes were written at the front of data
+pub record IsIndexed (no_fallback : Bool) (old : List ℕ) (root : ℕ) (area : KeyArea) (most : ℕ) (new : List ℕ) : Type 0 where
+  pub len : length new ≡ length old
+  pub root_is : word_at new 0 ≡ root
+  pub indexes : word_at new 1 ≡ area.indexes
+  pub keys_top : word_at new 2 ≡ area.top
+  pub items_top : word_at new 3 ≡ length old / 4
+  pub top : word_at new 4 ≡ length old / 4
+  pub longest : word_at new 5 ≡ most
+  pub attributes : no_fallback ≡ true → word_at new 6 ≡ 1
+  pub same : (i : ℕ) → 4 * (1 + area.indexes) ≤ i → get_or new i 0 ≡ get_or old i 0
+
+-- the file of these data
+pub record IsFile (no_fallback : Bool) (out : List ℕ) (root : ℕ) (area : KeyArea) (most : ℕ) (file : List ℕ) : Type 0 where
+  pub long : 32 ≤ length file
+  pub front : take 32 file ≡ header no_fallback
+  pub indexed : IsIndexed no_fallback out root area most (drop 32 file)

@@ -1,4 +1,4 @@
-// What is written behind the children of an array or a table.
+// What is written after the children of an array or a table.
 ghost use Rattle.std.specs.Prelude.{IfOk, OnOk, All, IsTrue, length, ◌≡◌, ◌+◌, ◌*◌, ◌%◌, ◌^◌, ◌≤◌, ◌<◌, ◌↔◌};
 ghost use Rattle.std.specs.Map.{keys_of};
 ghost use Rattle.rb_tree.specs.Keys.{pairs, IsTable};
@@ -6,16 +6,17 @@ ghost use Rattle.rb_tree.specs.Resource.{table};
 ghost use Rattle.rb_writer.specs.Growth.{PutsHalves};
 ghost use Rattle.rb_writer.specs.Standing.{PutsArray, PutsShort, PutsLong, HasPlaces, PlacesAre};
 
+use crate::data::Data;
 use crate::keys::KeyPlaces;
 use crate::put::{pad, put_half, put_word, put_words};
 use rb_tree::Entries;
 use std::alloc::{AllocError, Global};
 
-/// Writes the count and the items of an array, and answers the offset.
-pub fn write_array(out: &mut Vec<u8>, items: &[u32]) -> Result<u32, AllocError>
-    requires whole { length out.old.items % 4 ≡ 0 }
-    requires room { length out.old.items + (4 + 4 * length items.now) ≤ 2 ^ 28 }
-    ensures array { IfOk result (λ offset. PutsArray out.old.items out.new.items items.now offset) }
+/// Writes the count and the items of an array, and returns the offset.
+pub fn write_array(out: &mut Data, items: &[u32]) -> Result<u32, AllocError>
+    requires whole { length out.old % 4 ≡ 0 }
+    requires room { length out.old + (4 + 4 * length items.now) ≤ 2 ^ 28 }
+    ensures array { IfOk result (λ offset. PutsArray out.old out.new items.now offset) }
     ensures small { IfOk result (λ offset. offset < 2 ^ 28) }
 {
     let offset = out.len() / 4;
@@ -24,10 +25,10 @@ pub fn write_array(out: &mut Vec<u8>, items: &[u32]) -> Result<u32, AllocError>
     Ok(offset as u32)
 }
 
-/// Puts key offsets as half words behind the data.
-pub fn put_short_offsets(out: &mut Vec<u8>, offsets: &[u32]) -> Result<(), AllocError>
+/// Puts key offsets as half words after the data.
+pub fn put_short_offsets(out: &mut Data, offsets: &[u32]) -> Result<(), AllocError>
     requires { All (λ x. x < 2 ^ 16) offsets.now }
-    ensures { OnOk result (PutsHalves out.old.items out.new.items offsets.now (length offsets.now)) }
+    ensures { OnOk result (PutsHalves out.old out.new offsets.now (length offsets.now)) }
 {
     for offset in offsets {
         put_half(out, *offset as u16)?;
@@ -35,18 +36,14 @@ pub fn put_short_offsets(out: &mut Vec<u8>, offsets: &[u32]) -> Result<(), Alloc
     Ok(())
 }
 
-/// Writes a table with short key offsets, and answers its offset.
-pub fn write_short_table(
-    out: &mut Vec<u8>,
-    offsets: &[u32],
-    items: &[u32],
-) -> Result<u32, AllocError>
-    requires whole { length out.old.items % 4 ≡ 0 }
-    requires room { length out.old.items + (4 + 8 * length items.now) ≤ 2 ^ 28 }
+/// Writes a table with short key offsets, and returns its offset.
+pub fn write_short_table(out: &mut Data, offsets: &[u32], items: &[u32]) -> Result<u32, AllocError>
+    requires whole { length out.old % 4 ≡ 0 }
+    requires room { length out.old + (4 + 8 * length items.now) ≤ 2 ^ 28 }
     requires count { length items.now < 2 ^ 16 }
     requires offsets { length offsets.now ≡ length items.now }
     requires short { All (λ x. x < 2 ^ 16) offsets.now }
-    ensures table { IfOk result (λ offset. PutsShort out.old.items out.new.items offsets.now items.now offset) }
+    ensures table { IfOk result (λ offset. PutsShort out.old out.new offsets.now items.now offset) }
     ensures small { IfOk result (λ offset. offset < 2 ^ 28) }
 {
     let offset = out.len() / 4;
@@ -57,16 +54,12 @@ pub fn write_short_table(
     Ok(offset as u32)
 }
 
-/// Writes a table with long key offsets, and answers its offset.
-pub fn write_long_table(
-    out: &mut Vec<u8>,
-    offsets: &[u32],
-    items: &[u32],
-) -> Result<u32, AllocError>
-    requires whole { length out.old.items % 4 ≡ 0 }
-    requires room { length out.old.items + (4 + 8 * length items.now) ≤ 2 ^ 28 }
+/// Writes a table with long key offsets, and returns its offset.
+pub fn write_long_table(out: &mut Data, offsets: &[u32], items: &[u32]) -> Result<u32, AllocError>
+    requires whole { length out.old % 4 ≡ 0 }
+    requires room { length out.old + (4 + 8 * length items.now) ≤ 2 ^ 28 }
     requires offsets { length offsets.now ≡ length items.now }
-    ensures table { IfOk result (λ offset. PutsLong out.old.items out.new.items offsets.now items.now offset) }
+    ensures table { IfOk result (λ offset. PutsLong out.old out.new offsets.now items.now offset) }
     ensures small { IfOk result (λ offset. offset < 2 ^ 28) }
 {
     let offset = out.len() / 4;

@@ -4,98 +4,104 @@ ghost use Rattle.rb_format.specs.File.{Denotes};
 ghost use Rattle.rb_format.specs.Place.{word_at};
 ghost use Rattle.rb_tree.specs.Parts.{Fits};
 ghost use Rattle.rb_tree.specs.View.{view_of};
-ghost use Rattle.rb_writer.specs.Growth.{IsDraft};
-ghost use Rattle.rb_writer.specs.Whole.{IsFile};
+ghost use Rattle.rb_writer.specs.Header as specified;
+ghost use Rattle.rb_writer.specs.Whole as whole;
+ghost use Rattle.rb_writer.specs.Whole.{IsFile, IsIndexed, SetsWord};
 ghost use Rattle.rb_writer.specs.Longest.{longest};
 
+use crate::area::KeyArea;
 use crate::collect::{longest_table, sorted_keys};
+use crate::data::Data;
+use crate::header::header;
 use crate::keys::write_keys;
-use crate::put::{put_bytes, put_word};
 use crate::tree::write_value;
-use rb_format::{
-    CHARSET_FAMILY, DATA_FORMAT, FORMAT_VERSION, HEADER_SIZE, INDEX_COUNT, INFO_SIZE, MAGIC,
-    UNIT_SIZE,
-};
+use rb_format::{ATTRIBUTES_INDEX_COUNT, HEADER_SIZE, INDEX_COUNT};
 use rb_tree::Tree;
 use std::alloc::{AllocError, Global};
 
-/// What stands before the data.
-pub const HEADER: [u8; 32] = [
-    HEADER_SIZE as u8,
-    0,
-    MAGIC[0],
-    MAGIC[1],
-    INFO_SIZE as u8,
-    0,
-    0,
-    0,
-    0,
-    CHARSET_FAMILY,
-    UNIT_SIZE,
-    0,
-    DATA_FORMAT[0],
-    DATA_FORMAT[1],
-    DATA_FORMAT[2],
-    DATA_FORMAT[3],
-    FORMAT_VERSION[0],
-    FORMAT_VERSION[1],
-    0,
-    0,
-    0,
-    0,
-    0,
-    0,
-    0,
-    0,
-    0,
-    0,
-    0,
-    0,
-    0,
-    0,
-];
-
-/// The header, the indexes and what stands behind them.
-#[tactic(auto, using(crate::proofs::Ended::is_file))]
-pub fn finish(
-    alloc: Global,
-    root: u32,
-    keys_top: u32,
-    longest: u32,
-    out: &[u8],
-) -> Result<Vec<u8>, AllocError>
-    requires long { 24 ≤ length out.now }
-    requires room { length out.now < 2 ^ 31 }
-    ensures { IfOk result (λ f. IsFile out.now root keys_top longest f.items) }
+/// How many indexes are written: the attributes are the sixth.
+fn index_count(no_fallback: bool) -> u32
+    ensures { result ≡ whole.index_count no_fallback }
 {
-    let top = (out.len() / 4) as u32;
-    let mut file = Vec::new(alloc);
-    put_bytes(&mut file, &HEADER)?;
-    put_word(&mut file, root)?;
-    put_word(&mut file, INDEX_COUNT)?;
-    put_word(&mut file, keys_top)?;
-    put_word(&mut file, top)?;
-    put_word(&mut file, top)?;
-    put_word(&mut file, longest)?;
-    put_bytes(&mut file, &out[24..])?;
-    Ok(file)
+    if no_fallback {
+        ATTRIBUTES_INDEX_COUNT
+    } else {
+        INDEX_COUNT
+    }
 }
 
-/// The file of a tree that `fits`. The only error is want of memory.
+/// Replaces word i.
+fn set_word(bytes: &mut [u8], i: usize, word: u32)
+    requires { 4 * i + 4 ≤ length bytes.old }
+    ensures { SetsWord bytes.old bytes.new i word }
+{
+    bytes[4 * i..4 * i + 4].copy_from_slice(&word.to_le_bytes());
+}
+
+/// Writes the root item and the indexes at the front of the data.
+fn set_indexes(body: &mut [u8], root: u32, area: KeyArea, longest: u32, no_fallback: bool)
+    requires indexes { area.indexes ≡ whole.index_count no_fallback }
+    requires long { 4 * (1 + area.indexes) ≤ length body.old }
+    requires room { length body.old < 2 ^ 31 }
+    ensures { IsIndexed no_fallback body.old root area longest body.new }
+{
+    let top = (body.len() / 4) as u32;
+    set_word(body, 0, root);
+    set_word(body, 1, area.indexes);
+    set_word(body, 2, area.top);
+    set_word(body, 3, top);
+    set_word(body, 4, top);
+    set_word(body, 5, longest);
+    if no_fallback {
+        set_word(body, 6, 1);
+    }
+}
+
+/// Writes the header, the root item and the indexes.
+fn set_front(file: &mut [u8], root: u32, area: KeyArea, longest: u32, no_fallback: bool)
+    requires indexes { area.indexes ≡ whole.index_count no_fallback }
+    requires long { 32 + 4 * (1 + area.indexes) ≤ length file.old }
+    requires room { length file.old < 2 ^ 31 }
+    ensures { IsFile no_fallback (drop 32 file.old) root area longest file.new }
+{
+    let (front, body) = file.split_at_mut(HEADER_SIZE as usize);
+    front.copy_from_slice(&header(no_fallback));
+    set_indexes(body, root, area, longest, no_fallback);
+}
+
+/// The file of the data, with its header, its root item and its indexes.
+fn finish(out: Data, root: u32, area: KeyArea, longest: u32, no_fallback: bool) -> Vec<u8>
+    requires indexes { area.indexes ≡ whole.index_count no_fallback }
+    requires long { 4 * (1 + area.indexes) ≤ length out }
+    requires room { length out + 32 < 2 ^ 31 }
+    ensures { IsFile no_fallback out root area longest result.items }
+{
+    let mut file = out.into_file();
+    set_front(&mut file, root, area, longest, no_fallback);
+    file
+}
+
+/// The file of a tree that `fits`, as a bundle with fallback or without. The only error is that memory runs out.
 ///
 /// Each distinct key stands once, in ascending order, and the values follow in post-order; nothing else is shared. A table has
 /// short key offsets where its count and all its offsets are at most 65,535. All padding is 0xAA.
-pub fn write(alloc: Global, tree: &Tree) -> Result<Vec<u8>, AllocError>
+pub fn write(alloc: Global, tree: &Tree, no_fallback: bool) -> Result<Vec<u8>, AllocError>
     requires { Fits (view_of tree.now) }
-    ensures denotes { IfOk result (λ f. Denotes f.items (view_of tree.now)) }
-    ensures front { IfOk result (λ f. take 32 f.items ≡ HEADER) }
+    ensures denotes { IfOk result (λ f. Denotes f.items (record { tree = view_of tree.now; no_fallback = no_fallback })) }
+    ensures front { IfOk result (λ f. take 32 f.items ≡ specified.header no_fallback) }
     ensures end { IfOk result (λ f. length f.items ≡ 32 + 4 * word_at (drop 32 f.items) 4) }
     ensures longest { IfOk result (λ f. word_at (drop 32 f.items) 5 ≡ longest (view_of tree.now)) }
 {
+    let indexes = index_count(no_fallback);
     let keys = sorted_keys(alloc, tree)?;
-    let mut out = Vec::new(alloc);
-    put_bytes(&mut out, &[0; 24])?;
-    let places = write_keys(alloc, &mut out, &keys)?;
+    let mut out = Data::new(alloc, indexes)?;
+    let places = write_keys(alloc, &mut out, &keys, indexes)?;
     let root = write_value(alloc, &mut out, &places, tree)?;
-    finish(alloc, root, places.top, longest_table(tree) as u32, &out)
+    Ok(finish(
+        out,
+        root,
+        places.area,
+        longest_table(tree) as u32,
+        no_fallback,
+    ))
 }

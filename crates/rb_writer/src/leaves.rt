@@ -1,17 +1,19 @@
 // Values without children.
 ghost use Rattle.std.specs.Prelude.{IfOk, length, ◌≡◌, ◌+◌, ◌*◌, ◌%◌, ◌^◌, ◌≤◌, ◌<◌, ℕ, [], map};
 ghost use Rattle.rb_format.specs.FirstFault.{units, bytes};
+ghost use Rattle.rb_writer.specs.declared.area.KeyArea.{KeyArea};
 ghost use Rattle.rb_writer.specs.Growth.{IsDraft, Put, signed_numbers};
 
+use crate::data::Data;
 use crate::put::{PADDING, pad, put_bytes, put_half, put_halves, put_numbers, put_word};
 use std::alloc::AllocError;
 
-/// Writes units with a zero unit behind them, and answers the offset.
+/// Writes units with a zero unit after them, and returns the offset.
 #[tactic(auto, using(crate::proofs::Values::units_put, crate::proofs::Values::nothing_put))]
-pub fn write_units(out: &mut Vec<u8>, text: &[u16]) -> Result<u32, AllocError>
-    requires whole { length out.old.items % 4 ≡ 0 }
-    requires room { length out.old.items + (8 + 2 * length text.now) ≤ 2 ^ 28 }
-    ensures put { IfOk result (λ offset. (kt : ℕ) → IsDraft kt out.old.items → Put kt out.old.items out.new.items (8 + 2 * length text.now) units text.now [] offset) }
+pub fn write_units(out: &mut Data, text: &[u16]) -> Result<u32, AllocError>
+    requires whole { length out.old % 4 ≡ 0 }
+    requires room { length out.old + (8 + 2 * length text.now) ≤ 2 ^ 28 }
+    ensures put { IfOk result (λ offset. (area : KeyArea) → IsDraft area out.old → Put area out.old out.new (8 + 2 * length text.now) units text.now [] offset) }
     ensures small { IfOk result (λ offset. offset < 2 ^ 28) }
 {
     if text.is_empty() {
@@ -25,12 +27,12 @@ pub fn write_units(out: &mut Vec<u8>, text: &[u16]) -> Result<u32, AllocError>
     Ok(offset as u32)
 }
 
-/// Writes signed numbers, and answers the offset.
+/// Writes signed numbers, and returns the offset.
 #[tactic(auto, using(crate::proofs::Values::numbers_put, crate::proofs::Values::nothing_put))]
-pub fn write_numbers(out: &mut Vec<u8>, numbers: &[i32]) -> Result<u32, AllocError>
-    requires whole { length out.old.items % 4 ≡ 0 }
-    requires room { length out.old.items + (4 + 4 * length numbers.now) ≤ 2 ^ 28 }
-    ensures put { IfOk result (λ offset. (kt : ℕ) → IsDraft kt out.old.items → Put kt out.old.items out.new.items (4 + 4 * length numbers.now) signed_numbers numbers.now [] offset) }
+pub fn write_numbers(out: &mut Data, numbers: &[i32]) -> Result<u32, AllocError>
+    requires whole { length out.old % 4 ≡ 0 }
+    requires room { length out.old + (4 + 4 * length numbers.now) ≤ 2 ^ 28 }
+    ensures put { IfOk result (λ offset. (area : KeyArea) → IsDraft area out.old → Put area out.old out.new (4 + 4 * length numbers.now) signed_numbers numbers.now [] offset) }
     ensures small { IfOk result (λ offset. offset < 2 ^ 28) }
 {
     if numbers.is_empty() {
@@ -42,12 +44,12 @@ pub fn write_numbers(out: &mut Vec<u8>, numbers: &[i32]) -> Result<u32, AllocErr
     Ok(offset as u32)
 }
 
-/// Writes bytes that start at a multiple of 16 bytes, and answers the offset.
+/// Writes bytes that start at a multiple of 16 bytes, and returns the offset.
 #[tactic(auto, using(crate::proofs::Values::bytes_put, crate::proofs::Values::nothing_put))]
-pub fn write_bytes(out: &mut Vec<u8>, binary: &[u8]) -> Result<u32, AllocError>
-    requires whole { length out.old.items % 4 ≡ 0 }
-    requires room { length out.old.items + (20 + length binary.now) ≤ 2 ^ 28 }
-    ensures put { IfOk result (λ offset. (kt : ℕ) → IsDraft kt out.old.items → Put kt out.old.items out.new.items (20 + length binary.now) bytes binary.now [] offset) }
+pub fn write_bytes(out: &mut Data, binary: &[u8]) -> Result<u32, AllocError>
+    requires whole { length out.old % 4 ≡ 0 }
+    requires room { length out.old + (20 + length binary.now) ≤ 2 ^ 28 }
+    ensures put { IfOk result (λ offset. (area : KeyArea) → IsDraft area out.old → Put area out.old out.new (20 + length binary.now) bytes binary.now [] offset) }
     ensures small { IfOk result (λ offset. offset < 2 ^ 28) }
 {
     if binary.is_empty() {

@@ -1,4 +1,4 @@
-// A table behind its children.
+// A table after its children.
 ghost use Rattle.std.specs.Prelude.{MatchResult, IfOk, length, ◌≡◌, ◌⊎◌, ◌+◌, ◌*◌, ◌%◌, ◌<◌, ◌^◌, ◌≤◌, ℕ, List, Some};
 ghost use Rattle.std.specs.Map.{keys_of};
 ghost use Rattle.rb_tree.specs.Keys.{pairs, IsTable};
@@ -6,25 +6,26 @@ ghost use Rattle.rb_tree.specs.Resource.{table};
 ghost use Rattle.rb_writer.specs.Standing.{HasPlaces, WritesTable};
 
 use crate::containers::{is_short, key_offsets, write_long_table, write_short_table};
+use crate::data::Data;
 use crate::item::item;
 use crate::keys::KeyPlaces;
 use rb_format::ItemKind;
 use rb_tree::Entries;
 use std::alloc::{AllocError, Global};
 
-/// Writes a table that isn't empty, with the items of its values, and answers its item.
+/// Writes a table that isn't empty, with the items of its values, and returns its item.
 pub fn write_table(
     alloc: Global,
-    out: &mut Vec<u8>,
+    out: &mut Data,
     keys: &KeyPlaces<'_>,
     entries: &Entries,
     items: &[u32],
 ) -> Result<u32, AllocError>
-    requires whole { length out.old.items % 4 ≡ 0 }
-    requires room { length out.old.items + (4 + 8 * length items.now) ≤ 2 ^ 28 }
+    requires whole { length out.old % 4 ≡ 0 }
+    requires room { length out.old + (4 + 8 * length items.now) ≤ 2 ^ 28 }
     requires items { length items.now ≡ length (pairs entries.now) }
     requires each { HasPlaces keys.now (table entries.now) }
-    ensures { IfOk result (WritesTable keys.now entries.now out.old.items out.new.items items.now) }
+    ensures { IfOk result (WritesTable keys.now entries.now out.old out.new items.now) }
 {
     let offsets = key_offsets(alloc, keys, entries)?;
     if is_short(&offsets) {

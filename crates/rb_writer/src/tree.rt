@@ -1,4 +1,4 @@
-// The values of a tree, each behind its children.
+// The values of a tree, each after its children.
 ghost use Rattle.std.specs.Prelude.{IfOk, length, ◌≡◌, ◌+◌, ◌^◌, ◌≤◌};
 ghost use Rattle.rb_tree.specs.Parts.{kind_of, len_of, children_of, HasChildren};
 ghost use Rattle.rb_tree.specs.View.{view_of};
@@ -7,6 +7,7 @@ ghost use Rattle.rb_writer.specs.Most.{data_most};
 ghost use Rattle.rb_writer.specs.Standing.{Stands, ChildrenStand, KeysStand, HasPlaces, children_most};
 
 use crate::containers::write_array;
+use crate::data::Data;
 use crate::item::item;
 use crate::keys::KeyPlaces;
 use crate::leaves::{write_bytes, write_numbers, write_units};
@@ -15,20 +16,20 @@ use rb_format::ItemKind;
 use rb_tree::{Node, Tree};
 use std::alloc::{AllocError, Global};
 
-/// Writes a tree, and answers the item that stands for it.
+/// Writes a tree, and returns the item that stands for it.
 #[cycle(write)]
 #[tactic(auto, using(crate::proofs::Nodes::children_le, crate::proofs::Containing::array_room, crate::proofs::Containing::table_room))]
 pub fn write_value(
     alloc: Global,
-    out: &mut Vec<u8>,
+    out: &mut Data,
     keys: &KeyPlaces<'_>,
     tree: &Tree,
 ) -> Result<u32, AllocError>
-    requires drafted { IsDraft keys.now.top out.old.items }
-    requires room { length out.old.items + data_most (view_of tree.now) ≤ 2 ^ 28 }
-    requires keys { KeysStand keys.now.top out.old.items keys.now }
+    requires drafted { IsDraft keys.now.area out.old }
+    requires room { length out.old + data_most (view_of tree.now) ≤ 2 ^ 28 }
+    requires keys { KeysStand keys.now.area out.old keys.now }
     requires each { HasPlaces keys.now (view_of tree.now) }
-    ensures { IfOk result (Stands keys.now.top out.old.items out.new.items (view_of tree.now)) }
+    ensures { IfOk result (Stands keys.now.area out.old out.new (view_of tree.now)) }
 {
     match tree {
         Tree::String(units) => Ok(item(ItemKind::String, write_units(out, units.as_slice())?)),
@@ -53,21 +54,21 @@ pub fn write_value(
     }
 }
 
-/// Writes the children of an array or a table, and answers the items that stand for them.
+/// Writes the children of an array or a table, and returns the items that stand for them.
 #[cycle(write)]
 #[tactic(auto, using(rb_tree::specs::Lower::child_lower, rb_tree::specs::Lower::children_len, crate::proofs::Nodes::children_none))]
 fn write_children(
     alloc: Global,
-    out: &mut Vec<u8>,
+    out: &mut Data,
     keys: &KeyPlaces<'_>,
     tree: &Tree,
 ) -> Result<Vec<u32>, AllocError>
     requires nested { HasChildren (kind_of (view_of tree.now)) }
-    requires drafted { IsDraft keys.now.top out.old.items }
-    requires room { length out.old.items + children_most (children_of (view_of tree.now)) ≤ 2 ^ 28 }
-    requires keys { KeysStand keys.now.top out.old.items keys.now }
+    requires drafted { IsDraft keys.now.area out.old }
+    requires room { length out.old + children_most (children_of (view_of tree.now)) ≤ 2 ^ 28 }
+    requires keys { KeysStand keys.now.area out.old keys.now }
     requires each { HasPlaces keys.now (view_of tree.now) }
-    ensures { IfOk result (λ items. ChildrenStand keys.now.top out.old.items out.new.items (children_of (view_of tree.now)) items.items (len_of (view_of tree.now))) }
+    ensures { IfOk result (λ items. ChildrenStand keys.now.area out.old out.new (children_of (view_of tree.now)) items.items (len_of (view_of tree.now))) }
 {
     let mut items = Vec::new(alloc);
     for i in 0..tree.len() {

@@ -1,6 +1,3 @@
-use Rattle.std.proofs.Common.{rules, ◌≡◌, sym, ℕ, List, Some, None}
-use Rattle.rb_grammar.specs.Numeral.{IsHexText}
-use Rattle.rb_grammar.specs.Reading.{first_text}
 use Rattle.rb_parser.proofs.Leaves.{bytes_read, no_bytes, bytes_some, bytes_none}
 use Rattle.rb_parser.proofs.leaf.read_binary.Goals as goal
 

@@ -1,4 +1,4 @@
-use Rattle.std.proofs.Common.{◌≡◌, suc, length, ap, ◌∙◌, arith}
+use Rattle.std.proofs.Common.{suc, length, ap, ◌∙◌, arith}
 use Rattle.rb_parser.specs.declared.word.Word.TheVariants as word
 use Rattle.rb_parser.proofs.Leaves.{string_reads, alias_reads, binary_reads, int_reads, ints_reads}
 use Rattle.rb_parser.proofs.leaf.read_leaf.Goals as goal

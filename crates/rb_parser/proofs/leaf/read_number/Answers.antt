@@ -1,4 +1,4 @@
-use Rattle.std.proofs.Common.{◌≡◌, sym, ap, subst, ◌∙◌, ℕ, List, Some, None}
+use Rattle.std.proofs.Common.{◌≡◌, sym, subst, ℕ, List}
 use Rattle.rb_grammar.specs.Numeral.{IsIntText}
 use Rattle.rb_parser.proofs.Leaves.{int_read, no_int}
 use Rattle.rb_parser.proofs.leaf.read_number.Goals as goal

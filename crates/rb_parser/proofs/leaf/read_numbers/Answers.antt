@@ -1,4 +1,4 @@
-use Rattle.std.proofs.Common.{rules, ◌≡◌, ℤ, ◌<◌, ◌++◌, ◌∷◌, [], length, None, Some, refl, sym, ap, subst, ◌∙◌, arith, to_z, of_z, w32}
+use Rattle.std.proofs.Common.{rules, ◌≡◌, ◌<◌, ◌++◌, ◌∷◌, [], length, None, Some, refl, sym, ap, ◌∙◌, arith}
 use Rattle.rb_grammar.specs.Faults.{line_at}
 use Rattle.rb_grammar.specs.Numeral.{IsElementText}
 use Rattle.rb_grammar.specs.Reading.{first_text, after_comma}

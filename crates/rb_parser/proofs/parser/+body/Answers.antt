@@ -1,4 +1,4 @@
-use Rattle.std.proofs.Common.{rules, ◌≡◌, ℕ, ◌<◌, ◌≤◌, ◌-◌, ◌||◌, suc, length, List, [], ◌∷◌, ◌++◌, Some, None, Ok, Err, Bool, true, false, not, cond, nat_lt, refl, sym, ap, ap₂, subst, ◌∙◌, arith, Vec, Global}
+use Rattle.std.proofs.Common.{◌≡◌, ℕ, ◌<◌, ◌-◌, ◌||◌, suc, length, List, [], ◌∷◌, ◌++◌, Some, None, Ok, Err, true, false, not, nat_lt, refl, sym, ap, ap₂, subst, ◌∙◌, arith, Vec, Global}
 use Rattle.rb_tree.specs.declared.tree.Tree.{Tree}
 use Rattle.rb_tree.specs.declared.tree.Tree.TheVariants.{String}
 use Rattle.rb_parser.specs.declared.cursor.Cursor.{Cursor}
@@ -6,17 +6,14 @@ use Rattle.std.proofs.lemmas.Result.{err_from_is_err_and}
 use Rattle.std.proofs.lemmas.Bool.{false≢true, lt-ltb}
 use Rattle.rb_lexer.specs.declared.fault.SourceKind.TheVariants.{DuplicateKey}
 use Rattle.rb_tree.specs.Keys.{IsKey}
-use Rattle.rb_tree.specs.Table.{IsFirstRepeat, keys_in}
 use Rattle.rb_grammar.specs.Faults.{line_at}
 use Rattle.rb_grammar.specs.Form.{leaf, plain}
-use Rattle.rb_grammar.specs.Reading.{left, right, colon, begins, tail, first_text, after_comma, punctuation_at, is_among, word_at, typed_at, untyped_at, guess, body, entries, elements}
+use Rattle.rb_grammar.specs.Reading.{left, right, colon, begins, first_text, after_comma, punctuation_at, is_among, typed_at, untyped_at, guess, body}
 use Rattle.rb_grammar.specs.Tests.{the_tests}
-use Rattle.rb_parser.specs.Reads.{located, inner_at, leaf_at, IsBodyTree}
-use Rattle.rb_parser.specs.Views.{word_of}
-use Rattle.rb_parser.proofs.Steps.{fault_is}
-use Rattle.rb_parser.proofs.Rows.{Pair, keys_behind, entries_start, entries_turn, entries_end, stop_bad_key, stop_twice, stop_body, stop_open, was_seen, was_held, was_new, same_keys_none, same_keys_push}
+use Rattle.rb_parser.specs.Reads.{located, inner_at, IsBodyTree}
+use Rattle.rb_parser.proofs.Rows.{keys_behind, entries_start, entries_turn, entries_end, stop_bad_key, stop_twice, stop_body, stop_open, was_seen, was_held, was_new, same_keys_none, same_keys_push}
 use Rattle.rb_parser.proofs.Parts as parts
-use Rattle.rb_parser.proofs.Bodies.{reads_same, located_same, depth_error, bad_word, no_brace, typed_body, unopened, untyped_body, leaf_stops, leaf_open, leaf_reads, plain_reads, keys_more, keys_none, table_spells, table_passed, no_repeat}
+use Rattle.rb_parser.proofs.Bodies.{reads_same, depth_error, bad_word, no_brace, typed_body, unopened, untyped_body, leaf_stops, leaf_open, leaf_reads, plain_reads, keys_more, keys_none, table_spells, table_passed, no_repeat}
 use Rattle.rb_parser.proofs.parser.+body.Goals.{read_array-in-Some+else-depth-eq0+in_ok-push, read_array-in_default+then-is_at_body+in_ok-read_body+in_ok-push-2}
 use Rattle.rb_parser.proofs.parser.+body.Goals as goal
 

@@ -1,8 +1,7 @@
-use Rattle.std.proofs.Common.{◌≡◌, Ok, Err, true, refl, inl, inr, sym, ap, subst, ◌∙◌, List}
+use Rattle.std.proofs.Common.{Ok, Err, inl, inr, sym, subst, ◌∙◌, List}
 use Rattle.std.proofs.lemmas.Bool.{false≢true}
 use Rattle.std.proofs.lemmas.Result.{err_from_is_err_and}
 use Rattle.rb_lexer.specs.declared.token.Token.{Token}
-use Rattle.rb_lexer.specs.Tokens.{HasTokens}
 use Rattle.rb_grammar.specs.Reading.{bundle}
 use Rattle.rb_grammar.specs.Tests.{the_tests}
 use Rattle.rb_parser.specs.ReadsBundle.{ReadsBundle}

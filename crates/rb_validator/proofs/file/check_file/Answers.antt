@@ -8,7 +8,9 @@ use Rattle.rb_validator.specs.Visits.{IsCount, IsPlaceAt, HasVisits}
 use Rattle.rb_validator.proofs.Cases.{header_size}
 use Rattle.rb_validator.proofs.file.check_file.Goals as goal
 
-after_header : (bytes : List ℕ) (size : ℕ) (r : Result ℕ FileFault) → size ≡ half_at bytes 0 → IfOk r (λ n. IsCount (IsPlaceAt (take (length bytes - size) (drop size bytes))) (3 * word_at (take (length bytes - size) (drop size bytes)) 4) n) → IfOk r (λ n. HasVisits bytes n)
+after_header : (bytes : List ℕ) (size : ℕ) (r : Result ℕ FileFault) → size ≡ half_at bytes 0
+    → IfOk r (λ n. IsCount (IsPlaceAt (take (length bytes - size) (drop size bytes))) (3 * word_at (take (length bytes - size) (drop size bytes)) 4) n)
+    → IfOk r (λ n. HasVisits bytes n)
 after_header bytes size r e h =
     let all : take (length bytes - size) (drop size bytes) ≡ drop size bytes = take_all _ _ (omega (arith, length-drop size bytes)) in
     let is : take (length bytes - size) (drop size bytes) ≡ drop (half_at bytes 0) bytes = all ∙ ap (λ (x : ℕ). drop x bytes) e in

@@ -1,10 +1,9 @@
-use Rattle.std.proofs.Common.{◌≡◌, ℕ, suc, ◌+◌, ◌-◌, ◌<◌, ◌≤◌, max, length, set, below_more, Ok, Result, arith, sym, ap, subst, ◌∙◌}
+use Rattle.std.proofs.Common.{◌≡◌, ℕ, suc, ◌+◌, ◌-◌, ◌<◌, ◌≤◌, max, length, set, below_more, Ok, arith, sym, ap, subst, ◌∙◌}
 use Rattle.std.proofs.lemmas.Result.{err_from_is_err_and}
-use Rattle.rb_tree.specs.Resource.{height, trees_height}
+use Rattle.rb_tree.specs.Resource.{height}
 use Rattle.rb_format.specs.declared.fault.FileFault.TheVariants.{TooDeep}
-use Rattle.rb_format.specs.declared.fault.FileFault.{FileFault}
 use Rattle.rb_format.specs.Item.{offset_of}
-use Rattle.rb_format.specs.Place as stands
+use Rattle.rb_format.specs.Place as fields
 use Rattle.rb_format.specs.FirstFault.{result_map, read}
 use Rattle.rb_format.proofs.Faults.{read_zero, read_no_kind}
 use Rattle.rb_validator.specs.declared.memo.Mark.TheVariants.{Done}
@@ -12,8 +11,10 @@ use Rattle.rb_validator.specs.Marks.{cell, mark_of, mark_at, children_at, IsMet,
 use Rattle.rb_validator.proofs.Cells.{cell_low, follows_same, follows_then, known_after, leads_after}
 use Rattle.rb_validator.proofs.Shapes.{leaf_height, fault_height, err_height, height_ok, height_err, children_err, children_fault, children_there}
 use Rattle.rb_validator.proofs.Ways.{cycle_deep, leads_children, leads_first, leads_next}
-use Rattle.rb_validator.proofs.Entering.{open_is, met_done, limit_fits, limit_passed, item_refused, item_bare, item_inner, items_none, items_stop, items_next, items_end, some_fault, entered_height, entered_after, opened_keeps, opened_met, read_low, max_is}
-use Rattle.rb_validator.proofs.Spans.{run_shift, leads_shift, runs_set, run_low_err, run_high_err, run_both, run_fits, run_passed, leads_low, leads_high, known_both, kept_run, made_run, runs_kept, runs_ready}
+use Rattle.rb_validator.proofs.Entering.{open_is, met_done, limit_fits, limit_passed, item_refused, item_bare, item_inner, items_none, items_stop, items_next}
+use Rattle.rb_validator.proofs.Entering.{items_end, some_fault, entered_height, entered_after, opened_keeps, opened_met, read_low, max_is}
+use Rattle.rb_validator.proofs.Spans.{run_height, leads_shift, runs_set, run_low_err, run_high_err, run_both, run_fits, run_passed, leads_low, leads_high}
+use Rattle.rb_validator.proofs.Spans.{known_both, kept_run, made_run, runs_kept, runs_ready}
 use Rattle.rb_validator.proofs.items.+check.Goals as goal
 
 -- ---- a pair that may have been met before
@@ -22,24 +23,30 @@ pub check_inner-returns-in-Open-clause-value : goal.check_inner-returns-in-Open-
 check_inner-returns-in-Open-clause-value t c =
     let cells = c.args.state.now.memo in
     let is : mark_at cells c.args.kind (offset_of c.args.item) ≡ 255 = open_is _ (rw c.item_offset.ensures at c.in-Open.ensures) in
-    sym (err_height _ TooDeep (cycle_deep c.args.layout.now c.args.body.now cells c.args.left c.args.item c.args.kind c.requires.leads c.requires.is_kind c.requires.there c.requires.inner is))
+    sym (err_height _ TooDeep (cycle_deep c.args.layout.now c.args.body.now cells c.args.left c.args.item c.args.kind c.requires.leads c.requires.is_kind
+    c.requires.there c.requires.inner is))
 
 pub check_inner-returns-then-height-left-clause-value : goal.check_inner-returns-then-height-left-clause-value
 check_inner-returns-then-height-left-clause-value t c =
-    let done : Done c.in-Done.height ≡ mark_of (mark_at c.args.state.now.memo c.args.kind (offset_of c.args.item)) = rw c.item_offset.ensures at c.in-Done.ensures in
-    let is = met_done c.args.layout.now c.args.body.now c.args.state.now.memo c.args.left c.args.item c.in-Done.height c.args.kind c.requires.keeps c.requires.is_kind c.requires.there c.requires.inner done in
+    let done : Done c.in-Done.height ≡ mark_of (mark_at c.args.state.now.memo c.args.kind (offset_of c.args.item)) =
+    rw c.item_offset.ensures at c.in-Done.ensures in
+    let is = met_done c.args.layout.now c.args.body.now c.args.state.now.memo c.args.left c.args.item c.in-Done.height c.args.kind c.requires.keeps
+    c.requires.is_kind c.requires.there c.requires.inner done in
     sym (is ∙ limit_fits c.args.left c.in-Done.height (omega arith))
 
 pub check_inner-returns-else-height-left-clause-value : goal.check_inner-returns-else-height-left-clause-value
 check_inner-returns-else-height-left-clause-value t c =
-    let done : Done c.in-Done.height ≡ mark_of (mark_at c.args.state.now.memo c.args.kind (offset_of c.args.item)) = rw c.item_offset.ensures at c.in-Done.ensures in
-    let is = met_done c.args.layout.now c.args.body.now c.args.state.now.memo c.args.left c.args.item c.in-Done.height c.args.kind c.requires.keeps c.requires.is_kind c.requires.there c.requires.inner done in
+    let done : Done c.in-Done.height ≡ mark_of (mark_at c.args.state.now.memo c.args.kind (offset_of c.args.item)) =
+    rw c.item_offset.ensures at c.in-Done.ensures in
+    let is = met_done c.args.layout.now c.args.body.now c.args.state.now.memo c.args.left c.args.item c.in-Done.height c.args.kind c.requires.keeps
+    c.requires.is_kind c.requires.there c.requires.inner done in
     sym (is ∙ limit_passed c.args.left c.in-Done.height (omega arith))
 
 -- ---- an item
 
 pub check_item-returns-then-left-eq0-clause-value : goal.check_item-returns-then-left-eq0-clause-value
-check_item-returns-then-left-eq0-clause-value t c = sym (ap (result_map height) (read_zero c.args.layout.now c.args.body.now c.args.left c.args.item c.if-left-eq0.true))
+check_item-returns-then-left-eq0-clause-value t c = sym (ap (result_map height)
+    (read_zero c.args.layout.now c.args.body.now c.args.left c.args.item c.if-left-eq0.true))
 
 pub check_item-returns-in_err-check_offset-in-Some-clause-value : goal.check_item-returns-in_err-check_offset-in-Some-clause-value
 check_item-returns-in_err-check_offset-in-Some-clause-value t c =
@@ -58,13 +65,15 @@ check_item-returns-in_err-check_leaf-in-Some-clause-value t c =
     let p = err_from_is_err_and c.from_residual-in_err-check_leaf-in-Some.result c.from_residual-in_err-check_leaf-in-Some.ensures.1 in
     let w = rw (c.item_offset-offset.ensures, c.if-not-branch.false) at c.in_ok-check_offset-in-Some.ensures in
     let f = rw c.item_offset-offset.ensures at (c.in_err-check_leaf-in-Some.ensures (λ w. read y body (c.args.left - 1) w)) in
-    rw (p.1, p.2) (sym (ap (result_map height) (item_inner y body c.args.left c.args.item c.in-Some.kind (omega arith) (sym c.in-Some.ensures) (sym w)) ∙ fault_height _ _ (sym f)))
+    rw (p.1, p.2) (sym (ap (result_map height) (item_inner y body c.args.left c.args.item c.in-Some.kind (omega arith) (sym c.in-Some.ensures) (sym w))
+    ∙ fault_height _ _ (sym f)))
 
 pub check_item-returns-then-has_children-clause-value : goal.check_item-returns-then-has_children-clause-value
 check_item-returns-then-has_children-clause-value t c =
     let y = c.args.layout.now in let body = c.args.body.now in
     let w = rw (c.item_offset-offset.ensures, c.if-not-branch.false) at c.in_ok-check_offset-in-Some.ensures in
-    c.check_inner.ensures.value ∙ sym (ap (result_map height) (item_inner y body c.args.left c.args.item c.in-Some.kind (omega arith) (sym c.in-Some.ensures) (sym w)))
+    c.check_inner.ensures.value ∙ sym (ap (result_map height) (item_inner y body c.args.left c.args.item c.in-Some.kind (omega arith) (sym c.in-Some.ensures)
+    (sym w)))
 
 pub check_item-returns-in_ok-check_leaf-in-Some-clause-value : goal.check_item-returns-in_ok-check_leaf-in-Some-clause-value
 check_item-returns-in_ok-check_leaf-in-Some-clause-value t c =
@@ -72,10 +81,12 @@ check_item-returns-in_ok-check_leaf-in-Some-clause-value t c =
     let w = rw (c.item_offset-offset.ensures, c.if-not-branch.false) at c.in_ok-check_offset-in-Some.ensures in
     let f = rw c.item_offset-offset.ensures at (c.in_ok-check_leaf-in-Some.ensures (λ w. read y body (c.args.left - 1) w)) in
     let leaf = sym c.has_children.ensures ∙ c.if-has_children.false in
-    sym (ap (result_map height) (item_inner y body c.args.left c.args.item c.in-Some.kind (omega arith) (sym c.in-Some.ensures) (sym w)) ∙ leaf_height y body (λ w. read y body (c.args.left - 1) w) (offset_of c.args.item) c.in-Some.kind leaf (sym f))
+    sym (ap (result_map height) (item_inner y body c.args.left c.args.item c.in-Some.kind (omega arith) (sym c.in-Some.ensures) (sym w))
+    ∙ leaf_height y body (λ w. read y body (c.args.left - 1) w) (offset_of c.args.item) c.in-Some.kind leaf (sym f))
 
 pub check_item-returns-in-None-clause-value : goal.check_item-returns-in-None-clause-value
-check_item-returns-in-None-clause-value t c = sym (ap (result_map height) (read_no_kind c.args.layout.now c.args.body.now c.args.left c.args.item (omega arith) (sym c.in-None.ensures)))
+check_item-returns-in-None-clause-value t c = sym (ap (result_map height)
+    (read_no_kind c.args.layout.now c.args.body.now c.args.left c.args.item (omega arith) (sym c.in-None.ensures)))
 
 -- ---- several items, one by one
 
@@ -96,7 +107,7 @@ check_each-loop-i-init t c =
 pub check_each-check_item-requires : goal.check_each-check_item-requires
 check_each-check_item-requires t c =
     let y = c.args.layout.now in let body = c.args.body.now in let i = c.loop-i.i in
-    let item = stands.word_at body in
+    let item = fields.word_at body in
     let end = c.args.first + c.args.count in
     let here : c.args.first + (i - c.args.first) ≡ i = omega arith in
     let met = subst (λ (x : ℕ). IsMet body (item x)) here (c.requires.met (i - c.args.first) (omega arith)) in
@@ -134,12 +145,13 @@ check_each-returns-in_err-child-clause-value t c =
     let step : end - i ≡ suc (end - (i + 1)) = omega arith in
     let v = rw c.word_at.ensures at c.in_err-child.ensures.value in
     let e = height_err _ _ (sym v) in
-    rw (p.1, p.2) (sym (items_stop (λ w. read y body c.args.left w) (stands.word_at body) i (end - i) (end - (i + 1)) c.loop-i.height _ _ step e c.loop-i.invariant.value))
+    rw (p.1, p.2) (sym (items_stop (λ w. read y body c.args.left w) (fields.word_at body) i (end - i)
+    (end - (i + 1)) c.loop-i.height _ _ step e c.loop-i.invariant.value))
 
 pub check_each-loop-i-preserved : goal.check_each-loop-i-preserved
 check_each-loop-i-preserved t c =
     let y = c.args.layout.now in let body = c.args.body.now in let i = c.loop-i.i in
-    let item = stands.word_at body in
+    let item = fields.word_at body in
     let end = c.args.first + c.args.count in
     let step : end - i ≡ suc (end - (i + 1)) = omega arith in
     let next : i + 1 ≡ suc i = omega arith in
@@ -150,40 +162,55 @@ check_each-loop-i-preserved t c =
     let a = c.in_ok-child.ensures.after in
     let k = rw c.word_at.ensures at c.in_ok-child.ensures.known in
     record {
-      value = rw m (items_next (λ w. read y body c.args.left w) item i (end - i) (i + 1) (end - (i + 1)) c.loop-i.height c.in_ok-child.child tree.0 _ step next tree.1 tree.2 c.loop-i.invariant.value);
+      value = rw m (items_next (λ w. read y body c.args.left w) item i (end - i) (i + 1)
+          (end - (i + 1)) c.loop-i.height c.in_ok-child.child tree.0 _ step next tree.1 tree.2 c.loop-i.invariant.value);
       low = omega arith;
       sound = c.in_ok-child.ensures.sound;
       after = record { keeps = a.keeps; follows = follows_then _ _ _ c.loop-i.invariant.after.follows a.follows };
       holds = c.in_ok-child.ensures.holds;
       known = below_more _ _ (λ j h l. known_after _ _ _ a.follows (c.loop-i.invariant.known j h l)) (λ l. k);
-      leads = leads_next y body _ c.args.left item i (end - i) (i + 1) (end - (i + 1)) tree.0 step next tree.1 (leads_after y body _ _ _ a.follows c.loop-i.invariant.leads);
+      leads = leads_next y body _ c.args.left item i (end - i) (i + 1) (end - (i + 1)) tree.0 step next tree.1
+          (leads_after y body _ _ _ a.follows c.loop-i.invariant.leads);
     }
 
 pub check_each-returns-clause-value : goal.check_each-returns-clause-value
 check_each-returns-clause-value t c =
     let y = c.args.layout.now in let body = c.args.body.now in let i = c.loop-i.i in
     let none : c.args.first + c.args.count - i ≡ 0 = omega arith in
-    items_end (λ w. read y body c.args.left w) (stands.word_at body) i (c.args.first + c.args.count - i) c.loop-i.height _ none c.loop-i.invariant.value
+    items_end (λ w. read y body c.args.left w) (fields.word_at body) i (c.args.first + c.args.count - i) c.loop-i.height _ none c.loop-i.invariant.value
 
 -- ---- several items, in two parts
 
 pub check_items-check_each-requires : goal.check_items-check_each-requires
 check_items-check_each-requires t c =
     let y = c.args.layout.now in let body = c.args.body.now in
-    let ready = runs_ready y body c.args.state.now.memo c.args.state.now.runs c.is_plain.new.self c.requires.holds c.is_plain.ensures.runs in
-    (omega arith, (c.requires.room, (c.requires.tops, (c.requires.small, (c.requires.items, (c.requires.met, (c.requires.sound, (c.requires.keeps, (ready, c.requires.leads)))))))))
+    let ready = runs_ready y body c.args.state.now.memo c.args.state.now.runs c.is_plain.new.self c.requires.holds c.is_plain.ensures.runs in (
+      omega arith,
+      (
+        c.requires.room,
+        (
+          c.requires.tops,
+          (
+            c.requires.small,
+            (c.requires.items, (c.requires.met, (c.requires.sound, (c.requires.keeps, (ready, c.requires.leads))))),
+          ),
+        ),
+      ),
+    )
 
 pub check_items-returns-then-height-left-clause-value : goal.check_items-returns-then-height-left-clause-value
 check_items-returns-then-height-left-clause-value t c =
     let y = c.args.layout.now in let body = c.args.body.now in let from = c.args.first in let n = c.args.count in
     let ready = runs_ready y body c.args.state.now.memo c.args.state.now.runs c.is_plain.new.self c.requires.holds c.is_plain.ensures.runs in
-    run_fits y body c.args.state.now.memo c.args.left from n c.in-Some.height (kept_run y body c.args.state.now.memo c.is_plain.new.self from n c.in-Some.height ready c.in-Some.ensures) (omega arith)
+    run_fits y body c.args.state.now.memo c.args.left from n c.in-Some.height
+    (kept_run y body c.args.state.now.memo c.is_plain.new.self from n c.in-Some.height ready c.in-Some.ensures) (omega arith)
 
 pub check_items-returns-in-Some-clause-value : goal.check_items-returns-in-Some-clause-value
 check_items-returns-in-Some-clause-value t c =
     let y = c.args.layout.now in let body = c.args.body.now in let from = c.args.first in let n = c.args.count in
     let ready = runs_ready y body c.args.state.now.memo c.args.state.now.runs c.is_plain.new.self c.requires.holds c.is_plain.ensures.runs in
-    run_passed y body c.args.state.now.memo c.args.left from n c.in-Some.height (kept_run y body c.args.state.now.memo c.is_plain.new.self from n c.in-Some.height ready c.in-Some.ensures) (omega arith)
+    run_passed y body c.args.state.now.memo c.args.left from n c.in-Some.height
+    (kept_run y body c.args.state.now.memo c.is_plain.new.self from n c.in-Some.height ready c.in-Some.ensures) (omega arith)
 
 pub check_items-check_items-requires : goal.check_items-check_items-requires
 check_items-check_items-requires t c =
@@ -236,7 +263,8 @@ check_items-check_items-requires-2 t c =
     let part : m ≤ n = omega arith in
     let q : mid ≡ from + m = omega arith in
     let a = c.in_ok-low.ensures.after in
-    let met = λ (i : ℕ) (l : i < n - m). let s : from + (m + i) ≡ mid + i = omega arith in subst (λ (x : ℕ). IsMet body (stands.word_at body x)) s (c.requires.met (m + i) (omega arith)) in (
+    let met = λ (i : ℕ) (l : i < n - m). let s : from + (m + i) ≡ mid + i = omega arith in
+    subst (λ (x : ℕ). IsMet body (fields.word_at body x)) s (c.requires.met (m + i) (omega arith)) in (
       omega arith,
       (
         c.requires.room,
@@ -254,7 +282,8 @@ check_items-check_items-requires-2 t c =
                     a.keeps,
                     (
                       c.in_ok-low.ensures.holds,
-                      leads_high y body _ c.args.left from m n mid c.in_ok-low.low part q c.in_ok-low.ensures.value (leads_after y body _ _ _ a.follows c.requires.leads),
+                      leads_high y body _ c.args.left from m n mid c.in_ok-low.low part q c.in_ok-low.ensures.value
+                          (leads_after y body _ _ _ a.follows c.requires.leads),
                     ),
                   ),
                 ),
@@ -289,7 +318,8 @@ check_items-returns-clause-known t c =
     let mid = c.split-parts.result.middle in let m = mid - from in
     let part : m ≤ n = omega arith in
     let q : mid ≡ from + m = omega arith in
-    known_both body c.check_items-2.new.state.memo from m n mid q (λ i l. known_after _ _ _ c.in_ok-high.ensures.after.follows (c.in_ok-low.ensures.known i l)) c.in_ok-high.ensures.known
+    known_both body c.check_items-2.new.state.memo from m n mid q (λ i l. known_after _ _ _ c.in_ok-high.ensures.after.follows
+    (c.in_ok-low.ensures.known i l)) c.in_ok-high.ensures.known
 
 pub check_items-returns-clause-holds : goal.check_items-returns-clause-holds
 check_items-returns-clause-holds t c =
@@ -332,7 +362,9 @@ enter-check_items-requires t c =
                     rw new (opened_keeps y body cells c.args.item k c.requires.keeps c.requires.met c.requires.is_kind c.requires.inner c.requires.full inside),
                     (
                       rw new (runs_set y body cells (cell k o) 255 c.args.state.now.runs (λ z. omega arith) inside c.requires.holds),
-                      rw new (leads_shift y body (set cells (cell k o) 255) c.in_ok-found.found.first c.in_ok-found.found.count (leads_children y body cells c.args.item k c.in_ok-found.found c.requires.leads c.requires.is_kind c.requires.there c.requires.inner inside (sym there))),
+                      rw new (leads_shift y body (set cells (cell k o) 255) c.in_ok-found.found.first c.in_ok-found.found.count
+                          (leads_children y body cells c.args.item k c.in_ok-found.found c.requires.leads c.requires.is_kind c.requires.there c.requires.inner
+                          inside (sym there))),
                     ),
                   ),
                 ),
@@ -348,16 +380,15 @@ enter-returns-in_err-below-clause-value t c =
     let y = c.args.layout.now in let body = c.args.body.now in let o = offset_of c.args.item in let k = c.args.kind in
     let p = err_from_is_err_and c.from_residual-in_err-below.result c.from_residual-in_err-below.ensures.1 in
     let there : Ok c.in_ok-found.found ≡ children_at y body k o = rw c.item_offset-offset.ensures at c.in_ok-found.ensures.value in
-    let value = λ (h : Result ℕ FileFault) (e : h ≡ result_map trees_height (run_of y body c.args.left c.in_ok-found.found.first c.in_ok-found.found.count)). e ∙ ap (result_map trees_height) (sym (run_shift y body c.args.left c.in_ok-found.found.first c.in_ok-found.found.count)) in
-    let f = some_fault _ _ (value _ c.in_err-below.ensures.value) in
+    let f = some_fault _ _ (run_height y body c.args.left _ _ _ c.in_err-below.ensures.value) in
     rw (p.1, p.2) (sym (err_height _ _ (children_fault y body (λ w. read y body c.args.left w) k o c.in_ok-found.found _ c.requires.inner (sym there) f)))
 
 pub enter-returns-clause-value : goal.enter-returns-clause-value
 enter-returns-clause-value t c =
     let y = c.args.layout.now in let body = c.args.body.now in let o = offset_of c.args.item in let k = c.args.kind in
     let there : Ok c.in_ok-found.found ≡ children_at y body k o = rw c.item_offset-offset.ensures at c.in_ok-found.ensures.value in
-    let value = λ (h : Result ℕ FileFault) (e : h ≡ result_map trees_height (run_of y body c.args.left c.in_ok-found.found.first c.in_ok-found.found.count)). e ∙ ap (result_map trees_height) (sym (run_shift y body c.args.left c.in_ok-found.found.first c.in_ok-found.found.count)) in
-    sym (entered_height y body (λ w. read y body c.args.left w) k o c.in_ok-below.below c.in_ok-found.found c.requires.inner there (value _ c.in_ok-below.ensures.value))
+    sym (entered_height y body (λ w. read y body c.args.left w) k o c.in_ok-below.below c.in_ok-found.found c.requires.inner there
+    (run_height y body c.args.left _ _ _ c.in_ok-below.ensures.value))
 
 pub enter-returns-clause-after : goal.enter-returns-clause-after
 enter-returns-clause-after t c =
@@ -368,12 +399,14 @@ enter-returns-clause-after t c =
     let new : c.enter.new.self ≡ set cells (cell k o) 255 = rw c.item_offset-offset.ensures at c.enter.ensures in
     let a = rw new at c.in_ok-below.ensures.after in
     let low = c.in_ok-below.ensures.low in
-    let value = λ (h : Result ℕ FileFault) (e : h ≡ result_map trees_height (run_of y body c.args.left c.in_ok-found.found.first c.in_ok-found.found.count)). e ∙ ap (result_map trees_height) (sym (run_shift y body c.args.left c.in_ok-found.found.first c.in_ok-found.found.count)) in
-    rw (c.finish.ensures, c.item_offset-offset.ensures) (entered_after y body cells c.check_items.new.state.memo c.args.left c.args.item k c.in_ok-below.below c.in_ok-found.found c.requires.keeps c.requires.met c.requires.is_kind c.requires.inner c.requires.full inside c.requires.fresh there (value _ c.in_ok-below.ensures.value) (omega arith) a c.in_ok-below.ensures.known)
+    rw (c.finish.ensures, c.item_offset-offset.ensures) (entered_after y body cells c.check_items.new.state.memo c.args.left c.args.item k c.in_ok-below.below
+    c.in_ok-found.found c.requires.keeps c.requires.met c.requires.is_kind c.requires.inner c.requires.full inside c.requires.fresh there
+    (run_height y body c.args.left _ _ _ c.in_ok-below.ensures.value) (omega arith) a c.in_ok-below.ensures.known)
 
 pub enter-returns-clause-holds : goal.enter-returns-clause-holds
 enter-returns-clause-holds t c =
     let y = c.args.layout.now in let body = c.args.body.now in let o = offset_of c.args.item in let k = c.args.kind in
     let a = c.in_ok-below.ensures.after in
     let inside : cell k o < length c.check_items.new.state.memo = rw a.keeps.long (cell_low k o y.top c.requires.below) in
-    rw (c.finish.ensures, c.item_offset-offset.ensures) (runs_set y body c.check_items.new.state.memo (cell k o) (c.in_ok-below.below + 1) c.check_items.new.state.runs (λ z. omega arith) inside c.in_ok-below.ensures.holds)
+    rw (c.finish.ensures, c.item_offset-offset.ensures) (runs_set y body c.check_items.new.state.memo (cell k o)
+    (c.in_ok-below.below + 1) c.check_items.new.state.runs (λ z. omega arith) inside c.in_ok-below.ensures.holds)

@@ -2,7 +2,7 @@ use Rattle.std.proofs.Common.{◌≡◌, ℕ, ◌+◌, ◌*◌, ◌-◌, ◌≤�
 use Rattle.rb_tree.specs.Resource.{trees_height}
 use Rattle.rb_format.specs.declared.fault.FileFault.TheVariants.{TooDeep}
 use Rattle.rb_format.specs.FirstFault.{result_map}
-use Rattle.rb_format.specs.Place as stands
+use Rattle.rb_format.specs.Place as fields
 use Rattle.rb_validator.specs.KnownKeys.{IsSound}
 use Rattle.rb_validator.specs.Marks.{IsKnown, Leads, After, AreRuns, run_of}
 use Rattle.rb_validator.proofs.items.+check.Given as goal
@@ -26,11 +26,12 @@ decreases-check_each l = 73786976294838206464 * l.left + 2 * l.count + 1
 abbrev pub invariant-check_each-loop-i : goal.invariant-check_each-loop-i
 invariant-check_each-loop-i l =
     record {
-      value : result_map (λ ts. max l.height (trees_height ts)) (run_of l.layout l.body l.left l.i (l.first + l.count - l.i)) ≡ result_map trees_height (run_of l.layout l.body l.left l.first l.count);
+      value : result_map (λ ts. max l.height (trees_height ts)) (run_of l.layout l.body l.left l.i (l.first + l.count - l.i)) ≡ result_map trees_height
+          (run_of l.layout l.body l.left l.first l.count);
       low : l.height ≤ l.left;
       sound : IsSound l.layout l.body l.state.keys.known;
       after : After l.layout l.body l.initial.state.memo l.state.memo;
       holds : AreRuns l.layout l.body l.state.memo l.state.runs;
-      known : (j : ℕ) → j < l.i → l.first ≤ j → IsKnown l.state.memo (stands.word_at l.body j);
+      known : (j : ℕ) → j < l.i → l.first ≤ j → IsKnown l.state.memo (fields.word_at l.body j);
       leads : Leads l.layout l.body l.state.memo (λ e. run_of l.layout l.body e l.i (l.first + l.count - l.i) ≡ Err TooDeep);
     }

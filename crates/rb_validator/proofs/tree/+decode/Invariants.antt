@@ -33,4 +33,5 @@ invariant-decode_array-loop-i l =
 
 abbrev pub invariant-decode_entries-loop-i : goal.invariant-decode_entries-loop-i
 invariant-decode_entries-loop-i l =
-    seen_pairs l.pairs.items ≡ take l.i (pairs (entries_or (table_of l.layout l.body (λ w. read l.layout l.body l.left w) (offsets.key_offset l.body l.places) l.first l.count)))
+    seen_pairs l.pairs.items ≡ take l.i (pairs (entries_or (table_of l.layout l.body (λ w. read l.layout l.body l.left w)
+    (offsets.key_offset l.body l.places) l.first l.count)))

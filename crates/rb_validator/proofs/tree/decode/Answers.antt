@@ -17,14 +17,17 @@ of-layout-requires c = rw (c.body-body.ensures, c.bytes.ensures.bytes) (root_lon
 
 pub word_at-requires : goal.word_at-requires
 word_at-requires c =
-    let p : 24 ≤ length c.body-body.result.now = rw (c.body-body.ensures, c.bytes.ensures.bytes) (root_long _ _ (root_is c.args.bundle.now c.bytes.ensures.denoted)) in
+    let p : 24 ≤ length c.body-body.result.now = rw (c.body-body.ensures, c.bytes.ensures.bytes)
+    (root_long _ _ (root_is c.args.bundle.now c.bytes.ensures.denoted)) in
     omega (arith, p)
 
 pub decode_item-requires-clause-room : goal.decode_item-requires-clause-room
-decode_item-requires-clause-room c = rw (c.of-layout.ensures, c.body-body.ensures, c.bytes.ensures.bytes) (root_room _ _ (root_is c.args.bundle.now c.bytes.ensures.denoted))
+decode_item-requires-clause-room c = rw (c.of-layout.ensures, c.body-body.ensures, c.bytes.ensures.bytes)
+    (root_room _ _ (root_is c.args.bundle.now c.bytes.ensures.denoted))
 
-pub decode_item-requires-clause-stands : goal.decode_item-requires-clause-stands
-decode_item-requires-clause-stands c = rw (c.word_at.ensures, c.of-layout.ensures, c.body-body.ensures, c.bytes.ensures.bytes) (ok_from _ _ (root_is c.args.bundle.now c.bytes.ensures.denoted).reads)
+pub decode_item-requires-clause-readable : goal.decode_item-requires-clause-readable
+decode_item-requires-clause-readable c = rw (c.word_at.ensures, c.of-layout.ensures, c.body-body.ensures, c.bytes.ensures.bytes)
+    (ok_from _ _ (root_is c.args.bundle.now c.bytes.ensures.denoted).reads)
 
 pub returns : goal.returns
 returns c =

@@ -1,9 +1,8 @@
-use Rattle.std.proofs.Common.{rules, ◌≡◌, ◌/◌, length, drop, take, ◌-◌, arith}
-use Rattle.std.proofs.lemmas.List.{take_all, length-drop}
-use Rattle.rb_writer.proofs.Ended.{is_file}
+use Rattle.std.proofs.Common.{ap, arith, length}
+use Rattle.rb_writer.proofs.Patches.{written_over}
 use Rattle.rb_writer.proofs.file.finish.Goals as goal
 
 pub returns : goal.returns
 returns c =
-    let rest : take (length c.args.out.now - 24) (drop 24 c.args.out.now) ≡ drop 24 c.args.out.now = take_all _ _ (omega (arith, length-drop 24 c.args.out.now)) in
-    is_file c.args.out.now c.put_bytes.new.out.items c.put_word.new.out.items c.put_word-2.new.out.items c.put_word-3.new.out.items c.put_word-4.new.out.items c.put_word-5.new.out.items c.put_word-6.new.out.items c.put_bytes-2.new.out.items c.args.root c.args.keys_top c.args.longest (length c.args.out.now / 4) (rw c.new-file.ensures.items at c.in_ok-put_bytes.ensures) c.in_ok-put_word.ensures c.in_ok-put_word-2.ensures c.in_ok-put_word-3.ensures c.in_ok-put_word-4.ensures c.in_ok-put_word-5.ensures c.in_ok-put_word-6.ensures (rw rest at c.in_ok-put_bytes-2.ensures) (search rules) c.requires.long
+    let len = c.into_file-file.ensures.len in
+    written_over c.args.no_fallback c.args.out c.args.root c.args.area c.args.longest c.into_file-file.result.len c.set_front.new.file c.into_file-file.result.items (rw c.deref_mut.ensures.value at c.set_front.ensures) c.into_file-file.ensures.body (omega arith) (omega (arith, c.deref_mut.ensures.len, ap length c.deref_mut.ensures.value))

@@ -2,4 +2,4 @@ use Rattle.rb_writer.specs.Growth.{PutsNumbers}
 use Rattle.rb_writer.proofs.put.put_numbers.Given as goal
 
 abbrev pub invariant-loop-number : goal.invariant-loop-number
-invariant-loop-number l = PutsNumbers l.fn.out.items l.out.items l.numbers l.number-index
+invariant-loop-number l = PutsNumbers l.fn.out l.out l.numbers l.number-index

@@ -2,4 +2,4 @@ use Rattle.rb_writer.specs.Growth.{PutsWords}
 use Rattle.rb_writer.proofs.put.put_words.Given as goal
 
 abbrev pub invariant-loop-word : goal.invariant-loop-word
-invariant-loop-word l = PutsWords l.fn.out.items l.out.items l.words l.word-index
+invariant-loop-word l = PutsWords l.fn.out l.out l.words l.word-index

@@ -12,4 +12,4 @@ abbrev pub decreases-write_children : goal.decreases-write_children
 decreases-write_children l = 2 * height (view_of l.tree.now)
 
 abbrev pub invariant-write_children-loop-i : goal.invariant-write_children-loop-i
-invariant-write_children-loop-i l = ChildrenStand l.keys.top l.fn.out.items l.out.items (children_of (view_of l.tree)) l.items.items l.i
+invariant-write_children-loop-i l = ChildrenStand l.keys.area l.fn.out l.out (children_of (view_of l.tree)) l.items.items l.i

@@ -1,4 +1,4 @@
-use Rattle.std.proofs.Common.{◌≤◌, ◌∙◌, length, arith}
+use Rattle.std.proofs.Common.{◌≤◌, length, arith}
 use Rattle.rb_validator.proofs.Cases.{root_is}
 use Rattle.rb_validator.proofs.bundle.Bundle.no_fallback.Goals as goal
 

@@ -1,4 +1,4 @@
-use Rattle.std.proofs.Common.{◌≡◌, ℕ, suc, ◌+◌, ◌-◌, ◌<◌, ◌≤◌, get_or, refl, arith}
+use Rattle.std.proofs.Common.{◌≡◌, ℕ, ◌+◌, ◌-◌, get_or, refl, arith}
 use Rattle.rb_format.specs.Place.{half_at, word_at}
 use Rattle.rb_validator.specs.Places.{key_offset as offset_in}
 use Rattle.rb_validator.proofs.Pairs.{linked_good}

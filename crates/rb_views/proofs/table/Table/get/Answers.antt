@@ -22,7 +22,7 @@ tree body p i = item_tree body (word_at body (p.first + i))
 pub loop-low-init : goal.loop-low-init
 loop-low-init c =
     let s = c.args.self in
-    let e : c.len-high.result ≡ s.parts.count = rw values_length at c.len-high.ensures in
+    let e : c.len-count.result ≡ s.parts.count = rw values_length at c.len-count.ensures in
     subst (λ (h : ℕ). IsHalved (name s.body.now s.parts) s.parts.count c.args.key.now 0 h) (sym e) (halved_start (name s.body.now s.parts) s.parts.count c.args.key.now)
 
 pub key-requires : goal.key-requires

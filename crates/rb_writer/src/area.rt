@@ -1,0 +1,8 @@
+// Where the keys are.
+
+/// The words in which the keys are: after the root item and so many indexes, below the word `top`.
+#[derive(Clone, Copy)]
+pub struct KeyArea {
+    pub indexes: u32,
+    pub top: u32,
+}
