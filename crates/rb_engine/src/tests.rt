@@ -1,15 +1,32 @@
 //! Worked examples of requests and lookups.
 
-use crate::app::{App, AppFault};
 use crate::engine::Engine;
 use crate::request::{LookFault, Payload, Reply, Request};
 use rb_fallback::Found;
-use rb_tree::{ByteList, Tree};
+use rb_packages::{App, AppFault};
+use rb_parents::Parents;
+use rb_tree::ByteList;
+use rb_views::Item;
 use std::alloc::Global;
+use std::hash::RandomState;
 use std::test::Fail;
 
 fn bytes(alloc: Global, text: &[u8]) -> Result<ByteList, Fail> {
     Ok(ByteList::from_vec(text.to_vec(alloc)?))
+}
+
+/// An engine without bundles.
+fn empty_engine(rt: &HostRuntime) -> Result<Engine, Fail> {
+    let alloc = rt.alloc();
+    match Engine::start(
+        alloc,
+        RandomState::new(rt)?,
+        Vec::new(alloc),
+        Parents::none(alloc),
+    ) {
+        Ok(engine) => Ok(engine),
+        Err(fault) => Err(fault.word().into()),
+    }
 }
 
 /// The word of the reply to an install.
@@ -67,11 +84,18 @@ struct Hit {
     valid: &'static [u8],
 }
 
-fn is_hit(found: &Found<&Tree>, hit: Hit) -> bool {
-    let same_text = match found.node {
-        Tree::String(units) => hit.text.encode_utf16().eq(units.as_slice().iter().copied()),
-        _ => false,
-    };
+/// Whether an item is a string with this text, of one unit a byte.
+fn has_text(item: Item<'_>, text: &str) -> bool {
+    match item.text() {
+        Some(units) => {
+            units.len() == text.len() && (0..units.len()).all(|i| units.at(i) == text.as_bytes()[i] as u16)
+        }
+        None => false,
+    }
+}
+
+fn is_hit(found: &Found<Item<'_>>, hit: Hit) -> bool {
+    let same_text = has_text(found.node, hit.text);
     same_text && found.actual.as_bytes() == hit.actual && found.valid.as_bytes() == hit.valid
 }
 
@@ -85,7 +109,7 @@ fn finds(engine: &Engine, app: &[u8], locale: &[u8], path: &[u8], hit: Hit) -> b
 #[test]
 fn limits_paths(rt: HostRuntime) -> Result<(), Fail> {
     let alloc = rt.alloc();
-    let mut engine = Engine::start(alloc);
+    let mut engine = empty_engine(&rt)?;
     let word = install_text(alloc, &mut engine, b"shop", b"de", b"de{hello{\"Hallo\"}}")?;
     assert_eq!(rt; word, "Done");
     let letters = [b'a'; 1025];
@@ -118,7 +142,7 @@ fn decode(alloc: Global, digits: &str) -> Result<Vec<u8>, Fail> {
 #[test]
 fn takes_files(rt: HostRuntime) -> Result<(), Fail> {
     let alloc = rt.alloc();
-    let mut engine = Engine::start(alloc);
+    let mut engine = empty_engine(&rt)?;
     for (len, reply) in [(75, "BadFile"), (76, "Done"), (76, "Exists")] {
         let mut file = decode(alloc, SAMPLE)?;
         file.truncate(len);
@@ -158,7 +182,7 @@ const BUNDLES: [(&[u8], &[u8], &[u8]); 6] = [
 #[test]
 fn stops_at_bundles_without_fallback(rt: HostRuntime) -> Result<(), Fail> {
     let alloc = rt.alloc();
-    let mut engine = Engine::start(alloc);
+    let mut engine = empty_engine(&rt)?;
     for (app, locale, text) in BUNDLES {
         assert_eq!(rt;
             install_text(alloc, &mut engine, app, locale, text)?,
@@ -190,7 +214,7 @@ const FLAGGED: &str =
 #[test]
 fn stops_at_files_without_fallback(rt: HostRuntime) -> Result<(), Fail> {
     let alloc = rt.alloc();
-    let mut engine = Engine::start(alloc);
+    let mut engine = empty_engine(&rt)?;
     let file = Payload::File(ByteList::from_vec(decode(alloc, FLAGGED)?));
     assert_eq!(rt; install(alloc, &mut engine, b"shop", b"de", file)?, "Done");
     let word = install_text(
@@ -217,7 +241,7 @@ fn stops_at_files_without_fallback(rt: HostRuntime) -> Result<(), Fail> {
 #[test]
 fn keeps_to_the_most_bundles_of_one_application(rt: HostRuntime) -> Result<(), Fail> {
     let alloc = rt.alloc();
-    let mut engine = Engine::start(alloc);
+    let mut engine = empty_engine(&rt)?;
     for i in 0..4097u32 {
         let locale = format!(in alloc; "qq_{i}")?;
         let word = install_text(alloc, &mut engine, b"shop", locale.as_bytes(), b"x{}")?;
