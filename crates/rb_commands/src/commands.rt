@@ -11,7 +11,7 @@ use std::rt::Files;
 /// The file that a bundle text spells.
 fn compiled(alloc: Global, text: &[u8]) -> Result<Vec<u8>, SourceFault> {
     let source = parse(alloc, text)?;
-    match write(alloc, &source.tree) {
+    match write(alloc, &source.tree, source.no_fallback) {
         Ok(file) => Ok(file),
         Err(_) => Err(SourceFault {
             kind: SourceKind::Memory,
@@ -47,8 +47,8 @@ pub fn compile<R: Files + AllocGlobal + Print + Eprint>(
     printed(rt, println!(rt; "wrote {count} bytes"))
 }
 
-/// Checks the file `name`, and prints `ok` where it is accepted. The status is 0; 1 where the file is refused, with the fault's name
-/// on standard error; 2 where it can't be read or standard output can't be written.
+/// Checks the file `name`, and prints `ok` and how many of its tables and arrays were entered where it is accepted. The status is 0; 1
+/// where the file is refused, with the error's name on standard error; 2 where it can't be read or standard output can't be written.
 pub fn check<R: Files + AllocGlobal + Print + Eprint>(rt: &R, name: &str) -> ExitCode {
     let bytes = match read_file(rt, name) {
         Ok(bytes) => bytes,

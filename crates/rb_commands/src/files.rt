@@ -27,7 +27,7 @@ pub fn write_file<R: Files + AllocGlobal>(rt: &R, name: &str, bytes: &[u8]) -> i
     written
 }
 
-/// Says that a file could not be read: for want of memory, or for another cause.
+/// Says that a file could not be read: out of memory, or for another cause.
 pub fn cannot_read<R: Eprint>(rt: &R, name: &str, error: io::Error, memory: &str) -> ExitCode {
     if error.kind() == ErrorKind::OutOfMemory {
         let _ = eprintln!(rt; "{name}: {memory}");

@@ -9,7 +9,6 @@ use Rattle.rb_engine.specs.Source.{Adds}
 use Rattle.rb_engine.specs.declared.request.Payload.TheVariants.{Text, File}
 use Rattle.rb_engine.specs.declared.start.StartFault.{StartFault}
 use Rattle.rb_engine.specs.declared.start.StartFault.TheVariants.{BadText, BadFile, Twice, Memory}
-
 use Rattle.rb_engine.specs.declared.request.Payload.{Payload}
 
 -- one more entry
@@ -38,6 +37,7 @@ refused entries before index name payload after shelf new e split count loaded a
   where
     reached : IsReached entries index name payload shelf
     reached = record { before = map (λ e. e.1) before; after = after; split = split; count = length-map before _ ∙ count; loaded = loaded }
+
     by : (payload : Payload) (e : StartFault) → IsReached entries index name payload shelf → Adds index name payload shelf (Err e) new → IsRefused entries e
     by (Text text) (BadText i) r a = (name, text, shelf, subst (λ j. IsReached entries j name (Text text) shelf) (sym a.0) r, a.1)
     by (File file) (BadText i) r a = absurd a

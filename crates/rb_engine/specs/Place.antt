@@ -17,4 +17,3 @@ place_by (Ok a) (Some n) = Ok (record { app = a; name = n })
 
 abbrev pub place_of : List ℕ → List ℕ → Result Place PlaceFault
 place_of app locale = place_by (app_of app) (name locale)
-

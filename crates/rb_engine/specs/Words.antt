@@ -7,7 +7,6 @@ use Rattle.rb_engine.specs.declared.start.StartFault.TheVariants as start
 use Rattle.rb_engine.specs.declared.request.LookFault.{LookFault}
 use Rattle.rb_engine.specs.declared.request.LookFault.TheVariants as look
 
-
 abbrev pub reply_word : Reply → List ℕ
 reply_word reply.Done = codes "Done"
 reply_word (reply.Names names) = codes "Names"

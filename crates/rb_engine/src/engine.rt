@@ -96,12 +96,7 @@ impl Engine {
     ///
     /// A lookup is judged in this order: `BadApp`, `Reserved`, `BadLocale`, `BadPath`, and then the refusals of a search in
     /// the order in which it meets them. While what was found is held, the engine can't be changed.
-    pub fn look(
-        &self,
-        app: &[u8],
-        locale: &[u8],
-        path: &[u8],
-    ) -> Result<Found<Item<'_>>, LookFault>
+    pub fn look(&self, app: &[u8], locale: &[u8], path: &[u8]) -> Result<Found<Item<'_>>, LookFault>
         ensures { seen tree_seen result ≡ answer_over (state_of self.now).start ((state_of self.now).lists app.now) (Looks app.now locale.now path.now) }
     {
         let place = match place_of(app, locale) {

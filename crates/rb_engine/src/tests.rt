@@ -2,7 +2,9 @@
 
 use crate::engine::Engine;
 use crate::request::{LookFault, Payload, Reply, Request};
+use crate::start::StartFault;
 use rb_fallback::Found;
+use rb_locales::Name;
 use rb_packages::{App, AppFault};
 use rb_parents::Parents;
 use rb_tree::ByteList;
@@ -86,12 +88,20 @@ struct Hit {
 
 /// Whether an item is a string with this text, of one unit a byte.
 fn has_text(item: Item<'_>, text: &str) -> bool {
-    match item.text() {
-        Some(units) => {
-            units.len() == text.len() && (0..units.len()).all(|i| units.at(i) == text.as_bytes()[i] as u16)
-        }
-        None => false,
+    let bytes = text.as_bytes();
+    let units = match item.text() {
+        Some(units) => units,
+        None => return false,
+    };
+    if units.len() != bytes.len() {
+        return false;
     }
+    for (i, b) in bytes.iter().enumerate() {
+        if units.at(i) != u16::from(*b) {
+            return false;
+        }
+    }
+    true
 }
 
 fn is_hit(found: &Found<Item<'_>>, hit: Hit) -> bool {
@@ -106,21 +116,42 @@ fn finds(engine: &Engine, app: &[u8], locale: &[u8], path: &[u8], hit: Hit) -> b
     }
 }
 
+/// Installs texts; whether each is answered `Done`.
+fn are_done(
+    alloc: Global,
+    engine: &mut Engine,
+    texts: &[(&[u8], &[u8], &[u8])],
+) -> Result<bool, Fail> {
+    for (app, locale, text) in texts {
+        if install_text(alloc, engine, app, locale, text)? != "Done" {
+            return Ok(false);
+        }
+    }
+    Ok(true)
+}
+
+/// Whether a lookup by `shop` from `de` at so many letters is refused so.
+fn refuses_letters(engine: &Engine, count: usize, fault: LookFault) -> bool {
+    let letters = [b'a'; 1025];
+    match letters.get(..count) {
+        Some(path) => refusal(engine, b"shop", b"de", path) == Some(fault),
+        None => false,
+    }
+}
+
 #[test]
 fn limits_paths(rt: HostRuntime) -> Result<(), Fail> {
     let alloc = rt.alloc();
     let mut engine = empty_engine(&rt)?;
-    let word = install_text(alloc, &mut engine, b"shop", b"de", b"de{hello{\"Hallo\"}}")?;
-    assert_eq!(rt; word, "Done");
-    let letters = [b'a'; 1025];
-    assert_eq!(rt;
-        refusal(&engine, b"shop", b"de", &letters),
-        Some(LookFault::PathTooLong)
+    assert!(rt;
+        are_done(
+            alloc,
+            &mut engine,
+            &[(b"shop", b"de", b"de{hello{\"Hallo\"}}")]
+        )?
     );
-    assert_eq!(rt;
-        refusal(&engine, b"shop", b"de", &letters[..1024]),
-        Some(LookFault::Missing)
-    );
+    assert!(rt; refuses_letters(&engine, 1025, LookFault::PathTooLong));
+    assert!(rt; refuses_letters(&engine, 1024, LookFault::Missing));
     Ok(())
 }
 
@@ -128,10 +159,14 @@ fn limits_paths(rt: HostRuntime) -> Result<(), Fail> {
 const SAMPLE: &str =
     "2000da27140000000000020052657342010100000000000000000000000000000900002005000000070000000b0000000b000000010000006100aaaa01000000620000000100180007000000";
 
-/// The bytes that hexadecimal digits write.
-fn decode(alloc: Global, digits: &str) -> Result<Vec<u8>, Fail> {
+/// The file of a bundle `de` without fallback, with the string `b` at `a`.
+const FLAGGED: &str =
+    "2000da27140000000000020052657342010200000000000000000000000000000a00002006000000080000000c0000000c00000001000000010000006100aaaa010000006200000001001c0008000000";
+
+/// The first so many bytes of those that hexadecimal digits write.
+fn decode(alloc: Global, digits: &str, len: usize) -> Result<Vec<u8>, Fail> {
     let mut bytes = Vec::new(alloc);
-    for pair in digits.as_bytes().chunks_exact(2) {
+    for pair in digits.as_bytes().chunks_exact(2).take(len) {
         let high = (pair[0] as char).to_digit(16).unwrap_or(0);
         let low = (pair[1] as char).to_digit(16).unwrap_or(0);
         bytes.push((high * 16 + low) as u8)?;
@@ -139,29 +174,39 @@ fn decode(alloc: Global, digits: &str) -> Result<Vec<u8>, Fail> {
     Ok(bytes)
 }
 
+/// The word of the reply to an install by `shop` of the first bytes of a file.
+fn install_file(
+    alloc: Global,
+    engine: &mut Engine,
+    locale: &[u8],
+    digits: &str,
+    len: usize,
+) -> Result<&'static str, Fail> {
+    let payload = Payload::File(ByteList::from_vec(decode(alloc, digits, len)?));
+    install(alloc, engine, b"shop", locale, payload)
+}
+
+fn installs_files(alloc: Global, engine: &mut Engine) -> Result<bool, Fail> {
+    for (len, reply) in [(75, "BadFile"), (76, "Done"), (76, "Exists")] {
+        if install_file(alloc, engine, b"root", SAMPLE, len)? != reply {
+            return Ok(false);
+        }
+    }
+    Ok(true)
+}
+
 #[test]
 fn takes_files(rt: HostRuntime) -> Result<(), Fail> {
     let alloc = rt.alloc();
     let mut engine = empty_engine(&rt)?;
-    for (len, reply) in [(75, "BadFile"), (76, "Done"), (76, "Exists")] {
-        let mut file = decode(alloc, SAMPLE)?;
-        file.truncate(len);
-        let payload = Payload::File(ByteList::from_vec(file));
-        assert_eq!(rt;
-            install(alloc, &mut engine, b"shop", b"root", payload)?,
-            reply
-        );
-    }
     let hit = Hit {
         text: "b",
         actual: b"root",
         valid: b"root",
     };
+    assert!(rt; installs_files(alloc, &mut engine)?);
     assert!(rt; finds(&engine, b"shop", b"root", b"a", hit));
-    assert_eq!(rt;
-        refusal(&engine, b"bank", b"root", b"a"),
-        Some(LookFault::NoBundle)
-    );
+    assert!(rt; refusal(&engine, b"bank", b"root", b"a") == Some(LookFault::NoBundle));
     Ok(())
 }
 
@@ -179,16 +224,7 @@ const BUNDLES: [(&[u8], &[u8], &[u8]); 6] = [
     (b"mill", b"he", b"he{x{\"H\"}}"),
 ];
 
-#[test]
-fn stops_at_bundles_without_fallback(rt: HostRuntime) -> Result<(), Fail> {
-    let alloc = rt.alloc();
-    let mut engine = empty_engine(&rt)?;
-    for (app, locale, text) in BUNDLES {
-        assert_eq!(rt;
-            install_text(alloc, &mut engine, app, locale, text)?,
-            "Done"
-        );
-    }
+fn stops_at_flags(engine: &Engine) -> bool {
     let from_de = Hit {
         text: "D",
         actual: b"de",
@@ -199,65 +235,61 @@ fn stops_at_bundles_without_fallback(rt: HostRuntime) -> Result<(), Fail> {
         actual: b"he",
         valid: b"he",
     };
-    assert!(rt; finds(&engine, b"shop", b"de_AT", b"x", from_de));
-    assert!(rt; finds(&engine, b"mill", b"iw", b"x", from_he));
-    let missing = Some(LookFault::Missing);
-    assert_eq!(rt; refusal(&engine, b"shop", b"de", b"y"), missing);
-    assert_eq!(rt; refusal(&engine, b"bank", b"de", b"y"), missing);
+    finds(engine, b"shop", b"de_AT", b"x", from_de)
+        && refusal(engine, b"shop", b"de", b"y") == Some(LookFault::Missing)
+        && refusal(engine, b"bank", b"de", b"y") == Some(LookFault::Missing)
+        && finds(engine, b"mill", b"iw", b"x", from_he)
+}
+
+#[test]
+fn stops_at_bundles_without_fallback(rt: HostRuntime) -> Result<(), Fail> {
+    let alloc = rt.alloc();
+    let mut engine = empty_engine(&rt)?;
+    assert!(rt; are_done(alloc, &mut engine, &BUNDLES)?);
+    assert!(rt; stops_at_flags(&engine));
     Ok(())
 }
 
-/// The file of a bundle `de` without fallback, with the string `b` at `a`.
-const FLAGGED: &str =
-    "2000da27140000000000020052657342010200000000000000000000000000000a00002006000000080000000c0000000c00000001000000010000006100aaaa010000006200000001001c0008000000";
+fn installs_a_flagged_file(alloc: Global, engine: &mut Engine) -> Result<bool, Fail> {
+    let file = install_file(alloc, engine, b"de", FLAGGED, 80)?;
+    let text = install_text(alloc, engine, b"shop", b"root", b"root{a{\"R\"} y{\"Y\"}}")?;
+    Ok(file == "Done" && text == "Done")
+}
 
 #[test]
 fn stops_at_files_without_fallback(rt: HostRuntime) -> Result<(), Fail> {
     let alloc = rt.alloc();
     let mut engine = empty_engine(&rt)?;
-    let file = Payload::File(ByteList::from_vec(decode(alloc, FLAGGED)?));
-    assert_eq!(rt; install(alloc, &mut engine, b"shop", b"de", file)?, "Done");
-    let word = install_text(
-        alloc,
-        &mut engine,
-        b"shop",
-        b"root",
-        b"root{a{\"R\"} y{\"Y\"}}",
-    )?;
-    assert_eq!(rt; word, "Done");
     let hit = Hit {
         text: "b",
         actual: b"de",
         valid: b"de",
     };
+    assert!(rt; installs_a_flagged_file(alloc, &mut engine)?);
     assert!(rt; finds(&engine, b"shop", b"de_AT", b"a", hit));
-    assert_eq!(rt;
-        refusal(&engine, b"shop", b"de_AT", b"y"),
-        Some(LookFault::Missing)
-    );
+    assert!(rt; refusal(&engine, b"shop", b"de_AT", b"y") == Some(LookFault::Missing));
     Ok(())
+}
+
+/// Whether `shop` can install 4,096 bundles and no more, and `bank` still one.
+fn keeps_4096(alloc: Global, engine: &mut Engine) -> Result<bool, Fail> {
+    for i in 0..4097u32 {
+        let locale = format!(in alloc; "qq_{i}")?;
+        let word = install_text(alloc, engine, b"shop", locale.as_bytes(), b"x{}")?;
+        if word != if i < 4096 { "Done" } else { "Full" } {
+            return Ok(false);
+        }
+    }
+    let again = install_text(alloc, engine, b"shop", b"qq_7", b"x{}")?;
+    let other = install_text(alloc, engine, b"bank", b"qq", b"x{}")?;
+    Ok(again == "Exists" && other == "Done" && count(alloc, engine, b"bank")? == 1)
 }
 
 #[test]
 fn keeps_to_the_most_bundles_of_one_application(rt: HostRuntime) -> Result<(), Fail> {
     let alloc = rt.alloc();
     let mut engine = empty_engine(&rt)?;
-    for i in 0..4097u32 {
-        let locale = format!(in alloc; "qq_{i}")?;
-        let word = install_text(alloc, &mut engine, b"shop", locale.as_bytes(), b"x{}")?;
-        assert_eq!(rt; word, if i < 4096 { "Done" } else { "Full" });
-    }
-    for (app, locale, reply) in [("shop", "qq_7", "Exists"), ("bank", "qq", "Done")] {
-        let word = install_text(
-            alloc,
-            &mut engine,
-            app.as_bytes(),
-            locale.as_bytes(),
-            b"x{}",
-        )?;
-        assert_eq!(rt; word, reply);
-    }
-    assert_eq!(rt; count(alloc, &mut engine, b"bank")?, 1);
+    assert!(rt; keeps_4096(alloc, &mut engine)?);
     Ok(())
 }
 
@@ -267,4 +299,25 @@ fn names_faults(rt: HostRuntime) {
     assert!(rt; App::read(&[b'a'; 64]).is_ok());
     assert_eq!(rt; AppFault::Reserved.word(), "Reserved");
     assert_eq!(rt; LookFault::TooManyAliases.word(), "TooManyAliases");
+}
+
+/// The fault of a start with two texts for ICUDATA, each with its locale.
+fn start_fault(rt: &HostRuntime, texts: [(&[u8], &[u8]); 2]) -> Result<Option<StartFault>, Fail> {
+    let alloc = rt.alloc();
+    let mut icudata = Vec::new(alloc);
+    for (locale, text) in texts {
+        let name = Name::read(locale)?;
+        icudata.push((name, Payload::Text(bytes(alloc, text)?)))?;
+    }
+    let state = RandomState::new(rt)?;
+    Ok(Engine::start(alloc, state, icudata, Parents::none(alloc)).err())
+}
+
+#[test]
+fn names_the_entry_that_is_refused(rt: HostRuntime) -> Result<(), Fail> {
+    let twice = start_fault(&rt, [(b"de", b"de{}"), (b"de", b"de{}")])?;
+    assert!(rt; twice == Some(StartFault::Twice(1)));
+    let bad = start_fault(&rt, [(b"de", b"de{}"), (b"de", b"de")])?;
+    assert!(rt; bad == Some(StartFault::BadText(1)));
+    Ok(())
 }

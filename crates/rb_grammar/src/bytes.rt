@@ -12,7 +12,7 @@ fn is_gap(unit: u16) -> bool
 }
 
 /// The bytes that a text spells by two hexadecimal digits each; tabs, line feeds, carriage returns and spaces are ignored.
-/// `None` where another unit stands in the text, or the number of digits is odd. An error where memory is wanting.
+/// `None` where the text has another unit, or an odd number of digits. The only error is that memory runs out.
 pub fn read_bytes(alloc: Global, units: &[u16]) -> Result<Option<Vec<u8>>, AllocError>
     ensures { IfOk result (λ read. MatchOption read ((bytes : List ℕ) → IsHexText units.now bytes → ⊥) (λ bytes. IsHexText units.now bytes.items)) }
 {

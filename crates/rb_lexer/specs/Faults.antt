@@ -75,6 +75,6 @@ IsTextFault bytes kind line = ((kind ≡ TooLong) × IsLong bytes line) ⊎ ((ki
 abbrev pub IsSourceFault : List ℕ → SourceKind → ℕ → Type 0
 IsSourceFault bytes kind line = IsTextFault bytes kind line ⊎ ((length bytes ≤ 8388608) × HasFault bytes kind line)
 
--- Why a source is refused: for want of memory, or for a fault that it has.
+-- Why a source is refused: out of memory, or for a fault that it has.
 abbrev pub IsRefusal : List ℕ → SourceFault → Type 0
 IsRefusal bytes e = ((e.kind ≡ Memory) × (e.line ≡ 0)) ⊎ IsSourceFault bytes e.kind e.line

@@ -1,5 +1,5 @@
 -- A bundles's files as its bundles, and the map of all applications as each one's files.
-use Rattle.std.proofs.Common.{◌≡◌, ◌≢◌, ℕ, Bool, true, false, cond, List, [], ◌∷◌, ◌++◌, length, Option, Some, None, Result, Ok, Err, is_some, option_map, option_copied, map, nat_le, ◌≤◌, ◌<◌, IfOk, IfErr, IfNone, OnOk, OnErr, Bor, refl, sym, ◌∙◌, ap, arith}
+use Rattle.std.proofs.Common.{◌≡◌, ◌≢◌, ℕ, Bool, true, false, List, [], ◌∷◌, ◌++◌, length, Option, Some, None, Result, Ok, Err, is_some, option_map, option_copied, map, nat_le, ◌≤◌, ◌<◌, IfOk, IfErr, IfNone, OnOk, OnErr, Bor, refl, sym, ◌∙◌, ap, arith}
 use Rattle.std.specs.Option.{unwrap_or}
 use Rattle.std.specs.Map.{lookup, set_value, remove_entry, keys_of}
 use Rattle.std.specs.Str.{bytes_eq}

@@ -2,7 +2,10 @@
 
 use crate::app::{App, AppFault};
 use crate::fault::PackFault;
+use crate::owned;
+use crate::owned::Owned;
 use crate::packages::Packages;
+use indexmap::IndexMap;
 use rb_locales::Name;
 use rb_parents::Shelf;
 use rb_validator::{Bundle, accept};
@@ -118,5 +121,18 @@ fn loads_a_name_once(rt: HostRuntime) -> Result<(), Fail> {
             Err((PackFault::Twice, _))
         )
     );
+    Ok(())
+}
+
+#[test]
+fn forgets_an_application_without_bundles(rt: HostRuntime) -> Result<(), Fail> {
+    let alloc = rt.alloc();
+    let shop = App::read(b"shop")?;
+    let root = Name::root();
+    let mut owned: Owned = IndexMap::with_hasher(alloc, RandomState::new(&rt)?);
+    assert!(rt; owned::install(&mut owned, &shop, root, bundle(alloc, b'b')?).is_ok());
+    assert_eq!(rt; owned.len(), 1);
+    assert!(rt; owned::remove(&mut owned, &shop, &root).is_ok());
+    assert_eq!(rt; owned.len(), 0);
     Ok(())
 }

@@ -45,6 +45,6 @@ pub record HasTokenFault (bytes : List ℕ) (kind : SourceKind) (line : ℕ) : T
 abbrev pub IsFault : List ℕ → SourceKind → ℕ → Type 0
 IsFault bytes kind line = IsSourceFault bytes kind line ⊎ HasTokenFault bytes kind line
 
--- Why a source is refused: for want of memory, which has line 0, or for a fault that it has.
+-- Why a source is refused: out of memory, which has line 0, or for a fault that it has.
 abbrev pub IsRefusal : List ℕ → SourceFault → Type 0
 IsRefusal bytes e = ((e.kind ≡ Memory) × (e.line ≡ 0)) ⊎ IsFault bytes e.kind e.line

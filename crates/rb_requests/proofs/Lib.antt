@@ -1,5 +1,8 @@
 pub mod Texts
+pub mod Characters
 pub mod Elements
+pub mod Members
+pub mod OfKinds
 pub mod Stepping
 pub mod NoFloats
 pub mod Putting

@@ -3,10 +3,9 @@ use Rattle.std.proofs.Common.{◌≡◌, ℕ, List, Option, None, false, refl}
 use Rattle.std.specs.Str.{is_utf8, IsUtf8}
 use Rattle.std.proofs.lemmas.Str.{is_utf8-from_IsUtf8, IsUtf8-from_is_utf8}
 use Rattle.std.proofs.lemmas.Bool.{false_from_ne_true}
-use Rattle.serde_json.specs.Data.{Data, null, string}
+use Rattle.serde_json.specs.Data.{Data}
 use Rattle.serde_json.specs.Read.{read}
 use Rattle.rb_requests.specs.Asked.{data_of}
-use Rattle.rb_requests.specs.Item.{text_data}
 
 not_utf8 : (line : List ℕ) → ¬ (IsUtf8 line) → is_utf8 line ≡ false
 not_utf8 line h = false_from_ne_true (is_utf8 line) (λ e. h (IsUtf8-from_is_utf8 line e))
@@ -16,9 +15,3 @@ data_of-text line text o same h e = rw (is_utf8-from_IsUtf8 line h, ← same) e
 
 pub data_of-no_text : (line : List ℕ) → ¬ (IsUtf8 line) → data_of line ≡ None
 data_of-no_text line h = rw (not_utf8 line h) refl
-
-pub text_data-text : (bytes : List ℕ) → IsUtf8 bytes → text_data bytes ≡ string bytes
-text_data-text bytes h = rw (is_utf8-from_IsUtf8 bytes h) refl
-
-pub text_data-no_text : (bytes : List ℕ) → ¬ (IsUtf8 bytes) → text_data bytes ≡ null
-text_data-no_text bytes h = rw (not_utf8 bytes h) refl

@@ -1,7 +1,7 @@
 //! Requests and replies by the line.
 ghost use Rattle.std.specs.Prelude.{◌≡◌, ◌≤◌, Ok, IfOk, IfErr, OnOk, Option, List, ℕ, length, drop};
 ghost use Rattle.std.specs.Io.KnownBytes.{Appends, IsAtEnd, Keeps};
-ghost use Rattle.rb_engine.specs.Rows.{state_of};
+ghost use Rattle.rb_engine.specs.Kept.{state_of};
 ghost use Rattle.rb_requests.specs.Lines.{AnswersLine};
 ghost use Rattle.rb_requests.specs.Taken.{ReadsLine, ReadsPlain, LooksAtEnd};
 ghost use Rattle.rb_requests.specs.Served.{AnswersAll, AfterFault, IsShort, reads_failed, writes_failed};
@@ -31,8 +31,8 @@ pub enum ServeFault {
     /// A line is too long.
     #[error("a line is too long")]
     LineTooLong,
-    /// Memory was wanting for a line.
-    #[error("memory is wanting")]
+    /// Out of memory for a line.
+    #[error("out of memory")]
     Memory,
 }
 
@@ -183,7 +183,7 @@ fn serve_line<S: Sink>(
 /// lines stand, and these have taken effect. `Read` comes where a call of the reader failed: the lines are answered whose line
 /// feeds were read. `LineTooLong` comes at the byte past a line's limit, and `LineLimit` at a byte behind `max_lines` lines;
 /// all lines before it are answered. `Write` comes where a call of the writer failed: the next line has taken effect too, and
-/// a part of its reply is written. `Memory` comes where memory is wanting for the next line, which may have taken effect.
+/// a part of its reply is written. `Memory` comes where memory runs out for the next line, which may have taken effect.
 #[tactic(auto, using(crate::proofs::Serving::at_first))]
 pub fn serve<F: Feed, S: Sink>(
     alloc: Global,

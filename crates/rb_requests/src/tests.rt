@@ -1,12 +1,25 @@
 //! Worked examples: lines with their replies, and the engine's own calls.
 
 mod devices;
+mod items;
 
 use crate::device::{ReadFeed, WriteSink};
 use crate::lines::{ServeFault, serve};
 use rb_engine::Engine;
+use rb_parents::Parents;
 use std::alloc::Global;
+use std::hash::RandomState;
 use std::test::Fail;
+
+/// An engine without bundles.
+fn empty_engine(rt: &HostRuntime) -> Result<Engine, Fail> {
+    let alloc = rt.alloc();
+    let state = RandomState::new(rt)?;
+    match Engine::start(alloc, state, Vec::new(alloc), Parents::none(alloc)) {
+        Ok(engine) => Ok(engine),
+        Err(fault) => Err(fault.word().into()),
+    }
+}
 
 /// What an engine writes for some lines.
 fn written(
@@ -32,6 +45,16 @@ fn answers(alloc: Global, engine: &mut Engine, line: &str, reply: &str) -> Resul
     let line = format!(in alloc; "{line}\n")?;
     let written = written(alloc, engine, line.as_bytes(), 1, Ok(1))?;
     Ok(written.strip_suffix(b"\n") == Some(reply.as_bytes()))
+}
+
+/// Whether these lines are answered so, one after the other.
+fn answers_all(alloc: Global, engine: &mut Engine, lines: &[(&str, &str)]) -> Result<bool, Fail> {
+    for (line, reply) in lines {
+        if !answers(alloc, engine, line, reply)? {
+            return Ok(false);
+        }
+    }
+    Ok(true)
 }
 
 /// Lines with their replies, one engine for all.
@@ -153,10 +176,8 @@ const LINES: [(&str, &str); 34] = [
 #[test]
 fn answers_lines(rt: HostRuntime) -> Result<(), Fail> {
     let alloc = rt.alloc();
-    let mut engine = Engine::start(alloc);
-    for (line, reply) in LINES {
-        assert!(rt; answers(alloc, &mut engine, line, reply)?, "{line}");
-    }
+    let mut engine = empty_engine(&rt)?;
+    assert!(rt; answers_all(alloc, &mut engine, &LINES)?);
     Ok(())
 }
 
@@ -206,14 +227,21 @@ fn finds(alloc: Global, engine: &mut Engine, path: &str, reply: &str) -> Result<
     answers(alloc, engine, line.as_str(), reply)
 }
 
+fn finds_all(alloc: Global, engine: &mut Engine) -> Result<bool, Fail> {
+    for (path, reply) in ITEMS {
+        if !finds(alloc, engine, path, reply)? {
+            return Ok(false);
+        }
+    }
+    Ok(true)
+}
+
 #[test]
 fn answers_items(rt: HostRuntime) -> Result<(), Fail> {
     let alloc = rt.alloc();
-    let mut engine = Engine::start(alloc);
+    let mut engine = empty_engine(&rt)?;
     assert!(rt; answers(alloc, &mut engine, BUNDLE, "{\"ok\":true}")?);
-    for (path, reply) in ITEMS {
-        assert!(rt; finds(alloc, &mut engine, path, reply)?, "{path}");
-    }
+    assert!(rt; finds_all(alloc, &mut engine)?);
     Ok(())
 }
 
@@ -240,10 +268,8 @@ const FILES: [(&str, &str); 4] = [
 #[test]
 fn takes_files(rt: HostRuntime) -> Result<(), Fail> {
     let alloc = rt.alloc();
-    let mut engine = Engine::start(alloc);
-    for (line, reply) in FILES {
-        assert!(rt; answers(alloc, &mut engine, line, reply)?, "{line}");
-    }
+    let mut engine = empty_engine(&rt)?;
+    assert!(rt; answers_all(alloc, &mut engine, &FILES)?);
     Ok(())
 }
 
@@ -254,24 +280,33 @@ fn refuses_nesting(alloc: Global, engine: &mut Engine) -> Result<bool, Fail> {
     answers(alloc, engine, line.as_str(), "{\"error\":\"BadLine\"}")
 }
 
+/// Inputs with the most lines that may be served, how serving ends and what is written.
+const INPUTS: [(&[u8], u64, Result<u64, ServeFault>, &[u8]); 4] = [
+    (
+        b"\n\n",
+        1,
+        Err(ServeFault::LineLimit),
+        b"{\"error\":\"BadLine\"}\n",
+    ),
+    (b"x", 9, Ok(1), b"{\"error\":\"BadLine\"}\n"),
+    (b"", 9, Ok(0), b""),
+    (b"\xFF\n", 9, Ok(1), b"{\"error\":\"BadLine\"}\n"),
+];
+
+fn serves_inputs(alloc: Global, engine: &mut Engine) -> Result<bool, Fail> {
+    for (input, max_lines, ended, wanted) in INPUTS {
+        if written(alloc, engine, input, max_lines, ended)?.as_slice() != wanted {
+            return Ok(false);
+        }
+    }
+    Ok(true)
+}
+
 #[test]
 fn stops_at_the_last_line(rt: HostRuntime) -> Result<(), Fail> {
     let alloc = rt.alloc();
-    let mut engine = Engine::start(alloc);
-    let inputs: [(&[u8], u64, Result<u64, ServeFault>, &[u8]); 4] = [
-        (
-            b"\n\n",
-            1,
-            Err(ServeFault::LineLimit),
-            b"{\"error\":\"BadLine\"}\n",
-        ),
-        (b"x", 9, Ok(1), b"{\"error\":\"BadLine\"}\n"),
-        (b"", 9, Ok(0), b""),
-        (b"\xFF\n", 9, Ok(1), b"{\"error\":\"BadLine\"}\n"),
-    ];
-    for (input, max_lines, ended, wanted) in inputs {
-        assert!(rt; written(alloc, &mut engine, input, max_lines, ended)?.as_slice() == wanted);
-    }
+    let mut engine = empty_engine(&rt)?;
+    assert!(rt; serves_inputs(alloc, &mut engine)?);
     assert!(rt; refuses_nesting(alloc, &mut engine)?);
     Ok(())
 }

@@ -1,9 +1,12 @@
 -- What the views are seen as: an item as the tree for which it stands, and each view of its contents as the list of them, which
--- stand one behind the other in the file (`uresdata.h`, format version 1).
-use Rattle.std.specs.Prelude.{ℕ, ℤ, ◌+◌, List, drop}
+-- stand one behind the other in the file (`uresdata.h`, format version 1); and the data of the file that each one reads.
+use Rattle.std.specs.Prelude.{◌≡◌, ℕ, ℤ, ◌+◌, List, Option, IfSome, drop}
+use Rattle.std.specs.Borrow.{Bor}
+use Rattle.std.specs.Iterator.{YieldsFirstBy}
 use Rattle.std.specs.Int.{cast_signed, w32}
 use Rattle.rb_tree.specs.Resource.{Resource}
-use Rattle.rb_format.specs.Place.{word_at, half_at, values}
+use Rattle.rb_format.specs.Place.{word_at, half_at, values, key, layout_of}
+use Rattle.rb_format.specs.Geometry.{key_offset}
 use Rattle.rb_views.specs.Trees.{item_tree, entry_at}
 use Rattle.rb_views.specs.declared.item.Item.{Item}
 use Rattle.rb_views.specs.declared.leaves.Units.{Units}
@@ -30,3 +33,29 @@ entries_seen table = values (λ i. entry_at table.body.now table.parts i) 0 tabl
 -- what an iterator still gives
 abbrev pub rest_seen : Pairs → List (List ℕ × Resource)
 rest_seen pairs = drop pairs.next (entries_seen pairs.table)
+
+-- the data of the file that a view reads, and the word of an item, which has its kind and its offset
+abbrev pub item_data : Item → List ℕ
+item_data item = item.body.now
+
+abbrev pub item_word : Item → ℕ
+item_word item = item.word
+
+abbrev pub array_data : Array → List ℕ
+array_data array = array.body.now
+
+abbrev pub table_data : Table → List ℕ
+table_data table = table.body.now
+
+abbrev pub pairs_data : Pairs → List ℕ
+pairs_data pairs = table_data pairs.table
+
+-- the key where the table's key offset i points
+abbrev pub key_placed : Table → ℕ → Option (List ℕ)
+key_placed table i = key (layout_of (table_data table)) (table_data table) (key_offset (table_data table) table.parts.keys i)
+
+-- a step of an iterator gives the first of what was left, an item of the same data, and leaves the others
+pub record GivesFirst (old : Pairs) (given : Option (Bor (List ℕ) × Item)) (new : Pairs) : Type 0 where
+  pub first : YieldsFirstBy (λ e. (e.0.now, tree_seen e.1)) rest_seen old given new
+  pub item : IfSome given (λ e. item_data e.1 ≡ pairs_data old)
+  pub others : pairs_data new ≡ pairs_data old

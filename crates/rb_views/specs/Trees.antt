@@ -1,11 +1,15 @@
--- What stands in the data of a file: the tree of an item, a key, an entry of a table, the bytes of a binary (`uresdata.h`, format
+-- The data of a file, and what stands in them: the tree of an item, a key, an entry of a table, the bytes of a binary (`uresdata.h`, format
 -- version 1).
 use Rattle.std.specs.Prelude.{ℕ, ◌+◌, ◌*◌, List, [], take, drop, unwrap_or}
 use Rattle.rb_tree.specs.Resource.{Resource, int}
 use Rattle.rb_format.specs.declared.geometry.TableParts.{TableParts}
-use Rattle.rb_format.specs.Place.{word_at, key, layout_of}
+use Rattle.rb_format.specs.Place.{word_at, half_at, key, layout_of}
 use Rattle.rb_format.specs.Geometry.{key_offset}
 use Rattle.rb_format.specs.Denotation.{tree_at}
+
+-- the data of a file, which stand behind its header; its first half word is the header's size
+abbrev pub data_of : List ℕ → List ℕ
+data_of bytes = drop (half_at bytes 0) bytes
 
 -- the tree of at most 64 levels for which an item stands
 unfoldable pub item_tree : List ℕ → ℕ → Resource

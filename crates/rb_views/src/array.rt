@@ -17,7 +17,7 @@ pub struct Array<'a> {
 }
 
 impl<'a> Array<'a> {
-    ghost use Rattle.rb_views.specs.Seen.{tree_seen, trees_seen};
+    ghost use Rattle.rb_views.specs.Seen.{tree_seen, trees_seen, item_data, array_data};
 
     /// How many items there are.
     #[tactic(auto, using(crate::proofs::Values::values_length))]
@@ -30,7 +30,8 @@ impl<'a> Array<'a> {
     /// Item i, which is one of `len`.
     pub fn item(self, i: usize) -> Item<'a>
         requires { i < length (trees_seen self) }
-        ensures { Some (tree_seen result) ≡ slice_get (trees_seen self.entry) i }
+        ensures tree { Some (tree_seen result) ≡ slice_get (trees_seen self.entry) i }
+        ensures data { item_data result ≡ array_data self.entry }
     {
         Item {
             body: self.body,

@@ -65,6 +65,7 @@ fn signed(number: u32) -> i32
 
 impl<'a> Item<'a> {
     ghost use Rattle.rb_views.specs.Seen.{tree_seen, units_seen, numbers_seen, trees_seen, entries_seen};
+    ghost use Rattle.rb_views.specs.Seen.{item_data, item_word, array_data, table_data};
 
     /// The kind of the tree.
     pub(crate) fn kind_here(self) -> Kind
@@ -115,7 +116,7 @@ impl<'a> Item<'a> {
     /// The bytes of a Binary, lent from the file, as `ures_getBinary` gives them; None for an item of another kind.
     pub fn binary(self) -> Option<&'a [u8]>
         ensures contents { option_copied result ≡ binary_of (tree_seen self.entry) }
-        ensures place { IfSome result (λ b. let o = offset_of self.entry.word in 0 < o → b.now ≡ bytes_at self.entry.body.now o) }
+        ensures place { IfSome result (λ b. let o = offset_of (item_word self.entry) in 0 < o → b.now ≡ bytes_at (item_data self.entry) o) }
     {
         match self.kind_here() {
             Kind::Binary => Some(self.bytes()),
@@ -145,7 +146,8 @@ impl<'a> Item<'a> {
 
     /// The items of an Array; None for an item of another kind.
     pub fn array(self) -> Option<Array<'a>>
-        ensures { option_map trees_seen result ≡ array_of (tree_seen self.entry) }
+        ensures items { option_map trees_seen result ≡ array_of (tree_seen self.entry) }
+        ensures data { IfSome result (λ a. array_data a ≡ item_data self.entry) }
     {
         match self.kind_here() {
             Kind::Array => Some(self.items()),
@@ -155,7 +157,8 @@ impl<'a> Item<'a> {
 
     /// The entries of a Table, whether its key offsets are half words or words; None for an item of another kind.
     pub fn table(self) -> Option<Table<'a>>
-        ensures { option_map entries_seen result ≡ table_of (tree_seen self.entry) }
+        ensures entries { option_map entries_seen result ≡ table_of (tree_seen self.entry) }
+        ensures data { IfSome result (λ t. table_data t ≡ item_data self.entry) }
     {
         match self.kind_here() {
             Kind::Table => Some(self.entries()),
@@ -204,7 +207,7 @@ impl<'a> Item<'a> {
     pub(crate) fn bytes(self) -> &'a [u8]
         requires { kind_of (tree_seen self) ≡ Kinds.Binary }
         ensures contents { result.now ≡ bytes_of (tree_seen self.entry) }
-        ensures place { let o = offset_of self.entry.word in 0 < o → result.now ≡ bytes_at self.entry.body.now o }
+        ensures place { let o = offset_of (item_word self.entry) in 0 < o → result.now ≡ bytes_at (item_data self.entry) o }
     {
         let offset = item_offset(self.word);
         if offset == 0 {
@@ -220,7 +223,8 @@ impl<'a> Item<'a> {
 
     pub(crate) fn items(self) -> Array<'a>
         requires { kind_of (tree_seen self) ≡ Kinds.Array }
-        ensures { trees_seen result ≡ children_of (tree_seen self.entry) }
+        ensures items { trees_seen result ≡ children_of (tree_seen self.entry) }
+        ensures data { array_data result ≡ item_data self.entry }
     {
         let offset = item_offset(self.word);
         if offset == 0 {
@@ -239,7 +243,8 @@ impl<'a> Item<'a> {
 
     pub(crate) fn entries(self) -> Table<'a>
         requires { kind_of (tree_seen self) ≡ Kinds.Table }
-        ensures { entries_seen result ≡ pairs_of (tree_seen self.entry) }
+        ensures entries { entries_seen result ≡ pairs_of (tree_seen self.entry) }
+        ensures data { table_data result ≡ item_data self.entry }
     {
         Table {
             body: self.body,

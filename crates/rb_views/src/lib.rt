@@ -7,8 +7,6 @@ mod item;
 mod leaves;
 mod node;
 mod table;
-#[cfg(test)]
-mod tests;
 
 pub use array::Array;
 pub use bundle::root;

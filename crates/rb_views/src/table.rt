@@ -3,8 +3,7 @@ ghost use Rattle.std.specs.Prelude.{◌≡◌, ◌<◌, ◌≤◌, IsTrue, Some,
 ghost use Rattle.std.specs.Map.{lookup, keys_of, values_of};
 ghost use Rattle.std.specs.Cmp.Lexicographic.{pointwise};
 ghost use Rattle.rb_format.specs.File.{is_laid};
-ghost use Rattle.rb_format.specs.Geometry.{keys_end, key_offset};
-ghost use Rattle.rb_format.specs.Place.{key, layout_of};
+ghost use Rattle.rb_format.specs.Geometry.{keys_end};
 ghost use Rattle.rb_views.specs.Stands.{TableStands};
 
 use crate::item::Item;
@@ -22,7 +21,7 @@ pub struct Table<'a> {
 }
 
 impl<'a> Table<'a> {
-    ghost use Rattle.rb_views.specs.Seen.{tree_seen, entries_seen, rest_seen};
+    ghost use Rattle.rb_views.specs.Seen.{tree_seen, entries_seen, rest_seen, item_data, table_data, pairs_data, key_placed};
 
     /// How many entries there are.
     #[tactic(auto, using(crate::proofs::Values::values_length))]
@@ -36,7 +35,7 @@ impl<'a> Table<'a> {
     pub fn key(self, i: usize) -> &'a [u8]
         requires { i < length (entries_seen self) }
         ensures key { Some result.now ≡ slice_get (keys_of (entries_seen self.entry)) i }
-        ensures place { Some result.now ≡ key (layout_of self.entry.body.now) self.entry.body.now (key_offset self.entry.body.now self.entry.parts.keys i) }
+        ensures place { Some result.now ≡ key_placed self.entry i }
     {
         let layout = Layout::of(self.body);
         match key_within(&layout, self.body, self.parts.keys.offset(self.body, i)) {
@@ -48,7 +47,8 @@ impl<'a> Table<'a> {
     /// The item of entry i, which is one of `len`.
     pub fn item(self, i: usize) -> Item<'a>
         requires { i < length (entries_seen self) }
-        ensures { Some (tree_seen result) ≡ slice_get (values_of (entries_seen self.entry)) i }
+        ensures tree { Some (tree_seen result) ≡ slice_get (values_of (entries_seen self.entry)) i }
+        ensures data { item_data result ≡ table_data self.entry }
     {
         Item {
             body: self.body,
@@ -58,7 +58,8 @@ impl<'a> Table<'a> {
 
     /// The item with a key, by halving over the key offsets, which stand in the order of their keys; None where the table has no such key.
     pub fn get(self, key: &[u8]) -> Option<Item<'a>>
-        ensures { option_map tree_seen result ≡ lookup (pointwise nat_eq key.now) (entries_seen self.entry) }
+        ensures tree { option_map tree_seen result ≡ lookup (pointwise nat_eq key.now) (entries_seen self.entry) }
+        ensures data { IfSome result (λ item. item_data item ≡ table_data self.entry) }
     {
         let count = self.len();
         let mut low = 0;
@@ -76,7 +77,8 @@ impl<'a> Table<'a> {
 
     /// The entries in order, each a key and its item.
     pub fn iter(self) -> Pairs<'a>
-        ensures { rest_seen result ≡ entries_seen self.entry }
+        ensures entries { rest_seen result ≡ entries_seen self.entry }
+        ensures data { pairs_data result ≡ table_data self.entry }
     {
         Pairs {
             table: self,
@@ -93,12 +95,12 @@ pub struct Pairs<'a> {
 }
 
 impl<'a> Iterator for Pairs<'a> {
-    ghost use Rattle.std.specs.Iterator.{YieldsFirstBy, item_count};
-    ghost use Rattle.rb_views.specs.Seen.{tree_seen, rest_seen};
+    ghost use Rattle.std.specs.Iterator.{item_count};
+    ghost use Rattle.rb_views.specs.Seen.{rest_seen, GivesFirst};
 
     type Item = (&'a [u8], Item<'a>);
 
-    ghost next_gives = { YieldsFirstBy (λ e. (e.0.now, tree_seen e.1)) rest_seen };
+    ghost next_gives = { GivesFirst };
 
     ghost remaining = { item_count rest_seen };
 

@@ -1,9 +1,11 @@
-//! Tests of bundle files: `rb_format`, `rb_writer`, `rb_validator`.
+//! Tests of bundle files: `rb_format`, `rb_writer`, `rb_validator`, `rb_views`.
 #![tactic(auto)]
 
 #[cfg(test)]
 mod format;
 #[cfg(test)]
 mod validator;
+#[cfg(test)]
+mod views;
 #[cfg(test)]
 mod writer;

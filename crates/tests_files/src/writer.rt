@@ -75,7 +75,7 @@ fn table(alloc: Global, pairs: Vec<(ByteList, Tree)>) -> Result<Tree, Fail>
     Tree::table(alloc, pairs).map_err(|fault| fault.word().into())
 }
 
-fn file(alloc: Global, tree: &Tree, no_fallback: bool) -> Result<Vec<u8>, Fail> {
+pub fn file(alloc: Global, tree: &Tree, no_fallback: bool) -> Result<Vec<u8>, Fail> {
     if tree.fits() {
         Ok(write(alloc, tree, no_fallback)?)
     } else {
@@ -186,17 +186,22 @@ fn every_type_is_laid_out(rt: HostRuntime) -> Result<(), Fail> {
     Ok(())
 }
 
+/// `k` and the last five digits of a number.
+pub fn numbered_key(number: u32) -> [u8; 6] {
+    let mut text = *b"k00000";
+    let mut rest = number;
+    for place in [5usize, 4, 3, 2, 1] {
+        text[place] = b'0' + (rest % 10) as u8;
+        rest /= 10;
+    }
+    text
+}
+
 /// The table of the keys `k00000` and so on, so many of them, each with Int 0.
-fn numbered(alloc: Global, count: u32) -> Result<Tree, Fail> {
+pub fn numbered(alloc: Global, count: u32) -> Result<Tree, Fail> {
     let mut pairs = Vec::new(alloc);
     for i in 0..count {
-        let mut text = *b"k00000";
-        let mut rest = i;
-        for place in [5usize, 4, 3, 2, 1] {
-            text[place] = b'0' + (rest % 10) as u8;
-            rest /= 10;
-        }
-        put_number(alloc, &mut pairs, &text, 0)?;
+        put_number(alloc, &mut pairs, &numbered_key(i), 0)?;
     }
     table(alloc, pairs)
 }

@@ -3,7 +3,9 @@ ghost use Rattle.std.specs.Prelude.{None};
 
 use crate::device::{Failed, Feed, ReadFeed, Sink, WriteSink};
 use crate::lines::{ServeFault, serve};
+use crate::tests::empty_engine;
 use rb_engine::Engine;
+use std::alloc::Global;
 use std::io;
 use std::io::{ErrorKind, Write};
 use std::test::Fail;
@@ -122,45 +124,66 @@ impl Write for Full {
     }
 }
 
+/// Whether serving ends so where a call of the reader fails, after so many replies.
+fn ends_at_a_failed_read(
+    alloc: Global,
+    engine: &mut Engine,
+    failing: usize,
+    lines: usize,
+    fault: Option<ServeFault>,
+) -> Result<bool, Fail> {
+    let wanted = BAD_LINE.repeat(alloc, lines)?;
+    let mut written: Vec<u8> = Vec::new(alloc);
+    let mut feed = FailingFeed {
+        bytes: b"x\n\ny",
+        calls: 0,
+        failing,
+        failed: 0,
+    };
+    let mut sink = WriteSink::new(&mut written);
+    let ended = serve(alloc, engine, &mut feed, &mut sink, 9);
+    let counted = feed.failed == if fault.is_some() { 1 } else { 0 };
+    Ok(counted && ended.err() == fault && written.as_slice() == wanted.as_bytes())
+}
+
 #[test]
 fn answers_the_lines_before_a_failed_read(rt: HostRuntime) -> Result<(), Fail> {
     let alloc = rt.alloc();
+    let mut engine = empty_engine(&rt)?;
     // Calls count from 0. The last line has no line feed: call 4 tells the end, and there is no call 5.
-    for (failing, lines) in [(0, 0), (1, 0), (2, 1), (3, 2), (4, 2), (5, 3)] {
-        let mut engine = Engine::start(alloc);
-        let mut written: Vec<u8> = Vec::new(alloc);
-        let mut feed = FailingFeed {
-            bytes: b"x\n\ny",
-            calls: 0,
-            failing,
-            failed: 0,
-        };
-        let ended = serve(
-            alloc,
-            &mut engine,
-            &mut feed,
-            &mut WriteSink::new(&mut written),
-            9,
+    for (failing, lines) in [(0, 0), (1, 0), (2, 1), (3, 2), (4, 2)] {
+        assert!(rt;
+            ends_at_a_failed_read(alloc, &mut engine, failing, lines, Some(ServeFault::Read))?
         );
-        let wanted = BAD_LINE.repeat(alloc, lines)?;
-        assert_eq!(rt; written.as_slice(), wanted.as_bytes());
-        assert_eq!(rt;
-            ended.err(),
-            if failing < 5 {
-                Some(ServeFault::Read)
-            } else {
-                None
-            }
-        );
-        assert_eq!(rt; feed.failed, if failing < 5 { 1 } else { 0 });
     }
+    assert!(rt; ends_at_a_failed_read(alloc, &mut engine, 5, 3, None)?);
     Ok(())
+}
+
+/// Whether serving ends where a call of the writer fails, after so many bytes of replies.
+fn ends_at_a_failed_write(
+    alloc: Global,
+    engine: &mut Engine,
+    failing: usize,
+    taken: usize,
+) -> Result<bool, Fail> {
+    let replies = BAD_LINE.repeat(alloc, 2)?;
+    let mut sink = FailingSink {
+        taken: Vec::new(alloc),
+        calls: 0,
+        failing,
+        failed: 0,
+    };
+    let mut feed = ReadFeed::new(b"x\n\n".as_slice());
+    let ended = serve(alloc, engine, &mut feed, &mut sink, 9);
+    let written = replies.as_bytes().get(..taken) == Some(sink.taken.as_slice());
+    Ok(written && sink.failed == 1 && ended.err() == Some(ServeFault::Write))
 }
 
 #[test]
 fn writes_a_part_of_a_reply_before_a_failed_write(rt: HostRuntime) -> Result<(), Fail> {
     let alloc = rt.alloc();
-    let replies = BAD_LINE.repeat(alloc, 2)?;
+    let mut engine = empty_engine(&rt)?;
     // Calls 0 to 19 take a reply's bytes, call 20 hands it on, and so for the next.
     for (failing, taken) in [
         (0, 0),
@@ -171,21 +194,7 @@ fn writes_a_part_of_a_reply_before_a_failed_write(rt: HostRuntime) -> Result<(),
         (22, 21),
         (41, 40),
     ] {
-        let mut engine = Engine::start(alloc);
-        let mut sink = FailingSink {
-            taken: Vec::new(alloc),
-            calls: 0,
-            failing,
-            failed: 0,
-        };
-        let mut feed = ReadFeed::new(b"x\n\n".as_slice());
-        let ended = serve(alloc, &mut engine, &mut feed, &mut sink, 9);
-        assert_eq!(rt; ended.err(), Some(ServeFault::Write));
-        assert_eq!(rt;
-            Some(sink.taken.as_slice()),
-            replies.as_bytes().get(..taken)
-        );
-        assert_eq!(rt; sink.failed, 1);
+        assert!(rt; ends_at_a_failed_write(alloc, &mut engine, failing, taken)?);
     }
     Ok(())
 }
@@ -193,7 +202,7 @@ fn writes_a_part_of_a_reply_before_a_failed_write(rt: HostRuntime) -> Result<(),
 #[test]
 fn keeps_a_bundle_whose_reply_is_not_written(rt: HostRuntime) -> Result<(), Fail> {
     let alloc = rt.alloc();
-    let mut engine = Engine::start(alloc);
+    let mut engine = empty_engine(&rt)?;
     let line =
         b"{\"op\":\"install\",\"app\":\"shop\",\"locale\":\"de\",\"text\":\"de{a{\\\"b\\\"}}\"}\n";
     let mut feed = ReadFeed::new(line.as_slice());
@@ -203,29 +212,28 @@ fn keeps_a_bundle_whose_reply_is_not_written(rt: HostRuntime) -> Result<(), Fail
     Ok(())
 }
 
+/// Whether serving lines without an end stops after three.
+fn stops_after_three(alloc: Global, engine: &mut Engine) -> Result<bool, Fail> {
+    let wanted = BAD_LINE.repeat(alloc, 3)?;
+    let mut written: Vec<u8> = Vec::new(alloc);
+    let mut sink = WriteSink::new(&mut written);
+    let ended = serve(alloc, engine, &mut Endless, &mut sink, 3);
+    Ok(ended.err() == Some(ServeFault::LineLimit) && written.as_slice() == wanted.as_bytes())
+}
+
 #[test]
 fn stops_at_lines_without_an_end(rt: HostRuntime) -> Result<(), Fail> {
-    let alloc = rt.alloc();
-    let mut engine = Engine::start(alloc);
-    let mut written: Vec<u8> = Vec::new(alloc);
-    let ended = serve(
-        alloc,
-        &mut engine,
-        &mut Endless,
-        &mut WriteSink::new(&mut written),
-        3,
-    );
-    assert_eq!(rt; ended.err(), Some(ServeFault::LineLimit));
-    let wanted = BAD_LINE.repeat(alloc, 3)?;
-    assert_eq!(rt; written.as_slice(), wanted.as_bytes());
+    let mut engine = empty_engine(&rt)?;
+    assert!(rt; stops_after_three(rt.alloc(), &mut engine)?);
     Ok(())
 }
 
 #[test]
-fn tells_of_a_reply_that_is_not_handed_on(rt: HostRuntime) {
+fn tells_of_a_reply_that_is_not_handed_on(rt: HostRuntime) -> Result<(), Fail> {
     let alloc = rt.alloc();
-    let mut engine = Engine::start(alloc);
+    let mut engine = empty_engine(&rt)?;
     let mut feed = ReadFeed::new(b"x\n".as_slice());
     let ended = serve(alloc, &mut engine, &mut feed, &mut WriteSink::new(Stuck), 9);
     assert_eq!(rt; ended.err(), Some(ServeFault::Write));
+    Ok(())
 }

@@ -19,6 +19,6 @@ pub returns : goal.returns
 returns c =
     let h : place_of c.args.app.now c.args.locale.now ≡ Ok c.in-Ok.place = cc in
     elim c.match-install.branch [
-      in-Ok-install w ↦ rw w.result-is (done c.args.app.now c.args.locale.now c.args.payload c.in-Ok.place c.in-Ok-bundle_of.bundle c.args.packages.now c.install.new.self h c.in-Ok-bundle_of.ensures w.in-Ok-install.ensures.judged w.in-Ok-install.ensures.installed w.in-Ok-install.ensures.others)
+      | in-Ok-install w ↦ rw w.result-is (done c.args.app.now c.args.locale.now c.args.payload c.in-Ok.place c.in-Ok-bundle_of.bundle c.args.packages.now c.install.new.self h c.in-Ok-bundle_of.ensures w.in-Ok-install.ensures.judged w.in-Ok-install.ensures.installed w.in-Ok-install.ensures.others)
       | in-Err-install w ↦ rw (w.result-is, w.pack_reply.ensures, w.in-Err-install.ensures.unchanged) (not_installed c.args.app.now c.args.locale.now c.args.payload c.in-Ok.place c.in-Ok-bundle_of.bundle c.args.packages.now w.in-Err-install.fault h c.in-Ok-bundle_of.ensures (judged_err (install_fault c.in-Ok.place.name (list_of c.in-Ok.place.app c.args.packages.now)) (w.in-Err-install.fault, w.in-Err-install.field-0-1) c.install.result w.in-Err-install.is c.install.ensures.judged))
     ]

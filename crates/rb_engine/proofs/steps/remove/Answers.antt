@@ -9,6 +9,6 @@ pub returns : goal.returns
 returns c =
     let h : place_of c.args.app.now c.args.locale.now ≡ Ok c.in-Ok.place = cc in
     elim c.match-remove.branch [
-      in-Ok-remove w ↦ rw w.result-is (removes c.args.app.now c.args.locale.now c.in-Ok.place (source_tree_of w.in-Ok-remove.field-0) c.args.packages.now c.remove.new.self h w.in-Ok-remove.ensures.old w.in-Ok-remove.ensures.removed w.in-Ok-remove.ensures.others)
+      | in-Ok-remove w ↦ rw w.result-is (removes c.args.app.now c.args.locale.now c.in-Ok.place (source_tree_of w.in-Ok-remove.field-0) c.args.packages.now c.remove.new.self h w.in-Ok-remove.ensures.old w.in-Ok-remove.ensures.removed w.in-Ok-remove.ensures.others)
       | in-Err-remove w ↦ rw (w.result-is, w.in-Err-remove.ensures.unchanged) (not_removed c.args.app.now c.args.locale.now c.in-Ok.place c.args.packages.now h w.in-Err-remove.ensures.absent)
     ]

@@ -9,7 +9,7 @@ use Rattle.rb_packages.proofs.shelf.bundle_in.Goals as goal
 pub returns-in-Some : goal.returns-in-Some
 returns-in-Some c =
     let there : lookup (bytes_eq c.args.name.now) c.args.bundles.now.entries ≡ Some c.in-Some.bundle.now = sym c.get.ensures.value ∙ ap option_copied c.in-Some.is in
-    (λ i. Some (record { tree = c.root.ensures i; no_fallback = c.no_fallback.ensures i })) ∙ sym (bundle_at-shelf_of c.args.bundles.now.entries c.args.name.now ∙ ap (option_map source_tree_of) there)
+    (λ i. Some (record { tree = c.root.ensures.tree i; no_fallback = c.no_fallback.ensures i })) ∙ sym (bundle_at-shelf_of c.args.bundles.now.entries c.args.name.now ∙ ap (option_map source_tree_of) there)
 
 pub returns-in-None : goal.returns-in-None
 returns-in-None c =

@@ -25,7 +25,7 @@ invariant_of-result c =
     let r = root_of c.args.bundle.now c.bytes.result.now c.body-body.result.now c.bytes.ensures.bytes c.body-body.ensures c.bytes.ensures.denoted in
     record { laid = r.laid; stands = rw c.word_at.ensures r.stands }
 
-pub returns : goal.returns
-returns c =
+pub returns-clause-tree : goal.returns-clause-tree
+returns-clause-tree c =
     let r = root_of c.args.bundle.now c.bytes.result.now c.body-body.result.now c.bytes.ensures.bytes c.body-body.ensures c.bytes.ensures.denoted in
     rw c.word_at.ensures r.tree

@@ -1,6 +1,6 @@
 use Rattle.std.proofs.Common.{ap, sym, ◌∙◌, ◌++◌, ◌∷◌, []}
 use Rattle.rb_format.specs.File.{source_tree_of}
-use Rattle.rb_packages.specs.Packages.{shelf_of, icudata_of}
+use Rattle.rb_packages.specs.Packages.{shelf_of}
 use Rattle.rb_packages.proofs.Lists.{shelf_of-push, icudata_seen, on_ok}
 use Rattle.rb_packages.proofs.packages.Packages.load.Goals as goal
 

@@ -10,5 +10,5 @@ invariant_of-result c =
     let r = laid_room s.body.now s.laid in
     record { laid = s.laid; keys = omega arith; stands = e.stand }
 
-pub returns : goal.returns
-returns c = c.parts.ensures.are
+pub returns-clause-entries : goal.returns-clause-entries
+returns-clause-entries c = c.parts.ensures.are

@@ -6,8 +6,8 @@ use Rattle.rb_views.proofs.item.Item.items.Goals as goal
 pub invariant_of-result : goal.invariant_of-result
 invariant_of-result c = let s = c.args.self in record { laid = s.laid; stands = none_stand s.body.now }
 
-pub returns-then-offset-eq0 : goal.returns-then-offset-eq0
-returns-then-offset-eq0 c =
+pub returns-then-offset-eq0-clause-items : goal.returns-then-offset-eq0-clause-items
+returns-then-offset-eq0-clause-items c =
     let s = c.args.self in
     items_none s.body.now s.word c.item_offset-offset.result c.item_offset-offset.ensures s.stands c.requires c.if-offset-eq0.true
 
@@ -24,8 +24,8 @@ invariant_of-result-2 c =
     let a = items_there s.body.now s.word c.item_offset-offset.result c.item_offset-offset.ensures s.stands c.requires (omega arith) in
     record { laid = s.laid; stands = rw c.word_at.ensures a.stand }
 
-pub returns : goal.returns
-returns c =
+pub returns-clause-items : goal.returns-clause-items
+returns-clause-items c =
     let s = c.args.self in
     let a = items_there s.body.now s.word c.item_offset-offset.result c.item_offset-offset.ensures s.stands c.requires (omega arith) in
     rw c.word_at.ensures a.are

@@ -1,4 +1,4 @@
-use Rattle.std.proofs.Common.{◌≡◌, ℕ, ◌+◌, ◌<◌, List, length, Option, ap, ◌∙◌, arith}
+use Rattle.std.proofs.Common.{◌≡◌, ℕ, ◌+◌, ◌<◌, List, length, Option, refl, ap, ◌∙◌, arith}
 use Rattle.std.specs.Prelude.{unwrap_or, []}
 use Rattle.rb_format.specs.Place.{word_at}
 use Rattle.rb_format.specs.Geometry.{key_offset}
@@ -18,5 +18,5 @@ returns-then-i-count-clause-steps c =
     let l : length (entries_seen s) ≡ n = values_length (λ (j : ℕ). (name j, tree j)) 0 n in
     let h : i < n = omega arith in
     let k : c.key.result.now ≡ name i = ap (λ (o : Option (List ℕ)). unwrap_or o []) c.key.ensures.place in
-    let t : item_tree c.item.result.body.now c.item.result.word ≡ tree i = some_eq _ (tree i) (c.item.ensures ∙ second_at name tree n i h) in
-    rw (k, t) (values_left (λ (j : ℕ). (name j, tree j)) n i h)
+    let t : item_tree c.item.result.body.now c.item.result.word ≡ tree i = some_eq _ (tree i) (c.item.ensures.tree ∙ second_at name tree n i h) in
+    record { first = rw (k, t) (values_left (λ (j : ℕ). (name j, tree j)) n i h); item = c.item.ensures.data; others = refl }

@@ -47,8 +47,8 @@ loop-low-preserved c =
 pub item-requires : goal.item-requires
 item-requires c = let i = c.loop-low.invariant.inside in rw values_length (omega arith)
 
-pub returns-in-Equal : goal.returns-in-Equal
-returns-in-Equal c =
+pub returns-in-Equal-clause-tree : goal.returns-in-Equal-clause-tree
+returns-in-Equal-clause-tree c =
     let s = c.args.self in
     let m = c.loop-low.low + (c.loop-low.high - c.loop-low.low) / 2 in
     let i = c.loop-low.invariant.inside in
@@ -56,12 +56,12 @@ returns-in-Equal c =
     let k : c.key.result.now ≡ name s.body.now s.parts m = ap (λ (o : Option (List ℕ)). unwrap_or o []) c.key.ensures.place in
     let same : slice_cmp nat_cmp c.args.key.now (name s.body.now s.parts m) ≡ Equal = rw (← k) (sym c.in-Equal.ensures) in
     let found : name s.body.now s.parts m ≡ c.args.key.now = sym (equal_is c.args.key.now (name s.body.now s.parts m) same) in
-    c.item.ensures ∙ second_at (name s.body.now s.parts) (tree s.body.now s.parts) s.parts.count m within
+    c.item.ensures.tree ∙ second_at (name s.body.now s.parts) (tree s.body.now s.parts) s.parts.count m within
     ∙ sym (lookup_found c.args.key.now (name s.body.now s.parts) (tree s.body.now s.parts) s.parts.count m within found
     (earlier_differ (name s.body.now s.parts) s.parts.count m c.args.key.now (λ i j h l. table_rises s.body.now s.parts i j s.stands h l) within found))
 
-pub returns : goal.returns
-returns c =
+pub returns-clause-tree : goal.returns-clause-tree
+returns-clause-tree c =
     let s = c.args.self in
     sym (lookup_absent c.args.key.now (name s.body.now s.parts) (tree s.body.now s.parts) s.parts.count
     (halved_none (name s.body.now s.parts) s.parts.count c.args.key.now c.loop-low.low c.loop-low.high c.loop-low.invariant (omega arith)))

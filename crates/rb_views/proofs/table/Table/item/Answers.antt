@@ -23,8 +23,8 @@ invariant_of-result c =
     let h : c.args.i < s.parts.count = rw values_length at c.requires in
     record { laid = s.laid; stands = rw c.item.ensures (table_child s.body.now s.parts c.args.i s.stands h) }
 
-pub returns : goal.returns
-returns c =
+pub returns-clause-tree : goal.returns-clause-tree
+returns-clause-tree c =
     let s = c.args.self in
     let h : c.args.i < s.parts.count = rw values_length at c.requires in
     let name = λ (i : ℕ). key_from s.body.now (key_offset s.body.now s.parts.keys i) in
