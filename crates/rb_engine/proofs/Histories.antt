@@ -9,10 +9,10 @@ use Rattle.rb_tree.specs.Path.{is_path, segments}
 use Rattle.rb_fallback.specs.Search.{look_up, first_stop}
 use Rattle.rb_fallback.specs.declared.fault.LookError.{LookError}
 use Rattle.rb_parser.specs.Source.{IsGoodSource}
-use Rattle.rb_engine.specs.App.{app_of}
+use Rattle.rb_packages.specs.App.{app_of}
 use Rattle.rb_engine.specs.Place.{place_of}
-use Rattle.rb_engine.specs.declared.app.AppFault.{AppFault}
-use Rattle.rb_engine.specs.declared.app.AppFault.TheVariants as app
+use Rattle.rb_packages.specs.declared.app.AppFault.{AppFault}
+use Rattle.rb_packages.specs.declared.app.AppFault.TheVariants as app
 use Rattle.rb_engine.specs.declared.place.Place.{Place}
 use Rattle.rb_engine.specs.declared.place.PlaceFault.{PlaceFault}
 use Rattle.rb_engine.specs.declared.place.PlaceFault.TheVariants as place
@@ -23,7 +23,7 @@ use Rattle.rb_engine.specs.declared.request.Request.TheVariants as request
 use Rattle.rb_engine.specs.declared.request.Reply.{Reply}
 use Rattle.rb_engine.specs.declared.request.Reply.TheVariants.{Done, Exists, Absent, Full, Memory}
 use Rattle.rb_engine.specs.declared.request.LookFault.TheVariants as fault
-use Rattle.rb_engine.specs.Shelf.{Shelf, bundle_at, holds, is_full}
+use Rattle.rb_packages.specs.Shelf.{Shelf, bundle_at, holds, is_full}
 use Rattle.rb_engine.specs.Ask.{Call, Requests, LooksUp, caller, Content, spelled, denoted, unread, IsContent, IsRead, Ask, Installs, Replaces, Removes, Lists, Looks, Means, RequestMeans}
 use Rattle.rb_engine.specs.Answer.{Start, Told, Replies, Refuses, answer_over, answer, shelf_then, shelf_from, refusal, add_reply, install_reply, replace_reply, remove_reply, list_reply, look_reply, found}
 use Rattle.rb_engine.specs.History.{State, Turn, Step, Run, own, asked_by, told_to, EachMeans, is_memory, AsksOne, AnswersOwn, IsIsolated, new_state}

@@ -1,4 +1,5 @@
 pub mod Histories
-pub mod RowLemmas
 pub mod StepLemmas
 pub mod Lookups
+pub mod Starting
+pub mod Keeping

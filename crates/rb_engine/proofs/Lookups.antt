@@ -14,8 +14,8 @@ use Rattle.rb_engine.specs.declared.request.LookFault.{LookFault}
 use Rattle.rb_engine.specs.declared.request.LookFault.TheVariants as fault
 use Rattle.rb_engine.specs.Answer.{Start, Refuses, found, looked_in, look_reply}
 use Rattle.rb_engine.specs.Looked.{fault_from}
-use Rattle.rb_engine.specs.Shelf.{bundle_at}
-use Rattle.rb_engine.specs.Rows.{Rows, list_of}
+use Rattle.rb_packages.specs.Shelf.{bundle_at}
+use Rattle.rb_packages.specs.Packages.{Stored, list_of}
 use Rattle.rb_engine.specs.Place.{place_of}
 use Rattle.rb_engine.specs.declared.place.Place.{Place}
 use Rattle.rb_engine.proofs.StepLemmas.{app-place_of}
@@ -40,7 +40,7 @@ looked_is tree r m own icu parents name path h bad good v = by (is_path path) re
         let none = bad (λ p. false≢true (sym e ∙ (path_test path).1 p)) in
         ap (seen tree) (subst (λ x. MatchResult x (λ y. m ≡ Ok y) (λ d. m ≡ Err (fault_from d))) none h)
 
--- a look-up at a place that was read
-pub looked_at : (start : Start) (app locale path : List ℕ) (p : Place) (rows : Rows) → place_of app locale ≡ Ok p → looked_in (bundle_at (list_of p.app rows)) (bundle_at start.icudata) start.parents p.name path ≡ look_reply start (list_of app rows) (place_of app locale) path
-looked_at start app locale path p rows h =
-    rw h (ap (λ x. looked_in (bundle_at (list_of x rows)) (bundle_at start.icudata) start.parents p.name path) (app-place_of app locale p h))
+-- a lookup at a place that was read
+pub looked_at : (start : Start) (app locale path : List ℕ) (p : Place) (s : Stored) → place_of app locale ≡ Ok p → looked_in (bundle_at (list_of p.app s)) (bundle_at start.icudata) start.parents p.name path ≡ look_reply start (list_of app s) (place_of app locale) path
+looked_at start app locale path p s h =
+    rw h (ap (λ x. looked_in (bundle_at (list_of x s)) (bundle_at start.icudata) start.parents p.name path) (app-place_of app locale p h))

@@ -7,13 +7,13 @@ use Rattle.rb_tree.specs.Path.{is_path, segments}
 use Rattle.rb_parents.specs.Trail.{Bundles, ParentsOf}
 use Rattle.rb_fallback.specs.Search.{look_up, first_stop}
 use Rattle.rb_fallback.specs.declared.fault.LookError.{LookError}
-use Rattle.rb_engine.specs.App.{app_of}
+use Rattle.rb_packages.specs.App.{app_of}
 use Rattle.rb_engine.specs.Place.{place_of}
-use Rattle.rb_engine.specs.Shelf.{Shelf, bundle_at, holds, is_full, replaced, removed}
+use Rattle.rb_packages.specs.Shelf.{Shelf, bundle_at, holds, is_full, replaced, removed}
 use Rattle.rb_engine.specs.Ask.{Content, spelled, denoted, unread, Ask, Installs, Replaces, Removes, Lists, Looks}
 use Rattle.rb_engine.specs.Looked.{fault_from}
-use Rattle.rb_engine.specs.declared.app.AppFault.{AppFault}
-use Rattle.rb_engine.specs.declared.app.AppFault.TheVariants as app
+use Rattle.rb_packages.specs.declared.app.AppFault.{AppFault}
+use Rattle.rb_packages.specs.declared.app.AppFault.TheVariants as app
 use Rattle.rb_engine.specs.declared.place.Place.{Place}
 use Rattle.rb_engine.specs.declared.place.PlaceFault.{PlaceFault}
 use Rattle.rb_engine.specs.declared.place.PlaceFault.TheVariants as place

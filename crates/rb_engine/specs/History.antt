@@ -1,7 +1,7 @@
 -- Histories of many applications on one engine, and what holds of them all: this project's own rule that none sees another's bundles.
 use Rattle.std.specs.Prelude.{◌≡◌, ◌≢◌, ℕ, Bool, true, false, List, [], ◌∷◌, ◌++◌, not, map, filter, ◌⊎◌}
 use Rattle.std.specs.Str.{bytes_eq}
-use Rattle.rb_engine.specs.Shelf.{Shelf}
+use Rattle.rb_packages.specs.Shelf.{Shelf}
 use Rattle.rb_engine.specs.Ask.{Call, Requests, LooksUp, caller, Ask, Means}
 use Rattle.rb_engine.specs.Answer.{Start, Told, Replies, Finds, Refuses, answer_over, answer, shelf_then}
 use Rattle.rb_engine.specs.declared.request.Request.TheVariants as request

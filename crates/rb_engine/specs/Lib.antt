@@ -1,12 +1,10 @@
-pub mod App
 pub mod Place
-pub mod Shelf
 pub mod Ask
 pub mod Answer
 pub mod History
+pub mod Kept
+pub mod Start
+pub mod Source
 pub mod Words
 pub mod Looked
-pub mod Padded
-pub mod Rows
-pub mod RowStep
 pub mod Seen

@@ -1,10 +1,9 @@
 -- Where a request's bundle is to stand, this project's own rule: under an application's name and a locale's.
-use Rattle.std.specs.Prelude.{ℕ, Bool, ◌&&◌, List, Option, Some, None, Result, Ok, Err}
-use Rattle.std.specs.Str.{bytes_eq}
+use Rattle.std.specs.Prelude.{ℕ, List, Option, Some, None, Result, Ok, Err}
 use Rattle.rb_locales.specs.Locale.{name}
-use Rattle.rb_engine.specs.App.{app_of}
-use Rattle.rb_engine.specs.declared.app.AppFault.{AppFault}
-use Rattle.rb_engine.specs.declared.app.AppFault.TheVariants as app
+use Rattle.rb_packages.specs.App.{app_of}
+use Rattle.rb_packages.specs.declared.app.AppFault.{AppFault}
+use Rattle.rb_packages.specs.declared.app.AppFault.TheVariants as app
 use Rattle.rb_engine.specs.declared.place.Place.{Place}
 use Rattle.rb_engine.specs.declared.place.PlaceFault.{PlaceFault}
 use Rattle.rb_engine.specs.declared.place.PlaceFault.TheVariants as place
@@ -18,6 +17,3 @@ place_by (Ok a) (Some n) = Ok (record { app = a; name = n })
 
 abbrev pub place_of : List ℕ → List ℕ → Result Place PlaceFault
 place_of app locale = place_by (app_of app) (name locale)
-
-abbrev pub same_place : Place → Place → Bool
-same_place a b = bytes_eq a.app b.app && bytes_eq a.name b.name

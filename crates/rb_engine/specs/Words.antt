@@ -1,15 +1,11 @@
 -- The words of refusals: each is its variant's name.
 use Rattle.std.specs.Prelude.{ℕ, List, codes}
-use Rattle.rb_engine.specs.declared.app.AppFault.{AppFault}
-use Rattle.rb_engine.specs.declared.app.AppFault.TheVariants as app
 use Rattle.rb_engine.specs.declared.request.Reply.{Reply}
 use Rattle.rb_engine.specs.declared.request.Reply.TheVariants as reply
+use Rattle.rb_engine.specs.declared.start.StartFault.{StartFault}
+use Rattle.rb_engine.specs.declared.start.StartFault.TheVariants as start
 use Rattle.rb_engine.specs.declared.request.LookFault.{LookFault}
 use Rattle.rb_engine.specs.declared.request.LookFault.TheVariants as look
-
-abbrev pub app_word : AppFault → List ℕ
-app_word app.BadApp = codes "BadApp"
-app_word app.Reserved = codes "Reserved"
 
 abbrev pub reply_word : Reply → List ℕ
 reply_word reply.Done = codes "Done"
@@ -37,3 +33,9 @@ look_word look.Missing = codes "Missing"
 look_word look.AliasText = codes "AliasText"
 look_word look.AliasPackage = codes "AliasPackage"
 look_word look.TooManyAliases = codes "TooManyAliases"
+
+abbrev pub start_word : StartFault → List ℕ
+start_word (start.BadText i) = codes "BadText"
+start_word (start.BadFile i) = codes "BadFile"
+start_word (start.Twice i) = codes "Twice"
+start_word start.Memory = codes "Memory"

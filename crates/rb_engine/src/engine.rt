@@ -1,65 +1,74 @@
 //! The engine of many applications.
-ghost use Rattle.std.specs.Prelude.{◌≡◌, [], ℕ, List, None};
-ghost use Rattle.rb_tree.specs.View.{view_of};
-ghost use Rattle.rb_parents.specs.Shelf.{seen_bundles};
+ghost use Rattle.std.specs.Prelude.{◌≡◌, [], ℕ, List, IfOk, IfErr};
 ghost use Rattle.rb_parents.specs.Family.{parent_of, parent_in};
-ghost use Rattle.rb_engine.specs.Shelf.{bundle_at};
-ghost use Rattle.rb_engine.specs.Rows.{state_of, list_of};
+ghost use Rattle.rb_views.specs.Seen.{tree_seen};
+ghost use Rattle.rb_packages.specs.Shelf.{bundle_at};
+ghost use Rattle.rb_packages.specs.Packages.{icudata_of, list_of};
 ghost use Rattle.rb_engine.specs.Ask.{Requests, Looks};
 ghost use Rattle.rb_engine.specs.Answer.{Replies, answer_over, looked_in};
 ghost use Rattle.rb_engine.specs.History.{Step};
+ghost use Rattle.rb_engine.specs.Kept.{state_of};
 ghost use Rattle.rb_engine.specs.Seen.{seen};
+ghost use Rattle.rb_engine.specs.Start.{Loads, IsRefused};
 
 use crate::place::{Place, PlaceFault, place_of};
-use crate::request::{LookFault, Reply, Request};
-use crate::rows::{AppShelf, Rows};
+use crate::request::{LookFault, Payload, Reply, Request};
+use crate::start::{StartFault, load_all};
 use crate::steps;
 use rb_fallback::Found;
 use rb_locales::Name;
-use rb_parents::{ListShelf, Parents, Shelf};
-use rb_tree::Tree;
+use rb_packages::Packages;
+use rb_parents::{Parents, Shelf};
+use rb_views::Item;
 use std::alloc::Global;
+use std::hash::RandomState;
 use std::marker::Model;
 
 /// The bundles of many applications, the common bundles of ICUDATA and the explicit parents.
 ///
-/// An application sees its own bundles and those of ICUDATA, and nothing of another application's.
+/// An application sees its own bundles and those of ICUDATA, and nothing of another application's. Each bundle is kept as the bytes of
+/// its file alone.
 #[derive(Drop)]
 pub struct Engine {
-    icudata: Vec<(Name, Tree, bool)>,
+    packages: Packages,
     parents: Parents,
-    rows: Rows,
 }
 
 impl Model for Engine {
-    ghost use Rattle.rb_engine.specs.Rows.{Stored};
+    ghost use Rattle.rb_engine.specs.Kept.{Kept};
     ghost use Rattle.rb_parents.specs.Family.{family_pairs};
 
-    ghost Value = { Stored };
+    ghost Value = { Kept };
 
     ghost use Rattle.std.specs.Coded.{codes};
-    ghost use Rattle.rb_tree.specs.Codes.{trees_coded, entries_coded};
 
-    ghost coded = { Prim.hlevel (codes, trees_coded, entries_coded) };
+    ghost coded = { Prim.hlevel codes };
 
-    ghost view = { λ e. record { icudata = e.icudata.items; parents = family_pairs e.parents; rows = e.rows.entries } };
+    ghost view = { λ e. record { packages = e.packages; parents = family_pairs e.parents } };
 }
 
 impl Engine {
-    /// An engine with no bundles and no explicit parents. It takes no memory.
-    pub fn start(alloc: Global) -> Engine
-        ensures icudata { result.icudata ≡ [] }
-        ensures parents { (name : List ℕ) → parent_in result.parents name ≡ None }
-        ensures rows { result.rows ≡ [] }
+    /// An engine with the bundles of ICUDATA and explicit parents, and with no bundles of applications, whose index hashes by `state`.
+    ///
+    /// `BadText(i)`, `BadFile(i)` and `Twice(i)` are at the first entry i of ICUDATA that is refused: its payload is no good text, or
+    /// no file of a bundle, or else its name is that of an earlier entry. `Memory`: out of memory. An error leaves nothing allocated.
+    pub fn start(
+        alloc: Global,
+        state: RandomState,
+        icudata: Vec<(Name, Payload)>,
+        parents: Parents,
+    ) -> Result<Engine, StartFault>
+        ensures icudata { IfOk result (λ engine. Loads [] icudata.items (state_of engine).start.icudata) }
+        ensures parents { IfOk result (λ engine. (name : List ℕ) → (state_of engine).start.parents name ≡ parent_of parents name) }
+        ensures lists { IfOk result (λ engine. (app : List ℕ) → (state_of engine).lists app ≡ []) }
+        ensures refused { IfErr result (IsRefused icudata.items) }
     {
-        Engine {
-            icudata: Vec::new(alloc),
-            parents: Parents::none(alloc),
-            rows: Rows::new(alloc),
-        }
+        let mut packages = Packages::new(alloc, state);
+        load_all(alloc, &mut packages, icudata)?;
+        Ok(Engine { packages, parents })
     }
 
-    /// Answers one request.
+    /// Answers one request. A text is parsed, written as a file and accepted; a file is accepted.
     ///
     /// A request is judged in this order: `BadApp`, `Reserved`, `BadLocale`, `BadText`, `BadFile`, `Exists`, `Absent`, `Full`. `Memory`
     /// may come before any of them, though never to a removal. A refused request changes nothing, and its payload is dropped.
@@ -71,23 +80,24 @@ impl Engine {
                 app,
                 locale,
                 payload,
-            } => steps::install(&mut self.rows, alloc, &app, &locale, payload),
+            } => steps::install(&mut self.packages, alloc, &app, &locale, payload),
             Request::Replace {
                 app,
                 locale,
                 payload,
-            } => steps::replace(&mut self.rows, alloc, &app, &locale, payload),
-            Request::Remove { app, locale } => steps::remove(&mut self.rows, &app, &locale),
-            Request::List { app } => steps::list(&self.rows, alloc, &app),
+            } => steps::replace(&mut self.packages, alloc, &app, &locale, payload),
+            Request::Remove { app, locale } => steps::remove(&mut self.packages, &app, &locale),
+            Request::List { app } => steps::list(&self.packages, alloc, &app),
         }
     }
 
-    /// Looks up the item at a path, from a locale on, along the trail of locale inheritance, and lends it. It takes no memory.
+    /// Looks up the item at a path, from a locale on, along the trail of locale inheritance, and lends it out of its bundle's file. It
+    /// takes no memory.
     ///
-    /// A look-up is judged in this order: `BadApp`, `Reserved`, `BadLocale`, `BadPath`, and then the refusals of a search in
+    /// A lookup is judged in this order: `BadApp`, `Reserved`, `BadLocale`, `BadPath`, and then the refusals of a search in
     /// the order in which it meets them. While what was found is held, the engine can't be changed.
-    pub fn look(&self, app: &[u8], locale: &[u8], path: &[u8]) -> Result<Found<&Tree>, LookFault>
-        ensures { seen (λ t. view_of t.now) result ≡ answer_over (state_of self.now).start ((state_of self.now).lists app.now) (Looks app.now locale.now path.now) }
+    pub fn look(&self, app: &[u8], locale: &[u8], path: &[u8]) -> Result<Found<Item<'_>>, LookFault>
+        ensures { seen tree_seen result ≡ answer_over (state_of self.now).start ((state_of self.now).lists app.now) (Looks app.now locale.now path.now) }
     {
         let place = match place_of(app, locale) {
             Ok(place) => place,
@@ -95,27 +105,22 @@ impl Engine {
             Err(PlaceFault::Reserved) => return Err(LookFault::Reserved),
             Err(PlaceFault::BadLocale) => return Err(LookFault::BadLocale),
         };
-        look_at(&self.rows, &self.icudata, &self.parents, &place, path)
+        look_at(&self.packages, &self.parents, &place, path)
     }
 }
 
 /// Looks a path up from a place.
 fn look_at<'a>(
-    rows: &'a Rows,
-    icudata: &'a [(Name, Tree, bool)],
+    packages: &'a Packages,
     parents: &Parents,
     place: &Place,
     path: &[u8],
-) -> Result<Found<&'a Tree>, LookFault>
-    ensures { seen (λ t. view_of t.now) result ≡ looked_in (bundle_at (list_of place.now.app rows.now.entries)) (bundle_at (seen_bundles icudata.now)) (parent_of parents.now) place.now.name path.now }
+) -> Result<Found<Item<'a>>, LookFault>
+    ensures { seen tree_seen result ≡ looked_in (bundle_at (list_of place.now.app packages.now)) (bundle_at (icudata_of packages.now)) (parent_of parents.now) place.now.name path.now }
 {
-    let own = AppShelf {
-        rows,
-        app: &place.app,
-    };
     look_in(
-        own,
-        ListShelf { entries: icudata },
+        packages.shelf(&place.app),
+        packages.icu_shelf(),
         parents,
         &place.name,
         path,

@@ -1,18 +1,17 @@
 //! The bundles of many applications, and requests and lookups on them.
 #![tactic(auto)]
 
-mod app;
 mod engine;
 pub mod laws;
-mod limits;
+mod payload;
 mod place;
 mod request;
-mod rows;
+mod start;
 mod steps;
 #[cfg(test)]
 mod tests;
 
-pub use app::{App, AppFault};
 pub use engine::Engine;
-pub use limits::BUNDLE_LIMIT;
+pub use rb_packages::{App, AppFault, BUNDLE_LIMIT};
 pub use request::{LookFault, NameList, Payload, Reply, Request};
+pub use start::StartFault;

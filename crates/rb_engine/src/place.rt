@@ -1,12 +1,12 @@
-//! Where a bundle stands: under an application's name and a locale's.
+//! Where a bundle is: under an application's name and a locale's.
 ghost use Rattle.std.specs.Prelude.{◌≡◌};
 ghost use Rattle.rb_engine.specs.Place.{place_of as placed};
 
-use crate::app::{App, AppFault};
 use rb_locales::Name;
+use rb_packages::{App, AppFault};
 
-/// Where a bundle stands.
-#[derive(Clone, Copy, Debug, PartialEq, Eq, Hash)]
+/// Where a bundle is.
+#[derive(Clone, Copy)]
 pub struct Place {
     pub app: App,
     pub name: Name,
@@ -20,7 +20,7 @@ pub(crate) enum PlaceFault {
     BadLocale,
 }
 
-/// Reads where a bundle is to stand; the application is judged before the locale.
+/// Reads where a bundle is to be; the application is judged before the locale.
 pub(crate) fn place_of(app: &[u8], locale: &[u8]) -> Result<Place, PlaceFault>
     ensures { result ≡ placed app.now locale.now }
 {

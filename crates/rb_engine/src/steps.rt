@@ -1,27 +1,22 @@
-//! The requests, on the bundles of all applications.
-ghost use Rattle.std.specs.Prelude.{◌≡◌, IfOk, option_map};
-ghost use Rattle.rb_engine.specs.Rows.{source_kept};
-ghost use Rattle.rb_engine.specs.Ask.{IsContent, spelled, denoted};
-ghost use Rattle.rb_engine.specs.declared.request.Payload.TheVariants.{Text, File};
-ghost use Rattle.rb_engine.specs.Answer.{refusal};
-ghost use Rattle.rb_format.specs.File.{source_tree_of};
-ghost use Rattle.rb_engine.specs.RowStep.{RowStep, BundleRead};
+//! The requests, on the packages of all applications.
+ghost use Rattle.std.specs.Prelude.{◌≡◌};
+ghost use Rattle.rb_parents.specs.Trail.{ParentsOf};
+ghost use Rattle.rb_engine.specs.Ask.{Requests};
+ghost use Rattle.rb_engine.specs.Answer.{Replies, refusal};
+ghost use Rattle.rb_engine.specs.History.{Step};
+ghost use Rattle.rb_engine.specs.Kept.{state_over};
+ghost use Rattle.rb_engine.specs.Source.{unread_reply, install_reply};
 ghost use Rattle.rb_engine.specs.declared.request.Request.TheVariants.{Install, Replace, Remove, List as Lists};
 
-use crate::app::{App, AppFault};
-use crate::limits::BUNDLE_LIMIT;
+use crate::payload::{PayloadFault, bundle_of};
 use crate::place::{PlaceFault, place_of};
 use crate::request::{NameList, Payload, Reply};
-use crate::rows;
-use crate::rows::{KeptBundle, Rows};
-use rb_format::FileFault;
-use rb_lexer::SourceKind;
-use rb_parser::parse;
+use rb_packages::{App, AppFault, PackFault, Packages};
 use rb_tree::ByteList;
-use rb_validator::{Bundle, accept, decode};
-use std::alloc::{AllocError, Global};
+use std::alloc::Global;
 
-pub(crate) fn refused(fault: PlaceFault) -> Reply
+/// The reply where a request names no place.
+fn place_reply(fault: PlaceFault) -> Reply
     ensures { result ≡ refusal fault }
 {
     match fault {
@@ -31,139 +26,96 @@ pub(crate) fn refused(fault: PlaceFault) -> Reply
     }
 }
 
-/// The bundle that a text spells, if it spells one.
-fn text_bundle(alloc: Global, text: ByteList) -> Result<Option<KeptBundle>, AllocError>
-    ensures { IfOk result (λ bundle. IsContent (Text text) (spelled (option_map source_kept bundle))) }
+/// The reply where a payload gives no bundle.
+fn payload_reply(fault: PayloadFault) -> Reply
+    ensures { result ≡ unread_reply fault }
 {
-    match parse(alloc, text.as_slice()) {
-        Ok(source) => Ok(Some(KeptBundle {
-            tree: source.tree,
-            no_fallback: source.no_fallback,
-        })),
-        Err(fault) => match fault.kind {
-            SourceKind::Memory => Err(AllocError),
-            _ => Ok(None),
-        },
+    match fault {
+        PayloadFault::BadText => Reply::BadText,
+        PayloadFault::BadFile => Reply::BadFile,
+        PayloadFault::Memory => Reply::Memory,
     }
 }
 
-/// The bundle that a file denotes, if it denotes one.
-fn file_bundle(alloc: Global, file: ByteList) -> Result<Option<KeptBundle>, AllocError>
-    ensures { IfOk result (λ bundle. IsContent (File file) (denoted (option_map source_kept bundle))) }
+/// The reply where a bundle isn't installed.
+fn pack_reply(fault: PackFault) -> Reply
+    ensures { result ≡ install_reply fault }
 {
-    rb_format::laws::a_tree_or_a_fault();
-    match accept(alloc, file.into_vec()) {
-        Ok(bundle) => Ok(Some(kept_bundle(alloc, &bundle)?)),
-        Err((fault, _)) => {
-            if fault == FileFault::Memory {
-                Err(AllocError)
-            } else {
-                Ok(None)
-            }
-        }
-    }
-}
-
-/// A file's bundle, as it is kept.
-fn kept_bundle(alloc: Global, bundle: &Bundle) -> Result<KeptBundle, AllocError>
-    ensures { IfOk result (λ kept. source_kept kept ≡ source_tree_of bundle.now) }
-{
-    let tree = decode(alloc, bundle)?;
-    Ok(KeptBundle {
-        tree,
-        no_fallback: bundle.no_fallback(),
-    })
-}
-
-/// The bundle of a payload, or the refusal where it has none or memory runs out.
-fn read_payload(alloc: Global, payload: Payload) -> Result<KeptBundle, Reply>
-    ensures { BundleRead payload result }
-{
-    let (read, bad) = match payload {
-        Payload::Text(text) => (text_bundle(alloc, text), Reply::BadText),
-        Payload::File(file) => (file_bundle(alloc, file), Reply::BadFile),
-    };
-    match read {
-        Ok(Some(bundle)) => Ok(bundle),
-        Ok(None) => Err(bad),
-        Err(_) => Err(Reply::Memory),
+    match fault {
+        PackFault::Exists | PackFault::Twice => Reply::Exists,
+        PackFault::Full => Reply::Full,
+        PackFault::Memory => Reply::Memory,
     }
 }
 
 pub(crate) fn install(
-    rows: &mut Rows,
+    packages: &mut Packages,
     alloc: Global,
     app: &ByteList,
     locale: &ByteList,
     payload: Payload,
 ) -> Reply
-    ensures { RowStep (Install app.now locale.now payload) result rows.old.entries rows.new.entries }
+    ensures { (parents : ParentsOf) → Step (state_over parents packages.old) (Requests (Install app.now locale.now payload)) (Replies result) (state_over parents packages.new) }
 {
     let place = match place_of(app.as_slice(), locale.as_slice()) {
         Ok(place) => place,
-        Err(fault) => return refused(fault),
+        Err(fault) => return place_reply(fault),
     };
-    let bundle = match read_payload(alloc, payload) {
+    let bundle = match bundle_of(alloc, payload) {
         Ok(bundle) => bundle,
-        Err(refusal) => return refusal,
+        Err(fault) => return payload_reply(fault),
     };
-    if rows::holds(rows, &place) {
-        return Reply::Exists;
+    match packages.install(&place.app, place.name, bundle) {
+        Ok(()) => Reply::Done,
+        Err((fault, _)) => pack_reply(fault),
     }
-    if rows::count_of(rows, &place.app) >= BUNDLE_LIMIT {
-        return Reply::Full;
-    }
-    rows::add(rows, place, bundle)
 }
 
 pub(crate) fn replace(
-    rows: &mut Rows,
+    packages: &mut Packages,
     alloc: Global,
     app: &ByteList,
     locale: &ByteList,
     payload: Payload,
 ) -> Reply
-    ensures { RowStep (Replace app.now locale.now payload) result rows.old.entries rows.new.entries }
+    ensures { (parents : ParentsOf) → Step (state_over parents packages.old) (Requests (Replace app.now locale.now payload)) (Replies result) (state_over parents packages.new) }
 {
     let place = match place_of(app.as_slice(), locale.as_slice()) {
         Ok(place) => place,
-        Err(fault) => return refused(fault),
+        Err(fault) => return place_reply(fault),
     };
-    let new = match read_payload(alloc, payload) {
-        Ok(new) => new,
-        Err(refusal) => return refusal,
+    let bundle = match bundle_of(alloc, payload) {
+        Ok(bundle) => bundle,
+        Err(fault) => return payload_reply(fault),
     };
-    if rows::replace(rows, &place, new) {
-        Reply::Done
-    } else {
-        Reply::Absent
+    match packages.replace(&place.app, &place.name, bundle) {
+        Ok(_) => Reply::Done,
+        Err(_) => Reply::Absent,
     }
 }
 
-pub(crate) fn remove(rows: &mut Rows, app: &ByteList, locale: &ByteList) -> Reply
-    ensures { RowStep (Remove app.now locale.now) result rows.old.entries rows.new.entries }
+pub(crate) fn remove(packages: &mut Packages, app: &ByteList, locale: &ByteList) -> Reply
+    ensures { (parents : ParentsOf) → Step (state_over parents packages.old) (Requests (Remove app.now locale.now)) (Replies result) (state_over parents packages.new) }
 {
-    match place_of(app.as_slice(), locale.as_slice()) {
-        Ok(place) => {
-            if rows::remove(rows, &place) {
-                Reply::Done
-            } else {
-                Reply::Absent
-            }
-        }
-        Err(fault) => refused(fault),
+    let place = match place_of(app.as_slice(), locale.as_slice()) {
+        Ok(place) => place,
+        Err(fault) => return place_reply(fault),
+    };
+    match packages.remove(&place.app, &place.name) {
+        Ok(_) => Reply::Done,
+        Err(_) => Reply::Absent,
     }
 }
 
-pub(crate) fn list(rows: &Rows, alloc: Global, app: &ByteList) -> Reply
-    ensures { RowStep (Lists app.now) result rows.now.entries rows.now.entries }
+pub(crate) fn list(packages: &Packages, alloc: Global, app: &ByteList) -> Reply
+    ensures { (parents : ParentsOf) → Step (state_over parents packages.now) (Requests (Lists app.now)) (Replies result) (state_over parents packages.now) }
 {
     let app = match App::read(app.as_slice()) {
         Ok(app) => app,
         Err(AppFault::BadApp) => return Reply::BadApp,
         Err(AppFault::Reserved) => return Reply::Reserved,
     };
-    match rows::names_of(alloc, rows, &app) {
+    match packages.list(alloc, &app) {
         Ok(names) => Reply::Names(NameList::from_vec(names)),
         Err(_) => Reply::Memory,
     }

@@ -1,15 +1,34 @@
 //! Worked examples of requests and lookups.
 
-use crate::app::{App, AppFault};
 use crate::engine::Engine;
 use crate::request::{LookFault, Payload, Reply, Request};
+use crate::start::StartFault;
 use rb_fallback::Found;
-use rb_tree::{ByteList, Tree};
+use rb_locales::Name;
+use rb_packages::{App, AppFault};
+use rb_parents::Parents;
+use rb_tree::ByteList;
+use rb_views::Item;
 use std::alloc::Global;
+use std::hash::RandomState;
 use std::test::Fail;
 
 fn bytes(alloc: Global, text: &[u8]) -> Result<ByteList, Fail> {
     Ok(ByteList::from_vec(text.to_vec(alloc)?))
+}
+
+/// An engine without bundles.
+fn empty_engine(rt: &HostRuntime) -> Result<Engine, Fail> {
+    let alloc = rt.alloc();
+    match Engine::start(
+        alloc,
+        RandomState::new(rt)?,
+        Vec::new(alloc),
+        Parents::none(alloc),
+    ) {
+        Ok(engine) => Ok(engine),
+        Err(fault) => Err(fault.word().into()),
+    }
 }
 
 /// The word of the reply to an install.
@@ -67,11 +86,26 @@ struct Hit {
     valid: &'static [u8],
 }
 
-fn is_hit(found: &Found<&Tree>, hit: Hit) -> bool {
-    let same_text = match found.node {
-        Tree::String(units) => hit.text.encode_utf16().eq(units.as_slice().iter().copied()),
-        _ => false,
+/// Whether an item is a string with this text, of one unit a byte.
+fn has_text(item: Item<'_>, text: &str) -> bool {
+    let bytes = text.as_bytes();
+    let units = match item.text() {
+        Some(units) => units,
+        None => return false,
     };
+    if units.len() != bytes.len() {
+        return false;
+    }
+    for (i, b) in bytes.iter().enumerate() {
+        if units.at(i) != u16::from(*b) {
+            return false;
+        }
+    }
+    true
+}
+
+fn is_hit(found: &Found<Item<'_>>, hit: Hit) -> bool {
+    let same_text = has_text(found.node, hit.text);
     same_text && found.actual.as_bytes() == hit.actual && found.valid.as_bytes() == hit.valid
 }
 
@@ -108,7 +142,7 @@ fn refuses_letters(engine: &Engine, count: usize, fault: LookFault) -> bool {
 #[test]
 fn limits_paths(rt: HostRuntime) -> Result<(), Fail> {
     let alloc = rt.alloc();
-    let mut engine = Engine::start(alloc);
+    let mut engine = empty_engine(&rt)?;
     assert!(rt;
         are_done(
             alloc,
@@ -164,7 +198,7 @@ fn installs_files(alloc: Global, engine: &mut Engine) -> Result<bool, Fail> {
 #[test]
 fn takes_files(rt: HostRuntime) -> Result<(), Fail> {
     let alloc = rt.alloc();
-    let mut engine = Engine::start(alloc);
+    let mut engine = empty_engine(&rt)?;
     let hit = Hit {
         text: "b",
         actual: b"root",
@@ -210,7 +244,7 @@ fn stops_at_flags(engine: &Engine) -> bool {
 #[test]
 fn stops_at_bundles_without_fallback(rt: HostRuntime) -> Result<(), Fail> {
     let alloc = rt.alloc();
-    let mut engine = Engine::start(alloc);
+    let mut engine = empty_engine(&rt)?;
     assert!(rt; are_done(alloc, &mut engine, &BUNDLES)?);
     assert!(rt; stops_at_flags(&engine));
     Ok(())
@@ -225,7 +259,7 @@ fn installs_a_flagged_file(alloc: Global, engine: &mut Engine) -> Result<bool, F
 #[test]
 fn stops_at_files_without_fallback(rt: HostRuntime) -> Result<(), Fail> {
     let alloc = rt.alloc();
-    let mut engine = Engine::start(alloc);
+    let mut engine = empty_engine(&rt)?;
     let hit = Hit {
         text: "b",
         actual: b"de",
@@ -254,7 +288,7 @@ fn keeps_4096(alloc: Global, engine: &mut Engine) -> Result<bool, Fail> {
 #[test]
 fn keeps_to_the_most_bundles_of_one_application(rt: HostRuntime) -> Result<(), Fail> {
     let alloc = rt.alloc();
-    let mut engine = Engine::start(alloc);
+    let mut engine = empty_engine(&rt)?;
     assert!(rt; keeps_4096(alloc, &mut engine)?);
     Ok(())
 }
@@ -265,4 +299,25 @@ fn names_faults(rt: HostRuntime) {
     assert!(rt; App::read(&[b'a'; 64]).is_ok());
     assert_eq!(rt; AppFault::Reserved.word(), "Reserved");
     assert_eq!(rt; LookFault::TooManyAliases.word(), "TooManyAliases");
+}
+
+/// The fault of a start with two texts for ICUDATA, each with its locale.
+fn start_fault(rt: &HostRuntime, texts: [(&[u8], &[u8]); 2]) -> Result<Option<StartFault>, Fail> {
+    let alloc = rt.alloc();
+    let mut icudata = Vec::new(alloc);
+    for (locale, text) in texts {
+        let name = Name::read(locale)?;
+        icudata.push((name, Payload::Text(bytes(alloc, text)?)))?;
+    }
+    let state = RandomState::new(rt)?;
+    Ok(Engine::start(alloc, state, icudata, Parents::none(alloc)).err())
+}
+
+#[test]
+fn names_the_entry_that_is_refused(rt: HostRuntime) -> Result<(), Fail> {
+    let twice = start_fault(&rt, [(b"de", b"de{}"), (b"de", b"de{}")])?;
+    assert!(rt; twice == Some(StartFault::Twice(1)));
+    let bad = start_fault(&rt, [(b"de", b"de{}"), (b"de", b"de")])?;
+    assert!(rt; bad == Some(StartFault::BadText(1)));
+    Ok(())
 }

@@ -3,7 +3,7 @@ use Rattle.std.proofs.Common.{◌≡◌, ℕ, Bool, true, false, cond, List, [],
 use Rattle.std.specs.Str.{bytes_eq}
 use Rattle.std.proofs.lemmas.Slice.Eq.{bytes_eq-Decides}
 use Rattle.std.proofs.lemmas.Bool.{false≢true}
-use Rattle.rb_engine.specs.Shelf.{Shelf}
+use Rattle.rb_packages.specs.Shelf.{Shelf}
 use Rattle.rb_engine.specs.Ask.{Call, Requests, LooksUp, caller, requester, Ask, Means}
 use Rattle.rb_engine.specs.Answer.{Start, Told, answer_over, shelf_then}
 use Rattle.rb_engine.specs.History.{State, AsksOne}

@@ -4,7 +4,7 @@ use Rattle.std.specs.Str.{bytes_eq}
 use Rattle.std.proofs.lemmas.Slice.Eq.{bytes_eq-Decides}
 use Rattle.std.proofs.lemmas.Bool.{false≢true}
 use Rattle.serde_json.specs.Data.{Data}
-use Rattle.rb_engine.specs.Shelf.{Shelf}
+use Rattle.rb_packages.specs.Shelf.{Shelf}
 use Rattle.rb_engine.specs.Ask.{Call, Requests, requester}
 use Rattle.rb_engine.specs.Answer.{Start, Told, shelf_then}
 use Rattle.rb_engine.specs.History.{State, Step, Serves, is_memory}

@@ -2,7 +2,7 @@
 ghost use Rattle.std.specs.Prelude.{◌≡◌, ◌++◌, ◌∷◌, [], IfOk, IfErr, None, false};
 ghost use Rattle.serde_json.specs.View.{view};
 ghost use Rattle.serde_json.specs.Written.{compact_text, has_float};
-ghost use Rattle.rb_engine.specs.Rows.{state_of};
+ghost use Rattle.rb_engine.specs.Kept.{state_of};
 ghost use Rattle.rb_engine.specs.Ask.{Requests, LooksUp};
 ghost use Rattle.rb_engine.specs.Answer.{Replies as Told};
 ghost use Rattle.rb_engine.specs.History.{is_memory_reply};

@@ -19,5 +19,5 @@ pub use item::item_text;
 pub use limits::LINE_LIMIT;
 pub use lines::{ServeFault, Served, serve};
 pub use rb_engine::{
-    App, AppFault, BUNDLE_LIMIT, Engine, LookFault, NameList, Payload, Reply, Request,
+    App, AppFault, BUNDLE_LIMIT, Engine, LookFault, NameList, Payload, Reply, Request, StartFault,
 };

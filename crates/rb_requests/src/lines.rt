@@ -1,7 +1,7 @@
 //! Requests and replies by the line.
 ghost use Rattle.std.specs.Prelude.{◌≡◌, ◌≤◌, Ok, IfOk, IfErr, OnOk, Option, List, ℕ, length, drop};
 ghost use Rattle.std.specs.Io.KnownBytes.{Appends, IsAtEnd, Keeps};
-ghost use Rattle.rb_engine.specs.Rows.{state_of};
+ghost use Rattle.rb_engine.specs.Kept.{state_of};
 ghost use Rattle.rb_requests.specs.Lines.{AnswersLine};
 ghost use Rattle.rb_requests.specs.Taken.{ReadsLine, ReadsPlain, LooksAtEnd};
 ghost use Rattle.rb_requests.specs.Served.{AnswersAll, AfterFault, IsShort, reads_failed, writes_failed};

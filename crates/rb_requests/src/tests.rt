@@ -6,8 +6,20 @@ mod items;
 use crate::device::{ReadFeed, WriteSink};
 use crate::lines::{ServeFault, serve};
 use rb_engine::Engine;
+use rb_parents::Parents;
 use std::alloc::Global;
+use std::hash::RandomState;
 use std::test::Fail;
+
+/// An engine without bundles.
+fn empty_engine(rt: &HostRuntime) -> Result<Engine, Fail> {
+    let alloc = rt.alloc();
+    let state = RandomState::new(rt)?;
+    match Engine::start(alloc, state, Vec::new(alloc), Parents::none(alloc)) {
+        Ok(engine) => Ok(engine),
+        Err(fault) => Err(fault.word().into()),
+    }
+}
 
 /// What an engine writes for some lines.
 fn written(
@@ -164,7 +176,7 @@ const LINES: [(&str, &str); 34] = [
 #[test]
 fn answers_lines(rt: HostRuntime) -> Result<(), Fail> {
     let alloc = rt.alloc();
-    let mut engine = Engine::start(alloc);
+    let mut engine = empty_engine(&rt)?;
     assert!(rt; answers_all(alloc, &mut engine, &LINES)?);
     Ok(())
 }
@@ -227,7 +239,7 @@ fn finds_all(alloc: Global, engine: &mut Engine) -> Result<bool, Fail> {
 #[test]
 fn answers_items(rt: HostRuntime) -> Result<(), Fail> {
     let alloc = rt.alloc();
-    let mut engine = Engine::start(alloc);
+    let mut engine = empty_engine(&rt)?;
     assert!(rt; answers(alloc, &mut engine, BUNDLE, "{\"ok\":true}")?);
     assert!(rt; finds_all(alloc, &mut engine)?);
     Ok(())
@@ -256,7 +268,7 @@ const FILES: [(&str, &str); 4] = [
 #[test]
 fn takes_files(rt: HostRuntime) -> Result<(), Fail> {
     let alloc = rt.alloc();
-    let mut engine = Engine::start(alloc);
+    let mut engine = empty_engine(&rt)?;
     assert!(rt; answers_all(alloc, &mut engine, &FILES)?);
     Ok(())
 }
@@ -293,7 +305,7 @@ fn serves_inputs(alloc: Global, engine: &mut Engine) -> Result<bool, Fail> {
 #[test]
 fn stops_at_the_last_line(rt: HostRuntime) -> Result<(), Fail> {
     let alloc = rt.alloc();
-    let mut engine = Engine::start(alloc);
+    let mut engine = empty_engine(&rt)?;
     assert!(rt; serves_inputs(alloc, &mut engine)?);
     assert!(rt; refuses_nesting(alloc, &mut engine)?);
     Ok(())

@@ -1,16 +1,16 @@
 //! The replies as JSON.
 ghost use Rattle.std.specs.Prelude.{◌≡◌, IfOk};
 ghost use Rattle.serde_json.specs.View.{view};
-ghost use Rattle.rb_tree.specs.View.{view_of};
 ghost use Rattle.rb_requests.specs.Item.{texts_data};
 ghost use Rattle.rb_requests.specs.Replied.{error, reply_data, told_data};
 ghost use Rattle.rb_engine.specs.Seen.{seen};
+ghost use Rattle.rb_views.specs.Seen.{tree_seen};
 
 use crate::item::{found_value, text_value};
 use rb_engine::{LookFault, Reply};
 use rb_fallback::Found;
 use rb_locales::Name;
-use rb_tree::Tree;
+use rb_views::Item;
 use serde_json::{Value, json};
 use std::alloc::{AllocError, Global};
 
@@ -45,9 +45,9 @@ pub(crate) fn reply_value(alloc: Global, reply: &Reply) -> Result<Value, AllocEr
 
 pub(crate) fn look_value(
     alloc: Global,
-    found: &Result<Found<&Tree>, LookFault>,
+    found: &Result<Found<Item<'_>>, LookFault>,
 ) -> Result<Value, AllocError>
-    ensures { IfOk result (λ v. view v ≡ told_data (seen (λ t. view_of t.now) found.now)) }
+    ensures { IfOk result (λ v. view v ≡ told_data (seen tree_seen found.now)) }
 {
     match found {
         Ok(found) => found_value(alloc, found),

@@ -3,6 +3,7 @@ ghost use Rattle.std.specs.Prelude.{None};
 
 use crate::device::{Failed, Feed, ReadFeed, Sink, WriteSink};
 use crate::lines::{ServeFault, serve};
+use crate::tests::empty_engine;
 use rb_engine::Engine;
 use std::alloc::Global;
 use std::io;
@@ -126,12 +127,12 @@ impl Write for Full {
 /// Whether serving ends so where a call of the reader fails, after so many replies.
 fn ends_at_a_failed_read(
     alloc: Global,
+    engine: &mut Engine,
     failing: usize,
     lines: usize,
     fault: Option<ServeFault>,
 ) -> Result<bool, Fail> {
     let wanted = BAD_LINE.repeat(alloc, lines)?;
-    let mut engine = Engine::start(alloc);
     let mut written: Vec<u8> = Vec::new(alloc);
     let mut feed = FailingFeed {
         bytes: b"x\n\ny",
@@ -140,7 +141,7 @@ fn ends_at_a_failed_read(
         failed: 0,
     };
     let mut sink = WriteSink::new(&mut written);
-    let ended = serve(alloc, &mut engine, &mut feed, &mut sink, 9);
+    let ended = serve(alloc, engine, &mut feed, &mut sink, 9);
     let counted = feed.failed == if fault.is_some() { 1 } else { 0 };
     Ok(counted && ended.err() == fault && written.as_slice() == wanted.as_bytes())
 }
@@ -148,18 +149,25 @@ fn ends_at_a_failed_read(
 #[test]
 fn answers_the_lines_before_a_failed_read(rt: HostRuntime) -> Result<(), Fail> {
     let alloc = rt.alloc();
+    let mut engine = empty_engine(&rt)?;
     // Calls count from 0. The last line has no line feed: call 4 tells the end, and there is no call 5.
     for (failing, lines) in [(0, 0), (1, 0), (2, 1), (3, 2), (4, 2)] {
-        assert!(rt; ends_at_a_failed_read(alloc, failing, lines, Some(ServeFault::Read))?);
+        assert!(rt;
+            ends_at_a_failed_read(alloc, &mut engine, failing, lines, Some(ServeFault::Read))?
+        );
     }
-    assert!(rt; ends_at_a_failed_read(alloc, 5, 3, None)?);
+    assert!(rt; ends_at_a_failed_read(alloc, &mut engine, 5, 3, None)?);
     Ok(())
 }
 
 /// Whether serving ends where a call of the writer fails, after so many bytes of replies.
-fn ends_at_a_failed_write(alloc: Global, failing: usize, taken: usize) -> Result<bool, Fail> {
+fn ends_at_a_failed_write(
+    alloc: Global,
+    engine: &mut Engine,
+    failing: usize,
+    taken: usize,
+) -> Result<bool, Fail> {
     let replies = BAD_LINE.repeat(alloc, 2)?;
-    let mut engine = Engine::start(alloc);
     let mut sink = FailingSink {
         taken: Vec::new(alloc),
         calls: 0,
@@ -167,7 +175,7 @@ fn ends_at_a_failed_write(alloc: Global, failing: usize, taken: usize) -> Result
         failed: 0,
     };
     let mut feed = ReadFeed::new(b"x\n\n".as_slice());
-    let ended = serve(alloc, &mut engine, &mut feed, &mut sink, 9);
+    let ended = serve(alloc, engine, &mut feed, &mut sink, 9);
     let written = replies.as_bytes().get(..taken) == Some(sink.taken.as_slice());
     Ok(written && sink.failed == 1 && ended.err() == Some(ServeFault::Write))
 }
@@ -175,6 +183,7 @@ fn ends_at_a_failed_write(alloc: Global, failing: usize, taken: usize) -> Result
 #[test]
 fn writes_a_part_of_a_reply_before_a_failed_write(rt: HostRuntime) -> Result<(), Fail> {
     let alloc = rt.alloc();
+    let mut engine = empty_engine(&rt)?;
     // Calls 0 to 19 take a reply's bytes, call 20 hands it on, and so for the next.
     for (failing, taken) in [
         (0, 0),
@@ -185,7 +194,7 @@ fn writes_a_part_of_a_reply_before_a_failed_write(rt: HostRuntime) -> Result<(),
         (22, 21),
         (41, 40),
     ] {
-        assert!(rt; ends_at_a_failed_write(alloc, failing, taken)?);
+        assert!(rt; ends_at_a_failed_write(alloc, &mut engine, failing, taken)?);
     }
     Ok(())
 }
@@ -193,7 +202,7 @@ fn writes_a_part_of_a_reply_before_a_failed_write(rt: HostRuntime) -> Result<(),
 #[test]
 fn keeps_a_bundle_whose_reply_is_not_written(rt: HostRuntime) -> Result<(), Fail> {
     let alloc = rt.alloc();
-    let mut engine = Engine::start(alloc);
+    let mut engine = empty_engine(&rt)?;
     let line =
         b"{\"op\":\"install\",\"app\":\"shop\",\"locale\":\"de\",\"text\":\"de{a{\\\"b\\\"}}\"}\n";
     let mut feed = ReadFeed::new(line.as_slice());
@@ -204,26 +213,27 @@ fn keeps_a_bundle_whose_reply_is_not_written(rt: HostRuntime) -> Result<(), Fail
 }
 
 /// Whether serving lines without an end stops after three.
-fn stops_after_three(alloc: Global) -> Result<bool, Fail> {
+fn stops_after_three(alloc: Global, engine: &mut Engine) -> Result<bool, Fail> {
     let wanted = BAD_LINE.repeat(alloc, 3)?;
-    let mut engine = Engine::start(alloc);
     let mut written: Vec<u8> = Vec::new(alloc);
     let mut sink = WriteSink::new(&mut written);
-    let ended = serve(alloc, &mut engine, &mut Endless, &mut sink, 3);
+    let ended = serve(alloc, engine, &mut Endless, &mut sink, 3);
     Ok(ended.err() == Some(ServeFault::LineLimit) && written.as_slice() == wanted.as_bytes())
 }
 
 #[test]
 fn stops_at_lines_without_an_end(rt: HostRuntime) -> Result<(), Fail> {
-    assert!(rt; stops_after_three(rt.alloc())?);
+    let mut engine = empty_engine(&rt)?;
+    assert!(rt; stops_after_three(rt.alloc(), &mut engine)?);
     Ok(())
 }
 
 #[test]
-fn tells_of_a_reply_that_is_not_handed_on(rt: HostRuntime) {
+fn tells_of_a_reply_that_is_not_handed_on(rt: HostRuntime) -> Result<(), Fail> {
     let alloc = rt.alloc();
-    let mut engine = Engine::start(alloc);
+    let mut engine = empty_engine(&rt)?;
     let mut feed = ReadFeed::new(b"x\n".as_slice());
     let ended = serve(alloc, &mut engine, &mut feed, &mut WriteSink::new(Stuck), 9);
     assert_eq!(rt; ended.err(), Some(ServeFault::Write));
+    Ok(())
 }

@@ -1,27 +1,25 @@
-use Rattle.std.proofs.Common.{◌≡◌, Ok, Err, true, false, is_some}
+use Rattle.std.proofs.Common.{◌≡◌, Ok, Err}
+use Rattle.rb_format.specs.File.{source_tree_of}
 use Rattle.rb_engine.specs.Place.{place_of}
-use Rattle.rb_engine.specs.Rows.{row_at}
-use Rattle.rb_engine.proofs.StepLemmas.{no_replace, no_exchange, exchanged_row}
+use Rattle.rb_engine.proofs.StepLemmas.{no_replace, no_exchange, replaces, not_replaced}
 use Rattle.rb_engine.proofs.steps.replace.Goals as goal
 
 pub returns-in-Err : goal.returns-in-Err
 returns-in-Err c =
     let h : place_of c.args.app.now c.args.locale.now ≡ Err c.in-Err.fault = cc in
-    rw c.refused.ensures (no_replace c.args.app.now c.args.locale.now c.args.payload c.in-Err.fault c.args.rows.now.entries h)
+    rw c.place_reply.ensures (no_replace c.args.app.now c.args.locale.now c.args.payload c.in-Err.fault c.args.packages.now h)
 
-pub returns-in-Err-read_payload : goal.returns-in-Err-read_payload
-returns-in-Err-read_payload c =
+pub returns-in-Err-bundle_of : goal.returns-in-Err-bundle_of
+returns-in-Err-bundle_of c =
     let h : place_of c.args.app.now c.args.locale.now ≡ Ok c.in-Ok.place = cc in
-    no_exchange c.args.app.now c.args.locale.now c.args.payload c.in-Ok.place c.args.rows.now.entries c.in-Err-read_payload.refusal h c.in-Err-read_payload.ensures
+    rw c.payload_reply.ensures (no_exchange c.args.app.now c.args.locale.now c.args.payload c.in-Ok.place c.args.packages.now c.in-Err-bundle_of.fault h c.in-Err-bundle_of.ensures)
 
-pub returns-then-replace : goal.returns-then-replace
-returns-then-replace c =
+pub returns-in-Ok-replace : goal.returns-in-Ok-replace
+returns-in-Ok-replace c =
     let h : place_of c.args.app.now c.args.locale.now ≡ Ok c.in-Ok.place = cc in
-    let there : is_some (row_at c.in-Ok.place c.args.rows.now.entries) ≡ true = cc in
-    rw c.replace.ensures.rows (exchanged_row c.args.app.now c.args.locale.now c.args.payload c.in-Ok.place c.in-Ok-read_payload.new c.args.rows.now.entries true h c.in-Ok-read_payload.ensures there)
+    replaces c.args.app.now c.args.locale.now c.args.payload c.in-Ok.place c.in-Ok-bundle_of.bundle (source_tree_of c.in-Ok-replace.field-0) c.args.packages.now c.replace.new.self h c.in-Ok-bundle_of.ensures c.in-Ok-replace.ensures.old c.in-Ok-replace.ensures.replaced c.in-Ok-replace.ensures.others
 
-pub returns-else-replace : goal.returns-else-replace
-returns-else-replace c =
+pub returns : goal.returns
+returns c =
     let h : place_of c.args.app.now c.args.locale.now ≡ Ok c.in-Ok.place = cc in
-    let there : is_some (row_at c.in-Ok.place c.args.rows.now.entries) ≡ false = cc in
-    rw c.replace.ensures.rows (exchanged_row c.args.app.now c.args.locale.now c.args.payload c.in-Ok.place c.in-Ok-read_payload.new c.args.rows.now.entries false h c.in-Ok-read_payload.ensures there)
+    rw c.in-Err-replace.ensures.unchanged (not_replaced c.args.app.now c.args.locale.now c.args.payload c.in-Ok.place c.in-Ok-bundle_of.bundle c.args.packages.now h c.in-Ok-bundle_of.ensures c.in-Err-replace.ensures.absent)

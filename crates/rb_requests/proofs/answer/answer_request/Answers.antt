@@ -1,6 +1,6 @@
 use Rattle.std.proofs.Common.{◌≡◌, false, sym, ◌∙◌}
 use Rattle.std.proofs.lemmas.Result.{IfOk-weaker}
-use Rattle.rb_engine.specs.Rows.{state_of}
+use Rattle.rb_engine.specs.Kept.{state_of}
 use Rattle.rb_engine.specs.Answer.{Replies}
 use Rattle.rb_engine.specs.History.{is_memory}
 use Rattle.rb_requests.proofs.Stepping.{served, may_tell, at_an_error}

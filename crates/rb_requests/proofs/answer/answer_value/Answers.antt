@@ -5,7 +5,7 @@ use Rattle.rb_engine.specs.Ask.{Call, Requests, LooksUp}
 use Rattle.rb_requests.specs.Asked.{call_in}
 use Rattle.rb_requests.specs.Line.{line_view}
 use Rattle.rb_requests.specs.declared.ask.Line.{Line}
-use Rattle.rb_engine.specs.Rows.{state_of}
+use Rattle.rb_engine.specs.Kept.{state_of}
 use Rattle.rb_requests.proofs.Stepping.{line_told, line_may_tell}
 use Rattle.rb_requests.proofs.answer.answer_value.Goals as goal
 

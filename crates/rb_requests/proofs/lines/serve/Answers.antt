@@ -1,6 +1,6 @@
 use Rattle.std.proofs.Common.{◌≡◌, ℕ, List, Ok, sym, subst, arith}
 use Rattle.std.proofs.lemmas.Result.{err_from_is_err_and}
-use Rattle.rb_engine.specs.Rows.{state_of}
+use Rattle.rb_engine.specs.Kept.{state_of}
 use Rattle.rb_requests.specs.Served.{AfterFault}
 use Rattle.rb_requests.specs.Taken.{ReadsLine, ReadsEnded, ReadsLast}
 use Rattle.rb_requests.specs.declared.lines.NextLine.{NextLine}

@@ -1,4 +1,4 @@
-use Rattle.rb_engine.specs.Rows.{state_of}
+use Rattle.rb_engine.specs.Kept.{state_of}
 use Rattle.rb_requests.proofs.Serving.{Serves}
 use Rattle.rb_requests.proofs.lines.serve.Given as goal
 

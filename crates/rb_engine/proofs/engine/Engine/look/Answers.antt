@@ -2,13 +2,13 @@ use Rattle.std.proofs.Common.{◌≡◌, Ok, ◌∙◌}
 use Rattle.rb_parents.specs.Family.{family_pairs}
 use Rattle.rb_engine.specs.Place.{place_of}
 use Rattle.rb_engine.specs.Answer.{Start}
-use Rattle.rb_engine.specs.Rows.{start_of}
+use Rattle.rb_engine.specs.Kept.{state_of}
 use Rattle.rb_engine.proofs.Lookups.{looked_at}
 use Rattle.rb_engine.proofs.engine.Engine.look.Goals as goal
 
 pub returns : goal.returns
 returns c =
     let h : place_of c.args.app.now c.args.locale.now ≡ Ok c.in-Ok.place = cc in
-    let start : Start = start_of c.self.inside.icudata.items (family_pairs c.self.inside.parents) in
+    let start : Start = (state_of (record { packages = c.self.inside.packages; parents = family_pairs c.self.inside.parents })).start in
     rw (← c.self.view_is)
-    (c.look_at.ensures ∙ rw c.deref.ensures.value (looked_at start c.args.app.now c.args.locale.now c.args.path.now c.in-Ok.place c.self.inside.rows.entries h))
+    (c.look_at.ensures ∙ looked_at start c.args.app.now c.args.locale.now c.args.path.now c.in-Ok.place c.self.inside.packages h)

@@ -1,6 +1,6 @@
 use Rattle.std.proofs.Common.{ℕ, List, sym, subst}
 use Rattle.rb_parser.specs.Source.{IsGoodSource}
-use Rattle.rb_engine.proofs.steps.text_bundle.Goals as goal
+use Rattle.rb_engine.proofs.payload.text_bundle.Goals as goal
 
 pub returns : goal.returns
 returns c = λ name source good.

@@ -1,0 +1,49 @@
+-- The entries of ICUDATA, loaded one by one.
+use Rattle.std.proofs.Common.{◌≡◌, ℕ, ◌+◌, false, Err, length, arith, List, [], ◌∷◌, ◌++◌, map, refl, sym, ◌∙◌, ap, subst}
+use Rattle.std.proofs.Common.{length-append}
+use Rattle.std.proofs.lemmas.List.{length-map}
+use Rattle.rb_tree.specs.SourceTree.{SourceTree}
+use Rattle.rb_packages.specs.Shelf.{Shelf, holds}
+use Rattle.rb_engine.specs.Start.{Entries, HasBundle, Loads, IsReached, IsRefused}
+use Rattle.rb_engine.specs.Source.{Adds}
+use Rattle.rb_engine.specs.declared.request.Payload.TheVariants.{Text, File}
+use Rattle.rb_engine.specs.declared.start.StartFault.{StartFault}
+use Rattle.rb_engine.specs.declared.start.StartFault.TheVariants.{BadText, BadFile, Twice, Memory}
+use Rattle.rb_engine.specs.declared.request.Payload.{Payload}
+
+-- one more entry
+pub loads_push : (old : Shelf) (es : Entries) (mid new : Shelf) (name : List ℕ) (payload : Payload) (source : SourceTree) → Loads old es mid → HasBundle payload source → holds name mid ≡ false → new ≡ mid ++ (name, source) ∷ [] → Loads old (es ++ (name, payload) ∷ []) new
+loads_push old [] mid new name payload source h k free e = (source, k, subst (λ s. holds name s ≡ false) h free, e ∙ ap (λ s. s ++ (name, source) ∷ []) h)
+loads_push old (e ∷ es) mid new name payload source h k free q = (h.0, h.1, h.2, loads_push (old ++ (e.0, h.0) ∷ []) es mid new name payload source h.3 k free q)
+
+pub map_push : {A : Type 0} (xs : List (ℕ × A)) (i : ℕ) (x : A) → map (λ e. e.1) (xs ++ (i, x) ∷ []) ≡ map (λ e. e.1) xs ++ x ∷ []
+map_push [] i x = refl
+map_push (e ∷ es) i x = ap (λ l. e.1 ∷ l) (map_push es i x)
+
+split_next : {A : Type 0} (xs : List (ℕ × A)) (i : ℕ) (x : A) (rest : List A) → map (λ e. e.1) xs ++ x ∷ rest ≡ map (λ e. e.1) (xs ++ (i, x) ∷ []) ++ rest
+split_next [] i x rest = refl
+split_next (e ∷ es) i x rest = ap (λ l. e.1 ∷ l) (split_next es i x rest)
+
+-- the entries are those that were taken and the rest
+pub split_push : {A : Type 0} (all : List A) (xs : List (ℕ × A)) (i : ℕ) (x : A) (old new : List A) → all ≡ map (λ e. e.1) xs ++ old → old ≡ x ∷ new → all ≡ map (λ e. e.1) (xs ++ (i, x) ∷ []) ++ new
+split_push all xs i x old new h k = h ∙ ap (λ l. map (λ e. e.1) xs ++ l) k ∙ split_next xs i x new
+
+pub count_push : {A : Type 0} (xs : List A) (x : A) (n m : ℕ) → length xs ≡ n → m ≡ n + 1 → length (xs ++ x ∷ []) ≡ m
+count_push xs x n m h k = simp length-append (omega (arith, h, k))
+
+-- an entry that isn't added
+pub refused : (entries : Entries) (before : List (ℕ × (List ℕ × Payload))) (index : ℕ) (name : List ℕ) (payload : Payload) (after : Entries) (shelf new : Shelf) (e : StartFault) → entries ≡ map (λ e. e.1) before ++ (name, payload) ∷ after → length before ≡ index → Loads [] (map (λ e. e.1) before) shelf → Adds index name payload shelf (Err e) new → IsRefused entries e
+refused entries before index name payload after shelf new e split count loaded adds = by payload e reached adds
+  where
+    reached : IsReached entries index name payload shelf
+    reached = record { before = map (λ e. e.1) before; after = after; split = split; count = length-map before _ ∙ count; loaded = loaded }
+
+    by : (payload : Payload) (e : StartFault) → IsReached entries index name payload shelf → Adds index name payload shelf (Err e) new → IsRefused entries e
+    by (Text text) (BadText i) r a = (name, text, shelf, subst (λ j. IsReached entries j name (Text text) shelf) (sym a.0) r, a.1)
+    by (File file) (BadText i) r a = absurd a
+    by (Text text) (BadFile i) r a = absurd a
+    by (File file) (BadFile i) r a = (name, file, shelf, subst (λ j. IsReached entries j name (File file) shelf) (sym a.0) r, a.1)
+    by (Text text) (Twice i) r a = (name, Text text, a.1, shelf, subst (λ j. IsReached entries j name (Text text) shelf) (sym a.0) r, a.2, a.3)
+    by (File file) (Twice i) r a = (name, File file, a.1, shelf, subst (λ j. IsReached entries j name (File file) shelf) (sym a.0) r, a.2, a.3)
+    by (Text text) Memory r a = tt
+    by (File file) Memory r a = tt

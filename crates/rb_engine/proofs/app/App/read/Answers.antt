@@ -1,6 +1,0 @@
-use Rattle.std.proofs.Common.{arith}
-use Rattle.rb_engine.specs.Padded.{IsPadded-front}
-use Rattle.rb_engine.proofs.app.App.read.Goals as goal
-
-pub invariant_of-result : goal.invariant_of-result
-invariant_of-result c = rw c.put_front.ensures (IsPadded-front 64 c.args.bytes.now (omega arith))

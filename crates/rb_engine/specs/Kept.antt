@@ -1,0 +1,34 @@
+-- What an engine is seen as: its packages and the explicit parents. A bundle's file is seen as its source tree.
+use Rattle.std.specs.Prelude.{◌≡◌, ℕ, List, ◌∷◌, ◌++◌}
+use Rattle.rb_tree.specs.SourceTree.{SourceTree}
+use Rattle.rb_parser.specs.Source.{IsGoodSource}
+use Rattle.rb_format.specs.File.{Denotes, tree_of}
+use Rattle.rb_parents.specs.Trail.{ParentsOf}
+use Rattle.rb_parents.specs.Family.{parent_in}
+use Rattle.rb_packages.specs.Packages.{Files, Stored, shelf_of, icudata_of, list_of}
+use Rattle.rb_engine.specs.Answer.{Start, looked}
+use Rattle.rb_engine.specs.History.{State}
+
+pub record Kept : Type 0 where
+  pub packages : Stored
+  pub parents : List (List ℕ × List ℕ)
+
+-- packages and parents, as each application sees them
+abbrev pub state_over : ParentsOf → Stored → State
+state_over parents packages = record { start = record { icudata = icudata_of packages; parents = parents }; lists = λ app. list_of app packages }
+
+-- as each application sees it
+abbrev pub state_of : Kept → State
+state_of engine = state_over (parent_in engine.parents) engine.packages
+
+-- a lookup over files, of which one denotes the bundle that a text spells, is the lookup over the text's own bundle
+abbrev pub KeepsTexts : Type 0
+KeepsTexts =
+    (start : Start) (before after : Files) (locale text name file : List ℕ) (source : SourceTree)
+    → IsGoodSource text name source
+    → Denotes file source
+    → (from path : List ℕ) → looked start (shelf_of (before ++ (locale, file) ∷ after)) from path ≡ looked start (shelf_of before ++ (locale, source) ∷ shelf_of after) from path
+
+-- the root of the file is the tree of the text
+abbrev pub KeepsTrees : Type 0
+KeepsTrees = (text name file : List ℕ) (source : SourceTree) → IsGoodSource text name source → Denotes file source → tree_of file ≡ source.tree

@@ -1,0 +1,54 @@
+-- For what is private: a payload's bundle, or why there is none.
+use Rattle.std.specs.Prelude.{◌≡◌, ℕ, true, false, List, [], ◌∷◌, ◌++◌, None, Result, Ok, Err}
+use Rattle.rb_tree.specs.SourceTree.{SourceTree}
+use Rattle.rb_format.specs.File.{source_tree_of}
+use Rattle.rb_packages.specs.Shelf.{Shelf, holds}
+use Rattle.rb_engine.specs.Ask.{IsContent, spelled, denoted}
+use Rattle.rb_engine.specs.Start.{HasBundle}
+use Rattle.rb_engine.specs.declared.request.Payload.{Payload}
+use Rattle.rb_engine.specs.declared.request.Payload.TheVariants.{Text, File}
+use Rattle.rb_engine.specs.declared.payload.PayloadFault.{PayloadFault}
+use Rattle.rb_engine.specs.declared.payload.PayloadFault.TheVariants as fault
+use Rattle.rb_packages.specs.declared.fault.PackFault.{PackFault}
+use Rattle.rb_packages.specs.declared.fault.PackFault.TheVariants as pack
+use Rattle.rb_engine.specs.declared.request.Reply.{Reply}
+use Rattle.rb_engine.specs.declared.request.Reply.TheVariants as reply
+use Rattle.rb_engine.specs.declared.start.StartFault.{StartFault}
+use Rattle.rb_engine.specs.declared.start.StartFault.TheVariants as start
+
+-- a payload without a bundle
+abbrev pub HasNone : Payload → PayloadFault → Type 0
+HasNone (Text bytes) fault.BadText = IsContent (Text bytes) (spelled None)
+HasNone (Text bytes) fault.BadFile = ⊥
+HasNone (Text bytes) fault.Memory = Unit {0}
+HasNone (File bytes) fault.BadText = ⊥
+HasNone (File bytes) fault.BadFile = IsContent (File bytes) (denoted None)
+HasNone (File bytes) fault.Memory = Unit {0}
+
+-- the file of a payload's bundle
+abbrev pub IsRead : Payload → Result (List ℕ) PayloadFault → Type 0
+IsRead payload (Ok file) = HasBundle payload (source_tree_of file)
+IsRead payload (Err fault) = HasNone payload fault
+
+-- an entry at an index is added last to a shelf, or is refused
+abbrev pub Adds : ℕ → List ℕ → Payload → Shelf → Result (Unit {0}) StartFault → Shelf → Type 0
+Adds index name payload old (Ok done) new = (source : SourceTree) × HasBundle payload source × (holds name old ≡ false) × (new ≡ old ++ (name, source) ∷ [])
+Adds index name (Text text) old (Err (start.BadText i)) new = (i ≡ index) × IsContent (Text text) (spelled None)
+Adds index name (File file) old (Err (start.BadText i)) new = ⊥
+Adds index name (Text text) old (Err (start.BadFile i)) new = ⊥
+Adds index name (File file) old (Err (start.BadFile i)) new = (i ≡ index) × IsContent (File file) (denoted None)
+Adds index name payload old (Err (start.Twice i)) new = (i ≡ index) × (source : SourceTree) × HasBundle payload source × (holds name old ≡ true)
+Adds index name payload old (Err start.Memory) new = Unit {0}
+
+-- the reply where a payload gives no bundle
+abbrev pub unread_reply : PayloadFault → Reply
+unread_reply fault.BadText = reply.BadText
+unread_reply fault.BadFile = reply.BadFile
+unread_reply fault.Memory = reply.Memory
+
+-- the reply where a bundle isn't installed
+abbrev pub install_reply : PackFault → Reply
+install_reply pack.Twice = reply.Exists
+install_reply pack.Exists = reply.Exists
+install_reply pack.Full = reply.Full
+install_reply pack.Memory = reply.Memory
