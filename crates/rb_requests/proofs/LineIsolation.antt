@@ -4,11 +4,11 @@ use Rattle.std.specs.Str.{bytes_eq}
 use Rattle.std.proofs.lemmas.Slice.Eq.{bytes_eq-Decides}
 use Rattle.std.proofs.lemmas.Bool.{false≢true}
 use Rattle.rb_engine.specs.Shelf.{Shelf}
-use Rattle.rb_engine.specs.Ask.{Call, Requests, LooksUp, caller, requester, Ask, Looks, Means}
+use Rattle.rb_engine.specs.Ask.{Call, Requests, LooksUp, caller, requester, Ask, Means}
 use Rattle.rb_engine.specs.Answer.{Start, Told, answer_over, shelf_then}
 use Rattle.rb_engine.specs.History.{State, AsksOne}
 use Rattle.rb_requests.specs.Asked.{call_of}
-use Rattle.rb_requests.specs.Lines.{Tells, TellsLine, AnswersLine, Replies, state_then}
+use Rattle.rb_requests.specs.Lines.{Tells, TellsLine}
 use Rattle.rb_requests.specs.Replied.{reply_line}
 use Rattle.rb_requests.specs.Isolation.{RepliesByLine, is_of, calls_of, replies_to, AreWrittenByLine, AreLinesIsolated}
 
