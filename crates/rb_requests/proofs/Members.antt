@@ -1,5 +1,5 @@
 -- Members of JSON, put one by one.
-use Rattle.std.proofs.Common.{◌≡◌, ℕ, List, String, Global, string_bytes, string_cmp, ap, ◌∙◌}
+use Rattle.std.proofs.Common.{◌≡◌, ℕ, List, String, Global, string_bytes, string_cmp}
 use Rattle.std.specs.BTreeMap.{insert_entry}
 use Rattle.serde_json.specs.Data.{put}
 use Rattle.serde_json.specs.View.{members_view, view}
