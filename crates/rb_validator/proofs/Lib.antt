@@ -3,10 +3,8 @@ pub mod Cells
 pub mod Counts
 pub mod Entering
 pub mod Marked
-pub mod Positions
 pub mod Spans
 pub mod Shapes
-pub mod Tables
 pub mod Ways
 pub mod Ranking
 pub mod Pairs

@@ -1,6 +1,5 @@
 pub mod Accepted
 pub mod Marks
-pub mod Places
 pub mod Visits
 pub mod Ranks
 pub mod KnownKeys

@@ -3,12 +3,11 @@ ghost use Rattle.std.specs.Prelude.{◌≡◌, ◌+◌, ◌*◌, ◌≤◌, ◌<
 ghost use Rattle.rb_validator.specs.KnownKeys.{IsSound};
 ghost use Rattle.rb_validator.specs.Marks as marks;
 ghost use Rattle.rb_validator.specs.Marks.{table_children};
-ghost use Rattle.rb_validator.specs.Places.{IsIn, key_offset};
+ghost use Rattle.rb_format.specs.Geometry.{keys_end, key_offset};
 ghost use Rattle.rb_validator.specs.Visits as visits;
 
 use crate::key_checker::KeyChecker;
-use crate::keys::KeyPlaces;
-use rb_format::{FileFault, ItemKind, Layout, half_at, word_at};
+use rb_format::{FileFault, ItemKind, KeyPlaces, Layout, half_at, word_at};
 
 /// The items of a table or an array: the first word, and how many there are.
 #[derive(Clone, Copy)]
@@ -97,7 +96,7 @@ fn table_children(
     requires tops { layout.now.keys_top ≤ layout.now.top }
     requires sound { IsSound layout.now body.now keys.old.known }
     requires small { first + count < 2 ^ 40 }
-    requires places { first + count ≤ layout.now.top → IsIn body.now places count }
+    requires places { first + count ≤ layout.now.top → keys_end places count ≤ length body.now }
     ensures value { result ≡ table_children layout.now body.now (key_offset body.now places) first count }
     ensures sound { IsSound layout.now body.now keys.new.known }
 {

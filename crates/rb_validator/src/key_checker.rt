@@ -3,12 +3,12 @@
 ghost use Rattle.std.specs.Prelude.{◌≡◌, ◌*◌, ◌≤◌, [], length, Some, IfOk, IfErr};
 ghost use Rattle.rb_format.specs.FirstFault.{fault_of, keys};
 ghost use Rattle.rb_validator.specs.KnownKeys.{IsSound, AreGood, key_run};
-ghost use Rattle.rb_validator.specs.Places.{IsIn, key_offset as offset_in};
+ghost use Rattle.rb_format.specs.Geometry.{keys_end, key_offset as offset_in};
 
-use crate::keys::{KeyPlaces, key_offset, next_key};
+use crate::keys::next_key;
 use crate::known_keys::KnownKeys;
 use crate::ranks::rank_keys;
-use rb_format::{FileFault, Layout};
+use rb_format::{FileFault, KeyPlaces, Layout};
 use std::alloc::Global;
 
 /// How many bytes of keys are compared byte by byte, for each byte of the data.
@@ -58,7 +58,7 @@ impl KeyChecker {
         count: usize,
     ) -> Result<(), FileFault>
         requires keys { 4 * layout.now.keys_top ≤ length body.now }
-        requires places { IsIn body.now places count }
+        requires places { keys_end places count ≤ length body.now }
         requires sound { IsSound layout.now body.now self.old.known }
         ensures fault { fault_of result ≡ fault_of (keys layout.now body.now (offset_in body.now places) [] 0 count) }
         ensures sound { IsSound layout.now body.now self.new.known }
@@ -81,7 +81,7 @@ impl KeyChecker {
         count: usize,
     ) -> Result<usize, FileFault>
         requires keys { 4 * layout.now.keys_top ≤ length body.now }
-        requires places { IsIn body.now places count }
+        requires places { keys_end places count ≤ length body.now }
         ensures good { IfOk result (λ n. AreGood layout.now body.now (offset_in body.now places) n) }
         ensures low { IfOk result (λ n. n ≤ count) }
         ensures fault { IfErr result (λ e. fault_of (keys layout.now body.now (offset_in body.now places) [] 0 count) ≡ Some e) }
@@ -92,7 +92,7 @@ impl KeyChecker {
             if self.budget == 0 {
                 return Ok(i);
             }
-            last = next_key(layout, body, last, key_offset(body, places, i))?;
+            last = next_key(layout, body, last, places.offset(body, i))?;
             self.budget = self.budget.saturating_sub(last.len());
         }
         Ok(count)

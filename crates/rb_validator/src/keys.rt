@@ -3,30 +3,8 @@ ghost use Rattle.std.specs.Prelude.{◌≡◌, ℕ, ◌+◌, ◌*◌, ◌≤◌,
 ghost use Rattle.rb_format.specs.FirstFault.{result_map, next_key};
 ghost use Rattle.std.specs.Ordering.{is_lt, nat_cmp};
 ghost use Rattle.std.specs.Cmp.Lexicographic.{slice_cmp};
-ghost use Rattle.rb_validator.specs.Places.{IsIn};
-ghost use Rattle.rb_validator.specs.Places as offsets;
 
-use rb_format::{FileFault, Layout, half_at, key_within, word_at};
-
-/// The place of the key offsets of a table.
-#[derive(Clone, Copy)]
-pub enum KeyPlaces {
-    /// Short ones, from this half word on.
-    Halves(usize),
-    /// Long ones, from this word on.
-    Words(usize),
-}
-
-/// A key offset of a table.
-pub fn key_offset(body: &[u8], places: KeyPlaces, i: usize) -> u32
-    requires { IsIn body.now places (i + 1) }
-    ensures { result ≡ offsets.key_offset body.now places i }
-{
-    match places {
-        KeyPlaces::Halves(first) => u32::from(half_at(body, first + i)),
-        KeyPlaces::Words(first) => word_at(body, first + i),
-    }
-}
+use rb_format::{FileFault, Layout, key_within};
 
 /// Whether bytes are below others.
 fn is_below(a: &[u8], b: &[u8]) -> bool

@@ -1,11 +1,18 @@
 // The checks of values without children.
 ghost use Rattle.std.specs.Prelude.{◌≡◌, false, ℕ, ◌+◌, ◌*◌, ◌≤◌, ◌<◌, length, Result};
 ghost use Rattle.rb_format.specs.FirstFault.{fault_of, units, bytes, numbers, within, contents};
+ghost use Rattle.rb_format.specs.Item as items;
 ghost use Rattle.rb_tree.specs.Resource.{Resource};
 ghost use Rattle.rb_validator.specs.Visits.{has_children};
 
-use crate::values::has_data;
 use rb_format::{FileFault, ItemKind, Layout, half_at, word_at};
+
+/// Whether an item has data: an Int and an offset of 0 have none.
+fn has_data(kind: ItemKind, offset: u32) -> bool
+    ensures { result ≡ items.has_data kind offset }
+{
+    kind != ItemKind::Int && offset != 0
+}
 
 /// Whether an item has data, which then begin between the keys and the top.
 pub fn check_offset(layout: &Layout, kind: ItemKind, offset: u32) -> Result<bool, FileFault>

@@ -17,8 +17,5 @@ mod ranks;
 mod runs;
 mod state;
 mod suffixes;
-mod tree;
-mod values;
 
 pub use bundle::{Bundle, accept};
-pub use tree::decode;

@@ -5,8 +5,7 @@ mod shared;
 
 use plain::plain_fault;
 use rb_format::FileFault;
-use rb_tree::{Node, Tree};
-use rb_validator::{accept, decode};
+use rb_validator::accept;
 use samples::{
     EMPTY, EVERY_TYPE, HOLDS_ITSELF, NO_FALLBACK, ONE_STRING, THREE_NUMBERS, TWO_BINARIES,
     TWO_NUMBERS,
@@ -186,27 +185,6 @@ fn long_keys_are_ranked(rt: HostRuntime) -> Result<(), Fail> {
         assert_eq!(rt; plain_fault(&file), fault, "the last key at {last}");
         assert_eq!(rt; fault_of(alloc, &file)?, fault, "the last key at {last}");
     }
-    Ok(())
-}
-
-fn binary_at<'a>(tree: &'a Tree, key: &[u8]) -> Option<&'a [u8]> {
-    match tree {
-        Tree::Table(entries) => match entries.get(key) {
-            Some(Tree::Binary(bytes)) => Some(bytes.as_slice()),
-            _ => None,
-        },
-        _ => None,
-    }
-}
-
-#[test]
-fn a_bundle_is_decoded(rt: HostRuntime) -> Result<(), Fail> {
-    let alloc = rt.alloc();
-    let bundle = accept(alloc, TWO_BINARIES.to_vec(alloc)?).map_err(|refusal| refusal.0.word())?;
-    let tree = decode(alloc, &bundle)?;
-    assert_eq!(rt; (&tree).len(), 2);
-    assert_eq!(rt; binary_at(&tree, b"b"), Some(&[0x00, 0xFF, 0x7F][..]));
-    assert_eq!(rt; binary_at(&tree, b"c"), Some(&[0x02][..]));
     Ok(())
 }
 

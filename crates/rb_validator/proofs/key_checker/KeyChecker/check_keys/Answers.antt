@@ -1,5 +1,5 @@
 use Rattle.std.proofs.Common.{◌≤◌, arith}
-use Rattle.rb_validator.specs.Places.{key_offset as offset_in}
+use Rattle.rb_format.specs.Geometry.{key_offset as offset_in}
 use Rattle.rb_validator.proofs.Pairs.{good_all}
 use Rattle.rb_validator.proofs.key_checker.KeyChecker.check_keys.Goals as goal
 

@@ -1,6 +1,6 @@
 use Rattle.std.proofs.Common.{◌≡◌}
 use Rattle.rb_validator.specs.KnownKeys.{AreGood, last_key}
-use Rattle.rb_validator.specs.Places.{key_offset as offset_in}
+use Rattle.rb_format.specs.Geometry.{key_offset as offset_in}
 use Rattle.rb_validator.proofs.key_checker.KeyChecker.check_plainly.Given as goal
 
 abbrev pub invariant-loop-i : goal.invariant-loop-i

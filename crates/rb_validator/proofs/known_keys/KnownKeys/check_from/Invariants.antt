@@ -1,6 +1,6 @@
 use Rattle.std.proofs.Common.{◌-◌}
 use Rattle.rb_validator.specs.KnownKeys.{AreGood}
-use Rattle.rb_validator.specs.Places.{key_offset as offset_in}
+use Rattle.rb_format.specs.Geometry.{key_offset as offset_in}
 use Rattle.rb_validator.proofs.known_keys.KnownKeys.check_from.Given as goal
 
 abbrev pub invariant-loop-good : goal.invariant-loop-good

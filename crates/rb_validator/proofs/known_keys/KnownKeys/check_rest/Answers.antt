@@ -1,4 +1,4 @@
-use Rattle.rb_validator.specs.Places.{key_offset as offset_in}
+use Rattle.rb_format.specs.Geometry.{key_offset as offset_in}
 use Rattle.rb_validator.proofs.Pairs.{good_all}
 use Rattle.rb_validator.proofs.known_keys.KnownKeys.check_rest.Goals as goal
 

@@ -1,6 +1,6 @@
 use Rattle.std.proofs.Common.{◌≡◌, ℕ, ◌+◌, ◌-◌, get_or, refl, arith}
 use Rattle.rb_format.specs.Place.{half_at, word_at}
-use Rattle.rb_validator.specs.Places.{key_offset as offset_in}
+use Rattle.rb_format.specs.Geometry.{key_offset as offset_in}
 use Rattle.rb_validator.proofs.Pairs.{linked_good}
 use Rattle.rb_validator.proofs.known_keys.KnownKeys.count_known.Goals as goal
 
