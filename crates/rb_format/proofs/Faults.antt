@@ -12,7 +12,7 @@ use Rattle.std.proofs.lemmas.Bool.{le-ltb}
 use Rattle.rb_format.proofs.Steps.{bind_ok, then_ok, ok_is, fault_then, fault_first}
 
 -- whether the rest of a reading has no more to say
-fault_last : {A B : Type 0} (r : Result A FileFault) (f : A → B) → fault_of (r >>= λ x. Ok (f x)) ≡ fault_of r
+pub fault_last : {A B : Type 0} (r : Result A FileFault) (f : A → B) → fault_of (r >>= λ x. Ok (f x)) ≡ fault_of r
 fault_last (Ok x) f = refl
 fault_last (Err d) f = refl
 

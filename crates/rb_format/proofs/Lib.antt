@@ -1,3 +1,5 @@
+pub mod Checks
+pub mod Keys
 pub mod Steps
 pub mod Fronts
 pub mod Levels

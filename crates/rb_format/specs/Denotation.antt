@@ -8,7 +8,9 @@ use Rattle.rb_format.specs.declared.layout.Layout.{Layout}
 use Rattle.rb_format.specs.declared.kind.ItemKind.{ItemKind}
 use Rattle.rb_format.specs.declared.kind.ItemKind.TheVariants.{String, Binary, Table, Alias, LongTable, Int, Array, Ints}
 use Rattle.rb_tree.specs.Resource.{Resource, string, binary, table, alias, int, array, ints, Resources, no_trees, tree_and, Members, no_entries, entry_and}
+use Rattle.rb_format.specs.declared.geometry.TableParts.{TableParts}
 use Rattle.rb_format.specs.Place.{word_at, half_at, key, values}
+use Rattle.rb_format.specs.Geometry.{key_offset, table_parts, long_table_parts, array_first, array_count}
 use Rattle.rb_format.specs.Item.{kind_of, offset_of, has_data, bare}
 
 -- x, where a condition holds
@@ -40,6 +42,10 @@ members_at child item i (k ∷ ks) = child (item i) >>? λ t. members_at child i
 abbrev pub table_at : Layout → List ℕ → (ℕ → Option Resource) → (ℕ → ℕ) → ℕ → ℕ → Option Members
 table_at y body child place from n = where_holds (nat_le (from + n) y.top) (keys_at y body place [] 0 n >>? λ ks. members_at child (λ i. word_at body (from + i)) 0 ks)
 
+-- the table with these parts
+abbrev pub table_with : Layout → List ℕ → (ℕ → Option Resource) → TableParts → Option Members
+table_with y body child p = table_at y body child (key_offset body p.keys) p.first p.count
+
 -- the units at an offset, with a zero unit after them
 abbrev pub units_at : Layout → List ℕ → ℕ → Option (List ℕ)
 units_at y body o = where_holds (nat_le (4 * o + 6 + 2 * word_at body o) (4 * y.top)) (where_holds (half_at body (2 * o + 2 + word_at body o) == 0) (Some (values (half_at body) (2 * o + 2) (word_at body o))))
@@ -48,11 +54,13 @@ units_at y body o = where_holds (nat_le (4 * o + 6 + 2 * word_at body o) (4 * y.
 abbrev pub value_at : Layout → List ℕ → (ℕ → Option Resource) → ℕ → ItemKind → Option Resource
 value_at y body child o String = option_map string (units_at y body o)
 value_at y body child o Binary = where_holds (nat_le (4 * o + 4 + word_at body o) (4 * y.top)) (Some (binary (take (word_at body o) (drop (4 * o + 4) body))))
-value_at y body child o Table = option_map table (table_at y body child (λ i. half_at body (2 * o + 1 + i)) (o + (half_at body (2 * o) + 2) / 2) (half_at body (2 * o)))
+value_at y body child o Table = option_map table (table_with y body child (table_parts body o))
 value_at y body child o Alias = option_map alias (units_at y body o)
-value_at y body child o LongTable = option_map table (table_at y body child (λ i. word_at body (o + 1 + i)) (o + 1 + word_at body o) (word_at body o))
+value_at y body child o LongTable = option_map table (table_with y body child (long_table_parts body o))
 value_at y body child o Int = Some (int o)
-value_at y body child o Array = where_holds (nat_le (o + 1 + word_at body o) y.top) (option_map array (trees_at child (λ i. word_at body (o + 1 + i)) 0 (word_at body o)))
+value_at y body child o Array =
+    let n = array_count body o in
+    where_holds (nat_le (array_first o + n) y.top) (option_map array (trees_at child (λ i. word_at body (array_first o + i)) 0 n))
 value_at y body child o Ints = where_holds (nat_le (o + 1 + word_at body o) y.top) (Some (ints (map (cast_signed w32) (values (word_at body) (o + 1) (word_at body o)))))
 
 -- an item without data has its bare value, any other the value of its data, which begin between the keys and the top

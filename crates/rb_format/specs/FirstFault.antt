@@ -14,7 +14,9 @@ use Rattle.rb_format.specs.declared.kind.ItemKind.TheVariants.{String, Binary, T
 use Rattle.rb_format.specs.declared.fault.FileFault.{FileFault}
 use Rattle.rb_format.specs.declared.fault.FileFault.TheVariants as faults
 use Rattle.rb_format.specs.declared.fault.FileFault.TheVariants.{TooLong, BigEndian, Family, FormatVersion, Indexes, Root, ItemType, Offset, Length, NotTerminated, Key, KeyOrder, TooDeep}
+use Rattle.rb_format.specs.declared.geometry.TableParts.{TableParts}
 use Rattle.rb_format.specs.Place.{word_at, half_at, key, values, layout_of}
+use Rattle.rb_format.specs.Geometry.{key_offset, table_parts, long_table_parts, array_first, array_count}
 use Rattle.rb_format.specs.Item.{kind_of, offset_of, is_table, has_data, bare}
 use Rattle.rb_format.specs.Attributes.{attributes_of, has_pool}
 use Rattle.rb_format.specs.File.{has_magic, has_family, has_version, has_sizes, is_laid, flagged}
@@ -81,8 +83,8 @@ members child item i (k ∷ ks) = do
 
 unfoldable pub array_at : Layout → List ℕ → (ℕ → Result Resource FileFault) → ℕ → Result Resources FileFault
 array_at y body child o =
-    let n = word_at body o in
-    if nat_lt y.top (o + 1 + n) then Err Length else trees child (λ i. word_at body (o + 1 + i)) 0 n
+    let n = array_count body o in
+    if nat_lt y.top (array_first o + n) then Err Length else trees child (λ i. word_at body (array_first o + i)) 0 n
 
 -- a table of n entries, with its key offsets and the word of its first item; all keys before the first child
 unfoldable pub table_of : Layout → List ℕ → (ℕ → Result Resource FileFault) → (ℕ → ℕ) → ℕ → ℕ → Result Members FileFault
@@ -91,15 +93,15 @@ table_of y body child place from n =
       ks ← keys y body place [] 0 n
       members child (λ i. word_at body (from + i)) 0 ks)
 
+-- the table with these parts
+abbrev pub table_with : Layout → List ℕ → (ℕ → Result Resource FileFault) → TableParts → Result Members FileFault
+table_with y body child p = table_of y body child (key_offset body p.keys) p.first p.count
+
 unfoldable pub table16_at : Layout → List ℕ → (ℕ → Result Resource FileFault) → ℕ → Result Members FileFault
-table16_at y body child o =
-    let n = half_at body (2 * o) in
-    table_of y body child (λ i. half_at body (2 * o + 1 + i)) (o + (n + 2) / 2) n
+table16_at y body child o = table_with y body child (table_parts body o)
 
 unfoldable pub table32_at : Layout → List ℕ → (ℕ → Result Resource FileFault) → ℕ → Result Members FileFault
-table32_at y body child o =
-    let n = word_at body o in
-    table_of y body child (λ i. word_at body (o + 1 + i)) (o + 1 + n) n
+table32_at y body child o = table_with y body child (long_table_parts body o)
 
 -- ---- items
 

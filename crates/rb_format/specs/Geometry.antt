@@ -1,10 +1,12 @@
--- Where the parts of a table stand: a table has a half word that counts its entries, then half words that are the offsets of its
--- keys, a half word of padding where the count is even, and its items; a long table has words alone (`uresdata.h`, URES_TABLE and
--- URES_TABLE32).
-use Rattle.std.specs.Prelude.{ℕ, ◌+◌, ◌*◌, ◌/◌, List}
+-- Where the parts of tables and arrays are: a table has a half word that counts its entries, then half words that are the offsets of
+-- its keys, a half word of padding where the count is even, and its items; a long table has words alone, and an array has a word that
+-- counts its items, and the items (`uresdata.h`, URES_TABLE, URES_TABLE32 and URES_ARRAY).
+use Rattle.std.specs.Prelude.{Bool, true, false, ℕ, ◌+◌, ◌*◌, ◌/◌, List}
 use Rattle.rb_format.specs.declared.geometry.KeyPlaces.{KeyPlaces}
 use Rattle.rb_format.specs.declared.geometry.KeyPlaces.TheVariants.{Halves, Words}
 use Rattle.rb_format.specs.declared.geometry.TableParts.{TableParts}
+use Rattle.rb_format.specs.declared.kind.ItemKind.{ItemKind}
+use Rattle.rb_format.specs.declared.kind.ItemKind.TheVariants.{Table, LongTable, Array}
 use Rattle.rb_format.specs.Place.{word_at, half_at}
 
 -- the offset of key i, in bytes from the root item
@@ -24,3 +26,31 @@ table_parts body o = record { keys = Halves (2 * o + 1); first = o + (half_at bo
 -- the parts of the long table at word o
 abbrev pub long_table_parts : List ℕ → ℕ → TableParts
 long_table_parts body o = record { keys = Words (o + 1); first = o + 1 + word_at body o; count = word_at body o }
+
+-- the word of the first item of the array at word o, and how many it has
+abbrev pub array_first : ℕ → ℕ
+array_first o = o + 1
+
+abbrev pub array_count : List ℕ → ℕ → ℕ
+array_count body o = word_at body o
+
+-- the kinds whose data have items
+abbrev pub has_children : ItemKind → Bool
+has_children Table = true
+has_children LongTable = true
+has_children Array = true
+has_children k = false
+
+-- how many items the data at word o have, by their kind
+abbrev pub child_count : List ℕ → ItemKind → ℕ → ℕ
+child_count body Table o = (table_parts body o).count
+child_count body LongTable o = (long_table_parts body o).count
+child_count body Array o = array_count body o
+child_count body k o = 0
+
+-- the word of the first of them, which the others follow
+abbrev pub first_child : List ℕ → ItemKind → ℕ → ℕ
+first_child body Table o = (table_parts body o).first
+first_child body LongTable o = (long_table_parts body o).first
+first_child body Array o = array_first o
+first_child body k o = o

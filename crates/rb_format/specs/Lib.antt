@@ -6,3 +6,4 @@ pub mod Denotation
 pub mod File
 pub mod FirstFault
 pub mod Words
+pub mod Checks

@@ -3,6 +3,7 @@
 use Rattle.std.specs.Prelude.{ℕ, zero, suc, ◌+◌, ◌-◌, ◌*◌, ◌==◌, ◌&&◌, Bool, nat_lt, nat_le, if◌then◌else◌, List, [], ◌∷◌, length, take, drop, position, Option, Some, None}
 use Rattle.std.specs.List.{list_all}
 use Rattle.byteorder.specs.Endian.{little_number}
+use Rattle.rb_tree.specs.Path.{is_plain, is_filled}
 use Rattle.rb_format.specs.declared.layout.Layout.{Layout}
 
 -- the number in the 4 bytes from byte 4i; a byte that isn't there counts as 0
@@ -21,13 +22,9 @@ word body i = if nat_lt (4 * i + 3) (length body) then Some (word_at body i) els
 abbrev pub half : List ℕ → ℕ → Option ℕ
 half body i = if nat_lt (2 * i + 1) (length body) then Some (half_at body i) else None
 
--- a byte from a space to a tilde
-abbrev pub plain : ℕ → Bool
-plain x = nat_le 32 x && nat_le x 126
-
--- one or more such bytes
+-- a key, as trees have them: one or more bytes from a space to a tilde
 abbrev pub key_ok : List ℕ → Bool
-key_ok bytes = nat_lt 0 (length bytes) && list_all plain bytes
+key_ok bytes = is_filled bytes && list_all is_plain bytes
 
 -- the bytes up to the first NUL, where there is one and they are a key
 abbrev pub key_before : List ℕ → Option ℕ → Option (List ℕ)

@@ -1,4 +1,4 @@
-// Where the parts of tables stand.
+// Where the parts of tables are.
 ghost use Rattle.std.specs.Prelude.{◌≡◌, ◌+◌, ◌*◌, ◌≤◌, ◌<◌, ◌^◌, length};
 ghost use Rattle.rb_format.specs.Geometry as parts;
 ghost use Rattle.rb_format.specs.Geometry.{key_offset, keys_end};
@@ -26,12 +26,12 @@ impl KeyPlaces {
     }
 }
 
-/// Where the parts of a table stand.
+/// Where the parts of a table are.
 #[derive(Clone, Copy, Debug, PartialEq, Eq)]
 pub struct TableParts {
     /// The offsets of its keys.
     pub keys: KeyPlaces,
-    /// The word of its first item, behind which the others follow.
+    /// The word of its first item, which the others follow.
     pub first: usize,
     /// How many entries it has.
     pub count: usize,
@@ -50,7 +50,8 @@ impl TableParts {
 /// The parts of the table at a word, whose count is a half word.
 pub fn table_parts(body: &[u8], offset: u32) -> TableParts
     requires { 4 * offset + 2 ≤ length body.now }
-    ensures { result ≡ parts.table_parts body.now offset }
+    ensures parts { result ≡ parts.table_parts body.now offset }
+    ensures small { result.first + result.count < 2 ^ 40 }
 {
     let offset = offset as usize;
     let count = half_at(body, 2 * offset) as usize;
@@ -64,7 +65,8 @@ pub fn table_parts(body: &[u8], offset: u32) -> TableParts
 /// The parts of the long table at a word, whose count is a word.
 pub fn long_table_parts(body: &[u8], offset: u32) -> TableParts
     requires { 4 * offset + 4 ≤ length body.now }
-    ensures { result ≡ parts.long_table_parts body.now offset }
+    ensures parts { result ≡ parts.long_table_parts body.now offset }
+    ensures small { result.first + result.count < 2 ^ 40 }
 {
     let offset = offset as usize;
     let count = word_at(body, offset) as usize;

@@ -5,11 +5,20 @@ ghost use Rattle.rb_tree.specs.Resource.{Resource, height};
 ghost use Rattle.rb_tree.specs.SourceTree.{SourceTree};
 ghost use Rattle.rb_format.specs.Denotation.{tree_at};
 ghost use Rattle.rb_format.specs.File.{Denotes, DenotesWithin};
+ghost use Rattle.rb_format.specs.declared.fault.FileFault.{FileFault};
 ghost use Rattle.rb_format.specs.FirstFault.{first_fault, read, limited};
+ghost use Rattle.rb_format.specs.Checks.{Check, Fails, IsFirst};
 
 /// A file denotes a bundle or has a first fault, and never both.
 pub fn a_tree_or_a_fault()
     ensures { (bytes : List ℕ) → MatchOption (first_fault bytes) ((s : SourceTree) × Denotes bytes s) (λ e. (s : SourceTree) → ¬ (Denotes bytes s)) }
+{}
+
+/// The first fault of a file is that of the first check that it fails, in the order of the checks: that check fails, and none before
+/// it does. A file without a fault fails none.
+pub fn the_first_fault_is_of_the_first_failed_check()
+    ensures fault { (bytes : List ℕ) (e : FileFault) → first_fault bytes ≡ Some e → IsFirst bytes e }
+    ensures none { (bytes : List ℕ) → first_fault bytes ≡ None → (c : Check) (f : FileFault) → ¬ (Fails bytes c f) }
 {}
 
 /// A file denotes at most one bundle.

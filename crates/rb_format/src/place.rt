@@ -1,12 +1,12 @@
 // What stands at a place of the data.
 ghost use Rattle.std.specs.Prelude.{◌≡◌, ◌+◌, ◌*◌, ◌≤◌, ◌<◌, ◌==◌, length, position, IfSome};
 ghost use Rattle.std.specs.Option.{option_copied};
-ghost use Rattle.std.specs.List.{list_all};
 ghost use Rattle.rb_format.specs.Place as places;
-ghost use Rattle.rb_format.specs.Place.{word, half, key, key_at, key_front, key_ok, plain};
+ghost use Rattle.rb_format.specs.Place.{word, half, key, key_at, key_front, key_ok as key_test};
 
 use crate::layout::Layout;
 use byteorder::{ByteOrder, LittleEndian};
+use rb_tree::key_ok;
 
 /// Word i of the data: the number in the 4 bytes from byte 4i. None where they aren't all there.
 #[tactic(auto, unfolding(crate::specs::Place::word_at))]
@@ -85,17 +85,11 @@ fn first_nul(bytes: &[u8]) -> Option<usize>
     bytes.iter().position(|x| *x == 0)
 }
 
-/// Whether the bytes are a key: one or more, each 0x20 to 0x7E.
+/// Whether the bytes are a key, as trees have them.
 fn is_key(bytes: &[u8]) -> bool
-    ensures { result ≡ key_ok bytes.now }
+    ensures { result ≡ key_test bytes.now }
 {
-    !bytes.is_empty() && is_plain(bytes)
-}
-
-fn is_plain(bytes: &[u8]) -> bool
-    ensures { result ≡ list_all plain bytes.now }
-{
-    bytes.iter().all(|x| 32 <= *x && *x <= 126)
+    key_ok(bytes)
 }
 
 /// Word i of the data, whose bytes are there.

@@ -8,7 +8,8 @@ use Rattle.rb_format.specs.declared.kind.ItemKind.TheVariants.{String, Binary, T
 use Rattle.rb_format.specs.declared.layout.Layout.{Layout}
 use Rattle.rb_format.specs.Item.{offset_of}
 use Rattle.rb_validator.specs.Marks.{slot, cell, mark_at, IsKnown, IsDone, Keeps, Follows, Leads}
-use Rattle.rb_validator.specs.Visits.{has_children, kind_at, IsPlace}
+use Rattle.rb_format.specs.Geometry.{has_children}
+use Rattle.rb_validator.specs.Visits.{kind_at, IsPlace}
 
 pub slot_low : (k : ItemKind) → slot k ≤ 2
 slot_low String = omega arith

@@ -7,7 +7,8 @@ use Rattle.rb_format.specs.declared.layout.Layout.{Layout}
 use Rattle.rb_format.specs.Place.{word_at}
 use Rattle.rb_format.specs.Item.{offset_of}
 use Rattle.rb_validator.specs.Marks.{cell, mark_at, marked, IsKnown, Keeps}
-use Rattle.rb_validator.specs.Visits.{has_children, child_count, kind_at, IsChild, IsWay, IsPlace, IsPlaceAt, IsCount}
+use Rattle.rb_format.specs.Geometry.{has_children, child_count}
+use Rattle.rb_validator.specs.Visits.{kind_at, IsChild, IsWay, IsPlace, IsPlaceAt, IsCount}
 use Rattle.rb_validator.proofs.Cells.{cell_at, kind_inner}
 
 pub count_le : (P : ℕ → Type 0) (n c : ℕ) → IsCount P n c → c ≤ n

@@ -19,7 +19,7 @@ use Rattle.rb_format.proofs.Faults.{value_there, read_kind}
 use Rattle.rb_validator.specs.declared.children.Children.{Children}
 use Rattle.rb_validator.specs.declared.memo.Mark.TheVariants.{New, Open, Done}
 use Rattle.rb_validator.specs.Marks.{cell, mark_of, mark_at, children_at, IsKnown, IsDone, Keeps, IsMet, After}
-use Rattle.rb_validator.specs.Visits.{has_children, first_child}
+use Rattle.rb_format.specs.Geometry.{has_children, first_child}
 use Rattle.rb_validator.proofs.Cells.{follows_entry, keeps_set, known_set}
 use Rattle.rb_validator.proofs.Shapes.{children_ok, children_there, height_ok}
 use Rattle.rb_validator.proofs.Ways.{met_again, met_place, met_child}

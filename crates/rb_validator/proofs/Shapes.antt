@@ -16,7 +16,7 @@ use Rattle.rb_format.proofs.Steps.{bind_ok, ok_is, guard}
 use Rattle.rb_format.proofs.Faults.{keys_count}
 use Rattle.rb_validator.specs.declared.children.Children.{Children}
 use Rattle.rb_validator.specs.Marks.{children_at, table_children}
-use Rattle.rb_validator.specs.Visits.{has_children, child_count, first_child}
+use Rattle.rb_format.specs.Geometry.{has_children, child_count, first_child}
 
 -- the children's heights alone
 abbrev pub below : List ℕ → (ℕ → Result Resource FileFault) → Children → Result ℕ FileFault

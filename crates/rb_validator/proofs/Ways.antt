@@ -15,7 +15,8 @@ use Rattle.rb_format.proofs.Faults.{value_there}
 use Rattle.rb_format.proofs.Levels.{read-limited}
 use Rattle.rb_validator.specs.declared.children.Children.{Children}
 use Rattle.rb_validator.specs.Marks.{cell, mark_at, children_at, IsDone, Leads, IsMet}
-use Rattle.rb_validator.specs.Visits.{has_children, child_count, first_child, IsPlace}
+use Rattle.rb_format.specs.Geometry.{has_children, child_count, first_child}
+use Rattle.rb_validator.specs.Visits.{IsPlace}
 use Rattle.rb_validator.proofs.Cells.{cell_is}
 use Rattle.rb_validator.proofs.Shapes.{children_fault}
 

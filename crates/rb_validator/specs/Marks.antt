@@ -14,7 +14,9 @@ use Rattle.rb_validator.specs.declared.children.Children.{Children}
 use Rattle.rb_validator.specs.declared.memo.Mark.{Mark}
 use Rattle.rb_validator.specs.declared.runs.Run.{Run}
 use Rattle.rb_validator.specs.declared.memo.Mark.TheVariants.{New, Open, Done}
-use Rattle.rb_validator.specs.Visits.{has_children, child_count, first_child, IsWay, IsPlace}
+use Rattle.rb_format.specs.declared.geometry.TableParts.{TableParts}
+use Rattle.rb_format.specs.Geometry.{key_offset, table_parts, long_table_parts, array_first, array_count, has_children, child_count, first_child}
+use Rattle.rb_validator.specs.Visits.{IsWay, IsPlace}
 
 -- ---- the items of a table or an array
 
@@ -22,11 +24,15 @@ abbrev pub table_children : Layout → List ℕ → (ℕ → ℕ) → ℕ → �
 table_children y body place from n = if nat_lt y.top (from + n) then Err Length else
     (keys y body place [] 0 n >>= λ ks. Ok (record { first = from; count = n }))
 
+-- the same of the table with these parts
+abbrev pub children_with : Layout → List ℕ → TableParts → Result Children FileFault
+children_with y body p = table_children y body (key_offset body p.keys) p.first p.count
+
 -- all of the kinds without children have none, and no fault
 unfoldable pub children_at : Layout → List ℕ → ItemKind → ℕ → Result Children FileFault
-children_at y body Table o = table_children y body (λ i. half_at body (2 * o + 1 + i)) (o + (half_at body (2 * o) + 2) / 2) (half_at body (2 * o))
-children_at y body LongTable o = table_children y body (λ i. word_at body (o + 1 + i)) (o + 1 + word_at body o) (word_at body o)
-children_at y body Array o = if nat_lt y.top (o + 1 + word_at body o) then Err Length else Ok (record { first = o + 1; count = word_at body o })
+children_at y body Table o = children_with y body (table_parts body o)
+children_at y body LongTable o = children_with y body (long_table_parts body o)
+children_at y body Array o = if nat_lt y.top (array_first o + array_count body o) then Err Length else Ok (record { first = array_first o; count = array_count body o })
 children_at y body k o = Ok (record { first = o; count = 0 })
 
 -- ---- marks

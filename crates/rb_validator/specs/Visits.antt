@@ -4,28 +4,8 @@ use Rattle.std.specs.Prelude.{◌≡◌, Bool, true, false, ℕ, zero, suc, ◌+
 use Rattle.rb_format.specs.declared.kind.ItemKind.{ItemKind}
 use Rattle.rb_format.specs.declared.kind.ItemKind.TheVariants.{Table, LongTable, Array}
 use Rattle.rb_format.specs.Place.{word_at, half_at, layout_of}
+use Rattle.rb_format.specs.Geometry.{has_children, child_count, first_child}
 use Rattle.rb_format.specs.Item.{kind_of, offset_of}
-
--- the kinds whose data have items
-abbrev pub has_children : ItemKind → Bool
-has_children Table = true
-has_children LongTable = true
-has_children Array = true
-has_children k = false
-
--- how many items the data at an offset have (`uresdata.h`: a count of 16 bits in a table, else of 32 bits)
-abbrev pub child_count : List ℕ → ItemKind → ℕ → ℕ
-child_count body Table o = half_at body (2 * o)
-child_count body LongTable o = word_at body o
-child_count body Array o = word_at body o
-child_count body k o = 0
-
--- the word of the first of them: after the count, and in a table after the key offsets too
-abbrev pub first_child : List ℕ → ItemKind → ℕ → ℕ
-first_child body Table o = o + (half_at body (2 * o) + 2) / 2
-first_child body LongTable o = o + 1 + word_at body o
-first_child body Array o = o + 1
-first_child body k o = o
 
 -- a child is one of the items of an item with data
 pub record IsChild (body : List ℕ) (item child : ℕ) : Type 0 where

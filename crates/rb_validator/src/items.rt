@@ -6,7 +6,7 @@ ghost use Rattle.rb_format.specs.Place as fields;
 ghost use Rattle.rb_tree.specs.Resource.{height, trees_height};
 ghost use Rattle.rb_validator.specs.KnownKeys.{IsSound};
 ghost use Rattle.rb_validator.specs.Marks.{mark_at, IsKnown, IsMet, Keeps, Leads, After, AreRuns, run_of, IsRunKnown};
-ghost use Rattle.rb_validator.specs.Visits as visits;
+ghost use Rattle.rb_format.specs.Geometry as geometry;
 
 use crate::children::{find_children, has_children};
 use crate::leaves::{check_leaf, check_offset};
@@ -73,7 +73,7 @@ fn check_inner(
     requires small { left < 254 }
     requires met { IsMet body.now item }
     requires is_kind { kind_of item ≡ Some kind }
-    requires inner { visits.has_children kind ≡ true }
+    requires inner { geometry.has_children kind ≡ true }
     requires full { 0 < offset_of item }
     requires there { within layout.now kind (offset_of item) ≡ Ok true }
     requires below { offset_of item < layout.now.top }
@@ -115,7 +115,7 @@ fn enter(
     requires small { left < 254 }
     requires met { IsMet body.now item }
     requires is_kind { kind_of item ≡ Some kind }
-    requires inner { visits.has_children kind ≡ true }
+    requires inner { geometry.has_children kind ≡ true }
     requires full { 0 < offset_of item }
     requires there { within layout.now kind (offset_of item) ≡ Ok true }
     requires below { offset_of item < layout.now.top }

@@ -3,7 +3,7 @@ ghost use Rattle.std.specs.Prelude.{◌≡◌, false, ℕ, ◌+◌, ◌*◌, ◌
 ghost use Rattle.rb_format.specs.FirstFault.{fault_of, units, bytes, numbers, within, contents};
 ghost use Rattle.rb_format.specs.Item as items;
 ghost use Rattle.rb_tree.specs.Resource.{Resource};
-ghost use Rattle.rb_validator.specs.Visits.{has_children};
+ghost use Rattle.rb_format.specs.Geometry.{has_children};
 
 use rb_format::{FileFault, ItemKind, Layout, half_at, word_at};
 

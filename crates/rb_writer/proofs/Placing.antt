@@ -7,26 +7,20 @@ use Rattle.std.proofs.lemmas.List.{get_or-drop, get_or-take, length-drop, length
 use Rattle.std.specs.Prelude.{All, ◌==◌, IsSome}
 use Rattle.std.specs.List.{list_all, position_or_len}
 use Rattle.rb_tree.specs.Keys.{IsKey, IsPlain}
-use Rattle.rb_format.specs.Place.{key, key_front, key_ok, plain}
+use Rattle.rb_format.specs.Place.{key, key_front, key_ok}
 use Rattle.std.specs.Ordering.{is_eq, nat_cmp}
 use Rattle.std.specs.declared.cmp.Ordering.{Ordering}
 use Rattle.std.specs.declared.cmp.Ordering.TheVariants.{Less, Equal, Greater}
 use Rattle.std.specs.Cmp.Lexicographic.{slice_cmp}
 use Rattle.rb_format.proofs.Cases.{equal_is}
+use Rattle.rb_format.proofs.Keys.{key_is}
 use Rattle.rb_writer.proofs.Puts.{adds_append}
 use Rattle.rb_writer.proofs.Values.{part_stays}
 use Rattle.rb_writer.specs.Growth.{Adds, draft, PutsBytes}
 use Rattle.rb_writer.specs.Keying.{KeyAt}
 
-plain_is : (x : ℕ) → IsPlain x → plain x ≡ true
-plain_is x h = let a = h.0 in let b = h.1 in grind (arith, nat_tests)
-
-all_plain : (k : List ℕ) → All IsPlain k → list_all plain k ≡ true
-all_plain [] h = refl
-all_plain (x ∷ k) h = rw (plain_is x (h 0 x (omega arith))) (all_plain k (λ i d g. h (suc i) d (omega arith)))
-
 pub ok_key : (k : List ℕ) → IsKey k → key_ok k ≡ true
-ok_key k h = let t : ltb 0 (length k) ≡ true = lt-ltb _ _ h.0 in rw (t, all_plain k h.1) refl
+ok_key k h = (key_is k).1 h
 
 not_nul : (x : ℕ) → IsPlain x → (x == 0) ≡ false
 not_nul x h = let a = h.0 in grind (arith, nat_tests)

@@ -38,21 +38,21 @@ unreachable-requires c =
 pub returns-in-Table-clause-entries : goal.returns-in-Table-clause-entries
 returns-in-Table-clause-entries c =
     let s = c.args.self in
-    rw c.table_parts.ensures (entries_short s.body.now s.word c.item_offset-offset.result c.item_offset-offset.ensures s.stands (c.item_kind.ensures ∙ ap Some c.in-Table.is) (omega arith)).1
+    rw c.table_parts.ensures.parts (entries_short s.body.now s.word c.item_offset-offset.result c.item_offset-offset.ensures s.stands (c.item_kind.ensures ∙ ap Some c.in-Table.is) (omega arith)).1
 
 pub returns-in-LongTable-clause-entries : goal.returns-in-LongTable-clause-entries
 returns-in-LongTable-clause-entries c =
     let s = c.args.self in
-    rw c.long_table_parts.ensures (entries_long s.body.now s.word c.item_offset-offset.result c.item_offset-offset.ensures s.stands (c.item_kind.ensures ∙ ap Some c.in-LongTable.is) (omega arith)).1
+    rw c.long_table_parts.ensures.parts (entries_long s.body.now s.word c.item_offset-offset.result c.item_offset-offset.ensures s.stands (c.item_kind.ensures ∙ ap Some c.in-LongTable.is) (omega arith)).1
 
 pub returns-in-Table-clause-place : goal.returns-in-Table-clause-place
 returns-in-Table-clause-place c =
     let s = c.args.self in
     let kind = c.item_kind.ensures ∙ ap Some c.in-Table.is in
-    λ h. c.table_parts.ensures ∙ ap (table_parts s.body.now) c.item_offset-offset.ensures ∙ sym (ap (parts_of_kind s.body.now (offset_of s.word)) kind)
+    λ h. c.table_parts.ensures.parts ∙ ap (table_parts s.body.now) c.item_offset-offset.ensures ∙ sym (ap (parts_of_kind s.body.now (offset_of s.word)) kind)
 
 pub returns-in-LongTable-clause-place : goal.returns-in-LongTable-clause-place
 returns-in-LongTable-clause-place c =
     let s = c.args.self in
     let kind = c.item_kind.ensures ∙ ap Some c.in-LongTable.is in
-    λ h. c.long_table_parts.ensures ∙ ap (long_table_parts s.body.now) c.item_offset-offset.ensures ∙ sym (ap (parts_of_kind s.body.now (offset_of s.word)) kind)
+    λ h. c.long_table_parts.ensures.parts ∙ ap (long_table_parts s.body.now) c.item_offset-offset.ensures ∙ sym (ap (parts_of_kind s.body.now (offset_of s.word)) kind)

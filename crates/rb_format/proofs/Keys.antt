@@ -1,0 +1,42 @@
+-- The keys of a file are the keys of trees.
+use Rattle.std.proofs.Common.{◌≡◌, ℕ, ◌<◌, ◌&&◌, ◌↔◌, IsTrue, Bool, true, false, List, length, get_or, All, refl, sym, arith}
+use Rattle.std.specs.Bool.{Decides}
+use Rattle.std.specs.List.{list_all}
+use Rattle.std.proofs.lemmas.Bool.Decides.{nat_tests}
+use Rattle.std.proofs.lemmas.List.Sums.{AllPass-from_list_all, list_all-from_AllPass}
+use Rattle.rb_tree.specs.Keys.{IsKey, IsPlain}
+use Rattle.rb_tree.specs.Path.{is_plain, is_filled}
+use Rattle.rb_format.specs.Place.{key_ok}
+
+plain_test : (b : ℕ) → Decides (is_plain b) (IsPlain b)
+plain_test b = (λ h. (grind (arith, nat_tests), grind (arith, nat_tests)), λ h. grind (arith, nat_tests))
+
+filled_test : (s : List ℕ) → Decides (is_filled s) (0 < length s)
+filled_test s = (λ h. grind (arith, nat_tests), λ h. grind (arith, nat_tests))
+
+both_true : (a b : Bool) → a && b ≡ true → (a ≡ true) × (b ≡ true)
+both_true true true h = (refl, refl)
+both_true true false h = absurd cc
+both_true false b h = absurd cc
+
+both_is : (a b : Bool) → a ≡ true → b ≡ true → a && b ≡ true
+both_is true true h k = refl
+both_is true false h k = k
+both_is false b h k = absurd cc
+
+pub key_is : (k : List ℕ) → Decides (key_ok k) (IsKey k)
+key_is k = (
+  λ h.
+      let two = both_true (is_filled k) (list_all is_plain k) h in
+      ((filled_test k).0 two.0, λ i d l. (plain_test (get_or k i d)).0 (AllPass-from_list_all is_plain k two.1 i d l)),
+  λ h. both_is (is_filled k) (list_all is_plain k) ((filled_test k).1 h.0) (list_all-from_AllPass is_plain k (λ i d l. (plain_test (get_or k i d)).1 (h.1 i d l))),
+)
+
+-- whoever knows whether bytes are a key knows what the test says
+pub key_test : (k : List ℕ) (b : Bool) → (IsTrue b ↔ IsKey k) → b ≡ key_ok k
+key_test k b h = same b (key_ok k) (λ e. (key_is k).1 (h.0 e)) (λ e. h.1 ((key_is k).0 e))
+  where
+    same : (a b : Bool) → (a ≡ true → b ≡ true) → (b ≡ true → a ≡ true) → a ≡ b
+    same true b f g = sym (f refl)
+    same false true f g = g refl
+    same false false f g = refl
