@@ -20,7 +20,8 @@ choice : {A : Type 0} (b : Bool) (x y r : A) → cond b x y ≡ r → ((b ≡ tr
 choice true x y r e = inl (refl, e)
 choice false x y r e = inr (refl, e)
 
-pub value_cases : (y : Layout) (body : List ℕ) (child : ℕ → Result Resource FileFault) (o : ℕ) (k : ItemKind) (t : Resource) → value y body child o k ≡ Ok t → ((within y k o ≡ Ok true) × (contents y body child o k ≡ Ok t)) ⊎ ((within y k o ≡ Ok false) × (bare k o ≡ t))
+pub value_cases : (y : Layout) (body : List ℕ) (child : ℕ → Result Resource FileFault) (o : ℕ) (k : ItemKind) (t : Resource) → value y body child o k ≡ Ok t
+    → ((within y k o ≡ Ok true) × (contents y body child o k ≡ Ok t)) ⊎ ((within y k o ≡ Ok false) × (bare k o ≡ t))
 unfolding value
 value_cases y body child o k t e =
     let a = bind_ok (within y k o) (λ there. cond there (contents y body child o k) (Ok (bare k o))) t e in

@@ -29,7 +29,8 @@ key_is k = (
   λ h.
       let two = both_true (is_filled k) (list_all is_plain k) h in
       ((filled_test k).0 two.0, λ i d l. (plain_test (get_or k i d)).0 (AllPass-from_list_all is_plain k two.1 i d l)),
-  λ h. both_is (is_filled k) (list_all is_plain k) ((filled_test k).1 h.0) (list_all-from_AllPass is_plain k (λ i d l. (plain_test (get_or k i d)).1 (h.1 i d l))),
+  λ h. both_is (is_filled k) (list_all is_plain k) ((filled_test k).1 h.0)
+      (list_all-from_AllPass is_plain k (λ i d l. (plain_test (get_or k i d)).1 (h.1 i d l))),
 )
 
 -- whoever knows whether bytes are a key knows what the test says

@@ -11,11 +11,13 @@ use Rattle.rb_format.specs.Place.{word_at, half_at, layout_of}
 use Rattle.rb_format.specs.Item.{kind_of, is_table}
 use Rattle.rb_format.specs.Denotation.{where_holds, tree_at}
 use Rattle.rb_format.specs.Attributes.{attributes_of, has_pool}
-use Rattle.rb_format.specs.File.{has_magic, has_family, has_version, has_sizes, has_header, is_laid, flagged, source_of_data, source_of_file, DenotesWithin, Denotes, source_tree_of}
+use Rattle.rb_format.specs.File.{has_magic, has_family, has_version, has_sizes, has_header, is_laid}
+use Rattle.rb_format.specs.File.{flagged, source_of_data, source_of_file, DenotesWithin, Denotes, source_tree_of}
 use Rattle.rb_format.specs.FirstFault.{◌>>=◌, header, read_data, read_file, fault_of, first_fault}
 use Rattle.rb_format.proofs.Plainly.{ok_part, agree_map, read_agrees, plain_raise}
 
-ok_each : {A : Type 0} (a p b : Bool) (c d e : FileFault) (r : Result A FileFault) (o : Option A) → ok_part r ≡ o → ok_part (cond a (cond p (Err d) (cond b r (Err e))) (Err c)) ≡ where_holds ((a && not p) && b) o
+ok_each : {A : Type 0} (a p b : Bool) (c d e : FileFault) (r : Result A FileFault) (o : Option A) → ok_part r ≡ o
+    → ok_part (cond a (cond p (Err d) (cond b r (Err e))) (Err c)) ≡ where_holds ((a && not p) && b) o
 ok_each true true b c d e r o h = refl
 ok_each true false true c d e r o h = h
 ok_each true false false c d e r o h = refl
@@ -28,8 +30,12 @@ data_agrees d minor body =
     (agree_map (flagged (attributes_of minor body)) _ _ (read_agrees (layout_of body) body d (word_at body 0)))
 
 -- what follows a header that is read
-header_then : (short magic little family version sizes : Bool) (h : Header) (f : Header → Result SourceTree FileFault) (o : Option SourceTree) → ok_part (f h) ≡ o
-    → ok_part ((cond {A = Result Header FileFault} short (Err faults.Header) (cond magic (cond little (cond family (cond version (cond sizes (Ok h) (Err faults.Header)) (Err faults.FormatVersion)) (Err faults.Family)) (Err faults.BigEndian)) (Err faults.Header))) >>= f) ≡ where_holds ((((((cond short false true) && magic) && little) && family) && version) && sizes) o
+header_then : (short magic little family version sizes : Bool) (h : Header) (f : Header → Result SourceTree FileFault) (o : Option SourceTree)
+    → ok_part (f h) ≡ o
+    → ok_part ((cond {A = Result Header FileFault} short (Err faults.Header)
+    (cond magic (cond little (cond family (cond version (cond sizes (Ok h) (Err faults.Header)) (Err faults.FormatVersion)) (Err faults.Family))
+    (Err faults.BigEndian)) (Err faults.Header))) >>= f) ≡ where_holds
+    ((((((cond short false true) && magic) && little) && family) && version) && sizes) o
 header_then true magic little family version sizes h f o e = refl
 header_then false false little family version sizes h f o e = refl
 header_then false true false family version sizes h f o e = refl
@@ -46,20 +52,26 @@ within_limit : (b : Bool) (n limit : ℕ) → ltb limit n ≡ b → leb n limit 
 within_limit true n limit e = grind (arith, nat_tests)
 within_limit false n limit e = grind (arith, nat_tests)
 
-limit_then : {A : Type 0} (long other : Bool) (d : FileFault) (r : Result A FileFault) (o : Option A) → ok_part r ≡ where_holds other o → ok_part (cond long (Err d) r) ≡ where_holds (cond long false true && other) o
+limit_then : {A : Type 0} (long other : Bool) (d : FileFault) (r : Result A FileFault) (o : Option A) → ok_part r ≡ where_holds other o
+    → ok_part (cond long (Err d) r) ≡ where_holds (cond long false true && other) o
 limit_then true other d r o e = refl
 limit_then false other d r o e = e
 
-header_agrees : (d : ℕ) (bytes : List ℕ) → ok_part (header bytes >>= λ h. read_data d h.minor (drop h.size bytes)) ≡ where_holds (has_header bytes) (source_of_data d (slice_index bytes 17) (drop (half_at bytes 0) bytes))
+header_agrees : (d : ℕ) (bytes : List ℕ)
+    → ok_part (header bytes >>= λ h. read_data d h.minor (drop h.size bytes)) ≡ where_holds (has_header bytes)
+    (source_of_data d (slice_index bytes 17) (drop (half_at bytes 0) bytes))
 unfolding header
 header_agrees d bytes =
     rw (too_short (ltb (length bytes) 24) (length bytes) refl)
-    (header_then (ltb (length bytes) 24) (has_magic bytes) (slice_index bytes 8 == 0) (has_family bytes) (has_version bytes) (has_sizes bytes) (record { size = half_at bytes 0; minor = slice_index bytes 17 }) (λ h. read_data d h.minor (drop h.size bytes)) _ (data_agrees d (slice_index bytes 17) (drop (half_at bytes 0) bytes)))
+    (header_then (ltb (length bytes) 24) (has_magic bytes) (slice_index bytes 8 == 0) (has_family bytes) (has_version bytes) (has_sizes bytes)
+    (record { size = half_at bytes 0; minor = slice_index bytes 17 }) (λ h. read_data d h.minor (drop h.size bytes)) _
+    (data_agrees d (slice_index bytes 17) (drop (half_at bytes 0) bytes)))
 
 -- what is read of a file is what it denotes
 pub file_agrees : (d : ℕ) (bytes : List ℕ) → ok_part (read_file d bytes) ≡ source_of_file d bytes
 unfolding read_file source_of_file
-file_agrees d bytes = rw (within_limit (ltb 67108864 (length bytes)) (length bytes) 67108864 refl) (limit_then (ltb 67108864 (length bytes)) (has_header bytes) faults.TooLong _ _ (header_agrees d bytes))
+file_agrees d bytes = rw (within_limit (ltb 67108864 (length bytes)) (length bytes) 67108864 refl)
+    (limit_then (ltb 67108864 (length bytes)) (has_header bytes) faults.TooLong _ _ (header_agrees d bytes))
 
 some_is_ok : (r : Result SourceTree FileFault) (s : SourceTree) → ok_part r ≡ Some s → r ≡ Ok s
 some_is_ok (Ok r) s e = cc
@@ -71,7 +83,8 @@ denotes_read bytes s e = sym (file_agrees 64 bytes) ∙ ap ok_part e
 pub read_denotes : (bytes : List ℕ) (s : SourceTree) → Denotes bytes s → read_file 64 bytes ≡ Ok s
 read_denotes bytes s e = some_is_ok (read_file 64 bytes) s (file_agrees 64 bytes ∙ e)
 
-one_of_two : (r : Result SourceTree FileFault) (o : Option SourceTree) → ok_part r ≡ o → MatchOption (fault_of r) ((s : SourceTree) × (o ≡ Some s)) (λ e. (s : SourceTree) → ¬ (o ≡ Some s))
+one_of_two : (r : Result SourceTree FileFault) (o : Option SourceTree) → ok_part r ≡ o
+    → MatchOption (fault_of r) ((s : SourceTree) × (o ≡ Some s)) (λ e. (s : SourceTree) → ¬ (o ≡ Some s))
 one_of_two (Ok s) o e = (s, sym e)
 one_of_two (Err d) o e = λ s f. absurd cc
 
@@ -92,14 +105,16 @@ where_keeps : {A : Type 0} (b : Bool) (o p : Option A) (x : A) → (o ≡ Some x
 where_keeps true o p x h e = h e
 where_keeps false o p x h e = absurd cc
 
-map_keeps : (f : Resource → SourceTree) (o p : Option Resource) (s : SourceTree) → ((t : Resource) → o ≡ Some t → p ≡ Some t) → option_map f o ≡ Some s → option_map f p ≡ Some s
+map_keeps : (f : Resource → SourceTree) (o p : Option Resource) (s : SourceTree) → ((t : Resource) → o ≡ Some t → p ≡ Some t) → option_map f o ≡ Some s
+    → option_map f p ≡ Some s
 map_keeps f None p s h e = absurd cc
 map_keeps f (Some t) p s h e = rw (h t refl) e
 
 data_keep : (h k minor : ℕ) (body : List ℕ) (s : SourceTree) → h ≤ k → source_of_data h minor body ≡ Some s → source_of_data k minor body ≡ Some s
 unfolding source_of_data
 data_keep h k minor body s l e =
-    where_keeps _ _ _ s (map_keeps (flagged (attributes_of minor body)) (tree_at (layout_of body) body h (word_at body 0)) (tree_at (layout_of body) body k (word_at body 0)) s
+    where_keeps _ _ _ s (map_keeps (flagged (attributes_of minor body)) (tree_at (layout_of body) body h (word_at body 0))
+    (tree_at (layout_of body) body k (word_at body 0)) s
     (λ t p. plain_raise (layout_of body) body h k (word_at body 0) t p l)) e
 
 pub file_keeps : (h k : ℕ) (bytes : List ℕ) (s : SourceTree) → h ≤ k → DenotesWithin h bytes s → DenotesWithin k bytes s

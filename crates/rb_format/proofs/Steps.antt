@@ -17,11 +17,13 @@ follow true x y r x' y' r' p q e = p e
 follow false x y r x' y' r' p q e = q e
 
 -- a choice with a fault on one side
-pub guarded : {A B : Type 0} (b : Bool) (d : FileFault) (x : A) (y : Result A FileFault) (y' r' : Result B FileFault) → (y ≡ Ok x → y' ≡ r') → cond b (Err d) y ≡ Ok x → cond b (Err d) y' ≡ r'
+pub guarded : {A B : Type 0} (b : Bool) (d : FileFault) (x : A) (y : Result A FileFault) (y' r' : Result B FileFault) → (y ≡ Ok x → y' ≡ r')
+    → cond b (Err d) y ≡ Ok x → cond b (Err d) y' ≡ r'
 guarded true d x y y' r' q e = absurd cc
 guarded false d x y y' r' q e = q e
 
-pub guarded_else : {A B : Type 0} (b : Bool) (d : FileFault) (x : A) (y : Result A FileFault) (y' r' : Result B FileFault) → (y ≡ Ok x → y' ≡ r') → cond b y (Err d) ≡ Ok x → cond b y' (Err d) ≡ r'
+pub guarded_else : {A B : Type 0} (b : Bool) (d : FileFault) (x : A) (y : Result A FileFault) (y' r' : Result B FileFault) → (y ≡ Ok x → y' ≡ r')
+    → cond b y (Err d) ≡ Ok x → cond b y' (Err d) ≡ r'
 guarded_else false d x y y' r' q e = absurd cc
 guarded_else true d x y y' r' q e = q e
 
@@ -34,7 +36,8 @@ then_ok (Err d) x f e = absurd cc
 
 -- ---- faults alone
 
-pub fault_then : {A B : Type 0} (r : Result A FileFault) (f : A → Result B FileFault) (m : Option FileFault) → fault_of r ≡ None → ((x : A) → r ≡ Ok x → fault_of (f x) ≡ m) → fault_of (r >>= f) ≡ m
+pub fault_then : {A B : Type 0} (r : Result A FileFault) (f : A → Result B FileFault) (m : Option FileFault) → fault_of r ≡ None
+    → ((x : A) → r ≡ Ok x → fault_of (f x) ≡ m) → fault_of (r >>= f) ≡ m
 fault_then (Ok x) f m e g = g x refl
 fault_then (Err d) f m e g = absurd cc
 

@@ -1,6 +1,7 @@
 -- The tree for which an item stands, by cases on its type, and nothing where something doesn't hold (`uresdata.h`, the
 -- resource types of format version 1). No order of checks and no fault occurs here.
-use Rattle.std.specs.Prelude.{Bool, true, false, ℕ, zero, suc, ◌+◌, ◌*◌, ◌/◌, ◌==◌, ◌&&◌, nat_lt, nat_le, if◌then◌else◌, List, [], ◌∷◌, take, drop, map, Option, Some, None, option_map}
+use Rattle.std.specs.Prelude.{Bool, true, false, ℕ, zero, suc, ◌+◌, ◌*◌, ◌/◌, ◌==◌, ◌&&◌, nat_lt}
+use Rattle.std.specs.Prelude.{nat_le, if◌then◌else◌, List, [], ◌∷◌, take, drop, map, Option, Some, None, option_map}
 use Rattle.std.specs.Ordering.{is_lt, nat_cmp}
 use Rattle.std.specs.Cmp.Lexicographic.{slice_cmp}
 use Rattle.std.specs.Int.{cast_signed, w32}
@@ -31,7 +32,8 @@ trees_at child item i (suc n) = child (item i) >>? λ t. trees_at child item (su
 -- the n keys from place i on, each above the one before
 abbrev pub keys_at : Layout → List ℕ → (ℕ → ℕ) → List ℕ → ℕ → ℕ → Option (List (List ℕ))
 keys_at y body place last i zero = Some []
-keys_at y body place last i (suc n) = key y body (place i) >>? λ k. where_holds (is_lt (slice_cmp nat_cmp last k)) (keys_at y body place k (suc i) n >>? λ ks. Some (k ∷ ks))
+keys_at y body place last i (suc n) = key y body (place i) >>? λ k. where_holds (is_lt (slice_cmp nat_cmp last k))
+    (keys_at y body place k (suc i) n >>? λ ks. Some (k ∷ ks))
 
 -- the entries of these keys, whose items begin at place i
 abbrev pub members_at : (ℕ → Option Resource) → (ℕ → ℕ) → ℕ → List (List ℕ) → Option Members
@@ -40,7 +42,8 @@ members_at child item i (k ∷ ks) = child (item i) >>? λ t. members_at child i
 
 -- a table of n entries, whose items begin at word `from`
 abbrev pub table_at : Layout → List ℕ → (ℕ → Option Resource) → (ℕ → ℕ) → ℕ → ℕ → Option Members
-table_at y body child place from n = where_holds (nat_le (from + n) y.top) (keys_at y body place [] 0 n >>? λ ks. members_at child (λ i. word_at body (from + i)) 0 ks)
+table_at y body child place from n = where_holds (nat_le (from + n) y.top)
+    (keys_at y body place [] 0 n >>? λ ks. members_at child (λ i. word_at body (from + i)) 0 ks)
 
 -- the table with these parts
 abbrev pub table_with : Layout → List ℕ → (ℕ → Option Resource) → TableParts → Option Members
@@ -48,7 +51,8 @@ table_with y body child p = table_at y body child (key_offset body p.keys) p.fir
 
 -- the units at an offset, with a zero unit after them
 abbrev pub units_at : Layout → List ℕ → ℕ → Option (List ℕ)
-units_at y body o = where_holds (nat_le (4 * o + 6 + 2 * word_at body o) (4 * y.top)) (where_holds (half_at body (2 * o + 2 + word_at body o) == 0) (Some (values (half_at body) (2 * o + 2) (word_at body o))))
+units_at y body o = where_holds (nat_le (4 * o + 6 + 2 * word_at body o) (4 * y.top))
+    (where_holds (half_at body (2 * o + 2 + word_at body o) == 0) (Some (values (half_at body) (2 * o + 2) (word_at body o))))
 
 -- the value of the data at an offset, where child gives what an item in them stands for
 abbrev pub value_at : Layout → List ℕ → (ℕ → Option Resource) → ℕ → ItemKind → Option Resource
@@ -61,7 +65,8 @@ value_at y body child o Int = Some (int o)
 value_at y body child o Array =
     let n = array_count body o in
     where_holds (nat_le (array_first o + n) y.top) (option_map array (trees_at child (λ i. word_at body (array_first o + i)) 0 n))
-value_at y body child o Ints = where_holds (nat_le (o + 1 + word_at body o) y.top) (Some (ints (map (cast_signed w32) (values (word_at body) (o + 1) (word_at body o)))))
+value_at y body child o Ints = where_holds (nat_le (o + 1 + word_at body o) y.top)
+    (Some (ints (map (cast_signed w32) (values (word_at body) (o + 1) (word_at body o)))))
 
 -- an item without data has its bare value, any other the value of its data, which begin between the keys and the top
 abbrev pub item_at : Layout → List ℕ → (ℕ → Option Resource) → ℕ → ItemKind → Option Resource

@@ -1,7 +1,8 @@
 -- What a file denotes: the tree for which its root item stands and its flag, where the header and the indexes are right (ICU's
 -- `UDataInfo` and `uresdata.h`, format version 1.1 and later minor versions). The greatest height of a tree and the greatest
 -- length of a file are rules of this project.
-use Rattle.std.specs.Prelude.{◌≡◌, Bool, false, ℕ, ◌+◌, ◌/◌, ◌%◌, ◌==◌, ◌&&◌, not, nat_lt, nat_le, List, length, drop, slice_index, Option, Some, option_map, unwrap_or}
+use Rattle.std.specs.Prelude.{◌≡◌, Bool, false, ℕ, ◌+◌, ◌/◌, ◌%◌, ◌==◌, ◌&&◌, not}
+use Rattle.std.specs.Prelude.{nat_lt, nat_le, List, length, drop, slice_index, Option, Some, option_map, unwrap_or}
 use Rattle.rb_tree.specs.Resource.{Resource, int}
 use Rattle.rb_tree.specs.SourceTree.{SourceTree}
 use Rattle.rb_format.specs.Place.{word_at, half_at, layout_of}

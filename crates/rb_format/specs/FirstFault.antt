@@ -1,7 +1,8 @@
 -- The first fault of a file, in the order in which a reader checks it: the length, the header, the indexes, the attributes, the
 -- root item, and then the items depth first; of an item its level, its type, its offset, its length, its zero unit or its keys one
 -- by one, and its children. What is read without a fault is what the file denotes.
-use Rattle.std.specs.Prelude.{Bool, true, false, ℕ, zero, suc, ◌+◌, ◌*◌, ◌/◌, ◌==◌, nat_lt, nat_le, if◌then◌else◌, List, [], ◌∷◌, length, take, drop, map, slice_index, Option, Some, None, Result, Ok, Err}
+use Rattle.std.specs.Prelude.{Bool, true, false, ℕ, zero, suc, ◌+◌, ◌*◌, ◌/◌, ◌==◌, nat_lt, nat_le, if◌then◌else◌, List}
+use Rattle.std.specs.Prelude.{[], ◌∷◌, length, take, drop, map, slice_index, Option, Some, None, Result, Ok, Err}
 use Rattle.std.specs.Ordering.{is_lt, nat_cmp}
 use Rattle.std.specs.Cmp.Lexicographic.{slice_cmp}
 use Rattle.std.specs.Int.{cast_signed, w32}
@@ -13,7 +14,8 @@ use Rattle.rb_format.specs.declared.kind.ItemKind.{ItemKind}
 use Rattle.rb_format.specs.declared.kind.ItemKind.TheVariants.{String, Binary, Table, Alias, LongTable, Int, Array, Ints}
 use Rattle.rb_format.specs.declared.fault.FileFault.{FileFault}
 use Rattle.rb_format.specs.declared.fault.FileFault.TheVariants as faults
-use Rattle.rb_format.specs.declared.fault.FileFault.TheVariants.{TooLong, BigEndian, Family, FormatVersion, Indexes, Root, ItemType, Offset, Length, NotTerminated, Key, KeyOrder, TooDeep}
+use Rattle.rb_format.specs.declared.fault.FileFault.TheVariants.{TooLong, BigEndian, Family, FormatVersion, Indexes, Root, ItemType}
+use Rattle.rb_format.specs.declared.fault.FileFault.TheVariants.{Offset, Length, NotTerminated, Key, KeyOrder, TooDeep}
 use Rattle.rb_format.specs.declared.geometry.TableParts.{TableParts}
 use Rattle.rb_format.specs.Place.{word_at, half_at, key, values, layout_of}
 use Rattle.rb_format.specs.Geometry.{key_offset, table_parts, long_table_parts, array_first, array_count}

@@ -29,7 +29,8 @@ pub fn at_most_one_tree()
 /// An item that stands for a tree at one level stands for it at every level that is at least the tree's height, and for none at
 /// a smaller one; there it is too deep.
 pub fn same_at_every_level()
-    ensures tree { (y : Layout) (body : List ℕ) (d e item : ℕ) (t : Resource) → tree_at y body d item ≡ Some t → tree_at y body e item ≡ (if nat_le (height t) e then Some t else None) }
+    ensures tree { (y : Layout) (body : List ℕ) (d e item : ℕ) (t : Resource) → tree_at y body d item ≡ Some t
+        → tree_at y body e item ≡ (if nat_le (height t) e then Some t else None) }
     ensures fault { (y : Layout) (body : List ℕ) (d e item : ℕ) (t : Resource) → read y body d item ≡ Ok t → read y body e item ≡ limited e (height t) t }
 {}
 

@@ -32,7 +32,8 @@ children_with y body p = table_children y body (key_offset body p.keys) p.first 
 unfoldable pub children_at : Layout → List ℕ → ItemKind → ℕ → Result Children FileFault
 children_at y body Table o = children_with y body (table_parts body o)
 children_at y body LongTable o = children_with y body (long_table_parts body o)
-children_at y body Array o = if nat_lt y.top (array_first o + array_count body o) then Err Length else Ok (record { first = array_first o; count = array_count body o })
+children_at y body Array o = if nat_lt y.top (array_first o + array_count body o) then Err Length else Ok
+    (record { first = array_first o; count = array_count body o })
 children_at y body k o = Ok (record { first = o; count = 0 })
 
 -- ---- marks

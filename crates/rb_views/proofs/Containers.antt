@@ -29,7 +29,8 @@ use Rattle.rb_views.proofs.TreeKinds.{kind_back, tree_kind, only_array, only_tab
 -- ---- arrays
 
 -- the items of an array, place by place, where tree says for what a child stands
-trees_are : (child : ℕ → Option Resource) (tree : ℕ → Resource) → ((w : ℕ) (t : Resource) → child w ≡ Some t → tree w ≡ t) → (item : ℕ → ℕ) (i n : ℕ) (ts : Resources) → trees_at child item i n ≡ Some ts → values (λ j. tree (item j)) i n ≡ items ts
+trees_are : (child : ℕ → Option Resource) (tree : ℕ → Resource) → ((w : ℕ) (t : Resource) → child w ≡ Some t → tree w ≡ t)
+    → (item : ℕ → ℕ) (i n : ℕ) (ts : Resources) → trees_at child item i n ≡ Some ts → values (λ j. tree (item j)) i n ≡ items ts
 trees_are child tree is item i zero ts e = ap items (some_eq no_trees ts e)
 trees_are child tree is item i (suc n) ts e =
     let a = then_some (child (item i)) (λ t. trees_at child item (suc i) n >>? λ us. Some (tree_and t us)) ts e in
@@ -37,7 +38,8 @@ trees_are child tree is item i (suc n) ts e =
     let first : tree (item i) ≡ a.0 = is (item i) a.0 a.1 in
     rw first (ap (λ (xs : List Resource). a.0 ∷ xs) (trees_are child tree is item (suc i) n b.0 b.1) ∙ ap items (some_eq (tree_and a.0 b.0) ts b.2))
 
-tree_there : (child : ℕ → Option Resource) (item : ℕ → ℕ) (i n : ℕ) (ts : Resources) (k : ℕ) → trees_at child item i n ≡ Some ts → k < n → (t : Resource) × (child (item (i + k)) ≡ Some t)
+tree_there : (child : ℕ → Option Resource) (item : ℕ → ℕ) (i n : ℕ) (ts : Resources) (k : ℕ) → trees_at child item i n ≡ Some ts → k < n
+    → (t : Resource) × (child (item (i + k)) ≡ Some t)
 tree_there child item i zero ts k e h = absurd (omega arith)
 tree_there child item i (suc n) ts zero e h =
     let a = then_some (child (item i)) (λ t. trees_at child item (suc i) n >>? λ us. Some (tree_and t us)) ts e in
@@ -75,7 +77,8 @@ pub record HasItemsAt (body : List ℕ) (o : ℕ) (t : Resource) : Type 0 where
   pub stand : AllStand body (o + 1) (word_at body o)
   pub are : values (λ i. item_tree body (word_at body (o + 1 + i))) 0 (word_at body o) ≡ parts.children_of t
 
-array_at : (body : List ℕ) (o : ℕ) (t : Resource) → item_at (layout_of body) body (λ w. tree_at (layout_of body) body 63 w) o Array ≡ Some t → 0 < o → HasItemsAt body o t
+array_at : (body : List ℕ) (o : ℕ) (t : Resource) → item_at (layout_of body) body (λ w. tree_at (layout_of body) body 63 w) o Array ≡ Some t → 0 < o
+    → HasItemsAt body o t
 unfolding all_stand
 array_at body o t e h =
     let y = layout_of body in
@@ -86,23 +89,28 @@ array_at body o t e h =
     record {
       below = v.0;
       stand = is_some_from _ m.0 (where_true _ _ a.0 ∙ m.1);
-      are = trees_are child (item_tree body) (λ w u p. (child_stands body w u p).1) (λ i. word_at body (o + 1 + i)) 0 (word_at body o) m.0 m.1 ∙ ap parts.children_of m.2;
+      are = trees_are child (item_tree body) (λ w u p. (child_stands body w u p).1) (λ i. word_at body (o + 1 + i)) 0 (word_at body o) m.0 m.1
+          ∙ ap parts.children_of m.2;
     }
 
-pub items_there : (body : List ℕ) (item o : ℕ) → o ≡ offset_of item → StandsFor body item → parts.kind_of (item_tree body item) ≡ named.Array → 0 < o → HasItemsAt body o (item_tree body item)
+pub items_there : (body : List ℕ) (item o : ℕ) → o ≡ offset_of item → StandsFor body item → parts.kind_of (item_tree body item) ≡ named.Array → 0 < o
+    → HasItemsAt body o (item_tree body item)
 items_there body item o same h e p =
     let v = kind_back body item named.Array h e in
     let k = only_array v.0 v.2 in
     let t = item_tree body item in
-    array_at body o t (rw same (subst (λ (j : ItemKind). item_at (layout_of body) body (λ w. tree_at (layout_of body) body 63 w) (offset_of item) j ≡ Some t) k v.1.value)) p
+    array_at body o t (rw same (subst (λ (j : ItemKind). item_at (layout_of body) body (λ w. tree_at (layout_of body) body 63 w) (offset_of item) j ≡ Some t) k
+    v.1.value)) p
 
-pub items_none : (body : List ℕ) (item o : ℕ) → o ≡ offset_of item → StandsFor body item → parts.kind_of (item_tree body item) ≡ named.Array → o ≡ 0 → [] ≡ parts.children_of (item_tree body item)
+pub items_none : (body : List ℕ) (item o : ℕ) → o ≡ offset_of item → StandsFor body item → parts.kind_of (item_tree body item) ≡ named.Array → o ≡ 0
+    → [] ≡ parts.children_of (item_tree body item)
 items_none body item o same h e z =
     let v = kind_back body item named.Array h e in
     let k = only_array v.0 v.2 in
     let t = item_tree body item in
     let y = layout_of body in
-    ap parts.children_of (without_data y body (λ w. tree_at y body 63 w) (offset_of item) Array t refl (subst (λ (j : ItemKind). item_at y body (λ w. tree_at y body 63 w) (offset_of item) j ≡ Some t) k v.1.value) (sym same ∙ z))
+    ap parts.children_of (without_data y body (λ w. tree_at y body 63 w) (offset_of item) Array t refl
+    (subst (λ (j : ItemKind). item_at y body (λ w. tree_at y body 63 w) (offset_of item) j ≡ Some t) k v.1.value) (sym same ∙ z))
 
 pub none_stand : (body : List ℕ) → AllStand body 0 0
 unfolding all_stand
@@ -130,21 +138,25 @@ record NextKey (y : Layout) (body : List ℕ) (place : ℕ → ℕ) (last : List
   rest : keys_at y body place q (suc i) n ≡ Some others
   are : ◌≡◌ {A = List (List ℕ)} (q ∷ others) ks
 
-next_key : (y : Layout) (body : List ℕ) (place : ℕ → ℕ) (last : List ℕ) (i n : ℕ) (ks : List (List ℕ)) → keys_at y body place last i (suc n) ≡ Some ks → NextKey y body place last i n ks
+next_key : (y : Layout) (body : List ℕ) (place : ℕ → ℕ) (last : List ℕ) (i n : ℕ) (ks : List (List ℕ)) → keys_at y body place last i (suc n) ≡ Some ks
+    → NextKey y body place last i n ks
 next_key y body place last i n ks e =
-    let a = then_some (key y body (place i)) (λ k. where_holds (is_lt (slice_cmp nat_cmp last k)) (keys_at y body place k (suc i) n >>? λ ks. Some (k ∷ ks))) ks e in
+    let a = then_some (key y body (place i))
+    (λ k. where_holds (is_lt (slice_cmp nat_cmp last k)) (keys_at y body place k (suc i) n >>? λ ks. Some (k ∷ ks))) ks e in
     let b = where_some _ _ ks a.2 in
     let c = then_some (keys_at y body place a.0 (suc i) n) (λ ks. Some (a.0 ∷ ks)) ks b.1 in
     record { q = a.0; others = c.0; there = a.1; above = less_is _ b.0; rest = c.1; are = some_eq (a.0 ∷ c.0) ks c.2 }
 
-keys_are : (y : Layout) (body : List ℕ) (place : ℕ → ℕ) (last : List ℕ) (i n : ℕ) (ks : List (List ℕ)) → keys_at y body place last i n ≡ Some ks → values (λ j. key_or y body (place j)) i n ≡ ks
+keys_are : (y : Layout) (body : List ℕ) (place : ℕ → ℕ) (last : List ℕ) (i n : ℕ) (ks : List (List ℕ)) → keys_at y body place last i n ≡ Some ks
+    → values (λ j. key_or y body (place j)) i n ≡ ks
 keys_are y body place last i zero ks e = some_eq [] ks e
 keys_are y body place last i (suc n) ks e =
     let x = next_key y body place last i n ks e in
     let first : key_or y body (place i) ≡ x.q = ap (λ (o : Option (List ℕ)). unwrap_or o []) x.there in
     rw first (ap (λ (xs : List (List ℕ)). x.q ∷ xs) (keys_are y body place x.q (suc i) n x.others x.rest) ∙ x.are)
 
-key_there : (y : Layout) (body : List ℕ) (place : ℕ → ℕ) (last : List ℕ) (i n : ℕ) (ks : List (List ℕ)) (k : ℕ) → keys_at y body place last i n ≡ Some ks → k < n → (q : List ℕ) × (key y body (place (i + k)) ≡ Some q) × Below last q
+key_there : (y : Layout) (body : List ℕ) (place : ℕ → ℕ) (last : List ℕ) (i n : ℕ) (ks : List (List ℕ)) (k : ℕ) → keys_at y body place last i n ≡ Some ks
+    → k < n → (q : List ℕ) × (key y body (place (i + k)) ≡ Some q) × Below last q
 key_there y body place last i zero ks k e h = absurd (omega arith)
 key_there y body place last i (suc n) ks zero e h =
     let x = next_key y body place last i n ks e in
@@ -156,7 +168,8 @@ key_there y body place last i (suc n) ks (suc k) e h =
     let s : i + suc k ≡ suc i + k = omega arith in
     (r.0, rw s r.1, nat_list_cmp_total.trans last x.q r.0 x.above r.2)
 
-keys_rise : (y : Layout) (body : List ℕ) (place : ℕ → ℕ) (last : List ℕ) (i n : ℕ) (ks : List (List ℕ)) (j k : ℕ) → keys_at y body place last i n ≡ Some ks → j < k → k < n → Below (key_or y body (place (i + j))) (key_or y body (place (i + k)))
+keys_rise : (y : Layout) (body : List ℕ) (place : ℕ → ℕ) (last : List ℕ) (i n : ℕ) (ks : List (List ℕ)) (j k : ℕ) → keys_at y body place last i n ≡ Some ks
+    → j < k → k < n → Below (key_or y body (place (i + j))) (key_or y body (place (i + k)))
 keys_rise y body place last i zero ks j k e g h = absurd (omega arith)
 keys_rise y body place last i (suc n) ks j zero e g h = absurd (omega arith)
 keys_rise y body place last i (suc n) ks zero (suc k) e g h =
@@ -173,15 +186,19 @@ keys_rise y body place last i (suc n) ks (suc j) (suc k) e g h =
 
 -- ---- tables
 
-members_are : (child : ℕ → Option Resource) (tree : ℕ → Resource) → ((w : ℕ) (t : Resource) → child w ≡ Some t → tree w ≡ t) → (item : ℕ → ℕ) (name : ℕ → List ℕ) (i n : ℕ) (es : Members) → members_at child item i (values name i n) ≡ Some es → values (λ j. (name j, tree (item j))) i n ≡ pairs es
+members_are : (child : ℕ → Option Resource) (tree : ℕ → Resource) → ((w : ℕ) (t : Resource) → child w ≡ Some t → tree w ≡ t)
+    → (item : ℕ → ℕ) (name : ℕ → List ℕ) (i n : ℕ) (es : Members) → members_at child item i (values name i n) ≡ Some es
+    → values (λ j. (name j, tree (item j))) i n ≡ pairs es
 members_are child tree is item name i zero es e = ap pairs (some_eq no_entries es e)
 members_are child tree is item name i (suc n) es e =
     let a = then_some (child (item i)) (λ t. members_at child item (suc i) (values name (suc i) n) >>? λ us. Some (entry_and (name i) t us)) es e in
     let b = then_some (members_at child item (suc i) (values name (suc i) n)) (λ us. Some (entry_and (name i) a.0 us)) es a.2 in
     let first : tree (item i) ≡ a.0 = is (item i) a.0 a.1 in
-    rw first (ap (λ (xs : List (List ℕ × Resource)). (name i, a.0) ∷ xs) (members_are child tree is item name (suc i) n b.0 b.1) ∙ ap pairs (some_eq (entry_and (name i) a.0 b.0) es b.2))
+    rw first (ap (λ (xs : List (List ℕ × Resource)). (name i, a.0) ∷ xs) (members_are child tree is item name (suc i) n b.0 b.1)
+    ∙ ap pairs (some_eq (entry_and (name i) a.0 b.0) es b.2))
 
-member_there : (child : ℕ → Option Resource) (item : ℕ → ℕ) (name : ℕ → List ℕ) (i n : ℕ) (es : Members) (k : ℕ) → members_at child item i (values name i n) ≡ Some es → k < n → (t : Resource) × (child (item (i + k)) ≡ Some t)
+member_there : (child : ℕ → Option Resource) (item : ℕ → ℕ) (name : ℕ → List ℕ) (i n : ℕ) (es : Members) (k : ℕ)
+    → members_at child item i (values name i n) ≡ Some es → k < n → (t : Resource) × (child (item (i + k)) ≡ Some t)
 member_there child item name i zero es k e h = absurd (omega arith)
 member_there child item name i (suc n) es zero e h =
     let a = then_some (child (item i)) (λ t. members_at child item (suc i) (values name (suc i) n) >>? λ us. Some (entry_and (name i) t us)) es e in
@@ -199,13 +216,16 @@ record TableRead (body : List ℕ) (p : TableParts) (es : Members) : Type 0 wher
   room : p.first + p.count ≤ (layout_of body).top
   names : List (List ℕ)
   keys : keys_at (layout_of body) body (key_offset body p.keys) [] 0 p.count ≡ Some names
-  members : members_at (λ w. tree_at (layout_of body) body 63 w) (λ i. word_at body (p.first + i)) 0 (values (λ j. key_from body (key_offset body p.keys j)) 0 p.count) ≡ Some es
+  members : members_at (λ w. tree_at (layout_of body) body 63 w) (λ i. word_at body (p.first + i)) 0
+      (values (λ j. key_from body (key_offset body p.keys j)) 0 p.count) ≡ Some es
 
-table_read : (body : List ℕ) (p : TableParts) (es : Members) → table_at (layout_of body) body (λ w. tree_at (layout_of body) body 63 w) (key_offset body p.keys) p.first p.count ≡ Some es → TableRead body p es
+table_read : (body : List ℕ) (p : TableParts) (es : Members)
+    → table_at (layout_of body) body (λ w. tree_at (layout_of body) body 63 w) (key_offset body p.keys) p.first p.count ≡ Some es → TableRead body p es
 table_read body p es e =
     let y = layout_of body in
     let a = where_some _ _ es e in
-    let b = then_some (keys_at y body (key_offset body p.keys) [] 0 p.count) (λ ks. members_at (λ w. tree_at y body 63 w) (λ i. word_at body (p.first + i)) 0 ks) es a.1 in
+    let b = then_some (keys_at y body (key_offset body p.keys) [] 0 p.count)
+    (λ ks. members_at (λ w. tree_at y body 63 w) (λ i. word_at body (p.first + i)) 0 ks) es a.1 in
     record {
       room = leb-true (p.first + p.count) y.top a.0;
       names = b.0;
@@ -225,11 +245,13 @@ table_room body p h = (stands_read body p h).1.room
 pub table_child : (body : List ℕ) (p : TableParts) (i : ℕ) → TableStands body p → i < p.count → StandsFor body (word_at body (p.first + i))
 table_child body p i h l =
     let r = stands_read body p h in
-    let c = member_there (λ w. tree_at (layout_of body) body 63 w) (λ j. word_at body (p.first + j)) (λ j. key_from body (key_offset body p.keys j)) 0 p.count r.0 i r.1.members l in
+    let c = member_there (λ w. tree_at (layout_of body) body 63 w) (λ j. word_at body (p.first + j))
+    (λ j. key_from body (key_offset body p.keys j)) 0 p.count r.0 i r.1.members l in
     let z : 0 + i ≡ i = omega arith in
     (child_stands body (word_at body (p.first + i)) c.0 (rw z at c.1)).0
 
-pub table_key : (body : List ℕ) (p : TableParts) (i : ℕ) → TableStands body p → i < p.count → key (layout_of body) body (key_offset body p.keys i) ≡ Some (key_from body (key_offset body p.keys i))
+pub table_key : (body : List ℕ) (p : TableParts) (i : ℕ) → TableStands body p → i < p.count
+    → key (layout_of body) body (key_offset body p.keys i) ≡ Some (key_from body (key_offset body p.keys i))
 table_key body p i h l =
     let r = stands_read body p h in
     let c = key_there (layout_of body) body (key_offset body p.keys) [] 0 p.count r.1.names i r.1.keys l in
@@ -237,14 +259,17 @@ table_key body p i h l =
     let there : key (layout_of body) body (key_offset body p.keys i) ≡ Some c.0 = rw z at c.1 in
     there ∙ ap Some (sym (ap (λ (o : Option (List ℕ)). unwrap_or o []) there))
 
-pub table_rises : (body : List ℕ) (p : TableParts) (j k : ℕ) → TableStands body p → j < k → k < p.count → Below (key_from body (key_offset body p.keys j)) (key_from body (key_offset body p.keys k))
+pub table_rises : (body : List ℕ) (p : TableParts) (j k : ℕ) → TableStands body p → j < k → k < p.count
+    → Below (key_from body (key_offset body p.keys j)) (key_from body (key_offset body p.keys k))
 table_rises body p j k h g l =
     let r = stands_read body p h in
     let sj : 0 + j ≡ j = omega arith in
     let sk : 0 + k ≡ k = omega arith in
     rw (sj, sk) at (keys_rise (layout_of body) body (key_offset body p.keys) [] 0 p.count r.1.names j k r.1.keys g l)
 
-entries_at : (body : List ℕ) (p : TableParts) (t : Resource) (es : Members) → keys_end p.keys p.count ≤ 4 * (p.first + p.count) → table_at (layout_of body) body (λ w. tree_at (layout_of body) body 63 w) (key_offset body p.keys) p.first p.count ≡ Some es → table es ≡ t → HasEntriesAt body p t
+entries_at : (body : List ℕ) (p : TableParts) (t : Resource) (es : Members) → keys_end p.keys p.count ≤ 4 * (p.first + p.count)
+    → table_at (layout_of body) body (λ w. tree_at (layout_of body) body 63 w) (key_offset body p.keys) p.first p.count ≡ Some es → table es ≡ t
+    → HasEntriesAt body p t
 unfolding table_stands
 entries_at body p t es h e s =
     let r = table_read body p es e in
@@ -252,42 +277,51 @@ entries_at body p t es h e s =
     record {
       below = omega arith;
       stand = is_some_from _ es e;
-      are = members_are (λ w. tree_at (layout_of body) body 63 w) (item_tree body) (λ w u q. (child_stands body w u q).1) (λ i. word_at body (p.first + i)) (λ j. key_from body (key_offset body p.keys j)) 0 p.count es r.members ∙ ap parts.pairs_of s;
+      are = members_are (λ w. tree_at (layout_of body) body 63 w) (item_tree body) (λ w u q. (child_stands body w u q).1) (λ i. word_at body (p.first + i))
+          (λ j. key_from body (key_offset body p.keys j)) 0 p.count es r.members ∙ ap parts.pairs_of s;
     }
 
-short_at : (body : List ℕ) (o : ℕ) (t : Resource) → item_at (layout_of body) body (λ w. tree_at (layout_of body) body 63 w) o Table ≡ Some t → 0 < o → HasEntriesAt body (table_parts body o) t
+short_at : (body : List ℕ) (o : ℕ) (t : Resource) → item_at (layout_of body) body (λ w. tree_at (layout_of body) body 63 w) o Table ≡ Some t → 0 < o
+    → HasEntriesAt body (table_parts body o) t
 short_at body o t e h =
     let y = layout_of body in
     let v = with_data y body (λ w. tree_at y body 63 w) o Table t refl e h in
     let m = map_some table _ t v.1 in
     entries_at body (table_parts body o) t m.0 (omega arith) m.1 m.2
 
-long_at : (body : List ℕ) (o : ℕ) (t : Resource) → item_at (layout_of body) body (λ w. tree_at (layout_of body) body 63 w) o LongTable ≡ Some t → 0 < o → HasEntriesAt body (long_table_parts body o) t
+long_at : (body : List ℕ) (o : ℕ) (t : Resource) → item_at (layout_of body) body (λ w. tree_at (layout_of body) body 63 w) o LongTable ≡ Some t → 0 < o
+    → HasEntriesAt body (long_table_parts body o) t
 long_at body o t e h =
     let y = layout_of body in
     let v = with_data y body (λ w. tree_at y body 63 w) o LongTable t refl e h in
     let m = map_some table _ t v.1 in
     entries_at body (long_table_parts body o) t m.0 (omega arith) m.1 m.2
 
-pub entries_short : (body : List ℕ) (item o : ℕ) → o ≡ offset_of item → StandsFor body item → kind_of item ≡ Some Table → 0 < o → (o < (layout_of body).top) × HasEntriesAt body (table_parts body o) (item_tree body item)
+pub entries_short : (body : List ℕ) (item o : ℕ) → o ≡ offset_of item → StandsFor body item → kind_of item ≡ Some Table → 0 < o
+    → (o < (layout_of body).top) × HasEntriesAt body (table_parts body o) (item_tree body item)
 entries_short body item o same h e p =
     let v = of_kind body item Table h e in
     let y = layout_of body in
     let at : item_at y body (λ w. tree_at y body 63 w) o Table ≡ Some (item_tree body item) = rw same v.value in
     ((with_data y body (λ w. tree_at y body 63 w) o Table (item_tree body item) refl at p).0, short_at body o (item_tree body item) at p)
 
-pub entries_long : (body : List ℕ) (item o : ℕ) → o ≡ offset_of item → StandsFor body item → kind_of item ≡ Some LongTable → 0 < o → (o < (layout_of body).top) × HasEntriesAt body (long_table_parts body o) (item_tree body item)
+pub entries_long : (body : List ℕ) (item o : ℕ) → o ≡ offset_of item → StandsFor body item → kind_of item ≡ Some LongTable → 0 < o
+    → (o < (layout_of body).top) × HasEntriesAt body (long_table_parts body o) (item_tree body item)
 entries_long body item o same h e p =
     let v = of_kind body item LongTable h e in
     let y = layout_of body in
     let at : item_at y body (λ w. tree_at y body 63 w) o LongTable ≡ Some (item_tree body item) = rw same v.value in
     ((with_data y body (λ w. tree_at y body 63 w) o LongTable (item_tree body item) refl at p).0, long_at body o (item_tree body item) at p)
 
-no_entries_at : (y : Layout) (body : List ℕ) (child : ℕ → Option Resource) (o : ℕ) (k : ItemKind) (t : Resource) → (k ≡ Table) ⊎ (k ≡ LongTable) → item_at y body child o k ≡ Some t → o ≡ 0 → [] ≡ parts.pairs_of t
-no_entries_at y body child o k t (inl s) e z = ap parts.pairs_of (without_data y body child o Table t refl (subst (λ (j : ItemKind). item_at y body child o j ≡ Some t) s e) z)
-no_entries_at y body child o k t (inr s) e z = ap parts.pairs_of (without_data y body child o LongTable t refl (subst (λ (j : ItemKind). item_at y body child o j ≡ Some t) s e) z)
+no_entries_at : (y : Layout) (body : List ℕ) (child : ℕ → Option Resource) (o : ℕ) (k : ItemKind) (t : Resource) → (k ≡ Table) ⊎ (k ≡ LongTable)
+    → item_at y body child o k ≡ Some t → o ≡ 0 → [] ≡ parts.pairs_of t
+no_entries_at y body child o k t (inl s) e z = ap parts.pairs_of
+    (without_data y body child o Table t refl (subst (λ (j : ItemKind). item_at y body child o j ≡ Some t) s e) z)
+no_entries_at y body child o k t (inr s) e z = ap parts.pairs_of
+    (without_data y body child o LongTable t refl (subst (λ (j : ItemKind). item_at y body child o j ≡ Some t) s e) z)
 
-pub entries_none : (body : List ℕ) (item o : ℕ) → o ≡ offset_of item → StandsFor body item → parts.kind_of (item_tree body item) ≡ named.Table → o ≡ 0 → HasEntriesAt body (record { keys = Halves 0; first = 0; count = 0 }) (item_tree body item)
+pub entries_none : (body : List ℕ) (item o : ℕ) → o ≡ offset_of item → StandsFor body item → parts.kind_of (item_tree body item) ≡ named.Table → o ≡ 0
+    → HasEntriesAt body (record { keys = Halves 0; first = 0; count = 0 }) (item_tree body item)
 unfolding table_stands
 entries_none body item o same h e z =
     let v = kind_back body item named.Table h e in
@@ -300,7 +334,8 @@ entries_none body item o same h e z =
     }
 
 -- an item whose tree is a Table is one of the two kinds of table
-pub table_kinds : (body : List ℕ) (item : ℕ) (k : ItemKind) → StandsFor body item → kind_of item ≡ Some k → parts.kind_of (item_tree body item) ≡ named.Table → (k ≡ Table) ⊎ (k ≡ LongTable)
+pub table_kinds : (body : List ℕ) (item : ℕ) (k : ItemKind) → StandsFor body item → kind_of item ≡ Some k → parts.kind_of (item_tree body item) ≡ named.Table
+    → (k ≡ Table) ⊎ (k ≡ LongTable)
 table_kinds body item k h e t = only_table k (sym (tree_kind body item k h e) ∙ t)
 
 pub keys_within : (keys : KeyPlaces) (n i : ℕ) → i < n → keys_end keys (i + 1) ≤ keys_end keys n

@@ -24,13 +24,15 @@ pub record HasUnitsAt (body : List ℕ) (o : ℕ) (t : Resource) : Type 0 where
   pub room : 4 * o + 6 + 2 * word_at body o ≤ 4 * (layout_of body).top
   pub are : values (half_at body) (2 * o + 2) (word_at body o) ≡ parts.units_of t
 
-units_value : (y : Layout) (body : List ℕ) (o : ℕ) (us : List ℕ) → units_at y body o ≡ Some us → (4 * o + 6 + 2 * word_at body o ≤ 4 * y.top) × (values (half_at body) (2 * o + 2) (word_at body o) ≡ us)
+units_value : (y : Layout) (body : List ℕ) (o : ℕ) (us : List ℕ) → units_at y body o ≡ Some us
+    → (4 * o + 6 + 2 * word_at body o ≤ 4 * y.top) × (values (half_at body) (2 * o + 2) (word_at body o) ≡ us)
 units_value y body o us e =
     let a = where_some _ _ us e in
     let b = where_some _ _ us a.1 in
     (leb-true (4 * o + 6 + 2 * word_at body o) (4 * y.top) a.0, some_eq _ us b.1)
 
-text_at : (body : List ℕ) (o : ℕ) (child : ℕ → Option Resource) (k : ItemKind) (t : Resource) → (k ≡ String) ⊎ (k ≡ Alias) → item_at (layout_of body) body child o k ≡ Some t → 0 < o → HasUnitsAt body o t
+text_at : (body : List ℕ) (o : ℕ) (child : ℕ → Option Resource) (k : ItemKind) (t : Resource) → (k ≡ String) ⊎ (k ≡ Alias)
+    → item_at (layout_of body) body child o k ≡ Some t → 0 < o → HasUnitsAt body o t
 text_at body o child k t (inl s) e h =
     let y = layout_of body in
     let v = with_data y body child o String t refl (subst (λ (j : ItemKind). item_at y body child o j ≡ Some t) s e) h in
@@ -44,17 +46,22 @@ text_at body o child k t (inr s) e h =
     let u = units_value y body o m.0 m.1 in
     record { room = u.0; are = u.1 ∙ ap parts.units_of m.2 }
 
-no_text_at : (y : Layout) (body : List ℕ) (o : ℕ) (child : ℕ → Option Resource) (k : ItemKind) (t : Resource) → (k ≡ String) ⊎ (k ≡ Alias) → item_at y body child o k ≡ Some t → o ≡ 0 → [] ≡ parts.units_of t
-no_text_at y body o child k t (inl s) e z = ap parts.units_of (without_data y body child o String t refl (subst (λ (j : ItemKind). item_at y body child o j ≡ Some t) s e) z)
-no_text_at y body o child k t (inr s) e z = ap parts.units_of (without_data y body child o Alias t refl (subst (λ (j : ItemKind). item_at y body child o j ≡ Some t) s e) z)
+no_text_at : (y : Layout) (body : List ℕ) (o : ℕ) (child : ℕ → Option Resource) (k : ItemKind) (t : Resource) → (k ≡ String) ⊎ (k ≡ Alias)
+    → item_at y body child o k ≡ Some t → o ≡ 0 → [] ≡ parts.units_of t
+no_text_at y body o child k t (inl s) e z = ap parts.units_of
+    (without_data y body child o String t refl (subst (λ (j : ItemKind). item_at y body child o j ≡ Some t) s e) z)
+no_text_at y body o child k t (inr s) e z = ap parts.units_of
+    (without_data y body child o Alias t refl (subst (λ (j : ItemKind). item_at y body child o j ≡ Some t) s e) z)
 
-pub units_there : (body : List ℕ) (item o : ℕ) → o ≡ offset_of item → StandsFor body item → HasUnits (parts.kind_of (item_tree body item)) → 0 < o → HasUnitsAt body o (item_tree body item)
+pub units_there : (body : List ℕ) (item o : ℕ) → o ≡ offset_of item → StandsFor body item → HasUnits (parts.kind_of (item_tree body item)) → 0 < o
+    → HasUnitsAt body o (item_tree body item)
 units_there body item o same h u p =
     let v = kind_back body item (parts.kind_of (item_tree body item)) h refl in
     let k = only_text v.0 (subst HasUnits (sym v.2) u) in
     text_at body o (λ w. tree_at (layout_of body) body 63 w) v.0 (item_tree body item) k (rw same v.1.value) p
 
-pub units_none : (body : List ℕ) (item o : ℕ) → o ≡ offset_of item → StandsFor body item → HasUnits (parts.kind_of (item_tree body item)) → o ≡ 0 → [] ≡ parts.units_of (item_tree body item)
+pub units_none : (body : List ℕ) (item o : ℕ) → o ≡ offset_of item → StandsFor body item → HasUnits (parts.kind_of (item_tree body item)) → o ≡ 0
+    → [] ≡ parts.units_of (item_tree body item)
 units_none body item o same h u z =
     let v = kind_back body item (parts.kind_of (item_tree body item)) h refl in
     let k = only_text v.0 (subst HasUnits (sym v.2) u) in
@@ -66,7 +73,8 @@ pub record HasNumbersAt (body : List ℕ) (o : ℕ) (t : Resource) : Type 0 wher
   pub room : o + 1 + word_at body o ≤ (layout_of body).top
   pub are : values (λ i. cast_signed w32 (word_at body i)) (o + 1) (word_at body o) ≡ parts.numbers_of t
 
-ints_at : (body : List ℕ) (o : ℕ) (child : ℕ → Option Resource) (t : Resource) → item_at (layout_of body) body child o Ints ≡ Some t → 0 < o → HasNumbersAt body o t
+ints_at : (body : List ℕ) (o : ℕ) (child : ℕ → Option Resource) (t : Resource) → item_at (layout_of body) body child o Ints ≡ Some t → 0 < o
+    → HasNumbersAt body o t
 ints_at body o child t e h =
     let y = layout_of body in
     let v = with_data y body child o Ints t refl e h in
@@ -76,20 +84,24 @@ ints_at body o child t e h =
       are = sym (values_map (cast_signed w32) (word_at body) (o + 1) (word_at body o)) ∙ ap parts.numbers_of (some_eq _ t a.1);
     }
 
-pub numbers_there : (body : List ℕ) (item o : ℕ) → o ≡ offset_of item → StandsFor body item → parts.kind_of (item_tree body item) ≡ named.Ints → 0 < o → HasNumbersAt body o (item_tree body item)
+pub numbers_there : (body : List ℕ) (item o : ℕ) → o ≡ offset_of item → StandsFor body item → parts.kind_of (item_tree body item) ≡ named.Ints → 0 < o
+    → HasNumbersAt body o (item_tree body item)
 numbers_there body item o same h e p =
     let v = kind_back body item named.Ints h e in
     let k = only_ints v.0 v.2 in
     let t = item_tree body item in
-    ints_at body o (λ w. tree_at (layout_of body) body 63 w) t (rw same (subst (λ (j : ItemKind). item_at (layout_of body) body (λ w. tree_at (layout_of body) body 63 w) (offset_of item) j ≡ Some t) k v.1.value)) p
+    ints_at body o (λ w. tree_at (layout_of body) body 63 w) t
+    (rw same (subst (λ (j : ItemKind). item_at (layout_of body) body (λ w. tree_at (layout_of body) body 63 w) (offset_of item) j ≡ Some t) k v.1.value)) p
 
-pub numbers_none : (body : List ℕ) (item o : ℕ) → o ≡ offset_of item → StandsFor body item → parts.kind_of (item_tree body item) ≡ named.Ints → o ≡ 0 → [] ≡ parts.numbers_of (item_tree body item)
+pub numbers_none : (body : List ℕ) (item o : ℕ) → o ≡ offset_of item → StandsFor body item → parts.kind_of (item_tree body item) ≡ named.Ints → o ≡ 0
+    → [] ≡ parts.numbers_of (item_tree body item)
 numbers_none body item o same h e z =
     let v = kind_back body item named.Ints h e in
     let k = only_ints v.0 v.2 in
     let t = item_tree body item in
     let y = layout_of body in
-    ap parts.numbers_of (without_data y body (λ w. tree_at y body 63 w) (offset_of item) Ints t refl (subst (λ (j : ItemKind). item_at y body (λ w. tree_at y body 63 w) (offset_of item) j ≡ Some t) k v.1.value) (sym same ∙ z))
+    ap parts.numbers_of (without_data y body (λ w. tree_at y body 63 w) (offset_of item) Ints t refl
+    (subst (λ (j : ItemKind). item_at y body (λ w. tree_at y body 63 w) (offset_of item) j ≡ Some t) k v.1.value) (sym same ∙ z))
 
 -- ---- bytes
 
@@ -97,7 +109,8 @@ pub record HasBytesAt (body : List ℕ) (o : ℕ) (t : Resource) : Type 0 where
   pub room : 4 * o + 4 + word_at body o ≤ 4 * (layout_of body).top
   pub are : take (word_at body o) (drop (4 * o + 4) body) ≡ parts.bytes_of t
 
-binary_at : (body : List ℕ) (o : ℕ) (child : ℕ → Option Resource) (t : Resource) → item_at (layout_of body) body child o Binary ≡ Some t → 0 < o → HasBytesAt body o t
+binary_at : (body : List ℕ) (o : ℕ) (child : ℕ → Option Resource) (t : Resource) → item_at (layout_of body) body child o Binary ≡ Some t → 0 < o
+    → HasBytesAt body o t
 binary_at body o child t e h =
     let y = layout_of body in
     let v = with_data y body child o Binary t refl e h in
@@ -107,28 +120,34 @@ binary_at body o child t e h =
       are = ap parts.bytes_of (some_eq _ t a.1);
     }
 
-pub bytes_there : (body : List ℕ) (item o : ℕ) → o ≡ offset_of item → StandsFor body item → parts.kind_of (item_tree body item) ≡ named.Binary → 0 < o → HasBytesAt body o (item_tree body item)
+pub bytes_there : (body : List ℕ) (item o : ℕ) → o ≡ offset_of item → StandsFor body item → parts.kind_of (item_tree body item) ≡ named.Binary → 0 < o
+    → HasBytesAt body o (item_tree body item)
 bytes_there body item o same h e p =
     let v = kind_back body item named.Binary h e in
     let k = only_binary v.0 v.2 in
     let t = item_tree body item in
-    binary_at body o (λ w. tree_at (layout_of body) body 63 w) t (rw same (subst (λ (j : ItemKind). item_at (layout_of body) body (λ w. tree_at (layout_of body) body 63 w) (offset_of item) j ≡ Some t) k v.1.value)) p
+    binary_at body o (λ w. tree_at (layout_of body) body 63 w) t
+    (rw same (subst (λ (j : ItemKind). item_at (layout_of body) body (λ w. tree_at (layout_of body) body 63 w) (offset_of item) j ≡ Some t) k v.1.value)) p
 
-pub bytes_none : (body : List ℕ) (item o : ℕ) → o ≡ offset_of item → StandsFor body item → parts.kind_of (item_tree body item) ≡ named.Binary → o ≡ 0 → [] ≡ parts.bytes_of (item_tree body item)
+pub bytes_none : (body : List ℕ) (item o : ℕ) → o ≡ offset_of item → StandsFor body item → parts.kind_of (item_tree body item) ≡ named.Binary → o ≡ 0
+    → [] ≡ parts.bytes_of (item_tree body item)
 bytes_none body item o same h e z =
     let v = kind_back body item named.Binary h e in
     let k = only_binary v.0 v.2 in
     let t = item_tree body item in
     let y = layout_of body in
-    ap parts.bytes_of (without_data y body (λ w. tree_at y body 63 w) (offset_of item) Binary t refl (subst (λ (j : ItemKind). item_at y body (λ w. tree_at y body 63 w) (offset_of item) j ≡ Some t) k v.1.value) (sym same ∙ z))
+    ap parts.bytes_of (without_data y body (λ w. tree_at y body 63 w) (offset_of item) Binary t refl
+    (subst (λ (j : ItemKind). item_at y body (λ w. tree_at y body 63 w) (offset_of item) j ≡ Some t) k v.1.value) (sym same ∙ z))
 
 -- ---- an Int
 
-pub int_there : (body : List ℕ) (item : ℕ) → StandsFor body item → parts.kind_of (item_tree body item) ≡ named.Int → parts.int_of (item_tree body item) ≡ offset_of item
+pub int_there : (body : List ℕ) (item : ℕ) → StandsFor body item → parts.kind_of (item_tree body item) ≡ named.Int
+    → parts.int_of (item_tree body item) ≡ offset_of item
 int_there body item h e =
     let v = kind_back body item named.Int h e in
     let k = only_int v.0 v.2 in
     let t = item_tree body item in
     let y = layout_of body in
-    let s : item_at y body (λ w. tree_at y body 63 w) (offset_of item) Int ≡ Some t = subst (λ (j : ItemKind). item_at y body (λ w. tree_at y body 63 w) (offset_of item) j ≡ Some t) k v.1.value in
+    let s : item_at y body (λ w. tree_at y body 63 w) (offset_of item) Int ≡ Some t = subst
+    (λ (j : ItemKind). item_at y body (λ w. tree_at y body 63 w) (offset_of item) j ≡ Some t) k v.1.value in
     ap parts.int_of (sym (some_eq (int (offset_of item)) t s))

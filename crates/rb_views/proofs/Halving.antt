@@ -28,7 +28,8 @@ halved_start key n wanted = record {
   above = λ j h l. absurd (omega arith);
 }
 
-pub halved_left : (key : ℕ → List ℕ) (n : ℕ) (wanted : List ℕ) (low high mid : ℕ) → Rises key n → IsHalved key n wanted low high → low ≤ mid → mid < high → Below wanted (key mid) → IsHalved key n wanted low mid
+pub halved_left : (key : ℕ → List ℕ) (n : ℕ) (wanted : List ℕ) (low high mid : ℕ) → Rises key n → IsHalved key n wanted low high → low ≤ mid → mid < high
+    → Below wanted (key mid) → IsHalved key n wanted low mid
 halved_left key n wanted low high mid rises h p q less = record {
   order = p;
   inside = let i = h.inside in omega arith;
@@ -39,7 +40,8 @@ halved_left key n wanted low high mid rises h p q less = record {
   ];
 }
 
-pub halved_right : (key : ℕ → List ℕ) (n : ℕ) (wanted : List ℕ) (low high mid : ℕ) → Rises key n → IsHalved key n wanted low high → low ≤ mid → mid < high → Below (key mid) wanted → IsHalved key n wanted (mid + 1) high
+pub halved_right : (key : ℕ → List ℕ) (n : ℕ) (wanted : List ℕ) (low high mid : ℕ) → Rises key n → IsHalved key n wanted low high → low ≤ mid → mid < high
+    → Below (key mid) wanted → IsHalved key n wanted (mid + 1) high
 halved_right key n wanted low high mid rises h p q less = record {
   order = omega arith;
   inside = h.inside;
@@ -58,7 +60,8 @@ not_self a e = reversed (slice_cmp nat_cmp a a) e (nat_list_cmp_total.antisymm a
     reversed Equal e r = cc
     reversed Greater e r = cc
 
-pub halved_none : (key : ℕ → List ℕ) (n : ℕ) (wanted : List ℕ) (low high : ℕ) → IsHalved key n wanted low high → high ≤ low → (j : ℕ) → j < n → key j ≡ wanted → ⊥
+pub halved_none : (key : ℕ → List ℕ) (n : ℕ) (wanted : List ℕ) (low high : ℕ) → IsHalved key n wanted low high → high ≤ low → (j : ℕ) → j < n → key j ≡ wanted
+    → ⊥
 halved_none key n wanted low high h p j q same =
     elim (cases_lt j low) [
       | inl lt ↦ not_self wanted (rw same at (h.below j lt))

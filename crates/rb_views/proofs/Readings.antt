@@ -1,5 +1,6 @@
 -- What is known of an item that stands for a tree.
-use Rattle.std.proofs.Common.{◌≡◌, ℕ, suc, ◌*◌, ◌/◌, ◌<◌, ◌≤◌, ◌⊎◌, Bool, true, false, cond, ltb, leb, List, length, Option, Some, None, refl, sym, ap, subst, ◌∙◌, arith, inl, inr}
+use Rattle.std.proofs.Common.{◌≡◌, ℕ, suc, ◌*◌, ◌/◌, ◌<◌, ◌≤◌, ◌⊎◌, Bool, true, false, cond, ltb, leb}
+use Rattle.std.proofs.Common.{List, length, Option, Some, None, refl, sym, ap, subst, ◌∙◌, arith, inl, inr}
 use Rattle.std.specs.Prelude.{IsSome, unwrap_or, ◌&&◌, option_map}
 use Rattle.std.proofs.lemmas.Bool.{ltb-true, ltb-false, and_parts}
 use Rattle.std.proofs.lemmas.Bool.Decides.{nat_tests}
@@ -29,7 +30,8 @@ leb_raise : (h d e : ℕ) → leb h d ≡ true → d ≤ e → leb h e ≡ true
 leb_raise h d e p q = grind (arith, nat_tests)
 
 pub tree_raise : (y : Layout) (body : List ℕ) (d e item : ℕ) (t : Resource) → tree_at y body d item ≡ Some t → d ≤ e → tree_at y body e item ≡ Some t
-tree_raise y body d e item t p q = plain_limited y body d e item t p ∙ rw (leb_raise (height t) d e (fits_level t (leb (height t) d) (sym (plain_limited y body d d item t p) ∙ p)) q) refl
+tree_raise y body d e item t p q = plain_limited y body d e item t p
+    ∙ rw (leb_raise (height t) d e (fits_level t (leb (height t) d) (sym (plain_limited y body d d item t p) ∙ p)) q) refl
 
 pub stands_from : (body : List ℕ) (item : ℕ) (t : Resource) → tree_at (layout_of body) body 64 item ≡ Some t → StandsFor body item × (item_tree body item ≡ t)
 unfolding stands_for item_tree
@@ -41,7 +43,8 @@ child_stands body item t e = stands_from body item t (tree_raise (layout_of body
 
 -- ---- an item has a kind, whose value is its tree
 
-item_value : (y : Layout) (body : List ℕ) (d item : ℕ) (t : Resource) → tree_at y body (suc d) item ≡ Some t → (k : ItemKind) × (kind_of item ≡ Some k) × (item_at y body (λ w. tree_at y body d w) (offset_of item) k ≡ Some t)
+item_value : (y : Layout) (body : List ℕ) (d item : ℕ) (t : Resource) → tree_at y body (suc d) item ≡ Some t
+    → (k : ItemKind) × (kind_of item ≡ Some k) × (item_at y body (λ w. tree_at y body d w) (offset_of item) k ≡ Some t)
 unfolding tree_at
 item_value y body d item t e = then_some (kind_of item) (item_at y body (λ w. tree_at y body d w) (offset_of item)) t e
 
@@ -80,7 +83,8 @@ no_kind body item h e = let v = has_kind body item h in different v.0 (sym v.1.k
 
 -- ---- data, or none
 
-pub choice : (b c : Bool) (v : Option Resource) (r t : Resource) → cond b (where_holds c v) (Some r) ≡ Some t → ((b ≡ true) × (c ≡ true) × (v ≡ Some t)) ⊎ ((b ≡ false) × (r ≡ t))
+pub choice : (b c : Bool) (v : Option Resource) (r t : Resource) → cond b (where_holds c v) (Some r) ≡ Some t
+    → ((b ≡ true) × (c ≡ true) × (v ≡ Some t)) ⊎ ((b ≡ false) × (r ≡ t))
 choice true true v r t e = inl (refl, refl, e)
 choice true false v r t e = absurd cc
 choice false c v r t e = inr (refl, cc)
@@ -89,7 +93,8 @@ no_offset : (o : ℕ) → ltb 0 o ≡ false → o ≡ 0
 no_offset o e = let h = ltb-false 0 o e in omega arith
 
 -- of an item that isn't an Int: data where its offset isn't 0, and else the bare value
-pub with_data : (y : Layout) (body : List ℕ) (child : ℕ → Option Resource) (o : ℕ) (k : ItemKind) (t : Resource) → has_data k o ≡ ltb 0 o → item_at y body child o k ≡ Some t → 0 < o → (o < y.top) × (value_at y body child o k ≡ Some t)
+pub with_data : (y : Layout) (body : List ℕ) (child : ℕ → Option Resource) (o : ℕ) (k : ItemKind) (t : Resource) → has_data k o ≡ ltb 0 o
+    → item_at y body child o k ≡ Some t → 0 < o → (o < y.top) × (value_at y body child o k ≡ Some t)
 with_data y body child o k t d e h =
     elim (choice (has_data k o) (leb y.keys_top o && ltb o y.top) (value_at y body child o k) (bare k o) t e) [
       | inl p ↦ (ltb-true o y.top (and_parts (leb y.keys_top o) (ltb o y.top) p.1).1, p.2)
@@ -99,7 +104,8 @@ with_data y body child o k t d e h =
 no_data : (o : ℕ) → o ≡ 0 → ltb 0 o ≡ true → ⊥
 no_data o e h = let l = ltb-true 0 o h in omega arith
 
-pub without_data : (y : Layout) (body : List ℕ) (child : ℕ → Option Resource) (o : ℕ) (k : ItemKind) (t : Resource) → has_data k o ≡ ltb 0 o → item_at y body child o k ≡ Some t → o ≡ 0 → bare k o ≡ t
+pub without_data : (y : Layout) (body : List ℕ) (child : ℕ → Option Resource) (o : ℕ) (k : ItemKind) (t : Resource) → has_data k o ≡ ltb 0 o
+    → item_at y body child o k ≡ Some t → o ≡ 0 → bare k o ≡ t
 without_data y body child o k t d e z =
     elim (choice (has_data k o) (leb y.keys_top o && ltb o y.top) (value_at y body child o k) (bare k o) t e) [
       | inl p ↦ absurd (no_data o z (sym d ∙ p.0))

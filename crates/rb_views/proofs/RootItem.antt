@@ -28,20 +28,25 @@ header_long bytes e = grind (arith, nat_tests)
 header_inside : (bytes : List ℕ) → has_header bytes ≡ true → half_at bytes 0 ≤ length bytes
 header_inside bytes e = grind (arith, nat_tests)
 
-read_file : (h : ℕ) (bytes : List ℕ) (s : SourceTree) → source_of_file h bytes ≡ Some s → (has_header bytes ≡ true) × (source_of_data h (slice_index bytes 17) (drop (half_at bytes 0) bytes) ≡ Some s)
+read_file : (h : ℕ) (bytes : List ℕ) (s : SourceTree) → source_of_file h bytes ≡ Some s
+    → (has_header bytes ≡ true) × (source_of_data h (slice_index bytes 17) (drop (half_at bytes 0) bytes) ≡ Some s)
 unfolding source_of_file
 read_file h bytes s e =
     let a = where_some (is_short_enough bytes && has_header bytes) (source_of_data h (slice_index bytes 17) (drop (half_at bytes 0) bytes)) s e in
     ((and_parts (is_short_enough bytes) (has_header bytes) a.0).1, a.1)
 
-read_data : (h minor : ℕ) (body : List ℕ) (s : SourceTree) → source_of_data h minor body ≡ Some s → (is_laid body ≡ true) × (tree_at (layout_of body) body h (word_at body 0) ≡ Some s.tree)
+read_data : (h minor : ℕ) (body : List ℕ) (s : SourceTree) → source_of_data h minor body ≡ Some s
+    → (is_laid body ≡ true) × (tree_at (layout_of body) body h (word_at body 0) ≡ Some s.tree)
 unfolding source_of_data
 read_data h minor body s e =
     let bits = attributes_of minor body in
     let read = tree_at (layout_of body) body h (word_at body 0) in
     let a = where_some (is_laid body && not (has_pool bits) && is_table (kind_of (word_at body 0))) (option_map (flagged bits) read) s e in
-    let m = map_some (flagged bits) read s a.1 in
-    ((and_parts (is_laid body) (not (has_pool bits)) (and_parts (is_laid body && not (has_pool bits)) (is_table (kind_of (word_at body 0))) a.0).0).0, m.1 ∙ ap (λ (x : SourceTree). Some x.tree) m.2)
+    let m = map_some (flagged bits) read s a.1 in (
+      (and_parts (is_laid body) (not (has_pool bits)) (and_parts (is_laid body && not (has_pool bits)) (is_table (kind_of (word_at body 0))) a.0).0).0,
+      m.1
+          ∙ ap (λ (x : SourceTree). Some x.tree) m.2,
+    )
 
 pub root_is : (bytes : List ℕ) → Denotes bytes (source_tree_of bytes) → IsRoot bytes (drop (half_at bytes 0) bytes)
 root_is bytes e =

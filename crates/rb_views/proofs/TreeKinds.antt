@@ -18,7 +18,8 @@ use Rattle.rb_views.specs.Parts.{text_of, alias_of, ints_of, binary_of, uint_of,
 use Rattle.rb_views.proofs.Values.{some_eq, where_some}
 use Rattle.rb_views.proofs.Readings.{map_some, IsOfKind, has_kind, of_kind, choice}
 
-value_kind : (y : Layout) (body : List ℕ) (child : ℕ → Option Resource) (o : ℕ) (k : ItemKind) (t : Resource) → value_at y body child o k ≡ Some t → parts.kind_of t ≡ kind_named k
+value_kind : (y : Layout) (body : List ℕ) (child : ℕ → Option Resource) (o : ℕ) (k : ItemKind) (t : Resource) → value_at y body child o k ≡ Some t
+    → parts.kind_of t ≡ kind_named k
 value_kind y body child o String t e = ap parts.kind_of (sym (map_some string _ t e).2)
 value_kind y body child o Binary t e = ap parts.kind_of (sym (some_eq _ t (where_some _ _ t e).1))
 value_kind y body child o Table t e = ap parts.kind_of (sym (map_some table _ t e).2)
@@ -111,7 +112,8 @@ only_table Int e = absurd cc
 only_table Ints e = absurd cc
 
 -- the kind of an item, from that of its tree
-pub kind_back : (body : List ℕ) (item : ℕ) (c : Kind) → StandsFor body item → parts.kind_of (item_tree body item) ≡ c → (k : ItemKind) × IsOfKind body item k × (kind_named k ≡ c)
+pub kind_back : (body : List ℕ) (item : ℕ) (c : Kind) → StandsFor body item → parts.kind_of (item_tree body item) ≡ c
+    → (k : ItemKind) × IsOfKind body item k × (kind_named k ≡ c)
 kind_back body item c h e =
     let v = has_kind body item h in
     (v.0, v.1, sym (tree_kind body item v.0 h v.1.kind) ∙ e)

@@ -1,5 +1,6 @@
 -- Lists of the values of a function, place by place.
-use Rattle.std.proofs.Common.{◌≡◌, ℕ, zero, suc, ◌+◌, ◌<◌, ◌≤◌, Bool, true, false, List, [], ◌∷◌, length, drop, map, nat_eq, Option, Some, None, refl, sym, ap, ◌∙◌, arith}
+use Rattle.std.proofs.Common.{◌≡◌, ℕ, zero, suc, ◌+◌, ◌<◌, ◌≤◌, Bool, true, false, List, [], ◌∷◌}
+use Rattle.std.proofs.Common.{length, drop, map, nat_eq, Option, Some, None, refl, sym, ap, ◌∙◌, arith}
 use Rattle.std.specs.Prelude.{slice_get, is_some, IsSome}
 use Rattle.std.specs.Cmp.Lexicographic.{pointwise}
 use Rattle.std.specs.Map.{lookup}
@@ -48,7 +49,8 @@ key_other q k false e ne = refl
 key_other q k true e ne = absurd (ne (sym ((bytes_eq-Decides q k).0 e)))
 
 -- the first pair with a key is found
-pub lookup_hit : {T : Type 0} (q : List ℕ) (key : ℕ → List ℕ) (value : ℕ → T) (i n m : ℕ) → m < n → key (i + m) ≡ q → ((j : ℕ) → j < m → key (i + j) ≡ q → ⊥) → lookup (pointwise nat_eq q) (values (λ k. (key k, value k)) i n) ≡ Some (value (i + m))
+pub lookup_hit : {T : Type 0} (q : List ℕ) (key : ℕ → List ℕ) (value : ℕ → T) (i n m : ℕ) → m < n → key (i + m) ≡ q → ((j : ℕ) → j < m → key (i + j) ≡ q → ⊥)
+    → lookup (pointwise nat_eq q) (values (λ k. (key k, value k)) i n) ≡ Some (value (i + m))
 lookup_hit q key value i zero m h e ne = absurd (omega arith)
 lookup_hit q key value i (suc n) zero h e ne =
     let z : i + 0 ≡ i = omega arith in
@@ -62,7 +64,8 @@ lookup_hit q key value i (suc n) (suc m) h e ne =
     (λ j l d. let t : i + suc j ≡ suc i + j = omega arith in ne (suc j) (omega arith) (ap key t ∙ d)))
 
 -- where no pair has the key, none is found
-pub lookup_miss : {T : Type 0} (q : List ℕ) (key : ℕ → List ℕ) (value : ℕ → T) (i n : ℕ) → ((j : ℕ) → j < n → key (i + j) ≡ q → ⊥) → lookup (pointwise nat_eq q) (values (λ k. (key k, value k)) i n) ≡ None
+pub lookup_miss : {T : Type 0} (q : List ℕ) (key : ℕ → List ℕ) (value : ℕ → T) (i n : ℕ) → ((j : ℕ) → j < n → key (i + j) ≡ q → ⊥)
+    → lookup (pointwise nat_eq q) (values (λ k. (key k, value k)) i n) ≡ None
 lookup_miss q key value i zero ne = refl
 lookup_miss q key value i (suc n) ne =
     let z : i + 0 ≡ i = omega arith in
@@ -71,20 +74,26 @@ lookup_miss q key value i (suc n) ne =
     (λ j l d. let t : i + suc j ≡ suc i + j = omega arith in ne (suc j) (omega arith) (ap key t ∙ d)))
 
 -- the same from 0 on
-pub lookup_found : {T : Type 0} (q : List ℕ) (key : ℕ → List ℕ) (value : ℕ → T) (n m : ℕ) → m < n → key m ≡ q → ((j : ℕ) → j < m → key j ≡ q → ⊥) → lookup (pointwise nat_eq q) (values (λ k. (key k, value k)) 0 n) ≡ Some (value m)
+pub lookup_found : {T : Type 0} (q : List ℕ) (key : ℕ → List ℕ) (value : ℕ → T) (n m : ℕ) → m < n → key m ≡ q → ((j : ℕ) → j < m → key j ≡ q → ⊥)
+    → lookup (pointwise nat_eq q) (values (λ k. (key k, value k)) 0 n) ≡ Some (value m)
 lookup_found q key value n m h e ne =
     let z : 0 + m ≡ m = omega arith in
     lookup_hit q key value 0 n m h (ap key z ∙ e) (λ j l d. let y : 0 + j ≡ j = omega arith in ne j l (ap key (sym y) ∙ d)) ∙ ap (λ (k : ℕ). Some (value k)) z
 
-pub lookup_absent : {T : Type 0} (q : List ℕ) (key : ℕ → List ℕ) (value : ℕ → T) (n : ℕ) → ((j : ℕ) → j < n → key j ≡ q → ⊥) → lookup (pointwise nat_eq q) (values (λ k. (key k, value k)) 0 n) ≡ None
+pub lookup_absent : {T : Type 0} (q : List ℕ) (key : ℕ → List ℕ) (value : ℕ → T) (n : ℕ) → ((j : ℕ) → j < n → key j ≡ q → ⊥)
+    → lookup (pointwise nat_eq q) (values (λ k. (key k, value k)) 0 n) ≡ None
 lookup_absent q key value n ne = lookup_miss q key value 0 n (λ j l d. let y : 0 + j ≡ j = omega arith in ne j l (ap key (sym y) ∙ d))
 
 -- the two parts of a pair
-pub first_at : {T : Type 0} (key : ℕ → List ℕ) (value : ℕ → T) (n m : ℕ) → m < n → slice_get (map (λ (e : List ℕ × T). e.0) (values (λ k. (key k, value k)) 0 n)) m ≡ Some (key m)
-first_at {T} key value n m h = ap (λ (ks : List (List ℕ)). slice_get ks m) (values_map (λ (e : List ℕ × T). e.0) (λ (k : ℕ). (key k, value k)) 0 n) ∙ values_at key n m h
+pub first_at : {T : Type 0} (key : ℕ → List ℕ) (value : ℕ → T) (n m : ℕ) → m < n
+    → slice_get (map (λ (e : List ℕ × T). e.0) (values (λ k. (key k, value k)) 0 n)) m ≡ Some (key m)
+first_at {T} key value n m h = ap (λ (ks : List (List ℕ)). slice_get ks m) (values_map (λ (e : List ℕ × T). e.0) (λ (k : ℕ). (key k, value k)) 0 n)
+    ∙ values_at key n m h
 
-pub second_at : {T : Type 0} (key : ℕ → List ℕ) (value : ℕ → T) (n m : ℕ) → m < n → slice_get (map (λ (e : List ℕ × T). e.1) (values (λ k. (key k, value k)) 0 n)) m ≡ Some (value m)
-second_at {T} key value n m h = ap (λ (ts : List T). slice_get ts m) (values_map (λ (e : List ℕ × T). e.1) (λ (k : ℕ). (key k, value k)) 0 n) ∙ values_at value n m h
+pub second_at : {T : Type 0} (key : ℕ → List ℕ) (value : ℕ → T) (n m : ℕ) → m < n
+    → slice_get (map (λ (e : List ℕ × T). e.1) (values (λ k. (key k, value k)) 0 n)) m ≡ Some (value m)
+second_at {T} key value n m h = ap (λ (ts : List T). slice_get ts m) (values_map (λ (e : List ℕ × T). e.1) (λ (k : ℕ). (key k, value k)) 0 n)
+    ∙ values_at value n m h
 
 -- what is left of the list begins with the next value
 pub values_left : {X : Type 0} (f : ℕ → X) (n k : ℕ) → k < n → drop k (values f 0 n) ≡ f k ∷ drop (k + 1) (values f 0 n)

@@ -22,7 +22,8 @@ StandsFor body item = IsTrue (stands_for body item)
 -- each of the items from a word on stands for a tree, one level lower
 unfoldable pub all_stand : List ℕ → ℕ → ℕ → Bool
 all_stand body first count =
-    is_some (where_holds (nat_le (first + count) (layout_of body).top) (trees_at (λ w. tree_at (layout_of body) body 63 w) (λ i. word_at body (first + i)) 0 count))
+    is_some (where_holds (nat_le (first + count) (layout_of body).top)
+    (trees_at (λ w. tree_at (layout_of body) body 63 w) (λ i. word_at body (first + i)) 0 count))
 
 abbrev pub AllStand : List ℕ → ℕ → ℕ → Type 0
 AllStand body first count = IsTrue (all_stand body first count)

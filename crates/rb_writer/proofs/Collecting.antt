@@ -6,7 +6,8 @@ use Rattle.rb_tree.specs.declared.tree.Tree.{Tree}
 use Rattle.rb_tree.specs.declared.tree.Tree.TheVariants as trees
 use Rattle.std.specs.Prelude.{slice_get}
 use Rattle.std.specs.Map.{keys_of, values_of}
-use Rattle.rb_tree.specs.Resource.{Resource, string, int, ints, binary, alias, array, table, Resources, no_trees, tree_and, Members, no_entries, entry_and, weight, trees_weight, entries_weight}
+use Rattle.rb_tree.specs.Resource.{Resource, string, int, ints, binary, alias, array, table, Resources}
+use Rattle.rb_tree.specs.Resource.{no_trees, tree_and, Members, no_entries, entry_and, weight, trees_weight, entries_weight}
 use Rattle.rb_tree.specs.Keys.{items, pairs}
 use Rattle.rb_writer.specs.Most.{keys_most, trees_keys, members_keys, data_most, trees_most, members_most}
 use Rattle.rb_writer.specs.Places.{EachKey, EachKeyIn, EachKeyOf}
@@ -20,12 +21,14 @@ pub below_is : (es : Members) → keys_of_pairs (pairs es) ≡ keys_below es
 below_is no_entries = refl
 below_is (entry_and k t es) = ap (λ (ks : List (List ℕ)). (k ∷ tree_keys t) ++ ks) (below_is es)
 
-pub trees_turn : (ts : List Resource) (i : ℕ) (u : Resource) → Some u ≡ slice_get ts i → keys_of_trees (drop i ts) ≡ tree_keys u ++ keys_of_trees (drop (suc i) ts)
+pub trees_turn : (ts : List Resource) (i : ℕ) (u : Resource) → Some u ≡ slice_get ts i
+    → keys_of_trees (drop i ts) ≡ tree_keys u ++ keys_of_trees (drop (suc i) ts)
 trees_turn [] i u e = cc
 trees_turn (t ∷ ts) zero u e = let s : t ≡ u = cc in ap (λ (v : Resource). tree_keys v ++ keys_of_trees ts) s
 trees_turn (t ∷ ts) (suc i) u e = trees_turn ts i u e
 
-pub pairs_turn : (ps : List (List ℕ × Resource)) (i : ℕ) (k : List ℕ) (u : Resource) → Some k ≡ slice_get (keys_of ps) i → Some u ≡ slice_get (values_of ps) i → keys_of_pairs (drop i ps) ≡ (k ∷ tree_keys u) ++ keys_of_pairs (drop (suc i) ps)
+pub pairs_turn : (ps : List (List ℕ × Resource)) (i : ℕ) (k : List ℕ) (u : Resource) → Some k ≡ slice_get (keys_of ps) i → Some u ≡ slice_get (values_of ps) i
+    → keys_of_pairs (drop i ps) ≡ (k ∷ tree_keys u) ++ keys_of_pairs (drop (suc i) ps)
 pairs_turn [] i k u e f = cc
 pairs_turn (p ∷ ps) zero k u e f = let s : p.1 ≡ u = cc in let r : p.0 ≡ k = cc in rw (s, r) refl
 pairs_turn (p ∷ ps) (suc i) k u e f = pairs_turn ps i k u e f
@@ -104,29 +107,39 @@ mutual
 
   each_of : (P : List ℕ → Type 0) (es : Members) → AllIn P (keys_below es) → EachKeyOf P es
   each_of P no_entries h = tt
-  each_of P (entry_and k t es) h = (h.0, each_from P t (all_front P (tree_keys t) (keys_below es) h.1), each_of P es (all_back P (tree_keys t) (keys_below es) h.1))
+  each_of P (entry_and k t es) h = (
+    h.0,
+    each_from P t (all_front P (tree_keys t) (keys_below es) h.1),
+    each_of P es
+        (all_back P (tree_keys t) (keys_below es) h.1),
+  )
 
 -- ---- the loops that gather
 
 pub turned : (new cur rest more all : List (List ℕ)) (turn : List (List ℕ)) → new ≡ cur ++ turn → more ≡ turn ++ rest → cur ++ more ≡ all → new ++ rest ≡ all
 turned new cur rest more all turn e f g = rw e (append_assoc cur turn rest ∙ ap (λ (ks : List (List ℕ)). cur ++ ks) (sym f) ∙ g)
 
-pub gathered_trees : (cur old : List (List ℕ)) (ts : Resources) (i : ℕ) (t : Tree) → t ≡ trees.Array ts → length (items ts) ≤ i → cur ++ keys_of_trees (drop i (items ts)) ≡ old ++ keys_of_trees (items ts) → cur ≡ old ++ tree_keys (view_of t)
+pub gathered_trees : (cur old : List (List ℕ)) (ts : Resources) (i : ℕ) (t : Tree) → t ≡ trees.Array ts → length (items ts) ≤ i
+    → cur ++ keys_of_trees (drop i (items ts)) ≡ old ++ keys_of_trees (items ts) → cur ≡ old ++ tree_keys (view_of t)
 gathered_trees cur old ts i t eq h g =
     let none : drop i (items ts) ≡ [] = drop_all i (items ts) h in
     rw eq (sym (append-nil cur) ∙ (rw none at g) ∙ ap (λ (ks : List (List ℕ)). old ++ ks) (within_is ts))
 
-pub gathered_pairs : (cur old : List (List ℕ)) (es : Members) (i : ℕ) (t : Tree) → t ≡ trees.Table es → length (pairs es) ≤ i → cur ++ keys_of_pairs (drop i (pairs es)) ≡ old ++ keys_of_pairs (pairs es) → cur ≡ old ++ tree_keys (view_of t)
+pub gathered_pairs : (cur old : List (List ℕ)) (es : Members) (i : ℕ) (t : Tree) → t ≡ trees.Table es → length (pairs es) ≤ i
+    → cur ++ keys_of_pairs (drop i (pairs es)) ≡ old ++ keys_of_pairs (pairs es) → cur ≡ old ++ tree_keys (view_of t)
 gathered_pairs cur old es i t eq h g =
     let none : drop i (pairs es) ≡ [] = drop_all i (pairs es) h in
     rw eq (sym (append-nil cur) ∙ (rw none at g) ∙ ap (λ (ks : List (List ℕ)). old ++ ks) (below_is es))
 
-pub gather_tree : (new cur all : List (List ℕ)) (ts : List Resource) (i : ℕ) (u : Resource) → new ≡ cur ++ tree_keys u → Some u ≡ slice_get ts i → cur ++ keys_of_trees (drop i ts) ≡ all → new ++ keys_of_trees (drop (i + 1) ts) ≡ all
+pub gather_tree : (new cur all : List (List ℕ)) (ts : List Resource) (i : ℕ) (u : Resource) → new ≡ cur ++ tree_keys u → Some u ≡ slice_get ts i
+    → cur ++ keys_of_trees (drop i ts) ≡ all → new ++ keys_of_trees (drop (i + 1) ts) ≡ all
 gather_tree new cur all ts i u e f g =
     let up : i + 1 ≡ suc i = omega arith in
     rw up (turned new cur (keys_of_trees (drop (suc i) ts)) (keys_of_trees (drop i ts)) all (tree_keys u) e (trees_turn ts i u f) g)
 
-pub gather_pair : (new mid cur all : List (List ℕ)) (ps : List (List ℕ × Resource)) (i : ℕ) (k : List ℕ) (u : Resource) → new ≡ mid ++ tree_keys u → mid ≡ cur ++ k ∷ [] → Some k ≡ slice_get (keys_of ps) i → Some u ≡ slice_get (values_of ps) i → cur ++ keys_of_pairs (drop i ps) ≡ all → new ++ keys_of_pairs (drop (i + 1) ps) ≡ all
+pub gather_pair : (new mid cur all : List (List ℕ)) (ps : List (List ℕ × Resource)) (i : ℕ) (k : List ℕ) (u : Resource) → new ≡ mid ++ tree_keys u
+    → mid ≡ cur ++ k ∷ [] → Some k ≡ slice_get (keys_of ps) i → Some u ≡ slice_get (values_of ps) i → cur ++ keys_of_pairs (drop i ps) ≡ all
+    → new ++ keys_of_pairs (drop (i + 1) ps) ≡ all
 gather_pair new mid cur all ps i k u e m f h g =
     let up : i + 1 ≡ suc i = omega arith in
     let whole : new ≡ cur ++ (k ∷ tree_keys u) = e ∙ ap (λ (ks : List (List ℕ)). ks ++ tree_keys u) m ∙ append_assoc cur (k ∷ []) (tree_keys u) in

@@ -1,6 +1,7 @@
 -- Arrays and tables stand behind their children.
 use Rattle.rb_writer.specs.declared.area.KeyArea.{KeyArea}
-use Rattle.std.proofs.Common.{◌≡◌, ℕ, zero, suc, ◌+◌, ◌*◌, ◌/◌, ◌%◌, ◌^◌, ◌<◌, ◌≤◌, false, ltb, List, [], ◌∷◌, length, get_or, Some, Result, Ok, refl, sym, ◌∙◌, arith, inl, inr}
+use Rattle.std.proofs.Common.{◌≡◌, ℕ, zero, suc, ◌+◌, ◌*◌, ◌/◌, ◌%◌, ◌^◌, ◌<◌, ◌≤◌, false, ltb, List}
+use Rattle.std.proofs.Common.{[], ◌∷◌, length, get_or, Some, Result, Ok, refl, sym, ◌∙◌, arith, inl, inr}
 use Rattle.std.proofs.lemmas.Bool.{le-ltb}
 use Rattle.std.proofs.lemmas.List.{length-map}
 use Rattle.std.specs.Prelude.{slice_get, All}
@@ -36,20 +37,24 @@ some_below (x ∷ xs) zero u e = omega arith
 some_below (x ∷ xs) (suc j) u e = omega (arith, some_below xs j u e)
 
 -- the trees of an array, from the items of its children
-pub trees_from : (child : ℕ → Result Resource FileFault) (item : ℕ → ℕ) (i : ℕ) (ts : Resources) → ((j : ℕ) (u : Resource) → Some u ≡ slice_get (items ts) j → child (item (i + j)) ≡ Ok u) → reading.trees child item i (length (items ts)) ≡ Ok ts
+pub trees_from : (child : ℕ → Result Resource FileFault) (item : ℕ → ℕ) (i : ℕ) (ts : Resources)
+    → ((j : ℕ) (u : Resource) → Some u ≡ slice_get (items ts) j → child (item (i + j)) ≡ Ok u) → reading.trees child item i (length (items ts)) ≡ Ok ts
 unfolding reading.trees
 trees_from child item i no_trees h = refl
 trees_from child item i (tree_and t ts) h =
     let first : child (item i) ≡ Ok t = (let same : i + 0 ≡ i = omega arith in rw same at (h 0 t refl)) in
-    let rest : reading.trees child item (suc i) (length (items ts)) ≡ Ok ts = trees_from child item (suc i) ts (λ j u e. let same : suc i + j ≡ i + suc j = omega arith in rw same (h (suc j) u e)) in
+    let rest : reading.trees child item (suc i) (length (items ts)) ≡ Ok ts = trees_from child item (suc i) ts
+    (λ j u e. let same : suc i + j ≡ i + suc j = omega arith in rw same (h (suc j) u e)) in
     rw (first, rest) refl
 
-pub members_from : (child : ℕ → Result Resource FileFault) (item : ℕ → ℕ) (i : ℕ) (es : Members) → ((j : ℕ) (u : Resource) → Some u ≡ slice_get (values_of (pairs es)) j → child (item (i + j)) ≡ Ok u) → members child item i (keys_of (pairs es)) ≡ Ok es
+pub members_from : (child : ℕ → Result Resource FileFault) (item : ℕ → ℕ) (i : ℕ) (es : Members)
+    → ((j : ℕ) (u : Resource) → Some u ≡ slice_get (values_of (pairs es)) j → child (item (i + j)) ≡ Ok u) → members child item i (keys_of (pairs es)) ≡ Ok es
 unfolding members
 members_from child item i no_entries h = refl
 members_from child item i (entry_and k t es) h =
     let first : child (item i) ≡ Ok t = (let same : i + 0 ≡ i = omega arith in rw same at (h 0 t refl)) in
-    let rest : members child item (suc i) (keys_of (pairs es)) ≡ Ok es = members_from child item (suc i) es (λ j u e. let same : suc i + j ≡ i + suc j = omega arith in rw same (h (suc j) u e)) in
+    let rest : members child item (suc i) (keys_of (pairs es)) ≡ Ok es = members_from child item (suc i) es
+    (λ j u e. let same : suc i + j ≡ i + suc j = omega arith in rw same (h (suc j) u e)) in
     rw (first, rest) refl
 
 -- each key is above the one before
@@ -73,15 +78,18 @@ pub table_ascends : (ks : List (List ℕ)) → All IsKey ks → IsStrictlySorted
 table_ascends [] a h = tt
 table_ascends (k ∷ ks) a h = (empty_first k (first_key k ks a), ascends_from k ks h)
 
-pub keys_from : (y : Layout) (body : List ℕ) (where_is : ℕ → ℕ) (last : List ℕ) (i : ℕ) (ks : List (List ℕ)) → Ascends last ks → ((j : ℕ) (k : List ℕ) → Some k ≡ slice_get ks j → key y body (where_is (i + j)) ≡ Some k) → keys y body where_is last i (length ks) ≡ Ok ks
+pub keys_from : (y : Layout) (body : List ℕ) (where_is : ℕ → ℕ) (last : List ℕ) (i : ℕ) (ks : List (List ℕ)) → Ascends last ks
+    → ((j : ℕ) (k : List ℕ) → Some k ≡ slice_get ks j → key y body (where_is (i + j)) ≡ Some k) → keys y body where_is last i (length ks) ≡ Ok ks
 unfolding keys next_key
 keys_from y body where_is last i [] a h = refl
 keys_from y body where_is last i (k ∷ ks) a h =
     let first : key y body (where_is i) ≡ Some k = (let same : i + 0 ≡ i = omega arith in rw same at (h 0 k refl)) in
-    let rest : keys y body where_is k (suc i) (length ks) ≡ Ok ks = keys_from y body where_is k (suc i) ks a.1 (λ j q e. let same : suc i + j ≡ i + suc j = omega arith in rw same (h (suc j) q e)) in
+    let rest : keys y body where_is k (suc i) (length ks) ≡ Ok ks = keys_from y body where_is k (suc i) ks a.1
+    (λ j q e. let same : suc i + j ≡ i + suc j = omega arith in rw same (h (suc j) q e)) in
     rw (first, a.0, rest) refl
 
-pub table_from : (y : Layout) (body : List ℕ) (child : ℕ → Result Resource FileFault) (where_is : ℕ → ℕ) (from n : ℕ) (es : Members) → n ≡ length (pairs es) → from + n ≤ y.top → IsTable es
+pub table_from : (y : Layout) (body : List ℕ) (child : ℕ → Result Resource FileFault) (where_is : ℕ → ℕ) (from n : ℕ) (es : Members) → n ≡ length (pairs es)
+    → from + n ≤ y.top → IsTable es
     → ((j : ℕ) (k : List ℕ) → Some k ≡ slice_get (keys_of (pairs es)) j → key y body (where_is j) ≡ Some k)
     → ((j : ℕ) (u : Resource) → Some u ≡ slice_get (values_of (pairs es)) j → child (word_at body (from + j)) ≡ Ok u)
     → table_of y body child where_is from n ≡ Ok es
@@ -89,33 +97,41 @@ unfolding table_of
 table_from y body child where_is from n es e fits t h g =
     let test : ltb y.top (from + n) ≡ false = le-ltb _ _ fits in
     let len : n ≡ length (keys_of (pairs es)) = e ∙ sym (length-map (pairs es) (λ p. p.0)) in
-    let ks : keys y body where_is [] 0 n ≡ Ok (keys_of (pairs es)) = rw len (keys_from y body where_is [] 0 (keys_of (pairs es)) (table_ascends (keys_of (pairs es)) t.keys_ok t.ascend) (λ j k q. let z : 0 + j ≡ j = omega arith in rw z (h j k q))) in
+    let ks : keys y body where_is [] 0 n ≡ Ok (keys_of (pairs es)) = rw len
+    (keys_from y body where_is [] 0 (keys_of (pairs es)) (table_ascends (keys_of (pairs es)) t.keys_ok t.ascend)
+    (λ j k q. let z : 0 + j ≡ j = omega arith in rw z (h j k q))) in
     rw (test, ks) (members_from child (λ i. word_at body (from + i)) 0 es (λ j u q. let z : 0 + j ≡ j = omega arith in rw z (g j u q)))
 
 -- ---- arrays
 
-array_contents : (y : Layout) (body : List ℕ) (child : ℕ → Result Resource FileFault) (o : ℕ) → contents y body child o kinds.Array ≡ result_map array (array_at y body child o)
+array_contents : (y : Layout) (body : List ℕ) (child : ℕ → Result Resource FileFault) (o : ℕ)
+    → contents y body child o kinds.Array ≡ result_map array (array_at y body child o)
 unfolding contents
 array_contents y body child o = refl
 
-short_contents : (y : Layout) (body : List ℕ) (child : ℕ → Result Resource FileFault) (o : ℕ) → contents y body child o kinds.Table ≡ result_map table (table16_at y body child o)
+short_contents : (y : Layout) (body : List ℕ) (child : ℕ → Result Resource FileFault) (o : ℕ)
+    → contents y body child o kinds.Table ≡ result_map table (table16_at y body child o)
 unfolding contents
 short_contents y body child o = refl
 
-long_contents : (y : Layout) (body : List ℕ) (child : ℕ → Result Resource FileFault) (o : ℕ) → contents y body child o kinds.LongTable ≡ result_map table (table32_at y body child o)
+long_contents : (y : Layout) (body : List ℕ) (child : ℕ → Result Resource FileFault) (o : ℕ)
+    → contents y body child o kinds.LongTable ≡ result_map table (table32_at y body child o)
 unfolding contents
 long_contents y body child o = refl
 
 -- a child that was written stands in what grew from it, at each level that is enough
-child_later : (area : KeyArea) (old mid new : List ℕ) (cs : List Resource) (is : List ℕ) (n d j : ℕ) (u : Resource) → ChildrenStand area old mid cs is n → Adds mid new → n ≡ length cs → Some u ≡ slice_get cs j → height u ≤ d → read (draft area new) new d (get_or is j 0) ≡ Ok u
+child_later : (area : KeyArea) (old mid new : List ℕ) (cs : List Resource) (is : List ℕ) (n d j : ℕ) (u : Resource) → ChildrenStand area old mid cs is n
+    → Adds mid new → n ≡ length cs → Some u ≡ slice_get cs j → height u ≤ d → read (draft area new) new d (get_or is j 0) ≡ Ok u
 child_later area old mid new cs is n d j u s a e f low =
     let below = some_below cs j u f in
-    read_raise (draft area new) new (height u) d (get_or is j 0) u (stays area mid new (height u) (get_or is j 0) u s.drafted a (s.reads j u (omega arith) f)) low
+    read_raise (draft area new) new (height u) d (get_or is j 0) u
+    (stays area mid new (height u) (get_or is j 0) u s.drafted a (s.reads j u (omega arith) f)) low
 
 drafted_on : (area : KeyArea) (old new : List ℕ) → IsDraft area old → length old ≤ length new → length new % 4 ≡ 0 → IsDraft area new
 drafted_on area old new d h e = let w = d.whole in let hi = d.high in record { words = length new / 4; whole = omega arith; low = d.low; high = omega arith }
 
-array_put : (area : KeyArea) (old mid new : List ℕ) (is : List ℕ) (n o : ℕ) (ts : Resources) → ChildrenStand area old mid (items ts) is n → n ≡ length (items ts) → PutsArray mid new is o → o < 2 ^ 28
+array_put : (area : KeyArea) (old mid new : List ℕ) (is : List ℕ) (n o : ℕ) (ts : Resources) → ChildrenStand area old mid (items ts) is n
+    → n ≡ length (items ts) → PutsArray mid new is o → o < 2 ^ 28
     → Put area old new (4 + trees_most ts) (λ y b p. array_at y b (λ w. read (draft area new) new (trees_height ts) w) p) ts no_trees o
 unfolding array_at
 array_put area old mid new is n o ts s e p small =
@@ -126,7 +142,8 @@ array_put area old mid new is n o ts s e p small =
     let count : word_at new o ≡ length (items ts) = word_stays p.a new o p.children.adds (omega arith) ∙ p.count.word_is o start ∙ len in
     let on = adds_trans mid p.a new p.count.adds p.children.adds in
     let room : ltb (length new / 4) (o + 1 + length (items ts)) ≡ false = le-ltb _ _ (omega arith) in
-    let all : reading.trees (λ w. read (draft area new) new (trees_height ts) w) (λ i. word_at new (o + 1 + i)) 0 (length (items ts)) ≡ Ok ts = trees_from _ _ 0 ts (λ j u f.
+    let all : reading.trees (λ w. read (draft area new) new (trees_height ts) w) (λ i. word_at new (o + 1 + i)) 0
+    (length (items ts)) ≡ Ok ts = trees_from _ _ 0 ts (λ j u f.
     let below = some_below (items ts) j u f in
     let word : word_at new (o + 1 + j) ≡ get_or is j 0 = p.children.words_are (o + 1) j (omega arith) (omega arith) in
     let z : 0 + j ≡ j = omega arith in
@@ -139,14 +156,17 @@ array_put area old mid new is n o ts s e p small =
       stands = inr (omega arith, omega arith, rw (count, room) all);
     }
 
-pub array_stands : (area : KeyArea) (old mid new : List ℕ) (is : List ℕ) (n o item : ℕ) (ts : Resources) (t : Tree) → t ≡ trees.Array ts → ChildrenStand area old mid (items ts) is n → n ≡ length (items ts) → PutsArray mid new is o → o < 2 ^ 28 → kind_of item ≡ Some kinds.Array → offset_of item ≡ o → Stands area old new (view_of t) item
+pub array_stands : (area : KeyArea) (old mid new : List ℕ) (is : List ℕ) (n o item : ℕ) (ts : Resources) (t : Tree) → t ≡ trees.Array ts
+    → ChildrenStand area old mid (items ts) is n → n ≡ length (items ts) → PutsArray mid new is o → o < 2 ^ 28 → kind_of item ≡ Some kinds.Array
+    → offset_of item ≡ o → Stands area old new (view_of t) item
 array_stands area old mid new is n o item ts t eq s e p small ki oi =
     let put = array_put area old mid new is n o ts s e p small in
     rw eq (record {
       adds = put.adds;
       drafted = put.drafted;
       little = put.little;
-      reads = read_more area new (trees_height ts) item (array ts) (put_node area old new _ _ ts no_trees o item kinds.Array array _ put ki oi (λ q. refl) (array_contents _ _ _ o) refl);
+      reads = read_more area new (trees_height ts) item (array ts)
+          (put_node area old new _ _ ts no_trees o item kinds.Array array _ put ki oi (λ q. refl) (array_contents _ _ _ o) refl);
     })
 
 no_items : (ts : Resources) → length (items ts) ≡ 0 → ts ≡ no_trees
@@ -158,7 +178,9 @@ no_pairs no_entries e = refl
 no_pairs (entry_and k t es) e = absurd (omega arith)
 
 -- an array without children
-pub empty_array_stands : (area : KeyArea) (old mid : List ℕ) (is : List ℕ) (n item : ℕ) (ts : Resources) (t : Tree) → t ≡ trees.Array ts → ChildrenStand area old mid (items ts) is n → n ≡ length (items ts) → length is ≡ 0 → kind_of item ≡ Some kinds.Array → offset_of item ≡ 0 → Stands area old mid (view_of t) item
+pub empty_array_stands : (area : KeyArea) (old mid : List ℕ) (is : List ℕ) (n item : ℕ) (ts : Resources) (t : Tree) → t ≡ trees.Array ts
+    → ChildrenStand area old mid (items ts) is n → n ≡ length (items ts) → length is ≡ 0 → kind_of item ≡ Some kinds.Array → offset_of item ≡ 0
+    → Stands area old mid (view_of t) item
 empty_array_stands area old mid is n item ts t eq s e none ki oi =
     let l = s.little in let c = s.count in let m = array_most ts in
     let put : Put area old mid (4 + trees_most ts) (λ y b p. array_at y b (λ w. read (draft area mid) mid (trees_height ts) w) p) ts no_trees 0 = record {
@@ -172,17 +194,21 @@ empty_array_stands area old mid is n item ts t eq s e none ki oi =
       adds = put.adds;
       drafted = put.drafted;
       little = put.little;
-      reads = read_more area mid (trees_height ts) item (array ts) (put_node area old mid _ _ ts no_trees 0 item kinds.Array array _ put ki oi (λ q. refl) (array_contents _ _ _ 0) refl);
+      reads = read_more area mid (trees_height ts) item (array ts)
+          (put_node area old mid _ _ ts no_trees 0 item kinds.Array array _ put ki oi (λ q. refl) (array_contents _ _ _ 0) refl);
     })
 
 -- ---- tables
 
-short_put : (ps : KeyPlaces) (area : KeyArea) (old mid new is offsets : List ℕ) (n o : ℕ) (es : Members) → ChildrenStand area old mid (values_of (pairs es)) is n → n ≡ length (pairs es) → IsDraft area old → KeysStand area old ps → PlacesAre ps (keys_of (pairs es)) offsets (length (pairs es)) → IsTable es → PutsShort mid new offsets is o → o < 2 ^ 28
+short_put : (ps : KeyPlaces) (area : KeyArea) (old mid new is offsets : List ℕ) (n o : ℕ) (es : Members)
+    → ChildrenStand area old mid (values_of (pairs es)) is n → n ≡ length (pairs es) → IsDraft area old → KeysStand area old ps
+    → PlacesAre ps (keys_of (pairs es)) offsets (length (pairs es)) → IsTable es → PutsShort mid new offsets is o → o < 2 ^ 28
     → Put area old new (4 + members_most es) (λ y b p. table16_at y b (λ w. read (draft area new) new (entries_height es) w) p) es no_entries o
 unfolding table16_at
 short_put ps area old mid new is offsets n o es s e d ks at t p small =
     let l = s.little in let m = table_most es in let c = s.count in let w = s.drafted.whole in let hi = s.drafted.high in
-    let pl = p.count.len in let ql = p.keys.len in let rl = p.padded.longer in let ne = p.near in let wh = p.whole in let cl = p.children.len in let st = p.stands in
+    let pl = p.count.len in let ql = p.keys.len in let rl = p.padded.longer in let ne = p.near in let wh = p.whole in let cl = p.children.len in let st =
+    p.stands in
     let vl : length (values_of (pairs es)) ≡ length (pairs es) = length-map (pairs es) (λ q. q.1) in
     let kl : length (keys_of (pairs es)) ≡ length (pairs es) = length-map (pairs es) (λ q. q.0) in
     let start : length mid ≡ 4 * o = omega arith in
@@ -193,15 +219,18 @@ short_put ps area old mid new is offsets n o es s e d ks at t p small =
     let on = adds_trans mid p.a new p.count.adds on_a in
     let count : half_at new (2 * o) ≡ length (pairs es) = half_stays p.a new (2 * o) on_a (omega arith) ∙ p.count.half_is (2 * o) (omega arith) ∙ len in
     let items_at : length p.c ≡ 4 * (o + (length (pairs es) + 2) / 2) = omega arith in
-    let all : table_of (draft area new) new (λ w. read (draft area new) new (entries_height es) w) (λ i. half_at new (2 * o + 1 + i)) (o + (length (pairs es) + 2) / 2) (length (pairs es)) ≡ Ok es =
+    let all : table_of (draft area new) new (λ w. read (draft area new) new (entries_height es) w) (λ i. half_at new (2 * o + 1 + i))
+    (o + (length (pairs es) + 2) / 2) (length (pairs es)) ≡ Ok es =
     table_from (draft area new) new _ _ _ (length (pairs es)) es refl (omega arith) t
     (λ j k f.
     let below = some_below (keys_of (pairs es)) j k f in
-    let half : half_at new (2 * o + 1 + j) ≡ get_or offsets j 0 = half_stays p.b new (2 * o + 1 + j) on_b (omega arith) ∙ p.keys.halves_are (2 * o + 1) j (omega arith) (omega arith) in
+    let half : half_at new (2 * o + 1 + j) ≡ get_or offsets j 0 = half_stays p.b new (2 * o + 1 + j) on_b (omega arith)
+    ∙ p.keys.halves_are (2 * o + 1) j (omega arith) (omega arith) in
     rw half (keys_stay area old new ps d (adds_trans old mid new s.adds on) ks k (get_or offsets j 0) (at.are j k (omega arith) f)))
     (λ j u f.
     let below = some_below (values_of (pairs es)) j u f in
-    let word : word_at new (o + (length (pairs es) + 2) / 2 + j) ≡ get_or is j 0 = p.children.words_are (o + (length (pairs es) + 2) / 2) j items_at (omega arith) in
+    let word : word_at new (o + (length (pairs es) + 2) / 2 + j) ≡ get_or is j 0 = p.children.words_are (o + (length (pairs es) + 2) / 2) j items_at
+    (omega arith) in
     rw word (child_later area old mid new (values_of (pairs es)) is n (entries_height es) j u s on (omega arith) f (value_low es j u f))) in
     record {
       adds = adds_trans old mid new s.adds on;
@@ -211,7 +240,9 @@ short_put ps area old mid new is offsets n o es s e d ks at t p small =
       stands = inr (omega arith, omega arith, rw count all);
     }
 
-long_put : (ps : KeyPlaces) (area : KeyArea) (old mid new is offsets : List ℕ) (n o : ℕ) (es : Members) → ChildrenStand area old mid (values_of (pairs es)) is n → n ≡ length (pairs es) → IsDraft area old → KeysStand area old ps → PlacesAre ps (keys_of (pairs es)) offsets (length (pairs es)) → IsTable es → PutsLong mid new offsets is o → o < 2 ^ 28
+long_put : (ps : KeyPlaces) (area : KeyArea) (old mid new is offsets : List ℕ) (n o : ℕ) (es : Members)
+    → ChildrenStand area old mid (values_of (pairs es)) is n → n ≡ length (pairs es) → IsDraft area old → KeysStand area old ps
+    → PlacesAre ps (keys_of (pairs es)) offsets (length (pairs es)) → IsTable es → PutsLong mid new offsets is o → o < 2 ^ 28
     → Put area old new (4 + members_most es) (λ y b p. table32_at y b (λ w. read (draft area new) new (entries_height es) w) p) es no_entries o
 unfolding table32_at
 long_put ps area old mid new is offsets n o es s e d ks at t p small =
@@ -225,11 +256,13 @@ long_put ps area old mid new is offsets n o es s e d ks at t p small =
     let on_a = adds_trans p.a p.b new p.keys.adds on_b in
     let on = adds_trans mid p.a new p.count.adds on_a in
     let count : word_at new o ≡ length (pairs es) = word_stays p.a new o on_a (omega arith) ∙ p.count.word_is o start ∙ len in
-    let all : table_of (draft area new) new (λ w. read (draft area new) new (entries_height es) w) (λ i. word_at new (o + 1 + i)) (o + 1 + length (pairs es)) (length (pairs es)) ≡ Ok es =
+    let all : table_of (draft area new) new (λ w. read (draft area new) new (entries_height es) w) (λ i. word_at new (o + 1 + i)) (o + 1 + length (pairs es))
+    (length (pairs es)) ≡ Ok es =
     table_from (draft area new) new _ _ _ (length (pairs es)) es refl (omega arith) t
     (λ j k f.
     let below = some_below (keys_of (pairs es)) j k f in
-    let half : word_at new (o + 1 + j) ≡ get_or offsets j 0 = word_stays p.b new (o + 1 + j) on_b (omega arith) ∙ p.keys.words_are (o + 1) j (omega arith) (omega arith) in
+    let half : word_at new (o + 1 + j) ≡ get_or offsets j 0 = word_stays p.b new (o + 1 + j) on_b (omega arith)
+    ∙ p.keys.words_are (o + 1) j (omega arith) (omega arith) in
     rw half (keys_stay area old new ps d (adds_trans old mid new s.adds on) ks k (get_or offsets j 0) (at.are j k (omega arith) f)))
     (λ j u f.
     let below = some_below (values_of (pairs es)) j u f in
@@ -243,7 +276,9 @@ long_put ps area old mid new is offsets n o es s e d ks at t p small =
       stands = inr (omega arith, omega arith, rw count all);
     }
 
-pub table_stands : (ps : KeyPlaces) (area : KeyArea) (old mid new is : List ℕ) (n item : ℕ) (es : Members) (t : Tree) → t ≡ trees.Table es → ChildrenStand area old mid (values_of (pairs es)) is n → n ≡ length (pairs es) → IsDraft area old → KeysStand area old ps → WritesTable ps es mid new is item → Stands area old new (view_of t) item
+pub table_stands : (ps : KeyPlaces) (area : KeyArea) (old mid new is : List ℕ) (n item : ℕ) (es : Members) (t : Tree) → t ≡ trees.Table es
+    → ChildrenStand area old mid (values_of (pairs es)) is n → n ≡ length (pairs es) → IsDraft area old → KeysStand area old ps
+    → WritesTable ps es mid new is item → Stands area old new (view_of t) item
 table_stands ps area old mid new is n item es t eq s e d ks w =
     rw eq (elim w.written [
       | inl p ↦
@@ -252,7 +287,8 @@ table_stands ps area old mid new is n item es t eq s e d ks w =
             adds = put.adds;
             drafted = put.drafted;
             little = put.little;
-            reads = read_more area new (entries_height es) item (table es) (put_node area old new _ _ es no_entries (offset_of item) item kinds.Table table _ put p.0 refl (λ q. refl) (short_contents _ _ _ _) refl);
+            reads = read_more area new (entries_height es) item (table es)
+                (put_node area old new _ _ es no_entries (offset_of item) item kinds.Table table _ put p.0 refl (λ q. refl) (short_contents _ _ _ _) refl);
           }
       | inr p ↦
           let put = long_put ps area old mid new is w.offsets n (offset_of item) es s e d ks w.places w.ordered p.1 w.small in
@@ -260,14 +296,18 @@ table_stands ps area old mid new is n item es t eq s e d ks w =
             adds = put.adds;
             drafted = put.drafted;
             little = put.little;
-            reads = read_more area new (entries_height es) item (table es) (put_node area old new _ _ es no_entries (offset_of item) item kinds.LongTable table _ put p.0 refl (λ q. refl) (long_contents _ _ _ _) refl);
+            reads = read_more area new (entries_height es) item (table es)
+                (put_node area old new _ _ es no_entries (offset_of item) item kinds.LongTable table _ put p.0 refl (λ q. refl) (long_contents _ _ _ _) refl);
           }
     ])
 
-pub empty_table_stands : (area : KeyArea) (old mid : List ℕ) (is : List ℕ) (n item : ℕ) (es : Members) (t : Tree) → t ≡ trees.Table es → ChildrenStand area old mid (values_of (pairs es)) is n → n ≡ length (pairs es) → length is ≡ 0 → kind_of item ≡ Some kinds.Table → offset_of item ≡ 0 → Stands area old mid (view_of t) item
+pub empty_table_stands : (area : KeyArea) (old mid : List ℕ) (is : List ℕ) (n item : ℕ) (es : Members) (t : Tree) → t ≡ trees.Table es
+    → ChildrenStand area old mid (values_of (pairs es)) is n → n ≡ length (pairs es) → length is ≡ 0 → kind_of item ≡ Some kinds.Table → offset_of item ≡ 0
+    → Stands area old mid (view_of t) item
 empty_table_stands area old mid is n item es t eq s e none ki oi =
     let l = s.little in let c = s.count in let m = table_most es in
-    let put : Put area old mid (4 + members_most es) (λ y b p. table16_at y b (λ w. read (draft area mid) mid (entries_height es) w) p) es no_entries 0 = record {
+    let put : Put area old mid (4 + members_most es)
+    (λ y b p. table16_at y b (λ w. read (draft area mid) mid (entries_height es) w) p) es no_entries 0 = record {
       adds = s.adds;
       drafted = s.drafted;
       little = omega arith;
@@ -278,18 +318,22 @@ empty_table_stands area old mid is n item es t eq s e none ki oi =
       adds = put.adds;
       drafted = put.drafted;
       little = put.little;
-      reads = read_more area mid (entries_height es) item (table es) (put_node area old mid _ _ es no_entries 0 item kinds.Table table _ put ki oi (λ q. refl) (short_contents _ _ _ 0) refl);
+      reads = read_more area mid (entries_height es) item (table es)
+          (put_node area old mid _ _ es no_entries 0 item kinds.Table table _ put ki oi (λ q. refl) (short_contents _ _ _ 0) refl);
     })
 
 -- ---- room behind the children
 
-pub array_room : (area : KeyArea) (old mid : List ℕ) (is : List ℕ) (n most : ℕ) (ts : Resources) (t : Tree) → t ≡ trees.Array ts → ChildrenStand area old mid (items ts) is n → n ≡ length (items ts) → length old + data_most (view_of t) ≤ most → length mid + (4 + 4 * length is) ≤ most
+pub array_room : (area : KeyArea) (old mid : List ℕ) (is : List ℕ) (n most : ℕ) (ts : Resources) (t : Tree) → t ≡ trees.Array ts
+    → ChildrenStand area old mid (items ts) is n → n ≡ length (items ts) → length old + data_most (view_of t) ≤ most → length mid + (4 + 4 * length is) ≤ most
 array_room area old mid is n most ts t eq s e h =
     let l = s.little in let c = s.count in let m = array_most ts in
     let g : length old + data_most (view_of (trees.Array ts)) ≤ most = rw eq at h in
     omega arith
 
-pub table_room : (area : KeyArea) (old mid : List ℕ) (is : List ℕ) (n most : ℕ) (es : Members) (t : Tree) → t ≡ trees.Table es → ChildrenStand area old mid (values_of (pairs es)) is n → n ≡ length (pairs es) → length old + data_most (view_of t) ≤ most → length mid + (4 + 8 * length is) ≤ most
+pub table_room : (area : KeyArea) (old mid : List ℕ) (is : List ℕ) (n most : ℕ) (es : Members) (t : Tree) → t ≡ trees.Table es
+    → ChildrenStand area old mid (values_of (pairs es)) is n → n ≡ length (pairs es) → length old + data_most (view_of t) ≤ most
+    → length mid + (4 + 8 * length is) ≤ most
 table_room area old mid is n most es t eq s e h =
     let l = s.little in let c = s.count in let m = table_most es in
     let g : length old + data_most (view_of (trees.Table es)) ≤ most = rw eq at h in

@@ -1,5 +1,6 @@
 -- The file denotes the tree that was written.
-use Rattle.std.proofs.Common.{◌≡◌, ℕ, zero, suc, ◌+◌, ◌*◌, ◌/◌, ◌<◌, ◌≤◌, Bool, true, false, cond, ltb, leb, List, length, get_or, take, drop, Option, Some, None, Result, Ok, refl, sym, ap, ◌∙◌, arith, subst, inl, inr}
+use Rattle.std.proofs.Common.{◌≡◌, ℕ, zero, suc, ◌+◌, ◌*◌, ◌/◌, ◌<◌, ◌≤◌, Bool, true, false, cond, ltb, leb, List, length}
+use Rattle.std.proofs.Common.{get_or, take, drop, Option, Some, None, Result, Ok, refl, sym, ap, ◌∙◌, arith, subst, inl, inr}
 use Rattle.std.proofs.lemmas.Bool.Decides.{nat_tests}
 use Rattle.std.proofs.lemmas.Bool.{le-ltb, lt-ltb}
 use Rattle.std.proofs.lemmas.List.{get_or-drop, get_or-take, length-drop}
@@ -32,7 +33,8 @@ use Rattle.rb_format.specs.Attributes.{attributes_of}
 half_front : (f xs : List ℕ) (i : ℕ) → get_or f (2 * i) 0 ≡ get_or xs (2 * i) 0 → get_or f (2 * i + 1) 0 ≡ get_or xs (2 * i + 1) 0 → half_at f i ≡ half_at xs i
 unfolding half_at
 half_front f xs i p q =
-    let first : get_or (drop (2 * i) f) 0 0 ≡ get_or (drop (2 * i) xs) 0 0 = get_or-drop (2 * i) f 0 0 ∙ (let z : 2 * i + 0 ≡ 2 * i = omega arith in rw z p) ∙ sym (get_or-drop (2 * i) xs 0 0) in
+    let first : get_or (drop (2 * i) f) 0 0 ≡ get_or (drop (2 * i) xs) 0 0 = get_or-drop (2 * i) f 0 0 ∙ (let z : 2 * i + 0 ≡ 2 * i = omega arith in rw z p)
+    ∙ sym (get_or-drop (2 * i) xs 0 0) in
     let second : get_or (drop (2 * i) f) 1 0 ≡ get_or (drop (2 * i) xs) 1 0 = get_or-drop (2 * i) f 1 0 ∙ q ∙ sym (get_or-drop (2 * i) xs 1 0) in
     rw (first, second) refl
 
@@ -60,7 +62,25 @@ head_is b f e h =
     let info : half_at f 2 ≡ 20 = half_front f (heads.header b) 2 (byte 4 (omega arith)) (byte 5 (omega arith)) ∙ half_header2 b in
     let long : ltb (length f) 24 ≡ false = le-ltb _ _ (omega arith) in
     let inside : leb 32 (length f) ≡ true = grind (arith, nat_tests) in
-    rw (long, byte 2 (omega arith), byte 3 (omega arith), byte 12 (omega arith), byte 13 (omega arith), byte 14 (omega arith), byte 15 (omega arith), byte 8 (omega arith), byte 9 (omega arith), byte 10 (omega arith), byte 16 (omega arith), byte 17 (omega arith), size, info, inside, minor_known b) refl
+    rw (
+      long,
+      byte 2 (omega arith),
+      byte 3 (omega arith),
+      byte 12 (omega arith),
+      byte 13 (omega arith),
+      byte 14 (omega arith),
+      byte 15 (omega arith),
+      byte 8
+          (omega arith),
+      byte 9 (omega arith),
+      byte 10 (omega arith),
+      byte 16 (omega arith),
+      byte 17 (omega arith),
+      size,
+      info,
+      inside,
+      minor_known b,
+    ) refl
 
 -- only a table's item stands for a table
 abbrev has_table : Resource → Bool
@@ -75,17 +95,20 @@ has_table (table es) = true
 no : {b : Bool} → b ≡ true → b ≡ false → ⊥
 no e f = cc
 
-map_never : {A : Type 0} (f : A → Resource) (r : Result A FileFault) (t : Resource) → ((x : A) → has_table (f x) ≡ false) → result_map f r ≡ Ok t → has_table t ≡ false
+map_never : {A : Type 0} (f : A → Resource) (r : Result A FileFault) (t : Resource) → ((x : A) → has_table (f x) ≡ false) → result_map f r ≡ Ok t
+    → has_table t ≡ false
 map_never f r t h e = let a = map_ok f r t e in subst (λ (x : Resource). has_table x ≡ false) a.2 (h a.0)
 
-contents_kind : (y : Layout) (body : List ℕ) (child : ℕ → Result Resource FileFault) (o : ℕ) (k : ItemKind) (t : Resource) → contents y body child o k ≡ Ok t → has_table t ≡ true → is_table (Some k) ≡ true
+contents_kind : (y : Layout) (body : List ℕ) (child : ℕ → Result Resource FileFault) (o : ℕ) (k : ItemKind) (t : Resource) → contents y body child o k ≡ Ok t
+    → has_table t ≡ true → is_table (Some k) ≡ true
 unfolding contents
 contents_kind y body child o kinds.Table t e h = refl
 contents_kind y body child o kinds.LongTable t e h = refl
 contents_kind y body child o kinds.String t e h = absurd (no h (map_never _ _ t (λ x. refl) e))
 contents_kind y body child o kinds.Binary t e h = absurd (no h (map_never _ _ t (λ x. refl) e))
 contents_kind y body child o kinds.Alias t e h = absurd (no h (map_never _ _ t (λ x. refl) e))
-contents_kind y body child o kinds.Int t e h = let same : int o ≡ t = ok_is (int o) t e in absurd (no h (subst (λ (x : Resource). has_table x ≡ false) same refl))
+contents_kind y body child o kinds.Int t e h = let same : int o ≡ t = ok_is (int o) t e in absurd
+    (no h (subst (λ (x : Resource). has_table x ≡ false) same refl))
 contents_kind y body child o kinds.Array t e h = absurd (no h (map_never _ _ t (λ x. refl) e))
 contents_kind y body child o kinds.Ints t e h = absurd (no h (map_never _ _ t (λ x. refl) e))
 
@@ -99,7 +122,8 @@ bare_kind o kinds.Int h = absurd (no h refl)
 bare_kind o kinds.Array h = absurd (no h refl)
 bare_kind o kinds.Ints h = absurd (no h refl)
 
-node_kind : (y : Layout) (body : List ℕ) (child : ℕ → Result Resource FileFault) (item : ℕ) (t : Resource) → node y body child item ≡ Ok t → has_table t ≡ true → is_table (kind_of item) ≡ true
+node_kind : (y : Layout) (body : List ℕ) (child : ℕ → Result Resource FileFault) (item : ℕ) (t : Resource) → node y body child item ≡ Ok t → has_table t ≡ true
+    → is_table (kind_of item) ≡ true
 unfolding node
 node_kind y body child item t e h =
     let a = bind_ok (kind_or_fault (kind_of item)) (λ k. value y body child (offset_of item) k) t e in
@@ -119,12 +143,16 @@ root_kind y body (suc d) item t e h = node_kind y body _ item t e h
 
 -- ---- the whole
 
-data_read : (b : Bool) (body : List ℕ) (t : Resource) → is_laid body ≡ true → word_at body 1 ≡ index_count b → (b ≡ true → word_at body 6 ≡ 1) → is_table (kind_of (word_at body 0)) ≡ true → read (layout_of body) body 64 (word_at body 0) ≡ Ok t → read_data 64 (minor_of b) body ≡ Ok (record { tree = t; no_fallback = b })
+data_read : (b : Bool) (body : List ℕ) (t : Resource) → is_laid body ≡ true → word_at body 1 ≡ index_count b → (b ≡ true → word_at body 6 ≡ 1)
+    → is_table (kind_of (word_at body 0)) ≡ true → read (layout_of body) body 64 (word_at body 0) ≡ Ok t
+    → read_data 64 (minor_of b) body ≡ Ok (record { tree = t; no_fallback = b })
 unfolding read_data
 data_read true body t laid n a k r = let bits : attributes_of 2 body ≡ 1 = rw (n, a refl) refl in rw (laid, bits, k, r) refl
 data_read false body t laid n a k r = rw (laid, k, r) refl
 
-pub file_denotes : (b : Bool) (out : List ℕ) (root : ℕ) (area : KeyArea) (most : ℕ) (f : List ℕ) (t : Resource) → IsFile b out root area most f → IsDraft area out → area.indexes ≡ index_count b → length out + 32 ≤ 67108864 → has_table t ≡ true → read (draft area out) out 64 root ≡ Ok t → read_file 64 f ≡ Ok (record { tree = t; no_fallback = b })
+pub file_denotes : (b : Bool) (out : List ℕ) (root : ℕ) (area : KeyArea) (most : ℕ) (f : List ℕ) (t : Resource) → IsFile b out root area most f
+    → IsDraft area out → area.indexes ≡ index_count b → length out + 32 ≤ 67108864 → has_table t ≡ true → read (draft area out) out 64 root ≡ Ok t
+    → read_file 64 f ≡ Ok (record { tree = t; no_fallback = b })
 unfolding read_file
 file_denotes b out root area most f t i d n room tab e =
     let x = i.indexed in
@@ -152,7 +180,8 @@ file_denotes b out root area most f t i d n room tab e =
     let kind : is_table (kind_of root) ≡ true = root_kind (draft area out) out 64 root t e tab in
     let reads : read (layout_of (drop 32 f)) (drop 32 f) 64 root ≡ Ok t = read_grow (draft area out) (layout_of (drop 32 f)) out (drop 32 f) grow 64 root t e in
     let kind_there : is_table (kind_of (word_at (drop 32 f) 0)) ≡ true = ap (λ (m : ℕ). is_table (kind_of m)) x.root_is ∙ kind in
-    let reads_there : read (layout_of (drop 32 f)) (drop 32 f) 64 (word_at (drop 32 f) 0) ≡ Ok t = ap (λ (m : ℕ). read (layout_of (drop 32 f)) (drop 32 f) 64 m) x.root_is ∙ reads in
+    let reads_there : read (layout_of (drop 32 f)) (drop 32 f) 64 (word_at (drop 32 f) 0) ≡ Ok t = ap
+    (λ (m : ℕ). read (layout_of (drop 32 f)) (drop 32 f) 64 m) x.root_is ∙ reads in
     rw (short, front) (data_read b (drop 32 f) t laid (x.indexes ∙ n) x.attributes kind_there reads_there)
 
 -- what the writer promises of a file
@@ -162,14 +191,16 @@ pub record IsWritten (b : Bool) (t : Resource) (file : List ℕ) : Type 0 where
   pub end : length file ≡ 32 + 4 * word_at (drop 32 file) 4
   pub longest : word_at (drop 32 file) 5 ≡ longest t
 
-pub is_written : (b : Bool) (out : List ℕ) (root : ℕ) (area : KeyArea) (f : List ℕ) (t : Resource) → IsFile b out root area (longest t) f → IsDraft area out → area.indexes ≡ index_count b → length out ≤ 32 + 33554432 → Fits t → read (draft area out) out (height t) root ≡ Ok t → IsWritten b t f
+pub is_written : (b : Bool) (out : List ℕ) (root : ℕ) (area : KeyArea) (f : List ℕ) (t : Resource) → IsFile b out root area (longest t) f → IsDraft area out
+    → area.indexes ≡ index_count b → length out ≤ 32 + 33554432 → Fits t → read (draft area out) out (height t) root ≡ Ok t → IsWritten b t f
 is_written b out root area f t i d n room fits e =
     let x = i.indexed in
     let w = d.whole in let l = x.len in let long = i.long in
     let up : read (draft area out) out 64 root ≡ Ok t = read_raise (draft area out) out (height t) 64 root t e fits.low in
     let fl : length (drop 32 f) + 32 ≡ length f = omega (arith, length-drop 32 f) in
     record {
-      denotes = denotes_read f (record { tree = t; no_fallback = b }) (file_denotes b out root area (longest t) f t i d n (omega arith) (table_kind t fits.is_table) up);
+      denotes = denotes_read f (record { tree = t; no_fallback = b })
+          (file_denotes b out root area (longest t) f t i d n (omega arith) (table_kind t fits.is_table) up);
       front = i.front;
       end = rw x.top (omega arith);
       longest = x.longest;

@@ -29,7 +29,8 @@ keys_push old r a k = All-append (λ (q : Bor (List ℕ)). IsKey q.now) old (r �
     one zero d h = k
     one (suc i) d h = absurd (omega arith)
 
-pub gathers : (t : Resource) (found keys : List (Bor (List ℕ))) → map (λ r. r.now) found ≡ [] ++ tree_keys t → All (λ r. IsKey r.now) found → IsPermutation found keys → GathersKeys t keys
+pub gathers : (t : Resource) (found keys : List (Bor (List ℕ))) → map (λ r. r.now) found ≡ [] ++ tree_keys t → All (λ r. IsKey r.now) found
+    → IsPermutation found keys → GathersKeys t keys
 gathers t found keys e a p = record { found = found; are = e; same = p; is_key = All-permutation (λ (r : Bor (List ℕ)). IsKey r.now) found keys p a }
 
 -- what the keys take doesn't depend on their order

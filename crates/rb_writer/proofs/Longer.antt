@@ -3,7 +3,8 @@ use Rattle.std.proofs.Common.{◌≡◌, ℕ, zero, suc, ◌+◌, ◌≤◌, max
 use Rattle.std.proofs.lemmas.List.{drop_all, length-map}
 use Rattle.std.specs.Prelude.{slice_get}
 use Rattle.std.specs.Map.{values_of}
-use Rattle.rb_tree.specs.Resource.{Resource, string, int, ints, binary, alias, array, table, Resources, no_trees, tree_and, Members, no_entries, entry_and, weight, trees_weight, entries_weight}
+use Rattle.rb_tree.specs.Resource.{Resource, string, int, ints, binary, alias, array, table, Resources}
+use Rattle.rb_tree.specs.Resource.{no_trees, tree_and, Members, no_entries, entry_and, weight, trees_weight, entries_weight}
 use Rattle.rb_tree.specs.Keys.{items, pairs}
 use Rattle.rb_writer.specs.Longest.{longest, longest_of_trees, longest_of_entries}
 
@@ -24,7 +25,8 @@ longest_turn [] i u e = cc
 longest_turn (t ∷ ts) zero u e = let s : t ≡ u = cc in ap (λ (v : Resource). max (longest v) (longest_in ts)) s
 longest_turn (t ∷ ts) (suc i) u e = longest_turn ts i u e
 
-pub longest_more : (ts : List Resource) (i m n : ℕ) (u : Resource) (all : ℕ) → n ≡ longest u → Some u ≡ slice_get ts i → max m (longest_in (drop i ts)) ≡ all → max (max n m) (longest_in (drop (i + 1) ts)) ≡ all
+pub longest_more : (ts : List Resource) (i m n : ℕ) (u : Resource) (all : ℕ) → n ≡ longest u → Some u ≡ slice_get ts i → max m (longest_in (drop i ts)) ≡ all
+    → max (max n m) (longest_in (drop (i + 1) ts)) ≡ all
 longest_more ts i m n u all e f g =
     let up : i + 1 ≡ suc i = omega arith in
     let turn = longest_turn ts i u f in

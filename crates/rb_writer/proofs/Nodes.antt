@@ -1,11 +1,13 @@
 -- Items stand for what was written.
 use Rattle.rb_writer.specs.declared.area.KeyArea.{KeyArea}
-use Rattle.std.proofs.Common.{◌≡◌, ℕ, zero, suc, ◌+◌, ◌*◌, ◌/◌, ◌≤◌, ℤ, true, false, ltb, List, [], ◌∷◌, ◌++◌, length, get_or, drop, map, Some, Result, Ok, Err, refl, sym, ap, ◌∙◌, arith, inl, inr}
+use Rattle.std.proofs.Common.{◌≡◌, ℕ, zero, suc, ◌+◌, ◌*◌, ◌/◌, ◌≤◌, ℤ, true, false, ltb, List, [], ◌∷◌, ◌++◌}
+use Rattle.std.proofs.Common.{length, get_or, drop, map, Some, Result, Ok, Err, refl, sym, ap, ◌∙◌, arith, inl, inr}
 use Rattle.std.proofs.lemmas.Bool.{le-ltb, lt-ltb, cases_eq}
 use Rattle.std.proofs.lemmas.List.{get_or_push, get_or_append_left, length_push}
 use Rattle.std.specs.Prelude.{slice_get}
 use Rattle.std.specs.Int.{cast_signed, w32}
-use Rattle.rb_tree.specs.Resource.{Resource, string, int, ints, binary, alias, array, table, Resources, no_trees, tree_and, Members, no_entries, entry_and, height}
+use Rattle.rb_tree.specs.Resource.{Resource, string, int, ints, binary, alias, array, table}
+use Rattle.rb_tree.specs.Resource.{Resources, no_trees, tree_and, Members, no_entries, entry_and, height}
 use Rattle.rb_tree.specs.Parts.{children_of}
 use Rattle.rb_tree.specs.Keys.{items, pairs}
 use Rattle.rb_tree.specs.View.{view_of}
@@ -42,12 +44,14 @@ grows_draft area a b d h = let w = d.whole in let lo = d.low in let hi = d.high 
 pub keys_stay : (area : KeyArea) (a b : List ℕ) (keys : KeyPlaces) → IsDraft area a → Adds a b → KeysStand area a keys → KeysStand area b keys
 keys_stay area a b keys d h s = λ k o e. key_same (draft area a) (draft area b) a b (grows_draft area a b d h) o ∙ s k o e
 
-pub stays : (area : KeyArea) (a b : List ℕ) (l item : ℕ) (t : Resource) → IsDraft area a → Adds a b → read (draft area a) a l item ≡ Ok t → read (draft area b) b l item ≡ Ok t
+pub stays : (area : KeyArea) (a b : List ℕ) (l item : ℕ) (t : Resource) → IsDraft area a → Adds a b → read (draft area a) a l item ≡ Ok t
+    → read (draft area b) b l item ≡ Ok t
 stays area a b l item t d h e = read_grow (draft area a) (draft area b) a b (grows_draft area a b d h) l item t e
 
 -- ---- children
 
-pub most_turn : (cs : List Resource) (i : ℕ) (u : Resource) → Some u ≡ slice_get cs i → children_most (drop i cs) ≡ data_most u + children_most (drop (suc i) cs)
+pub most_turn : (cs : List Resource) (i : ℕ) (u : Resource) → Some u ≡ slice_get cs i
+    → children_most (drop i cs) ≡ data_most u + children_most (drop (suc i) cs)
 most_turn [] i u e = cc
 most_turn (t ∷ cs) zero u e = let s : t ≡ u = cc in ap (λ (v : Resource). data_most v + children_most cs) s
 most_turn (t ∷ cs) (suc i) u e = most_turn cs i u e
@@ -61,10 +65,12 @@ most_part (t ∷ cs) (suc i) = omega (arith, most_part cs i)
 pub children_none : (area : KeyArea) (old : List ℕ) (cs : List Resource) → IsDraft area old → ChildrenStand area old old cs [] 0
 children_none area old cs d = record { adds = adds_refl old; drafted = d; little = omega arith; count = refl; reads = λ j u h. absurd (omega arith) }
 
-pub child_room : (area : KeyArea) (old mid : List ℕ) (cs : List Resource) (is : List ℕ) (n most : ℕ) (u : Resource) → ChildrenStand area old mid cs is n → Some u ≡ slice_get cs n → length old + children_most cs ≤ most → length mid + data_most u ≤ most
+pub child_room : (area : KeyArea) (old mid : List ℕ) (cs : List Resource) (is : List ℕ) (n most : ℕ) (u : Resource) → ChildrenStand area old mid cs is n
+    → Some u ≡ slice_get cs n → length old + children_most cs ≤ most → length mid + data_most u ≤ most
 child_room area old mid cs is n most u s e h = let l = s.little in omega (arith, most_turn cs n u e)
 
-pub children_more : (area : KeyArea) (old mid new : List ℕ) (cs : List Resource) (is : List ℕ) (n item : ℕ) (u : Resource) → ChildrenStand area old mid cs is n → Some u ≡ slice_get cs n → Stands area mid new u item → ChildrenStand area old new cs (is ++ item ∷ []) (n + 1)
+pub children_more : (area : KeyArea) (old mid new : List ℕ) (cs : List Resource) (is : List ℕ) (n item : ℕ) (u : Resource) → ChildrenStand area old mid cs is n
+    → Some u ≡ slice_get cs n → Stands area mid new u item → ChildrenStand area old new cs (is ++ item ∷ []) (n + 1)
 children_more area old mid new cs is n item u s e p =
     let l = s.little in let m = p.little in let c = s.count in
     let up : n + 1 ≡ suc n = omega arith in
@@ -112,7 +118,8 @@ children_le (table es) = omega (arith, members_count es)
 
 -- ---- an item of what was put
 
-pub put_node : {A : Type 0} (area : KeyArea) (old new : List ℕ) (most : ℕ) (reads : Layout → List ℕ → ℕ → Result A FileFault) (x none : A) (o item : ℕ) (k : ItemKind) (f : A → Resource) (child : ℕ → Result Resource FileFault)
+pub put_node : {A : Type 0} (area : KeyArea) (old new : List ℕ) (most : ℕ) (reads : Layout → List ℕ → ℕ → Result A FileFault) (x none : A) (o item : ℕ)
+    (k : ItemKind) (f : A → Resource) (child : ℕ → Result Resource FileFault)
     → Put area old new most reads x none o → kind_of item ≡ Some k → offset_of item ≡ o → ((p : ℕ) → has_data k p ≡ ltb 0 p)
     → contents (draft area new) new child o k ≡ result_map f (reads (draft area new) new o) → bare k 0 ≡ f none
     → node (draft area new) new child item ≡ Ok (f x)
@@ -132,43 +139,53 @@ put_node area old new most reads x none o item k f child p ki oi filled same non
           rw (test, a, b) (same ∙ ap (result_map f) q.2)
     ])
 
-read_one : (area : KeyArea) (new : List ℕ) (item : ℕ) (t : Resource) → node (draft area new) new (λ w. read (draft area new) new 0 w) item ≡ Ok t → read (draft area new) new 1 item ≡ Ok t
+read_one : (area : KeyArea) (new : List ℕ) (item : ℕ) (t : Resource) → node (draft area new) new (λ w. read (draft area new) new 0 w) item ≡ Ok t
+    → read (draft area new) new 1 item ≡ Ok t
 unfolding read
 read_one area new item t e = e
 
-pub read_more : (area : KeyArea) (new : List ℕ) (d item : ℕ) (t : Resource) → node (draft area new) new (λ w. read (draft area new) new d w) item ≡ Ok t → read (draft area new) new (suc d) item ≡ Ok t
+pub read_more : (area : KeyArea) (new : List ℕ) (d item : ℕ) (t : Resource) → node (draft area new) new (λ w. read (draft area new) new d w) item ≡ Ok t
+    → read (draft area new) new (suc d) item ≡ Ok t
 unfolding read
 read_more area new d item t e = e
 
-string_contents : (y : Layout) (body : List ℕ) (child : ℕ → Result Resource FileFault) (o : ℕ) → contents y body child o kinds.String ≡ result_map string (units y body o)
+string_contents : (y : Layout) (body : List ℕ) (child : ℕ → Result Resource FileFault) (o : ℕ)
+    → contents y body child o kinds.String ≡ result_map string (units y body o)
 unfolding contents
 string_contents y body child o = refl
 
-alias_contents : (y : Layout) (body : List ℕ) (child : ℕ → Result Resource FileFault) (o : ℕ) → contents y body child o kinds.Alias ≡ result_map alias (units y body o)
+alias_contents : (y : Layout) (body : List ℕ) (child : ℕ → Result Resource FileFault) (o : ℕ)
+    → contents y body child o kinds.Alias ≡ result_map alias (units y body o)
 unfolding contents
 alias_contents y body child o = refl
 
-binary_contents : (y : Layout) (body : List ℕ) (child : ℕ → Result Resource FileFault) (o : ℕ) → contents y body child o kinds.Binary ≡ result_map binary (bytes y body o)
+binary_contents : (y : Layout) (body : List ℕ) (child : ℕ → Result Resource FileFault) (o : ℕ)
+    → contents y body child o kinds.Binary ≡ result_map binary (bytes y body o)
 unfolding contents
 binary_contents y body child o = refl
 
-ints_contents : (y : Layout) (body : List ℕ) (child : ℕ → Result Resource FileFault) (o : ℕ) → contents y body child o kinds.Ints ≡ result_map ints (signed_numbers y body o)
+ints_contents : (y : Layout) (body : List ℕ) (child : ℕ → Result Resource FileFault) (o : ℕ)
+    → contents y body child o kinds.Ints ≡ result_map ints (signed_numbers y body o)
 unfolding contents
 ints_contents y body child o = both (numbers y body o)
   where
-    both : (r : Result (List ℕ) FileFault) → result_map (λ ns. ints (map (cast_signed w32) ns)) r ≡ result_map ints (result_map (λ ns. map (cast_signed w32) ns) r)
+    both : (r : Result (List ℕ) FileFault) → result_map (λ ns. ints (map (cast_signed w32) ns)) r ≡ result_map ints
+        (result_map (λ ns. map (cast_signed w32) ns) r)
     both (Ok x) = refl
     both (Err e) = refl
 
-pub string_stands : (area : KeyArea) (old new us : List ℕ) (o item : ℕ) (t : Tree) → t ≡ trees.String us → Put area old new (8 + 2 * length us) units us [] o → kind_of item ≡ Some kinds.String → offset_of item ≡ o → Stands area old new (view_of t) item
+pub string_stands : (area : KeyArea) (old new us : List ℕ) (o item : ℕ) (t : Tree) → t ≡ trees.String us → Put area old new (8 + 2 * length us) units us [] o
+    → kind_of item ≡ Some kinds.String → offset_of item ≡ o → Stands area old new (view_of t) item
 string_stands area old new us o item t is p ki oi = rw is (record {
   adds = p.adds;
   drafted = p.drafted;
   little = p.little;
-  reads = read_one area new item (string us) (put_node area old new _ units us [] o item kinds.String string _ p ki oi (λ q. refl) (string_contents _ _ _ o) refl);
+  reads = read_one area new item (string us)
+      (put_node area old new _ units us [] o item kinds.String string _ p ki oi (λ q. refl) (string_contents _ _ _ o) refl);
 })
 
-pub alias_stands : (area : KeyArea) (old new us : List ℕ) (o item : ℕ) (t : Tree) → t ≡ trees.Alias us → Put area old new (8 + 2 * length us) units us [] o → kind_of item ≡ Some kinds.Alias → offset_of item ≡ o → Stands area old new (view_of t) item
+pub alias_stands : (area : KeyArea) (old new us : List ℕ) (o item : ℕ) (t : Tree) → t ≡ trees.Alias us → Put area old new (8 + 2 * length us) units us [] o
+    → kind_of item ≡ Some kinds.Alias → offset_of item ≡ o → Stands area old new (view_of t) item
 alias_stands area old new us o item t is p ki oi = rw is (record {
   adds = p.adds;
   drafted = p.drafted;
@@ -176,29 +193,35 @@ alias_stands area old new us o item t is p ki oi = rw is (record {
   reads = read_one area new item (alias us) (put_node area old new _ units us [] o item kinds.Alias alias _ p ki oi (λ q. refl) (alias_contents _ _ _ o) refl);
 })
 
-pub binary_stands : (area : KeyArea) (old new bs : List ℕ) (o item : ℕ) (t : Tree) → t ≡ trees.Binary bs → Put area old new (20 + length bs) bytes bs [] o → kind_of item ≡ Some kinds.Binary → offset_of item ≡ o → Stands area old new (view_of t) item
+pub binary_stands : (area : KeyArea) (old new bs : List ℕ) (o item : ℕ) (t : Tree) → t ≡ trees.Binary bs → Put area old new (20 + length bs) bytes bs [] o
+    → kind_of item ≡ Some kinds.Binary → offset_of item ≡ o → Stands area old new (view_of t) item
 binary_stands area old new bs o item t is p ki oi = rw is (record {
   adds = p.adds;
   drafted = p.drafted;
   little = p.little;
-  reads = read_one area new item (binary bs) (put_node area old new _ bytes bs [] o item kinds.Binary binary _ p ki oi (λ q. refl) (binary_contents _ _ _ o) refl);
+  reads = read_one area new item (binary bs)
+      (put_node area old new _ bytes bs [] o item kinds.Binary binary _ p ki oi (λ q. refl) (binary_contents _ _ _ o) refl);
 })
 
-pub ints_stand : (area : KeyArea) (old new : List ℕ) (zs : List ℤ) (o item : ℕ) (t : Tree) → t ≡ trees.Ints zs → Put area old new (4 + 4 * length zs) signed_numbers zs [] o → kind_of item ≡ Some kinds.Ints → offset_of item ≡ o → Stands area old new (view_of t) item
+pub ints_stand : (area : KeyArea) (old new : List ℕ) (zs : List ℤ) (o item : ℕ) (t : Tree) → t ≡ trees.Ints zs
+    → Put area old new (4 + 4 * length zs) signed_numbers zs [] o → kind_of item ≡ Some kinds.Ints → offset_of item ≡ o → Stands area old new (view_of t) item
 ints_stand area old new zs o item t is p ki oi = rw is (record {
   adds = p.adds;
   drafted = p.drafted;
   little = p.little;
-  reads = read_one area new item (ints zs) (put_node area old new _ signed_numbers zs [] o item kinds.Ints ints _ p ki oi (λ q. refl) (ints_contents _ _ _ o) refl);
+  reads = read_one area new item (ints zs)
+      (put_node area old new _ signed_numbers zs [] o item kinds.Ints ints _ p ki oi (λ q. refl) (ints_contents _ _ _ o) refl);
 })
 
-int_node : (y : Layout) (body : List ℕ) (child : ℕ → Result Resource FileFault) (n item : ℕ) → kind_of item ≡ Some kinds.Int → offset_of item ≡ n → node y body child item ≡ Ok (int n)
+int_node : (y : Layout) (body : List ℕ) (child : ℕ → Result Resource FileFault) (n item : ℕ) → kind_of item ≡ Some kinds.Int → offset_of item ≡ n
+    → node y body child item ≡ Ok (int n)
 unfolding node value
 int_node y body child n item ki oi =
     let start : kind_or_fault (kind_of item) ≡ Ok kinds.Int = ap kind_or_fault ki in
     rw (start, oi) refl
 
-pub int_stands : (area : KeyArea) (old : List ℕ) (n item : ℕ) (t : Tree) → t ≡ trees.Int n → IsDraft area old → kind_of item ≡ Some kinds.Int → offset_of item ≡ n → Stands area old old (view_of t) item
+pub int_stands : (area : KeyArea) (old : List ℕ) (n item : ℕ) (t : Tree) → t ≡ trees.Int n → IsDraft area old → kind_of item ≡ Some kinds.Int
+    → offset_of item ≡ n → Stands area old old (view_of t) item
 int_stands area old n item t is d ki oi = rw is (record {
   adds = adds_refl old;
   drafted = d;

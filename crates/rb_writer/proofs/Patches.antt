@@ -1,6 +1,8 @@
 -- Words that were replaced, and the file that comes of them.
-use Rattle.std.proofs.Common.{◌≡◌, ℕ, ◌+◌, ◌-◌, ◌*◌, ◌/◌, ◌^◌, ◌<◌, ◌≤◌, Bool, true, false, List, [], ◌++◌, length, get_or, take, drop, refl, sym, ap, ◌∙◌, arith, subst}
-use Rattle.std.proofs.lemmas.List.{get_or_append_left, get_or-append_right, length-append, length-drop, length-take, get_or-drop, get_or-take, take-append-le, take_all, drop_all, append-nil}
+use Rattle.std.proofs.Common.{◌≡◌, ℕ, ◌+◌, ◌-◌, ◌*◌, ◌/◌, ◌^◌, ◌<◌, ◌≤◌, Bool, true, false, List}
+use Rattle.std.proofs.Common.{[], ◌++◌, length, get_or, take, drop, refl, sym, ap, ◌∙◌, arith, subst}
+use Rattle.std.proofs.lemmas.List.{get_or_append_left, get_or-append_right, length-append, length-drop, length-take, get_or-drop}
+use Rattle.std.proofs.lemmas.List.{get_or-take, take-append-le, take_all, drop_all, append-nil}
 use Rattle.byteorder.specs.Endian.{little_bytes}
 use Rattle.byteorder.specs.Numbers.{little_number-reads_back}
 use Rattle.rb_format.specs.Place.{word_at}
@@ -13,14 +15,23 @@ pub five_or_six : (b : Bool) (n : ℕ) → n ≡ index_count b → (5 ≤ n) × 
 five_or_six true n e = (omega arith, omega arith)
 five_or_six false n e = (omega arith, omega arith)
 
-replaced : (old : List ℕ) (i w : ℕ) → 4 * i + 4 ≤ length old → w < 2 ^ 32 → SetsWord old (take (4 * i) old ++ (little_bytes 4 w ++ drop 4 (drop (4 * i) old))) i w
+replaced : (old : List ℕ) (i w : ℕ) → 4 * i + 4 ≤ length old → w < 2 ^ 32
+    → SetsWord old (take (4 * i) old ++ (little_bytes 4 w ++ drop 4 (drop (4 * i) old))) i w
 unfolding word_at
 replaced old i w h l =
     let front : length (take (4 * i) old) ≡ 4 * i = omega (arith, length-take (4 * i) old) in
     let mid : length (little_bytes 4 w) ≡ 4 = refl in
     record {
-      len = omega (arith, length-append (take (4 * i) old) (little_bytes 4 w ++ drop 4 (drop (4 * i) old)), length-append (little_bytes 4 w) (drop 4 (drop (4 * i) old)), length-drop 4 (drop (4 * i) old), length-drop (4 * i) old);
-      word_is = rw (drop_append (4 * i) (take (4 * i) old) (little_bytes 4 w ++ drop 4 (drop (4 * i) old)) front) (little_number-reads_back 4 w (drop 4 (drop (4 * i) old)) l);
+      len = omega (
+        arith,
+        length-append (take (4 * i) old) (little_bytes 4 w ++ drop 4 (drop (4 * i) old)),
+        length-append (little_bytes 4 w)
+            (drop 4 (drop (4 * i) old)),
+        length-drop 4 (drop (4 * i) old),
+        length-drop (4 * i) old,
+      );
+      word_is = rw (drop_append (4 * i) (take (4 * i) old) (little_bytes 4 w ++ drop 4 (drop (4 * i) old)) front)
+          (little_number-reads_back 4 w (drop 4 (drop (4 * i) old)) l);
       before = λ j b. get_or_append_left (take (4 * i) old) (little_bytes 4 w ++ drop 4 (drop (4 * i) old)) 0 j (omega arith) ∙ get_or-take (4 * i) old j 0 b;
       after = λ j b.
           let at : 4 * i + (4 + (j - 4 * i - 4)) ≡ j = omega arith in
@@ -29,33 +40,41 @@ replaced old i w h l =
           ∙ get_or-drop 4 (drop (4 * i) old) (j - 4 * i - 4) 0 ∙ get_or-drop (4 * i) old (4 + (j - 4 * i - 4)) 0 ∙ ap (λ m. get_or old m 0) at;
     }
 
-pub sets_word : (old : List ℕ) (i w : ℕ) (part : List ℕ) (k : ℕ) → part ≡ little_bytes 4 w → k ≡ 4 → 4 * i + 4 ≤ length old → w < 2 ^ 32 → SetsWord old (take (4 * i) old ++ (part ++ drop k (drop (4 * i) old))) i w
+pub sets_word : (old : List ℕ) (i w : ℕ) (part : List ℕ) (k : ℕ) → part ≡ little_bytes 4 w → k ≡ 4 → 4 * i + 4 ≤ length old → w < 2 ^ 32
+    → SetsWord old (take (4 * i) old ++ (part ++ drop k (drop (4 * i) old))) i w
 sets_word old i w part k e f h l = rw (e, f) (replaced old i w h l)
 
 -- an earlier word stays
 kept : (a b : List ℕ) (i w j : ℕ) → SetsWord a b i w → j < i → word_at b j ≡ word_at a j
 unfolding word_at
 kept a b i w j s h =
-    let byte : (k : ℕ) → k < 4 → get_or (drop (4 * j) b) k 0 ≡ get_or (drop (4 * j) a) k 0 = λ k g. get_or-drop (4 * j) b k 0 ∙ s.before (4 * j + k) (omega arith) ∙ sym (get_or-drop (4 * j) a k 0) in
+    let byte : (k : ℕ) → k < 4 → get_or (drop (4 * j) b) k 0 ≡ get_or (drop (4 * j) a) k 0 = λ k g. get_or-drop (4 * j) b k 0
+    ∙ s.before (4 * j + k) (omega arith) ∙ sym (get_or-drop (4 * j) a k 0) in
     rw (byte 0 (omega arith), byte 1 (omega arith), byte 2 (omega arith), byte 3 (omega arith)) refl
 
 never : {A : Type 0} (b : Bool) → b ≡ false → b ≡ true → A
 never b e f = absurd cc
 
-pub plain_indexed : (b : Bool) (b0 b1 b2 b3 b4 b5 b6 : List ℕ) (root most : ℕ) (area : KeyArea) → b ≡ false → 5 ≤ area.indexes → SetsWord b0 b1 0 root → SetsWord b1 b2 1 area.indexes → SetsWord b2 b3 2 area.top → SetsWord b3 b4 3 (length b0 / 4) → SetsWord b4 b5 4 (length b0 / 4) → SetsWord b5 b6 5 most → IsIndexed b b0 root area most b6
+pub plain_indexed : (b : Bool) (b0 b1 b2 b3 b4 b5 b6 : List ℕ) (root most : ℕ) (area : KeyArea) → b ≡ false → 5 ≤ area.indexes → SetsWord b0 b1 0 root
+    → SetsWord b1 b2 1 area.indexes → SetsWord b2 b3 2 area.top → SetsWord b3 b4 3 (length b0 / 4) → SetsWord b4 b5 4 (length b0 / 4) → SetsWord b5 b6 5 most
+    → IsIndexed b b0 root area most b6
 plain_indexed b b0 b1 b2 b3 b4 b5 b6 root most area e h s0 s1 s2 s3 s4 s5 = record {
   len = s5.len ∙ s4.len ∙ s3.len ∙ s2.len ∙ s1.len ∙ s0.len;
-  root_is = kept b5 b6 5 _ 0 s5 (omega arith) ∙ kept b4 b5 4 _ 0 s4 (omega arith) ∙ kept b3 b4 3 _ 0 s3 (omega arith) ∙ kept b2 b3 2 _ 0 s2 (omega arith) ∙ kept b1 b2 1 _ 0 s1 (omega arith) ∙ s0.word_is;
-  indexes = kept b5 b6 5 _ 1 s5 (omega arith) ∙ kept b4 b5 4 _ 1 s4 (omega arith) ∙ kept b3 b4 3 _ 1 s3 (omega arith) ∙ kept b2 b3 2 _ 1 s2 (omega arith) ∙ s1.word_is;
+  root_is = kept b5 b6 5 _ 0 s5 (omega arith) ∙ kept b4 b5 4 _ 0 s4 (omega arith) ∙ kept b3 b4 3 _ 0 s3 (omega arith) ∙ kept b2 b3 2 _ 0 s2 (omega arith)
+      ∙ kept b1 b2 1 _ 0 s1 (omega arith) ∙ s0.word_is;
+  indexes = kept b5 b6 5 _ 1 s5 (omega arith) ∙ kept b4 b5 4 _ 1 s4 (omega arith) ∙ kept b3 b4 3 _ 1 s3 (omega arith) ∙ kept b2 b3 2 _ 1 s2 (omega arith)
+      ∙ s1.word_is;
   keys_top = kept b5 b6 5 _ 2 s5 (omega arith) ∙ kept b4 b5 4 _ 2 s4 (omega arith) ∙ kept b3 b4 3 _ 2 s3 (omega arith) ∙ s2.word_is;
   items_top = kept b5 b6 5 _ 3 s5 (omega arith) ∙ kept b4 b5 4 _ 3 s4 (omega arith) ∙ s3.word_is;
   top = kept b5 b6 5 _ 4 s5 (omega arith) ∙ s4.word_is;
   longest = s5.word_is;
   attributes = never b e;
-  same = λ i g. s5.after i (omega arith) ∙ s4.after i (omega arith) ∙ s3.after i (omega arith) ∙ s2.after i (omega arith) ∙ s1.after i (omega arith) ∙ s0.after i (omega arith);
+  same = λ i g. s5.after i (omega arith) ∙ s4.after i (omega arith) ∙ s3.after i (omega arith) ∙ s2.after i (omega arith) ∙ s1.after i (omega arith)
+      ∙ s0.after i (omega arith);
 }
 
-pub flagged_indexed : (b : Bool) (b0 b6 b7 : List ℕ) (root most : ℕ) (area : KeyArea) → area.indexes ≡ 6 → IsIndexed false b0 root area most b6 → SetsWord b6 b7 6 1 → IsIndexed b b0 root area most b7
+pub flagged_indexed : (b : Bool) (b0 b6 b7 : List ℕ) (root most : ℕ) (area : KeyArea) → area.indexes ≡ 6 → IsIndexed false b0 root area most b6
+    → SetsWord b6 b7 6 1 → IsIndexed b b0 root area most b7
 flagged_indexed b b0 b6 b7 root most area e x s = record {
   len = s.len ∙ x.len;
   root_is = kept b6 b7 6 1 0 s (omega arith) ∙ x.root_is;
@@ -69,7 +88,8 @@ flagged_indexed b b0 b6 b7 root most area e x s = record {
 }
 
 -- a header and data make a file
-pub joined : (b : Bool) (out front body : List ℕ) (root : ℕ) (area : KeyArea) (most : ℕ) → front ≡ header b → IsIndexed b out root area most body → IsFile b out root area most (front ++ body)
+pub joined : (b : Bool) (out front body : List ℕ) (root : ℕ) (area : KeyArea) (most : ℕ) → front ≡ header b → IsIndexed b out root area most body
+    → IsFile b out root area most (front ++ body)
 joined b out front body root area most e x =
     let size : length front ≡ 32 = ap length e in
     let back : drop 32 (front ++ body) ≡ body = drop_append 32 front body size in
@@ -80,7 +100,8 @@ joined b out front body root area most e x =
     }
 
 -- a file that was written over another of its length
-pub written_over : (b : Bool) (out : List ℕ) (root : ℕ) (area : KeyArea) (most n : ℕ) (given items : List ℕ) → IsFile b (drop 32 items) root area most given → drop 32 items ≡ out → 32 ≤ length items → n ≡ length items → IsFile b out root area most (take n (given ++ drop (length given) items))
+pub written_over : (b : Bool) (out : List ℕ) (root : ℕ) (area : KeyArea) (most n : ℕ) (given items : List ℕ) → IsFile b (drop 32 items) root area most given
+    → drop 32 items ≡ out → 32 ≤ length items → n ≡ length items → IsFile b out root area most (take n (given ++ drop (length given) items))
 written_over b out root area most n given items f e h l =
     let long = f.long in let x = f.indexed in let len = x.len in
     let same : length given ≡ length items = omega (arith, length-drop 32 given, length-drop 32 items) in

@@ -1,6 +1,7 @@
 -- A key that was written is read where it stands.
 use Rattle.rb_writer.specs.declared.area.KeyArea.{KeyArea}
-use Rattle.std.proofs.Common.{◌≡◌, ℕ, suc, ◌+◌, ◌-◌, ◌*◌, ◌<◌, ◌≤◌, Bool, true, false, cond, ltb, List, [], ◌∷◌, ◌++◌, length, get_or, take, drop, Option, Some, refl, sym, ap, ◌∙◌, arith, position, subst, inl, inr, ◌⊎◌}
+use Rattle.std.proofs.Common.{◌≡◌, ℕ, suc, ◌+◌, ◌-◌, ◌*◌, ◌<◌, ◌≤◌, Bool, true, false, cond, ltb, List, [], ◌∷◌, ◌++◌}
+use Rattle.std.proofs.Common.{length, get_or, take, drop, Option, Some, refl, sym, ap, ◌∙◌, arith, position, subst, inl, inr, ◌⊎◌}
 use Rattle.std.proofs.lemmas.Bool.Decides.{nat_tests}
 use Rattle.std.proofs.lemmas.Bool.{le-ltb, lt-ltb}
 use Rattle.std.proofs.lemmas.List.{get_or-drop, get_or-take, length-drop, length-take, ext_get_or, length_push, get_or_push}
@@ -26,7 +27,8 @@ not_nul : (x : ℕ) → IsPlain x → (x == 0) ≡ false
 not_nul x h = let a = h.0 in grind (arith, nat_tests)
 
 -- the first NUL of a run stands behind the key
-nul_at : (k run : List ℕ) → All IsPlain k → take (length k) run ≡ k → length k < length run → get_or run (length k) 0 ≡ 0 → position_or_len (λ b. b == 0) run ≡ length k
+nul_at : (k run : List ℕ) → All IsPlain k → take (length k) run ≡ k → length k < length run → get_or run (length k) 0 ≡ 0
+    → position_or_len (λ b. b == 0) run ≡ length k
 nul_at k [] h t l e = absurd (omega arith)
 nul_at [] (b ∷ run) h t l e = rw e refl
 nul_at (x ∷ k) (b ∷ run) h t l e =
@@ -35,24 +37,29 @@ nul_at (x ∷ k) (b ∷ run) h t l e =
     let no : (x == 0) ≡ false = not_nul x (h 0 x (omega arith)) in
     rw (same, no, nul_at k run (λ i d g. h (suc i) d (omega arith)) rest (omega arith) e) (omega arith)
 
-first_nul : (k run : List ℕ) → All IsPlain k → take (length k) run ≡ k → length k < length run → get_or run (length k) 0 ≡ 0 → position (λ b. b == 0) run ≡ Some (length k)
+first_nul : (k run : List ℕ) → All IsPlain k → take (length k) run ≡ k → length k < length run → get_or run (length k) 0 ≡ 0
+    → position (λ b. b == 0) run ≡ Some (length k)
 first_nul k run h t l e = let test : ltb (length k) (length run) ≡ true = lt-ltb _ _ l in rw (nul_at k run h t l e, test) refl
 
 pub key_front_is : (k run : List ℕ) → IsKey k → take (length k) run ≡ k → length k < length run → get_or run (length k) 0 ≡ 0 → key_front run ≡ Some k
 key_front_is k run h t l e = rw (first_nul k run h.1 t l e, t, ok_key k h) refl
 
-pub key_reads : (area : KeyArea) (body k : List ℕ) (o : ℕ) → KeyAt (4 * (1 + area.indexes)) body k o → length body ≡ 4 * area.top → key (draft area body) body o ≡ Some k
+pub key_reads : (area : KeyArea) (body k : List ℕ) (o : ℕ) → KeyAt (4 * (1 + area.indexes)) body k o → length body ≡ 4 * area.top
+    → key (draft area body) body o ≡ Some k
 unfolding key
 key_reads area body k o p e =
     let lo = p.low in let ins = p.inside in
     let a : ltb o (4 * (1 + area.indexes)) ≡ false = le-ltb _ _ lo in
     let b : ltb o (4 * area.top) ≡ true = lt-ltb _ _ (omega arith) in
-    let len : length (take (4 * area.top - o) (drop o body)) ≡ 4 * area.top - o = omega (arith, length-take (4 * area.top - o) (drop o body), length-drop o body) in
+    let len : length (take (4 * area.top - o) (drop o body)) ≡ 4 * area.top - o = omega
+    (arith, length-take (4 * area.top - o) (drop o body), length-drop o body) in
     let front : take (length k) (take (4 * area.top - o) (drop o body)) ≡ k =
     ext_get_or 0 _ _ (omega (arith, len, length-take (length k) (take (4 * area.top - o) (drop o body)))) (λ j h.
     let below : j < length k = omega (arith, length-take (length k) (take (4 * area.top - o) (drop o body))) in
-    get_or-take (length k) (take (4 * area.top - o) (drop o body)) j 0 below ∙ get_or-take (4 * area.top - o) (drop o body) j 0 (omega arith) ∙ sym (get_or-take (length k) (drop o body) j 0 below) ∙ ap (λ (xs : List ℕ). get_or xs j 0) p.bytes) in
-    let end : get_or (take (4 * area.top - o) (drop o body)) (length k) 0 ≡ 0 = get_or-take (4 * area.top - o) (drop o body) (length k) 0 (omega arith) ∙ get_or-drop o body (length k) 0 ∙ p.ended in
+    get_or-take (length k) (take (4 * area.top - o) (drop o body)) j 0 below ∙ get_or-take (4 * area.top - o) (drop o body) j 0 (omega arith)
+    ∙ sym (get_or-take (length k) (drop o body) j 0 below) ∙ ap (λ (xs : List ℕ). get_or xs j 0) p.bytes) in
+    let end : get_or (take (4 * area.top - o) (drop o body)) (length k) 0 ≡ 0 = get_or-take (4 * area.top - o) (drop o body) (length k) 0 (omega arith)
+    ∙ get_or-drop o body (length k) 0 ∙ p.ended in
     rw (a, b) (key_front_is k (take (4 * area.top - o) (drop o body)) p.is_key front (omega arith) end)
 
 -- a key stays where it stands
@@ -65,7 +72,8 @@ key_at_stays start a b k o h p =
       inside = omega arith;
       bytes = ext_get_or 0 _ _ len (λ j g.
           let below : j < length k = omega (arith, length-take (length k) (drop o b)) in
-          get_or-take (length k) (drop o b) j 0 below ∙ get_or-drop o b j 0 ∙ h.same (o + j) (omega arith) ∙ sym (get_or-drop o a j 0) ∙ sym (get_or-take (length k) (drop o a) j 0 below) ∙ ap (λ (xs : List ℕ). get_or xs j 0) p.bytes);
+          get_or-take (length k) (drop o b) j 0 below ∙ get_or-drop o b j 0 ∙ h.same (o + j) (omega arith) ∙ sym (get_or-drop o a j 0)
+          ∙ sym (get_or-take (length k) (drop o a) j 0 below) ∙ ap (λ (xs : List ℕ). get_or xs j 0) p.bytes);
       ended = h.same (o + length k) (omega arith) ∙ p.ended;
       is_key = p.is_key;
     }
@@ -95,17 +103,20 @@ pub stay_from : (b : Bool) (w : ℕ) (old new : Option ℕ) → new ≡ cond b (
 stay_from true w old new e h = rw e refl
 stay_from false w old new e h = rw e h
 
-pub stand_by : (b : Bool) (k q : List ℕ) (w o : ℕ) (old new : Option ℕ) → (b ≡ true → k ≡ q) → new ≡ cond b (Some w) old → new ≡ Some o → (old ≡ Some o) ⊎ ((k ≡ q) × (w ≡ o))
+pub stand_by : (b : Bool) (k q : List ℕ) (w o : ℕ) (old new : Option ℕ) → (b ≡ true → k ≡ q) → new ≡ cond b (Some w) old → new ≡ Some o
+    → (old ≡ Some o) ⊎ ((k ≡ q) × (w ≡ o))
 stand_by true k q w o old new same e f = inr (same refl, some_is w o (sym e ∙ f))
   where
     some_is : (a b : ℕ) → Some a ≡ Some b → a ≡ b
     some_is a b e = cc
 stand_by false k q w o old new same e f = inl (sym e ∙ f)
 
-pub stand_from : (k q : List ℕ) (w o : ℕ) (old new : Option ℕ) → new ≡ cond (is_eq (slice_cmp nat_cmp k q)) (Some w) old → new ≡ Some o → (old ≡ Some o) ⊎ ((k ≡ q) × (w ≡ o))
+pub stand_from : (k q : List ℕ) (w o : ℕ) (old new : Option ℕ) → new ≡ cond (is_eq (slice_cmp nat_cmp k q)) (Some w) old → new ≡ Some o
+    → (old ≡ Some o) ⊎ ((k ≡ q) × (w ≡ o))
 stand_from k q w o old new e f = stand_by (is_eq (slice_cmp nat_cmp k q)) k q w o old new (λ t. equal_is k q (equal_order _ t)) e f
 
-pub stands_or : (start : ℕ) (c k q : List ℕ) (w o : ℕ) (old : Option ℕ) → KeyAt start c k w → (old ≡ Some o) ⊎ ((k ≡ q) × (w ≡ o)) → (old ≡ Some o) ⊎ KeyAt start c q o
+pub stands_or : (start : ℕ) (c k q : List ℕ) (w o : ℕ) (old : Option ℕ) → KeyAt start c k w → (old ≡ Some o) ⊎ ((k ≡ q) × (w ≡ o))
+    → (old ≡ Some o) ⊎ KeyAt start c q o
 stands_or start c k q w o old h s = elim s [
   | inl p ↦ inl p
   | inr p ↦ inr (subst (λ (x : List ℕ). KeyAt start c x o) p.0 (subst (KeyAt start c k) p.1 h))

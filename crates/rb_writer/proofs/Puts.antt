@@ -28,7 +28,8 @@ unfolding word_at
 puts_word old new w e h = rw e (record {
   adds = adds_append old (little_bytes 4 w);
   len = omega (arith, length-append old (little_bytes 4 w));
-  word_is = λ i p. rw (drop_append (4 * i) old (little_bytes 4 w) p) (ap (little_number 4) (sym (append-nil (little_bytes 4 w))) ∙ little_number-reads_back 4 w [] h);
+  word_is = λ i p. rw (drop_append (4 * i) old (little_bytes 4 w) p)
+      (ap (little_number 4) (sym (append-nil (little_bytes 4 w))) ∙ little_number-reads_back 4 w [] h);
 })
 
 pub puts_half : (old new : List ℕ) (w : ℕ) → new ≡ old ++ little_bytes 2 w → w < 2 ^ 16 → PutsHalf old new w
@@ -36,7 +37,8 @@ unfolding half_at
 puts_half old new w e h = rw e (record {
   adds = adds_append old (little_bytes 2 w);
   len = omega (arith, length-append old (little_bytes 2 w));
-  half_is = λ i p. rw (drop_append (2 * i) old (little_bytes 2 w) p) (ap (little_number 2) (sym (append-nil (little_bytes 2 w))) ∙ little_number-reads_back 2 w [] h);
+  half_is = λ i p. rw (drop_append (2 * i) old (little_bytes 2 w) p)
+      (ap (little_number 2) (sym (append-nil (little_bytes 2 w))) ∙ little_number-reads_back 2 w [] h);
 })
 
 pub puts_bytes : (old new bytes : List ℕ) → new ≡ old ++ bytes → PutsBytes old new bytes
@@ -50,13 +52,15 @@ puts_bytes old new bytes e = rw e (record {
 pub word_stays : (a b : List ℕ) (i : ℕ) → Adds a b → 4 * i + 4 ≤ length a → word_at b i ≡ word_at a i
 unfolding word_at
 word_stays a b i p h =
-    let byte : (j : ℕ) → j < 4 → get_or (drop (4 * i) b) j 0 ≡ get_or (drop (4 * i) a) j 0 = λ j g. get_or-drop (4 * i) b j 0 ∙ p.same (4 * i + j) (omega arith) ∙ sym (get_or-drop (4 * i) a j 0) in
+    let byte : (j : ℕ) → j < 4 → get_or (drop (4 * i) b) j 0 ≡ get_or (drop (4 * i) a) j 0 = λ j g. get_or-drop (4 * i) b j 0
+    ∙ p.same (4 * i + j) (omega arith) ∙ sym (get_or-drop (4 * i) a j 0) in
     rw (byte 0 (omega arith), byte 1 (omega arith), byte 2 (omega arith), byte 3 (omega arith)) refl
 
 pub half_stays : (a b : List ℕ) (i : ℕ) → Adds a b → 2 * i + 2 ≤ length a → half_at b i ≡ half_at a i
 unfolding half_at
 half_stays a b i p h =
-    let byte : (j : ℕ) → j < 2 → get_or (drop (2 * i) b) j 0 ≡ get_or (drop (2 * i) a) j 0 = λ j g. get_or-drop (2 * i) b j 0 ∙ p.same (2 * i + j) (omega arith) ∙ sym (get_or-drop (2 * i) a j 0) in
+    let byte : (j : ℕ) → j < 2 → get_or (drop (2 * i) b) j 0 ≡ get_or (drop (2 * i) a) j 0 = λ j g. get_or-drop (2 * i) b j 0
+    ∙ p.same (2 * i + j) (omega arith) ∙ sym (get_or-drop (2 * i) a j 0) in
     rw (byte 0 (omega arith), byte 1 (omega arith)) refl
 
 -- ---- lists, one by one
@@ -69,7 +73,8 @@ get_or_any (x ∷ xs) (suc i) d e h = get_or_any xs i d e (omega arith)
 pub words_none : (old words : List ℕ) → PutsWords old old words 0
 words_none old words = record { adds = adds_refl old; len = omega arith; words_are = λ i j e h. absurd (omega arith) }
 
-pub words_more : (old mid new words : List ℕ) (w n : ℕ) → PutsWords old mid words n → PutsWord mid new w → w ≡ get_or words n w → n < length words → PutsWords old new words (n + 1)
+pub words_more : (old mid new words : List ℕ) (w n : ℕ) → PutsWords old mid words n → PutsWord mid new w → w ≡ get_or words n w → n < length words
+    → PutsWords old new words (n + 1)
 words_more old mid new words w n p q e h =
     let pl = p.len in let ql = q.len in
     record {
@@ -84,7 +89,8 @@ words_more old mid new words w n p q e h =
 pub halves_none : (old halves : List ℕ) → PutsHalves old old halves 0
 halves_none old halves = record { adds = adds_refl old; len = omega arith; halves_are = λ i j e h. absurd (omega arith) }
 
-pub halves_more : (old mid new halves : List ℕ) (w n : ℕ) → PutsHalves old mid halves n → PutsHalf mid new w → w ≡ get_or halves n w → n < length halves → PutsHalves old new halves (n + 1)
+pub halves_more : (old mid new halves : List ℕ) (w n : ℕ) → PutsHalves old mid halves n → PutsHalf mid new w → w ≡ get_or halves n w → n < length halves
+    → PutsHalves old new halves (n + 1)
 halves_more old mid new halves w n p q e h =
     let pl = p.len in let ql = q.len in
     record {
@@ -99,7 +105,8 @@ halves_more old mid new halves w n p q e h =
 pub numbers_none : (old : List ℕ) (numbers : List ℤ) → PutsNumbers old old numbers 0
 numbers_none old numbers = record { adds = adds_refl old; len = omega arith; numbers_are = λ i j d e h. absurd (omega arith) }
 
-pub numbers_more : (old mid new : List ℕ) (numbers : List ℤ) (z : ℤ) (w n : ℕ) → PutsNumbers old mid numbers n → PutsWord mid new w → cast_signed w32 w ≡ z → z ≡ get_or numbers n z → n < length numbers → PutsNumbers old new numbers (n + 1)
+pub numbers_more : (old mid new : List ℕ) (numbers : List ℤ) (z : ℤ) (w n : ℕ) → PutsNumbers old mid numbers n → PutsWord mid new w → cast_signed w32 w ≡ z
+    → z ≡ get_or numbers n z → n < length numbers → PutsNumbers old new numbers (n + 1)
 numbers_more old mid new numbers z w n p q t e h =
     let pl = p.len in let ql = q.len in
     record {

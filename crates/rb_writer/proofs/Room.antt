@@ -35,7 +35,9 @@ keys_fit t keys f g = omega (arith, fits_most t f, size_same t keys g)
 pub longest_fits : (t : Resource) (n : ℕ) → Fits t → n ≡ longest t → n ≤ 33554432
 longest_fits t n f e = let l = f.light in omega (arith, longest_weight t)
 
-pub written_by : (b : Bool) (t : Resource) (keys : List (Bor (List ℕ))) (old out : List ℕ) (root : ℕ) (area : KeyArea) (n : ℕ) (f : List ℕ) → Fits t → GathersKeys t keys → area.indexes ≡ index_count b → length old < 4 * (2 + area.indexes) + keys_size (map (λ r. r.now) keys) → Stands area old out t root → n ≡ longest t → IsFile b out root area n f → IsWritten b t f
+pub written_by : (b : Bool) (t : Resource) (keys : List (Bor (List ℕ))) (old out : List ℕ) (root : ℕ) (area : KeyArea) (n : ℕ) (f : List ℕ) → Fits t
+    → GathersKeys t keys → area.indexes ≡ index_count b → length old < 4 * (2 + area.indexes) + keys_size (map (λ r. r.now) keys) → Stands area old out t root
+    → n ≡ longest t → IsFile b out root area n f → IsWritten b t f
 written_by b t keys old out root area n f fits g count short s e i =
     let l = s.little in let five = five_or_six b area.indexes count in
     is_written b out root area f t (subst (λ m. IsFile b out root area m f) e i) s.drafted count (omega (arith, keys_fit t keys fits g)) fits s.reads

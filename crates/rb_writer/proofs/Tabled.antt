@@ -15,7 +15,8 @@ use Rattle.rb_writer.specs.declared.keys.KeyPlaces.{KeyPlaces}
 pub places_none : (keys : KeyPlaces) (ks : List (List ℕ)) → PlacesAre keys ks [] 0
 places_none keys ks = record { count = refl; are = λ j k h. absurd (omega arith) }
 
-pub places_more : (keys : KeyPlaces) (ks : List (List ℕ)) (offsets : List ℕ) (n o : ℕ) (k : List ℕ) → PlacesAre keys ks offsets n → Some k ≡ slice_get ks n → place keys k ≡ Some o → PlacesAre keys ks (offsets ++ o ∷ []) (n + 1)
+pub places_more : (keys : KeyPlaces) (ks : List (List ℕ)) (offsets : List ℕ) (n o : ℕ) (k : List ℕ) → PlacesAre keys ks offsets n → Some k ≡ slice_get ks n
+    → place keys k ≡ Some o → PlacesAre keys ks (offsets ++ o ∷ []) (n + 1)
 places_more keys ks offsets n o k p e f =
     let c = p.count in
     record {
@@ -36,7 +37,8 @@ key_in P no_entries i k h e = cc
 key_in P (entry_and q t es) zero k h e = let s : q ≡ k = cc in subst P s h.0
 key_in P (entry_and q t es) (suc i) k h e = key_in P es i k h.2 e
 
-pub has_place : (keys : KeyPlaces) (es : Members) (i : ℕ) (k : List ℕ) → HasPlaces keys (table es) → Some k ≡ slice_get (keys_of (pairs es)) i → IsSome (place keys k)
+pub has_place : (keys : KeyPlaces) (es : Members) (i : ℕ) (k : List ℕ) → HasPlaces keys (table es) → Some k ≡ slice_get (keys_of (pairs es)) i
+    → IsSome (place keys k)
 has_place keys es i k h e = key_in (λ k. IsSome (place keys k)) es i k h e
 
 item_in : (P : List ℕ → Type 0) (ts : Resources) (i : ℕ) (u : Resource) → EachKeyIn P ts → Some u ≡ slice_get (items ts) i → EachKey P u

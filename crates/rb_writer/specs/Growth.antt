@@ -60,7 +60,8 @@ pub record IsDraft (area : KeyArea) (body : List ℕ) : Type 0 where
   pub high : area.top ≤ words
 
 -- a value x was written at an offset, or is the value of an item without data, which has none
-pub record Put {A : Type 0} (area : KeyArea) (old new : List ℕ) (most : ℕ) (value : Layout → List ℕ → ℕ → Result A FileFault) (x none : A) (offset : ℕ) : Type 0 where
+pub record Put {A : Type 0} (area : KeyArea) (old new : List ℕ) (most : ℕ) (value : Layout → List ℕ → ℕ → Result A FileFault) (x none : A)
+    (offset : ℕ) : Type 0 where
   pub adds : Adds old new
   pub drafted : IsDraft area new
   pub little : length new ≤ length old + most

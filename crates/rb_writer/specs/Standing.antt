@@ -83,4 +83,5 @@ pub record WritesTable (keys : KeyPlaces) (es : Members) (old new items : List �
   pub places : PlacesAre keys (keys_of (pairs es)) offsets (length (pairs es))
   pub ordered : IsTable es
   pub small : offset_of item < 2 ^ 28
-  pub written : ((kind_of item ≡ Some Table) × PutsShort old new offsets items (offset_of item)) ⊎ ((kind_of item ≡ Some LongTable) × PutsLong old new offsets items (offset_of item))
+  pub written : ((kind_of item ≡ Some Table) × PutsShort old new offsets items (offset_of item)) ⊎
+      ((kind_of item ≡ Some LongTable) × PutsLong old new offsets items (offset_of item))

@@ -13,7 +13,8 @@ use std::alloc::AllocError;
 pub fn write_units(out: &mut Data, text: &[u16]) -> Result<u32, AllocError>
     requires whole { length out.old % 4 ≡ 0 }
     requires room { length out.old + (8 + 2 * length text.now) ≤ 2 ^ 28 }
-    ensures put { IfOk result (λ offset. (area : KeyArea) → IsDraft area out.old → Put area out.old out.new (8 + 2 * length text.now) units text.now [] offset) }
+    ensures put { IfOk result (λ offset. (area : KeyArea) → IsDraft area out.old
+        → Put area out.old out.new (8 + 2 * length text.now) units text.now [] offset) }
     ensures small { IfOk result (λ offset. offset < 2 ^ 28) }
 {
     if text.is_empty() {
@@ -32,7 +33,8 @@ pub fn write_units(out: &mut Data, text: &[u16]) -> Result<u32, AllocError>
 pub fn write_numbers(out: &mut Data, numbers: &[i32]) -> Result<u32, AllocError>
     requires whole { length out.old % 4 ≡ 0 }
     requires room { length out.old + (4 + 4 * length numbers.now) ≤ 2 ^ 28 }
-    ensures put { IfOk result (λ offset. (area : KeyArea) → IsDraft area out.old → Put area out.old out.new (4 + 4 * length numbers.now) signed_numbers numbers.now [] offset) }
+    ensures put { IfOk result (λ offset. (area : KeyArea) → IsDraft area out.old
+        → Put area out.old out.new (4 + 4 * length numbers.now) signed_numbers numbers.now [] offset) }
     ensures small { IfOk result (λ offset. offset < 2 ^ 28) }
 {
     if numbers.is_empty() {
@@ -49,7 +51,8 @@ pub fn write_numbers(out: &mut Data, numbers: &[i32]) -> Result<u32, AllocError>
 pub fn write_bytes(out: &mut Data, binary: &[u8]) -> Result<u32, AllocError>
     requires whole { length out.old % 4 ≡ 0 }
     requires room { length out.old + (20 + length binary.now) ≤ 2 ^ 28 }
-    ensures put { IfOk result (λ offset. (area : KeyArea) → IsDraft area out.old → Put area out.old out.new (20 + length binary.now) bytes binary.now [] offset) }
+    ensures put { IfOk result (λ offset. (area : KeyArea) → IsDraft area out.old
+        → Put area out.old out.new (20 + length binary.now) bytes binary.now [] offset) }
     ensures small { IfOk result (λ offset. offset < 2 ^ 28) }
 {
     if binary.is_empty() {

@@ -12,7 +12,8 @@ loop-i-init t c = omega (arith, longest_items c.in-Array.trees)
 pub loop-i-preserved : goal.loop-i-preserved
 loop-i-preserved t c =
     let e : c.longest_table.result ≡ longest (view_of c.at.result.now) = c.longest_table.ensures in
-    rw c.max-most.ensures (longest_more (items c.in-Array.trees) c.loop-i.i c.loop-i.most c.longest_table.result (view_of c.at.result.now) _ e c.at.ensures c.loop-i.invariant)
+    rw c.max-most.ensures (longest_more (items c.in-Array.trees) c.loop-i.i c.loop-i.most c.longest_table.result
+    (view_of c.at.result.now) _ e c.at.ensures c.loop-i.invariant)
 
 pub loop-j-init : goal.loop-j-init
 loop-j-init t c = rw c.len-most.ensures.value (ap (max (length (pairs c.in-Table.entries))) (longest_values c.in-Table.entries))
@@ -20,4 +21,5 @@ loop-j-init t c = rw c.len-most.ensures.value (ap (max (length (pairs c.in-Table
 pub loop-j-preserved : goal.loop-j-preserved
 loop-j-preserved t c =
     let e : c.longest_table-in-loop-j.result ≡ longest (view_of c.at-in-loop-j.result.now) = c.longest_table-in-loop-j.ensures in
-    rw c.max-most-in-loop-j.ensures (longest_more (values_of (pairs c.in-Table.entries)) c.loop-j.j c.loop-j.most c.longest_table-in-loop-j.result (view_of c.at-in-loop-j.result.now) _ e c.at-in-loop-j.ensures c.loop-j.invariant)
+    rw c.max-most-in-loop-j.ensures (longest_more (values_of (pairs c.in-Table.entries)) c.loop-j.j c.loop-j.most c.longest_table-in-loop-j.result
+    (view_of c.at-in-loop-j.result.now) _ e c.at-in-loop-j.ensures c.loop-j.invariant)

@@ -10,13 +10,16 @@ place_key-requires-clause-room c =
 pub loop-key-preserved : goal.loop-key-preserved
 loop-key-preserved c =
     let at = at_map c.args.keys.now c.loop-key.key-index (record { ref_ptr = (0, 0); now = [] }) c.loop-key-test.true in
-    keys_more _ _ _ _ c.loop-key.out _ c.loop-key.key-index _ c.loop-key.invariant at c.in_ok-place_key.ensures.adds c.in_ok-place_key.ensures.little c.in_ok-place_key.ensures.here c.in_ok-place_key.ensures.stay c.in_ok-place_key.ensures.stand
+    keys_more _ _ _ _ c.loop-key.out _ c.loop-key.key-index _ c.loop-key.invariant at c.in_ok-place_key.ensures.adds c.in_ok-place_key.ensures.little
+    c.in_ok-place_key.ensures.here c.in_ok-place_key.ensures.stay c.in_ok-place_key.ensures.stand
 
 pub returns-clause-drafted : goal.returns-clause-drafted
-returns-clause-drafted c = let e : c.len.result ≡ length c.pad.new.out = search rules in rw e (keys_drafted c.args.indexes _ _ _ _ _ c.loop-key.invariant c.in_ok-pad.ensures.adds c.in_ok-pad.ensures.whole)
+returns-clause-drafted c = let e : c.len.result ≡ length c.pad.new.out = search rules in rw e
+    (keys_drafted c.args.indexes _ _ _ _ _ c.loop-key.invariant c.in_ok-pad.ensures.adds c.in_ok-pad.ensures.whole)
 
 pub returns-clause-stand : goal.returns-clause-stand
-returns-clause-stand c = let e : c.len.result ≡ length c.pad.new.out = search rules in rw e (keys_read c.args.indexes _ _ _ _ _ c.loop-key.invariant c.in_ok-pad.ensures.adds c.in_ok-pad.ensures.whole)
+returns-clause-stand c = let e : c.len.result ≡ length c.pad.new.out = search rules in rw e
+    (keys_read c.args.indexes _ _ _ _ _ c.loop-key.invariant c.in_ok-pad.ensures.adds c.in_ok-pad.ensures.whole)
 
 pub returns-clause-each : goal.returns-clause-each
 returns-clause-each c = keys_each _ _ c.args.keys.now _ c.loop-key.key-index c.loop-key.invariant (search rules)

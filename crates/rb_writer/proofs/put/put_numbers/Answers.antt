@@ -7,4 +7,5 @@ pub loop-number-preserved : goal.loop-number-preserved
 loop-number-preserved c =
     let z : ℤ = get_or c.args.numbers.now c.loop-number.number-index (pos 0) in
     let t : cast_signed w32 c.cast_unsigned.result ≡ z = grind (arith, to_z-of_z) in
-    numbers_more c.args.out.now c.loop-number.out c.put_word.new.out c.args.numbers.now z _ c.loop-number.number-index c.loop-number.invariant c.in_ok-put_word.ensures t (get_or_any c.args.numbers.now c.loop-number.number-index (pos 0) z c.loop-number-test.true) c.loop-number-test.true
+    numbers_more c.args.out.now c.loop-number.out c.put_word.new.out c.args.numbers.now z _ c.loop-number.number-index c.loop-number.invariant
+    c.in_ok-put_word.ensures t (get_or_any c.args.numbers.now c.loop-number.number-index (pos 0) z c.loop-number-test.true) c.loop-number-test.true

@@ -16,5 +16,9 @@ returns c = record {
   places = c.in_ok-offsets.ensures.places;
   ordered = c.key_offsets.ensures.ordered;
   small = rw c.item-else-is_short.ensures.offset c.in_ok-write_long_table.ensures.small;
-  written = inr (c.item-else-is_short.ensures.kind, rw c.item-else-is_short.ensures.offset (rw c.deref-else-is_short.ensures.value at c.in_ok-write_long_table.ensures.table));
+  written = inr (
+    c.item-else-is_short.ensures.kind,
+    rw c.item-else-is_short.ensures.offset
+        (rw c.deref-else-is_short.ensures.value at c.in_ok-write_long_table.ensures.table),
+  );
 }

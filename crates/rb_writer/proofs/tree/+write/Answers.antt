@@ -28,51 +28,75 @@ write_children-write_value-requires t c =
     )
 
 pub write_children-loop-i-preserved : goal.write_children-loop-i-preserved
-write_children-loop-i-preserved t c = rw c.in_ok-push.ensures.items (children_more _ _ c.loop-i.out _ _ _ c.loop-i.i c.in_ok-item.item (view_of c.at.result.now) c.loop-i.invariant c.at.ensures c.in_ok-item.ensures)
+write_children-loop-i-preserved t c = rw c.in_ok-push.ensures.items
+    (children_more _ _ c.loop-i.out _ _ _ c.loop-i.i c.in_ok-item.item (view_of c.at.result.now) c.loop-i.invariant c.at.ensures c.in_ok-item.ensures)
 
 pub write_value-returns-in_ok-write_units-in-String : goal.write_value-returns-in_ok-write_units-in-String
-write_value-returns-in_ok-write_units-in-String t c = let p = c.in_ok-write_units-in-String.ensures.put c.args.keys.now.area c.requires.drafted in string_stands c.args.keys.now.area c.args.out.now _ c.in-String.units _ _ c.args.tree.now c.in-String.is (rw c.as_slice.ensures at p) c.item.ensures.kind c.item.ensures.offset
+write_value-returns-in_ok-write_units-in-String t c = let p = c.in_ok-write_units-in-String.ensures.put c.args.keys.now.area c.requires.drafted in
+    string_stands c.args.keys.now.area c.args.out.now _ c.in-String.units _ _ c.args.tree.now c.in-String.is
+    (rw c.as_slice.ensures at p) c.item.ensures.kind c.item.ensures.offset
 
 pub write_value-returns-in_ok-write_units-in-Alias : goal.write_value-returns-in_ok-write_units-in-Alias
-write_value-returns-in_ok-write_units-in-Alias t c = let p = c.in_ok-write_units-in-Alias.ensures.put c.args.keys.now.area c.requires.drafted in alias_stands c.args.keys.now.area c.args.out.now _ c.in-Alias.units _ _ c.args.tree.now c.in-Alias.is (rw c.as_slice-in-Alias.ensures at p) c.item-in-Alias.ensures.kind c.item-in-Alias.ensures.offset
+write_value-returns-in_ok-write_units-in-Alias t c = let p = c.in_ok-write_units-in-Alias.ensures.put c.args.keys.now.area c.requires.drafted in alias_stands
+    c.args.keys.now.area c.args.out.now _ c.in-Alias.units _ _ c.args.tree.now c.in-Alias.is
+    (rw c.as_slice-in-Alias.ensures at p) c.item-in-Alias.ensures.kind c.item-in-Alias.ensures.offset
 
 pub write_value-returns-in_ok-write_numbers-in-Ints : goal.write_value-returns-in_ok-write_numbers-in-Ints
-write_value-returns-in_ok-write_numbers-in-Ints t c = let p = c.in_ok-write_numbers-in-Ints.ensures.put c.args.keys.now.area c.requires.drafted in ints_stand c.args.keys.now.area c.args.out.now _ c.in-Ints.numbers _ _ c.args.tree.now c.in-Ints.is (rw c.as_slice-in-Ints.ensures at p) c.item-in-Ints.ensures.kind c.item-in-Ints.ensures.offset
+write_value-returns-in_ok-write_numbers-in-Ints t c = let p = c.in_ok-write_numbers-in-Ints.ensures.put c.args.keys.now.area c.requires.drafted in ints_stand
+    c.args.keys.now.area c.args.out.now _ c.in-Ints.numbers _ _ c.args.tree.now c.in-Ints.is
+    (rw c.as_slice-in-Ints.ensures at p) c.item-in-Ints.ensures.kind c.item-in-Ints.ensures.offset
 
 pub write_value-returns-in_ok-write_bytes-in-Binary : goal.write_value-returns-in_ok-write_bytes-in-Binary
-write_value-returns-in_ok-write_bytes-in-Binary t c = let p = c.in_ok-write_bytes-in-Binary.ensures.put c.args.keys.now.area c.requires.drafted in binary_stands c.args.keys.now.area c.args.out.now _ c.in-Binary.bytes _ _ c.args.tree.now c.in-Binary.is (rw c.as_slice-in-Binary.ensures at p) c.item-in-Binary.ensures.kind c.item-in-Binary.ensures.offset
+write_value-returns-in_ok-write_bytes-in-Binary t c = let p = c.in_ok-write_bytes-in-Binary.ensures.put c.args.keys.now.area c.requires.drafted in
+    binary_stands c.args.keys.now.area c.args.out.now _ c.in-Binary.bytes _ _ c.args.tree.now c.in-Binary.is
+    (rw c.as_slice-in-Binary.ensures at p) c.item-in-Binary.ensures.kind c.item-in-Binary.ensures.offset
 
 pub write_value-returns-in-Int : goal.write_value-returns-in-Int
-write_value-returns-in-Int t c = int_stands c.args.keys.now.area c.args.out.now c.in-Int.number c.item-in-Int.result c.args.tree.now c.in-Int.is c.requires.drafted c.item-in-Int.ensures.kind (c.item-in-Int.ensures.offset ∙ c.get.ensures.value)
+write_value-returns-in-Int t c = int_stands c.args.keys.now.area c.args.out.now c.in-Int.number c.item-in-Int.result c.args.tree.now c.in-Int.is
+    c.requires.drafted c.item-in-Int.ensures.kind (c.item-in-Int.ensures.offset ∙ c.get.ensures.value)
 
 pub write_value-returns-then-is_empty : goal.write_value-returns-then-is_empty
 write_value-returns-then-is_empty t c =
-    let s : ChildrenStand c.args.keys.now.area c.args.out.now c.write_children.new.out (children_of (view_of c.args.tree.now)) c.in_ok-items-in-Array.items.items (len_of (view_of c.args.tree.now)) = c.in_ok-items-in-Array.ensures in
+    let s : ChildrenStand c.args.keys.now.area c.args.out.now c.write_children.new.out
+    (children_of (view_of c.args.tree.now)) c.in_ok-items-in-Array.items.items (len_of (view_of c.args.tree.now)) = c.in_ok-items-in-Array.ensures in
     let none : length c.in_ok-items-in-Array.items.items ≡ 0 = grind (arith, common_steps, c.is_empty.ensures, c.if-is_empty.true) in
-    empty_array_stands c.args.keys.now.area c.args.out.now c.write_children.new.out c.in_ok-items-in-Array.items.items _ c.item-then-is_empty.result c.in-Array.field-0 c.args.tree.now c.in-Array.is (rw c.in-Array.is at s) refl none c.item-then-is_empty.ensures.kind c.item-then-is_empty.ensures.offset
+    empty_array_stands c.args.keys.now.area c.args.out.now c.write_children.new.out c.in_ok-items-in-Array.items.items _ c.item-then-is_empty.result
+    c.in-Array.field-0 c.args.tree.now c.in-Array.is (rw c.in-Array.is at s) refl none c.item-then-is_empty.ensures.kind c.item-then-is_empty.ensures.offset
 
 pub write_value-returns-in_ok-write_array-in-Array : goal.write_value-returns-in_ok-write_array-in-Array
 write_value-returns-in_ok-write_array-in-Array t c =
-    let s : ChildrenStand c.args.keys.now.area c.args.out.now c.write_children.new.out (children_of (view_of c.args.tree.now)) c.in_ok-items-in-Array.items.items (len_of (view_of c.args.tree.now)) = c.in_ok-items-in-Array.ensures in
-    array_stands c.args.keys.now.area c.args.out.now c.write_children.new.out c.write_array.new.out c.in_ok-items-in-Array.items.items _ c.in_ok-write_array-in-Array.field-0 c.item-in-Array.result c.in-Array.field-0 c.args.tree.now c.in-Array.is (rw c.in-Array.is at s) refl (rw c.deref.ensures.value at c.in_ok-write_array-in-Array.ensures.array) c.in_ok-write_array-in-Array.ensures.small c.item-in-Array.ensures.kind c.item-in-Array.ensures.offset
+    let s : ChildrenStand c.args.keys.now.area c.args.out.now c.write_children.new.out
+    (children_of (view_of c.args.tree.now)) c.in_ok-items-in-Array.items.items (len_of (view_of c.args.tree.now)) = c.in_ok-items-in-Array.ensures in
+    array_stands c.args.keys.now.area c.args.out.now c.write_children.new.out c.write_array.new.out c.in_ok-items-in-Array.items.items _
+    c.in_ok-write_array-in-Array.field-0 c.item-in-Array.result c.in-Array.field-0 c.args.tree.now c.in-Array.is (rw c.in-Array.is at s) refl
+    (rw c.deref.ensures.value at c.in_ok-write_array-in-Array.ensures.array) c.in_ok-write_array-in-Array.ensures.small c.item-in-Array.ensures.kind
+    c.item-in-Array.ensures.offset
 
 pub write_value-write_array-requires-clause-room : goal.write_value-write_array-requires-clause-room
 write_value-write_array-requires-clause-room t c =
-    let s : ChildrenStand c.args.keys.now.area c.args.out.now c.write_children.new.out (children_of (view_of c.args.tree.now)) c.in_ok-items-in-Array.items.items (len_of (view_of c.args.tree.now)) = c.in_ok-items-in-Array.ensures in
+    let s : ChildrenStand c.args.keys.now.area c.args.out.now c.write_children.new.out
+    (children_of (view_of c.args.tree.now)) c.in_ok-items-in-Array.items.items (len_of (view_of c.args.tree.now)) = c.in_ok-items-in-Array.ensures in
     rw c.deref.ensures.value (array_room _ _ _ _ _ _ c.in-Array.field-0 c.args.tree.now c.in-Array.is (rw c.in-Array.is at s) refl c.requires.room)
 
 pub write_value-write_table-requires-clause-room : goal.write_value-write_table-requires-clause-room
 write_value-write_table-requires-clause-room t c =
-    let s : ChildrenStand c.args.keys.now.area c.args.out.now c.write_children-in-Table.new.out (children_of (view_of c.args.tree.now)) c.in_ok-items-in-Table.items.items (len_of (view_of c.args.tree.now)) = c.in_ok-items-in-Table.ensures in
+    let s : ChildrenStand c.args.keys.now.area c.args.out.now c.write_children-in-Table.new.out
+    (children_of (view_of c.args.tree.now)) c.in_ok-items-in-Table.items.items (len_of (view_of c.args.tree.now)) = c.in_ok-items-in-Table.ensures in
     rw c.deref-in-Table.ensures.value (table_room _ _ _ _ _ _ c.in-Table.entries c.args.tree.now c.in-Table.is (rw c.in-Table.is at s) refl c.requires.room)
 
 pub write_value-returns-then-is_empty-2 : goal.write_value-returns-then-is_empty-2
 write_value-returns-then-is_empty-2 t c =
-    let s : ChildrenStand c.args.keys.now.area c.args.out.now c.write_children-in-Table.new.out (children_of (view_of c.args.tree.now)) c.in_ok-items-in-Table.items.items (len_of (view_of c.args.tree.now)) = c.in_ok-items-in-Table.ensures in
+    let s : ChildrenStand c.args.keys.now.area c.args.out.now c.write_children-in-Table.new.out
+    (children_of (view_of c.args.tree.now)) c.in_ok-items-in-Table.items.items (len_of (view_of c.args.tree.now)) = c.in_ok-items-in-Table.ensures in
     let none : length c.in_ok-items-in-Table.items.items ≡ 0 = grind (arith, common_steps, c.is_empty-in-Table.ensures, c.if-is_empty-2.true) in
-    empty_table_stands c.args.keys.now.area c.args.out.now c.write_children-in-Table.new.out c.in_ok-items-in-Table.items.items _ c.item-then-is_empty-2.result c.in-Table.entries c.args.tree.now c.in-Table.is (rw c.in-Table.is at s) refl none c.item-then-is_empty-2.ensures.kind c.item-then-is_empty-2.ensures.offset
+    empty_table_stands c.args.keys.now.area c.args.out.now c.write_children-in-Table.new.out c.in_ok-items-in-Table.items.items _ c.item-then-is_empty-2.result
+    c.in-Table.entries c.args.tree.now c.in-Table.is
+    (rw c.in-Table.is at s) refl none c.item-then-is_empty-2.ensures.kind c.item-then-is_empty-2.ensures.offset
 
 pub write_value-returns-else-is_empty-2 : goal.write_value-returns-else-is_empty-2
 write_value-returns-else-is_empty-2 t c =
-    let s : ChildrenStand c.args.keys.now.area c.args.out.now c.write_children-in-Table.new.out (children_of (view_of c.args.tree.now)) c.in_ok-items-in-Table.items.items (len_of (view_of c.args.tree.now)) = c.in_ok-items-in-Table.ensures in
-    IfOk-weaker c.write_table.result _ _ (λ i w. table_stands c.args.keys.now c.args.keys.now.area c.args.out.now c.write_children-in-Table.new.out c.write_table.new.out c.in_ok-items-in-Table.items.items _ i c.in-Table.entries c.args.tree.now c.in-Table.is (rw c.in-Table.is at s) refl c.requires.drafted c.requires.keys (rw c.deref-in-Table.ensures.value at w)) c.write_table.ensures
+    let s : ChildrenStand c.args.keys.now.area c.args.out.now c.write_children-in-Table.new.out
+    (children_of (view_of c.args.tree.now)) c.in_ok-items-in-Table.items.items (len_of (view_of c.args.tree.now)) = c.in_ok-items-in-Table.ensures in
+    IfOk-weaker c.write_table.result _ _ (λ i w. table_stands c.args.keys.now c.args.keys.now.area c.args.out.now c.write_children-in-Table.new.out
+    c.write_table.new.out c.in_ok-items-in-Table.items.items _ i c.in-Table.entries c.args.tree.now c.in-Table.is
+    (rw c.in-Table.is at s) refl c.requires.drafted c.requires.keys (rw c.deref-in-Table.ensures.value at w)) c.write_table.ensures

@@ -27,4 +27,5 @@ pub returns-clause-tree : goal.returns-clause-tree
 returns-clause-tree c =
     let s = c.args.self in
     let h : c.args.i < c.args.self.count = rw values_length at c.requires in
-    ap (λ (w : ℕ). Some (item_tree s.body.now w)) c.word_at.ensures ∙ sym (values_at (λ (i : ℕ). item_tree s.body.now (word_at s.body.now (s.first + i))) s.count c.args.i h)
+    ap (λ (w : ℕ). Some (item_tree s.body.now w)) c.word_at.ensures
+    ∙ sym (values_at (λ (i : ℕ). item_tree s.body.now (word_at s.body.now (s.first + i))) s.count c.args.i h)

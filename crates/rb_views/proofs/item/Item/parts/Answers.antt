@@ -14,7 +14,8 @@ returns-then-offset-eq0-clause-entries c =
 pub table_parts-requires : goal.table_parts-requires
 table_parts-requires c =
     let s = c.args.self in
-    let a = entries_short s.body.now s.word c.item_offset-offset.result c.item_offset-offset.ensures s.stands (c.item_kind.ensures ∙ ap Some c.in-Table.is) (omega arith) in
+    let a = entries_short s.body.now s.word c.item_offset-offset.result c.item_offset-offset.ensures s.stands (c.item_kind.ensures ∙ ap Some c.in-Table.is)
+    (omega arith) in
     let b = a.0 in
     let r = laid_room s.body.now s.laid in
     omega arith
@@ -22,7 +23,8 @@ table_parts-requires c =
 pub long_table_parts-requires : goal.long_table_parts-requires
 long_table_parts-requires c =
     let s = c.args.self in
-    let a = entries_long s.body.now s.word c.item_offset-offset.result c.item_offset-offset.ensures s.stands (c.item_kind.ensures ∙ ap Some c.in-LongTable.is) (omega arith) in
+    let a = entries_long s.body.now s.word c.item_offset-offset.result c.item_offset-offset.ensures s.stands (c.item_kind.ensures ∙ ap Some c.in-LongTable.is)
+    (omega arith) in
     let b = a.0 in
     let r = laid_room s.body.now s.laid in
     omega arith
@@ -38,12 +40,14 @@ unreachable-requires c =
 pub returns-in-Table-clause-entries : goal.returns-in-Table-clause-entries
 returns-in-Table-clause-entries c =
     let s = c.args.self in
-    rw c.table_parts.ensures.parts (entries_short s.body.now s.word c.item_offset-offset.result c.item_offset-offset.ensures s.stands (c.item_kind.ensures ∙ ap Some c.in-Table.is) (omega arith)).1
+    rw c.table_parts.ensures.parts (entries_short s.body.now s.word c.item_offset-offset.result c.item_offset-offset.ensures s.stands
+    (c.item_kind.ensures ∙ ap Some c.in-Table.is) (omega arith)).1
 
 pub returns-in-LongTable-clause-entries : goal.returns-in-LongTable-clause-entries
 returns-in-LongTable-clause-entries c =
     let s = c.args.self in
-    rw c.long_table_parts.ensures.parts (entries_long s.body.now s.word c.item_offset-offset.result c.item_offset-offset.ensures s.stands (c.item_kind.ensures ∙ ap Some c.in-LongTable.is) (omega arith)).1
+    rw c.long_table_parts.ensures.parts (entries_long s.body.now s.word c.item_offset-offset.result c.item_offset-offset.ensures s.stands
+    (c.item_kind.ensures ∙ ap Some c.in-LongTable.is) (omega arith)).1
 
 pub returns-in-Table-clause-place : goal.returns-in-Table-clause-place
 returns-in-Table-clause-place c =
@@ -55,4 +59,5 @@ pub returns-in-LongTable-clause-place : goal.returns-in-LongTable-clause-place
 returns-in-LongTable-clause-place c =
     let s = c.args.self in
     let kind = c.item_kind.ensures ∙ ap Some c.in-LongTable.is in
-    λ h. c.long_table_parts.ensures.parts ∙ ap (long_table_parts s.body.now) c.item_offset-offset.ensures ∙ sym (ap (parts_of_kind s.body.now (offset_of s.word)) kind)
+    λ h. c.long_table_parts.ensures.parts ∙ ap (long_table_parts s.body.now) c.item_offset-offset.ensures
+    ∙ sym (ap (parts_of_kind s.body.now (offset_of s.word)) kind)

@@ -23,7 +23,8 @@ pub loop-low-init : goal.loop-low-init
 loop-low-init c =
     let s = c.args.self in
     let e : c.len-count.result ≡ s.parts.count = rw values_length at c.len-count.ensures in
-    subst (λ (h : ℕ). IsHalved (name s.body.now s.parts) s.parts.count c.args.key.now 0 h) (sym e) (halved_start (name s.body.now s.parts) s.parts.count c.args.key.now)
+    subst (λ (h : ℕ). IsHalved (name s.body.now s.parts) s.parts.count c.args.key.now 0 h) (sym e)
+    (halved_start (name s.body.now s.parts) s.parts.count c.args.key.now)
 
 pub key-requires : goal.key-requires
 key-requires c = let i = c.loop-low.invariant.inside in rw values_length (omega arith)
@@ -34,7 +35,8 @@ loop-low-preserved-in-Less c =
     let m = c.loop-low.low + (c.loop-low.high - c.loop-low.low) / 2 in
     let k : c.key.result.now ≡ name s.body.now s.parts m = ap (λ (o : Option (List ℕ)). unwrap_or o []) c.key.ensures.place in
     let less : slice_cmp nat_cmp c.args.key.now (name s.body.now s.parts m) ≡ Less = rw (← k) (sym c.in-Less.ensures) in
-    halved_left (name s.body.now s.parts) s.parts.count c.args.key.now c.loop-low.low c.loop-low.high m (λ i j h l. table_rises s.body.now s.parts i j s.stands h l) c.loop-low.invariant (omega arith) (omega arith) less
+    halved_left (name s.body.now s.parts) s.parts.count c.args.key.now c.loop-low.low c.loop-low.high m
+    (λ i j h l. table_rises s.body.now s.parts i j s.stands h l) c.loop-low.invariant (omega arith) (omega arith) less
 
 pub loop-low-preserved : goal.loop-low-preserved
 loop-low-preserved c =
@@ -42,7 +44,9 @@ loop-low-preserved c =
     let m = c.loop-low.low + (c.loop-low.high - c.loop-low.low) / 2 in
     let k : c.key.result.now ≡ name s.body.now s.parts m = ap (λ (o : Option (List ℕ)). unwrap_or o []) c.key.ensures.place in
     let greater : slice_cmp nat_cmp c.args.key.now (name s.body.now s.parts m) ≡ Greater = rw (← k) (sym c.in-Greater.ensures) in
-    halved_right (name s.body.now s.parts) s.parts.count c.args.key.now c.loop-low.low c.loop-low.high m (λ i j h l. table_rises s.body.now s.parts i j s.stands h l) c.loop-low.invariant (omega arith) (omega arith) (greater_is c.args.key.now (name s.body.now s.parts m) greater)
+    halved_right (name s.body.now s.parts) s.parts.count c.args.key.now c.loop-low.low c.loop-low.high m
+    (λ i j h l. table_rises s.body.now s.parts i j s.stands h l) c.loop-low.invariant (omega arith) (omega arith)
+    (greater_is c.args.key.now (name s.body.now s.parts m) greater)
 
 pub item-requires : goal.item-requires
 item-requires c = let i = c.loop-low.invariant.inside in rw values_length (omega arith)

@@ -30,4 +30,5 @@ returns-clause-tree c =
     let name = λ (i : ℕ). key_from s.body.now (key_offset s.body.now s.parts.keys i) in
     let tree = λ (i : ℕ). item_tree s.body.now (word_at s.body.now (s.parts.first + i)) in
     ap (λ (w : ℕ). Some (item_tree s.body.now w)) c.item.ensures
-    ∙ sym (ap (λ (ts : List Resource). slice_get ts c.args.i) (values_map (λ (e : List ℕ × Resource). e.1) (λ (i : ℕ). (name i, tree i)) 0 s.parts.count) ∙ values_at tree s.parts.count c.args.i h)
+    ∙ sym (ap (λ (ts : List Resource). slice_get ts c.args.i) (values_map (λ (e : List ℕ × Resource). e.1) (λ (i : ℕ). (name i, tree i)) 0 s.parts.count)
+    ∙ values_at tree s.parts.count c.args.i h)

@@ -27,7 +27,8 @@ unreachable-requires c =
     let s = c.args.self in
     let h : c.args.i < s.parts.count = rw values_length at c.requires in
     let t = table_key s.body.now s.parts c.args.i s.stands h in
-    let e : ◌≡◌ {A = Option (List ℕ)} None (key (layout_of s.body.now) s.body.now (key_offset s.body.now s.parts.keys c.args.i)) = rw (← c.offset.ensures, ← c.of-layout.ensures) c.in-None.ensures in
+    let e : ◌≡◌ {A = Option (List ℕ)} None (key (layout_of s.body.now) s.body.now (key_offset s.body.now s.parts.keys c.args.i)) =
+    rw (← c.offset.ensures, ← c.of-layout.ensures) c.in-None.ensures in
     none_some _ (e ∙ t)
 
 pub returns-clause-key : goal.returns-clause-key
@@ -35,7 +36,10 @@ returns-clause-key c =
     let s = c.args.self in
     let h : c.args.i < s.parts.count = rw values_length at c.requires in
     let t = table_key s.body.now s.parts c.args.i s.stands h in
-    let e : ◌≡◌ {A = Option (List ℕ)} (Some c.in-Some.key.now) (key (layout_of s.body.now) s.body.now (key_offset s.body.now s.parts.keys c.args.i)) = rw (← c.offset.ensures, ← c.of-layout.ensures) c.in-Some.ensures in
+    let e : ◌≡◌ {A = Option (List ℕ)} (Some c.in-Some.key.now)
+    (key (layout_of s.body.now) s.body.now (key_offset s.body.now s.parts.keys c.args.i)) = rw (← c.offset.ensures, ← c.of-layout.ensures)
+    c.in-Some.ensures in
     let name = λ (i : ℕ). key_from s.body.now (key_offset s.body.now s.parts.keys i) in
     let tree = λ (i : ℕ). item_tree s.body.now (word_at s.body.now (s.parts.first + i)) in
-    e ∙ t ∙ sym (ap (λ (ks : List (List ℕ)). slice_get ks c.args.i) (values_map (λ (e : List ℕ × Resource). e.0) (λ (i : ℕ). (name i, tree i)) 0 s.parts.count) ∙ values_at name s.parts.count c.args.i h)
+    e ∙ t ∙ sym (ap (λ (ks : List (List ℕ)). slice_get ks c.args.i) (values_map (λ (e : List ℕ × Resource). e.0) (λ (i : ℕ). (name i, tree i)) 0 s.parts.count)
+    ∙ values_at name s.parts.count c.args.i h)
