@@ -64,8 +64,8 @@ func (a *answers) load() error {
 	return nil
 }
 
-// add takes messages of the stream. One that doesn't answer the next change is none of ours: the acknowledgement of another
-// publish, sent here by a caller.
+// add takes messages of the stream. One that doesn't answer the next change isn't a bridge's: it is the acknowledgement of a
+// publish that a caller had sent here.
 func (a *answers) add(batch []*nats.Msg) error {
 	for _, message := range batch {
 		data, err := message.Metadata()

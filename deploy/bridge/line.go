@@ -48,7 +48,7 @@ func judge(k kind, app string, message []byte) (line []byte, answer string) {
 	return seal(message, op, app), ""
 }
 
-// text reads a JSON value as a text; the second is false where it is none.
+// text reads a JSON value as a text; the second is false where it is another value.
 func text(value json.RawMessage) (string, bool) {
 	if len(value) == 0 || value[0] != '"' {
 		return "", false

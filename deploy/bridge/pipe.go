@@ -13,7 +13,7 @@ const room = 4096
 var errEnded = errors.New("the program ended")
 
 // A waiter is called once: with the reply to its line, or with nil where the program ended before. It must not wait long, since
-// all replies behind its own wait for it.
+// all later replies wait for it.
 type waiter func(reply []byte)
 
 // A pipe gives lines to a program that answers each with a line, in order. Lines are given ahead of the replies.
@@ -22,11 +22,11 @@ type pipe struct {
 	in      io.Writer
 	waiting chan waiter
 	ended   chan struct{} // closed at the end of the program's output
-	told    chan struct{} // closed when all waiters were called after that
+	drained chan struct{} // closed when all waiters were called after that
 }
 
 func newPipe(in io.Writer) *pipe {
-	return &pipe{in: in, waiting: make(chan waiter, room), ended: make(chan struct{}), told: make(chan struct{})}
+	return &pipe{in: in, waiting: make(chan waiter, room), ended: make(chan struct{}), drained: make(chan struct{})}
 }
 
 // ask gives a line to the program. Its waiter is called, unless ask returns an error.
@@ -64,5 +64,5 @@ func (p *pipe) read(out io.Reader) {
 	for len(p.waiting) > 0 {
 		(<-p.waiting)(nil)
 	}
-	close(p.told)
+	close(p.drained)
 }

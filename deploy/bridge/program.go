@@ -56,7 +56,7 @@ func (p *program) listen(errors io.Reader) {
 func (p *program) stop() string {
 	_ = p.command.Process.Signal(os.Kill)
 	_ = p.input.Close()
-	<-p.told
+	<-p.drained
 	p.errors.Wait()
 	err := p.command.Wait()
 	switch {

@@ -53,7 +53,7 @@ func call(url, file, app string) error {
 	}
 }
 
-// send publishes a change, and asks what is none.
+// send publishes a change, and asks all else.
 func send(c *client.Client, line string) (string, error) {
 	var request struct{ Op string }
 	_ = json.Unmarshal([]byte(line), &request)

@@ -13,6 +13,9 @@ import (
 	"time"
 )
 
+// long is the duration from which all parts are run.
+const long = 30 * time.Second
+
 // apps is how many applications there are; each has a bundle for each of the 20 locales.
 const apps = 50
 
@@ -34,10 +37,10 @@ func main() {
 	}
 }
 
-// try runs all parts; where there are less than 30 seconds, the rate is measured with 4 shards alone.
+// try runs all parts; of a short one the rates with 1 and 2 shards are left out, and copying to more shards.
 func try(t *tally, scripts, folder, program string, duration time.Duration) error {
 	counts, measure := []int{1, 2, 4}, 5*time.Second
-	if duration < 30*time.Second {
+	if duration < long {
 		counts, measure = []int{4}, time.Second
 	}
 	for _, shards := range counts {
@@ -115,6 +118,11 @@ func (c *cluster) endure(t *tally, applications []*application, kills time.Durat
 		return err
 	}
 	all(applications, (*application).verify)
+	if kills >= long {
+		if err := c.grow(applications); err != nil {
+			return err
+		}
+	}
 	for _, a := range applications {
 		if n := a.client.Twice(); n > 0 {
 			t.fail("%d changes of %s were answered twice", n, a.name)
@@ -137,6 +145,36 @@ func (c *cluster) killServer(t *tally, applications []*application, p *prober) e
 	all(applications, func(a *application) { a.work(time.Now().Add(2*time.Second), 1) })
 	all(applications, (*application).verify)
 	return <-failed
+}
+
+// grow copies the changes to 7 shards, and looks everything up there.
+func (c *cluster) grow(applications []*application) error {
+	port, err := freePort()
+	if err != nil {
+		return err
+	}
+	more := *c
+	more.state, more.port, more.shards = c.state+"-more", port, 7
+	if err := more.start(); err != nil {
+		return err
+	}
+	defer func() { _ = more.stop() }()
+	if err := c.run("copy", c.state, fmt.Sprint(c.port), more.state, fmt.Sprint(more.port)); err != nil {
+		return err
+	}
+	for _, a := range applications {
+		there, err := more.dial(a.name)
+		if err != nil {
+			return err
+		}
+		defer there.Close()
+		here := a.client
+		a.client = there
+		defer func(a *application) { a.client = here }(a)
+	}
+	all(applications, (*application).verify)
+	fmt.Printf("all changes copied to %d shards\n", more.shards)
+	return nil
 }
 
 // names gives the applications' names, of all the characters that such a name may have.
