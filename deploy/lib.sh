@@ -7,6 +7,7 @@ state=${RESB_STATE:-$out/state}
 port=${RESB_PORT:-4222}
 program=${RESB:-$top/crates/rb_tool/out/rb_tool}
 libraries=/usr/share/gocode
+PATH=$PATH:/usr/sbin # where nats-server is
 
 # prints the Debian packages that are missing
 missing_packages() {

@@ -97,7 +97,10 @@ func (a *answers) keep(answer string) {
 // message that wasn't read here; then what it has is read, and the answer may be there already.
 func (a *answers) give(n uint64, token, id, answer string) error {
 	for {
-		if _, there := a.to(n); there {
+		if given, there := a.to(n); there {
+			if given != answer {
+				log.Printf("change %d: replied %s, and another bridge answered %s", n, answer, given)
+			}
 			return nil
 		}
 		message := nats.NewMsg(subjects.Answer(a.shard, token))

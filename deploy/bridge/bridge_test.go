@@ -15,33 +15,46 @@ import (
 	"../subjects"
 )
 
-// serve starts a nats-server for a test, and gives a connection to it.
-func serve(t *testing.T) (*nats.Conn, nats.JetStreamContext) {
-	if _, err := exec.LookPath("nats-server"); err != nil {
-		t.Skip("no nats-server")
-	}
+// port gives a port on loopback that nothing listens to.
+func port(t *testing.T) int {
 	listener, err := net.Listen("tcp", "127.0.0.1:0")
 	if err != nil {
 		t.Fatal(err)
 	}
-	port := listener.Addr().(*net.TCPAddr).Port
-	listener.Close()
+	defer listener.Close()
+	return listener.Addr().(*net.TCPAddr).Port
+}
+
+// startServer starts a nats-server for a test.
+func startServer(t *testing.T, port int) {
 	server := exec.Command("nats-server", "-a", "127.0.0.1", "-p", fmt.Sprint(port), "-js", "-sd", filepath.Join(t.TempDir(), "store"))
 	if err := server.Start(); err != nil {
-		t.Fatal(err)
+		t.Skip("no nats-server")
 	}
 	t.Cleanup(func() {
 		_ = server.Process.Signal(os.Interrupt)
 		_ = server.Wait()
 	})
-	nc, err := nats.Connect(fmt.Sprintf("127.0.0.1:%d", port), nats.RetryOnFailedConnect(true), nats.ReconnectWait(50*time.Millisecond))
+}
+
+// reach gives the settings to reach a server on this port.
+func reach(t *testing.T, port int) settings {
+	file := filepath.Join(t.TempDir(), "passwords")
+	if err := os.WriteFile(file, []byte("other x\nbridge y\n"), 0o600); err != nil {
+		t.Fatal(err)
+	}
+	return settings{url: fmt.Sprintf("nats://127.0.0.1:%d", port), user: "bridge", passwords: file}
+}
+
+// serve gives a connection to a nats-server with the streams of a shard.
+func serve(t *testing.T) (*nats.Conn, nats.JetStreamContext) {
+	at := port(t)
+	startServer(t, at)
+	nc, err := connect(reach(t, at))
 	if err != nil {
 		t.Fatal(err)
 	}
 	t.Cleanup(nc.Close)
-	for k := 0; k < 200 && !nc.IsConnected(); k++ {
-		time.Sleep(50 * time.Millisecond)
-	}
 	js, err := nc.JetStream()
 	if err == nil {
 		err = makeStreams(js, 1, -1)
@@ -50,6 +63,27 @@ func serve(t *testing.T) (*nats.Conn, nats.JetStreamContext) {
 		t.Fatal(err)
 	}
 	return nc, js
+}
+
+func TestNATSIsTriedUntilItIsThere(t *testing.T) {
+	at := port(t)
+	reached := make(chan error)
+	go func() {
+		nc, err := connect(reach(t, at))
+		if err == nil {
+			nc.Close()
+		}
+		reached <- err
+	}()
+	select {
+	case err := <-reached:
+		t.Fatalf("reached without a server: %v", err)
+	case <-time.After(400 * time.Millisecond):
+	}
+	startServer(t, at)
+	if err := <-reached; err != nil {
+		t.Error(err)
+	}
 }
 
 // publish stores a change of shop for each locale.
@@ -156,5 +190,28 @@ func TestLostChangesAreNoticed(t *testing.T) {
 	}
 	if served, end := bridgeOf(t, nc, js, "plain").run(); served || !strings.Contains(end, "they are lost") {
 		t.Errorf("%v, %s", served, end)
+	}
+}
+
+func TestTwoBridgesAnswerEachChangeOnce(t *testing.T) {
+	nc, js := serve(t)
+	var want []string
+	for k := 0; k < 50; k++ {
+		want = append(want, yes)
+	}
+	ended := make(chan string)
+	other := bridgeOf(t, nc, js, "plain")
+	go func() {
+		_, end := other.run()
+		ended <- end
+	}()
+	go func() {
+		for range want {
+			publish(t, js, "de")
+		}
+	}()
+	expect(t, bridgeOf(t, nc, js, "plain"), want...)
+	if end := <-ended; end != "Memory, exit status 1" {
+		t.Errorf("ended: %s", end)
 	}
 }

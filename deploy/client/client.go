@@ -28,8 +28,6 @@ type Client struct {
 	js      nats.JetStreamContext
 	mu      sync.Mutex
 	waiting map[string]chan string
-	known   map[string]bool
-	twice   int
 }
 
 // A Pending change is stored in the stream of its shard, and its answer will come.
@@ -51,7 +49,7 @@ func Dial(url, app, password string) (*Client, error) {
 	if err != nil {
 		return nil, err
 	}
-	c := &Client{app: app, nc: nc, js: js, waiting: map[string]chan string{}, known: map[string]bool{}}
+	c := &Client{app: app, nc: nc, js: js, waiting: map[string]chan string{}}
 	if _, err := nc.Subscribe(subjects.Answers(app), c.take); err != nil {
 		return nil, err
 	}
@@ -61,13 +59,6 @@ func Dial(url, app, password string) (*Client, error) {
 // Close ends the connection.
 func (c *Client) Close() { c.nc.Close() }
 
-// Twice gives how many changes were answered more than once.
-func (c *Client) Twice() int {
-	c.mu.Lock()
-	defer c.mu.Unlock()
-	return c.twice
-}
-
 // take gets the answer to a change of this client, or of another one of the same application.
 func (c *Client) take(m *nats.Msg) {
 	c.mu.Lock()
@@ -75,10 +66,7 @@ func (c *Client) take(m *nats.Msg) {
 	id := m.Header.Get(subjects.AnswerID)
 	if answer, ours := c.waiting[id]; ours {
 		delete(c.waiting, id)
-		c.known[id] = true
 		answer <- string(m.Data)
-	} else if c.known[id] {
-		c.twice++
 	}
 }
 

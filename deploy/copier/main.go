@@ -3,7 +3,6 @@
 package main
 
 import (
-	"errors"
 	"flag"
 	"fmt"
 	"log"
@@ -13,6 +12,7 @@ import (
 	"github.com/nats-io/nats.go"
 
 	"../passwords"
+	"../stream"
 	"../subjects"
 )
 
@@ -94,15 +94,11 @@ func await(answers *nats.Subscription, n int) error {
 
 // copyShard publishes the changes of one shard that were done.
 func copyShard(source, target *nats.Conn, shard int) (count int, err error) {
-	answers, err := read(source, subjects.AnswersOf(shard))
-	if err != nil {
-		return 0, err
-	}
 	given := map[string]bool{}
-	for m := answers(); m != nil; m = answers() {
+	err = stream.Each(source, subjects.AnswersOf(shard), func(m *nats.Msg) error {
 		given[m.Header.Get(subjects.AnswerTo)] = string(m.Data) == done
-	}
-	changes, err := read(source, subjects.Changes(shard))
+		return nil
+	})
 	if err != nil {
 		return 0, err
 	}
@@ -110,24 +106,22 @@ func copyShard(source, target *nats.Conn, shard int) (count int, err error) {
 	if err != nil {
 		return 0, err
 	}
-	for m := changes(); m != nil; m = changes() {
+	err = stream.Each(source, subjects.Changes(shard), func(m *nats.Msg) error {
 		place, err := m.Metadata()
 		if err != nil {
-			return count, err
+			return err
 		}
 		wasDone, answered := given[fmt.Sprint(place.Sequence.Stream)]
 		if !answered {
-			return count, fmt.Errorf("change %d isn't answered yet", place.Sequence.Stream)
+			return fmt.Errorf("change %d isn't answered yet", place.Sequence.Stream)
 		}
 		if !wasDone {
-			continue
-		}
-		if err := publish(js, shard, place.Sequence.Stream, m); err != nil {
-			return count, err
+			return nil
 		}
 		count++
-	}
-	return count, nil
+		return publish(js, shard, place.Sequence.Stream, m)
+	})
+	return count, err
 }
 
 // publish stores a change under a name made of its old place.
@@ -137,37 +131,4 @@ func publish(js nats.JetStreamContext, shard int, n uint64, m *nats.Msg) error {
 	message.Header.Set(subjects.MessageID, fmt.Sprintf("%d-%d", shard, n))
 	_, err := js.PublishMsg(message)
 	return err
-}
-
-// read gives the messages of a stream one by one, and nil after the last.
-func read(nc *nats.Conn, stream string) (func() *nats.Msg, error) {
-	js, err := nc.JetStream()
-	if err != nil {
-		return nil, err
-	}
-	info, err := js.StreamInfo(stream)
-	if err != nil {
-		return nil, err
-	}
-	messages, err := js.SubscribeSync("", nats.BindStream(stream), nats.OrderedConsumer())
-	if err != nil {
-		return nil, err
-	}
-	left := info.State.Msgs
-	return func() *nats.Msg {
-		if left == 0 {
-			_ = messages.Unsubscribe()
-			return nil
-		}
-		left--
-		for {
-			m, err := messages.NextMsg(10 * time.Second)
-			if err == nil {
-				return m
-			}
-			if !errors.Is(err, nats.ErrTimeout) {
-				log.Fatalf("stream %s: %v", stream, err)
-			}
-		}
-	}, nil
 }

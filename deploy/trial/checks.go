@@ -3,12 +3,16 @@ package main
 import (
 	"errors"
 	"fmt"
+	"path/filepath"
+	"strconv"
 	"strings"
 	"sync"
 	"time"
 
 	"github.com/nats-io/nats.go"
 
+	"../passwords"
+	"../stream"
 	"../subjects"
 )
 
@@ -165,6 +169,42 @@ func repeats(t *tally, nc *nats.Conn, ours *application) {
 	if count != 1 {
 		t.fail("a change was answered %d times", count)
 	}
+}
+
+// once checks that the streams have one answer to each change.
+func (c *cluster) once(t *tally) error {
+	password, err := passwords.Find(filepath.Join(c.state, "passwords"), "operator")
+	if err != nil {
+		return err
+	}
+	nc, err := nats.Connect(c.url(), nats.UserInfo("operator", password))
+	if err != nil {
+		return err
+	}
+	defer nc.Close()
+	for shard := 0; shard < c.shards; shard++ {
+		count := map[string]int{}
+		err := stream.Each(nc, subjects.AnswersOf(shard), func(m *nats.Msg) error {
+			count[m.Header.Get(subjects.AnswerTo)]++
+			return nil
+		})
+		if err != nil {
+			return err
+		}
+		n := 0
+		err = stream.Each(nc, subjects.Changes(shard), func(m *nats.Msg) error {
+			n++
+			if answers := count[strconv.Itoa(n)]; answers != 1 {
+				t.fail("shard %d: change %d has %d answers", shard, n, answers)
+			}
+			return nil
+		})
+		if err != nil {
+			return err
+		}
+		fmt.Printf("shard %d: %d changes in its stream, each with one answer\n", shard, n)
+	}
+	return nil
 }
 
 // full checks that a full stream refuses a change and says so, and that lookups go on.

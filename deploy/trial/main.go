@@ -123,12 +123,7 @@ func (c *cluster) endure(t *tally, applications []*application, kills time.Durat
 			return err
 		}
 	}
-	for _, a := range applications {
-		if n := a.client.Twice(); n > 0 {
-			t.fail("%d changes of %s were answered twice", n, a.name)
-		}
-	}
-	return nil
+	return c.once(t)
 }
 
 // killServer kills nats-server once under load.
