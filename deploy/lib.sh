@@ -4,7 +4,7 @@
 top=$(CDPATH='' cd -- "$here/.." && pwd)
 out=$here/out
 state=${RESB_STATE:-$out/state}
-port=${RESB_PORT:-4222}
+port=${RESB_PORT:-4422} # Debian runs a nats-server of its own on 4222
 program=${RESB:-$top/crates/rb_tool/out/rb_tool}
 libraries=/usr/share/gocode
 PATH=$PATH:/usr/sbin # where nats-server is

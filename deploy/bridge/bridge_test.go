@@ -1,7 +1,9 @@
 package main
 
 import (
+	"bytes"
 	"fmt"
+	"log"
 	"net"
 	"os"
 	"os/exec"
@@ -158,6 +160,23 @@ func TestAReplayWithoutMemoryDoesNotServe(t *testing.T) {
 	expect(t, bridgeOf(t, nc, js, "plain"), yes, yes)
 	if served, end := bridgeOf(t, nc, js, "short").run(); served || end != "out of memory at change 1 in the replay" {
 		t.Errorf("%v, %s", served, end)
+	}
+}
+
+func TestAReplayThatDiffersIsLogged(t *testing.T) {
+	nc, js := serve(t)
+	publish(t, js, "de", "fr")
+	expect(t, bridgeOf(t, nc, js, "plain"), yes, yes)
+	var lines bytes.Buffer
+	log.SetOutput(&lines)
+	defer log.SetOutput(os.Stderr)
+	b := bridgeOf(t, nc, js, "refuse")
+	for k := 0; k < patience; k++ {
+		b.run()
+	}
+	expect(t, b, yes, yes, shardEnded)
+	if want := `change 2: replied {"error":"Exists"}, and {"ok":true} when it was first given`; !strings.Contains(lines.String(), want) {
+		t.Errorf("the log has no %s: %s", want, lines.String())
 	}
 }
 

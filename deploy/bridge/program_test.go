@@ -8,8 +8,8 @@ import (
 	"testing"
 )
 
-// fake is the variable by which this test, run as a program, is a `serve` that ends at a line with "end", refuses a line with
-// "short" for memory while its variable says so, and says yes to all others.
+// fake is the variable by which this test, run as a program, is a `serve` that ends at a line with "end". It refuses a line with
+// "short" for memory where the variable is "short", and every line where it is "refuse"; to all others it says yes.
 const fake = "BRIDGE_TEST_FAKE"
 
 func TestMain(m *testing.M) {
@@ -23,6 +23,8 @@ func TestMain(m *testing.M) {
 			os.Exit(1)
 		case strings.Contains(lines.Text(), "short") && os.Getenv(fake) == "short":
 			fmt.Println(outOfMemory)
+		case os.Getenv(fake) == "refuse":
+			fmt.Println(`{"error":"Exists"}`)
 		case lines.Text() == "":
 			fmt.Println(`{"error":"BadLine"}`)
 		default:

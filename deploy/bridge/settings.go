@@ -24,7 +24,7 @@ func read() settings {
 	flag.IntVar(&s.shard, "shard", 0, "the shard to serve")
 	flag.IntVar(&s.setup, "setup", 0, "make the streams of so many shards, and end")
 	flag.Int64Var(&s.bytes, "bytes", -1, "with -setup: the most bytes of a shard's stream of changes")
-	flag.StringVar(&s.url, "nats", "nats://127.0.0.1:4222", "where nats-server is")
+	flag.StringVar(&s.url, "nats", "nats://127.0.0.1:4422", "where nats-server is")
 	flag.StringVar(&s.user, "user", "bridge", "the user to be there")
 	flag.StringVar(&s.passwords, "passwords", "", "a file with lines of a user, a space and the password")
 	flag.StringVar(&s.path, "program", "resb", "the program whose `serve` is run")

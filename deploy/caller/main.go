@@ -15,7 +15,7 @@ import (
 )
 
 func main() {
-	url := flag.String("nats", "nats://127.0.0.1:4222", "where nats-server is")
+	url := flag.String("nats", "nats://127.0.0.1:4422", "where nats-server is")
 	file := flag.String("passwords", "", "a file with lines of a user, a space and the password")
 	flag.Parse()
 	if flag.NArg() != 1 {
