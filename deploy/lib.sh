@@ -51,5 +51,5 @@ build() {
 keeper() {
     [ -f "$1" ] || return 1
     pid=$(cat "$1")
-    [ -n "$pid" ] && tr '\0' '\n' <"/proc/$pid/cmdline" 2>/dev/null | grep -Fqx "${1%.keep}.pid" && echo "$pid"
+    [ -n "$pid" ] && tr '\0' '\n' 2>/dev/null <"/proc/$pid/cmdline" | grep -Fqx "${1%.keep}.pid" && echo "$pid"
 }
