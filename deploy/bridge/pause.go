@@ -1,0 +1,47 @@
+package main
+
+import (
+	"context"
+	"time"
+)
+
+const (
+	firstPause = 100 * time.Millisecond
+	mostPause  = 30 * time.Second
+)
+
+// A pause doubles from one failure to the next, until a success.
+type pause struct{ next time.Duration }
+
+// after gives the pause after n failures in a row, of which there is at least one.
+func after(n int) time.Duration {
+	p := pause{}
+	for ; n > 1 && p.next < mostPause; n-- {
+		p.grow()
+	}
+	return p.grow()
+}
+
+// grow gives the pause to make now.
+func (p *pause) grow() time.Duration {
+	now := p.next
+	if now == 0 {
+		now = firstPause
+	}
+	p.next = 2 * now
+	if p.next > mostPause {
+		p.next = mostPause
+	}
+	return now
+}
+
+// reset makes the next pause the shortest again.
+func (p *pause) reset() { p.next = 0 }
+
+// rest waits for the given time or for the context's end.
+func rest(ctx context.Context, d time.Duration) {
+	select {
+	case <-time.After(d):
+	case <-ctx.Done():
+	}
+}

@@ -1,0 +1,69 @@
+package main
+
+import (
+	"bufio"
+	"io"
+	"os"
+	"os/exec"
+	"sync"
+)
+
+// A program is a running `resb serve`.
+type program struct {
+	*pipe
+	command *exec.Cmd
+	input   io.Closer
+	errors  sync.WaitGroup
+	word    string
+}
+
+// launch starts `PATH serve ARGUMENTS` and notes its process in the file.
+func launch(path string, arguments []string, note func(pid int)) (*program, error) {
+	command := exec.Command(path, append([]string{"serve"}, arguments...)...)
+	in, err := command.StdinPipe()
+	if err != nil {
+		return nil, err
+	}
+	out, err := command.StdoutPipe()
+	if err != nil {
+		return nil, err
+	}
+	errors, err := command.StderrPipe()
+	if err != nil {
+		return nil, err
+	}
+	if err := command.Start(); err != nil {
+		return nil, err
+	}
+	note(command.Process.Pid)
+	p := &program{pipe: newPipe(in), command: command, input: in}
+	p.errors.Add(1)
+	go p.listen(errors)
+	go p.read(out)
+	return p, nil
+}
+
+// listen keeps the last line of the program's standard error, which is the word that it ended with.
+func (p *program) listen(errors io.Reader) {
+	defer p.errors.Done()
+	lines := bufio.NewScanner(errors)
+	for lines.Scan() {
+		p.word = lines.Text()
+	}
+}
+
+// stop ends the program, if it hasn't ended, and tells its word and status.
+func (p *program) stop() string {
+	_ = p.command.Process.Signal(os.Kill)
+	_ = p.input.Close()
+	<-p.drained
+	p.errors.Wait()
+	err := p.command.Wait()
+	switch {
+	case err == nil:
+		return "status 0 " + p.word
+	case p.word == "":
+		return err.Error()
+	}
+	return p.word + ", " + err.Error()
+}

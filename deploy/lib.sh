@@ -1,0 +1,55 @@
+# What the scripts of this folder share. Sourced with `here` set to the folder.
+# shellcheck shell=sh disable=SC2034
+
+top=$(CDPATH='' cd -- "$here/.." && pwd)
+out=$here/out
+state=${RESB_STATE:-$out/state}
+port=${RESB_PORT:-4422} # Debian runs a nats-server of its own on 4222
+program=${RESB:-$top/crates/rb_tool/out/rb_tool}
+libraries=/usr/share/gocode
+PATH=$PATH:/usr/sbin # where nats-server is
+
+# prints the Debian packages that are missing
+missing_packages() {
+    command -v nats-server >/dev/null || printf ' nats-server'
+    command -v go >/dev/null || printf ' golang-go'
+    [ -d "$libraries/src/github.com/nats-io/nats.go" ] || printf ' golang-github-nats-io-go-nats-dev'
+}
+
+# has the packages that are missing installed by root; says to others how
+need_packages() {
+    missing=$(missing_packages)
+    [ -n "$missing" ] || return 0
+    if [ "$(id -u)" -ne 0 ]; then
+        echo "$0: packages are missing; install them by: apt-get install$missing" >&2
+        exit 1
+    fi
+    echo "$0: apt-get install$missing" >&2
+    # shellcheck disable=SC2086
+    apt-get install -y $missing >&2
+}
+
+need_program() {
+    [ -x "$program" ] || {
+        echo "$0: no program at $program; bin/resb --help proves and builds it" >&2
+        exit 1
+    }
+}
+
+# runs Go over Debian's libraries alone
+run_go() {
+    (cd "$here" && GOPATH=$libraries GO111MODULE=off GOFLAGS='' GOCACHE="$out/go" GOPROXY=off go "$@")
+}
+
+build() {
+    for part in "$@"; do
+        run_go build -o "$out/bin/$part" "./$part"
+    done
+}
+
+# the process of a keeper, where it is one of this state
+keeper() {
+    [ -f "$1" ] || return 1
+    pid=$(cat "$1")
+    [ -n "$pid" ] && tr '\0' '\n' 2>/dev/null <"/proc/$pid/cmdline" | grep -Fqx "${1%.keep}.pid" && echo "$pid"
+}

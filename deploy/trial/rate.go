@@ -1,0 +1,68 @@
+package main
+
+import (
+	"sync"
+	"sync/atomic"
+	"time"
+)
+
+// asking is how many lookups of one application are on their way at once while their rate is measured.
+const asking = 4
+
+// expected gives each lookup with the reference's reply.
+func (a *application) expected() (lines, replies []string, err error) {
+	for _, locale := range locales {
+		for _, path := range paths {
+			line := look(a.name, locale, path)
+			reply, err := a.reference.ask(line)
+			if err != nil {
+				return nil, nil, err
+			}
+			lines, replies = append(lines, line), append(replies, reply)
+		}
+	}
+	return lines, replies, nil
+}
+
+// rate measures the lookups in a second, each of whose replies is compared.
+func rate(applications []*application, duration time.Duration) float64 {
+	var count int64
+	lines, replies := make(map[*application][]string), make(map[*application][]string)
+	for _, a := range applications {
+		var err error
+		if lines[a], replies[a], err = a.expected(); err != nil {
+			a.tally.fail("the reference of %s: %v", a.name, err)
+			return 0
+		}
+	}
+	began := time.Now()
+	end := began.Add(duration)
+	all(applications, func(a *application) {
+		var askers sync.WaitGroup
+		for k := 0; k < asking; k++ {
+			askers.Add(1)
+			go func(from int) {
+				defer askers.Done()
+				atomic.AddInt64(&count, a.askUntil(end, lines[a], replies[a], from))
+			}(k * len(lines[a]) / asking)
+		}
+		askers.Wait()
+	})
+	return float64(count) / time.Since(began).Seconds()
+}
+
+// askUntil asks line after line, and tells how many were answered.
+func (a *application) askUntil(end time.Time, lines, replies []string, from int) (count int64) {
+	for k := from; time.Now().Before(end); k++ {
+		line, want := lines[k%len(lines)], replies[k%len(lines)]
+		got, again, err := a.client.Ask(line)
+		if err != nil {
+			a.tally.miss(line, err)
+			return count
+		}
+		a.tally.compare(line, got, want)
+		a.tally.add(1, 0, again)
+		count++
+	}
+	return count
+}
