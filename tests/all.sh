@@ -1,8 +1,9 @@
 #!/usr/bin/env bash
-# All tests: the examples and the shards of deploy/, where the program is built already, and then the gate, which proves every
-# crate from nothing, tries the wrong bodies, and runs each test and the program.
+# All tests: the launcher, the examples and the shards of deploy/ where the program is built already, and then the gate, which
+# proves every crate from nothing, tries the wrong bodies, and runs each test and the program.
 set -eu
 cd "$(dirname "$0")/.."
+tests/launcher.sh
 tests/examples.sh crates/rb_tool/out/rb_tool
 deploy/test crates/rb_tool/out/rb_tool
 exec rt ci
