@@ -43,4 +43,7 @@ done
 cd icudata || exit 2
 accepts de.txt de.res
 "$program" serve --parents parents.txt root=root.txt de="$made/de.res" zh=zh.txt <requests.jsonl | agrees icudata replies.jsonl
+cd ../aliases || exit 2
+accepts de.txt aliases-de.res
+"$program" serve de=de.txt <requests.jsonl | agrees aliases replies.jsonl
 exit "$failed"

@@ -1,0 +1,30 @@
+#!/usr/bin/env bash
+# A replacement while a lookup's item is held doesn't compile: the item is lent out of the engine. The program programs/held.rt does
+# so, and is refused for this borrow; without the two lines that hold the item, marked `held`, it compiles and runs.
+#
+# usage: borrows.sh      (the variable RT names the command `rt`, where it is another)
+set -eu
+cd "$(dirname "$0")"
+. ./beside.sh
+rt=${RT:-rt}
+made=$(mktemp -d)
+trap 'rm -rf "$made"' EXIT
+repository "$made" held rb_engine rb_parents rb_tree
+program=$made/crates/held/src/main.rt
+cd "$made/crates/held"
+
+if "$rt" try >"$made/said" 2>&1 || ! grep -q 'error\[borrow-e0502\]: cannot borrow `\*engine` as mutable' "$made/said"; then
+    cat "$made/said"
+    echo 'not refused: a replacement while a lookup is held'
+    exit 1
+fi
+echo 'ok: a replacement while a lookup is held is refused'
+
+grep -v '// held$' "$program" >"$made/free"
+cp "$made/free" "$program"
+if ! "$rt" try >"$made/said" 2>&1; then
+    cat "$made/said"
+    echo 'refused: a replacement while nothing is held'
+    exit 1
+fi
+echo 'ok: a replacement while nothing is held runs'
