@@ -1,7 +1,7 @@
 #!/usr/bin/env python3
 """Speed of `resb serve`: lookups through a pipe, written ahead and one by one; installs of texts and of files; and the memory of a server.
 
-usage: serve.py [PROGRAM]   (default: crates/rb_tool/out/rb_tool)
+usage: serve.py [PROGRAM [ICUDT]]   (default: crates/rb_tool/out/rb_tool; ICUDT: a file for the comparison with libicu, see cldr.py)
 """
 import json
 import os
@@ -10,6 +10,8 @@ import subprocess
 import sys
 import tempfile
 import time
+
+import cldr
 
 TOP = os.path.dirname(os.path.dirname(os.path.abspath(__file__)))
 PROGRAM = sys.argv[1] if len(sys.argv) > 1 else os.path.join(TOP, "crates/rb_tool/out/rb_tool")
@@ -154,6 +156,7 @@ def main():
         {"op": "install", "app": "app0", "locale": "de_AT", "text": 'de_AT{countries{AT{"Österreich"} DE{"Deutschland"}}}'},
     ])
     ahead("trails of 4 names, 200,000 lookups written ahead", setup, lines(trails(200000)), 200000)
+    cldr.report(sys.argv[2] if len(sys.argv) > 2 else None, PROGRAM)
 
 
 if __name__ == "__main__":
