@@ -1,5 +1,9 @@
 #!/usr/bin/env bash
-# Runs each example of examples/ through a built program, and compares what it prints with what is written beside it.
+# Runs each file of examples/ through a built program, and compares what it prints with what is written beside it.
+#
+# A bundle text is compiled, and its file checked. NAME.jsonl is served and compared with NAME.replies.jsonl. In a folder the file
+# parents.txt has the explicit parents, and each other LOCALE.txt is a bundle of ICUDATA; requests.jsonl is served over them, once
+# as texts and once as files, and compared with replies.jsonl. A file that is none of these counts as a failure.
 #
 # usage: examples.sh PROGRAM
 # Ends with status 0 where all agree, with 1 where one differs; says `skipped` where there is no such program.
@@ -15,35 +19,53 @@ made=$(mktemp -d) || exit 2
 trap 'rm -rf "$made"' EXIT
 failed=0
 
+fails() {
+    echo "$1"
+    failed=1
+}
+
 # Compares standard input with a file.
 agrees() {
     if diff "$2" -; then
         echo "ok: $1"
     else
-        echo "differs: $1"
-        failed=1
+        fails "differs: $1"
     fi
 }
 
-# Compiles a bundle text, and checks the file.
+# Compiles a bundle text to a file, and checks it.
 accepts() {
-    if "$program" compile "$1" "$made/$2" >/dev/null && "$program" check "$made/$2" >/dev/null; then
+    mkdir -p "$(dirname "$made/$1")"
+    if "$program" compile "$1" "$made/${1%.txt}.res" >/dev/null && "$program" check "$made/${1%.txt}.res" >/dev/null; then
         echo "ok: $1"
     else
-        echo "refused: $1"
-        failed=1
+        fails "refused: $1"
     fi
 }
 
-for text in *.txt; do
-    accepts "$text" "${text%.txt}.res"
-done
-"$program" serve <first-run.jsonl | agrees first-run first-run.replies.jsonl
+# Serves the requests of a folder over its bundles, which are texts or files as the ending says, in the folder given.
+serves() {
+    local arguments=() text locale
+    [ ! -f "$1/parents.txt" ] || arguments+=(--parents "$1/parents.txt")
+    for text in "$1"/*.txt; do
+        locale=$(basename "$text" .txt)
+        [ "$locale" = parents ] || arguments+=("$locale=$3/$1/$locale.$2")
+    done
+    "$program" serve "${arguments[@]}" <"$1/requests.jsonl" | agrees "$1, .$2" "$1/replies.jsonl"
+}
 
-cd icudata || exit 2
-accepts de.txt de.res
-"$program" serve --parents parents.txt root=root.txt de="$made/de.res" zh=zh.txt <requests.jsonl | agrees icudata replies.jsonl
-cd ../aliases || exit 2
-accepts de.txt aliases-de.res
-"$program" serve de=de.txt <requests.jsonl | agrees aliases replies.jsonl
+while IFS= read -r file; do
+    case $file in
+        README.md | *.replies.jsonl | */replies.jsonl) ;;
+        *.txt) accepts "$file" ;;
+        */requests.jsonl) ;;
+        */*) fails "not run: $file" ;;
+        *.jsonl) "$program" serve <"$file" | agrees "$file" "${file%.jsonl}.replies.jsonl" ;;
+        *) fails "not run: $file" ;;
+    esac
+done < <(find . -type f | sed 's,^\./,,' | sort)
+for folder in */; do
+    serves "${folder%/}" txt .
+    serves "${folder%/}" res "$made"
+done
 exit "$failed"

@@ -12,21 +12,64 @@ fn with_word<'a>(
     command.arg(Arg::new(alloc, name).required(true).help(help))
 }
 
+/// The end of the help of `compile`.
+const COMPILE_HELP: &str = "\
+Example:
+  resb compile de.txt de.res
+
+Status:
+  0  OUT is written; its length is printed
+  1  the text is refused, as de.txt:3: BadInt, or out of memory; nothing is written
+  2  the command line is invalid, or a file or standard output can't be read or written";
+
 fn compile_command<'a>(alloc: Global) -> Result<Command<'a>, AllocError> {
-    let command = Command::new(alloc, "compile").about("Compiles a bundle text to a .res file");
-    let command = with_word(alloc, command, "IN", "a bundle text")?;
+    let command = Command::new(alloc, "compile")
+        .about("Compiles a bundle text to a .res file")
+        .after_help(COMPILE_HELP);
+    let command = with_word(alloc, command, "IN", "a bundle text, in UTF-8")?;
     with_word(alloc, command, "OUT", "the file to write")
 }
 
+/// The end of the help of `check`.
+const CHECK_HELP: &str = "\
+Example:
+  resb check de.res
+
+Status:
+  0  the file is a bundle; the number of its tables and arrays with data is printed
+  1  the file is refused, as de.res: KeyOrder, or out of memory
+  2  the command line is invalid, the file can't be read, or standard output can't be written";
+
 fn check_command<'a>(alloc: Global) -> Result<Command<'a>, AllocError> {
-    let command = Command::new(alloc, "check").about("Checks a .res file");
+    let command = Command::new(alloc, "check")
+        .about("Checks a .res file")
+        .after_help(CHECK_HELP);
     with_word(alloc, command, "FILE", "a .res file")
 }
 
+/// The end of the help of `get`.
+const GET_HELP: &str = "\
+Example:
+  resb get de.res menu/close
+
+An alias on the way is printed and not followed. The empty path '' is the whole bundle.
+
+Status:
+  0  the item is printed, as JSON
+  1  the file is refused, or has no such item, as menu/shut: Missing, or out of memory
+  2  the command line is invalid, the file can't be read, or standard output can't be written";
+
 fn get_command<'a>(alloc: Global) -> Result<Command<'a>, AllocError> {
-    let command = Command::new(alloc, "get").about("Prints the item at a path of a .res file");
+    let command = Command::new(alloc, "get")
+        .about("Prints the item at a path of a .res file")
+        .after_help(GET_HELP);
     let command = with_word(alloc, command, "FILE", "a .res file")?;
-    with_word(alloc, command, "PATH", "keys and indexes, with slashes")
+    with_word(
+        alloc,
+        command,
+        "PATH",
+        "keys and indexes, with slashes between them",
+    )
 }
 
 /// The end of the help of `serve`.
@@ -35,8 +78,8 @@ Example:
   resb serve --parents parents.txt root=root.txt de=de.res < requests.jsonl
 
 Status:
-  0  the input is read
-  1  a file is refused, or serving ended early; the error's name is on standard error
+  0  the input is read, and each line is answered
+  1  a file is refused, as root.txt: BadText, serving ended early, as LineTooLong, or out of memory
   2  the command line is invalid, a file can't be read, or there is no random state";
 
 fn parents_argument<'a>(alloc: Global) -> Arg<'a> {
@@ -61,12 +104,26 @@ fn serve_command<'a>(alloc: Global) -> Result<Command<'a>, AllocError> {
         .arg(bundles_argument(alloc))
 }
 
+/// The end of the help of the whole command.
+const HELP: &str = "\
+Example:
+  resb compile de.txt de.res
+
+Status:
+  0  the command succeeded
+  1  a text, a file or a path is refused, serving ended early, or out of memory
+  2  the command line is invalid, or a file or standard output can't be read or written
+
+Errors are printed to standard error, a line each. 'resb help COMMAND' says more of a command.";
+
 /// The command without its subcommands.
 fn bare<'a>(alloc: Global) -> Result<Command<'a>, AllocError> {
     Ok(
         Command::new(alloc, "resb")
             .bin_name("resb")?
+            .version("1.0.0")
             .about("Compiles, checks, reads and serves ICU resource bundles")
+            .after_help(HELP)
             .subcommand_required(true),
     )
 }

@@ -1,0 +1,152 @@
+#!/usr/bin/env python3
+"""Runs the commands that docs/TUTORIAL.md and docs/TROUBLESHOOTING.md show, and compares what they print with what is written there.
+
+A block that begins with ```console has commands, as they are typed: a line that begins with `$ ` is a command, lines after it
+that begin with `> ` are more of it, and all other lines up to the next command are what it prints, on standard output and
+standard error together. The blocks of a page are run in their order, by one shell, in an empty folder; `resb` is the built
+program, and $EXAMPLES is the folder examples/ of this repository. A block of ```console by-hand needs more than a shell (other
+tools, or files from a network), and is run only where --with gives what it needs. All other blocks are left alone.
+
+It also follows each relative link of the README and of the pages of docs/, to a file and to a heading in it.
+
+usage: documents.py [--with FILE]... [PROGRAM]   (default: crates/rb_tool/out/rb_tool)
+  --with FILE  copies FILE into the folder that the blocks are run in, and runs those by hand too
+Ends with status 0 where all agree, with 1 where something differs; says `skipped` of the commands where there is no such program.
+"""
+import argparse
+import glob
+import os
+import re
+import shutil
+import subprocess
+import sys
+import tempfile
+
+TOP = os.path.dirname(os.path.dirname(os.path.abspath(__file__)))
+PAGES = ("docs/TUTORIAL.md", "docs/TROUBLESHOOTING.md")
+MARK = "-- the end of a command --"
+SECONDS = 600
+
+
+def blocks(page):
+    """The fenced blocks of a page: what follows the fence on its line, the number of the line after it, and its lines."""
+    info, first, lines = None, 0, []
+    for number, line in enumerate(page.splitlines(), 1):
+        if not line.startswith("```"):
+            lines.append(line)
+        elif info is None:
+            info, first, lines = line[3:].strip(), number + 1, []
+        else:
+            yield info, first, lines
+            info, lines = None, []
+
+
+def commands(first, lines):
+    """The commands of a block, each with its line and what it should print."""
+    found = []
+    for number, line in enumerate(lines, first):
+        if line.startswith("$ "):
+            found.append([number, line[2:], []])
+        elif line.startswith("> ") and found and not found[-1][2]:
+            found[-1][1] += "\n" + line[2:]
+        elif found:
+            found[-1][2].append(line)
+        else:
+            raise ValueError(f"line {number}: a block begins with something else than a command")
+    return found
+
+
+def printed(program, asked, given):
+    """What each command prints, run one after the other by one shell in a folder of their own."""
+    script = "".join(f"{command}\nstatus_of_it=$?\nprintf '%s\\n' '{MARK}'\n(exit $status_of_it)\n" for _, command, _ in asked)
+    with tempfile.TemporaryDirectory() as folder:
+        os.mkdir(os.path.join(folder, "bin"))
+        os.mkdir(os.path.join(folder, "run"))
+        os.symlink(os.path.abspath(program), os.path.join(folder, "bin", "resb"))
+        for name in given:
+            shutil.copy(name, os.path.join(folder, "run"))
+        with open(os.path.join(folder, "script"), "w", encoding="utf-8") as file:
+            file.write(script)
+        path = os.path.join(folder, "bin") + os.pathsep + os.environ.get("PATH", "")
+        run = subprocess.run(
+            ["/bin/sh", os.path.join(folder, "script")],
+            cwd=os.path.join(folder, "run"),
+            env={**os.environ, "PATH": path, "EXAMPLES": os.path.join(TOP, "examples"), "LC_ALL": "C.UTF-8"},
+            stdin=subprocess.DEVNULL,
+            stdout=subprocess.PIPE,
+            stderr=subprocess.STDOUT,
+            timeout=SECONDS,
+            check=False,
+        )
+    text = run.stdout.decode("utf-8", "replace")
+    return [part.splitlines() for part in text.split(MARK + "\n")[:-1]]
+
+
+def run_page(name, program, given):
+    """Prints what differs on a page, and tells how many commands did."""
+    with open(os.path.join(TOP, name), encoding="utf-8") as file:
+        page = file.read()
+    kinds = ("console", "console by-hand") if given else ("console",)
+    asked = [command for info, first, lines in blocks(page) if info in kinds for command in commands(first, lines)]
+    answers = printed(program, asked, given)
+    differ = 0
+    for index, (number, command, wanted) in enumerate(asked):
+        answer = answers[index] if index < len(answers) else ["(nothing: the shell ended)"]
+        if answer != wanted:
+            differ += 1
+            print(f"{name}:{number}: $ {command}")
+            print("".join(f"  written: {line}\n" for line in wanted) + "".join(f"  printed: {line}\n" for line in answer), end="")
+    print(f"{name}: {len(asked) - differ} commands agree, {differ} differ")
+    return differ
+
+
+def anchor(heading):
+    """The name that a link has for a heading."""
+    return re.sub(r"[^\w\- ]", "", heading.strip().lower()).replace(" ", "-")
+
+
+def anchors(path):
+    """The names of a page's headings."""
+    with open(path, encoding="utf-8") as file:
+        page = re.sub(r"^```.*?^```", "", file.read(), flags=re.M | re.S)
+    return {anchor(heading) for heading in re.findall(r"^#+ (.*)$", page, flags=re.M)}
+
+
+def bad_links(name):
+    """The relative links of a page that lead nowhere."""
+    path = os.path.join(TOP, name)
+    with open(path, encoding="utf-8") as file:
+        links = re.findall(r"\]\(([^)\s]+)\)", file.read())
+    for link in links:
+        if re.match(r"[a-z]+:", link):
+            continue
+        file, _, heading = link.partition("#")
+        target = os.path.normpath(os.path.join(os.path.dirname(path), file)) if file else path
+        if not os.path.exists(target) or heading and heading not in anchors(target):
+            yield link
+
+
+def follow_links():
+    """Prints the links that lead nowhere, and tells how many they are."""
+    names = ["README.md", "examples/README.md"] + sorted(os.path.relpath(page, TOP) for page in glob.glob(os.path.join(TOP, "docs", "*.md")))
+    bad = [(name, link) for name in names for link in bad_links(name)]
+    for name, link in bad:
+        print(f"{name}: the link {link} leads nowhere")
+    return len(bad)
+
+
+def main():
+    options = argparse.ArgumentParser(usage=__doc__.split("usage: ")[1])
+    options.add_argument("--with", dest="given", action="append", default=[])
+    options.add_argument("program", nargs="?", default=os.path.join(TOP, "crates/rb_tool/out/rb_tool"))
+    chosen = options.parse_args()
+    wrong = follow_links()
+    if os.access(chosen.program, os.X_OK):
+        wrong += sum(run_page(name, chosen.program, chosen.given) for name in PAGES)
+    else:
+        print(f"skipped: {chosen.program} is not there")
+    return 1 if wrong else 0
+
+
+if __name__ == "__main__":
+    sys.exit(main())
