@@ -1,7 +1,7 @@
 #!/usr/bin/env bash
 # All tests: the launcher; the manual page where mandoc is there; where the program is built already the examples, the documents,
-# replies through pipes and the shards of deploy/; a program that must not compile; and then the gate, which proves every crate
-# from nothing, tries the wrong bodies, and runs each test and the program.
+# replies through pipes and the shards of deploy/; a program that must not compile; one of whose allocations each is refused in
+# turn; and then the gate, which proves every crate from nothing, tries the wrong bodies, and runs each test and the program.
 set -eu
 cd "$(dirname "$0")/.."
 program=crates/rb_tool/out/rb_tool
@@ -25,4 +25,5 @@ if has python3; then
 fi
 deploy/test "$program"
 tests/borrows.sh
+tests/memory.sh
 exec rt ci

@@ -8,8 +8,6 @@ mod place;
 mod request;
 mod start;
 mod steps;
-#[cfg(test)]
-mod tests;
 
 pub use engine::Engine;
 pub use rb_packages::{App, AppFault, BUNDLE_LIMIT};

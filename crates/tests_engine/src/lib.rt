@@ -1,0 +1,11 @@
+//! Tests of the engine of many applications: `rb_engine`.
+#![tactic(auto)]
+
+#[cfg(test)]
+mod applications;
+#[cfg(test)]
+mod engine;
+#[cfg(test)]
+mod hostile;
+#[cfg(test)]
+mod requests;
