@@ -1,5 +1,5 @@
 -- A search, level by level.
-use Rattle.std.proofs.Common.{◌≡◌, ◌+◌, ◌-◌, ◌<◌, ◌≤◌, ◌==◌, ℕ, zero, suc, List, Bool, true, false, cond, Option, Some, Result, Ok, Err, refl, ap, sym, ◌∙◌, arith, length}
+use Rattle.std.proofs.Common.{◌≡◌, ◌+◌, ◌-◌, ◌<◌, ◌≤◌, ◌==◌, ℕ, zero, suc, List, Bool, true, false, cond, Option, Some, Result, Ok, Err, IfOk, refl, ap, sym, ◌∙◌, arith, length}
 use Rattle.std.proofs.Common.{IsErrAnd, ◌≢◌}
 use Rattle.std.proofs.lemmas.Bool.{le-ltb, eqb-true, eqb-false}
 use Rattle.rb_fallback.specs.Answers.{answer_of}
@@ -12,48 +12,58 @@ use Rattle.rb_fallback.specs.declared.fault.LookError.TheVariants as fault
 use Rattle.rb_fallback.proofs.Paths.{long_is}
 
 -- the step of a level
-abbrev pub step_at : Setting → Option (List ℕ) → Bool → List ℕ → List (List ℕ) → Result Step LookError
-step_at s valid in_icu n ss = step in_icu valid (level (bundles_of s.own s.icu in_icu) s.parents n ss)
+abbrev pub step_at : Setting → Bool → List ℕ → List (List ℕ) → Result Step LookError
+step_at s in_icu n ss = step in_icu s.valid (level (bundles_of s.own s.icu in_icu) s.parents n ss)
 
-pub search_on : (k j : ℕ) (s : Setting) (valid : Option (List ℕ)) (in_icu : Bool) (n : List ℕ) (ss : List (List ℕ)) → k ≡ suc j → is_long ss ≡ false → search k s valid in_icu n ss ≡ go_on (λ v p m ts. search j s (Some v) p m ts) (step_at s valid in_icu n ss)
+pub search_on : (k j : ℕ) (s : Setting) (in_icu : Bool) (n : List ℕ) (ss : List (List ℕ)) → k ≡ suc j → is_long ss ≡ false
+    → search k s in_icu n ss ≡ go_on (λ p m ts. search j s p m ts) (step_at s in_icu n ss)
 unfolding search
-search_on zero j s valid in_icu n ss e f = cc
-search_on (suc k) j s valid in_icu n ss e f =
+search_on zero j s in_icu n ss e f = cc
+search_on (suc k) j s in_icu n ss e f =
     let same : k ≡ j = cc in
-    ap (λ b. cond b (Err fault.PathTooLong) (go_on (λ v p m ts. search k s (Some v) p m ts) (step_at s valid in_icu n ss))) f
-    ∙ ap (λ i. go_on (λ v p m ts. search i s (Some v) p m ts) (step_at s valid in_icu n ss)) same
+    ap (λ b. cond b (Err fault.PathTooLong) (go_on (λ p m ts. search k s p m ts) (step_at s in_icu n ss))) f
+    ∙ ap (λ i. go_on (λ p m ts. search i s p m ts) (step_at s in_icu n ss)) same
 
-pub search_long : (k j : ℕ) (s : Setting) (valid : Option (List ℕ)) (in_icu : Bool) (n : List ℕ) (ss : List (List ℕ)) → k ≡ suc j → is_long ss ≡ true → search k s valid in_icu n ss ≡ Err fault.PathTooLong
+pub search_long : (k j : ℕ) (s : Setting) (in_icu : Bool) (n : List ℕ) (ss : List (List ℕ)) → k ≡ suc j → is_long ss ≡ true
+    → search k s in_icu n ss ≡ Err fault.PathTooLong
 unfolding search
-search_long zero j s valid in_icu n ss e f = cc
-search_long (suc k) j s valid in_icu n ss e f = ap (λ b. cond b (Err fault.PathTooLong) (go_on (λ v p m ts. search k s (Some v) p m ts) (step_at s valid in_icu n ss))) f
+search_long zero j s in_icu n ss e f = cc
+search_long (suc k) j s in_icu n ss e f = ap (λ b. cond b (Err fault.PathTooLong) (go_on (λ p m ts. search k s p m ts) (step_at s in_icu n ss))) f
 
-pub search_end : (k : ℕ) (s : Setting) (valid : Option (List ℕ)) (in_icu : Bool) (n : List ℕ) (ss : List (List ℕ)) → k ≡ 0 → search k s valid in_icu n ss ≡ Err fault.TooManyAliases
+pub search_end : (k : ℕ) (s : Setting) (in_icu : Bool) (n : List ℕ) (ss : List (List ℕ)) → k ≡ 0 → search k s in_icu n ss ≡ Err fault.TooManyAliases
 unfolding search
-search_end zero s valid in_icu n ss e = refl
-search_end (suc k) s valid in_icu n ss e = cc
+search_end zero s in_icu n ss e = refl
+search_end (suc k) s in_icu n ss e = cc
 
 pub short_is : (p : List ℕ) → length p ≤ 1024 → is_long (segments p) ≡ false
 short_is p h = long_is p ∙ le-ltb 1024 (length p) h
 
 -- one level on, by its step
-pub level_step : (most i : ℕ) (s : Setting) (valid : Option (List ℕ)) (in_icu : Bool) (n p : List ℕ) (r : Result Step LookError) → i < most → length p ≤ 1024 → step_at s valid in_icu n (segments p) ≡ r → search (most - i) s valid in_icu n (segments p) ≡ go_on (λ v q m ts. search (most - (i + 1)) s (Some v) q m ts) r
-level_step most i s valid in_icu n p r h l f =
-    search_on (most - i) (most - (i + 1)) s valid in_icu n (segments p) (omega arith) (short_is p l) ∙ ap (go_on (λ v q m ts. search (most - (i + 1)) s (Some v) q m ts)) f
+pub level_step : (most i : ℕ) (s : Setting) (in_icu : Bool) (n p : List ℕ) (r : Result Step LookError) → i < most → length p ≤ 1024
+    → step_at s in_icu n (segments p) ≡ r → search (most - i) s in_icu n (segments p) ≡ go_on (λ q m ts. search (most - (i + 1)) s q m ts) r
+level_step most i s in_icu n p r h l f =
+    search_on (most - i) (most - (i + 1)) s in_icu n (segments p) (omega arith) (short_is p l) ∙ ap (go_on (λ q m ts. search (most - (i + 1)) s q m ts)) f
 
 -- where the next path is too long, the search ends
-pub long_end : (most i : ℕ) (s : Setting) (valid : Option (List ℕ)) (in_icu : Bool) (n : List ℕ) (rest : List (List ℕ)) (f : LookError) → i < most → is_long rest ≡ true → f ≡ cond (i + 1 == most) fault.TooManyAliases fault.PathTooLong → search (most - (i + 1)) s valid in_icu n rest ≡ Err f
-long_end most i s valid in_icu n rest f h l e = by (i + 1 == most) refl
+pub long_end : (most i : ℕ) (s : Setting) (in_icu : Bool) (n : List ℕ) (rest : List (List ℕ)) (f : LookError) → i < most → is_long rest ≡ true
+    → f ≡ cond (i + 1 == most) fault.TooManyAliases fault.PathTooLong → search (most - (i + 1)) s in_icu n rest ≡ Err f
+long_end most i s in_icu n rest f h l e = by (i + 1 == most) refl
   where
-    by : (b : Bool) → (i + 1 == most) ≡ b → search (most - (i + 1)) s valid in_icu n rest ≡ Err f
+    by : (b : Bool) → (i + 1 == most) ≡ b → search (most - (i + 1)) s in_icu n rest ≡ Err f
     by true t =
         let last : i + 1 ≡ most = eqb-true (i + 1) most t in
-        search_end (most - (i + 1)) s valid in_icu n rest (omega arith) ∙ ap Err (sym (e ∙ ap (λ b. cond b fault.TooManyAliases fault.PathTooLong) t))
+        search_end (most - (i + 1)) s in_icu n rest (omega arith) ∙ ap Err (sym (e ∙ ap (λ b. cond b fault.TooManyAliases fault.PathTooLong) t))
     by false t =
         let other : i + 1 ≢ most = eqb-false (i + 1) most t in
-        search_long (most - (i + 1)) (most - (i + 2)) s valid in_icu n rest (omega arith) l ∙ ap Err (sym (e ∙ ap (λ b. cond b fault.TooManyAliases fault.PathTooLong) t))
+        search_long (most - (i + 1)) (most - (i + 2)) s in_icu n rest (omega arith) l ∙ ap Err (sym (e ∙ ap (λ b. cond b fault.TooManyAliases fault.PathTooLong) t))
 
 -- an error that a `?` hands on
 pub answer_err : {N : Type 0} (tree : N → Resource) (x : Result (Found N) LookError) (f : LookError) → IsErrAnd x (λ e. e ≡ f) → answer_of tree x ≡ Err f
 answer_err tree (Ok y) f h = absurd h
 answer_err tree (Err e) f h = ap Err h
+
+-- the valid name of the first level is that of a search that goes on
+pub valid_on : {N : Type 0} (x : Result (Found N) LookError) (first : Option (List ℕ)) (v : List ℕ) → first ≡ Some v → IfOk x (λ f. f.valid ≡ v)
+    → IfOk x (λ f. first ≡ Some f.valid)
+valid_on (Ok f) first v e h = e ∙ ap Some (sym h)
+valid_on (Err e) first v f h = tt

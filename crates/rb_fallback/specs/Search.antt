@@ -4,6 +4,7 @@
 -- path has at most 1,024 bytes.
 use Rattle.std.specs.Prelude.{ℕ, zero, suc, List, [], ◌∷◌, ◌++◌, length, Bool, true, false, Option, Some, None, unwrap_or, Result, Ok, Err, nat_lt, if◌then◌else◌}
 use Rattle.std.specs.List.{join_with_byte}
+use Rattle.std.specs.Option.{ok_or}
 use Rattle.rb_tree.specs.Resource.{Resource}
 use Rattle.rb_tree.specs.SourceTree.{SourceTree}
 use Rattle.rb_tree.specs.Walk.{Walked, ends, links, gone, walk}
@@ -17,29 +18,28 @@ abbrev pub walk_of : Option SourceTree → List (List ℕ) → Walked
 walk_of None ss = gone
 walk_of (Some b) ss = walk b.tree ss
 
--- the first stop of a trail, the stop that decides, and the walk through its tree
+-- the stop that decides, and the walk through its tree
 pub record Decided : Type 0 where
-  pub first : List ℕ
   pub stop : List ℕ
   pub walked : Walked
 
-abbrev pub unless_gone : List ℕ → List ℕ → Walked → Result Decided LookError → Result Decided LookError
-unless_gone first n (ends t) r = Ok (record { first = first; stop = n; walked = ends t })
-unless_gone first n (links us walked rest) r = Ok (record { first = first; stop = n; walked = links us walked rest })
-unless_gone first n gone r = r
+abbrev pub unless_gone : List ℕ → Walked → Option Decided → Option Decided
+unless_gone n (ends t) later = Some (record { stop = n; walked = ends t })
+unless_gone n (links us walked rest) later = Some (record { stop = n; walked = links us walked rest })
+unless_gone n gone later = later
 
--- why none decides: there was no stop, or each walk ended nowhere
-abbrev pub none_decides : Option (List ℕ) → LookError
-none_decides None = fault.NoBundle
-none_decides (Some first) = fault.Missing
+-- of the stops in order, the first whose walk does not end nowhere
+abbrev pub decide : Bundles → List (List ℕ) → List (List ℕ) → Option Decided
+decide bundles [] ss = None
+decide bundles (n ∷ ns) ss = unless_gone n (walk_of (bundles n) ss) (decide bundles ns ss)
 
--- of the stops in order, the first whose walk does not end nowhere; `first` is the first stop, once one was met
-abbrev pub by_stops : Bundles → Option (List ℕ) → List (List ℕ) → List (List ℕ) → Result Decided LookError
-by_stops bundles first [] ss = Err (none_decides first)
-by_stops bundles first (n ∷ ns) ss = unless_gone (unwrap_or first n) n (walk_of (bundles n) ss) (by_stops bundles (Some (unwrap_or first n)) ns ss)
+-- there is no stop, or each walk ends nowhere, or one decides
+abbrev pub by_stops : Bundles → List (List ℕ) → List (List ℕ) → Result Decided LookError
+by_stops bundles [] ss = Err fault.NoBundle
+by_stops bundles (n ∷ ns) ss = ok_or (decide bundles (n ∷ ns) ss) fault.Missing
 
 abbrev pub by_trail : Bundles → Trail → List (List ℕ) → Result Decided LookError
-by_trail bundles (names ns) ss = by_stops bundles None (stops bundles ns) ss
+by_trail bundles (names ns) ss = by_stops bundles (stops bundles ns) ss
 by_trail bundles chain ss = Err fault.Chain
 by_trail bundles bad_parent ss = Err fault.BadParent
 
@@ -60,57 +60,62 @@ abbrev pub first_stop : Bundles → ParentsOf → List ℕ → Option (List ℕ)
 first_stop bundles parents n = first_in bundles (trail bundles parents n)
 
 -- ---- one level
--- the tree that was found with the name of its stop, or where the search goes on: the valid name, whether in ICUDATA, the name, the path
+-- the tree that was found with the name of its stop, or where the search goes on: whether in ICUDATA, the name, the path
 pub data Step : Type 0 where
   found : Resource → List ℕ → Step
-  goes : List ℕ → Bool → List ℕ → List (List ℕ) → Step
+  goes : Bool → List ℕ → List (List ℕ) → Step
 
 -- after an alias come its target's segments and those that were not walked
-abbrev pub follow : List ℕ → List (List ℕ) → Target → Result Step LookError
-follow valid rest (leads in_icu n ss) = Ok (goes valid in_icu n (ss ++ rest))
-follow valid rest bad_text = Err fault.AliasText
-follow valid rest bad_package = Err fault.AliasPackage
+abbrev pub follow : List (List ℕ) → Target → Result Step LookError
+follow rest (leads in_icu n ss) = Ok (goes in_icu n (ss ++ rest))
+follow rest bad_text = Err fault.AliasText
+follow rest bad_package = Err fault.AliasPackage
 
 abbrev pub step_of : Bool → List ℕ → List ℕ → Walked → Result Step LookError
 step_of in_icu valid n (ends t) = Ok (found t n)
-step_of in_icu valid n (links us walked rest) = follow valid rest (target us in_icu valid walked)
+step_of in_icu valid n (links us walked rest) = follow rest (target us in_icu valid walked)
 step_of in_icu valid n gone = Err fault.Missing
 
--- the valid name is that of level 0; there it is the first stop
-abbrev pub step : Bool → Option (List ℕ) → Result Decided LookError → Result Step LookError
+-- the step of a level, in ICUDATA or not, with the valid name of the lookup
+abbrev pub step : Bool → List ℕ → Result Decided LookError → Result Step LookError
 step in_icu valid (Err e) = Err e
-step in_icu valid (Ok d) = step_of in_icu (unwrap_or valid d.first) d.stop d.walked
+step in_icu valid (Ok d) = step_of in_icu valid d.stop d.walked
 
 -- ---- all levels
--- what stays the same at all of them
+-- what is the same at all of them: the bundles, the explicit parents and the valid name
 pub record Setting : Type 0 where
   pub own : Bundles
   pub icu : Bundles
   pub parents : ParentsOf
+  pub valid : List ℕ
 
 abbrev pub bundles_of : Bundles → Bundles → Bool → Bundles
 bundles_of own icu true = icu
 bundles_of own icu false = own
 
 -- what follows a level, where `go` searches from a place on
-abbrev pub go_on : (List ℕ → Bool → List ℕ → List (List ℕ) → Result (Resource × List ℕ) LookError) → Result Step LookError → Result (Resource × List ℕ) LookError
+abbrev pub go_on : (Bool → List ℕ → List (List ℕ) → Result (Resource × List ℕ) LookError) → Result Step LookError → Result (Resource × List ℕ) LookError
 go_on go (Err e) = Err e
 go_on go (Ok (found t n)) = Ok (t, n)
-go_on go (Ok (goes valid in_icu n ss)) = go valid in_icu n ss
+go_on go (Ok (goes in_icu n ss)) = go in_icu n ss
 
 -- more than 1,024 bytes, with slashes between the segments
 abbrev pub is_long : List (List ℕ) → Bool
 is_long ss = nat_lt 1024 (length (join_with_byte 47 ss))
 
 -- the tree to which a path leads and the name of its stop, with so many levels left
-unfoldable pub search : ℕ → Setting → Option (List ℕ) → Bool → List ℕ → List (List ℕ) → Result (Resource × List ℕ) LookError
-search zero s valid in_icu n ss = Err fault.TooManyAliases
-search (suc k) s valid in_icu n ss =
-    if is_long ss then Err fault.PathTooLong else go_on (λ v p m ts. search k s (Some v) p m ts) (step in_icu valid (level (bundles_of s.own s.icu in_icu) s.parents n ss))
+unfoldable pub search : ℕ → Setting → Bool → List ℕ → List (List ℕ) → Result (Resource × List ℕ) LookError
+search zero s in_icu n ss = Err fault.TooManyAliases
+search (suc k) s in_icu n ss =
+    if is_long ss then Err fault.PathTooLong else go_on (λ p m ts. search k s p m ts) (step in_icu s.valid (level (bundles_of s.own s.icu in_icu) s.parents n ss))
 
-abbrev pub setting : Bundles → Bundles → ParentsOf → Setting
-setting own icu parents = record { own = own; icu = icu; parents = parents }
+abbrev pub setting_of : Bundles → Bundles → ParentsOf → List ℕ → Setting
+setting_of own icu parents valid = record { own = own; icu = icu; parents = parents; valid = valid }
+
+-- the valid name of a lookup is the first stop; of a name without one it is the name, which nothing reads, since no walk decides
+abbrev pub setting : Bundles → Bundles → ParentsOf → List ℕ → Setting
+setting own icu parents n = setting_of own icu parents (unwrap_or (first_stop own parents n) n)
 
 -- what a lookup of a path from a name gives
 abbrev pub look_up : Bundles → Bundles → ParentsOf → List ℕ → List (List ℕ) → Result (Resource × List ℕ) LookError
-look_up own icu parents n ss = search 256 (setting own icu parents) None false n ss
+look_up own icu parents n ss = search 256 (setting own icu parents n) false n ss

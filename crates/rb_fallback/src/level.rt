@@ -1,60 +1,83 @@
-// One level of a search.
-ghost use Rattle.std.specs.Prelude.{◌≡◌, Some, None, map, slice_get};
+// One level of a search: one pass over a trail, which asks for each name's bundle once and keeps no name.
+ghost use Rattle.std.specs.Prelude.{◌≡◌, ◌++◌, ◌∷◌, [], List, ℕ, Some, option_map};
+ghost use Rattle.rb_tree.specs.SourceTree.{SourceTree};
 ghost use Rattle.rb_tree.specs.Path.{IsPath, segments};
-ghost use Rattle.rb_parents.specs.Trail.{stops};
+ghost use Rattle.rb_parents.specs.Trail.{Bundles, stop_tree, stops};
 ghost use Rattle.rb_parents.specs.Family.{parent_of};
-ghost use Rattle.rb_fallback.specs.Search.{by_stops, level};
-ghost use Rattle.rb_fallback.specs.Hits.{IsLevel};
+ghost use Rattle.rb_fallback.specs.Search.{by_stops, first_of, first_stop, level};
+ghost use Rattle.rb_fallback.specs.Hits.{IsLevel, IsSeen};
 
 use crate::fault::LookError;
 use rb_locales::Name;
-use rb_parents::{Parents, Route, Shelf, TrailFault, trail};
-use rb_tree::{Ending, walk};
+use rb_parents::{Next, Parents, Shelf, TRAIL_LIMIT, visit};
+use rb_tree::{Ending, Node, walk};
 
-// The deciding walk of a level.
+// What was seen of the stops so far: the first one, and the walk that decides with its stop.
 #[derive(Clone, Copy)]
-pub(crate) struct Hit<N> {
-    pub(crate) first: Name,
-    pub actual: Name,
+pub(crate) struct Seen<N> {
+    pub(crate) first: Option<Name>,
+    pub(crate) actual: Name,
     pub(crate) ending: Ending<N>,
 }
 
-// The first walk of a stop that does not end nowhere.
-#[tactic(auto, using(crate::proofs::Scans::stop_within, crate::proofs::Scans::scan_missing, crate::proofs::Scans::scan_none))]
-pub(crate) fn scan<'a, S: Shelf<'a>>(
-    shelf: S,
-    route: &Route,
-    path: &[u8],
-) -> Result<Hit<S::N>, LookError>
-    requires path { IsPath path.now }
-    requires stops { map (slice_get route.now.names.items) route.now.stops.items ≡ map Some (stops (S.bundles shelf) route.now.names.items) }
-    ensures { IsLevel S.N.tree result path.now (by_stops (S.bundles shelf) None (stops (S.bundles shelf) route.now.names.items) (segments path.now)) }
+// The first stop of a level, and the walk that decides with its stop.
+#[derive(Clone, Copy)]
+pub(crate) struct Hit<N> {
+    pub(crate) first: Name,
+    pub(crate) actual: Name,
+    pub(crate) ending: Ending<N>,
+}
+
+// What is seen with one stop more. It is walked only where no earlier one decides.
+fn with_stop<N: Node>(seen: Seen<N>, name: &Name, root: N, path: &[u8]) -> Seen<N>
+    requires { IsPath path.now }
+    ensures { (b : Bundles) → (all : List (List ℕ)) → stop_tree (b name.now) ≡ Some (N.tree root) → IsSeen N.tree b path.now seen all → IsSeen N.tree b path.now result (all ++ name.now ∷ []) }
 {
-    let names = route.names.as_slice();
-    let mut first = None;
-    for stop in route.stops.as_slice() {
-        let name = names[*stop as usize];
-        let (root, _) = match shelf.bundle(&name) {
-            Some(bundle) => bundle,
-            None => continue,
-        };
-        let begun = first.unwrap_or(name);
-        match walk(root, path) {
-            Ending::Gone => first = Some(begun),
-            ending => return Ok(Hit {
-                first: begun,
-                actual: name,
-                ending,
-            }),
-        }
-    }
-    match first {
-        Some(_) => Err(LookError::Missing),
-        None => Err(LookError::NoBundle),
+    let first = Some(seen.first.unwrap_or(*name));
+    match seen.ending {
+        Ending::Gone => Seen {
+            first,
+            actual: *name,
+            ending: walk(root, path),
+        },
+        ending => Seen {
+            first,
+            actual: seen.actual,
+            ending,
+        },
     }
 }
 
-// One level: the trail, and the first walk that does not end nowhere.
+// What is seen with one name more.
+fn with_name<N: Node>(seen: Seen<N>, name: &Name, stop: Option<N>, path: &[u8]) -> Seen<N>
+    requires { IsPath path.now }
+    ensures { (b : Bundles) → (ns : List (List ℕ)) → option_map N.tree stop ≡ stop_tree (b name.now) → IsSeen N.tree b path.now seen (stops b ns) → IsSeen N.tree b path.now result (stops b (ns ++ name.now ∷ [])) }
+{
+    match stop {
+        Some(root) => with_stop(seen, name, root, path),
+        None => seen,
+    }
+}
+
+// What the stops of a whole trail give.
+fn decided<N: Node>(seen: Seen<N>, path: &[u8]) -> Result<Hit<N>, LookError>
+    ensures { (b : Bundles) → (all : List (List ℕ)) → IsSeen N.tree b path.now seen all → IsLevel N.tree result path.now (by_stops b all (segments path.now)) (first_of all) }
+{
+    let first = match seen.first {
+        Some(first) => first,
+        None => return Err(LookError::NoBundle),
+    };
+    match seen.ending {
+        Ending::Gone => Err(LookError::Missing),
+        ending => Ok(Hit {
+            first,
+            actual: seen.actual,
+            ending,
+        }),
+    }
+}
+
+// One level: the trail, and the first walk that does not end nowhere. What the walks gave counts only once the whole trail is found.
 pub(crate) fn level<'a, S: Shelf<'a>>(
     shelf: S,
     parents: &Parents,
@@ -62,11 +85,22 @@ pub(crate) fn level<'a, S: Shelf<'a>>(
     path: &[u8],
 ) -> Result<Hit<S::N>, LookError>
     requires { IsPath path.now }
-    ensures { IsLevel S.N.tree result path.now (level (S.bundles shelf) (parent_of parents.now) name.now (segments path.now)) }
+    ensures { IsLevel S.N.tree result path.now (level (S.bundles shelf) (parent_of parents.now) name.now (segments path.now)) (first_stop (S.bundles shelf) (parent_of parents.now) name.now) }
 {
-    match trail(shelf, parents, name) {
-        Ok(route) => scan(shelf, &route, path),
-        Err(TrailFault::Chain) => Err(LookError::Chain),
-        Err(TrailFault::BadParent) => Err(LookError::BadParent),
+    let mut here = *name;
+    let mut seen = Seen {
+        first: None,
+        actual: *name,
+        ending: Ending::Gone,
+    };
+    for _ in 0..TRAIL_LIMIT {
+        let (next, stop) = visit(shelf, parents, &here);
+        seen = with_name(seen, &here, stop, path);
+        match next {
+            Next::Name(name) => here = name,
+            Next::End => return decided(seen, path),
+            Next::Bad => return Err(LookError::BadParent),
+        }
     }
+    Err(LookError::Chain)
 }

@@ -1,6 +1,5 @@
 // The search of a path from a name, level by level.
-ghost use Rattle.std.specs.Prelude.{◌≡◌, ◌↔◌, ◌≤◌, ◌==◌, length, ◌+◌, ◌++◌, ℕ, List, Err, IfOk, Some, drop, false, if◌then◌else◌};
-ghost use Rattle.std.specs.Option.{option_or};
+ghost use Rattle.std.specs.Prelude.{◌≡◌, ◌↔◌, ◌≤◌, ◌==◌, option_map, length, ◌+◌, ◌++◌, ℕ, List, Err, IfOk, Some, drop, if◌then◌else◌};
 ghost use Rattle.rb_tree.specs.Parts.{kind_of, units_of};
 ghost use Rattle.rb_tree.specs.declared.kind.Kind.TheVariants as Kinds;
 ghost use Rattle.rb_tree.specs.Path.{IsPath, segments};
@@ -9,8 +8,8 @@ ghost use Rattle.rb_parents.specs.Family.{parent_of};
 ghost use Rattle.rb_fallback.specs.Alias.{target};
 ghost use Rattle.rb_fallback.specs.Answers.{answer_of};
 ghost use Rattle.rb_fallback.specs.Hits.{IsLevel};
-ghost use Rattle.rb_fallback.specs.Search.{bundles_of, first_stop, follow, level, look_up, step};
-ghost use Rattle.rb_fallback.specs.Steps.{IsFollowed, IsLevelResult};
+ghost use Rattle.rb_fallback.specs.Search.{bundles_of, first_stop, follow, level, look_up, search, setting_of};
+ghost use Rattle.rb_fallback.specs.Steps.{IsFollowed, place_at};
 ghost use Rattle.rb_fallback.specs.declared.fault.LookError.TheVariants as Faults;
 
 use crate::alias::read_alias;
@@ -32,54 +31,47 @@ pub(crate) struct Place {
     pub(crate) path: ArrayVec<u8, PATH_LIMIT>,
 }
 
-// What follows a level.
-#[derive(Drop)]
-pub(crate) enum Step<N> {
-    Found(N, Name),
-    Goes(Place),
-    TooLong,
+// A place with a path that is short enough.
+fn place_of(icudata: bool, name: Name, path: Option<ArrayVec<u8, PATH_LIMIT>>) -> Option<Place>
+    ensures { result ≡ option_map (place_at icudata name) path }
+{
+    match path {
+        Some(path) => Some(Place {
+            icudata,
+            name,
+            path,
+        }),
+        None => None,
+    }
 }
 
-// What one level gives: the valid name, and what follows.
-#[derive(Drop)]
-pub(crate) struct LevelResult<N> {
-    pub(crate) valid: Name,
-    pub(crate) step: Step<N>,
-}
-
-// Where an alias leads that was met after the first `cut` bytes of a path.
+// Where an alias leads that was met after the first `cut` bytes of a path; `None` where the next path is too long.
 fn follow_alias<N: Node>(
     node: N,
     cut: usize,
     valid: &Name,
-    place: Place,
-) -> Result<Step<N>, LookError>
+    icudata: bool,
+    path: &[u8],
+) -> Result<Option<Place>, LookError>
     requires alias { kind_of (N.tree node) ≡ Kinds.Alias }
-    requires path { IsPath place.path.items }
-    ensures { (walked rest : List (List ℕ)) → walked ++ rest ≡ segments place.path.items → rest ≡ segments (drop (behind cut) place.path.items) → IsFollowed N.tree result valid.now (follow valid.now rest (target (units_of (N.tree node)) place.icudata valid.now walked)) }
+    requires path { IsPath path.now }
+    ensures { (walked rest : List (List ℕ)) → walked ++ rest ≡ segments path.now → rest ≡ segments (drop (behind cut) path.now) → IsFollowed result (follow rest (target (units_of (N.tree node)) icudata valid.now walked)) }
 {
     let target = match read_alias(node, valid) {
         Ok(target) => target,
         Err(AliasFault::AliasText) => return Err(LookError::AliasText),
         Err(AliasFault::AliasPackage) => return Err(LookError::AliasPackage),
     };
-    let icudata = target.icudata || place.icudata;
+    let icudata = target.icudata | icudata;
     let at = match target.path_at {
         Some(at) => at,
-        None => return Ok(Step::Goes(Place {
-            icudata,
-            name: target.name,
-            path: place.path,
-        })),
+        None => return Ok(place_of(icudata, target.name, short_path(path))),
     };
-    match replaced(node, at, rest_behind(place.path.as_slice(), cut)) {
-        Some(path) => Ok(Step::Goes(Place {
-            icudata,
-            name: target.name,
-            path,
-        })),
-        None => Ok(Step::TooLong),
-    }
+    Ok(place_of(
+        icudata,
+        target.name,
+        replaced(node, at, rest_behind(path, cut)),
+    ))
 }
 
 // The deciding walk of a level, in the package of a place.
@@ -90,41 +82,13 @@ fn level_at<'a, S: Shelf<'a>, I: Shelf<'a, N = S::N>>(
     place: &Place,
 ) -> Result<Hit<S::N>, LookError>
     requires { IsPath place.now.path.items }
-    ensures level { IsLevel S.N.tree result place.now.path.items (level (bundles_of (S.bundles own) (I.bundles icu) place.now.icudata) (parent_of parents.now) place.now.name (segments place.now.path.items)) }
+    ensures level { IsLevel S.N.tree result place.now.path.items (level (bundles_of (S.bundles own) (I.bundles icu) place.now.icudata) (parent_of parents.now) place.now.name (segments place.now.path.items)) (first_stop (bundles_of (S.bundles own) (I.bundles icu) place.now.icudata) (parent_of parents.now) place.now.name) }
     ensures short { length place.now.path.items ≤ 1024 }
 {
     if place.icudata {
         level(icu, parents, &place.name, place.path.as_slice())
     } else {
         level(own, parents, &place.name, place.path.as_slice())
-    }
-}
-
-// One level; at the first one the valid name is the first stop of its trail.
-fn one_level<'a, S: Shelf<'a>, I: Shelf<'a, N = S::N>>(
-    own: S,
-    icu: I,
-    parents: &Parents,
-    valid: Option<Name>,
-    place: Place,
-) -> Result<LevelResult<S::N>, LookError>
-    requires { IsPath place.path.items }
-    ensures step { IsLevelResult S.N.tree result (step place.icudata valid (level (bundles_of (S.bundles own) (I.bundles icu) place.icudata) (parent_of parents.now) place.name (segments place.path.items))) }
-    ensures valid { IfOk result (λ l. Some l.valid ≡ option_or valid (first_stop (bundles_of (S.bundles own) (I.bundles icu) place.icudata) (parent_of parents.now) place.name)) }
-    ensures short { length place.path.items ≤ 1024 }
-{
-    let hit = level_at(own, icu, parents, &place)?;
-    let valid = valid.unwrap_or(hit.first);
-    match hit.ending {
-        Ending::End(node) => Ok(LevelResult {
-            valid,
-            step: Step::Found(node, hit.actual),
-        }),
-        Ending::Link(node, cut) => Ok(LevelResult {
-            valid,
-            step: follow_alias(node, cut, &valid, place)?,
-        }),
-        Ending::Gone => Err(LookError::Missing),
     }
 }
 
@@ -139,40 +103,69 @@ fn next_fault(level: u16) -> LookError
     }
 }
 
-// The search of a path from a name, over all levels.
-fn search_levels<'a, S: Shelf<'a>, I: Shelf<'a, N = S::N>>(
+// The search from a place to which the first alias led.
+fn search_on<'a, S: Shelf<'a>, I: Shelf<'a, N = S::N>>(
+    own: S,
+    icu: I,
+    parents: &Parents,
+    valid: Name,
+    place: Place,
+) -> Result<Found<S::N>, LookError>
+    requires { IsPath place.path.items }
+    ensures answer { answer_of S.N.tree result ≡ search 255 (setting_of (S.bundles own) (I.bundles icu) (parent_of parents.now) valid) place.icudata place.name (segments place.path.items) }
+    ensures valid { IfOk result (λ f. f.valid ≡ valid) }
+{
+    let mut here = place;
+    for level in 1..LEVEL_LIMIT {
+        let hit = level_at(own, icu, parents, &here)?;
+        match hit.ending {
+            Ending::End(node) => return Ok(Found {
+                node,
+                actual: hit.actual,
+                valid,
+            }),
+            Ending::Link(node, cut) => match follow_alias(
+                node,
+                cut,
+                &valid,
+                here.icudata,
+                here.path.as_slice(),
+            )? {
+                Some(next) => here = next,
+                None => return Err(next_fault(level)),
+            },
+            Ending::Gone => return Err(LookError::Missing),
+        }
+    }
+    Err(LookError::TooManyAliases)
+}
+
+// The search of a path that is short enough, from a name. The path is read where it is; only an alias makes another.
+fn search_path<'a, S: Shelf<'a>, I: Shelf<'a, N = S::N>>(
     own: S,
     icu: I,
     parents: &Parents,
     name: &Name,
-    path: ArrayVec<u8, PATH_LIMIT>,
+    path: &[u8],
 ) -> Result<Found<S::N>, LookError>
-    requires { IsPath path.items }
-    ensures answer { answer_of S.N.tree result ≡ look_up (S.bundles own) (I.bundles icu) (parent_of parents.now) name.now (segments path.items) }
+    requires path { IsPath path.now }
+    requires short { length path.now ≤ 1024 }
+    ensures answer { answer_of S.N.tree result ≡ look_up (S.bundles own) (I.bundles icu) (parent_of parents.now) name.now (segments path.now) }
     ensures valid { IfOk result (λ f. first_stop (S.bundles own) (parent_of parents.now) name.now ≡ Some f.valid) }
 {
-    let mut place = Place {
-        icudata: false,
-        name: *name,
-        path,
-    };
-    let mut valid = None;
-    for level in 0..LEVEL_LIMIT {
-        let LevelResult { step, valid: first } = one_level(own, icu, parents, valid, place)?;
-        match step {
-            Step::Found(node, actual) => return Ok(Found {
-                node,
-                actual,
-                valid: first,
-            }),
-            Step::Goes(next) => {
-                place = next;
-                valid = Some(first);
-            }
-            Step::TooLong => return Err(next_fault(level)),
-        }
+    let hit = level(own, parents, name, path)?;
+    match hit.ending {
+        Ending::End(node) => Ok(Found {
+            node,
+            actual: hit.actual,
+            valid: hit.first,
+        }),
+        Ending::Link(node, cut) => match follow_alias(node, cut, &hit.first, false, path)? {
+            Some(place) => search_on(own, icu, parents, hit.first, place),
+            None => Err(LookError::PathTooLong),
+        },
+        Ending::Gone => Err(LookError::Missing),
     }
-    Err(LookError::TooManyAliases)
 }
 
 /// Looks a path up from a name, in the bundles `own` and, where an alias leads there, in `icu` (the lookup with fallback of ICU's
@@ -198,8 +191,8 @@ pub fn look<'a, S: Shelf<'a>, I: Shelf<'a, N = S::N>>(
     if !path_ok(path) {
         return Err(LookError::BadPath);
     }
-    match short_path(path) {
-        Some(path) => search_levels(own, icu, parents, name, path),
-        None => Err(LookError::PathTooLong),
+    if path.len() > PATH_LIMIT {
+        return Err(LookError::PathTooLong);
     }
+    search_path(own, icu, parents, name, path)
 }

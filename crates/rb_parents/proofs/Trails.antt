@@ -1,7 +1,8 @@
 -- A trail, name by name.
-use Rattle.std.proofs.Common.{◌≡◌, ◌+◌, ◌-◌, ◌<◌, ◌≤◌, ℕ, suc, List, [], ◌∷◌, ◌++◌, length, Bool, true, false, cond, refl, ap, sym, ◌∙◌, arith, length-append, map, Some}
+use Rattle.std.proofs.Common.{◌≡◌, ◌+◌, ◌-◌, ◌<◌, ◌≤◌, ℕ, suc, List, [], ◌∷◌, ◌++◌, length, Bool, true, false, cond, refl, ap, sym, ◌∙◌, arith, length-append, map, Option, Some, None, is_some}
 use Rattle.std.specs.List.{filter, slice_get}
-use Rattle.rb_parents.specs.Trail.{Bundles, ParentsOf, Next, goes_to, end, bad, next, Trail, names, chain, bad_parent, begins, onward, trail_within, places}
+use Rattle.rb_tree.specs.SourceTree.{SourceTree}
+use Rattle.rb_parents.specs.Trail.{stop_tree, stops_at, Bundles, ParentsOf, Next, goes_to, end, bad, next, Trail, names, chain, bad_parent, begins, onward, trail_within, places}
 use Rattle.rb_parents.specs.Steps.{trail_on, trail_past}
 
 -- names in front of a trail
@@ -86,3 +87,12 @@ places_named test (n ∷ ns) =
 -- the names at the indices of the stops are the stops
 pub stops_named : (test : List ℕ → Bool) (ns : List (List ℕ)) (is : List ℕ) → is ≡ places test 0 ns → map (slice_get ns) is ≡ map Some (filter test ns)
 stops_named test ns is e = ap (map (slice_get ns)) e ∙ places_named test ns
+
+-- a name is a stop where there is a tree of a stop
+pub stop_is : (o : Option SourceTree) → is_some (stop_tree o) ≡ stops_at o
+stop_is None = refl
+stop_is (Some b) = by (stops_at (Some b))
+  where
+    by : (v : Bool) → is_some (cond v (Some b.tree) None) ≡ v
+    by true = refl
+    by false = refl

@@ -11,5 +11,5 @@ mod shelf;
 pub use fault::{ParentsFault, TrailFault};
 pub use limits::TRAIL_LIMIT;
 pub use parents::Parents;
-pub use route::{Route, trail};
+pub use route::{Next, Route, trail, visit};
 pub use shelf::{ListShelf, Shelf};

@@ -4,7 +4,7 @@ ghost use Rattle.rb_tree.specs.Parts.{kind_of, units_of};
 ghost use Rattle.rb_tree.specs.declared.kind.Kind.TheVariants as Kinds;
 ghost use Rattle.rb_locales.specs.Locale.{name};
 ghost use Rattle.rb_parents.specs.Family.{parent_of};
-ghost use Rattle.rb_parents.specs.Trail.{text_at, named_next, plain_next, next, is_stop, stops, places, trail, alias_key, parent_key};
+ghost use Rattle.rb_parents.specs.Trail.{text_at, named_next, plain_next, next, is_stop, stop_tree, stops, places, trail, alias_key, parent_key};
 ghost use Rattle.arrayvec.specs.ArrayVec.{array_vec_len};
 ghost use Rattle.rb_parents.specs.Answers.{trail_of};
 ghost use Rattle.rb_parents.specs.Steps.{next_of};
@@ -17,11 +17,14 @@ use arrayvec::ArrayVec;
 use rb_locales::Name;
 use rb_tree::{Kind, Node};
 
-// What follows a name on a trail.
+/// What follows a name on a trail.
 #[derive(Clone, Copy)]
-pub(crate) enum Next {
+pub enum Next {
+    /// Another name.
     Name(Name),
+    /// Nothing: the trail ends.
     End,
+    /// A `%%ALIAS` or `%%Parent` that is no locale name.
     Bad,
 }
 
@@ -78,25 +81,35 @@ fn plain_step(parents: &Parents, name: &Name) -> Next
     }
 }
 
+/// What follows a name on a trail, as `trail` says, and the root of its bundle if it is a stop. The bundle is asked for once.
+pub fn visit<'a, S: Shelf<'a>>(shelf: S, parents: &Parents, name: &Name) -> (Next, Option<S::N>)
+    ensures next { next_of result.0 ≡ next (S.bundles shelf) (parent_of parents.now) name.now }
+    ensures stop { option_map S.N.tree result.1 ≡ stop_tree (S.bundles shelf name.now) }
+{
+    let (root, no_fallback) = match shelf.bundle(name) {
+        Some(bundle) => bundle,
+        None => return (plain_step(parents, name), None),
+    };
+    if let Some(text) = text_node(root, b"%%ALIAS") {
+        return (named_parent(text), None);
+    }
+    if no_fallback {
+        return (Next::End, Some(root));
+    }
+    if let Some(text) = text_node(root, b"%%Parent") {
+        return (named_parent(text), Some(root));
+    }
+    (plain_step(parents, name), Some(root))
+}
+
 // What follows a name, and whether it is a stop.
+#[tactic(auto, using(crate::proofs::Trails::stop_is))]
 fn next_step<'a, S: Shelf<'a>>(shelf: S, parents: &Parents, name: &Name) -> (Next, bool)
     ensures next { next_of result.0 ≡ next (S.bundles shelf) (parent_of parents.now) name.now }
     ensures stop { result.1 ≡ is_stop (S.bundles shelf) name.now }
 {
-    let (root, no_fallback) = match shelf.bundle(name) {
-        Some(bundle) => bundle,
-        None => return (plain_step(parents, name), false),
-    };
-    if let Some(text) = text_node(root, b"%%ALIAS") {
-        return (named_parent(text), false);
-    }
-    if no_fallback {
-        return (Next::End, true);
-    }
-    if let Some(text) = text_node(root, b"%%Parent") {
-        return (named_parent(text), true);
-    }
-    (plain_step(parents, name), true)
+    let (next, stop) = visit(shelf, parents, name);
+    (next, stop.is_some())
 }
 
 // Notes the index of a stop.
