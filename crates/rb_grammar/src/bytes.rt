@@ -17,7 +17,7 @@ pub fn read_bytes(alloc: Global, units: &[u16]) -> Result<Option<Vec<u8>>, Alloc
     ensures { IfOk result (λ read. MatchOption read ((bytes : List ℕ) → IsHexText units.now bytes → ⊥) (λ bytes. IsHexText units.now bytes.items)) }
 {
     let mut bytes = Vec::new(alloc);
-    let mut held = None;
+    let mut first_digit = None;
     for unit in units {
         if is_gap(*unit) {
             continue;
@@ -26,15 +26,15 @@ pub fn read_bytes(alloc: Global, units: &[u16]) -> Result<Option<Vec<u8>>, Alloc
         if low >= 16 {
             return Ok(None);
         }
-        match held {
-            None => held = Some(*unit),
+        match first_digit {
+            None => first_digit = Some(*unit),
             Some(high) => {
                 bytes.push((16 * digit(high) + low) as u8)?;
-                held = None;
+                first_digit = None;
             }
         }
     }
-    if held.is_some() {
+    if first_digit.is_some() {
         return Ok(None);
     }
     Ok(Some(bytes))

@@ -84,6 +84,7 @@ fn read_numbers(alloc: Global, cursor: &mut Cursor) -> Result<Vec<i32>, SourceFa
         found.push(number)?;
         cursor.take(Punctuation::Comma);
     }
+    found.shrink_to_fit();
     Ok(found)
 }
 
