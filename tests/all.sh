@@ -4,4 +4,5 @@
 set -eu
 cd "$(dirname "$0")/.."
 tests/examples.sh crates/rb_tool/out/rb_tool
+tests/stdout.sh crates/rb_tool/out/rb_tool
 exec rt ci
