@@ -19,6 +19,7 @@ if has mandoc; then
     mandoc -T lint -W warning docs/resb.1
 fi
 tests/examples.sh "$program"
+tests/stdout.sh "$program"
 if has python3; then
     tests/documents.py "$program"
     tests/pipe.py "$program"

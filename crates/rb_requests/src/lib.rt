@@ -10,8 +10,6 @@ mod item;
 pub mod laws;
 mod limits;
 mod lines;
-#[cfg(test)]
-mod tests;
 mod told;
 
 pub use device::{Failed, Feed, ReadFeed, Sink, WriteSink};

@@ -1,5 +1,5 @@
 //! Items as JSON.
-use crate::item::item_text;
+use rb_requests::item_text;
 use rb_tree::{Tree, UnitList, path_ok};
 use std::alloc::Global;
 use std::test::Fail;

@@ -1,18 +1,12 @@
-//! Worked examples: lines with their replies, and the engine's own calls.
-
-mod devices;
-mod items;
-
-use crate::device::{ReadFeed, WriteSink};
-use crate::lines::{ServeFault, serve};
-use rb_engine::Engine;
+//! Lines with their replies.
 use rb_parents::Parents;
+use rb_requests::{Engine, ReadFeed, ServeFault, WriteSink, serve};
 use std::alloc::Global;
 use std::hash::RandomState;
 use std::test::Fail;
 
 /// An engine without bundles.
-fn empty_engine(rt: &HostRuntime) -> Result<Engine, Fail> {
+pub fn empty_engine(rt: &HostRuntime) -> Result<Engine, Fail> {
     let alloc = rt.alloc();
     let state = RandomState::new(rt)?;
     match Engine::start(alloc, state, Vec::new(alloc), Parents::none(alloc)) {

@@ -1,0 +1,161 @@
+"""Random histories of several applications, each line with the reply that the model gives."""
+from model import files, lookups, making, texts
+from model.server import Server, caller_of
+from model.trees import height
+
+
+class Start:
+    """What a server starts with: the files of ICUDATA and of the explicit parents, and what the model makes of them."""
+
+    def __init__(self, random):
+        self.entries = [self.entry(random, locale) for locale in random.sample(making.LOCALES, random.choice((0, 0, 2, 5)))]
+        self.parents_text = self.parents(random) if random.random() < 0.5 else None
+        self.common = {locale: bundle for locale, _, _, bundle in self.entries}
+        self.by_child = lookups.parents_of(texts.read(self.parents_text)[0]) if self.parents_text else {}
+
+    @staticmethod
+    def entry(random, locale):
+        """A bundle's name, whether its file is a text, the file, and the bundle."""
+        bundle = good_bundle(random)
+        is_text = random.random() < 0.5
+        return locale, is_text, spelled(random, bundle) if is_text else written(random, bundle), bundle
+
+    @staticmethod
+    def parents(random):
+        """A text with explicit parents, of which each child has one."""
+        children = random.sample(making.LOCALES[1:], 6)
+        cut = random.randrange(1, 6)
+        first, second = "root", random.choice(making.LOCALES[1:])
+        entries = {name: ("array", [("string", making.units_of(child)) for child in part])
+                   for name, part in ((first, children[:cut]), (second, children[cut:]))}
+        return spelled(random, (("table", {"parentLocales": ("table", entries)}), False))
+
+    def server(self):
+        return Server(self.common, self.by_child)
+
+
+def good_bundle(random):
+    """A bundle within the limits."""
+    while True:
+        bundle = making.random_bundle(random)
+        if height(bundle[0]) <= 64:
+            return bundle
+
+
+def spelled(random, bundle):
+    """The text of a bundle, which the model's reader must read as it is meant."""
+    text = making.Speller(random).bundle(bundle).encode("utf-8")
+    if height(bundle[0]) <= 64 and texts.read(text) != bundle:
+        raise AssertionError(f"the model reads another bundle: {text!r}")
+    return text
+
+
+def written(random, bundle):
+    """The file of a bundle, which the model's reader must read as it is meant."""
+    layout = making.random_layout(random)
+    if bundle[1] and layout.minor is None:
+        layout.indexes, layout.minor = 6, 2
+    file = files.write(bundle, layout)
+    if height(bundle[0]) <= 64 and files.read(file)[0] != bundle:
+        raise AssertionError(f"the model reads another bundle: {file.hex()}")
+    return file
+
+
+class History:
+    """Lines with their replies."""
+
+    def __init__(self, random, start):
+        self.random = random
+        self.server = start.server()
+        self.apps = random.sample(making.APPS, random.choice((2, 3, 5)))
+        self.lines = []
+        self.replies = []
+        self.damaged = 0
+
+    def add(self, line):
+        self.lines.append(line)
+        self.replies.append(self.server.reply(line))
+
+    def app(self):
+        return self.random.choice(making.BAD_APPS if self.random.random() < 0.02 else self.apps)
+
+    def locale(self):
+        chosen = self.random.random()
+        return self.random.choice(making.BAD_LOCALES if chosen < 0.03 else making.SPELLINGS if chosen < 0.1 else making.LOCALES)
+
+    def near(self, app):
+        """A locale, mostly one that leads to one of the application's bundles."""
+        names = list(self.server.apps.get(app, {}))
+        if not names or self.random.random() < 0.3:
+            return self.locale()
+        return self.random.choice(names) + self.random.choice(("", "", "_DE", "_1996", "@x"))
+
+    def path(self, app):
+        """A path, mostly one that leads somewhere in one of the application's bundles."""
+        bundles = list(self.server.apps.get(app, {}).values())
+        if not bundles or self.random.random() < 0.2:
+            return self.random.choice(making.PATHS)
+        item, parts = self.random.choice(bundles)[0], []
+        while item[0] in ("table", "array") and item[1] and self.random.random() < 0.9:
+            part = self.random.choice(list(item[1])) if item[0] == "table" else str(self.random.randrange(len(item[1])))
+            item = item[1][part] if item[0] == "table" else item[1][int(part)]
+            parts.append(part)
+        return "/".join(parts + self.random.choice(([], [], [], ["a"])))
+
+    def payload(self):
+        """What an install or a replacement brings."""
+        bundle = making.random_bundle(self.random)
+        is_text, is_damaged = self.random.random() < 0.6, self.random.random() < 0.25
+        self.damaged += is_damaged
+        if is_text:
+            text = spelled(self.random, bundle).decode("utf-8")
+            return {"text": making.damage_text(self.random, text) if is_damaged else text}
+        file = written(self.random, bundle)
+        return {"file": making.hexadecimal(self.random, making.damage_file(self.random, file) if is_damaged else file)}
+
+    def request(self):
+        app, chosen = self.app(), self.random.random()
+        request = {"app": app, "locale": self.locale()}
+        if chosen < 0.35:
+            return {"op": "install" if chosen < 0.25 else "replace", **request, **self.payload()}
+        if chosen < 0.39:
+            return {"op": "remove", **request}
+        if chosen < 0.46:
+            return {"op": "list", "app": app}
+        return {"op": "look", "app": app, "locale": self.near(app), "path": self.path(app)}
+
+    def add_random(self):
+        chosen = self.random.random()
+        if chosen < 0.03:
+            self.add(making.random_line(self.random))
+            return
+        line = making.dumped(self.random, self.request())
+        self.add(making.damage_line(self.random, line) if chosen < 0.06 else line)
+
+    def input(self):
+        return b"".join(line + b"\n" for line in self.lines)
+
+    def output(self):
+        return b"".join(self.replies)
+
+    def of_app(self, app):
+        """The lines of one application, and their replies."""
+        return [pair for pair in zip(self.lines, self.replies) if caller_of(pair[0]) == app]
+
+
+def random_history(random, start):
+    history = History(random, start)
+    for _ in range(random.choice((3, 20, 60, 150))):
+        history.add_random()
+    return history
+
+
+def full_history(random, start):
+    """A history in which one application has the most bundles."""
+    history = History(random, start)
+    for number in range(4098):
+        locale = f"xy_{number:04d}"
+        history.add(making.dumped(random, {"op": "install", "app": history.apps[0], "locale": locale, "text": "x{}"}))
+    for _ in range(50):
+        history.add_random()
+    return history

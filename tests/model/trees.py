@@ -1,0 +1,102 @@
+"""Items, each a pair of its kind and its content, and what is printed of them.
+
+A string and an alias hold a tuple of units, an int a number of 28 bits, a vector a list of numbers, a binary bytes, an array a list of
+items, and a table a dictionary from keys to items, in ascending order. A bundle is a pair of a table and the flag `no fallback`.
+"""
+import json
+import re
+
+INDEX = re.compile("0|[1-9][0-9]*")
+
+
+def units_of(text):
+    """The UTF-16 units of a text."""
+    coded = text.encode("utf-16-le", "surrogatepass")
+    return tuple(int.from_bytes(coded[i:i + 2], "little") for i in range(0, len(coded), 2))
+
+
+def is_printable(text):
+    return all(" " <= character <= "~" for character in text)
+
+
+def segments(path):
+    """The segments of a path, or None where it is no path."""
+    if not is_printable(path):
+        return None
+    parts = path.split("/") if path else []
+    return None if "" in parts else parts
+
+
+def child(item, part):
+    """The item to which one segment leads, or None."""
+    kind, content = item
+    if kind == "table":
+        return content.get(part)
+    if kind == "array" and INDEX.fullmatch(part) and int(part) < len(content):
+        return content[int(part)]
+    return None
+
+
+def walk(item, parts):
+    """The item at the end of a walk, or the first alias on it, and how many segments were walked; None where it leads nowhere."""
+    for count, part in enumerate(parts):
+        if item[0] == "alias":
+            return item, count
+        item = child(item, part)
+        if item is None:
+            return None
+    return item, len(parts)
+
+
+def height(item):
+    """How many levels an item has."""
+    kind, content = item
+    below = content.values() if kind == "table" else content if kind == "array" else ()
+    return 1 + max(map(height, below), default=0)
+
+
+def text_members(units):
+    """A text by its characters, or by its units where it isn't well-formed UTF-16."""
+    coded = b"".join(unit.to_bytes(2, "little") for unit in units)
+    try:
+        return {"value": coded.decode("utf-16-le")}
+    except UnicodeDecodeError:
+        return {"units": list(units)}
+
+
+def members(item, rest=""):
+    """The members of an item in a reply."""
+    kind, content = item
+    if kind == "string":
+        told = text_members(content)
+    elif kind == "alias":
+        told = {**text_members(content), "rest": rest}
+    elif kind == "int":
+        told = {"signed": content - (content >> 27 << 28), "unsigned": content}
+    elif kind == "intvector":
+        told = {"values": content}
+    elif kind == "bin":
+        told = {"hex": content.hex()}
+    elif kind == "array":
+        told = {"len": len(content)}
+    else:
+        told = {"keys": sorted(content)}
+    return {"type": kind, **told}
+
+
+def compact(value):
+    """A value as the program prints it."""
+    return json.dumps(value, ensure_ascii=False, separators=(",", ":"), sort_keys=True)
+
+
+def gotten(item, path):
+    """What `resb get` prints for a path, and whether there is an item."""
+    parts = segments(path)
+    if parts is None:
+        return "BadPath", False
+    if len(path) > 1024:
+        return "PathTooLong", False
+    ended = walk(item, parts)
+    if ended is None:
+        return "Missing", False
+    return compact(members(ended[0], "/".join(parts[ended[1]:]))), True

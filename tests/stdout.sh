@@ -1,0 +1,51 @@
+#!/usr/bin/env bash
+# What resb says where standard output can't be written: `cannot write stdout` and status 2, or `Write` and status 1 of `serve`.
+#
+# usage: stdout.sh PROGRAM
+# Ends with status 0 where it is said, with 1 where not; says `skipped` where there is no such program or no /dev/full.
+set -u
+program=${1:?usage: stdout.sh PROGRAM}
+if [ ! -x "$program" ] || [ ! -c /dev/full ]; then
+    echo "skipped: $program or /dev/full is not there"
+    exit 0
+fi
+program=$(realpath "$program")
+examples=$(realpath "$(dirname "$0")/../examples")
+made=$(mktemp -d) || exit 2
+trap 'rm -rf "$made"' EXIT
+failed=0
+
+# Compares a status and the lines of standard error with those that are wanted.
+agrees() {
+    if [ "$2" = "$3" ] && [ "$(cat "$made/errors")" = "$4" ]; then
+        echo "ok: $1"
+    else
+        echo "differs: $1: status $2, $(cat "$made/errors")"
+        failed=1
+    fi
+}
+
+# Runs a command whose standard output is a device that is full, and then one whose standard output is closed.
+refuses() {
+    local status=$1 errors=$2
+    shift 2
+    "$program" "$@" <"$examples/first-run.jsonl" >/dev/full 2>"$made/errors"
+    agrees "$1 to a full device" $? "$status" "$errors"
+    "$program" "$@" <"$examples/first-run.jsonl" >&- 2>"$made/errors"
+    agrees "$1 to a closed output" $? "$status" "$errors"
+}
+
+"$program" compile "$examples/icudata/de.txt" "$made/de.res" >/dev/null || exit 2
+refuses 2 'cannot write stdout' compile "$examples/icudata/de.txt" "$made/again.res"
+refuses 2 'cannot write stdout' check "$made/de.res"
+refuses 2 'cannot write stdout' get "$made/de.res" months/0
+refuses 1 Write serve
+
+# the file is there though nothing could be said, and holds what it holds else
+if cmp -s "$made/de.res" "$made/again.res"; then
+    echo "ok: the file is written"
+else
+    echo "differs: the file is not written"
+    failed=1
+fi
+exit "$failed"
