@@ -52,20 +52,40 @@ enum Asked {
 
 /// Requests, each with the word of its reply.
 const REQUESTS: [(Asked, &str); 14] = [
-    (Asked::Install("shop", "de", Given::Text("de{a{\"S\"}}")), "Done"),
+    (
+        Asked::Install("shop", "de", Given::Text("de{a{\"S\"}}")),
+        "Done",
+    ),
     (Asked::Install("shop", "root", Given::File(b'T')), "Done"),
-    (Asked::Install("bank", "de", Given::Text("de{a{\"B\"} t{u:intvector{1,2} v:bin{00ff} w{\"x\",\"y\"}}}")), "Done"),
+    (
+        Asked::Install(
+            "bank",
+            "de",
+            Given::Text("de{a{\"B\"} t{u:intvector{1,2} v:bin{00ff} w{\"x\",\"y\"}}}"),
+        ),
+        "Done",
+    ),
     (Asked::Install("bank", "fr", Given::File(b'C')), "Done"),
     (Asked::Install("shop", "de", Given::Text("de{}")), "Exists"),
     (Asked::Install("shop", "fr", Given::Text("fr{")), "BadText"),
     (Asked::List("shop"), "Names"),
-    (Asked::Replace("shop", "de", Given::Text("de{a{\"U\"}}")), "Done"),
+    (
+        Asked::Replace("shop", "de", Given::Text("de{a{\"U\"}}")),
+        "Done",
+    ),
     (Asked::Replace("shop", "root", Given::File(b'V')), "Done"),
     (Asked::Replace("shop", "fr", Given::File(b'W')), "Absent"),
     (Asked::List("bank"), "Names"),
     (Asked::Remove("bank", "fr"), "Done"),
     (Asked::Remove("bank", "fr"), "Absent"),
-    (Asked::Install("mill", "root", Given::Text("root{a:alias{\"/ICUDATA/de\"}}")), "Done"),
+    (
+        Asked::Install(
+            "mill",
+            "root",
+            Given::Text("root{a:alias{\"/ICUDATA/de\"}}"),
+        ),
+        "Done",
+    ),
 ];
 
 fn payload(alloc: Global, given: Given) -> Result<Payload, AllocError> {
@@ -98,6 +118,7 @@ fn request(alloc: Global, asked: Asked) -> Result<Request, AllocError> {
 }
 
 const APPS: [&str; 3] = ["shop", "bank", "mill"];
+
 const LOCALES: [&str; 3] = ["de_AT", "fr", "root"];
 
 /// What applications see: the first letter at `a` from some locales on, and their lists.
@@ -158,7 +179,12 @@ fn seen_again(alloc: Global, engine: &mut Engine) -> Result<Seen, AllocError> {
 }
 
 /// Whether a request gets its reply, out of memory at most once and then with nothing changed.
-fn is_kept(alloc: Global, engine: &mut Engine, asked: Asked, word: &str) -> Result<bool, AllocError> {
+fn is_kept(
+    alloc: Global,
+    engine: &mut Engine,
+    asked: Asked,
+    word: &str,
+) -> Result<bool, AllocError> {
     let before = seen_again(alloc, engine)?;
     for _ in 0..2 {
         let Ok(request) = request(alloc, asked) else {
@@ -179,7 +205,10 @@ fn is_kept(alloc: Global, engine: &mut Engine, asked: Asked, word: &str) -> Resu
 
 fn entries(alloc: Global) -> Result<Vec<(Name, Payload)>, AllocError> {
     let mut entries = Vec::new(alloc);
-    for (locale, given) in [("de", Given::Text("de{a{\"I\"}}")), ("root", Given::File(b'J'))] {
+    for (locale, given) in [
+        ("de", Given::Text("de{a{\"I\"}}")),
+        ("root", Given::File(b'J')),
+    ] {
         if let Ok(name) = Name::read(locale.as_bytes()) {
             entries.push((name, payload(alloc, given)?))?;
         }
@@ -203,7 +232,11 @@ fn started(alloc: Global, state: RandomState) -> Option<Engine> {
 }
 
 /// Whether each request is kept to.
-fn requests_are_kept(alloc: Global, state: RandomState, is_quiet: bool) -> Result<bool, AllocError> {
+fn requests_are_kept(
+    alloc: Global,
+    state: RandomState,
+    is_quiet: bool,
+) -> Result<bool, AllocError> {
     let Some(mut engine) = started(alloc, state) else {
         return Ok(false);
     };
@@ -213,7 +246,15 @@ fn requests_are_kept(alloc: Global, state: RandomState, is_quiet: bool) -> Resul
         }
     }
     let wanted = [
-        b'U' as u16, b'V' as u16, b'V' as u16, b'B' as u16, 0, 0, b'I' as u16, b'I' as u16, b'I' as u16,
+        b'U' as u16,
+        b'V' as u16,
+        b'V' as u16,
+        b'B' as u16,
+        0,
+        0,
+        b'I' as u16,
+        b'I' as u16,
+        b'I' as u16,
     ];
     if seen_again(alloc, &mut engine)?.letters != wanted {
         return Ok(false);
@@ -273,8 +314,11 @@ fn shop_is_answered_alike(alloc: Global, state: RandomState) -> Result<bool, All
 /// Looks up often, with every way to end.
 fn looks_are_kept(engine: &Engine) -> bool {
     for _ in 0..20 {
-        let found = letter(engine, "shop", "de_AT") == b'U' as u16 && letter(engine, "mill", "de") == b'I' as u16;
-        let refused = letter(engine, "bank", "fr") == 0 && letter(engine, "ICUDATA", "de") == 0 && letter(engine, "shop", "?") == 0;
+        let found = letter(engine, "shop", "de_AT") == b'U' as u16
+            && letter(engine, "mill", "de") == b'I' as u16;
+        let refused = letter(engine, "bank", "fr") == 0
+            && letter(engine, "ICUDATA", "de") == 0
+            && letter(engine, "shop", "?") == 0;
         if !found || !refused {
             return false;
         }
@@ -291,7 +335,8 @@ fn bundle(alloc: Global, letter: u8) -> Result<Bundle, AllocError> {
     for _ in 0..2 {
         match accept(alloc, given) {
             Ok(bundle) => return Ok(bundle),
-            Err((FileFault::Memory, bytes)) if bytes.as_slice() == file(letter).as_slice() => given = bytes,
+            Err((FileFault::Memory, bytes)) if bytes.as_slice() == file(letter).as_slice() =>
+                given = bytes,
             Err(_) => return Err(AllocError),
         }
     }
@@ -300,14 +345,26 @@ fn bundle(alloc: Global, letter: u8) -> Result<Bundle, AllocError> {
 
 /// The first letter of an application's bundle; 0 where there is none.
 fn kept_letter(packages: &Packages, app: &App, name: &Name) -> u16 {
-    match packages.shelf(app).bundle(name).and_then(|b| b.0.table()).and_then(|t| t.get(b"a")).and_then(|item| item.text()) {
+    match packages
+        .shelf(app)
+        .bundle(name)
+        .and_then(|b| b.0.table())
+        .and_then(|t| t.get(b"a"))
+        .and_then(|item| item.text())
+    {
         Some(units) => units.at(0),
         None => 0,
     }
 }
 
 fn common_letter(packages: &Packages, name: &Name) -> u16 {
-    match packages.icu_shelf().bundle(name).and_then(|b| b.0.table()).and_then(|t| t.get(b"a")).and_then(|item| item.text()) {
+    match packages
+        .icu_shelf()
+        .bundle(name)
+        .and_then(|b| b.0.table())
+        .and_then(|t| t.get(b"a"))
+        .and_then(|item| item.text())
+    {
         Some(units) => units.at(0),
         None => 0,
     }
@@ -318,7 +375,9 @@ fn loads(packages: &mut Packages, name: Name, bundle: Bundle) -> bool {
     match packages.load(name, bundle) {
         Ok(()) => true,
         Err((PackFault::Memory, bundle)) => {
-            bundle.bytes() == file(b'L').as_slice() && common_letter(packages, &name) == 0 && packages.load(name, bundle).is_ok()
+            bundle.bytes() == file(b'L').as_slice()
+                && common_letter(packages, &name) == 0
+                && packages.load(name, bundle).is_ok()
         }
         Err(_) => false,
     }
@@ -329,7 +388,9 @@ fn installs(packages: &mut Packages, app: &App, name: Name, letter: u8, bundle: 
     match packages.install(app, name, bundle) {
         Ok(()) => true,
         Err((PackFault::Memory, bundle)) => {
-            bundle.bytes() == file(letter).as_slice() && kept_letter(packages, app, &name) == 0 && packages.install(app, name, bundle).is_ok()
+            bundle.bytes() == file(letter).as_slice()
+                && kept_letter(packages, app, &name) == 0
+                && packages.install(app, name, bundle).is_ok()
         }
         Err(_) => false,
     }
@@ -351,7 +412,10 @@ fn installs_many(alloc: Global, packages: &mut Packages, app: &App) -> Result<bo
             return Ok(false);
         };
         let is_installed = installs(packages, app, name, letter, bundle(alloc, letter)?);
-        if !is_installed || kept_letter(packages, app, &name) != letter as u16 || count(alloc, packages, app)? != i as usize + 1 {
+        if !is_installed
+            || kept_letter(packages, app, &name) != letter as u16
+            || count(alloc, packages, app)? != i as usize + 1
+        {
             return Ok(false);
         }
     }
@@ -379,17 +443,26 @@ fn changes_are_kept(packages: &mut Packages, app: &App, name: &Name) -> bool {
 }
 
 /// Whether packages keep to their promises.
-fn packages_are_kept(alloc: Global, state: RandomState, is_quiet: bool) -> Result<bool, AllocError> {
+fn packages_are_kept(
+    alloc: Global,
+    state: RandomState,
+    is_quiet: bool,
+) -> Result<bool, AllocError> {
     let mut packages = Packages::new(alloc, state);
-    let (Ok(shop), Ok(bank), Ok(name)) = (App::read(b"shop"), App::read(b"bank"), Name::read(b"ll")) else {
+    let (Ok(shop), Ok(bank), Ok(name)) = (App::read(b"shop"), App::read(b"bank"), Name::read(b"ll"))
+    else {
         return Ok(false);
     };
     let is_loaded = loads(&mut packages, name, bundle(alloc, b'L')?);
-    if !is_loaded || !installs_many(alloc, &mut packages, &shop)? || !installs_many(alloc, &mut packages, &bank)? {
+    if !is_loaded
+        || !installs_many(alloc, &mut packages, &shop)?
+        || !installs_many(alloc, &mut packages, &bank)?
+    {
         return Ok(false);
     }
     let is_changed = !is_quiet || changes_are_kept(&mut packages, &bank, &name);
-    let is_same = kept_letter(&packages, &shop, &name) == b'l' as u16 && common_letter(&packages, &name) == b'L' as u16;
+    let is_same = kept_letter(&packages, &shop, &name) == b'l' as u16
+        && common_letter(&packages, &name) == b'L' as u16;
     Ok(is_changed && is_same)
 }
 
