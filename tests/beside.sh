@@ -1,5 +1,5 @@
 # For the scripts of this folder: `repository FOLDER NAME LIBRARY..` makes, in an empty folder, a repository of this one's libraries
-# and a program NAME over some of them, whose text is programs/NAME.rt. `rt try` reads it, which proves nothing and keeps no files.
+# and a program NAME over some of them, whose text is programs/NAME.rt.in. `rt try` reads it, which proves nothing and keeps no files.
 repository() {
     local folder=$1 name=$2 top crate part
     shift 2
@@ -14,5 +14,5 @@ repository() {
         done
     done
     mkdir -p "$folder/crates/$name/src"
-    cp "$top/tests/programs/$name.rt" "$folder/crates/$name/src/main.rt"
+    cp "$top/tests/programs/$name.rt.in" "$folder/crates/$name/src/main.rt"
 }

@@ -1,5 +1,5 @@
 #!/usr/bin/env bash
-# A replacement while a lookup's item is held doesn't compile: the item is lent out of the engine. The program programs/held.rt does
+# A replacement while a lookup's item is held doesn't compile: the item is lent out of the engine. The program programs/held.rt.in does
 # so, and is refused for this borrow; without the two lines that hold the item, marked `held`, it compiles and runs.
 #
 # usage: borrows.sh      (the variable RT names the command `rt`, where it is another)

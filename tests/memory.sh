@@ -1,5 +1,5 @@
 #!/usr/bin/env bash
-# Each allocation refused in turn: the program programs/memory.rt starts an engine, makes requests of each kind, and loads, installs
+# Each allocation refused in turn: the program programs/memory.rt.in starts an engine, makes requests of each kind, and loads, installs
 # and lists bundles; after a call that is answered out of memory it compares all that is kept, and calls once more.
 #
 # The toolchain refuses one allocation of a run, by its number. So each run first takes and frees some blocks, fewer each time, down to

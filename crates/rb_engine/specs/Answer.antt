@@ -1,4 +1,4 @@
--- What an application is told over its bundles, and what its bundles are then. A look-up is the search of rb_fallback, after ICU's
+-- What an application is answered over its bundles, and what its bundles are then. A lookup is the search of rb_fallback, after ICU's
 -- `ures_getByKeyWithFallback`; the requests are this project's own.
 use Rattle.std.specs.Prelude.{ℕ, List, [], ◌∷◌, ◌++◌, ◌||◌, map, if◌then◌else◌, Option, Some, None, Result, Ok, Err}
 use Rattle.rb_tree.specs.Resource.{Resource}
@@ -27,7 +27,7 @@ pub record Start : Type 0 where
   pub icudata : Shelf
   pub parents : ParentsOf
 
--- what an application is told: a reply, an item with the names of its bundle and of the first bundle asked, or why there is none
+-- what an application is answered: a reply, an item with the names of its bundle and of the first bundle asked, or why there is none
 pub data Told : Type 0 where
   Replies : Reply → Told
   Finds : Resource → (actual valid : List ℕ) → Told
@@ -35,7 +35,7 @@ pub data Told : Type 0 where
 
 -- ---- its bundles after what it asks
 
--- a bundle goes behind the others where its name is new and fewer than the most are there
+-- a bundle goes after the others where its name is new and fewer than the most are there
 abbrev pub added : Place → SourceTree → Shelf → Shelf
 added p source shelf = if holds p.name shelf || is_full shelf then shelf else shelf ++ (p.name, source) ∷ []
 
@@ -101,7 +101,7 @@ list_reply (Err app.BadApp) shelf = BadApp
 list_reply (Err app.Reserved) shelf = Reserved
 list_reply (Ok a) shelf = Names (map (λ e. e.0) shelf)
 
--- ---- a look-up
+-- ---- a lookup
 
 abbrev pub look_refusal : PlaceFault → LookFault
 look_refusal place.BadApp = fault.BadApp
@@ -127,7 +127,7 @@ abbrev pub look_reply : Start → Shelf → Result Place PlaceFault → List ℕ
 look_reply start shelf (Err e) path = Refuses (look_refusal e)
 look_reply start shelf (Ok p) path = looked start shelf p.name path
 
--- ---- what is told over these bundles
+-- ---- what is answered over these bundles
 
 abbrev pub answer_over : Start → Shelf → Ask → Told
 answer_over start shelf (Installs app locale content) = Replies (install_reply (place_of app locale) content shelf)

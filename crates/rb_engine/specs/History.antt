@@ -17,7 +17,7 @@ pub record State : Type 0 where
 abbrev pub new_state : Start → State
 new_state start = record { start = start; lists = λ app. [] }
 
--- a call with what it was told
+-- a call with its answer
 pub record Turn : Type 0 where
   pub call : Call
   pub told : Told
@@ -40,7 +40,7 @@ is_memory (Replies reply) = is_memory_reply reply
 is_memory (Finds tree actual valid) = false
 is_memory (Refuses e) = false
 
--- which calls may want memory: a removal and a look-up never do
+-- which calls may run out of memory: a removal and a lookup never do
 abbrev pub may_want_memory : Call → Bool
 may_want_memory (Requests (request.Install app locale payload)) = true
 may_want_memory (Requests (request.Replace app locale payload)) = true
@@ -48,14 +48,14 @@ may_want_memory (Requests (request.Remove app locale)) = false
 may_want_memory (Requests (request.List app)) = true
 may_want_memory (LooksUp app locale path) = false
 
--- memory was wanting, and nothing changes
+-- memory ran out, and nothing changes
 pub record Starves (old : State) (call : Call) (told : Told) (new : State) : Type 0 where
   pub memory : told ≡ Replies Memory
   pub may : may_want_memory call ≡ true
   pub start : new.start ≡ old.start
   pub lists : (app : List ℕ) → new.lists app ≡ old.lists app
 
--- the caller is told the answer over its own bundles, which change as it asks; no other application's do
+-- the caller gets the answer over its own bundles, which change as it asks; no other application's do
 pub record Serves (old : State) (call : Call) (told : Told) (new : State) : Type 0 where
   pub ask : Ask
   pub means : Means call ask
@@ -76,7 +76,7 @@ Run old (turn ∷ turns) new = (mid : State) × Step old turn.call turn.told mid
 abbrev pub turns_of : List ℕ → List Turn → List Turn
 turns_of app history = filter (λ turn. bytes_eq (caller turn.call) app) history
 
--- the application's own calls, without those answered for want of memory
+-- the application's own calls, without those that ran out of memory
 abbrev pub own : List ℕ → List Turn → List Call
 own app history = map (λ turn. turn.call) (filter (λ turn. not (is_memory turn.told)) (turns_of app history))
 
@@ -87,11 +87,11 @@ EachMeans [] (ask ∷ asks) = ⊥
 EachMeans (call ∷ calls) [] = ⊥
 EachMeans (call ∷ calls) (ask ∷ asks) = Means call ask × EachMeans calls asks
 
--- the application's calls, each with whether it was answered for want of memory
+-- the application's calls, each with whether it ran out of memory
 abbrev pub asked_by : List ℕ → List Turn → List (Call × Bool)
 asked_by app history = map (λ turn. (turn.call, is_memory turn.told)) (turns_of app history)
 
--- what the application was told
+-- what the application was answered
 abbrev pub told_to : List ℕ → List Turn → List Told
 told_to app history = map (λ turn. turn.told) (turns_of app history)
 
@@ -101,7 +101,7 @@ told_to app history = map (λ turn. turn.told) (turns_of app history)
 abbrev pub AsksOne : Type 0
 AsksOne = (call : Call) (a b : Ask) → Means call a → Means call b → a ≡ b
 
--- each answer but for want of memory is that over what the caller itself asked before
+-- each answer but out of memory is that over what the caller itself asked before
 abbrev pub AnswersOwn : Type 0
 AnswersOwn =
     (start : Start) (before after : List Turn) (turn : Turn) (end : State)
@@ -109,7 +109,7 @@ AnswersOwn =
     → is_memory turn.told ≡ false
     → (asked : List Ask) × (ask : Ask) × EachMeans (own (caller turn.call) before) asked × Means turn.call ask × (turn.told ≡ answer start asked ask)
 
--- two histories with the same start, and with the same calls and wants of memory of one application, tell it the same
+-- two histories with the same start, and with the same calls of one application, the same ones of which ran out of memory, answer it the same
 abbrev pub IsIsolated : Type 0
 IsIsolated =
     (start : Start) (app : List ℕ) (first second : List Turn) (end end' : State)

@@ -1,4 +1,4 @@
--- A search's refusal as a look-up's.
+-- A search's error as a lookup's.
 use Rattle.rb_fallback.specs.declared.fault.LookError.{LookError}
 use Rattle.rb_fallback.specs.declared.fault.LookError.TheVariants as error
 use Rattle.rb_engine.specs.declared.request.LookFault.{LookFault}

@@ -1,4 +1,4 @@
--- Where a request's bundle is to stand, this project's own rule: under an application's name and a locale's.
+-- Where a request's bundle is to be, this project's own rule: under an application's name and a locale's.
 use Rattle.std.specs.Prelude.{ℕ, List, Option, Some, None, Result, Ok, Err}
 use Rattle.rb_locales.specs.Locale.{name}
 use Rattle.rb_packages.specs.App.{app_of}

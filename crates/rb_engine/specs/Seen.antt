@@ -1,4 +1,4 @@
--- What an answer of a look-up is seen as: what the application is told.
+-- What the result of a lookup is seen as: what the application is answered.
 use Rattle.std.specs.Prelude.{Result, Ok, Err}
 use Rattle.rb_tree.specs.Resource.{Resource}
 use Rattle.rb_engine.specs.Answer.{Told, Finds, Refuses}

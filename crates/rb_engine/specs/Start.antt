@@ -1,6 +1,6 @@
 -- What an engine starts with, this project's own rule: the bundles of ICUDATA, each a name and a payload, or the first entry that is
 -- refused. The payload is judged before the name.
-use Rattle.std.specs.Prelude.{◌≡◌, ℕ, true, false, List, [], ◌∷◌, ◌++◌, length, Some, None}
+use Rattle.std.specs.Prelude.{◌≡◌, ◌<◌, ℕ, true, false, List, [], ◌∷◌, ◌++◌, length, Some, None}
 use Rattle.rb_tree.specs.SourceTree.{SourceTree}
 use Rattle.rb_packages.specs.Shelf.{Shelf, holds}
 use Rattle.rb_engine.specs.Ask.{IsContent, spelled, denoted}
@@ -37,3 +37,10 @@ IsRefused entries (BadText i) = (name text : List ℕ) × (shelf : Shelf) × IsR
 IsRefused entries (BadFile i) = (name file : List ℕ) × (shelf : Shelf) × IsReached entries i name (File file) shelf × IsContent (File file) (denoted None)
 IsRefused entries (Twice i) = (name : List ℕ) × (payload : Payload) × (source : SourceTree) × (shelf : Shelf) × IsReached entries i name payload shelf × HasBundle payload source × (holds name shelf ≡ true)
 IsRefused entries Memory = Unit {0}
+
+-- the index of a refused entry is that of an entry
+abbrev pub IsIndexed : ℕ → StartFault → Type 0
+IsIndexed count (BadText i) = i < count
+IsIndexed count (BadFile i) = i < count
+IsIndexed count (Twice i) = i < count
+IsIndexed count Memory = Unit {0}

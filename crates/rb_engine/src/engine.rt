@@ -1,5 +1,5 @@
 //! The engine of many applications.
-ghost use Rattle.std.specs.Prelude.{◌≡◌, [], ℕ, List, IfOk, IfErr};
+ghost use Rattle.std.specs.Prelude.{◌≡◌, [], ℕ, List, length, IfOk, IfErr};
 ghost use Rattle.rb_parents.specs.Family.{parent_of, parent_in};
 ghost use Rattle.rb_views.specs.Seen.{tree_seen};
 ghost use Rattle.rb_packages.specs.Shelf.{bundle_at};
@@ -9,7 +9,7 @@ ghost use Rattle.rb_engine.specs.Answer.{Replies, answer_over, looked_in};
 ghost use Rattle.rb_engine.specs.History.{Step};
 ghost use Rattle.rb_engine.specs.Kept.{state_of};
 ghost use Rattle.rb_engine.specs.Seen.{seen};
-ghost use Rattle.rb_engine.specs.Start.{Loads, IsRefused};
+ghost use Rattle.rb_engine.specs.Start.{Loads, IsRefused, IsIndexed};
 
 use crate::place::{Place, PlaceFault, place_of};
 use crate::request::{LookFault, Payload, Reply, Request};
@@ -62,6 +62,7 @@ impl Engine {
         ensures parents { IfOk result (λ engine. (name : List ℕ) → (state_of engine).start.parents name ≡ parent_of parents name) }
         ensures lists { IfOk result (λ engine. (app : List ℕ) → (state_of engine).lists app ≡ []) }
         ensures refused { IfErr result (IsRefused icudata.items) }
+        ensures index { IfErr result (IsIndexed (length icudata.items)) }
     {
         let mut packages = Packages::new(alloc, state);
         load_all(alloc, &mut packages, icudata)?;

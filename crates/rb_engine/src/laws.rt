@@ -5,11 +5,11 @@ ghost use Rattle.rb_engine.specs.Kept.{KeepsTexts, KeepsTrees};
 /// Does nothing: whatever the applications ask in whatever order, each is answered over its own bundles, those of ICUDATA and
 /// the explicit parents.
 pub fn isolated()
-    // A call asks one thing, since a payload stands for at most one tree.
+    // A call asks one thing, since a payload has at most one tree.
     ensures one { AsksOne }
-    // Each answer but for want of memory is that over what the caller itself asked before.
+    // Each answer but out of memory is that over what the caller itself asked before.
     ensures own { AnswersOwn }
-    // What an application is told depends on its own calls and wants of memory alone.
+    // What an application is answered depends on its own calls and on which of them ran out of memory alone.
     ensures alone { IsIsolated }
 {
     rb_parser::laws::one_source();

@@ -18,13 +18,13 @@ pub enum Payload {
 /// A request of an application. Its name and the locale are as they came.
 #[derive(Debug, Drop)]
 pub enum Request {
-    /// Puts a bundle where none stands.
+    /// Puts a bundle where there is none.
     Install {
         app: ByteList,
         locale: ByteList,
         payload: Payload,
     },
-    /// Puts a bundle in the place of the one that stands there.
+    /// Puts a bundle in the place of the one that is there.
     Replace {
         app: ByteList,
         locale: ByteList,
@@ -78,7 +78,7 @@ pub enum Reply {
     Done,
     /// The names of the application's bundles, in the order of installing.
     Names(NameList),
-    /// The application's name is none.
+    /// The application's name is invalid.
     BadApp,
     /// The application's name is that of the common bundles.
     Reserved,
@@ -88,13 +88,13 @@ pub enum Reply {
     BadText,
     /// The file denotes no bundle.
     BadFile,
-    /// A bundle stands there already.
+    /// There is a bundle already.
     Exists,
-    /// No bundle stands there.
+    /// There is no bundle.
     Absent,
     /// The application has as many bundles as it may.
     Full,
-    /// Memory was wanting. Nothing has changed.
+    /// Out of memory. Nothing has changed.
     Memory,
 }
 
@@ -121,10 +121,10 @@ impl Reply {
     }
 }
 
-/// Why a look-up found nothing.
+/// Why a lookup found nothing.
 #[derive(Clone, Copy, Debug, PartialEq, Eq)]
 pub enum LookFault {
-    /// The application's name is none.
+    /// The application's name is invalid.
     BadApp,
     /// The application's name is that of the common bundles.
     Reserved,

@@ -10,7 +10,7 @@ use Rattle.std.proofs.lemmas.List.{length-map}
 use Rattle.indexmap.specs.IndexMap.{IndexMap, UpdatesBy}
 use Rattle.rb_format.specs.File.{source_tree_of}
 use Rattle.rb_packages.specs.Shelf.{bundle_at, holds, is_full, replaced, removed}
-use Rattle.rb_packages.specs.Packages.{Files, Stored, shelf_of, files_of, list_of, file_at, icudata_of, install_fault, load_fault, IsJudged, OthersStay}
+use Rattle.rb_packages.specs.Packages.{Files, Stored, shelf_of, files_of, list_of, file_at, icudata_files, icudata_of, install_fault, load_fault, IsJudged, OthersStay}
 use Rattle.rb_packages.specs.Lent.{files_lent}
 use Rattle.rb_packages.specs.declared.fault.PackFault.{PackFault}
 use Rattle.rb_packages.specs.declared.fault.PackFault.TheVariants.{Twice, Exists, Full, Memory}
@@ -121,7 +121,7 @@ judged_add (Err e) bundle fault f h = rw f (ap (λ (p : PackFault × List ℕ). 
 -- ---- what packages are seen as
 
 module _ {S : Type 0} (stored : Stored) (icudata : Files) (rows : List (List ℕ × IndexMap (List ℕ) (List ℕ) S)) (e : record { icudata = icudata; owned = seen rows } ≡ stored) where
-  files_seen : (app : List ℕ) → files_of app stored ≡ files_at app rows
+  pub files_seen : (app : List ℕ) → files_of app stored ≡ files_at app rows
   files_seen app = ap (files_of app) (sym e) ∙ lookup-seen app rows
 
   pub list_seen : (app : List ℕ) → list_of app stored ≡ shelf_of (files_at app rows)
@@ -141,6 +141,7 @@ module _ {S : Type 0} (stored : Stored) (icudata : Files) (rows : List (List ℕ
     pub others_seen : OthersStay app stored (record { icudata = icudata; owned = seen rows' })
     others_seen = record {
       icudata = ap icudata_of e;
+      icudata_bytes = ap icudata_files e;
       others = λ other n. ap shelf_of (lookup-seen other rows' ∙ stays other n) ∙ sym (list_seen other);
       files = λ other n. lookup-seen other rows' ∙ stays other n ∙ sym (files_seen other);
     }

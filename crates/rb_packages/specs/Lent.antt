@@ -1,8 +1,14 @@
 -- What a shelf that packages lend is seen as: the bundles of one package by their names.
-use Rattle.std.specs.Prelude.{ℕ, List, [], Option, Some, None}
+use Rattle.std.specs.Prelude.{◌≡◌, ℕ, Bool, List, [], Option, Some, None}
+use Rattle.std.specs.Map.{lookup}
+use Rattle.std.specs.Str.{bytes_eq}
 use Rattle.std.specs.Borrow.{Bor}
 use Rattle.indexmap.specs.IndexMap.{IndexMap}
 use Rattle.rb_tree.specs.SourceTree.{SourceTree}
+use Rattle.rb_views.specs.Trees.{data_of}
+use Rattle.rb_format.specs.Place.{word_at}
+use Rattle.rb_views.specs.Seen.{item_data, item_word}
+use Rattle.rb_views.specs.declared.item.Item.{Item}
 use Rattle.rb_packages.specs.Shelf.{bundle_at}
 use Rattle.rb_packages.specs.Packages.{Files, shelf_of}
 use Rattle.rb_packages.specs.declared.shelf.AppShelf.{AppShelf}
@@ -12,5 +18,13 @@ abbrev pub files_lent : {S : Type 0} → Option (Bor (IndexMap (List ℕ) (List 
 files_lent None = []
 files_lent (Some bundles) = bundles.now.entries
 
+abbrev pub files_in : AppShelf → Files
+files_in shelf = files_lent shelf.bundles
+
 abbrev pub bundles_lent : AppShelf → List ℕ → Option SourceTree
-bundles_lent shelf = bundle_at (shelf_of (files_lent shelf.bundles))
+bundles_lent shelf = bundle_at (shelf_of (files_in shelf))
+
+-- what is lent at a name is word 0 of the data of the file there
+abbrev pub LendsRoot : Files → List ℕ → Option (Item × Bool) → Type 0
+LendsRoot files name None = Unit {0}
+LendsRoot files name (Some lent) = (file : List ℕ) × (lookup (bytes_eq name) files ≡ Some file) × (item_data lent.0 ≡ data_of file) × (item_word lent.0 ≡ word_at (data_of file) 0)

@@ -19,9 +19,13 @@ pub record Stored : Type 0 where
   pub icudata : Files
   pub owned : List (List ℕ × Files)
 
+-- the files of ICUDATA's bundles
+abbrev pub icudata_files : Stored → Files
+icudata_files stored = stored.icudata
+
 -- the bundles of ICUDATA
 abbrev pub icudata_of : Stored → Shelf
-icudata_of stored = shelf_of stored.icudata
+icudata_of stored = shelf_of (icudata_files stored)
 
 -- the files of an application's bundles; none of one that isn't there
 abbrev pub files_of : List ℕ → Stored → Files
@@ -35,9 +39,10 @@ list_of app stored = shelf_of (files_of app stored)
 abbrev pub file_at : List ℕ → List ℕ → Stored → Option (List ℕ)
 file_at app name stored = lookup (bytes_eq name) (files_of app stored)
 
--- the bundles of ICUDATA and of all other applications stay
+-- the bundles of ICUDATA and of all other applications stay, and their files byte for byte
 pub record OthersStay (app : List ℕ) (old new : Stored) : Type 0 where
   pub icudata : icudata_of new ≡ icudata_of old
+  pub icudata_bytes : icudata_files new ≡ icudata_files old
   pub others : (other : List ℕ) → other ≢ app → list_of other new ≡ list_of other old
   pub files : (other : List ℕ) → other ≢ app → files_of other new ≡ files_of other old
 

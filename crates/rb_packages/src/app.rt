@@ -72,7 +72,7 @@ impl Hash for App {
 /// Why bytes are no application's name.
 #[derive(Clone, Copy, Debug, PartialEq, Eq)]
 pub enum AppFault {
-    /// They are none, too many, or one of them may not stand in a name.
+    /// There are none or more than 64, or one of them isn't allowed in a name.
     BadApp,
     /// They are `ICUDATA`, the name of the common bundles.
     Reserved,
@@ -119,7 +119,7 @@ impl App {
     }
 }
 
-/// Whether a byte may stand in an application's name.
+/// Whether a byte is allowed in an application's name.
 fn is_app_byte(b: u8) -> bool
     ensures { result ≡ passes b }
 {

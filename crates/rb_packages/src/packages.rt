@@ -4,8 +4,8 @@ ghost use Rattle.std.specs.Map.{set_value, remove_entry};
 ghost use Rattle.std.specs.Str.{bytes_eq};
 ghost use Rattle.rb_format.specs.File.{source_tree_of};
 ghost use Rattle.rb_packages.specs.Shelf.{bundle_at, replaced, removed};
-ghost use Rattle.rb_packages.specs.Packages.{icudata_of, files_of, list_of, file_at, install_fault, load_fault, IsJudged, OthersStay};
-ghost use Rattle.rb_packages.specs.Lent.{bundles_lent};
+ghost use Rattle.rb_packages.specs.Packages.{icudata_files, icudata_of, files_of, list_of, file_at, install_fault, load_fault, IsJudged, OthersStay};
+ghost use Rattle.rb_packages.specs.Lent.{files_in, bundles_lent};
 
 use crate::app::App;
 use crate::bundles::Bundles;
@@ -22,7 +22,7 @@ use std::marker::Model;
 
 /// The bundles of ICUDATA and those of many applications, each package with its bundles by their names, in the order of installing.
 ///
-/// One index holds all applications, and each application's bundles stand in an index of their own. So a call takes time for the
+/// One index holds all applications, and each application's bundles are in an index of their own. So a call takes time for the
 /// caller's bundles alone. An application without bundles takes no memory.
 #[derive(Drop)]
 pub struct Packages {
@@ -48,6 +48,8 @@ impl Packages {
     pub fn new(alloc: Global, state: RandomState) -> Packages
         ensures icudata { icudata_of result ≡ [] }
         ensures lists { (app : List ℕ) → list_of app result ≡ [] }
+        ensures icudata_files { icudata_files result ≡ [] }
+        ensures files { (app : List ℕ) → files_of app result ≡ [] }
     {
         Packages {
             icudata: IndexMap::with_hasher(alloc, state),
@@ -59,6 +61,7 @@ impl Packages {
     /// nothing and gives the bundle back.
     pub fn load(&mut self, name: Name, bundle: Bundle) -> Result<(), (PackFault, Bundle)>
         ensures judged { IsJudged (load_fault name (icudata_of self.old)) result }
+        ensures file { OnOk result (icudata_files self.new ≡ icudata_files self.old ++ (name, bundle) ∷ []) }
         ensures loaded { OnOk result (icudata_of self.new ≡ icudata_of self.old ++ (name, source_tree_of bundle) ∷ []) }
         ensures others { (app : List ℕ) → list_of app self.new ≡ list_of app self.old }
         ensures files { (app : List ℕ) → files_of app self.new ≡ files_of app self.old }
@@ -131,7 +134,8 @@ impl Packages {
 
     /// The bundles of an application, lent. It takes no memory.
     pub fn shelf(&self, app: &App) -> AppShelf<'_>
-        ensures { bundles_lent result ≡ bundle_at (list_of app.now self.now) }
+        ensures bundles { bundles_lent result ≡ bundle_at (list_of app.now self.now) }
+        ensures files { files_in result ≡ files_of app.now self.now }
     {
         AppShelf {
             bundles: self.owned.get(app),
@@ -140,7 +144,8 @@ impl Packages {
 
     /// The bundles of ICUDATA, lent. It takes no memory.
     pub fn icu_shelf(&self) -> AppShelf<'_>
-        ensures { bundles_lent result ≡ bundle_at (icudata_of self.now) }
+        ensures bundles { bundles_lent result ≡ bundle_at (icudata_of self.now) }
+        ensures files { files_in result ≡ icudata_files self.now }
     {
         AppShelf {
             bundles: Some(&self.icudata),

@@ -3,7 +3,7 @@ ghost use Rattle.std.specs.Prelude.{◌≡◌, option_map};
 ghost use Rattle.rb_parents.specs.Shelf.{bundle_of};
 ghost use Rattle.rb_packages.specs.Shelf.{bundle_at};
 ghost use Rattle.rb_packages.specs.Packages.{shelf_of};
-ghost use Rattle.rb_packages.specs.Lent.{bundles_lent};
+ghost use Rattle.rb_packages.specs.Lent.{files_in, bundles_lent, LendsRoot};
 ghost use Rattle.rb_views.specs.Seen.{tree_seen};
 
 use crate::bundles::Bundles;
@@ -22,7 +22,10 @@ impl<'a> Shelf<'a> for AppShelf<'a> {
 
     ghost bundles = { bundles_lent };
 
-    fn bundle(self, name: &Name) -> Option<(Item<'a>, bool)> {
+    fn bundle(self, name: &Name) -> Option<(Item<'a>, bool)>
+        ensures value { option_map (bundle_of tree_seen) result ≡ bundles_lent self.entry name.now }
+        ensures place { LendsRoot (files_in self.entry) name.now result }
+    {
         match self.bundles {
             Some(bundles) => bundle_in(bundles, name),
             None => None,
@@ -32,7 +35,8 @@ impl<'a> Shelf<'a> for AppShelf<'a> {
 
 /// The root of a name's bundle, and whether the bundle has no fallback.
 fn bundle_in<'a>(bundles: &'a Bundles, name: &Name) -> Option<(Item<'a>, bool)>
-    ensures { option_map (bundle_of tree_seen) result ≡ bundle_at (shelf_of bundles.now.entries) name.now }
+    ensures value { option_map (bundle_of tree_seen) result ≡ bundle_at (shelf_of bundles.now.entries) name.now }
+    ensures place { LendsRoot bundles.now.entries name.now result }
 {
     match bundles.get(name) {
         Some(bundle) => Some((root(bundle), bundle.no_fallback())),

@@ -1,8 +1,11 @@
 use Rattle.std.proofs.Common.{ap, sym, ◌∙◌, ◌++◌, ◌∷◌, []}
 use Rattle.rb_format.specs.File.{source_tree_of}
-use Rattle.rb_packages.specs.Packages.{shelf_of}
+use Rattle.rb_packages.specs.Packages.{shelf_of, icudata_files}
 use Rattle.rb_packages.proofs.Lists.{shelf_of-push, icudata_seen, on_ok}
 use Rattle.rb_packages.proofs.packages.Packages.load.Goals as goal
+
+pub returns-clause-file : goal.returns-clause-file
+returns-clause-file c = on_ok c.load.result (λ h. h ∙ ap (λ files. icudata_files files ++ (c.args.name, c.args.bundle) ∷ []) c.self.view_is) c.load.ensures.added
 
 pub returns-clause-loaded : goal.returns-clause-loaded
 returns-clause-loaded c =
