@@ -66,7 +66,8 @@ func (b *bridge) run() (served bool, end string) {
 		return false, err.Error()
 	}
 	ctx, cancel := context.WithCancel(context.Background())
-	l := &life{bridge: b, program: p, cancel: cancel, target: info.State.LastSeq, replied: make(chan reply, window), free: make(chan struct{}, window), began: time.Now()}
+	l := &life{bridge: b, program: p, cancel: cancel, target: info.State.LastSeq, began: time.Now()}
+	l.replied, l.free = make(chan reply, window), make(chan struct{}, window)
 	return l.live(ctx)
 }
 

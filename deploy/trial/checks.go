@@ -120,7 +120,8 @@ func plants(t *tally, nc *nats.Conn, our string, theirs *application) {
 		return
 	}
 	for shard := 0; shard < 4; shard++ {
-		for _, subject := range []string{subjects.Answer(shard, token), fmt.Sprintf("resb.change.%d.%s", shard, token), "$JS.API.STREAM.PURGE." + subjects.Changes(shard)} {
+		changes := fmt.Sprintf("resb.change.%d.%s", shard, token)
+		for _, subject := range []string{subjects.Answer(shard, token), changes, "$JS.API.STREAM.PURGE." + subjects.Changes(shard)} {
 			_ = nc.PublishRequest(subjects.Change(our), subject, []byte("planted"))
 			_ = nc.PublishRequest(subjects.Ask(our), subject, []byte(list(our)))
 		}

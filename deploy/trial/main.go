@@ -81,7 +81,7 @@ func (c *cluster) try(t *tally, measure, kills time.Duration) (err error) {
 	began := time.Now()
 	all(applications, (*application).load)
 	fmt.Printf("%d shards: %d bundles installed in %v\n", c.shards, apps*len(locales), time.Since(began).Round(time.Millisecond))
-	fmt.Printf("%d shards: %.0f lookups a second\n", c.shards, rate(applications, measure))
+	c.rate(applications, measure)
 	if kills == 0 {
 		return nil
 	}

@@ -1,6 +1,7 @@
 package main
 
 import (
+	"fmt"
 	"sync"
 	"sync/atomic"
 	"time"
@@ -24,18 +25,18 @@ func (a *application) expected() (lines, replies []string, err error) {
 	return lines, replies, nil
 }
 
-// rate measures the lookups in a second, each of whose replies is compared.
-func rate(applications []*application, duration time.Duration) float64 {
+// rate measures the lookups in a second and what they cost; each reply is compared.
+func (c *cluster) rate(applications []*application, duration time.Duration) {
 	var count int64
 	lines, replies := make(map[*application][]string), make(map[*application][]string)
 	for _, a := range applications {
 		var err error
 		if lines[a], replies[a], err = a.expected(); err != nil {
 			a.tally.fail("the reference of %s: %v", a.name, err)
-			return 0
+			return
 		}
 	}
-	began := time.Now()
+	began, before := time.Now(), c.spent()
 	end := began.Add(duration)
 	all(applications, func(a *application) {
 		var askers sync.WaitGroup
@@ -48,7 +49,8 @@ func rate(applications []*application, duration time.Duration) float64 {
 		}
 		askers.Wait()
 	})
-	return float64(count) / time.Since(began).Seconds()
+	fmt.Printf("%d shards: %.0f lookups a second; processor time of each: %s\n", c.shards, float64(count)/time.Since(began).Seconds(),
+		cost(before, c.spent(), int(count)))
 }
 
 // askUntil asks line after line, and tells how many were answered.

@@ -7,7 +7,8 @@ import (
 )
 
 var locales = []string{
-	"root", "de", "de_AT", "de_CH", "de_LI", "en", "en_AU", "en_GB", "en_US", "es", "es_MX", "fr", "fr_CA", "fr_CH", "it", "it_CH", "pt", "pt_BR", "zh", "zh_Hant_TW",
+	"root", "de", "de_AT", "de_CH", "de_LI", "en", "en_AU", "en_GB", "en_US", "es", "es_MX",
+	"fr", "fr_CA", "fr_CH", "it", "it_CH", "pt", "pt_BR", "zh", "zh_Hant_TW",
 }
 
 var paths = []string{"title", "menu/open", "menu/close", "menu", "count", "same", "list/1", "nothing"}
@@ -35,7 +36,9 @@ func text(app, locale string, version int) string {
 	if version%2 == 0 {
 		menu += fmt.Sprintf(`close{"close %s"}`, app)
 	}
-	return fmt.Sprintf(`%s{title{"%s %s %d"}menu{%s}count:int{%d}same:alias{"/LOCALE/title"}list{"a","b%d"}}`, locale, app, locale, version, menu, version, version)
+	title := fmt.Sprintf("%s %s %d", app, locale, version)
+	rest := `same:alias{"/LOCALE/title"}`
+	return fmt.Sprintf(`%s{title{"%s"}menu{%s}count:int{%d}%slist{"a","b%d"}}`, locale, title, menu, version, rest, version)
 }
 
 func install(app, locale string, version int) string {
