@@ -8,6 +8,7 @@ mod tests;
 use crate::command_line::commands;
 use clap::ArgMatches;
 use rb_commands::{check, compile, get, serve_input};
+use std::io::ErrorKind;
 use std::process::ExitCode;
 use std::random::RandomSource;
 use std::rt::{Env, Files};
@@ -54,6 +55,20 @@ fn run<R: Files + RandomSource + AllocGlobal + Input + Print + Eprint + Env>(
     }
 }
 
+/// Says on a line of standard error why no command was run: out of memory, an argument that isn't UTF-8, or a help that can't be
+/// written. The status is 1 where out of memory, and else 2.
+fn not_run<R: Eprint>(rt: &R, error: io::Error) -> ExitCode {
+    let (_, status) = match error.kind() {
+        ErrorKind::OutOfMemory => (eprintln!(rt; "Memory"), 1),
+        ErrorKind::InvalidData => (eprintln!(rt; "bad argument: it isn't UTF-8"), 2),
+        _ => (eprintln!(rt; "cannot write stdout"), 2),
+    };
+    ExitCode::from(status)
+}
+
 fn main(rt: HostRuntime) -> ExitCode {
-    run(&rt).unwrap_or(ExitCode::from(2))
+    match run(&rt) {
+        Ok(status) => status,
+        Err(error) => not_run(&rt, error),
+    }
 }
