@@ -1,4 +1,4 @@
--- A run of bytes that would end behind the data ends with them.
+-- A run of bytes that would end after the data ends with them.
 use Rattle.std.proofs.Common.{◌≡◌, false, ltb, ℕ, zero, suc, ◌-◌, ◌≤◌, List, [], length, take, drop, None, refl, arith}
 use Rattle.std.proofs.lemmas.List.{take_all, length-drop, drop_all}
 use Rattle.std.proofs.lemmas.Bool.{le-ltb}

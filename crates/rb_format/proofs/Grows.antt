@@ -249,7 +249,7 @@ unfolding read
 read_grow y y' body body' g zero item t e = absurd cc
 read_grow y y' body body' g (suc d) item t e = node_grow y y' body body' g _ _ (λ w s h. read_grow y y' body body' g d w s h) item t e
 
--- data that only get longer behind a top within them grow
+-- data that only get longer after a top within them grow
 pub grows_append : (y y' : Layout) (body more : List ℕ) → y'.indexes ≡ y.indexes → y'.keys_top ≡ y.keys_top → 1 + y.indexes ≤ y.keys_top → y.keys_top ≤ y.top
     → y.top ≤ y'.top → 4 * y.top ≤ length body → Grows y body y' (body ++ more)
 grows_append y y' body more e f p q r s = record {

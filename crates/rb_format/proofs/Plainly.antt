@@ -1,4 +1,4 @@
--- The reading with faults and the plain one agree on what an item stands for.
+-- The reading with faults and the plain one agree on what an item denotes.
 use Rattle.std.proofs.Common.{◌≡◌, ℕ, zero, suc, ◌+◌, ◌*◌, ◌≤◌, Bool, true, false, cond, ltb, leb, List}
 use Rattle.std.proofs.Common.{[], ◌∷◌, map, Result, Ok, Err, Option, Some, None, refl, sym, ap, ◌∙◌, arith}
 use Rattle.std.proofs.lemmas.Bool.Decides.{nat_tests}
@@ -134,7 +134,7 @@ kind_agree : (m : Option ItemKind) → ok_part (kind_or_fault m) ≡ m
 kind_agree None = refl
 kind_agree (Some k) = refl
 
--- the tree for which an item stands is the plain one
+-- the tree that an item denotes is the plain one
 pub read_agrees : (y : Layout) (body : List ℕ) (d item : ℕ) → ok_part (read y body d item) ≡ tree_at y body d item
 unfolding read node tree_at
 read_agrees y body zero item = refl

@@ -1,4 +1,4 @@
--- The tree for which an item stands, by cases on its type, and nothing where something doesn't hold (`uresdata.h`, the
+-- The tree that an item denotes, by cases on its type, and nothing where something doesn't hold (`uresdata.h`, the
 -- resource types of format version 1). No order of checks and no fault occurs here.
 use Rattle.std.specs.Prelude.{Bool, true, false, ℕ, zero, suc, ◌+◌, ◌*◌, ◌/◌, ◌==◌, ◌&&◌, nat_lt}
 use Rattle.std.specs.Prelude.{nat_le, if◌then◌else◌, List, [], ◌∷◌, take, drop, map, Option, Some, None, option_map}
@@ -54,7 +54,7 @@ abbrev pub units_at : Layout → List ℕ → ℕ → Option (List ℕ)
 units_at y body o = where_holds (nat_le (4 * o + 6 + 2 * word_at body o) (4 * y.top))
     (where_holds (half_at body (2 * o + 2 + word_at body o) == 0) (Some (values (half_at body) (2 * o + 2) (word_at body o))))
 
--- the value of the data at an offset, where child gives what an item in them stands for
+-- the value of the data at an offset, where child gives what an item in them denotes
 abbrev pub value_at : Layout → List ℕ → (ℕ → Option Resource) → ℕ → ItemKind → Option Resource
 value_at y body child o String = option_map string (units_at y body o)
 value_at y body child o Binary = where_holds (nat_le (4 * o + 4 + word_at body o) (4 * y.top)) (Some (binary (take (word_at body o) (drop (4 * o + 4) body))))
@@ -72,7 +72,7 @@ value_at y body child o Ints = where_holds (nat_le (o + 1 + word_at body o) y.to
 abbrev pub item_at : Layout → List ℕ → (ℕ → Option Resource) → ℕ → ItemKind → Option Resource
 item_at y body child o k = if has_data k o then where_holds (nat_le y.keys_top o && nat_lt o y.top) (value_at y body child o k) else Some (bare k o)
 
--- the tree of height at most d for which an item stands
+-- the tree of height at most d that an item denotes
 unfoldable pub tree_at : Layout → List ℕ → ℕ → ℕ → Option Resource
 tree_at y body zero item = None
 tree_at y body (suc d) item = kind_of item >>? item_at y body (λ w. tree_at y body d w) (offset_of item)

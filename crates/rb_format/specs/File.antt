@@ -1,4 +1,4 @@
--- What a file denotes: the tree for which its root item stands and its flag, where the header and the indexes are right (ICU's
+-- What a file denotes: the tree that its root item denotes and its flag, where the header and the indexes are right (ICU's
 -- `UDataInfo` and `uresdata.h`, format version 1.1 and later minor versions). The greatest height of a tree and the greatest
 -- length of a file are rules of this project.
 use Rattle.std.specs.Prelude.{◌≡◌, Bool, false, ℕ, ◌+◌, ◌/◌, ◌%◌, ◌==◌, ◌&&◌, not}
@@ -51,7 +51,7 @@ is_laid body = nat_le 24 (length body) && are_in_order body
 abbrev pub flagged : ℕ → Resource → SourceTree
 flagged bits t = record { tree = t; no_fallback = no_fallback bits }
 
--- what data denote in a file of a minor version: a tree of height at most h, for which the first word stands, a table's item, and
+-- what data denote in a file of a minor version: a tree of height at most h, that the first word denotes, a table's item, and
 -- a flag
 unfoldable pub source_of_data : ℕ → ℕ → List ℕ → Option SourceTree
 source_of_data h minor body =

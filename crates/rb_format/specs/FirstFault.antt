@@ -116,7 +116,7 @@ abbrev pub within : Layout → ItemKind → ℕ → Result Bool FileFault
 within y k o =
     if has_data k o then (if nat_lt o y.keys_top then Err Offset else (if nat_lt o y.top then Ok true else Err Offset)) else Ok false
 
--- the value of the data, where child gives what an item in it stands for
+-- the value of the data, where child gives what an item in it denotes
 unfoldable pub contents : Layout → List ℕ → (ℕ → Result Resource FileFault) → ℕ → ItemKind → Result Resource FileFault
 contents y body child o String = result_map string (units y body o)
 contents y body child o Binary = result_map binary (bytes y body o)
@@ -136,11 +136,11 @@ abbrev pub kind_or_fault : Option ItemKind → Result ItemKind FileFault
 kind_or_fault None = Err ItemType
 kind_or_fault (Some k) = Ok k
 
--- an item, where child gives what its children stand for
+-- an item, where child gives what its children denote
 unfoldable pub node : Layout → List ℕ → (ℕ → Result Resource FileFault) → ℕ → Result Resource FileFault
 node y body child item = kind_or_fault (kind_of item) >>= λ k. value y body child (offset_of item) k
 
--- the tree of height at most d for which an item stands, or the first fault
+-- the tree of height at most d that an item denotes, or the first fault
 unfoldable pub read : Layout → List ℕ → ℕ → ℕ → Result Resource FileFault
 read y body zero item = Err TooDeep
 read y body (suc d) item = node y body (λ w. read y body d w) item

@@ -49,7 +49,7 @@ impl Header {
     }
 }
 
-/// Whether the magic bytes stand there, and the data format is that of a resource bundle.
+/// Whether the magic bytes are there, and the data format is that of a resource bundle.
 fn has_magic(bytes: &[u8]) -> bool
     requires { 24 ≤ length bytes.now }
     ensures { result ≡ files.has_magic bytes.now }

@@ -26,7 +26,7 @@ pub fn at_most_one_tree()
     ensures { (bytes : List ℕ) (s r : SourceTree) → Denotes bytes s → Denotes bytes r → s ≡ r }
 {}
 
-/// An item that stands for a tree at one level stands for it at every level that is at least the tree's height, and for none at
+/// An item that denotes a tree at one level denotes it at every level that is at least the tree's height, and for none at
 /// a smaller one; there it is too deep.
 pub fn same_at_every_level()
     ensures tree { (y : Layout) (body : List ℕ) (d e item : ℕ) (t : Resource) → tree_at y body d item ≡ Some t

@@ -131,7 +131,7 @@ children_err y body child Int o d h e = absurd cc
 children_err y body child Array o d h e = ap (result_map array) (array_err y body child o _ d e)
 children_err y body child Ints o d h e = absurd cc
 
--- where the children stand, and that they are below the top
+-- where the children are, and that they are below the top
 pub record IsThere (y : Layout) (body : List ℕ) (k : ItemKind) (o : ℕ) (c : Children) : Type 0 where
   pub first : c.first ≡ first_child body k o
   pub count : c.count ≡ child_count body k o

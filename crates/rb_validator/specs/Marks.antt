@@ -81,7 +81,7 @@ pub record Follows (cells after : List ℕ) : Type 0 where
   pub stays : (n : ℕ) → slice_index cells n ≢ 0 → slice_index after n ≡ slice_index cells n
   pub closes : (n : ℕ) → slice_index cells n ≡ 0 → slice_index after n ≢ 255
 
--- each open pair is too deep at a level wherever Q holds at some level that is no higher: all that stands before it on the way
+-- each open pair is too deep at a level wherever Q holds at some level that is no higher: all that is before it on the way
 -- there has no other fault
 pub record Leads (y : Layout) (body cells : List ℕ) (Q : ℕ → Type 0) : Type 0 where
   pub at : (k : ItemKind) (o : ℕ) → has_children k ≡ true → mark_at cells k o ≡ 255 → (e : ℕ)

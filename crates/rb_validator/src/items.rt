@@ -15,7 +15,7 @@ use crate::runs::split;
 use crate::state::CheckState;
 use rb_format::{FileFault, ItemKind, Layout, item_kind, item_offset, word_at};
 
-/// The height of the tree for which an item stands, where that is at most `left`, or its first fault.
+/// The height of the tree that an item denotes, where that is at most `left`, or its first fault.
 #[cycle(check)]
 pub fn check_item(
     layout: &Layout,

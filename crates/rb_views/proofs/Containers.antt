@@ -1,4 +1,4 @@
--- Where the items of arrays and the entries of tables stand.
+-- Where the items of arrays and the entries of tables are.
 use Rattle.std.proofs.Common.{◌≡◌, ℕ, zero, suc, ◌+◌, ◌*◌, ◌<◌, ◌≤◌, ◌⊎◌, true, leb, List, [], ◌∷◌, Option, Some, refl, sym, ap, subst, ◌∙◌, arith, inl, inr}
 use Rattle.std.specs.Prelude.{unwrap_or}
 use Rattle.std.specs.Ordering.{is_lt, nat_cmp}
@@ -28,7 +28,7 @@ use Rattle.rb_views.proofs.TreeKinds.{kind_back, tree_kind, only_array, only_tab
 
 -- ---- arrays
 
--- the items of an array, place by place, where tree says for what a child stands
+-- the items of an array, place by place, where tree says what a child denotes
 trees_are : (child : ℕ → Option Resource) (tree : ℕ → Resource) → ((w : ℕ) (t : Resource) → child w ≡ Some t → tree w ≡ t)
     → (item : ℕ → ℕ) (i n : ℕ) (ts : Resources) → trees_at child item i n ≡ Some ts → values (λ j. tree (item j)) i n ≡ items ts
 trees_are child tree is item i zero ts e = ap items (some_eq no_trees ts e)
@@ -52,7 +52,7 @@ tree_there child item i (suc n) ts (suc k) e h =
     let s : i + suc k ≡ suc i + k = omega arith in
     (r.0, rw s r.1)
 
--- each child of a view stands for a tree
+-- each child of a view denotes a tree
 pub array_child : (body : List ℕ) (first count i : ℕ) → AllStand body first count → i < count → StandsFor body (word_at body (first + i))
 unfolding all_stand
 array_child body first count i h l =
@@ -129,7 +129,7 @@ less_is Greater e = absurd cc
 abbrev key_or : Layout → List ℕ → ℕ → List ℕ
 key_or y body o = unwrap_or (key y body o) []
 
--- a key that is there, above the last one, and the keys behind it
+-- a key that is there, above the last one, and the keys after it
 record NextKey (y : Layout) (body : List ℕ) (place : ℕ → ℕ) (last : List ℕ) (i n : ℕ) (ks : List (List ℕ)) : Type 0 where
   q : List ℕ
   others : List (List ℕ)

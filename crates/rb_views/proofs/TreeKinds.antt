@@ -1,4 +1,4 @@
--- The kind of the tree for which an item stands, and the parts of a tree by its kind.
+-- The kind of the tree that an item denotes, and the parts of a tree by its kind.
 use Rattle.std.proofs.Common.{◌≡◌, ℕ, ◌⊎◌, List, length, Option, Some, None, refl, sym, ap, ◌∙◌, inl, inr}
 use Rattle.std.specs.Map.{values_of}
 use Rattle.rb_tree.specs.declared.kind.Kind.{Kind}

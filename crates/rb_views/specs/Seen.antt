@@ -1,4 +1,4 @@
--- What the views are seen as: an item as the tree for which it stands, and each view of its contents as the list of them, which
+-- What the views are seen as: an item as the tree that it denotes, and each view of its contents as the list of them, which
 -- follow one another in the file (`uresdata.h`, format version 1); and the data of the file that each one reads.
 use Rattle.std.specs.Prelude.{◌≡◌, ℕ, ℤ, ◌+◌, List, Option, Some, IfSome, drop, slice_get}
 use Rattle.std.specs.Map.{keys_of}

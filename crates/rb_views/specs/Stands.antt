@@ -12,14 +12,14 @@ use Rattle.rb_format.specs.Geometry.{key_offset, keys_end}
 use Rattle.rb_format.specs.Denotation.{where_holds, trees_at, table_at, tree_at}
 use Rattle.rb_views.specs.Trees.{entry_at}
 
--- an item stands for a tree
+-- an item denotes a tree
 unfoldable pub stands_for : List ℕ → ℕ → Bool
 stands_for body item = is_some (tree_at (layout_of body) body 64 item)
 
 abbrev pub StandsFor : List ℕ → ℕ → Type 0
 StandsFor body item = IsTrue (stands_for body item)
 
--- each of the items from a word on stands for a tree, one level lower
+-- each of the items from a word on denotes a tree, one level lower
 unfoldable pub all_stand : List ℕ → ℕ → ℕ → Bool
 all_stand body first count =
     is_some (where_holds (nat_le (first + count) (layout_of body).top)
@@ -35,7 +35,7 @@ table_stands body p = is_some (table_at (layout_of body) body (λ w. tree_at (la
 abbrev pub TableStands : List ℕ → TableParts → Type 0
 TableStands body p = IsTrue (table_stands body p)
 
--- the kind of tree for which an item of a kind stands
+-- the kind of tree that an item of a kind denotes
 abbrev pub kind_named : ItemKind → Kind
 kind_named String = named.String
 kind_named Binary = named.Binary

@@ -14,7 +14,7 @@ use Rattle.rb_format.specs.Denotation.{tree_at}
 abbrev pub data_of : List ℕ → List ℕ
 data_of bytes = drop (half_at bytes 0) bytes
 
--- the tree of at most 64 levels for which an item stands
+-- the tree of at most 64 levels that an item denotes
 unfoldable pub item_tree : List ℕ → ℕ → Resource
 item_tree body item = unwrap_or (tree_at (layout_of body) body 64 item) (int 0)
 

@@ -18,7 +18,7 @@ use rb_format::{
 };
 use rb_tree::Kind;
 
-/// An item of a bundle: a resource of `uresdata.h`. It is seen as the tree for which it stands, holds a slice of the file and one word, and
+/// An item of a bundle: a resource of `uresdata.h`. It is seen as the tree that it denotes, holds a slice of the file and one word, and
 /// lends all that it gives from the file.
 #[derive(Clone, Copy)]
 pub struct Item<'a> {
@@ -36,7 +36,7 @@ fn part(body: &[u8], first: usize, count: usize) -> &[u8]
     &body[first..first + count]
 }
 
-/// The kind of tree for which an item of this kind stands.
+/// The kind of tree that an item of this kind denotes.
 fn kind_named(kind: ItemKind) -> Kind
     ensures { result ≡ kind_named kind }
 {

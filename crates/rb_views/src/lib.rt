@@ -1,4 +1,4 @@
-//! Borrowed views of a bundle: its items, each seen as the tree for which it stands. No call takes memory.
+//! Borrowed views of a bundle: its items, each seen as the tree that it denotes. No call takes memory.
 #![tactic(auto)]
 
 mod array;

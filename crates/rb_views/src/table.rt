@@ -56,7 +56,7 @@ impl<'a> Table<'a> {
         }
     }
 
-    /// The item with a key, by halving over the key offsets, which stand in the order of their keys; None where the table has no such key.
+    /// The item with a key, by halving over the key offsets, which are in the order of their keys; None where the table has no such key.
     pub fn get(self, key: &[u8]) -> Option<Item<'a>>
         ensures tree { option_map tree_seen result ≡ lookup (pointwise nat_eq key.now) (entries_seen self.entry) }
         ensures place { IfSome result (λ item. IsItemWith self.entry key.now item) }

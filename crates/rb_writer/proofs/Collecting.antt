@@ -74,7 +74,7 @@ mutual
   members_weight_most no_entries = omega arith
   members_weight_most (entry_and k t es) = omega (arith, most_weight t, members_weight_most es)
 
--- a table leaves four bytes for the padding behind the keys
+-- a table leaves four bytes for the padding after the keys
 pub table_weight : (es : Members) → data_most (table es) + keys_most (table es) + 4 ≤ weight (table es)
 table_weight es = omega (arith, members_weight_most es)
 

@@ -1,4 +1,4 @@
--- Arrays and tables stand behind their children.
+-- Arrays and tables are after their children.
 use Rattle.rb_writer.specs.declared.area.KeyArea.{KeyArea}
 use Rattle.std.proofs.Common.{◌≡◌, ℕ, zero, suc, ◌+◌, ◌*◌, ◌/◌, ◌%◌, ◌^◌, ◌<◌, ◌≤◌, false, ltb, List}
 use Rattle.std.proofs.Common.{[], ◌∷◌, length, get_or, Some, Result, Ok, refl, sym, ◌∙◌, arith, inl, inr}
@@ -119,7 +119,7 @@ long_contents : (y : Layout) (body : List ℕ) (child : ℕ → Result Resource 
 unfolding contents
 long_contents y body child o = refl
 
--- a child that was written stands in what grew from it, at each level that is enough
+-- a child that was written is in what grew from it, at each level that is enough
 child_later : (area : KeyArea) (old mid new : List ℕ) (cs : List Resource) (is : List ℕ) (n d j : ℕ) (u : Resource) → ChildrenStand area old mid cs is n
     → Adds mid new → n ≡ length cs → Some u ≡ slice_get cs j → height u ≤ d → read (draft area new) new d (get_or is j 0) ≡ Ok u
 child_later area old mid new cs is n d j u s a e f low =
@@ -322,7 +322,7 @@ empty_table_stands area old mid is n item es t eq s e none ki oi =
           (put_node area old mid _ _ es no_entries 0 item kinds.Table table _ put ki oi (λ q. refl) (short_contents _ _ _ 0) refl);
     })
 
--- ---- room behind the children
+-- ---- room after the children
 
 pub array_room : (area : KeyArea) (old mid : List ℕ) (is : List ℕ) (n most : ℕ) (ts : Resources) (t : Tree) → t ≡ trees.Array ts
     → ChildrenStand area old mid (items ts) is n → n ≡ length (items ts) → length old + data_most (view_of t) ≤ most → length mid + (4 + 4 * length is) ≤ most

@@ -40,7 +40,7 @@ grows_draft area a b d h = let w = d.whole in let lo = d.low in let hi = d.high 
   same = λ i p q. h.same i (omega arith);
 }
 
--- keys stay where they stand
+-- keys stay where they are
 pub keys_stay : (area : KeyArea) (a b : List ℕ) (keys : KeyPlaces) → IsDraft area a → Adds a b → KeysStand area a keys → KeysStand area b keys
 keys_stay area a b keys d h s = λ k o e. key_same (draft area a) (draft area b) a b (grows_draft area a b d h) o ∙ s k o e
 

@@ -1,4 +1,4 @@
--- A key that was written is read where it stands.
+-- A key that was written is read where it is.
 use Rattle.rb_writer.specs.declared.area.KeyArea.{KeyArea}
 use Rattle.std.proofs.Common.{◌≡◌, ℕ, suc, ◌+◌, ◌-◌, ◌*◌, ◌<◌, ◌≤◌, Bool, true, false, cond, ltb, List, [], ◌∷◌, ◌++◌}
 use Rattle.std.proofs.Common.{length, get_or, take, drop, Option, Some, refl, sym, ap, ◌∙◌, arith, position, subst, inl, inr, ◌⊎◌}
@@ -26,7 +26,7 @@ ok_key k h = (key_is k).1 h
 not_nul : (x : ℕ) → IsPlain x → (x == 0) ≡ false
 not_nul x h = let a = h.0 in grind (arith, nat_tests)
 
--- the first NUL of a run stands behind the key
+-- the first NUL of a run is after the key
 nul_at : (k run : List ℕ) → All IsPlain k → take (length k) run ≡ k → length k < length run → get_or run (length k) 0 ≡ 0
     → position_or_len (λ b. b == 0) run ≡ length k
 nul_at k [] h t l e = absurd (omega arith)
@@ -62,7 +62,7 @@ key_reads area body k o p e =
     ∙ get_or-drop o body (length k) 0 ∙ p.ended in
     rw (a, b) (key_front_is k (take (4 * area.top - o) (drop o body)) p.is_key front (omega arith) end)
 
--- a key stays where it stands
+-- a key stays where it is
 pub key_at_stays : (start : ℕ) (a b k : List ℕ) (o : ℕ) → Adds a b → KeyAt start a k o → KeyAt start b k o
 key_at_stays start a b k o h p =
     let l = h.longer in let ins = p.inside in

@@ -1,4 +1,4 @@
--- What is put behind data stands there, and what was there stays.
+-- What is put after data is there, and what was there stays.
 use Rattle.std.proofs.Common.{◌≡◌, ℕ, zero, suc, ◌+◌, ◌*◌, ◌^◌, ◌<◌, ◌≤◌, ℤ, List, [], ◌∷◌, ◌++◌, length, get_or, drop, refl, sym, ap, ◌∙◌, arith, inl, inr}
 use Rattle.std.proofs.lemmas.List.{get_or_append_left, length-append, get_or-drop, append-nil}
 use Rattle.std.proofs.lemmas.Bool.{cases_eq}

@@ -1,4 +1,4 @@
--- Values without children stand where they were written.
+-- Values without children are where they were written.
 use Rattle.rb_writer.specs.declared.area.KeyArea.{KeyArea}
 use Rattle.std.proofs.Common.{◌≡◌, ℕ, suc, ◌+◌, ◌*◌, ◌/◌, ◌%◌, ◌^◌, ◌<◌, ◌≤◌, ℤ, false, ltb, List, []}
 use Rattle.std.proofs.Common.{◌∷◌, length, get_or, take, drop, map, Result, refl, sym, ap, ◌∙◌, arith, inl, inr}

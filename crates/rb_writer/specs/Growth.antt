@@ -12,13 +12,13 @@ pub record Adds (old new : List ℕ) : Type 0 where
   pub longer : length old ≤ length new
   pub same : (i : ℕ) → i < length old → get_or new i 0 ≡ get_or old i 0
 
--- a word was put behind data of whole words
+-- a word was put after data of whole words
 pub record PutsWord (old new : List ℕ) (word : ℕ) : Type 0 where
   pub adds : Adds old new
   pub len : length new ≡ length old + 4
   pub word_is : (i : ℕ) → length old ≡ 4 * i → word_at new i ≡ word
 
--- the first n words of a list were put behind data of whole words
+-- the first n words of a list were put after data of whole words
 pub record PutsWords (old new words : List ℕ) (n : ℕ) : Type 0 where
   pub adds : Adds old new
   pub len : length new ≡ length old + 4 * n
@@ -30,7 +30,7 @@ pub record PutsNumbers (old new : List ℕ) (numbers : List ℤ) (n : ℕ) : Typ
   pub len : length new ≡ length old + 4 * n
   pub numbers_are : (i j : ℕ) (d : ℤ) → length old ≡ 4 * i → j < n → cast_signed w32 (word_at new (i + j)) ≡ get_or numbers j d
 
--- a half word was put behind data of whole half words
+-- a half word was put after data of whole half words
 pub record PutsHalf (old new : List ℕ) (half : ℕ) : Type 0 where
   pub adds : Adds old new
   pub len : length new ≡ length old + 2
@@ -42,13 +42,13 @@ pub record PutsHalves (old new halves : List ℕ) (n : ℕ) : Type 0 where
   pub len : length new ≡ length old + 2 * n
   pub halves_are : (i j : ℕ) → length old ≡ 2 * i → j < n → half_at new (i + j) ≡ get_or halves j 0
 
--- bytes were put behind data
+-- bytes were put after data
 pub record PutsBytes (old new : List ℕ) (bytes : List ℕ) : Type 0 where
   pub adds : Adds old new
   pub len : length new ≡ length old + length bytes
   pub bytes_are : drop (length old) new ≡ bytes
 
--- the bounds of data that are being written: all that stands there so far
+-- the bounds of data that are being written: all that is there so far
 abbrev pub draft : KeyArea → List ℕ → Layout
 draft area body = record { indexes = area.indexes; keys_top = area.top; top = length body / 4 }
 

@@ -6,7 +6,7 @@ use Rattle.rb_writer.specs.Keyed.{stored}
 use Rattle.rb_tree.specs.Keys.{IsKey}
 use Rattle.rb_writer.specs.Collected.{keys_size}
 
--- a key stands at an offset from `start` on, with a NUL after it
+-- a key is at an offset from `start` on, with a NUL after it
 pub record KeyAt (start : ℕ) (body k : List ℕ) (o : ℕ) : Type 0 where
   pub low : start ≤ o
   pub inside : o + length k < length body

@@ -33,7 +33,7 @@ pub record ChildrenStand (area : KeyArea) (old new : List ℕ) (cs : List Resour
   pub count : length items ≡ n
   pub reads : (j : ℕ) (u : Resource) → j < n → Some u ≡ slice_get cs j → read (draft area new) new (height u) (get_or items j 0) ≡ Ok u
 
--- each key that has a place stands there
+-- each key that has a place is there
 abbrev pub KeysStand : KeyArea → List ℕ → KeyPlaces → Type 0
 KeysStand area body keys = (k : List ℕ) (o : ℕ) → place keys k ≡ Some o → key (draft area body) body o ≡ Some k
 
@@ -46,7 +46,7 @@ pub record PlacesAre (keys : KeyPlaces) (ks : List (List ℕ)) (offsets : List �
   pub count : length offsets ≡ n
   pub are : (j : ℕ) (k : List ℕ) → j < n → Some k ≡ slice_get ks j → place keys k ≡ Some (get_or offsets j 0)
 
--- ---- what is written behind the children
+-- ---- what is written after the children
 
 -- an array's count and items; nothing where it is empty
 pub record PutsArray (old new items : List ℕ) (offset : ℕ) : Type 0 where

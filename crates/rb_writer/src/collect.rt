@@ -8,7 +8,7 @@ ghost use Rattle.rb_writer.specs.Longest.{longest};
 use rb_tree::Tree;
 use std::alloc::{AllocError, Global};
 
-/// The keys of a tree in ascending order, each as often as it stands there.
+/// The keys of a tree in ascending order, each as often as it occurs.
 #[tactic(auto, using(crate::proofs::Gathered::gathers))]
 pub fn sorted_keys(alloc: Global, tree: &Tree) -> Result<Vec<&[u8]>, AllocError>
     ensures { IfOk result (λ keys. GathersKeys (view_of tree.now) keys.items) }

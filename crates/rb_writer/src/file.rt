@@ -83,7 +83,7 @@ fn finish(out: Data, root: u32, area: KeyArea, longest: u32, no_fallback: bool) 
 
 /// The file of a tree that `fits`, as a bundle with fallback or without. The only error is that memory runs out.
 ///
-/// Each distinct key stands once, in ascending order, and the values follow in post-order; nothing else is shared. A table has
+/// Each distinct key is there once, in ascending order, and the values follow in post-order; nothing else is shared. A table has
 /// short key offsets where its count and all its offsets are at most 65,535. All padding is 0xAA.
 pub fn write(alloc: Global, tree: &Tree, no_fallback: bool) -> Result<Vec<u8>, AllocError>
     requires { Fits (view_of tree.now) }

@@ -5,7 +5,7 @@ ghost use Rattle.rb_writer.specs.Growth.{Adds, PutsWord, PutsHalf, PutsBytes, Pu
 use crate::data::Data;
 use std::alloc::AllocError;
 
-/// What stands between values.
+/// What is between values.
 pub const PADDING: u8 = 0xAA;
 
 /// Puts a word after the data.

@@ -1,17 +1,20 @@
 // The sample files, damaged ones, and files that a plain checker judges beside the code.
 mod plain;
-mod samples;
+mod seen;
 mod shared;
 
-use plain::plain_fault;
+use crate::samples::{
+    AS_WRITTEN, EMPTY, EVERY_TYPE, HOLDS_ITSELF, ONE_STRING, ONE_STRING_WITHOUT_FALLBACK,
+    SUFFIX_KEY, THREE_NUMBERS, TWO_BINARIES, TWO_NUMBERS,
+};
+use plain::{most_places, plain_fault};
 use rb_format::FileFault;
 use rb_validator::accept;
-use samples::{
-    EMPTY, EVERY_TYPE, HOLDS_ITSELF, NO_FALLBACK, ONE_STRING, THREE_NUMBERS, TWO_BINARIES,
-    TWO_NUMBERS,
-};
+use rb_views::root;
+use seen::is_seen;
 use shared::{chain, chain_and_more, numbers, overlapping, suffixes};
 use std::alloc::Global;
+use std::process::Abort;
 use std::test::Fail;
 
 /// The fault for which `accept` refuses a file, after a look at the bytes that it hands on.
@@ -97,13 +100,33 @@ fn minor_versions_have_attributes(rt: HostRuntime) -> Result<(), Fail> {
         (&ONE_STRING[..], 17, 1, Ok(false)),
         (&ONE_STRING[..], 17, 2, Ok(false)),
         (&ONE_STRING[..], 17, 3, Ok(false)),
-        (&NO_FALLBACK[..], 17, 1, Ok(false)),
-        (&NO_FALLBACK[..], 17, 2, Ok(true)),
-        (&NO_FALLBACK[..], 56, 8, Ok(false)),
-        (&NO_FALLBACK[..], 56, 2, Err(FileFault::Attributes)),
-        (&NO_FALLBACK[..], 56, 3, Err(FileFault::Attributes)),
-        (&NO_FALLBACK[..], 56, 4, Err(FileFault::Attributes)),
-        (&NO_FALLBACK[..], 56, 5, Err(FileFault::Attributes)),
+        (&ONE_STRING_WITHOUT_FALLBACK[..], 17, 1, Ok(false)),
+        (&ONE_STRING_WITHOUT_FALLBACK[..], 17, 2, Ok(true)),
+        (&ONE_STRING_WITHOUT_FALLBACK[..], 56, 8, Ok(false)),
+        (
+            &ONE_STRING_WITHOUT_FALLBACK[..],
+            56,
+            2,
+            Err(FileFault::Attributes),
+        ),
+        (
+            &ONE_STRING_WITHOUT_FALLBACK[..],
+            56,
+            3,
+            Err(FileFault::Attributes),
+        ),
+        (
+            &ONE_STRING_WITHOUT_FALLBACK[..],
+            56,
+            4,
+            Err(FileFault::Attributes),
+        ),
+        (
+            &ONE_STRING_WITHOUT_FALLBACK[..],
+            56,
+            5,
+            Err(FileFault::Attributes),
+        ),
     ] {
         let file = with(alloc, sample, place, &[byte])?;
         assert_eq!(rt; no_fallback_of(alloc, file), flag, "byte {place} as {byte}");
@@ -134,15 +157,31 @@ fn cut_files_are_refused(rt: HostRuntime) -> Result<(), Fail> {
         } else {
             FileFault::Indexes
         };
-        let cut = &ONE_STRING[..n];
-        assert_eq!(rt; fault_of(alloc, cut)?, Some(fault), "cut to {n}");
-        assert_eq!(rt; plain_fault(cut), Some(fault), "cut to {n}");
+        assert_eq!(rt;
+            fault_of(alloc, &ONE_STRING[..n])?,
+            Some(fault),
+            "cut to {n}"
+        );
     }
     Ok(())
 }
 
-/// The first damage of a word of a file, by its place and what is written there, that `accept` and the plain checker judge
-/// differently.
+/// Whether `accept` judges a file as the plain checker does. Of a file that it takes, the views must give what the plain checker reads,
+/// and there are at most three visits for each word of the bundle.
+fn agrees(alloc: Global, file: &[u8]) -> Result<bool, Fail> {
+    let fault = plain_fault(file);
+    Ok(match accept(alloc, file.to_vec(alloc)?) {
+        Ok(bundle) => {
+            fault.is_none()
+                && bundle.bytes() == file
+                && bundle.visits() <= most_places(file)
+                && is_seen(file, root(&bundle))
+        }
+        Err((found, back)) => fault == Some(found) && back.as_slice() == file,
+    })
+}
+
+/// The first damage of a word of a file, by its place and what is written there, that isn't judged as the plain checker does.
 fn first_difference(alloc: Global, file: &[u8]) -> Result<Option<(usize, u32)>, Fail> {
     for i in 0..file.len() / 4 {
         let mut bytes = [0; 4];
@@ -150,8 +189,7 @@ fn first_difference(alloc: Global, file: &[u8]) -> Result<Option<(usize, u32)>, 
         let word = u32::from_le_bytes(bytes);
         let (next, other_kind) = (word.wrapping_add(1), word.wrapping_add(0x1000_0000));
         for word in [0, 0x7FFF_FFFF, 0xFFFF_FFFF, next, other_kind] {
-            let damaged = with(alloc, file, 4 * i, &word.to_le_bytes())?;
-            if fault_of(alloc, &damaged)? != plain_fault(&damaged) {
+            if !agrees(alloc, &with(alloc, file, 4 * i, &word.to_le_bytes())?)? {
                 return Ok(Some((i, word)));
             }
         }
@@ -159,13 +197,51 @@ fn first_difference(alloc: Global, file: &[u8]) -> Result<Option<(usize, u32)>, 
     Ok(None)
 }
 
+/// The shortest front of a file that isn't judged as the plain checker does.
+fn first_cut(alloc: Global, file: &[u8]) -> Result<Option<usize>, Fail> {
+    for n in 0..file.len() {
+        if !agrees(alloc, &file[..n])? {
+            return Ok(Some(n));
+        }
+    }
+    Ok(None)
+}
+
+/// What is found of a file, of its damaged words and of its fronts.
+fn judge(rt: &impl Abort, alloc: Global, file: &[u8]) -> Result<(), Fail> {
+    assert!(rt; agrees(alloc, file)?, "{file:?}");
+    assert_eq!(rt; first_difference(alloc, file)?, None, "{file:?}");
+    assert_eq!(rt; first_cut(alloc, file)?, None, "{file:?}");
+    Ok(())
+}
+
 #[test]
 fn a_plain_checker_agrees(rt: HostRuntime) -> Result<(), Fail> {
     let alloc = rt.alloc();
-    for file in [&EVERY_TYPE[..], &ONE_STRING[..], &NO_FALLBACK[..]] {
-        assert_eq!(rt; first_difference(alloc, file)?, None, "{file:?}");
+    for file in [
+        &EMPTY[..],
+        &ONE_STRING[..],
+        &ONE_STRING_WITHOUT_FALLBACK[..],
+        &THREE_NUMBERS[..],
+        &TWO_BINARIES[..],
+        &SUFFIX_KEY[..],
+        &HOLDS_ITSELF[..],
+        &EVERY_TYPE[..],
+        &AS_WRITTEN[..],
+    ] {
+        judge(&rt, alloc, file)?;
     }
     Ok(())
+}
+
+#[test]
+fn a_plain_checker_agrees_on_shared_items(rt: HostRuntime) -> Result<(), Fail> {
+    let alloc = rt.alloc();
+    judge(&rt, alloc, &chain(alloc, 5)?)?;
+    judge(&rt, alloc, &chain_and_more(alloc, 4)?)?;
+    judge(&rt, alloc, &overlapping(alloc, 4, 2)?)?;
+    judge(&rt, alloc, &suffixes(alloc, 12, 24)?)?;
+    judge(&rt, alloc, &numbers(alloc, 6)?)
 }
 
 #[test]

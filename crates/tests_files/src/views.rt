@@ -1,13 +1,11 @@
 // Views of sample files, and of a long table.
 ghost use Rattle.std.specs.Prelude.{◌≤◌};
 
-mod samples;
-
+use crate::samples::{EVERY_TYPE, SUFFIX_KEY};
 use crate::writer::{file, numbered, numbered_key};
 use rb_tree::{Ending, Node, path_ok, walk};
 use rb_validator::{Bundle, accept};
 use rb_views::{Array, Ints, Item, Table, Units, root};
-use samples::{EVERY_TYPE, SUFFIX_KEY};
 use std::alloc::Global;
 use std::process::Abort;
 use std::test::Fail;

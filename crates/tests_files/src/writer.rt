@@ -3,15 +3,13 @@ ghost use Rattle.std.specs.Prelude.{All};
 ghost use Rattle.rb_tree.specs.Keys.{IsKey};
 ghost use Rattle.rb_tree.specs.Table.{keys_in};
 
-mod samples;
-
+use crate::samples::{
+    AS_WRITTEN, EMPTY, EMPTY_WITHOUT_FALLBACK, ONE_STRING, ONE_STRING_WITHOUT_FALLBACK,
+    THREE_NUMBERS, TWO_BINARIES, TWO_NUMBERS,
+};
 use rb_format::word;
 use rb_tree::{ByteList, Int28, NumberList, Tree, TreeList, UnitList, key_ok};
 use rb_writer::write;
-use samples::{
-    EMPTY, EMPTY_WITHOUT_FALLBACK, EVERY_TYPE, ONE_STRING, ONE_STRING_WITHOUT_FALLBACK,
-    THREE_NUMBERS, TWO_BINARIES, TWO_NUMBERS,
-};
 use std::alloc::Global;
 use std::test::Fail;
 
@@ -182,7 +180,7 @@ fn samples_are_written(rt: HostRuntime) -> Result<(), Fail> {
 #[test]
 fn every_type_is_laid_out(rt: HostRuntime) -> Result<(), Fail> {
     let alloc = rt.alloc();
-    assert!(rt; is_written(alloc, &every_type(alloc)?, false, &EVERY_TYPE)?);
+    assert!(rt; is_written(alloc, &every_type(alloc)?, false, &AS_WRITTEN)?);
     Ok(())
 }
 

@@ -5,14 +5,34 @@ use rb_format::FileFault;
 
 /// The data after the header, and its bounds in words.
 #[derive(Clone, Copy)]
-struct Data<'a> {
-    bytes: &'a [u8],
-    indexes: u32,
-    keys_top: u32,
-    top: u32,
+pub struct Data<'a> {
+    pub bytes: &'a [u8],
+    pub indexes: u32,
+    pub keys_top: u32,
+    pub top: u32,
 }
 
-fn byte(bytes: &[u8], at: u64) -> u64
+/// The data after a header of so many bytes; the whole file where it is shorter.
+pub fn data_after(file: &[u8], size: u64) -> Data<'_> {
+    let bytes = if size <= file.len() as u64 {
+        &file[size as usize..]
+    } else {
+        file
+    };
+    Data {
+        bytes,
+        indexes: word(bytes, 4) as u32,
+        keys_top: word(bytes, 8) as u32,
+        top: word(bytes, 16) as u32,
+    }
+}
+
+/// Three for each word below the top of the bundle.
+pub fn most_places(file: &[u8]) -> u64 {
+    3 * data_after(file, half(file, 0)).top as u64
+}
+
+pub fn byte(bytes: &[u8], at: u64) -> u64
     requires { at < 2 ^ 48 }
     ensures { result < 2 ^ 8 }
 {
@@ -22,14 +42,14 @@ fn byte(bytes: &[u8], at: u64) -> u64
     }
 }
 
-fn half(bytes: &[u8], at: u64) -> u64
+pub fn half(bytes: &[u8], at: u64) -> u64
     requires { at < 2 ^ 47 }
     ensures { result < 2 ^ 16 }
 {
     byte(bytes, at) + 256 * byte(bytes, at + 1)
 }
 
-fn word(bytes: &[u8], at: u64) -> u64
+pub fn word(bytes: &[u8], at: u64) -> u64
     requires { at < 2 ^ 46 }
     ensures { result < 2 ^ 32 }
 {
@@ -61,18 +81,13 @@ pub fn plain_fault(file: &[u8]) -> Option<FileFault> {
     if half(file, 4) < 20 || half(file, 4) > size - 4 {
         return Some(FileFault::Header);
     }
-    data_fault(byte(file, 17), &file[size as usize..])
+    data_fault(byte(file, 17), data_after(file, size))
 }
 
 /// The first fault of the data of a file of a minor version.
-fn data_fault(minor: u64, bytes: &[u8]) -> Option<FileFault> {
+fn data_fault(minor: u64, data: Data<'_>) -> Option<FileFault> {
+    let bytes = data.bytes;
     let words = bytes.len() as u64 / 4;
-    let data = Data {
-        bytes,
-        indexes: word(bytes, 4) as u32,
-        keys_top: word(bytes, 8) as u32,
-        top: word(bytes, 16) as u32,
-    };
     let resources_top = word(bytes, 12) as u32;
     let in_order = data.indexes < data.keys_top
         && data.keys_top <= resources_top

@@ -1,7 +1,7 @@
 // Large files and files that share items, made word by word.
 ghost use Rattle.std.specs.Prelude.{◌<◌, ◌^◌};
 
-use super::samples::EMPTY;
+use crate::samples::EMPTY;
 use std::alloc::Global;
 use std::test::Fail;
 
