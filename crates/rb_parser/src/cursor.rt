@@ -70,8 +70,8 @@ impl Cursor {
         token
     }
 
-    /// Gives back the memory of the tokens that were taken, each time that it is a quarter of the list's: so that the
-    /// list shrinks while the tree grows, and each token is moved three times at most on average.
+    /// Gives back the memory of the tokens that were taken, each time that it is a quarter of the list's: so the list
+    /// shrinks while the tree grows, and a token is moved some three times on average.
     fn release(&mut self)
         ensures same_end { self.new.end ≡ self.old.end }
         ensures rest { self.new.rest.items ≡ self.old.rest.items }

@@ -5,7 +5,7 @@ use rb_tree::{Ending, Kind, Node, Tree, path_ok, walk};
 use std::alloc::{AllocError, Global};
 use std::test::Fail;
 
-/// What is at a path.
+/// What stands at a path.
 fn at<'a>(source: &'a Source, path: &[u8]) -> Option<&'a Tree> {
     if !path_ok(path) {
         return None;
@@ -16,16 +16,13 @@ fn at<'a>(source: &'a Source, path: &[u8]) -> Option<&'a Tree> {
     }
 }
 
-/// The kind and the length of what is at a path.
-fn shape_at(source: &Source, path: &[u8]) -> Option<(Kind, usize)> {
-    let tree = at(source, path)?;
-    Some((tree.kind(), tree.len()))
-}
-
-/// The same of a bundle text.
+/// The kind and the length of what stands at a path of a bundle text.
 fn shape(alloc: Global, text: &[u8], path: &[u8]) -> Result<Option<(Kind, usize)>, SourceFault> {
     let source = parse(alloc, text)?;
-    Ok(shape_at(&source, path))
+    Ok(match at(&source, path) {
+        Some(tree) => Some((tree.kind(), tree.len())),
+        None => None,
+    })
 }
 
 /// The front, so many times the middle, and so many times a closing brace.
