@@ -63,6 +63,13 @@ impl<R: Read> ReadFeed<R> {
     {
         ReadFeed { inner, failed: 0 }
     }
+
+    /// The reader.
+    pub fn get_ref(&self) -> &R
+        ensures { ⟦<ReadFeed<R> as Feed>⟧.left self.now ≡ R.remaining result.now }
+    {
+        &self.inner
+    }
 }
 
 impl<R: Read> Feed for ReadFeed<R> {
