@@ -27,7 +27,7 @@ pub trait Feed {
 
 /// What takes bytes.
 pub trait Sink {
-    ghost use Rattle.rb_requests.specs.Device.{counted};
+    ghost use Rattle.rb_requests.specs.Device.{counted, settles};
 
     /// The bytes that were written, where they are known.
     ghost written: { Self → Option (List ℕ) };
@@ -35,17 +35,22 @@ pub trait Sink {
     /// How many calls have failed, up to the largest `u64`.
     ghost faults: { Self → ℕ };
 
+    /// How many calls of `settle` have succeeded, up to the largest `u64`.
+    ghost settled: { Self → ℕ };
+
     /// Takes bytes from the front, at least one if there is one, and says how many.
     fn put(&mut self, bytes: &[u8]) -> Result<usize, Failed>
         ensures most { IfOk result (λ n. n ≤ length bytes.now) }
         ensures some { 0 < length bytes.now → IfOk result (λ n. 0 < n) }
         ensures bytes { WriteAppends (written self.old) (written self.new) result bytes.now }
-        ensures count { faults self.new ≡ counted (faults self.old) result };
+        ensures count { faults self.new ≡ counted (faults self.old) result }
+        ensures settled { settled self.new ≡ settled self.old };
 
     /// Hands on what was taken.
     fn settle(&mut self) -> Result<(), Failed>
         ensures bytes { Keeps (written self.old) (written self.new) }
-        ensures count { faults self.new ≡ counted (faults self.old) result };
+        ensures count { faults self.new ≡ counted (faults self.old) result }
+        ensures settled { settled self.new ≡ settles (settled self.old) result };
 }
 
 /// A reader as a feed.
@@ -95,15 +100,21 @@ impl<R: Read> Feed for ReadFeed<R> {
 pub struct WriteSink<W: Write> {
     inner: W,
     failed: u64,
+    settled: u64,
 }
 
 impl<W: Write> WriteSink<W> {
-    /// A sink over what a writer holds. No call has failed.
+    /// A sink over what a writer holds. No call has failed, and none has settled.
     pub fn new(inner: W) -> Self
         ensures written { ⟦<WriteSink<W> as Sink>⟧.written result ≡ W.contents inner }
         ensures faults { ⟦<WriteSink<W> as Sink>⟧.faults result ≡ 0 }
+        ensures settled { ⟦<WriteSink<W> as Sink>⟧.settled result ≡ 0 }
     {
-        WriteSink { inner, failed: 0 }
+        WriteSink {
+            inner,
+            failed: 0,
+            settled: 0,
+        }
     }
 }
 
@@ -111,6 +122,8 @@ impl<W: Write> Sink for WriteSink<W> {
     ghost written = { λ s. W.contents s.inner };
 
     ghost faults = { λ s. s.failed };
+
+    ghost settled = { λ s. s.settled };
 
     fn put(&mut self, bytes: &[u8]) -> Result<usize, Failed> {
         match self.inner.write(bytes) {
@@ -128,7 +141,10 @@ impl<W: Write> Sink for WriteSink<W> {
 
     fn settle(&mut self) -> Result<(), Failed> {
         match self.inner.flush() {
-            Ok(()) => Ok(()),
+            Ok(()) => {
+                self.settled = self.settled.saturating_add(1);
+                Ok(())
+            }
             Err(_) => {
                 self.failed = self.failed.saturating_add(1);
                 Err(Failed)

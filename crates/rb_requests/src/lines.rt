@@ -4,7 +4,8 @@ ghost use Rattle.std.specs.Io.KnownBytes.{Appends, IsAtEnd, Keeps};
 ghost use Rattle.rb_engine.specs.Kept.{state_of};
 ghost use Rattle.rb_requests.specs.Lines.{AnswersLine};
 ghost use Rattle.rb_requests.specs.Taken.{ReadsLine, ReadsPlain, LooksAtEnd};
-ghost use Rattle.rb_requests.specs.Served.{AnswersAll, AfterFault, IsShort, reads_failed, writes_failed};
+ghost use Rattle.rb_requests.specs.Device.{risen_by};
+ghost use Rattle.rb_requests.specs.Served.{AnswersAll, AfterFault, IsShort, at, reads_failed, writes_failed, reply_settled};
 ghost use Rattle.rb_requests.specs.OneLine.{Wrote, WrotePart, FailsLine};
 ghost use Rattle.rb_requests.specs.declared.lines.ServeFault.TheVariants as faults;
 ghost use Rattle.rb_requests.specs.Words.{serve_word};
@@ -126,6 +127,7 @@ fn put_all<S: Sink>(sink: &mut S, bytes: &[u8]) -> Result<(), ServeFault>
     ensures bytes { OnOk result (Appends (S.written sink.old) (S.written sink.new) bytes.now) }
     ensures fault { IfErr result (λ fault. (fault ≡ faults.Write) × WrotePart (S.written sink.old) (S.written sink.new) bytes.now) }
     ensures count { S.faults sink.new ≡ writes_failed (S.faults sink.old) result }
+    ensures settled { S.settled sink.new ≡ S.settled sink.old }
 {
     let mut rest = bytes;
     while !rest.is_empty() {
@@ -150,6 +152,7 @@ fn put_reply<S: Sink>(sink: &mut S, reply: &[u8]) -> Result<(), ServeFault>
     ensures bytes { OnOk result (Appends (S.written sink.old) (S.written sink.new) reply.now) }
     ensures fault { IfErr result (λ fault. (fault ≡ faults.Write) × WrotePart (S.written sink.old) (S.written sink.new) reply.now) }
     ensures count { S.faults sink.new ≡ writes_failed (S.faults sink.old) result }
+    ensures settled { S.settled sink.new ≡ reply_settled (S.settled sink.old) result }
 {
     put_all(sink, reply)?;
     match sink.settle() {
@@ -169,6 +172,7 @@ fn serve_line<S: Sink>(
     ensures line { OnOk result (Wrote (state_of engine.old) line.now (S.written sink.old) (S.written sink.new) (state_of engine.new)) }
     ensures fault { IfErr result (λ fault. FailsLine fault (state_of engine.old) line.now (S.written sink.old) (S.written sink.new) (state_of engine.new)) }
     ensures count { S.faults sink.new ≡ writes_failed (S.faults sink.old) result }
+    ensures settled { S.settled sink.new ≡ reply_settled (S.settled sink.old) result }
 {
     let reply = match reply_of(alloc, engine, line) {
         Ok(reply) => reply,
@@ -193,12 +197,16 @@ pub fn serve<F: Feed, S: Sink>(
     max_lines: u64,
 ) -> Result<Served, ServeFault>
     // All the input is read, what is written is the replies to its lines and nothing else, and they have taken effect.
-    ensures all { IfOk result (λ served. AnswersAll (state_of engine.old) (state_of engine.new)
-        (F.left feed.old) (F.left feed.new) (S.written sink.old) (S.written sink.new) served.lines) }
+    ensures all { IfOk result (λ served. AnswersAll
+        (at (state_of engine.old) (F.left feed.old) (S.written sink.old) (S.settled sink.old))
+        (at (state_of engine.new) (F.left feed.new) (S.written sink.new) (S.settled sink.new)) served.lines) }
     ensures most { IfOk result (λ served. served.lines ≤ max_lines) }
-    // The first lines are answered; this is how far the next one came.
-    ensures fault { IfErr result (λ fault. AfterFault fault (state_of engine.old) (state_of engine.new)
-        (F.left feed.old) (F.left feed.new) (S.written sink.old) (S.written sink.new) max_lines) }
+    // Each reply is settled.
+    ensures settled { IfOk result (λ served. S.settled sink.new ≡ risen_by (S.settled sink.old) served.lines) }
+    // The first lines are answered, and their replies settled; this is how far the next one came.
+    ensures fault { IfErr result (λ fault. AfterFault fault
+        (at (state_of engine.old) (F.left feed.old) (S.written sink.old) (S.settled sink.old))
+        (at (state_of engine.new) (F.left feed.new) (S.written sink.new) (S.settled sink.new)) max_lines) }
     // A count of failed calls rises by one at its device's fault, and else stays.
     ensures reads { F.faults feed.new ≡ reads_failed (F.faults feed.old) result }
     ensures writes { S.faults sink.new ≡ writes_failed (S.faults sink.old) result }

@@ -51,12 +51,15 @@ struct FailingSink {
     calls: usize,
     failing: usize,
     failed: u64,
+    settled: u64,
 }
 
 impl Sink for FailingSink {
     ghost written = { λ s. None };
 
     ghost faults = { λ s. s.failed };
+
+    ghost settled = { λ s. s.settled };
 
     fn put(&mut self, bytes: &[u8]) -> Result<usize, Failed> {
         let Some(byte) = bytes.first() else {
@@ -78,6 +81,7 @@ impl Sink for FailingSink {
             self.failed = self.failed.saturating_add(1);
             return Err(Failed);
         }
+        self.settled = self.settled.saturating_add(1);
         Ok(())
     }
 }
@@ -173,6 +177,7 @@ fn ends_at_a_failed_write(
         calls: 0,
         failing,
         failed: 0,
+        settled: 0,
     };
     let mut feed = ReadFeed::new(b"x\n\n".as_slice());
     let ended = serve(alloc, engine, &mut feed, &mut sink, 9);
