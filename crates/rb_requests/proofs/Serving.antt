@@ -6,9 +6,9 @@ use Rattle.std.proofs.lemmas.List.Elements.{All-nil, All-push}
 use Rattle.std.proofs.KnownBytes.{Appends-nil, Appends-trans, Appends-kept}
 use Rattle.rb_requests.specs.Asked.{call_of}
 use Rattle.rb_engine.specs.History.{State}
-use Rattle.rb_requests.specs.Lines.{AnswersLine, LineMayTell, Replies, lines_of}
+use Rattle.rb_requests.specs.Lines.{AnswersLine, LineMayTell, Replies, lines_of, feeds}
 use Rattle.rb_requests.specs.Device.{risen, risen_by}
-use Rattle.rb_requests.specs.Served.{AnswersAll, Answers, IsShort, at, feeds, Stands, IsNext, TakesEffect, AfterFault}
+use Rattle.rb_requests.specs.Served.{AnswersAll, Answers, IsShort, at, Stands, IsNext, TakesEffect, AfterFault}
 use Rattle.rb_requests.specs.OneLine.{Wrote, WrotePart, WroteNone, WroteSome, FailsLine}
 use Rattle.rb_requests.specs.Taken.{ReadsEnded, ReadsLast, ReadsEnd, ReadsLine, LooksAtEnd}
 use Rattle.rb_requests.specs.declared.lines.ServeFault.{ServeFault}
@@ -169,8 +169,8 @@ part_short (b ∷ bytes) p s = rw (lines_of-last (b ∷ bytes) p (omega arith)) 
 below_most : (n count most : ℕ) → n ≡ count → count < most → n ≡ most → ⊥
 below_most n count most e m f = omega arith
 
-unread : (fault : ServeFault) (first now : State) (input left left' : List ℕ) (a b : Option (List ℕ)) (count most s s' : ℕ) → SoFar first now input left a b count → count < most → s' ≡ risen_by s count → ReadsLine (Some left) (Some left') (Err fault) → AfterFault fault (at first (Some input) a s) (at now (Some left') b s') most
-unread Read first now input left left' a b count most s s' h m t k = record {
+unread : (fault : ServeFault) (first now : State) (input left left' : List ℕ) (a b : Option (List ℕ)) (count most s s' : ℕ) (line : List ℕ) → SoFar first now input left a b count → count < most → s' ≡ risen_by s count → ReadsLine (Some left) (Some left') line (Err fault) → AfterFault fault (at first (Some input) a s) (at now (Some left') b s') most
+unread Read first now input left left' a b count most s s' line h m t k = record {
   stands = stand first now input left left' k.bytes a b count most h k.part.read (omega arith);
   wrote = h.wrote;
   settled = settled_for (length h.lines) count s s' h.many t;
@@ -178,7 +178,7 @@ unread Read first now input left left' a b count most s s' h m t k = record {
   short = k.short;
   last = λ e. absurd (below_most (length h.lines) count most h.many m e);
 }
-unread Memory first now input left left' a b count most s s' h m t k = record {
+unread Memory first now input left left' a b count most s s' line h m t k = record {
   now = now;
   stands = stand first now input left left' k.bytes a b count most h k.part.read (omega arith);
   wrote = h.wrote;
@@ -188,7 +188,7 @@ unread Memory first now input left left' a b count most s s' h m t k = record {
   more = fewer (length h.lines) count most h.many m;
   next = inl refl;
 }
-unread LineTooLong first now input left left' a b count most s s' h m t k = record {
+unread LineTooLong first now input left left' a b count most s s' line h m t k = record {
   stands = stand first now input left left' k.bytes a b count most h k.part.read (omega arith);
   wrote = h.wrote;
   settled = settled_for (length h.lines) count s s' h.many t;
@@ -196,22 +196,22 @@ unread LineTooLong first now input left left' a b count most s s' h m t k = reco
   long = k.long;
   more = fewer (length h.lines) count most h.many m;
 }
-unread LineLimit first now input left left' a b count most s s' h m t k = absurd k
-unread Write first now input left left' a b count most s s' h m t k = absurd k
+unread LineLimit first now input left left' a b count most s s' line h m t k = absurd k
+unread Write first now input left left' a b count most s s' line h m t k = absurd k
 
 -- what is read stays known
-still_known : (fault : ServeFault) (l : List ℕ) → ReadsLine (Some l) None (Err fault) → ⊥
-still_known Read l k = k.part.read
-still_known Memory l k = k.part.read
-still_known LineTooLong l k = k.part.read
-still_known LineLimit l k = k
-still_known Write l k = k
+still_known : (fault : ServeFault) (l line : List ℕ) → ReadsLine (Some l) None line (Err fault) → ⊥
+still_known Read l line k = k.part.read
+still_known Memory l line k = k.part.read
+still_known LineTooLong l line k = k.part.read
+still_known LineLimit l line k = k
+still_known Write l line k = k
 
-pub not_read : (fault : ServeFault) (first now : State) (input left left' a b : Option (List ℕ)) (count most s s' : ℕ) → Known first now input left a b count → count < most → s' ≡ risen_by s count → ReadsLine left left' (Err fault) → AfterFault fault (at first input a s) (at now left' b s') most
-not_read fault first now None left left' a b count most s s' h m t k = tt
-not_read fault first now (Some input) None left' a b count most s s' h m t k = absurd h
-not_read fault first now (Some input) (Some l) None a b count most s s' h m t k = absurd (still_known fault l k)
-not_read fault first now (Some input) (Some l) (Some l') a b count most s s' h m t k = unread fault first now input l l' a b count most s s' h m t k
+pub not_read : (fault : ServeFault) (first now : State) (input left left' a b : Option (List ℕ)) (count most s s' : ℕ) (line : List ℕ) → Known first now input left a b count → count < most → s' ≡ risen_by s count → ReadsLine left left' line (Err fault) → AfterFault fault (at first input a s) (at now left' b s') most
+not_read fault first now None left left' a b count most s s' line h m t k = tt
+not_read fault first now (Some input) None left' a b count most s s' line h m t k = absurd h
+not_read fault first now (Some input) (Some l) None a b count most s s' line h m t k = absurd (still_known fault l line k)
+not_read fault first now (Some input) (Some l) (Some l') a b count most s s' line h m t k = unread fault first now input l l' a b count most s s' line h m t k
 
 -- ---- a line that is not answered
 

@@ -5,7 +5,7 @@ use Rattle.rb_requests.specs.Asked.{call_of}
 use Rattle.rb_engine.specs.Answer.{Told}
 use Rattle.rb_requests.specs.Device.{risen, risen_by}
 use Rattle.rb_engine.specs.History.{State}
-use Rattle.rb_requests.specs.Lines.{TellsLine, AnswersLine, Replies, lines_of}
+use Rattle.rb_requests.specs.Lines.{TellsLine, AnswersLine, Replies, lines_of, feeds}
 use Rattle.rb_requests.specs.declared.lines.ServeFault.{ServeFault}
 use Rattle.rb_requests.specs.declared.lines.ServeFault.TheVariants.{Read, Write, LineLimit, LineTooLong, Memory}
 
@@ -43,11 +43,6 @@ abbrev pub AnswersAll : Moment → Moment → ℕ → Type 0
 AnswersAll before after count = answers_input before after count before.left
 
 -- ---- a part of it
-
--- how many line feeds a text has
-abbrev pub feeds : List ℕ → ℕ
-feeds [] = 0
-feeds (b ∷ bs) = (if b == 10 then 1 else 0) + feeds bs
 
 -- The first lines are read, each with its line feed, and then some bytes of what follows. These lines have taken effect and no others,
 -- and this is the text of their replies.

@@ -1,17 +1,32 @@
-//! Readers by the byte, writers, and the wrappers that make them of any `Read` and `Write`.
+//! Readers by the byte and by the run, writers, and the wrappers that make them of any `BufRead` and `Write`.
 
 ghost use Rattle.std.specs.Prelude.{◌≡◌, ◌<◌, ◌≤◌, ℕ, List, Option, length, IfOk};
 ghost use Rattle.std.specs.Io.KnownBytes.{Keeps, WriteAppends};
 
-use std::io::{Read, Write};
+use memchr::memchr;
+use std::io::{BufRead, Write};
 
 /// A call of a reader or a writer failed.
 #[derive(Clone, Copy, Debug, PartialEq, Eq)]
 pub struct Failed;
 
-/// What gives bytes one by one.
+/// How a run of bytes ended.
+#[derive(Clone, Copy, Debug, PartialEq, Eq)]
+pub enum Run {
+    /// At a line feed, which is taken too.
+    Feed,
+    /// Within a line.
+    Part,
+    /// At the end of the input.
+    End,
+    /// Out of memory for the line.
+    Memory,
+}
+
+/// What gives bytes, one by one or by the run.
 pub trait Feed {
     ghost use Rattle.rb_requests.specs.Device.{Pulls, counted};
+    ghost use Rattle.rb_requests.specs.Runs.{RunRead};
 
     /// The bytes that are left, where they are known.
     ghost left: { Self → Option (List ℕ) };
@@ -23,6 +38,27 @@ pub trait Feed {
     fn pull(&mut self) -> Result<Option<u8>, Failed>
         ensures bytes { Pulls (left self.old) (left self.new) result }
         ensures count { faults self.new ≡ counted (faults self.old) result };
+
+    /// Moves the next bytes onto the end of a line, at least one and at most so many: up to a line feed, which is taken and not moved,
+    /// or a part of the line. They are those that calls of `pull` would give. After an error nothing is taken.
+    fn pull_run(&mut self, line: &mut Vec<u8>, most: usize) -> Result<Run, Failed>
+        requires { 0 < most }
+        ensures bytes { RunRead (left self.old) (left self.new) line.old.items line.new.items most result }
+        ensures count { faults self.new ≡ counted (faults self.old) result }
+    {
+        match self.pull() {
+            Ok(Some(b'\n')) => Ok(Run::Feed),
+            Ok(Some(byte)) => {
+                if line.push(byte).is_ok() {
+                    Ok(Run::Part)
+                } else {
+                    Ok(Run::Memory)
+                }
+            }
+            Ok(None) => Ok(Run::End),
+            Err(failed) => Err(failed),
+        }
+    }
 }
 
 /// What takes bytes.
@@ -55,12 +91,12 @@ pub trait Sink {
 
 /// A reader as a feed.
 #[derive(Drop)]
-pub struct ReadFeed<R: Read> {
+pub struct ReadFeed<R: BufRead> {
     inner: R,
     failed: u64,
 }
 
-impl<R: Read> ReadFeed<R> {
+impl<R: BufRead> ReadFeed<R> {
     /// A feed of what a reader has left. No call has failed.
     pub fn new(inner: R) -> Self
         ensures left { ⟦<ReadFeed<R> as Feed>⟧.left result ≡ R.remaining inner }
@@ -77,7 +113,7 @@ impl<R: Read> ReadFeed<R> {
     }
 }
 
-impl<R: Read> Feed for ReadFeed<R> {
+impl<R: BufRead> Feed for ReadFeed<R> {
     ghost left = { λ f. R.remaining f.inner };
 
     ghost faults = { λ f. f.failed };
@@ -90,6 +126,37 @@ impl<R: Read> Feed for ReadFeed<R> {
             Err(_) => {
                 self.failed = self.failed.saturating_add(1);
                 Err(Failed)
+            }
+        }
+    }
+
+    fn pull_run(&mut self, line: &mut Vec<u8>, most: usize) -> Result<Run, Failed> {
+        let held = match self.inner.fill_buf() {
+            Ok(held) => held,
+            Err(_) => {
+                self.failed = self.failed.saturating_add(1);
+                return Err(Failed);
+            }
+        };
+        if held.is_empty() {
+            return Ok(Run::End);
+        }
+        let front = &held[..held.len().min(most)];
+        match memchr(b'\n', front) {
+            Some(end) => {
+                if line.extend_from_slice(&front[..end]).is_err() {
+                    return Ok(Run::Memory);
+                }
+                self.inner.consume(end + 1);
+                Ok(Run::Feed)
+            }
+            None => {
+                let len = front.len();
+                if line.extend_from_slice(front).is_err() {
+                    return Ok(Run::Memory);
+                }
+                self.inner.consume(len);
+                Ok(Run::Part)
             }
         }
     }

@@ -14,7 +14,7 @@ mod lines;
 mod tests;
 mod told;
 
-pub use device::{Failed, Feed, ReadFeed, Sink, WriteSink};
+pub use device::{Failed, Feed, ReadFeed, Run, Sink, WriteSink};
 pub use item::item_text;
 pub use limits::LINE_LIMIT;
 pub use lines::{ServeFault, Served, serve};

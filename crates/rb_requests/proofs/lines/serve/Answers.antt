@@ -24,8 +24,7 @@ returns-in_err-serve_line-in-Ended-clause-fault g c =
     let written = g.S.Sink.written in
     let settled = g.S.Sink.settled in
     let p = err_from_is_err_and c.from_residual-in_err-serve_line-in-Ended.result c.from_residual-in_err-serve_line-in-Ended.ensures.1 in
-    let taken = subst (λ (x : NextLine). ReadsLine (left c.lines.feed) (left c.read_line.new.feed) (Ok x)) c.in-Ended.is c.in_ok-line.ensures.line in
-    let line = subst (λ (x : List ℕ). ReadsEnded (left c.lines.feed) (left c.read_line.new.feed) x) (sym c.deref.ensures.value) taken in
+    let line = subst (λ (x : List ℕ). ReadsEnded (left c.lines.feed) (left c.read_line.new.feed) x) (sym c.deref.ensures.value) c.TAKEN in
     rw (p.1, p.2) (not_answered c.in_err-serve_line-in-Ended.field-0.0 (state_of c.args.engine.now) (state_of c.lines.engine) (state_of c.serve_line.new.engine) (left c.args.feed.now) (left c.lines.feed) (left c.read_line.new.feed) (written c.args.sink.now) (written c.lines.sink) (written c.serve_line.new.sink) c.deref.result.now c.lines.lines c.args.max_lines (settled c.args.sink.now) (settled c.serve_line.new.sink) c.lines.invariant.known (omega arith) (c.in_err-serve_line-in-Ended.ensures.settled ∙ c.lines.invariant.settled) line c.in_err-serve_line-in-Ended.ensures.fault)
 
 pub returns-in_err-serve_line-in-Last-clause-fault : goal.returns-in_err-serve_line-in-Last-clause-fault
@@ -34,7 +33,6 @@ returns-in_err-serve_line-in-Last-clause-fault g c =
     let written = g.S.Sink.written in
     let settled = g.S.Sink.settled in
     let p = err_from_is_err_and c.from_residual-in_err-serve_line-in-Last.result c.from_residual-in_err-serve_line-in-Last.ensures.1 in
-    let taken = subst (λ (x : NextLine). ReadsLine (left c.lines.feed) (left c.read_line.new.feed) (Ok x)) c.in-Last.is c.in_ok-line.ensures.line in
     let line = subst (λ (x : List ℕ). ReadsLast (left c.lines.feed) (left c.read_line.new.feed) x) (sym c.deref-in-Last.ensures.value) taken in
     rw (p.1, p.2) (last_not_answered c.in_err-serve_line-in-Last.field-0.0 (state_of c.args.engine.now) (state_of c.lines.engine) (state_of c.serve_line-in-Last.new.engine) (left c.args.feed.now) (left c.lines.feed) (left c.read_line.new.feed) (written c.args.sink.now) (written c.lines.sink) (written c.serve_line-in-Last.new.sink) c.deref-in-Last.result.now c.lines.lines c.args.max_lines (settled c.args.sink.now) (settled c.serve_line-in-Last.new.sink) c.lines.invariant.known (omega arith) (c.in_err-serve_line-in-Last.ensures.settled ∙ c.lines.invariant.settled) line c.in_err-serve_line-in-Last.ensures.fault)
 
@@ -43,7 +41,6 @@ returns-in-Last-clause-all g c =
     let left = g.F.Feed.left in
     let written = g.S.Sink.written in
     let settled = g.S.Sink.settled in
-    let taken = subst (λ (x : NextLine). ReadsLine (left c.lines.feed) (left c.read_line.new.feed) (Ok x)) c.in-Last.is c.in_ok-line.ensures.line in
     let line = subst (λ (x : List ℕ). ReadsLast (left c.lines.feed) (left c.read_line.new.feed) x) (sym c.deref-in-Last.ensures.value) taken in
     all_answered (state_of c.args.engine.now) (state_of c.lines.engine) (state_of c.serve_line-in-Last.new.engine) (left c.args.feed.now) (left c.lines.feed) (left c.read_line.new.feed) (written c.args.sink.now) (written c.lines.sink) (written c.serve_line-in-Last.new.sink) c.deref-in-Last.result.now c.lines.lines (settled c.args.sink.now) (settled c.serve_line-in-Last.new.sink) c.lines.invariant.known line c.in_ok-serve_line-in-Last.ensures.line
 
@@ -54,8 +51,7 @@ lines-preserved g c =
     let settled = g.S.Sink.settled in
     let reads = g.F.Feed.faults in
     let writes = g.S.Sink.faults in
-    let taken = subst (λ (x : NextLine). ReadsLine (left c.lines.feed) (left c.read_line.new.feed) (Ok x)) c.in-Ended.is c.in_ok-line.ensures.line in
-    let line = subst (λ (x : List ℕ). ReadsEnded (left c.lines.feed) (left c.read_line.new.feed) x) (sym c.deref.ensures.value) taken in
+    let line = subst (λ (x : List ℕ). ReadsEnded (left c.lines.feed) (left c.read_line.new.feed) x) (sym c.deref.ensures.value) c.TAKEN in
     next (state_of c.args.engine.now) (state_of c.lines.engine) (state_of c.serve_line.new.engine) (left c.args.feed.now) (left c.lines.feed) (left c.read_line.new.feed) (written c.args.sink.now) (written c.lines.sink) (written c.serve_line.new.sink) c.deref.result.now c.lines.lines
     (reads c.args.feed.now) (reads c.lines.feed) (reads c.read_line.new.feed) (writes c.args.sink.now) (writes c.lines.sink) (writes c.serve_line.new.sink) (settled c.args.sink.now) (settled c.lines.sink) (settled c.serve_line.new.sink)
     c.lines.invariant line c.in_ok-line.ensures.count c.in_ok-serve_line-in-Ended.ensures.line c.in_ok-serve_line-in-Ended.ensures.count c.in_ok-serve_line-in-Ended.ensures.settled
