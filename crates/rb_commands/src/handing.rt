@@ -1,7 +1,7 @@
 //! Replies that are handed on together: a feed that notes whether its buffer holds a further whole line, and a writer that flushes only
 //! where it doesn't.
 use memchr::memchr;
-use rb_requests::{Failed, Feed, ReadFeed};
+use rb_requests::{Failed, Feed, ReadFeed, Run};
 use std::cell::Cell;
 use std::io;
 use std::io::{BufReader, Read, Write};
@@ -39,6 +39,14 @@ impl<'a, R: Read> Feed for NotingFeed<'a, R> {
             self.note();
         }
         Ok(pulled)
+    }
+
+    fn pull_run(&mut self, line: &mut Vec<u8>, most: usize) -> Result<Run, Failed> {
+        let run = self.inner.pull_run(line, most)?;
+        if run == Run::Feed {
+            self.note();
+        }
+        Ok(run)
     }
 }
 
