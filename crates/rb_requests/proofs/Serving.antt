@@ -38,14 +38,14 @@ pub record Serves (first now : State) (input left written written' : Option (Lis
   pub known : Known first now input left written written' count
   pub quiet : reads' ≡ reads
   pub still : writes' ≡ writes
-  pub settled : settled' ≡ risen_by settled count
+  pub handed : settled' ≡ risen_by settled count
 
 known_first : (s : State) (left written : Option (List ℕ)) → Known s s left left written written 0
 known_first s None written = tt
 known_first s (Some input) written = record { done = []; taken = refl; lines = []; split = refl; fed = refl; many = refl; short = All-nil IsShort; text = []; replies = (refl, refl); wrote = Appends-nil written }
 
 pub at_first : (s : State) (left written : Option (List ℕ)) (reads writes settled : ℕ) → Serves s s left left written written 0 reads reads writes writes settled settled
-at_first s left written reads writes settled = record { known = known_first s left written; quiet = refl; still = refl; settled = refl }
+at_first s left written reads writes settled = record { known = known_first s left written; quiet = refl; still = refl; handed = refl }
 
 -- ---- more is read, and one line more is answered
 
@@ -111,7 +111,7 @@ next first now mid input left left' a b c line count f f' f'' g g' g'' s s' s'' 
   known = known_next first now mid input left left' a b c line count h.known k w;
   quiet = q ∙ h.quiet;
   still = r ∙ h.still;
-  settled = t ∙ (ap risen h.settled ∙ one_settled s count);
+  handed = t ∙ (ap risen h.handed ∙ one_settled s count);
 }
 
 -- ---- the end of the input
@@ -126,7 +126,6 @@ all_read first now (Some input) (Some l) (Some l') a b count s s' h k =
       read = ap Some (k.kept ∙ k.end);
       text = h.text;
       wrote = h.wrote;
-  settled = settled_for (length h.lines) count s s' h.many t;
       replies = subst (λ (x : List (List ℕ)). Replies first x h.text now) (sym all) h.replies;
       lines_read = sym h.many ∙ ap length (sym all);
       short = subst (All IsShort) (sym all) h.short;
