@@ -75,6 +75,7 @@ impl<'a, W: Write + Drop> Write for WaitingWriter<'a, W> {
         self.inner.write(bytes)
     }
 
+    #[tactic(auto, using(crate::proofs::Kept::as_they_are))]
     fn flush(&mut self) -> io::Result<()> {
         if self.holds_line.get() {
             return Ok(());

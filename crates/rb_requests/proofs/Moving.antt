@@ -38,11 +38,13 @@ pub moves_part : (old new : Option (List ℕ)) (line line' held : List ℕ) (m m
     → Consumes old new (take m held) → line' ≡ line ++ take m held → Moves old new line line' most [] × (length line < length line')
 moves_part old new line line' held m most small within some none read moved =
     let long : length (take m held) ≡ m = length-take-le m held within in
-    let whole : take m (take m held) ≡ take m held = take-take m m held (omega arith) in
-    (record {
-      bytes = take m held;
-      read = subst (Consumes old new) (sym (append-nil (take m held))) read;
-      plain = ap feeds (sym whole) ∙ feeds_none (take m held) m (subst (Nowhere (Passes (is_byte 10) (take m held)) 0) long none);
-      short = omega arith;
-      moved = moved;
-    }, omega (arith, ap length moved, length-append line (take m held)))
+    let whole : take m (take m held) ≡ take m held = take-take m m held (omega arith) in (
+      record {
+        bytes = take m held;
+        read = subst (Consumes old new) (sym (append-nil (take m held))) read;
+        plain = ap feeds (sym whole) ∙ feeds_none (take m held) m (subst (Nowhere (Passes (is_byte 10) (take m held)) 0) long none);
+        short = omega arith;
+        moved = moved;
+      },
+      omega (arith, ap length moved, length-append line (take m held)),
+    )

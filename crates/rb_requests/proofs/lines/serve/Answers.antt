@@ -1,10 +1,10 @@
 use Rattle.std.proofs.Common.{◌≡◌, ◌∙◌, ℕ, List, Ok, sym, subst, arith}
 use Rattle.std.proofs.lemmas.Result.{err_from_is_err_and}
 use Rattle.rb_engine.specs.Kept.{state_of}
-use Rattle.rb_requests.specs.Served.{AfterFault, at}
+use Rattle.rb_requests.specs.Served.{AfterFault, AnswersAll, at}
 use Rattle.rb_requests.specs.Taken.{ReadsLine, ReadsEnded, ReadsLast}
 use Rattle.rb_requests.specs.declared.lines.NextLine.{NextLine}
-use Rattle.rb_requests.proofs.Serving.{at_first, next, all_answered, not_read, not_answered, last_not_answered, no_end}
+use Rattle.rb_requests.proofs.Serving.{at_first, next, all_read, all_answered, not_read, not_answered, last_not_answered, no_end}
 use Rattle.rb_requests.proofs.lines.serve.Goals as goal
 
 pub lines-init : goal.lines-init
@@ -71,3 +71,22 @@ returns-in_err-at_end-clause-fault g c =
     let after = at (state_of c.lines.engine) (left c.at_end.new.feed) (written c.lines.sink) (settled c.lines.sink) in
     rw (p.1, p.2) (subst (λ (n : ℕ). AfterFault c.in_err-at_end.field-0.0 before after n) all
     (no_end c.in_err-at_end.field-0.0 (state_of c.args.engine.now) (state_of c.lines.engine) (left c.args.feed.now) (left c.lines.feed) (left c.at_end.new.feed) (written c.args.sink.now) (written c.lines.sink) c.lines.lines (settled c.args.sink.now) (settled c.lines.sink) c.lines.invariant.known c.lines.invariant.handed c.in_err-at_end.ensures.end))
+
+pub returns-in-End-clause-all : goal.returns-in-End-clause-all
+returns-in-End-clause-all g c =
+    let left = g.F.Feed.left in
+    let written = g.S.Sink.written in
+    let settled = g.S.Sink.settled in
+    let end = subst (λ (x : NextLine). ReadsLine (left c.lines.feed) (left c.read_line.new.feed) c.read_line.new.line.items (Ok x)) c.in-End.is c.in_ok-read_line.ensures.line in
+    all_read (state_of c.args.engine.now) (state_of c.lines.engine) (left c.args.feed.now) (left c.lines.feed) (left c.read_line.new.feed) (written c.args.sink.now) (written c.lines.sink) c.lines.lines (settled c.args.sink.now) (settled c.lines.sink) c.lines.invariant.known end
+
+pub returns-clause-all : goal.returns-clause-all
+returns-clause-all g c =
+    let left = g.F.Feed.left in
+    let written = g.S.Sink.written in
+    let settled = g.S.Sink.settled in
+    let all : c.lines.lines ≡ c.args.max_lines = omega arith in
+    let before = at (state_of c.args.engine.now) (left c.args.feed.now) (written c.args.sink.now) (settled c.args.sink.now) in
+    let after = at (state_of c.lines.engine) (left c.at_end.new.feed) (written c.lines.sink) (settled c.lines.sink) in
+    subst (λ (n : ℕ). AnswersAll before after n) all
+    (all_read (state_of c.args.engine.now) (state_of c.lines.engine) (left c.args.feed.now) (left c.lines.feed) (left c.at_end.new.feed) (written c.args.sink.now) (written c.lines.sink) c.lines.lines (settled c.args.sink.now) (settled c.lines.sink) c.lines.invariant.known c.in_ok-at_end.ensures.end)

@@ -1,4 +1,4 @@
-use Rattle.std.proofs.Common.{◌≡◌, ◌<◌, ◌≤◌, ◌+◌, ◌++◌, length, take, min, is_ok, true, subst, ◌∙◌, arith, rules, tests, refl, length-take-le}
+use Rattle.std.proofs.Common.{◌≡◌, ◌<◌, ◌≤◌, ◌+◌, length, take, min, is_ok, true, subst, ◌∙◌, arith, rules, tests, refl, length-take-le}
 use Rattle.std.specs.Io.BufRead.{FillKeeps, DropsConsumable}
 use Rattle.std.proofs.BufReadLemmas.{Consumes_shown}
 use Rattle.rb_requests.proofs.Moving.{moves_feed, moves_part}
