@@ -42,12 +42,12 @@ def value(made, key):
 
 
 def members(made):
-    common = made.random() < 0.6
+    common = made.random() < 0.8
     if common:
         keys = ["op", "app", "locale", made.choice(["path", "text", "file", "text"])]
         made.shuffle(keys)
         pairs = [(key, text(made, {"op": OPS, "text": TEXTS, "file": FILES}.get(key, WORDS))) for key in keys]
-        if made.random() < 0.5:
+        if made.random() < 0.7:
             return pairs
     else:
         pairs = []
@@ -60,9 +60,9 @@ def members(made):
 def line(made):
     if made.random() < 0.02:
         return made.choice(VALUES + NUMBERS)
-    gap = lambda: made.choice(SPACES) if made.random() < 0.1 else ""
+    gap = lambda: made.choice(SPACES) if made.random() < 0.02 else ""
     parts = [f'{gap()}"{key}"{gap()}:{gap()}{value}{gap()}' for key, value in members(made)]
-    return gap() + "{" + ",".join(parts) + "}" + gap() + (made.choice(["", "x", "{}", ",", "\x00", "]"]) if made.random() < 0.05 else "")
+    return gap() + "{" + ",".join(parts) + "}" + gap() + (made.choice(["", "x", "{}", ",", "\x00", "]"]) if made.random() < 0.03 else "")
 
 
 def lines(seed):
