@@ -3,6 +3,7 @@
 
 mod commands;
 mod files;
+mod handing;
 mod item;
 mod serve;
 mod start;

@@ -1,8 +1,10 @@
 //! `resb serve`.
+use crate::handing::{NotingFeed, WaitingWriter};
 use crate::start::{not_started, start};
-use rb_requests::{Engine, ReadFeed, ServeFault, WriteSink, serve};
+use rb_requests::{Engine, ServeFault, WriteSink, serve};
+use std::cell::Cell;
 use std::io;
-use std::io::{BufReader, BufWriter};
+use std::io::{BufReader, BufWriter, Write};
 use std::process::ExitCode;
 use std::random::RandomSource;
 use std::rt::Files;
@@ -10,17 +12,29 @@ use std::rt::Files;
 /// The most lines of one run.
 const MAX_LINES: u64 = 1_099_511_627_776;
 
-/// Serves standard input, each side behind a buffer; the writer's is flushed after each reply.
+/// Hands on the replies that are still held where serving ended early. Where that fails, the error is `Write`.
+fn handed_on<W: Write + Drop>(writer: &mut WaitingWriter<'_, W>, fault: ServeFault) -> ServeFault {
+    if fault == ServeFault::Write || writer.hand_on().is_ok() {
+        fault
+    } else {
+        ServeFault::Write
+    }
+}
+
+/// Serves standard input, each side behind a buffer. The writer's is flushed once the reader's holds no further whole line.
 fn serve_buffered<R: Input + Print + AllocGlobal>(
     rt: &R,
     engine: &mut Engine,
 ) -> io::Result<Result<(), ServeFault>> {
     let alloc = rt.alloc();
-    let mut feed = ReadFeed::new(BufReader::new(alloc, rt.reader())?);
-    let mut sink = WriteSink::new(BufWriter::new(alloc, io::writer(rt))?);
+    let holds_line = Cell::new(false);
+    let reader = BufReader::new(alloc, rt.reader())?;
+    let mut feed = NotingFeed::new(reader, &holds_line);
+    let mut writer = WaitingWriter::new(BufWriter::new(alloc, io::writer(rt))?, &holds_line);
+    let mut sink = WriteSink::new(&mut writer);
     match serve(alloc, engine, &mut feed, &mut sink, MAX_LINES) {
         Ok(_) => Ok(Ok(())),
-        Err(fault) => Ok(Err(fault)),
+        Err(fault) => Ok(Err(handed_on(&mut writer, fault))),
     }
 }
 

@@ -108,6 +108,20 @@ fn leaves_no_half_file(rt: HostRuntime) -> Result<(), Fail> {
 }
 
 #[test]
+fn says_that_output_is_not_taken(rt: HostRuntime) -> Result<(), Fail> {
+    let desk = Desk::new(rt.alloc(), ROOM);
+    desk.put("in.txt", b"root{a{\"b\"}}")?;
+    desk.close_output();
+    assert!(rt; compile(&desk, "in.txt", "out.res") == ExitCode::from(2));
+    assert_eq!(rt; desk.errors().as_str(), "cannot write stdout\n");
+    assert!(rt; check(&desk, "out.res") == ExitCode::from(2));
+    assert_eq!(rt; desk.errors().as_str(), "cannot write stdout\n");
+    assert!(rt; crate::commands::get(&desk, "out.res", "a") == ExitCode::from(2));
+    assert_eq!(rt; desk.errors().as_str(), "cannot write stdout\n");
+    Ok(())
+}
+
+#[test]
 fn checks_files(rt: HostRuntime) -> Result<(), Fail> {
     let desk = Desk::new(rt.alloc(), ROOM);
     desk.put("good.res", &ONE_STRING)?;

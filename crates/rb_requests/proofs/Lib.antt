@@ -6,6 +6,7 @@ pub mod OfKinds
 pub mod Stepping
 pub mod NoFloats
 pub mod Putting
+pub mod Moving
 pub mod Reading
 pub mod Serving
 pub mod LineIsolation

@@ -1,11 +1,12 @@
 -- The bytes that are read of an input, and the lines of the whole text.
-use Rattle.std.proofs.Common.{◌≡◌, ◌<◌, ℕ, ◌+◌, Bool, true, false, cond, eqb, List, [], ◌∷◌, ◌++◌, length, Option, Some, None, refl, sym, ◌∙◌, ap, subst, arith, length-append}
+use Rattle.std.proofs.Common.{◌≡◌, ◌<◌, ◌≤◌, ℕ, ◌+◌, ◌-◌, Bool, true, false, cond, eqb, List, [], ◌∷◌, ◌++◌, length, Option, Some, None, refl, sym, ◌∙◌, ap, subst, arith, append-nil, append_assoc, length-append}
 use Rattle.std.specs.Io.KnownBytes.{Consumes, Keeps, IsAtEnd}
 use Rattle.std.proofs.KnownBytes.{Consumes-nil, Consumes-trans, Consumes-kept, Consumes-all}
 use Rattle.std.proofs.lemmas.Bool.Decides.{nat_tests}
-use Rattle.rb_requests.specs.Taken.{ReadsPlain, ReadsPart, ReadsEnded, ReadsLast, ReadsEnd}
-use Rattle.rb_requests.specs.Served.{feeds, IsShort}
-use Rattle.rb_requests.specs.Lines.{onto_first, lines_of}
+use Rattle.rb_requests.specs.Taken.{ReadsPlain, ReadsPart, ReadsLong, ReadsEnded, ReadsLast, ReadsEnd}
+use Rattle.rb_requests.specs.Lines.{onto_first, lines_of, feeds}
+use Rattle.rb_requests.specs.Served.{IsShort}
+use Rattle.rb_requests.specs.Runs.{Moves, Loses}
 
 -- ---- line feeds
 
@@ -38,30 +39,26 @@ lines_of-last (b ∷ c ∷ line) h n =
 
 -- ---- the bytes that are read
 
--- the bytes so far, with so many, and no call has failed
-pub record ReadSoFar (first now : Option (List ℕ)) (line : List ℕ) (taken faults faults' : ℕ) : Type 0 where
+-- the bytes so far, no more than a line may have, and no call has failed
+pub record ReadSoFar (first now : Option (List ℕ)) (line : List ℕ) (faults faults' : ℕ) : Type 0 where
   pub part : ReadsPlain first now line
-  pub count : length line ≡ taken
+  pub short : IsShort line
   pub quiet : faults' ≡ faults
 
-pub read_none : (a : Option (List ℕ)) (faults : ℕ) → ReadSoFar a a [] 0 faults faults
-read_none a faults = record { part = record { read = Consumes-nil a; plain = refl }; count = refl; quiet = refl }
+pub read_none : (a : Option (List ℕ)) (line : List ℕ) (faults : ℕ) → line ≡ [] → ReadSoFar a a line faults faults
+read_none a line faults e = subst (λ (l : List ℕ). ReadSoFar a a l faults faults) (sym e) (record { part = record { read = Consumes-nil a; plain = refl }; short = omega arith; quiet = refl })
 
 not_a_feed : (b : ℕ) → (b ≡ 10 → ⊥) → eqb b 10 ≡ false
 not_a_feed b n = grind (arith, nat_tests)
 
-pub plain_more : (a b c : Option (List ℕ)) (line : List ℕ) (byte : ℕ) → ReadsPlain a b line → Consumes b c (byte ∷ []) → (byte ≡ 10 → ⊥) → ReadsPlain a c (line ++ byte ∷ [])
-plain_more a b c line byte h k n = record {
-  read = Consumes-trans a b c line (byte ∷ []) h.read k;
-  plain = feeds-append line (byte ∷ []) ∙ rw h.plain (rw (not_a_feed byte n) refl);
+plain_run : (a b c : Option (List ℕ)) (line bytes : List ℕ) → ReadsPlain a b line → Consumes b c bytes → feeds bytes ≡ 0 → ReadsPlain a c (line ++ bytes)
+plain_run a b c line bytes h k p = record {
+  read = Consumes-trans a b c line bytes h.read k;
+  plain = feeds-append line bytes ∙ rw (h.plain, p) refl;
 }
 
-pub read_more : (a b c : Option (List ℕ)) (line line' : List ℕ) (byte taken f f' f'' : ℕ) → ReadSoFar a b line taken f f' → Consumes b c (byte ∷ []) → (byte ≡ 10 → ⊥) → line' ≡ line ++ byte ∷ [] → f'' ≡ f' → ReadSoFar a c line' (taken + 1) f f''
-read_more a b c line line' byte taken f f' f'' h k n e q = record {
-  part = rw e (plain_more a b c line byte h.part k n);
-  count = rw e (length-append line (byte ∷ []) ∙ ap (λ x. x + 1) h.count);
-  quiet = q ∙ h.quiet;
-}
+short_run : (line bytes : List ℕ) (most : ℕ) → IsShort line → length bytes ≤ most → most ≡ 268435456 - length line → IsShort (line ++ bytes)
+short_run line bytes most s n e = rw (length-append line bytes) (omega arith)
 
 pub plain_kept : (a b c : Option (List ℕ)) (line : List ℕ) → ReadsPlain a b line → Keeps b c → ReadsPlain a c line
 plain_kept a b c line h k = record { read = Consumes-kept a b c line h.read k; plain = h.plain }
@@ -69,8 +66,30 @@ plain_kept a b c line h k = record { read = Consumes-kept a b c line h.read k; p
 pub part_of : (a b : Option (List ℕ)) (line : List ℕ) → ReadsPlain a b line → IsShort line → ReadsPart a b
 part_of a b line h o = record { bytes = line; part = h; short = o }
 
-pub ended : (a b c : Option (List ℕ)) (line : List ℕ) (byte : ℕ) → ReadsPlain a b line → Consumes b c (byte ∷ []) → byte ≡ 10 → IsShort line → ReadsEnded a c line
-ended a b c line byte h k e o = record { short = o; read = Consumes-trans a b c line (10 ∷ []) h.read (subst (λ (x : ℕ). Consumes b c (x ∷ [])) e k); plain = h.plain }
+-- a run that ends within a line
+pub run_more : (a b c : Option (List ℕ)) (line line' : List ℕ) (most f f' f'' : ℕ) → ReadSoFar a b line f f' → Moves b c line line' most [] → most ≡ 268435456 - length line → f'' ≡ f' → ReadSoFar a c line' f f''
+run_more a b c line line' most f f' f'' h m e q =
+    let read = subst (λ (x : List ℕ). Consumes b c x) (append-nil m.bytes) m.read in
+    subst (λ (l : List ℕ). ReadSoFar a c l f f'') (sym m.moved) (record {
+      part = plain_run a b c line m.bytes h.part read m.plain;
+      short = short_run line m.bytes most h.short m.short e;
+      quiet = q ∙ h.quiet;
+    })
+
+-- a run that ends with a line feed
+pub run_ended : (a b c : Option (List ℕ)) (line line' : List ℕ) (most f f' : ℕ) → ReadSoFar a b line f f' → Moves b c line line' most (10 ∷ []) → most ≡ 268435456 - length line → ReadsEnded a c line'
+run_ended a b c line line' most f f' h m e =
+    subst (λ (l : List ℕ). ReadsEnded a c l) (sym m.moved) (record {
+      read = subst (λ (x : List ℕ). Consumes a c x) (sym (append_assoc line m.bytes (10 ∷ []))) (Consumes-trans a b c line (m.bytes ++ 10 ∷ []) h.part.read m.read);
+      plain = feeds-append line m.bytes ∙ rw (h.part.plain, m.plain) refl;
+      short = short_run line m.bytes most h.short m.short e;
+    })
+
+pub run_lost : (a b c : Option (List ℕ)) (line : List ℕ) (most f f' : ℕ) → ReadSoFar a b line f f' → Loses b c most → most ≡ 268435456 - length line → ReadsPart a c
+run_lost a b c line most f f' h m e = part_of a c (line ++ m.bytes) (plain_run a b c line m.bytes h.part m.read m.plain) (short_run line m.bytes most h.short m.short e)
+
+pub run_failed : (a b c : Option (List ℕ)) (line : List ℕ) (f f' : ℕ) → ReadSoFar a b line f f' → Keeps b c → ReadsPart a c
+run_failed a b c line f f' h k = part_of a c line (plain_kept a b c line h.part k) h.short
 
 -- ---- the end of the input
 
@@ -92,3 +111,21 @@ pub end_of : (a b c : Option (List ℕ)) (line : List ℕ) → ReadsPlain a b li
 end_of a b c line h e k n =
     let none = subst (λ (x : List ℕ). Consumes a b x) n h.read in
     record { end = nothing_left a b none e; kept = nothing_read a b c none k }
+
+-- ---- after the most bytes that a line may have
+
+pub longest_ended : (a b c : Option (List ℕ)) (line : List ℕ) (byte : ℕ) → ReadsPlain a b line → Consumes b c (byte ∷ []) → byte ≡ 10 → length line ≡ 268435456 → ReadsEnded a c line
+longest_ended a b c line byte h k e n = record { short = omega arith; read = Consumes-trans a b c line (10 ∷ []) h.read (subst (λ (x : ℕ). Consumes b c (x ∷ [])) e k); plain = h.plain }
+
+pub longest_passed : (a b c : Option (List ℕ)) (line : List ℕ) (byte : ℕ) → ReadsPlain a b line → Consumes b c (byte ∷ []) → (byte ≡ 10 → ⊥) → length line ≡ 268435456 → ReadsLong a c
+longest_passed a b c line byte h k n e = record {
+  bytes = line ++ byte ∷ [];
+  part = plain_run a b c line (byte ∷ []) h k (rw (not_a_feed byte n) refl);
+  long = length-append line (byte ∷ []) ∙ ap (λ x. x + 1) e;
+}
+
+pub longest_part : (a b c : Option (List ℕ)) (line : List ℕ) → ReadsPlain a b line → Keeps b c → length line ≡ 268435456 → ReadsPart a c
+longest_part a b c line h k n = part_of a c line (plain_kept a b c line h k) (omega arith)
+
+pub longest_last : (a b c : Option (List ℕ)) (line : List ℕ) → ReadsPlain a b line → IsAtEnd b → Keeps b c → length line ≡ 268435456 → ReadsLast a c line
+longest_last a b c line h e k n = last_of a b c line h e k (omega arith) (omega arith)

@@ -1,13 +1,14 @@
 -- Serving line by line, and the lines of the whole input.
-use Rattle.std.proofs.Common.{◌≡◌, ◌<◌, ◌≤◌, ℕ, ◌+◌, inl, inr, ◌⊎◌, List, [], ◌∷◌, ◌++◌, length, Option, Some, None, Err, refl, sym, ◌∙◌, ap, subst, arith, append_assoc, append-nil, length-append}
+use Rattle.std.proofs.Common.{◌≡◌, ◌<◌, ◌≤◌, ℕ, ◌+◌, inl, inr, ◌⊎◌, List, [], ◌∷◌, ◌++◌, length, Option, Some, None, Err, refl, sym, ◌∙◌, ap, subst, arith, add-one, append_assoc, append-nil, length-append}
 use Rattle.std.specs.Prelude.{⊤, All}
 use Rattle.std.specs.Io.KnownBytes.{Appends, Keeps}
 use Rattle.std.proofs.lemmas.List.Elements.{All-nil, All-push}
 use Rattle.std.proofs.KnownBytes.{Appends-nil, Appends-trans, Appends-kept}
 use Rattle.rb_requests.specs.Asked.{call_of}
 use Rattle.rb_engine.specs.History.{State}
-use Rattle.rb_requests.specs.Lines.{AnswersLine, LineMayTell, Replies, lines_of}
-use Rattle.rb_requests.specs.Served.{AnswersAll, Answers, IsShort, feeds, Stands, IsNext, TakesEffect, AfterFault}
+use Rattle.rb_requests.specs.Lines.{AnswersLine, LineMayTell, Replies, lines_of, feeds}
+use Rattle.rb_requests.specs.Device.{risen, risen_by}
+use Rattle.rb_requests.specs.Served.{AnswersAll, Answers, IsShort, at, Stands, IsNext, TakesEffect, AfterFault}
 use Rattle.rb_requests.specs.OneLine.{Wrote, WrotePart, WroteNone, WroteSome, FailsLine}
 use Rattle.rb_requests.specs.Taken.{ReadsEnded, ReadsLast, ReadsEnd, ReadsLine, LooksAtEnd}
 use Rattle.rb_requests.specs.declared.lines.ServeFault.{ServeFault}
@@ -32,18 +33,19 @@ Known first now None left written written' count = ⊤
 Known first now (Some input) None written written' count = ⊥
 Known first now (Some input) (Some left) written written' count = SoFar first now input left written written' count
 
--- and no call of a device has failed
-pub record Serves (first now : State) (input left written written' : Option (List ℕ)) (count reads reads' writes writes' : ℕ) : Type 0 where
+-- and no call of a device has failed, and each reply is settled
+pub record Serves (first now : State) (input left written written' : Option (List ℕ)) (count reads reads' writes writes' settled settled' : ℕ) : Type 0 where
   pub known : Known first now input left written written' count
   pub quiet : reads' ≡ reads
   pub still : writes' ≡ writes
+  pub handed : settled' ≡ risen_by settled count
 
 known_first : (s : State) (left written : Option (List ℕ)) → Known s s left left written written 0
 known_first s None written = tt
 known_first s (Some input) written = record { done = []; taken = refl; lines = []; split = refl; fed = refl; many = refl; short = All-nil IsShort; text = []; replies = (refl, refl); wrote = Appends-nil written }
 
-pub at_first : (s : State) (left written : Option (List ℕ)) (reads writes : ℕ) → Serves s s left left written written 0 reads reads writes writes
-at_first s left written reads writes = record { known = known_first s left written; quiet = refl; still = refl }
+pub at_first : (s : State) (left written : Option (List ℕ)) (reads writes settled : ℕ) → Serves s s left left written written 0 reads reads writes writes settled settled
+at_first s left written reads writes settled = record { known = known_first s left written; quiet = refl; still = refl; handed = refl }
 
 -- ---- more is read, and one line more is answered
 
@@ -60,6 +62,12 @@ stand first now input left left' bytes a b count most h e m = record {
   text = h.text;
   replies = h.replies;
 }
+
+settled_for : (n count s s' : ℕ) → n ≡ count → s' ≡ risen_by s count → s' ≡ risen_by s n
+settled_for n count s s' e h = h ∙ ap (risen_by s) (sym e)
+
+pub one_settled : (s count : ℕ) → risen (risen_by s count) ≡ risen_by s (count + 1)
+one_settled s count = ap (risen_by s) (sym (add-one count))
 
 fewer : (n count most : ℕ) → n ≡ count → count < most → n < most
 fewer n count most e m = subst (λ (x : ℕ). x < most) (sym e) m
@@ -98,20 +106,21 @@ known_next first now mid (Some input) None left' a b c line count h k w = absurd
 known_next first now mid (Some input) (Some l) None a b c line count h k w = absurd k.read
 known_next first now mid (Some input) (Some l) (Some l') a b c line count h k w = one_more first now mid input l l' line a b c count h k.read k.plain k.short w
 
-pub next : (first now mid : State) (input left left' a b c : Option (List ℕ)) (line : List ℕ) (count f f' f'' g g' g'' : ℕ) → Serves first now input left a b count f f' g g' → ReadsEnded left left' line → f'' ≡ f' → Wrote now line b c mid → g'' ≡ g' → Serves first mid input left' a c (count + 1) f f'' g g''
-next first now mid input left left' a b c line count f f' f'' g g' g'' h k q w r = record {
+pub next : (first now mid : State) (input left left' a b c : Option (List ℕ)) (line : List ℕ) (count f f' f'' g g' g'' s s' s'' : ℕ) → Serves first now input left a b count f f' g g' s s' → ReadsEnded left left' line → f'' ≡ f' → Wrote now line b c mid → g'' ≡ g' → s'' ≡ risen s' → Serves first mid input left' a c (count + 1) f f'' g g'' s s''
+next first now mid input left left' a b c line count f f' f'' g g' g'' s s' s'' h k q w r t = record {
   known = known_next first now mid input left left' a b c line count h.known k w;
   quiet = q ∙ h.quiet;
   still = r ∙ h.still;
+  handed = t ∙ (ap risen h.handed ∙ one_settled s count);
 }
 
 -- ---- the end of the input
 
-pub all_read : (first now : State) (input left left' a b : Option (List ℕ)) (count : ℕ) → Known first now input left a b count → ReadsEnd left left' → AnswersAll first now input left' a b count
-all_read first now None left left' a b count h k = tt
-all_read first now (Some input) None left' a b count h k = absurd h
-all_read first now (Some input) (Some l) None a b count h k = absurd k.kept
-all_read first now (Some input) (Some l) (Some l') a b count h k =
+pub all_read : (first now : State) (input left left' a b : Option (List ℕ)) (count s s' : ℕ) → Known first now input left a b count → ReadsEnd left left' → AnswersAll (at first input a s) (at now left' b s') count
+all_read first now None left left' a b count s s' h k = tt
+all_read first now (Some input) None left' a b count s s' h k = absurd h
+all_read first now (Some input) (Some l) None a b count s s' h k = absurd k.kept
+all_read first now (Some input) (Some l) (Some l') a b count s s' h k =
     let all : lines_of input ≡ h.lines = h.split ∙ (ap (λ x. h.lines ++ lines_of x) k.end ∙ append-nil h.lines) in
     record {
       read = ap Some (k.kept ∙ k.end);
@@ -126,8 +135,8 @@ nothing_behind : (line rest : List ℕ) → line ≡ line ++ rest → rest ≡ [
 nothing_behind line [] h = refl
 nothing_behind line (b ∷ rest) h = let l = ap length h ∙ length-append line (b ∷ rest) in absurd (omega arith)
 
-last_answered : (first now mid : State) (input left left' line : List ℕ) (a b c : Option (List ℕ)) (count : ℕ) → SoFar first now input left a b count → left ≡ line ++ left' → ReadsLast (Some left) (Some left') line → Wrote now line b c mid → Answers first mid input (Some left') a c (count + 1)
-last_answered first now mid input left left' line a b c count h e k (text, told, wrote) =
+last_answered : (first now mid : State) (input left left' line : List ℕ) (a b c : Option (List ℕ)) (count s s' : ℕ) → SoFar first now input left a b count → left ≡ line ++ left' → ReadsLast (Some left) (Some left') line → Wrote now line b c mid → Answers (at first (Some input) a s) (at mid (Some left') c s') input (count + 1)
+last_answered first now mid input left left' line a b c count s s' h e k (text, told, wrote) =
     let only = ap lines_of (sym k.all) ∙ lines_of-last line k.part.plain k.some in
     let all : lines_of input ≡ h.lines ++ line ∷ [] = h.split ∙ ap (λ x. h.lines ++ x) only in
     record {
@@ -139,11 +148,11 @@ last_answered first now mid input left left' line a b c count h e k (text, told,
       short = subst (All IsShort) (sym all) (All-push IsShort h.lines line h.short k.short);
     }
 
-pub all_answered : (first now mid : State) (input left left' a b c : Option (List ℕ)) (line : List ℕ) (count : ℕ) → Known first now input left a b count → ReadsLast left left' line → Wrote now line b c mid → AnswersAll first mid input left' a c (count + 1)
-all_answered first now mid None left left' a b c line count h k w = tt
-all_answered first now mid (Some input) None left' a b c line count h k w = absurd h
-all_answered first now mid (Some input) (Some l) None a b c line count h k w = absurd k.part.read
-all_answered first now mid (Some input) (Some l) (Some l') a b c line count h k w = last_answered first now mid input l l' line a b c count h k.part.read k w
+pub all_answered : (first now mid : State) (input left left' a b c : Option (List ℕ)) (line : List ℕ) (count s s' : ℕ) → Known first now input left a b count → ReadsLast left left' line → Wrote now line b c mid → AnswersAll (at first input a s) (at mid left' c s') (count + 1)
+all_answered first now mid None left left' a b c line count s s' h k w = tt
+all_answered first now mid (Some input) None left' a b c line count s s' h k w = absurd h
+all_answered first now mid (Some input) (Some l) None a b c line count s s' h k w = absurd k.part.read
+all_answered first now mid (Some input) (Some l) (Some l') a b c line count s s' h k w = last_answered first now mid input l l' line a b c count s s' h k.part.read k w
 
 -- ---- a line that is not read whole
 
@@ -159,46 +168,49 @@ part_short (b ∷ bytes) p s = rw (lines_of-last (b ∷ bytes) p (omega arith)) 
 below_most : (n count most : ℕ) → n ≡ count → count < most → n ≡ most → ⊥
 below_most n count most e m f = omega arith
 
-unread : (fault : ServeFault) (first now : State) (input left left' : List ℕ) (a b : Option (List ℕ)) (count most : ℕ) → SoFar first now input left a b count → count < most → ReadsLine (Some left) (Some left') (Err fault) → AfterFault fault first now (Some input) (Some left') a b most
-unread Read first now input left left' a b count most h m k = record {
+unread : (fault : ServeFault) (first now : State) (input left left' : List ℕ) (a b : Option (List ℕ)) (count most s s' : ℕ) (line : List ℕ) → SoFar first now input left a b count → count < most → s' ≡ risen_by s count → ReadsLine (Some left) (Some left') line (Err fault) → AfterFault fault (at first (Some input) a s) (at now (Some left') b s') most
+unread Read first now input left left' a b count most s s' line h m t k = record {
   stands = stand first now input left left' k.bytes a b count most h k.part.read (omega arith);
   wrote = h.wrote;
+  settled = settled_for (length h.lines) count s s' h.many t;
   part = k.part.plain;
   short = k.short;
   last = λ e. absurd (below_most (length h.lines) count most h.many m e);
 }
-unread Memory first now input left left' a b count most h m k = record {
+unread Memory first now input left left' a b count most s s' line h m t k = record {
   now = now;
   stands = stand first now input left left' k.bytes a b count most h k.part.read (omega arith);
   wrote = h.wrote;
+  settled = settled_for (length h.lines) count s s' h.many t;
   part = part_lines k.bytes k.part.plain;
   short = part_short k.bytes k.part.plain k.short;
   more = fewer (length h.lines) count most h.many m;
   next = inl refl;
 }
-unread LineTooLong first now input left left' a b count most h m k = record {
+unread LineTooLong first now input left left' a b count most s s' line h m t k = record {
   stands = stand first now input left left' k.bytes a b count most h k.part.read (omega arith);
   wrote = h.wrote;
+  settled = settled_for (length h.lines) count s s' h.many t;
   part = k.part.plain;
   long = k.long;
   more = fewer (length h.lines) count most h.many m;
 }
-unread LineLimit first now input left left' a b count most h m k = absurd k
-unread Write first now input left left' a b count most h m k = absurd k
+unread LineLimit first now input left left' a b count most s s' line h m t k = absurd k
+unread Write first now input left left' a b count most s s' line h m t k = absurd k
 
 -- what is read stays known
-still_known : (fault : ServeFault) (l : List ℕ) → ReadsLine (Some l) None (Err fault) → ⊥
-still_known Read l k = k.part.read
-still_known Memory l k = k.part.read
-still_known LineTooLong l k = k.part.read
-still_known LineLimit l k = k
-still_known Write l k = k
+still_known : (fault : ServeFault) (l line : List ℕ) → ReadsLine (Some l) None line (Err fault) → ⊥
+still_known Read l line k = k.part.read
+still_known Memory l line k = k.part.read
+still_known LineTooLong l line k = k.part.read
+still_known LineLimit l line k = k
+still_known Write l line k = k
 
-pub not_read : (fault : ServeFault) (first now : State) (input left left' a b : Option (List ℕ)) (count most : ℕ) → Known first now input left a b count → count < most → ReadsLine left left' (Err fault) → AfterFault fault first now input left' a b most
-not_read fault first now None left left' a b count most h m k = tt
-not_read fault first now (Some input) None left' a b count most h m k = absurd h
-not_read fault first now (Some input) (Some l) None a b count most h m k = absurd (still_known fault l k)
-not_read fault first now (Some input) (Some l) (Some l') a b count most h m k = unread fault first now input l l' a b count most h m k
+pub not_read : (fault : ServeFault) (first now : State) (input left left' a b : Option (List ℕ)) (count most s s' : ℕ) (line : List ℕ) → Known first now input left a b count → count < most → s' ≡ risen_by s count → ReadsLine left left' line (Err fault) → AfterFault fault (at first input a s) (at now left' b s') most
+not_read fault first now None left left' a b count most s s' line h m t k = tt
+not_read fault first now (Some input) None left' a b count most s s' line h m t k = absurd h
+not_read fault first now (Some input) (Some l) None a b count most s s' line h m t k = absurd (still_known fault l line k)
+not_read fault first now (Some input) (Some l) (Some l') a b count most s s' line h m t k = unread fault first now input l l' a b count most s s' line h m t k
 
 -- ---- a line that is not answered
 
@@ -209,19 +221,21 @@ may_have_told now new begun left line n (inr told) = inr (line, n, told)
 one_line : (begun line : List ℕ) → lines_of begun ≡ line ∷ [] → length (lines_of begun) ≤ 1
 one_line begun line e = rw e (omega arith)
 
-unanswered : (fault : ServeFault) (first now new : State) (input left left' bytes line : List ℕ) (a b c : Option (List ℕ)) (count most : ℕ) (h : SoFar first now input left a b count) → count < most → left ≡ bytes ++ left' → IsNext bytes left' line → FailsLine fault now line b c new → AfterFault fault first new (Some input) (Some left') a c most
-unanswered Memory first now new input left left' bytes line a b c count most h m e n k = record {
+unanswered : (fault : ServeFault) (first now new : State) (input left left' bytes line : List ℕ) (a b c : Option (List ℕ)) (count most s s' : ℕ) (h : SoFar first now input left a b count) → count < most → s' ≡ risen_by s count → left ≡ bytes ++ left' → IsNext bytes left' line → FailsLine fault now line b c new → AfterFault fault (at first (Some input) a s) (at new (Some left') c s') most
+unanswered Memory first now new input left left' bytes line a b c count most s s' h m t e n k = record {
   now = now;
   stands = stand first now input left left' bytes a b count most h e (omega arith);
   wrote = subst (λ (x : List ℕ). Appends a c x) (append-nil h.text) (Appends-trans a b c h.text [] h.wrote k.kept);
+  settled = settled_for (length h.lines) count s s' h.many t;
   part = one_line bytes line n.read;
   short = subst (All IsShort) (sym n.read) (All-push IsShort [] line (All-nil IsShort) n.short);
   more = fewer (length h.lines) count most h.many m;
   next = may_have_told now new bytes left' line n k.tells;
 }
-unanswered Write first now new input left left' bytes line a b c count most h m e n k = record {
+unanswered Write first now new input left left' bytes line a b c count most s s' h m t e n k = record {
   now = now;
   stands = stand first now input left left' bytes a b count most h e (omega arith);
+  settled = settled_for (length h.lines) count s s' h.many t;
   more = fewer (length h.lines) count most h.many m;
   line = line;
   next = n;
@@ -230,47 +244,49 @@ unanswered Write first now new input left left' bytes line a b c count most h m 
   answers = subst (λ (x : List ℕ). AnswersLine now line x new) (sym k.wrote.whole) k.answers;
   wrote = Appends-trans a b c h.text k.wrote.part h.wrote k.wrote.wrote;
 }
-unanswered Read first now new input left left' bytes line a b c count most h m e n k = absurd k
-unanswered LineLimit first now new input left left' bytes line a b c count most h m e n k = absurd k
-unanswered LineTooLong first now new input left left' bytes line a b c count most h m e n k = absurd k
+unanswered Read first now new input left left' bytes line a b c count most s s' h m t e n k = absurd k
+unanswered LineLimit first now new input left left' bytes line a b c count most s s' h m t e n k = absurd k
+unanswered LineTooLong first now new input left left' bytes line a b c count most s s' h m t e n k = absurd k
 
-pub not_answered : (fault : ServeFault) (first now new : State) (input left left' a b c : Option (List ℕ)) (line : List ℕ) (count most : ℕ) → Known first now input left a b count → count < most → ReadsEnded left left' line → FailsLine fault now line b c new → AfterFault fault first new input left' a c most
-not_answered fault first now new None left left' a b c line count most h m k w = tt
-not_answered fault first now new (Some input) None left' a b c line count most h m k w = absurd h
-not_answered fault first now new (Some input) (Some l) None a b c line count most h m k w = absurd k.read
-not_answered fault first now new (Some input) (Some l) (Some l') a b c line count most h m k w =
+pub not_answered : (fault : ServeFault) (first now new : State) (input left left' a b c : Option (List ℕ)) (line : List ℕ) (count most s s' : ℕ) → Known first now input left a b count → count < most → s' ≡ risen_by s count → ReadsEnded left left' line → FailsLine fault now line b c new → AfterFault fault (at first input a s) (at new left' c s') most
+not_answered fault first now new None left left' a b c line count most s s' h m t k w = tt
+not_answered fault first now new (Some input) None left' a b c line count most s s' h m t k w = absurd h
+not_answered fault first now new (Some input) (Some l) None a b c line count most s s' h m t k w = absurd k.read
+not_answered fault first now new (Some input) (Some l) (Some l') a b c line count most s s' h m t k w =
     let n : IsNext (line ++ 10 ∷ []) l' line = record { read = lines_of-ended line [] k.plain; whole = ended_lines ((line ++ 10 ∷ []) ++ l') l' line refl k.plain; short = k.short } in
-    unanswered fault first now new input l l' (line ++ 10 ∷ []) line a b c count most h m k.read n w
+    unanswered fault first now new input l l' (line ++ 10 ∷ []) line a b c count most s s' h m t k.read n w
 
-pub last_not_answered : (fault : ServeFault) (first now new : State) (input left left' a b c : Option (List ℕ)) (line : List ℕ) (count most : ℕ) → Known first now input left a b count → count < most → ReadsLast left left' line → FailsLine fault now line b c new → AfterFault fault first new input left' a c most
-last_not_answered fault first now new None left left' a b c line count most h m k w = tt
-last_not_answered fault first now new (Some input) None left' a b c line count most h m k w = absurd h
-last_not_answered fault first now new (Some input) (Some l) None a b c line count most h m k w = absurd k.part.read
-last_not_answered fault first now new (Some input) (Some l) (Some l') a b c line count most h m k w =
+pub last_not_answered : (fault : ServeFault) (first now new : State) (input left left' a b c : Option (List ℕ)) (line : List ℕ) (count most s s' : ℕ) → Known first now input left a b count → count < most → s' ≡ risen_by s count → ReadsLast left left' line → FailsLine fault now line b c new → AfterFault fault (at first input a s) (at new left' c s') most
+last_not_answered fault first now new None left left' a b c line count most s s' h m t k w = tt
+last_not_answered fault first now new (Some input) None left' a b c line count most s s' h m t k w = absurd h
+last_not_answered fault first now new (Some input) (Some l) None a b c line count most s s' h m t k w = absurd k.part.read
+last_not_answered fault first now new (Some input) (Some l) (Some l') a b c line count most s s' h m t k w =
     let one = lines_of-last line k.part.plain k.some in
     let none : l' ≡ [] = nothing_behind line l' (k.all ∙ k.part.read) in
     let n : IsNext line l' line = record { read = one; whole = rw none (ap lines_of (append-nil line) ∙ one); short = k.short } in
-    unanswered fault first now new input l l' line line a b c count most h m k.part.read n w
+    unanswered fault first now new input l l' line line a b c count most s s' h m t k.part.read n w
 
 -- ---- where no line may follow
 
-ends : (fault : ServeFault) (first now : State) (input left left' : List ℕ) (a b : Option (List ℕ)) (count : ℕ) → SoFar first now input left a b count → LooksAtEnd (Some left) (Some left') (Err fault) → AfterFault fault first now (Some input) (Some left') a b count
-ends LineLimit first now input left left' a b count h (byte, k) = record {
+ends : (fault : ServeFault) (first now : State) (input left left' : List ℕ) (a b : Option (List ℕ)) (count s s' : ℕ) → SoFar first now input left a b count → s' ≡ risen_by s count → LooksAtEnd (Some left) (Some left') (Err fault) → AfterFault fault (at first (Some input) a s) (at now (Some left') b s') count
+ends LineLimit first now input left left' a b count s s' h t (byte, k) = record {
   stands = stand first now input left left' (byte ∷ []) a b count count h k (omega arith);
   wrote = h.wrote;
+  settled = settled_for (length h.lines) count s s' h.many t;
   byte = refl;
   all = h.many;
 }
-ends Read first now input left left' a b count h k = record {
+ends Read first now input left left' a b count s s' h t k = record {
   stands = stand first now input left left' [] a b count count h (sym k) (omega arith);
   wrote = h.wrote;
+  settled = settled_for (length h.lines) count s s' h.many t;
   part = refl;
   short = omega arith;
   last = λ e. refl;
 }
-ends Write first now input left left' a b count h k = absurd k
-ends LineTooLong first now input left left' a b count h k = absurd k
-ends Memory first now input left left' a b count h k = absurd k
+ends Write first now input left left' a b count s s' h t k = absurd k
+ends LineTooLong first now input left left' a b count s s' h t k = absurd k
+ends Memory first now input left left' a b count s s' h t k = absurd k
 
 still_known_at_end : (fault : ServeFault) (l : List ℕ) → LooksAtEnd (Some l) None (Err fault) → ⊥
 still_known_at_end LineLimit l k = k.1
@@ -279,11 +295,11 @@ still_known_at_end Write l k = k
 still_known_at_end LineTooLong l k = k
 still_known_at_end Memory l k = k
 
-pub no_end : (fault : ServeFault) (first now : State) (input left left' a b : Option (List ℕ)) (count : ℕ) → Known first now input left a b count → LooksAtEnd left left' (Err fault) → AfterFault fault first now input left' a b count
-no_end fault first now None left left' a b count h k = tt
-no_end fault first now (Some input) None left' a b count h k = absurd h
-no_end fault first now (Some input) (Some l) None a b count h k = absurd (still_known_at_end fault l k)
-no_end fault first now (Some input) (Some l) (Some l') a b count h k = ends fault first now input l l' a b count h k
+pub no_end : (fault : ServeFault) (first now : State) (input left left' a b : Option (List ℕ)) (count s s' : ℕ) → Known first now input left a b count → s' ≡ risen_by s count → LooksAtEnd left left' (Err fault) → AfterFault fault (at first input a s) (at now left' b s') count
+no_end fault first now None left left' a b count s s' h t k = tt
+no_end fault first now (Some input) None left' a b count s s' h t k = absurd h
+no_end fault first now (Some input) (Some l) None a b count s s' h t k = absurd (still_known_at_end fault l k)
+no_end fault first now (Some input) (Some l) (Some l') a b count s s' h t k = ends fault first now input l l' a b count s s' h t k
 
 -- ---- one reply
 

@@ -1,5 +1,5 @@
--- What calls of a reader and a writer do to the bytes, as std's `Read` and `Write` have it, and to the count of failed calls.
-use Rattle.std.specs.Prelude.{ℕ, ◌+◌, ◌-◌, ◌^◌, min, List, [], ◌∷◌, Option, Some, None, Result, Ok, Err}
+-- What calls of a reader and a writer do to the bytes, as std's `Read` and `Write` have it, and to the counts of failed calls and of settled ones.
+use Rattle.std.specs.Prelude.{ℕ, zero, suc, ◌+◌, ◌-◌, ◌^◌, min, List, [], ◌∷◌, Option, Some, None, Result, Ok, Err}
 use Rattle.std.specs.Io.KnownBytes.{Keeps, Consumes, IsAtEnd}
 use Rattle.rb_requests.specs.declared.device.Failed.{Failed}
 
@@ -17,3 +17,13 @@ risen count = min (count + 1) (2 ^ 64 - 1)
 abbrev pub counted : {T : Type 0} → ℕ → Result T Failed → ℕ
 counted old (Ok x) = old
 counted old (Err e) = risen old
+
+-- a count that has risen so many times
+abbrev pub risen_by : ℕ → ℕ → ℕ
+risen_by count zero = count
+risen_by count (suc n) = risen (risen_by count n)
+
+-- a call that succeeds raises the count
+abbrev pub settles : {T : Type 0} → ℕ → Result T Failed → ℕ
+settles old (Ok x) = risen old
+settles old (Err e) = old

@@ -6,6 +6,7 @@ pub mod Lines
 pub mod Served
 pub mod OneLine
 pub mod Device
+pub mod Runs
 pub mod Line
 pub mod Taken
 pub mod Isolation

@@ -1,5 +1,5 @@
 -- The lines of a text, and the replies to them: one line of JSON for each (JSON Lines).
-use Rattle.std.specs.Prelude.{◌≡◌, ◌⊎◌, ℕ, List, [], ◌∷◌, ◌++◌, ◌==◌, if◌then◌else◌, Option, Some, None}
+use Rattle.std.specs.Prelude.{◌≡◌, ◌⊎◌, ℕ, ◌+◌, List, [], ◌∷◌, ◌++◌, ◌==◌, if◌then◌else◌, Option, Some, None}
 use Rattle.std.specs.Str.{bytes_eq}
 use Rattle.serde_json.specs.Data.{Data}
 use Rattle.rb_engine.specs.Ask.{Call, Requests, LooksUp, caller, Ask, Means}
@@ -17,6 +17,11 @@ onto_first b (l ∷ ls) = (b ∷ l) ∷ ls
 abbrev pub lines_of : List ℕ → List (List ℕ)
 lines_of [] = []
 lines_of (b ∷ bs) = if b == 10 then [] ∷ lines_of bs else onto_first b (lines_of bs)
+
+-- how many line feeds a text has
+abbrev pub feeds : List ℕ → ℕ
+feeds [] = 0
+feeds (b ∷ bs) = (if b == 10 then 1 else 0) + feeds bs
 
 -- what is once a call has taken effect: the caller's bundles change as it asks, and nothing else; a look-up changes nothing
 abbrev pub state_then : State → Call → Ask → State

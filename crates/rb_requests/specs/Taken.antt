@@ -1,7 +1,8 @@
 -- For what is private. What is read of an input where a line is taken from it.
 use Rattle.std.specs.Prelude.{◌≡◌, ◌<◌, length, ℕ, List, [], ◌∷◌, ◌++◌, ⊤, Option, IfSome, Result, Ok, Err}
 use Rattle.std.specs.Io.KnownBytes.{Consumes, Keeps, IsAtEnd}
-use Rattle.rb_requests.specs.Served.{feeds, IsShort}
+use Rattle.rb_requests.specs.Lines.{feeds}
+use Rattle.rb_requests.specs.Served.{IsShort}
 use Rattle.rb_requests.specs.declared.lines.NextLine.{NextLine}
 use Rattle.rb_requests.specs.declared.lines.NextLine.TheVariants.{Ended, Last, End}
 use Rattle.rb_requests.specs.declared.lines.ServeFault.{ServeFault}
@@ -42,15 +43,16 @@ pub record ReadsEnd (old new : Option (List ℕ)) : Type 0 where
   pub end : IsAtEnd old
   pub kept : Keeps old new
 
-abbrev pub ReadsLine : Option (List ℕ) → Option (List ℕ) → Result NextLine ServeFault → Type 0
-ReadsLine old new (Ok (Ended line)) = ReadsEnded old new line.items
-ReadsLine old new (Ok (Last line)) = ReadsLast old new line.items
-ReadsLine old new (Ok End) = ReadsEnd old new
-ReadsLine old new (Err Read) = ReadsPart old new
-ReadsLine old new (Err Memory) = ReadsPart old new
-ReadsLine old new (Err LineTooLong) = ReadsLong old new
-ReadsLine old new (Err LineLimit) = ⊥
-ReadsLine old new (Err Write) = ⊥
+-- what is read, with the line that it gives
+abbrev pub ReadsLine : Option (List ℕ) → Option (List ℕ) → List ℕ → Result NextLine ServeFault → Type 0
+ReadsLine old new line (Ok Ended) = ReadsEnded old new line
+ReadsLine old new line (Ok Last) = ReadsLast old new line
+ReadsLine old new line (Ok End) = ReadsEnd old new
+ReadsLine old new line (Err Read) = ReadsPart old new
+ReadsLine old new line (Err Memory) = ReadsPart old new
+ReadsLine old new line (Err LineTooLong) = ReadsLong old new
+ReadsLine old new line (Err LineLimit) = ⊥
+ReadsLine old new line (Err Write) = ⊥
 
 -- where no line may follow: nothing does, or a byte, or that is not known
 abbrev pub LooksAtEnd : Option (List ℕ) → Option (List ℕ) → Result ⊤ ServeFault → Type 0

@@ -1,17 +1,32 @@
-//! Readers by the byte, writers, and the wrappers that make them of any `Read` and `Write`.
+//! Readers by the byte and by the run, writers, and the wrappers that make them of any `BufRead` and `Write`.
 
 ghost use Rattle.std.specs.Prelude.{◌≡◌, ◌<◌, ◌≤◌, ℕ, List, Option, length, IfOk};
 ghost use Rattle.std.specs.Io.KnownBytes.{Keeps, WriteAppends};
 
-use std::io::{Read, Write};
+use memchr::memchr;
+use std::io::{BufRead, Write};
 
 /// A call of a reader or a writer failed.
 #[derive(Clone, Copy, Debug, PartialEq, Eq)]
 pub struct Failed;
 
-/// What gives bytes one by one.
+/// How a run of bytes ended.
+#[derive(Clone, Copy, Debug, PartialEq, Eq)]
+pub enum Run {
+    /// At a line feed, which is taken too.
+    Feed,
+    /// Within a line.
+    Part,
+    /// At the end of the input.
+    End,
+    /// Out of memory for the line.
+    Memory,
+}
+
+/// What gives bytes, one by one or by the run.
 pub trait Feed {
     ghost use Rattle.rb_requests.specs.Device.{Pulls, counted};
+    ghost use Rattle.rb_requests.specs.Runs.{RunRead};
 
     /// The bytes that are left, where they are known.
     ghost left: { Self → Option (List ℕ) };
@@ -23,11 +38,32 @@ pub trait Feed {
     fn pull(&mut self) -> Result<Option<u8>, Failed>
         ensures bytes { Pulls (left self.old) (left self.new) result }
         ensures count { faults self.new ≡ counted (faults self.old) result };
+
+    /// Moves the next bytes onto the end of a line, at least one and at most so many: up to a line feed, which is taken and not moved,
+    /// or a part of the line. They are those that calls of `pull` would give. After an error nothing is taken.
+    fn pull_run(&mut self, line: &mut Vec<u8>, most: usize) -> Result<Run, Failed>
+        requires { 0 < most }
+        ensures bytes { RunRead (left self.old) (left self.new) line.old.items line.new.items most result }
+        ensures count { faults self.new ≡ counted (faults self.old) result }
+    {
+        match self.pull() {
+            Ok(Some(b'\n')) => Ok(Run::Feed),
+            Ok(Some(byte)) => {
+                if line.push(byte).is_ok() {
+                    Ok(Run::Part)
+                } else {
+                    Ok(Run::Memory)
+                }
+            }
+            Ok(None) => Ok(Run::End),
+            Err(failed) => Err(failed),
+        }
+    }
 }
 
 /// What takes bytes.
 pub trait Sink {
-    ghost use Rattle.rb_requests.specs.Device.{counted};
+    ghost use Rattle.rb_requests.specs.Device.{counted, settles};
 
     /// The bytes that were written, where they are known.
     ghost written: { Self → Option (List ℕ) };
@@ -35,27 +71,32 @@ pub trait Sink {
     /// How many calls have failed, up to the largest `u64`.
     ghost faults: { Self → ℕ };
 
+    /// How many calls of `settle` have succeeded, up to the largest `u64`.
+    ghost settled: { Self → ℕ };
+
     /// Takes bytes from the front, at least one if there is one, and says how many.
     fn put(&mut self, bytes: &[u8]) -> Result<usize, Failed>
         ensures most { IfOk result (λ n. n ≤ length bytes.now) }
         ensures some { 0 < length bytes.now → IfOk result (λ n. 0 < n) }
         ensures bytes { WriteAppends (written self.old) (written self.new) result bytes.now }
-        ensures count { faults self.new ≡ counted (faults self.old) result };
+        ensures count { faults self.new ≡ counted (faults self.old) result }
+        ensures settled { settled self.new ≡ settled self.old };
 
     /// Hands on what was taken.
     fn settle(&mut self) -> Result<(), Failed>
         ensures bytes { Keeps (written self.old) (written self.new) }
-        ensures count { faults self.new ≡ counted (faults self.old) result };
+        ensures count { faults self.new ≡ counted (faults self.old) result }
+        ensures settled { settled self.new ≡ settles (settled self.old) result };
 }
 
 /// A reader as a feed.
 #[derive(Drop)]
-pub struct ReadFeed<R: Read> {
+pub struct ReadFeed<R: BufRead> {
     inner: R,
     failed: u64,
 }
 
-impl<R: Read> ReadFeed<R> {
+impl<R: BufRead> ReadFeed<R> {
     /// A feed of what a reader has left. No call has failed.
     pub fn new(inner: R) -> Self
         ensures left { ⟦<ReadFeed<R> as Feed>⟧.left result ≡ R.remaining inner }
@@ -63,9 +104,16 @@ impl<R: Read> ReadFeed<R> {
     {
         ReadFeed { inner, failed: 0 }
     }
+
+    /// The reader.
+    pub fn get_ref(&self) -> &R
+        ensures { ⟦<ReadFeed<R> as Feed>⟧.left self.now ≡ R.remaining result.now }
+    {
+        &self.inner
+    }
 }
 
-impl<R: Read> Feed for ReadFeed<R> {
+impl<R: BufRead> Feed for ReadFeed<R> {
     ghost left = { λ f. R.remaining f.inner };
 
     ghost faults = { λ f. f.failed };
@@ -81,6 +129,37 @@ impl<R: Read> Feed for ReadFeed<R> {
             }
         }
     }
+
+    fn pull_run(&mut self, line: &mut Vec<u8>, most: usize) -> Result<Run, Failed> {
+        let held = match self.inner.fill_buf() {
+            Ok(held) => held,
+            Err(_) => {
+                self.failed = self.failed.saturating_add(1);
+                return Err(Failed);
+            }
+        };
+        if held.is_empty() {
+            return Ok(Run::End);
+        }
+        let front = &held[..held.len().min(most)];
+        match memchr(b'\n', front) {
+            Some(end) => {
+                if line.extend_from_slice(&front[..end]).is_err() {
+                    return Ok(Run::Memory);
+                }
+                self.inner.consume(end + 1);
+                Ok(Run::Feed)
+            }
+            None => {
+                let len = front.len();
+                if line.extend_from_slice(front).is_err() {
+                    return Ok(Run::Memory);
+                }
+                self.inner.consume(len);
+                Ok(Run::Part)
+            }
+        }
+    }
 }
 
 /// A writer as a sink.
@@ -88,15 +167,21 @@ impl<R: Read> Feed for ReadFeed<R> {
 pub struct WriteSink<W: Write> {
     inner: W,
     failed: u64,
+    settled: u64,
 }
 
 impl<W: Write> WriteSink<W> {
-    /// A sink over what a writer holds. No call has failed.
+    /// A sink over what a writer holds. No call has failed, and none has settled.
     pub fn new(inner: W) -> Self
         ensures written { ⟦<WriteSink<W> as Sink>⟧.written result ≡ W.contents inner }
         ensures faults { ⟦<WriteSink<W> as Sink>⟧.faults result ≡ 0 }
+        ensures settled { ⟦<WriteSink<W> as Sink>⟧.settled result ≡ 0 }
     {
-        WriteSink { inner, failed: 0 }
+        WriteSink {
+            inner,
+            failed: 0,
+            settled: 0,
+        }
     }
 }
 
@@ -104,6 +189,8 @@ impl<W: Write> Sink for WriteSink<W> {
     ghost written = { λ s. W.contents s.inner };
 
     ghost faults = { λ s. s.failed };
+
+    ghost settled = { λ s. s.settled };
 
     fn put(&mut self, bytes: &[u8]) -> Result<usize, Failed> {
         match self.inner.write(bytes) {
@@ -121,7 +208,10 @@ impl<W: Write> Sink for WriteSink<W> {
 
     fn settle(&mut self) -> Result<(), Failed> {
         match self.inner.flush() {
-            Ok(()) => Ok(()),
+            Ok(()) => {
+                self.settled = self.settled.saturating_add(1);
+                Ok(())
+            }
             Err(_) => {
                 self.failed = self.failed.saturating_add(1);
                 Err(Failed)

@@ -12,7 +12,7 @@ mod limits;
 mod lines;
 mod told;
 
-pub use device::{Failed, Feed, ReadFeed, Sink, WriteSink};
+pub use device::{Failed, Feed, ReadFeed, Run, Sink, WriteSink};
 pub use item::item_text;
 pub use limits::LINE_LIMIT;
 pub use lines::{ServeFault, Served, serve};

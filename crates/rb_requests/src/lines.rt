@@ -1,16 +1,17 @@
 //! Requests and replies by the line.
-ghost use Rattle.std.specs.Prelude.{◌≡◌, ◌≤◌, Ok, IfOk, IfErr, OnOk, Option, List, ℕ, length, drop};
+ghost use Rattle.std.specs.Prelude.{◌≡◌, ◌≤◌, Ok, IfOk, IfErr, OnOk, Option, List, [], ℕ, length, drop};
 ghost use Rattle.std.specs.Io.KnownBytes.{Appends, IsAtEnd, Keeps};
 ghost use Rattle.rb_engine.specs.Kept.{state_of};
 ghost use Rattle.rb_requests.specs.Lines.{AnswersLine};
 ghost use Rattle.rb_requests.specs.Taken.{ReadsLine, ReadsPlain, LooksAtEnd};
-ghost use Rattle.rb_requests.specs.Served.{AnswersAll, AfterFault, IsShort, reads_failed, writes_failed};
+ghost use Rattle.rb_requests.specs.Device.{risen_by};
+ghost use Rattle.rb_requests.specs.Served.{AnswersAll, AfterFault, IsShort, at, reads_failed, writes_failed, reply_settled};
 ghost use Rattle.rb_requests.specs.OneLine.{Wrote, WrotePart, FailsLine};
 ghost use Rattle.rb_requests.specs.declared.lines.ServeFault.TheVariants as faults;
 ghost use Rattle.rb_requests.specs.Words.{serve_word};
 
 use crate::answer::reply_of;
-use crate::device::{Failed, Feed, Sink};
+use crate::device::{Failed, Feed, Run, Sink};
 use crate::limits::LINE_LIMIT;
 use rb_engine::Engine;
 use std::alloc::Global;
@@ -58,53 +59,73 @@ pub struct Served {
 }
 
 /// What is read of an input for a line.
-#[derive(Drop)]
+#[derive(Clone, Copy, Debug, PartialEq, Eq)]
 pub(crate) enum NextLine {
     /// A line; its line feed is read too.
-    Ended(Vec<u8>),
+    Ended,
     /// The rest of the input, which ends in no line feed.
-    Last(Vec<u8>),
+    Last,
     /// Nothing was left.
     End,
 }
 
-/// The next line, without its line feed. The byte past the limit is read, and no more.
+/// A buffer above so many bytes isn't kept for the next line.
+const KEPT: usize = 65_536;
+
+/// Empties a buffer, and keeps its memory unless that is large.
+fn empty(alloc: Global, buffer: &mut Vec<u8>)
+    ensures { buffer.new.items ≡ [] }
+{
+    if buffer.capacity() > KEPT {
+        *buffer = Vec::new(alloc);
+    } else {
+        buffer.clear();
+    }
+}
+
+/// Reads the next line, without its line feed, onto an empty one. The byte past the limit is read, and no more.
 #[tactic(auto, using(crate::proofs::Reading::read_none))]
-fn read_line<F: Feed>(alloc: Global, feed: &mut F) -> Result<NextLine, ServeFault>
-    ensures line { ReadsLine (F.left feed.old) (F.left feed.new) result }
+fn read_line<F: Feed>(feed: &mut F, line: &mut Vec<u8>) -> Result<NextLine, ServeFault>
+    requires { line.old.items ≡ [] }
+    ensures line { ReadsLine (F.left feed.old) (F.left feed.new) line.new.items result }
     ensures count { F.faults feed.new ≡ reads_failed (F.faults feed.old) result }
 {
-    let mut line = Vec::new(alloc);
-    'bytes: for taken in 0..LINE_LIMIT + 1 {
-        let pulled = match feed.pull() {
-            Ok(pulled) => pulled,
+    'runs: while line.len() < LINE_LIMIT {
+        match feed.pull_run(line, LINE_LIMIT - line.len()) {
+            Ok(Run::Feed) => return Ok(NextLine::Ended),
+            Ok(Run::Part) => {}
+            Ok(Run::End) => return Ok(last_line(line)),
+            Ok(Run::Memory) => return Err(ServeFault::Memory),
             Err(Failed) => return Err(ServeFault::Read),
-        };
-        let Some(byte) = pulled else {
-            return Ok(last_line(line));
-        };
-        if byte == b'\n' {
-            return Ok(NextLine::Ended(line));
-        }
-        if taken == LINE_LIMIT {
-            return Err(ServeFault::LineTooLong);
-        }
-        if line.push(byte).is_err() {
-            return Err(ServeFault::Memory);
         }
     }
-    Err(ServeFault::LineTooLong)
+    after_longest(feed)
+}
+
+/// Reads what follows the most bytes that a line may have.
+#[tactic(auto, using(crate::proofs::Reading::longest_ended, crate::proofs::Reading::longest_last, crate::proofs::Reading::longest_passed, crate::proofs::Reading::longest_part))]
+fn after_longest<F: Feed>(feed: &mut F) -> Result<NextLine, ServeFault>
+    ensures line { (first : Option (List ℕ)) → (line : List ℕ) → ReadsPlain first (F.left feed.old) line → length line ≡ 268435456
+        → ReadsLine first (F.left feed.new) line result }
+    ensures count { F.faults feed.new ≡ reads_failed (F.faults feed.old) result }
+{
+    match feed.pull() {
+        Ok(Some(b'\n')) => Ok(NextLine::Ended),
+        Ok(Some(_)) => Err(ServeFault::LineTooLong),
+        Ok(None) => Ok(NextLine::Last),
+        Err(Failed) => Err(ServeFault::Read),
+    }
 }
 
 /// A rest with no line feed is a line, if it isn't empty.
 #[tactic(auto, using(crate::proofs::Reading::last_of, crate::proofs::Reading::end_of))]
-fn last_line(line: Vec<u8>) -> NextLine
-    ensures { (old left new : Option (List ℕ)) → ReadsPlain old left line.items → IsAtEnd left → Keeps left new → IsShort line.items → ReadsLine old new (Ok result) }
+fn last_line(line: &[u8]) -> NextLine
+    ensures { (old left new : Option (List ℕ)) → ReadsPlain old left line.now → IsAtEnd left → Keeps left new → IsShort line.now → ReadsLine old new line.now (Ok result) }
 {
     if line.is_empty() {
         NextLine::End
     } else {
-        NextLine::Last(line)
+        NextLine::Last
     }
 }
 
@@ -126,6 +147,7 @@ fn put_all<S: Sink>(sink: &mut S, bytes: &[u8]) -> Result<(), ServeFault>
     ensures bytes { OnOk result (Appends (S.written sink.old) (S.written sink.new) bytes.now) }
     ensures fault { IfErr result (λ fault. (fault ≡ faults.Write) × WrotePart (S.written sink.old) (S.written sink.new) bytes.now) }
     ensures count { S.faults sink.new ≡ writes_failed (S.faults sink.old) result }
+    ensures settled { S.settled sink.new ≡ S.settled sink.old }
 {
     let mut rest = bytes;
     while !rest.is_empty() {
@@ -150,6 +172,7 @@ fn put_reply<S: Sink>(sink: &mut S, reply: &[u8]) -> Result<(), ServeFault>
     ensures bytes { OnOk result (Appends (S.written sink.old) (S.written sink.new) reply.now) }
     ensures fault { IfErr result (λ fault. (fault ≡ faults.Write) × WrotePart (S.written sink.old) (S.written sink.new) reply.now) }
     ensures count { S.faults sink.new ≡ writes_failed (S.faults sink.old) result }
+    ensures settled { S.settled sink.new ≡ reply_settled (S.settled sink.old) result }
 {
     put_all(sink, reply)?;
     match sink.settle() {
@@ -169,6 +192,7 @@ fn serve_line<S: Sink>(
     ensures line { OnOk result (Wrote (state_of engine.old) line.now (S.written sink.old) (S.written sink.new) (state_of engine.new)) }
     ensures fault { IfErr result (λ fault. FailsLine fault (state_of engine.old) line.now (S.written sink.old) (S.written sink.new) (state_of engine.new)) }
     ensures count { S.faults sink.new ≡ writes_failed (S.faults sink.old) result }
+    ensures settled { S.settled sink.new ≡ reply_settled (S.settled sink.old) result }
 {
     let reply = match reply_of(alloc, engine, line) {
         Ok(reply) => reply,
@@ -193,20 +217,26 @@ pub fn serve<F: Feed, S: Sink>(
     max_lines: u64,
 ) -> Result<Served, ServeFault>
     // All the input is read, what is written is the replies to its lines and nothing else, and they have taken effect.
-    ensures all { IfOk result (λ served. AnswersAll (state_of engine.old) (state_of engine.new)
-        (F.left feed.old) (F.left feed.new) (S.written sink.old) (S.written sink.new) served.lines) }
+    ensures all { IfOk result (λ served. AnswersAll
+        (at (state_of engine.old) (F.left feed.old) (S.written sink.old) (S.settled sink.old))
+        (at (state_of engine.new) (F.left feed.new) (S.written sink.new) (S.settled sink.new)) served.lines) }
     ensures most { IfOk result (λ served. served.lines ≤ max_lines) }
-    // The first lines are answered; this is how far the next one came.
-    ensures fault { IfErr result (λ fault. AfterFault fault (state_of engine.old) (state_of engine.new)
-        (F.left feed.old) (F.left feed.new) (S.written sink.old) (S.written sink.new) max_lines) }
+    // Each reply is settled.
+    ensures settled { IfOk result (λ served. S.settled sink.new ≡ risen_by (S.settled sink.old) served.lines) }
+    // The first lines are answered, and their replies settled; this is how far the next one came.
+    ensures fault { IfErr result (λ fault. AfterFault fault
+        (at (state_of engine.old) (F.left feed.old) (S.written sink.old) (S.settled sink.old))
+        (at (state_of engine.new) (F.left feed.new) (S.written sink.new) (S.settled sink.new)) max_lines) }
     // A count of failed calls rises by one at its device's fault, and else stays.
     ensures reads { F.faults feed.new ≡ reads_failed (F.faults feed.old) result }
     ensures writes { S.faults sink.new ≡ writes_failed (S.faults sink.old) result }
 {
+    let mut line = Vec::new(alloc);
     'lines: for lines in 0..max_lines {
-        match read_line(alloc, feed)? {
-            NextLine::Ended(line) => serve_line(alloc, engine, sink, &line)?,
-            NextLine::Last(line) => {
+        empty(alloc, &mut line);
+        match read_line(feed, &mut line)? {
+            NextLine::Ended => serve_line(alloc, engine, sink, &line)?,
+            NextLine::Last => {
                 serve_line(alloc, engine, sink, &line)?;
                 return Ok(Served { lines: lines + 1 });
             }

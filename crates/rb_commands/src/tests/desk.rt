@@ -1,6 +1,6 @@
 //! A runtime for tests: files in memory on a disk of a given size, and what is printed.
 use std::alloc::{Allocator, Global};
-use std::cell::RefCell;
+use std::cell::{Cell, RefCell};
 use std::fmt::Display;
 use std::fs::{Metadata, OpenFile, OpenOptions};
 use std::io;
@@ -94,6 +94,7 @@ pub struct Desk {
     files: RefCell<Vec<(String, Bytes)>>,
     output: RefCell<String>,
     errors: RefCell<String>,
+    output_is_closed: Cell<bool>,
 }
 
 impl Desk {
@@ -104,6 +105,7 @@ impl Desk {
             files: RefCell::new(Vec::new(alloc)),
             output: RefCell::new(String::new(alloc)),
             errors: RefCell::new(String::new(alloc)),
+            output_is_closed: Cell::new(false),
         }
     }
 
@@ -140,6 +142,11 @@ impl Desk {
         let shared = self.shared(path)?;
         let bytes = shared.try_borrow().ok()?;
         bytes.to_vec(self.alloc).ok()
+    }
+
+    /// From now on nothing can be printed to standard output.
+    pub fn close_output(&self) {
+        self.output_is_closed.set(true);
     }
 
     /// What was printed to standard output since the last call.
@@ -184,6 +191,9 @@ impl Print for Desk {
     }
 
     fn println<D: Display + Drop>(&self, value: D) -> io::Result<()> {
+        if self.output_is_closed.get() {
+            return Err(io::Error::from(ErrorKind::BrokenPipe));
+        }
         self.say(&self.output, value, "\n")
     }
 
