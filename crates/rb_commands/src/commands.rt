@@ -32,7 +32,7 @@ pub fn compile<R: Files + AllocGlobal + Print + Eprint>(
 ) -> ExitCode {
     let text = match read_file(rt, input) {
         Ok(text) => text,
-        Err(error) => return cannot_read(rt, input, error, "0: Memory"),
+        Err(error) => return cannot_read(rt, input, ":0", error),
     };
     let file = match compiled(rt.alloc(), &text) {
         Ok(file) => file,
@@ -53,7 +53,7 @@ pub fn compile<R: Files + AllocGlobal + Print + Eprint>(
 fn accepted<R: Files + AllocGlobal + Eprint>(rt: &R, name: &str) -> Result<Bundle, ExitCode> {
     let bytes = match read_file(rt, name) {
         Ok(bytes) => bytes,
-        Err(error) => return Err(cannot_read(rt, name, error, "Memory")),
+        Err(error) => return Err(cannot_read(rt, name, "", error)),
     };
     match accept(rt.alloc(), bytes) {
         Ok(bundle) => Ok(bundle),

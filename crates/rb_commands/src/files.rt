@@ -27,10 +27,11 @@ pub fn write_file<R: Files + AllocGlobal>(rt: &R, name: &str, bytes: &[u8]) -> i
     written
 }
 
-/// Says that a file could not be read: out of memory, or for another cause.
-pub fn cannot_read<R: Eprint>(rt: &R, name: &str, error: io::Error, memory: &str) -> ExitCode {
+/// Says that a file could not be read: out of memory, which is reported after the name and `line`, or for another cause. `line` is
+/// `:0` for a text, whose errors have a line, and else empty.
+pub fn cannot_read<R: Eprint>(rt: &R, name: &str, line: &str, error: io::Error) -> ExitCode {
     if error.kind() == ErrorKind::OutOfMemory {
-        let _ = eprintln!(rt; "{name}: {memory}");
+        let _ = eprintln!(rt; "{name}{line}: Memory");
         return ExitCode::from(1);
     }
     let _ = eprintln!(rt; "cannot read {name}");
