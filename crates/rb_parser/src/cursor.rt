@@ -65,20 +65,7 @@ impl Cursor {
         ensures token { MatchOption result (self.old.rest.items ≡ []) (λ t. self.old.rest.items ≡ t ∷ self.new.rest.items) }
         ensures rest { self.new.rest.items ≡ tail self.old.rest.items }
     {
-        let token = self.rest.pop_front();
-        self.release();
-        token
-    }
-
-    /// Gives back the memory of the tokens that were taken, each time that it is a quarter of the list's: so the list
-    /// shrinks while the tree grows, and a token is moved some three times on average.
-    fn release(&mut self)
-        ensures same_end { self.new.end ≡ self.old.end }
-        ensures rest { self.new.rest.items ≡ self.old.rest.items }
-    {
-        if self.rest.len() < self.rest.capacity() / 4 * 3 {
-            self.rest.shrink_to_fit();
-        }
+        self.rest.pop_front()
     }
 
     /// Whether all tokens are taken.

@@ -84,11 +84,10 @@ fn read_numbers(alloc: Global, cursor: &mut Cursor) -> Result<Vec<i32>, SourceFa
         found.push(number)?;
         cursor.take(Punctuation::Comma);
     }
-    found.shrink_to_fit();
     Ok(found)
 }
 
-/// What is in a body of a type without others inside, up to its closing brace.
+/// What stands in a body of a type without others inside, up to its closing brace.
 pub fn read_leaf(alloc: Global, cursor: &mut Cursor, leaf: Leaf) -> Result<Tree, SourceFault>
     ensures same_end { cursor.new.end ≡ cursor.old.end }
     ensures exact { (w : reading.Word) → word_of w ≡ word.Leaf leaf → Reads IsLeafTree cursor.old.end result cursor.new.rest.items

@@ -38,7 +38,7 @@ pub fn read_body(alloc: Global, cursor: &mut Cursor, depth: u64) -> Result<Tree,
     }
 }
 
-/// A body with a type, from after its brace on. The height of what is inside is at most `depth`.
+/// A body with a type, from behind its brace on. The height of what stands inside is at most `depth`.
 #[cycle(body)]
 fn read_typed(
     alloc: Global,
@@ -62,7 +62,7 @@ fn read_typed(
     }
 }
 
-/// A body without a type, from after its brace on. The height of what is inside is at most `depth`.
+/// A body without a type, from behind its brace on. The height of what stands inside is at most `depth`.
 #[cycle(body)]
 fn read_untyped(alloc: Global, cursor: &mut Cursor, depth: u64) -> Result<Tree, SourceFault>
     ensures same_end { cursor.new.end ≡ cursor.old.end }
@@ -81,7 +81,7 @@ fn read_untyped(alloc: Global, cursor: &mut Cursor, depth: u64) -> Result<Tree, 
     }
 }
 
-/// The entries of a table, up to and with its closing brace. The height of what is inside is at most `depth`.
+/// The entries of a table, up to and with its closing brace. The height of what stands inside is at most `depth`.
 #[cycle(body)]
 pub fn read_table(alloc: Global, cursor: &mut Cursor, depth: u64) -> Result<Tree, SourceFault>
     ensures same_end { cursor.new.end ≡ cursor.old.end }
@@ -160,6 +160,5 @@ fn read_array(alloc: Global, cursor: &mut Cursor, depth: u64) -> Result<Tree, So
         cursor.take(Punctuation::Comma);
     }
     cursor.expect(Punctuation::Right)?;
-    trees.shrink_to_fit();
     Ok(Tree::Array(TreeList::from_vec(trees)))
 }

@@ -38,4 +38,4 @@ pub returns-clause-exact : goal.returns-clause-exact
 returns-clause-exact c = λ n enough.
     let ts = c.numbers.cursor.rest.items in
     let none : first_text ts ≡ None = c.in_default.ensures.text in
-    rw (c.shrink_to_fit.ensures.items, c.in_default.ensures.rest) (numbers_end n c.args.cursor.now.rest.items ts c.numbers.found.items (c.numbers.invariant.so_far n enough) none)
+    rw c.in_default.ensures.rest (numbers_end n c.args.cursor.now.rest.items ts c.numbers.found.items (c.numbers.invariant.so_far n enough) none)

@@ -6,7 +6,6 @@ use Rattle.std.proofs.lemmas.Result.{err_from_is_err_and}
 use Rattle.std.proofs.lemmas.Bool.{false≢true, lt-ltb}
 use Rattle.rb_lexer.specs.declared.fault.SourceKind.TheVariants.{DuplicateKey}
 use Rattle.rb_tree.specs.Keys.{IsKey}
-use Rattle.rb_tree.specs.View.{views_of}
 use Rattle.rb_grammar.specs.Faults.{line_at}
 use Rattle.rb_grammar.specs.Form.{leaf, plain}
 use Rattle.rb_grammar.specs.Reading.{left, right, colon, begins, first_text, after_comma, punctuation_at, is_among, typed_at, untyped_at, guess, body}
@@ -256,7 +255,7 @@ read_array-returns-clause-exact t c =
     let stays : c.take_text.new.self.rest.items ≡ ts = c.in_default.ensures.rest in
     let at : c.is_at_body.result ≡ (begins colon ts || begins left ts) = c.is_at_body.ensures ∙ ap (λ r. begins colon r || begins left r) stays in
     let x = parts.elements_end room reads n start ts trees inv.so_far c.expect.new.self.rest.items none (sym at ∙ c.if-is_at_body.false) (ap (punctuation_at right) (sym stays) ∙ c.in_ok-expect.ensures.exact) in
-    (x.0, x.1, (_, ap (λ v. Rattle.rb_tree.specs.Resource.array v) (c.from_vec.ensures ∙ ap views_of c.shrink_to_fit.ensures.items), x.2))
+    (x.0, x.1, (_, ap (λ v. Rattle.rb_tree.specs.Resource.array v) c.from_vec.ensures, x.2))
 
 pub read_array-elements-preserved : goal.read_array-elements-preserved
 read_array-elements-preserved t c =
