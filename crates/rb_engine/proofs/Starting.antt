@@ -1,10 +1,10 @@
 -- The entries of ICUDATA, loaded one by one.
-use Rattle.std.proofs.Common.{◌≡◌, ℕ, ◌+◌, false, Err, length, arith, List, [], ◌∷◌, ◌++◌, map, refl, sym, ◌∙◌, ap, subst}
+use Rattle.std.proofs.Common.{◌≡◌, ◌<◌, ℕ, ◌+◌, false, Err, length, arith, List, [], ◌∷◌, ◌++◌, map, refl, sym, ◌∙◌, ap, subst}
 use Rattle.std.proofs.Common.{length-append}
 use Rattle.std.proofs.lemmas.List.{length-map}
 use Rattle.rb_tree.specs.SourceTree.{SourceTree}
 use Rattle.rb_packages.specs.Shelf.{Shelf, holds}
-use Rattle.rb_engine.specs.Start.{Entries, HasBundle, Loads, IsReached, IsRefused}
+use Rattle.rb_engine.specs.Start.{Entries, HasBundle, Loads, IsReached, IsRefused, IsIndexed}
 use Rattle.rb_engine.specs.Source.{Adds}
 use Rattle.rb_engine.specs.declared.request.Payload.TheVariants.{Text, File}
 use Rattle.rb_engine.specs.declared.start.StartFault.{StartFault}
@@ -47,3 +47,18 @@ refused entries before index name payload after shelf new e split count loaded a
     by (File file) (Twice i) r a = (name, File file, a.1, shelf, subst (λ j. IsReached entries j name (File file) shelf) (sym a.0) r, a.2, a.3)
     by (Text text) Memory r a = tt
     by (File file) Memory r a = tt
+
+-- ---- the index of a refused entry
+
+below : {A : Type 0} (before : List A) (x : A) (after : List A) → length before < length (before ++ x ∷ after)
+below before x after = simp length-append (omega arith)
+
+reached_below : (entries : Entries) (at : ℕ) (name : List ℕ) (payload : Payload) (shelf : Shelf) → IsReached entries at name payload shelf → at < length entries
+reached_below entries at name payload shelf r =
+    subst (λ n. n < length entries) r.count (subst (λ es. length r.before < length es) (sym r.split) (below r.before (name, payload) r.after))
+
+pub refused_below : (entries : Entries) (e : StartFault) → IsRefused entries e → IsIndexed (length entries) e
+refused_below entries (BadText i) h = reached_below entries i h.0 (Text h.1) h.2 h.3
+refused_below entries (BadFile i) h = reached_below entries i h.0 (File h.1) h.2 h.3
+refused_below entries (Twice i) h = reached_below entries i h.0 h.1 h.3 h.4
+refused_below entries Memory h = tt
