@@ -323,19 +323,22 @@ fn ladder(alloc: Global, last: u16) -> Result<Vec<(Name, Tree, bool)>, Fail> {
     Ok(list)
 }
 
+// Whether lookups over a ladder give these answers.
+fn climbs(alloc: Global, last: u16, answers: &[(&[u8], &[u8], &[u8])]) -> Result<bool, Fail> {
+    let own = ladder(alloc, last)?;
+    let parents = Parents::none(alloc);
+    Ok(first_wrong(alloc, own.as_slice(), &[], &parents, answers)?.is_none())
+}
+
 #[test]
 fn a_lookup_has_256_levels(rt: HostRuntime) -> Result<(), Fail> {
-    let alloc = rt.alloc();
-    let parents = Parents::none(alloc);
-    let short = ladder(alloc, 255)?;
-    let found: [(&[u8], &[u8], &[u8]); 1] = [(b"root", b"x0", b"E root/root")];
-    assert!(rt; first_wrong(alloc, short.as_slice(), &[], &parents, &found)?.is_none());
-    let long = ladder(alloc, 256)?;
     let answers: [(&[u8], &[u8], &[u8]); 2] = [
-        (b"root", b"x0", b"TooManyAliases"),
         (b"root", b"x1", b"E root/root"),
+        (b"root", b"x0", b"TooManyAliases"),
     ];
-    assert!(rt; first_wrong(alloc, long.as_slice(), &[], &parents, &answers)?.is_none());
+    assert!(rt; climbs(rt.alloc(), 256, &answers)?);
+    let found: [(&[u8], &[u8], &[u8]); 1] = [(b"root", b"x0", b"E root/root")];
+    assert!(rt; climbs(rt.alloc(), 255, &found)?);
     Ok(())
 }
 

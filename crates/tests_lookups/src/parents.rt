@@ -152,17 +152,26 @@ fn mixed(alloc: Global) -> Result<Tree, Fail> {
     Ok(Tree::Array(TreeList::from_vec(items)))
 }
 
+// Whether a whole tree has no table of explicit parents.
+fn has_no_parents(alloc: Global, tree: &Tree) -> bool {
+    matches!(Parents::read(alloc, tree), Err(ParentsFault::Shape))
+}
+
+#[test]
+fn trees_without_parents_are_refused(rt: HostRuntime) -> Result<(), Fail> {
+    let alloc = rt.alloc();
+    let rows: [(&[u8], &[u8]); 1] = [(b"a", b"b")];
+    assert!(rt; has_no_parents(alloc, &texts(alloc, &rows)?));
+    assert!(rt; has_no_parents(alloc, &string(alloc, b"b")?));
+    Ok(())
+}
+
 #[test]
 fn shapes_of_parents_are_refused(rt: HostRuntime) -> Result<(), Fail> {
     let alloc = rt.alloc();
-    let no_locales = texts(alloc, &[(b"a".as_slice(), b"b".as_slice())])?;
-    assert!(rt; matches!(Parents::read(alloc, &no_locales), Err(ParentsFault::Shape)));
-    let no_table = string(alloc, b"b")?;
-    assert!(rt; matches!(Parents::read(alloc, &no_table), Err(ParentsFault::Shape)));
     assert!(rt; read_word(alloc, array(alloc, &[])?)? == "Shape");
     // The whole value's shape comes before its first child.
     assert!(rt; read_word(alloc, one(alloc, b"en", mixed(alloc)?)?)? == "Shape");
-    assert!(rt; ParentsFault::Memory.word() == "Memory");
     Ok(())
 }
 
@@ -339,28 +348,29 @@ fn trails_are_refused(rt: HostRuntime) -> Result<(), Fail> {
     Ok(())
 }
 
+// Whether trails over bundles with one string each are those beside their first names, without explicit parents.
+fn are_trails_over(
+    alloc: Global,
+    rows: &[(&[u8], &[u8], &[u8], bool)],
+    trails: &[(&[u8], &[u8])],
+) -> Result<bool, Fail> {
+    let list = bundles(alloc, rows)?;
+    are_trails(alloc, list.as_slice(), &Parents::none(alloc), trails)
+}
+
 #[test]
 fn a_root_with_a_parent_has_no_end(rt: HostRuntime) -> Result<(), Fail> {
-    let alloc = rt.alloc();
-    let parents = Parents::none(alloc);
-    for key in [b"%%Parent".as_slice(), b"%%ALIAS"] {
-        let root = bundles(alloc, &[(b"root".as_slice(), key, b"de".as_slice(), false)])?;
-        assert!(rt;
-            are_trails(
-                alloc,
-                root.as_slice(),
-                &parents,
-                &[(b"root".as_slice(), b"Chain".as_slice())]
-            )?
-        );
-        // The name after the root is `de`, and its bundle is met.
-        let rows = [
-            (b"root".as_slice(), key, b"de".as_slice(), false),
+    let keys: [&[u8]; 2] = [b"%%Parent", b"%%ALIAS"];
+    for key in keys {
+        // The name after the root is `de`, and its bundle is met where it has one.
+        let rows: [(&[u8], &[u8], &[u8], bool); 2] = [
+            (b"root", key, b"de", false),
             (b"de", b"%%Parent", b"?", false),
         ];
-        let both = bundles(alloc, &rows)?;
         let errors: [(&[u8], &[u8]); 2] = [(b"root", b"BadParent"), (b"fr", b"BadParent")];
-        assert!(rt; are_trails(alloc, both.as_slice(), &parents, &errors)?);
+        assert!(rt; are_trails_over(rt.alloc(), &rows, &errors)?);
+        let chain: [(&[u8], &[u8]); 1] = [(b"root", b"Chain")];
+        assert!(rt; are_trails_over(rt.alloc(), &rows[..1], &chain)?);
     }
     Ok(())
 }
