@@ -50,15 +50,15 @@ abbrev pub table_data : Table → List ℕ
 table_data table = table.body.now
 
 -- the word at which an array's items begin, and where the parts of a table are
-abbrev pub array_first : Array → ℕ
-array_first array = array.first
+abbrev pub first_item : Array → ℕ
+first_item array = array.first
 
 abbrev pub parts_seen : Table → TableParts
 parts_seen table = table.parts
 
 -- the word of item i
 abbrev pub array_word : Array → ℕ → ℕ
-array_word array i = word_at (array_data array) (array_first array + i)
+array_word array i = word_at (array_data array) (first_item array + i)
 
 abbrev pub table_word : Table → ℕ → ℕ
 table_word table i = word_at (table_data table) ((parts_seen table).first + i)

@@ -65,7 +65,8 @@ fn signed(number: u32) -> i32
 
 impl<'a> Item<'a> {
     ghost use Rattle.rb_views.specs.Seen.{tree_seen, units_seen, numbers_seen, trees_seen, entries_seen};
-    ghost use Rattle.rb_views.specs.Seen.{item_data, item_word, array_data, array_first, table_data, parts_seen};
+    ghost use Rattle.rb_views.specs.Seen.{item_data, item_word, array_data, first_item, table_data, parts_seen};
+    ghost use Rattle.rb_format.specs.Geometry.{array_first};
 
     /// The kind of the tree.
     pub(crate) fn kind_here(self) -> Kind
@@ -148,7 +149,7 @@ impl<'a> Item<'a> {
     pub fn array(self) -> Option<Array<'a>>
         ensures items { option_map trees_seen result ≡ array_of (tree_seen self.entry) }
         ensures data { IfSome result (λ a. array_data a ≡ item_data self.entry) }
-        ensures place { IfSome result (λ a. let o = offset_of (item_word self.entry) in 0 < o → array_first a ≡ o + 1) }
+        ensures place { IfSome result (λ a. let o = offset_of (item_word self.entry) in 0 < o → first_item a ≡ array_first o) }
     {
         match self.kind_here() {
             Kind::Array => Some(self.items()),
@@ -227,7 +228,7 @@ impl<'a> Item<'a> {
         requires { kind_of (tree_seen self) ≡ Kinds.Array }
         ensures items { trees_seen result ≡ children_of (tree_seen self.entry) }
         ensures data { array_data result ≡ item_data self.entry }
-        ensures place { let o = offset_of (item_word self.entry) in 0 < o → array_first result ≡ o + 1 }
+        ensures place { let o = offset_of (item_word self.entry) in 0 < o → first_item result ≡ array_first o }
     {
         let offset = item_offset(self.word);
         if offset == 0 {
