@@ -4,12 +4,13 @@
 usage: cldr.py DATA [PROGRAM], or serve.py PROGRAM DATA
 
 DATA is the file icudt*l.dat of ICU's source package (`apt-get source icu`: source/data/in/). It is taken apart with icupkg, turned into
-text with derb and compiled with genrb --formatVersion 1 (Debian's icu-devtools), so that both servers have the same files. The C server
-is built where pkg-config knows icu-uc (Debian's libicu-dev). Where one of these is missing, a line says `skipped` and which.
+text with derb -A, which keeps aliases, and compiled with genrb --formatVersion 1 (Debian's icu-devtools), so that both servers have the
+same files. The C server is built where pkg-config knows icu-uc (Debian's libicu-dev). Where one of these is missing, a line says
+`skipped` and which.
 
 Looked up are the paths of the strings of LOCALES from all locales, in random order, where they find something. A lookup that the two
-servers answer differently is left out, and counted: no part of a locale's name has more than 8 characters in resb (docs/LOOKUP.md), and
-libicu goes on over the stops in its own way after an alias.
+servers answer differently is left out, and counted: no part of a locale's name has more than 8 characters in resb, and libicu reads an
+index of an array in the bundles after the first alone (docs/LOOKUP.md).
 """
 import glob
 import json
@@ -48,7 +49,7 @@ def bundles(data, folder):
     # the bundles of a package of ICU's own data lie beside each other; those of curr/, lang/ and so on are other packages
     names = sorted(os.path.basename(path)[:-4] for path in glob.glob(f"{found}/*.res"))
     locales = [name for name in names if name != "res_index" and (name == "root" or 2 <= len(name.split("_")[0]) <= 3)]
-    subprocess.run(["derb", "-e", "UTF-8", "-s", found, "-d", texts, *[f"{name}.res" for name in locales]], check=True, stdout=subprocess.DEVNULL, stderr=subprocess.DEVNULL)
+    subprocess.run(["derb", "-A", "-e", "UTF-8", "-s", found, "-d", texts, *[f"{name}.res" for name in locales]], check=True, stdout=subprocess.DEVNULL, stderr=subprocess.DEVNULL)
     subprocess.run(["genrb", "-q", "--formatVersion", "1", "-s", texts, "-d", files, *[f"{name}.txt" for name in locales]], check=True, stdout=subprocess.DEVNULL, stderr=subprocess.DEVNULL)
     return files
 

@@ -1,7 +1,8 @@
 #!/usr/bin/env bash
-# All tests: the launcher; the manual page where mandoc is there; where the program is built already the examples, the documents,
-# replies through pipes and the shards of deploy/; a program that must not compile; one of whose allocations each is refused in
-# turn; and then the gate, which proves every crate from nothing, tries the wrong bodies, and runs each test and the program.
+# All tests. First what needs no built program: the launcher, the manual page where mandoc is there, a program that must not compile,
+# and one of whose allocations each is refused in turn. Then the gate, which proves every crate from nothing, tries the wrong bodies,
+# runs each test, and builds the program. Last what runs that program: the examples, the documents, replies through pipes, lines read
+# in two ways, and the shards of deploy/.
 set -eu
 cd "$(dirname "$0")/.."
 program=crates/rb_tool/out/rb_tool
@@ -18,13 +19,14 @@ tests/launcher.sh
 if has mandoc; then
     mandoc -T lint -W warning docs/resb.1
 fi
+tests/borrows.sh
+tests/memory.sh
+rt ci
 tests/examples.sh "$program"
 tests/stdout.sh "$program"
 if has python3; then
     tests/documents.py "$program"
     tests/pipe.py "$program"
+    tests/same_readings.py "$program"
 fi
 deploy/test "$program"
-tests/borrows.sh
-tests/memory.sh
-exec rt ci

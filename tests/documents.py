@@ -7,7 +7,9 @@ standard error together. The blocks of a page are run in their order, by one she
 program, and $EXAMPLES is the folder examples/ of this repository. A block of ```console by-hand needs more than a shell (other
 tools, or files from a network), and is run only where --with gives what it needs. All other blocks are left alone.
 
-It also follows each relative link of the README and of the pages of docs/, to a file and to a heading in it.
+It also compares the pages with the code: each relative link leads to a file and to a heading in it; docs/TROUBLESHOOTING.md and
+docs/resb.1 have each error word; docs/ARCHITECTURE.md has each crate of crates.txt with what it uses; and the definitions, laws and
+clauses that docs/PROOFS.md names are in the crates of its section.
 
 usage: documents.py [--with FILE]... [PROGRAM]   (default: crates/rb_tool/out/rb_tool)
   --with FILE  copies FILE into the folder that the blocks are run in, and runs those by hand too
@@ -126,13 +128,98 @@ def bad_links(name):
             yield link
 
 
-def follow_links():
-    """Prints the links that lead nowhere, and tells how many they are."""
-    names = ["README.md", "examples/README.md"] + sorted(os.path.relpath(page, TOP) for page in glob.glob(os.path.join(TOP, "docs", "*.md")))
-    bad = [(name, link) for name in names for link in bad_links(name)]
-    for name, link in bad:
-        print(f"{name}: the link {link} leads nowhere")
-    return len(bad)
+def pages():
+    """The pages whose links are followed."""
+    found = [page for place in ("*.md", "*/*.md", "bench/*/*.md") for page in glob.glob(os.path.join(TOP, place))]
+    return sorted(os.path.relpath(page, TOP) for page in found)
+
+
+def text_of(*names):
+    """The texts of some files, one after the other."""
+    texts = []
+    for name in sorted(names):
+        with open(os.path.join(TOP, name), encoding="utf-8") as file:
+            texts.append(file.read())
+    return "".join(texts)
+
+
+def sources(crate):
+    """The code of a crate, without the tests in it."""
+    names = glob.glob(os.path.join(TOP, "crates", crate, "src", "*.rt"))
+    return text_of(*(name for name in names if os.path.basename(name) != "tests.rt"))
+
+
+def crates():
+    """The crates of crates.txt, each with what it uses."""
+    lines = [line.partition(":") for line in text_of("crates.txt").splitlines() if ":" in line]
+    return {name.strip(): uses.split() for name, _, uses in lines}
+
+
+def error_words():
+    """The words that the calls `word` of the crates give for errors."""
+    code = "".join(sources(crate) for crate in crates())
+    bodies = re.findall(r"fn word\(.*?\n    }\n", code, flags=re.S)
+    return set(re.findall(r'"([A-Z]\w*)"', "".join(bodies))) - {"Done", "Names"} | {"BadLine"}
+
+
+def missing_words():
+    """The error words that a page doesn't have."""
+    for name, form in (("docs/TROUBLESHOOTING.md", r"`(FILE: )?%s`"), ("docs/resb.1", r"\bQl %s\b")):
+        page = text_of(name)
+        for word in sorted(error_words()):
+            if not re.search(form % word, page):
+                yield f"{name}: the error word {word} isn't there"
+
+
+def wrong_rows():
+    """The crates whose row in the table of crates isn't that of crates.txt."""
+    page = text_of("docs/ARCHITECTURE.md")
+    for name, uses in crates().items():
+        row = re.search(rf"^\| {name} \|[^|]*\|([^|]*)\|$", page, flags=re.M)
+        if not row:
+            yield f"docs/ARCHITECTURE.md: the crate {name} has no row"
+        elif sorted(re.findall(r"\w+", row.group(1))) != sorted(uses):
+            yield f"docs/ARCHITECTURE.md: {name} uses {' '.join(uses)}"
+
+
+def is_named(name, named):
+    """Whether crates have a definition, law, function, type or clause of this name."""
+    word = re.escape(name.rpartition("::")[2])
+    forms = (rf"\bfn {word}\b", rf"\b(struct|enum|trait|const) {word}\b", rf"\bensures {word} ")
+    for crate in named:
+        specs = os.path.join(TOP, "crates", crate, "specs")
+        if os.path.exists(os.path.join(specs, f"{name}.antt")):
+            return True
+        definitions = text_of(*glob.glob(os.path.join(specs, "*.antt")))
+        if re.search(rf"^(abbrev pub|pub record|pub data) {word} ", definitions, flags=re.M):
+            return True
+        if any(re.search(form, sources(crate)) for form in forms):
+            return True
+    return False
+
+
+def unknown_names():
+    """What the page on proofs names in its rows and lists of definitions, and the crates of the section don't have."""
+    for section in re.split(r"^## ", text_of("docs/PROOFS.md"), flags=re.M)[1:]:
+        heading, _, body = section.partition("\n")
+        named = [crate for crate in re.findall(r"\w+", heading.partition(":")[0]) if crate in crates()]
+        for line in body.splitlines() if named else ():
+            cells = line.split(" | ")
+            if line.startswith("Definitions: "):
+                names = re.findall(r"`([A-Z]\w*)`", line.partition(". ")[0])
+            elif line.startswith("| ") and len(cells) == 2:
+                names = re.findall(r"`([a-z_:]*\w+)`", cells[1])
+            else:
+                continue
+            yield from (f"docs/PROOFS.md: {heading}: there is no {name}" for name in names if not is_named(name, named))
+
+
+def compare_code():
+    """Prints where a page isn't what the code is, and tells how often."""
+    wrong = [f"{name}: the link {link} leads nowhere" for name in pages() for link in bad_links(name)]
+    wrong += [*missing_words(), *wrong_rows(), *unknown_names()]
+    print("".join(f"{line}\n" for line in wrong), end="")
+    return len(wrong)
 
 
 def main():
@@ -140,7 +227,7 @@ def main():
     options.add_argument("--with", dest="given", action="append", default=[])
     options.add_argument("program", nargs="?", default=os.path.join(TOP, "crates/rb_tool/out/rb_tool"))
     chosen = options.parse_args()
-    wrong = follow_links()
+    wrong = compare_code()
     if os.access(chosen.program, os.X_OK):
         wrong += sum(run_page(name, chosen.program, chosen.given) for name in PAGES)
     else:

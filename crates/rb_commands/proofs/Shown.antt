@@ -7,7 +7,7 @@ use Rattle.rb_tree.specs.Resource.{Resource, alias}
 use Rattle.rb_tree.specs.Path.{IsPath, segments}
 use Rattle.rb_tree.specs.Walk.{Walked, ends, links, gone, walk, behind, stop_of, rest_of, end, link}
 use Rattle.rb_fallback.proofs.Paths.{Whole, walk_whole, segments_joined}
-use Rattle.rb_requests.specs.Item.{item_data}
+use Rattle.rb_replies.specs.Item.{item_data}
 use Rattle.rb_commands.specs.Got.{shown}
 
 pub behind_more : (cut : ℕ) → cut ≢ 0 → behind cut ≡ cut + 1

@@ -76,6 +76,10 @@ fn shown_text<N: Node>(alloc: Global, root: N, path: &[u8]) -> Result<String, It
 
 /// The item at a path within one tree as JSON, without fallback. An alias on the way is not followed: it is the item, with the rest
 /// of the path. Errors: `BadPath`, then `PathTooLong`, then `Missing` where the path leads nowhere; `Memory` where out of memory.
+///
+/// ```rust
+/// text_at(alloc, &tree, b"a/1")? // {"type":"string","value":"y"}
+/// ```
 pub fn text_at<N: Node>(alloc: Global, root: N, path: &[u8]) -> Result<String, ItemError>
     ensures text { IfOk result (λ text. (d : Data) × (got (N.tree root) path.now ≡ Ok d) × (string_bytes text ≡ compact_text d)) }
     ensures error { IfErr result (λ e. (e ≡ errors.Memory) ⊎ (got (N.tree root) path.now ≡ Err e)) }

@@ -2,12 +2,11 @@
 mod desk;
 mod get;
 
-use crate::commands::{check, compile};
+use crate::commands::{check, compile, get};
 use crate::start::{StartError, not_started, start};
 use desk::Desk;
 use std::alloc::Global;
 use std::process::ExitCode;
-use std::test::Fail;
 
 /// The file of `root{}`.
 const EMPTY: [u8; 56] = [
@@ -43,7 +42,70 @@ const EMPTY_WITHOUT_FALLBACK: [u8; 60] = [
     0x07, 0x00, 0x00, 0x00, 0x00, 0x00, 0x00, 0x00, 0x01, 0x00, 0x00, 0x00,
 ];
 
+/// How many bytes a file of a desk may have.
 const ROOM: usize = 1000;
+
+/// What is done with a desk, and what is seen then.
+#[derive(Clone, Copy)]
+pub(crate) enum Step<'a> {
+    /// A file is put there.
+    Put(&'a str, &'a [u8]),
+    /// Nothing can be printed to standard output any more.
+    Close,
+    /// A text is compiled to a file; the status, and what is printed to standard output and to standard error.
+    Compile(&'a str, &'a str, u8, &'a str, &'a str),
+    /// A file is checked; the same.
+    Check(&'a str, u8, &'a str, &'a str),
+    /// The item at a path of a file is printed; the same.
+    Get(&'a str, &'a str, u8, &'a str, &'a str),
+    /// There is a file with these bytes.
+    Has(&'a str, &'a [u8]),
+    /// There is such a file, or there is none.
+    Keeps(&'a str, bool),
+}
+
+use Step::{Check, Close, Compile, Get, Has, Keeps, Put};
+
+/// Whether a command ended with this status, and printed this.
+fn ended(desk: &Desk, found: ExitCode, status: u8, output: &str, errors: &str) -> bool {
+    found == ExitCode::from(status) && desk.said(output, errors)
+}
+
+fn is_step(desk: &Desk, step: Step<'_>) -> bool {
+    match step {
+        Put(path, bytes) => desk.put(path, bytes),
+        Close => {
+            desk.close_output();
+            true
+        }
+        Compile(text, file, status, output, errors) => {
+            ended(desk, compile(desk, text, file), status, output, errors)
+        }
+        Check(file, status, output, errors) => {
+            ended(desk, check(desk, file), status, output, errors)
+        }
+        Get(file, path, status, output, errors) => {
+            ended(desk, get(desk, file, path), status, output, errors)
+        }
+        Has(path, bytes) => desk.has(path, bytes),
+        Keeps(path, is_there) => desk.keeps(path) == is_there,
+    }
+}
+
+/// Whether each step on a desk is as it says.
+pub(crate) fn all_steps(desk: &Desk, steps: &[Step<'_>]) -> bool {
+    for step in steps {
+        if !is_step(desk, *step) {
+            return false;
+        }
+    }
+    true
+}
+
+/// Whether each step on a new desk is as it says.
+pub(crate) fn are_steps(alloc: Global, room: usize, steps: &[Step<'_>]) -> bool {
+    all_steps(&Desk::new(alloc, room), steps)
+}
 
 /// Texts, and the files that they are compiled to.
 const COMPILED: [(&[u8], &[u8], &str); 4] = [
@@ -58,83 +120,68 @@ const COMPILED: [(&[u8], &[u8], &str); 4] = [
 ];
 
 #[test]
-fn compiles_texts(rt: HostRuntime) -> Result<(), Fail> {
+fn compiles_texts(rt: HostRuntime) {
     for (text, file, said) in COMPILED {
-        let desk = Desk::new(rt.alloc(), ROOM);
-        desk.put("in.txt", text)?;
-        let status = compile(&desk, "in.txt", "out.res");
-        assert!(rt; status == ExitCode::SUCCESS);
-        assert_eq!(rt; desk.output().as_str(), said);
-        assert_eq!(rt; desk.errors().as_str(), "");
-        let Some(written) = desk.bytes("out.res") else {
-            return Err("nothing was written".into());
-        };
-        assert!(rt; written.as_slice() == file);
+        let steps = [
+            Put("in.txt", text),
+            Compile("in.txt", "out.res", 0, said, ""),
+            Has("out.res", file),
+        ];
+        assert!(rt; are_steps(rt.alloc(), ROOM, &steps));
     }
-    Ok(())
 }
 
-#[test]
-fn compiles_before_it_writes(rt: HostRuntime) -> Result<(), Fail> {
-    let desk = Desk::new(rt.alloc(), ROOM);
-    desk.put("bad.txt", b"root{\na:int{x}}")?;
-    let status = compile(&desk, "bad.txt", "out.res");
-    assert!(rt; status == ExitCode::from(1));
-    assert_eq!(rt; desk.output().as_str(), "");
-    assert_eq!(rt; desk.errors().as_str(), "bad.txt:2: BadInt\n");
-    assert!(rt; desk.bytes("out.res").is_none());
-    let status = compile(&desk, "absent.txt", "out.res");
-    assert!(rt; status == ExitCode::from(2));
-    assert_eq!(rt; desk.errors().as_str(), "cannot read absent.txt\n");
-    assert!(rt; desk.bytes("out.res").is_none());
-    Ok(())
-}
+const BAD_TEXT: [Step<'static>; 5] = [
+    Put("bad.txt", b"root{\na:int{x}}"),
+    Compile("bad.txt", "out.res", 1, "", "bad.txt:2: BadInt\n"),
+    Keeps("out.res", false),
+    Compile("absent.txt", "out.res", 2, "", "cannot read absent.txt\n"),
+    Keeps("out.res", false),
+];
 
 #[test]
-fn leaves_no_half_file(rt: HostRuntime) -> Result<(), Fail> {
-    let desk = Desk::new(rt.alloc(), 40);
-    desk.put("in.txt", b"root{}")?;
-    let status = compile(&desk, "in.txt", "out.res");
-    assert!(rt; status == ExitCode::from(2));
-    assert_eq!(rt; desk.output().as_str(), "");
-    assert_eq!(rt; desk.errors().as_str(), "cannot write out.res\n");
-    assert!(rt; desk.bytes("out.res").is_none());
-    desk.put("/dev/full", b"")?;
-    let status = compile(&desk, "in.txt", "/dev/full");
-    assert!(rt; status == ExitCode::from(2));
-    assert_eq!(rt; desk.errors().as_str(), "cannot write /dev/full\n");
-    assert!(rt; desk.bytes("/dev/full").is_some());
-    Ok(())
+fn compiles_before_it_writes(rt: HostRuntime) {
+    assert!(rt; are_steps(rt.alloc(), ROOM, &BAD_TEXT));
 }
 
-#[test]
-fn says_that_output_is_not_taken(rt: HostRuntime) -> Result<(), Fail> {
-    let desk = Desk::new(rt.alloc(), ROOM);
-    desk.put("in.txt", b"root{a{\"b\"}}")?;
-    desk.close_output();
-    assert!(rt; compile(&desk, "in.txt", "out.res") == ExitCode::from(2));
-    assert_eq!(rt; desk.errors().as_str(), "cannot write stdout\n");
-    assert!(rt; check(&desk, "out.res") == ExitCode::from(2));
-    assert_eq!(rt; desk.errors().as_str(), "cannot write stdout\n");
-    assert!(rt; crate::commands::get(&desk, "out.res", "a") == ExitCode::from(2));
-    assert_eq!(rt; desk.errors().as_str(), "cannot write stdout\n");
-    Ok(())
-}
+const FULL_DISK: [Step<'static>; 6] = [
+    Put("in.txt", b"root{}"),
+    Compile("in.txt", "out.res", 2, "", "cannot write out.res\n"),
+    Keeps("out.res", false),
+    Put("/dev/full", b""),
+    Compile("in.txt", "/dev/full", 2, "", "cannot write /dev/full\n"),
+    Keeps("/dev/full", true),
+];
 
 #[test]
-fn checks_files(rt: HostRuntime) -> Result<(), Fail> {
-    let desk = Desk::new(rt.alloc(), ROOM);
-    desk.put("good.res", &ONE_STRING)?;
-    desk.put("bad.res", &HOLDS_ITSELF)?;
-    assert!(rt; check(&desk, "good.res") == ExitCode::SUCCESS);
-    assert_eq!(rt; desk.output().as_str(), "ok, 1 visits\n");
-    assert_eq!(rt; desk.errors().as_str(), "");
-    assert!(rt; check(&desk, "bad.res") == ExitCode::from(1));
-    assert_eq!(rt; desk.errors().as_str(), "bad.res: TooDeep\n");
-    assert!(rt; check(&desk, "absent.res") == ExitCode::from(2));
-    assert_eq!(rt; desk.errors().as_str(), "cannot read absent.res\n");
-    assert_eq!(rt; desk.output().as_str(), "");
-    Ok(())
+fn leaves_no_half_file(rt: HostRuntime) {
+    assert!(rt; are_steps(rt.alloc(), 40, &FULL_DISK));
+}
+
+const CLOSED: [Step<'static>; 5] = [
+    Put("in.txt", b"root{a{\"b\"}}"),
+    Close,
+    Compile("in.txt", "out.res", 2, "", "cannot write stdout\n"),
+    Check("out.res", 2, "", "cannot write stdout\n"),
+    Get("out.res", "a", 2, "", "cannot write stdout\n"),
+];
+
+#[test]
+fn says_that_output_is_not_taken(rt: HostRuntime) {
+    assert!(rt; are_steps(rt.alloc(), ROOM, &CLOSED));
+}
+
+const CHECKED: [Step<'static>; 5] = [
+    Put("good.res", &ONE_STRING),
+    Put("bad.res", &HOLDS_ITSELF),
+    Check("good.res", 0, "ok, 1 visits\n", ""),
+    Check("bad.res", 1, "", "bad.res: TooDeep\n"),
+    Check("absent.res", 2, "", "cannot read absent.res\n"),
+];
+
+#[test]
+fn checks_files(rt: HostRuntime) {
+    assert!(rt; are_steps(rt.alloc(), ROOM, &CHECKED));
 }
 
 /// The files that starts are given.
@@ -174,13 +221,15 @@ const REFUSED: [(Option<&str>, &[&str], &str, u8); 15] = [
     ),
 ];
 
-/// A desk with the files that starts are given.
-fn desk_with_files(alloc: Global) -> Result<Desk, Fail> {
+/// A desk with the files that starts are given; none where memory runs out.
+fn desk_with_files(alloc: Global) -> Option<Desk> {
     let desk = Desk::new(alloc, ROOM);
     for (name, bytes) in GIVEN {
-        desk.put(name, bytes)?;
+        if !desk.put(name, bytes) {
+            return None;
+        }
     }
-    Ok(desk)
+    Some(desk)
 }
 
 /// The status of a start that is refused, or none.
@@ -191,35 +240,54 @@ fn refusal(desk: &Desk, parents: Option<&str>, arguments: &[&str]) -> Option<Exi
     }
 }
 
-#[test]
-fn refuses_to_start(rt: HostRuntime) -> Result<(), Fail> {
-    let desk = desk_with_files(rt.alloc())?;
-    desk.put("/dev/random", b"")?;
+/// Whether each start with random bytes is refused so.
+fn are_refused(desk: Option<Desk>) -> bool {
+    let Some(desk) = desk else {
+        return false;
+    };
+    if !desk.put("/dev/random", b"") {
+        return false;
+    }
     for (parents, arguments, said, status) in REFUSED {
         let found = refusal(&desk, parents, arguments);
-        assert!(rt; found == Some(ExitCode::from(status)));
-        assert_eq!(rt; desk.errors().as_str(), said);
+        if found != Some(ExitCode::from(status)) || !desk.said("", said) {
+            return false;
+        }
     }
-    Ok(())
+    true
 }
 
 #[test]
-fn starts_with_a_random_state(rt: HostRuntime) -> Result<(), Fail> {
-    let desk = desk_with_files(rt.alloc())?;
+fn refuses_to_start(rt: HostRuntime) {
+    assert!(rt; are_refused(desk_with_files(rt.alloc())));
+}
+
+/// Whether there is no start without random bytes, and one with them.
+fn wants_random_bytes(desk: Option<Desk>) -> bool {
+    let Some(desk) = desk else {
+        return false;
+    };
     let arguments = ["root=good.res", "de-at=a.txt"];
-    let status = refusal(&desk, Some("good.txt"), &arguments);
-    assert!(rt; status == Some(ExitCode::from(2)));
-    assert_eq!(rt; desk.errors().as_str(), "no random state\n");
-    desk.put("/dev/random", b"")?;
-    assert!(rt; refusal(&desk, Some("good.txt"), &arguments).is_none());
-    assert_eq!(rt; desk.errors().as_str(), "");
-    Ok(())
+    let (parents, status) = (Some("good.txt"), ExitCode::from(2));
+    refusal(&desk, parents, &arguments) == Some(status)
+        && desk.said("", "no random state\n")
+        && desk.put("/dev/random", b"")
+        && refusal(&desk, parents, &arguments).is_none()
+        && desk.said("", "")
 }
 
 #[test]
-fn says_that_memory_is_out(rt: HostRuntime) -> Result<(), Fail> {
-    let desk = Desk::new(rt.alloc(), ROOM);
-    assert!(rt; not_started(&desk, StartError::Memory) == ExitCode::from(1));
-    assert_eq!(rt; desk.errors().as_str(), "Memory\n");
-    Ok(())
+fn starts_with_a_random_state(rt: HostRuntime) {
+    assert!(rt; wants_random_bytes(desk_with_files(rt.alloc())));
+}
+
+/// Whether a start for which there is no memory is answered so.
+fn says_memory(desk: &Desk) -> bool {
+    let status = not_started(desk, StartError::Memory);
+    ended(desk, status, 1, "", "Memory\n")
+}
+
+#[test]
+fn says_that_memory_is_out(rt: HostRuntime) {
+    assert!(rt; says_memory(&Desk::new(rt.alloc(), ROOM)));
 }

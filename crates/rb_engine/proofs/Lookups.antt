@@ -21,12 +21,6 @@ use Rattle.rb_engine.specs.declared.place.Place.{Place}
 use Rattle.rb_engine.proofs.StepLemmas.{app-place_of}
 use Rattle.rb_engine.specs.Seen.{seen}
 
--- a refusal is made another
-pub mapped : {T : Type 0} (r : Result T LookError) (m : Result T LookFault) (P : LookError → LookFault → Type 0) → ((e : LookError) (f : LookFault) → P e f → f ≡ fault_from e) → MatchResult r (λ x. m ≡ Ok x) (λ e. IsErrAnd m (P e)) → MatchResult r (λ x. m ≡ Ok x) (λ e. m ≡ Err (fault_from e))
-mapped (Ok x) m P same h = h
-mapped (Err e) (Ok x) P same h = absurd h
-mapped (Err e) (Err f) P same h = ap (λ d. Err d) (same e f h)
-
 found_is : {N : Type 0} (tree : N → Resource) (r : Result (Found N) LookError) (m : Result (Found N) LookFault) (valid : Option (List ℕ)) (answer : Result (Resource × List ℕ) LookError) → MatchResult r (λ x. m ≡ Ok x) (λ e. m ≡ Err (fault_from e)) → answer_of tree r ≡ answer → IfOk r (λ f. valid ≡ Some f.valid) → seen tree m ≡ found valid answer
 found_is tree (Ok f) m valid answer h e v = ap (seen tree) h ∙ ap (λ o. found o (Ok (tree f.node, f.actual))) (sym v) ∙ ap (found valid) e
 found_is tree (Err d) m valid answer h e v = ap (seen tree) h ∙ ap (found valid) e

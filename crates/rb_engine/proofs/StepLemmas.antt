@@ -4,6 +4,9 @@ use Rattle.std.specs.Prelude.{codes, nat_eq, ◌⊎◌}
 use Rattle.std.specs.Cmp.Lexicographic.{pointwise}
 use Rattle.std.specs.Str.{bytes_eq}
 use Rattle.rb_tree.specs.SourceTree.{SourceTree}
+use Rattle.rb_lexer.specs.declared.fault.SourceKind.{SourceKind}
+use Rattle.rb_lexer.specs.declared.fault.SourceKind.TheVariants as text
+use Rattle.rb_parser.specs.Source.{IsGoodSource}
 use Rattle.rb_format.specs.File.{source_tree_of}
 use Rattle.rb_locales.specs.Locale.{name}
 use Rattle.rb_parents.specs.Trail.{ParentsOf}
@@ -17,7 +20,7 @@ use Rattle.rb_packages.specs.declared.fault.PackFault.TheVariants as pack
 use Rattle.rb_engine.specs.Place.{place_of, place_by}
 use Rattle.rb_engine.specs.Kept.{state_over}
 use Rattle.rb_engine.specs.Start.{HasBundle}
-use Rattle.rb_engine.specs.Source.{HasNone, unread_reply, install_reply}
+use Rattle.rb_engine.specs.Source.{HasNone, IsTextFault, Reads, unread_reply, install_reply}
 use Rattle.rb_engine.specs.Ask.{Requests, IsContent, Content, spelled, denoted, unread, Installs, Replaces, Removes, Lists}
 use Rattle.rb_engine.specs.Answer.{Start, Replies, install_reply as reply_to_install, add_reply, replace_reply, installed, exchanged, added as added_to, refusal}
 use Rattle.rb_engine.specs.History.{Step}
@@ -28,6 +31,7 @@ use Rattle.rb_engine.specs.declared.payload.PayloadFault.TheVariants as fault
 use Rattle.rb_engine.specs.declared.request.Payload.{Payload}
 use Rattle.rb_engine.specs.declared.request.Payload.TheVariants.{Text, File}
 use Rattle.rb_engine.specs.declared.request.Request.TheVariants as request
+use Rattle.rb_engine.specs.declared.request.Reply.{Reply}
 use Rattle.rb_engine.specs.declared.request.Reply.TheVariants.{Exists, Full, Done, Absent, Names}
 
 -- ---- the application that is read is the one that was given
@@ -41,8 +45,7 @@ app_is : (bs a : List ℕ) → app_of bs ≡ Ok a → a ≡ bs
 app_is bs a h = chosen_app bs a (not (is_app bs)) (bytes_eq bs (codes "ICUDATA")) h
 
 app_by : (r : Result (List ℕ) AppFault) (n : Option (List ℕ)) (p : Place) → place_by r n ≡ Ok p → r ≡ Ok p.app
-app_by (Err app.BadApp) n p h = absurd cc
-app_by (Err app.Reserved) n p h = absurd cc
+app_by (Err e) n p h = absurd cc
 app_by (Ok a) None p h = absurd cc
 app_by (Ok a) (Some n) p h = cc
 
@@ -51,27 +54,43 @@ app-place_of app locale p h = app_is app p.app (app_by (app_of app) (name locale
 
 -- ---- a step that changes nothing
 
-pub no_install : (app locale : List ℕ) (payload : Payload) (e : PlaceFault) (s : Stored) → place_of app locale ≡ Err e → (parents : ParentsOf) → Step (state_over parents s) (Requests (request.Install app locale payload)) (Replies (refusal e)) (state_over parents s)
-no_install app locale payload e s h parents = inr (record { ask = Installs app locale unread; means = (unread, rw h refl, refl); right = rw h refl; start = refl; own = rw h refl; others = λ a n. refl })
+no_place_for : (app locale : List ℕ) (payload : Payload) (e : PlaceFault) (s : Stored) → place_of app locale ≡ Err e → (parents : ParentsOf) → Step (state_over parents s) (Requests (request.Install app locale payload)) (Replies (refusal e)) (state_over parents s)
+no_place_for app locale payload e s h parents = inr (record { ask = Installs app locale unread; means = (unread, rw h refl, refl); right = rw h refl; start = refl; own = rw h refl; others = λ a n. refl })
 
-pub no_replace : (app locale : List ℕ) (payload : Payload) (e : PlaceFault) (s : Stored) → place_of app locale ≡ Err e → (parents : ParentsOf) → Step (state_over parents s) (Requests (request.Replace app locale payload)) (Replies (refusal e)) (state_over parents s)
-no_replace app locale payload e s h parents = inr (record { ask = Replaces app locale unread; means = (unread, rw h refl, refl); right = rw h refl; start = refl; own = rw h refl; others = λ a n. refl })
+no_place_of : (app locale : List ℕ) (payload : Payload) (e : PlaceFault) (s : Stored) → place_of app locale ≡ Err e → (parents : ParentsOf) → Step (state_over parents s) (Requests (request.Replace app locale payload)) (Replies (refusal e)) (state_over parents s)
+no_place_of app locale payload e s h parents = inr (record { ask = Replaces app locale unread; means = (unread, rw h refl, refl); right = rw h refl; start = refl; own = rw h refl; others = λ a n. refl })
 
-pub no_bundle : (app locale : List ℕ) (payload : Payload) (p : Place) (s : Stored) (e : PayloadFault) → place_of app locale ≡ Ok p → HasNone payload e → (parents : ParentsOf) → Step (state_over parents s) (Requests (request.Install app locale payload)) (Replies (unread_reply e)) (state_over parents s)
-no_bundle app locale (Text bytes) p s fault.Memory h k parents = inl (record { memory = refl; may = refl; start = refl; lists = λ a. refl })
-no_bundle app locale (File bytes) p s fault.Memory h k parents = inl (record { memory = refl; may = refl; start = refl; lists = λ a. refl })
-no_bundle app locale (Text bytes) p s fault.BadText h k parents = inr (record { ask = Installs app locale (spelled None); means = (spelled None, rw h k, refl); right = rw h refl; start = refl; own = rw h refl; others = λ a n. refl })
-no_bundle app locale (File bytes) p s fault.BadFile h k parents = inr (record { ask = Installs app locale (denoted None); means = (denoted None, rw h k, refl); right = rw h refl; start = refl; own = rw h refl; others = λ a n. refl })
-no_bundle app locale (Text bytes) p s fault.BadFile h k parents = absurd k
-no_bundle app locale (File bytes) p s fault.BadText h k parents = absurd k
+no_content : (app locale : List ℕ) (payload : Payload) (p : Place) (s : Stored) (e : PayloadFault) → place_of app locale ≡ Ok p → HasNone payload e → (parents : ParentsOf) → Step (state_over parents s) (Requests (request.Install app locale payload)) (Replies (unread_reply e)) (state_over parents s)
+no_content app locale (Text bytes) p s fault.Memory h k parents = inl (record { memory = refl; may = refl; start = refl; lists = λ a. refl })
+no_content app locale (File bytes) p s fault.Memory h k parents = inl (record { memory = refl; may = refl; start = refl; lists = λ a. refl })
+no_content app locale (Text bytes) p s fault.BadText h k parents = inr (record { ask = Installs app locale (spelled None); means = (spelled None, rw h k, refl); right = rw h refl; start = refl; own = rw h refl; others = λ a n. refl })
+no_content app locale (File bytes) p s fault.BadFile h k parents = inr (record { ask = Installs app locale (denoted None); means = (denoted None, rw h k, refl); right = rw h refl; start = refl; own = rw h refl; others = λ a n. refl })
+no_content app locale (Text bytes) p s fault.BadFile h k parents = absurd k
+no_content app locale (File bytes) p s fault.BadText h k parents = absurd k
 
-pub no_exchange : (app locale : List ℕ) (payload : Payload) (p : Place) (s : Stored) (e : PayloadFault) → place_of app locale ≡ Ok p → HasNone payload e → (parents : ParentsOf) → Step (state_over parents s) (Requests (request.Replace app locale payload)) (Replies (unread_reply e)) (state_over parents s)
-no_exchange app locale (Text bytes) p s fault.Memory h k parents = inl (record { memory = refl; may = refl; start = refl; lists = λ a. refl })
-no_exchange app locale (File bytes) p s fault.Memory h k parents = inl (record { memory = refl; may = refl; start = refl; lists = λ a. refl })
-no_exchange app locale (Text bytes) p s fault.BadText h k parents = inr (record { ask = Replaces app locale (spelled None); means = (spelled None, rw h k, refl); right = rw h refl; start = refl; own = rw h refl; others = λ a n. refl })
-no_exchange app locale (File bytes) p s fault.BadFile h k parents = inr (record { ask = Replaces app locale (denoted None); means = (denoted None, rw h k, refl); right = rw h refl; start = refl; own = rw h refl; others = λ a n. refl })
-no_exchange app locale (Text bytes) p s fault.BadFile h k parents = absurd k
-no_exchange app locale (File bytes) p s fault.BadText h k parents = absurd k
+no_new_content : (app locale : List ℕ) (payload : Payload) (p : Place) (s : Stored) (e : PayloadFault) → place_of app locale ≡ Ok p → HasNone payload e → (parents : ParentsOf) → Step (state_over parents s) (Requests (request.Replace app locale payload)) (Replies (unread_reply e)) (state_over parents s)
+no_new_content app locale (Text bytes) p s fault.Memory h k parents = inl (record { memory = refl; may = refl; start = refl; lists = λ a. refl })
+no_new_content app locale (File bytes) p s fault.Memory h k parents = inl (record { memory = refl; may = refl; start = refl; lists = λ a. refl })
+no_new_content app locale (Text bytes) p s fault.BadText h k parents = inr (record { ask = Replaces app locale (spelled None); means = (spelled None, rw h k, refl); right = rw h refl; start = refl; own = rw h refl; others = λ a n. refl })
+no_new_content app locale (File bytes) p s fault.BadFile h k parents = inr (record { ask = Replaces app locale (denoted None); means = (denoted None, rw h k, refl); right = rw h refl; start = refl; own = rw h refl; others = λ a n. refl })
+no_new_content app locale (Text bytes) p s fault.BadFile h k parents = absurd k
+no_new_content app locale (File bytes) p s fault.BadText h k parents = absurd k
+
+pub no_bundle : (app locale : List ℕ) (payload : Payload) (reply : Reply) (s : Stored) → Reads app locale payload (Err reply)
+    → (parents : ParentsOf) → Step (state_over parents s) (Requests (request.Install app locale payload)) (Replies reply) (state_over parents s)
+no_bundle app locale payload reply s (inl r) parents = rw r.2 (no_place_for app locale payload r.0 s r.1 parents)
+no_bundle app locale payload reply s (inr r) parents = rw r.4 (no_content app locale payload r.0 s r.1 r.2 r.3 parents)
+
+pub no_exchange : (app locale : List ℕ) (payload : Payload) (reply : Reply) (s : Stored) → Reads app locale payload (Err reply)
+    → (parents : ParentsOf) → Step (state_over parents s) (Requests (request.Replace app locale payload)) (Replies reply) (state_over parents s)
+no_exchange app locale payload reply s (inl r) parents = rw r.2 (no_place_of app locale payload r.0 s r.1 parents)
+no_exchange app locale payload reply s (inr r) parents = rw r.4 (no_new_content app locale payload r.0 s r.1 r.2 r.3 parents)
+
+-- a text that is refused spells nothing, unless memory ran out
+pub text_none : (bytes : List ℕ) (kind : SourceKind) (e : PayloadFault) → IsTextFault kind e
+    → ((name : List ℕ) (source : SourceTree) → IsGoodSource bytes name source → kind ≡ text.Memory) → HasNone (Text bytes) e
+text_none bytes kind e (inl p) only = rw p.1 tt
+text_none bytes kind e (inr p) only = rw p.1 (λ name source good. p.0 (only name source good))
 
 -- ---- what a payload asks to put
 

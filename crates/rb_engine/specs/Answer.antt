@@ -8,12 +8,11 @@ use Rattle.rb_parents.specs.Trail.{Bundles, ParentsOf}
 use Rattle.rb_fallback.specs.Search.{look_up, first_stop}
 use Rattle.rb_fallback.specs.declared.fault.LookError.{LookError}
 use Rattle.rb_packages.specs.App.{app_of}
-use Rattle.rb_engine.specs.Place.{place_of}
+use Rattle.rb_engine.specs.Place.{place_of, app_refusal}
 use Rattle.rb_packages.specs.Shelf.{Shelf, bundle_at, holds, is_full, replaced, removed}
 use Rattle.rb_engine.specs.Ask.{Content, spelled, denoted, unread, Ask, Installs, Replaces, Removes, Lists, Looks}
 use Rattle.rb_engine.specs.Looked.{fault_from}
 use Rattle.rb_packages.specs.declared.app.AppFault.{AppFault}
-use Rattle.rb_packages.specs.declared.app.AppFault.TheVariants as app
 use Rattle.rb_engine.specs.declared.place.Place.{Place}
 use Rattle.rb_engine.specs.declared.place.PlaceFault.{PlaceFault}
 use Rattle.rb_engine.specs.declared.place.PlaceFault.TheVariants as place
@@ -97,8 +96,7 @@ remove_reply (Err e) shelf = refusal e
 remove_reply (Ok p) shelf = if holds p.name shelf then Done else Absent
 
 abbrev pub list_reply : Result (List ℕ) AppFault → Shelf → Reply
-list_reply (Err app.BadApp) shelf = BadApp
-list_reply (Err app.Reserved) shelf = Reserved
+list_reply (Err e) shelf = refusal (app_refusal e)
 list_reply (Ok a) shelf = Names (map (λ e. e.0) shelf)
 
 -- ---- a lookup

@@ -27,7 +27,8 @@ KeepsTexts =
     (start : Start) (before after : Files) (locale text name file : List ℕ) (source : SourceTree)
     → IsGoodSource text name source
     → Denotes file source
-    → (from path : List ℕ) → looked start (shelf_of (before ++ (locale, file) ∷ after)) from path ≡ looked start (shelf_of before ++ (locale, source) ∷ shelf_of after) from path
+    → (from path : List ℕ) → looked start (shelf_of (before ++ (locale, file) ∷ after)) from path
+    ≡ looked start (shelf_of before ++ (locale, source) ∷ shelf_of after) from path
 
 -- the root of the file is the tree of the text
 abbrev pub KeepsTrees : Type 0

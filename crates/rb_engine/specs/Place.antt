@@ -8,10 +8,13 @@ use Rattle.rb_engine.specs.declared.place.Place.{Place}
 use Rattle.rb_engine.specs.declared.place.PlaceFault.{PlaceFault}
 use Rattle.rb_engine.specs.declared.place.PlaceFault.TheVariants as place
 
+abbrev pub app_refusal : AppFault → PlaceFault
+app_refusal app.BadApp = place.BadApp
+app_refusal app.Reserved = place.Reserved
+
 -- the application is judged before the locale
 abbrev pub place_by : Result (List ℕ) AppFault → Option (List ℕ) → Result Place PlaceFault
-place_by (Err app.BadApp) n = Err place.BadApp
-place_by (Err app.Reserved) n = Err place.Reserved
+place_by (Err e) n = Err (app_refusal e)
 place_by (Ok a) None = Err place.BadLocale
 place_by (Ok a) (Some n) = Ok (record { app = a; name = n })
 

@@ -1,10 +1,18 @@
 -- For what is private: a payload's bundle, or why there is none.
-use Rattle.std.specs.Prelude.{◌≡◌, ℕ, true, false, List, [], ◌∷◌, ◌++◌, None, Result, Ok, Err}
+use Rattle.std.specs.Prelude.{◌≡◌, ◌⊎◌, ℕ, true, false, List, [], ◌∷◌, ◌++◌, None, Result, Ok, Err}
 use Rattle.rb_tree.specs.SourceTree.{SourceTree}
+use Rattle.rb_lexer.specs.declared.fault.SourceKind.{SourceKind}
+use Rattle.rb_lexer.specs.declared.fault.SourceKind.TheVariants as text
 use Rattle.rb_format.specs.File.{source_tree_of}
+use Rattle.rb_format.specs.declared.fault.FileFault.{FileFault}
+use Rattle.rb_format.specs.declared.fault.FileFault.TheVariants as file
 use Rattle.rb_packages.specs.Shelf.{Shelf, holds}
 use Rattle.rb_engine.specs.Ask.{IsContent, spelled, denoted}
 use Rattle.rb_engine.specs.Start.{HasBundle}
+use Rattle.rb_engine.specs.Place.{place_of}
+use Rattle.rb_engine.specs.Answer.{refusal}
+use Rattle.rb_engine.specs.declared.place.Place.{Place}
+use Rattle.rb_engine.specs.declared.place.PlaceFault.{PlaceFault}
 use Rattle.rb_engine.specs.declared.request.Payload.{Payload}
 use Rattle.rb_engine.specs.declared.request.Payload.TheVariants.{Text, File}
 use Rattle.rb_engine.specs.declared.payload.PayloadFault.{PayloadFault}
@@ -30,6 +38,14 @@ abbrev pub IsRead : Payload → Result (List ℕ) PayloadFault → Type 0
 IsRead payload (Ok file) = HasBundle payload (source_tree_of file)
 IsRead payload (Err fault) = HasNone payload fault
 
+-- the error of a text as that of a payload; out of memory stays what it is
+abbrev pub IsTextFault : SourceKind → PayloadFault → Type 0
+IsTextFault kind f = ((kind ≡ text.Memory) × (f ≡ fault.Memory)) ⊎ ((kind ≡ text.Memory → ⊥) × (f ≡ fault.BadText))
+
+-- the same of a file's
+abbrev pub IsFileFault : FileFault → PayloadFault → Type 0
+IsFileFault e f = ((e ≡ file.Memory) × (f ≡ fault.Memory)) ⊎ ((e ≡ file.Memory → ⊥) × (f ≡ fault.BadFile))
+
 -- an entry at an index is added last to a shelf, or is refused
 abbrev pub Adds : ℕ → List ℕ → Payload → Shelf → Result (Unit {0}) StartFault → Shelf → Type 0
 Adds index name payload old (Ok done) new = (source : SourceTree) × HasBundle payload source × (holds name old ≡ false) × (new ≡ old ++ (name, source) ∷ [])
@@ -45,6 +61,13 @@ abbrev pub unread_reply : PayloadFault → Reply
 unread_reply fault.BadText = reply.BadText
 unread_reply fault.BadFile = reply.BadFile
 unread_reply fault.Memory = reply.Memory
+
+-- a request's place with the file of its payload's bundle; or the reply where it names no place, or where its payload has no bundle
+abbrev pub Reads : List ℕ → List ℕ → Payload → Result (Place × List ℕ) Reply → Type 0
+Reads app locale payload (Ok r) = (place_of app locale ≡ Ok r.0) × HasBundle payload (source_tree_of r.1)
+Reads app locale payload (Err reply) =
+    ((e : PlaceFault) × (place_of app locale ≡ Err e) × (reply ≡ refusal e))
+    ⊎ ((p : Place) × (e : PayloadFault) × (place_of app locale ≡ Ok p) × HasNone payload e × (reply ≡ unread_reply e))
 
 -- the reply where a bundle isn't installed
 abbrev pub install_reply : PackFault → Reply

@@ -35,7 +35,8 @@ pub record IsReached (entries : Entries) (at : ℕ) (name : List ℕ) (payload :
 abbrev pub IsRefused : Entries → StartFault → Type 0
 IsRefused entries (BadText i) = (name text : List ℕ) × (shelf : Shelf) × IsReached entries i name (Text text) shelf × IsContent (Text text) (spelled None)
 IsRefused entries (BadFile i) = (name file : List ℕ) × (shelf : Shelf) × IsReached entries i name (File file) shelf × IsContent (File file) (denoted None)
-IsRefused entries (Twice i) = (name : List ℕ) × (payload : Payload) × (source : SourceTree) × (shelf : Shelf) × IsReached entries i name payload shelf × HasBundle payload source × (holds name shelf ≡ true)
+IsRefused entries (Twice i) = (name : List ℕ) × (payload : Payload) × (source : SourceTree) × (shelf : Shelf) × IsReached entries i name payload shelf
+    × HasBundle payload source × (holds name shelf ≡ true)
 IsRefused entries Memory = Unit {0}
 
 -- the index of a refused entry is that of an entry

@@ -11,7 +11,7 @@ ghost use Rattle.rb_engine.specs.Kept.{state_of};
 ghost use Rattle.rb_engine.specs.Seen.{seen};
 ghost use Rattle.rb_engine.specs.Start.{Loads, IsRefused, IsIndexed};
 
-use crate::place::{Place, PlaceFault, place_of};
+use crate::place::{Place, place_of};
 use crate::request::{LookFault, Payload, Reply, Request};
 use crate::start::{StartFault, load_all};
 use crate::steps;
@@ -52,6 +52,11 @@ impl Engine {
     ///
     /// `BadText(i)`, `BadFile(i)` and `Twice(i)` are at the first entry i of ICUDATA that is refused: its payload is no good text, or
     /// no file of a bundle, or else its name is that of an earlier entry. `Memory`: out of memory. An error leaves nothing allocated.
+    ///
+    /// ```rust
+    /// let state = RandomState::new(rt)?;
+    /// let engine = Engine::start(alloc, state, Vec::new(alloc), Parents::none(alloc))?;
+    /// ```
     pub fn start(
         alloc: Global,
         state: RandomState,
@@ -73,6 +78,10 @@ impl Engine {
     ///
     /// A request is judged in this order: `BadApp`, `Reserved`, `BadLocale`, `BadText`, `BadFile`, `Exists`, `Absent`, `Full`. `Memory`
     /// may come before any of them, though never to a removal. A refused request changes nothing, and its payload is dropped.
+    ///
+    /// ```rust
+    /// engine.handle(alloc, Request::Install { app, locale, payload }) // Reply::Done
+    /// ```
     pub fn handle(&mut self, alloc: Global, request: Request) -> Reply
         ensures { Step (state_of self.old) (Requests request) (Replies result) (state_of self.new) }
     {
@@ -97,15 +106,15 @@ impl Engine {
     ///
     /// A lookup is judged in this order: `BadApp`, `Reserved`, `BadLocale`, `BadPath`, and then the refusals of a search in
     /// the order in which it meets them. While what was found is held, the engine can't be changed.
+    ///
+    /// ```rust
+    /// let found = engine.look(b"shop", b"de_AT", b"menu/open")?;
+    /// engine.look(b"bank", b"de_AT", b"menu/open") // Err(LookFault::NoBundle)
+    /// ```
     pub fn look(&self, app: &[u8], locale: &[u8], path: &[u8]) -> Result<Found<Item<'_>>, LookFault>
         ensures { seen tree_seen result ≡ answer_over (state_of self.now).start ((state_of self.now).lists app.now) (Looks app.now locale.now path.now) }
     {
-        let place = match place_of(app, locale) {
-            Ok(place) => place,
-            Err(PlaceFault::BadApp) => return Err(LookFault::BadApp),
-            Err(PlaceFault::Reserved) => return Err(LookFault::Reserved),
-            Err(PlaceFault::BadLocale) => return Err(LookFault::BadLocale),
-        };
+        let place = place_of(app, locale)?;
         look_at(&self.packages, &self.parents, &place, path)
     }
 }
@@ -117,7 +126,8 @@ fn look_at<'a>(
     place: &Place,
     path: &[u8],
 ) -> Result<Found<Item<'a>>, LookFault>
-    ensures { seen tree_seen result ≡ looked_in (bundle_at (list_of place.now.app packages.now)) (bundle_at (icudata_of packages.now)) (parent_of parents.now) place.now.name path.now }
+    ensures { seen tree_seen result ≡ looked_in (bundle_at (list_of place.now.app packages.now)) (bundle_at (icudata_of packages.now))
+        (parent_of parents.now) place.now.name path.now }
 {
     look_in(
         packages.shelf(&place.app),
@@ -138,5 +148,5 @@ fn look_in<'a, S: Shelf<'a>, I: Shelf<'a, N = S::N>>(
 ) -> Result<Found<S::N>, LookFault>
     ensures { seen S.N.tree result ≡ looked_in (S.bundles own) (I.bundles icudata) (parent_of parents.now) name.now path.now }
 {
-    rb_fallback::look(own, icudata, parents, name, path).map_err(LookFault::from)
+    Ok(rb_fallback::look(own, icudata, parents, name, path)?)
 }

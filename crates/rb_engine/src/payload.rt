@@ -1,16 +1,15 @@
 //! The bundle of a payload.
-ghost use Rattle.std.specs.Prelude.{◌≡◌, IfOk, option_map};
+ghost use Rattle.std.specs.Prelude.{◌≡◌, IfOk};
 ghost use Rattle.rb_tree.specs.Parts.{Fits};
 ghost use Rattle.rb_tree.specs.View.{view_of};
 ghost use Rattle.rb_parser.specs.Source.{source_tree};
 ghost use Rattle.rb_format.specs.File.{source_tree_of};
-ghost use Rattle.rb_engine.specs.Ask.{IsContent, spelled, denoted};
 ghost use Rattle.rb_engine.specs.Source.{IsRead};
 ghost use Rattle.rb_engine.specs.declared.request.Payload.TheVariants.{Text, File};
 
 use crate::request::Payload;
 use rb_format::FileFault;
-use rb_lexer::SourceKind;
+use rb_lexer::{SourceFault, SourceKind};
 use rb_parser::{Source, parse};
 use rb_tree::ByteList;
 use rb_validator::{Bundle, accept};
@@ -23,6 +22,42 @@ pub(crate) enum PayloadFault {
     BadText,
     BadFile,
     Memory,
+}
+
+impl From<AllocError> for PayloadFault {
+    ghost use Rattle.rb_engine.specs.declared.payload.PayloadFault.TheVariants as faults;
+
+    ghost from_gives = { λ _ f. f ≡ faults.Memory };
+
+    fn from(_: AllocError) -> Self {
+        PayloadFault::Memory
+    }
+}
+
+impl From<SourceFault> for PayloadFault {
+    ghost use Rattle.rb_engine.specs.Source.{IsTextFault};
+
+    ghost from_gives = { λ e f. IsTextFault e.kind f };
+
+    fn from(fault: SourceFault) -> Self {
+        match fault.kind {
+            SourceKind::Memory => PayloadFault::Memory,
+            _ => PayloadFault::BadText,
+        }
+    }
+}
+
+impl From<FileFault> for PayloadFault {
+    ghost use Rattle.rb_engine.specs.Source.{IsFileFault};
+
+    ghost from_gives = { λ e f. IsFileFault e f };
+
+    fn from(fault: FileFault) -> Self {
+        match fault {
+            FileFault::Memory => PayloadFault::Memory,
+            _ => PayloadFault::BadFile,
+        }
+    }
 }
 
 /// The bundle of a source, as the file that it is written as.
@@ -43,32 +78,21 @@ fn source_bundle(alloc: Global, source: &Source) -> Result<Bundle, AllocError>
 }
 
 /// The bundle that a text spells, if it spells one.
-fn text_bundle(alloc: Global, text: ByteList) -> Result<Option<Bundle>, AllocError>
-    ensures { IfOk result (λ bundle. IsContent (Text text) (spelled (option_map source_tree_of bundle))) }
+fn text_bundle(alloc: Global, text: ByteList) -> Result<Bundle, PayloadFault>
+    ensures { IsRead (Text text) result }
 {
-    match parse(alloc, text.as_slice()) {
-        Ok(source) => Ok(Some(source_bundle(alloc, &source)?)),
-        Err(fault) => match fault.kind {
-            SourceKind::Memory => Err(AllocError),
-            _ => Ok(None),
-        },
-    }
+    let source = parse(alloc, text.as_slice())?;
+    Ok(source_bundle(alloc, &source)?)
 }
 
 /// The bundle that a file denotes, if it denotes one.
-fn file_bundle(alloc: Global, file: ByteList) -> Result<Option<Bundle>, AllocError>
-    ensures { IfOk result (λ bundle. IsContent (File file) (denoted (option_map source_tree_of bundle))) }
+fn file_bundle(alloc: Global, file: ByteList) -> Result<Bundle, PayloadFault>
+    ensures { IsRead (File file) result }
 {
     rb_format::laws::a_tree_or_a_fault();
     match accept(alloc, file.into_vec()) {
-        Ok(bundle) => Ok(Some(bundle)),
-        Err((fault, _)) => {
-            if fault == FileFault::Memory {
-                Err(AllocError)
-            } else {
-                Ok(None)
-            }
-        }
+        Ok(bundle) => Ok(bundle),
+        Err((fault, _)) => Err(PayloadFault::from(fault)),
     }
 }
 
@@ -76,13 +100,8 @@ fn file_bundle(alloc: Global, file: ByteList) -> Result<Option<Bundle>, AllocErr
 pub(crate) fn bundle_of(alloc: Global, payload: Payload) -> Result<Bundle, PayloadFault>
     ensures { IsRead payload result }
 {
-    let (read, bad) = match payload {
-        Payload::Text(text) => (text_bundle(alloc, text), PayloadFault::BadText),
-        Payload::File(file) => (file_bundle(alloc, file), PayloadFault::BadFile),
-    };
-    match read {
-        Ok(Some(bundle)) => Ok(bundle),
-        Ok(None) => Err(bad),
-        Err(_) => Err(PayloadFault::Memory),
+    match payload {
+        Payload::Text(text) => text_bundle(alloc, text),
+        Payload::File(file) => file_bundle(alloc, file),
     }
 }

@@ -1,8 +1,11 @@
 //! What is asked of an engine, and what it answers.
 ghost use Rattle.std.specs.Prelude.{◌≡◌};
 
+use crate::payload::PayloadFault;
+use crate::place::PlaceFault;
 use rb_fallback::LookError;
 use rb_locales::Name;
+use rb_packages::{AppFault, PackFault};
 use rb_tree::ByteList;
 use std::marker::Model;
 
@@ -121,6 +124,48 @@ impl Reply {
     }
 }
 
+impl From<PlaceFault> for Reply {
+    ghost use Rattle.rb_engine.specs.Answer.{refusal};
+
+    ghost from_gives = { λ e r. r ≡ refusal e };
+
+    fn from(fault: PlaceFault) -> Self {
+        match fault {
+            PlaceFault::BadApp => Reply::BadApp,
+            PlaceFault::Reserved => Reply::Reserved,
+            PlaceFault::BadLocale => Reply::BadLocale,
+        }
+    }
+}
+
+impl From<PayloadFault> for Reply {
+    ghost use Rattle.rb_engine.specs.Source.{unread_reply};
+
+    ghost from_gives = { λ e r. r ≡ unread_reply e };
+
+    fn from(fault: PayloadFault) -> Self {
+        match fault {
+            PayloadFault::BadText => Reply::BadText,
+            PayloadFault::BadFile => Reply::BadFile,
+            PayloadFault::Memory => Reply::Memory,
+        }
+    }
+}
+
+impl From<PackFault> for Reply {
+    ghost use Rattle.rb_engine.specs.Source.{install_reply};
+
+    ghost from_gives = { λ e r. r ≡ install_reply e };
+
+    fn from(fault: PackFault) -> Self {
+        match fault {
+            PackFault::Exists | PackFault::Twice => Reply::Exists,
+            PackFault::Full => Reply::Full,
+            PackFault::Memory => Reply::Memory,
+        }
+    }
+}
+
 /// Why a lookup found nothing.
 #[derive(Clone, Copy, Debug, PartialEq, Eq)]
 pub enum LookFault {
@@ -158,18 +203,32 @@ impl LookFault {
         ensures { result.now ≡ look_word self }
     {
         match self {
-            LookFault::BadApp => "BadApp",
-            LookFault::Reserved => "Reserved",
+            LookFault::BadApp => AppFault::BadApp.word(),
+            LookFault::Reserved => AppFault::Reserved.word(),
             LookFault::BadLocale => "BadLocale",
-            LookFault::BadPath => "BadPath",
-            LookFault::PathTooLong => "PathTooLong",
-            LookFault::Chain => "Chain",
-            LookFault::BadParent => "BadParent",
-            LookFault::NoBundle => "NoBundle",
-            LookFault::Missing => "Missing",
-            LookFault::AliasText => "AliasText",
-            LookFault::AliasPackage => "AliasPackage",
-            LookFault::TooManyAliases => "TooManyAliases",
+            LookFault::BadPath => LookError::BadPath.word(),
+            LookFault::PathTooLong => LookError::PathTooLong.word(),
+            LookFault::Chain => LookError::Chain.word(),
+            LookFault::BadParent => LookError::BadParent.word(),
+            LookFault::NoBundle => LookError::NoBundle.word(),
+            LookFault::Missing => LookError::Missing.word(),
+            LookFault::AliasText => LookError::AliasText.word(),
+            LookFault::AliasPackage => LookError::AliasPackage.word(),
+            LookFault::TooManyAliases => LookError::TooManyAliases.word(),
+        }
+    }
+}
+
+impl From<PlaceFault> for LookFault {
+    ghost use Rattle.rb_engine.specs.Answer.{look_refusal};
+
+    ghost from_gives = { λ e f. f ≡ look_refusal e };
+
+    fn from(fault: PlaceFault) -> Self {
+        match fault {
+            PlaceFault::BadApp => LookFault::BadApp,
+            PlaceFault::Reserved => LookFault::Reserved,
+            PlaceFault::BadLocale => LookFault::BadLocale,
         }
     }
 }

@@ -1,51 +1,32 @@
 //! The requests, on the packages of all applications.
-ghost use Rattle.std.specs.Prelude.{◌≡◌};
 ghost use Rattle.rb_parents.specs.Trail.{ParentsOf};
 ghost use Rattle.rb_engine.specs.Ask.{Requests};
-ghost use Rattle.rb_engine.specs.Answer.{Replies, refusal};
+ghost use Rattle.rb_engine.specs.Answer.{Replies};
 ghost use Rattle.rb_engine.specs.History.{Step};
 ghost use Rattle.rb_engine.specs.Kept.{state_over};
-ghost use Rattle.rb_engine.specs.Source.{unread_reply, install_reply};
+ghost use Rattle.rb_engine.specs.Source.{Reads};
 ghost use Rattle.rb_engine.specs.declared.request.Request.TheVariants.{Install, Replace, Remove, List as Lists};
 
-use crate::payload::{PayloadFault, bundle_of};
-use crate::place::{PlaceFault, place_of};
+use crate::payload::bundle_of;
+use crate::place::{Place, PlaceFault, place_of};
 use crate::request::{NameList, Payload, Reply};
-use rb_packages::{App, AppFault, PackFault, Packages};
+use rb_packages::{App, Packages};
 use rb_tree::ByteList;
+use rb_validator::Bundle;
 use std::alloc::Global;
 
-/// The reply where a request names no place.
-fn place_reply(fault: PlaceFault) -> Reply
-    ensures { result ≡ refusal fault }
+/// Where a bundle is to be, and the bundle of a payload; or the reply where there is none.
+fn read(
+    alloc: Global,
+    app: &ByteList,
+    locale: &ByteList,
+    payload: Payload,
+) -> Result<(Place, Bundle), Reply>
+    ensures { Reads app.now locale.now payload result }
 {
-    match fault {
-        PlaceFault::BadApp => Reply::BadApp,
-        PlaceFault::Reserved => Reply::Reserved,
-        PlaceFault::BadLocale => Reply::BadLocale,
-    }
-}
-
-/// The reply where a payload gives no bundle.
-fn payload_reply(fault: PayloadFault) -> Reply
-    ensures { result ≡ unread_reply fault }
-{
-    match fault {
-        PayloadFault::BadText => Reply::BadText,
-        PayloadFault::BadFile => Reply::BadFile,
-        PayloadFault::Memory => Reply::Memory,
-    }
-}
-
-/// The reply where a bundle isn't installed.
-fn pack_reply(fault: PackFault) -> Reply
-    ensures { result ≡ install_reply fault }
-{
-    match fault {
-        PackFault::Exists | PackFault::Twice => Reply::Exists,
-        PackFault::Full => Reply::Full,
-        PackFault::Memory => Reply::Memory,
-    }
+    let place = place_of(app.as_slice(), locale.as_slice())?;
+    let bundle = bundle_of(alloc, payload)?;
+    Ok((place, bundle))
 }
 
 pub(crate) fn install(
@@ -55,19 +36,16 @@ pub(crate) fn install(
     locale: &ByteList,
     payload: Payload,
 ) -> Reply
-    ensures { (parents : ParentsOf) → Step (state_over parents packages.old) (Requests (Install app.now locale.now payload)) (Replies result) (state_over parents packages.new) }
+    ensures { (parents : ParentsOf) → Step (state_over parents packages.old) (Requests (Install app.now locale.now payload)) (Replies result)
+        (state_over parents packages.new) }
 {
-    let place = match place_of(app.as_slice(), locale.as_slice()) {
-        Ok(place) => place,
-        Err(fault) => return place_reply(fault),
-    };
-    let bundle = match bundle_of(alloc, payload) {
-        Ok(bundle) => bundle,
-        Err(fault) => return payload_reply(fault),
+    let (place, bundle) = match read(alloc, app, locale, payload) {
+        Ok(read) => read,
+        Err(reply) => return reply,
     };
     match packages.install(&place.app, place.name, bundle) {
         Ok(()) => Reply::Done,
-        Err((fault, _)) => pack_reply(fault),
+        Err((fault, _)) => Reply::from(fault),
     }
 }
 
@@ -78,15 +56,12 @@ pub(crate) fn replace(
     locale: &ByteList,
     payload: Payload,
 ) -> Reply
-    ensures { (parents : ParentsOf) → Step (state_over parents packages.old) (Requests (Replace app.now locale.now payload)) (Replies result) (state_over parents packages.new) }
+    ensures { (parents : ParentsOf) → Step (state_over parents packages.old) (Requests (Replace app.now locale.now payload)) (Replies result)
+        (state_over parents packages.new) }
 {
-    let place = match place_of(app.as_slice(), locale.as_slice()) {
-        Ok(place) => place,
-        Err(fault) => return place_reply(fault),
-    };
-    let bundle = match bundle_of(alloc, payload) {
-        Ok(bundle) => bundle,
-        Err(fault) => return payload_reply(fault),
+    let (place, bundle) = match read(alloc, app, locale, payload) {
+        Ok(read) => read,
+        Err(reply) => return reply,
     };
     match packages.replace(&place.app, &place.name, bundle) {
         Ok(_) => Reply::Done,
@@ -95,11 +70,12 @@ pub(crate) fn replace(
 }
 
 pub(crate) fn remove(packages: &mut Packages, app: &ByteList, locale: &ByteList) -> Reply
-    ensures { (parents : ParentsOf) → Step (state_over parents packages.old) (Requests (Remove app.now locale.now)) (Replies result) (state_over parents packages.new) }
+    ensures { (parents : ParentsOf) → Step (state_over parents packages.old) (Requests (Remove app.now locale.now)) (Replies result)
+        (state_over parents packages.new) }
 {
     let place = match place_of(app.as_slice(), locale.as_slice()) {
         Ok(place) => place,
-        Err(fault) => return place_reply(fault),
+        Err(fault) => return Reply::from(fault),
     };
     match packages.remove(&place.app, &place.name) {
         Ok(_) => Reply::Done,
@@ -112,8 +88,7 @@ pub(crate) fn list(packages: &Packages, alloc: Global, app: &ByteList) -> Reply
 {
     let app = match App::read(app.as_slice()) {
         Ok(app) => app,
-        Err(AppFault::BadApp) => return Reply::BadApp,
-        Err(AppFault::Reserved) => return Reply::Reserved,
+        Err(fault) => return Reply::from(PlaceFault::from(fault)),
     };
     match packages.list(alloc, &app) {
         Ok(names) => Reply::Names(NameList::from_vec(names)),

@@ -1,12 +1,13 @@
 -- A search, level by level.
-use Rattle.std.proofs.Common.{◌≡◌, ◌+◌, ◌-◌, ◌<◌, ◌≤◌, ◌==◌, ℕ, zero, suc, List, Bool, true, false, cond, Option, Some, Result, Ok, Err, IfOk, refl, ap, sym, ◌∙◌, arith, length}
+use Rattle.std.proofs.Common.{◌≡◌, ◌+◌, ◌-◌, ◌<◌, ◌≤◌, ◌==◌, ℕ, zero, suc, List, Bool, true, false, cond, Option, Some, Result, Ok, Err, IfOk, unwrap_or, refl, ap, sym, ◌∙◌, arith, length}
 use Rattle.std.proofs.Common.{IsErrAnd, ◌≢◌}
 use Rattle.std.proofs.lemmas.Bool.{le-ltb, eqb-true, eqb-false}
 use Rattle.rb_fallback.specs.Answers.{answer_of}
 use Rattle.rb_fallback.specs.declared.found.Found.{Found}
 use Rattle.rb_tree.specs.Resource.{Resource}
 use Rattle.rb_tree.specs.Path.{segments}
-use Rattle.rb_fallback.specs.Search.{Setting, Step, search, is_long, go_on, step, level, bundles_of}
+use Rattle.rb_parents.specs.Trail.{Bundles, ParentsOf}
+use Rattle.rb_fallback.specs.Search.{Setting, Step, search, is_long, go_on, step, level, bundles_of, first_stop, look_up, setting, setting_of}
 use Rattle.rb_fallback.specs.declared.fault.LookError.{LookError}
 use Rattle.rb_fallback.specs.declared.fault.LookError.TheVariants as fault
 use Rattle.rb_fallback.proofs.Paths.{long_is}
@@ -43,6 +44,20 @@ pub level_step : (most i : ℕ) (s : Setting) (in_icu : Bool) (n p : List ℕ) (
     → step_at s in_icu n (segments p) ≡ r → search (most - i) s in_icu n (segments p) ≡ go_on (λ q m ts. search (most - (i + 1)) s q m ts) r
 level_step most i s in_icu n p r h l f =
     search_on (most - i) (most - (i + 1)) s in_icu n (segments p) (omega arith) (short_is p l) ∙ ap (go_on (λ q m ts. search (most - (i + 1)) s q m ts)) f
+
+-- the first level of a lookup, by its step
+pub first_level : (own icu : Bundles) (parents : ParentsOf) (n p : List ℕ) (r : Result Step LookError) → length p ≤ 1024
+    → step false (setting own icu parents n).valid (level own parents n (segments p)) ≡ r
+    → look_up own icu parents n (segments p) ≡ go_on (λ q m ts. search 255 (setting own icu parents n) q m ts) r
+first_level own icu parents n p r l f = level_step 256 0 (setting own icu parents n) false n p r (omega arith) l f
+
+-- the same, where the first stop is known
+pub first_level_from : (own icu : Bundles) (parents : ParentsOf) (n p first : List ℕ) (r : Result Step LookError) → first_stop own parents n ≡ Some first
+    → length p ≤ 1024 → step false first (level own parents n (segments p)) ≡ r
+    → look_up own icu parents n (segments p) ≡ go_on (λ q m ts. search 255 (setting_of own icu parents first) q m ts) r
+first_level_from own icu parents n p first r e l f =
+    ap (λ (x : Setting). search 256 x false n (segments p)) (ap (λ o. setting_of own icu parents (unwrap_or o n)) e)
+    ∙ level_step 256 0 (setting_of own icu parents first) false n p r (omega arith) l f
 
 -- where the next path is too long, the search ends
 pub long_end : (most i : ℕ) (s : Setting) (in_icu : Bool) (n : List ℕ) (rest : List (List ℕ)) (f : LookError) → i < most → is_long rest ≡ true

@@ -2,7 +2,8 @@
 -- alias that is met goes on in another place. It is the lookup with fallback of ICU's `ures_*` calls over the locale inheritance of
 -- UTS #35 (LDML). This project's own rules: an alias is final, so that no later stop is asked; a search has at most 256 levels; a
 -- path has at most 1,024 bytes.
-use Rattle.std.specs.Prelude.{ℕ, zero, suc, List, [], ◌∷◌, ◌++◌, length, Bool, true, false, Option, Some, None, unwrap_or, Result, Ok, Err, nat_lt, if◌then◌else◌}
+use Rattle.std.specs.Prelude.{ℕ, zero, suc, List, [], ◌∷◌, ◌++◌, length, Bool, true, false, nat_lt, if◌then◌else◌}
+use Rattle.std.specs.Prelude.{Option, Some, None, unwrap_or, Result, Ok, Err}
 use Rattle.std.specs.List.{join_with_byte}
 use Rattle.std.specs.Option.{ok_or}
 use Rattle.rb_tree.specs.Resource.{Resource}
@@ -107,7 +108,8 @@ is_long ss = nat_lt 1024 (length (join_with_byte 47 ss))
 unfoldable pub search : ℕ → Setting → Bool → List ℕ → List (List ℕ) → Result (Resource × List ℕ) LookError
 search zero s in_icu n ss = Err fault.TooManyAliases
 search (suc k) s in_icu n ss =
-    if is_long ss then Err fault.PathTooLong else go_on (λ p m ts. search k s p m ts) (step in_icu s.valid (level (bundles_of s.own s.icu in_icu) s.parents n ss))
+    if is_long ss then Err fault.PathTooLong
+    else go_on (λ p m ts. search k s p m ts) (step in_icu s.valid (level (bundles_of s.own s.icu in_icu) s.parents n ss))
 
 abbrev pub setting_of : Bundles → Bundles → ParentsOf → List ℕ → Setting
 setting_of own icu parents valid = record { own = own; icu = icu; parents = parents; valid = valid }

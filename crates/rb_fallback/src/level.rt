@@ -31,7 +31,8 @@ pub(crate) struct Hit<N> {
 // What is seen with one stop more. It is walked only where no earlier one decides.
 fn with_stop<N: Node>(seen: Seen<N>, name: &Name, root: N, path: &[u8]) -> Seen<N>
     requires { IsPath path.now }
-    ensures { (b : Bundles) → (all : List (List ℕ)) → stop_tree (b name.now) ≡ Some (N.tree root) → IsSeen N.tree b path.now seen all → IsSeen N.tree b path.now result (all ++ name.now ∷ []) }
+    ensures { (b : Bundles) → (all : List (List ℕ)) → stop_tree (b name.now) ≡ Some (N.tree root) → IsSeen N.tree b path.now seen all
+        → IsSeen N.tree b path.now result (all ++ name.now ∷ []) }
 {
     let first = Some(seen.first.unwrap_or(*name));
     match seen.ending {
@@ -51,7 +52,8 @@ fn with_stop<N: Node>(seen: Seen<N>, name: &Name, root: N, path: &[u8]) -> Seen<
 // What is seen with one name more.
 fn with_name<N: Node>(seen: Seen<N>, name: &Name, stop: Option<N>, path: &[u8]) -> Seen<N>
     requires { IsPath path.now }
-    ensures { (b : Bundles) → (ns : List (List ℕ)) → option_map N.tree stop ≡ stop_tree (b name.now) → IsSeen N.tree b path.now seen (stops b ns) → IsSeen N.tree b path.now result (stops b (ns ++ name.now ∷ [])) }
+    ensures { (b : Bundles) → (ns : List (List ℕ)) → option_map N.tree stop ≡ stop_tree (b name.now) → IsSeen N.tree b path.now seen (stops b ns)
+        → IsSeen N.tree b path.now result (stops b (ns ++ name.now ∷ [])) }
 {
     match stop {
         Some(root) => with_stop(seen, name, root, path),
@@ -61,7 +63,8 @@ fn with_name<N: Node>(seen: Seen<N>, name: &Name, stop: Option<N>, path: &[u8]) 
 
 // What the stops of a whole trail give.
 fn decided<N: Node>(seen: Seen<N>, path: &[u8]) -> Result<Hit<N>, LookError>
-    ensures { (b : Bundles) → (all : List (List ℕ)) → IsSeen N.tree b path.now seen all → IsLevel N.tree result path.now (by_stops b all (segments path.now)) (first_of all) }
+    ensures { (b : Bundles) → (all : List (List ℕ)) → IsSeen N.tree b path.now seen all
+        → IsLevel N.tree result path.now (by_stops b all (segments path.now)) (first_of all) }
 {
     let first = match seen.first {
         Some(first) => first,
@@ -85,7 +88,8 @@ pub(crate) fn level<'a, S: Shelf<'a>>(
     path: &[u8],
 ) -> Result<Hit<S::N>, LookError>
     requires { IsPath path.now }
-    ensures { IsLevel S.N.tree result path.now (level (S.bundles shelf) (parent_of parents.now) name.now (segments path.now)) (first_stop (S.bundles shelf) (parent_of parents.now) name.now) }
+    ensures { IsLevel S.N.tree result path.now (level (S.bundles shelf) (parent_of parents.now) name.now (segments path.now))
+        (first_stop (S.bundles shelf) (parent_of parents.now) name.now) }
 {
     let mut here = *name;
     let mut seen = Seen {

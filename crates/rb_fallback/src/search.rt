@@ -55,7 +55,8 @@ fn follow_alias<N: Node>(
 ) -> Result<Option<Place>, LookError>
     requires alias { kind_of (N.tree node) ≡ Kinds.Alias }
     requires path { IsPath path.now }
-    ensures { (walked rest : List (List ℕ)) → walked ++ rest ≡ segments path.now → rest ≡ segments (drop (behind cut) path.now) → IsFollowed result (follow rest (target (units_of (N.tree node)) icudata valid.now walked)) }
+    ensures { (walked rest : List (List ℕ)) → walked ++ rest ≡ segments path.now → rest ≡ segments (drop (behind cut) path.now)
+        → IsFollowed result (follow rest (target (units_of (N.tree node)) icudata valid.now walked)) }
 {
     let target = match read_alias(node, valid) {
         Ok(target) => target,
@@ -82,7 +83,9 @@ fn level_at<'a, S: Shelf<'a>, I: Shelf<'a, N = S::N>>(
     place: &Place,
 ) -> Result<Hit<S::N>, LookError>
     requires { IsPath place.now.path.items }
-    ensures level { IsLevel S.N.tree result place.now.path.items (level (bundles_of (S.bundles own) (I.bundles icu) place.now.icudata) (parent_of parents.now) place.now.name (segments place.now.path.items)) (first_stop (bundles_of (S.bundles own) (I.bundles icu) place.now.icudata) (parent_of parents.now) place.now.name) }
+    ensures level { IsLevel S.N.tree result place.now.path.items
+        (level (bundles_of (S.bundles own) (I.bundles icu) place.now.icudata) (parent_of parents.now) place.now.name (segments place.now.path.items))
+        (first_stop (bundles_of (S.bundles own) (I.bundles icu) place.now.icudata) (parent_of parents.now) place.now.name) }
     ensures short { length place.now.path.items ≤ 1024 }
 {
     if place.icudata {
@@ -112,7 +115,8 @@ fn search_on<'a, S: Shelf<'a>, I: Shelf<'a, N = S::N>>(
     place: Place,
 ) -> Result<Found<S::N>, LookError>
     requires { IsPath place.path.items }
-    ensures answer { answer_of S.N.tree result ≡ search 255 (setting_of (S.bundles own) (I.bundles icu) (parent_of parents.now) valid) place.icudata place.name (segments place.path.items) }
+    ensures answer { answer_of S.N.tree result
+        ≡ search 255 (setting_of (S.bundles own) (I.bundles icu) (parent_of parents.now) valid) place.icudata place.name (segments place.path.items) }
     ensures valid { IfOk result (λ f. f.valid ≡ valid) }
 {
     let mut here = place;
@@ -177,6 +181,11 @@ fn search_path<'a, S: Shelf<'a>, I: Shelf<'a, N = S::N>>(
 /// The errors come in this order. `BadPath`: a byte that isn't printable ASCII, or an empty segment. Then at each level:
 /// `TooManyAliases` at the 257th, `PathTooLong` for more than 1,024 bytes, `Chain` or `BadParent` as `trail` has them, `NoBundle`
 /// where the trail has no stop, `Missing`, `AliasText` or `AliasPackage` as `read_alias` has them. No memory is taken.
+///
+/// ```rust
+/// let found = look(shelf, shelf, &parents, &de_at, b"menu/open")?;
+/// // `found.actual` is the name of the bundle that has it, `found.valid` that of the first stop.
+/// ```
 pub fn look<'a, S: Shelf<'a>, I: Shelf<'a, N = S::N>>(
     own: S,
     icu: I,
@@ -185,7 +194,8 @@ pub fn look<'a, S: Shelf<'a>, I: Shelf<'a, N = S::N>>(
     path: &[u8],
 ) -> Result<Found<S::N>, LookError>
     ensures bad_path { (result ≡ Err Faults.BadPath) ↔ (IsPath path.now → ⊥) }
-    ensures answer { IsPath path.now → answer_of S.N.tree result ≡ look_up (S.bundles own) (I.bundles icu) (parent_of parents.now) name.now (segments path.now) }
+    ensures answer { IsPath path.now → answer_of S.N.tree result
+        ≡ look_up (S.bundles own) (I.bundles icu) (parent_of parents.now) name.now (segments path.now) }
     ensures valid { IfOk result (λ f. first_stop (S.bundles own) (parent_of parents.now) name.now ≡ Some f.valid) }
 {
     if !path_ok(path) {

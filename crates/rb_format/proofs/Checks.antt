@@ -1,11 +1,11 @@
 -- The first fault is that of the first check that a file fails.
-use Rattle.std.proofs.Common.{◌≡◌, ℕ, zero, suc, ◌+◌, ◌*◌, ◌<◌, ◌⊎◌, Bool, true, false, cond, not, ltb, leb, List, []}
+use Rattle.std.proofs.Common.{◌≡◌, ℕ, zero, suc, ◌+◌, ◌*◌, ◌<◌, Bool, true, false, cond, not, ltb, leb, List, []}
 use Rattle.std.proofs.Common.{◌∷◌, length, drop, Result, Ok, Err, Option, Some, None, refl, sym, ap, subst, ◌∙◌, arith, inl, inr}
 use Rattle.std.proofs.lemmas.Bool.Decides.{nat_tests}
 use Rattle.std.specs.Prelude.{◌==◌, ◌&&◌, ◌||◌, slice_index, slice_get, is_none, unwrap_or}
 use Rattle.std.specs.Ordering.{is_lt, nat_cmp}
 use Rattle.std.specs.Cmp.Lexicographic.{slice_cmp}
-use Rattle.rb_tree.specs.Resource.{Resource, Resources, no_trees, tree_and, string, binary, table, alias, array, ints}
+use Rattle.rb_tree.specs.Resource.{Resource, Resources, tree_and, string, binary, table, alias, array}
 use Rattle.rb_tree.specs.SourceTree.{SourceTree}
 use Rattle.rb_format.specs.declared.fault.FileFault.{FileFault}
 use Rattle.rb_format.specs.declared.fault.FileFault.TheVariants as faults
@@ -20,7 +20,7 @@ use Rattle.rb_format.specs.Place.{word_at, half_at, key, layout_of}
 use Rattle.rb_format.specs.Geometry.{key_offset, table_parts, long_table_parts, array_first, array_count, child_count, first_child}
 use Rattle.rb_format.specs.Item.{kind_of, offset_of, is_table, has_data, bare}
 use Rattle.rb_format.specs.Attributes.{attributes_of, has_pool}
-use Rattle.rb_format.specs.File.{is_short_enough, has_magic, has_family, has_version, has_sizes, is_laid, flagged}
+use Rattle.rb_format.specs.File.{has_magic, has_family, has_version, has_sizes, is_laid, flagged}
 use Rattle.rb_format.specs.FirstFault.{◌>>=◌, result_map, fault_of, first_fault, trees, members, keys, next_key, key_or_fault, kind_or_fault, value, contents}
 use Rattle.rb_format.specs.FirstFault.{units, bytes, numbers, array_at, table_of, table16_at, table32_at, node, read, header, read_data, read_file}
 use Rattle.rb_format.specs.Checks.{file_checks, key_before, key_checks, table_checks, value_checks, kind_checks, item_checks, count_of, child_of}

@@ -1,15 +1,13 @@
 -- The fault of keys and of items, one at a time.
-use Rattle.std.proofs.Common.{◌≡◌, ℕ, zero, suc, ◌+◌, ◌-◌, ◌<◌, ◌≤◌, Bool, true, false, cond, ltb, List, []}
+use Rattle.std.proofs.Common.{◌≡◌, ℕ, zero, suc, ◌-◌, ◌<◌, Bool, true, cond, List, []}
 use Rattle.std.proofs.Common.{◌∷◌, length, Result, Ok, Err, Option, Some, None, refl, sym, ap, subst, ◌∙◌, arith}
 use Rattle.rb_format.specs.declared.fault.FileFault.{FileFault}
 use Rattle.rb_format.specs.declared.fault.FileFault.TheVariants.{TooDeep, ItemType}
 use Rattle.rb_format.specs.declared.kind.ItemKind.{ItemKind}
 use Rattle.rb_format.specs.declared.layout.Layout.{Layout}
 use Rattle.rb_tree.specs.Resource.{Resource, tree_and, entry_and}
-use Rattle.rb_format.specs.FirstFault.{◌>>=◌, fault_of, next_key, keys, trees, members, read, node, value, kind_or_fault, within, contents, array_at, table_of}
+use Rattle.rb_format.specs.FirstFault.{◌>>=◌, fault_of, next_key, keys, trees, members, read, node, value, kind_or_fault, within, contents}
 use Rattle.rb_format.specs.Item.{kind_of, offset_of, bare}
-use Rattle.rb_format.specs.Place.{word_at}
-use Rattle.std.proofs.lemmas.Bool.{le-ltb}
 use Rattle.rb_format.proofs.Steps.{bind_ok, then_ok, ok_is, fault_then, fault_first}
 
 -- whether the rest of a reading has no more to say
@@ -43,26 +41,6 @@ pub keys_end : (y : Layout) (body : List ℕ) (place : ℕ → ℕ) (last : List
     → fault_of (keys y body place last i n) ≡ r → None ≡ r
 unfolding keys
 keys_end y body place last i n r e h = subst (λ (x : ℕ). fault_of (keys y body place last i x) ≡ r) e h
-
-pub trees_on : (child : ℕ → Result Resource FileFault) (item : ℕ → ℕ) (i n j m : ℕ) (r : Option FileFault) → n ≡ suc m → j ≡ suc i
-    → fault_of (child (item i)) ≡ None → fault_of (trees child item i n) ≡ r → fault_of (trees child item j m) ≡ r
-unfolding trees
-trees_on child item i n j m r e f g h =
-    let whole : fault_of (trees child item i (suc m)) ≡ r = subst (λ (x : ℕ). fault_of (trees child item i x) ≡ r) e h in
-    let next : fault_of (trees child item i (suc m)) ≡ fault_of (trees child item (suc i) m) = fault_then (child (item i))
-    (λ t. trees child item (suc i) m >>= λ ts. Ok (tree_and t ts)) _ g (λ x p. fault_last (trees child item (suc i) m) (tree_and x)) in
-    subst (λ (x : ℕ). fault_of (trees child item x m) ≡ r) (sym f) (sym next ∙ whole)
-
-pub trees_stop : (child : ℕ → Result Resource FileFault) (item : ℕ → ℕ) (i n m : ℕ) (d : FileFault) (r : Option FileFault) → n ≡ suc m
-    → Some d ≡ fault_of (child (item i)) → fault_of (trees child item i n) ≡ r → Some d ≡ r
-unfolding trees
-trees_stop child item i n m d r e g h =
-    let whole : fault_of (trees child item i (suc m)) ≡ r = subst (λ (x : ℕ). fault_of (trees child item i x) ≡ r) e h in
-    sym (fault_first (child (item i)) (λ t. trees child item (suc i) m >>= λ ts. Ok (tree_and t ts)) d (sym g)) ∙ whole
-
-pub trees_end : (child : ℕ → Result Resource FileFault) (item : ℕ → ℕ) (i n : ℕ) (r : Option FileFault) → n ≡ 0 → fault_of (trees child item i n) ≡ r → None ≡ r
-unfolding trees
-trees_end child item i n r e h = subst (λ (x : ℕ). fault_of (trees child item i x) ≡ r) e h
 
 -- as many keys as were asked for
 pub keys_count : (y : Layout) (body : List ℕ) (place : ℕ → ℕ) (last : List ℕ) (i n : ℕ) (ks : List (List ℕ)) → keys y body place last i n ≡ Ok ks
@@ -106,33 +84,10 @@ unfolding node
 read_no_kind y body d item h e = read_more y body d item h
     ∙ ap (λ (o : Option ItemKind). kind_or_fault o >>= λ k. value y body (λ w. read y body (d - 1) w) (offset_of item) k) e
 
--- ---- the fault of data that are there, of an array, and of a table, from that of what is in it
+-- ---- data that are there
 
 pub value_there : (y : Layout) (body : List ℕ) (child : ℕ → Result Resource FileFault) (o : ℕ) (k : ItemKind) (b : Bool) → within y k o ≡ Ok b → b ≡ true
     → value y body child o k ≡ contents y body child o k
 unfolding value
 value_there y body child o k b e f = then_ok (within y k o) b (λ there. cond there (contents y body child o k) (Ok (bare k o))) e
     ∙ ap (λ (x : Bool). cond x (contents y body child o k) (Ok (bare k o))) f
-
-pub array_fault : (y : Layout) (body : List ℕ) (child : ℕ → Result Resource FileFault) (o n : ℕ) → n ≡ word_at body o → o + 1 + n ≤ y.top
-    → fault_of (array_at y body child o) ≡ fault_of (trees child (λ i. word_at body (o + 1 + i)) 0 n)
-unfolding array_at
-array_fault y body child o n e h =
-    let test : ltb y.top (o + 1 + word_at body o) ≡ false = le-ltb _ _ (omega (arith, e)) in
-    rw (test, ← e) refl
-
-pub table_fault : (y : Layout) (body : List ℕ) (child : ℕ → Result Resource FileFault) (place : ℕ → ℕ) (from n : ℕ) → from + n ≤ y.top
-    → fault_of (keys y body place [] 0 n) ≡ None → fault_of (table_of y body child place from n) ≡ fault_of (trees child (λ i. word_at body (from + i)) 0 n)
-unfolding table_of
-table_fault y body child place from n h none =
-    let test : ltb y.top (from + n) ≡ false = le-ltb _ _ (omega arith) in
-    rw test (fault_then (keys y body place [] 0 n) (λ ks. members child (λ i. word_at body (from + i)) 0 ks) _ none
-    (λ ks p. members_fault child (λ i. word_at body (from + i)) 0 ks
-    ∙ ap (λ (m : ℕ). fault_of (trees child (λ i. word_at body (from + i)) 0 m)) (keys_count y body place [] 0 n ks p)))
-
-pub table_key_fault : (y : Layout) (body : List ℕ) (child : ℕ → Result Resource FileFault) (place : ℕ → ℕ) (from n : ℕ) (d : FileFault) → from + n ≤ y.top
-    → Some d ≡ fault_of (keys y body place [] 0 n) → Some d ≡ fault_of (table_of y body child place from n)
-unfolding table_of
-table_key_fault y body child place from n d h e =
-    let test : ltb y.top (from + n) ≡ false = le-ltb _ _ (omega arith) in
-    rw test (sym (fault_first (keys y body place [] 0 n) (λ ks. members child (λ i. word_at body (from + i)) 0 ks) d (sym e)))

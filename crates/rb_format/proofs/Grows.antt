@@ -1,8 +1,8 @@
 -- An item that stands for a tree stands for it in every file that keeps these bytes and has more.
 use Rattle.std.proofs.Common.{◌≡◌, ℕ, zero, suc, ◌+◌, ◌-◌, ◌*◌, ◌/◌, ◌<◌, ◌≤◌, Bool, true, false, cond, ltb, List, [], ◌∷◌, length}
-use Rattle.std.proofs.Common.{take, drop, get_or, set, map, ◌++◌, Result, Ok, Err, Option, None, refl, sym, ap, ◌∙◌, arith, inl, inr}
+use Rattle.std.proofs.Common.{take, drop, get_or, map, Result, Ok, Err, Option, None, refl, sym, ap, ◌∙◌, arith, inl, inr}
 use Rattle.std.proofs.lemmas.Bool.{ltb-false, ltb-true, le-ltb, lt-ltb}
-use Rattle.std.proofs.lemmas.List.{get_or_append_left, length-append, length-set, get_or-set_other, get_or-drop}
+use Rattle.std.proofs.lemmas.List.{get_or-drop}
 use Rattle.std.proofs.lemmas.List.{get_or-take, length-take, length-drop, ext_get_or}
 use Rattle.std.specs.Int.{cast_signed, w32}
 use Rattle.std.specs.Ordering.{is_lt, nat_cmp}
@@ -248,31 +248,3 @@ pub read_grow : (y y' : Layout) (body body' : List ℕ) (g : Grows y body y' bod
 unfolding read
 read_grow y y' body body' g zero item t e = absurd cc
 read_grow y y' body body' g (suc d) item t e = node_grow y y' body body' g _ _ (λ w s h. read_grow y y' body body' g d w s h) item t e
-
--- data that only get longer after a top within them grow
-pub grows_append : (y y' : Layout) (body more : List ℕ) → y'.indexes ≡ y.indexes → y'.keys_top ≡ y.keys_top → 1 + y.indexes ≤ y.keys_top → y.keys_top ≤ y.top
-    → y.top ≤ y'.top → 4 * y.top ≤ length body → Grows y body y' (body ++ more)
-grows_append y y' body more e f p q r s = record {
-  indexes = e;
-  keys_top = f;
-  low = p;
-  high = q;
-  top = r;
-  room = s;
-  room' = omega (arith, length-append body more);
-  same = λ i a b. get_or_append_left body more 0 i (omega arith);
-}
-
--- so do data whose indexes alone are written anew
-pub grows_set : (y : Layout) (body : List ℕ) (i b : ℕ) → 1 + y.indexes ≤ y.keys_top → y.keys_top ≤ y.top → 4 * y.top ≤ length body → i < 4 * (1 + y.indexes)
-    → Grows y body y (set body i b)
-grows_set y body i b p q s h = record {
-  indexes = refl;
-  keys_top = refl;
-  low = p;
-  high = q;
-  top = omega arith;
-  room = s;
-  room' = omega (arith, length-set body i b);
-  same = λ j r t. get_or-set_other body i j b 0 (λ e. absurd (omega arith));
-}

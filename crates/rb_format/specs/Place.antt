@@ -1,6 +1,6 @@
 -- What is at a place of the data, which follow the header: words, half words and keys. Numbers are little-endian. The
 -- indexes after the root item give the bounds (`uresdata.h`, URES_INDEX_LENGTH to URES_INDEX_BUNDLE_TOP).
-use Rattle.std.specs.Prelude.{ℕ, zero, suc, ◌+◌, ◌-◌, ◌*◌, ◌==◌, ◌&&◌, Bool, nat_lt, nat_le}
+use Rattle.std.specs.Prelude.{ℕ, zero, suc, ◌+◌, ◌-◌, ◌*◌, ◌==◌, ◌&&◌, Bool, nat_lt}
 use Rattle.std.specs.Prelude.{if◌then◌else◌, List, [], ◌∷◌, length, take, drop, position, Option, Some, None}
 use Rattle.std.specs.List.{list_all}
 use Rattle.byteorder.specs.Endian.{little_number}

@@ -22,6 +22,11 @@ impl Header {
     /// The header at the front of a file. It is refused for the first of these: fewer than 24 bytes or other magic bytes
     /// (`Header`), big-endian numbers (`BigEndian`), another charset family or size of units (`Family`), a format
     /// version other than 1.1 and 1 with a later minor version (`FormatVersion`), and sizes that can't be (`Header`).
+    ///
+    /// ```rust
+    /// let header = Header::read(&file)?;
+    /// let data = &file[header.size as usize..]; // its word 0 is the root item
+    /// ```
     #[tactic(auto, unfolding(crate::specs::FirstFault::header))]
     pub fn read(bytes: &[u8]) -> Result<Header, FileFault>
         ensures value { result ≡ header bytes.now }

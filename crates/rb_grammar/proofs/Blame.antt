@@ -1,11 +1,12 @@
--- What a stop of reading says: the marks that were read begin some form, and each form that goes on as the tokens do has the fault at the stop.
+-- What a stop of reading says: the marks that were read begin some form, and each form that goes on as the tokens do has the error at the stop.
 use Rattle.std.proofs.Common.{◌≡◌, ℕ, Bool, true, false, List, [], ◌∷◌, ◌++◌, Result, Ok, Err, refl, sym, ap, subst, ◌∙◌, append_assoc, ◌⊎◌, inl, inr}
 use Rattle.rb_lexer.specs.declared.fault.SourceKind.{SourceKind}
 use Rattle.rb_lexer.specs.declared.fault.SourceKind.TheVariants.{Unexpected, UnknownType, BadKey, DuplicateKey, BadInt, BadHex, TooDeep}
 use Rattle.rb_lexer.specs.declared.token.Token.{Token}
 use Rattle.rb_lexer.specs.declared.token.Mark.{Mark}
 use Rattle.rb_lexer.specs.declared.token.Mark.TheVariants.{Text, RightBrace, Colon, Comma}
-use Rattle.rb_grammar.specs.Form.{marks, Body, Entries, Elements, comma_marks, numbers_marks, body_marks, entries_marks, elements_marks, AreSome, BeginArray, IsForm, AreForms, EachIsForm}
+use Rattle.rb_grammar.specs.Form.{marks, Body, Entries, Elements, comma_marks, numbers_marks, body_marks, entries_marks, elements_marks, AreSome, BeginArray}
+use Rattle.rb_grammar.specs.Form.{IsForm, AreForms, EachIsForm}
 use Rattle.rb_grammar.specs.Reading.{Stop, ◌>>=◌, has_comma, after_comma, as_table, as_array, guess}
 use Rattle.rb_grammar.specs.Faults.{Role, NumbersHave, BodyHas, EntriesHas, ElementsHave, IsBad, NoWord}
 use Rattle.rb_grammar.proofs.Complete.{comma_first}
@@ -18,19 +19,20 @@ pub record Tail (rest : List Token) (seen ms : List Mark) : Type 0 where
   pub alike : Alike (marks rest) ms
   pub shown : (more : List Mark) × (ms ≡ seen ++ more)
 
-alike_behind : (front rest ms : List Mark) → Alike rest ms → Alike (front ++ rest) (front ++ ms)
-alike_behind [] rest ms a = a
-alike_behind (m ∷ front) rest ms a = (front ++ ms, refl)
+alike_after : (front rest ms : List Mark) → Alike rest ms → Alike (front ++ rest) (front ++ ms)
+alike_after [] rest ms a = a
+alike_after (m ∷ front) rest ms a = (front ++ ms, refl)
 
 pub alike_front : (xs front rest ms : List Mark) → xs ≡ front ++ rest → Alike rest ms → Alike xs (front ++ ms)
-alike_front xs front rest ms e a = subst (λ zs. Alike zs (front ++ ms)) (sym e) (alike_behind front rest ms a)
+alike_front xs front rest ms e a = subst (λ zs. Alike zs (front ++ ms)) (sym e) (alike_after front rest ms a)
 
 pub starts_alike : (xs ys : List Mark) → Alike xs ys → starts_comma xs ≡ starts_comma ys
 starts_alike [] ys a = rw a refl
 starts_alike (x ∷ xs) ys a = rw a.1 (comma_first x xs ∙ sym (comma_first x a.0))
 
 -- a comma that was read or not is the form's
-pub same_comma : (c d : Bool) (xs ys : List Mark) → (c ≡ false → starts_comma xs ≡ false) → starts_comma ys ≡ false → comma_marks d ys ≡ comma_marks c xs → ys ≡ xs
+pub same_comma : (c d : Bool) (xs ys : List Mark) → (c ≡ false → starts_comma xs ≡ false) → starts_comma ys ≡ false → comma_marks d ys ≡ comma_marks c xs
+    → ys ≡ xs
 same_comma true true xs ys p q e = cc
 same_comma false false xs ys p q e = e
 same_comma true false xs ys p q e = let bad : true ≡ false = ap starts_comma (sym e) ∙ q in absurd cc
@@ -42,7 +44,7 @@ comma_left (t ∷ ts) e = rw e (comma_first t.what (marks ts) ∙ e)
 
 -- ---- a stop
 
--- a stop for want of a mark sees nothing behind it; another sees the mark at fault
+-- a stop for lack of a mark sees nothing after it; another sees the mark at error
 abbrev pub IsSeen : SourceKind → List Mark → Type 0
 IsSeen Unexpected seen = seen ≡ []
 IsSeen UnknownType seen = seen ≡ []
@@ -73,7 +75,8 @@ IsArrayStart ms = Opened ms ⊎ ((s : List ℕ) × (r : List Mark) × (ms ≡ Te
 
 -- ---- the stop
 
--- a sort of forms: which are good, how they are spelled in front of something, where their roles are; what else a form is that the tokens begin, and how its marks begin
+-- a sort of forms: which are good, how they are spelled in front of something, where their roles are; what else a form is that
+-- the tokens begin, and how its marks begin
 pub record Sort : Type 1 where
   pub Form : Type 0
   pub Good : Form → Type 0
@@ -150,7 +153,7 @@ no_word_none rest w = by w.before w.colon where
   by [] e = cc
   by (m ∷ ms) e = cc
 
--- the cause is behind a mark that is no colon
+-- the cause is after a mark that is no colon
 pub word_past : (pre : List Mark) (last : Mark) (front rest : List Mark) → (last ≡ Colon → ⊥) → NoWord (pre ++ last ∷ front) rest → NoWord front rest
 word_past pre last front rest other w = by pre w.before w.colon where
   by : (pre before : List Mark) → pre ++ last ∷ front ≡ before ++ Colon ∷ [] → NoWord front rest
@@ -160,19 +163,32 @@ word_past pre last front rest other w = by pre w.before w.colon where
   by (p ∷ q ∷ pre) [] e = absurd cc
   by (p ∷ pre) (m ∷ ms) e = by pre ms cc
 
-word_behind : (pre front rest : List Mark) → NoWord front rest → NoWord (pre ++ front) rest
-word_behind pre front rest w = record { before = pre ++ w.before; word = w.word; after = w.after; colon = ap (λ ms. pre ++ ms) w.colon ∙ sym (append_assoc pre w.before (Colon ∷ [])); text = w.text; unknown = w.unknown }
+word_after : (pre front rest : List Mark) → NoWord front rest → NoWord (pre ++ front) rest
+word_after pre front rest w =
+    record {
+      before = pre ++ w.before;
+      word = w.word;
+      after = w.after;
+      colon = ap (λ ms. pre ++ ms) w.colon ∙ sym (append_assoc pre w.before (Colon ∷ []));
+      text = w.text;
+      unknown = w.unknown;
+    }
 
-pub says_past : (kind : SourceKind) (pre : List Mark) (last : Mark) (front rest : List Mark) → (last ≡ Colon → ⊥) → Says kind front rest → Says kind (pre ++ last ∷ front) rest
+pub says_past : (kind : SourceKind) (pre : List Mark) (last : Mark) (front rest : List Mark) → (last ≡ Colon → ⊥) → Says kind front rest
+    → Says kind (pre ++ last ∷ front) rest
 says_past Unexpected pre last front rest other says = λ w. says (word_past pre last front rest other w)
-says_past UnknownType pre last front rest other says = subst (λ ms. NoWord ms rest) (append_assoc pre (last ∷ []) front) (word_behind (pre ++ last ∷ []) front rest says)
+says_past UnknownType pre last front rest other says =
+    subst (λ ms. NoWord ms rest) (append_assoc pre (last ∷ []) front) (word_after (pre ++ last ∷ []) front rest says)
 says_past kind pre last front rest other says = tt
 
 -- ---- a stop inside, seen from outside
 
-pub outside : (inner outer : Sort) (ts inside : List Token) (s : Stop) (b : Blame inner inside s) (pre : List Mark) (last : Mark) → (last ≡ Colon → ⊥) → marks ts ≡ pre ++ last ∷ marks inside
-    → (form : outer.Form) (extra : List Mark) → outer.Good form → outer.spell form [] ≡ pre ++ last ∷ inner.spell b.form extra → inner.spell b.form extra ≡ inner.spell b.form [] ++ extra
-    → ((f : outer.Form) (after ms : List Mark) → outer.Good f → Tail s.rest b.seen ms → outer.spell f after ≡ pre ++ last ∷ (b.front ++ ms) → outer.has (IsBad s.kind) f after ms)
+pub outside : (inner outer : Sort) (ts inside : List Token) (s : Stop) (b : Blame inner inside s) (pre : List Mark) (last : Mark) → (last ≡ Colon → ⊥)
+    → marks ts ≡ pre ++ last ∷ marks inside
+    → (form : outer.Form) (extra : List Mark) → outer.Good form → outer.spell form [] ≡ pre ++ last ∷ inner.spell b.form extra
+    → inner.spell b.form extra ≡ inner.spell b.form [] ++ extra
+    → ((f : outer.Form) (after ms : List Mark) → outer.Good f → Tail s.rest b.seen ms → outer.spell f after ≡ pre ++ last ∷ (b.front ++ ms)
+    → outer.has (IsBad s.kind) f after ms)
     → outer.Fit ts form → ((ms : List Mark) → Tail s.rest b.seen ms → outer.Start ts (pre ++ last ∷ (b.front ++ ms)))
     → Blame outer ts s
 outside inner outer ts inside s b pre last other there form extra good spelled along blame fit start = record {
@@ -193,7 +209,9 @@ outside inner outer ts inside s b pre last other there form extra good spelled a
   start = λ ms t. subst (λ (r : List Mark). outer.Start ts r) (sym (append_assoc pre (last ∷ b.front) ms)) (start ms t);
 } where
   longer : b.front ++ (b.seen ++ b.next ∷ (b.others ++ extra)) ≡ inner.spell b.form extra
-  longer = ap (λ ms. b.front ++ ms) (sym (append_assoc b.seen (b.next ∷ b.others) extra)) ∙ sym (append_assoc b.front (b.seen ++ b.next ∷ b.others) extra) ∙ ap (λ ms. ms ++ extra) b.whole ∙ sym along
+  longer =
+      ap (λ ms. b.front ++ ms) (sym (append_assoc b.seen (b.next ∷ b.others) extra)) ∙ sym (append_assoc b.front (b.seen ++ b.next ∷ b.others) extra)
+      ∙ ap (λ ms. ms ++ extra) b.whole ∙ sym along
 
 -- ---- ways to stop
 

@@ -1,17 +1,21 @@
--- Stops behind the brace of a body with a type.
-use Rattle.std.proofs.Common.{◌≡◌, ℕ, suc, Bool, true, false, cond, List, [], ◌∷◌, ◌++◌, length, Option, Some, None, Ok, Err, refl, sym, ap, subst, ◌∙◌, arith, inl, inr}
+-- Stops after the brace of a body with a type.
+use Rattle.std.proofs.Common.{◌≡◌, ℕ, suc, Bool, true, false, cond, List, [], ◌∷◌, ◌++◌, length, Option, Some, None, Ok, Err, refl, sym, ap, subst, ◌∙◌, arith}
+use Rattle.std.proofs.Common.{inl, inr}
 use Rattle.rb_lexer.specs.declared.fault.SourceKind.TheVariants.{Unexpected, BadInt, BadHex}
 use Rattle.rb_lexer.specs.declared.token.Token.{Token}
 use Rattle.rb_lexer.specs.declared.token.Mark.{Mark}
 use Rattle.rb_lexer.specs.declared.token.Mark.TheVariants.{Text, LeftBrace, RightBrace, Colon}
-use Rattle.rb_grammar.specs.Form.{marks, Leaf, string, alias, binary, int, ints, Body, plain, group, listed, leaf, table, array, Entries, Elements, table_word, array_word, text_marks, leaf_word, leaf_inner, body_marks, entries_marks, elements_marks, IsForm}
-use Rattle.rb_grammar.specs.Reading.{Stop, stop, ◌>>=◌, right, begins, tail, punctuation_at, text_at, first_text, Tests, Word, string_type, alias_type, binary_type, int_type, ints_type, table_type, array_type, word_units, checked_at, maybe_or, numbers, anything, Inner, table_at, array_at, closed, typed_at}
+use Rattle.rb_grammar.specs.Form.{marks, Leaf, string, alias, binary, int, ints, Body, plain, group, listed, leaf, table, array, Entries, Elements, table_word}
+use Rattle.rb_grammar.specs.Form.{array_word, text_marks, leaf_word, leaf_inner, body_marks, entries_marks, elements_marks, IsForm}
+use Rattle.rb_grammar.specs.Reading.{Stop, stop, ◌>>=◌, right, begins, tail, punctuation_at, text_at, first_text, Tests, Word, string_type, alias_type}
+use Rattle.rb_grammar.specs.Reading.{binary_type, int_type, ints_type, table_type, array_type, word_units, checked_at, maybe_or, numbers, anything, Inner}
+use Rattle.rb_grammar.specs.Reading.{table_at, array_at, closed, typed_at}
 use Rattle.rb_grammar.specs.Tests.{AreTests}
 use Rattle.rb_grammar.specs.Faults.{Role, NoWord, int_text, BodyHas, LeafHas, IsBad}
 use Rattle.rb_grammar.proofs.Blame.{Sort, Blame, tables, arrays, vectors, Blames, no_word_none, word_past, bind_err}
-use Rattle.rb_grammar.proofs.BlameLists.{no_sign, no_text, text_colon, entries_blame}
+use Rattle.rb_grammar.proofs.BlameLists.{no_mark, no_text, text_colon, entries_blame}
 use Rattle.rb_grammar.proofs.BlameElements.{elements_blame, numbers_blame}
-use Rattle.rb_grammar.proofs.Guess.{Alike, not_text, not_sign}
+use Rattle.rb_grammar.proofs.Guess.{Alike, not_text, not_mark}
 use Rattle.rb_grammar.proofs.Marks.{text_read, text_first}
 use Rattle.rb_grammar.proofs.Sound.{Law, bind_ok, guard_ok, ok_is}
 use Rattle.rb_grammar.proofs.Unique.{word_one, leaf_type, leaf_typed, not_table, not_array}
@@ -26,7 +30,7 @@ body_word (leaf l) = Some (leaf_type l)
 body_word (table es) = Some table_type
 body_word (array xs) = Some array_type
 
--- what stands behind the brace
+-- what is after the brace
 abbrev pub inner_marks : Body → List Mark → List Mark
 inner_marks (plain s) rest = Text s ∷ RightBrace ∷ rest
 inner_marks (group es) rest = entries_marks es (RightBrace ∷ rest)
@@ -38,11 +42,13 @@ inner_marks (array xs) rest = elements_marks xs (RightBrace ∷ rest)
 some_word : (v w : Word) → ◌≡◌ {A = Option Word} (Some v) (Some w) → v ≡ w
 some_word v w e = cc
 
-pub typed_spelled : (b : Body) (w : Word) (rest : List Mark) → body_word b ≡ Some w → body_marks b rest ≡ Colon ∷ Text (word_units w) ∷ LeftBrace ∷ inner_marks b rest
+pub typed_spelled : (b : Body) (w : Word) (rest : List Mark) → body_word b ≡ Some w
+    → body_marks b rest ≡ Colon ∷ Text (word_units w) ∷ LeftBrace ∷ inner_marks b rest
 typed_spelled (plain s) w rest e = absurd cc
 typed_spelled (group es) w rest e = absurd cc
 typed_spelled (listed xs) w rest e = absurd cc
-typed_spelled (leaf l) w rest e = ap (λ s. Colon ∷ Text s ∷ LeftBrace ∷ leaf_inner l (RightBrace ∷ rest)) (leaf_typed l ∙ ap word_units (some_word (leaf_type l) w e))
+typed_spelled (leaf l) w rest e =
+    ap (λ s. Colon ∷ Text s ∷ LeftBrace ∷ leaf_inner l (RightBrace ∷ rest)) (leaf_typed l ∙ ap word_units (some_word (leaf_type l) w e))
 typed_spelled (table es) w rest e = ap (λ s. Colon ∷ Text s ∷ LeftBrace ∷ entries_marks es (RightBrace ∷ rest)) (ap word_units (some_word table_type w e))
 typed_spelled (array xs) w rest e = ap (λ s. Colon ∷ Text s ∷ LeftBrace ∷ elements_marks xs (RightBrace ∷ rest)) (ap word_units (some_word array_type w e))
 
@@ -59,8 +65,10 @@ typed_of (listed xs) w rest ms e = absurd cc
 typed_of (leaf l) w rest ms e =
     let p = parts (leaf_word l) (word_units w) (LeftBrace ∷ leaf_inner l (RightBrace ∷ rest)) ms e in
     (ap (λ v. Some v) (word_one (leaf_type l) w (sym (leaf_typed l) ∙ p.0)), p.1)
-typed_of (table es) w rest ms e = let p = parts table_word (word_units w) (LeftBrace ∷ entries_marks es (RightBrace ∷ rest)) ms e in (ap (λ v. Some v) (word_one table_type w p.0), p.1)
-typed_of (array xs) w rest ms e = let p = parts array_word (word_units w) (LeftBrace ∷ elements_marks xs (RightBrace ∷ rest)) ms e in (ap (λ v. Some v) (word_one array_type w p.0), p.1)
+typed_of (table es) w rest ms e = let p = parts table_word (word_units w) (LeftBrace ∷ entries_marks es (RightBrace ∷ rest)) ms e in
+    (ap (λ v. Some v) (word_one table_type w p.0), p.1)
+typed_of (array xs) w rest ms e = let p = parts array_word (word_units w) (LeftBrace ∷ elements_marks xs (RightBrace ∷ rest)) ms e in
+    (ap (λ v. Some v) (word_one array_type w p.0), p.1)
 
 is_string : (b : Body) → body_word b ≡ Some string_type → (t : Option (List ℕ)) × (b ≡ leaf (string t))
 is_string (leaf (string t)) e = (t, refl)
@@ -98,7 +106,7 @@ is_array (array xs) e = (xs, refl)
 is_array (leaf l) e = absurd (not_array l (some_word (leaf_type l) array_type e))
 is_array b e = absurd cc
 
--- the bodies with this type, from behind their brace
+-- the bodies with this type, from after their brace
 abbrev pub typed : Word → ℕ → Sort
 typed w level = record {
   Form = Body;
@@ -109,20 +117,22 @@ typed w level = record {
   Start = λ ts ms. Unit {0};
 }
 
--- ---- a text, and the brace behind it
+-- ---- a text, and the brace after it
 
--- the marks from behind the text on
+-- the marks from after the text on
 no_colon_text : (r : List ℕ) (rest : List Mark) → NoWord (Text r ∷ []) rest → ⊥
 no_colon_text r rest w = no_word_none rest (word_past [] (Text r) [] rest (text_colon r) w)
 
-module _ (w : Word) (level : ℕ) (make : Option (List ℕ) → Leaf) (word : (t : Option (List ℕ)) → body_word (leaf (make t)) ≡ Some w) (spelled : (t : Option (List ℕ)) (rest : List Mark) → leaf_inner (make t) rest ≡ text_marks t rest)
+module _ (w : Word) (level : ℕ) (make : Option (List ℕ) → Leaf) (word : (t : Option (List ℕ)) → body_word (leaf (make t)) ≡ Some w)
+    (spelled : (t : Option (List ℕ)) (rest : List Mark) → leaf_inner (make t) rest ≡ text_marks t rest)
     (only : (b : Body) → body_word b ≡ Some w → (t : Option (List ℕ)) × (b ≡ leaf (make t))) where
   -- each body with this type has a text, or none
   each_text : (P : Role → Type 0) (front ms : List Mark) (b : Body) (after : List Mark) → body_word b ≡ Some w → inner_marks b after ≡ front ++ ms
       → ((t : Option (List ℕ)) → text_marks t (RightBrace ∷ after) ≡ front ++ ms → BodyHas P (leaf (make t)) level after ms) → BodyHas P b level after ms
   each_text P front ms b after is e f =
       let h = only b is in
-      subst (λ (x : Body). BodyHas P x level after ms) (sym h.1) (f h.0 (sym (spelled h.0 (RightBrace ∷ after)) ∙ ap (λ (x : Body). inner_marks x after) (sym h.1) ∙ e))
+      subst (λ (x : Body). BodyHas P x level after ms) (sym h.1)
+      (f h.0 (sym (spelled h.0 (RightBrace ∷ after)) ∙ ap (λ (x : Body). inner_marks x after) (sym h.1) ∙ e))
 
   none_there : (ts : List Token) → first_text ts ≡ None → begins right ts ≡ false → Blame (typed w level) ts (stop Unexpected ts)
   none_there ts none no_right = record {
@@ -143,7 +153,7 @@ module _ (w : Word) (level : ℕ) (make : Option (List ℕ) → Leaf) (word : (t
     start = λ ms t. tt;
   } where
     no_such : (u : Option (List ℕ)) (after ms : List Mark) → Alike (marks ts) ms → text_marks u (RightBrace ∷ after) ≡ ms → ⊥
-    no_such None after ms a e = not_sign right ts after ms no_right a e
+    no_such None after ms a e = not_mark right ts after ms no_right a e
     no_such (Some s) after ms a e = not_text ts s (RightBrace ∷ after) ms none a e
 
   not_closed : (ts : List Token) (r : List ℕ) → first_text ts ≡ Some r → begins right (tail ts) ≡ false → Blame (typed w level) ts (stop Unexpected (tail ts))
@@ -166,9 +176,11 @@ module _ (w : Word) (level : ℕ) (make : Option (List ℕ) → Leaf) (word : (t
   } where
     no_such : (u : Option (List ℕ)) (after ms : List Mark) → Alike (marks (tail ts)) ms → text_marks u (RightBrace ∷ after) ≡ Text r ∷ ms → ⊥
     no_such None after ms a e = cc
-    no_such (Some s) after ms a e = not_sign right (tail ts) after ms no_right a cc
+    no_such (Some s) after ms a e = not_mark right (tail ts) after ms no_right a cc
 
-  bad_bytes : (ts : List Token) (r : List ℕ) → first_text ts ≡ Some r → ((after : List Mark) → LeafHas (IsBad BadHex) (make (Some r)) (RightBrace ∷ after) (Text r ∷ RightBrace ∷ after)) → Blame (typed w level) ts (stop BadHex ts)
+  bad_bytes : (ts : List Token) (r : List ℕ) → first_text ts ≡ Some r
+      → ((after : List Mark) → LeafHas (IsBad BadHex) (make (Some r)) (RightBrace ∷ after) (Text r ∷ RightBrace ∷ after))
+      → Blame (typed w level) ts (stop BadHex ts)
   bad_bytes ts r comes bad = record {
     front = [];
     seen = Text r ∷ [];
@@ -186,23 +198,26 @@ module _ (w : Word) (level : ℕ) (make : Option (List ℕ) → Leaf) (word : (t
     blame = λ b after ms good t e. each_text (IsBad BadHex) [] ms b after good.0 e (λ u e. at_bytes u after ms t.shown.0 t.shown.1 e);
     start = λ ms t. tt;
   } where
-    at_bytes : (u : Option (List ℕ)) (after ms more : List Mark) → ms ≡ Text r ∷ more → text_marks u (RightBrace ∷ after) ≡ ms → BodyHas (IsBad BadHex) (leaf (make u)) level after ms
+    at_bytes : (u : Option (List ℕ)) (after ms more : List Mark) → ms ≡ Text r ∷ more → text_marks u (RightBrace ∷ after) ≡ ms
+        → BodyHas (IsBad BadHex) (leaf (make u)) level after ms
     at_bytes None after ms more shown e = let both : RightBrace ∷ after ≡ Text r ∷ more = e ∙ shown in absurd cc
     at_bytes (Some s) after ms more shown e =
         let both : Text s ∷ RightBrace ∷ after ≡ Text r ∷ more = e ∙ shown in
         let same : r ≡ s = cc in
-        inr (subst (λ (x : List Mark). LeafHas (IsBad BadHex) (make (Some s)) (RightBrace ∷ after) x) e (subst (λ (x : List ℕ). LeafHas (IsBad BadHex) (make (Some x)) (RightBrace ∷ after) (Text x ∷ RightBrace ∷ after)) same (bad after)))
+        inr (subst (λ (x : List Mark). LeafHas (IsBad BadHex) (make (Some s)) (RightBrace ∷ after) x) e
+        (subst (λ (x : List ℕ). LeafHas (IsBad BadHex) (make (Some x)) (RightBrace ∷ after) (Text x ∷ RightBrace ∷ after)) same (bad after)))
 
-  maybe_blame : (passes : List ℕ → Bool) (bad : (r : List ℕ) → passes r ≡ false → (after : List Mark) → LeafHas (IsBad BadHex) (make (Some r)) (RightBrace ∷ after) (Text r ∷ RightBrace ∷ after)) (ts : List Token) (o : Option (List ℕ)) (s : Stop)
+  maybe_blame : (passes : List ℕ → Bool) (bad : (r : List ℕ) → passes r ≡ false → (after : List Mark)
+      → LeafHas (IsBad BadHex) (make (Some r)) (RightBrace ∷ after) (Text r ∷ RightBrace ∷ after)) (ts : List Token) (o : Option (List ℕ)) (s : Stop)
       → first_text ts ≡ o → closed (λ t. leaf (make t)) (maybe_or BadHex passes ts o) ≡ Err s → Blame (typed w level) ts s
   maybe_blame passes bad ts None s comes e = elim (bind_err (punctuation_at right ts) (λ after. Ok (leaf (make None), after)) s e) [
-    | inl h ↦ let g = no_sign right ts s h in subst (Blame (typed w level) ts) g.1 (none_there ts comes g.0)
+    | inl h ↦ let g = no_mark right ts s h in subst (Blame (typed w level) ts) g.1 (none_there ts comes g.0)
     | inr h ↦ absurd (cc)
   ]
   maybe_blame passes bad ts (Some r) s comes e = by (passes r) refl e where
     by : (b : Bool) → passes r ≡ b → closed (λ t. leaf (make t)) (cond b (Ok (Some r, tail ts)) (Err (stop BadHex ts))) ≡ Err s → Blame (typed w level) ts s
     by true is e = elim (bind_err (punctuation_at right (tail ts)) (λ after. Ok (leaf (make (Some r)), after)) s e) [
-      | inl h ↦ let g = no_sign right (tail ts) s h in subst (Blame (typed w level) ts) g.1 (not_closed ts r comes g.0)
+      | inl h ↦ let g = no_mark right (tail ts) s h in subst (Blame (typed w level) ts) g.1 (not_closed ts r comes g.0)
       | inr h ↦ absurd (cc)
     ]
     by false is e = let same : stop BadHex ts ≡ s = cc in subst (Blame (typed w level) ts) same (bad_bytes ts r comes (bad r is))
@@ -253,13 +268,15 @@ module _ (long : Bool) (level : ℕ) where
     blame = λ b after ms good t e. each_int (IsBad BadInt) [] ms b after good.0 e (λ s e. at_int s after ms t.shown.0 t.shown.1 e);
     start = λ ms t. tt;
   } where
-    at_int : (s : List ℕ) (after ms more : List Mark) → ms ≡ Text r ∷ more → Text s ∷ RightBrace ∷ after ≡ ms → BodyHas (IsBad BadInt) (leaf (int long s)) level after ms
+    at_int : (s : List ℕ) (after ms more : List Mark) → ms ≡ Text r ∷ more → Text s ∷ RightBrace ∷ after ≡ ms
+        → BodyHas (IsBad BadInt) (leaf (int long s)) level after ms
     at_int s after ms more shown e =
         let both : Text s ∷ RightBrace ∷ after ≡ Text r ∷ more = e ∙ shown in
         let same : r ≡ s = cc in
         inr (sym e, subst (λ (x : List ℕ). IsBad BadInt (int_text x)) same bad)
 
-  int_open : (ts : List Token) (r : List ℕ) → first_text ts ≡ Some r → begins right (tail ts) ≡ false → Blame (typed (int_type long) level) ts (stop Unexpected (tail ts))
+  int_open : (ts : List Token) (r : List ℕ) → first_text ts ≡ Some r → begins right (tail ts) ≡ false
+      → Blame (typed (int_type long) level) ts (stop Unexpected (tail ts))
   int_open ts r comes no_right = record {
     front = Text r ∷ [];
     seen = [];
@@ -274,12 +291,15 @@ module _ (long : Bool) (level : ℕ) where
     good = (refl, tt);
     fit = tt;
     whole = refl;
-    blame = λ b after ms good t e. each_int (IsBad Unexpected) (Text r ∷ []) ms b after good.0 e (λ s e. absurd (not_sign right (tail ts) after ms no_right t.alike cc));
+    blame =
+        λ b after ms good t e. each_int (IsBad Unexpected) (Text r ∷ []) ms b after good.0 e
+        (λ s e. absurd (not_mark right (tail ts) after ms no_right t.alike cc));
     start = λ ms t. tt;
   }
 
 module _ (tests : Tests) (are : AreTests tests) (long : Bool) (level : ℕ) where
-  int_blame : (ts : List Token) (s : Stop) → closed (λ x. leaf (int long x)) (checked_at BadInt tests.is_int ts) ≡ Err s → Blame (typed (int_type long) level) ts s
+  int_blame : (ts : List Token) (s : Stop) → closed (λ x. leaf (int long x)) (checked_at BadInt tests.is_int ts) ≡ Err s
+      → Blame (typed (int_type long) level) ts s
   int_blame ts s e = elim (bind_err (checked_at BadInt tests.is_int ts) (λ x. punctuation_at right x.1 >>= λ after. Ok (leaf (int long x.0), after)) s e) [
     | inl h ↦ elim (bind_err (text_at ts) (λ x. cond (tests.is_int x.0) (Ok x) (Err (stop BadInt ts))) s h) [
       | inl g ↦ let q = no_text ts s g in subst (Blame (typed (int_type long) level) ts) q.1 (no_int long level ts q.0)
@@ -293,14 +313,16 @@ module _ (tests : Tests) (are : AreTests tests) (long : Bool) (level : ℕ) wher
         elim (bind_err (punctuation_at right h.0.1) (λ after. Ok (leaf (int long h.0.0), after)) s h.2) [
           | inl q ↦
               let there : tail ts ≡ h.0.1 = t.1 ∙ ap (λ (y : List ℕ × List Token). y.1) same in
-              let p = no_sign right (tail ts) s (ap (punctuation_at right) there ∙ q) in
+              let p = no_mark right (tail ts) s (ap (punctuation_at right) there ∙ q) in
               subst (Blame (typed (int_type long) level) ts) p.1 (int_open long level ts a.0.0 t.0 p.0)
           | inr q ↦ absurd (cc)
         ]
   ] where
-    failed : (x : List ℕ × List Token) → (first_text ts ≡ Some x.0) × (tail ts ≡ x.1) → (b : Bool) → tests.is_int x.0 ≡ b → cond b (Ok x) (Err (stop BadInt ts)) ≡ Err s → Blame (typed (int_type long) level) ts s
+    failed : (x : List ℕ × List Token) → (first_text ts ≡ Some x.0) × (tail ts ≡ x.1) → (b : Bool) → tests.is_int x.0 ≡ b
+        → cond b (Ok x) (Err (stop BadInt ts)) ≡ Err s → Blame (typed (int_type long) level) ts s
     failed x t true is e = absurd cc
-    failed x t false is e = let same : stop BadInt ts ≡ s = cc in subst (Blame (typed (int_type long) level) ts) same (bad_int long level ts x.0 t.0 (are.ints.1 x.0 is))
+    failed x t false is e = let same : stop BadInt ts ≡ s = cc in
+        subst (Blame (typed (int_type long) level) ts) same (bad_int long level ts x.0 t.0 (are.ints.1 x.0 is))
 
 -- ---- what the other types have inside
 
@@ -319,7 +341,9 @@ in_vector level ts s b = record {
   good = (refl, tt);
   fit = tt;
   whole = b.whole;
-  blame = λ f after ms good t e. let h = is_ints f good.0 in subst (λ (x : Body). BodyHas (IsBad s.kind) x level after ms) (sym h.1) (inr (b.blame h.0 after ms tt t (ap (λ (x : Body). inner_marks x after) (sym h.1) ∙ e)));
+  blame = λ f after ms good t e. let h = is_ints f good.0 in
+      subst (λ (x : Body). BodyHas (IsBad s.kind) x level after ms) (sym h.1)
+      (inr (b.blame h.0 after ms tt t (ap (λ (x : Body). inner_marks x after) (sym h.1) ∙ e)));
   start = λ ms t. tt;
 }
 
@@ -340,7 +364,8 @@ in_table level ts s b = record {
   whole = b.whole;
   blame = λ f after ms good t e.
       let h = is_table f good.0 in
-      subst (λ (x : Body). BodyHas (IsBad s.kind) x level after ms) (sym h.1) (inr (b.blame h.0 after ms (subst IsForm h.1 good.1) t (ap (λ (x : Body). inner_marks x after) (sym h.1) ∙ e)));
+      subst (λ (x : Body). BodyHas (IsBad s.kind) x level after ms) (sym h.1)
+      (inr (b.blame h.0 after ms (subst IsForm h.1 good.1) t (ap (λ (x : Body). inner_marks x after) (sym h.1) ∙ e)));
   start = λ ms t. tt;
 }
 
@@ -361,7 +386,8 @@ in_array level ts s b = record {
   whole = b.whole;
   blame = λ f after ms good t e.
       let h = is_array f good.0 in
-      subst (λ (x : Body). BodyHas (IsBad s.kind) x level after ms) (sym h.1) (inr (b.blame h.0 after ms (subst IsForm h.1 good.1) t (ap (λ (x : Body). inner_marks x after) (sym h.1) ∙ e)));
+      subst (λ (x : Body). BodyHas (IsBad s.kind) x level after ms) (sym h.1)
+      (inr (b.blame h.0 after ms (subst IsForm h.1 good.1) t (ap (λ (x : Body). inner_marks x after) (sym h.1) ∙ e)));
   start = λ ms t. tt;
 }
 
@@ -372,24 +398,31 @@ pub record Inside (tests : Tests) (level : ℕ) (inner : Inner) : Type 0 where
   pub blames : Blames (suc level) inner.reads
   pub deep : inner.room ≡ false → suc level ≡ 65
 
-pub typed_blame : (tests : Tests) (are : AreTests tests) (level : ℕ) (inner : Inner) (inside : Inside tests level inner) (w : Word) (ts : List Token) (s : Stop) → typed_at tests inner w ts ≡ Err s → Blame (typed w level) ts s
-typed_blame tests are level inner inside string_type ts s e = maybe_blame string_type level string (λ t. refl) (λ t rest. refl) is_string anything (λ r is. absurd cc) ts (first_text ts) s refl e
-typed_blame tests are level inner inside alias_type ts s e = maybe_blame alias_type level alias (λ t. refl) (λ t rest. refl) is_alias anything (λ r is. absurd cc) ts (first_text ts) s refl e
+pub typed_blame : (tests : Tests) (are : AreTests tests) (level : ℕ) (inner : Inner) (inside : Inside tests level inner) (w : Word) (ts : List Token) (s : Stop)
+    → typed_at tests inner w ts ≡ Err s → Blame (typed w level) ts s
+typed_blame tests are level inner inside string_type ts s e =
+    maybe_blame string_type level string (λ t. refl) (λ t rest. refl) is_string anything (λ r is. absurd cc) ts (first_text ts) s refl e
+typed_blame tests are level inner inside alias_type ts s e =
+    maybe_blame alias_type level alias (λ t. refl) (λ t rest. refl) is_alias anything (λ r is. absurd cc) ts (first_text ts) s refl e
 typed_blame tests are level inner inside (binary_type long) ts s e =
-    maybe_blame (binary_type long) level (binary long) (λ t. refl) (λ t rest. refl) (is_binary long) tests.is_hex (λ r is after. (refl, are.bytes.1 r is)) ts (first_text ts) s refl e
+    maybe_blame (binary_type long) level (binary long) (λ t. refl) (λ t rest. refl) (is_binary long) tests.is_hex (λ r is after. (refl, are.bytes.1 r is)) ts
+    (first_text ts) s refl e
 typed_blame tests are level inner inside (int_type long) ts s e = int_blame tests are long level ts s e
-typed_blame tests are level inner inside ints_type ts s e = elim (bind_err (numbers tests.is_element (suc (length ts)) ts) (λ t. punctuation_at right t.1 >>= λ after. Ok (leaf (ints t.0), after)) s e) [
-  | inl h ↦ in_vector level ts s (numbers_blame tests are (suc (length ts)) ts s (omega arith) (inl h))
-  | inr h ↦ elim (bind_err (punctuation_at right h.0.1) (λ after. Ok (leaf (ints h.0.0), after)) s h.2) [
-    | inl q ↦ in_vector level ts s (numbers_blame tests are (suc (length ts)) ts s (omega arith) (inr (h.0, h.1, q)))
-    | inr q ↦ absurd (cc)
-  ]
-]
+typed_blame tests are level inner inside ints_type ts s e =
+    elim (bind_err (numbers tests.is_element (suc (length ts)) ts) (λ t. punctuation_at right t.1 >>= λ after. Ok (leaf (ints t.0), after)) s e) [
+      | inl h ↦ in_vector level ts s (numbers_blame tests are (suc (length ts)) ts s (omega arith) (inl h))
+      | inr h ↦ elim (bind_err (punctuation_at right h.0.1) (λ after. Ok (leaf (ints h.0.0), after)) s h.2) [
+        | inl q ↦ in_vector level ts s (numbers_blame tests are (suc (length ts)) ts s (omega arith) (inr (h.0, h.1, q)))
+        | inr q ↦ absurd (cc)
+      ]
+    ]
 typed_blame tests are level inner inside table_type ts s e = elim (bind_err (table_at tests inner ts) (λ es. Ok (table es.0, es.1)) s e) [
-  | inl h ↦ in_table level ts s (entries_blame tests are (suc level) inside.depth inner.reads inside.law inside.blames (suc (length ts)) [] ts s (omega arith) h)
+  | inl h ↦ in_table level ts s (entries_blame tests are (suc level) inside.depth inner.reads inside.law inside.blames (suc (length ts)) [] ts s (omega arith)
+      h)
   | inr h ↦ absurd (cc)
 ]
 typed_blame tests are level inner inside array_type ts s e = elim (bind_err (array_at inner ts) (λ xs. Ok (array xs.0, xs.1)) s e) [
-  | inl h ↦ in_array level ts s (elements_blame tests (suc level) inside.depth inner.room inner.reads inside.law inside.blames inside.deep (suc (length ts)) ts s (omega arith) h)
+  | inl h ↦ in_array level ts s (elements_blame tests (suc level) inside.depth inner.room inner.reads inside.law inside.blames inside.deep (suc (length ts)) ts
+      s (omega arith) h)
   | inr h ↦ absurd (cc)
 ]

@@ -1,5 +1,6 @@
--- A good list of marks has no fault, and every other has one.
-use Rattle.std.proofs.Common.{◌≡◌, ℕ, ℤ, suc, ◌+◌, ◌≤◌, Bool, List, [], ◌∷◌, ◌++◌, Option, Some, None, Result, Ok, Err, refl, sym, ap, subst, ◌∙◌, arith, append_assoc, ◌⊎◌, inl, inr}
+-- A good list of marks has no error, and every other has one.
+use Rattle.std.proofs.Common.{◌≡◌, ℕ, ℤ, suc, ◌+◌, ◌≤◌, Bool, List, [], ◌∷◌, ◌++◌, Option, Some, None, Result, Ok, Err, refl, sym, ap, subst, ◌∙◌, arith}
+use Rattle.std.proofs.Common.{append_assoc, ◌⊎◌, inl, inr}
 use Rattle.std.proofs.lemmas.Bool.Decides.{leb_tells}
 use Rattle.std.proofs.lemmas.List.{append-nil, map-append}
 use Rattle.rb_lexer.specs.declared.fault.SourceKind.{SourceKind}
@@ -11,9 +12,12 @@ use Rattle.rb_tree.specs.Resource.{Resource, height, weight, Resources, Members}
 use Rattle.rb_tree.specs.Keys.{IsKey}
 use Rattle.rb_tree.specs.SourceTree.{SourceTree}
 use Rattle.rb_grammar.specs.Numeral.{IsIntText, IsElementText, IsHexText}
-use Rattle.rb_grammar.specs.Form.{marks, Head, Leaf, string, alias, binary, int, ints, Body, plain, group, listed, leaf, table, array, Entries, no_entries, entry, Elements, no_elements, one_text, one_body, comma_marks, entries_marks, elements_marks, IsKeyOf}
-use Rattle.rb_grammar.specs.Good.{HasKeys, HaveKeys, EachHasKeys, text_or_none, AreElementTexts, LeafSpells, Spells, EachStands, EachSpells, IsSpelled, IsGood}
-use Rattle.rb_grammar.specs.Faults.{key, value, int_text, element_text, hex_text, IsAmong, NumbersHave, BytesHave, LeafHas, BodyHas, EntriesHas, ElementsHave, IsBad, IsBundle, Begun, IsFront, Breaks, HasFault, line_at, IsFault}
+use Rattle.rb_grammar.specs.Form.{marks, Head, Leaf, string, alias, binary, int, ints, Body, plain, group, listed, leaf, table, array, Entries, no_entries}
+use Rattle.rb_grammar.specs.Form.{entry, Elements, no_elements, one_text, one_body, comma_marks, entries_marks, elements_marks, IsKeyOf}
+use Rattle.rb_grammar.specs.Good.{HasKeys, HaveKeys, EachHasKeys, text_or_none, AreElementTexts, LeafSpells, Spells, EachAtItsKey, EachSpells, IsSpelled}
+use Rattle.rb_grammar.specs.Good.{IsGood}
+use Rattle.rb_grammar.specs.Faults.{key, value, int_text, element_text, hex_text, IsAmong, NumbersHave, BytesHave, LeafHas, BodyHas, EntriesHas, ElementsHave}
+use Rattle.rb_grammar.specs.Faults.{IsBad, IsBundle, Begun, IsFront, Breaks, HasFault, line_at, IsFault}
 use Rattle.rb_grammar.specs.Reading.{Stop, Tests, bundle}
 use Rattle.rb_grammar.specs.Tests.{AreTests}
 use Rattle.rb_grammar.proofs.Fault.{stop_is_fault}
@@ -70,41 +74,52 @@ module _ (kind : SourceKind) where
   abbrev AreNew : Entries → List (List ℕ) → Type 0
   AreNew es earlier = (q : List ℕ) → IsKeyOf es q → IsAmong earlier q → ⊥
 
-  still_new : (k : List ℕ) (b : Body) (c : Bool) (es : Entries) (earlier : List (List ℕ)) → (IsKeyOf es k → ⊥) → AreNew (entry k b c es) earlier → AreNew es (k ∷ earlier)
+  still_new : (k : List ℕ) (b : Body) (c : Bool) (es : Entries) (earlier : List (List ℕ)) → (IsKeyOf es k → ⊥) → AreNew (entry k b c es) earlier
+      → AreNew es (k ∷ earlier)
   still_new k b c es earlier once new q h (inl same) = once (subst (IsKeyOf es) same h)
   still_new k b c es earlier once new q h (inr among) = new q (inr h) among
 
   mutual
-    good_body : (b : Body) (d : Resource) (level : ℕ) (after from : List Mark) → HasKeys b → Spells b d → level + body_height b ≤ 65 → BodyHas (IsBad kind) b level after from → ⊥
+    good_body : (b : Body) (d : Resource) (level : ℕ) (after from : List Mark) → HasKeys b → Spells b d → level + body_height b ≤ 65
+        → BodyHas (IsBad kind) b level after from → ⊥
     good_body (plain s) d level after from keys is low h = not_deep level 0 low h.1
     good_body (group es) d level after from keys is low (inl h) = not_deep level (entries_height es) low h.1
-    good_body (group es) d level after from keys is low (inr h) = good_entries es is.0 (suc level) [] (RightBrace ∷ after) from keys is.4 (omega arith) (λ q h among. among) h
+    good_body (group es) d level after from keys is low (inr h) =
+        good_entries es is.0 (suc level) [] (RightBrace ∷ after) from keys is.4 (omega arith) (λ q h among. among) h
     good_body (listed xs) d level after from keys is low (inl h) = not_deep level (elements_height xs) low h.1
     good_body (listed xs) d level after from keys is low (inr h) = good_elements xs is.0 (suc level) (RightBrace ∷ after) from keys is.2 (omega arith) h
     good_body (leaf l) d level after from keys is low (inl h) = not_deep level 0 low h.1
     good_body (leaf l) d level after from keys is low (inr h) = good_leaf l d (RightBrace ∷ after) from is h
     good_body (table es) d level after from keys is low (inl h) = not_deep level (entries_height es) low h.1
-    good_body (table es) d level after from keys is low (inr h) = good_entries es is.0 (suc level) [] (RightBrace ∷ after) from keys is.4 (omega arith) (λ q h among. among) h
+    good_body (table es) d level after from keys is low (inr h) =
+        good_entries es is.0 (suc level) [] (RightBrace ∷ after) from keys is.4 (omega arith) (λ q h among. among) h
     good_body (array xs) d level after from keys is low (inl h) = not_deep level (elements_height xs) low h.1
     good_body (array xs) d level after from keys is low (inr h) = good_elements xs is.0 (suc level) (RightBrace ∷ after) from keys is.2 (omega arith) h
 
-    pub good_entries : (es : Entries) (rows : Members) (level : ℕ) (earlier : List (List ℕ)) (after from : List Mark) → HaveKeys es → EachStands es rows → level + entries_height es ≤ 65 → AreNew es earlier
+    pub good_entries : (es : Entries) (rows : Members) (level : ℕ) (earlier : List (List ℕ)) (after from : List Mark) → HaveKeys es → EachAtItsKey es rows
+        → level + entries_height es ≤ 65 → AreNew es earlier
         → EntriesHas (IsBad kind) es level earlier after from → ⊥
     good_entries no_entries rows level earlier after from keys is low new h = h
-    good_entries (entry k b c es) rows level earlier after from keys is low new (inl h) = elim (bad_key kind earlier k h.1) [ inl bad ↦ bad keys.0 | inr among ↦ new k (inl refl) among ]
-    good_entries (entry k b c es) rows level earlier after from keys is low new (inr (inl h)) = good_body b is.0.0 level (comma_marks c (entries_marks es after)) from keys.2 is.0.2 (omega arith) h
-    good_entries (entry k b c es) rows level earlier after from keys is low new (inr (inr h)) = good_entries es rows level (k ∷ earlier) after from keys.3 is.1 (omega arith) (still_new k b c es earlier keys.1 new) h
+    good_entries (entry k b c es) rows level earlier after from keys is low new (inl h) =
+        elim (bad_key kind earlier k h.1) [ inl bad ↦ bad keys.0 | inr among ↦ new k (inl refl) among ]
+    good_entries (entry k b c es) rows level earlier after from keys is low new (inr (inl h)) =
+        good_body b is.0.0 level (comma_marks c (entries_marks es after)) from keys.2 is.0.2 (omega arith) h
+    good_entries (entry k b c es) rows level earlier after from keys is low new (inr (inr h)) =
+        good_entries es rows level (k ∷ earlier) after from keys.3 is.1 (omega arith) (still_new k b c es earlier keys.1 new) h
 
-    good_elements : (xs : Elements) (ts : Resources) (level : ℕ) (after from : List Mark) → EachHasKeys xs → EachSpells xs ts → level + elements_height xs ≤ 65 → ElementsHave (IsBad kind) xs level after from → ⊥
+    good_elements : (xs : Elements) (ts : Resources) (level : ℕ) (after from : List Mark) → EachHasKeys xs → EachSpells xs ts → level + elements_height xs ≤ 65
+        → ElementsHave (IsBad kind) xs level after from → ⊥
     good_elements no_elements ts level after from keys is low h = h
     good_elements (one_text s c xs) ts level after from keys is low (inl h) = not_deep level 0 (omega arith) h.1
     good_elements (one_text s c xs) ts level after from keys is low (inr h) = good_elements xs is.0 level after from keys is.2 (omega arith) h
-    good_elements (one_body b c xs) ts level after from keys is low (inl h) = good_body b is.0 level (comma_marks c (elements_marks xs after)) from keys.0 is.3 (omega arith) h
+    good_elements (one_body b c xs) ts level after from keys is low (inl h) =
+        good_body b is.0 level (comma_marks c (elements_marks xs after)) from keys.0 is.3 (omega arith) h
     good_elements (one_body b c xs) ts level after from keys is low (inr h) = good_elements xs is.1 level after from keys.1 is.4 (omega arith) h
 
--- ---- good marks have no fault
+-- ---- good marks have no error
 
-module _ (ms : List Mark) (name : List ℕ) (d : SourceTree) (whole : IsSpelled ms name d) (low : height d.tree ≤ 64) (front rest : List Mark) (cut : ms ≡ front ++ rest) where
+module _ (ms : List Mark) (name : List ℕ) (d : SourceTree) (whole : IsSpelled ms name d) (low : height d.tree ≤ 64) (front rest : List Mark)
+    (cut : ms ≡ front ++ rest) where
   -- a front of a bundle that is not all of it goes on
   not_longest : (m : Mark) (more : List Mark) → rest ≡ m ∷ more → IsFront front rest → ⊥
   not_longest m more e f = f.longest m more e (record {
@@ -142,7 +157,8 @@ module _ (ms : List Mark) (name : List ℕ) (d : SourceTree) (whole : IsSpelled 
       let high = tree_height (table whole.form) d.tree whole.means in
       let r = all_begun b.at b.others b.parts in
       let longest : IsFront (front ++ b.at ∷ b.others) [] = record { begun = r; longest = λ m ms e. absurd cc } in
-      good_entries kind whole.form whole.means.0 2 [] (RightBrace ∷ []) (b.at ∷ (b.others ++ [])) whole.keys whole.means.4 (omega arith) (λ q h among. among) (b.each b.others [] (sym (append-nil b.others)) longest r)
+      good_entries kind whole.form whole.means.0 2 [] (RightBrace ∷ []) (b.at ∷ (b.others ++ [])) whole.keys whole.means.4 (omega arith) (λ q h among. among)
+      (b.each b.others [] (sym (append-nil b.others)) longest r)
 
   faultless : (kind : SourceKind) → HasFault kind front rest → ⊥
   faultless Unexpected h = no_front h.0 (λ none. h.1 (is_bundle none))
@@ -155,7 +171,8 @@ module _ (ms : List Mark) (name : List ℕ) (d : SourceTree) (whole : IsSpelled 
   faultless TooDeep h = not_broken TooDeep h
   faultless kind h = h
 
-pub good_faultless : (ts : List Token) (name : List ℕ) (d : SourceTree) (end : ℕ) (kind : SourceKind) (line : ℕ) → IsGood (marks ts) name d → IsFault ts end kind line → ⊥
+pub good_faultless : (ts : List Token) (name : List ℕ) (d : SourceTree) (end : ℕ) (kind : SourceKind) (line : ℕ) → IsGood (marks ts) name d
+    → IsFault ts end kind line → ⊥
 good_faultless ts name d end kind line g (inl (front, rest, cut, h, l)) =
     faultless (marks ts) name d g.whole g.low (marks front) (marks rest) (ap marks cut ∙ map-append (λ (t : Token). t.what) front rest) kind h
 good_faultless ts name d end kind line g (inr (is, large, l)) =

@@ -42,7 +42,8 @@ module _ (tests : Tests) (are : AreTests tests) where
         low = omega (arith, t.high);
       }
 
-  pub spelled_read : (ts : List Token) (name : List ℕ) (d : SourceTree) (s : IsSpelled (marks ts) name d) → height d.tree ≤ 64 → bundle tests ts ≡ Ok (name, s.head, s.form)
+  pub spelled_read : (ts : List Token) (name : List ℕ) (d : SourceTree) (s : IsSpelled (marks ts) name d) → height d.tree ≤ 64
+      → bundle tests ts ≡ Ok (name, s.head, s.form)
   spelled_read ts name d s low =
       let high = tree_height (table s.form) d.tree s.means in
       bundle_again tests ts name s.head s.form s.good (passed_rows tests are s.form s.means.0 s.keys s.means.4) (omega arith) s.spelled

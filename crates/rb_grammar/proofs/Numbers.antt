@@ -3,8 +3,9 @@ use Rattle.std.proofs.Common.{◌≡◌, ℕ, ℤ, ◌<◌, ◌≤◌, Bool, tru
 use Rattle.std.specs.Prelude.{◌==◌, ◌+◌, ◌*◌, if◌then◌else◌}
 use Rattle.std.specs.Char.{digit_value}
 use Rattle.std.proofs.lemmas.Bool.{eqb-true, ne_eqb}
-use Rattle.rb_grammar.specs.Numeral.{Sign, bare, plus, minus, Numeral, hexadecimal, octal, decimal, sign_units, numeral_units, IsNumeral, numeral_value, is_minus, Writes, IsIntText, int_kept, IsElementText, element_kept, pairs_digits, pairs_bytes, IsHexText}
-use Rattle.rb_grammar.specs.Shape.{shape, behind_0, sign_of, unsigned_of}
+use Rattle.rb_grammar.specs.Numeral.{Sign, bare, plus, minus, Numeral, hexadecimal, octal, decimal, sign_units, numeral_units, IsNumeral, numeral_value}
+use Rattle.rb_grammar.specs.Numeral.{is_minus, Writes, IsIntText, int_kept, IsElementText, element_kept, pairs_digits, pairs_bytes, IsHexText}
+use Rattle.rb_grammar.specs.Shape.{shape, after_0, sign_of, unsigned_of}
 use Rattle.rb_grammar.specs.Tests.{numeral_of}
 
 -- ---- the numeral that some units can be
@@ -56,10 +57,11 @@ shaped units negative size w =
     }
 
 -- units are those of their sign and shape
-behind_units : (us : List ℕ) → numeral_units (behind_0 us) ≡ 0x30 ∷ us
-behind_units [] = refl
-behind_units (u ∷ us) = by (u == 0x58) (u == 0x78) refl refl where
-  by : (b c : Bool) → (u == 0x58) ≡ b → (u == 0x78) ≡ c → numeral_units (if b then hexadecimal true us else (if c then hexadecimal false us else octal (u ∷ us))) ≡ 0x30 ∷ u ∷ us
+after_units : (us : List ℕ) → numeral_units (after_0 us) ≡ 0x30 ∷ us
+after_units [] = refl
+after_units (u ∷ us) = by (u == 0x58) (u == 0x78) refl refl where
+  by : (b c : Bool) → (u == 0x58) ≡ b → (u == 0x78) ≡ c → numeral_units
+      (if b then hexadecimal true us else (if c then hexadecimal false us else octal (u ∷ us))) ≡ 0x30 ∷ u ∷ us
   by true c e f = ap (λ x. 0x30 ∷ x ∷ us) (sym (eqb-true u 0x58 e))
   by false true e f = ap (λ x. 0x30 ∷ x ∷ us) (sym (eqb-true u 0x78 f))
   by false false e f = refl
@@ -67,14 +69,15 @@ behind_units (u ∷ us) = by (u == 0x58) (u == 0x78) refl refl where
 shape_units : (us : List ℕ) → numeral_units (shape us) ≡ us
 shape_units [] = refl
 shape_units (u ∷ us) = by (u == 0x30) refl where
-  by : (b : Bool) → (u == 0x30) ≡ b → numeral_units (if b then behind_0 us else decimal (u ∷ us)) ≡ u ∷ us
-  by true e = behind_units us ∙ ap (λ x. x ∷ us) (sym (eqb-true u 0x30 e))
+  by : (b : Bool) → (u == 0x30) ≡ b → numeral_units (if b then after_0 us else decimal (u ∷ us)) ≡ u ∷ us
+  by true e = after_units us ∙ ap (λ x. x ∷ us) (sym (eqb-true u 0x30 e))
   by false e = refl
 
 sign_back : (us : List ℕ) → sign_units (sign_of us) (unsigned_of us) ≡ us
 sign_back [] = refl
 sign_back (u ∷ us) = by (u == 0x2B) (u == 0x2D) refl refl where
-  by : (b c : Bool) → (u == 0x2B) ≡ b → (u == 0x2D) ≡ c → sign_units (if b then plus else (if c then minus else bare)) (if b then us else (if c then us else u ∷ us)) ≡ u ∷ us
+  by : (b c : Bool) → (u == 0x2B) ≡ b → (u == 0x2D) ≡ c → sign_units (if b then plus else (if c then minus else bare))
+      (if b then us else (if c then us else u ∷ us)) ≡ u ∷ us
   by true c e f = ap (λ x. x ∷ us) (sym (eqb-true u 0x2B e))
   by false true e f = ap (λ x. x ∷ us) (sym (eqb-true u 0x2D f))
   by false false e f = refl

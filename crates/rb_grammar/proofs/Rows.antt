@@ -1,5 +1,6 @@
--- Members of a table in order: what stands at each key, one more, and that these tell a table.
-use Rattle.std.proofs.Common.{◌≡◌, ℕ, suc, ◌≤◌, max, List, [], ◌∷◌, Option, Some, None, Ordering, Less, Equal, Greater, nat_cmp, Bool, true, false, cond, All, refl, sym, ap, subst, ◌∙◌, arith, ◌⊎◌, inl, inr}
+-- Members of a table in order: what is at each key, one more, and that these determine a table.
+use Rattle.std.proofs.Common.{◌≡◌, ℕ, suc, ◌≤◌, max, List, [], ◌∷◌, Option, Some, None, Ordering, Less, Equal, Greater, nat_cmp, Bool, true, false, cond, All}
+use Rattle.std.proofs.Common.{refl, sym, ap, subst, ◌∙◌, arith, ◌⊎◌, inl, inr}
 use Rattle.std.specs.Prelude.{nat_eq}
 use Rattle.std.specs.Cmp.Lexicographic.{slice_cmp, pointwise}
 use Rattle.std.specs.List.{AllByRecursion}
@@ -23,7 +24,7 @@ same_or_not xs ys = decided (pointwise nat_eq xs ys) refl where
   decided true e = inl ((bytes_eq-Decides xs ys).0 e)
   decided false e = inr (λ same. let yes = (bytes_eq-Decides xs ys).1 same in absurd cc)
 
--- ---- what stands at a key
+-- ---- what is at a key
 
 pub here : (k : List ℕ) (d : Resource) (rows : Members) → item_at k (entry_and k d rows) ≡ Some d
 here k d rows = rw ((bytes_eq-Decides k k).1 refl) refl
@@ -54,7 +55,8 @@ abbrev pub Ascend : Members → Type 0
 Ascend no_entries = Unit {0}
 Ascend (entry_and k d rows) = AscendFrom k rows
 
-sorted_from : (low : List ℕ) (rows : Members) → AllByRecursion (λ k. cmp low k ≡ Less) (keys_of (pairs rows)) → IsStrictlySortedBy cmp (keys_of (pairs rows)) → AscendFrom low rows
+sorted_from : (low : List ℕ) (rows : Members) → AllByRecursion (λ k. cmp low k ≡ Less) (keys_of (pairs rows)) → IsStrictlySortedBy cmp (keys_of (pairs rows))
+    → AscendFrom low rows
 unfolding IsStrictlySortedBy
 sorted_from low no_entries all sorted = tt
 sorted_from low (entry_and k d rows) all sorted = (all.0, sorted_from k rows sorted.0 sorted.1)
@@ -87,7 +89,8 @@ greater_is : (k l : List ℕ) → cmp k l ≡ Greater → cmp l k ≡ Less
 greater_is k l e = nat_list_cmp_total.antisymm l k ∙ ap ordering_reverse e
 
 not_itself : (k : List ℕ) → cmp k k ≡ Less → ⊥
-not_itself k e = let same : is_eq (cmp k k) ≡ true = is_eq-slice_cmp k k ∙ (bytes_eq-Decides k k).1 refl in let other : is_eq (cmp k k) ≡ false = ap is_eq e in cc
+not_itself k e = let same : is_eq (cmp k k) ≡ true = is_eq-slice_cmp k k ∙ (bytes_eq-Decides k k).1 refl in let other : is_eq (cmp k k) ≡ false = ap is_eq e in
+    cc
 
 below_other : (k l : List ℕ) → cmp k l ≡ Less → k ≡ l → ⊥
 below_other k l below same = not_itself k (ap (cmp k) same ∙ below)
@@ -104,12 +107,13 @@ pub tail_absent : (k : List ℕ) (rows : Members) → AscendFrom k rows → item
 tail_absent k no_entries up = refl
 tail_absent k (entry_and l d rows) up = first_absent k l d rows up.0 up.1
 
--- ---- tables are told apart by what stands at each key
+-- ---- tables differ in what is at some key
 
 abbrev pub Same : Members → Members → Type 0
 Same r s = (q : List ℕ) → item_at q r ≡ item_at q s
 
-joined : (k : List ℕ) (d e : Resource) (r s : Members) → AscendFrom k r → AscendFrom k s → Same (entry_and k d r) (entry_and k e s) → (Same r s → r ≡ s) → entry_and k d r ≡ entry_and k e s
+joined : (k : List ℕ) (d e : Resource) (r s : Members) → AscendFrom k r → AscendFrom k s → Same (entry_and k d r) (entry_and k e s) → (Same r s → r ≡ s)
+    → entry_and k d r ≡ entry_and k e s
 joined k d e r s p q same later =
     let first : d ≡ e = some_is d e (sym (here k d r) ∙ same k ∙ here k e s) in
     ap (λ x. entry_and k x r) first ∙ ap (entry_and k e) (later (λ n. elim (same_or_not n k) [
@@ -117,18 +121,21 @@ joined k d e r s p q same later =
       | inr other ↦ sym (skips n k d r other) ∙ same n ∙ skips n k e s other
     ]))
 
-heads : (o : Ordering) (k l : List ℕ) (d e : Resource) (r s : Members) → cmp k l ≡ o → AscendFrom k r → AscendFrom l s → Same (entry_and k d r) (entry_and l e s) → (Same r s → r ≡ s) → entry_and k d r ≡ entry_and l e s
+heads : (o : Ordering) (k l : List ℕ) (d e : Resource) (r s : Members) → cmp k l ≡ o → AscendFrom k r → AscendFrom l s
+    → Same (entry_and k d r) (entry_and l e s) → (Same r s → r ≡ s) → entry_and k d r ≡ entry_and l e s
 heads Less k l d e r s is p q same later = absurd (differ (item_at k (entry_and l e s)) d (first_absent k l e s is q) (sym (same k) ∙ here k d r))
 heads Greater k l d e r s is p q same later = absurd (differ (item_at l (entry_and k d r)) e (first_absent l k d r (greater_is k l is) p) (same l ∙ here l e s))
 heads Equal k l d e r s is p q same later =
     let key : k ≡ l = (bytes_eq-Decides k l).0 (sym (is_eq-slice_cmp k l) ∙ ap is_eq is) in
-    subst (λ (n : List ℕ). AscendFrom n s → Same (entry_and k d r) (entry_and n e s) → entry_and k d r ≡ entry_and n e s) key (λ q same. joined k d e r s p q same later) q same
+    subst (λ (n : List ℕ). AscendFrom n s → Same (entry_and k d r) (entry_and n e s) → entry_and k d r ≡ entry_and n e s) key
+    (λ q same. joined k d e r s p q same later) q same
 
 pub rows_same : (r s : Members) → Ascend r → Ascend s → Same r s → r ≡ s
 rows_same no_entries no_entries p q same = refl
 rows_same no_entries (entry_and l e s) p q same = absurd (differ (item_at l no_entries) e refl (same l ∙ here l e s))
 rows_same (entry_and k d r) no_entries p q same = absurd (differ (item_at k no_entries) d refl (sym (same k) ∙ here k d r))
-rows_same (entry_and k d r) (entry_and l e s) p q same = heads (cmp k l) k l d e r s refl p q same (λ h. rows_same r s (ascend_from k r p) (ascend_from l s q) h)
+rows_same (entry_and k d r) (entry_and l e s) p q same =
+    heads (cmp k l) k l d e r s refl p q same (λ h. rows_same r s (ascend_from k r p) (ascend_from l s q) h)
 
 -- ---- one more
 
@@ -161,7 +168,8 @@ pub item-put_other : (q k : List ℕ) (d : Resource) (rows : Members) → (q ≡
 item-put_other q k d no_entries other = skips q k d no_entries other
 item-put_other q k d (entry_and l e rows) other = put_other_at (cmp k l) q k l d e rows refl other (item-put_other q k d rows other)
 
-ascend_put_at : (o : Ordering) (low k l : List ℕ) (d e : Resource) (rows : Members) → cmp k l ≡ o → cmp low k ≡ Less → AscendFrom low (entry_and l e rows) → (cmp l k ≡ Less → AscendFrom l (put k d rows))
+ascend_put_at : (o : Ordering) (low k l : List ℕ) (d e : Resource) (rows : Members) → cmp k l ≡ o → cmp low k ≡ Less → AscendFrom low (entry_and l e rows)
+    → (cmp l k ≡ Less → AscendFrom l (put k d rows))
     → AscendFrom low (match_ordering o (entry_and k d (entry_and l e rows)) (entry_and l d rows) (entry_and l e (put k d rows)))
 ascend_put_at Less low k l d e rows is below up later = (below, (is, up.1))
 ascend_put_at Equal low k l d e rows is below up later = up
@@ -179,11 +187,13 @@ ascend_first k d (entry_and l e rows) up = placed (cmp k l) refl where
   placed Equal is = up
   placed Greater is = ascend_put l k d rows (greater_is k l is) up
 
-keys_put_at : (o : Ordering) (k l : List ℕ) (d e : Resource) (rows : Members) → IsKey k → All IsKey (l ∷ keys_of (pairs rows)) → (All IsKey (keys_of (pairs rows)) → All IsKey (keys_of (pairs (put k d rows))))
+keys_put_at : (o : Ordering) (k l : List ℕ) (d e : Resource) (rows : Members) → IsKey k → All IsKey (l ∷ keys_of (pairs rows))
+    → (All IsKey (keys_of (pairs rows)) → All IsKey (keys_of (pairs (put k d rows))))
     → All IsKey (keys_of (pairs (match_ordering o (entry_and k d (entry_and l e rows)) (entry_and l d rows) (entry_and l e (put k d rows)))))
 keys_put_at Less k l d e rows good all later = All-cons IsKey k (l ∷ keys_of (pairs rows)) good all
 keys_put_at Equal k l d e rows good all later = all
-keys_put_at Greater k l d e rows good all later = All-cons IsKey l (keys_of (pairs (put k d rows))) (all 0 [] (omega arith)) (later (λ i q h. all (suc i) q (omega arith)))
+keys_put_at Greater k l d e rows good all later =
+    All-cons IsKey l (keys_of (pairs (put k d rows))) (all 0 [] (omega arith)) (later (λ i q h. all (suc i) q (omega arith)))
 
 keys_put : (k : List ℕ) (d : Resource) (rows : Members) → IsKey k → All IsKey (keys_of (pairs rows)) → All IsKey (keys_of (pairs (put k d rows)))
 keys_put k d no_entries good all = All-cons IsKey k [] good all
@@ -193,7 +203,8 @@ pub table_none : IsTable no_entries
 table_none = record { keys_ok = λ i q h. absurd (omega arith); ascend = ascend_sorted no_entries tt }
 
 pub table_put : (k : List ℕ) (d : Resource) (rows : Members) → IsKey k → IsTable rows → IsTable (put k d rows)
-table_put k d rows good t = record { keys_ok = keys_put k d rows good t.keys_ok; ascend = ascend_sorted (put k d rows) (ascend_first k d rows (ascend_of rows t)) }
+table_put k d rows good t =
+    record { keys_ok = keys_put k d rows good t.keys_ok; ascend = ascend_sorted (put k d rows) (ascend_first k d rows (ascend_of rows t)) }
 
 -- ---- heights
 
@@ -209,5 +220,7 @@ pub rows_low : (rows : Members) (n : ℕ) → Ascend rows → ((q : List ℕ) (d
 rows_low no_entries n up each = omega arith
 rows_low (entry_and k d rows) n up each =
     let first = each k d (here k d rows) in
-    let others = rows_low rows n (ascend_from k rows up) (λ q e h. each q e (skips q k d rows (λ same. differ (item_at q rows) e (ap (λ x. item_at x rows) same ∙ tail_absent k rows up) h) ∙ h)) in
+    let others =
+    rows_low rows n (ascend_from k rows up) (λ q e h. each q e
+    (skips q k d rows (λ same. differ (item_at q rows) e (ap (λ x. item_at x rows) same ∙ tail_absent k rows up) h) ∙ h)) in
     omega arith

@@ -1,5 +1,6 @@
 -- What is read is spelled so.
-use Rattle.std.proofs.Common.{◌≡◌, ℕ, zero, suc, ◌≤◌, Bool, true, false, cond, ◌||◌, List, [], ◌∷◌, Option, Some, None, Result, Ok, Err, refl, sym, ap, subst, ◌∙◌, arith, ◌⊎◌, inl, inr}
+use Rattle.std.proofs.Common.{◌≡◌, ℕ, zero, suc, ◌≤◌, Bool, true, false, cond, ◌||◌, List, [], ◌∷◌, Option, Some, None, Result, Ok, Err, refl, sym, ap, subst}
+use Rattle.std.proofs.Common.{◌∙◌, arith, ◌⊎◌, inl, inr}
 use Rattle.std.specs.Prelude.{nat_eq}
 use Rattle.std.specs.Cmp.Lexicographic.{pointwise}
 use Rattle.std.proofs.lemmas.Slice.Eq.{bytes_eq-Decides}
@@ -8,9 +9,13 @@ use Rattle.rb_lexer.specs.declared.token.Token.{Token}
 use Rattle.rb_lexer.specs.declared.token.Mark.{Mark}
 use Rattle.rb_lexer.specs.declared.token.Mark.TheVariants.{Text, RightBrace}
 use Rattle.rb_lexer.specs.declared.fault.SourceKind.TheVariants.{BadKey, DuplicateKey, BadInt, TooDeep}
-use Rattle.rb_grammar.specs.Form.{marks, Leaf, string, alias, binary, int, ints, Body, plain, group, listed, leaf, table, array, Entries, no_entries, entry, Elements, no_elements, one_text, one_body, comma_marks, numbers_marks, body_marks, entries_marks, elements_marks, AreSome, BeginArray, IsForm, AreForms, EachIsForm, IsKeyOf}
-use Rattle.rb_grammar.specs.Reading.{Stop, stop, Read, ◌>>=◌, left, right, colon, comma, text_of, begins, tail, punctuation_at, first_text, has_comma, after_comma, Tests, numbers_step, numbers, is_among, entry_at, entries_step, entries, elements_step, elements, as_text, as_table, as_array, none_at, guess_second, guess_or, guess}
-use Rattle.rb_grammar.proofs.Marks.{text_first, sign_there, sign_takes, comma_takes}
+use Rattle.rb_grammar.specs.Form.{marks, Leaf, string, alias, binary, int, ints, Body, plain, group, listed, leaf, table, array, Entries, no_entries, entry}
+use Rattle.rb_grammar.specs.Form.{Elements, no_elements, one_text, one_body, comma_marks, numbers_marks, body_marks, entries_marks, elements_marks, AreSome}
+use Rattle.rb_grammar.specs.Form.{BeginArray, IsForm, AreForms, EachIsForm, IsKeyOf}
+use Rattle.rb_grammar.specs.Reading.{Stop, stop, Read, ◌>>=◌, left, right, colon, comma, text_of, begins, tail, punctuation_at, first_text, has_comma}
+use Rattle.rb_grammar.specs.Reading.{after_comma, Tests, numbers_step, numbers, is_among, entry_at, entries_step, entries, elements_step, elements, as_text}
+use Rattle.rb_grammar.specs.Reading.{as_table, as_array, none_at, guess_second, guess_or, guess}
+use Rattle.rb_grammar.proofs.Marks.{text_first, mark_there, mark_takes, comma_takes}
 use Rattle.rb_grammar.proofs.Unique.{starts_comma, no_comma_elements}
 use Rattle.rb_grammar.proofs.Height.{body_height, entries_height, elements_height}
 
@@ -106,16 +111,19 @@ module _ (tests : Tests) where
     seen true is e = absurd cc
     seen false is e = (λ same. false≢true (sym is ∙ (bytes_eq-Decides q k).1 same), e)
 
-  pub entry_takes : (reads : List Token → Read Body) (earlier : List (List ℕ)) (k : List ℕ) (ts : List Token) (x : Body × List Token) → entry_at tests reads earlier k ts ≡ Ok x → (tests.is_key k ≡ true) × (is_among earlier k ≡ false) × (reads (tail ts) ≡ Ok x)
+  pub entry_takes : (reads : List Token → Read Body) (earlier : List (List ℕ)) (k : List ℕ) (ts : List Token) (x : Body × List Token)
+      → entry_at tests reads earlier k ts ≡ Ok x → (tests.is_key k ≡ true) × (is_among earlier k ≡ false) × (reads (tail ts) ≡ Ok x)
   entry_takes reads earlier k ts x e =
       let p = guard_ok (tests.is_key k) (stop BadKey ts) (cond (is_among earlier k) (Err (stop DuplicateKey ts)) (reads (tail ts))) x e in
       let q = guard_not (is_among earlier k) (stop DuplicateKey ts) (reads (tail ts)) x p.1 in
       (p.0, q.0, q.1)
 
-  one_more : (depth : ℕ) (earlier : List (List ℕ)) (ts mid : List Token) (k : List ℕ) (b : Body) (x : Entries × List Token) → first_text ts ≡ Some k → tests.is_key k ≡ true → is_among earlier k ≡ false
+  one_more : (depth : ℕ) (earlier : List (List ℕ)) (ts mid : List Token) (k : List ℕ) (b : Body) (x : Entries × List Token) → first_text ts ≡ Some k
+      → tests.is_key k ≡ true → is_among earlier k ≡ false
       → Took depth (tail ts) (b, mid) → TookAll depth (k ∷ earlier) (after_comma mid) x → TookAll depth earlier ts (entry k b (has_comma mid) x.0, x.1)
   one_more depth earlier ts mid k b x comes good fresh one rest = record {
-    spelled = text_first ts k comes ∙ ap (λ ms. Text k ∷ ms) (one.spelled ∙ ap (body_marks b) (comma_takes mid ∙ ap (comma_marks (has_comma mid)) rest.spelled));
+    spelled =
+        text_first ts k comes ∙ ap (λ ms. Text k ∷ ms) (one.spelled ∙ ap (body_marks b) (comma_takes mid ∙ ap (comma_marks (has_comma mid)) rest.spelled));
     form = (one.form, rest.form);
     passed = (good, λ h. (among_parts k k earlier (rest.new k h)).0 refl, one.passed, rest.passed);
     new = λ q h. is_new q h;
@@ -127,19 +135,24 @@ module _ (tests : Tests) where
 
   step_takes : (depth : ℕ) (reads : List Token → Read Body) (law : Law depth reads) (more : List (List ℕ) → List Token → Read Entries)
       (later : (earlier : List (List ℕ)) (ts : List Token) (x : Entries × List Token) → more earlier ts ≡ Ok x → TookAll depth earlier ts x)
-      (earlier : List (List ℕ)) (ts : List Token) (o : Option (List ℕ)) (x : Entries × List Token) → first_text ts ≡ o → entries_step tests reads more earlier ts o ≡ Ok x → TookAll depth earlier ts x
+      (earlier : List (List ℕ)) (ts : List Token) (o : Option (List ℕ)) (x : Entries × List Token) → first_text ts ≡ o
+      → entries_step tests reads more earlier ts o ≡ Ok x → TookAll depth earlier ts x
   step_takes depth reads law more later earlier ts None x comes e =
       let a = bind_ok (punctuation_at right ts) (λ after. Ok (no_entries, after)) x e in
       let made : Entries × List Token = (no_entries, a.0) in
-      subst (TookAll depth earlier ts) (ok_is made x a.2) (record { spelled = sign_takes right ts a.0 a.1; form = tt; passed = tt; new = λ k h. absurd h; high = omega arith })
+      subst (TookAll depth earlier ts) (ok_is made x a.2) (record
+      { spelled = mark_takes right ts a.0 a.1; form = tt; passed = tt; new = λ k h. absurd h; high = omega arith })
   step_takes depth reads law more later earlier ts (Some k) x comes e =
-      let a = bind_ok (entry_at tests reads earlier k ts) (λ b. more (k ∷ earlier) (after_comma b.1) >>= λ es. Ok (entry k b.0 (has_comma b.1) es.0, es.1)) x e in
+      let a =
+      bind_ok (entry_at tests reads earlier k ts) (λ b. more (k ∷ earlier) (after_comma b.1) >>= λ es. Ok (entry k b.0 (has_comma b.1) es.0, es.1)) x e in
       let g = entry_takes reads earlier k ts a.0 a.1 in
       let b = bind_ok (more (k ∷ earlier) (after_comma a.0.1)) (λ es. Ok (entry k a.0.0 (has_comma a.0.1) es.0, es.1)) x a.2 in
       let made : Entries × List Token = (entry k a.0.0 (has_comma a.0.1) b.0.0, b.0.1) in
-      subst (TookAll depth earlier ts) (ok_is made x b.2) (one_more depth earlier ts a.0.1 k a.0.0 b.0 comes g.0 g.1 (law (tail ts) a.0 g.2) (later (k ∷ earlier) (after_comma a.0.1) b.0 b.1))
+      subst (TookAll depth earlier ts) (ok_is made x b.2) (one_more depth earlier ts a.0.1 k a.0.0 b.0 comes g.0 g.1 (law (tail ts) a.0 g.2)
+      (later (k ∷ earlier) (after_comma a.0.1) b.0 b.1))
 
-  pub entries_take : (depth : ℕ) (reads : List Token → Read Body) (law : Law depth reads) (n : ℕ) (earlier : List (List ℕ)) (ts : List Token) (x : Entries × List Token) → entries tests reads n earlier ts ≡ Ok x → TookAll depth earlier ts x
+  pub entries_take : (depth : ℕ) (reads : List Token → Read Body) (law : Law depth reads) (n : ℕ) (earlier : List (List ℕ)) (ts : List Token)
+      (x : Entries × List Token) → entries tests reads n earlier ts ≡ Ok x → TookAll depth earlier ts x
   unfolding entries
   entries_take depth reads law zero earlier ts x e = absurd cc
   entries_take depth reads law (suc n) earlier ts x e =
@@ -147,27 +160,30 @@ module _ (tests : Tests) where
 
   -- ---- elements
 
-  each_takes : (depth : ℕ) (room : Bool) (reads : List Token → Read Body) (law : Law depth reads) (fits : room ≡ true → 1 ≤ depth) (more : List Token → Read Elements)
+  each_takes : (depth : ℕ) (room : Bool) (reads : List Token → Read Body) (law : Law depth reads) (fits : room ≡ true → 1 ≤ depth)
+      (more : List Token → Read Elements)
       (later : (ts : List Token) (x : Elements × List Token) → more ts ≡ Ok x → TookEach depth ts x)
       (ts : List Token) (o : Option (List ℕ)) (x : Elements × List Token) → first_text ts ≡ o → elements_step room reads more ts o ≡ Ok x → TookEach depth ts x
-  each_takes depth room reads law fits more later ts None x comes e = elim (chosen (begins colon ts || begins left ts) (reads ts >>= λ b. more (after_comma b.1) >>= λ xs. Ok (one_body b.0 (has_comma b.1) xs.0, xs.1)) (punctuation_at right ts >>= λ after. Ok (no_elements, after)) (Ok x) e) [
-    | inl h ↦
-        let a = bind_ok (reads ts) (λ b. more (after_comma b.1) >>= λ xs. Ok (one_body b.0 (has_comma b.1) xs.0, xs.1)) x h.1 in
-        let b = bind_ok (more (after_comma a.0.1)) (λ xs. Ok (one_body a.0.0 (has_comma a.0.1) xs.0, xs.1)) x a.2 in
-        let one = law ts a.0 a.1 in
-        let rest = later (after_comma a.0.1) b.0 b.1 in
-        let made : Elements × List Token = (one_body a.0.0 (has_comma a.0.1) b.0.0, b.0.1) in
-        subst (TookEach depth ts) (ok_is made x b.2) (record {
-          spelled = one.spelled ∙ ap (body_marks a.0.0) (comma_takes a.0.1 ∙ ap (comma_marks (has_comma a.0.1)) rest.spelled);
-          form = (one.form, rest.form);
-          passed = (one.passed, rest.passed);
-          high = omega (arith, one.high, rest.high);
-        })
-    | inr h ↦
-        let a = bind_ok (punctuation_at right ts) (λ after. Ok (no_elements, after)) x h.1 in
-        let made : Elements × List Token = (no_elements, a.0) in
-        subst (TookEach depth ts) (ok_is made x a.2) (record { spelled = sign_takes right ts a.0 a.1; form = tt; passed = tt; high = omega arith })
-  ]
+  each_takes depth room reads law fits more later ts None x comes e =
+      elim (chosen (begins colon ts || begins left ts) (reads ts >>= λ b. more (after_comma b.1) >>= λ xs. Ok (one_body b.0 (has_comma b.1) xs.0, xs.1))
+      (punctuation_at right ts >>= λ after. Ok (no_elements, after)) (Ok x) e) [
+        | inl h ↦
+            let a = bind_ok (reads ts) (λ b. more (after_comma b.1) >>= λ xs. Ok (one_body b.0 (has_comma b.1) xs.0, xs.1)) x h.1 in
+            let b = bind_ok (more (after_comma a.0.1)) (λ xs. Ok (one_body a.0.0 (has_comma a.0.1) xs.0, xs.1)) x a.2 in
+            let one = law ts a.0 a.1 in
+            let rest = later (after_comma a.0.1) b.0 b.1 in
+            let made : Elements × List Token = (one_body a.0.0 (has_comma a.0.1) b.0.0, b.0.1) in
+            subst (TookEach depth ts) (ok_is made x b.2) (record {
+              spelled = one.spelled ∙ ap (body_marks a.0.0) (comma_takes a.0.1 ∙ ap (comma_marks (has_comma a.0.1)) rest.spelled);
+              form = (one.form, rest.form);
+              passed = (one.passed, rest.passed);
+              high = omega (arith, one.high, rest.high);
+            })
+        | inr h ↦
+            let a = bind_ok (punctuation_at right ts) (λ after. Ok (no_elements, after)) x h.1 in
+            let made : Elements × List Token = (no_elements, a.0) in
+            subst (TookEach depth ts) (ok_is made x a.2) (record { spelled = mark_takes right ts a.0 a.1; form = tt; passed = tt; high = omega arith })
+      ]
   each_takes depth room reads law fits more later ts (Some s) x comes e =
       let g = guard_ok room (stop TooDeep ts) (more (after_comma (tail ts)) >>= λ xs. Ok (one_text s (has_comma (tail ts)) xs.0, xs.1)) x e in
       let b = bind_ok (more (after_comma (tail ts))) (λ xs. Ok (one_text s (has_comma (tail ts)) xs.0, xs.1)) x g.1 in
@@ -181,7 +197,8 @@ module _ (tests : Tests) where
         high = omega (arith, rest.high);
       })
 
-  pub elements_take : (depth : ℕ) (room : Bool) (reads : List Token → Read Body) (law : Law depth reads) (fits : room ≡ true → 1 ≤ depth) (n : ℕ) (ts : List Token) (x : Elements × List Token) → elements room reads n ts ≡ Ok x → TookEach depth ts x
+  pub elements_take : (depth : ℕ) (room : Bool) (reads : List Token → Read Body) (law : Law depth reads) (fits : room ≡ true → 1 ≤ depth) (n : ℕ)
+      (ts : List Token) (x : Elements × List Token) → elements room reads n ts ≡ Ok x → TookEach depth ts x
   unfolding elements
   elements_take depth room reads law fits zero ts x e = absurd cc
   elements_take depth room reads law fits (suc n) ts x e =
@@ -193,8 +210,10 @@ module _ (tests : Tests) where
     pub spelled : marks ts ≡ numbers_marks x.0 (marks x.1)
     pub passed : NumbersPassed x.0
 
-  number_takes : (more : List Token → Read (List (List ℕ × Bool))) (later : (ts : List Token) (x : List (List ℕ × Bool) × List Token) → more ts ≡ Ok x → TookNumbers ts x)
-      (ts : List Token) (o : Option (List ℕ)) (x : List (List ℕ × Bool) × List Token) → first_text ts ≡ o → numbers_step tests.is_element more ts o ≡ Ok x → TookNumbers ts x
+  number_takes : (more : List Token → Read (List (List ℕ × Bool)))
+      (later : (ts : List Token) (x : List (List ℕ × Bool) × List Token) → more ts ≡ Ok x → TookNumbers ts x)
+      (ts : List Token) (o : Option (List ℕ)) (x : List (List ℕ × Bool) × List Token) → first_text ts ≡ o → numbers_step tests.is_element more ts o ≡ Ok x
+      → TookNumbers ts x
   number_takes more later ts None x comes e =
       let made : List (List ℕ × Bool) × List Token = ([], ts) in
       subst (TookNumbers ts) (ok_is made x e) (record { spelled = refl; passed = tt })
@@ -215,7 +234,8 @@ module _ (tests : Tests) where
 
   -- ---- the guess
 
-  pub first_is : (es : Entries) (ts : List Token) (s : List ℕ) (rest : List Mark) → first_text ts ≡ Some s → marks ts ≡ entries_marks es (RightBrace ∷ rest) → AreSome es
+  pub first_is : (es : Entries) (ts : List Token) (s : List ℕ) (rest : List Mark) → first_text ts ≡ Some s → marks ts ≡ entries_marks es (RightBrace ∷ rest)
+      → AreSome es
   first_is no_entries ts s rest comes e = let both : Text s ∷ marks (tail ts) ≡ RightBrace ∷ rest = sym (text_first ts s comes) ∙ e in absurd cc
   first_is (entry k b c es) ts s rest comes e = tt
 
@@ -237,9 +257,10 @@ module _ (tests : Tests) where
     seen false false false e = absurd cc
 
   starts_is : (ts : List Token) → begins comma ts ≡ true → starts_comma (marks ts) ≡ true
-  starts_is ts e = ap starts_comma (sign_there comma ts e)
+  starts_is ts e = ap starts_comma (mark_there comma ts e)
 
-  pub begin_array : (xs : Elements) (ts : List Token) (rest : List Mark) → guess ts ≡ as_array → marks ts ≡ elements_marks xs (RightBrace ∷ rest) → BeginArray xs
+  pub begin_array : (xs : Elements) (ts : List Token) (rest : List Mark) → guess ts ≡ as_array → marks ts ≡ elements_marks xs (RightBrace ∷ rest)
+      → BeginArray xs
   begin_array no_elements ts rest is e = tt
   begin_array (one_body b c xs) ts rest is e = tt
   begin_array (one_text s true xs) ts rest is e = refl

@@ -2,7 +2,10 @@
 use Rattle.std.proofs.Common.{◌≡◌, ℕ, Bool, true, false, List, [], ◌∷◌, Option, Some, None, refl, sym, ap, subst, ◌∙◌}
 use Rattle.rb_lexer.specs.declared.token.Mark.{Mark}
 use Rattle.rb_lexer.specs.declared.token.Mark.TheVariants.{Text, LeftBrace, RightBrace, Colon, Comma}
-use Rattle.rb_grammar.specs.Form.{Head, untyped, plain_table, no_fallback_table, Leaf, string, alias, binary, int, ints, Body, plain, group, listed, leaf, table, array, Entries, no_entries, entry, Elements, no_elements, one_text, one_body, table_word, array_word, comma_marks, text_marks, numbers_marks, leaf_word, leaf_inner, body_marks, entries_marks, elements_marks, bundle_marks, AreSome, BeginArray, IsForm, AreForms, EachIsForm}
+use Rattle.rb_grammar.specs.Form.{Head, untyped, plain_table, no_fallback_table, Leaf, string, alias, binary, int, ints, Body, plain, group, listed, leaf}
+use Rattle.rb_grammar.specs.Form.{table, array, Entries, no_entries, entry, Elements, no_elements, one_text, one_body, table_word, array_word, comma_marks}
+use Rattle.rb_grammar.specs.Form.{text_marks, numbers_marks, leaf_word, leaf_inner, body_marks, entries_marks, elements_marks, bundle_marks, AreSome}
+use Rattle.rb_grammar.specs.Form.{BeginArray, IsForm, AreForms, EachIsForm}
 use Rattle.rb_grammar.specs.Reading.{Word, string_type, alias_type, binary_type, int_type, ints_type, table_type, array_type, word_units, first_word, all_words}
 
 -- ---- first marks
@@ -34,9 +37,10 @@ body_opens (array xs) ms = record { first = Colon; others = Text array_word ∷ 
 
 -- another mark begins no body
 pub not_opening : (b : Body) (ms rest : List Mark) (m : Mark) → (IsOpening m → ⊥) → m ∷ rest ≡ body_marks b ms → ⊥
-not_opening b ms rest m other e = let h = body_opens b ms in let same : h.first ∷ h.others ≡ m ∷ rest = sym (e ∙ h.is) in other (subst IsOpening (heads h.first m h.others rest same) h.opening) where
-  heads : (x y : Mark) (xs ys : List Mark) → x ∷ xs ≡ y ∷ ys → x ≡ y
-  heads x y xs ys e = cc
+not_opening b ms rest m other e = let h = body_opens b ms in let same : h.first ∷ h.others ≡ m ∷ rest = sym (e ∙ h.is) in
+    other (subst IsOpening (heads h.first m h.others rest same) h.opening) where
+      heads : (x y : Mark) (xs ys : List Mark) → x ∷ xs ≡ y ∷ ys → x ≡ y
+      heads x y xs ys e = cc
 
 no_comma_body : (b : Body) (ms : List Mark) → starts_comma (body_marks b ms) ≡ false
 no_comma_body (plain s) ms = refl
@@ -113,7 +117,8 @@ text_one None (Some u) xs ys e = absurd cc
 text_one (Some t) None xs ys e = absurd cc
 text_one (Some t) (Some u) xs ys e = let same : t ≡ u = cc in (ap (λ s. Some s) same, cc)
 
-numbers_one : (ms ns : List (List ℕ × Bool)) (xs ys : List Mark) → numbers_marks ms (RightBrace ∷ xs) ≡ numbers_marks ns (RightBrace ∷ ys) → (ms ≡ ns) × (xs ≡ ys)
+numbers_one : (ms ns : List (List ℕ × Bool)) (xs ys : List Mark) → numbers_marks ms (RightBrace ∷ xs) ≡ numbers_marks ns (RightBrace ∷ ys)
+    → (ms ≡ ns) × (xs ≡ ys)
 numbers_one [] [] xs ys e = (refl, cc)
 numbers_one [] (n ∷ ns) xs ys e = absurd cc
 numbers_one (m ∷ ms) [] xs ys e = absurd cc
@@ -207,12 +212,15 @@ text_not_elements s (one_text r true es) xs ys begin e = cc
 text_not_elements s (one_text r false es) xs ys begin e = cc
 text_not_elements s (one_body b c es) xs ys begin e = not_opening b (comma_marks c (elements_marks es (RightBrace ∷ ys))) (RightBrace ∷ xs) (Text s) (λ h. h) e
 
-entries_not_elements : (es : Entries) (fs : Elements) (xs ys : List Mark) → AreSome es → BeginArray fs → entries_marks es xs ≡ elements_marks fs (RightBrace ∷ ys) → ⊥
+entries_not_elements : (es : Entries) (fs : Elements) (xs ys : List Mark) → AreSome es → BeginArray fs
+    → entries_marks es xs ≡ elements_marks fs (RightBrace ∷ ys) → ⊥
 entries_not_elements no_entries fs xs ys some begin e = some
 entries_not_elements (entry k b c es) no_elements xs ys some begin e = cc
-entries_not_elements (entry k b c es) (one_text r true fs) xs ys some begin e = not_opening b (comma_marks c (entries_marks es xs)) (elements_marks fs (RightBrace ∷ ys)) Comma (λ h. h) cc
+entries_not_elements (entry k b c es) (one_text r true fs) xs ys some begin e =
+    not_opening b (comma_marks c (entries_marks es xs)) (elements_marks fs (RightBrace ∷ ys)) Comma (λ h. h) cc
 entries_not_elements (entry k b c es) (one_text r false fs) xs ys some begin e = cc
-entries_not_elements (entry k b c es) (one_body d f fs) xs ys some begin e = not_opening d (comma_marks f (elements_marks fs (RightBrace ∷ ys))) (body_marks b (comma_marks c (entries_marks es xs))) (Text k) (λ h. h) e
+entries_not_elements (entry k b c es) (one_body d f fs) xs ys some begin e =
+    not_opening d (comma_marks f (elements_marks fs (RightBrace ∷ ys))) (body_marks b (comma_marks c (entries_marks es xs))) (Text k) (λ h. h) e
 
 mutual
   pub body_one : (b c : Body) (xs ys : List Mark) → IsForm b → IsForm c → body_marks b xs ≡ body_marks c ys → (b ≡ c) × (xs ≡ ys)
@@ -237,23 +245,42 @@ mutual
   body_one (leaf l) (plain r) xs ys p q e = absurd cc
   body_one (leaf l) (group fs) xs ys p q e = absurd cc
   body_one (leaf l) (listed fs) xs ys p q e = absurd cc
-  body_one (leaf l) (leaf m) xs ys p q e = let w = typed_parts (leaf_word l) (leaf_word m) (leaf_inner l (RightBrace ∷ xs)) (leaf_inner m (RightBrace ∷ ys)) e in let h = leaf_one l m xs ys (types (leaf_type l) (leaf_type m) (leaf_word l) (leaf_word m) (leaf_typed l) (leaf_typed m) w.0) w.1 in (ap leaf h.0, h.1)
-  body_one (leaf l) (table fs) xs ys p q e = let w = typed_parts (leaf_word l) table_word (leaf_inner l (RightBrace ∷ xs)) (entries_marks fs (RightBrace ∷ ys)) e in absurd (not_table l (types (leaf_type l) table_type (leaf_word l) table_word (leaf_typed l) refl w.0))
-  body_one (leaf l) (array fs) xs ys p q e = let w = typed_parts (leaf_word l) array_word (leaf_inner l (RightBrace ∷ xs)) (elements_marks fs (RightBrace ∷ ys)) e in absurd (not_array l (types (leaf_type l) array_type (leaf_word l) array_word (leaf_typed l) refl w.0))
+  body_one (leaf l) (leaf m) xs ys p q e = let w =
+      typed_parts (leaf_word l) (leaf_word m) (leaf_inner l (RightBrace ∷ xs)) (leaf_inner m (RightBrace ∷ ys)) e in let h =
+      leaf_one l m xs ys (types (leaf_type l) (leaf_type m) (leaf_word l) (leaf_word m) (leaf_typed l) (leaf_typed m) w.0) w.1 in (ap leaf h.0, h.1)
+  body_one (leaf l) (table fs) xs ys p q e = let w =
+      typed_parts (leaf_word l) table_word (leaf_inner l (RightBrace ∷ xs)) (entries_marks fs (RightBrace ∷ ys)) e in
+      absurd (not_table l (types (leaf_type l) table_type (leaf_word l) table_word (leaf_typed l) refl w.0))
+  body_one (leaf l) (array fs) xs ys p q e = let w =
+      typed_parts (leaf_word l) array_word (leaf_inner l (RightBrace ∷ xs)) (elements_marks fs (RightBrace ∷ ys)) e in
+      absurd (not_array l (types (leaf_type l) array_type (leaf_word l) array_word (leaf_typed l) refl w.0))
   body_one (table es) (plain r) xs ys p q e = absurd cc
   body_one (table es) (group fs) xs ys p q e = absurd cc
   body_one (table es) (listed fs) xs ys p q e = absurd cc
-  body_one (table es) (leaf m) xs ys p q e = let w = typed_parts table_word (leaf_word m) (entries_marks es (RightBrace ∷ xs)) (leaf_inner m (RightBrace ∷ ys)) e in absurd (not_table m (sym (types table_type (leaf_type m) table_word (leaf_word m) refl (leaf_typed m) w.0)))
-  body_one (table es) (table fs) xs ys p q e = let w = typed_parts table_word table_word (entries_marks es (RightBrace ∷ xs)) (entries_marks fs (RightBrace ∷ ys)) e in let h = entries_one es fs xs ys p q w.1 in (ap table h.0, h.1)
-  body_one (table es) (array fs) xs ys p q e = let w = typed_parts table_word array_word (entries_marks es (RightBrace ∷ xs)) (elements_marks fs (RightBrace ∷ ys)) e in absurd (table_array (types table_type array_type table_word array_word refl refl w.0))
+  body_one (table es) (leaf m) xs ys p q e = let w =
+      typed_parts table_word (leaf_word m) (entries_marks es (RightBrace ∷ xs)) (leaf_inner m (RightBrace ∷ ys)) e in
+      absurd (not_table m (sym (types table_type (leaf_type m) table_word (leaf_word m) refl (leaf_typed m) w.0)))
+  body_one (table es) (table fs) xs ys p q e = let w =
+      typed_parts table_word table_word (entries_marks es (RightBrace ∷ xs)) (entries_marks fs (RightBrace ∷ ys)) e in let h =
+      entries_one es fs xs ys p q w.1 in (ap table h.0, h.1)
+  body_one (table es) (array fs) xs ys p q e = let w =
+      typed_parts table_word array_word (entries_marks es (RightBrace ∷ xs)) (elements_marks fs (RightBrace ∷ ys)) e in
+      absurd (table_array (types table_type array_type table_word array_word refl refl w.0))
   body_one (array es) (plain r) xs ys p q e = absurd cc
   body_one (array es) (group fs) xs ys p q e = absurd cc
   body_one (array es) (listed fs) xs ys p q e = absurd cc
-  body_one (array es) (leaf m) xs ys p q e = let w = typed_parts array_word (leaf_word m) (elements_marks es (RightBrace ∷ xs)) (leaf_inner m (RightBrace ∷ ys)) e in absurd (not_array m (sym (types array_type (leaf_type m) array_word (leaf_word m) refl (leaf_typed m) w.0)))
-  body_one (array es) (table fs) xs ys p q e = let w = typed_parts array_word table_word (elements_marks es (RightBrace ∷ xs)) (entries_marks fs (RightBrace ∷ ys)) e in absurd (table_array (sym (types array_type table_type array_word table_word refl refl w.0)))
-  body_one (array es) (array fs) xs ys p q e = let w = typed_parts array_word array_word (elements_marks es (RightBrace ∷ xs)) (elements_marks fs (RightBrace ∷ ys)) e in let h = elements_one es fs xs ys p q w.1 in (ap array h.0, h.1)
+  body_one (array es) (leaf m) xs ys p q e = let w =
+      typed_parts array_word (leaf_word m) (elements_marks es (RightBrace ∷ xs)) (leaf_inner m (RightBrace ∷ ys)) e in
+      absurd (not_array m (sym (types array_type (leaf_type m) array_word (leaf_word m) refl (leaf_typed m) w.0)))
+  body_one (array es) (table fs) xs ys p q e = let w =
+      typed_parts array_word table_word (elements_marks es (RightBrace ∷ xs)) (entries_marks fs (RightBrace ∷ ys)) e in
+      absurd (table_array (sym (types array_type table_type array_word table_word refl refl w.0)))
+  body_one (array es) (array fs) xs ys p q e = let w =
+      typed_parts array_word array_word (elements_marks es (RightBrace ∷ xs)) (elements_marks fs (RightBrace ∷ ys)) e in let h =
+      elements_one es fs xs ys p q w.1 in (ap array h.0, h.1)
 
-  pub entries_one : (es fs : Entries) (xs ys : List Mark) → AreForms es → AreForms fs → entries_marks es (RightBrace ∷ xs) ≡ entries_marks fs (RightBrace ∷ ys) → (es ≡ fs) × (xs ≡ ys)
+  pub entries_one : (es fs : Entries) (xs ys : List Mark) → AreForms es → AreForms fs → entries_marks es (RightBrace ∷ xs) ≡ entries_marks fs (RightBrace ∷ ys)
+      → (es ≡ fs) × (xs ≡ ys)
   entries_one no_entries no_entries xs ys p q e = (refl, cc)
   entries_one no_entries (entry k b c es) xs ys p q e = absurd cc
   entries_one (entry k b c es) no_entries xs ys p q e = absurd cc
@@ -264,27 +291,35 @@ mutual
       let o = entries_one es gs xs ys p.1 q.1 g.1 in
       (ap (λ q. entry q b c es) key ∙ ap (λ q. entry l q c es) h.0 ∙ ap (λ q. entry l d q es) g.0 ∙ ap (λ q. entry l d f q) o.0, o.1)
 
-  pub elements_one : (es fs : Elements) (xs ys : List Mark) → EachIsForm es → EachIsForm fs → elements_marks es (RightBrace ∷ xs) ≡ elements_marks fs (RightBrace ∷ ys) → (es ≡ fs) × (xs ≡ ys)
+  pub elements_one : (es fs : Elements) (xs ys : List Mark) → EachIsForm es → EachIsForm fs
+      → elements_marks es (RightBrace ∷ xs) ≡ elements_marks fs (RightBrace ∷ ys) → (es ≡ fs) × (xs ≡ ys)
   elements_one no_elements no_elements xs ys p q e = (refl, cc)
   elements_one no_elements (one_text s c fs) xs ys p q e = absurd cc
   elements_one no_elements (one_body b c fs) xs ys p q e = absurd (not_opening b (comma_marks c (elements_marks fs (RightBrace ∷ ys))) xs RightBrace (λ h. h) e)
   elements_one (one_text s c es) no_elements xs ys p q e = absurd cc
-  elements_one (one_body b c es) no_elements xs ys p q e = absurd (not_opening b (comma_marks c (elements_marks es (RightBrace ∷ xs))) ys RightBrace (λ h. h) (sym e))
-  elements_one (one_text s c es) (one_body b d fs) xs ys p q e = absurd (not_opening b (comma_marks d (elements_marks fs (RightBrace ∷ ys))) (comma_marks c (elements_marks es (RightBrace ∷ xs))) (Text s) (λ h. h) e)
-  elements_one (one_body b d es) (one_text s c fs) xs ys p q e = absurd (not_opening b (comma_marks d (elements_marks es (RightBrace ∷ xs))) (comma_marks c (elements_marks fs (RightBrace ∷ ys))) (Text s) (λ h. h) (sym e))
+  elements_one (one_body b c es) no_elements xs ys p q e =
+      absurd (not_opening b (comma_marks c (elements_marks es (RightBrace ∷ xs))) ys RightBrace (λ h. h) (sym e))
+  elements_one (one_text s c es) (one_body b d fs) xs ys p q e =
+      absurd (not_opening b (comma_marks d (elements_marks fs (RightBrace ∷ ys))) (comma_marks c (elements_marks es (RightBrace ∷ xs))) (Text s) (λ h. h) e)
+  elements_one (one_body b d es) (one_text s c fs) xs ys p q e =
+      absurd (not_opening b (comma_marks d (elements_marks es (RightBrace ∷ xs))) (comma_marks c (elements_marks fs (RightBrace ∷ ys))) (Text s) (λ h. h)
+      (sym e))
   elements_one (one_text s c es) (one_text r d fs) xs ys p q e =
       let text : s ≡ r = cc in
-      let g = comma_one c d (elements_marks es (RightBrace ∷ xs)) (elements_marks fs (RightBrace ∷ ys)) (no_comma_elements es xs) (no_comma_elements fs ys) cc in
+      let g =
+      comma_one c d (elements_marks es (RightBrace ∷ xs)) (elements_marks fs (RightBrace ∷ ys)) (no_comma_elements es xs) (no_comma_elements fs ys) cc in
       let o = elements_one es fs xs ys p q g.1 in
       (ap (λ q. one_text q c es) text ∙ ap (λ q. one_text r q es) g.0 ∙ ap (λ q. one_text r d q) o.0, o.1)
   elements_one (one_body b c es) (one_body a d fs) xs ys p q e =
       let h = body_one b a (comma_marks c (elements_marks es (RightBrace ∷ xs))) (comma_marks d (elements_marks fs (RightBrace ∷ ys))) p.0 q.0 e in
-      let g = comma_one c d (elements_marks es (RightBrace ∷ xs)) (elements_marks fs (RightBrace ∷ ys)) (no_comma_elements es xs) (no_comma_elements fs ys) h.1 in
+      let g =
+      comma_one c d (elements_marks es (RightBrace ∷ xs)) (elements_marks fs (RightBrace ∷ ys)) (no_comma_elements es xs) (no_comma_elements fs ys) h.1 in
       let o = elements_one es fs xs ys p.1 q.1 g.1 in
       (ap (λ q. one_body q c es) h.0 ∙ ap (λ q. one_body a q es) g.0 ∙ ap (λ q. one_body a d q) o.0, o.1)
 
 -- One list of marks is at most one bundle.
-pub bundle_one : (m n : List ℕ) (c d : Head) (es fs : Entries) → AreForms es → AreForms fs → bundle_marks m c es ≡ bundle_marks n d fs → (m ≡ n) × (c ≡ d) × (es ≡ fs)
+pub bundle_one : (m n : List ℕ) (c d : Head) (es fs : Entries) → AreForms es → AreForms fs → bundle_marks m c es ≡ bundle_marks n d fs
+    → (m ≡ n) × (c ≡ d) × (es ≡ fs)
 bundle_one m n untyped untyped es fs p q e = let name : m ≡ n = cc in let h = entries_one es fs [] [] p q cc in (name, refl, h.0)
 bundle_one m n plain_table plain_table es fs p q e = let name : m ≡ n = cc in let h = entries_one es fs [] [] p q cc in (name, refl, h.0)
 bundle_one m n no_fallback_table no_fallback_table es fs p q e = let name : m ≡ n = cc in let h = entries_one es fs [] [] p q cc in (name, refl, h.0)

@@ -1,6 +1,7 @@
--- Which faults a list of marks has, and in which line. The syntax is that of ICU's genrb; the faults and their lines are this project's own rule.
--- A fault at a mark is told by `front`, the marks before it, and `rest`, the marks from it on; at the end of the text rest is empty.
--- What a mark is there for is told by the forms that begin with the marks so far: a text behind `{` may be a key, a string or an element, until what follows decides.
+-- Which errors a list of marks has, and in which line. The syntax is that of ICU's genrb; the errors and their lines are this project's own rule.
+-- An error at a mark is given by `front`, the marks before it, and `rest`, the marks from it on; at the end of the text rest is empty.
+-- What a mark is there for follows from the forms that begin with the marks so far: a text after `{` may be a key, a string or
+-- an element, until what follows decides.
 use Rattle.std.specs.Prelude.{◌≡◌, ◌<◌, ◌≤◌, ℕ, ℤ, suc, Bool, List, [], ◌∷◌, ◌++◌, Option, Some, None, ◌⊎◌}
 use Rattle.rb_lexer.specs.declared.token.Mark.{Mark}
 use Rattle.rb_lexer.specs.declared.token.Mark.TheVariants.{Text, RightBrace, Colon}
@@ -11,10 +12,14 @@ use Rattle.rb_tree.specs.Keys.{IsKey}
 use Rattle.rb_tree.specs.Resource.{height, weight}
 use Rattle.rb_tree.specs.SourceTree.{SourceTree}
 use Rattle.rb_grammar.specs.Numeral.{IsIntText, IsElementText, IsHexText}
-use Rattle.rb_grammar.specs.Form.{marks, Leaf, string, alias, binary, int, ints, Body, plain, group, listed, leaf, table, array, Entries, no_entries, entry, Elements, no_elements, one_text, one_body, string_word, alias_word, binary_word, int_word, ints_word, table_word, no_fallback_table_word, array_word, Head, comma_marks, numbers_marks, body_marks, entries_marks, elements_marks, bundle_marks, AreForms}
+use Rattle.rb_grammar.specs.Form.{marks, Leaf, string, alias, binary, int, ints, Body, plain, group, listed, leaf, table, array, Entries, no_entries, entry}
+use Rattle.rb_grammar.specs.Form.{Elements, no_elements, one_text, one_body, string_word, alias_word, binary_word, int_word, ints_word, table_word}
+use Rattle.rb_grammar.specs.Form.{no_fallback_table_word, array_word, Head, comma_marks, numbers_marks, body_marks, entries_marks, elements_marks, bundle_marks}
+use Rattle.rb_grammar.specs.Form.{AreForms}
 use Rattle.rb_grammar.specs.Good.{IsSpelled}
 
--- What a mark is in a form: a key, with the earlier keys of its table; the first mark of a value, at a level; the text of an Int, of an element of a vector, of bytes.
+-- What a mark is in a form: a key, with the earlier keys of its table; the first mark of a value, at a level; the text of an
+-- Int, of an element of a vector, of bytes.
 pub data Role : Type 0 where
   key : List (List ℕ) → List ℕ → Role
   value : ℕ → Role
@@ -104,7 +109,7 @@ pub data IsWord : List ℕ → Type 0 where
   is_no_fallback_table : IsWord no_fallback_table_word
   is_array : IsWord array_word
 
--- behind a colon a text comes that is no type word
+-- after a colon a text comes that is no type word
 pub record NoWord (front rest : List Mark) : Type 0 where
   pub before : List Mark
   pub word : List ℕ
@@ -122,9 +127,9 @@ pub record Breaks (kind : SourceKind) (front rest : List Mark) : Type 0 where
   pub each : (seen left : List Mark) → others ≡ seen ++ left → IsFront (front ++ at ∷ seen) left
       → (r : Begun (front ++ at ∷ seen)) → EntriesHas (IsBad kind) r.form 2 [] (RightBrace ∷ []) (at ∷ (seen ++ r.more))
 
--- ---- the faults
+-- ---- the errors
 
--- The marks front and rest, together, have this fault at the first mark of rest, or at the end.
+-- The marks front and rest, together, have this error at the first mark of rest, or at the end.
 abbrev pub HasFault : SourceKind → List Mark → List Mark → Type 0
 HasFault Unexpected front rest = IsFront front rest × (IsBundle front → ⊥) × (NoWord front rest → ⊥)
 HasFault UnknownType front rest = IsFront front rest × NoWord front rest
@@ -149,7 +154,7 @@ abbrev pub line_at : ℕ → List Token → ℕ
 line_at end [] = end
 line_at end (t ∷ ts) = t.line
 
--- The tokens, where the text ends in line `end`, have this fault in this line.
+-- The tokens, where the text ends in line `end`, have this error in this line.
 abbrev pub IsFault : List Token → ℕ → SourceKind → ℕ → Type 0
 IsFault ts end kind line =
     ((front rest : List Token) × (ts ≡ front ++ rest) × HasFault kind (marks front) (marks rest) × (line ≡ line_at end rest))

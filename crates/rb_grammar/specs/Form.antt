@@ -1,5 +1,5 @@
 -- The written form of a bundle text, after the bundle syntax of ICU's genrb, and the marks (texts and punctuation) that spell it.
--- A list of marks is in the grammar where some form is spelled so. Each spelling stands in front of what follows it.
+-- A list of marks is in the grammar where some form is spelled so. Each spelling is in front of what follows it.
 use Rattle.std.specs.Prelude.{◌≡◌, ℕ, Bool, true, false, List, [], ◌∷◌, map, Option, Some, None, ◌⊎◌}
 use Rattle.rb_lexer.specs.declared.token.Mark.{Mark}
 use Rattle.rb_lexer.specs.declared.token.Mark.TheVariants.{Text, LeftBrace, RightBrace, Colon, Comma}
@@ -8,7 +8,7 @@ use Rattle.rb_lexer.specs.declared.token.Token.{Token}
 abbrev pub marks : List Token → List Mark
 marks ts = map (λ t. t.what) ts
 
--- what stands in a body of a type without children: the text, if one is there, or the texts
+-- what is in a body of a type without children: the text, if one is there, or the texts
 pub data Leaf : Type 0 where
   string : Option (List ℕ) → Leaf
   alias : Option (List ℕ) → Leaf
@@ -17,7 +17,7 @@ pub data Leaf : Type 0 where
   ints : List (List ℕ × Bool) → Leaf
 
 mutual
-  -- what stands behind a key, or for an element
+  -- what is after a key, or for an element
   pub data Body : Type 0 where
     -- without a type: one text, entries, or elements
     plain : List ℕ → Body

@@ -8,7 +8,8 @@ use Rattle.rb_tree.specs.Resource as resource
 use Rattle.rb_tree.specs.Keys.{IsKey, IsTable, pairs}
 use Rattle.rb_tree.specs.SourceTree.{SourceTree}
 use Rattle.rb_grammar.specs.Numeral.{IsIntText, IsElementText, IsHexText}
-use Rattle.rb_grammar.specs.Form.{Leaf, string, alias, binary, int, ints, Body, plain, group, listed, leaf, table, array, Entries, no_entries, entry, Elements, no_elements, one_text, one_body, Head, bundle_marks, has_no_fallback, AreForms, IsKeyOf}
+use Rattle.rb_grammar.specs.Form.{Leaf, string, alias, binary, int, ints, Body, plain, group, listed, leaf, table, array, Entries, no_entries, entry, Elements}
+use Rattle.rb_grammar.specs.Form.{no_elements, one_text, one_body, Head, bundle_marks, has_no_fallback, AreForms, IsKeyOf}
 
 -- Each key is one, and none comes twice in one table.
 abbrev mutual
@@ -60,15 +61,15 @@ HasJust es rows = (k : List ℕ) (d : Resource) → item_at k rows ≡ Some d �
 abbrev mutual
   pub Spells : Body → Resource → Type 0
   Spells (plain t) d = d ≡ resource.string t
-  Spells (group es) d = (rows : Members) × (d ≡ resource.table rows) × IsTable rows × HasJust es rows × EachStands es rows
+  Spells (group es) d = (rows : Members) × (d ≡ resource.table rows) × IsTable rows × HasJust es rows × EachAtItsKey es rows
   Spells (listed xs) d = (ts : Resources) × (d ≡ resource.array ts) × EachSpells xs ts
   Spells (leaf l) d = LeafSpells l d
-  Spells (table es) d = (rows : Members) × (d ≡ resource.table rows) × IsTable rows × HasJust es rows × EachStands es rows
+  Spells (table es) d = (rows : Members) × (d ≡ resource.table rows) × IsTable rows × HasJust es rows × EachAtItsKey es rows
   Spells (array xs) d = (ts : Resources) × (d ≡ resource.array ts) × EachSpells xs ts
 
-  pub EachStands : Entries → Members → Type 0
-  EachStands no_entries rows = Unit {0}
-  EachStands (entry k b c es) rows = ((d : Resource) × (item_at k rows ≡ Some d) × Spells b d) × EachStands es rows
+  pub EachAtItsKey : Entries → Members → Type 0
+  EachAtItsKey no_entries rows = Unit {0}
+  EachAtItsKey (entry k b c es) rows = ((d : Resource) × (item_at k rows ≡ Some d) × Spells b d) × EachAtItsKey es rows
 
   pub EachSpells : Elements → Resources → Type 0
   EachSpells no_elements ts = ts ≡ no_trees

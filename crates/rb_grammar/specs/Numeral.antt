@@ -1,5 +1,6 @@
 -- Numbers and bytes that a text spells, after genrb's `int`, `intvector` and `bin`.
-use Rattle.std.specs.Prelude.{◌≡◌, ◌<◌, ◌≤◌, ◌+◌, ◌-◌, ◌*◌, ◌%◌, ◌^◌, ℕ, ℤ, pos, neg_ℤ, Bool, true, false, List, [], ◌∷◌, length, filter, not, ◌||◌, ◌==◌, if◌then◌else◌, nat_lt}
+use Rattle.std.specs.Prelude.{◌≡◌, ◌<◌, ◌≤◌, ◌+◌, ◌-◌, ◌*◌, ◌%◌, ◌^◌, ℕ, ℤ, pos, neg_ℤ, Bool, true, false, List, [], ◌∷◌, length, filter, not, ◌||◌, ◌==◌}
+use Rattle.std.specs.Prelude.{if◌then◌else◌, nat_lt}
 use Rattle.std.specs.Char.{digit_value}
 use Rattle.std.specs.Str.Parse.{digits_value, AllDigits}
 
@@ -8,7 +9,7 @@ pub data Sign : Type 0 where
   plus : Sign
   minus : Sign
 
--- The digits of a number, by its base: behind `0x` or `0X` (upper), behind `0`, or alone.
+-- The digits of a number, by its base: after `0x` or `0X` (upper), after `0`, or alone.
 pub data Numeral : Type 0 where
   hexadecimal : Bool → List ℕ → Numeral
   octal : List ℕ → Numeral
@@ -39,7 +40,7 @@ numeral_value (hexadecimal upper ds) = digits_value 16 ds
 numeral_value (octal ds) = digits_value 8 ds
 numeral_value (decimal ds) = digits_value 10 ds
 
--- A number is told by whether it is below zero, and how far it is from zero.
+-- A number is given by whether it is below zero, and how far it is from zero.
 abbrev pub is_minus : Sign → Bool
 is_minus bare = false
 is_minus plus = false

@@ -1,5 +1,6 @@
--- For proofs, and the contracts of a parser's own functions: the grammar as a function that reads tokens from left to right and stops at the first fault that it meets.
--- What a bundle text is stands in Form and Good, which faults it has in Faults; laws say that this function meets them.
+-- For proofs, and the contracts of a parser's own functions: the grammar as a function that reads tokens from left to right and
+-- stops at the first error that it meets.
+-- What a bundle text is, Form and Good define, and Faults which errors it has; laws say that this function meets them.
 use Rattle.std.specs.Prelude.{ℕ, zero, suc, ◌||◌, Bool, true, false, List, [], ◌∷◌, length, Option, Some, None, Result, Ok, Err, nat_lt, nat_eq, if◌then◌else◌}
 use Rattle.std.specs.Cmp.Lexicographic.{pointwise}
 use Rattle.rb_lexer.specs.declared.token.Mark.{Mark}
@@ -7,9 +8,11 @@ use Rattle.rb_lexer.specs.declared.token.Mark.TheVariants.{Text, LeftBrace, Righ
 use Rattle.rb_lexer.specs.declared.token.Token.{Token}
 use Rattle.rb_lexer.specs.declared.fault.SourceKind.{SourceKind}
 use Rattle.rb_lexer.specs.declared.fault.SourceKind.TheVariants.{Unexpected, UnknownType, BadKey, DuplicateKey, BadInt, BadHex, TooDeep, TrailingText}
-use Rattle.rb_grammar.specs.Form.{string, alias, binary, int, ints, Body, plain, group, listed, leaf, table, array, Entries, no_entries, entry, Elements, no_elements, one_text, one_body, string_word, alias_word, binary_word, int_word, ints_word, table_word, no_fallback_table_word, array_word, Head, untyped, plain_table, no_fallback_table}
+use Rattle.rb_grammar.specs.Form.{string, alias, binary, int, ints, Body, plain, group, listed, leaf, table, array, Entries, no_entries, entry, Elements}
+use Rattle.rb_grammar.specs.Form.{no_elements, one_text, one_body, string_word, alias_word, binary_word, int_word, ints_word, table_word}
+use Rattle.rb_grammar.specs.Form.{no_fallback_table_word, array_word, Head, untyped, plain_table, no_fallback_table}
 
--- why reading stops, and the tokens from the one at fault on
+-- why reading stops, and the tokens from the invalid one on
 pub record Stop : Type 0 where
   pub kind : SourceKind
   pub rest : List Token
@@ -134,7 +137,7 @@ abbrev pub word_or : List Token → List ℕ → Option Word → Read Word
 word_or ts s None = Err (stop (word_fault s) ts)
 word_or ts s (Some w) = Ok (w, tail ts)
 
--- behind a colon: the type word of a value
+-- after a colon: the type word of a value
 abbrev pub word_at : List Token → Read Word
 word_at ts = text_at ts >>= λ s. word_or ts s.0 (first_word s.0 all_words)
 
@@ -154,7 +157,8 @@ maybe_at kind passes ts = maybe_or kind passes ts (first_text ts)
 
 abbrev pub numbers_step : (List ℕ → Bool) → (List Token → Read (List (List ℕ × Bool))) → List Token → Option (List ℕ) → Read (List (List ℕ × Bool))
 numbers_step passes more ts None = Ok ([], ts)
-numbers_step passes more ts (Some s) = if passes s then (more (after_comma (tail ts)) >>= λ ns. Ok ((s, has_comma (tail ts)) ∷ ns.0, ns.1)) else Err (stop BadInt ts)
+numbers_step passes more ts (Some s) =
+    if passes s then (more (after_comma (tail ts)) >>= λ ns. Ok ((s, has_comma (tail ts)) ∷ ns.0, ns.1)) else Err (stop BadInt ts)
 
 unfoldable pub numbers : (List ℕ → Bool) → ℕ → List Token → Read (List (List ℕ × Bool))
 numbers passes zero ts = Err (stop Unexpected ts)
@@ -172,7 +176,8 @@ is_among (l ∷ ls) k = pointwise nat_eq k l || is_among ls k
 abbrev pub entry_at : Tests → (List Token → Read Body) → List (List ℕ) → List ℕ → List Token → Read Body
 entry_at tests body earlier k ts = if tests.is_key k then (if is_among earlier k then Err (stop DuplicateKey ts) else body (tail ts)) else Err (stop BadKey ts)
 
-abbrev pub entries_step : Tests → (List Token → Read Body) → (List (List ℕ) → List Token → Read Entries) → List (List ℕ) → List Token → Option (List ℕ) → Read Entries
+abbrev pub entries_step : Tests → (List Token → Read Body) → (List (List ℕ) → List Token → Read Entries) → List (List ℕ) → List Token → Option (List ℕ)
+    → Read Entries
 entries_step tests body more earlier ts None = punctuation_at right ts >>= λ after. Ok (no_entries, after)
 entries_step tests body more earlier ts (Some k) = do
   b ← entry_at tests body earlier k ts
@@ -186,8 +191,10 @@ entries tests body (suc n) earlier ts = entries_step tests body (entries tests b
 -- room: an element may be one level deeper
 abbrev pub elements_step : Bool → (List Token → Read Body) → (List Token → Read Elements) → List Token → Option (List ℕ) → Read Elements
 elements_step room body more ts None =
-    if begins colon ts || begins left ts then (body ts >>= λ b. more (after_comma b.1) >>= λ xs. Ok (one_body b.0 (has_comma b.1) xs.0, xs.1)) else (punctuation_at right ts >>= λ after. Ok (no_elements, after))
-elements_step room body more ts (Some s) = if room then (more (after_comma (tail ts)) >>= λ xs. Ok (one_text s (has_comma (tail ts)) xs.0, xs.1)) else Err (stop TooDeep ts)
+    if begins colon ts || begins left ts then (body ts >>= λ b. more (after_comma b.1) >>= λ xs. Ok (one_body b.0 (has_comma b.1) xs.0, xs.1)) else
+    (punctuation_at right ts >>= λ after. Ok (no_elements, after))
+elements_step room body more ts (Some s) =
+    if room then (more (after_comma (tail ts)) >>= λ xs. Ok (one_text s (has_comma (tail ts)) xs.0, xs.1)) else Err (stop TooDeep ts)
 
 unfoldable pub elements : Bool → (List Token → Read Body) → ℕ → List Token → Read Elements
 elements room body zero ts = Err (stop Unexpected ts)
@@ -209,7 +216,7 @@ array_at inner ts = elements inner.room inner.reads (suc (length ts)) ts
 abbrev pub closed : {A : Type 0} → (A → Body) → Read A → Read Body
 closed make read = read >>= λ x. punctuation_at right x.1 >>= λ after. Ok (make x.0, after)
 
--- behind the brace of a body with a type
+-- after the brace of a body with a type
 abbrev pub typed_at : Tests → Inner → Word → List Token → Read Body
 typed_at tests inner string_type ts = closed (λ t. leaf (string t)) (maybe_at BadHex anything ts)
 typed_at tests inner alias_type ts = closed (λ t. leaf (alias t)) (maybe_at BadHex anything ts)
@@ -219,7 +226,7 @@ typed_at tests inner ints_type ts = closed (λ ns. leaf (ints ns)) (numbers test
 typed_at tests inner table_type ts = table_at tests inner ts >>= λ es. Ok (table es.0, es.1)
 typed_at tests inner array_type ts = array_at inner ts >>= λ xs. Ok (array xs.0, xs.1)
 
--- behind the brace of a body without a type: what decides
+-- after the brace of a body without a type: what decides
 pub data Guess : Type 0 where
   as_text : Guess
   as_table : Guess
@@ -227,7 +234,8 @@ pub data Guess : Type 0 where
   none_at : List Token → Guess
 
 abbrev pub guess_second : List Token → Guess
-guess_second ts = if begins comma ts then as_array else (if begins right ts then as_text else (if begins left ts || begins colon ts then as_table else none_at ts))
+guess_second ts =
+    if begins comma ts then as_array else (if begins right ts then as_text else (if begins left ts || begins colon ts then as_table else none_at ts))
 
 abbrev pub guess_or : List Token → Option (List ℕ) → Guess
 guess_or ts None = if begins left ts || begins colon ts || begins right ts then as_array else none_at ts
@@ -265,7 +273,7 @@ abbrev pub table_word_or : List Token → Word → List Token → Read Head
 table_word_or ts table_type rest = Ok (plain_table, rest)
 table_word_or ts other rest = Err (stop Unexpected ts)
 
--- behind the colon of a bundle
+-- after the colon of a bundle
 abbrev pub head_word_at : List Token → Read Head
 head_word_at ts = if is_no_fallback_text (first_text ts) then Ok (no_fallback_table, tail ts) else (word_at ts >>= λ w. table_word_or ts w.0 w.1)
 

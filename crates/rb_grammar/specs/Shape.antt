@@ -2,13 +2,13 @@
 use Rattle.std.specs.Prelude.{ℕ, true, false, List, [], ◌∷◌, ◌==◌, if◌then◌else◌}
 use Rattle.rb_grammar.specs.Numeral.{Sign, bare, plus, minus, Numeral, hexadecimal, octal, decimal}
 
-abbrev pub behind_0 : List ℕ → Numeral
-behind_0 [] = octal []
-behind_0 (u ∷ us) = if u == 0x58 then hexadecimal true us else (if u == 0x78 then hexadecimal false us else octal (u ∷ us))
+abbrev pub after_0 : List ℕ → Numeral
+after_0 [] = octal []
+after_0 (u ∷ us) = if u == 0x58 then hexadecimal true us else (if u == 0x78 then hexadecimal false us else octal (u ∷ us))
 
 abbrev pub shape : List ℕ → Numeral
 shape [] = decimal []
-shape (u ∷ us) = if u == 0x30 then behind_0 us else decimal (u ∷ us)
+shape (u ∷ us) = if u == 0x30 then after_0 us else decimal (u ∷ us)
 
 abbrev pub sign_of : List ℕ → Sign
 sign_of [] = bare

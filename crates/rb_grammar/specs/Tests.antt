@@ -3,24 +3,22 @@ use Rattle.std.specs.Prelude.{◌≡◌, ◌&&◌, ◌^◌, ℕ, Bool, true, fal
 use Rattle.std.specs.List.{list_all}
 use Rattle.std.specs.Char.{digit_value}
 use Rattle.rb_tree.specs.Keys.{IsKey}
+use Rattle.rb_tree.specs.Path.{is_plain}
 use Rattle.rb_grammar.specs.Numeral.{Numeral, hexadecimal, octal, decimal, numeral_value, is_minus, is_gap, IsIntText, IsElementText, IsHexText}
 use Rattle.rb_grammar.specs.Reading.{Tests}
 use Rattle.rb_grammar.specs.Shape.{shape, sign_of, unsigned_of}
 
 -- a test passes where there is a value, and fails where there is none
-abbrev pub Tells : {A : Type 0} → (List ℕ → Bool) → (List ℕ → A → Type 0) → Type 0
-Tells {A} test means = ((s : List ℕ) → test s ≡ true → (x : A) × means s x) × ((s : List ℕ) → test s ≡ false → (x : A) → means s x → ⊥)
+abbrev pub IsTestOf : {A : Type 0} → (List ℕ → Bool) → (List ℕ → A → Type 0) → Type 0
+IsTestOf {A} test means = ((s : List ℕ) → test s ≡ true → (x : A) × means s x) × ((s : List ℕ) → test s ≡ false → (x : A) → means s x → ⊥)
 
 pub record AreTests (tests : Tests) : Type 0 where
   pub keys : ((k : List ℕ) → tests.is_key k ≡ true → IsKey k) × ((k : List ℕ) → tests.is_key k ≡ false → IsKey k → ⊥)
-  pub ints : Tells tests.is_int IsIntText
-  pub elements : Tells tests.is_element IsElementText
-  pub bytes : Tells tests.is_hex IsHexText
+  pub ints : IsTestOf tests.is_int IsIntText
+  pub elements : IsTestOf tests.is_element IsElementText
+  pub bytes : IsTestOf tests.is_hex IsHexText
 
 -- ---- the tests
-
-abbrev pub is_plain : ℕ → Bool
-is_plain u = nat_le 32 u && nat_le u 126
 
 abbrev pub is_key : List ℕ → Bool
 is_key k = nat_lt 0 (length k) && list_all is_plain k
@@ -46,7 +44,7 @@ abbrev pub is_element_size : Bool → ℕ → Bool
 is_element_size false size = nat_lt size (2 ^ 32)
 is_element_size true size = nat_le size (2 ^ 31)
 
--- the numeral behind the sign, if there is one
+-- the numeral after the sign, if there is one
 abbrev pub numeral_of : List ℕ → Numeral
 numeral_of us = shape (unsigned_of us)
 

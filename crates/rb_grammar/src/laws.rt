@@ -41,19 +41,19 @@ pub fn spelled_is_read()
         × (source.no_fallback ≡ has_no_fallback head) }
 {}
 
-/// Tokens that aren't read have the fault at which reading stops, in its line.
+/// Tokens that aren't read have the error at which reading stops, in its line.
 pub fn stop_is_fault()
     ensures { (tokens : List Token) (end : ℕ) (stop : Stop) → bundle the_tests tokens ≡ Err stop
         → IsFault tokens end stop.kind (line_at end stop.rest) }
 {}
 
-/// Good tokens have no fault.
+/// Good tokens have no error.
 pub fn good_has_no_fault()
     ensures { (tokens : List Token) (name : List ℕ) (source : SourceTree) (end : ℕ) (kind : SourceKind) (line : ℕ) → IsGood (marks tokens) name source
         → IsFault tokens end kind line → ⊥ }
 {}
 
-/// Tokens that aren't good have a fault.
+/// Tokens that aren't good have an error.
 pub fn good_or_faulty()
     ensures { (tokens : List Token) (end : ℕ) → ((name : List ℕ) × (source : SourceTree) × IsGood (marks tokens) name source)
         ⊎ ((kind : SourceKind) × (line : ℕ) × IsFault tokens end kind line) }

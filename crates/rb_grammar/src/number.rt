@@ -3,7 +3,7 @@ ghost use Rattle.std.specs.Prelude.{◌≡◌, ◌≤◌, ◌<◌, ℕ, ℤ, min
 ghost use Rattle.std.specs.Char.{digit_value};
 ghost use Rattle.std.specs.Str.Parse.{digits_value, AllDigits};
 ghost use Rattle.rb_grammar.specs.Numeral.{IsNumeral, numeral_value, is_minus, IsIntText, IsElementText};
-ghost use Rattle.rb_grammar.specs.Shape.{shape, behind_0, sign_of, unsigned_of};
+ghost use Rattle.rb_grammar.specs.Shape.{shape, after_0, sign_of, unsigned_of};
 
 use crate::limits::{ELEMENT_MODULUS, INT_MODULUS, LEAST_ELEMENT_MAGNITUDE, LEAST_INT_MAGNITUDE};
 
@@ -71,7 +71,8 @@ struct Signed {
 
 fn number(units: &[u16]) -> Option<Signed>
     ensures { MatchOption result (IsNumeral (shape (unsigned_of units.now)) → ⊥) (λ n.
-        IsNumeral (shape (unsigned_of units.now)) × (n.negative ≡ is_minus (sign_of units.now)) × (n.size ≡ min (numeral_value (shape (unsigned_of units.now))) CEILING)) }
+        IsNumeral (shape (unsigned_of units.now)) × (n.negative ≡ is_minus (sign_of units.now))
+        × (n.size ≡ min (numeral_value (shape (unsigned_of units.now))) CEILING)) }
 {
     match units {
         [0x2B, rest @ ..] => Some(Signed {

@@ -3,12 +3,16 @@ use Rattle.std.proofs.Common.{◌≡◌, ℕ, Bool, true, false, eqb, not, List,
 use Rattle.rb_lexer.specs.Lexeme.{slash, star, ends_line, begins, option_chars, line_comment, block_comment, comment_chars, HasNoEnd, IsComment}
 
 abbrev pub LineGoesOn : List ℕ → List ℕ → Type 0
-LineGoesOn text rest = (cs : List ℕ) (end : Option ℕ) (more : List ℕ) → rest ≡ cs ++ option_chars end more → IsComment (line_comment cs end) more → (ds : List ℕ) × (text ≡ ds ++ option_chars end more) × IsComment (line_comment ds end) more
+LineGoesOn text rest =
+    (cs : List ℕ) (end : Option ℕ) (more : List ℕ) → rest ≡ cs ++ option_chars end more → IsComment (line_comment cs end) more
+    → (ds : List ℕ) × (text ≡ ds ++ option_chars end more) × IsComment (line_comment ds end) more
 
 abbrev pub PastLine : List ℕ → List ℕ → Type 0
-PastLine text rest = (cs : List ℕ) × ((end : Option ℕ) × ((slash ∷ slash ∷ text ≡ comment_chars (line_comment cs end) rest) × IsComment (line_comment cs end) rest))
+PastLine text rest =
+    (cs : List ℕ) × ((end : Option ℕ) × ((slash ∷ slash ∷ text ≡ comment_chars (line_comment cs end) rest) × IsComment (line_comment cs end) rest))
 
-line_with : (c : ℕ) (cs : List ℕ) (end : Option ℕ) (more : List ℕ) → ends_line c ≡ false → IsComment (line_comment cs end) more → IsComment (line_comment (c ∷ cs) end) more
+line_with : (c : ℕ) (cs : List ℕ) (end : Option ℕ) (more : List ℕ) → ends_line c ≡ false → IsComment (line_comment cs end) more
+    → IsComment (line_comment (c ∷ cs) end) more
 line_with c cs None more not_end is = ((rw not_end refl, is.0), is.1)
 line_with c cs (Some d) more not_end is = ((rw not_end refl, is.0), is.1)
 
@@ -45,7 +49,10 @@ not_ended (d ∷ cs) more after e never = by_test (eqb d slash) refl
 module _ (text rest : List ℕ) (so_far : BlockGoesOn text rest) where
   pub block_more : (c : ℕ) (after : List ℕ) → rest ≡ c ∷ after → ((past : List ℕ) → rest ≡ star ∷ slash ∷ past → ⊥) → BlockGoesOn text after
   block_more c after e never cs more is good =
-      so_far (c ∷ cs) more (e ∙ ap (λ (xs : List ℕ). c ∷ xs) is) (λ is_star. not_ended cs more after is (λ past f. never past (e ∙ ap (λ x. x ∷ after) (eqb-true c star is_star) ∙ ap (λ (xs : List ℕ). star ∷ xs) f)), good)
+      so_far (c ∷ cs) more (e ∙ ap (λ (xs : List ℕ). c ∷ xs) is) (
+        λ is_star. not_ended cs more after is (λ past f. never past (e ∙ ap (λ x. x ∷ after) (eqb-true c star is_star) ∙ ap (λ (xs : List ℕ). star ∷ xs) f)),
+        good,
+      )
 
   pub block_ends : (past : List ℕ) → rest ≡ star ∷ slash ∷ past → PastBlock text past
   block_ends past e = let w = so_far [] (star ∷ slash ∷ past) e tt in (w.0, (ap (λ (xs : List ℕ). slash ∷ star ∷ xs) w.1, w.2))

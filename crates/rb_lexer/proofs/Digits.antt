@@ -1,5 +1,6 @@
 -- Digits one at a time.
-use Rattle.std.proofs.Common.{◌≡◌, ℕ, zero, suc, ◌+◌, ◌-◌, ◌*◌, ◌^◌, ◌<◌, ◌≤◌, true, false, List, [], ◌∷◌, length, refl, sym, ap, ◌∙◌, arith, pow-suc, mul-le-mul_left, add-zero, add-one, zero-add, lit≤}
+use Rattle.std.proofs.Common.{◌≡◌, ℕ, zero, suc, ◌+◌, ◌-◌, ◌*◌, ◌^◌, ◌<◌, ◌≤◌, true, false, List, [], ◌∷◌, length, refl, sym, ap, ◌∙◌, arith, pow-suc}
+use Rattle.std.proofs.Common.{mul-le-mul_left, add-zero, add-one, zero-add, lit≤}
 use Rattle.std.proofs.Math.Nat.{pow-le-pow_right}
 use Rattle.std.specs.Char.{is_digit, digit_value}
 use Rattle.std.specs.Str.Parse.{digits_value, digits_value_after}
@@ -34,7 +35,8 @@ pub none_wanted : (radix : ℕ) (cs : List ℕ) → digits_at radix 0 cs ≡ ([]
 unfolding digits_at
 none_wanted radix cs = refl
 
-pub one_more : (radix n c : ℕ) (cs : List ℕ) → is_digit c radix ≡ true → digits_at radix (suc n) (c ∷ cs) ≡ (c ∷ (digits_at radix n cs).0, (digits_at radix n cs).1)
+pub one_more : (radix n c : ℕ) (cs : List ℕ) → is_digit c radix ≡ true
+    → digits_at radix (suc n) (c ∷ cs) ≡ (c ∷ (digits_at radix n cs).0, (digits_at radix n cs).1)
 unfolding digits_at
 one_more radix n c cs digit = rw digit refl
 
@@ -71,10 +73,12 @@ module _ (radix most : ℕ) (text : List ℕ) (value count : ℕ) (rest : List �
   pub no_wrap : radix ≤ 16 → count < most → most ≤ 8 → (d : ℕ) → d < 16 → value * radix + d < 2 ^ 32
   no_wrap small more few d digit = omega (arith, product_so small, power_so more few, pow-suc 16 count, so_far.fits)
 
-  pub goes_on_so : (c : ℕ) (cs : List ℕ) → rest ≡ c ∷ cs → digit_value c < radix → is_digit c radix ≡ true → radix ≤ 16 → count < most → SoFar radix most text (value * radix + digit_value c) (count + 1) cs
+  pub goes_on_so : (c : ℕ) (cs : List ℕ) → rest ≡ c ∷ cs → digit_value c < radix → is_digit c radix ≡ true → radix ≤ 16 → count < most
+      → SoFar radix most text (value * radix + digit_value c) (count + 1) cs
   goes_on_so c cs e below digit small more =
       let left : most - count ≡ suc (most - (count + 1)) = omega arith in
-      let step : digits_at radix (most - count) rest ≡ (c ∷ (digits_at radix (most - (count + 1)) cs).0, (digits_at radix (most - (count + 1)) cs).1) = rw (left, e) (one_more radix (most - (count + 1)) c cs digit) in
+      let step : digits_at radix (most - count) rest ≡ (c ∷ (digits_at radix (most - (count + 1)) cs).0, (digits_at radix (most - (count + 1)) cs).1) =
+      rw (left, e) (one_more radix (most - (count + 1)) c cs digit) in
       record {
         value_is = sym (ap (λ (x : List ℕ × List ℕ). digits_value_after radix value x.0) step) ∙ so_far.value_is;
         count_is = omega (arith, ap (λ (x : List ℕ × List ℕ). length x.0) step, so_far.count_is);

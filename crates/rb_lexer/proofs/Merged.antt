@@ -3,9 +3,10 @@ use Rattle.std.proofs.Common.{◌≡◌, ℕ, true, false, List, [], ◌∷◌, 
 use Rattle.rb_lexer.specs.declared.token.Token.{Token}
 use Rattle.rb_lexer.specs.declared.token.Mark.TheVariants.{Text}
 use Rattle.rb_lexer.specs.declared.pending.PendingText.{PendingText}
-use Rattle.rb_lexer.specs.Lexeme.{Lexeme, white, comment, sign, quoted, unquoted, parts_units}
-use Rattle.rb_lexer.specs.Tokens.{TextPiece, Piece, text, punctuation, past_lexeme, pieces_from, Group, run, alone, in_front, groups, joined_units, past_last, token, tokens_of}
-use Rattle.rb_lexer.specs.Merging.{joined, grown, text_token, flushed, piece, sign_token, tokens_from}
+use Rattle.rb_lexer.specs.Lexeme.{Lexeme, white, comment, punctuation, quoted, unquoted, parts_units}
+use Rattle.rb_lexer.specs.Tokens.{TextPiece, Piece, text, punctuation_piece, past_lexeme, pieces_from, Group, run, alone, in_front, groups, joined_units}
+use Rattle.rb_lexer.specs.Tokens.{past_last, token, tokens_of}
+use Rattle.rb_lexer.specs.Merging.{joined, grown, text_token, flushed, piece, punctuation_token, tokens_from}
 
 abbrev pending_of : List ℕ → TextPiece → PendingText
 pending_of bytes p = piece bytes p.units p.is_quoted p.first p.past
@@ -14,15 +15,16 @@ pending_of bytes p = piece bytes p.units p.is_quoted p.first p.past
 abbrev built : List ℕ → Option PendingText → List Piece → List Token
 built bytes pending [] = flushed pending []
 built bytes pending (text p ∷ ps) = built bytes (Some (grown pending (pending_of bytes p))) ps
-built bytes pending (punctuation m first past ∷ ps) = flushed pending (token bytes (alone m first past) ∷ built bytes None ps)
+built bytes pending (punctuation_piece m first past ∷ ps) = flushed pending (token bytes (alone m first past) ∷ built bytes None ps)
 
 from_built : (bytes : List ℕ) (at : ℕ) (pending : Option PendingText) (ls : List Lexeme)
     → tokens_from bytes at pending ls ≡ built bytes pending (pieces_from at ls)
 from_built bytes at pending [] = refl
 from_built bytes at pending (white c ∷ ls) = from_built bytes (past_lexeme at (white c)) pending ls
 from_built bytes at pending (comment c ∷ ls) = from_built bytes (past_lexeme at (comment c)) pending ls
-from_built bytes at pending (sign c ∷ ls) =
-    ap (λ (ts : List Token). flushed pending (sign_token bytes c at (past_lexeme at (sign c)) ∷ ts)) (from_built bytes (past_lexeme at (sign c)) None ls)
+from_built bytes at pending (punctuation c ∷ ls) =
+    ap (λ (ts : List Token). flushed pending (punctuation_token bytes c at (past_lexeme at (punctuation c)) ∷ ts))
+    (from_built bytes (past_lexeme at (punctuation c)) None ls)
 from_built bytes at pending (quoted ps ∷ ls) =
     from_built bytes (past_lexeme at (quoted ps)) (Some (grown pending (piece bytes (parts_units ps) true at (past_lexeme at (quoted ps))))) ls
 from_built bytes at pending (unquoted ps ∷ ls) =
@@ -69,7 +71,7 @@ is_merged bytes (text p ∷ ps) =
           ∙ ap (λ (t : Token). t ∷ map (token bytes) (after (groups ps))) (run_token bytes (pending_of bytes p) (front (groups ps)))
           ∙ ap (map (token bytes)) (sym (split p (groups ps))),
     )
-is_merged bytes (punctuation m first past ∷ ps) =
+is_merged bytes (punctuation_piece m first past ∷ ps) =
     let more = is_merged bytes ps in (
       (λ a. ap (λ (ts : List Token). text_token a ∷ token bytes (alone m first past) ∷ ts) more.1),
       ap (λ (ts : List Token). token bytes (alone m first past) ∷ ts) more.1,

@@ -1,19 +1,23 @@
--- Each text has tokens or a fault.
-use Rattle.std.proofs.Common.{◌≡◌, ◌≢◌, ℕ, zero, suc, ◌≤◌, ◌<◌, Bool, true, false, eqb, ◌||◌, ◌&&◌, List, [], ◌∷◌, ◌++◌, length, Option, Some, None, refl, sym, ap, ◌∙◌, arith, IsTrue, ◌⊎◌, inl, inr, ⊎_elim, IsUtf8, eqb-true, eq-eqb, length-append, ltb-true, ltb-false, nat_lt, ◌-◌, take, take_all, encode_utf8_all}
+-- Each text has tokens or an error.
+use Rattle.std.proofs.Common.{◌≡◌, ◌≢◌, ℕ, zero, suc, ◌≤◌, ◌<◌, Bool, true, false, eqb, ◌||◌, ◌&&◌, List, [], ◌∷◌, ◌++◌, length, Option, Some, None, refl, sym}
+use Rattle.std.proofs.Common.{ap, ◌∙◌, arith, IsTrue, ◌⊎◌, inl, inr, ⊎_elim, IsUtf8, eqb-true, eq-eqb, length-append, ltb-true, ltb-false, nat_lt, ◌-◌, take}
+use Rattle.std.proofs.Common.{take_all, encode_utf8_all}
 use Rattle.std.proofs.lemmas.Bool.{cases_Bool}
 use Rattle.std.proofs.lemmas.Str.{IsUtf8-from_is_utf8, is_utf8-from_IsUtf8, IsUtf8-nil}
 use Rattle.std.specs.Str.{all_scalars, IsValidUpTo, is_utf8}
 use Rattle.rb_lexer.specs.declared.token.Token.{Token}
 use Rattle.rb_lexer.specs.declared.fault.SourceKind.{SourceKind}
 use Rattle.rb_lexer.specs.declared.fault.SourceKind.TheVariants.{TooLong, NotUtf8, BadEscape, OpenQuote}
-use Rattle.rb_lexer.specs.declared.fault.Stop.{Stop}
-use Rattle.rb_lexer.specs.Lexeme.{quote, backslash, slash, star, is_white, is_sign, begins_comment, ends_line, Escape, escape_chars, escape_value, units_of, Comment, line_comment, block_comment, comment_chars, HasNoEnd, plain, escaped, dropped, IsQuotedPart}
+use Rattle.rb_lexer.specs.declared.fault.LexError.{LexError}
+use Rattle.rb_lexer.specs.Lexeme.{quote, backslash, slash, star, is_white, is_punctuation, begins_comment, ends_line, Escape, escape_chars, escape_value}
+use Rattle.rb_lexer.specs.Lexeme.{units_of, Comment, line_comment, block_comment, comment_chars, HasNoEnd, plain, escaped, dropped, IsQuotedPart}
 use Rattle.rb_lexer.specs.Escapes.{escape_at}
 use Rattle.rb_lexer.specs.Tokens.{width, line_of, HasTokens, LexesTo}
 use Rattle.rb_lexer.specs.Faults.{Broken, open_comment, bad_escape, broken_chars, IsBroken, broken_kind, from_fault, HasFault, IsSourceFault}
 use Rattle.rb_lexer.specs.Atom.{Atom, blank, remark, punct, cited, single, atom_chars, IsAtom, atoms_chars, AreAtoms, atoms_tokens}
 use Rattle.rb_lexer.proofs.Escapes.{escape_takes, no_escape}
-use Rattle.rb_lexer.proofs.Comments.{LineGoesOn, PastLine, line_starts, line_more, line_ends, line_over, BlockGoesOn, PastBlock, block_starts, block_more, block_ends, block_open}
+use Rattle.rb_lexer.proofs.Comments.{LineGoesOn, PastLine, line_starts, line_more, line_ends, line_over, BlockGoesOn, PastBlock, block_starts, block_more}
+use Rattle.rb_lexer.proofs.Comments.{block_ends, block_open}
 use Rattle.rb_lexer.proofs.Parts.{GoesOn, PastQuote, parts_start, plain_more, escape_more, plain_quoted, plain_single, quote_ends, quote_open, quote_bad}
 use Rattle.rb_lexer.proofs.Turns.{escape_front, atom_front}
 use Rattle.rb_lexer.proofs.Whole.{found, faulty}
@@ -30,7 +34,8 @@ escape_or (Some y) = inr (y.0, (y.1, refl))
 line_total : (text rest : List ℕ) → LineGoesOn text rest → (past : List ℕ) × PastLine text past
 line_total text [] so_far = ([], line_over text [] so_far refl)
 line_total text (c ∷ cs) so_far =
-    ⊎_elim (λ is. (cs, line_ends text (c ∷ cs) so_far c cs refl is)) (λ is. line_total text cs (line_more text (c ∷ cs) so_far c cs refl is)) (cases_Bool (ends_line c))
+    ⊎_elim (λ is. (cs, line_ends text (c ∷ cs) so_far c cs refl is)) (λ is. line_total text cs (line_more text (c ∷ cs) so_far c cs refl is))
+    (cases_Bool (ends_line c))
 
 ends_here : (c : ℕ) (cs : List ℕ) → ((past : List ℕ) × (c ∷ cs ≡ star ∷ slash ∷ past)) ⊎ ((past : List ℕ) → c ∷ cs ≡ star ∷ slash ∷ past → ⊥)
 ends_here c [] = inr (λ past e. cc)
@@ -43,7 +48,8 @@ ends_here c (d ∷ cs) =
 block_total : (text rest : List ℕ) → BlockGoesOn text rest → ((past : List ℕ) × PastBlock text past) ⊎ HasNoEnd text
 block_total text [] so_far = inr (block_open text [] so_far refl)
 block_total text (c ∷ cs) so_far =
-    ⊎_elim (λ w. inl (w.0, block_ends text (c ∷ cs) so_far w.0 w.1)) (λ never. block_total text cs (block_more text (c ∷ cs) so_far c cs refl never)) (ends_here c cs)
+    ⊎_elim (λ w. inl (w.0, block_ends text (c ∷ cs) so_far w.0 w.1)) (λ never. block_total text cs (block_more text (c ∷ cs) so_far c cs refl never))
+    (ends_here c cs)
 
 -- ---- quoted pieces
 escape_longer : (e : Escape) (rest : List ℕ) → length rest ≤ length (escape_chars e rest)
@@ -57,13 +63,14 @@ Quoted text = ((units : List ℕ) × ((past : List ℕ) × PastQuote text units 
 
 left_open : (text units rest : List ℕ) → GoesOn IsQuotedPart [] text units rest → rest ≡ [] → Quoted text
 left_open text units rest so_far e =
-    let s : Stop = record { kind = OpenQuote; left = 0 } in
+    let s : LexError = record { kind = OpenQuote; left = 0 } in
     let w = quote_open text units rest so_far e s refl refl (λ e. cc) in
     inr (w.0, w.1, w.2)
 
-left_bad : (text units rest : List ℕ) → GoesOn IsQuotedPart [] text units rest → (after : List ℕ) → rest ≡ backslash ∷ after → escape_at after ≡ None → Quoted text
+left_bad : (text units rest : List ℕ) → GoesOn IsQuotedPart [] text units rest → (after : List ℕ) → rest ≡ backslash ∷ after → escape_at after ≡ None
+    → Quoted text
 left_bad text units rest so_far after e none =
-    let s : Stop = record { kind = BadEscape; left = width rest } in
+    let s : LexError = record { kind = BadEscape; left = width rest } in
     let w = quote_bad text units rest so_far after e none s refl refl (λ e. cc) in
     inr (w.0, w.1, w.2)
 
@@ -78,7 +85,8 @@ quoted_total (suc n) text units (c ∷ after) short so_far =
     (λ none. left_bad text units (c ∷ after) so_far after (ap (λ x. x ∷ after) (eqb-true c backslash b)) none)
     (λ w. let t = escape_takes after w.0 w.1.0 w.1.1 in
     quoted_total n text (units ++ units_of (escape_value w.0)) w.1.0 (omega (arith, escape_longer w.0 w.1.0, ap length t.0))
-    (escape_more IsQuotedPart [] text units (c ∷ after) so_far (λ e past is. is) after w.1.0 _ w.0 (escape_value w.0) (ap (λ x. x ∷ after) (eqb-true c backslash b)) w.1.1 refl refl))
+    (escape_more IsQuotedPart [] text units (c ∷ after) so_far (λ e past is. is) after w.1.0 _ w.0 (escape_value w.0)
+    (ap (λ x. x ∷ after) (eqb-true c backslash b)) w.1.1 refl refl))
     (escape_or (escape_at after)))
     (λ b. quoted_total n text (units ++ units_of c) after (omega arith)
     (plain_more IsQuotedPart [] text units (c ∷ after) so_far c after _ refl (plain_quoted c after (differs c quote a) (differs c backslash b)) refl))
@@ -108,7 +116,9 @@ first_line : (after : List ℕ) → First (slash ∷ slash ∷ after)
 first_line after = let w = line_total after after (line_starts after) in inl (remark (line_comment w.1.0 w.1.1.0), (w.0, w.1.1.1.0, w.1.1.1.1))
 
 first_block : (after : List ℕ) → First (slash ∷ star ∷ after)
-first_block after = ⊎_elim (λ w. inl (remark (block_comment w.1.0), (w.0, w.1.1.0, w.1.1.1))) (λ h. inr (open_comment after, refl, h)) (block_total after after (block_starts after))
+first_block after =
+    ⊎_elim (λ w. inl (remark (block_comment w.1.0), (w.0, w.1.1.0, w.1.1.1))) (λ h. inr (open_comment after, refl, h))
+    (block_total after after (block_starts after))
 
 first_comment : (c : ℕ) (after : List ℕ) → begins_comment (c ∷ after) ≡ true → First (c ∷ after)
 first_comment c [] e = let k = (both_true (eqb c slash) false e).1 in cc
@@ -132,7 +142,7 @@ first_of c after =
     (cases_Bool (begins_comment (c ∷ after))))
     (cases_Bool (eqb c backslash)))
     (cases_Bool (eqb c quote)))
-    (cases_Bool (is_sign c)))
+    (cases_Bool (is_punctuation c)))
     (cases_Bool (is_white c))
 
 -- ---- the whole text
@@ -162,15 +172,23 @@ read : (n : ℕ) (cs : List ℕ) → length cs < n → Read cs
 read zero cs short = absurd (omega arith)
 read (suc n) [] short = ([], (None, refl, tt, tt))
 read (suc n) (c ∷ after) short =
-    ⊎_elim (λ w. read_with w.0 (c ∷ after) w.1.0 w.1.1 w.1.2 (read n w.1.0 (omega (arith, atom_longer w.0 w.1.0, ap length w.1.1)))) (λ w. ([], (Some w.0, w.1, tt, w.2))) (first_of c after)
+    ⊎_elim (λ w. read_with w.0 (c ∷ after) w.1.0 w.1.1 w.1.2 (read n w.1.0 (omega (arith, atom_longer w.0 w.1.0, ap length w.1.1))))
+    (λ w. ([], (Some w.0, w.1, tt, w.2))) (first_of c after)
 
 abbrev Answered : List ℕ → Type 0
 Answered bytes = ((ts : List Token) × HasTokens bytes ts) ⊎ ((kind : SourceKind) × ((line : ℕ) × HasFault bytes kind line))
 
-answered : (bytes cs : List ℕ) → encode_utf8_all cs ≡ bytes → IsTrue (all_scalars cs) → (xs : List Atom) (end : Option Broken) → cs ≡ atoms_chars xs (tail end) → AreAtoms xs (tail end) → IsTail end → Answered bytes
+answered : (bytes cs : List ℕ) → encode_utf8_all cs ≡ bytes → IsTrue (all_scalars cs) → (xs : List Atom) (end : Option Broken) → cs ≡ atoms_chars xs (tail end)
+    → AreAtoms xs (tail end) → IsTail end → Answered bytes
 answered bytes cs encoded scalars xs None e are is = inl (atoms_tokens bytes 0 None false xs, found bytes cs encoded scalars _ (xs, e, are, refl))
 answered bytes cs encoded scalars xs (Some b) e are is =
-    inr (broken_kind b, (line_of bytes (length bytes - width (from_fault b)), faulty bytes cs encoded scalars (broken_kind b) (width (from_fault b)) _ xs b e are is refl refl refl))
+    inr (
+      broken_kind b,
+      (
+        line_of bytes (length bytes - width (from_fault b)),
+        faulty bytes cs encoded scalars (broken_kind b) (width (from_fault b)) _ xs b e are is refl refl refl,
+      ),
+    )
 
 utf8_answered : (bytes : List ℕ) → IsUtf8 bytes → Answered bytes
 utf8_answered bytes u = let w = read (suc (length u.0)) u.0 (omega arith) in answered bytes u.0 u.1.1 u.1.0 w.0 w.1.0 w.1.1 w.1.2 w.1.3
@@ -181,9 +199,11 @@ record LongestFront (bytes : List ℕ) (most at : ℕ) : Type 0 where
   front : IsUtf8 (take at bytes)
   longest : (m : ℕ) → at < m → ¬ (IsUtf8 (take m bytes))
 
-beyond : (bytes : List ℕ) (n : ℕ) → ¬ (IsUtf8 (take (suc n) bytes)) → ((m : ℕ) → suc n < m → ¬ (IsUtf8 (take m bytes))) → (m : ℕ) → n < m → ¬ (IsUtf8 (take m bytes))
+beyond : (bytes : List ℕ) (n : ℕ) → ¬ (IsUtf8 (take (suc n) bytes)) → ((m : ℕ) → suc n < m → ¬ (IsUtf8 (take m bytes))) → (m : ℕ) → n < m
+    → ¬ (IsUtf8 (take m bytes))
 beyond bytes n not_here longer m more u =
-    ⊎_elim (λ a. longer m (ltb-true (suc n) m a) u) (λ a. let e : m ≡ suc n = omega (arith, ltb-false (suc n) m a) in not_here (rw e at u)) (cases_Bool (nat_lt (suc n) m))
+    ⊎_elim (λ a. longer m (ltb-true (suc n) m a) u) (λ a. let e : m ≡ suc n = omega (arith, ltb-false (suc n) m a) in not_here (rw e at u))
+    (cases_Bool (nat_lt (suc n) m))
 
 longest_front : (bytes : List ℕ) (n : ℕ) → ((m : ℕ) → n < m → ¬ (IsUtf8 (take m bytes))) → (at : ℕ) × LongestFront bytes n at
 longest_front bytes zero longer = (0, record { within = omega arith; front = IsUtf8-nil; longest = longer })
@@ -198,7 +218,9 @@ valid_up_to bytes garbled =
     let w = longest_front bytes (length bytes) (λ m more u. garbled (rw (take_all m bytes (omega arith)) at u)) in (
       w.0,
       record {
-        short = ⊎_elim (λ a. ltb-true w.0 (length bytes) a) (λ a. absurd (garbled (rw (take_all w.0 bytes (ltb-false w.0 (length bytes) a)) at w.1.front))) (cases_Bool (nat_lt w.0 (length bytes)));
+        short =
+            ⊎_elim (λ a. ltb-true w.0 (length bytes) a) (λ a. absurd (garbled (rw (take_all w.0 bytes (ltb-false w.0 (length bytes) a)) at w.1.front)))
+            (cases_Bool (nat_lt w.0 (length bytes)));
         front = w.1.front;
         longest = w.1.longest;
       },
@@ -209,7 +231,8 @@ pub lexed_answered : (bytes : List ℕ) → ((ts : List Token) × LexesTo bytes 
 lexed_answered bytes =
     ⊎_elim (λ long. inr (TooLong, (1, inl (inl (refl, (ltb-true 8388608 (length bytes) long, refl))))))
     (λ short. ⊎_elim
-    (λ a. ⊎_elim (λ w. inl (w.0, (ltb-false 8388608 (length bytes) short, w.1))) (λ w. inr (w.0, (w.1.0, inr (ltb-false 8388608 (length bytes) short, w.1.1)))) (utf8_answered bytes (IsUtf8-from_is_utf8 bytes a)))
+    (λ a. ⊎_elim (λ w. inl (w.0, (ltb-false 8388608 (length bytes) short, w.1))) (λ w. inr (w.0, (w.1.0, inr (ltb-false 8388608 (length bytes) short, w.1.1))))
+    (utf8_answered bytes (IsUtf8-from_is_utf8 bytes a)))
     (λ a. let w = valid_up_to bytes (λ u. let k = is_utf8-from_IsUtf8 bytes u in cc) in
     inr (NotUtf8, (line_of bytes w.0, inl (inr (refl, (ltb-false 8388608 (length bytes) short, (w.0, w.1, refl)))))))
     (cases_Bool (is_utf8 bytes)))

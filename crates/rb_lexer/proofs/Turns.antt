@@ -1,13 +1,15 @@
 -- The loop over items.
-use Rattle.std.proofs.Common.{◌≡◌, ℕ, ◌+◌, ◌-◌, ◌≤◌, Bool, false, List, [], ◌∷◌, ◌++◌, length, Option, Some, None, refl, sym, ap, ◌∙◌, arith, encode_utf8_all, length-append, append_assoc, count_by, take, drop, eqb, cond, zero-le, Result, Ok, Err, IfOk, IfErr, take-add}
+use Rattle.std.proofs.Common.{◌≡◌, ℕ, ◌+◌, ◌-◌, ◌≤◌, Bool, false, List, [], ◌∷◌, ◌++◌, length, Option, Some, None, refl, sym, ap, ◌∙◌, arith, encode_utf8_all}
+use Rattle.std.proofs.Common.{length-append, append_assoc, count_by, take, drop, eqb, cond, zero-le, Result, Ok, Err, IfOk, IfErr, take-add}
 use Rattle.std.specs.Global.{Vec}
 use Rattle.std.proofs.lemmas.List.Sums.{sum_by-append}
 use Rattle.std.proofs.lemmas.Str.{encodes-append}
 use Rattle.rb_lexer.specs.declared.token.Token.{Token}
 use Rattle.rb_lexer.specs.declared.pending.PendingText.{PendingText}
 use Rattle.rb_lexer.specs.declared.fault.SourceKind.TheVariants.{Memory}
-use Rattle.rb_lexer.specs.declared.fault.Stop.{Stop}
-use Rattle.rb_lexer.specs.Lexeme.{quote, Escape, four, eight, hex, octal, letter, escape_chars, Comment, line_comment, block_comment, comment_chars, Part, plain, escaped, dropped, part_chars, parts_chars, slash, star}
+use Rattle.rb_lexer.specs.declared.fault.LexError.{LexError}
+use Rattle.rb_lexer.specs.Lexeme.{quote, Escape, four, eight, hex, octal, letter, escape_chars, Comment, line_comment, block_comment, comment_chars, Part}
+use Rattle.rb_lexer.specs.Lexeme.{plain, escaped, dropped, part_chars, parts_chars, slash, star}
 use Rattle.rb_lexer.specs.Faults.{Broken, open_quote, open_comment, bad_escape, bad_quoted, broken_chars, IsBroken, broken_kind, from_fault}
 use Rattle.rb_lexer.specs.Tokens.{width, line_of}
 use Rattle.rb_lexer.specs.Merging.{flushed}
@@ -37,7 +39,8 @@ part_front (dropped c) rest = comment_front c rest
 pub parts_front : (ps : List Part) (mid rest : List ℕ) → parts_chars ps (mid ++ rest) ≡ parts_chars ps mid ++ rest
 parts_front [] mid rest = refl
 parts_front (p ∷ ps) mid rest =
-    part_front p (parts_chars ps (mid ++ rest)) ∙ ap (λ (xs : List ℕ). part_chars p [] ++ xs) (parts_front ps mid rest) ∙ sym (append_assoc (part_chars p []) (parts_chars ps mid) rest) ∙ ap (λ (xs : List ℕ). xs ++ rest) (sym (part_front p (parts_chars ps mid)))
+    part_front p (parts_chars ps (mid ++ rest)) ∙ ap (λ (xs : List ℕ). part_chars p [] ++ xs) (parts_front ps mid rest)
+    ∙ sym (append_assoc (part_chars p []) (parts_chars ps mid) rest) ∙ ap (λ (xs : List ℕ). xs ++ rest) (sym (part_front p (parts_chars ps mid)))
 
 pub atom_front : (a : Atom) (rest : List ℕ) → atom_chars a rest ≡ atom_chars a [] ++ rest
 atom_front (blank c) rest = refl
@@ -71,46 +74,63 @@ are_front (a ∷ xs) ys rest h k = (rw (chars_front xs ys rest) h.0, are_front x
 -- ---- the loop
 abbrev pub GoesOn : List ℕ → List ℕ → List Token → ℕ → Option PendingText → Bool → List ℕ → Type 0
 GoesOn bytes text tokens at pending is_open rest = (xs : List Atom) (end : List ℕ) → rest ≡ atoms_chars xs end → AreAtoms xs end
-    → (ys : List Atom) × (text ≡ atoms_chars ys end) × AreAtoms ys end × (atoms_tokens bytes 0 None false ys ≡ tokens ++ atoms_tokens bytes at pending is_open xs)
+    → (ys : List Atom) × (text ≡ atoms_chars ys end) × AreAtoms ys end
+    × (atoms_tokens bytes 0 None false ys ≡ tokens ++ atoms_tokens bytes at pending is_open xs)
 
 pub items_start : (bytes text : List ℕ) → GoesOn bytes text [] 0 None false text
 items_start bytes text xs end e good = (xs, e, good, refl)
 
-module _ (bytes text : List ℕ) (tokens : List Token) (at : ℕ) (pending : Option PendingText) (is_open : Bool) (rest : List ℕ) (so_far : GoesOn bytes text tokens at pending is_open rest) where
-  pub items_more : (front : List Atom) (after : List ℕ) → rest ≡ atoms_chars front after → AreAtoms front after → (past : ℕ) (tokens' : List Token) (pending' : Option PendingText) (is_open' : Bool)
-      → ((xs : List Atom) → tokens ++ atoms_tokens bytes at pending is_open (front ++ xs) ≡ tokens' ++ atoms_tokens bytes past pending' is_open' xs) → GoesOn bytes text tokens' past pending' is_open' after
+module _ (bytes text : List ℕ) (tokens : List Token) (at : ℕ) (pending : Option PendingText) (is_open : Bool) (rest : List ℕ)
+    (so_far : GoesOn bytes text tokens at pending is_open rest) where
+  pub items_more : (front : List Atom) (after : List ℕ) → rest ≡ atoms_chars front after → AreAtoms front after
+      → (past : ℕ) (tokens' : List Token) (pending' : Option PendingText) (is_open' : Bool)
+      → ((xs : List Atom) → tokens ++ atoms_tokens bytes at pending is_open (front ++ xs) ≡ tokens' ++ atoms_tokens bytes past pending' is_open' xs)
+      → GoesOn bytes text tokens' past pending' is_open' after
   items_more front after e are past tokens' pending' is_open' added xs end spelled good =
-      let w = so_far (front ++ xs) end (e ∙ ap (atoms_chars front) spelled ∙ sym (chars_front front xs end)) (are_front front xs end (rw (sym spelled) are) good) in
+      let w =
+      so_far (front ++ xs) end (e ∙ ap (atoms_chars front) spelled ∙ sym (chars_front front xs end)) (are_front front xs end (rw (sym spelled) are) good) in
       (w.0, w.1, w.2, w.3 ∙ added xs)
 
-  pub items_end : rest ≡ [] → (all : List Token) → all ≡ tokens ++ flushed pending [] → (xs : List Atom) × (text ≡ atoms_chars xs []) × AreAtoms xs [] × (all ≡ atoms_tokens bytes 0 None false xs)
+  pub items_end : rest ≡ [] → (all : List Token) → all ≡ tokens ++ flushed pending []
+      → (xs : List Atom) × (text ≡ atoms_chars xs []) × AreAtoms xs [] × (all ≡ atoms_tokens bytes 0 None false xs)
   items_end e all is = let w = so_far [] [] e tt in (w.0, w.1, w.2, is ∙ sym w.3)
 
-  pub items_stop : (s : Stop) → Stops s rest → (s.kind ≡ Memory → ⊥) → (xs : List Atom) × ((b : Broken) × ((text ≡ atoms_chars xs (broken_chars b)) × AreAtoms xs (broken_chars b) × IsBroken b × (s.kind ≡ broken_kind b) × (s.left ≡ width (from_fault b))))
+  pub items_stop : (s : LexError) → Stops s rest → (s.kind ≡ Memory → ⊥)
+      → (xs : List Atom) × ((b : Broken) × ((text ≡ atoms_chars xs (broken_chars b)) × AreAtoms xs (broken_chars b) × IsBroken b × (s.kind ≡ broken_kind b)
+      × (s.left ≡ width (from_fault b))))
   items_stop s stops not_memory = let b = stops not_memory in let w = so_far [] (broken_chars b.0) b.1 tt in (w.0, (b.0, (w.1, w.2, b.2, b.3, b.4)))
 
-pub turn_place : (first : ℕ) (rest after : List ℕ) (all : ℕ) → first + width rest ≡ all → (front : List Atom) → rest ≡ atoms_chars front after → first + (width (atoms_chars front []) + width after) ≡ all
+pub turn_place : (first : ℕ) (rest after : List ℕ) (all : ℕ) → first + width rest ≡ all → (front : List Atom) → rest ≡ atoms_chars front after
+    → first + (width (atoms_chars front []) + width after) ≡ all
 turn_place first rest after all at front e = ap (λ n. first + n) (sym (ap width e ∙ width_atoms front after)) ∙ at
 
-module _ (bytes text : List ℕ) (tokens : List Token) (at : ℕ) (pending : Option PendingText) (is_open : Bool) (rest : List ℕ) (so_far : GoesOn bytes text tokens at pending is_open rest) where
-  pub items_turn : (all : ℕ) → at + width rest ≡ all → (front : List Atom) (after : List ℕ) → rest ≡ atoms_chars front after → AreAtoms front after → (past : ℕ) → past ≡ all - width after → (tokens' : List Token) (pending' : Option PendingText) (is_open' : Bool)
-      → ((xs : List Atom) → past ≡ at + width (atoms_chars front []) → tokens ++ atoms_tokens bytes at pending is_open (front ++ xs) ≡ tokens' ++ atoms_tokens bytes past pending' is_open' xs) → GoesOn bytes text tokens' past pending' is_open' after
+module _ (bytes text : List ℕ) (tokens : List Token) (at : ℕ) (pending : Option PendingText) (is_open : Bool) (rest : List ℕ)
+    (so_far : GoesOn bytes text tokens at pending is_open rest) where
+  pub items_turn : (all : ℕ) → at + width rest ≡ all → (front : List Atom) (after : List ℕ) → rest ≡ atoms_chars front after → AreAtoms front after → (past : ℕ)
+      → past ≡ all - width after → (tokens' : List Token) (pending' : Option PendingText) (is_open' : Bool)
+      → ((xs : List Atom) → past ≡ at + width (atoms_chars front [])
+      → tokens ++ atoms_tokens bytes at pending is_open (front ++ xs) ≡ tokens' ++ atoms_tokens bytes past pending' is_open' xs)
+      → GoesOn bytes text tokens' past pending' is_open' after
   items_turn all place front after e are past at_past tokens' pending' is_open' added =
       let p = turn_place at rest after all place front e in
       items_more bytes text tokens at pending is_open rest so_far front after e are past tokens' pending' is_open' (λ xs. added xs (omega (arith, p, at_past)))
 
-pub lines_between : (bytes : List ℕ) (first past : ℕ) → first ≤ past → line_of bytes first + count_by (λ b. eqb b 0x0A) (take (past - first) (drop first bytes)) ≡ line_of bytes past
+pub lines_between : (bytes : List ℕ) (first past : ℕ) → first ≤ past
+    → line_of bytes first + count_by (λ b. eqb b 0x0A) (take (past - first) (drop first bytes)) ≡ line_of bytes past
 lines_between bytes first past order =
     let whole : past ≡ first + (past - first) = omega arith in
-    let parts = ap (λ n. count_by (λ b. eqb b 0x0A) (take n bytes)) whole ∙ ap (count_by (λ b. eqb b 0x0A)) (take-add first (past - first) bytes) ∙ sum_by-append (λ b. cond (eqb b 0x0A) 1 0) (take first bytes) (take (past - first) (drop first bytes)) in
+    let parts =
+    ap (λ n. count_by (λ b. eqb b 0x0A) (take n bytes)) whole ∙ ap (count_by (λ b. eqb b 0x0A)) (take-add first (past - first) bytes)
+    ∙ sum_by-append (λ b. cond (eqb b 0x0A) 1 0) (take first bytes) (take (past - first) (drop first bytes)) in
     omega (arith, parts)
 
-pub finish_so : (r : Result (Vec Token) Stop) (bytes text : List ℕ) (tokens : List Token) (at : ℕ) (pending : Option PendingText) (is_open : Bool) (rest : List ℕ) → GoesOn bytes text tokens at pending is_open rest → rest ≡ []
+pub finish_so : (r : Result (Vec Token) LexError) (bytes text : List ℕ) (tokens : List Token) (at : ℕ) (pending : Option PendingText) (is_open : Bool)
+    (rest : List ℕ) → GoesOn bytes text tokens at pending is_open rest → rest ≡ []
     → IfErr r (λ stop. stop.kind ≡ Memory) → IfOk r (λ all. all.items ≡ tokens ++ flushed pending []) → EndsSo r bytes text
 finish_so (Ok all) bytes text tokens at pending is_open rest so_far e memory is = items_end bytes text tokens at pending is_open rest so_far e all.items is
 finish_so (Err stop) bytes text tokens at pending is_open rest so_far e memory is = λ not_memory. absurd (not_memory memory)
 
--- ---- where a fault is
+-- ---- where an error is
 atoms_width : (xs : List Atom) (end : List ℕ) → width end ≤ width (atoms_chars xs end)
 atoms_width [] end = omega arith
 atoms_width (a ∷ xs) end = omega (arith, atoms_width xs end, width_atom a (atoms_chars xs end))
@@ -119,7 +139,13 @@ broken_width : (b : Broken) → width (from_fault b) ≤ width (broken_chars b)
 broken_width (open_quote ps) = zero-le
 broken_width (open_comment cs) = zero-le
 broken_width (bad_escape rest) = omega arith
-broken_width (bad_quoted ps rest) = omega (arith, ap width (parts_front ps [] (0x5C ∷ rest)), width_append (parts_chars ps []) (0x5C ∷ rest), width_append (quote ∷ []) (parts_chars ps (0x5C ∷ rest)))
+broken_width (bad_quoted ps rest) =
+    omega (
+      arith,
+      ap width (parts_front ps [] (0x5C ∷ rest)),
+      width_append (parts_chars ps []) (0x5C ∷ rest),
+      width_append (quote ∷ []) (parts_chars ps (0x5C ∷ rest)),
+    )
 
 pub fault_width : (xs : List Atom) (b : Broken) → width (from_fault b) ≤ width (atoms_chars xs (broken_chars b))
 fault_width xs b = omega (arith, atoms_width xs (broken_chars b), broken_width b)

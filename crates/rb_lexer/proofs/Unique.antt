@@ -1,6 +1,9 @@
 -- A text is read in one way.
-use Rattle.std.proofs.Common.{◌≡◌, ℕ, ◌+◌, ◌*◌, Bool, true, false, cond, eqb, not, ◌||◌, ◌⊎◌, inl, inr, ⊎_elim, List, [], ◌∷◌, ◌++◌, Option, Some, None, refl, sym, ap, subst, ◌∙◌, arith, IsTrue, eqb-true, eq-eqb}
-use Rattle.rb_lexer.specs.Lexeme.{is_white, is_sign, quote, backslash, slash, star, begins, begins_comment, ends_line, Escape, escape_chars, IsEscape, Comment, line_comment, block_comment, option_chars, IsComment, HasNoEnd, Part, plain, escaped, dropped, parts_chars, IsQuotedPart, AreParts}
+use Rattle.std.proofs.Common.{◌≡◌, ℕ, ◌+◌, ◌*◌, Bool, true, false, cond, eqb, not, ◌||◌, ◌⊎◌, inl, inr, ⊎_elim, List, [], ◌∷◌, ◌++◌, Option, Some, None, refl}
+use Rattle.std.proofs.Common.{sym, ap, subst, ◌∙◌, arith, IsTrue, eqb-true, eq-eqb}
+use Rattle.rb_lexer.specs.Lexeme.{is_white, is_punctuation, quote, backslash, slash, star, begins, begins_comment, ends_line, Escape, escape_chars, IsEscape}
+use Rattle.rb_lexer.specs.Lexeme.{Comment, line_comment, block_comment, option_chars, IsComment, HasNoEnd, Part, plain, escaped, dropped, parts_chars}
+use Rattle.rb_lexer.specs.Lexeme.{IsQuotedPart, AreParts}
 use Rattle.rb_lexer.specs.Faults.{Broken, open_quote, open_comment, bad_escape, bad_quoted, broken_chars, IsBroken, NoEscape}
 use Rattle.rb_lexer.specs.Atom.{Atom, blank, remark, punct, cited, single, atom_chars, IsAtom}
 use Rattle.rb_lexer.proofs.Escapes.{escape_one}
@@ -38,31 +41,26 @@ not_escape c cs ends is e rest same good = ⊎_elim (λ q. absurd (quote_not_bac
 parts_cons : (p q : Part) (ps qs : List Part) (more other : List ℕ) → p ≡ q → (ps ≡ qs) × (more ≡ other) → (p ∷ ps ≡ q ∷ qs) × (more ≡ other)
 parts_cons p q ps qs more other e w = (ap (λ (x : Part). x ∷ ps) e ∙ ap (λ (xs : List Part). q ∷ xs) w.0, w.1)
 
-parts_one : (ps qs : List Part) (more other : List ℕ) → Ends more → Ends other → AreParts IsQuotedPart ps more → AreParts IsQuotedPart qs other → parts_chars ps more ≡ parts_chars qs other → (ps ≡ qs) × (more ≡ other)
+parts_one : (ps qs : List Part) (more other : List ℕ) → Ends more → Ends other → AreParts IsQuotedPart ps more → AreParts IsQuotedPart qs other
+    → parts_chars ps more ≡ parts_chars qs other → (ps ≡ qs) × (more ≡ other)
 parts_one [] [] more other a b g h e = (refl, e)
 parts_one [] (plain c ∷ qs) more other a b g h e = absurd (not_plain c (parts_chars qs other) (subst Ends e a) h.0)
-parts_one [] (escaped d ∷ qs) more other a b g h e = absurd (not_escape backslash (escape_chars d (parts_chars qs other)) (subst Ends e a) refl d (parts_chars qs other) refl h.0)
+parts_one [] (escaped d ∷ qs) more other a b g h e =
+    absurd (not_escape backslash (escape_chars d (parts_chars qs other)) (subst Ends e a) refl d (parts_chars qs other) refl h.0)
 parts_one [] (dropped c ∷ qs) more other a b g h e = absurd h.0
 parts_one (plain c ∷ ps) [] more other a b g h e = absurd (not_plain c (parts_chars ps more) (subst Ends (sym e) b) g.0)
-parts_one (plain c ∷ ps) (plain d ∷ qs) more other a b g h e = parts_cons (plain c) (plain d) ps qs more other (ap plain (heads e)) (parts_one ps qs more other a b g.1 h.1 (tails e))
+parts_one (plain c ∷ ps) (plain d ∷ qs) more other a b g h e =
+    parts_cons (plain c) (plain d) ps qs more other (ap plain (heads e)) (parts_one ps qs more other a b g.1 h.1 (tails e))
 parts_one (plain c ∷ ps) (escaped d ∷ qs) more other a b g h e = absurd ((neither c g.0).1 (heads e))
 parts_one (plain c ∷ ps) (dropped d ∷ qs) more other a b g h e = absurd h.0
-parts_one (escaped d ∷ ps) [] more other a b g h e = absurd (not_escape backslash (escape_chars d (parts_chars ps more)) (subst Ends (sym e) b) refl d (parts_chars ps more) refl g.0)
+parts_one (escaped d ∷ ps) [] more other a b g h e =
+    absurd (not_escape backslash (escape_chars d (parts_chars ps more)) (subst Ends (sym e) b) refl d (parts_chars ps more) refl g.0)
 parts_one (escaped d ∷ ps) (plain c ∷ qs) more other a b g h e = absurd ((neither c h.0).1 (sym (heads e)))
 parts_one (escaped d ∷ ps) (escaped f ∷ qs) more other a b g h e =
     let w = escape_one d f (parts_chars ps more) (parts_chars qs other) g.0 h.0 (tails e) in
     parts_cons (escaped d) (escaped f) ps qs more other (ap escaped w.0) (parts_one ps qs more other a b g.1 h.1 w.1)
 parts_one (escaped d ∷ ps) (dropped c ∷ qs) more other a b g h e = absurd h.0
 parts_one (dropped c ∷ ps) qs more other a b g h e = absurd g.0
-
-quote_nil : (r : List ℕ) → ◌≡◌ {A = List ℕ} (quote ∷ r) [] → ⊥
-quote_nil r e = cc
-
-nil_back : (r : List ℕ) → ◌≡◌ {A = List ℕ} [] (backslash ∷ r) → ⊥
-nil_back r e = cc
-
-quote_back : (r s : List ℕ) → ◌≡◌ {A = List ℕ} (quote ∷ r) (backslash ∷ s) → ⊥
-quote_back r s e = let k : quote ≡ backslash = heads e in omega arith
 
 -- ---- comments
 nil_cons : (x : ℕ) (xs : List ℕ) → ◌≡◌ {A = List ℕ} [] (x ∷ xs) → ⊥
@@ -71,21 +69,28 @@ nil_cons x xs e = cc
 line_cons : (x y : ℕ) (a c : List ℕ) (b d : Option ℕ) (r s : List ℕ) → x ≡ y → (a ≡ c) × (b ≡ d) × (r ≡ s) → (x ∷ a ≡ y ∷ c) × (b ≡ d) × (r ≡ s)
 line_cons x y a c b d r s e w = (ap (λ n. n ∷ a) e ∙ ap (λ (xs : List ℕ). y ∷ xs) w.0, w.1, w.2)
 
-line_one : (a c : List ℕ) (b d : Option ℕ) (r s : List ℕ) → IsComment (line_comment a b) r → IsComment (line_comment c d) s → a ++ option_chars b r ≡ c ++ option_chars d s → (a ≡ c) × (b ≡ d) × (r ≡ s)
+-- a line comment without its first character
+line_rest : (x : ℕ) (a : List ℕ) (b : Option ℕ) (r : List ℕ) → IsComment (line_comment (x ∷ a) b) r
+    → IsTrue (not (ends_line x)) × IsComment (line_comment a b) r
+line_rest x a None r g = (g.0.0, (g.0.1, g.1))
+line_rest x a (Some c) r g = (g.0.0, (g.0.1, g.1))
+
+-- what follows the last character of a line comment ends it
+line_ends : (b : Option ℕ) (r : List ℕ) (y : ℕ) (c : List ℕ) → IsComment (line_comment [] b) r → option_chars b r ≡ y ∷ c
+    → IsTrue (not (ends_line y)) → ⊥
+line_ends None r y c g e h = nil_cons y c (sym g.1 ∙ e)
+line_ends (Some x) r y c g e h = not_both (ends_line y) h (rw (sym (heads e)) g.1)
+
+line_one : (a c : List ℕ) (b d : Option ℕ) (r s : List ℕ) → IsComment (line_comment a b) r → IsComment (line_comment c d) s
+    → a ++ option_chars b r ≡ c ++ option_chars d s → (a ≡ c) × (b ≡ d) × (r ≡ s)
 line_one [] [] None None r s g h e = (refl, refl, e)
 line_one [] [] None (Some y) r s g h e = absurd (nil_cons y s (sym g.1 ∙ e))
 line_one [] [] (Some x) None r s g h e = absurd (nil_cons x r (sym h.1 ∙ sym e))
 line_one [] [] (Some x) (Some y) r s g h e = (refl, ap (λ (n : ℕ). Some n) (heads e), tails e)
-line_one [] (y ∷ c) None d r s g h e = absurd (nil_cons y (c ++ option_chars d s) (sym g.1 ∙ e))
-line_one [] (y ∷ c) (Some x) None r s g h e = absurd (not_both (ends_line y) h.0.0 (rw (sym (heads e)) g.1))
-line_one [] (y ∷ c) (Some x) (Some z) r s g h e = absurd (not_both (ends_line y) h.0.0 (rw (sym (heads e)) g.1))
-line_one (x ∷ a) [] b None r s g h e = absurd (nil_cons x (a ++ option_chars b r) (sym h.1 ∙ sym e))
-line_one (x ∷ a) [] None (Some y) r s g h e = absurd (not_both (ends_line x) g.0.0 (rw (heads e) h.1))
-line_one (x ∷ a) [] (Some z) (Some y) r s g h e = absurd (not_both (ends_line x) g.0.0 (rw (heads e) h.1))
-line_one (x ∷ a) (y ∷ c) None None r s g h e = line_cons x y a c None None r s (heads e) (line_one a c None None r s (g.0.1, g.1) (h.0.1, h.1) (tails e))
-line_one (x ∷ a) (y ∷ c) None (Some z) r s g h e = line_cons x y a c None (Some z) r s (heads e) (line_one a c None (Some z) r s (g.0.1, g.1) (h.0.1, h.1) (tails e))
-line_one (x ∷ a) (y ∷ c) (Some w) None r s g h e = line_cons x y a c (Some w) None r s (heads e) (line_one a c (Some w) None r s (g.0.1, g.1) (h.0.1, h.1) (tails e))
-line_one (x ∷ a) (y ∷ c) (Some w) (Some z) r s g h e = line_cons x y a c (Some w) (Some z) r s (heads e) (line_one a c (Some w) (Some z) r s (g.0.1, g.1) (h.0.1, h.1) (tails e))
+line_one [] (y ∷ c) b d r s g h e = absurd (line_ends b r y (c ++ option_chars d s) g e (line_rest y c d s h).0)
+line_one (x ∷ a) [] b d r s g h e = absurd (line_ends d s x (a ++ option_chars b r) h (sym e) (line_rest x a b r g).0)
+line_one (x ∷ a) (y ∷ c) b d r s g h e =
+    line_cons x y a c b d r s (heads e) (line_one a c b d r s (line_rest x a b r g).1 (line_rest y c d s h).1 (tails e))
 
 starts : (c : List ℕ) (x : ℕ) (a r s : List ℕ) → x ∷ a ≡ c ++ star ∷ slash ∷ s → a ≡ slash ∷ r → x ≡ star → HasNoEnd c → c ≡ []
 starts [] x a r s e f k h = refl
@@ -133,7 +138,7 @@ broken_class (open_comment cs) = 1
 broken_class (bad_escape r) = 2
 broken_class (bad_quoted ps r) = 0
 
--- Two fronts of one text have one class: 1 white space, 2 a sign, 3 a line comment, 4 a character, 10 a quote, 11 a block comment, 12 a backslash.
+-- Two fronts of one text have one class: 1 white space, 2 punctuation, 3 a line comment, 4 a character, 10 a quote, 11 a block comment, 12 a backslash.
 abbrev class : Front → ℕ
 class (at_atom (blank c) r) = 1
 class (at_atom (remark c) r) = 3 + 8 * comment_class c
@@ -145,15 +150,19 @@ class at_end = 0
 
 abbrev text_class : List ℕ → ℕ
 text_class [] = 0
-text_class (c ∷ cs) = cond (is_white c) 1 (cond (is_sign c) 2 (cond (eqb c quote) 10 (cond (eqb c backslash) 12 (cond (begins_comment (c ∷ cs)) (cond (begins (λ d. eqb d slash) cs) 3 11) 4))))
+text_class (c ∷ cs) =
+    cond (is_white c) 1 (cond (is_punctuation c) 2 (cond (eqb c quote) 10
+    (cond (eqb c backslash) 12 (cond (begins_comment (c ∷ cs)) (cond (begins (λ d. eqb d slash) cs) 3 11) 4))))
 
 or_true : (a b : Bool) → (a || b) ≡ true → (a ≡ true) ⊎ (b ≡ true)
 or_true true b e = inl refl
 or_true false b e = inr e
 
-sign_class : (c : ℕ) (r : List ℕ) → is_sign c ≡ true → text_class (c ∷ r) ≡ 2
-sign_class c r h =
-    ⊎_elim (λ h1. ⊎_elim (λ h2. ⊎_elim (λ h3. rw (eqb-true c 0x7B h3) refl) (λ h3. rw (eqb-true c 0x7D h3) refl) (or_true (eqb c 0x7B) (eqb c 0x7D) h2)) (λ h2. rw (eqb-true c 0x2C h2) refl) (or_true (eqb c 0x7B || eqb c 0x7D) (eqb c 0x2C) h1)) (λ h1. rw (eqb-true c 0x3A h1) refl) (or_true ((eqb c 0x7B || eqb c 0x7D) || eqb c 0x2C) (eqb c 0x3A) h)
+punctuation_class : (c : ℕ) (r : List ℕ) → is_punctuation c ≡ true → text_class (c ∷ r) ≡ 2
+punctuation_class c r h =
+    ⊎_elim (λ h1. ⊎_elim (λ h2. ⊎_elim (λ h3. rw (eqb-true c 0x7B h3) refl) (λ h3. rw (eqb-true c 0x7D h3) refl) (or_true (eqb c 0x7B) (eqb c 0x7D) h2))
+    (λ h2. rw (eqb-true c 0x2C h2) refl) (or_true (eqb c 0x7B || eqb c 0x7D) (eqb c 0x2C) h1)) (λ h1. rw (eqb-true c 0x3A h1) refl)
+    (or_true ((eqb c 0x7B || eqb c 0x7D) || eqb c 0x2C) (eqb c 0x3A) h)
 
 four_false : (a b c d : Bool) → IsTrue (not (((a || b) || c) || d)) → (a ≡ false) × (b ≡ false) × (c ≡ false) × (d ≡ false)
 four_false false false false false h = (refl, refl, refl, refl)
@@ -166,14 +175,16 @@ not_false : (b : Bool) → IsTrue (not b) → b ≡ false
 not_false true h = cc
 not_false false h = refl
 
-plain_class : (c : ℕ) (r : List ℕ) → IsTrue (not (((is_white c || eqb c quote) || eqb c backslash) || is_sign c)) → IsTrue (not (begins_comment (c ∷ r))) → text_class (c ∷ r) ≡ 4
-plain_class c r h k = let w = four_false (is_white c) (eqb c quote) (eqb c backslash) (is_sign c) h in rw (w.0, w.3, w.1, w.2, not_false (begins_comment (c ∷ r)) k) refl
+plain_class : (c : ℕ) (r : List ℕ) → IsTrue (not (((is_white c || eqb c quote) || eqb c backslash) || is_punctuation c)) → IsTrue (not (begins_comment (c ∷ r)))
+    → text_class (c ∷ r) ≡ 4
+plain_class c r h k = let w = four_false (is_white c) (eqb c quote) (eqb c backslash) (is_punctuation c) h in
+    rw (w.0, w.3, w.1, w.2, not_false (begins_comment (c ∷ r)) k) refl
 
 classed : (x : Front) → IsFront x → text_class (front_chars x) ≡ class x
 classed (at_atom (blank c) r) g = rw g refl
 classed (at_atom (remark (line_comment a b)) r) g = refl
 classed (at_atom (remark (block_comment a)) r) g = refl
-classed (at_atom (punct c) r) g = sign_class c r g
+classed (at_atom (punct c) r) g = punctuation_class c r g
 classed (at_atom (cited ps) r) g = refl
 classed (at_atom (single (plain c)) r) g = plain_class c r g.1.0 g.1.1
 classed (at_atom (single (escaped e)) r) g = refl
@@ -184,34 +195,76 @@ classed (at_broken (bad_escape r)) g = refl
 classed (at_broken (bad_quoted ps r)) g = refl
 classed at_end g = refl
 
-line_same : (a : List ℕ) (b : Option ℕ) (r aa : List ℕ) (bb : Option ℕ) (rr : List ℕ) → (a ≡ aa) × (b ≡ bb) × (r ≡ rr) → at_atom (remark (line_comment a b)) r ≡ at_atom (remark (line_comment aa bb)) rr
+line_same : (a : List ℕ) (b : Option ℕ) (r aa : List ℕ) (bb : Option ℕ) (rr : List ℕ) → (a ≡ aa) × (b ≡ bb) × (r ≡ rr)
+    → at_atom (remark (line_comment a b)) r ≡ at_atom (remark (line_comment aa bb)) rr
 line_same a b r aa bb rr w = rw (w.0, w.1, w.2) refl
 
 block_same : (a r aa rr : List ℕ) → (a ≡ aa) × (r ≡ rr) → at_atom (remark (block_comment a)) r ≡ at_atom (remark (block_comment aa)) rr
 block_same a r aa rr w = rw (w.0, w.1) refl
 
-cited_same : (a : List Part) (r : List ℕ) (aa : List Part) (rr : List ℕ) → (a ≡ aa) × ◌≡◌ {A = List ℕ} (quote ∷ r) (quote ∷ rr) → at_atom (cited a) r ≡ at_atom (cited aa) rr
-cited_same a r aa rr w = let k : r ≡ rr = tails w.1 in rw (w.0, k) refl
-
-bad_same : (a : List Part) (r : List ℕ) (aa : List Part) (rr : List ℕ) → (a ≡ aa) × ◌≡◌ {A = List ℕ} (backslash ∷ r) (backslash ∷ rr) → at_broken (bad_quoted a r) ≡ at_broken (bad_quoted aa rr)
-bad_same a r aa rr w = let k : r ≡ rr = tails w.1 in rw (w.0, k) refl
-
 escaped_same : (a : Escape) (r : List ℕ) (aa : Escape) (rr : List ℕ) → (a ≡ aa) × (r ≡ rr) → at_atom (single (escaped a)) r ≡ at_atom (single (escaped aa)) rr
 escaped_same a r aa rr w = rw (w.0, w.1) refl
+
+-- how a quoted piece ends: at a quote, at the end of the text, or at a backslash that begins no escape
+data Close : Type 0 where
+  by_quote : List ℕ → Close
+  by_end : Close
+  by_backslash : List ℕ → Close
+
+abbrev close_chars : Close → List ℕ
+close_chars (by_quote r) = quote ∷ r
+close_chars by_end = []
+close_chars (by_backslash r) = backslash ∷ r
+
+abbrev IsClose : Close → Type 0
+IsClose (by_quote r) = Unit {0}
+IsClose by_end = Unit {0}
+IsClose (by_backslash r) = NoEscape r
+
+close_ends : (x : Close) → IsClose x → Ends (close_chars x)
+close_ends (by_quote r) h = inl refl
+close_ends by_end h = tt
+close_ends (by_backslash r) h = inr (refl, h)
+
+quote_back : (r s : List ℕ) → ◌≡◌ {A = List ℕ} (quote ∷ r) (backslash ∷ s) → ⊥
+quote_back r s e = let k : quote ≡ backslash = heads e in omega arith
+
+close_one : (x y : Close) → close_chars x ≡ close_chars y → x ≡ y
+close_one (by_quote r) (by_quote s) e = ap (λ (xs : List ℕ). by_quote xs) (tails e)
+close_one (by_quote r) by_end e = absurd (nil_cons quote r (sym e))
+close_one (by_quote r) (by_backslash s) e = absurd (quote_back r s e)
+close_one by_end (by_quote s) e = absurd (nil_cons quote s e)
+close_one by_end by_end e = refl
+close_one by_end (by_backslash s) e = absurd (nil_cons backslash s e)
+close_one (by_backslash r) (by_quote s) e = absurd (quote_back s r (sym e))
+close_one (by_backslash r) by_end e = absurd (nil_cons backslash r (sym e))
+close_one (by_backslash r) (by_backslash s) e = ap (λ (xs : List ℕ). by_backslash xs) (tails e)
+
+abbrev quoted_front : List Part → Close → Front
+quoted_front ps (by_quote r) = at_atom (cited ps) r
+quoted_front ps by_end = at_broken (open_quote ps)
+quoted_front ps (by_backslash r) = at_broken (bad_quoted ps r)
+
+quoted_one : (ps qs : List Part) (x y : Close) → AreParts IsQuotedPart ps (close_chars x) → IsClose x → AreParts IsQuotedPart qs (close_chars y) → IsClose y
+    → quote ∷ parts_chars ps (close_chars x) ≡ quote ∷ parts_chars qs (close_chars y) → quoted_front ps x ≡ quoted_front qs y
+quoted_one ps qs x y g p h q e =
+    let w = parts_one ps qs (close_chars x) (close_chars y) (close_ends x p) (close_ends y q) g h (tails e) in
+    ap (λ (zs : List Part). quoted_front zs x) w.0 ∙ ap (quoted_front qs) (close_one x y w.1)
 
 one : (x y : Front) → IsFront x → IsFront y → front_chars x ≡ front_chars y → class x ≡ class y → x ≡ y
 one (at_atom (blank a) r) (at_atom (blank aa) rr) g h e k = cc
 one (at_atom (blank a) r) y g h e k = absurd (omega arith)
-one (at_atom (remark (line_comment a b)) r) (at_atom (remark (line_comment aa bb)) rr) g h e k = line_same a b r aa bb rr (line_one a aa b bb r rr g h (tails2 e))
+one (at_atom (remark (line_comment a b)) r) (at_atom (remark (line_comment aa bb)) rr) g h e k =
+    line_same a b r aa bb rr (line_one a aa b bb r rr g h (tails2 e))
 one (at_atom (remark (line_comment a b)) r) y g h e k = absurd (omega arith)
 one (at_atom (remark (block_comment a)) r) (at_atom (remark (block_comment aa)) rr) g h e k = block_same a r aa rr (block_one a aa r rr g h (tails2 e))
 one (at_atom (remark (block_comment a)) r) (at_broken (open_comment aa)) g h e k = absurd (block_never a r aa g h (tails2 e))
 one (at_atom (remark (block_comment a)) r) y g h e k = absurd (omega arith)
 one (at_atom (punct a) r) (at_atom (punct aa) rr) g h e k = cc
 one (at_atom (punct a) r) y g h e k = absurd (omega arith)
-one (at_atom (cited a) r) (at_atom (cited aa) rr) g h e k = cited_same a r aa rr (parts_one a aa (quote ∷ r) (quote ∷ rr) (inl refl) (inl refl) g h (tails e))
-one (at_atom (cited a) r) (at_broken (open_quote aa)) g h e k = absurd (quote_nil r (parts_one a aa (quote ∷ r) [] (inl refl) tt g h (tails e)).1)
-one (at_atom (cited a) r) (at_broken (bad_quoted aa rr)) g h e k = absurd (quote_back r rr (parts_one a aa (quote ∷ r) (backslash ∷ rr) (inl refl) (inr (refl, h.1)) g h.0 (tails e)).1)
+one (at_atom (cited a) r) (at_atom (cited aa) rr) g h e k = quoted_one a aa (by_quote r) (by_quote rr) g tt h tt e
+one (at_atom (cited a) r) (at_broken (open_quote aa)) g h e k = quoted_one a aa (by_quote r) by_end g tt h tt e
+one (at_atom (cited a) r) (at_broken (bad_quoted aa rr)) g h e k = quoted_one a aa (by_quote r) (by_backslash rr) g tt h.0 h.1 e
 one (at_atom (cited a) r) y g h e k = absurd (omega arith)
 one (at_atom (single (plain a)) r) (at_atom (single (plain aa)) rr) g h e k = cc
 one (at_atom (single (plain a)) r) y g h e k = absurd (omega arith)
@@ -219,9 +272,9 @@ one (at_atom (single (escaped a)) r) (at_atom (single (escaped aa)) rr) g h e k 
 one (at_atom (single (escaped a)) r) (at_broken (bad_escape rr)) g h e k = absurd (h a r (sym (tails e)) g.1)
 one (at_atom (single (escaped a)) r) y g h e k = absurd (omega arith)
 one (at_atom (single (dropped a)) r) y g h e k = absurd g.0
-one (at_broken (open_quote a)) (at_atom (cited aa) rr) g h e k = absurd (quote_nil rr (sym (parts_one a aa [] (quote ∷ rr) tt (inl refl) g h (tails e)).1))
-one (at_broken (open_quote a)) (at_broken (open_quote aa)) g h e k = ap (λ (ps : List Part). at_broken (open_quote ps)) (parts_one a aa [] [] tt tt g h (tails e)).0
-one (at_broken (open_quote a)) (at_broken (bad_quoted aa rr)) g h e k = absurd (nil_back rr (parts_one a aa [] (backslash ∷ rr) tt (inr (refl, h.1)) g h.0 (tails e)).1)
+one (at_broken (open_quote a)) (at_atom (cited aa) rr) g h e k = quoted_one a aa by_end (by_quote rr) g tt h tt e
+one (at_broken (open_quote a)) (at_broken (open_quote aa)) g h e k = quoted_one a aa by_end by_end g tt h tt e
+one (at_broken (open_quote a)) (at_broken (bad_quoted aa rr)) g h e k = quoted_one a aa by_end (by_backslash rr) g tt h.0 h.1 e
 one (at_broken (open_quote a)) y g h e k = absurd (omega arith)
 one (at_broken (open_comment a)) (at_atom (remark (block_comment aa)) rr) g h e k = absurd (block_never aa rr a h g (tails2 (sym e)))
 one (at_broken (open_comment a)) (at_broken (open_comment aa)) g h e k = ap (λ (xs : List ℕ). at_broken (open_comment xs)) (tails2 e)
@@ -229,9 +282,9 @@ one (at_broken (open_comment a)) y g h e k = absurd (omega arith)
 one (at_broken (bad_escape r)) (at_atom (single (escaped aa)) rr) g h e k = absurd (g aa rr (tails e) h.1)
 one (at_broken (bad_escape r)) (at_broken (bad_escape rr)) g h e k = ap (λ (xs : List ℕ). at_broken (bad_escape xs)) (tails e)
 one (at_broken (bad_escape r)) y g h e k = absurd (omega arith)
-one (at_broken (bad_quoted a r)) (at_atom (cited aa) rr) g h e k = absurd (quote_back rr r (sym (parts_one a aa (backslash ∷ r) (quote ∷ rr) (inr (refl, g.1)) (inl refl) g.0 h (tails e)).1))
-one (at_broken (bad_quoted a r)) (at_broken (open_quote aa)) g h e k = absurd (nil_back r (sym (parts_one a aa (backslash ∷ r) [] (inr (refl, g.1)) tt g.0 h (tails e)).1))
-one (at_broken (bad_quoted a r)) (at_broken (bad_quoted aa rr)) g h e k = bad_same a r aa rr (parts_one a aa (backslash ∷ r) (backslash ∷ rr) (inr (refl, g.1)) (inr (refl, h.1)) g.0 h.0 (tails e))
+one (at_broken (bad_quoted a r)) (at_atom (cited aa) rr) g h e k = quoted_one a aa (by_backslash r) (by_quote rr) g.0 g.1 h tt e
+one (at_broken (bad_quoted a r)) (at_broken (open_quote aa)) g h e k = quoted_one a aa (by_backslash r) by_end g.0 g.1 h tt e
+one (at_broken (bad_quoted a r)) (at_broken (bad_quoted aa rr)) g h e k = quoted_one a aa (by_backslash r) (by_backslash rr) g.0 g.1 h.0 h.1 e
 one (at_broken (bad_quoted a r)) y g h e k = absurd (omega arith)
 one at_end at_end g h e k = refl
 one at_end (at_atom (blank aa) rr) g h e k = absurd (omega arith)

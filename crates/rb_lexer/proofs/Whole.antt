@@ -3,7 +3,8 @@ use Rattle.std.proofs.Common.{◌≡◌, ℕ, ◌-◌, ◌≤◌, false, List, [
 use Rattle.std.specs.Str.{all_scalars}
 use Rattle.rb_lexer.specs.declared.token.Token.{Token}
 use Rattle.rb_lexer.specs.declared.fault.SourceKind.{SourceKind}
-use Rattle.rb_lexer.specs.declared.fault.SourceKind.TheVariants.{TooLong, NotUtf8, BadEscape, OpenQuote, OpenComment, Unexpected, UnknownType, BadKey, DuplicateKey, BadInt, BadHex, TooDeep, TrailingText, TooLarge, Memory}
+use Rattle.rb_lexer.specs.declared.fault.SourceKind.TheVariants.{TooLong, NotUtf8, BadEscape, OpenQuote, OpenComment, Unexpected, UnknownType, BadKey}
+use Rattle.rb_lexer.specs.declared.fault.SourceKind.TheVariants.{DuplicateKey, BadInt, BadHex, TooDeep, TrailingText, TooLarge, Memory}
 use Rattle.rb_lexer.specs.Lexeme.{chars_of}
 use Rattle.rb_lexer.specs.Tokens.{width, line_of, HasTokens}
 use Rattle.rb_lexer.specs.Faults.{Broken, broken_chars, IsBroken, broken_kind, from_fault, HasFault}
@@ -27,10 +28,12 @@ module _ (bytes cs : List ℕ) (encoded : encode_utf8_all cs ≡ bytes) (scalars
   pub left_fits : (left : ℕ) (xs : List Atom) (b : Broken) → cs ≡ atoms_chars xs (broken_chars b) → left ≡ width (from_fault b) → left ≤ length bytes
   left_fits left xs b is e = omega (arith, fault_width xs b, ap width is, ap length encoded)
 
-  pub faulty : (kind : SourceKind) (left line : ℕ) (xs : List Atom) (b : Broken) → cs ≡ atoms_chars xs (broken_chars b) → AreAtoms xs (broken_chars b) → IsBroken b → kind ≡ broken_kind b → left ≡ width (from_fault b) → line ≡ line_of bytes (length bytes - left) → HasFault bytes kind line
+  pub faulty : (kind : SourceKind) (left line : ℕ) (xs : List Atom) (b : Broken) → cs ≡ atoms_chars xs (broken_chars b) → AreAtoms xs (broken_chars b)
+      → IsBroken b → kind ≡ broken_kind b → left ≡ width (from_fault b) → line ≡ line_of bytes (length bytes - left) → HasFault bytes kind line
   faulty kind left line xs b is good broken is_kind is_left is_line =
       let g = grouped xs (broken_chars b) good in
-      let same : cs ≡ chars_of g.0 (broken_chars b) = is ∙ ap (λ (ys : List Atom). atoms_chars ys (broken_chars b)) (sym g.1) ∙ flat_chars g.0 (broken_chars b) in
+      let same : cs ≡ chars_of g.0 (broken_chars b) =
+      is ∙ ap (λ (ys : List Atom). atoms_chars ys (broken_chars b)) (sym g.1) ∙ flat_chars g.0 (broken_chars b) in
       let fits : left ≤ length bytes = left_fits left xs b is is_left in
       record {
         front = g.0;

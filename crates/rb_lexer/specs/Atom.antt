@@ -1,16 +1,17 @@
 -- For proofs only: a second reading, which follows the code. In it an unquoted piece is read part by part.
 use Rattle.std.specs.Global.{Vec}
 use Rattle.std.specs.Prelude.{◌≡◌, ℕ, ◌+◌, Bool, true, false, cond, List, [], ◌∷◌, ◌++◌, Option, Some, None, Result, Ok, Err, IsTrue}
-use Rattle.rb_lexer.specs.Lexeme.{is_white, is_sign, quote, Comment, comment_chars, IsComment, Part, part_chars, part_units, parts_chars, parts_units, AreParts, IsQuotedPart, IsUnquotedPart, Stays}
+use Rattle.rb_lexer.specs.Lexeme.{is_white, is_punctuation, quote, Comment, comment_chars, IsComment, Part, part_chars, part_units, parts_chars, parts_units}
+use Rattle.rb_lexer.specs.Lexeme.{AreParts, IsQuotedPart, IsUnquotedPart, Stays}
 use Rattle.rb_lexer.specs.Faults.{Broken, broken_chars, IsBroken, broken_kind, from_fault}
-use Rattle.rb_lexer.specs.Tokens.{width, sign_mark}
-use Rattle.rb_lexer.specs.Merging.{flushed, grown, piece, sign_token}
+use Rattle.rb_lexer.specs.Tokens.{width, punctuation_mark}
+use Rattle.rb_lexer.specs.Merging.{flushed, grown, piece, punctuation_token}
 use Rattle.rb_lexer.specs.declared.token.Token.{Token}
 use Rattle.rb_lexer.specs.declared.pending.PendingText.{PendingText}
-use Rattle.rb_lexer.specs.declared.item.Item.{Item}
-use Rattle.rb_lexer.specs.declared.item.Item.TheVariants.{White, Comment as CommentItem, Sign, Quoted, Run}
+use Rattle.rb_lexer.specs.declared.scan.Scanned.{Scanned}
+use Rattle.rb_lexer.specs.declared.scan.Scanned.TheVariants.{White, Comment as CommentItem, Punctuation, Quoted, Run}
 use Rattle.rb_lexer.specs.declared.fault.SourceKind.TheVariants.{Memory}
-use Rattle.rb_lexer.specs.declared.fault.Stop.{Stop}
+use Rattle.rb_lexer.specs.declared.fault.LexError.{LexError}
 
 pub data Atom : Type 0 where
   blank : ℕ → Atom
@@ -33,7 +34,7 @@ IsSingle p rest = Stays p × IsUnquotedPart p rest
 abbrev pub IsAtom : Atom → List ℕ → Type 0
 IsAtom (blank c) rest = IsTrue (is_white c)
 IsAtom (remark c) rest = IsComment c rest
-IsAtom (punct c) rest = IsTrue (is_sign c)
+IsAtom (punct c) rest = IsTrue (is_punctuation c)
 IsAtom (cited ps) rest = AreParts IsQuotedPart ps (quote ∷ rest)
 IsAtom (single p) rest = IsSingle p rest
 
@@ -50,19 +51,19 @@ singles [] = []
 singles (p ∷ ps) = single p ∷ singles ps
 
 -- What the code has for atoms.
-abbrev pub Shows : Item → List Atom → Type 0
+abbrev pub Shows : Scanned → List Atom → Type 0
 Shows White xs = (c : ℕ) × (xs ≡ blank c ∷ [])
 Shows CommentItem xs = (c : Comment) × (xs ≡ remark c ∷ [])
-Shows (Sign m) xs = (c : ℕ) × (xs ≡ punct c ∷ []) × (m ≡ sign_mark c)
+Shows (Punctuation m) xs = (c : ℕ) × (xs ≡ punct c ∷ []) × (m ≡ punctuation_mark c)
 Shows (Quoted us) xs = (ps : List Part) × (xs ≡ cited ps ∷ []) × (us ≡ parts_units ps)
 Shows (Run us) xs = (p : Part) × ((ps : List Part) × (xs ≡ singles (p ∷ ps)) × (us ≡ parts_units (p ∷ ps)))
 
 -- The characters begin with what this item is, and the rest follows it.
-abbrev pub Begins : List ℕ → Item → List ℕ → Type 0
+abbrev pub Begins : List ℕ → Scanned → List ℕ → Type 0
 Begins text item rest = (xs : List Atom) × (text ≡ atoms_chars xs rest) × AreAtoms xs rest × Shows item xs
 
 -- These characters are broken in this way, unless memory ran out.
-abbrev pub Stops : Stop → List ℕ → Type 0
+abbrev pub Stops : LexError → List ℕ → Type 0
 Stops stop cs = (stop.kind ≡ Memory → ⊥) → (b : Broken) × (cs ≡ broken_chars b) × IsBroken b × (stop.kind ≡ broken_kind b) × (stop.left ≡ width (from_fault b))
 
 -- a piece that goes on
@@ -88,14 +89,14 @@ atoms_tokens bytes at pending is_open [] = flushed pending []
 atoms_tokens bytes at pending is_open (blank c ∷ xs) = atoms_tokens bytes (past_atom at (blank c)) pending false xs
 atoms_tokens bytes at pending is_open (remark c ∷ xs) = atoms_tokens bytes (past_atom at (remark c)) pending is_open xs
 atoms_tokens bytes at pending is_open (punct c ∷ xs) =
-    flushed pending (sign_token bytes c at (past_atom at (punct c)) ∷ atoms_tokens bytes (past_atom at (punct c)) None false xs)
+    flushed pending (punctuation_token bytes c at (past_atom at (punct c)) ∷ atoms_tokens bytes (past_atom at (punct c)) None false xs)
 atoms_tokens bytes at pending is_open (cited ps ∷ xs) =
     atoms_tokens bytes (past_atom at (cited ps)) (Some (grown pending (piece bytes (parts_units ps) true at (past_atom at (cited ps))))) false xs
 atoms_tokens bytes at pending is_open (single p ∷ xs) =
     atoms_tokens bytes (past_atom at (single p)) (Some (with_character is_open pending (piece bytes (part_units p) false at (past_atom at (single p))))) true xs
 
 -- The tokens of a text by the second reading, or what is broken in it, unless memory ran out.
-abbrev pub EndsSo : Result (Vec Token) Stop → List ℕ → List ℕ → Type 0
+abbrev pub EndsSo : Result (Vec Token) LexError → List ℕ → List ℕ → Type 0
 EndsSo (Ok tokens) bytes cs = (xs : List Atom) × (cs ≡ atoms_chars xs []) × AreAtoms xs [] × (tokens.items ≡ atoms_tokens bytes 0 None false xs)
 EndsSo (Err stop) bytes cs =
     (stop.kind ≡ Memory → ⊥) → (xs : List Atom) × ((b : Broken) ×

@@ -1,4 +1,4 @@
--- For proofs only: an escape read from the front of the characters behind a backslash.
+-- For proofs only: an escape read from the front of the characters after a backslash.
 use Rattle.std.specs.Prelude.{ℕ, zero, suc, ◌==◌, cond, List, [], ◌∷◌, length, Option, Some, None, nat_lt}
 use Rattle.std.specs.Char.{is_digit}
 use Rattle.std.specs.Str.Parse.{digits_value}

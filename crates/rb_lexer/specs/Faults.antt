@@ -1,4 +1,4 @@
--- The lexical faults of a source, and which one it has. The syntax is that of ICU's genrb; what is a fault, and in which
+-- The lexical errors of a source, and which one it has. The syntax is that of ICU's genrb; what is an error, and in which
 -- line, is this project's own rule: too many bytes before all else, then bytes that are not UTF-8, then what comes first in
 -- the text of an escape that is none, a quoted piece that is never closed and a comment that is never closed.
 use Rattle.std.specs.Prelude.{◌≡◌, ℕ, ◌+◌, ◌<◌, ◌≤◌, ◌⊎◌, List, [], ◌∷◌, length, encode_utf8_all, IsTrue}
@@ -6,7 +6,8 @@ use Rattle.std.specs.Str.{all_scalars, IsValidUpTo}
 use Rattle.rb_lexer.specs.declared.fault.SourceKind.{SourceKind}
 use Rattle.rb_lexer.specs.declared.fault.SourceKind.TheVariants.{TooLong, NotUtf8, BadEscape, OpenQuote, OpenComment, Memory}
 use Rattle.rb_lexer.specs.declared.fault.SourceFault.{SourceFault}
-use Rattle.rb_lexer.specs.Lexeme.{quote, backslash, slash, star, Escape, escape_chars, IsEscape, HasNoEnd, Part, parts_chars, AreParts, IsQuotedPart, Lexeme, chars_of, AreLexemes}
+use Rattle.rb_lexer.specs.Lexeme.{quote, backslash, slash, star, Escape, escape_chars, IsEscape, HasNoEnd, Part, parts_chars, AreParts, IsQuotedPart, Lexeme}
+use Rattle.rb_lexer.specs.Lexeme.{chars_of, AreLexemes}
 use Rattle.rb_lexer.specs.Tokens.{width, line_of}
 
 -- A quoted piece or a comment that is never closed, or a backslash that begins no escape, outside a quoted piece or in one.
@@ -23,7 +24,7 @@ broken_chars (open_comment cs) = slash ∷ star ∷ cs
 broken_chars (bad_escape rest) = backslash ∷ rest
 broken_chars (bad_quoted ps rest) = quote ∷ parts_chars ps (backslash ∷ rest)
 
--- No escape stands behind a backslash.
+-- No escape comes after a backslash.
 abbrev pub NoEscape : List ℕ → Type 0
 NoEscape cs = (e : Escape) (rest : List ℕ) → cs ≡ escape_chars e rest → IsEscape e rest → ⊥
 
@@ -39,14 +40,14 @@ broken_kind (open_comment cs) = OpenComment
 broken_kind (bad_escape rest) = BadEscape
 broken_kind (bad_quoted ps rest) = BadEscape
 
--- the characters from the fault on: none, or those from the backslash on
+-- the characters from the error on: none, or those from the backslash on
 abbrev pub from_fault : Broken → List ℕ
 from_fault (open_quote ps) = []
 from_fault (open_comment cs) = []
 from_fault (bad_escape rest) = backslash ∷ rest
 from_fault (bad_quoted ps rest) = backslash ∷ rest
 
--- The source, which is UTF-8, has this lexical fault.
+-- The source, which is UTF-8, has this lexical error.
 pub record HasFault (bytes : List ℕ) (kind : SourceKind) (line : ℕ) : Type 0 where
   pub front : List Lexeme
   pub broken : Broken
@@ -71,10 +72,10 @@ IsGarbled bytes line = (length bytes ≤ 8388608) × ((at : ℕ) × IsValidUpTo 
 abbrev pub IsTextFault : List ℕ → SourceKind → ℕ → Type 0
 IsTextFault bytes kind line = ((kind ≡ TooLong) × IsLong bytes line) ⊎ ((kind ≡ NotUtf8) × IsGarbled bytes line)
 
--- The source is no text, or it is one with a lexical fault.
+-- The source is no text, or it is one with a lexical error.
 abbrev pub IsSourceFault : List ℕ → SourceKind → ℕ → Type 0
 IsSourceFault bytes kind line = IsTextFault bytes kind line ⊎ ((length bytes ≤ 8388608) × HasFault bytes kind line)
 
--- Why a source is refused: out of memory, or for a fault that it has.
+-- Why a source is refused: out of memory, or for an error that it has.
 abbrev pub IsRefusal : List ℕ → SourceFault → Type 0
 IsRefusal bytes e = ((e.kind ≡ Memory) × (e.line ≡ 0)) ⊎ IsSourceFault bytes e.kind e.line

@@ -1,7 +1,8 @@
 -- How a bundle text is written, in the syntax of ICU's genrb: its lexemes, and the characters that spell them in front of
 -- what follows. This project's own are the comment that owns its line break, a comment inside an unquoted piece, and in
 -- an unquoted piece an escape of any other character.
-use Rattle.std.specs.Prelude.{◌≡◌, ℕ, ◌+◌, ◌-◌, ◌/◌, ◌%◌, ◌<◌, ◌≤◌, ◌==◌, ◌||◌, ◌&&◌, Bool, false, not, nat_lt, if◌then◌else◌, List, [], ◌∷◌, ◌++◌, length, IsTrue, Option, Some, None}
+use Rattle.std.specs.Prelude.{◌≡◌, ℕ, ◌+◌, ◌-◌, ◌/◌, ◌%◌, ◌<◌, ◌≤◌, ◌==◌, ◌||◌, ◌&&◌, Bool, false, not, nat_lt, if◌then◌else◌, List, [], ◌∷◌, ◌++◌, length}
+use Rattle.std.specs.Prelude.{IsTrue, Option, Some, None}
 use Rattle.std.specs.List.{AllByRecursion}
 use Rattle.std.specs.Char.{is_digit}
 use Rattle.std.specs.Str.Parse.{digits_value}
@@ -22,8 +23,8 @@ abbrev pub star : ℕ
 star = 0x2A
 
 -- { } , :
-abbrev pub is_sign : ℕ → Bool
-is_sign c = (c == 0x7B) || (c == 0x7D) || (c == 0x2C) || (c == 0x3A)
+abbrev pub is_punctuation : ℕ → Bool
+is_punctuation c = (c == 0x7B) || (c == 0x7D) || (c == 0x2C) || (c == 0x3A)
 
 -- what ends a line comment, and belongs to it
 abbrev pub ends_line : ℕ → Bool
@@ -41,7 +42,7 @@ begins_comment (c ∷ cs) = (c == slash) && begins (λ d. (d == slash) || (d == 
 
 -- ---- escapes
 
--- what stands behind a backslash
+-- what comes after a backslash
 pub data Escape : Type 0 where
   four : List ℕ → Escape
   eight : List ℕ → Escape
@@ -63,7 +64,7 @@ pub record IsRun (radix least most : ℕ) (ds rest : List ℕ) : Type 0 where
   pub most_len : length ds ≤ most
   pub all : length ds < most → IsTrue (not (begins (λ c. is_digit c radix) rest))
 
--- The escape is one of these, with rest behind it.
+-- The escape is one of these, with rest after it.
 abbrev pub IsEscape : Escape → List ℕ → Type 0
 IsEscape (four ds) rest = IsRun 16 4 4 ds rest
 IsEscape (eight ds) rest = IsRun 16 8 8 ds rest × (digits_value 16 ds ≤ 0x10FFFF)
@@ -141,7 +142,7 @@ IsQuotedPart (escaped e) rest = IsEscape e rest
 IsQuotedPart (dropped c) rest = ⊥
 
 abbrev pub IsUnquotedPart : Part → List ℕ → Type 0
-IsUnquotedPart (plain c) rest = IsTrue (not (is_white c || (c == quote) || (c == backslash) || is_sign c)) × IsTrue (not (begins_comment (c ∷ rest)))
+IsUnquotedPart (plain c) rest = IsTrue (not (is_white c || (c == quote) || (c == backslash) || is_punctuation c)) × IsTrue (not (begins_comment (c ∷ rest)))
 IsUnquotedPart (escaped e) rest = IsEscape e rest
 IsUnquotedPart (dropped c) rest = IsComment c rest
 
@@ -167,14 +168,14 @@ FirstStays (p ∷ ps) = Stays p
 pub data Lexeme : Type 0 where
   white : ℕ → Lexeme
   comment : Comment → Lexeme
-  sign : ℕ → Lexeme
+  punctuation : ℕ → Lexeme
   quoted : List Part → Lexeme
   unquoted : List Part → Lexeme
 
 abbrev pub lexeme_chars : Lexeme → List ℕ → List ℕ
 lexeme_chars (white c) rest = c ∷ rest
 lexeme_chars (comment c) rest = comment_chars c rest
-lexeme_chars (sign c) rest = c ∷ rest
+lexeme_chars (punctuation c) rest = c ∷ rest
 lexeme_chars (quoted ps) rest = quote ∷ parts_chars ps (quote ∷ rest)
 lexeme_chars (unquoted ps) rest = parts_chars ps rest
 
@@ -183,20 +184,20 @@ abbrev pub chars_of : List Lexeme → List ℕ → List ℕ
 chars_of [] rest = rest
 chars_of (l ∷ ls) rest = lexeme_chars l (chars_of ls rest)
 
--- Behind an unquoted piece, after any comments, comes white space, a quote or a sign, or the lexemes end.
+-- After an unquoted piece and any comments comes white space, a quote or punctuation, or the lexemes end.
 abbrev pub EndsUnquoted : List Lexeme → Type 0
 EndsUnquoted [] = Unit {0}
 EndsUnquoted (white c ∷ ls) = Unit {0}
 EndsUnquoted (comment c ∷ ls) = EndsUnquoted ls
-EndsUnquoted (sign c ∷ ls) = Unit {0}
+EndsUnquoted (punctuation c ∷ ls) = Unit {0}
 EndsUnquoted (quoted ps ∷ ls) = Unit {0}
 EndsUnquoted (unquoted ps ∷ ls) = ⊥
 
--- These are lexemes, with rest behind them: nothing, or what is no lexeme (specs.Faults).
+-- These are lexemes, with rest after them: nothing, or what is no lexeme (specs.Faults).
 abbrev pub AreLexemes : List Lexeme → List ℕ → Type 0
 AreLexemes [] rest = Unit {0}
 AreLexemes (white c ∷ ls) rest = IsTrue (is_white c) × AreLexemes ls rest
 AreLexemes (comment c ∷ ls) rest = IsComment c (chars_of ls rest) × AreLexemes ls rest
-AreLexemes (sign c ∷ ls) rest = IsTrue (is_sign c) × AreLexemes ls rest
+AreLexemes (punctuation c ∷ ls) rest = IsTrue (is_punctuation c) × AreLexemes ls rest
 AreLexemes (quoted ps ∷ ls) rest = AreParts IsQuotedPart ps (quote ∷ chars_of ls rest) × AreLexemes ls rest
 AreLexemes (unquoted ps ∷ ls) rest = AreParts IsUnquotedPart ps (chars_of ls rest) × FirstStays ps × LastStays ps × EndsUnquoted ls × AreLexemes ls rest

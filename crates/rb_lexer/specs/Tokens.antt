@@ -1,8 +1,9 @@
--- The tokens of a source: its texts and signs in the syntax of ICU's genrb, each with its span and its line. That pieces
+-- The tokens of a source: its texts and punctuation in the syntax of ICU's genrb, each with its span and its line. That pieces
 -- side by side are one text, and when a space goes between them, is this project's own rule.
-use Rattle.std.specs.Prelude.{◌≡◌, ◌<◌, ◌≤◌, ℕ, suc, ◌+◌, ◌==◌, Bool, true, false, ◌&&◌, ◌||◌, if◌then◌else◌, List, [], ◌∷◌, ◌++◌, length, map, take, count_by, encode_utf8_all, IsTrue}
+use Rattle.std.specs.Prelude.{◌≡◌, ◌<◌, ◌≤◌, ℕ, suc, ◌+◌, ◌==◌, Bool, true, false, ◌&&◌, ◌||◌, if◌then◌else◌, List, [], ◌∷◌, ◌++◌, length, map, take, count_by}
+use Rattle.std.specs.Prelude.{encode_utf8_all, IsTrue}
 use Rattle.std.specs.Str.{all_scalars}
-use Rattle.rb_lexer.specs.Lexeme.{Lexeme, white, comment, sign, quoted, unquoted, lexeme_chars, chars_of, parts_units, AreLexemes}
+use Rattle.rb_lexer.specs.Lexeme.{Lexeme, white, comment, punctuation, quoted, unquoted, lexeme_chars, chars_of, parts_units, AreLexemes}
 use Rattle.rb_lexer.specs.declared.token.Mark.{Mark}
 use Rattle.rb_lexer.specs.declared.token.Mark.TheVariants.{Text, LeftBrace, RightBrace, Colon, Comma}
 use Rattle.rb_lexer.specs.declared.token.Token.{Token}
@@ -15,8 +16,8 @@ width cs = length (encode_utf8_all cs)
 abbrev pub line_of : List ℕ → ℕ → ℕ
 line_of bytes at = suc (count_by (λ b. b == 0x0A) (take at bytes))
 
-abbrev pub sign_mark : ℕ → Mark
-sign_mark c = if c == 0x7B then LeftBrace else (if c == 0x7D then RightBrace else (if c == 0x3A then Colon else Comma))
+abbrev pub punctuation_mark : ℕ → Mark
+punctuation_mark c = if c == 0x7B then LeftBrace else (if c == 0x7D then RightBrace else (if c == 0x3A then Colon else Comma))
 
 -- ---- pieces
 
@@ -27,10 +28,10 @@ pub record TextPiece : Type 0 where
   pub first : ℕ
   pub past : ℕ
 
--- a text piece, or a sign with its first byte and the byte after it
+-- a text piece, or a punctuation mark with its first byte and the byte after it
 pub data Piece : Type 0 where
   text : TextPiece → Piece
-  punctuation : Mark → ℕ → ℕ → Piece
+  punctuation_piece : Mark → ℕ → ℕ → Piece
 
 -- the byte after a lexeme that begins at a byte
 abbrev pub past_lexeme : ℕ → Lexeme → ℕ
@@ -41,7 +42,8 @@ abbrev pub pieces_from : ℕ → List Lexeme → List Piece
 pieces_from at [] = []
 pieces_from at (white c ∷ ls) = pieces_from (past_lexeme at (white c)) ls
 pieces_from at (comment c ∷ ls) = pieces_from (past_lexeme at (comment c)) ls
-pieces_from at (sign c ∷ ls) = punctuation (sign_mark c) at (past_lexeme at (sign c)) ∷ pieces_from (past_lexeme at (sign c)) ls
+pieces_from at (punctuation c ∷ ls) =
+    punctuation_piece (punctuation_mark c) at (past_lexeme at (punctuation c)) ∷ pieces_from (past_lexeme at (punctuation c)) ls
 pieces_from at (quoted ps ∷ ls) =
     text (record { units = parts_units ps; is_quoted = true; first = at; past = past_lexeme at (quoted ps) }) ∷ pieces_from (past_lexeme at (quoted ps)) ls
 pieces_from at (unquoted ps ∷ ls) =
@@ -49,7 +51,7 @@ pieces_from at (unquoted ps ∷ ls) =
 
 -- ---- merging
 
--- a maximal run of text pieces, of which there is one at least, or a sign
+-- a maximal run of text pieces, of which there is one at least, or a punctuation mark
 pub data Group : Type 0 where
   run : TextPiece → List TextPiece → Group
   alone : Mark → ℕ → ℕ → Group
@@ -60,11 +62,11 @@ in_front p [] = run p [] ∷ []
 in_front p (run q qs ∷ gs) = run p (q ∷ qs) ∷ gs
 in_front p (alone m first past ∷ gs) = run p [] ∷ alone m first past ∷ gs
 
--- The pieces split into maximal runs of text pieces, and signs.
+-- The pieces split into maximal runs of text pieces, and punctuation.
 abbrev pub groups : List Piece → List Group
 groups [] = []
 groups (text p ∷ ps) = in_front p (groups ps)
-groups (punctuation m first past ∷ ps) = alone m first past ∷ groups ps
+groups (punctuation_piece m first past ∷ ps) = alone m first past ∷ groups ps
 
 abbrev pub is_empty : List ℕ → Bool
 is_empty [] = true
@@ -88,7 +90,7 @@ abbrev pub token : List ℕ → Group → Token
 token bytes (run p ps) = record { what = Text (joined_units p.units p.is_quoted ps); first = p.first; past = past_last p.past ps; line = line_of bytes p.first }
 token bytes (alone m first past) = record { what = m; first = first; past = past; line = line_of bytes first }
 
--- The tokens of lexemes: one of each run of text pieces and one of each sign.
+-- The tokens of lexemes: one of each run of text pieces and one of each punctuation mark.
 abbrev pub tokens_of : List ℕ → List Lexeme → List Token
 tokens_of bytes ls = map (token bytes) (groups (pieces_from 0 ls))
 
@@ -104,7 +106,7 @@ pub record HasTokens (bytes : List ℕ) (ts : List Token) : Type 0 where
 abbrev pub LexesTo : List ℕ → List Token → Type 0
 LexesTo bytes ts = (length bytes ≤ 8388608) × HasTokens bytes ts
 
--- From `at` on, each token takes a byte at least and begins where the one before ends or behind it; none goes past `end`.
+-- From `at` on, each token takes a byte at least and begins where the one before ends or after it; none goes past `end`.
 abbrev pub AreInOrder : ℕ → List Token → ℕ → Type 0
 AreInOrder at [] end = at ≤ end
 AreInOrder at (t ∷ ts) end = (at ≤ t.first) × (t.first < t.past) × AreInOrder t.past ts end

@@ -5,9 +5,9 @@ ghost use Rattle.rb_lexer.specs.Tokens.{line_of, width};
 ghost use Rattle.rb_lexer.specs.Merging.{flushed, grown};
 ghost use Rattle.rb_lexer.specs.Atom.{Atom, Shows, atoms_chars, atoms_tokens, extended};
 
-use crate::fault::Stop;
-use crate::item::Item;
+use crate::fault::LexError;
 use crate::pending::PendingText;
+use crate::scan::Scanned;
 use crate::token::{Mark, Token};
 use crate::units::UnitBuffer;
 
@@ -21,8 +21,8 @@ pub struct Builder {
 
 impl Builder {
     /// Adds the pending text as a token.
-    fn flush(&mut self) -> Result<(), Stop>
-        ensures memory { IfErr result (λ stop. stop.kind ≡ Memory) }
+    fn flush(&mut self) -> Result<(), LexError>
+        ensures memory { IfErr result (λ e. e.kind ≡ Memory) }
         ensures flushed { OnOk result ((self.new.tokens.items ≡ self.old.tokens.items ++ flushed self.old.pending []) × (self.new.pending ≡ None)) }
     {
         if let Some(pending) = self.pending.take() {
@@ -37,8 +37,8 @@ impl Builder {
     }
 
     /// Joins a piece to the pending text.
-    fn join(&mut self, piece: PendingText) -> Result<(), Stop>
-        ensures memory { IfErr result (λ stop. stop.kind ≡ Memory) }
+    fn join(&mut self, piece: PendingText) -> Result<(), LexError>
+        ensures memory { IfErr result (λ e. e.kind ≡ Memory) }
         ensures joined { OnOk result ((self.new.tokens.items ≡ self.old.tokens.items) × (self.new.pending ≡ Some (grown self.old.pending piece))) }
     {
         match self.pending.take() {
@@ -59,8 +59,8 @@ impl Builder {
     }
 
     /// Extends the pending text by units of its last piece.
-    fn extend(&mut self, units: &UnitBuffer, past: usize) -> Result<(), Stop>
-        ensures memory { IfErr result (λ stop. stop.kind ≡ Memory) }
+    fn extend(&mut self, units: &UnitBuffer, past: usize) -> Result<(), LexError>
+        ensures memory { IfErr result (λ e. e.kind ≡ Memory) }
         ensures longer { OnOk result ((self.new.tokens.items ≡ self.old.tokens.items) ×
             (self.new.pending ≡ extended self.old.pending units.now past) × (self.new.is_open ≡ self.old.is_open)) }
     {
@@ -73,17 +73,23 @@ impl Builder {
     }
 
     /// Adds an item with its span and its line.
-    pub fn add(&mut self, item: Item, first: usize, past: usize, line: u64) -> Result<(), Stop>
-        ensures memory { IfErr result (λ stop. stop.kind ≡ Memory) }
+    pub fn add(
+        &mut self,
+        item: Scanned,
+        first: usize,
+        past: usize,
+        line: u64,
+    ) -> Result<(), LexError>
+        ensures memory { IfErr result (λ e. e.kind ≡ Memory) }
         ensures added { OnOk result ((bytes : List ℕ) (xs rest : List Atom) → Shows item xs
             → line ≡ line_of bytes first → past ≡ first + width (atoms_chars xs [])
             → self.old.tokens.items ++ atoms_tokens bytes first self.old.pending self.old.is_open (xs ++ rest)
             ≡ self.new.tokens.items ++ atoms_tokens bytes past self.new.pending self.new.is_open rest) }
     {
         match item {
-            Item::White => self.is_open = false,
-            Item::Comment => {}
-            Item::Sign(what) => {
+            Scanned::White => self.is_open = false,
+            Scanned::Comment => {}
+            Scanned::Punctuation(what) => {
                 self.flush()?;
                 self.is_open = false;
                 self.tokens.push(Token {
@@ -93,7 +99,7 @@ impl Builder {
                     line,
                 })?;
             }
-            Item::Quoted(units) => {
+            Scanned::Quoted(units) => {
                 self.join(PendingText {
                     units,
                     is_quoted: true,
@@ -103,7 +109,7 @@ impl Builder {
                 })?;
                 self.is_open = false;
             }
-            Item::Run(units) => {
+            Scanned::Run(units) => {
                 if self.goes_on() {
                     self.extend(&units, past)?;
                     return Ok(());
@@ -122,8 +128,8 @@ impl Builder {
     }
 
     /// All tokens.
-    pub fn finish(mut self) -> Result<Vec<Token>, Stop>
-        ensures memory { IfErr result (λ stop. stop.kind ≡ Memory) }
+    pub fn finish(mut self) -> Result<Vec<Token>, LexError>
+        ensures memory { IfErr result (λ e. e.kind ≡ Memory) }
         ensures tokens { IfOk result (λ tokens. tokens.items ≡ self.tokens.items ++ flushed self.pending []) }
     {
         self.flush()?;

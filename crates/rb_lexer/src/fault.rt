@@ -4,8 +4,8 @@ ghost use Rattle.rb_lexer.specs.Words.{kind_word};
 
 use std::alloc::{AllocError, AllocFailed};
 
-/// Why a text is refused. `lex` answers `TooLong`, `NotUtf8`, `BadEscape`, `OpenQuote`, `OpenComment` and `Memory`; the
-/// others are the parser's.
+/// Why a text is refused, one type for the lexer and the parser above it. `lex` answers `TooLong`, `NotUtf8`, `BadEscape`,
+/// `OpenQuote`, `OpenComment` and `Memory`; the others are the parser's alone.
 #[derive(Clone, Copy, Debug, PartialEq, Eq)]
 pub enum SourceKind {
     /// The source has more than 8,388,608 bytes.
@@ -99,19 +99,19 @@ impl<T: Drop> From<AllocFailed<T>> for SourceFault {
     }
 }
 
-/// Why reading stops, and how many bytes there are from the fault on.
+/// An error of the lexer, and how many bytes there are from it on.
 #[derive(Clone, Copy, Debug)]
-pub struct Stop {
+pub struct LexError {
     pub kind: SourceKind,
     pub left: usize,
 }
 
-const NO_MEMORY: Stop = Stop {
+const NO_MEMORY: LexError = LexError {
     kind: SourceKind::Memory,
     left: 0,
 };
 
-impl From<AllocError> for Stop {
+impl From<AllocError> for LexError {
     ghost use Rattle.std.specs.Prelude.{◌≡◌};
     ghost use Rattle.rb_lexer.specs.declared.fault.SourceKind.TheVariants.{Memory};
 
@@ -122,7 +122,7 @@ impl From<AllocError> for Stop {
     }
 }
 
-impl<T: Drop> From<AllocFailed<T>> for Stop {
+impl<T: Drop> From<AllocFailed<T>> for LexError {
     ghost use Rattle.std.specs.Prelude.{◌≡◌};
     ghost use Rattle.rb_lexer.specs.declared.fault.SourceKind.TheVariants.{Memory};
 

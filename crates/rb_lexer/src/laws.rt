@@ -5,8 +5,8 @@ ghost use Rattle.rb_lexer.specs.declared.fault.SourceKind.{SourceKind};
 ghost use Rattle.rb_lexer.specs.Tokens.{HasTokens, LexesTo};
 ghost use Rattle.rb_lexer.specs.Faults.{HasFault, IsSourceFault};
 
-/// A source has at most one list of tokens, at most one fault, never both, and always one of the two. A text over the
-/// limit, which `lex` reports as `TooLong`, has at most one list of tokens too, and none where it has a lexical fault.
+/// A source has at most one list of tokens, at most one error, never both, and always one of the two. A text over the
+/// limit, which `lex` reports as `TooLong`, has at most one list of tokens too, and none where it has a lexical error.
 pub fn decided()
     ensures answered { (bytes : List ℕ) → ((ts : List Token) × LexesTo bytes ts) ⊎ ((kind : SourceKind) × ((line : ℕ) × IsSourceFault bytes kind line)) }
     ensures tokens { (bytes : List ℕ) (ts us : List Token) → LexesTo bytes ts → LexesTo bytes us → ts ≡ us }

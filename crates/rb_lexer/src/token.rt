@@ -1,7 +1,7 @@
 // Tokens.
 use rb_tree::UnitList;
 
-/// A text or a sign.
+/// A text or a punctuation mark.
 #[derive(Debug, Drop)]
 pub enum Mark {
     Text(UnitList),

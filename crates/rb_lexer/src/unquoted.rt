@@ -1,7 +1,7 @@
 // Unquoted pieces.
 ghost use Rattle.std.specs.Prelude.{◌≡◌, ◌≤◌, ◌∷◌, ◌++◌, ◌||◌, ◌==◌, ℕ, List, length, IfOk};
 ghost use Rattle.std.specs.Str.{chars};
-ghost use Rattle.rb_lexer.specs.Lexeme.{quote, is_white, is_sign, begins_comment, units_of, Part, parts_chars, parts_units, AreParts};
+ghost use Rattle.rb_lexer.specs.Lexeme.{quote, is_white, is_punctuation, begins_comment, units_of, Part, parts_chars, parts_units, AreParts};
 ghost use Rattle.rb_lexer.specs.Atom.{IsSingle};
 
 use crate::escape::{escape, push_code};
@@ -15,8 +15,8 @@ pub fn is_white(c: char) -> bool
     c == '\t' || c == '\n' || c == '\r' || c == ' ' || c == '\u{2029}' || c == '\u{FEFF}'
 }
 
-fn is_sign(c: char) -> bool
-    ensures { result ≡ is_sign c }
+fn is_punctuation(c: char) -> bool
+    ensures { result ≡ is_punctuation c }
 {
     c == '{' || c == '}' || c == ',' || c == ':'
 }
@@ -30,9 +30,9 @@ fn begins_comment(c: char, after: &str) -> bool
 
 /// Whether a character ends a run of an unquoted piece, given what follows it.
 fn ends_run(c: char, after: &str) -> bool
-    ensures { result ≡ (is_white c || (c == quote) || is_sign c || begins_comment (c ∷ chars after.now)) }
+    ensures { result ≡ (is_white c || (c == quote) || is_punctuation c || begins_comment (c ∷ chars after.now)) }
 {
-    is_white(c) || c == '"' || is_sign(c) || begins_comment(c, after)
+    is_white(c) || c == '"' || is_punctuation(c) || begins_comment(c, after)
 }
 
 /// The units of a run of an unquoted piece, which begins with a character, and what follows it. A run ends where the

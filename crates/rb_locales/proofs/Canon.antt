@@ -1,5 +1,7 @@
 -- A canonical name is its own name.
-use Rattle.std.proofs.Common.{◌≡◌, ℕ, suc, ◌+◌, ◌<◌, ◌≤◌, List, [], ◌∷◌, ◌++◌, length, map, Bool, true, false, ◌&&◌, Option, Some, None, option_map, cond, All, refl, ap, sym, ◌∙◌, arith, subst, not, get_or, nat_lt, length-append, take, drop, slice_index, length-drop, take-append-drop, drop-cons, add-one}
+use Rattle.std.proofs.Common.{◌≡◌, ℕ, suc, ◌+◌, ◌<◌, ◌≤◌, List, [], ◌∷◌, ◌++◌, length, map, Bool, true, false, ◌&&◌, Option, Some, None, option_map, cond, All}
+use Rattle.std.proofs.Common.{refl, ap, sym, ◌∙◌, arith, subst, not, get_or, nat_lt, length-append, take, drop, slice_index, length-drop, take-append-drop}
+use Rattle.std.proofs.Common.{drop-cons, add-one}
 use Rattle.std.proofs.lemmas.Bool.{ltb-true, ltb-false, le-leb}
 use Rattle.std.proofs.lemmas.List.{take_all, get_or-drop, get_or_default}
 use Rattle.std.proofs.lemmas.List.Sums.{AllPass-from_list_all, passes_at_first}
@@ -11,7 +13,8 @@ use Rattle.std.specs.Char.{is_ascii_alphabetic, is_ascii_alphanumeric, to_ascii_
 use Rattle.std.proofs.lemmas.Str.Ascii.{uppercase-uppercase, lowercase-lowercase}
 use Rattle.std.proofs.lemmas.Bool.Decides.{nat_tests}
 use Rattle.std.proofs.lemmas.List.{length-map}
-use Rattle.rb_locales.specs.Locale.{Place, first, second, later, next_place, is_between, is_at, part_at, in_front, parts_from, written, is_language, is_subtag, is_script, title, subtag, name, named, before_at, is_underscore, without_last, shorter, shorter_of}
+use Rattle.rb_locales.specs.Locale.{Position, first, second, later, next_position, is_between, is_at, part_at, in_front, parts_from, written, is_language}
+use Rattle.rb_locales.specs.Locale.{is_subtag, is_script, title, subtag, name, named, before_at, is_underscore, without_last, shorter, shorter_of}
 use Rattle.rb_locales.specs.Last.{NoneFrom}
 
 -- ---- bytes
@@ -79,8 +82,8 @@ length-title (b ∷ bs) = ap suc (length-map bs to_ascii_lowercase)
 abbrev pub is_clean : List ℕ → Bool
 is_clean p = list_all is_ascii_alphanumeric p
 
-record Kept (place : Place) (p q : List ℕ) : Type 0 where
-  again : part_at place q ≡ Some q
+record Kept (position : Position) (p q : List ℕ) : Type 0 where
+  again : part_at position q ≡ Some q
   clean : is_clean q ≡ true
   long : length q ≡ length p
 
@@ -133,7 +136,7 @@ second_kept p q h = by (is_script p) refl
         })
     by false e = (subtag_kept p q (sym (ap (λ b. cond b (Some (title p)) (subtag p)) e) ∙ h)).0 e
 
-part_kept : (place : Place) (p q : List ℕ) → part_at place p ≡ Some q → Kept place p q
+part_kept : (position : Position) (p q : List ℕ) → part_at position p ≡ Some q → Kept position p q
 part_kept first p q h = language_kept p q h
 part_kept second p q h = second_kept p q h
 part_kept later p q h = (subtag_kept p q h).1
@@ -143,31 +146,33 @@ abbrev pub AllClean : List (List ℕ) → Type 0
 AllClean [] = Unit {0}
 AllClean (p ∷ ps) = (is_clean p ≡ true) × AllClean ps
 
-pub record PartsKept (place : Place) (ps qs : List (List ℕ)) : Type 0 where
-  pub again : parts_from place qs ≡ Some qs
+pub record PartsKept (position : Position) (ps qs : List (List ℕ)) : Type 0 where
+  pub again : parts_from position qs ≡ Some qs
   pub clean : AllClean qs
   pub long : length (join_with_byte 95 qs) ≡ length (join_with_byte 95 ps)
   pub some : length qs ≡ length ps
 
-longer : (p q : List ℕ) (ps qs : List (List ℕ)) → length q ≡ length p → length qs ≡ length ps → length (join_with_byte 95 qs) ≡ length (join_with_byte 95 ps) → length (join_with_byte 95 (q ∷ qs)) ≡ length (join_with_byte 95 (p ∷ ps))
+longer : (p q : List ℕ) (ps qs : List (List ℕ)) → length q ≡ length p → length qs ≡ length ps → length (join_with_byte 95 qs) ≡ length (join_with_byte 95 ps)
+    → length (join_with_byte 95 (q ∷ qs)) ≡ length (join_with_byte 95 (p ∷ ps))
 longer p q [] [] e f g = e
 longer p q [] (x ∷ qs) e f g = absurd (omega arith)
 longer p q (x ∷ ps) [] e f g = absurd (omega arith)
 longer p q (x ∷ ps) (y ∷ qs) e f g = omega (arith, length-append p (95 ∷ join_with_byte 95 (x ∷ ps)), length-append q (95 ∷ join_with_byte 95 (y ∷ qs)))
 
-pub parts_kept : (place : Place) (ps qs : List (List ℕ)) → parts_from place ps ≡ Some qs → PartsKept place ps qs
-parts_kept place [] qs h = subst (PartsKept place []) (let e : [] ≡ qs = cc in e) (record { again = refl; clean = tt; long = refl; some = refl })
-parts_kept place (p ∷ ps) qs h = by (part_at place p) refl (parts_from (next_place place) ps) refl (λ rs. parts_kept (next_place place) ps rs)
+pub parts_kept : (position : Position) (ps qs : List (List ℕ)) → parts_from position ps ≡ Some qs → PartsKept position ps qs
+parts_kept position [] qs h = subst (PartsKept position []) (let e : [] ≡ qs = cc in e) (record { again = refl; clean = tt; long = refl; some = refl })
+parts_kept position (p ∷ ps) qs h = by (part_at position p) refl (parts_from (next_position position) ps) refl (λ rs. parts_kept (next_position position) ps rs)
   where
-    by : (o : Option (List ℕ)) → part_at place p ≡ o → (os : Option (List (List ℕ))) → parts_from (next_place place) ps ≡ os → ((rs : List (List ℕ)) → parts_from (next_place place) ps ≡ Some rs → PartsKept (next_place place) ps rs) → PartsKept place (p ∷ ps) qs
-    by None e os f ih = cc (ap (λ z. in_front z (parts_from (next_place place) ps)) e)
-    by (Some q) e None f ih = cc (ap (λ z. in_front z (parts_from (next_place place) ps)) e, ap (λ z. in_front (Some q) z) f)
+    by : (o : Option (List ℕ)) → part_at position p ≡ o → (os : Option (List (List ℕ))) → parts_from (next_position position) ps ≡ os
+        → ((rs : List (List ℕ)) → parts_from (next_position position) ps ≡ Some rs → PartsKept (next_position position) ps rs) → PartsKept position (p ∷ ps) qs
+    by None e os f ih = cc (ap (λ z. in_front z (parts_from (next_position position) ps)) e)
+    by (Some q) e None f ih = cc (ap (λ z. in_front z (parts_from (next_position position) ps)) e, ap (λ z. in_front (Some q) z) f)
     by (Some q) e (Some rs) f ih =
-        let one = part_kept place p q e in
+        let one = part_kept position p q e in
         let more = ih rs f in
-        let is : q ∷ rs ≡ qs = cc (ap (λ z. in_front z (parts_from (next_place place) ps)) e, ap (λ z. in_front (Some q) z) f) in
-        subst (PartsKept place (p ∷ ps)) is (record {
-          again = ap (λ z. in_front z (parts_from (next_place place) rs)) one.again ∙ ap (λ z. in_front (Some q) z) more.again;
+        let is : q ∷ rs ≡ qs = cc (ap (λ z. in_front z (parts_from (next_position position) ps)) e, ap (λ z. in_front (Some q) z) f) in
+        subst (PartsKept position (p ∷ ps)) is (record {
+          again = ap (λ z. in_front z (parts_from (next_position position) rs)) one.again ∙ ap (λ z. in_front (Some q) z) more.again;
           clean = (one.clean, more.clean);
           long = longer p q ps rs one.long more.some more.long;
           some = ap suc more.some;
@@ -177,10 +182,12 @@ parts_kept place (p ∷ ps) qs h = by (part_at place p) refl (parts_from (next_p
 clean_whole : (e : ℕ → Bool) → ((b : ℕ) → is_ascii_alphanumeric b ≡ true → e b ≡ false) → (p : List ℕ) → is_clean p ≡ true → All (λ b. e b ≡ false) p
 clean_whole e f p h = λ k d l. f (get_or p k d) (AllPass-from_list_all is_ascii_alphanumeric p h k d l)
 
-pub split_joined : (e : ℕ → Bool) → ((b : ℕ) → is_ascii_alphanumeric b ≡ true → e b ≡ false) → e 95 ≡ true → (ps : List (List ℕ)) → 0 < length ps → AllClean ps → slice_split e (join_with_byte 95 ps) ≡ ps
+pub split_joined : (e : ℕ → Bool) → ((b : ℕ) → is_ascii_alphanumeric b ≡ true → e b ≡ false) → e 95 ≡ true → (ps : List (List ℕ)) → 0 < length ps → AllClean ps
+    → slice_split e (join_with_byte 95 ps) ≡ ps
 split_joined e f t [] h a = absurd (omega arith)
 split_joined e f t (p ∷ []) h a = slice_split_none e p (clean_whole e f p a.0)
-split_joined e f t (p ∷ q ∷ ps) h a = slice_split_at e p 95 (join_with_byte 95 (q ∷ ps)) (clean_whole e f p a.0) t ∙ ap (λ l. p ∷ l) (split_joined e f t (q ∷ ps) (omega arith) a.1)
+split_joined e f t (p ∷ q ∷ ps) h a =
+    slice_split_at e p 95 (join_with_byte 95 (q ∷ ps)) (clean_whole e f p a.0) t ∙ ap (λ l. p ∷ l) (split_joined e f t (q ∷ ps) (omega arith) a.1)
 
 -- cutting and joining keeps the length
 onto_long : (b : ℕ) (ss : List (List ℕ)) → 0 < length ss → length (join_with_byte 95 (onto_first b ss)) ≡ length (join_with_byte 95 ss) + 1
@@ -196,7 +203,8 @@ pub joined_long : (bs : List ℕ) → length (join_with_byte 95 (slice_split is_
 joined_long [] = refl
 joined_long (b ∷ bs) = by (is_between b) (slice_split is_between bs) (some_parts bs) (joined_long bs)
   where
-    by : (c : Bool) (ss : List (List ℕ)) → 0 < length ss → length (join_with_byte 95 ss) ≡ length bs → length (join_with_byte 95 (cond c ([] ∷ ss) (onto_first b ss))) ≡ suc (length bs)
+    by : (c : Bool) (ss : List (List ℕ)) → 0 < length ss → length (join_with_byte 95 ss) ≡ length bs
+        → length (join_with_byte 95 (cond c ([] ∷ ss) (onto_first b ss))) ≡ suc (length bs)
     by true ss h e = omega (arith, empty_long ss h)
     by false ss h e = omega (arith, onto_long b ss h)
 
@@ -204,7 +212,11 @@ joined_long (b ∷ bs) = by (is_between b) (slice_split is_between bs) (some_par
 joined_free : (ps : List (List ℕ)) → AllClean ps → list_all (λ b. not (is_at b)) (join_with_byte 95 ps) ≡ true
 joined_free [] a = refl
 joined_free (p ∷ []) a = all_weaker is_ascii_alphanumeric (λ b. not (is_at b)) (λ b h. rw (sign_no_at b h) refl) p a.0
-joined_free (p ∷ q ∷ ps) a = rw (list_all-append (λ b. not (is_at b)) p (95 ∷ join_with_byte 95 (q ∷ ps)), all_weaker is_ascii_alphanumeric (λ b. not (is_at b)) (λ b h. rw (sign_no_at b h) refl) p a.0) (joined_free (q ∷ ps) a.1)
+joined_free (p ∷ q ∷ ps) a =
+    rw (
+      list_all-append (λ b. not (is_at b)) p (95 ∷ join_with_byte 95 (q ∷ ps)),
+      all_weaker is_ascii_alphanumeric (λ b. not (is_at b)) (λ b h. rw (sign_no_at b h) refl) p a.0,
+    ) (joined_free (q ∷ ps) a.1)
 
 free_whole : (bs : List ℕ) → list_all (λ b. not (is_at b)) bs ≡ true → before_at bs ≡ bs
 free_whole bs h = take_all (position_or_len is_at bs) bs (omega (arith, past (nat_lt (position_or_len is_at bs) (length bs)) refl))
@@ -219,14 +231,16 @@ free_whole bs h = take_all (position_or_len is_at bs) bs (omega (arith, past (na
 
 -- ---- names
 -- the canonical form of a text of at most 64 bytes is its own name, and as long as the text
-pub canonical : (bs out : List ℕ) → written first bs ≡ Some out → length bs ≤ 64 → (name out ≡ Some out) × (length out ≡ length bs) × (written first out ≡ Some out)
+pub canonical : (bs out : List ℕ) → written first bs ≡ Some out → length bs ≤ 64
+    → (name out ≡ Some out) × (length out ≡ length bs) × (written first out ≡ Some out)
 canonical bs out h l = by (parts_from first (slice_split is_between bs)) refl
   where
     own : (n : List ℕ) → length n ≤ 64 → written first n ≡ Some n → named n ≡ Some n
     own [] s w = cc
     own (b ∷ n) s w = ap (λ c. cond c (written first (b ∷ n)) None) (le-leb _ _ s) ∙ w
 
-    by : (o : Option (List (List ℕ))) → parts_from first (slice_split is_between bs) ≡ o → (name out ≡ Some out) × (length out ≡ length bs) × (written first out ≡ Some out)
+    by : (o : Option (List (List ℕ))) → parts_from first (slice_split is_between bs) ≡ o
+        → (name out ≡ Some out) × (length out ≡ length bs) × (written first out ≡ Some out)
     by None e = cc (ap (option_map (join_with_byte 95)) e)
     by (Some qs) e =
         let is : join_with_byte 95 qs ≡ out = cc (ap (option_map (join_with_byte 95)) e) in
@@ -235,7 +249,8 @@ canonical bs out h l = by (parts_from first (slice_split is_between bs)) refl
         let long : length (join_with_byte 95 qs) ≡ length bs = kept.long ∙ joined_long bs in
         let again : written first (join_with_byte 95 qs) ≡ Some (join_with_byte 95 qs) =
         ap (λ ss. option_map (join_with_byte 95) (parts_from first ss)) parts ∙ ap (option_map (join_with_byte 95)) kept.again in
-        subst (λ n. (name n ≡ Some n) × (length n ≡ length bs) × (written first n ≡ Some n)) is (ap named (free_whole (join_with_byte 95 qs) (joined_free qs kept.clean)) ∙ own (join_with_byte 95 qs) (omega arith) again, long, again)
+        subst (λ n. (name n ≡ Some n) × (length n ≡ length bs) × (written first n ≡ Some n)) is
+        (ap named (free_whole (join_with_byte 95 qs) (joined_free qs kept.clean)) ∙ own (join_with_byte 95 qs) (omega arith) again, long, again)
 
 -- ---- the shorter name
 underscores : (xs : List ℕ) → 0 < length (slice_split is_underscore xs)
@@ -251,7 +266,8 @@ split_snoc : (xs ys : List ℕ) → All (λ b. is_underscore b ≡ false) ys →
 split_snoc [] ys h = ap (λ l. [] ∷ l) (slice_split_none is_underscore ys h)
 split_snoc (x ∷ xs) ys h = rw (split_snoc xs ys h) (by (is_underscore x) (slice_split is_underscore xs) (underscores xs))
   where
-    by : (c : Bool) (ss : List (List ℕ)) → 0 < length ss → cond c ([] ∷ (ss ++ ys ∷ [])) (onto_first x (ss ++ ys ∷ [])) ≡ cond c ([] ∷ ss) (onto_first x ss) ++ ys ∷ []
+    by : (c : Bool) (ss : List (List ℕ)) → 0 < length ss → cond c ([] ∷ (ss ++ ys ∷ [])) (onto_first x (ss ++ ys ∷ []))
+        ≡ cond c ([] ∷ ss) (onto_first x ss) ++ ys ∷ []
     by true ss l = refl
     by false [] l = absurd (omega arith)
     by false (s ∷ ss) l = refl
@@ -265,32 +281,39 @@ without_snoc (p ∷ q ∷ ps) y = ap (λ l. p ∷ l) (without_snoc (q ∷ ps) y)
 pub shorter_some : (xs ys : List ℕ) → All (λ b. is_underscore b ≡ false) ys → shorter (xs ++ 95 ∷ ys) ≡ Some xs
 shorter_some xs ys h =
     ap shorter_of (split_snoc xs ys h)
-    ∙ ap (λ c. cond c (Some (join_with_byte 95 (without_last (slice_split is_underscore xs ++ ys ∷ [])))) None) (le-leb _ _ (omega (arith, length-append (slice_split is_underscore xs) (ys ∷ []), underscores xs)))
+    ∙ ap (λ c. cond c (Some (join_with_byte 95 (without_last (slice_split is_underscore xs ++ ys ∷ [])))) None)
+    (le-leb _ _ (omega (arith, length-append (slice_split is_underscore xs) (ys ∷ []), underscores xs)))
     ∙ ap (λ ps. Some (join_with_byte 95 ps)) (without_snoc (slice_split is_underscore xs) ys)
     ∙ ap Some (join_with_byte-slice_split 95 xs)
 
 pub shorter_none : (n : List ℕ) → All (λ b. is_underscore b ≡ false) n → shorter n ≡ None
 shorter_none n h = ap shorter_of (slice_split_none is_underscore n h)
 
-first_parts : (place : Place) (ps : List (List ℕ)) (y : List ℕ) → parts_from place (ps ++ y ∷ []) ≡ Some (ps ++ y ∷ []) → parts_from place ps ≡ Some ps
-first_parts place [] y h = refl
-first_parts place (p ∷ ps) y h = by (part_at place p) refl (parts_from (next_place place) (ps ++ y ∷ [])) refl (λ f. first_parts (next_place place) ps y f)
+first_parts : (position : Position) (ps : List (List ℕ)) (y : List ℕ) → parts_from position (ps ++ y ∷ []) ≡ Some (ps ++ y ∷ [])
+    → parts_from position ps ≡ Some ps
+first_parts position [] y h = refl
+first_parts position (p ∷ ps) y h =
+    by (part_at position p) refl (parts_from (next_position position) (ps ++ y ∷ [])) refl (λ f. first_parts (next_position position) ps y f)
   where
-    by : (o : Option (List ℕ)) → part_at place p ≡ o → (os : Option (List (List ℕ))) → parts_from (next_place place) (ps ++ y ∷ []) ≡ os → (parts_from (next_place place) (ps ++ y ∷ []) ≡ Some (ps ++ y ∷ []) → parts_from (next_place place) ps ≡ Some ps) → parts_from place (p ∷ ps) ≡ Some (p ∷ ps)
-    by None e os f ih = cc (ap (λ z. in_front z (parts_from (next_place place) (ps ++ y ∷ []))) e)
-    by (Some q) e None f ih = cc (ap (λ z. in_front z (parts_from (next_place place) (ps ++ y ∷ []))) e, ap (λ z. in_front (Some q) z) f)
+    by : (o : Option (List ℕ)) → part_at position p ≡ o → (os : Option (List (List ℕ))) → parts_from (next_position position) (ps ++ y ∷ []) ≡ os
+        → (parts_from (next_position position) (ps ++ y ∷ []) ≡ Some (ps ++ y ∷ []) → parts_from (next_position position) ps ≡ Some ps)
+        → parts_from position (p ∷ ps) ≡ Some (p ∷ ps)
+    by None e os f ih = cc (ap (λ z. in_front z (parts_from (next_position position) (ps ++ y ∷ []))) e)
+    by (Some q) e None f ih = cc (ap (λ z. in_front z (parts_from (next_position position) (ps ++ y ∷ []))) e, ap (λ z. in_front (Some q) z) f)
     by (Some q) e (Some rs) f ih =
-        let is : q ∷ rs ≡ p ∷ (ps ++ y ∷ []) = cc (ap (λ z. in_front z (parts_from (next_place place) (ps ++ y ∷ []))) e, ap (λ z. in_front (Some q) z) f) in
+        let is : q ∷ rs ≡ p ∷ (ps ++ y ∷ []) =
+        cc (ap (λ z. in_front z (parts_from (next_position position) (ps ++ y ∷ []))) e, ap (λ z. in_front (Some q) z) f) in
         let one : q ≡ p = cc in
         let more : rs ≡ ps ++ y ∷ [] = cc in
-        ap (λ z. in_front z (parts_from (next_place place) ps)) (e ∙ ap Some one) ∙ ap (λ z. in_front (Some p) z) (ih (f ∙ ap Some more))
+        ap (λ z. in_front z (parts_from (next_position position) ps)) (e ∙ ap Some one) ∙ ap (λ z. in_front (Some p) z) (ih (f ∙ ap Some more))
 
 first_clean : (ps : List (List ℕ)) (y : List ℕ) → AllClean (ps ++ y ∷ []) → AllClean ps
 first_clean [] y a = tt
 first_clean (p ∷ ps) y a = (a.0, first_clean ps y a.1)
 
 -- it is canonical too
-pub shorter_canonical : (xs ys : List ℕ) → All (λ b. is_underscore b ≡ false) ys → written first (xs ++ 95 ∷ ys) ≡ Some (xs ++ 95 ∷ ys) → written first xs ≡ Some xs
+pub shorter_canonical : (xs ys : List ℕ) → All (λ b. is_underscore b ≡ false) ys → written first (xs ++ 95 ∷ ys) ≡ Some (xs ++ 95 ∷ ys)
+    → written first xs ≡ Some xs
 shorter_canonical xs ys h w = by (parts_from first (slice_split is_between (xs ++ 95 ∷ ys))) refl
   where
     by : (o : Option (List (List ℕ))) → parts_from first (slice_split is_between (xs ++ 95 ∷ ys)) ≡ o → written first xs ≡ Some xs
@@ -299,11 +322,14 @@ shorter_canonical xs ys h w = by (parts_from first (slice_split is_between (xs +
         let is : join_with_byte 95 qs ≡ xs ++ 95 ∷ ys = cc (ap (option_map (join_with_byte 95)) e) in
         let kept = parts_kept first (slice_split is_between (xs ++ 95 ∷ ys)) qs e in
         let some : 0 < length qs = omega (arith, kept.some, some_parts (xs ++ 95 ∷ ys)) in
-        let cut : slice_split is_underscore xs ++ ys ∷ [] ≡ qs = sym (split_snoc xs ys h) ∙ ap (slice_split is_underscore) (sym is) ∙ split_joined is_underscore sign_not_underscore refl qs some kept.clean in
-        let own : parts_from first (slice_split is_underscore xs) ≡ Some (slice_split is_underscore xs) = first_parts first (slice_split is_underscore xs) ys (subst (λ l. parts_from first l ≡ Some l) (sym cut) kept.again) in
+        let cut : slice_split is_underscore xs ++ ys ∷ [] ≡ qs =
+        sym (split_snoc xs ys h) ∙ ap (slice_split is_underscore) (sym is) ∙ split_joined is_underscore sign_not_underscore refl qs some kept.clean in
+        let own : parts_from first (slice_split is_underscore xs) ≡ Some (slice_split is_underscore xs) =
+        first_parts first (slice_split is_underscore xs) ys (subst (λ l. parts_from first l ≡ Some l) (sym cut) kept.again) in
         let clean : AllClean (slice_split is_underscore xs) = first_clean (slice_split is_underscore xs) ys (subst AllClean (sym cut) kept.clean) in
         let whole : join_with_byte 95 (slice_split is_underscore xs) ≡ xs = join_with_byte-slice_split 95 xs in
-        let same : slice_split is_between xs ≡ slice_split is_underscore xs = ap (slice_split is_between) (sym whole) ∙ split_joined is_between sign_within refl (slice_split is_underscore xs) (underscores xs) clean in
+        let same : slice_split is_between xs ≡ slice_split is_underscore xs =
+        ap (slice_split is_between) (sym whole) ∙ split_joined is_between sign_within refl (slice_split is_underscore xs) (underscores xs) clean in
         ap (λ ss. option_map (join_with_byte 95) (parts_from first ss)) same ∙ ap (option_map (join_with_byte 95)) own ∙ ap Some whole
 
 -- where the last underscore is

@@ -7,6 +7,6 @@ abbrev pub NoneFrom : List ℕ → ℕ → Type 0
 NoneFrom bs k = (j : ℕ) → k < j + 1 → j < length bs → is_underscore (slice_index bs j) ≡ false
 
 -- the index of the last one
-abbrev pub IsLastPlace : List ℕ → Option ℕ → Type 0
-IsLastPlace bs None = NoneFrom bs 0
-IsLastPlace bs (Some i) = (i < length bs) × (slice_index bs i ≡ 95) × NoneFrom bs (i + 1)
+abbrev pub IsLastIndex : List ℕ → Option ℕ → Type 0
+IsLastIndex bs None = NoneFrom bs 0
+IsLastIndex bs (Some i) = (i < length bs) × (slice_index bs i ≡ 95) × NoneFrom bs (i + 1)

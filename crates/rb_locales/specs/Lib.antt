@@ -1,5 +1,5 @@
 pub mod Locale
-pub mod Places
+pub mod Positions
 pub mod Short
 pub mod Last
 pub mod Narrow

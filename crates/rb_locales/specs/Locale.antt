@@ -1,7 +1,7 @@
 -- The canonical names of locales, in this profile of the identifiers of UTS #35 (LDML) and of ICU's
 -- `uloc_canonicalize`: parts between underscores, the first a language in lower case, a second part of
 -- four letters a script in title case, every other part in upper case; what follows an `@` is no
--- part of the name. That a name has at most 64 bytes is this project's own rule. It speaks of parts, never of places in a text.
+-- part of the name. That a name has at most 64 bytes is this project's own rule. It speaks of parts, never of indexes in a text.
 use Rattle.std.specs.Prelude.{◌==◌, ◌&&◌, ◌||◌, ℕ, List, [], ◌∷◌, length, Bool, Option, Some, None, option_map, take, map, if◌then◌else◌, nat_le, codes}
 use Rattle.std.specs.Option.{option_zip}
 use Rattle.std.specs.List.{slice_split, list_all, join_with_byte, position_or_len}
@@ -18,16 +18,16 @@ before_at bs = take (position_or_len is_at bs) bs
 abbrev pub is_between : ℕ → Bool
 is_between b = b == 95 || b == 45
 
--- the place of a part in its name
-pub data Place : Type 0 where
-  first : Place
-  second : Place
-  later : Place
+-- the position of a part in its name
+pub data Position : Type 0 where
+  first : Position
+  second : Position
+  later : Position
 
-abbrev pub next_place : Place → Place
-next_place first = second
-next_place second = later
-next_place later = later
+abbrev pub next_position : Position → Position
+next_position first = second
+next_position second = later
+next_position later = later
 
 -- two to eight letters, in lower case
 abbrev pub is_language : List ℕ → Bool
@@ -48,8 +48,8 @@ title (b ∷ bs) = to_ascii_uppercase b ∷ map to_ascii_lowercase bs
 abbrev pub subtag : List ℕ → Option (List ℕ)
 subtag p = if is_subtag p then Some (map to_ascii_uppercase p) else None
 
--- a part as it is written at its place, if it may be there
-abbrev pub part_at : Place → List ℕ → Option (List ℕ)
+-- a part as it is written at its position, if it may be there
+abbrev pub part_at : Position → List ℕ → Option (List ℕ)
 part_at first p = if is_language p then Some (map to_ascii_lowercase p) else None
 part_at second p = if is_script p then Some (title p) else subtag p
 part_at later p = subtag p
@@ -58,13 +58,13 @@ part_at later p = subtag p
 abbrev pub in_front : Option (List ℕ) → Option (List (List ℕ)) → Option (List (List ℕ))
 in_front p ps = option_map (λ q. q.0 ∷ q.1) (option_zip p ps)
 
-abbrev pub parts_from : Place → List (List ℕ) → Option (List (List ℕ))
-parts_from place [] = Some []
-parts_from place (p ∷ ps) = in_front (part_at place p) (parts_from (next_place place) ps)
+abbrev pub parts_from : Position → List (List ℕ) → Option (List (List ℕ))
+parts_from position [] = Some []
+parts_from position (p ∷ ps) = in_front (part_at position p) (parts_from (next_position position) ps)
 
 -- the parts as they are written, with underscores between them
-abbrev pub written : Place → List ℕ → Option (List ℕ)
-written place bs = option_map (join_with_byte 95) (parts_from place (slice_split is_between bs))
+abbrev pub written : Position → List ℕ → Option (List ℕ)
+written position bs = option_map (join_with_byte 95) (parts_from position (slice_split is_between bs))
 
 -- the empty name is that of the root, and a name has at most 64 bytes
 abbrev pub named : List ℕ → Option (List ℕ)

@@ -1,13 +1,13 @@
-// The parts of a name, written in the case of their place.
+// The parts of a name, written in the case of their position.
 ghost use Rattle.std.specs.Prelude.{◌≡◌, ◌<◌, ◌≤◌, length, if◌then◌else◌, Some, None, List, ℕ, Option};
 ghost use Rattle.std.specs.List.{list_all, position_or_len};
 ghost use Rattle.std.specs.Char.{is_ascii_alphabetic, is_ascii_alphanumeric};
-ghost use Rattle.rb_locales.specs.Locale.{is_between, next_place, part_at, written, title, subtag};
-ghost use Rattle.rb_locales.specs.Places.{place_of};
+ghost use Rattle.rb_locales.specs.Locale.{is_between, next_position, part_at, written, title, subtag};
+ghost use Rattle.rb_locales.specs.Positions.{position_of};
 
-// The place of a part in its name.
+// The position of a part in its name.
 #[derive(Clone, Copy)]
-pub(crate) enum Place {
+pub(crate) enum Position {
     First,
     Second,
     Later,
@@ -55,25 +55,25 @@ fn write_subtag(part: &mut [u8]) -> bool
     true
 }
 
-fn write_part(place: Place, part: &mut [u8]) -> bool
-    ensures { part_at (place_of place) part.old ≡ (if result then Some part.new else None) }
+fn write_part(position: Position, part: &mut [u8]) -> bool
+    ensures { part_at (position_of position) part.old ≡ (if result then Some part.new else None) }
 {
-    match place {
-        Place::First => {
+    match position {
+        Position::First => {
             if part.len() < 2 || part.len() > 8 || !are_letters(part) {
                 return false;
             }
             part.make_ascii_lowercase();
             true
         }
-        Place::Second => {
+        Position::Second => {
             if part.len() == 4 && are_letters(part) {
                 write_title(part);
                 return true;
             }
             write_subtag(part)
         }
-        Place::Later => write_subtag(part),
+        Position::Later => write_subtag(part),
     }
 }
 
@@ -91,27 +91,27 @@ fn part_end(rest: &[u8]) -> usize
     rest.len()
 }
 
-fn following(place: Place) -> Place
-    ensures { place_of result ≡ next_place (place_of place) }
+fn following(position: Position) -> Position
+    ensures { position_of result ≡ next_position (position_of position) }
 {
-    match place {
-        Place::First => Place::Second,
-        _ => Place::Later,
+    match position {
+        Position::First => Position::Second,
+        _ => Position::Later,
     }
 }
 
 // Writes the parts from here on.
 #[tactic(auto, using(crate::proofs::Parts::written_bad, crate::proofs::Parts::written_last))]
-pub(crate) fn write_parts(place: Place, rest: &mut [u8]) -> bool
-    ensures { written (place_of place) rest.old ≡ (if result then Some rest.new else None) }
+pub(crate) fn write_parts(position: Position, rest: &mut [u8]) -> bool
+    ensures { written (position_of position) rest.old ≡ (if result then Some rest.new else None) }
 {
     let end = part_end(rest);
-    if !write_part(place, &mut rest[..end]) {
+    if !write_part(position, &mut rest[..end]) {
         return false;
     }
     if end == rest.len() {
         return true;
     }
     rest[end] = b'_';
-    write_parts(following(place), &mut rest[end + 1..])
+    write_parts(following(position), &mut rest[end + 1..])
 }

@@ -3,9 +3,9 @@ ghost use Rattle.std.specs.Prelude.{◌≡◌, ◌≤◌, ◌++◌, ◌↔◌, �
 ghost use Rattle.std.specs.Result.{result_ok};
 ghost use Rattle.std.specs.List.{position_or_len};
 ghost use Rattle.rb_locales.specs.Locale.{name, shorter, is_at};
-ghost use Rattle.rb_locales.specs.Last.{IsLastPlace};
+ghost use Rattle.rb_locales.specs.Last.{IsLastIndex};
 
-use crate::casing::{Place, write_parts};
+use crate::casing::{Position, write_parts};
 use crate::fault::BadLocale;
 use crate::limits::NAME_LIMIT;
 use std::marker::Model;
@@ -72,6 +72,11 @@ impl Name {
     ///
     /// What follows the first `@` is left out, and the empty name is `root`. `BadLocale`: the text is no name, or has more than 64
     /// bytes before the `@`.
+    ///
+    /// ```rust
+    /// let name = Name::read(b"ZH-hant-tw@x=y")?; // zh_Hant_TW
+    /// name.shorter() // zh_Hant
+    /// ```
     #[tactic(auto, using(crate::proofs::Canon::own_name))]
     pub fn read(bytes: &[u8]) -> Result<Name, BadLocale>
         ensures name { result_ok result ≡ name bytes.now }
@@ -87,7 +92,7 @@ impl Name {
         }
         let mut field = [0u8; NAME_LIMIT];
         put_front(&mut field, &bytes[..end]);
-        if !write_parts(Place::First, &mut field[..end]) {
+        if !write_parts(Position::First, &mut field[..end]) {
             return Err(BadLocale);
         }
         Ok(Name {
@@ -125,9 +130,9 @@ impl Name {
     }
 }
 
-// The place of the last underscore.
+// The index of the last underscore.
 fn last_underscore(bytes: &[u8]) -> Option<usize>
-    ensures { IsLastPlace bytes.now result }
+    ensures { IsLastIndex bytes.now result }
 {
     let mut end = bytes.len();
     while end > 0 {

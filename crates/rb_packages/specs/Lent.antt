@@ -27,4 +27,5 @@ bundles_lent shelf = bundle_at (shelf_of (files_in shelf))
 -- what is lent at a name is word 0 of the data of the file there
 abbrev pub LendsRoot : Files → List ℕ → Option (Item × Bool) → Type 0
 LendsRoot files name None = Unit {0}
-LendsRoot files name (Some lent) = (file : List ℕ) × (lookup (bytes_eq name) files ≡ Some file) × (item_data lent.0 ≡ data_of file) × (item_word lent.0 ≡ word_at (data_of file) 0)
+LendsRoot files name (Some lent) = (file : List ℕ) × (lookup (bytes_eq name) files ≡ Some file) × (item_data lent.0 ≡ data_of file)
+    × (item_word lent.0 ≡ word_at (data_of file) 0)

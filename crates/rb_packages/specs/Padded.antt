@@ -15,7 +15,8 @@ pub record IsPadded (most len : ℕ) (bytes : List ℕ) : Type 0 where
 abbrev pub padded : ℕ → List ℕ → List ℕ
 padded most bs = bs ++ replicate (most - length bs) 0
 
-pub padded-take : {A : Type 0} (most len : ℕ) (bytes : List ℕ) (make : List ℕ → ℕ → A) → IsPadded most len bytes → make (padded most (take len bytes)) (length (take len bytes)) ≡ make bytes len
+pub padded-take : {A : Type 0} (most len : ℕ) (bytes : List ℕ) (make : List ℕ → ℕ → A) → IsPadded most len bytes
+    → make (padded most (take len bytes)) (length (take len bytes)) ≡ make bytes len
 padded-take most len bytes make h =
     let l : length (take len bytes) ≡ len = length-take-le len bytes (omega arith) in
     let b : take len bytes ++ replicate (most - len) 0 ≡ bytes = rw (← h.rest) (take-append-drop len bytes) in

@@ -73,6 +73,11 @@ impl Packages {
 
     /// Adds a bundle of an application, last in its order. `Exists`: the application has one of that name. `Full`: it has 4,096
     /// bundles. `Memory`: out of memory. An error changes nothing and gives the bundle back.
+    ///
+    /// ```rust
+    /// let mut packages = Packages::new(alloc, RandomState::new(rt)?);
+    /// packages.install(&App::read(b"shop")?, de, bundle)?;
+    /// ```
     pub fn install(
         &mut self,
         app: &App,

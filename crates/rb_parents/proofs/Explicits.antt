@@ -1,5 +1,6 @@
 -- Explicit parents, entry by entry and child by child.
-use Rattle.std.proofs.Common.{◌≡◌, ◌≤◌, ◌<◌, ◌+◌, ◌⊎◌, inl, inr, ℕ, zero, suc, List, [], ◌∷◌, length, drop, get_or, map, cond, false, nat_eq, Option, Some, None, is_some, Result, Ok, Err, refl, ap, sym, ◌∙◌, subst, arith, IfErr, IsErrAnd}
+use Rattle.std.proofs.Common.{◌≡◌, ◌≤◌, ◌<◌, ◌+◌, ◌⊎◌, inl, inr, ℕ, zero, suc, List, [], ◌∷◌, length, drop, get_or, map, cond, false, nat_eq, Option, Some}
+use Rattle.std.proofs.Common.{None, is_some, Result, Ok, Err, refl, ap, sym, ◌∙◌, subst, arith, IfErr, IsErrAnd}
 use Rattle.std.proofs.Math.Nat.{eq-or-lt_of_le}
 use Rattle.std.proofs.lemmas.List.{at_drop_more, at_drop_all}
 use Rattle.std.proofs.lemmas.Option.{get_or_from_slice_get, slice_get_within}
@@ -36,7 +37,8 @@ text_none (alias us) k = refl
 text_none (array ts) k = refl
 text_none (table es) k = refl
 
-pub strings_all : (ts : List Resource) → ((k : ℕ) (d : Resource) → k < length ts → kind_of (get_or ts k d) ≡ Kinds.String) → texts_of ts ≡ Some (map units_of ts)
+pub strings_all : (ts : List Resource) → ((k : ℕ) (d : Resource) → k < length ts → kind_of (get_or ts k d) ≡ Kinds.String)
+    → texts_of ts ≡ Some (map units_of ts)
 strings_all [] h = refl
 strings_all (t ∷ ts) h = cc (text_some t (h 0 t (omega arith)), strings_all ts (λ k d l. h (suc k) d (omega arith)))
 
@@ -70,30 +72,39 @@ array_len (array ts) k = refl
 array_len (table es) k = cc
 
 -- ---- one child
-pub put_new : (old new : ParentsOf) (parent child : List ℕ) → is_some (old child) ≡ false → ((q : List ℕ) → new q ≡ cond (is_eq (slice_cmp nat_cmp child q)) (Some parent) (old q)) → put_child parent (Some child) old ≡ Ok new
+pub put_new : (old new : ParentsOf) (parent child : List ℕ) → is_some (old child) ≡ false
+    → ((q : List ℕ) → new q ≡ cond (is_eq (slice_cmp nat_cmp child q)) (Some parent) (old q)) → put_child parent (Some child) old ≡ Ok new
 put_new old new parent child none more =
     ap (λ b. cond b (Err fault.TwoParents) (Ok (update (pointwise nat_eq) old child (Some parent)))) none
-    ∙ (let same : (q : List ℕ) → update (pointwise nat_eq) old child (Some parent) q ≡ new q = λ q. ap (λ b. cond b (Some parent) (old q)) (sym (is_eq-slice_cmp child q)) ∙ sym (more q) in
+    ∙ (let same : (q : List ℕ) → update (pointwise nat_eq) old child (Some parent) q
+    ≡ new q = λ q. ap (λ b. cond b (Some parent) (old q)) (sym (is_eq-slice_cmp child q)) ∙ sym (more q) in
     λ i. Ok (λ q. same q i))
 
 -- ---- the children of a value
-pub children_on : (parent : List ℕ) (ts : List Resource) (i : ℕ) (x : Resource) (known more : ParentsOf) → slice_get ts i ≡ Some x → put_child parent (name (units_of x)) known ≡ Ok more → put_children parent (map units_of (drop i ts)) known ≡ put_children parent (map units_of (drop (i + 1) ts)) more
+pub children_on : (parent : List ℕ) (ts : List Resource) (i : ℕ) (x : Resource) (known more : ParentsOf) → slice_get ts i ≡ Some x
+    → put_child parent (name (units_of x)) known ≡ Ok more → put_children parent (map units_of (drop i ts)) known
+    ≡ put_children parent (map units_of (drop (i + 1) ts)) more
 children_on parent ts i x known more e h =
     at_drop_more (λ xs. put_children parent (map units_of xs) known) ts i x (slice_get_within ts i x e)
-    ∙ ap (λ y. and_then (λ m. put_children parent (map units_of (drop (i + 1) ts)) m) (put_child parent (name (units_of y)) known)) (get_or_from_slice_get ts i x x e)
+    ∙ ap (λ y. and_then (λ m. put_children parent (map units_of (drop (i + 1) ts)) m) (put_child parent (name (units_of y)) known))
+    (get_or_from_slice_get ts i x x e)
     ∙ ap (and_then (λ m. put_children parent (map units_of (drop (i + 1) ts)) m)) h
 
-pub children_bad : (parent : List ℕ) (ts : List Resource) (i : ℕ) (x : Resource) (known : ParentsOf) (f : ParentsFault) → slice_get ts i ≡ Some x → put_child parent (name (units_of x)) known ≡ Err f → put_children parent (map units_of (drop i ts)) known ≡ Err f
+pub children_bad : (parent : List ℕ) (ts : List Resource) (i : ℕ) (x : Resource) (known : ParentsOf) (f : ParentsFault) → slice_get ts i ≡ Some x
+    → put_child parent (name (units_of x)) known ≡ Err f → put_children parent (map units_of (drop i ts)) known ≡ Err f
 children_bad parent ts i x known f e h =
     at_drop_more (λ xs. put_children parent (map units_of xs) known) ts i x (slice_get_within ts i x e)
-    ∙ ap (λ y. and_then (λ m. put_children parent (map units_of (drop (i + 1) ts)) m) (put_child parent (name (units_of y)) known)) (get_or_from_slice_get ts i x x e)
+    ∙ ap (λ y. and_then (λ m. put_children parent (map units_of (drop (i + 1) ts)) m) (put_child parent (name (units_of y)) known))
+    (get_or_from_slice_get ts i x x e)
     ∙ ap (and_then (λ m. put_children parent (map units_of (drop (i + 1) ts)) m)) h
 
-pub children_end : (parent : List ℕ) (ts : List Resource) (i : ℕ) (known : ParentsOf) → length ts ≤ i → put_children parent (map units_of (drop i ts)) known ≡ Ok known
+pub children_end : (parent : List ℕ) (ts : List Resource) (i : ℕ) (known : ParentsOf) → length ts ≤ i
+    → put_children parent (map units_of (drop i ts)) known ≡ Ok known
 children_end parent ts i known h = at_drop_all (λ xs. put_children parent (map units_of xs) known) ts i h
 
 -- ---- the entries of a table
-pair_at : (ps : List (List ℕ × Resource)) (i : ℕ) (k : List ℕ) (t : Resource) → slice_get (keys_of ps) i ≡ Some k → slice_get (values_of ps) i ≡ Some t → slice_get ps i ≡ Some (k, t)
+pair_at : (ps : List (List ℕ × Resource)) (i : ℕ) (k : List ℕ) (t : Resource) → slice_get (keys_of ps) i ≡ Some k → slice_get (values_of ps) i ≡ Some t
+    → slice_get ps i ≡ Some (k, t)
 pair_at [] i k t e f = absurd (omega (arith, slice_get_within [] i k e))
 pair_at (p ∷ ps) zero k t e f = λ i. Some (get_or_from_slice_get (p.0 ∷ keys_of ps) 0 k k e i, get_or_from_slice_get (p.1 ∷ values_of ps) 0 t t f i)
 pair_at (p ∷ ps) (suc i) k t e f = pair_at ps i k t e f
@@ -116,26 +127,33 @@ table_len (alias us) k = cc
 table_len (array ts) k = cc
 table_len (table es) k = refl
 
-entry_at : (u : Resource) (i : ℕ) (k : List ℕ) (t : Resource) → kind_of u ≡ Kinds.Table → slice_get (keys_of (pairs_of u)) i ≡ Some k → slice_get (children_of u) i ≡ Some t → slice_get (pairs_of u) i ≡ Some (k, t)
+entry_at : (u : Resource) (i : ℕ) (k : List ℕ) (t : Resource) → kind_of u ≡ Kinds.Table → slice_get (keys_of (pairs_of u)) i ≡ Some k
+    → slice_get (children_of u) i ≡ Some t → slice_get (pairs_of u) i ≡ Some (k, t)
 entry_at u i k t h e f = pair_at (pairs_of u) i k t e (ap (λ xs. slice_get xs i) (sym (table_pairs u h)) ∙ f)
 
-first_entry : (ps : List (List ℕ × Resource)) (i : ℕ) (p : List ℕ × Resource) (known : ParentsOf) (r : Read) → slice_get ps i ≡ Some p → put_entry (name p.0) p.1 known ≡ r → put_entries (drop i ps) known ≡ and_then (λ m. put_entries (drop (i + 1) ps) m) r
+first_entry : (ps : List (List ℕ × Resource)) (i : ℕ) (p : List ℕ × Resource) (known : ParentsOf) (r : Read) → slice_get ps i ≡ Some p
+    → put_entry (name p.0) p.1 known ≡ r → put_entries (drop i ps) known ≡ and_then (λ m. put_entries (drop (i + 1) ps) m) r
 first_entry ps i p known r e h =
     at_drop_more (λ xs. put_entries xs known) ps i p (slice_get_within ps i p e)
     ∙ ap (λ (y : List ℕ × Resource). and_then (λ m. put_entries (drop (i + 1) ps) m) (put_entry (name y.0) y.1 known)) (get_or_from_slice_get ps i p p e)
     ∙ ap (and_then (λ m. put_entries (drop (i + 1) ps) m)) h
 
-pub entries_on : (u : Resource) (i : ℕ) (k : List ℕ) (t : Resource) (known more : ParentsOf) → kind_of u ≡ Kinds.Table → slice_get (keys_of (pairs_of u)) i ≡ Some k → slice_get (children_of u) i ≡ Some t → put_entry (name k) t known ≡ Ok more → put_entries (drop i (pairs_of u)) known ≡ put_entries (drop (i + 1) (pairs_of u)) more
+pub entries_on : (u : Resource) (i : ℕ) (k : List ℕ) (t : Resource) (known more : ParentsOf) → kind_of u ≡ Kinds.Table
+    → slice_get (keys_of (pairs_of u)) i ≡ Some k → slice_get (children_of u) i ≡ Some t → put_entry (name k) t known ≡ Ok more
+    → put_entries (drop i (pairs_of u)) known ≡ put_entries (drop (i + 1) (pairs_of u)) more
 entries_on u i k t known more is e f h = first_entry (pairs_of u) i (k, t) known (Ok more) (entry_at u i k t is e f) h
 
-pub entries_bad : (u : Resource) (i : ℕ) (k : List ℕ) (t : Resource) (known : ParentsOf) (g : ParentsFault) → kind_of u ≡ Kinds.Table → slice_get (keys_of (pairs_of u)) i ≡ Some k → slice_get (children_of u) i ≡ Some t → put_entry (name k) t known ≡ Err g → put_entries (drop i (pairs_of u)) known ≡ Err g
+pub entries_bad : (u : Resource) (i : ℕ) (k : List ℕ) (t : Resource) (known : ParentsOf) (g : ParentsFault) → kind_of u ≡ Kinds.Table
+    → slice_get (keys_of (pairs_of u)) i ≡ Some k → slice_get (children_of u) i ≡ Some t → put_entry (name k) t known ≡ Err g
+    → put_entries (drop i (pairs_of u)) known ≡ Err g
 entries_bad u i k t known g is e f h = first_entry (pairs_of u) i (k, t) known (Err g) (entry_at u i k t is e f) h
 
 pub entries_end : (u : Resource) (i : ℕ) (known : ParentsOf) → kind_of u ≡ Kinds.Table → len_of u ≤ i → put_entries (drop i (pairs_of u)) known ≡ Ok known
 entries_end u i known k h = at_drop_all (λ xs. put_entries xs known) (pairs_of u) i (omega (arith, table_len u k))
 
--- a fault that a step met is the fault of the whole, or memory was wanting
-pub fault_on : (e : ParentsFault) (part whole : Read) → (part ≡ Err e → whole ≡ Err e) → (e ≡ fault.Memory) ⊎ (part ≡ Err e) → (e ≡ fault.Memory) ⊎ (whole ≡ Err e)
+-- an error that a step met is the error of the whole, or memory ran out
+pub fault_on : (e : ParentsFault) (part whole : Read) → (part ≡ Err e → whole ≡ Err e) → (e ≡ fault.Memory) ⊎ (part ≡ Err e)
+    → (e ≡ fault.Memory) ⊎ (whole ≡ Err e)
 fault_on e part whole h (inl m) = inl m
 fault_on e part whole h (inr f) = inr (h f)
 
@@ -145,8 +163,10 @@ err_is (Ok v) f P h p = tt
 err_is (Err e) f P h p = subst P (sym h) p
 
 -- one more string
-pub string_more : (ts : List Resource) (i : ℕ) (x : Resource) → slice_get ts i ≡ Some x → kind_of x ≡ Kinds.String → ((k : ℕ) (d : Resource) → k < i → kind_of (get_or ts k d) ≡ Kinds.String) → (k : ℕ) (d : Resource) → k < i + 1 → kind_of (get_or ts k d) ≡ Kinds.String
-string_more ts i x e s h k d l = let le : k ≤ i = omega arith in elim (eq-or-lt_of_le le) [ inl q ↦ ap (λ j. kind_of (get_or ts j d)) q ∙ ap kind_of (get_or_from_slice_get ts i x d e) ∙ s | inr q ↦ h k d q ]
+pub string_more : (ts : List Resource) (i : ℕ) (x : Resource) → slice_get ts i ≡ Some x → kind_of x ≡ Kinds.String
+    → ((k : ℕ) (d : Resource) → k < i → kind_of (get_or ts k d) ≡ Kinds.String) → (k : ℕ) (d : Resource) → k < i + 1 → kind_of (get_or ts k d) ≡ Kinds.String
+string_more ts i x e s h k d l = let le : k ≤ i = omega arith in
+    elim (eq-or-lt_of_le le) [ inl q ↦ ap (λ j. kind_of (get_or ts j d)) q ∙ ap kind_of (get_or_from_slice_get ts i x d e) ∙ s | inr q ↦ h k d q ]
 
 -- where all items are strings, each is one
 texts_each : (ts : List Resource) (i : ℕ) (x : Resource) (uss : List (List ℕ)) → texts_of ts ≡ Some uss → slice_get ts i ≡ Some x → kind_of x ≡ Kinds.String
@@ -165,5 +185,6 @@ texts_each ts i x uss e h = by (kind_string x)
     kind_string (array ts) = inr (λ k. cc)
     kind_string (table es) = inr (λ k. cc)
 
-pub string_in : (t : Resource) (i : ℕ) (x : Resource) → kind_of t ≡ Kinds.Array → texts_in t ≡ Some (map units_of (children_of t)) → slice_get (children_of t) i ≡ Some x → kind_of x ≡ Kinds.String
+pub string_in : (t : Resource) (i : ℕ) (x : Resource) → kind_of t ≡ Kinds.Array → texts_in t ≡ Some (map units_of (children_of t))
+    → slice_get (children_of t) i ≡ Some x → kind_of x ≡ Kinds.String
 string_in t i x k e h = texts_each (children_of t) i x (map units_of (children_of t)) (sym (array_texts t k) ∙ e) h

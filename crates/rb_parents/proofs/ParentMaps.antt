@@ -1,5 +1,6 @@
 -- The reading of explicit parents is the map that the entries name.
-use Rattle.std.proofs.Common.{◌≡◌, ◌⊎◌, inl, inr, ℕ, zero, suc, List, [], ◌∷◌, ◌++◌, map, Bool, true, false, cond, nat_eq, Option, Some, None, is_some, Ok, Err, refl, ap, sym, ◌∙◌, subst}
+use Rattle.std.proofs.Common.{◌≡◌, ◌⊎◌, inl, inr, ℕ, zero, suc, List, [], ◌∷◌, ◌++◌, map, Bool, true, false, cond, nat_eq, Option, Some, None, is_some, Ok, Err}
+use Rattle.std.proofs.Common.{refl, ap, sym, ◌∙◌, subst}
 use Rattle.std.proofs.lemmas.Bool.Decides.{Decides-eqb}
 use Rattle.std.proofs.lemmas.Slice.Eq.{slice_eq-Decides}
 use Rattle.std.specs.List.{filter_map}
@@ -22,12 +23,15 @@ abbrev put_all : List (List ℕ × List ℕ) → ParentsOf → Read
 put_all [] known = Ok known
 put_all (s ∷ ss) known = and_then (λ more. put_all ss more) (put_named (name s.1) (name s.0) known)
 
-children_all : (key parent : List ℕ) (uss : List (List ℕ)) (rest : List (List ℕ × List ℕ)) (known : ParentsOf) → name key ≡ Some parent → put_all (map (λ us. (us, key)) uss ++ rest) known ≡ and_then (λ m. put_all rest m) (put_children parent uss known)
+children_all : (key parent : List ℕ) (uss : List (List ℕ)) (rest : List (List ℕ × List ℕ)) (known : ParentsOf) → name key ≡ Some parent
+    → put_all (map (λ us. (us, key)) uss ++ rest) known ≡ and_then (λ m. put_all rest m) (put_children parent uss known)
 children_all key parent [] rest known e = refl
 children_all key parent (us ∷ uss) rest known e =
-    ap (λ o. and_then (λ m. put_all (map (λ vs. (vs, key)) uss ++ rest) m) (put_named o (name us) known)) e ∙ by (λ m. children_all key parent uss rest m e) (put_child parent (name us) known)
+    ap (λ o. and_then (λ m. put_all (map (λ vs. (vs, key)) uss ++ rest) m) (put_named o (name us) known)) e
+    ∙ by (λ m. children_all key parent uss rest m e) (put_child parent (name us) known)
   where
-    by : ((m : ParentsOf) → put_all (map (λ vs. (vs, key)) uss ++ rest) m ≡ and_then (λ n. put_all rest n) (put_children parent uss m)) → (r : Read) → and_then (λ m. put_all (map (λ vs. (vs, key)) uss ++ rest) m) r ≡ and_then (λ m. put_all rest m) (and_then (λ m. put_children parent uss m) r)
+    by : ((m : ParentsOf) → put_all (map (λ vs. (vs, key)) uss ++ rest) m ≡ and_then (λ n. put_all rest n) (put_children parent uss m)) → (r : Read)
+        → and_then (λ m. put_all (map (λ vs. (vs, key)) uss ++ rest) m) r ≡ and_then (λ m. put_all rest m) (and_then (λ m. put_children parent uss m) r)
     by more (Ok m) = more m
     by more (Err f) = refl
 
@@ -35,7 +39,8 @@ strings_kept : (ts : List Resource) (uss : List (List ℕ)) → texts_of ts ≡ 
 strings_kept [] uss e = cc
 strings_kept (t ∷ ts) uss e = by (λ vss g. strings_kept ts vss g) (text_of t) (texts_of ts) refl refl
   where
-    by : ((vss : List (List ℕ)) → texts_of ts ≡ Some vss → filter_map text_of ts ≡ vss) → (o : Option (List ℕ)) (p : Option (List (List ℕ))) → text_of t ≡ o → texts_of ts ≡ p → filter_map text_of (t ∷ ts) ≡ uss
+    by : ((vss : List (List ℕ)) → texts_of ts ≡ Some vss → filter_map text_of ts ≡ vss) → (o : Option (List ℕ)) (p : Option (List (List ℕ))) → text_of t ≡ o
+        → texts_of ts ≡ p → filter_map text_of (t ∷ ts) ≡ uss
     by more None p f g = cc
     by more (Some us) None f g = cc
     by more (Some us) (Some vss) f g = cc (more vss g)
@@ -53,21 +58,26 @@ entries_all : (es : List (List ℕ × Resource)) (known m : ParentsOf) → put_e
 entries_all [] known m e = e
 entries_all (x ∷ es) known m e = by (λ more h. entries_all es more m h) (name x.0) (texts_in x.1) refl refl
   where
-    rest : ((more : ParentsOf) → put_entries es more ≡ Ok m → put_all (mentions es) more ≡ Ok m) → (r : Read) → and_then (λ more. put_entries es more) r ≡ Ok m → and_then (λ more. put_all (mentions es) more) r ≡ Ok m
+    rest : ((more : ParentsOf) → put_entries es more ≡ Ok m → put_all (mentions es) more ≡ Ok m) → (r : Read) → and_then (λ more. put_entries es more) r ≡ Ok m
+        → and_then (λ more. put_all (mentions es) more) r ≡ Ok m
     rest go (Ok more) h = go more h
     rest go (Err f) h = cc
 
-    by : ((more : ParentsOf) → put_entries es more ≡ Ok m → put_all (mentions es) more ≡ Ok m) → (o : Option (List ℕ)) (p : Option (List (List ℕ))) → name x.0 ≡ o → texts_in x.1 ≡ p → put_all (mentions (x ∷ es)) known ≡ Ok m
+    by : ((more : ParentsOf) → put_entries es more ≡ Ok m → put_all (mentions es) more ≡ Ok m) → (o : Option (List ℕ)) (p : Option (List (List ℕ)))
+        → name x.0 ≡ o → texts_in x.1 ≡ p → put_all (mentions (x ∷ es)) known ≡ Ok m
     by go None p f g =
-        let h : and_then (λ more. put_entries es more) (put_entry None x.1 known) ≡ Ok m = sym (ap (λ q. and_then (λ more. put_entries es more) (put_entry q x.1 known)) f) ∙ e in
+        let h : and_then (λ more. put_entries es more) (put_entry None x.1 known) ≡ Ok m =
+        sym (ap (λ q. and_then (λ more. put_entries es more) (put_entry q x.1 known)) f) ∙ e in
         cc
     by go (Some parent) None f g =
         let h : and_then (λ more. put_entries es more) (put_value parent None known) ≡ Ok m =
-        sym (ap (λ q. and_then (λ more. put_entries es more) (put_entry q x.1 known)) f ∙ ap (λ q. and_then (λ more. put_entries es more) (put_value parent q known)) g) ∙ e in
+        sym (ap (λ q. and_then (λ more. put_entries es more) (put_entry q x.1 known)) f
+        ∙ ap (λ q. and_then (λ more. put_entries es more) (put_value parent q known)) g) ∙ e in
         cc
     by go (Some parent) (Some uss) f g =
         let h : and_then (λ more. put_entries es more) (put_children parent uss known) ≡ Ok m =
-        sym (ap (λ q. and_then (λ more. put_entries es more) (put_entry q x.1 known)) f ∙ ap (λ q. and_then (λ more. put_entries es more) (put_value parent q known)) g) ∙ e in
+        sym (ap (λ q. and_then (λ more. put_entries es more) (put_entry q x.1 known)) f
+        ∙ ap (λ q. and_then (λ more. put_entries es more) (put_value parent q known)) g) ∙ e in
         ap (λ l. put_all (map (λ us. (us, x.0)) l ++ mentions es) known) (texts_kept x.1 uss g)
         ∙ children_all x.0 parent uss (mentions es) known f
         ∙ rest go (put_children parent uss known) h
@@ -96,10 +106,12 @@ record IsPut (s : List ℕ × List ℕ) (known : ParentsOf) (go : ParentsOf → 
   new : known child ≡ None
   left : go (update (pointwise nat_eq) known child (Some parent)) ≡ Ok m
 
-put_is : (s : List ℕ × List ℕ) (known : ParentsOf) (go : ParentsOf → Read) (m : ParentsOf) → and_then go (put_named (name s.1) (name s.0) known) ≡ Ok m → IsPut s known go m
+put_is : (s : List ℕ × List ℕ) (known : ParentsOf) (go : ParentsOf → Read) (m : ParentsOf) → and_then go (put_named (name s.1) (name s.0) known) ≡ Ok m
+    → IsPut s known go m
 put_is s known go m e = by (name s.1) (name s.0) refl refl e
   where
-    fresh : (parent child : List ℕ) → name s.1 ≡ Some parent → name s.0 ≡ Some child → (o : Option (List ℕ)) → known child ≡ o → and_then go (cond (is_some o) (Err fault.TwoParents) (Ok (update (pointwise nat_eq) known child (Some parent)))) ≡ Ok m → IsPut s known go m
+    fresh : (parent child : List ℕ) → name s.1 ≡ Some parent → name s.0 ≡ Some child → (o : Option (List ℕ)) → known child ≡ o
+        → and_then go (cond (is_some o) (Err fault.TwoParents) (Ok (update (pointwise nat_eq) known child (Some parent)))) ≡ Ok m → IsPut s known go m
     fresh parent child f g None n h = record { child = child; parent = parent; child_is = g; parent_is = f; new = n; left = h }
     fresh parent child f g (Some q) n h = cc
 
@@ -128,7 +140,8 @@ first_child s ms c p h = let e : s ≡ (h.text, h.key) = cc (h.there) in ap (λ 
 first_parent : (s : List ℕ × List ℕ) (ms : List (List ℕ × List ℕ)) (c p : List ℕ) → Names (s ∷ ms) 0 c p → name s.1 ≡ Some p
 first_parent s ms c p h = let e : s ≡ (h.text, h.key) = cc (h.there) in ap (λ (q : List ℕ × List ℕ). name q.1) e ∙ h.parent_is
 
-one_over : (s : List ℕ × List ℕ) (ms : List (List ℕ × List ℕ)) (known more m : ParentsOf) (child parent : List ℕ) → name s.0 ≡ Some child → name s.1 ≡ Some parent → known child ≡ None → IsMore known more child parent → IsMapOver more ms m → IsMapOver known (s ∷ ms) m
+one_over : (s : List ℕ × List ℕ) (ms : List (List ℕ × List ℕ)) (known more m : ParentsOf) (child parent : List ℕ) → name s.0 ≡ Some child
+    → name s.1 ≡ Some parent → known child ≡ None → IsMore known more child parent → IsMapOver more ms m → IsMapOver known (s ∷ ms) m
 one_over s ms known more m child parent f g n x r = record { into = into; kept = kept; given = given; fresh = fresh; once = once }
   where
     first : Names (s ∷ ms) 0 child parent

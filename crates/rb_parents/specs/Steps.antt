@@ -11,10 +11,12 @@ next_of step.End = end
 next_of step.Bad = bad
 
 -- a trail of at most so many names, one name on
-pub trail_on : (k j : ℕ) (bundles : Bundles) (parents : ParentsOf) (n : List ℕ) → k ≡ suc j → trail_within k bundles parents n ≡ begins n (onward (λ m. trail_within j bundles parents m) (next bundles parents n))
+pub trail_on : (k j : ℕ) (bundles : Bundles) (parents : ParentsOf) (n : List ℕ) → k ≡ suc j
+    → trail_within k bundles parents n ≡ begins n (onward (λ m. trail_within j bundles parents m) (next bundles parents n))
 unfolding trail_within
 trail_on zero j bundles parents n e = cc
-trail_on (suc k) j bundles parents n e = let same : k ≡ j = cc in ap (λ i. begins n (onward (λ m. trail_within i bundles parents m) (next bundles parents n))) same
+trail_on (suc k) j bundles parents n e = let same : k ≡ j = cc in
+    ap (λ i. begins n (onward (λ m. trail_within i bundles parents m) (next bundles parents n))) same
 
 pub trail_past : (k : ℕ) (bundles : Bundles) (parents : ParentsOf) (n : List ℕ) → k ≡ 0 → trail_within k bundles parents n ≡ chain
 unfolding trail_within

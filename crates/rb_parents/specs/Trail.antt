@@ -2,7 +2,8 @@
 -- UTS #35 (LDML), with `%%ALIAS` and `%%Parent` as ICU's `ures_open` reads them. This profile has no
 -- default locale and no rule for scripts, and a trail of more than 32 names is an error. That a lookup ends at a bundle
 -- without fallback is `URES_ATT_NO_FALLBACK` of `uresdata.h`.
-use Rattle.std.specs.Prelude.{ℕ, zero, suc, List, [], ◌∷◌, Bool, true, false, Option, Some, None, option_and_then, option_map, unwrap_or, codes, is_none, if◌then◌else◌}
+use Rattle.std.specs.Prelude.{ℕ, zero, suc, List, [], ◌∷◌, Bool, true, false, Option, Some, None, option_and_then, option_map, unwrap_or, codes, is_none}
+use Rattle.std.specs.Prelude.{if◌then◌else◌}
 use Rattle.std.specs.List.{filter}
 use Rattle.std.specs.Str.{bytes_eq}
 use Rattle.rb_tree.specs.Resource.{Resource, string, int, ints, binary, alias, array, table}

@@ -39,6 +39,12 @@ impl Parents {
     /// `TwoParents`: a child was named before, also under the same parent. `Memory`: out of memory.
     /// Of an entry the key is read first, then the whole value's shape, then its children. An error
     /// leaves nothing allocated.
+    ///
+    /// ```rust
+    /// // Of the text `x{parentLocales{root{"zh_Hant"}}}`.
+    /// let parents = Parents::read(alloc, &source.tree)?;
+    /// parents.parent(&zh_hant) // Some(Name::root())
+    /// ```
     pub fn read(alloc: Global, tree: &Tree) -> Result<Parents, ParentsFault>
         ensures parents { IfOk result (λ p. explicit (view_of tree.now) ≡ Ok (parent_of p)) }
         ensures fault { IfErr result (λ e. (e ≡ Faults.Memory) ⊎ (explicit (view_of tree.now) ≡ Err e)) }

@@ -132,7 +132,13 @@ fn note_stop(stops: &mut ArrayVec<u8, TRAIL_LIMIT>, i: u8, is_stop: bool)
 ///
 /// `Chain`: there are more than 32 names. `BadParent`: a text that gives the next name is no locale name. The one that is met first
 /// is answered.
-#[tactic(auto, using(crate::proofs::Trails::trail_start, crate::proofs::Trails::trail_bad, crate::proofs::Trails::trail_end, crate::proofs::Trails::trail_goes, crate::proofs::Trails::trail_long, crate::proofs::Trails::places_push, crate::proofs::Trails::stops_named))]
+///
+/// ```rust
+/// let bundles = [(de, tree, false)];
+/// let shelf = ListShelf { entries: &bundles };
+/// let route = trail(shelf, &parents, &de_at)?; // three names, de_AT, de and root, and one stop
+/// ```
+#[tactic(auto, using(crate::proofs::Trails::trail_steps))]
 pub fn trail<'a, S: Shelf<'a>>(
     shelf: S,
     parents: &Parents,

@@ -1,5 +1,6 @@
 -- Bodies, as the code reads them, and the tables of their entries.
-use Rattle.std.proofs.Common.{◌≡◌, ℕ, zero, suc, ◌<◌, ◌++◌, ◌||◌, Bool, true, false, cond, List, [], ◌∷◌, length, get_or, Option, Some, Result, Ok, Err, All, refl, sym, ap, subst, ◌∙◌, arith, ◌⊎◌, inl, inr, nat_eq}
+use Rattle.std.proofs.Common.{◌≡◌, ℕ, zero, suc, ◌<◌, ◌++◌, ◌||◌, Bool, true, false, cond, List, [], ◌∷◌, length, get_or, Option, Some, Result, Ok, Err, All}
+use Rattle.std.proofs.Common.{refl, sym, ap, subst, ◌∙◌, arith, ◌⊎◌, inl, inr, nat_eq}
 use Rattle.std.specs.Map.{lookup}
 use Rattle.std.specs.Cmp.Lexicographic.{pointwise}
 use Rattle.std.proofs.lemmas.List.{map-append}
@@ -16,8 +17,10 @@ use Rattle.rb_tree.specs.View.{view_of}
 use Rattle.rb_tree.specs.declared.tree.Tree.{Tree}
 use Rattle.rb_grammar.specs.Faults.{line_at}
 use Rattle.rb_grammar.specs.Form.{Leaf, string, alias, binary, int, ints, Body, plain, leaf, Entries, no_entries, entry, IsKeyOf}
-use Rattle.rb_grammar.specs.Good.{EachStands, item_at}
-use Rattle.rb_grammar.specs.Reading.{Stop, stop, Read, ◌>>=◌, left, right, colon, begins, tail, punctuation_at, text_at, Word, string_type, alias_type, binary_type, int_type, ints_type, table_type, array_type, word_at, closed, maybe_at, anything, checked_at, numbers, Inner, typed_at, Guess, as_text, as_table, as_array, none_at, guess, untyped_at, body_at, body, entries}
+use Rattle.rb_grammar.specs.Good.{EachAtItsKey, item_at}
+use Rattle.rb_grammar.specs.Reading.{Stop, stop, Read, ◌>>=◌, left, right, colon, begins, tail, punctuation_at, text_at, Word, string_type, alias_type}
+use Rattle.rb_grammar.specs.Reading.{binary_type, int_type, ints_type, table_type, array_type, word_at, closed, maybe_at, anything, checked_at, numbers, Inner}
+use Rattle.rb_grammar.specs.Reading.{typed_at, Guess, as_text, as_table, as_array, none_at, guess, untyped_at, body_at, body, entries}
 use Rattle.rb_lexer.specs.declared.fault.SourceKind.TheVariants.{BadInt, BadHex}
 use Rattle.rb_grammar.specs.Tests.{the_tests}
 use Rattle.rb_grammar.proofs.Sound.{AllPassed, entries_take}
@@ -32,15 +35,19 @@ use Rattle.rb_parser.proofs.Rows.{Pair}
 use Rattle.rb_parser.proofs.Steps.{located_bind, fault_is}
 
 -- the same end and the same reading
-pub reads_same : {X Y : Type 0} (R : X → Y → Type 0) (end at : ℕ) (r : Result X SourceFault) (rest : List Token) (read other : Read Y) → at ≡ end → other ≡ read → Reads R at r rest read → Reads R end r rest other
-reads_same {X} {Y} R end at r rest read other same is h = subst (λ (e : ℕ). Reads R e r rest other) same (subst (λ (x : Read Y). Reads R at r rest x) (sym is) h)
+pub reads_same : {X Y : Type 0} (R : X → Y → Type 0) (end at : ℕ) (r : Result X SourceFault) (rest : List Token) (read other : Read Y) → at ≡ end → other ≡ read
+    → Reads R at r rest read → Reads R end r rest other
+reads_same {X} {Y} R end at r rest read other same is h =
+    subst (λ (e : ℕ). Reads R e r rest other) same (subst (λ (x : Read Y). Reads R at r rest x) (sym is) h)
 
-pub located_same : {Y : Type 0} (end at : ℕ) (read other : Result Y Stop) (e : SourceFault) → at ≡ end → other ≡ read → located at read ≡ Err e → located end other ≡ Err e
+pub located_same : {Y : Type 0} (end at : ℕ) (read other : Result Y Stop) (e : SourceFault) → at ≡ end → other ≡ read → located at read ≡ Err e
+    → located end other ≡ Err e
 located_same {Y} end at read other e same is h = ap (located end) is ∙ ap (λ (n : ℕ). located n read) (sym same) ∙ h
 
 -- ---- where there is no room
 
-pub depth_error : (end depth : ℕ) (ts : List Token) (e : SourceFault) → depth ≡ 0 → e.kind ≡ cond (begins colon ts || begins left ts) TooDeep Unexpected → e.line ≡ line_at end ts → located end (body the_tests depth ts) ≡ Err e
+pub depth_error : (end depth : ℕ) (ts : List Token) (e : SourceFault) → depth ≡ 0 → e.kind ≡ cond (begins colon ts || begins left ts) TooDeep Unexpected
+    → e.line ≡ line_at end ts → located end (body the_tests depth ts) ≡ Err e
 unfolding body
 depth_error end depth ts e none kind line = rw none (by (begins colon ts || begins left ts) kind) where
   by : (b : Bool) → e.kind ≡ cond b TooDeep Unexpected → located {A = Body × List Token} end (cond b (Err (stop TooDeep ts)) (Err (stop Unexpected ts))) ≡ Err e
@@ -49,7 +56,8 @@ depth_error end depth ts e none kind line = rw none (by (begins colon ts || begi
 
 -- ---- a body, once its first mark is taken or not
 
-module _ (depth below : ℕ) (ts next : List Token) (b : Bool) (some : depth ≡ suc below) (value : b ≡ begins colon ts) (goes : next ≡ cond (begins colon ts) (tail ts) ts) where
+module _ (depth below : ℕ) (ts next : List Token) (b : Bool) (some : depth ≡ suc below) (value : b ≡ begins colon ts)
+    (goes : next ≡ cond (begins colon ts) (tail ts) ts) where
   body_is : body the_tests depth ts ≡ body_at the_tests (inner_at below) ts
   unfolding body
   body_is = rw some refl
@@ -67,22 +75,30 @@ module _ (depth below : ℕ) (ts next : List Token) (b : Bool) (some : depth ≡
       body_is ∙ rw (opens, same) refl
 
   pub bad_word : (end at : ℕ) (e : SourceFault) → b ≡ true → at ≡ end → located at (word_at next) ≡ Err e → located end (body the_tests depth ts) ≡ Err e
-  bad_word end at e comes same h = located_same end at (word_at next >>= λ w. punctuation_at left w.1 >>= λ after. typed_at the_tests (inner_at below) w.0 after) (body the_tests depth ts) e same (typed_is comes) (located_bind at (word_at next) (λ w. punctuation_at left w.1 >>= λ after. typed_at the_tests (inner_at below) w.0 after) e h)
+  bad_word end at e comes same h =
+      located_same end at (word_at next >>= λ w. punctuation_at left w.1 >>= λ after. typed_at the_tests (inner_at below) w.0 after) (body the_tests depth ts) e
+      same (typed_is comes) (located_bind at (word_at next) (λ w. punctuation_at left w.1 >>= λ after. typed_at the_tests (inner_at below) w.0 after) e h)
 
   module _ (w : Word) (mid : List Token) (comes : b ≡ true) (named : word_at next ≡ Ok (w, mid)) where
-    behind_word : body the_tests depth ts ≡ (punctuation_at left mid >>= λ after. typed_at the_tests (inner_at below) w after)
-    behind_word = typed_is comes ∙ rw named refl
+    after_word : body the_tests depth ts ≡ (punctuation_at left mid >>= λ after. typed_at the_tests (inner_at below) w after)
+    after_word = typed_is comes ∙ rw named refl
 
     pub no_brace : (end at : ℕ) (e : SourceFault) → at ≡ end → located at (punctuation_at left mid) ≡ Err e → located end (body the_tests depth ts) ≡ Err e
-    no_brace end at e same h = located_same end at (punctuation_at left mid >>= λ after. typed_at the_tests (inner_at below) w after) (body the_tests depth ts) e same behind_word (located_bind at (punctuation_at left mid) (λ after. typed_at the_tests (inner_at below) w after) e h)
+    no_brace end at e same h =
+        located_same end at (punctuation_at left mid >>= λ after. typed_at the_tests (inner_at below) w after) (body the_tests depth ts) e same after_word
+        (located_bind at (punctuation_at left mid) (λ after. typed_at the_tests (inner_at below) w after) e h)
 
     pub typed_body : (after : List Token) → punctuation_at left mid ≡ Ok after → body the_tests depth ts ≡ typed_at the_tests (inner_at below) w after
-    typed_body after opened = behind_word ∙ rw opened refl
+    typed_body after opened = after_word ∙ rw opened refl
 
-  pub unopened : (end at : ℕ) (e : SourceFault) → b ≡ false → at ≡ end → located at (punctuation_at left next) ≡ Err e → located end (body the_tests depth ts) ≡ Err e
-  unopened end at e no_colon same h = located_same end at (punctuation_at left next >>= λ after. untyped_at the_tests (inner_at below) (guess after) after) (body the_tests depth ts) e same (untyped_is no_colon) (located_bind at (punctuation_at left next) (λ after. untyped_at the_tests (inner_at below) (guess after) after) e h)
+  pub unopened : (end at : ℕ) (e : SourceFault) → b ≡ false → at ≡ end → located at (punctuation_at left next) ≡ Err e
+      → located end (body the_tests depth ts) ≡ Err e
+  unopened end at e no_colon same h =
+      located_same end at (punctuation_at left next >>= λ after. untyped_at the_tests (inner_at below) (guess after) after) (body the_tests depth ts) e same
+      (untyped_is no_colon) (located_bind at (punctuation_at left next) (λ after. untyped_at the_tests (inner_at below) (guess after) after) e h)
 
-  pub untyped_body : (after : List Token) → b ≡ false → punctuation_at left next ≡ Ok after → body the_tests depth ts ≡ untyped_at the_tests (inner_at below) (guess after) after
+  pub untyped_body : (after : List Token) → b ≡ false → punctuation_at left next ≡ Ok after
+      → body the_tests depth ts ≡ untyped_at the_tests (inner_at below) (guess after) after
   untyped_body after no_colon opened = untyped_is no_colon ∙ rw opened refl
 
 -- ---- leaves with their closing brace
@@ -91,7 +107,8 @@ closed_made : {A B : Type 0} (f : B → Body) (g : A → B) (r : Read A) → clo
 closed_made f g (Ok x) = refl
 closed_made f g (Err s) = refl
 
-typed_leaf : (inner : Inner) (w : Word) (l : word_leaf.Leaf) (ts : List Token) → word_of w ≡ word.Leaf l → typed_at the_tests inner w ts ≡ closed leaf (leaf_at w ts)
+typed_leaf : (inner : Inner) (w : Word) (l : word_leaf.Leaf) (ts : List Token) → word_of w ≡ word.Leaf l
+    → typed_at the_tests inner w ts ≡ closed leaf (leaf_at w ts)
 typed_leaf inner string_type l ts e = closed_made leaf string (maybe_at BadHex anything ts)
 typed_leaf inner alias_type l ts e = closed_made leaf alias (maybe_at BadHex anything ts)
 typed_leaf inner (binary_type long) l ts e = closed_made leaf (binary long) (maybe_at BadHex the_tests.is_hex ts)
@@ -102,17 +119,22 @@ typed_leaf inner array_type l ts e = absurd cc
 
 module _ (inner : Inner) (w : Word) (l : word_leaf.Leaf) (ts : List Token) (is : word_of w ≡ word.Leaf l) where
   pub leaf_stops : (end : ℕ) (e : SourceFault) → located end (leaf_at w ts) ≡ Err e → located end (typed_at the_tests inner w ts) ≡ Err e
-  leaf_stops end e h = located_same end end (closed leaf (leaf_at w ts)) (typed_at the_tests inner w ts) e refl (typed_leaf inner w l ts is) (located_bind end (leaf_at w ts) (λ x. punctuation_at right x.1 >>= λ after. Ok (leaf x.0, after)) e h)
+  leaf_stops end e h =
+      located_same end end (closed leaf (leaf_at w ts)) (typed_at the_tests inner w ts) e refl (typed_leaf inner w l ts is)
+      (located_bind end (leaf_at w ts) (λ x. punctuation_at right x.1 >>= λ after. Ok (leaf x.0, after)) e h)
 
   module _ (y : Leaf) (mid : List Token) (read : leaf_at w ts ≡ Ok (y, mid)) where
-    behind_leaf : typed_at the_tests inner w ts ≡ (punctuation_at right mid >>= λ after. Ok (leaf y, after))
-    behind_leaf = typed_leaf inner w l ts is ∙ rw read refl
+    after_leaf : typed_at the_tests inner w ts ≡ (punctuation_at right mid >>= λ after. Ok (leaf y, after))
+    after_leaf = typed_leaf inner w l ts is ∙ rw read refl
 
-    pub leaf_open : (end at : ℕ) (e : SourceFault) → at ≡ end → located at (punctuation_at right mid) ≡ Err e → located end (typed_at the_tests inner w ts) ≡ Err e
-    leaf_open end at e same h = located_same end at (punctuation_at right mid >>= λ after. Ok (leaf y, after)) (typed_at the_tests inner w ts) e same behind_leaf (located_bind at (punctuation_at right mid) (λ after. Ok (leaf y, after)) e h)
+    pub leaf_open : (end at : ℕ) (e : SourceFault) → at ≡ end → located at (punctuation_at right mid) ≡ Err e
+        → located end (typed_at the_tests inner w ts) ≡ Err e
+    leaf_open end at e same h =
+        located_same end at (punctuation_at right mid >>= λ after. Ok (leaf y, after)) (typed_at the_tests inner w ts) e same after_leaf
+        (located_bind at (punctuation_at right mid) (λ after. Ok (leaf y, after)) e h)
 
     pub leaf_reads : (after : List Token) → punctuation_at right mid ≡ Ok after → typed_at the_tests inner w ts ≡ Ok (leaf y, after)
-    leaf_reads after h = behind_leaf ∙ rw h refl
+    leaf_reads after h = after_leaf ∙ rw h refl
 
 -- ---- one text
 
@@ -125,8 +147,11 @@ is_text end as_table e = absurd cc
 is_text end as_array e = absurd cc
 is_text end (none_at rest) e = absurd cc
 
-pub plain_reads : (inner : Inner) (end : ℕ) (ts mid after : List Token) (s : List ℕ) (r : Result program.Guess SourceFault) → r ≡ Ok Text → r ≡ guessed end (guess ts) → text_at ts ≡ Ok (s, mid) → punctuation_at right mid ≡ Ok after → untyped_at the_tests inner (guess ts) ts ≡ Ok (plain s, after)
-plain_reads inner end ts mid after s r is told text close = ap (λ g. untyped_at the_tests inner g ts) (is_text end (guess ts) (sym is ∙ told)) ∙ rw (text, close) refl
+pub plain_reads : (inner : Inner) (end : ℕ) (ts mid after : List Token) (s : List ℕ) (r : Result program.Guess SourceFault) → r ≡ Ok Text
+    → r ≡ guessed end (guess ts) → text_at ts ≡ Ok (s, mid) → punctuation_at right mid ≡ Ok after
+    → untyped_at the_tests inner (guess ts) ts ≡ Ok (plain s, after)
+plain_reads inner end ts mid after s r is answer text close =
+    ap (λ g. untyped_at the_tests inner g ts) (is_text end (guess ts) (sym is ∙ answer)) ∙ rw (text, close) refl
 
 -- ---- tables
 
@@ -150,7 +175,7 @@ skips k l d o other = by (pointwise nat_eq k l) refl where
   by true e = absurd (other ((bytes_eq-Decides k l).0 e))
   by false e = refl
 
--- what stands at a key was written there
+-- what is at a key was written there
 written : (ps : List Pair) (es : Entries) (q : List ℕ) (d : Resource) → AreEntries ps es → at q ps ≡ Some d → IsKeyOf es q
 written [] no_entries q d are e = absurd cc
 written [] (entry k b c es) q d are e = absurd are
@@ -160,39 +185,46 @@ written (p ∷ ps) (entry k b c es) q d are e = by (pointwise nat_eq q p.0) refl
   by true is later h = inl ((bytes_eq-Decides q p.0).0 is ∙ are.0)
   by false is later h = inr (later h)
 
-stand : (rows : Members) (ps : List Pair) (es : Entries) → AreEntries ps es → AllPassed the_tests es → ((q : List ℕ) → IsKeyOf es q → item_at q rows ≡ at q ps) → EachStands es rows
-stand rows [] no_entries are passed same = tt
-stand rows [] (entry k b c es) are passed same = absurd are
-stand rows (p ∷ ps) no_entries are passed same = absurd are
-stand rows (p ∷ ps) (entry k b c es) are passed same = (
+each_at_key : (rows : Members) (ps : List Pair) (es : Entries) → AreEntries ps es → AllPassed the_tests es
+    → ((q : List ℕ) → IsKeyOf es q → item_at q rows ≡ at q ps) → EachAtItsKey es rows
+each_at_key rows [] no_entries are passed same = tt
+each_at_key rows [] (entry k b c es) are passed same = absurd are
+each_at_key rows (p ∷ ps) no_entries are passed same = absurd are
+each_at_key rows (p ∷ ps) (entry k b c es) are passed same = (
   (view_of p.1, same k (inl refl) ∙ here k p.0 (view_of p.1) (at k ps) (sym are.0), are.1),
-  stand rows ps es are.2 passed.3 (λ q h. same q (inr h) ∙ skips q p.0 (view_of p.1) (at q ps) (λ e. passed.1 (subst (λ (l : List ℕ). IsKeyOf es l) (e ∙ are.0) h))),
+  each_at_key rows ps es are.2 passed.3 (λ q h. same q (inr h)
+      ∙ skips q p.0 (view_of p.1) (at q ps) (λ e. passed.1 (subst (λ (l : List ℕ). IsKeyOf es l) (e ∙ are.0) h))),
 )
 
-pub table_spells : (ps : List Pair) (es : Entries) (d : Resource) → AreEntries ps es → AllPassed the_tests es → IsTableOf (seen_pairs ps) d → (rows : Members) × (d ≡ resource.table rows) × IsTable rows × ((q : List ℕ) (e : Resource) → item_at q rows ≡ Some e → IsKeyOf es q) × EachStands es rows
+pub table_spells : (ps : List Pair) (es : Entries) (d : Resource) → AreEntries ps es → AllPassed the_tests es → IsTableOf (seen_pairs ps) d
+    → (rows : Members) × (d ≡ resource.table rows) × IsTable rows × ((q : List ℕ) (e : Resource) → item_at q rows ≡ Some e → IsKeyOf es q)
+    × EachAtItsKey es rows
 table_spells ps es d are passed t = (
   t.entries,
   t.is,
   t.ordered,
   λ q e h. written ps es q e are (sym (t.same q) ∙ h),
-  stand t.entries ps es are passed (λ q h. t.same q),
+  each_at_key t.entries ps es are passed (λ q h. t.same q),
 )
 
-pub table_passed : (depth n : ℕ) (ts : List Token) (es : Entries) (r : List Token) → entries the_tests (body the_tests depth) n [] ts ≡ Ok (es, r) → AllPassed the_tests es
+pub table_passed : (depth n : ℕ) (ts : List Token) (es : Entries) (r : List Token) → entries the_tests (body the_tests depth) n [] ts ≡ Ok (es, r)
+    → AllPassed the_tests es
 table_passed depth n ts es r e = (entries_take the_tests depth (body the_tests depth) (body_takes the_tests depth) n [] ts (es, r) e).passed
 
--- no key stands twice
+-- no key comes twice
 key_there : (ps : List Pair) (es : Entries) (i : ℕ) → AreEntries ps es → i < length (keys_in ps) → IsKeyOf es (get_or (keys_in ps) i [])
 key_there [] es i are h = absurd (omega arith)
 key_there (p ∷ ps) no_entries i are h = absurd are
 key_there (p ∷ ps) (entry k b c es) zero are h = inl are.0
 key_there (p ∷ ps) (entry k b c es) (suc i) are h = inr (key_there ps es i are.2 (omega arith))
 
-apart : (ps : List Pair) (es : Entries) (i j : ℕ) → AreEntries ps es → AllPassed the_tests es → j < i → i < length (keys_in ps) → get_or (keys_in ps) j [] ≡ get_or (keys_in ps) i [] → ⊥
+apart : (ps : List Pair) (es : Entries) (i j : ℕ) → AreEntries ps es → AllPassed the_tests es → j < i → i < length (keys_in ps)
+    → get_or (keys_in ps) j [] ≡ get_or (keys_in ps) i [] → ⊥
 apart [] es i j are passed low high e = absurd (omega arith)
 apart (p ∷ ps) no_entries i j are passed low high e = absurd are
 apart (p ∷ ps) (entry k b c es) zero j are passed low high e = absurd (omega arith)
-apart (p ∷ ps) (entry k b c es) (suc i) zero are passed low high e = passed.1 (subst (λ (l : List ℕ). IsKeyOf es l) (sym e ∙ are.0) (key_there ps es i are.2 (omega arith)))
+apart (p ∷ ps) (entry k b c es) (suc i) zero are passed low high e =
+    passed.1 (subst (λ (l : List ℕ). IsKeyOf es l) (sym e ∙ are.0) (key_there ps es i are.2 (omega arith)))
 apart (p ∷ ps) (entry k b c es) (suc i) (suc j) are passed low high e = apart ps es i j are.2 passed.3 (omega arith) (omega arith) e
 
 pub no_repeat : (ps : List Pair) (es : Entries) (i : ℕ) → AreEntries ps es → AllPassed the_tests es → IsFirstRepeat (keys_in ps) i → ⊥

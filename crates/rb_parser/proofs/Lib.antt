@@ -4,4 +4,5 @@ pub mod Leaves
 pub mod Rows
 pub mod Parts
 pub mod Bodies
+pub mod Loops
 pub mod Wholes

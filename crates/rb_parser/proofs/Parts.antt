@@ -11,7 +11,8 @@ use Rattle.rb_tree.specs.declared.tree.Tree.TheVariants.{String}
 use Rattle.rb_grammar.specs.Faults.{line_at}
 use Rattle.rb_grammar.specs.Form.{Body, Elements, no_elements, one_text, one_body}
 use Rattle.rb_grammar.specs.Good.{EachSpells}
-use Rattle.rb_grammar.specs.Reading.{stop, Read, ◌>>=◌, left, right, colon, begins, tail, first_text, punctuation_at, has_comma, after_comma, elements_step, elements}
+use Rattle.rb_grammar.specs.Reading.{stop, Read, ◌>>=◌, left, right, colon, begins, tail, first_text, punctuation_at, has_comma, after_comma, elements_step}
+use Rattle.rb_grammar.specs.Reading.{elements}
 use Rattle.rb_parser.specs.Reads.{located, IsBodyTree}
 use Rattle.rb_parser.proofs.Steps.{located_bind, stops_at}
 
@@ -67,7 +68,8 @@ are_elements (t ∷ ts) [] are = absurd are
 are_elements (t ∷ ts) (a_text s c ∷ ps) are = (views_of ts, ap (λ (d : Resource). tree_and d (views_of ts)) are.0, are_elements ts ps are.1)
 are_elements (t ∷ ts) (a_body b c ∷ ps) are = (view_of t, views_of ts, refl, are.0, are_elements ts ps are.1)
 
-regroup_text : (ps : List Part) (s : List ℕ) (c : Bool) (x : Read Elements) → ((x >>= put_text s c) >>= put_parts ps) ≡ (x >>= put_parts (ps ++ a_text s c ∷ []))
+regroup_text : (ps : List Part) (s : List ℕ) (c : Bool) (x : Read Elements)
+    → ((x >>= put_text s c) >>= put_parts ps) ≡ (x >>= put_parts (ps ++ a_text s c ∷ []))
 regroup_text ps s c (Ok x) = ap (λ (xs : Elements). Ok (xs, x.1)) (sym (parts_push_text ps s c x.0))
 regroup_text ps s c (Err e) = refl
 
@@ -96,22 +98,29 @@ module _ (room : Bool) (reads : List Token → Read Body) where
     unfolding elements
     step_is = rw some refl
 
-    closed : (r : List Token) → first_text ts ≡ None → (begins colon ts || begins left ts) ≡ false → punctuation_at right ts ≡ Ok r → elements room reads m ts ≡ Ok (no_elements, r)
+    closed : (r : List Token) → first_text ts ≡ None → (begins colon ts || begins left ts) ≡ false → punctuation_at right ts ≡ Ok r
+        → elements room reads m ts ≡ Ok (no_elements, r)
     closed r none other h = rw (step_is, none, other, h) refl
 
-    not_closed : (end : ℕ) (e : SourceFault) → first_text ts ≡ None → (begins colon ts || begins left ts) ≡ false → located end (punctuation_at right ts) ≡ Err e → located end (elements room reads m ts) ≡ Err e
+    not_closed : (end : ℕ) (e : SourceFault) → first_text ts ≡ None → (begins colon ts || begins left ts) ≡ false
+        → located end (punctuation_at right ts) ≡ Err e → located end (elements room reads m ts) ≡ Err e
     not_closed end e none other h = rw (step_is, none, other) (located_bind end (punctuation_at right ts) (λ after. Ok (no_elements, after)) e h)
 
     too_deep : (s : List ℕ) → first_text ts ≡ Some s → room ≡ false → elements room reads m ts ≡ Err (stop TooDeep ts)
     too_deep s comes full = rw (step_is, comes, full) refl
 
-    bad_body : (end : ℕ) (e : SourceFault) → first_text ts ≡ None → (begins colon ts || begins left ts) ≡ true → located end (reads ts) ≡ Err e → located end (elements room reads m ts) ≡ Err e
-    bad_body end e none opens h = rw (step_is, none, opens) (located_bind end (reads ts) (λ b. elements room reads k (after_comma b.1) >>= λ xs. Ok (one_body b.0 (has_comma b.1) xs.0, xs.1)) e h)
+    bad_body : (end : ℕ) (e : SourceFault) → first_text ts ≡ None → (begins colon ts || begins left ts) ≡ true → located end (reads ts) ≡ Err e
+        → located end (elements room reads m ts) ≡ Err e
+    bad_body end e none opens h =
+        rw (step_is, none, opens) (located_bind end (reads ts)
+        (λ b. elements room reads k (after_comma b.1) >>= λ xs. Ok (one_body b.0 (has_comma b.1) xs.0, xs.1)) e h)
 
-    next_text : (s : List ℕ) → first_text ts ≡ Some s → room ≡ true → elements room reads m ts ≡ (elements room reads k (after_comma (tail ts)) >>= put_text s (has_comma (tail ts)))
+    next_text : (s : List ℕ) → first_text ts ≡ Some s → room ≡ true
+        → elements room reads m ts ≡ (elements room reads k (after_comma (tail ts)) >>= put_text s (has_comma (tail ts)))
     next_text s comes free = rw (step_is, comes, free) refl
 
-    next_body : (b : Body) (r : List Token) → first_text ts ≡ None → (begins colon ts || begins left ts) ≡ true → reads ts ≡ Ok (b, r) → elements room reads m ts ≡ (elements room reads k (after_comma r) >>= put_body b (has_comma r))
+    next_body : (b : Body) (r : List Token) → first_text ts ≡ None → (begins colon ts || begins left ts) ≡ true → reads ts ≡ Ok (b, r)
+        → elements room reads m ts ≡ (elements room reads k (after_comma r) >>= put_body b (has_comma r))
     next_body b r none opens h = rw (step_is, none, opens, h) refl
 
   module _ (n : ℕ) (start ts : List Token) (trees : List Tree) (so : ElementsSoFar n start trees ts) where
@@ -121,23 +130,29 @@ module _ (room : Bool) (reads : List Token → Read Body) where
     stops : (end : ℕ) (e : SourceFault) → located end (elements room reads so.turns ts) ≡ Err e → located end (elements room reads n start) ≡ Err e
     stops end e h = ap (located end) so.same ∙ located_bind end (elements room reads so.turns ts) (put_parts so.parts) e h
 
-    pub stop_deep : (end : ℕ) (s : List ℕ) (e : SourceFault) → first_text ts ≡ Some s → room ≡ false → e.kind ≡ TooDeep → e.line ≡ line_at end ts → located end (elements room reads n start) ≡ Err e
-    stop_deep end s e comes full k l = stops end e (stops_at end TooDeep ts e (elements room reads so.turns ts) (too_deep so.turns below.0 ts below.1 s comes full) k l)
+    pub stop_deep : (end : ℕ) (s : List ℕ) (e : SourceFault) → first_text ts ≡ Some s → room ≡ false → e.kind ≡ TooDeep → e.line ≡ line_at end ts
+        → located end (elements room reads n start) ≡ Err e
+    stop_deep end s e comes full k l =
+        stops end e (stops_at end TooDeep ts e (elements room reads so.turns ts) (too_deep so.turns below.0 ts below.1 s comes full) k l)
 
-    pub stop_element : (end : ℕ) (e : SourceFault) → first_text ts ≡ None → (begins colon ts || begins left ts) ≡ true → located end (reads ts) ≡ Err e → located end (elements room reads n start) ≡ Err e
+    pub stop_element : (end : ℕ) (e : SourceFault) → first_text ts ≡ None → (begins colon ts || begins left ts) ≡ true → located end (reads ts) ≡ Err e
+        → located end (elements room reads n start) ≡ Err e
     stop_element end e none opens h = stops end e (bad_body so.turns below.0 ts below.1 end e none opens h)
 
-    pub stop_open : (end : ℕ) (e : SourceFault) → first_text ts ≡ None → (begins colon ts || begins left ts) ≡ false → located end (punctuation_at right ts) ≡ Err e → located end (elements room reads n start) ≡ Err e
+    pub stop_open : (end : ℕ) (e : SourceFault) → first_text ts ≡ None → (begins colon ts || begins left ts) ≡ false
+        → located end (punctuation_at right ts) ≡ Err e → located end (elements room reads n start) ≡ Err e
     stop_open end e none other h = stops end e (not_closed so.turns below.0 ts below.1 end e none other h)
 
-    pub elements_end : (r : List Token) → first_text ts ≡ None → (begins colon ts || begins left ts) ≡ false → punctuation_at right ts ≡ Ok r → (xs : Elements) × (elements room reads n start ≡ Ok (xs, r)) × EachSpells xs (views_of trees)
+    pub elements_end : (r : List Token) → first_text ts ≡ None → (begins colon ts || begins left ts) ≡ false → punctuation_at right ts ≡ Ok r
+        → (xs : Elements) × (elements room reads n start ≡ Ok (xs, r)) × EachSpells xs (views_of trees)
     elements_end r none other h = (
       parts_first so.parts no_elements,
       so.same ∙ ap (λ (x : Read Elements). x >>= put_parts so.parts) (closed so.turns below.0 ts below.1 r none other h),
       are_elements trees so.parts so.are,
     )
 
-    pub text_turn : (s : List ℕ) (after : List Token) → first_text ts ≡ Some s → room ≡ true → after ≡ after_comma (tail ts) → length after < length ts → ElementsSoFar n start (trees ++ String s ∷ []) after
+    pub text_turn : (s : List ℕ) (after : List Token) → first_text ts ≡ Some s → room ≡ true → after ≡ after_comma (tail ts) → length after < length ts
+        → ElementsSoFar n start (trees ++ String s ∷ []) after
     text_turn s after comes free is shorter = record {
       turns = below.0;
       enough = omega (arith, so.enough, below.1);
@@ -148,7 +163,8 @@ module _ (room : Bool) (reads : List Token → Read Body) where
           ∙ ap (λ (l : List Token). elements room reads below.0 l >>= put_parts (so.parts ++ a_text s (has_comma (tail ts)) ∷ [])) (sym is);
     }
 
-    pub body_turn : (b : Body) (r after : List Token) (t : Tree) → first_text ts ≡ None → (begins colon ts || begins left ts) ≡ true → reads ts ≡ Ok (b, r) → IsBodyTree t b → after ≡ after_comma r → length after < length ts → ElementsSoFar n start (trees ++ t ∷ []) after
+    pub body_turn : (b : Body) (r after : List Token) (t : Tree) → first_text ts ≡ None → (begins colon ts || begins left ts) ≡ true → reads ts ≡ Ok (b, r)
+        → IsBodyTree t b → after ≡ after_comma r → length after < length ts → ElementsSoFar n start (trees ++ t ∷ []) after
     body_turn b r after t none opens h means is shorter = record {
       turns = below.0;
       enough = omega (arith, so.enough, below.1);

@@ -1,5 +1,6 @@
 -- The entries of a table, one after another, as the code reads them.
-use Rattle.std.proofs.Common.{◌≡◌, ℕ, suc, ◌<◌, ◌++◌, ◌-◌, ◌||◌, Bool, true, false, not, List, [], ◌∷◌, length, Some, None, Ok, Err, refl, sym, ap, ap₂, ◌∙◌, arith, Vec, Global, nat_eq, Ordering, Less, Equal, Greater, nat_cmp}
+use Rattle.std.proofs.Common.{◌≡◌, ℕ, suc, ◌<◌, ◌++◌, ◌-◌, ◌||◌, Bool, true, false, not, List, [], ◌∷◌, length, Some, None, Ok, Err, refl, sym, ap, ap₂, ◌∙◌}
+use Rattle.std.proofs.Common.{arith, Vec, Global, nat_eq, Ordering, Less, Equal, Greater, nat_cmp}
 use Rattle.std.specs.Cmp.Lexicographic.{pointwise, slice_cmp}
 use Rattle.std.specs.List.{list_any}
 use Rattle.std.specs.Ordering.{match_ordering, is_eq}
@@ -43,11 +44,11 @@ AreRows (p ∷ ps) [] = ⊥
 AreRows (p ∷ ps) (r ∷ rs) = (p.0 ≡ r.0) × IsBodyTree p.1 r.1 × AreRows ps rs
 
 -- the keys, the last first
-abbrev pub keys_behind : List Pair → List (List ℕ) → List (List ℕ)
-keys_behind [] ks = ks
-keys_behind (p ∷ ps) ks = keys_behind ps (p.0 ∷ ks)
+abbrev pub keys_after : List Pair → List (List ℕ) → List (List ℕ)
+keys_after [] ks = ks
+keys_after (p ∷ ps) ks = keys_after ps (p.0 ∷ ks)
 
-pub keys_push : (ps : List Pair) (p : Pair) (ks : List (List ℕ)) → keys_behind (ps ++ p ∷ []) ks ≡ p.0 ∷ keys_behind ps ks
+pub keys_push : (ps : List Pair) (p : Pair) (ks : List (List ℕ)) → keys_after (ps ++ p ∷ []) ks ≡ p.0 ∷ keys_after ps ks
 keys_push [] p ks = refl
 keys_push (q ∷ ps) p ks = keys_push ps p (q.0 ∷ ks)
 
@@ -90,7 +91,7 @@ module _ (reads : List Token → Read Body) where
     pub enough : length ts < turns
     pub rows : List Row
     pub are : AreRows ps rows
-    pub same : entries the_tests reads n [] start ≡ (entries the_tests reads turns (keys_behind ps []) ts >>= put_rows rows)
+    pub same : entries the_tests reads n [] start ≡ (entries the_tests reads turns (keys_after ps []) ts >>= put_rows rows)
 
   unchanged : (r : Read Entries) → r ≡ (r >>= put_rows [])
   unchanged (Ok x) = refl
@@ -107,7 +108,8 @@ module _ (reads : List Token → Read Body) where
     closed : (r : List Token) → first_text ts ≡ None → punctuation_at right ts ≡ Ok r → entries the_tests reads m ks ts ≡ Ok (no_entries, r)
     closed r none h = rw (step_is, none, h) refl
 
-    not_closed : (end : ℕ) (e : SourceFault) → first_text ts ≡ None → located end (punctuation_at right ts) ≡ Err e → located end (entries the_tests reads m ks ts) ≡ Err e
+    not_closed : (end : ℕ) (e : SourceFault) → first_text ts ≡ None → located end (punctuation_at right ts) ≡ Err e
+        → located end (entries the_tests reads m ks ts) ≡ Err e
     not_closed end e none h = rw (step_is, none) (located_bind end (punctuation_at right ts) (λ after. Ok (no_entries, after)) e h)
 
     bad_key : (s : List ℕ) → first_text ts ≡ Some s → (IsKey s → ⊥) → entries the_tests reads m ks ts ≡ Err (stop BadKey ts)
@@ -116,10 +118,12 @@ module _ (reads : List Token → Read Body) where
     twice : (s : List ℕ) → first_text ts ≡ Some s → IsKey s → is_among ks s ≡ true → entries the_tests reads m ks ts ≡ Err (stop DuplicateKey ts)
     twice s comes good among = let passes = key_passes s good in rw (step_is, comes, passes, among) refl
 
-    bad_body : (end : ℕ) (s : List ℕ) (e : SourceFault) → first_text ts ≡ Some s → IsKey s → is_among ks s ≡ false → located end (reads (tail ts)) ≡ Err e → located end (entries the_tests reads m ks ts) ≡ Err e
+    bad_body : (end : ℕ) (s : List ℕ) (e : SourceFault) → first_text ts ≡ Some s → IsKey s → is_among ks s ≡ false → located end (reads (tail ts)) ≡ Err e
+        → located end (entries the_tests reads m ks ts) ≡ Err e
     bad_body end s e comes good new h =
         let passes = key_passes s good in
-        rw (step_is, comes, passes, new) (located_bind end (reads (tail ts)) (λ b. entries the_tests reads k (s ∷ ks) (after_comma b.1) >>= λ es. Ok (entry s b.0 (has_comma b.1) es.0, es.1)) e h)
+        rw (step_is, comes, passes, new) (located_bind end (reads (tail ts))
+        (λ b. entries the_tests reads k (s ∷ ks) (after_comma b.1) >>= λ es. Ok (entry s b.0 (has_comma b.1) es.0, es.1)) e h)
 
     one : (s : List ℕ) (b : Body) (r : List Token) → first_text ts ≡ Some s → IsKey s → is_among ks s ≡ false → reads (tail ts) ≡ Ok (b, r)
         → entries the_tests reads m ks ts ≡ (entries the_tests reads k (s ∷ ks) (after_comma r) >>= put_row (s, b, has_comma r))
@@ -129,29 +133,40 @@ module _ (reads : List Token → Read Body) where
     below : (k : ℕ) × (so.turns ≡ suc k)
     below = (so.turns - 1, omega (arith, so.enough))
 
-    stops : (end : ℕ) (e : SourceFault) → located end (entries the_tests reads so.turns (keys_behind ps []) ts) ≡ Err e → located end (entries the_tests reads n [] start) ≡ Err e
-    stops end e h = ap (located end) so.same ∙ located_bind end (entries the_tests reads so.turns (keys_behind ps []) ts) (put_rows so.rows) e h
+    stops : (end : ℕ) (e : SourceFault) → located end (entries the_tests reads so.turns (keys_after ps []) ts) ≡ Err e
+        → located end (entries the_tests reads n [] start) ≡ Err e
+    stops end e h = ap (located end) so.same ∙ located_bind end (entries the_tests reads so.turns (keys_after ps []) ts) (put_rows so.rows) e h
 
-    pub stop_bad_key : (end : ℕ) (s : List ℕ) (e : SourceFault) → first_text ts ≡ Some s → (IsKey s → ⊥) → e.kind ≡ BadKey → e.line ≡ line_at end ts → located end (entries the_tests reads n [] start) ≡ Err e
-    stop_bad_key end s e comes bad k l = stops end e (stops_at end BadKey ts e (entries the_tests reads so.turns (keys_behind ps []) ts) (bad_key so.turns below.0 (keys_behind ps []) ts below.1 s comes bad) k l)
+    pub stop_bad_key : (end : ℕ) (s : List ℕ) (e : SourceFault) → first_text ts ≡ Some s → (IsKey s → ⊥) → e.kind ≡ BadKey → e.line ≡ line_at end ts
+        → located end (entries the_tests reads n [] start) ≡ Err e
+    stop_bad_key end s e comes bad k l =
+        stops end e (stops_at end BadKey ts e (entries the_tests reads so.turns (keys_after ps []) ts)
+        (bad_key so.turns below.0 (keys_after ps []) ts below.1 s comes bad) k l)
 
-    pub stop_twice : (end : ℕ) (s : List ℕ) (e : SourceFault) → first_text ts ≡ Some s → IsKey s → is_among (keys_behind ps []) s ≡ true → e.kind ≡ DuplicateKey → e.line ≡ line_at end ts → located end (entries the_tests reads n [] start) ≡ Err e
-    stop_twice end s e comes good among k l = stops end e (stops_at end DuplicateKey ts e (entries the_tests reads so.turns (keys_behind ps []) ts) (twice so.turns below.0 (keys_behind ps []) ts below.1 s comes good among) k l)
+    pub stop_twice : (end : ℕ) (s : List ℕ) (e : SourceFault) → first_text ts ≡ Some s → IsKey s → is_among (keys_after ps []) s ≡ true → e.kind ≡ DuplicateKey
+        → e.line ≡ line_at end ts → located end (entries the_tests reads n [] start) ≡ Err e
+    stop_twice end s e comes good among k l =
+        stops end e (stops_at end DuplicateKey ts e (entries the_tests reads so.turns (keys_after ps []) ts)
+        (twice so.turns below.0 (keys_after ps []) ts below.1 s comes good among) k l)
 
-    pub stop_body : (end : ℕ) (s : List ℕ) (e : SourceFault) → first_text ts ≡ Some s → IsKey s → is_among (keys_behind ps []) s ≡ false → located end (reads (tail ts)) ≡ Err e → located end (entries the_tests reads n [] start) ≡ Err e
-    stop_body end s e comes good new h = stops end e (bad_body so.turns below.0 (keys_behind ps []) ts below.1 end s e comes good new h)
+    pub stop_body : (end : ℕ) (s : List ℕ) (e : SourceFault) → first_text ts ≡ Some s → IsKey s → is_among (keys_after ps []) s ≡ false
+        → located end (reads (tail ts)) ≡ Err e → located end (entries the_tests reads n [] start) ≡ Err e
+    stop_body end s e comes good new h = stops end e (bad_body so.turns below.0 (keys_after ps []) ts below.1 end s e comes good new h)
 
-    pub stop_open : (end : ℕ) (e : SourceFault) → first_text ts ≡ None → located end (punctuation_at right ts) ≡ Err e → located end (entries the_tests reads n [] start) ≡ Err e
-    stop_open end e none h = stops end e (not_closed so.turns below.0 (keys_behind ps []) ts below.1 end e none h)
+    pub stop_open : (end : ℕ) (e : SourceFault) → first_text ts ≡ None → located end (punctuation_at right ts) ≡ Err e
+        → located end (entries the_tests reads n [] start) ≡ Err e
+    stop_open end e none h = stops end e (not_closed so.turns below.0 (keys_after ps []) ts below.1 end e none h)
 
-    pub entries_end : (r : List Token) → first_text ts ≡ None → punctuation_at right ts ≡ Ok r → (es : Entries) × (entries the_tests reads n [] start ≡ Ok (es, r)) × AreEntries ps es
+    pub entries_end : (r : List Token) → first_text ts ≡ None → punctuation_at right ts ≡ Ok r
+        → (es : Entries) × (entries the_tests reads n [] start ≡ Ok (es, r)) × AreEntries ps es
     entries_end r none h = (
       rows_first so.rows no_entries,
-      so.same ∙ ap (λ (x : Read Entries). x >>= put_rows so.rows) (closed so.turns below.0 (keys_behind ps []) ts below.1 r none h),
+      so.same ∙ ap (λ (x : Read Entries). x >>= put_rows so.rows) (closed so.turns below.0 (keys_after ps []) ts below.1 r none h),
       are_entries ps so.rows so.are,
     )
 
-    pub entries_turn : (s : List ℕ) (b : Body) (r after : List Token) (key : List ℕ) (t : Tree) → first_text ts ≡ Some s → IsKey s → is_among (keys_behind ps []) s ≡ false → reads (tail ts) ≡ Ok (b, r) → IsBodyTree t b → key ≡ s → after ≡ after_comma r → length after < length ts
+    pub entries_turn : (s : List ℕ) (b : Body) (r after : List Token) (key : List ℕ) (t : Tree) → first_text ts ≡ Some s → IsKey s
+        → is_among (keys_after ps []) s ≡ false → reads (tail ts) ≡ Ok (b, r) → IsBodyTree t b → key ≡ s → after ≡ after_comma r → length after < length ts
         → EntriesSoFar n start (ps ++ (key, t) ∷ []) after
     entries_turn s b r after key t comes good new h means same is shorter =
         let row : Row = (s, b, has_comma r) in
@@ -161,9 +176,10 @@ module _ (reads : List Token → Read Body) where
           enough = omega (arith, so.enough, below.1);
           rows = so.rows ++ row ∷ [];
           are = are_more ps so.rows pair row so.are same means;
-          same = so.same ∙ ap (λ (x : Read Entries). x >>= put_rows so.rows) (one so.turns below.0 (keys_behind ps []) ts below.1 s b r comes good new h)
-              ∙ regroup so.rows row (entries the_tests reads below.0 (s ∷ keys_behind ps []) (after_comma r))
-              ∙ ap₂ (λ (ks : List (List ℕ)) (l : List Token). entries the_tests reads below.0 ks l >>= put_rows (so.rows ++ row ∷ [])) (ap (λ (k : List ℕ). k ∷ keys_behind ps []) (sym same) ∙ sym (keys_push ps pair [])) (sym is);
+          same = so.same ∙ ap (λ (x : Read Entries). x >>= put_rows so.rows) (one so.turns below.0 (keys_after ps []) ts below.1 s b r comes good new h)
+              ∙ regroup so.rows row (entries the_tests reads below.0 (s ∷ keys_after ps []) (after_comma r))
+              ∙ ap₂ (λ (ks : List (List ℕ)) (l : List Token). entries the_tests reads below.0 ks l >>= put_rows (so.rows ++ row ∷ []))
+              (ap (λ (k : List ℕ). k ∷ keys_after ps []) (sym same) ∙ sym (keys_push ps pair [])) (sym is);
         }
 
 -- ---- the set of the keys
@@ -171,7 +187,7 @@ module _ (reads : List Token → Read Body) where
 abbrev pub Seen : Type 0
 Seen = List (Vec ℕ Global)
 
-abbrev key_cmp : Vec ℕ Global → Vec ℕ Global → Ordering
+abbrev pub key_cmp : Vec ℕ Global → Vec ℕ Global → Ordering
 key_cmp x y = slice_cmp nat_cmp x.items y.items
 
 -- whether a key was seen
@@ -179,7 +195,7 @@ abbrev pub was_seen : Seen → List ℕ → Bool
 was_seen ks q = list_any (λ (x : Vec ℕ Global). is_eq (slice_cmp nat_cmp q x.items)) ks
 
 abbrev pub SameKeys : List Pair → Seen → Type 0
-SameKeys ps ks = (q : List ℕ) → was_seen ks q ≡ is_among (keys_behind ps []) q
+SameKeys ps ks = (q : List ℕ) → was_seen ks q ≡ is_among (keys_after ps []) q
 
 later : (a b c : Bool) → (a || (b || c)) ≡ (b || (a || c))
 later true true c = refl
@@ -204,23 +220,37 @@ was_seen-insert q (x ∷ xs) k = by (key_cmp k x) refl (was_seen-insert q xs k) 
   by Less is h = ap (λ b. b || was_seen (x ∷ xs) q) (is_eq-slice_cmp q k.items)
   by Equal is h =
       let key : k.items ≡ x.items = (bytes_eq-Decides k.items x.items).0 (sym (is_eq-slice_cmp k.items x.items) ∙ ap is_eq is) in
-      again (is_eq (slice_cmp nat_cmp q x.items)) (pointwise nat_eq q k.items) (was_seen xs q) (is_eq-slice_cmp q x.items ∙ ap (λ (l : List ℕ). pointwise nat_eq q l) (sym key))
-  by Greater is h = ap (λ b. is_eq (slice_cmp nat_cmp q x.items) || b) h ∙ later (is_eq (slice_cmp nat_cmp q x.items)) (pointwise nat_eq q k.items) (was_seen xs q)
+      again (is_eq (slice_cmp nat_cmp q x.items)) (pointwise nat_eq q k.items) (was_seen xs q)
+      (is_eq-slice_cmp q x.items ∙ ap (λ (l : List ℕ). pointwise nat_eq q l) (sym key))
+  by Greater is h =
+      ap (λ b. is_eq (slice_cmp nat_cmp q x.items) || b) h ∙ later (is_eq (slice_cmp nat_cmp q x.items)) (pointwise nat_eq q k.items) (was_seen xs q)
 
 -- one more entry, whose key was put into the set
-pub same_keys_push : (ps : List Pair) (ks new : Seen) (k : Vec ℕ Global) (s key : List ℕ) (t : Tree) → SameKeys ps ks → new ≡ insert_key key_cmp ks k → k.items ≡ s → key ≡ s → SameKeys (ps ++ (key, t) ∷ []) new
+pub same_keys_push : (ps : List Pair) (ks new : Seen) (k : Vec ℕ Global) (s key : List ℕ) (t : Tree) → SameKeys ps ks → new ≡ insert_key key_cmp ks k
+    → k.items ≡ s → key ≡ s → SameKeys (ps ++ (key, t) ∷ []) new
 same_keys_push ps ks new k s key t same is at name = λ q.
     ap (λ (l : Seen). was_seen l q) is ∙ was_seen-insert q ks k
     ∙ ap₂ (λ (l : List ℕ) (b : Bool). pointwise nat_eq q l || b) (at ∙ sym name) (same q)
     ∙ ap (λ (l : List (List ℕ)). is_among l q) (sym (keys_push ps (key, t) []))
 
-pub was_held : (b added : Bool) → added ≡ not b → added ≡ false → b ≡ true
-was_held true added e f = refl
-was_held false added e f = absurd cc
+was_in : (b added : Bool) → added ≡ not b → added ≡ false → b ≡ true
+was_in true added e f = refl
+was_in false added e f = absurd cc
 
-pub was_new : (b added : Bool) → added ≡ not b → added ≡ true → b ≡ false
-was_new true added e f = absurd cc
-was_new false added e f = refl
+was_out : (b added : Bool) → added ≡ not b → added ≡ true → b ≡ false
+was_out true added e f = absurd cc
+was_out false added e f = refl
+
+-- what putting a key in says of the keys before it
+module _ (seen : Seen) (s : List ℕ) (k : Vec ℕ Global) (added : Bool) (is : added ≡ not (was_seen seen k.items)) (at : k.items ≡ s) where
+  by_key : added ≡ not (was_seen seen s)
+  by_key = is ∙ ap (λ (l : List ℕ). not (was_seen seen l)) at
+
+  pub seen_before : added ≡ false → was_seen seen s ≡ true
+  seen_before old = was_in (was_seen seen s) added by_key old
+
+  pub not_seen : added ≡ true → was_seen seen s ≡ false
+  not_seen fresh = was_out (was_seen seen s) added by_key fresh
 
 pub same_keys_none : SameKeys [] []
 same_keys_none = λ q. refl

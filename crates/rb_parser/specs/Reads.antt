@@ -8,18 +8,19 @@ use Rattle.rb_tree.specs.declared.tree.Tree.{Tree}
 use Rattle.rb_grammar.specs.Faults.{line_at}
 use Rattle.rb_grammar.specs.Form.{Leaf, string, alias, binary, int, ints, Body, table, array, Entries, no_entries, entry, Elements, Head, has_no_fallback}
 use Rattle.rb_grammar.specs.Good.{AreElementTexts, LeafSpells, Spells}
-use Rattle.rb_grammar.specs.Reading.{Stop, stop, Read, ◌>>=◌, Inner, Word, string_type, alias_type, binary_type, int_type, ints_type, table_type, array_type, maybe_at, anything, checked_at, numbers, body}
+use Rattle.rb_grammar.specs.Reading.{Stop, stop, Read, ◌>>=◌, Inner, Word, string_type, alias_type, binary_type, int_type, ints_type, table_type, array_type}
+use Rattle.rb_grammar.specs.Reading.{maybe_at, anything, checked_at, numbers, body}
 use Rattle.rb_grammar.specs.Tests.{the_tests}
 
--- where reading stops, the fault with its line: that of the first token left, or that of the end
+-- where reading stops, the error with its line: that of the first token left, or that of the end
 abbrev pub located : {A : Type 0} → ℕ → Result A Stop → Result A SourceFault
 located end (Ok x) = Ok x
 located end (Err s) = Err (record { kind = s.kind; line = line_at end s.rest })
 
--- What was returned stands for what is read, and the same tokens are left; or it is refused as reading stops, unless memory ran out.
+-- What was returned is seen as what is read, and the same tokens are left; or it is refused as reading stops, unless memory ran out.
 abbrev pub Reads : {X Y : Type 0} → (X → Y → Type 0) → ℕ → Result X SourceFault → List Token → Read Y → Type 0
-Reads {X} {Y} StandsFor end (Ok x) rest read = (y : Y) × (read ≡ Ok (y, rest)) × StandsFor x y
-Reads {X} {Y} StandsFor end (Err e) rest read = e.kind ≢ Memory → located end read ≡ Err e
+Reads {X} {Y} SeenAs end (Ok x) rest read = (y : Y) × (read ≡ Ok (y, rest)) × SeenAs x y
+Reads {X} {Y} SeenAs end (Err e) rest read = e.kind ≢ Memory → located end read ≡ Err e
 
 -- what reads the values inside a body, with others in them no deeper than the number
 abbrev pub inner_at : ℕ → Inner
@@ -29,7 +30,7 @@ inner_at depth = record { room = nat_lt 0 depth; reads = body the_tests depth }
 abbrev pub made : {A B : Type 0} → (A → B) → Read A → Read B
 made make read = read >>= λ x. Ok (make x.0, x.1)
 
--- what stands in a body of a type without children
+-- what is in a body of a type without children
 abbrev pub leaf_at : Word → List Token → Read Leaf
 leaf_at string_type ts = made string (maybe_at BadHex anything ts)
 leaf_at alias_type ts = made alias (maybe_at BadHex anything ts)
@@ -39,7 +40,7 @@ leaf_at ints_type ts = made ints (numbers the_tests.is_element (suc (length ts))
 leaf_at table_type ts = Err (stop Unexpected ts)
 leaf_at array_type ts = Err (stop Unexpected ts)
 
--- ---- what trees and lists of the program stand for
+-- ---- what trees and lists of the program are seen as
 
 abbrev pub IsLeafTree : Tree → Leaf → Type 0
 IsLeafTree t l = LeafSpells l (view_of t)

@@ -34,17 +34,17 @@ IsGoodSource bytes name source = IsGoodSourceWithin 64 bytes name source
 abbrev pub last_line : List ℕ → ℕ
 last_line bytes = suc (count_by (λ b. b == 0x0A) bytes)
 
--- The source cuts into tokens, and these have a fault in this line.
+-- The source cuts into tokens, and these have an error in this line.
 pub record HasTokenFault (bytes : List ℕ) (kind : SourceKind) (line : ℕ) : Type 0 where
   pub short : length bytes ≤ 8388608
   pub tokens : List Token
   pub cut : HasTokens bytes tokens
   pub fault : grammar.IsFault tokens (last_line bytes) kind line
 
--- The source is no text or has a lexical fault, and this is the one that the lexer's definition decides; or its tokens have the fault.
+-- The source is no text or has a lexical error, and this is the one that the lexer's definition decides; or its tokens have the error.
 abbrev pub IsFault : List ℕ → SourceKind → ℕ → Type 0
 IsFault bytes kind line = IsSourceFault bytes kind line ⊎ HasTokenFault bytes kind line
 
--- Why a source is refused: out of memory, which has line 0, or for a fault that it has.
+-- Why a source is refused: out of memory, which has line 0, or for an error that it has.
 abbrev pub IsRefusal : List ℕ → SourceFault → Type 0
 IsRefusal bytes e = ((e.kind ≡ Memory) × (e.line ≡ 0)) ⊎ IsFault bytes e.kind e.line

@@ -18,7 +18,7 @@ punctuation_of Right = reading.right
 punctuation_of Colon = reading.colon
 punctuation_of Comma = reading.comma
 
--- what is guessed, or the fault at the token that decides
+-- what is guessed, or the error at the token that decides
 abbrev pub guessed : ℕ → reading.Guess → Result Guess SourceFault
 guessed end reading.as_text = Ok Text
 guessed end reading.as_table = Ok Table

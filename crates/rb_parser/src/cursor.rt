@@ -1,8 +1,10 @@
 // A place in the tokens of a text.
-ghost use Rattle.std.specs.Prelude.{◌≡◌, ◌||◌, ◌∷◌, [], ◌<◌, ◌≤◌, length, if◌then◌else◌, IsTrue, ◌↔◌, is_some, MatchOption, MatchResult, Some, None, Ok, Err, OnOk};
+ghost use Rattle.std.specs.Prelude.{◌≡◌, ◌||◌, ◌∷◌, [], ◌<◌, ◌≤◌, length, if◌then◌else◌, IsTrue, ◌↔◌, is_some};
+ghost use Rattle.std.specs.Prelude.{MatchOption, MatchResult, Some, None, Ok, Err, OnOk};
 ghost use Rattle.rb_grammar.specs.Faults.{line_at};
 ghost use Rattle.rb_lexer.specs.declared.fault.SourceKind.TheVariants.{TooDeep, Unexpected};
-ghost use Rattle.rb_grammar.specs.Reading.{left, colon, begins, is_punctuation, tail, first_text, is_no_fallback_text, punctuation_at, text_at, word_at, guess, guess_second};
+ghost use Rattle.rb_grammar.specs.Reading.{left, colon, begins, is_punctuation, tail, first_text, is_no_fallback_text};
+ghost use Rattle.rb_grammar.specs.Reading.{punctuation_at, text_at, word_at, guess, guess_second};
 ghost use Rattle.rb_parser.specs.Reads.{located, Reads};
 ghost use Rattle.rb_parser.specs.Views.{punctuation_of, guessed, word_of};
 
@@ -97,11 +99,11 @@ impl Cursor {
     }
 
     /// Whether a punctuation mark comes next.
-    pub fn is_at(&self, sign: Punctuation) -> bool
-        ensures { result ≡ begins (punctuation_of sign) self.now.rest.items }
+    pub fn is_at(&self, punctuation: Punctuation) -> bool
+        ensures { result ≡ begins (punctuation_of punctuation) self.now.rest.items }
     {
         match self.first() {
-            Some(token) => is_punctuation(&token.what, sign),
+            Some(token) => is_punctuation(&token.what, punctuation),
             None => false,
         }
     }
@@ -126,14 +128,15 @@ impl Cursor {
     }
 
     /// Takes a punctuation mark, if it comes next.
-    pub fn take(&mut self, sign: Punctuation) -> bool
+    pub fn take(&mut self, punctuation: Punctuation) -> bool
         ensures same_end { self.new.end ≡ self.old.end }
-        ensures value { result ≡ begins (punctuation_of sign) self.old.rest.items }
-        ensures rest { self.new.rest.items ≡ (if begins (punctuation_of sign) self.old.rest.items then tail self.old.rest.items else self.old.rest.items) }
+        ensures value { result ≡ begins (punctuation_of punctuation) self.old.rest.items }
+        ensures rest { self.new.rest.items ≡ (if begins (punctuation_of punctuation) self.old.rest.items then tail self.old.rest.items
+            else self.old.rest.items) }
         ensures shorter { IsTrue result → length self.new.rest.items < length self.old.rest.items }
         ensures no_longer { length self.new.rest.items ≤ length self.old.rest.items }
     {
-        let comes = self.is_at(sign);
+        let comes = self.is_at(punctuation);
         if comes {
             drop(self.pop());
         }
@@ -141,13 +144,13 @@ impl Cursor {
     }
 
     /// Takes a punctuation mark, which has to come next.
-    pub fn expect(&mut self, sign: Punctuation) -> Result<(), SourceFault>
+    pub fn expect(&mut self, punctuation: Punctuation) -> Result<(), SourceFault>
         ensures same_end { self.new.end ≡ self.old.end }
-        ensures exact { MatchResult result (λ _. punctuation_at (punctuation_of sign) self.old.rest.items ≡ Ok self.new.rest.items)
-            (λ e. located self.old.end (punctuation_at (punctuation_of sign) self.old.rest.items) ≡ Err e) }
+        ensures exact { MatchResult result (λ _. punctuation_at (punctuation_of punctuation) self.old.rest.items ≡ Ok self.new.rest.items)
+            (λ e. located self.old.end (punctuation_at (punctuation_of punctuation) self.old.rest.items) ≡ Err e) }
         ensures shorter { OnOk result (length self.new.rest.items < length self.old.rest.items) }
     {
-        if self.take(sign) {
+        if self.take(punctuation) {
             Ok(())
         } else {
             Err(self.fault(SourceKind::Unexpected))
@@ -232,13 +235,13 @@ impl Cursor {
             return Err(self.fault(SourceKind::Unexpected));
         };
         match first.what {
-            Mark::Text(_) => self.guess_behind_text(),
+            Mark::Text(_) => self.guess_after_text(),
             Mark::LeftBrace | Mark::Colon | Mark::RightBrace => Ok(Guess::Array),
             Mark::Comma => Err(self.fault(SourceKind::Unexpected)),
         }
     }
 
-    fn guess_behind_text(&self) -> Result<Guess, SourceFault>
+    fn guess_after_text(&self) -> Result<Guess, SourceFault>
         ensures { result ≡ guessed self.now.end (guess_second (tail self.now.rest.items)) }
     {
         let kind = SourceKind::Unexpected;
@@ -275,10 +278,10 @@ impl Cursor {
     }
 }
 
-fn is_punctuation(mark: &Mark, sign: Punctuation) -> bool
-    ensures { result ≡ is_punctuation (punctuation_of sign) mark.now }
+fn is_punctuation(mark: &Mark, punctuation: Punctuation) -> bool
+    ensures { result ≡ is_punctuation (punctuation_of punctuation) mark.now }
 {
-    match sign {
+    match punctuation {
         Punctuation::Left => matches!(mark, Mark::LeftBrace),
         Punctuation::Right => matches!(mark, Mark::RightBrace),
         Punctuation::Colon => matches!(mark, Mark::Colon),

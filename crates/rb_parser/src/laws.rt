@@ -15,7 +15,7 @@ pub fn old_sources()
     ensures { (bytes name : List ℕ) (source : SourceTree) → IsGoodSourceWithin 32 bytes name source → IsGoodSourceWithin 64 bytes name source }
 {}
 
-/// A good source has no fault, and each other source has one.
+/// A good source has no error, and each other source has one.
 pub fn good_or_faulty()
     ensures apart { (bytes : List ℕ) (name : List ℕ) (source : SourceTree) (kind : SourceKind) (line : ℕ) → IsGoodSource bytes name source
         → IsFault bytes kind line → ⊥ }

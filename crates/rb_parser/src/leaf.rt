@@ -87,7 +87,7 @@ fn read_numbers(alloc: Global, cursor: &mut Cursor) -> Result<Vec<i32>, SourceFa
     Ok(found)
 }
 
-/// What stands in a body of a type without others inside, up to its closing brace.
+/// What is in a body of a type without others inside, up to its closing brace.
 pub fn read_leaf(alloc: Global, cursor: &mut Cursor, leaf: Leaf) -> Result<Tree, SourceFault>
     ensures same_end { cursor.new.end ≡ cursor.old.end }
     ensures exact { (w : reading.Word) → word_of w ≡ word.Leaf leaf → Reads IsLeafTree cursor.old.end result cursor.new.rest.items

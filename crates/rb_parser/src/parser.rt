@@ -9,10 +9,9 @@ ghost use Rattle.rb_parser.specs.Reads.{Reads, inner_at, IsBodyTree, IsTableTree
 ghost use Rattle.rb_parser.specs.Views.{word_of};
 
 use crate::cursor::{Cursor, Guess, Punctuation};
-use crate::key::key_bytes;
+use crate::key::read_key;
 use crate::leaf::read_leaf;
 use crate::word::Word;
-use rb_grammar::is_key;
 use rb_lexer::{SourceFault, SourceKind};
 use rb_tree::{ByteList, TableFault, Tree, TreeList};
 use std::alloc::Global;
@@ -38,7 +37,7 @@ pub fn read_body(alloc: Global, cursor: &mut Cursor, depth: u64) -> Result<Tree,
     }
 }
 
-/// A body with a type, from behind its brace on. The height of what stands inside is at most `depth`.
+/// A body with a type, after its brace. The height of what is inside is at most `depth`.
 #[cycle(body)]
 fn read_typed(
     alloc: Global,
@@ -62,7 +61,7 @@ fn read_typed(
     }
 }
 
-/// A body without a type, from behind its brace on. The height of what stands inside is at most `depth`.
+/// A body without a type, after its brace. The height of what is inside is at most `depth`.
 #[cycle(body)]
 fn read_untyped(alloc: Global, cursor: &mut Cursor, depth: u64) -> Result<Tree, SourceFault>
     ensures same_end { cursor.new.end ≡ cursor.old.end }
@@ -81,7 +80,7 @@ fn read_untyped(alloc: Global, cursor: &mut Cursor, depth: u64) -> Result<Tree, 
     }
 }
 
-/// The entries of a table, up to and with its closing brace. The height of what stands inside is at most `depth`.
+/// The entries of a table, up to and with its closing brace. The height of what is inside is at most `depth`.
 #[cycle(body)]
 pub fn read_table(alloc: Global, cursor: &mut Cursor, depth: u64) -> Result<Tree, SourceFault>
     ensures same_end { cursor.new.end ≡ cursor.old.end }
@@ -119,10 +118,9 @@ fn read_entries(
         let Some(text) = cursor.take_text() else {
             break;
         };
-        if !is_key(text.as_slice()) {
+        let Some(key) = read_key(alloc, text.as_slice())? else {
             return Err(bad);
-        }
-        let key = key_bytes(alloc, text.as_slice())?;
+        };
         if !seen.insert(text.into_vec())? {
             return Err(SourceFault {
                 kind: SourceKind::DuplicateKey,

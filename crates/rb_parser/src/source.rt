@@ -81,6 +81,11 @@ fn last_line(bytes: &[u8]) -> u64
 /// of a number or of bytes; `TooDeep` at a value at level 65; `TrailingText` at the token after the bundle; `TooLarge`, which has
 /// line 1, where the tree weighs too much. `Memory` has line 0: out of memory.
 /// Where a text has several errors of the parser, one of them is reported. No memory is kept after an error.
+///
+/// ```rust
+/// let source = parse(alloc, b"de{menu{open{\"O\"}}}")?; // the name is `de`, the tree's height 3
+/// parse(alloc, b"de{\na:int{09}}") // Err: BadInt, line 2
+/// ```
 pub fn parse(alloc: Global, bytes: &[u8]) -> Result<Source, SourceFault>
     // The answer is the source's name, tree and flag.
     ensures found { IfOk result (λ s. IsGoodSource bytes.now s.name (source_tree s)) }
@@ -88,7 +93,7 @@ pub fn parse(alloc: Global, bytes: &[u8]) -> Result<Source, SourceFault>
     ensures only { (name : List ℕ) (source : SourceTree) → IsGoodSource bytes.now name source
         → MatchResult result (λ s. (s.name ≡ name) × (source_tree s ≡ source)) (λ e. e.kind ≡ Memory) }
     ensures fits { IfOk result (λ s. Fits (view_of s.tree)) }
-    // A refusal is a fault of the source, with its line, unless memory ran out.
+    // What is reported is an error of the source, with its line, unless memory ran out.
     ensures fault { IfErr result (λ e. IsRefusal bytes.now e) }
 {
     let tokens = lex(alloc, bytes)?;

@@ -1,10 +1,6 @@
 pub mod Texts
-pub mod Characters
-pub mod Elements
-pub mod Members
-pub mod OfKinds
+pub mod Lent
 pub mod Stepping
-pub mod NoFloats
 pub mod Putting
 pub mod Moving
 pub mod Reading

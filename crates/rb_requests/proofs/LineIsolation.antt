@@ -9,7 +9,7 @@ use Rattle.rb_engine.specs.Answer.{Start, Told, answer_over, shelf_then}
 use Rattle.rb_engine.specs.History.{State, AsksOne}
 use Rattle.rb_requests.specs.Asked.{call_of}
 use Rattle.rb_requests.specs.Lines.{Tells, TellsLine}
-use Rattle.rb_requests.specs.Replied.{reply_line}
+use Rattle.rb_replies.specs.Replied.{reply_line}
 use Rattle.rb_requests.specs.Isolation.{RepliesByLine, is_of, calls_of, replies_to, AreWrittenByLine, AreLinesIsolated}
 
 pub written_by_line : AreWrittenByLine

@@ -39,14 +39,19 @@ lines_of-last (b ∷ c ∷ line) h n =
 
 -- ---- the bytes that are read
 
--- the bytes so far, no more than a line may have, and no call has failed
-pub record ReadSoFar (first now : Option (List ℕ)) (line : List ℕ) (faults faults' : ℕ) : Type 0 where
-  pub part : ReadsPlain first now line
-  pub short : IsShort line
-  pub quiet : faults' ≡ faults
+-- a reader at a moment
+pub record Reader : Type 0 where
+  pub left : Option (List ℕ)
+  pub faults : ℕ
 
-pub read_none : (a : Option (List ℕ)) (line : List ℕ) (faults : ℕ) → line ≡ [] → ReadSoFar a a line faults faults
-read_none a line faults e = subst (λ (l : List ℕ). ReadSoFar a a l faults faults) (sym e) (record { part = record { read = Consumes-nil a; plain = refl }; short = omega arith; quiet = refl })
+-- the bytes so far, no more than a line may have, and no call has failed
+pub record ReadSoFar (limit : ℕ) (before now : Reader) (line : List ℕ) : Type 0 where
+  pub part : ReadsPlain before.left now.left line
+  pub short : IsShort limit line
+  pub quiet : now.faults ≡ before.faults
+
+pub read_none : (limit : ℕ) (now : Reader) (line : List ℕ) → line ≡ [] → ReadSoFar limit now now line
+read_none limit now line e = subst (λ (l : List ℕ). ReadSoFar limit now now l) (sym e) (record { part = record { read = Consumes-nil now.left; plain = refl }; short = omega arith; quiet = refl })
 
 not_a_feed : (b : ℕ) → (b ≡ 10 → ⊥) → eqb b 10 ≡ false
 not_a_feed b n = grind (arith, nat_tests)
@@ -57,39 +62,42 @@ plain_run a b c line bytes h k p = record {
   plain = feeds-append line bytes ∙ rw (h.plain, p) refl;
 }
 
-short_run : (line bytes : List ℕ) (most : ℕ) → IsShort line → length bytes ≤ most → most ≡ 268435456 - length line → IsShort (line ++ bytes)
-short_run line bytes most s n e = rw (length-append line bytes) (omega arith)
+short_run : (limit : ℕ) (line bytes : List ℕ) (most : ℕ) → IsShort limit line → length bytes ≤ most → most ≡ limit - length line → IsShort limit (line ++ bytes)
+short_run limit line bytes most s n e = rw (length-append line bytes) (omega arith)
 
 pub plain_kept : (a b c : Option (List ℕ)) (line : List ℕ) → ReadsPlain a b line → Keeps b c → ReadsPlain a c line
 plain_kept a b c line h k = record { read = Consumes-kept a b c line h.read k; plain = h.plain }
 
-pub part_of : (a b : Option (List ℕ)) (line : List ℕ) → ReadsPlain a b line → IsShort line → ReadsPart a b
-part_of a b line h o = record { bytes = line; part = h; short = o }
-
 -- a run that ends within a line
-pub run_more : (a b c : Option (List ℕ)) (line line' : List ℕ) (most f f' f'' : ℕ) → ReadSoFar a b line f f' → Moves b c line line' most [] → most ≡ 268435456 - length line → f'' ≡ f' → ReadSoFar a c line' f f''
-run_more a b c line line' most f f' f'' h m e q =
-    let read = subst (λ (x : List ℕ). Consumes b c x) (append-nil m.bytes) m.read in
-    subst (λ (l : List ℕ). ReadSoFar a c l f f'') (sym m.moved) (record {
-      part = plain_run a b c line m.bytes h.part read m.plain;
-      short = short_run line m.bytes most h.short m.short e;
+pub run_more : (limit : ℕ) (before now then : Reader) (line line' : List ℕ) (most : ℕ) → ReadSoFar limit before now line → Moves now.left then.left line line' most [] → most ≡ limit - length line → then.faults ≡ now.faults → ReadSoFar limit before then line'
+run_more limit before now then line line' most h m e q =
+    let read = subst (λ (x : List ℕ). Consumes now.left then.left x) (append-nil m.bytes) m.read in
+    subst (λ (l : List ℕ). ReadSoFar limit before then l) (sym m.moved) (record {
+      part = plain_run before.left now.left then.left line m.bytes h.part read m.plain;
+      short = short_run limit line m.bytes most h.short m.short e;
       quiet = q ∙ h.quiet;
     })
 
 -- a run that ends with a line feed
-pub run_ended : (a b c : Option (List ℕ)) (line line' : List ℕ) (most f f' : ℕ) → ReadSoFar a b line f f' → Moves b c line line' most (10 ∷ []) → most ≡ 268435456 - length line → ReadsEnded a c line'
-run_ended a b c line line' most f f' h m e =
-    subst (λ (l : List ℕ). ReadsEnded a c l) (sym m.moved) (record {
-      read = subst (λ (x : List ℕ). Consumes a c x) (sym (append_assoc line m.bytes (10 ∷ []))) (Consumes-trans a b c line (m.bytes ++ 10 ∷ []) h.part.read m.read);
+pub run_ended : (limit : ℕ) (before now : Reader) (left : Option (List ℕ)) (line line' : List ℕ) (most : ℕ) → ReadSoFar limit before now line → Moves now.left left line line' most (10 ∷ []) → most ≡ limit - length line → ReadsEnded limit line' before.left left
+run_ended limit before now left line line' most h m e =
+    subst (λ (l : List ℕ). ReadsEnded limit l before.left left) (sym m.moved) (record {
+      read = subst (λ (x : List ℕ). Consumes before.left left x) (sym (append_assoc line m.bytes (10 ∷ []))) (Consumes-trans before.left now.left left line (m.bytes ++ 10 ∷ []) h.part.read m.read);
       plain = feeds-append line m.bytes ∙ rw (h.part.plain, m.plain) refl;
-      short = short_run line m.bytes most h.short m.short e;
+      short = short_run limit line m.bytes most h.short m.short e;
     })
 
-pub run_lost : (a b c : Option (List ℕ)) (line : List ℕ) (most f f' : ℕ) → ReadSoFar a b line f f' → Loses b c most → most ≡ 268435456 - length line → ReadsPart a c
-run_lost a b c line most f f' h m e = part_of a c (line ++ m.bytes) (plain_run a b c line m.bytes h.part m.read m.plain) (short_run line m.bytes most h.short m.short e)
+-- a run for which memory ran out
+pub run_lost : (limit : ℕ) (before now : Reader) (left : Option (List ℕ)) (line : List ℕ) (most : ℕ) → ReadSoFar limit before now line → Loses now.left left most → most ≡ limit - length line → ReadsPart limit before.left left
+run_lost limit before now left line most h m e = record {
+  bytes = line ++ m.bytes;
+  part = plain_run before.left now.left left line m.bytes h.part m.read m.plain;
+  short = short_run limit line m.bytes most h.short m.short e;
+}
 
-pub run_failed : (a b c : Option (List ℕ)) (line : List ℕ) (f f' : ℕ) → ReadSoFar a b line f f' → Keeps b c → ReadsPart a c
-run_failed a b c line f f' h k = part_of a c line (plain_kept a b c line h.part k) h.short
+-- a run that could not be read
+pub run_failed : (limit : ℕ) (before now : Reader) (left : Option (List ℕ)) (line : List ℕ) → ReadSoFar limit before now line → Keeps now.left left → ReadsPart limit before.left left
+run_failed limit before now left line h k = record { bytes = line; part = plain_kept before.left now.left left line h.part k; short = h.short }
 
 -- ---- the end of the input
 
@@ -104,28 +112,28 @@ nothing_read (Some xs) None c h k = absurd h
 nothing_read (Some xs) (Some ys) None h k = absurd k
 nothing_read (Some xs) (Some ys) (Some zs) h k = k ∙ sym h
 
-pub last_of : (a b c : Option (List ℕ)) (line : List ℕ) → ReadsPlain a b line → IsAtEnd b → Keeps b c → 0 < length line → IsShort line → ReadsLast a c line
-last_of a b c line h e k n o = record { short = o; part = plain_kept a b c line h k; some = n; all = Consumes-all a b line [] line h.read e refl }
+pub last_of : (limit : ℕ) (a b c : Option (List ℕ)) (line : List ℕ) → ReadsPlain a b line → IsAtEnd b → Keeps b c → 0 < length line → IsShort limit line → ReadsLast limit line a c
+last_of limit a b c line h e k n o = record { short = o; part = plain_kept a b c line h k; some = n; all = Consumes-all a b line [] line h.read e refl }
 
 pub end_of : (a b c : Option (List ℕ)) (line : List ℕ) → ReadsPlain a b line → IsAtEnd b → Keeps b c → line ≡ [] → ReadsEnd a c
 end_of a b c line h e k n =
     let none = subst (λ (x : List ℕ). Consumes a b x) n h.read in
-    record { end = nothing_left a b none e; kept = nothing_read a b c none k }
+    (nothing_left a b none e, nothing_read a b c none k)
 
 -- ---- after the most bytes that a line may have
 
-pub longest_ended : (a b c : Option (List ℕ)) (line : List ℕ) (byte : ℕ) → ReadsPlain a b line → Consumes b c (byte ∷ []) → byte ≡ 10 → length line ≡ 268435456 → ReadsEnded a c line
-longest_ended a b c line byte h k e n = record { short = omega arith; read = Consumes-trans a b c line (10 ∷ []) h.read (subst (λ (x : ℕ). Consumes b c (x ∷ [])) e k); plain = h.plain }
+pub longest_ended : (limit : ℕ) (a b c : Option (List ℕ)) (line : List ℕ) (byte : ℕ) → ReadsPlain a b line → Consumes b c (byte ∷ []) → byte ≡ 10 → length line ≡ limit → ReadsEnded limit line a c
+longest_ended limit a b c line byte h k e n = record { short = omega arith; read = Consumes-trans a b c line (10 ∷ []) h.read (subst (λ (x : ℕ). Consumes b c (x ∷ [])) e k); plain = h.plain }
 
-pub longest_passed : (a b c : Option (List ℕ)) (line : List ℕ) (byte : ℕ) → ReadsPlain a b line → Consumes b c (byte ∷ []) → (byte ≡ 10 → ⊥) → length line ≡ 268435456 → ReadsLong a c
-longest_passed a b c line byte h k n e = record {
+pub longest_passed : (limit : ℕ) (a b c : Option (List ℕ)) (line : List ℕ) (byte : ℕ) → ReadsPlain a b line → Consumes b c (byte ∷ []) → (byte ≡ 10 → ⊥) → length line ≡ limit → ReadsLong limit a c
+longest_passed limit a b c line byte h k n e = record {
   bytes = line ++ byte ∷ [];
   part = plain_run a b c line (byte ∷ []) h k (rw (not_a_feed byte n) refl);
   long = length-append line (byte ∷ []) ∙ ap (λ x. x + 1) e;
 }
 
-pub longest_part : (a b c : Option (List ℕ)) (line : List ℕ) → ReadsPlain a b line → Keeps b c → length line ≡ 268435456 → ReadsPart a c
-longest_part a b c line h k n = part_of a c line (plain_kept a b c line h k) (omega arith)
+pub longest_part : (limit : ℕ) (a b c : Option (List ℕ)) (line : List ℕ) → ReadsPlain a b line → Keeps b c → length line ≡ limit → ReadsPart limit a c
+longest_part limit a b c line h k n = record { bytes = line; part = plain_kept a b c line h k; short = omega arith }
 
-pub longest_last : (a b c : Option (List ℕ)) (line : List ℕ) → ReadsPlain a b line → IsAtEnd b → Keeps b c → length line ≡ 268435456 → ReadsLast a c line
-longest_last a b c line h e k n = last_of a b c line h e k (omega arith) (omega arith)
+pub longest_last : (limit : ℕ) (a b c : Option (List ℕ)) (line : List ℕ) → ReadsPlain a b line → IsAtEnd b → Keeps b c → length line ≡ limit → 0 < limit → ReadsLast limit line a c
+longest_last limit a b c line h e k n m = last_of limit a b c line h e k (omega arith) (omega arith)

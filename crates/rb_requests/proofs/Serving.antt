@@ -1,56 +1,64 @@
 -- Serving line by line, and the lines of the whole input.
-use Rattle.std.proofs.Common.{◌≡◌, ◌<◌, ◌≤◌, ℕ, ◌+◌, inl, inr, ◌⊎◌, List, [], ◌∷◌, ◌++◌, length, Option, Some, None, Err, refl, sym, ◌∙◌, ap, subst, arith, add-one, append_assoc, append-nil, length-append}
-use Rattle.std.specs.Prelude.{⊤, All}
-use Rattle.std.specs.Io.KnownBytes.{Appends, Keeps}
+use Rattle.std.proofs.Common.{◌≡◌, ◌<◌, ◌≤◌, ℕ, ◌+◌, inl, inr, ◌⊎◌, List, [], ◌∷◌, ◌++◌, length, Option, Some, None, refl, sym, ◌∙◌, ap, subst, arith, add-one, append_assoc, append-nil, length-append}
+use Rattle.std.specs.Prelude.{All}
+use Rattle.std.specs.Io.KnownBytes.{Appends, Consumes, Keeps}
 use Rattle.std.proofs.lemmas.List.Elements.{All-nil, All-push}
 use Rattle.std.proofs.KnownBytes.{Appends-nil, Appends-trans, Appends-kept}
 use Rattle.rb_requests.specs.Asked.{call_of}
 use Rattle.rb_engine.specs.History.{State}
-use Rattle.rb_requests.specs.Lines.{AnswersLine, LineMayTell, Replies, lines_of, feeds}
+use Rattle.rb_requests.specs.Lines.{AnswersLine, Replies, lines_of, feeds}
+use Rattle.rb_requests.specs.MayTell.{LineMayTell}
 use Rattle.rb_requests.specs.Device.{risen, risen_by}
-use Rattle.rb_requests.specs.Served.{AnswersAll, Answers, IsShort, at, Stands, IsNext, TakesEffect, AfterFault}
-use Rattle.rb_requests.specs.OneLine.{Wrote, WrotePart, WroteNone, WroteSome, FailsLine}
-use Rattle.rb_requests.specs.Taken.{ReadsEnded, ReadsLast, ReadsEnd, ReadsLine, LooksAtEnd}
+use Rattle.rb_requests.specs.Served.{Moment, at, where_known, IsShort, Answers, AnswersWithin, Stands, IsNext, TakesEffect, After, AfterRead, AfterLong, AfterLimit, AfterMemory, AfterFaultWithin}
+use Rattle.rb_requests.specs.OneLine.{Wrote, WrotePart, FailsLine}
+use Rattle.rb_requests.specs.Taken.{ReadsPart, ReadsLong, ReadsEnded, ReadsLast, ReadsEnd}
 use Rattle.rb_requests.specs.declared.lines.ServeFault.{ServeFault}
 use Rattle.rb_requests.specs.declared.lines.ServeFault.TheVariants.{Read, Write, LineLimit, LineTooLong, Memory}
 use Rattle.rb_requests.proofs.Reading.{feeds-append, lines_of-ended, lines_of-last}
 
 -- the lines that were answered, each of which had a line feed, and what was written
-pub record SoFar (first now : State) (input left : List ℕ) (written written' : Option (List ℕ)) (count : ℕ) : Type 0 where
+pub record SoFar (limit : ℕ) (before now : Moment) (count : ℕ) (input left : List ℕ) : Type 0 where
   pub done : List ℕ
   pub taken : input ≡ done ++ left
   pub lines : List (List ℕ)
   pub split : lines_of input ≡ lines ++ lines_of left
   pub fed : feeds done ≡ length lines
   pub many : length lines ≡ count
-  pub short : All IsShort lines
+  pub short : All (IsShort limit) lines
   pub text : List ℕ
-  pub replies : Replies first lines text now
-  pub wrote : Appends written written' text
+  pub replies : Replies before.state lines text now.state
+  pub wrote : Appends before.written now.written text
 
-abbrev pub Known : State → State → Option (List ℕ) → Option (List ℕ) → Option (List ℕ) → Option (List ℕ) → ℕ → Type 0
-Known first now None left written written' count = ⊤
-Known first now (Some input) None written written' count = ⊥
-Known first now (Some input) (Some left) written written' count = SoFar first now input left written written' count
+-- and each reply is settled
+pub record Serves (limit : ℕ) (before now : Moment) (count : ℕ) : Type 0 where
+  pub known : where_known (SoFar limit before now count) before.left now.left
+  pub handed : now.settled ≡ risen_by before.settled count
 
--- and no call of a device has failed, and each reply is settled
-pub record Serves (first now : State) (input left written written' : Option (List ℕ)) (count reads reads' writes writes' settled settled' : ℕ) : Type 0 where
-  pub known : Known first now input left written written' count
-  pub quiet : reads' ≡ reads
-  pub still : writes' ≡ writes
-  pub handed : settled' ≡ risen_by settled count
+known_first : (limit : ℕ) (now : Moment) (left : Option (List ℕ)) → where_known (SoFar limit now now 0) left left
+known_first limit now None = tt
+known_first limit now (Some input) = record { done = []; taken = refl; lines = []; split = refl; fed = refl; many = refl; short = All-nil (IsShort limit); text = []; replies = (refl, refl); wrote = Appends-nil now.written }
 
-known_first : (s : State) (left written : Option (List ℕ)) → Known s s left left written written 0
-known_first s None written = tt
-known_first s (Some input) written = record { done = []; taken = refl; lines = []; split = refl; fed = refl; many = refl; short = All-nil IsShort; text = []; replies = (refl, refl); wrote = Appends-nil written }
+pub at_first : (limit : ℕ) (now : Moment) → Serves limit now now 0
+at_first limit now = record { known = known_first limit now now.left; handed = refl }
 
-pub at_first : (s : State) (left written : Option (List ℕ)) (reads writes settled : ℕ) → Serves s s left left written written 0 reads reads writes writes settled settled
-at_first s left written reads writes settled = record { known = known_first s left written; quiet = refl; still = refl; handed = refl }
+-- what is left stays known where more is read
+step : (P Q : List ℕ → List ℕ → Type 0) (R : Option (List ℕ) → Option (List ℕ) → Type 0)
+    → ((left : List ℕ) → R (Some left) None → ⊥)
+    → ((input left left' : List ℕ) → P input left → R (Some left) (Some left') → Q input left')
+    → (input left left' : Option (List ℕ)) → where_known P input left → R left left' → where_known Q input left'
+step P Q R lost then None left left' h r = tt
+step P Q R lost then (Some input) None left' h r = absurd h
+step P Q R lost then (Some input) (Some left) None h r = absurd (lost left r)
+step P Q R lost then (Some input) (Some left) (Some left') h r = then input left left' h r
+
+-- bytes are read, and nothing else has changed
+abbrev pub read_on : Moment → Option (List ℕ) → Moment
+read_on now left = at now.state left now.written now.settled
 
 -- ---- more is read, and one line more is answered
 
-abbrev stand : (first now : State) (input left left' bytes : List ℕ) (a b : Option (List ℕ)) (count most : ℕ) → SoFar first now input left a b count → left ≡ bytes ++ left' → count ≤ most → Stands first now input left' most
-stand first now input left left' bytes a b count most h e m = record {
+abbrev stand : (limit : ℕ) (before now : Moment) (count most : ℕ) (input left left' bytes : List ℕ) → SoFar limit before now count input left → left ≡ bytes ++ left' → count ≤ most → Stands limit before.state now.state most input left'
+stand limit before now count most input left left' bytes h e m = record {
   done = h.done;
   begun = bytes;
   taken = h.taken ∙ ap (λ x. h.done ++ x) e;
@@ -86,73 +94,64 @@ ended_lines left left' line e p = ap lines_of (e ∙ append_assoc line (10 ∷ [
 ended_feeds : (read line : List ℕ) → feeds line ≡ 0 → feeds (read ++ (line ++ 10 ∷ [])) ≡ feeds read + 1
 ended_feeds read line p = feeds-append read (line ++ 10 ∷ []) ∙ ap (λ n. feeds read + n) (feeds-append line (10 ∷ []) ∙ rw p refl)
 
-one_more : (first now mid : State) (input left left' line : List ℕ) (a b c : Option (List ℕ)) (count : ℕ) → SoFar first now input left a b count → left ≡ (line ++ 10 ∷ []) ++ left' → feeds line ≡ 0 → IsShort line → Wrote now line b c mid → SoFar first mid input left' a c (count + 1)
-one_more first now mid input left left' line a b c count h e p o (text, told, wrote) = record {
+one_more : (limit : ℕ) (before now then : Moment) (line : List ℕ) (count : ℕ) (input left left' : List ℕ) → SoFar limit before now count input left → ReadsEnded limit line (Some left) (Some left') → Wrote now.state line now.written then.written then.state → SoFar limit before then (count + 1) input left'
+one_more limit before now then line count input left left' h k (text, told, wrote) = record {
   done = h.done ++ (line ++ 10 ∷ []);
-  taken = h.taken ∙ (ap (λ x. h.done ++ x) e ∙ sym (append_assoc h.done (line ++ 10 ∷ []) left'));
+  taken = h.taken ∙ (ap (λ x. h.done ++ x) k.read ∙ sym (append_assoc h.done (line ++ 10 ∷ []) left'));
   lines = h.lines ++ line ∷ [];
-  split = h.split ∙ (ap (λ x. h.lines ++ x) (ended_lines left left' line e p) ∙ sym (append_assoc h.lines (line ∷ []) (lines_of left')));
-  fed = ended_feeds h.done line p ∙ (ap (λ n. n + 1) h.fed ∙ sym (length-append h.lines (line ∷ [])));
+  split = h.split ∙ (ap (λ x. h.lines ++ x) (ended_lines left left' line k.read k.plain) ∙ sym (append_assoc h.lines (line ∷ []) (lines_of left')));
+  fed = ended_feeds h.done line k.plain ∙ (ap (λ n. n + 1) h.fed ∙ sym (length-append h.lines (line ∷ [])));
   many = length-append h.lines (line ∷ []) ∙ ap (λ n. n + 1) h.many;
-  short = All-push IsShort h.lines line h.short o;
+  short = All-push (IsShort limit) h.lines line h.short k.short;
   text = h.text ++ text;
-  replies = replies_more first now mid h.lines line h.text text h.replies told;
-  wrote = Appends-trans a b c h.text text h.wrote wrote;
+  replies = replies_more before.state now.state then.state h.lines line h.text text h.replies told;
+  wrote = Appends-trans before.written now.written then.written h.text text h.wrote wrote;
 }
 
-known_next : (first now mid : State) (input left left' a b c : Option (List ℕ)) (line : List ℕ) (count : ℕ) → Known first now input left a b count → ReadsEnded left left' line → Wrote now line b c mid → Known first mid input left' a c (count + 1)
-known_next first now mid None left left' a b c line count h k w = tt
-known_next first now mid (Some input) None left' a b c line count h k w = absurd h
-known_next first now mid (Some input) (Some l) None a b c line count h k w = absurd k.read
-known_next first now mid (Some input) (Some l) (Some l') a b c line count h k w = one_more first now mid input l l' line a b c count h k.read k.plain k.short w
-
-pub next : (first now mid : State) (input left left' a b c : Option (List ℕ)) (line : List ℕ) (count f f' f'' g g' g'' s s' s'' : ℕ) → Serves first now input left a b count f f' g g' s s' → ReadsEnded left left' line → f'' ≡ f' → Wrote now line b c mid → g'' ≡ g' → s'' ≡ risen s' → Serves first mid input left' a c (count + 1) f f'' g g'' s s''
-next first now mid input left left' a b c line count f f' f'' g g' g'' s s' s'' h k q w r t = record {
-  known = known_next first now mid input left left' a b c line count h.known k w;
-  quiet = q ∙ h.quiet;
-  still = r ∙ h.still;
-  handed = t ∙ (ap risen h.handed ∙ one_settled s count);
+pub next : (limit : ℕ) (before now then : Moment) (line : List ℕ) (count : ℕ) → Serves limit before now count → ReadsEnded limit line now.left then.left → Wrote now.state line now.written then.written then.state → then.settled ≡ risen now.settled → Serves limit before then (count + 1)
+next limit before now then line count h k w t = record {
+  known = step (SoFar limit before now count) (SoFar limit before then (count + 1)) (ReadsEnded limit line) (λ left r. r.read) (λ input left left' s r. one_more limit before now then line count input left left' s r w) before.left now.left then.left h.known k;
+  handed = t ∙ (ap risen h.handed ∙ one_settled before.settled count);
 }
 
 -- ---- the end of the input
 
-pub all_read : (first now : State) (input left left' a b : Option (List ℕ)) (count s s' : ℕ) → Known first now input left a b count → ReadsEnd left left' → AnswersAll (at first input a s) (at now left' b s') count
-all_read first now None left left' a b count s s' h k = tt
-all_read first now (Some input) None left' a b count s s' h k = absurd h
-all_read first now (Some input) (Some l) None a b count s s' h k = absurd k.kept
-all_read first now (Some input) (Some l) (Some l') a b count s s' h k =
-    let all : lines_of input ≡ h.lines = h.split ∙ (ap (λ x. h.lines ++ lines_of x) k.end ∙ append-nil h.lines) in
+all_of : (limit : ℕ) (before now after : Moment) (count : ℕ) (input left left' : List ℕ) → now.state ≡ after.state → now.written ≡ after.written → SoFar limit before now count input left → ReadsEnd (Some left) (Some left') → Answers limit before after count input left'
+all_of limit before now after count input left left' e f h (end, kept) =
+    let all : lines_of input ≡ h.lines = h.split ∙ (ap (λ x. h.lines ++ lines_of x) end ∙ append-nil h.lines) in
     record {
-      read = ap Some (k.kept ∙ k.end);
+      read = kept ∙ end;
       text = h.text;
-      wrote = h.wrote;
-      replies = subst (λ (x : List (List ℕ)). Replies first x h.text now) (sym all) h.replies;
+      wrote = subst (λ (x : Option (List ℕ)). Appends before.written x h.text) f h.wrote;
+      replies = subst (λ (x : State). Replies before.state (lines_of input) h.text x) e (subst (λ (x : List (List ℕ)). Replies before.state x h.text now.state) (sym all) h.replies);
       lines_read = sym h.many ∙ ap length (sym all);
-      short = subst (All IsShort) (sym all) h.short;
+      short = subst (All (IsShort limit)) (sym all) h.short;
     }
+
+pub all_read : (limit : ℕ) (before now : Moment) (left : Option (List ℕ)) (count : ℕ) → Serves limit before now count → ReadsEnd now.left left → AnswersWithin limit before (read_on now left) count
+all_read limit before now left count h k =
+    step (SoFar limit before now count) (Answers limit before (read_on now left) count) ReadsEnd (λ l r. r.1) (λ input l l' s r. all_of limit before now (read_on now left) count input l l' refl refl s r) before.left now.left left h.known k
 
 nothing_behind : (line rest : List ℕ) → line ≡ line ++ rest → rest ≡ []
 nothing_behind line [] h = refl
 nothing_behind line (b ∷ rest) h = let l = ap length h ∙ length-append line (b ∷ rest) in absurd (omega arith)
 
-last_answered : (first now mid : State) (input left left' line : List ℕ) (a b c : Option (List ℕ)) (count s s' : ℕ) → SoFar first now input left a b count → left ≡ line ++ left' → ReadsLast (Some left) (Some left') line → Wrote now line b c mid → Answers (at first (Some input) a s) (at mid (Some left') c s') input (count + 1)
-last_answered first now mid input left left' line a b c count s s' h e k (text, told, wrote) =
+last_answered : (limit : ℕ) (before now after : Moment) (line : List ℕ) (count : ℕ) (input left left' : List ℕ) → SoFar limit before now count input left → ReadsLast limit line (Some left) (Some left') → Wrote now.state line now.written after.written after.state → Answers limit before after (count + 1) input left'
+last_answered limit before now after line count input left left' h k (text, told, wrote) =
     let only = ap lines_of (sym k.all) ∙ lines_of-last line k.part.plain k.some in
     let all : lines_of input ≡ h.lines ++ line ∷ [] = h.split ∙ ap (λ x. h.lines ++ x) only in
     record {
-      read = ap Some (nothing_behind line left' (k.all ∙ e));
+      read = nothing_behind line left' (k.all ∙ k.part.read);
       text = h.text ++ text;
-      wrote = Appends-trans a b c h.text text h.wrote wrote;
-      replies = subst (λ (x : List (List ℕ)). Replies first x (h.text ++ text) mid) (sym all) (replies_more first now mid h.lines line h.text text h.replies told);
+      wrote = Appends-trans before.written now.written after.written h.text text h.wrote wrote;
+      replies = subst (λ (x : List (List ℕ)). Replies before.state x (h.text ++ text) after.state) (sym all) (replies_more before.state now.state after.state h.lines line h.text text h.replies told);
       lines_read = sym (ap length all ∙ (length-append h.lines (line ∷ []) ∙ ap (λ m. m + 1) h.many));
-      short = subst (All IsShort) (sym all) (All-push IsShort h.lines line h.short k.short);
+      short = subst (All (IsShort limit)) (sym all) (All-push (IsShort limit) h.lines line h.short k.short);
     }
 
-pub all_answered : (first now mid : State) (input left left' a b c : Option (List ℕ)) (line : List ℕ) (count s s' : ℕ) → Known first now input left a b count → ReadsLast left left' line → Wrote now line b c mid → AnswersAll (at first input a s) (at mid left' c s') (count + 1)
-all_answered first now mid None left left' a b c line count s s' h k w = tt
-all_answered first now mid (Some input) None left' a b c line count s s' h k w = absurd h
-all_answered first now mid (Some input) (Some l) None a b c line count s s' h k w = absurd k.part.read
-all_answered first now mid (Some input) (Some l) (Some l') a b c line count s s' h k w = last_answered first now mid input l l' line a b c count s s' h k.part.read k w
+pub all_answered : (limit : ℕ) (before now after : Moment) (line : List ℕ) (count : ℕ) → Serves limit before now count → ReadsLast limit line now.left after.left → Wrote now.state line now.written after.written after.state → AnswersWithin limit before after (count + 1)
+all_answered limit before now after line count h k w =
+    step (SoFar limit before now count) (Answers limit before after (count + 1)) (ReadsLast limit line) (λ left r. r.part.read) (λ input left left' s r. last_answered limit before now after line count input left left' s r w) before.left now.left after.left h.known k
 
 -- ---- a line that is not read whole
 
@@ -161,155 +160,145 @@ part_lines : (bytes : List ℕ) → feeds bytes ≡ 0 → length (lines_of bytes
 part_lines [] p = omega arith
 part_lines (b ∷ bytes) p = rw (lines_of-last (b ∷ bytes) p (omega arith)) (omega arith)
 
-part_short : (bytes : List ℕ) → feeds bytes ≡ 0 → IsShort bytes → All IsShort (lines_of bytes)
-part_short [] p s = All-nil IsShort
-part_short (b ∷ bytes) p s = rw (lines_of-last (b ∷ bytes) p (omega arith)) (All-push IsShort [] (b ∷ bytes) (All-nil IsShort) s)
+part_short : (limit : ℕ) (bytes : List ℕ) → feeds bytes ≡ 0 → IsShort limit bytes → All (IsShort limit) (lines_of bytes)
+part_short limit [] p s = All-nil (IsShort limit)
+part_short limit (b ∷ bytes) p s = rw (lines_of-last (b ∷ bytes) p (omega arith)) (All-push (IsShort limit) [] (b ∷ bytes) (All-nil (IsShort limit)) s)
 
 below_most : (n count most : ℕ) → n ≡ count → count < most → n ≡ most → ⊥
 below_most n count most e m f = omega arith
 
-unread : (fault : ServeFault) (first now : State) (input left left' : List ℕ) (a b : Option (List ℕ)) (count most s s' : ℕ) (line : List ℕ) → SoFar first now input left a b count → count < most → s' ≡ risen_by s count → ReadsLine (Some left) (Some left') line (Err fault) → AfterFault fault (at first (Some input) a s) (at now (Some left') b s') most
-unread Read first now input left left' a b count most s s' line h m t k = record {
-  stands = stand first now input left left' k.bytes a b count most h k.part.read (omega arith);
-  wrote = h.wrote;
-  settled = settled_for (length h.lines) count s s' h.many t;
-  part = k.part.plain;
-  short = k.short;
-  last = λ e. absurd (below_most (length h.lines) count most h.many m e);
-}
-unread Memory first now input left left' a b count most s s' line h m t k = record {
-  now = now;
-  stands = stand first now input left left' k.bytes a b count most h k.part.read (omega arith);
-  wrote = h.wrote;
-  settled = settled_for (length h.lines) count s s' h.many t;
-  part = part_lines k.bytes k.part.plain;
-  short = part_short k.bytes k.part.plain k.short;
-  more = fewer (length h.lines) count most h.many m;
-  next = inl refl;
-}
-unread LineTooLong first now input left left' a b count most s s' line h m t k = record {
-  stands = stand first now input left left' k.bytes a b count most h k.part.read (omega arith);
-  wrote = h.wrote;
-  settled = settled_for (length h.lines) count s s' h.many t;
-  part = k.part.plain;
-  long = k.long;
-  more = fewer (length h.lines) count most h.many m;
-}
-unread LineLimit first now input left left' a b count most s s' line h m t k = absurd k
-unread Write first now input left left' a b count most s s' line h m t k = absurd k
+pub not_read : (limit : ℕ) (before now : Moment) (left : Option (List ℕ)) (count most : ℕ) → Serves limit before now count → count < most → ReadsPart limit now.left left → AfterFaultWithin limit Read before (read_on now left) most
+not_read limit before now left count most h m k =
+    step (SoFar limit before now count) (AfterRead limit before (read_on now left) most) (ReadsPart limit) (λ l r. r.part.read) (
+    λ input l l' s r. record {
+      stands = stand limit before now count most input l l' r.bytes s r.part.read (omega arith);
+      wrote = s.wrote;
+      settled = settled_for (length s.lines) count before.settled now.settled s.many h.handed;
+      part = r.part.plain;
+      short = r.short;
+      last = λ e. absurd (below_most (length s.lines) count most s.many m e);
+    }
+    ) before.left now.left left h.known k
 
--- what is read stays known
-still_known : (fault : ServeFault) (l line : List ℕ) → ReadsLine (Some l) None line (Err fault) → ⊥
-still_known Read l line k = k.part.read
-still_known Memory l line k = k.part.read
-still_known LineTooLong l line k = k.part.read
-still_known LineLimit l line k = k
-still_known Write l line k = k
+pub no_memory : (limit : ℕ) (before now : Moment) (left : Option (List ℕ)) (count most : ℕ) → Serves limit before now count → count < most → ReadsPart limit now.left left → AfterFaultWithin limit Memory before (read_on now left) most
+no_memory limit before now left count most h m k =
+    step (SoFar limit before now count) (AfterMemory limit before (read_on now left) most) (ReadsPart limit) (λ l r. r.part.read) (
+    λ input l l' s r. record {
+      now = now.state;
+      stands = stand limit before now count most input l l' r.bytes s r.part.read (omega arith);
+      wrote = s.wrote;
+      settled = settled_for (length s.lines) count before.settled now.settled s.many h.handed;
+      part = part_lines r.bytes r.part.plain;
+      short = part_short limit r.bytes r.part.plain r.short;
+      more = fewer (length s.lines) count most s.many m;
+      next = inl refl;
+    }
+    ) before.left now.left left h.known k
 
-pub not_read : (fault : ServeFault) (first now : State) (input left left' a b : Option (List ℕ)) (count most s s' : ℕ) (line : List ℕ) → Known first now input left a b count → count < most → s' ≡ risen_by s count → ReadsLine left left' line (Err fault) → AfterFault fault (at first input a s) (at now left' b s') most
-not_read fault first now None left left' a b count most s s' line h m t k = tt
-not_read fault first now (Some input) None left' a b count most s s' line h m t k = absurd h
-not_read fault first now (Some input) (Some l) None a b count most s s' line h m t k = absurd (still_known fault l line k)
-not_read fault first now (Some input) (Some l) (Some l') a b count most s s' line h m t k = unread fault first now input l l' a b count most s s' line h m t k
+pub too_long : (limit : ℕ) (before now : Moment) (left : Option (List ℕ)) (count most : ℕ) → Serves limit before now count → count < most → ReadsLong limit now.left left → AfterFaultWithin limit LineTooLong before (read_on now left) most
+too_long limit before now left count most h m k =
+    step (SoFar limit before now count) (AfterLong limit before (read_on now left) most) (ReadsLong limit) (λ l r. r.part.read) (
+    λ input l l' s r. record {
+      stands = stand limit before now count most input l l' r.bytes s r.part.read (omega arith);
+      wrote = s.wrote;
+      settled = settled_for (length s.lines) count before.settled now.settled s.many h.handed;
+      part = r.part.plain;
+      long = r.long;
+      more = fewer (length s.lines) count most s.many m;
+    }
+    ) before.left now.left left h.known k
 
 -- ---- a line that is not answered
 
-may_have_told : (now new : State) (begun left line : List ℕ) → IsNext begun left line → LineMayTell now (call_of line) new → (new ≡ now) ⊎ ((next : List ℕ) × IsNext begun left next × TakesEffect now next new)
-may_have_told now new begun left line n (inl same) = inl same
-may_have_told now new begun left line n (inr told) = inr (line, n, told)
+may_have_told : (limit : ℕ) (now new : State) (begun left line : List ℕ) → IsNext limit begun left line → LineMayTell now (call_of line) new → (new ≡ now) ⊎ ((next : List ℕ) × IsNext limit begun left next × TakesEffect now next new)
+may_have_told limit now new begun left line n (inl same) = inl same
+may_have_told limit now new begun left line n (inr told) = inr (line, n, told)
 
 one_line : (begun line : List ℕ) → lines_of begun ≡ line ∷ [] → length (lines_of begun) ≤ 1
 one_line begun line e = rw e (omega arith)
 
-unanswered : (fault : ServeFault) (first now new : State) (input left left' bytes line : List ℕ) (a b c : Option (List ℕ)) (count most s s' : ℕ) (h : SoFar first now input left a b count) → count < most → s' ≡ risen_by s count → left ≡ bytes ++ left' → IsNext bytes left' line → FailsLine fault now line b c new → AfterFault fault (at first (Some input) a s) (at new (Some left') c s') most
-unanswered Memory first now new input left left' bytes line a b c count most s s' h m t e n k = record {
-  now = now;
-  stands = stand first now input left left' bytes a b count most h e (omega arith);
-  wrote = subst (λ (x : List ℕ). Appends a c x) (append-nil h.text) (Appends-trans a b c h.text [] h.wrote k.kept);
-  settled = settled_for (length h.lines) count s s' h.many t;
+unanswered : (limit : ℕ) (fault : ServeFault) (before now after : Moment) (count most : ℕ) (line bytes input left left' : List ℕ) → SoFar limit before now count input left → count < most → after.settled ≡ risen_by before.settled count → left ≡ bytes ++ left' → IsNext limit bytes left' line → FailsLine fault now.state line now.written after.written after.state → After limit fault before after most input left'
+unanswered limit fault before now after count most line bytes input left left' h m t e n (inl (f, k)) = rw f (record {
+  now = now.state;
+  stands = stand limit before now count most input left left' bytes h e (omega arith);
+  wrote = subst (λ (x : List ℕ). Appends before.written after.written x) (append-nil h.text) (Appends-trans before.written now.written after.written h.text [] h.wrote k.kept);
+  settled = settled_for (length h.lines) count before.settled after.settled h.many t;
   part = one_line bytes line n.read;
-  short = subst (All IsShort) (sym n.read) (All-push IsShort [] line (All-nil IsShort) n.short);
+  short = subst (All (IsShort limit)) (sym n.read) (All-push (IsShort limit) [] line (All-nil (IsShort limit)) n.short);
   more = fewer (length h.lines) count most h.many m;
-  next = may_have_told now new bytes left' line n k.tells;
-}
-unanswered Write first now new input left left' bytes line a b c count most s s' h m t e n k = record {
-  now = now;
-  stands = stand first now input left left' bytes a b count most h e (omega arith);
-  settled = settled_for (length h.lines) count s s' h.many t;
+  next = may_have_told limit now.state after.state bytes left' line n k.tells;
+})
+unanswered limit fault before now after count most line bytes input left left' h m t e n (inr (f, k)) = rw f (record {
+  now = now.state;
+  stands = stand limit before now count most input left left' bytes h e (omega arith);
+  settled = settled_for (length h.lines) count before.settled after.settled h.many t;
   more = fewer (length h.lines) count most h.many m;
   line = line;
   next = n;
   part = k.wrote.part;
   missing = k.wrote.missing;
-  answers = subst (λ (x : List ℕ). AnswersLine now line x new) (sym k.wrote.whole) k.answers;
-  wrote = Appends-trans a b c h.text k.wrote.part h.wrote k.wrote.wrote;
-}
-unanswered Read first now new input left left' bytes line a b c count most s s' h m t e n k = absurd k
-unanswered LineLimit first now new input left left' bytes line a b c count most s s' h m t e n k = absurd k
-unanswered LineTooLong first now new input left left' bytes line a b c count most s s' h m t e n k = absurd k
+  answers = subst (λ (x : List ℕ). AnswersLine now.state line x after.state) (sym k.wrote.whole) k.answers;
+  wrote = Appends-trans before.written now.written after.written h.text k.wrote.part h.wrote k.wrote.wrote;
+})
 
-pub not_answered : (fault : ServeFault) (first now new : State) (input left left' a b c : Option (List ℕ)) (line : List ℕ) (count most s s' : ℕ) → Known first now input left a b count → count < most → s' ≡ risen_by s count → ReadsEnded left left' line → FailsLine fault now line b c new → AfterFault fault (at first input a s) (at new left' c s') most
-not_answered fault first now new None left left' a b c line count most s s' h m t k w = tt
-not_answered fault first now new (Some input) None left' a b c line count most s s' h m t k w = absurd h
-not_answered fault first now new (Some input) (Some l) None a b c line count most s s' h m t k w = absurd k.read
-not_answered fault first now new (Some input) (Some l) (Some l') a b c line count most s s' h m t k w =
-    let n : IsNext (line ++ 10 ∷ []) l' line = record { read = lines_of-ended line [] k.plain; whole = ended_lines ((line ++ 10 ∷ []) ++ l') l' line refl k.plain; short = k.short } in
-    unanswered fault first now new input l l' (line ++ 10 ∷ []) line a b c count most s s' h m t k.read n w
+ended_is_next : (limit : ℕ) (line left left' : List ℕ) → ReadsEnded limit line (Some left) (Some left') → IsNext limit (line ++ 10 ∷ []) left' line
+ended_is_next limit line left left' k = record { read = lines_of-ended line [] k.plain; whole = ended_lines ((line ++ 10 ∷ []) ++ left') left' line refl k.plain; short = k.short }
 
-pub last_not_answered : (fault : ServeFault) (first now new : State) (input left left' a b c : Option (List ℕ)) (line : List ℕ) (count most s s' : ℕ) → Known first now input left a b count → count < most → s' ≡ risen_by s count → ReadsLast left left' line → FailsLine fault now line b c new → AfterFault fault (at first input a s) (at new left' c s') most
-last_not_answered fault first now new None left left' a b c line count most s s' h m t k w = tt
-last_not_answered fault first now new (Some input) None left' a b c line count most s s' h m t k w = absurd h
-last_not_answered fault first now new (Some input) (Some l) None a b c line count most s s' h m t k w = absurd k.part.read
-last_not_answered fault first now new (Some input) (Some l) (Some l') a b c line count most s s' h m t k w =
+last_is_next : (limit : ℕ) (line left left' : List ℕ) → ReadsLast limit line (Some left) (Some left') → IsNext limit line left' line
+last_is_next limit line left left' k =
     let one = lines_of-last line k.part.plain k.some in
-    let none : l' ≡ [] = nothing_behind line l' (k.all ∙ k.part.read) in
-    let n : IsNext line l' line = record { read = one; whole = rw none (ap lines_of (append-nil line) ∙ one); short = k.short } in
-    unanswered fault first now new input l l' line line a b c count most s s' h m t k.part.read n w
+    let none : left' ≡ [] = nothing_behind line left' (k.all ∙ k.part.read) in
+    record { read = one; whole = rw none (ap lines_of (append-nil line) ∙ one); short = k.short }
+
+pub not_answered : (limit : ℕ) (fault : ServeFault) (before now after : Moment) (line : List ℕ) (count most : ℕ) → Serves limit before now count → count < most → ReadsEnded limit line now.left after.left → FailsLine fault now.state line now.written after.written after.state → after.settled ≡ now.settled → AfterFaultWithin limit fault before after most
+not_answered limit fault before now after line count most h m k w t =
+    step (SoFar limit before now count) (After limit fault before after most) (ReadsEnded limit line) (λ left r. r.read) (
+    λ input left left' s r. unanswered limit fault before now after count most line (line ++ 10 ∷ []) input left left' s m (t ∙ h.handed) r.read (ended_is_next limit line left left' r) w
+    ) before.left now.left after.left h.known k
+
+pub last_not_answered : (limit : ℕ) (fault : ServeFault) (before now after : Moment) (line : List ℕ) (count most : ℕ) → Serves limit before now count → count < most → ReadsLast limit line now.left after.left → FailsLine fault now.state line now.written after.written after.state → after.settled ≡ now.settled → AfterFaultWithin limit fault before after most
+last_not_answered limit fault before now after line count most h m k w t =
+    step (SoFar limit before now count) (After limit fault before after most) (ReadsLast limit line) (λ left r. r.part.read) (
+    λ input left left' s r. unanswered limit fault before now after count most line line input left left' s m (t ∙ h.handed) r.part.read (last_is_next limit line left left' r) w
+    ) before.left now.left after.left h.known k
 
 -- ---- where no line may follow
 
-ends : (fault : ServeFault) (first now : State) (input left left' : List ℕ) (a b : Option (List ℕ)) (count s s' : ℕ) → SoFar first now input left a b count → s' ≡ risen_by s count → LooksAtEnd (Some left) (Some left') (Err fault) → AfterFault fault (at first (Some input) a s) (at now (Some left') b s') count
-ends LineLimit first now input left left' a b count s s' h t (byte, k) = record {
-  stands = stand first now input left left' (byte ∷ []) a b count count h k (omega arith);
-  wrote = h.wrote;
-  settled = settled_for (length h.lines) count s s' h.many t;
-  byte = refl;
-  all = h.many;
-}
-ends Read first now input left left' a b count s s' h t k = record {
-  stands = stand first now input left left' [] a b count count h (sym k) (omega arith);
-  wrote = h.wrote;
-  settled = settled_for (length h.lines) count s s' h.many t;
-  part = refl;
-  short = omega arith;
-  last = λ e. refl;
-}
-ends Write first now input left left' a b count s s' h t k = absurd k
-ends LineTooLong first now input left left' a b count s s' h t k = absurd k
-ends Memory first now input left left' a b count s s' h t k = absurd k
+pub past_last : (limit : ℕ) (before now : Moment) (left : Option (List ℕ)) (count byte : ℕ) → Serves limit before now count → Consumes now.left left (byte ∷ []) → AfterFaultWithin limit LineLimit before (read_on now left) count
+past_last limit before now left count byte h k =
+    step (SoFar limit before now count) (AfterLimit limit before (read_on now left) count) (λ a b. Consumes a b (byte ∷ [])) (λ l r. r) (
+    λ input l l' s r. record {
+      stands = stand limit before now count count input l l' (byte ∷ []) s r (omega arith);
+      wrote = s.wrote;
+      settled = settled_for (length s.lines) count before.settled now.settled s.many h.handed;
+      byte = refl;
+      all = s.many;
+    }
+    ) before.left now.left left h.known k
 
-still_known_at_end : (fault : ServeFault) (l : List ℕ) → LooksAtEnd (Some l) None (Err fault) → ⊥
-still_known_at_end LineLimit l k = k.1
-still_known_at_end Read l k = k
-still_known_at_end Write l k = k
-still_known_at_end LineTooLong l k = k
-still_known_at_end Memory l k = k
-
-pub no_end : (fault : ServeFault) (first now : State) (input left left' a b : Option (List ℕ)) (count s s' : ℕ) → Known first now input left a b count → s' ≡ risen_by s count → LooksAtEnd left left' (Err fault) → AfterFault fault (at first input a s) (at now left' b s') count
-no_end fault first now None left left' a b count s s' h t k = tt
-no_end fault first now (Some input) None left' a b count s s' h t k = absurd h
-no_end fault first now (Some input) (Some l) None a b count s s' h t k = absurd (still_known_at_end fault l k)
-no_end fault first now (Some input) (Some l) (Some l') a b count s s' h t k = ends fault first now input l l' a b count s s' h t k
+pub no_end : (limit : ℕ) (before now : Moment) (left : Option (List ℕ)) (count : ℕ) → Serves limit before now count → Keeps now.left left → AfterFaultWithin limit Read before (read_on now left) count
+no_end limit before now left count h k =
+    step (SoFar limit before now count) (AfterRead limit before (read_on now left) count) Keeps (λ l r. r) (
+    λ input l l' s r. record {
+      stands = stand limit before now count count input l l' [] s (sym r) (omega arith);
+      wrote = s.wrote;
+      settled = settled_for (length s.lines) count before.settled now.settled s.many h.handed;
+      part = refl;
+      short = omega arith;
+      last = λ e. refl;
+    }
+    ) before.left now.left left h.known k
 
 -- ---- one reply
 
 pub settled : (a b c : Option (List ℕ)) (x : List ℕ) → Appends a b x → Keeps b c → Appends a c x
 settled a b c x h k = Appends-kept a b c x h k
 
-pub not_written : (fault : ServeFault) (old new : State) (line reply : List ℕ) (a b : Option (List ℕ)) → fault ≡ Write → AnswersLine old line reply new → WrotePart a b reply → FailsLine fault old line a b new
-not_written fault old new line reply a b e told w =
-    let some : WroteSome old line a b new = record { reply = reply; answers = told; wrote = w } in
-    subst (λ (x : ServeFault). FailsLine x old line a b new) (sym e) some
+pub wrote : (old new : State) (line reply : List ℕ) (a b : Option (List ℕ)) → AnswersLine old line reply new → Appends a b reply → Wrote old line a b new
+wrote old new line reply a b told w = (reply, told, w)
 
-pub not_told : (old new : State) (line : List ℕ) (a : Option (List ℕ)) → LineMayTell old (call_of line) new → WroteNone old line a a new
-not_told old new line a told = record { tells = told; kept = Appends-nil a }
+pub not_written : (old new : State) (line reply : List ℕ) (a b : Option (List ℕ)) → AnswersLine old line reply new → WrotePart a b reply → FailsLine Write old line a b new
+not_written old new line reply a b told w = inr (refl, record { reply = reply; answers = told; wrote = w })
+
+pub not_told : (old new : State) (line : List ℕ) (a : Option (List ℕ)) → LineMayTell old (call_of line) new → FailsLine Memory old line a a new
+not_told old new line a told = inl (refl, record { tells = told; kept = Appends-nil a })

@@ -3,12 +3,12 @@ use Rattle.std.proofs.Common.{◌≡◌, ℕ, inl, inr, Bool, true, false, cond,
 use Rattle.std.specs.Str.{bytes_eq}
 use Rattle.std.proofs.lemmas.Slice.Eq.{bytes_eq-Decides}
 use Rattle.std.proofs.lemmas.Bool.{false≢true}
-use Rattle.serde_json.specs.Data.{Data}
 use Rattle.rb_packages.specs.Shelf.{Shelf}
-use Rattle.rb_engine.specs.Ask.{Call, Requests, requester}
-use Rattle.rb_engine.specs.Answer.{Start, Told, shelf_then}
+use Rattle.rb_engine.specs.Ask.{Call, Requests, LooksUp, Looks, requester}
+use Rattle.rb_engine.specs.Answer.{Start, Told, shelf_then, answer_over}
 use Rattle.rb_engine.specs.History.{State, Step, Serves, is_memory}
-use Rattle.rb_requests.specs.Lines.{Tells, TellsLine, CallTold, LineTold, CallMayTell, LineMayTell}
+use Rattle.rb_requests.specs.Lines.{Tells, TellsLine}
+use Rattle.rb_requests.specs.MayTell.{CallTold, LineTold, CallMayTell, LineMayTell}
 use Rattle.rb_engine.specs.declared.request.Request.{Request}
 
 funext : {A : Type 0} {B : Type 0} → (f g : A → B) → ((x : A) → f x ≡ g x) → f ≡ g
@@ -37,18 +37,26 @@ may_tell old new r told (inl s) = inl (same_state old.start new.start new.lists 
 may_tell old new r told (inr s) = inr (told, told_by old new r told s)
 
 -- a line that calls is told as its call is
-pub line_told : (s : State) (call : Option Call) (k : Call) (d : Data) (new : State) → call ≡ Some k → CallTold s k d new → LineTold s call d new
-line_told s call k d new e t = subst (λ (o : Option Call). LineTold s o d new) (sym e) (Some t.0, t.1, t.2)
+pub line_told : (s : State) (call : Option Call) (k : Call) (text : List ℕ) (new : State) → call ≡ Some k → CallTold s k text new → LineTold s call text new
+line_told s call k text new e t = subst (λ (o : Option Call). LineTold s o text new) (sym e) (Some t.0, t.1, t.2)
 
 pub line_may_tell : (s : State) (call : Option Call) (k : Call) (new : State) → call ≡ Some k → CallMayTell s k new → LineMayTell s call new
 line_may_tell s call k new e (inl same) = inl same
 line_may_tell s call k new e (inr t) = inr (Some t.0, subst (λ (o : Option Call). TellsLine s o (Some t.0) new) (sym e) t.1)
 
 -- a line that was told has taken effect
-pub line_was_told : (s : State) (call : Option Call) (d : Data) (new : State) → LineTold s call d new → LineMayTell s call new
-line_was_told s call d new t = inr (t.0, t.1)
+pub line_was_told : (s : State) (call : Option Call) (text : List ℕ) (new : State) → LineTold s call text new → LineMayTell s call new
+line_was_told s call text new t = inr (t.0, t.1)
 
 -- what holds in any case, where there is an error
 pub at_an_error : {T E P : Type 0} (r : Result T E) → P → IfErr r (λ e. P)
 at_an_error (Ok x) p = tt
 at_an_error (Err e) p = p
+
+-- a lookup of texts is told as one of their bytes
+pub looked : (s : State) (told : Told) (a app l locale p path : List ℕ) → a ≡ app → l ≡ locale → p ≡ path
+    → told ≡ answer_over s.start (s.lists a) (Looks a l p) → Tells s (LooksUp app locale path) told s
+looked s told a app l locale p path same_app same_locale same_path e =
+    let by_path = subst (λ (x : List ℕ). told ≡ answer_over s.start (s.lists a) (Looks a l x)) same_path e in
+    let by_locale = subst (λ (x : List ℕ). told ≡ answer_over s.start (s.lists a) (Looks a x path)) same_locale by_path in
+    (Looks app locale path, refl, subst (λ (x : List ℕ). told ≡ answer_over s.start (s.lists x) (Looks x locale path)) same_app by_locale, refl)

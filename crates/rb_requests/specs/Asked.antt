@@ -1,4 +1,5 @@
--- What a line asks, in a form of this project. A line is read as a `Value` of serde_json; an object of one of the forms below is a request, and further members count for nothing.
+-- What a line asks, in a form of this project. A line is read as a `Value` of serde_json; an object of one of the forms below is a
+-- request, and further members count for nothing.
 use Rattle.std.specs.Prelude.{ℕ, Bool, List, is_some, if◌then◌else◌, Option, Some, None, codes, option_and_then, option_map, Result, Ok, Err}
 use Rattle.std.specs.Str.{bytes_eq, is_utf8}
 use Rattle.serde_json.specs.Data.{Data}
@@ -9,6 +10,7 @@ use Rattle.hex.specs.declared.error.FromHexError.{FromHexError}
 use Rattle.rb_engine.specs.Ask.{Call, Requests, LooksUp}
 use Rattle.rb_engine.specs.declared.request.Payload.{Payload}
 use Rattle.rb_engine.specs.declared.request.Payload.TheVariants.{Text, File}
+use Rattle.rb_engine.specs.declared.request.Request.{Request}
 use Rattle.rb_engine.specs.declared.request.Request.TheVariants.{Install, Replace, Remove, List as Lists}
 
 -- a member that is a string
@@ -32,11 +34,9 @@ payload_in d =
     if has (codes "text") d then (if has (codes "file") d then None else option_map Text (text_at (codes "text") d))
     else option_and_then (λ h. decoded (decode_of h)) (text_at (codes "file") d)
 
-abbrev pub install_in : Data → Option Call
-install_in d = with_text (codes "app") d (λ a. with_text (codes "locale") d (λ l. option_map (λ p. Requests (Install a l p)) (payload_in d)))
-
-abbrev pub replace_in : Data → Option Call
-replace_in d = with_text (codes "app") d (λ a. with_text (codes "locale") d (λ l. option_map (λ p. Requests (Replace a l p)) (payload_in d)))
+-- an install or a replacement, as `make` has it
+abbrev pub change_in : (List ℕ → List ℕ → Payload → Request) → Data → Option Call
+change_in make d = with_text (codes "app") d (λ a. with_text (codes "locale") d (λ l. option_map (λ p. Requests (make a l p)) (payload_in d)))
 
 abbrev pub remove_in : Data → Option Call
 remove_in d = with_text (codes "app") d (λ a. with_text (codes "locale") d (λ l. Some (Requests (Remove a l))))
@@ -49,8 +49,8 @@ look_in d = with_text (codes "app") d (λ a. with_text (codes "locale") d (λ l.
 
 abbrev pub call_by : List ℕ → Data → Option Call
 call_by op d =
-    if bytes_eq op (codes "install") then install_in d
-    else if bytes_eq op (codes "replace") then replace_in d
+    if bytes_eq op (codes "install") then change_in Install d
+    else if bytes_eq op (codes "replace") then change_in Replace d
     else if bytes_eq op (codes "remove") then remove_in d
     else if bytes_eq op (codes "list") then list_in d
     else if bytes_eq op (codes "look") then look_in d

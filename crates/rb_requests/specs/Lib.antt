@@ -1,8 +1,7 @@
 pub mod Words
 pub mod Asked
-pub mod Item
-pub mod Replied
 pub mod Lines
+pub mod MayTell
 pub mod Served
 pub mod OneLine
 pub mod Device

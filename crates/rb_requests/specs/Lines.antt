@@ -1,12 +1,11 @@
 -- The lines of a text, and the replies to them: one line of JSON for each (JSON Lines).
-use Rattle.std.specs.Prelude.{◌≡◌, ◌⊎◌, ℕ, ◌+◌, List, [], ◌∷◌, ◌++◌, ◌==◌, if◌then◌else◌, Option, Some, None}
+use Rattle.std.specs.Prelude.{◌≡◌, ℕ, ◌+◌, List, [], ◌∷◌, ◌++◌, ◌==◌, if◌then◌else◌, Option, Some, None}
 use Rattle.std.specs.Str.{bytes_eq}
-use Rattle.serde_json.specs.Data.{Data}
 use Rattle.rb_engine.specs.Ask.{Call, Requests, LooksUp, caller, Ask, Means}
 use Rattle.rb_engine.specs.Answer.{Told, answer_over, shelf_then}
 use Rattle.rb_engine.specs.History.{State}
 use Rattle.rb_requests.specs.Asked.{call_of}
-use Rattle.rb_requests.specs.Replied.{data_told, reply_line}
+use Rattle.rb_replies.specs.Replied.{reply_line}
 
 -- with a byte at the front of the first line
 abbrev pub onto_first : ℕ → List (List ℕ) → List (List ℕ)
@@ -25,7 +24,8 @@ feeds (b ∷ bs) = (if b == 10 then 1 else 0) + feeds bs
 
 -- what is once a call has taken effect: the caller's bundles change as it asks, and nothing else; a look-up changes nothing
 abbrev pub state_then : State → Call → Ask → State
-state_then s (Requests r) ask = record { start = s.start; lists = λ app. if bytes_eq app (caller (Requests r)) then shelf_then ask (s.lists app) else s.lists app }
+state_then s (Requests r) ask =
+    record { start = s.start; lists = λ app. if bytes_eq app (caller (Requests r)) then shelf_then ask (s.lists app) else s.lists app }
 state_then s (LooksUp app locale path) ask = s
 
 -- a call is told its answer and takes effect
@@ -48,17 +48,3 @@ abbrev pub Replies : State → List (List ℕ) → List ℕ → State → Type 0
 Replies s [] text end = (text ≡ []) × (end ≡ s)
 Replies s (line ∷ rest) text end =
     (reply : List ℕ) × (mid : State) × (more : List ℕ) × AnswersLine s line reply mid × (text ≡ reply ++ more) × Replies mid rest more end
-
--- For what is private. What a call or a line is told, as data.
-abbrev pub CallTold : State → Call → Data → State → Type 0
-CallTold s call d new = (told : Told) × Tells s call told new × (d ≡ data_told (Some told))
-
-abbrev pub LineTold : State → Option Call → Data → State → Type 0
-LineTold s call d new = (told : Option Told) × TellsLine s call told new × (d ≡ data_told told)
-
--- For what is private. A call or a line has taken effect, or has not.
-abbrev pub CallMayTell : State → Call → State → Type 0
-CallMayTell s call new = (new ≡ s) ⊎ ((told : Told) × Tells s call told new)
-
-abbrev pub LineMayTell : State → Option Call → State → Type 0
-LineMayTell s call new = (new ≡ s) ⊎ ((told : Option Told) × TellsLine s call told new)

@@ -1,11 +1,12 @@
 -- For what is private. What answering one line comes to.
-use Rattle.std.specs.Prelude.{◌≡◌, ◌++◌, ◌⊎◌, ℕ, List, [], Option}
+use Rattle.std.specs.Prelude.{◌≡◌, ◌++◌, ◌⊎◌, ℕ, List, [], Option, Result, Ok, Err}
 use Rattle.std.specs.Io.KnownBytes.{Appends}
 use Rattle.rb_engine.specs.History.{State}
+use Rattle.rb_requests.specs.Device.{risen}
 use Rattle.rb_requests.specs.Lines.{AnswersLine}
 use Rattle.rb_requests.specs.Served.{TakesEffect}
 use Rattle.rb_requests.specs.declared.lines.ServeFault.{ServeFault}
-use Rattle.rb_requests.specs.declared.lines.ServeFault.TheVariants.{Read, Write, LineLimit, LineTooLong, Memory}
+use Rattle.rb_requests.specs.declared.lines.ServeFault.TheVariants.{Write, Memory}
 
 -- a line's reply is written, and the line has taken effect
 abbrev pub Wrote : State → List ℕ → Option (List ℕ) → Option (List ℕ) → State → Type 0
@@ -29,10 +30,12 @@ pub record WroteNone (old : State) (line : List ℕ) (written written' : Option 
   pub tells : (new ≡ old) ⊎ TakesEffect old line new
   pub kept : Appends written written' []
 
--- why a line is not answered
+-- why a line is not answered: memory ran out, or its reply could not be written
 abbrev pub FailsLine : ServeFault → State → List ℕ → Option (List ℕ) → Option (List ℕ) → State → Type 0
-FailsLine Memory old line written written' new = WroteNone old line written written' new
-FailsLine Write old line written written' new = WroteSome old line written written' new
-FailsLine Read old line written written' new = ⊥
-FailsLine LineLimit old line written written' new = ⊥
-FailsLine LineTooLong old line written written' new = ⊥
+FailsLine fault old line written written' new = ((fault ≡ Memory) × WroteNone old line written written' new)
+    ⊎ ((fault ≡ Write) × WroteSome old line written written' new)
+
+-- a line that is answered raises the count of settled replies
+abbrev pub line_settled : {T : Type 0} → ℕ → Result T ServeFault → ℕ
+line_settled count (Ok x) = risen count
+line_settled count (Err fault) = count

@@ -1,19 +1,21 @@
 //! The answer to one line.
-ghost use Rattle.std.specs.Prelude.{◌≡◌, ◌++◌, ◌∷◌, [], IfOk, IfErr, None, false};
-ghost use Rattle.serde_json.specs.View.{view};
-ghost use Rattle.serde_json.specs.Written.{compact_text, has_float};
+ghost use Rattle.std.specs.Prelude.{◌≡◌, IfErr, None, OnOk};
+ghost use Rattle.serde_json.specs.Data.{Data};
 ghost use Rattle.rb_engine.specs.Kept.{state_of};
 ghost use Rattle.rb_engine.specs.Ask.{Requests, LooksUp};
 ghost use Rattle.rb_engine.specs.Answer.{Replies as Told};
 ghost use Rattle.rb_engine.specs.History.{is_memory_reply};
+ghost use Rattle.rb_replies.specs.Replied.{reply_line};
 ghost use Rattle.rb_requests.specs.Asked.{call_of, call_in};
-ghost use Rattle.rb_requests.specs.Replied.{data_told};
-ghost use Rattle.rb_requests.specs.Lines.{CallTold, LineTold, AnswersLine, CallMayTell, LineMayTell};
+ghost use Rattle.rb_requests.specs.Line.{AreTextsOf};
+ghost use Rattle.rb_requests.specs.Lines.{AnswersLine};
+ghost use Rattle.rb_requests.specs.MayTell.{CallTold, LineTold, CallMayTell, LineMayTell};
 
-use crate::ask::{Line, json_of, line_of};
-use crate::told::{error_value, look_value, reply_value};
+use crate::ask::{Line, json_of, lent_texts, line_of, texts_of};
+use json::Scratch;
 use rb_engine::{Engine, Reply, Request};
-use serde_json::Value;
+use rb_members::Texts;
+use rb_replies::ReplyLine;
 use std::alloc::{AllocError, Global};
 
 fn is_memory(reply: &Reply) -> bool
@@ -22,15 +24,20 @@ fn is_memory(reply: &Reply) -> bool
     matches!(reply, Reply::Memory)
 }
 
-fn answer_request(alloc: Global, engine: &mut Engine, request: Request) -> Result<Value, AllocError>
-    ensures told { IfOk result (λ v. CallTold (state_of engine.old) (Requests request) (view v) (state_of engine.new)) }
+fn answer_request(
+    alloc: Global,
+    engine: &mut Engine,
+    request: Request,
+    reply: &mut ReplyLine,
+) -> Result<(), AllocError>
+    ensures told { OnOk result (CallTold (state_of engine.old) (Requests request) reply.new (state_of engine.new)) }
     ensures fault { IfErr result (λ e. CallMayTell (state_of engine.old) (Requests request) (state_of engine.new)) }
 {
-    let reply = engine.handle(alloc, request);
-    if is_memory(&reply) {
+    let answer = engine.handle(alloc, request);
+    if is_memory(&answer) {
         return Err(AllocError);
     }
-    reply_value(alloc, &reply)
+    reply.tell_reply(alloc, &answer)
 }
 
 fn answer_look(
@@ -39,61 +46,57 @@ fn answer_look(
     app: &str,
     locale: &str,
     path: &str,
-) -> Result<Value, AllocError>
-    ensures { IfOk result (λ v. CallTold (state_of engine.now) (LooksUp app.now locale.now path.now) (view v) (state_of engine.now)) }
+    reply: &mut ReplyLine,
+) -> Result<(), AllocError>
+    ensures { OnOk result (CallTold (state_of engine.now) (LooksUp app.now locale.now path.now) reply.new (state_of engine.now)) }
 {
     let found = engine.look(app.as_bytes(), locale.as_bytes(), path.as_bytes());
-    look_value(alloc, &found)
+    reply.tell_look(alloc, &found)
 }
 
-/// What a line is told that is no request.
-fn bad_line(alloc: Global) -> Result<Value, AllocError>
-    ensures { IfOk result (λ v. view v ≡ data_told None) }
+/// The reply to a line that is no request.
+fn bad_line(alloc: Global, reply: &mut ReplyLine) -> Result<(), AllocError>
+    ensures { OnOk result (reply.new ≡ reply_line None) }
 {
-    error_value(alloc, "BadLine")
+    reply.tell_error(alloc, "BadLine")
 }
 
-/// What a line is told that holds a value.
-fn answer_value(alloc: Global, engine: &mut Engine, value: &Value) -> Result<Value, AllocError>
-    ensures told { IfOk result (λ v. LineTold (state_of engine.old) (call_in (view value.now)) (view v) (state_of engine.new)) }
-    ensures fault { IfErr result (λ e. LineMayTell (state_of engine.old) (call_in (view value.now)) (state_of engine.new)) }
+/// The reply to a line with these texts.
+fn answer_texts(
+    alloc: Global,
+    engine: &mut Engine,
+    texts: &Texts<'_>,
+    reply: &mut ReplyLine,
+) -> Result<(), AllocError>
+    ensures told { OnOk result ((d : Data) → AreTextsOf texts.now d → LineTold (state_of engine.old) (call_in d) reply.new (state_of engine.new)) }
+    ensures fault { IfErr result (λ e. (d : Data) → AreTextsOf texts.now d → LineMayTell (state_of engine.old) (call_in d) (state_of engine.new)) }
 {
-    match line_of(alloc, value)? {
-        None => bad_line(alloc),
-        Some(Line::Request(request)) => answer_request(alloc, engine, request),
-        Some(Line::Look { app, locale, path }) => answer_look(alloc, engine, app, locale, path),
+    match line_of(alloc, texts)? {
+        None => bad_line(alloc, reply),
+        Some(Line::Request(request)) => answer_request(alloc, engine, request, reply),
+        Some(Line::Look { app, locale, path }) => answer_look(
+            alloc, engine, app, locale, path, reply,
+        ),
     }
 }
 
-/// What a line is told.
-fn answer(alloc: Global, engine: &mut Engine, line: &[u8]) -> Result<Value, AllocError>
-    ensures told { IfOk result (λ v. LineTold (state_of engine.old) (call_of line.now) (view v) (state_of engine.new)) }
-    ensures fault { IfErr result (λ e. LineMayTell (state_of engine.old) (call_of line.now) (state_of engine.new)) }
-{
-    match json_of(alloc, line)? {
-        None => bad_line(alloc),
-        Some(value) => answer_value(alloc, engine, &value),
-    }
-}
-
-/// A reply as a line.
-fn text_of(alloc: Global, value: &Value) -> Result<Vec<u8>, AllocError>
-    ensures { IfOk result (λ text. has_float (view value.now) ≡ false → text.items ≡ compact_text (view value.now) ++ 10 ∷ []) }
-{
-    let mut text = value.to_string(alloc)?.into_bytes();
-    text.push(b'\n')?;
-    Ok(text)
-}
-
-/// The line that answers a line.
+/// Makes the line that answers a line. The scratch may grow to the line's length.
 pub(crate) fn reply_of(
     alloc: Global,
     engine: &mut Engine,
+    scratch: &mut Scratch,
     line: &[u8],
-) -> Result<Vec<u8>, AllocError>
-    ensures told { IfOk result (λ text. AnswersLine (state_of engine.old) line.now text.items (state_of engine.new)) }
+    reply: &mut ReplyLine,
+) -> Result<(), AllocError>
+    ensures told { OnOk result (AnswersLine (state_of engine.old) line.now reply.new (state_of engine.new)) }
     ensures fault { IfErr result (λ e. LineMayTell (state_of engine.old) (call_of line.now) (state_of engine.new)) }
 {
-    let value = answer(alloc, engine, line)?;
-    text_of(alloc, &value)
+    let mut texts = Texts::none();
+    if lent_texts(line, scratch, &mut texts)? {
+        return answer_texts(alloc, engine, &texts, reply);
+    }
+    match json_of(alloc, line)? {
+        None => bad_line(alloc, reply),
+        Some(value) => answer_texts(alloc, engine, &texts_of(&value), reply),
+    }
 }

@@ -6,16 +6,14 @@
 mod answer;
 mod ask;
 mod device;
-mod item;
 pub mod laws;
 mod limits;
 mod lines;
-mod told;
 
 pub use device::{Failed, Feed, ReadFeed, Run, Sink, WriteSink};
-pub use item::item_text;
 pub use limits::LINE_LIMIT;
 pub use lines::{ServeFault, Served, serve};
 pub use rb_engine::{
     App, AppFault, BUNDLE_LIMIT, Engine, LookFault, NameList, Payload, Reply, Request, StartFault,
 };
+pub use rb_replies::item_text;

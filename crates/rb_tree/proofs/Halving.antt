@@ -1,5 +1,6 @@
 -- A search by halving among the entries of a table.
-use Rattle.std.proofs.Common.{◌≡◌, ℕ, zero, suc, ◌<◌, ◌≤◌, ◌⊎◌, inl, inr, List, [], ◌∷◌, length, get_or, cond, nat_eq, Some, None, Result, Ok, Err, MatchResult, refl, ap, sym, subst, ◌∙◌, arith}
+use Rattle.std.proofs.Common.{◌≡◌, ℕ, zero, suc, ◌<◌, ◌≤◌, ◌⊎◌, inl, inr, List, [], ◌∷◌, length, get_or, cond, nat_eq, Some, None, Result, Ok, Err, MatchResult}
+use Rattle.std.proofs.Common.{refl, ap, sym, subst, ◌∙◌, arith}
 use Rattle.std.proofs.Math.Nat.{eq-or-lt_of_le}
 use Rattle.std.proofs.lemmas.Cmp.{nat_list_cmp_total, nat_list_eq_equiv}
 use Rattle.std.proofs.lemmas.Map.Text.{is_eq-slice_cmp}
@@ -36,7 +37,8 @@ past_greater : (a b q : List ℕ) → slice_cmp nat_cmp a b ≡ Less → slice_c
 past_greater a b q h e = turned q b (nat_list_cmp_total.trans q a b (turned_back a q e) h)
 
 -- along rising keys, the comparisons with one key rise
-rising : (a b q : List ℕ) (o p : Ordering) → slice_cmp nat_cmp a b ≡ Less → slice_cmp nat_cmp a q ≡ o → slice_cmp nat_cmp b q ≡ p → ordering_index o ≤ ordering_index p
+rising : (a b q : List ℕ) (o p : Ordering) → slice_cmp nat_cmp a b ≡ Less → slice_cmp nat_cmp a q ≡ o → slice_cmp nat_cmp b q ≡ p
+    → ordering_index o ≤ ordering_index p
 rising a b q Less p h e f = omega arith
 rising a b q Equal Less h e f = let g = past_equal a b q h e in cc
 rising a b q Equal Equal h e f = omega arith
@@ -50,7 +52,8 @@ key_get [] i d = refl
 key_get (e ∷ es) zero d = refl
 key_get (e ∷ es) (suc i) d = key_get es i d
 
-entry_get : (es : List Entry) (i : ℕ) (d : Entry) → i < length es → slice_get (pairs (entries_of es)) i ≡ Some ((get_or es i d).key, view_of (get_or es i d).tree)
+entry_get : (es : List Entry) (i : ℕ) (d : Entry) → i < length es
+    → slice_get (pairs (entries_of es)) i ≡ Some ((get_or es i d).key, view_of (get_or es i d).tree)
 entry_get [] i d h = absurd (omega arith)
 entry_get (e ∷ es) zero d h = refl
 entry_get (e ∷ es) (suc i) d h = entry_get es i d (omega arith)
@@ -83,19 +86,25 @@ module _ (q : List ℕ) (es : List Entry) (table : IsTable (entries_of es)) wher
   rises i j d h l = by (eq-or-lt_of_le h)
     where
       by : (i ≡ j) ⊎ (i < j) → ordering_index (slice_cmp nat_cmp (get_or es i d).key q) ≤ ordering_index (slice_cmp nat_cmp (get_or es j d).key q)
-      by (inl e) = subst (λ k. ordering_index (slice_cmp nat_cmp (get_or es i d).key q) ≤ ordering_index (slice_cmp nat_cmp (get_or es k d).key q)) e (omega arith)
+      by (inl e) =
+          subst (λ k. ordering_index (slice_cmp nat_cmp (get_or es i d).key q) ≤ ordering_index (slice_cmp nat_cmp (get_or es k d).key q)) e (omega arith)
       by (inr u) = rising (get_or es i d).key (get_or es j d).key q _ _ (ascending i j d u l) refl refl
 
   apart : IsDistinct (pointwise nat_eq) (keys_of (pairs (entries_of es)))
   apart = IsDistinct-from_apart (pointwise nat_eq) (keys_of (pairs (entries_of es))) (λ i j d h l.
-      sym (is_eq-slice_cmp (get_or (keys_of (pairs (entries_of es))) i d) (get_or (keys_of (pairs (entries_of es))) j d)) ∙ apart_from_distinct (eq_by_cmp (slice_cmp nat_cmp)) (keys_of (pairs (entries_of es))) i j d (IsDistinct-from_sorted (slice_cmp nat_cmp) (keys_of (pairs (entries_of es))) table.ascend) h l)
+      sym (is_eq-slice_cmp (get_or (keys_of (pairs (entries_of es))) i d) (get_or (keys_of (pairs (entries_of es))) j d))
+      ∙ apart_from_distinct (eq_by_cmp (slice_cmp nat_cmp)) (keys_of (pairs (entries_of es))) i j d
+      (IsDistinct-from_sorted (slice_cmp nat_cmp) (keys_of (pairs (entries_of es))) table.ascend) h l)
 
   -- a hit is the entry with the key, and a miss says that there is none
-  pub halved : (r : Result ℕ ℕ) → IsSearchInRange r (length es) → IsBinarySearchResult (λ e. slice_cmp nat_cmp e.key q) es r → MatchResult r (λ i. (d : Entry) → lookup (pointwise nat_eq q) (pairs (entries_of es)) ≡ Some (view_of (get_or es i d).tree)) (λ i. lookup (pointwise nat_eq q) (pairs (entries_of es)) ≡ None)
+  pub halved : (r : Result ℕ ℕ) → IsSearchInRange r (length es) → IsBinarySearchResult (λ e. slice_cmp nat_cmp e.key q) es r
+      → MatchResult r (λ i. (d : Entry) → lookup (pointwise nat_eq q) (pairs (entries_of es)) ≡ Some (view_of (get_or es i d).tree))
+      (λ i. lookup (pointwise nat_eq q) (pairs (entries_of es)) ≡ None)
   halved (Ok i) within equal = λ d.
       let same : (get_or es i d).key ≡ q = (bytes_eq-Decides (get_or es i d).key q).0 (sym (is_eq-slice_cmp (get_or es i d).key q) ∙ ap is_eq (equal d)) in
       subst (λ (k : List ℕ). lookup (pointwise nat_eq k) (pairs (entries_of es)) ≡ Some (view_of (get_or es i d).tree)) same
-      (lookup_from_place {eq = pointwise nat_eq} nat_list_eq_equiv (pairs (entries_of es)) i (get_or es i d).key (view_of (get_or es i d).tree) apart (entry_get es i d within))
+      (lookup_from_place {eq = pointwise nat_eq} nat_list_eq_equiv (pairs (entries_of es)) i (get_or es i d).key (view_of (get_or es i d).tree) apart
+      (entry_get es i d within))
   halved (Err i) within parted =
       sym (same_lookup q (pairs (entries_of es))) ∙ lookup_at_gap nat_list_cmp_total q (pairs (entries_of es)) i table.ascend before behind
     where

@@ -1,4 +1,4 @@
--- Entries in order are told apart by what stands at each key.
+-- Entries in order differ in what is at some key.
 use Rattle.std.proofs.Common.{◌≡◌, ℕ, List, Option, Some, None, Bool, true, false, cond, nat_eq, refl, sym, ap, subst, ◌∙◌}
 use Rattle.std.proofs.lemmas.Cmp.{nat_list_cmp_total}
 use Rattle.std.proofs.lemmas.Map.Text.{is_eq-slice_cmp}
@@ -48,8 +48,9 @@ differ o t e f = cc
 some_is : (t u : Resource) → ◌≡◌ {A = Option Resource} (Some t) (Some u) → t ≡ u
 some_is t u h = cc
 
--- behind equal first keys the rest agrees
-rest_same : (k : List ℕ) (t u : Resource) (es fs : Members) → Above k es → Above k fs → ((q : List ℕ) → at q (entry_and k t es) ≡ at q (entry_and k u fs)) → (q : List ℕ) → at q es ≡ at q fs
+-- after equal first keys the rest agrees
+rest_same : (k : List ℕ) (t u : Resource) (es fs : Members) → Above k es → Above k fs → ((q : List ℕ) → at q (entry_and k t es) ≡ at q (entry_and k u fs))
+    → (q : List ℕ) → at q es ≡ at q fs
 rest_same k t u es fs p r same q = by (pointwise nat_eq q k) refl (same q)
   where
     by : (b : Bool) → pointwise nat_eq q k ≡ b → cond b (Some t) (at q es) ≡ cond b (Some u) (at q fs) → at q es ≡ at q fs
@@ -58,19 +59,24 @@ rest_same k t u es fs p r same q = by (pointwise nat_eq q k) refl (same q)
         subst (λ (x : List ℕ). at x es ≡ at x fs) (sym is) (absent k es p ∙ sym (absent k fs r))
     by false e h = h
 
-heads : (o : Ordering) (k l : List ℕ) (t u : Resource) (es fs : Members) → slice_cmp nat_cmp k l ≡ o → Above k es → Above l fs → ((q : List ℕ) → at q (entry_and k t es) ≡ at q (entry_and l u fs)) → (((q : List ℕ) → at q es ≡ at q fs) → es ≡ fs) → entry_and k t es ≡ entry_and l u fs
-heads Less k l t u es fs is p r same later = absurd (differ (at k (entry_and l u fs)) t (absent k (entry_and l u fs) (is, above_more k l fs is r)) (sym (same k) ∙ here k t es))
+heads : (o : Ordering) (k l : List ℕ) (t u : Resource) (es fs : Members) → slice_cmp nat_cmp k l ≡ o → Above k es → Above l fs
+    → ((q : List ℕ) → at q (entry_and k t es) ≡ at q (entry_and l u fs)) → (((q : List ℕ) → at q es ≡ at q fs) → es ≡ fs) → entry_and k t es ≡ entry_and l u fs
+heads Less k l t u es fs is p r same later =
+    absurd (differ (at k (entry_and l u fs)) t (absent k (entry_and l u fs) (is, above_more k l fs is r)) (sym (same k) ∙ here k t es))
 heads Greater k l t u es fs is p r same later =
     let less : slice_cmp nat_cmp l k ≡ Less = nat_list_cmp_total.antisymm l k ∙ ap ordering_reverse is in
     absurd (differ (at l (entry_and k t es)) u (absent l (entry_and k t es) (less, above_more l k es less p)) (same l ∙ here l u fs))
 heads Equal k l t u es fs is p r same later =
     let key : l ≡ k = sym ((bytes_eq-Decides k l).0 (sym (is_eq-slice_cmp k l) ∙ ap is_eq is)) in
     let r' : Above k fs = subst (λ (x : List ℕ). Above x fs) key r in
-    let same' : (q : List ℕ) → at q (entry_and k t es) ≡ at q (entry_and k u fs) = subst (λ (x : List ℕ). (q : List ℕ) → at q (entry_and k t es) ≡ at q (entry_and x u fs)) key same in
+    let same' : (q : List ℕ) → at q (entry_and k t es) ≡ at q (entry_and k u fs) =
+    subst (λ (x : List ℕ). (q : List ℕ) → at q (entry_and k t es) ≡ at q (entry_and x u fs)) key same in
     let first : t ≡ u = some_is t u (sym (here k t es) ∙ same' k ∙ here k u fs) in
-    ap (λ (x : Resource). entry_and k x es) first ∙ ap (entry_and k u) (later (rest_same k t u es fs p r' same')) ∙ ap (λ (x : List ℕ). entry_and x u fs) (sym key)
+    ap (λ (x : Resource). entry_and k x es) first ∙ ap (entry_and k u) (later (rest_same k t u es fs p r' same'))
+    ∙ ap (λ (x : List ℕ). entry_and x u fs) (sym key)
 
-pub one_order : (es fs : Members) → IsStrictlySortedBy (slice_cmp nat_cmp) (keys_of (pairs es)) → IsStrictlySortedBy (slice_cmp nat_cmp) (keys_of (pairs fs)) → ((q : List ℕ) → lookup (pointwise nat_eq q) (pairs es) ≡ lookup (pointwise nat_eq q) (pairs fs)) → es ≡ fs
+pub one_order : (es fs : Members) → IsStrictlySortedBy (slice_cmp nat_cmp) (keys_of (pairs es)) → IsStrictlySortedBy (slice_cmp nat_cmp) (keys_of (pairs fs))
+    → ((q : List ℕ) → lookup (pointwise nat_eq q) (pairs es) ≡ lookup (pointwise nat_eq q) (pairs fs)) → es ≡ fs
 one_order no_entries no_entries p r same = refl
 one_order no_entries (entry_and l u fs) p r same = absurd (differ None u refl (same l ∙ here l u fs))
 one_order (entry_and k t es) no_entries p r same = absurd (differ None t refl (sym (same k) ∙ here k t es))

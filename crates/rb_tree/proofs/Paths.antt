@@ -14,7 +14,8 @@ filled_test : (s : List ℕ) → Decides (is_filled s) (0 < length s)
 filled_test s = (λ h. grind (arith, nat_tests), λ h. grind (arith, nat_tests))
 
 all_test : {X : Type 0} (p : X → Bool) (P : X → Type 0) → ((x : X) → Decides (p x) (P x)) → (xs : List X) → Decides (list_all p xs) (All P xs)
-all_test p P each xs = (λ h k d l. (each (get_or xs k d)).0 (AllPass-from_list_all p xs h k d l), λ h. list_all-from_AllPass p xs (λ k d l. (each (get_or xs k d)).1 (h k d l)))
+all_test p P each xs =
+    (λ h k d l. (each (get_or xs k d)).0 (AllPass-from_list_all p xs h k d l), λ h. list_all-from_AllPass p xs (λ k d l. (each (get_or xs k d)).1 (h k d l)))
 
 both_true : (a b : Bool) → a && b ≡ true → (a ≡ true) × (b ≡ true)
 both_true true true h = (refl, refl)
@@ -30,7 +31,10 @@ pub path_test : (path : List ℕ) → Decides (is_path path) (IsPath path)
 path_test path = (
   λ h.
       let two = both_true (list_all is_plain path) (list_all is_filled (segments path)) h in
-      record { plain = (all_test is_plain IsPlain plain_test path).0 two.0; filled = (all_test is_filled (λ s. 0 < length s) filled_test (segments path)).0 two.1 },
+      record {
+        plain = (all_test is_plain IsPlain plain_test path).0 two.0;
+        filled = (all_test is_filled (λ s. 0 < length s) filled_test (segments path)).0 two.1;
+      },
   λ h.
       both_is (list_all is_plain path) (list_all is_filled (segments path))
       ((all_test is_plain IsPlain plain_test path).1 h.plain)

@@ -1,4 +1,4 @@
--- For proofs only: trees as trees of numbers, by which a proof tells two of them apart.
+-- For proofs only: trees as trees of numbers, by which a proof distinguishes two of them.
 use Rattle.std.specs.Prelude.{◌≡◌, ◌==◌, ℕ, ℤ, pos, negsuc, List, [], ◌∷◌, cond, refl}
 use Rattle.std.specs.Coded.{Coded, code_by}
 use mathlib.Core.Path.{ap}

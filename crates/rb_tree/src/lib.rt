@@ -1,4 +1,4 @@
-//! Trees of resource bundles: what a bundle text spells and a bundle file stands for.
+//! Trees of resource bundles: what a bundle text spells and a bundle file denotes.
 #![tactic(auto)]
 
 mod ending;

@@ -1,5 +1,5 @@
 -- The root of a file that denotes a bundle, and its header.
-use Rattle.std.proofs.Common.{◌≡◌, ℕ, ◌*◌, ◌/◌, ◌≤◌, true, ltb, List, length, drop}
+use Rattle.std.proofs.Common.{◌≡◌, ℕ, ◌≤◌, true, ltb, List, length, drop}
 use Rattle.std.proofs.Common.{Result, Ok, Err, sym, ap, arith}
 use Rattle.std.proofs.lemmas.Bool.{ltb-false}
 use Rattle.std.specs.Prelude.{◌==◌, slice_index}
@@ -64,18 +64,3 @@ root_is bytes e =
     let d = guard_else (is_table (kind_of (word_at body 0))) faults.Root _ t p.1 in
     let f = flagged_ok bits (read (layout_of body) body 64 (word_at body 0)) t d.1 in
     record { long = z.2; inside = z.3; laid = c.0; reads = f.0; flag = f.1 }
-
-laid_long : (body : List ℕ) → is_laid body ≡ true → 24 ≤ length body
-laid_long body e = grind (arith, nat_tests)
-
-laid_room : (body : List ℕ) → is_laid body ≡ true → 4 * word_at body 4 ≤ length body
-laid_room body e = let h : word_at body 4 ≤ length body / 4 = within body e in omega arith
-  where
-    within : (body : List ℕ) → is_laid body ≡ true → word_at body 4 ≤ length body / 4
-    within body e = grind (arith, nat_tests)
-
-pub root_long : (bytes body : List ℕ) → IsRoot bytes body → 24 ≤ length body
-root_long bytes body r = laid_long body r.laid
-
-pub root_room : (bytes body : List ℕ) → IsRoot bytes body → 4 * (layout_of body).top ≤ length body
-root_room bytes body r = laid_room body r.laid

@@ -82,7 +82,7 @@ known_after cells after w f h = λ k e i p. λ z. h k e i p (sym (f.stays (cell 
 pub leads_after : (y : Layout) (body cells after : List ℕ) (Q : ℕ → Type 0) → Follows cells after → Leads y body cells Q → Leads y body after Q
 leads_after y body cells after Q f l = record { at = λ k o h e d. l.at k o h (was (cell k o) e) d }
   where
-    was : (n : ℕ) → get_or after n 0 ≡ 255 → get_or cells n 0 ≡ 255
+    was : (n : ℕ) → get_or after n 0 ≡ 65 → get_or cells n 0 ≡ 65
     was n e = elim (cases_eq (get_or cells n 0) 0) [
       | inl z ↦ absurd (f.closes n z e)
       | inr m ↦ sym (f.stays n m) ∙ e
@@ -111,7 +111,7 @@ done_set y body cells p v k o h f l d = record {
 }
 
 pub keeps_set : (y : Layout) (body cells : List ℕ) (k : ItemKind) (o v : ℕ) → Keeps y body cells → has_children k ≡ true → cell k o < length cells → v ≢ 0
-    → (v ≢ 255 → IsDone y body (set cells (cell k o) v) k o v) → IsPlace body k o → Keeps y body (set cells (cell k o) v)
+    → (v ≢ 65 → IsDone y body (set cells (cell k o) v) k o v) → IsPlace body k o → Keeps y body (set cells (cell k o) v)
 keeps_set y body cells k o v keeps i l f done place = record {
   long = length-set cells (cell k o) v ∙ keeps.long;
   done = λ j p g m n. elim (cases_eq (cell j p) (cell k o)) [
@@ -134,16 +134,16 @@ keeps_set y body cells k o v keeps i l f done place = record {
 }
 
 -- an entry as a whole: a cell is opened, others are written, and then its height
-pub follows_entry : (cells after : List ℕ) (p h : ℕ) → p < length cells → length after ≡ length cells → get_or cells p 0 ≡ 0 → h ≢ 255
-    → Follows (set cells p 255) after → Follows cells (set after p h)
+pub follows_entry : (cells after : List ℕ) (p h : ℕ) → p < length cells → length after ≡ length cells → get_or cells p 0 ≡ 0 → h ≢ 65
+    → Follows (set cells p 65) after → Follows cells (set after p h)
 follows_entry cells after p h l long fresh low f = record {
   stays = λ n m.
       let ne : n ≢ p = λ q. m (subst (λ (x : ℕ). get_or cells x 0 ≡ 0) (sym q) fresh) in
-      let open_same : get_or (set cells p 255) n 0 ≡ get_or cells n 0 = get_or-set_other cells p n 255 0 ne in
+      let open_same : get_or (set cells p 65) n 0 ≡ get_or cells n 0 = get_or-set_other cells p n 65 0 ne in
       get_or-set_other after p n h 0 ne ∙ f.stays n (λ z. m (sym open_same ∙ z)) ∙ open_same;
   closes = λ n z. elim (cases_eq n p) [
-    | inl q ↦ λ e. low (sym (get_or-set_same after p h 0 (rw long l)) ∙ subst (λ (x : ℕ). get_or (set after p h) x 0 ≡ 255) q e)
-    | inr ne ↦ λ e. f.closes n (get_or-set_other cells p n 255 0 ne ∙ z) (sym (get_or-set_other after p n h 0 ne) ∙ e)
+    | inl q ↦ λ e. low (sym (get_or-set_same after p h 0 (rw long l)) ∙ subst (λ (x : ℕ). get_or (set after p h) x 0 ≡ 65) q e)
+    | inr ne ↦ λ e. f.closes n (get_or-set_other cells p n 65 0 ne ∙ z) (sym (get_or-set_other after p n h 0 ne) ∙ e)
   ];
 }
 

@@ -38,7 +38,7 @@ inner_count body Array o i h = refl
 inner_count body Ints o i h = absurd (omega arith)
 
 -- with no open cell, all items that some way leads to are known
-way_known : (y : Layout) (body cells : List ℕ) → Keeps y body cells → ((n : ℕ) → get_or cells n 0 ≢ 255) → IsKnown cells (word_at body 0)
+way_known : (y : Layout) (body cells : List ℕ) → Keeps y body cells → ((n : ℕ) → get_or cells n 0 ≢ 65) → IsKnown cells (word_at body 0)
     → (before : List ℕ) (item : ℕ) → IsWay body before item → IsKnown cells item
 way_known y body cells keeps closed root [] item e = subst (λ (x : ℕ). IsKnown cells x) (sym e) root
 way_known y body cells keeps closed root (b ∷ before) item w =
@@ -48,7 +48,7 @@ way_known y body cells keeps closed root (b ∷ before) item w =
     let d = keeps.done ch.kind (offset_of b) inner (up ch.kind ch.is_kind inner ch.full) (closed (cell ch.kind (offset_of b))) in
     subst (λ (x : ℕ). IsKnown cells x) (sym ch.is) (d.known ch.i ch.counted)
 
-place_marked : (y : Layout) (body cells : List ℕ) → Keeps y body cells → ((n : ℕ) → get_or cells n 0 ≢ 255) → IsKnown cells (word_at body 0)
+place_marked : (y : Layout) (body cells : List ℕ) → Keeps y body cells → ((n : ℕ) → get_or cells n 0 ≢ 65) → IsKnown cells (word_at body 0)
     → (k : ItemKind) (o : ℕ) → IsPlace body k o → mark_at cells k o ≢ 0
 place_marked y body cells keeps closed root k o p =
     let known = way_known y body cells keeps closed root p.before p.item p.way in
@@ -56,7 +56,7 @@ place_marked y body cells keeps closed root k o p =
     subst (λ (x : ℕ). mark_at cells k x ≢ 0) p.is_offset (known k p.is_kind p.inner full)
 
 -- the marks that are left are as many as there are places
-pub count_places : (y : Layout) (body cells : List ℕ) → Keeps y body cells → ((n : ℕ) → get_or cells n 0 ≢ 255) → IsKnown cells (word_at body 0)
+pub count_places : (y : Layout) (body cells : List ℕ) → Keeps y body cells → ((n : ℕ) → get_or cells n 0 ≢ 65) → IsKnown cells (word_at body 0)
     → IsCount (IsPlaceAt body) (3 * y.top) (marked cells (length cells))
 count_places y body cells keeps closed root =
     rw keeps.long (count_marked (IsPlaceAt body) cells (3 * y.top)

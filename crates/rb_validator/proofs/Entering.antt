@@ -26,18 +26,18 @@ use Rattle.rb_validator.proofs.Ways.{met_again, met_place, met_child}
 
 -- ---- marks
 
-pub open_is : (x : ℕ) → Open ≡ mark_of x → x ≡ 255
-open_is x e = by_tests (eqb x 0) (eqb x 255) refl refl e
+pub open_is : (x : ℕ) → Open ≡ mark_of x → x ≡ 65
+open_is x e = by_tests (eqb x 0) (eqb x 65) refl refl e
   where
-    by_tests : (a b : Bool) → eqb x 0 ≡ a → eqb x 255 ≡ b → Open ≡ cond a New (cond b Open (Done x)) → x ≡ 255
+    by_tests : (a b : Bool) → eqb x 0 ≡ a → eqb x 65 ≡ b → Open ≡ cond a New (cond b Open (Done x)) → x ≡ 65
     by_tests true b p q e = absurd cc
     by_tests false true p q e = grind (arith, nat_tests)
     by_tests false false p q e = absurd cc
 
-pub done_is : (x h : ℕ) → Done h ≡ mark_of x → (x ≢ 0) × (x ≢ 255) × (x ≡ h)
-done_is x h e = by_tests (eqb x 0) (eqb x 255) refl refl e
+pub done_is : (x h : ℕ) → Done h ≡ mark_of x → (x ≢ 0) × (x ≢ 65) × (x ≡ h)
+done_is x h e = by_tests (eqb x 0) (eqb x 65) refl refl e
   where
-    by_tests : (a b : Bool) → eqb x 0 ≡ a → eqb x 255 ≡ b → Done h ≡ cond a New (cond b Open (Done x)) → (x ≢ 0) × (x ≢ 255) × (x ≡ h)
+    by_tests : (a b : Bool) → eqb x 0 ≡ a → eqb x 65 ≡ b → Done h ≡ cond a New (cond b Open (Done x)) → (x ≢ 0) × (x ≢ 65) × (x ≡ h)
     by_tests true b p q e = absurd cc
     by_tests false true p q e = absurd cc
     by_tests false false p q e = (grind (arith, nat_tests), grind (arith, nat_tests), (let s : h ≡ x = cc in sym s))
@@ -144,8 +144,8 @@ entered_height y body child k o h c i e f = children_ok y body child k o c i (sy
 pub entered_after : (y : Layout) (body cells mid : List ℕ) (left item : ℕ) (k : ItemKind) (h : ℕ) (c : Children) → Keeps y body cells → IsMet body item
     → kind_of item ≡ Some k → has_children k ≡ true → 0 < offset_of item → cell k (offset_of item) < length cells → mark_at cells k (offset_of item) ≡ 0
     → Ok c ≡ children_at y body k (offset_of item) → Ok h ≡ result_map trees_height
-    (trees (λ w. read y body left w) (λ i. word_at body (c.first + i)) 0 c.count) → h + 1 < 255
-    → After y body (set cells (cell k (offset_of item)) 255) mid → ((i : ℕ) → i < c.count → IsKnown mid (word_at body (c.first + i)))
+    (trees (λ w. read y body left w) (λ i. word_at body (c.first + i)) 0 c.count) → h + 1 < 65
+    → After y body (set cells (cell k (offset_of item)) 65) mid → ((i : ℕ) → i < c.count → IsKnown mid (word_at body (c.first + i)))
     → After y body cells (set mid (cell k (offset_of item)) (h + 1))
 entered_after y body cells mid left item k h c keeps met e i full inside fresh there is low a known =
     let p = cell k (offset_of item) in
@@ -169,8 +169,8 @@ entered_after y body cells mid left item k h c keeps met e i full inside fresh t
 
 -- the marks when an entry begins
 pub opened_keeps : (y : Layout) (body cells : List ℕ) (item : ℕ) (k : ItemKind) → Keeps y body cells → IsMet body item → kind_of item ≡ Some k
-    → has_children k ≡ true → 0 < offset_of item → cell k (offset_of item) < length cells → Keeps y body (set cells (cell k (offset_of item)) 255)
-opened_keeps y body cells item k keeps met e i full inside = keeps_set y body cells k (offset_of item) 255 keeps i inside (λ z. omega arith)
+    → has_children k ≡ true → 0 < offset_of item → cell k (offset_of item) < length cells → Keeps y body (set cells (cell k (offset_of item)) 65)
+opened_keeps y body cells item k keeps met e i full inside = keeps_set y body cells k (offset_of item) 65 keeps i inside (λ z. omega arith)
     (λ n. absurd (n refl)) (met_place body item k met e full i)
 
 pub opened_met : (y : Layout) (body : List ℕ) (item : ℕ) (k : ItemKind) (c : Children) → IsMet body item → kind_of item ≡ Some k → has_children k ≡ true

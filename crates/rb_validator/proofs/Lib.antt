@@ -3,6 +3,7 @@ pub mod Cells
 pub mod Counts
 pub mod Entering
 pub mod Marked
+pub mod Packing
 pub mod Spans
 pub mod Shapes
 pub mod Ways

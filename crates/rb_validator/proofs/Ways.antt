@@ -74,7 +74,7 @@ ItemsDeep y body item i n e = trees (λ w. read y body e w) item i n ≡ Err Too
 
 -- a pair that is met below itself is too deep at every level
 cycle_below : (y : Layout) (body cells : List ℕ) (item : ℕ) (k : ItemKind) → Leads y body cells (ItemDeep y body item) → kind_of item ≡ Some k
-    → within y k (offset_of item) ≡ Ok true → has_children k ≡ true → mark_at cells k (offset_of item) ≡ 255 → (n e : ℕ) → e < n
+    → within y k (offset_of item) ≡ Ok true → has_children k ≡ true → mark_at cells k (offset_of item) ≡ 65 → (n e : ℕ) → e < n
     → contents y body (λ w. read y body e w) (offset_of item) k ≡ Err TooDeep
 cycle_below y body cells item k l s w h m zero e p = absurd (omega arith)
 cycle_below y body cells item k l s w h m (suc n) e p =
@@ -87,7 +87,7 @@ cycle_below y body cells item k l s w h m (suc n) e p =
     deep (suc d) q f = read_data_of y body d item k s w ∙ f d q
 
 pub cycle_deep : (y : Layout) (body cells : List ℕ) (left item : ℕ) (k : ItemKind) → Leads y body cells (λ e. read y body e item ≡ Err TooDeep)
-    → kind_of item ≡ Some k → within y k (offset_of item) ≡ Ok true → has_children k ≡ true → mark_at cells k (offset_of item) ≡ 255
+    → kind_of item ≡ Some k → within y k (offset_of item) ≡ Ok true → has_children k ≡ true → mark_at cells k (offset_of item) ≡ 65
     → contents y body (λ w. read y body left w) (offset_of item) k ≡ Err TooDeep
 cycle_deep y body cells left item k l s w h m = cycle_below y body cells item k l s w h m (suc left) left (omega arith)
 
@@ -95,14 +95,14 @@ cycle_deep y body cells left item k l s w h m = cycle_below y body cells item k 
 pub leads_children : (y : Layout) (body cells : List ℕ) (item : ℕ) (k : ItemKind) (c : Children) → Leads y body cells (λ e. read y body e item ≡ Err TooDeep)
     → kind_of item ≡ Some k → within y k (offset_of item) ≡ Ok true → has_children k ≡ true → cell k (offset_of item) < length cells
     → children_at y body k (offset_of item) ≡ Ok c
-    → Leads y body (set cells (cell k (offset_of item)) 255) (λ e. trees (λ w. read y body e w) (λ i. word_at body (c.first + i)) 0 c.count ≡ Err TooDeep)
+    → Leads y body (set cells (cell k (offset_of item)) 65) (λ e. trees (λ w. read y body e w) (λ i. word_at body (c.first + i)) 0 c.count ≡ Err TooDeep)
 leads_children y body cells item k c l s w h inside there = record {
   at = λ j o g m e. elim (cases_eq (cell j o) (cell k (offset_of item))) [
     | inl q ↦
         let same = cell_is j k o (offset_of item) g h q in
         (e, omega arith, λ f. rw (same.0, same.1) (children_fault y body (λ w. read y body e w) k (offset_of item) c TooDeep h there f))
     | inr ne ↦
-        let was : mark_at cells j o ≡ 255 = sym (get_or-set_other cells (cell k (offset_of item)) (cell j o) 255 0 ne) ∙ m in
+        let was : mark_at cells j o ≡ 65 = sym (get_or-set_other cells (cell k (offset_of item)) (cell j o) 65 0 ne) ∙ m in
         let a = l.at j o g was e in
         down j o e a.0 a.1 a.2
   ];

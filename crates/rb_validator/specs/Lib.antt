@@ -3,3 +3,4 @@ pub mod Marks
 pub mod Visits
 pub mod Ranks
 pub mod KnownKeys
+pub mod Packed

@@ -1,5 +1,5 @@
 -- For proofs only: what the memo of an acceptance keeps.
-use Rattle.std.specs.Prelude.{◌≡◌, ◌≢◌, true, ℕ, zero, suc, ◌+◌, ◌*◌, ◌/◌, ◌≤◌, ◌<◌, ◌==◌, if◌then◌else◌, nat_lt, List, [], length, slice_index, Some, Result}
+use Rattle.std.specs.Prelude.{◌≡◌, ◌≢◌, true, ℕ, zero, suc, ◌+◌, ◌*◌, ◌≤◌, ◌<◌, ◌==◌, if◌then◌else◌, nat_lt, List, [], length, slice_index, Some, Result}
 use Rattle.std.specs.Prelude.{Ok, Err, All}
 use Rattle.rb_tree.specs.Resource.{Resource, Resources, height, trees_height}
 use Rattle.rb_format.specs.declared.layout.Layout.{Layout}
@@ -7,7 +7,7 @@ use Rattle.rb_format.specs.declared.kind.ItemKind.{ItemKind}
 use Rattle.rb_format.specs.declared.kind.ItemKind.TheVariants.{Table, LongTable, Array}
 use Rattle.rb_format.specs.declared.fault.FileFault.{FileFault}
 use Rattle.rb_format.specs.declared.fault.FileFault.TheVariants.{Length, TooDeep}
-use Rattle.rb_format.specs.Place.{word_at, half_at}
+use Rattle.rb_format.specs.Place.{word_at}
 use Rattle.rb_format.specs.Item.{kind_of, offset_of}
 use Rattle.rb_format.specs.FirstFault.{◌>>=◌, read, contents, keys, trees}
 use Rattle.rb_validator.specs.declared.children.Children.{Children}
@@ -48,7 +48,7 @@ abbrev pub cell : ItemKind → ℕ → ℕ
 cell k o = 3 * o + slot k
 
 abbrev pub mark_of : ℕ → Mark
-mark_of x = if x == 0 then New else (if x == 255 then Open else Done x)
+mark_of x = if x == 0 then New else (if x == 65 then Open else Done x)
 
 abbrev pub mark_at : List ℕ → ItemKind → ℕ → ℕ
 mark_at cells k o = slice_index cells (cell k o)
@@ -73,18 +73,18 @@ pub record IsDone (y : Layout) (body cells : List ℕ) (k : ItemKind) (o h : ℕ
 -- what is true of the marks at all times
 pub record Keeps (y : Layout) (body cells : List ℕ) : Type 0 where
   pub long : length cells ≡ 3 * y.top
-  pub done : (k : ItemKind) (o : ℕ) → has_children k ≡ true → mark_at cells k o ≢ 0 → mark_at cells k o ≢ 255 → IsDone y body cells k o (mark_at cells k o)
+  pub done : (k : ItemKind) (o : ℕ) → has_children k ≡ true → mark_at cells k o ≢ 0 → mark_at cells k o ≢ 65 → IsDone y body cells k o (mark_at cells k o)
   pub place : (k : ItemKind) (o : ℕ) → has_children k ≡ true → mark_at cells k o ≢ 0 → IsPlace body k o
 
 -- what is marked stays so, and what is opened is finished
 pub record Follows (cells after : List ℕ) : Type 0 where
   pub stays : (n : ℕ) → slice_index cells n ≢ 0 → slice_index after n ≡ slice_index cells n
-  pub closes : (n : ℕ) → slice_index cells n ≡ 0 → slice_index after n ≢ 255
+  pub closes : (n : ℕ) → slice_index cells n ≡ 0 → slice_index after n ≢ 65
 
 -- each open pair is too deep at a level wherever Q holds at some level that is no higher: all that is before it on the way
 -- there has no other fault
 pub record Leads (y : Layout) (body cells : List ℕ) (Q : ℕ → Type 0) : Type 0 where
-  pub at : (k : ItemKind) (o : ℕ) → has_children k ≡ true → mark_at cells k o ≡ 255 → (e : ℕ)
+  pub at : (k : ItemKind) (o : ℕ) → has_children k ≡ true → mark_at cells k o ≡ 65 → (e : ℕ)
       → (d : ℕ) × (d ≤ e) × (Q d → contents y body (λ w. read y body e w) o k ≡ Err TooDeep)
 
 -- before an item is checked, and after

@@ -31,6 +31,11 @@ impl Model for Bundle {
 /// The bundle of a file that denotes one. Any other file is refused for its first fault, in the order of a reader's checks: the length,
 /// the header, the indexes, the attributes, the root item and the items, depth first. `Memory` comes in place of an answer where there
 /// is no memory for the marks of the tables and arrays, three bytes for each word of the file. An error gives the bytes back as they were.
+///
+/// ```rust
+/// let bundle = accept(alloc, file)?; // `bundle.visits()` is 1 for `root{a{"b"}}`
+/// accept(alloc, bytes) // Err((FileFault::Header, bytes)), where they are no file
+/// ```
 pub fn accept(alloc: Global, bytes: Vec<u8>) -> Result<Bundle, (FileFault, Vec<u8>)>
     ensures bytes { IfOk result (λ b. b ≡ bytes.items) }
     ensures tree { IfOk result (λ b. Denotes bytes.items (source_tree_of b)) }

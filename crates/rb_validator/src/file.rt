@@ -52,6 +52,6 @@ fn check_data(alloc: Global, minor: u8, body: &[u8]) -> Result<u64, FileFault>
     let runs = Runs::new(alloc, layout.top);
     let keys = KeyChecker::new(alloc, &layout, body);
     let mut state = CheckState { memo, runs, keys };
-    check_item(&layout, body, &mut state, root, HEIGHT_LIMIT)?;
+    check_item(&layout, body, &mut state, root, HEIGHT_LIMIT as u8)?;
     Ok(state.memo.visits())
 }

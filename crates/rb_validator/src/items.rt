@@ -15,18 +15,20 @@ use crate::runs::split;
 use crate::state::CheckState;
 use rb_format::{FileFault, ItemKind, Layout, item_kind, item_offset, word_at};
 
-/// The height of the tree that an item denotes, where that is at most `left`, or its first fault.
+/// The height of the tree that an item denotes, where that is at most `left`, or its first fault. Most items have no children, so that
+/// it is inlined where items are checked one by one, and the recursion goes through `check_inner`.
 #[cycle(check)]
+#[inline(always)]
 pub fn check_item(
     layout: &Layout,
     body: &[u8],
     state: &mut CheckState,
     item: u32,
-    left: u64,
-) -> Result<u64, FileFault>
+    left: u8,
+) -> Result<u8, FileFault>
     requires room { 4 * layout.now.top ≤ length body.now }
     requires tops { layout.now.keys_top ≤ layout.now.top }
-    requires small { left < 255 }
+    requires small { left < 65 }
     requires met { IsMet body.now item }
     requires sound { IsSound layout.now body.now state.old.keys.known }
     requires keeps { Keeps layout.now body.now state.old.memo }
@@ -60,17 +62,18 @@ pub fn check_item(
 
 /// The height of the tree of a table or an array with data: the one that is kept, or what an entry finds.
 #[cycle(check)]
+#[inline(never)]
 fn check_inner(
     layout: &Layout,
     body: &[u8],
     state: &mut CheckState,
     item: u32,
     kind: ItemKind,
-    left: u64,
-) -> Result<u64, FileFault>
+    left: u8,
+) -> Result<u8, FileFault>
     requires room { 4 * layout.now.top ≤ length body.now }
     requires tops { layout.now.keys_top ≤ layout.now.top }
-    requires small { left < 254 }
+    requires small { left < 64 }
     requires met { IsMet body.now item }
     requires is_kind { kind_of item ≡ Some kind }
     requires inner { geometry.has_children kind ≡ true }
@@ -108,11 +111,11 @@ fn enter(
     state: &mut CheckState,
     item: u32,
     kind: ItemKind,
-    left: u64,
-) -> Result<u64, FileFault>
+    left: u8,
+) -> Result<u8, FileFault>
     requires room { 4 * layout.now.top ≤ length body.now }
     requires tops { layout.now.keys_top ≤ layout.now.top }
-    requires small { left < 254 }
+    requires small { left < 64 }
     requires met { IsMet body.now item }
     requires is_kind { kind_of item ≡ Some kind }
     requires inner { geometry.has_children kind ≡ true }
@@ -134,7 +137,7 @@ fn enter(
     state.memo.enter(kind, offset);
     let found = find_children(layout, body, &mut state.keys, kind, offset)?;
     let below = check_items(layout, body, state, found.first, found.count, left)?;
-    state.memo.finish(kind, offset, below as u8 + 1);
+    state.memo.finish(kind, offset, below + 1);
     Ok(below + 1)
 }
 
@@ -146,11 +149,11 @@ fn check_items(
     state: &mut CheckState,
     first: usize,
     count: usize,
-    left: u64,
-) -> Result<u64, FileFault>
+    left: u8,
+) -> Result<u8, FileFault>
     requires room { 4 * layout.now.top ≤ length body.now }
     requires tops { layout.now.keys_top ≤ layout.now.top }
-    requires small { left < 254 }
+    requires small { left < 64 }
     requires items { first + count ≤ layout.now.top }
     requires met { (i : ℕ) → i < count → IsMet body.now (fields.word_at body.now (first + i)) }
     requires sound { IsSound layout.now body.now state.old.keys.known }
@@ -169,8 +172,8 @@ fn check_items(
     }
     let parts = split(first, count);
     if let Some(height) = state.runs.height(parts, first, count) {
-        if height as u64 <= left {
-            return Ok(height as u64);
+        if height <= left {
+            return Ok(height);
         }
         return Err(FileFault::TooDeep);
     }
@@ -178,7 +181,7 @@ fn check_items(
     let low = check_items(layout, body, state, first, before, left)?;
     let high = check_items(layout, body, state, parts.middle, count - before, left)?;
     let height = low.max(high);
-    state.runs.keep(parts, first, count, height as u8);
+    state.runs.keep(parts, first, count, height);
     Ok(height)
 }
 
@@ -190,11 +193,11 @@ fn check_each(
     state: &mut CheckState,
     first: usize,
     count: usize,
-    left: u64,
-) -> Result<u64, FileFault>
+    left: u8,
+) -> Result<u8, FileFault>
     requires room { 4 * layout.now.top ≤ length body.now }
     requires tops { layout.now.keys_top ≤ layout.now.top }
-    requires small { left < 254 }
+    requires small { left < 64 }
     requires items { first + count ≤ layout.now.top }
     requires met { (i : ℕ) → i < count → IsMet body.now (fields.word_at body.now (first + i)) }
     requires sound { IsSound layout.now body.now state.old.keys.known }

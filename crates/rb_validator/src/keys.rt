@@ -7,6 +7,7 @@ ghost use Rattle.std.specs.Cmp.Lexicographic.{slice_cmp};
 use rb_format::{FileFault, Layout, key_within};
 
 /// Whether bytes are below others.
+#[inline(always)]
 fn is_below(a: &[u8], b: &[u8]) -> bool
     ensures { result ≡ is_lt (slice_cmp nat_cmp a.now b.now) }
 {
@@ -15,6 +16,7 @@ fn is_below(a: &[u8], b: &[u8]) -> bool
 
 /// The key at an offset, if it is above the last one.
 #[tactic(auto, unfolding(rb_format::specs::FirstFault::next_key))]
+#[inline(always)]
 pub fn next_key<'a>(
     layout: &Layout,
     body: &'a [u8],

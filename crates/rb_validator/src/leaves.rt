@@ -33,6 +33,7 @@ pub fn check_offset(layout: &Layout, kind: ItemKind, offset: u32) -> Result<bool
 
 /// The checks of a String or an Alias: its units, and a zero unit after them, end at or below the top.
 #[tactic(auto, unfolding(rb_format::specs::FirstFault::units))]
+#[inline(always)]
 pub fn check_units(layout: &Layout, body: &[u8], offset: u32) -> Result<(), FileFault>
     requires room { 4 * layout.now.top ≤ length body.now }
     requires below { offset < layout.now.top }
@@ -84,6 +85,7 @@ pub fn check_numbers(layout: &Layout, body: &[u8], offset: u32) -> Result<(), Fi
 
 /// The checks of a value without children.
 #[tactic(auto, unfolding(rb_format::specs::FirstFault::contents))]
+#[inline(always)]
 pub fn check_leaf(
     layout: &Layout,
     body: &[u8],

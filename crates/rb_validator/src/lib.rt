@@ -4,6 +4,7 @@
 mod bundle;
 mod children;
 mod file;
+mod heights;
 mod items;
 mod key_checker;
 mod keys;

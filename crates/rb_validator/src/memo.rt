@@ -1,7 +1,8 @@
 // The marks of the tables and arrays that an acceptance has entered.
-ghost use Rattle.std.specs.Prelude.{◌≡◌, ◌≢◌, ℕ, ◌*◌, ◌<◌, List, length, slice_index, slice_set, IfOk};
+ghost use Rattle.std.specs.Prelude.{◌≡◌, ◌≢◌, ℕ, ◌*◌, ◌<◌, ◌≤◌, ◌^◌, List, length, slice_index, slice_set, IfOk};
 ghost use Rattle.rb_validator.specs.Marks.{cell, mark_of, mark_at, marked};
 
+use crate::heights::Heights;
 use rb_format::ItemKind;
 use std::alloc::{AllocError, Global};
 use std::marker::Model;
@@ -14,37 +15,25 @@ pub enum Mark {
     /// It was entered, and is being checked.
     Open,
     /// It was checked: it has a tree of this height.
-    Done(u64),
+    Done(u8),
 }
 
-/// The byte of what is being checked. A height is less, and 0 is for what was not entered.
-const OPEN: u8 = 255;
+/// The number of what is being checked. A height is less, and 0 is for what was not entered.
+const OPEN: u8 = 65;
 
 /// A mark for each offset and kind with children, and how many were entered.
 #[derive(Drop)]
 pub struct Memo {
-    heights: Vec<u8>,
+    heights: Heights,
     visits: u64,
 }
 
 impl Model for Memo {
     ghost Value = { List ℕ };
 
-    ghost view = { λ m. m.heights.items };
+    ghost view = { λ m. m.heights };
 
-    ghost invariant = { λ m. m.visits ≡ marked m.heights.items (length m.heights.items) };
-}
-
-/// The place of the byte of an offset and a kind.
-fn cell_of(kind: ItemKind, offset: u32) -> usize
-    ensures { result ≡ cell kind offset }
-{
-    let slot = match kind {
-        ItemKind::Table => 0,
-        ItemKind::LongTable => 1,
-        _ => 2,
-    };
-    3 * offset as usize + slot
+    ghost invariant = { λ m. (m.visits ≡ marked m.heights (length m.heights)) × (length m.heights ≤ 2 ^ 34) };
 }
 
 impl Memo {
@@ -53,7 +42,7 @@ impl Memo {
         ensures long { IfOk result (λ m. length m ≡ 3 * top) }
         ensures fresh { IfOk result (λ m. (n : ℕ) → slice_index m n ≡ 0) }
     {
-        let heights = vec![in alloc; 0u8; 3 * top as usize]?;
+        let heights = Heights::new(alloc, top)?;
         Ok(Memo { heights, visits: 0 })
     }
 
@@ -69,10 +58,10 @@ impl Memo {
         requires { cell kind offset < length self.now }
         ensures { result ≡ mark_of (mark_at self.now kind offset) }
     {
-        match self.heights[cell_of(kind, offset)] {
+        match self.heights.get(kind, offset) {
             0 => Mark::New,
             OPEN => Mark::Open,
-            height => Mark::Done(height as u64),
+            height => Mark::Done(height),
         }
     }
 
@@ -80,9 +69,9 @@ impl Memo {
     pub fn enter(&mut self, kind: ItemKind, offset: u32)
         requires inside { cell kind offset < length self.old }
         requires fresh { mark_at self.old kind offset ≡ 0 }
-        ensures { self.new ≡ slice_set self.old (cell kind offset) 255 }
+        ensures { self.new ≡ slice_set self.old (cell kind offset) 65 }
     {
-        self.heights[cell_of(kind, offset)] = OPEN;
+        self.heights.set(kind, offset, OPEN);
         self.visits += 1;
     }
 
@@ -91,8 +80,9 @@ impl Memo {
         requires inside { cell kind offset < length self.old }
         requires entered { mark_at self.old kind offset ≢ 0 }
         requires high { 0 < height }
+        requires low { height < 66 }
         ensures { self.new ≡ slice_set self.old (cell kind offset) height }
     {
-        self.heights[cell_of(kind, offset)] = height;
+        self.heights.set(kind, offset, height);
     }
 }

@@ -24,7 +24,7 @@ use Rattle.rb_views.specs.Stands.{all_stand, table_stands, StandsFor, AllStand, 
 use Rattle.rb_views.specs.Trees.{item_tree, key_from}
 use Rattle.rb_views.proofs.Values.{some_is, is_some_from, some_eq, then_some, where_some, where_true}
 use Rattle.rb_views.proofs.Readings.{map_some, of_kind, child_stands, with_data, without_data}
-use Rattle.rb_views.proofs.TreeKinds.{kind_back, tree_kind, only_array, only_table}
+use Rattle.rb_views.proofs.TreeKinds.{kind_back, value_there, bare_there, tree_kind, only_array, only_table}
 
 -- ---- arrays
 
@@ -95,22 +95,11 @@ array_at body o t e h =
 
 pub items_there : (body : List ℕ) (item o : ℕ) → o ≡ offset_of item → StandsFor body item → parts.kind_of (item_tree body item) ≡ named.Array → 0 < o
     → HasItemsAt body o (item_tree body item)
-items_there body item o same h e p =
-    let v = kind_back body item named.Array h e in
-    let k = only_array v.0 v.2 in
-    let t = item_tree body item in
-    array_at body o t (rw same (subst (λ (j : ItemKind). item_at (layout_of body) body (λ w. tree_at (layout_of body) body 63 w) (offset_of item) j ≡ Some t) k
-    v.1.value)) p
+items_there body item o same h e p = array_at body o (item_tree body item) (value_there body item o Array named.Array only_array same h e) p
 
 pub items_none : (body : List ℕ) (item o : ℕ) → o ≡ offset_of item → StandsFor body item → parts.kind_of (item_tree body item) ≡ named.Array → o ≡ 0
     → [] ≡ parts.children_of (item_tree body item)
-items_none body item o same h e z =
-    let v = kind_back body item named.Array h e in
-    let k = only_array v.0 v.2 in
-    let t = item_tree body item in
-    let y = layout_of body in
-    ap parts.children_of (without_data y body (λ w. tree_at y body 63 w) (offset_of item) Array t refl
-    (subst (λ (j : ItemKind). item_at y body (λ w. tree_at y body 63 w) (offset_of item) j ≡ Some t) k v.1.value) (sym same ∙ z))
+items_none body item o same h e z = ap parts.children_of (bare_there body item o Array named.Array only_array refl same h e z)
 
 pub none_stand : (body : List ℕ) → AllStand body 0 0
 unfolding all_stand

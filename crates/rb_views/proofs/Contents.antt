@@ -16,7 +16,7 @@ use Rattle.rb_views.specs.Stands.{StandsFor}
 use Rattle.rb_views.specs.Trees.{item_tree}
 use Rattle.rb_views.proofs.Values.{some_eq, where_some, values_map}
 use Rattle.rb_views.proofs.Readings.{map_some, with_data, without_data}
-use Rattle.rb_views.proofs.TreeKinds.{kind_back, only_text, only_binary, only_int, only_ints}
+use Rattle.rb_views.proofs.TreeKinds.{kind_back, value_there, bare_there, only_text, only_binary, only_int, only_ints}
 
 -- ---- texts
 
@@ -87,21 +87,11 @@ ints_at body o child t e h =
 pub numbers_there : (body : List ℕ) (item o : ℕ) → o ≡ offset_of item → StandsFor body item → parts.kind_of (item_tree body item) ≡ named.Ints → 0 < o
     → HasNumbersAt body o (item_tree body item)
 numbers_there body item o same h e p =
-    let v = kind_back body item named.Ints h e in
-    let k = only_ints v.0 v.2 in
-    let t = item_tree body item in
-    ints_at body o (λ w. tree_at (layout_of body) body 63 w) t
-    (rw same (subst (λ (j : ItemKind). item_at (layout_of body) body (λ w. tree_at (layout_of body) body 63 w) (offset_of item) j ≡ Some t) k v.1.value)) p
+    ints_at body o (λ w. tree_at (layout_of body) body 63 w) (item_tree body item) (value_there body item o Ints named.Ints only_ints same h e) p
 
 pub numbers_none : (body : List ℕ) (item o : ℕ) → o ≡ offset_of item → StandsFor body item → parts.kind_of (item_tree body item) ≡ named.Ints → o ≡ 0
     → [] ≡ parts.numbers_of (item_tree body item)
-numbers_none body item o same h e z =
-    let v = kind_back body item named.Ints h e in
-    let k = only_ints v.0 v.2 in
-    let t = item_tree body item in
-    let y = layout_of body in
-    ap parts.numbers_of (without_data y body (λ w. tree_at y body 63 w) (offset_of item) Ints t refl
-    (subst (λ (j : ItemKind). item_at y body (λ w. tree_at y body 63 w) (offset_of item) j ≡ Some t) k v.1.value) (sym same ∙ z))
+numbers_none body item o same h e z = ap parts.numbers_of (bare_there body item o Ints named.Ints only_ints refl same h e z)
 
 -- ---- bytes
 
@@ -123,31 +113,16 @@ binary_at body o child t e h =
 pub bytes_there : (body : List ℕ) (item o : ℕ) → o ≡ offset_of item → StandsFor body item → parts.kind_of (item_tree body item) ≡ named.Binary → 0 < o
     → HasBytesAt body o (item_tree body item)
 bytes_there body item o same h e p =
-    let v = kind_back body item named.Binary h e in
-    let k = only_binary v.0 v.2 in
-    let t = item_tree body item in
-    binary_at body o (λ w. tree_at (layout_of body) body 63 w) t
-    (rw same (subst (λ (j : ItemKind). item_at (layout_of body) body (λ w. tree_at (layout_of body) body 63 w) (offset_of item) j ≡ Some t) k v.1.value)) p
+    binary_at body o (λ w. tree_at (layout_of body) body 63 w) (item_tree body item) (value_there body item o Binary named.Binary only_binary same h e) p
 
 pub bytes_none : (body : List ℕ) (item o : ℕ) → o ≡ offset_of item → StandsFor body item → parts.kind_of (item_tree body item) ≡ named.Binary → o ≡ 0
     → [] ≡ parts.bytes_of (item_tree body item)
-bytes_none body item o same h e z =
-    let v = kind_back body item named.Binary h e in
-    let k = only_binary v.0 v.2 in
-    let t = item_tree body item in
-    let y = layout_of body in
-    ap parts.bytes_of (without_data y body (λ w. tree_at y body 63 w) (offset_of item) Binary t refl
-    (subst (λ (j : ItemKind). item_at y body (λ w. tree_at y body 63 w) (offset_of item) j ≡ Some t) k v.1.value) (sym same ∙ z))
+bytes_none body item o same h e z = ap parts.bytes_of (bare_there body item o Binary named.Binary only_binary refl same h e z)
 
 -- ---- an Int
 
 pub int_there : (body : List ℕ) (item : ℕ) → StandsFor body item → parts.kind_of (item_tree body item) ≡ named.Int
     → parts.int_of (item_tree body item) ≡ offset_of item
 int_there body item h e =
-    let v = kind_back body item named.Int h e in
-    let k = only_int v.0 v.2 in
-    let t = item_tree body item in
-    let y = layout_of body in
-    let s : item_at y body (λ w. tree_at y body 63 w) (offset_of item) Int ≡ Some t = subst
-    (λ (j : ItemKind). item_at y body (λ w. tree_at y body 63 w) (offset_of item) j ≡ Some t) k v.1.value in
-    ap parts.int_of (sym (some_eq (int (offset_of item)) t s))
+    let n = offset_of item in
+    ap parts.int_of (sym (some_eq (int n) (item_tree body item) (value_there body item n Int named.Int only_int refl h e)))

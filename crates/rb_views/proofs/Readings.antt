@@ -48,9 +48,6 @@ item_value : (y : Layout) (body : List ℕ) (d item : ℕ) (t : Resource) → tr
 unfolding tree_at
 item_value y body d item t e = then_some (kind_of item) (item_at y body (λ w. tree_at y body d w) (offset_of item)) t e
 
-abbrev pub child_at : List ℕ → ℕ → Option Resource
-child_at body w = tree_at (layout_of body) body 63 w
-
 unwrapped : (o : Option Resource) → IsSome o → o ≡ Some (unwrap_or o (int 0))
 unwrapped (Some t) h = refl
 unwrapped None h = absurd cc

@@ -1,5 +1,5 @@
 -- The kind of the tree that an item denotes, and the parts of a tree by its kind.
-use Rattle.std.proofs.Common.{◌≡◌, ℕ, ◌⊎◌, List, length, Option, Some, None, refl, sym, ap, ◌∙◌, inl, inr}
+use Rattle.std.proofs.Common.{◌≡◌, ℕ, ◌⊎◌, ltb, List, length, Option, Some, None, refl, sym, ap, subst, ◌∙◌, inl, inr}
 use Rattle.std.specs.Map.{values_of}
 use Rattle.rb_tree.specs.declared.kind.Kind.{Kind}
 use Rattle.rb_tree.specs.declared.kind.Kind.TheVariants as named
@@ -10,13 +10,13 @@ use Rattle.rb_format.specs.declared.kind.ItemKind.{ItemKind}
 use Rattle.rb_format.specs.declared.kind.ItemKind.TheVariants.{String, Binary, Table, Alias, LongTable, Int, Array, Ints}
 use Rattle.rb_format.specs.declared.layout.Layout.{Layout}
 use Rattle.rb_format.specs.Place.{layout_of}
-use Rattle.rb_format.specs.Item.{kind_of, offset_of, bare}
-use Rattle.rb_format.specs.Denotation.{tree_at, value_at}
+use Rattle.rb_format.specs.Item.{kind_of, offset_of, has_data, bare}
+use Rattle.rb_format.specs.Denotation.{tree_at, value_at, item_at}
 use Rattle.rb_views.specs.Stands.{StandsFor, kind_named}
 use Rattle.rb_views.specs.Trees.{item_tree}
 use Rattle.rb_views.specs.Parts.{text_of, alias_of, ints_of, binary_of, uint_of, array_of, table_of}
 use Rattle.rb_views.proofs.Values.{some_eq, where_some}
-use Rattle.rb_views.proofs.Readings.{map_some, IsOfKind, has_kind, of_kind, choice}
+use Rattle.rb_views.proofs.Readings.{map_some, IsOfKind, has_kind, of_kind, choice, without_data}
 
 value_kind : (y : Layout) (body : List ℕ) (child : ℕ → Option Resource) (o : ℕ) (k : ItemKind) (t : Resource) → value_at y body child o k ≡ Some t
     → parts.kind_of t ≡ kind_named k
@@ -117,6 +117,23 @@ pub kind_back : (body : List ℕ) (item : ℕ) (c : Kind) → StandsFor body ite
 kind_back body item c h e =
     let v = has_kind body item h in
     (v.0, v.1, sym (tree_kind body item v.0 h v.1.kind) ∙ e)
+
+-- where one kind of item alone stands for a kind of tree, an item whose tree is of that kind has that value
+pub value_there : (body : List ℕ) (item o : ℕ) (k : ItemKind) (c : Kind) → ((j : ItemKind) → kind_named j ≡ c → j ≡ k) → o ≡ offset_of item
+    → StandsFor body item → parts.kind_of (item_tree body item) ≡ c
+    → item_at (layout_of body) body (λ w. tree_at (layout_of body) body 63 w) o k ≡ Some (item_tree body item)
+value_there body item o k c only same h e =
+    let v = kind_back body item c h e in
+    let t = item_tree body item in
+    let y = layout_of body in
+    rw same (subst (λ (j : ItemKind). item_at y body (λ w. tree_at y body 63 w) (offset_of item) j ≡ Some t) (only v.0 v.2) v.1.value)
+
+-- the same without data
+pub bare_there : (body : List ℕ) (item o : ℕ) (k : ItemKind) (c : Kind) → ((j : ItemKind) → kind_named j ≡ c → j ≡ k) → has_data k o ≡ ltb 0 o
+    → o ≡ offset_of item → StandsFor body item → parts.kind_of (item_tree body item) ≡ c → o ≡ 0 → bare k o ≡ item_tree body item
+bare_there body item o k c only d same h e z =
+    let y = layout_of body in
+    without_data y body (λ w. tree_at y body 63 w) o k (item_tree body item) d (value_there body item o k c only same h e) z
 
 -- ---- the contents of a tree by its kind
 

@@ -10,6 +10,11 @@ use rb_format::{body, word_at};
 use rb_validator::Bundle;
 
 /// The root item of a bundle, a Table, which is seen as the bundle's tree: word 0 of the file's data.
+///
+/// ```rust
+/// let text = root(&bundle).table()?.get(b"a")?.text()?; // of `root{a{"b"}}`
+/// text.at(0) // 98
+/// ```
 pub fn root(bundle: &Bundle) -> Item<'_>
     ensures tree { tree_seen result ≡ tree_of bundle.now }
     ensures data { item_data result ≡ data_of bundle.now }

@@ -169,6 +169,7 @@ impl<'a> Item<'a> {
         }
     }
 
+    #[tactic(auto, using(crate::proofs::Contents::units_there, crate::proofs::Contents::units_none))]
     pub(crate) fn units(self) -> Units<'a>
         requires { HasUnits (kind_of (tree_seen self)) }
         ensures { units_seen result ≡ units_of (tree_seen self.entry) }
@@ -188,6 +189,7 @@ impl<'a> Item<'a> {
         }
     }
 
+    #[tactic(auto, using(crate::proofs::Contents::numbers_there, crate::proofs::Contents::numbers_none))]
     pub(crate) fn numbers(self) -> Ints<'a>
         requires { kind_of (tree_seen self) ≡ Kinds.Ints }
         ensures { numbers_seen result ≡ numbers_of (tree_seen self.entry) }

@@ -24,6 +24,7 @@ impl<'a> Units<'a> {
     }
 
     /// Unit i, which is one of `len`.
+    #[tactic(auto, using(crate::proofs::Values::values_length))]
     pub fn at(self, i: usize) -> u16
         requires { i < length (units_seen self) }
         ensures { Some result ≡ slice_get (units_seen self.entry) i }
@@ -53,6 +54,7 @@ impl<'a> Ints<'a> {
     }
 
     /// Number i, which is one of `len`.
+    #[tactic(auto, using(crate::proofs::Values::values_length))]
     pub fn at(self, i: usize) -> i32
         requires { i < length (numbers_seen self) }
         ensures { Some result ≡ slice_get (numbers_seen self.entry) i }

@@ -29,7 +29,8 @@ use Rattle.rb_writer.specs.Most.{data_most, trees_most, members_most}
 use Rattle.rb_writer.specs.Standing.{Stands, ChildrenStand, KeysStand, PlacesAre, PutsArray, PutsShort, PutsLong, WritesTable}
 use Rattle.rb_writer.specs.declared.keys.KeyPlaces.{KeyPlaces}
 use Rattle.rb_writer.proofs.Puts.{adds_trans, word_stays, half_stays}
-use Rattle.rb_writer.proofs.Nodes.{keys_stay, stays, array_most, table_most, put_node, read_more}
+use Rattle.rb_writer.proofs.Values.{drafted_on}
+use Rattle.rb_writer.proofs.Nodes.{keys_stay, stays, array_most, table_most, put_stands}
 
 some_below : {X : Type 0} (xs : List X) (j : ℕ) (u : X) → Some u ≡ slice_get xs j → j < length xs
 some_below [] j u e = cc
@@ -127,9 +128,6 @@ child_later area old mid new cs is n d j u s a e f low =
     read_raise (draft area new) new (height u) d (get_or is j 0) u
     (stays area mid new (height u) (get_or is j 0) u s.drafted a (s.reads j u (omega arith) f)) low
 
-drafted_on : (area : KeyArea) (old new : List ℕ) → IsDraft area old → length old ≤ length new → length new % 4 ≡ 0 → IsDraft area new
-drafted_on area old new d h e = let w = d.whole in let hi = d.high in record { words = length new / 4; whole = omega arith; low = d.low; high = omega arith }
-
 array_put : (area : KeyArea) (old mid new : List ℕ) (is : List ℕ) (n o : ℕ) (ts : Resources) → ChildrenStand area old mid (items ts) is n
     → n ≡ length (items ts) → PutsArray mid new is o → o < 2 ^ 28
     → Put area old new (4 + trees_most ts) (λ y b p. array_at y b (λ w. read (draft area new) new (trees_height ts) w) p) ts no_trees o
@@ -159,15 +157,20 @@ array_put area old mid new is n o ts s e p small =
 pub array_stands : (area : KeyArea) (old mid new : List ℕ) (is : List ℕ) (n o item : ℕ) (ts : Resources) (t : Tree) → t ≡ trees.Array ts
     → ChildrenStand area old mid (items ts) is n → n ≡ length (items ts) → PutsArray mid new is o → o < 2 ^ 28 → kind_of item ≡ Some kinds.Array
     → offset_of item ≡ o → Stands area old new (view_of t) item
-array_stands area old mid new is n o item ts t eq s e p small ki oi =
-    let put = array_put area old mid new is n o ts s e p small in
-    rw eq (record {
-      adds = put.adds;
-      drafted = put.drafted;
-      little = put.little;
-      reads = read_more area new (trees_height ts) item (array ts)
-          (put_node area old new _ _ ts no_trees o item kinds.Array array _ put ki oi (λ q. refl) (array_contents _ _ _ o) refl);
-    })
+array_stands area old mid new is n o item ts t eq s e p small ki oi = rw eq (put_stands area old new _ (trees_height ts) _ ts no_trees o item kinds.Array array
+    (array_put area old mid new is n o ts s e p small) ki oi (λ q. refl) (array_contents _ _ _ o) refl refl refl)
+
+-- without children nothing is put after them
+none_put : {A : Type 0} (area : KeyArea) (old mid : List ℕ) (cs : List Resource) (is : List ℕ) (n most : ℕ)
+    (reads : Layout → List ℕ → ℕ → Result A FileFault) (x none : A) → ChildrenStand area old mid cs is n → length mid ≤ length old + most → x ≡ none
+    → Put area old mid most reads x none 0
+none_put area old mid cs is n most reads x none s little same = record {
+  adds = s.adds;
+  drafted = s.drafted;
+  little = little;
+  small = omega arith;
+  stands = inl (refl, same);
+}
 
 no_items : (ts : Resources) → length (items ts) ≡ 0 → ts ≡ no_trees
 no_items no_trees e = refl
@@ -183,20 +186,9 @@ pub empty_array_stands : (area : KeyArea) (old mid : List ℕ) (is : List ℕ) (
     → Stands area old mid (view_of t) item
 empty_array_stands area old mid is n item ts t eq s e none ki oi =
     let l = s.little in let c = s.count in let m = array_most ts in
-    let put : Put area old mid (4 + trees_most ts) (λ y b p. array_at y b (λ w. read (draft area mid) mid (trees_height ts) w) p) ts no_trees 0 = record {
-      adds = s.adds;
-      drafted = s.drafted;
-      little = omega arith;
-      small = omega arith;
-      stands = inl (refl, no_items ts (omega arith));
-    } in
-    rw eq (record {
-      adds = put.adds;
-      drafted = put.drafted;
-      little = put.little;
-      reads = read_more area mid (trees_height ts) item (array ts)
-          (put_node area old mid _ _ ts no_trees 0 item kinds.Array array _ put ki oi (λ q. refl) (array_contents _ _ _ 0) refl);
-    })
+    rw eq (put_stands area old mid (4 + trees_most ts) (trees_height ts) _ ts no_trees 0 item kinds.Array array
+    (none_put area old mid (items ts) is n _ (λ y b p. array_at y b (λ w. read (draft area mid) mid (trees_height ts) w) p) ts no_trees s (omega arith)
+    (no_items ts (omega arith))) ki oi (λ q. refl) (array_contents _ _ _ 0) refl refl refl)
 
 -- ---- tables
 
@@ -281,24 +273,12 @@ pub table_stands : (ps : KeyPlaces) (area : KeyArea) (old mid new is : List ℕ)
     → WritesTable ps es mid new is item → Stands area old new (view_of t) item
 table_stands ps area old mid new is n item es t eq s e d ks w =
     rw eq (elim w.written [
-      | inl p ↦
-          let put = short_put ps area old mid new is w.offsets n (offset_of item) es s e d ks w.places w.ordered p.1 w.small in
-          record {
-            adds = put.adds;
-            drafted = put.drafted;
-            little = put.little;
-            reads = read_more area new (entries_height es) item (table es)
-                (put_node area old new _ _ es no_entries (offset_of item) item kinds.Table table _ put p.0 refl (λ q. refl) (short_contents _ _ _ _) refl);
-          }
-      | inr p ↦
-          let put = long_put ps area old mid new is w.offsets n (offset_of item) es s e d ks w.places w.ordered p.1 w.small in
-          record {
-            adds = put.adds;
-            drafted = put.drafted;
-            little = put.little;
-            reads = read_more area new (entries_height es) item (table es)
-                (put_node area old new _ _ es no_entries (offset_of item) item kinds.LongTable table _ put p.0 refl (λ q. refl) (long_contents _ _ _ _) refl);
-          }
+      | inl p ↦ put_stands area old new _ (entries_height es) _ es no_entries (offset_of item) item kinds.Table table
+          (short_put ps area old mid new is w.offsets n (offset_of item) es s e d ks w.places w.ordered p.1 w.small) p.0 refl (λ q. refl) (short_contents _ _ _ _)
+          refl refl refl
+      | inr p ↦ put_stands area old new _ (entries_height es) _ es no_entries (offset_of item) item kinds.LongTable table
+          (long_put ps area old mid new is w.offsets n (offset_of item) es s e d ks w.places w.ordered p.1 w.small) p.0 refl (λ q. refl) (long_contents _ _ _ _)
+          refl refl refl
     ])
 
 pub empty_table_stands : (area : KeyArea) (old mid : List ℕ) (is : List ℕ) (n item : ℕ) (es : Members) (t : Tree) → t ≡ trees.Table es
@@ -306,21 +286,10 @@ pub empty_table_stands : (area : KeyArea) (old mid : List ℕ) (is : List ℕ) (
     → Stands area old mid (view_of t) item
 empty_table_stands area old mid is n item es t eq s e none ki oi =
     let l = s.little in let c = s.count in let m = table_most es in
-    let put : Put area old mid (4 + members_most es)
-    (λ y b p. table16_at y b (λ w. read (draft area mid) mid (entries_height es) w) p) es no_entries 0 = record {
-      adds = s.adds;
-      drafted = s.drafted;
-      little = omega arith;
-      small = omega arith;
-      stands = inl (refl, no_pairs es (omega arith));
-    } in
-    rw eq (record {
-      adds = put.adds;
-      drafted = put.drafted;
-      little = put.little;
-      reads = read_more area mid (entries_height es) item (table es)
-          (put_node area old mid _ _ es no_entries 0 item kinds.Table table _ put ki oi (λ q. refl) (short_contents _ _ _ 0) refl);
-    })
+    rw eq (put_stands area old mid (4 + members_most es) (entries_height es) _ es no_entries 0 item kinds.Table table
+    (none_put area old mid (values_of (pairs es)) is n _ (λ y b p. table16_at y b (λ w. read (draft area mid) mid (entries_height es) w) p) es no_entries s
+    (omega arith) (no_pairs es (omega arith))) ki oi (λ q. refl) (short_contents _ _ _ 0)
+    refl refl refl)
 
 -- ---- room after the children
 

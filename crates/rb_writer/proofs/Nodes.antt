@@ -1,7 +1,7 @@
 -- Items stand for what was written.
 use Rattle.rb_writer.specs.declared.area.KeyArea.{KeyArea}
 use Rattle.std.proofs.Common.{◌≡◌, ℕ, zero, suc, ◌+◌, ◌*◌, ◌/◌, ◌≤◌, ℤ, true, false, ltb, List, [], ◌∷◌, ◌++◌}
-use Rattle.std.proofs.Common.{length, get_or, drop, map, Some, Result, Ok, Err, refl, sym, ap, ◌∙◌, arith, inl, inr}
+use Rattle.std.proofs.Common.{length, get_or, drop, map, Some, Result, Ok, Err, refl, sym, ap, subst, ◌∙◌, arith, inl, inr}
 use Rattle.std.proofs.lemmas.Bool.{le-ltb, lt-ltb, cases_eq}
 use Rattle.std.proofs.lemmas.List.{get_or_push, get_or_append_left, length_push}
 use Rattle.std.specs.Prelude.{slice_get}
@@ -118,7 +118,7 @@ children_le (table es) = omega (arith, members_count es)
 
 -- ---- an item of what was put
 
-pub put_node : {A : Type 0} (area : KeyArea) (old new : List ℕ) (most : ℕ) (reads : Layout → List ℕ → ℕ → Result A FileFault) (x none : A) (o item : ℕ)
+put_node : {A : Type 0} (area : KeyArea) (old new : List ℕ) (most : ℕ) (reads : Layout → List ℕ → ℕ → Result A FileFault) (x none : A) (o item : ℕ)
     (k : ItemKind) (f : A → Resource) (child : ℕ → Result Resource FileFault)
     → Put area old new most reads x none o → kind_of item ≡ Some k → offset_of item ≡ o → ((p : ℕ) → has_data k p ≡ ltb 0 p)
     → contents (draft area new) new child o k ≡ result_map f (reads (draft area new) new o) → bare k 0 ≡ f none
@@ -139,15 +139,24 @@ put_node area old new most reads x none o item k f child p ki oi filled same non
           rw (test, a, b) (same ∙ ap (result_map f) q.2)
     ])
 
-read_one : (area : KeyArea) (new : List ℕ) (item : ℕ) (t : Resource) → node (draft area new) new (λ w. read (draft area new) new 0 w) item ≡ Ok t
-    → read (draft area new) new 1 item ≡ Ok t
-unfolding read
-read_one area new item t e = e
-
-pub read_more : (area : KeyArea) (new : List ℕ) (d item : ℕ) (t : Resource) → node (draft area new) new (λ w. read (draft area new) new d w) item ≡ Ok t
+read_more : (area : KeyArea) (new : List ℕ) (d item : ℕ) (t : Resource) → node (draft area new) new (λ w. read (draft area new) new d w) item ≡ Ok t
     → read (draft area new) new (suc d) item ≡ Ok t
 unfolding read
 read_more area new d item t e = e
+
+-- what was put is the data of an item of its kind, which stands for the tree
+pub put_stands : {A : Type 0} (area : KeyArea) (old new : List ℕ) (most d : ℕ) (reads : Layout → List ℕ → ℕ → Result A FileFault) (x none : A) (o item : ℕ)
+    (k : ItemKind) (f : A → Resource)
+    → Put area old new most reads x none o → kind_of item ≡ Some k → offset_of item ≡ o → ((p : ℕ) → has_data k p ≡ ltb 0 p)
+    → contents (draft area new) new (λ w. read (draft area new) new d w) o k ≡ result_map f (reads (draft area new) new o) → bare k 0 ≡ f none
+    → most ≡ data_most (f x) → suc d ≡ height (f x) → Stands area old new (f x) item
+put_stands area old new most d reads x none o item k f p ki oi filled same none_is room level = record {
+  adds = p.adds;
+  drafted = p.drafted;
+  little = subst (λ (m : ℕ). length new ≤ length old + m) room p.little;
+  reads = subst (λ (h : ℕ). read (draft area new) new h item ≡ Ok (f x)) level
+      (read_more area new d item (f x) (put_node area old new most reads x none o item k f _ p ki oi filled same none_is));
+}
 
 string_contents : (y : Layout) (body : List ℕ) (child : ℕ → Result Resource FileFault) (o : ℕ)
     → contents y body child o kinds.String ≡ result_map string (units y body o)
@@ -176,42 +185,23 @@ ints_contents y body child o = both (numbers y body o)
 
 pub string_stands : (area : KeyArea) (old new us : List ℕ) (o item : ℕ) (t : Tree) → t ≡ trees.String us → Put area old new (8 + 2 * length us) units us [] o
     → kind_of item ≡ Some kinds.String → offset_of item ≡ o → Stands area old new (view_of t) item
-string_stands area old new us o item t is p ki oi = rw is (record {
-  adds = p.adds;
-  drafted = p.drafted;
-  little = p.little;
-  reads = read_one area new item (string us)
-      (put_node area old new _ units us [] o item kinds.String string _ p ki oi (λ q. refl) (string_contents _ _ _ o) refl);
-})
+string_stands area old new us o item t is p ki oi = rw is
+    (put_stands area old new _ 0 units us [] o item kinds.String string p ki oi (λ q. refl) (string_contents _ _ _ o) refl refl refl)
 
 pub alias_stands : (area : KeyArea) (old new us : List ℕ) (o item : ℕ) (t : Tree) → t ≡ trees.Alias us → Put area old new (8 + 2 * length us) units us [] o
     → kind_of item ≡ Some kinds.Alias → offset_of item ≡ o → Stands area old new (view_of t) item
-alias_stands area old new us o item t is p ki oi = rw is (record {
-  adds = p.adds;
-  drafted = p.drafted;
-  little = p.little;
-  reads = read_one area new item (alias us) (put_node area old new _ units us [] o item kinds.Alias alias _ p ki oi (λ q. refl) (alias_contents _ _ _ o) refl);
-})
+alias_stands area old new us o item t is p ki oi = rw is
+    (put_stands area old new _ 0 units us [] o item kinds.Alias alias p ki oi (λ q. refl) (alias_contents _ _ _ o) refl refl refl)
 
 pub binary_stands : (area : KeyArea) (old new bs : List ℕ) (o item : ℕ) (t : Tree) → t ≡ trees.Binary bs → Put area old new (20 + length bs) bytes bs [] o
     → kind_of item ≡ Some kinds.Binary → offset_of item ≡ o → Stands area old new (view_of t) item
-binary_stands area old new bs o item t is p ki oi = rw is (record {
-  adds = p.adds;
-  drafted = p.drafted;
-  little = p.little;
-  reads = read_one area new item (binary bs)
-      (put_node area old new _ bytes bs [] o item kinds.Binary binary _ p ki oi (λ q. refl) (binary_contents _ _ _ o) refl);
-})
+binary_stands area old new bs o item t is p ki oi = rw is
+    (put_stands area old new _ 0 bytes bs [] o item kinds.Binary binary p ki oi (λ q. refl) (binary_contents _ _ _ o) refl refl refl)
 
 pub ints_stand : (area : KeyArea) (old new : List ℕ) (zs : List ℤ) (o item : ℕ) (t : Tree) → t ≡ trees.Ints zs
     → Put area old new (4 + 4 * length zs) signed_numbers zs [] o → kind_of item ≡ Some kinds.Ints → offset_of item ≡ o → Stands area old new (view_of t) item
-ints_stand area old new zs o item t is p ki oi = rw is (record {
-  adds = p.adds;
-  drafted = p.drafted;
-  little = p.little;
-  reads = read_one area new item (ints zs)
-      (put_node area old new _ signed_numbers zs [] o item kinds.Ints ints _ p ki oi (λ q. refl) (ints_contents _ _ _ o) refl);
-})
+ints_stand area old new zs o item t is p ki oi = rw is
+    (put_stands area old new _ 0 signed_numbers zs [] o item kinds.Ints ints p ki oi (λ q. refl) (ints_contents _ _ _ o) refl refl refl)
 
 int_node : (y : Layout) (body : List ℕ) (child : ℕ → Result Resource FileFault) (n item : ℕ) → kind_of item ≡ Some kinds.Int → offset_of item ≡ n
     → node y body child item ≡ Ok (int n)
@@ -226,5 +216,5 @@ int_stands area old n item t is d ki oi = rw is (record {
   adds = adds_refl old;
   drafted = d;
   little = omega arith;
-  reads = read_one area old item (int n) (int_node _ _ _ n item ki oi);
+  reads = read_more area old 0 item (int n) (int_node _ _ _ n item ki oi);
 })

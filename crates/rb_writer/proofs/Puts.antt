@@ -70,6 +70,15 @@ get_or_any [] i d e h = absurd (omega arith)
 get_or_any (x ∷ xs) zero d e h = refl
 get_or_any (x ∷ xs) (suc i) d e h = get_or_any xs i d e (omega arith)
 
+-- where f gives the first n elements, and the next one, it gives one more
+one_more : {X : Type 0} (xs : List X) (f : ℕ → X) (n j : ℕ) (x d : X) → j < n + 1 → n < length xs → f n ≡ get_or xs n x → (j < n → f j ≡ get_or xs j d)
+    → f j ≡ get_or xs j d
+one_more xs f n j x d g h next before =
+    elim (cases_eq j n) [
+      | inl same ↦ rw same (next ∙ get_or_any xs n x d h)
+      | inr other ↦ before (omega arith)
+    ]
+
 pub words_none : (old words : List ℕ) → PutsWords old old words 0
 words_none old words = record { adds = adds_refl old; len = omega arith; words_are = λ i j e h. absurd (omega arith) }
 
@@ -80,10 +89,8 @@ words_more old mid new words w n p q e h =
     record {
       adds = adds_trans old mid new p.adds q.adds;
       len = omega arith;
-      words_are = λ i j f g. elim (cases_eq j n) [
-        | inl same ↦ rw same (q.word_is (i + n) (omega arith) ∙ e ∙ get_or_any words n w 0 h)
-        | inr other ↦ word_stays mid new (i + j) q.adds (omega arith) ∙ p.words_are i j f (omega arith)
-      ];
+      words_are = λ i j f g. one_more words (λ k. word_at new (i + k)) n j w 0 g h (q.word_is (i + n) (omega arith) ∙ e)
+          (λ b. word_stays mid new (i + j) q.adds (omega arith) ∙ p.words_are i j f b);
     }
 
 pub halves_none : (old halves : List ℕ) → PutsHalves old old halves 0
@@ -96,10 +103,8 @@ halves_more old mid new halves w n p q e h =
     record {
       adds = adds_trans old mid new p.adds q.adds;
       len = omega arith;
-      halves_are = λ i j f g. elim (cases_eq j n) [
-        | inl same ↦ rw same (q.half_is (i + n) (omega arith) ∙ e ∙ get_or_any halves n w 0 h)
-        | inr other ↦ half_stays mid new (i + j) q.adds (omega arith) ∙ p.halves_are i j f (omega arith)
-      ];
+      halves_are = λ i j f g. one_more halves (λ k. half_at new (i + k)) n j w 0 g h (q.half_is (i + n) (omega arith) ∙ e)
+          (λ b. half_stays mid new (i + j) q.adds (omega arith) ∙ p.halves_are i j f b);
     }
 
 pub numbers_none : (old : List ℕ) (numbers : List ℤ) → PutsNumbers old old numbers 0
@@ -112,8 +117,7 @@ numbers_more old mid new numbers z w n p q t e h =
     record {
       adds = adds_trans old mid new p.adds q.adds;
       len = omega arith;
-      numbers_are = λ i j d f g. elim (cases_eq j n) [
-        | inl same ↦ rw same (ap (cast_signed w32) (q.word_is (i + n) (omega arith)) ∙ t ∙ e ∙ get_or_any numbers n z d h)
-        | inr other ↦ ap (cast_signed w32) (word_stays mid new (i + j) q.adds (omega arith)) ∙ p.numbers_are i j d f (omega arith)
-      ];
+      numbers_are = λ i j d f g. one_more numbers (λ k. cast_signed w32 (word_at new (i + k))) n j z d g h
+          (ap (cast_signed w32) (q.word_is (i + n) (omega arith)) ∙ t ∙ e)
+          (λ b. ap (cast_signed w32) (word_stays mid new (i + j) q.adds (omega arith)) ∙ p.numbers_are i j d f b);
     }

@@ -33,7 +33,7 @@ pub nothing_put : {A : Type 0} (area : KeyArea) (out : List ℕ) (most : ℕ) (v
     → x ≡ none → Put area out out most value x none 0
 nothing_put area out most value x none d e = record { adds = adds_refl out; drafted = d; little = omega arith; small = omega arith; stands = inl (refl, e) }
 
-drafted_on : (area : KeyArea) (old new : List ℕ) → IsDraft area old → length old ≤ length new → length new % 4 ≡ 0 → IsDraft area new
+pub drafted_on : (area : KeyArea) (old new : List ℕ) → IsDraft area old → length old ≤ length new → length new % 4 ≡ 0 → IsDraft area new
 drafted_on area old new d h e = let w = d.whole in let hi = d.high in record { words = length new / 4; whole = omega arith; low = d.low; high = omega arith }
 
 pub units_put : (area : KeyArea) (old a b c new us : List ℕ) (o : ℕ) → IsDraft area old → o ≡ length old / 4 → PutsWord old a (length us)

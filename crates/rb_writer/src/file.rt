@@ -85,6 +85,10 @@ fn finish(out: Data, root: u32, area: KeyArea, longest: u32, no_fallback: bool) 
 ///
 /// Each distinct key is there once, in ascending order, and the values follow in post-order; nothing else is shared. A table has
 /// short key offsets where its count and all its offsets are at most 65,535. All padding is 0xAA.
+///
+/// ```rust
+/// let file = write(alloc, &source.tree, source.no_fallback)?; // 56 bytes for `root{}`
+/// ```
 pub fn write(alloc: Global, tree: &Tree, no_fallback: bool) -> Result<Vec<u8>, AllocError>
     requires { Fits (view_of tree.now) }
     ensures denotes { IfOk result (λ f. Denotes f.items (record { tree = view_of tree.now; no_fallback = no_fallback })) }

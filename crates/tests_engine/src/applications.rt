@@ -1,92 +1,70 @@
 //! Two engines, of which one serves another application more: the first application's replies are the same.
 
-use crate::engine::{Hit, bytes, count, empty_engine, finds, install_text};
-use rb_engine::{Engine, Request};
-use rb_tree::ByteList;
+use crate::engine::Step::{Find, Install, List, Remove};
+use crate::engine::{Step, answers, empty_engine, is_answered};
+use crate::payloads::Given::Text;
+use rb_engine::Engine;
 use std::alloc::Global;
-use std::test::Fail;
 
-/// What an application is answered to each of its five requests.
-#[derive(Clone, Copy, Debug, PartialEq, Eq)]
-struct Answers {
-    installs: [&'static str; 2],
-    has_found: bool,
-    names: usize,
-    removal: &'static str,
+const GERMAN: &[u8] = b"de{menu{close{\"C\"}}}";
+
+const AUSTRIAN: &[u8] = b"de_AT{menu{open{\"O\"}}}";
+
+/// What `shop` is answered to each of its five requests.
+const SHOP: [Step<'static>; 5] = [
+    Install((b"shop", b"de"), Text(GERMAN), "Done"),
+    Install((b"shop", b"de-at"), Text(AUSTRIAN), "Done"),
+    Find((b"shop", b"de_AT"), b"menu/close", (b"C", b"de", b"de_AT")),
+    List(b"shop", 2),
+    Remove((b"shop", b"fr"), "Absent"),
+];
+
+const OTHER: &[u8] = b"de{menu{close{\"B\"}}}";
+
+/// What `bank` asks between: installs and removals of the names that `shop` has, refused ones too. After the first time its answers differ.
+const BANK: [Step<'static>; 6] = [
+    Install((b"bank", b"de"), Text(OTHER), "Done"),
+    Install((b"bank", b"root"), Text(OTHER), "Done"),
+    Remove((b"bank", b"de"), "Done"),
+    Install((b"bank", b"de"), Text(b"de{"), "BadText"),
+    Install((b"bank", b"root"), Text(b"de{"), "BadText"),
+    Remove((b"bank", b"de"), "Absent"),
+];
+
+fn bank_asks(alloc: Global, engine: &mut Engine) {
+    for step in BANK {
+        let _ = is_answered(alloc, engine, step);
+    }
 }
 
-const CLOSE: Hit = Hit {
-    text: "C",
-    actual: b"de",
-    valid: b"de_AT",
-};
-
-/// The word of the reply to a removal.
-fn remove(
-    alloc: Global,
-    engine: &mut Engine,
-    app: &[u8],
-    locale: &[u8],
-) -> Result<&'static str, Fail> {
-    let app = bytes(alloc, app)?;
-    let locale = bytes(alloc, locale)?;
-    Ok(engine.handle(alloc, Request::Remove { app, locale }).word())
-}
-
-/// What `bank` asks between: installs and removals of the names that `shop` has, refused ones too.
-fn asks_more(alloc: Global, engine: &mut Engine, is_busy: bool) -> Result<(), Fail> {
-    if is_busy {
-        for text in [b"de{menu{close{\"B\"}}}".as_slice(), b"de{"] {
-            install_text(alloc, engine, b"bank", b"de", text)?;
-            install_text(alloc, engine, b"bank", b"root", text)?;
-            remove(alloc, engine, b"bank", b"de")?;
+/// Whether `shop` is answered so where `bank` asks before each of its requests.
+fn answers_between(alloc: Global, engine: &mut Engine) -> bool {
+    for step in SHOP {
+        bank_asks(alloc, engine);
+        if !is_answered(alloc, engine, step) {
+            return false;
         }
     }
-    Ok(())
+    true
 }
 
-/// What `shop` is answered, where `bank` asks between or doesn't.
-fn shop_is_answered(rt: &HostRuntime, is_busy: bool) -> Result<Answers, Fail> {
+/// Whether `shop` is answered so by an engine that serves `bank` too, or not.
+fn shop_is_served(rt: &HostRuntime, is_busy: bool) -> bool {
     let alloc = rt.alloc();
-    let mut engine = empty_engine(rt)?;
-    asks_more(alloc, &mut engine, is_busy)?;
-    let german = install_text(
-        alloc,
-        &mut engine,
-        b"shop",
-        b"de",
-        b"de{menu{close{\"C\"}}}",
-    )?;
-    asks_more(alloc, &mut engine, is_busy)?;
-    let austrian = install_text(
-        alloc,
-        &mut engine,
-        b"shop",
-        b"de-at",
-        b"de_AT{menu{open{\"O\"}}}",
-    )?;
-    asks_more(alloc, &mut engine, is_busy)?;
-    let has_found = finds(&engine, b"shop", b"de_AT", b"menu/close", CLOSE);
-    let names = count(alloc, &mut engine, b"shop")?;
-    asks_more(alloc, &mut engine, is_busy)?;
-    let removal = remove(alloc, &mut engine, b"shop", b"fr")?;
-    Ok(Answers {
-        installs: [german, austrian],
-        has_found,
-        names,
-        removal,
-    })
+    match empty_engine(rt) {
+        Some(mut engine) => {
+            if is_busy {
+                answers_between(alloc, &mut engine)
+            } else {
+                answers(alloc, &mut engine, &SHOP)
+            }
+        }
+        None => false,
+    }
 }
 
 #[test]
-fn answers_one_application_alike(rt: HostRuntime) -> Result<(), Fail> {
-    let wanted = Answers {
-        installs: ["Done", "Done"],
-        has_found: true,
-        names: 2,
-        removal: "Absent",
-    };
-    assert_eq!(rt; shop_is_answered(&rt, false)?, wanted);
-    assert_eq!(rt; shop_is_answered(&rt, true)?, wanted);
-    Ok(())
+fn answers_one_application_alike(rt: HostRuntime) {
+    assert!(rt; shop_is_served(&rt, false));
+    assert!(rt; shop_is_served(&rt, true));
 }

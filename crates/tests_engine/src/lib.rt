@@ -8,4 +8,6 @@ mod engine;
 #[cfg(test)]
 mod hostile;
 #[cfg(test)]
+mod payloads;
+#[cfg(test)]
 mod requests;

@@ -1,74 +1,135 @@
 // The fields of sample files.
-use crate::samples::{ONE_STRING, ONE_STRING_WITHOUT_FALLBACK};
+use crate::samples::{ONE_STRING, ONE_STRING_WITHOUT_FALLBACK, Sample, bytes_of};
 use rb_format::{
     Attributes, FileFault, Header, ItemKind, half, is_laid, item_kind, item_offset, item_type,
     key_at, word,
 };
-use std::test::Fail;
+use std::alloc::Global;
+
+/// Whether a header is read with its size and minor version, or refused so.
+fn is_header(file: &[u8], minor: u8, fault: Option<FileFault>) -> bool {
+    match Header::read(file) {
+        Ok(header) => fault.is_none() && header.size == 32 && header.minor == minor,
+        Err(found) => fault == Some(found),
+    }
+}
+
+/// Whether the header of the sample with one string, with another minor version, is read or refused so.
+fn is_minor(alloc: Global, minor: u8, fault: Option<FileFault>) -> bool {
+    let words = ONE_STRING.words;
+    match bytes_of(alloc, Sample { minor, words }) {
+        Some(file) => is_header(file.as_slice(), minor, fault),
+        None => false,
+    }
+}
 
 #[test]
-fn minor_versions_are_read(rt: HostRuntime) -> Result<(), Fail> {
+fn minor_versions_are_read(rt: HostRuntime) {
     for minor in [1, 2, 3, 255] {
-        let mut file = ONE_STRING;
-        file[17] = minor;
-        assert_eq!(rt; Header::read(&file), Ok(Header { size: 32, minor }));
+        assert!(rt; is_minor(rt.alloc(), minor, None));
     }
-    let mut file = ONE_STRING;
-    file[17] = 0;
-    assert_eq!(rt; Header::read(&file), Err(FileFault::FormatVersion));
-    Ok(())
+    assert!(rt; is_minor(rt.alloc(), 0, Some(FileFault::FormatVersion)));
 }
 
-#[test]
-fn attributes_are_read(rt: HostRuntime) -> Result<(), Fail> {
-    let body = &ONE_STRING_WITHOUT_FALLBACK[32..];
+/// Minor versions, and the attributes of data with the flag.
+const VERSIONS: [(u8, u32); 3] = [(1, 0), (2, 1), (3, 1)];
+
+/// Whether data has the flag in each minor version but the first.
+fn has_flag(body: &[u8]) -> bool {
     if !is_laid(body) {
-        return Err("no indexes".into());
+        return false;
     }
-    for (minor, bits) in [(1, 0), (2, 1), (3, 1)] {
-        assert_eq!(rt;
-            Attributes::of(minor, body),
-            Attributes { bits },
-            "version 1.{minor}"
-        );
+    for (minor, bits) in VERSIONS {
+        if Attributes::of(minor, body) != (Attributes { bits }) {
+            return false;
+        }
     }
-    for (bits, no_fallback, has_pool) in [
-        (0, false, false),
-        (1, true, false),
-        (2, false, true),
-        (3, true, true),
-        (4, false, true),
-        (5, true, true),
-        (8, false, false),
-    ] {
+    true
+}
+
+/// Whether the data of a file has the flag.
+fn is_flagged(file: Option<Vec<u8>>) -> bool {
+    match file {
+        Some(file) => has_flag(file.get(32..).unwrap_or(&[])),
+        None => false,
+    }
+}
+
+/// Attributes, each with its flag and whether it has pool bits.
+const BITS: [(u32, bool, bool); 7] = [
+    (0, false, false),
+    (1, true, false),
+    (2, false, true),
+    (3, true, true),
+    (4, false, true),
+    (5, true, true),
+    (8, false, false),
+];
+
+#[test]
+fn attributes_are_read(rt: HostRuntime) {
+    assert!(rt; is_flagged(bytes_of(rt.alloc(), ONE_STRING_WITHOUT_FALLBACK)));
+    for (bits, no_fallback, has_pool) in BITS {
         let attributes = Attributes { bits };
-        assert_eq!(rt; attributes.no_fallback(), no_fallback, "the flag of {bits}");
-        assert_eq!(rt; attributes.has_pool(), has_pool, "the pool bits of {bits}");
+        assert!(rt; attributes.no_fallback() == no_fallback);
+        assert!(rt; attributes.has_pool() == has_pool);
     }
-    Ok(())
+}
+
+const WORDS: [(usize, Option<u32>); 4] = [
+    (0, Some(0x2000_0009)),
+    (7, Some(1)),
+    (10, Some(7)),
+    (11, None),
+];
+
+const HALVES: [(usize, Option<u16>); 4] = [
+    (16, Some(98)),
+    (19, Some(24)),
+    (21, Some(0)),
+    (22, None),
+];
+
+fn has_numbers(body: &[u8]) -> bool {
+    for (i, number) in WORDS {
+        if word(body, i) != number {
+            return false;
+        }
+    }
+    for (i, number) in HALVES {
+        if half(body, i) != number {
+            return false;
+        }
+    }
+    true
+}
+
+/// Whether there is a key at byte 24 alone, of these four.
+fn has_key(body: &[u8]) -> bool {
+    key_at(body, 24) == Some(&b"a"[..])
+        && key_at(body, 23).is_none()
+        && key_at(body, 25).is_none()
+        && key_at(body, 28).is_none()
+}
+
+fn has_fields(file: &[u8]) -> bool {
+    let body = file.get(32..).unwrap_or(&[]);
+    has_numbers(body)
+        && has_key(body)
+        && is_header(file, 1, None)
+        && is_header(file.get(..31).unwrap_or(&[]), 1, Some(FileFault::Header))
+}
+
+fn is_one_string(file: Option<Vec<u8>>) -> bool {
+    match file {
+        Some(file) => has_fields(file.as_slice()),
+        None => false,
+    }
 }
 
 #[test]
-fn fields_are_read(rt: HostRuntime) -> Result<(), Fail> {
-    let header = Header::read(&ONE_STRING).map_err(|fault| fault.word())?;
-    assert_eq!(rt; header, Header { size: 32, minor: 1 });
-    let body = &ONE_STRING[32..];
-    for (i, number) in [
-        (0, Some(0x2000_0009)),
-        (7, Some(1)),
-        (10, Some(7)),
-        (11, None),
-    ] {
-        assert_eq!(rt; word(body, i), number, "word {i}");
-    }
-    for (i, number) in [(16, Some(98)), (19, Some(24)), (21, Some(0)), (22, None)] {
-        assert_eq!(rt; half(body, i), number, "half word {i}");
-    }
-    for (k, key) in [(23, None), (24, Some(&b"a"[..])), (25, None), (28, None)] {
-        assert_eq!(rt; key_at(body, k), key, "the key at {k}");
-    }
-    assert_eq!(rt; (item_type(0x2000_0009), item_offset(0x2000_0009)), (2, 9));
-    assert_eq!(rt; item_kind(0x2000_0009), Some(ItemKind::Table));
-    assert_eq!(rt; Header::read(&ONE_STRING[..31]), Err(FileFault::Header));
-    Ok(())
+fn fields_are_read(rt: HostRuntime) {
+    assert!(rt; is_one_string(bytes_of(rt.alloc(), ONE_STRING)));
+    assert!(rt; item_type(0x2000_0009) == 2 && item_offset(0x2000_0009) == 9);
+    assert!(rt; item_kind(0x2000_0009) == Some(ItemKind::Table));
 }

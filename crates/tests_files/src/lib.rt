@@ -4,6 +4,8 @@
 #[cfg(test)]
 mod format;
 #[cfg(test)]
+mod made;
+#[cfg(test)]
 mod samples;
 #[cfg(test)]
 mod validator;

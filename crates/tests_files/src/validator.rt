@@ -1,176 +1,177 @@
 // The sample files, damaged ones, and files that a plain checker judges beside the code.
 mod plain;
 mod seen;
-mod shared;
 
+use crate::made::{chain, chain_and_more, numbers, overlapping, suffixes};
 use crate::samples::{
     AS_WRITTEN, EMPTY, EVERY_TYPE, HOLDS_ITSELF, ONE_STRING, ONE_STRING_WITHOUT_FALLBACK,
-    SUFFIX_KEY, THREE_NUMBERS, TWO_BINARIES, TWO_NUMBERS,
+    SUFFIX_KEY, Sample, THREE_NUMBERS, TWO_BINARIES, TWO_NUMBERS, bytes_of,
 };
 use plain::{most_places, plain_fault};
 use rb_format::FileFault;
 use rb_validator::accept;
 use rb_views::root;
 use seen::is_seen;
-use shared::{chain, chain_and_more, numbers, overlapping, suffixes};
 use std::alloc::Global;
-use std::process::Abort;
-use std::test::Fail;
 
-/// The fault for which `accept` refuses a file, after a look at the bytes that it hands on.
-fn fault_of(alloc: Global, bytes: &[u8]) -> Result<Option<FileFault>, Fail> {
-    let file = bytes.to_vec(alloc)?;
-    let (fault, same) = match accept(alloc, file) {
-        Ok(bundle) => (None, bundle.bytes() == bytes),
-        Err((fault, back)) => (Some(fault), back.as_slice() == bytes),
+/// What `accept` answers: the number of visits and the flag, or the fault.
+type Verdict = Result<(u64, bool), FileFault>;
+
+/// What `accept` answers of a file; none where other bytes come back.
+fn verdict(alloc: Global, bytes: &[u8]) -> Option<Verdict> {
+    let (found, is_same) = match accept(alloc, bytes.to_vec(alloc).ok()?) {
+        Ok(bundle) => (
+            Ok((bundle.visits(), bundle.no_fallback())),
+            bundle.bytes() == bytes,
+        ),
+        Err((fault, back)) => (Err(fault), back.as_slice() == bytes),
     };
-    if same {
-        Ok(fault)
-    } else {
-        Err("other bytes came back".into())
-    }
+    if is_same { Some(found) } else { None }
 }
 
 /// The bytes with others written over them.
-fn with(alloc: Global, bytes: &[u8], place: usize, over: &[u8]) -> Result<Vec<u8>, Fail> {
-    let mut file = bytes.to_vec(alloc)?;
+fn with(alloc: Global, bytes: &[u8], place: usize, over: &[u8]) -> Option<Vec<u8>> {
+    let mut file = bytes.to_vec(alloc).ok()?;
     for (i, byte) in over.iter().enumerate() {
         if let Some(there) = file.get_mut(place.saturating_add(i)) {
             *there = *byte;
         }
     }
-    Ok(file)
+    Some(file)
 }
 
-#[test]
-fn samples_are_accepted(rt: HostRuntime) -> Result<(), Fail> {
-    let alloc = rt.alloc();
-    for sample in [
-        &EMPTY[..],
-        &ONE_STRING[..],
-        &TWO_NUMBERS[..],
-        &THREE_NUMBERS[..],
-        &TWO_BINARIES[..],
-        &EVERY_TYPE[..],
-    ] {
-        assert_eq!(rt; fault_of(alloc, sample)?, None, "{sample:?}");
-    }
-    assert_eq!(rt; fault_of(alloc, &HOLDS_ITSELF)?, Some(FileFault::TooDeep));
-    Ok(())
-}
+/// A sample, bytes that are written over it from a place on, and what is answered then.
+type Case<'a> = (Sample<'a>, usize, &'a [u8], Verdict);
 
-#[test]
-fn damage_is_named(rt: HostRuntime) -> Result<(), Fail> {
-    let alloc = rt.alloc();
-    for (place, byte, fault) in [
-        (66, 1, FileFault::NotTerminated),
-        (35, 0x80, FileFault::Root),
-        (16, 2, FileFault::FormatVersion),
-        (8, 1, FileFault::BigEndian),
-        (9, 1, FileFault::Family),
-        (75, 0x60, FileFault::ItemType),
-        (72, 6, FileFault::Offset),
-        (72, 11, FileFault::Offset),
-        (60, 100, FileFault::Length),
-        (70, 0x1C, FileFault::Key),
-    ] {
-        let file = with(alloc, &ONE_STRING, place, &[byte])?;
-        assert_eq!(rt; fault_of(alloc, &file)?, Some(fault), "byte {place}");
-    }
-    for offsets in [[0x1A, 0, 0x18, 0], [0x18, 0, 0x18, 0]] {
-        let file = with(alloc, &TWO_NUMBERS, 62, &offsets)?;
-        assert_eq!(rt; fault_of(alloc, &file)?, Some(FileFault::KeyOrder));
-    }
-    Ok(())
-}
-
-/// The flag of the bundle, or the fault.
-fn no_fallback_of(alloc: Global, file: Vec<u8>) -> Result<bool, FileFault> {
-    match accept(alloc, file) {
-        Ok(bundle) => Ok(bundle.no_fallback()),
-        Err((fault, _)) => Err(fault),
+/// Whether a case is answered so.
+fn is_judged(alloc: Global, sample: Sample<'_>, place: usize, over: &[u8], want: Verdict) -> bool {
+    let Some(bytes) = bytes_of(alloc, sample) else {
+        return false;
+    };
+    match with(alloc, bytes.as_slice(), place, over) {
+        Some(file) => verdict(alloc, file.as_slice()) == Some(want),
+        None => false,
     }
 }
 
-#[test]
-fn minor_versions_have_attributes(rt: HostRuntime) -> Result<(), Fail> {
-    let alloc = rt.alloc();
-    for (sample, place, byte, flag) in [
-        (&ONE_STRING[..], 17, 0, Err(FileFault::FormatVersion)),
-        (&ONE_STRING[..], 17, 1, Ok(false)),
-        (&ONE_STRING[..], 17, 2, Ok(false)),
-        (&ONE_STRING[..], 17, 3, Ok(false)),
-        (&ONE_STRING_WITHOUT_FALLBACK[..], 17, 1, Ok(false)),
-        (&ONE_STRING_WITHOUT_FALLBACK[..], 17, 2, Ok(true)),
-        (&ONE_STRING_WITHOUT_FALLBACK[..], 56, 8, Ok(false)),
-        (
-            &ONE_STRING_WITHOUT_FALLBACK[..],
-            56,
-            2,
-            Err(FileFault::Attributes),
-        ),
-        (
-            &ONE_STRING_WITHOUT_FALLBACK[..],
-            56,
-            3,
-            Err(FileFault::Attributes),
-        ),
-        (
-            &ONE_STRING_WITHOUT_FALLBACK[..],
-            56,
-            4,
-            Err(FileFault::Attributes),
-        ),
-        (
-            &ONE_STRING_WITHOUT_FALLBACK[..],
-            56,
-            5,
-            Err(FileFault::Attributes),
-        ),
-    ] {
-        let file = with(alloc, sample, place, &[byte])?;
-        assert_eq!(rt; no_fallback_of(alloc, file), flag, "byte {place} as {byte}");
-    }
-    Ok(())
-}
-
-#[test]
-fn length_is_limited(rt: HostRuntime) -> Result<(), Fail> {
-    let alloc = rt.alloc();
-    let long = vec![in alloc; 0u8; 67_108_865]?;
-    match accept(alloc, long) {
-        Ok(_) => Err("accepted".into()),
-        Err((fault, back)) => {
-            assert_eq!(rt; fault, FileFault::TooLong);
-            assert_eq!(rt; back.len(), 67_108_865);
-            Ok(())
+/// The first case that is answered otherwise.
+fn first_wrong(alloc: Global, cases: &[Case<'_>]) -> Option<usize> {
+    for (i, (sample, place, over, want)) in cases.iter().enumerate() {
+        if !is_judged(alloc, *sample, *place, over, *want) {
+            return Some(i);
         }
     }
+    None
+}
+
+const SAMPLES: [Case<'static>; 7] = [
+    (EMPTY, 0, b"", Ok((0, false))),
+    (ONE_STRING, 0, b"", Ok((1, false))),
+    (TWO_NUMBERS, 0, b"", Ok((1, false))),
+    (THREE_NUMBERS, 0, b"", Ok((1, false))),
+    (TWO_BINARIES, 0, b"", Ok((1, false))),
+    (EVERY_TYPE, 0, b"", Ok((4, false))),
+    (HOLDS_ITSELF, 0, b"", Err(FileFault::TooDeep)),
+];
+
+#[test]
+fn samples_are_accepted(rt: HostRuntime) {
+    assert!(rt; first_wrong(rt.alloc(), &SAMPLES).is_none());
+}
+
+const DAMAGED: [Case<'static>; 12] = [
+    (ONE_STRING, 66, &[1], Err(FileFault::NotTerminated)),
+    (ONE_STRING, 35, &[0x80], Err(FileFault::Root)),
+    (ONE_STRING, 16, &[2], Err(FileFault::FormatVersion)),
+    (ONE_STRING, 8, &[1], Err(FileFault::BigEndian)),
+    (ONE_STRING, 9, &[1], Err(FileFault::Family)),
+    (ONE_STRING, 75, &[0x60], Err(FileFault::ItemType)),
+    (ONE_STRING, 72, &[6], Err(FileFault::Offset)),
+    (ONE_STRING, 72, &[11], Err(FileFault::Offset)),
+    (ONE_STRING, 60, &[100], Err(FileFault::Length)),
+    (ONE_STRING, 70, &[0x1C], Err(FileFault::Key)),
+    (
+        TWO_NUMBERS,
+        62,
+        &[0x1A, 0, 0x18, 0],
+        Err(FileFault::KeyOrder),
+    ),
+    (
+        TWO_NUMBERS,
+        62,
+        &[0x18, 0, 0x18, 0],
+        Err(FileFault::KeyOrder),
+    ),
+];
+
+#[test]
+fn damage_is_named(rt: HostRuntime) {
+    assert!(rt; first_wrong(rt.alloc(), &DAMAGED).is_none());
+}
+
+const FLAGGED: Sample<'static> = ONE_STRING_WITHOUT_FALLBACK;
+
+const VERSIONS: [Case<'static>; 11] = [
+    (ONE_STRING, 17, &[0], Err(FileFault::FormatVersion)),
+    (ONE_STRING, 17, &[1], Ok((1, false))),
+    (ONE_STRING, 17, &[2], Ok((1, false))),
+    (ONE_STRING, 17, &[3], Ok((1, false))),
+    (FLAGGED, 17, &[1], Ok((1, false))),
+    (FLAGGED, 17, &[2], Ok((1, true))),
+    (FLAGGED, 56, &[8], Ok((1, false))),
+    (FLAGGED, 56, &[2], Err(FileFault::Attributes)),
+    (FLAGGED, 56, &[3], Err(FileFault::Attributes)),
+    (FLAGGED, 56, &[4], Err(FileFault::Attributes)),
+    (FLAGGED, 56, &[5], Err(FileFault::Attributes)),
+];
+
+#[test]
+fn minor_versions_have_attributes(rt: HostRuntime) {
+    assert!(rt; first_wrong(rt.alloc(), &VERSIONS).is_none());
+}
+
+/// Whether a file of so many bytes is too long, and comes back.
+fn is_too_long(alloc: Global, length: usize) -> Option<bool> {
+    let long = vec![in alloc; 0u8; length].ok()?;
+    Some(match accept(alloc, long) {
+        Ok(_bundle) => false,
+        Err((fault, back)) => fault == FileFault::TooLong && back.len() == length,
+    })
 }
 
 #[test]
-fn cut_files_are_refused(rt: HostRuntime) -> Result<(), Fail> {
-    let alloc = rt.alloc();
-    for n in 0..ONE_STRING.len() {
+fn length_is_limited(rt: HostRuntime) {
+    assert!(rt; is_too_long(rt.alloc(), 67_108_865) == Some(true));
+}
+
+/// Whether each front of a file is refused: for its header where that isn't whole, and else for its indexes.
+fn are_fronts_refused(alloc: Global, file: Option<Vec<u8>>) -> bool {
+    let Some(file) = file else {
+        return false;
+    };
+    for n in 0..file.len() {
         let fault = if n < 32 {
             FileFault::Header
         } else {
             FileFault::Indexes
         };
-        assert_eq!(rt;
-            fault_of(alloc, &ONE_STRING[..n])?,
-            Some(fault),
-            "cut to {n}"
-        );
+        if verdict(alloc, &file[..n]) != Some(Err(fault)) {
+            return false;
+        }
     }
-    Ok(())
+    true
+}
+
+#[test]
+fn cut_files_are_refused(rt: HostRuntime) {
+    assert!(rt; are_fronts_refused(rt.alloc(), bytes_of(rt.alloc(), ONE_STRING)));
 }
 
 /// Whether `accept` judges a file as the plain checker does. Of a file that it takes, the views must give what the plain checker reads,
 /// and there are at most three visits for each word of the bundle.
-fn agrees(alloc: Global, file: &[u8]) -> Result<bool, Fail> {
+fn agrees(alloc: Global, file: &[u8]) -> Option<bool> {
     let fault = plain_fault(file);
-    Ok(match accept(alloc, file.to_vec(alloc)?) {
+    Some(match accept(alloc, file.to_vec(alloc).ok()?) {
         Ok(bundle) => {
             fault.is_none()
                 && bundle.bytes() == file
@@ -181,157 +182,185 @@ fn agrees(alloc: Global, file: &[u8]) -> Result<bool, Fail> {
     })
 }
 
-/// The first damage of a word of a file, by its place and what is written there, that isn't judged as the plain checker does.
-fn first_difference(alloc: Global, file: &[u8]) -> Result<Option<(usize, u32)>, Fail> {
+/// What is written over a word of a file.
+fn damages(word: u32) -> [u32; 5] {
+    [
+        0,
+        0x7FFF_FFFF,
+        0xFFFF_FFFF,
+        word.wrapping_add(1),
+        word.wrapping_add(0x1000_0000),
+    ]
+}
+
+/// Whether a file with a damaged word is judged as the plain checker does.
+fn agrees_with(alloc: Global, file: &[u8], place: usize, word: u32) -> Option<bool> {
+    let damaged = with(alloc, file, place, &word.to_le_bytes())?;
+    agrees(alloc, damaged.as_slice())
+}
+
+/// Whether each damage of a word of a file is judged as the plain checker does.
+fn agrees_on_words(alloc: Global, file: &[u8]) -> bool {
     for i in 0..file.len() / 4 {
         let mut bytes = [0; 4];
         bytes.copy_from_slice(&file[4 * i..4 * i + 4]);
-        let word = u32::from_le_bytes(bytes);
-        let (next, other_kind) = (word.wrapping_add(1), word.wrapping_add(0x1000_0000));
-        for word in [0, 0x7FFF_FFFF, 0xFFFF_FFFF, next, other_kind] {
-            if !agrees(alloc, &with(alloc, file, 4 * i, &word.to_le_bytes())?)? {
-                return Ok(Some((i, word)));
+        for word in damages(u32::from_le_bytes(bytes)) {
+            if agrees_with(alloc, file, 4 * i, word) != Some(true) {
+                return false;
             }
         }
     }
-    Ok(None)
+    true
 }
 
-/// The shortest front of a file that isn't judged as the plain checker does.
-fn first_cut(alloc: Global, file: &[u8]) -> Result<Option<usize>, Fail> {
+/// Whether each front of a file is judged as the plain checker does.
+fn agrees_on_fronts(alloc: Global, file: &[u8]) -> bool {
     for n in 0..file.len() {
-        if !agrees(alloc, &file[..n])? {
-            return Ok(Some(n));
+        if agrees(alloc, &file[..n]) != Some(true) {
+            return false;
         }
     }
-    Ok(None)
+    true
 }
 
-/// What is found of a file, of its damaged words and of its fronts.
-fn judge(rt: &impl Abort, alloc: Global, file: &[u8]) -> Result<(), Fail> {
-    assert!(rt; agrees(alloc, file)?, "{file:?}");
-    assert_eq!(rt; first_difference(alloc, file)?, None, "{file:?}");
-    assert_eq!(rt; first_cut(alloc, file)?, None, "{file:?}");
-    Ok(())
+/// Whether a file, its damaged words and its fronts are judged as the plain checker does.
+fn agrees_on_all(alloc: Global, file: Option<Vec<u8>>) -> bool {
+    let Some(file) = file else {
+        return false;
+    };
+    let file = file.as_slice();
+    agrees(alloc, file) == Some(true)
+        && agrees_on_words(alloc, file)
+        && agrees_on_fronts(alloc, file)
 }
 
 #[test]
-fn a_plain_checker_agrees(rt: HostRuntime) -> Result<(), Fail> {
-    let alloc = rt.alloc();
-    for file in [
-        &EMPTY[..],
-        &ONE_STRING[..],
-        &ONE_STRING_WITHOUT_FALLBACK[..],
-        &THREE_NUMBERS[..],
-        &TWO_BINARIES[..],
-        &SUFFIX_KEY[..],
-        &HOLDS_ITSELF[..],
-        &EVERY_TYPE[..],
-        &AS_WRITTEN[..],
+fn a_plain_checker_agrees(rt: HostRuntime) {
+    for sample in [
+        EMPTY,
+        ONE_STRING,
+        ONE_STRING_WITHOUT_FALLBACK,
+        THREE_NUMBERS,
+        TWO_BINARIES,
+        SUFFIX_KEY,
+        HOLDS_ITSELF,
+        EVERY_TYPE,
+        AS_WRITTEN,
     ] {
-        judge(&rt, alloc, file)?;
-    }
-    Ok(())
-}
-
-#[test]
-fn a_plain_checker_agrees_on_shared_items(rt: HostRuntime) -> Result<(), Fail> {
-    let alloc = rt.alloc();
-    judge(&rt, alloc, &chain(alloc, 5)?)?;
-    judge(&rt, alloc, &chain_and_more(alloc, 4)?)?;
-    judge(&rt, alloc, &overlapping(alloc, 4, 2)?)?;
-    judge(&rt, alloc, &suffixes(alloc, 12, 24)?)?;
-    judge(&rt, alloc, &numbers(alloc, 6)?)
-}
-
-#[test]
-fn long_keys_are_ranked(rt: HostRuntime) -> Result<(), Fail> {
-    let alloc = rt.alloc();
-    for (last, fault) in [
-        (24, None),
-        (28, None),
-        (29, Some(FileFault::KeyOrder)),
-        (30, Some(FileFault::KeyOrder)),
-        (327, Some(FileFault::KeyOrder)),
-        (328, Some(FileFault::Key)),
-        (332, Some(FileFault::Key)),
-        (23, Some(FileFault::Key)),
-    ] {
-        let file = suffixes(alloc, 300, last)?;
-        assert_eq!(rt; plain_fault(&file), fault, "the last key at {last}");
-        assert_eq!(rt; fault_of(alloc, &file)?, fault, "the last key at {last}");
-    }
-    Ok(())
-}
-
-/// The number of visits, or the fault.
-fn visits_of(alloc: Global, file: Vec<u8>) -> Result<u64, FileFault> {
-    match accept(alloc, file) {
-        Ok(bundle) => Ok(bundle.visits()),
-        Err((fault, _)) => Err(fault),
+        assert!(rt; agrees_on_all(rt.alloc(), bytes_of(rt.alloc(), sample)));
     }
 }
 
 #[test]
-fn places_are_entered_once(rt: HostRuntime) -> Result<(), Fail> {
+fn a_plain_checker_agrees_on_shared_items(rt: HostRuntime) {
     let alloc = rt.alloc();
-    assert_eq!(rt; visits_of(alloc, EMPTY.to_vec(alloc)?), Ok(0));
-    assert_eq!(rt; visits_of(alloc, ONE_STRING.to_vec(alloc)?), Ok(1));
-    assert_eq!(rt; visits_of(alloc, EVERY_TYPE.to_vec(alloc)?), Ok(4));
-    for (arrays, length, visits) in [
-        (30, 428, Ok(31)),
-        (31, 440, Ok(32)),
-        (62, 812, Ok(63)),
-        (63, 824, Err(FileFault::TooDeep)),
-    ] {
-        let file = chain(alloc, arrays)?;
-        assert_eq!(rt; file.len(), length, "{arrays} arrays");
-        assert_eq!(rt; visits_of(alloc, file), visits, "{arrays} arrays");
+    assert!(rt; agrees_on_all(alloc, chain(alloc, 5)));
+    assert!(rt; agrees_on_all(alloc, chain_and_more(alloc, 4)));
+    assert!(rt; agrees_on_all(alloc, overlapping(alloc, 4, 2)));
+    assert!(rt; agrees_on_all(alloc, suffixes(alloc, 12, 24)));
+    assert!(rt; agrees_on_all(alloc, numbers(alloc, 6)));
+}
+
+/// The offset of the last of 300 keys, and the fault.
+const LAST_KEYS: [(u32, Option<FileFault>); 8] = [
+    (24, None),
+    (28, None),
+    (29, Some(FileFault::KeyOrder)),
+    (30, Some(FileFault::KeyOrder)),
+    (327, Some(FileFault::KeyOrder)),
+    (328, Some(FileFault::Key)),
+    (332, Some(FileFault::Key)),
+    (23, Some(FileFault::Key)),
+];
+
+/// Whether 300 keys of which the last is at this offset have this fault, for the plain checker too.
+fn is_ranked(alloc: Global, last: u32, fault: Option<FileFault>) -> bool {
+    let Some(file) = suffixes(alloc, 300, last) else {
+        return false;
+    };
+    let found = match verdict(alloc, file.as_slice()) {
+        Some(found) => found.err(),
+        None => return false,
+    };
+    plain_fault(file.as_slice()) == fault && found == fault
+}
+
+#[test]
+fn long_keys_are_ranked(rt: HostRuntime) {
+    for (last, fault) in LAST_KEYS {
+        assert!(rt; is_ranked(rt.alloc(), last, fault));
     }
-    for (arrays, length, visits) in [(30, 444, Ok(32)), (62, 828, Err(FileFault::TooDeep))] {
-        let file = chain_and_more(alloc, arrays)?;
-        assert_eq!(rt; file.len(), length, "{arrays} arrays and one more");
-        assert_eq!(rt;
-            visits_of(alloc, file),
-            visits,
-            "{arrays} arrays and one more"
-        );
+}
+
+/// Whether a file has so many bytes and is answered so.
+fn is_visited(alloc: Global, file: Option<Vec<u8>>, length: usize, want: Verdict) -> bool {
+    match file {
+        Some(file) => file.len() == length && verdict(alloc, file.as_slice()) == Some(want),
+        None => false,
     }
-    let lower = with(alloc, &chain_and_more(alloc, 30)?, 424, &[0x5B])?;
-    assert_eq!(rt; visits_of(alloc, lower), Ok(32));
-    assert_eq!(rt;
-        visits_of(alloc, HOLDS_ITSELF.to_vec(alloc)?),
-        Err(FileFault::TooDeep)
+}
+
+/// So many arrays in a chain, the file's length, and what is answered.
+const CHAINS: [(u32, usize, Verdict); 4] = [
+    (30, 428, Ok((31, false))),
+    (31, 440, Ok((32, false))),
+    (62, 812, Ok((63, false))),
+    (63, 824, Err(FileFault::TooDeep)),
+];
+
+/// The same with one more array.
+const CHAINS_AND_MORE: [(u32, usize, Verdict); 2] = [
+    (30, 444, Ok((32, false))),
+    (62, 828, Err(FileFault::TooDeep)),
+];
+
+/// A chain and an array of the lowest array but one.
+fn chain_and_lower(alloc: Global) -> Option<Vec<u8>> {
+    let file = chain_and_more(alloc, 30)?;
+    with(alloc, file.as_slice(), 424, &[0x5B])
+}
+
+#[test]
+fn places_are_entered_once(rt: HostRuntime) {
+    let alloc = rt.alloc();
+    for (arrays, length, want) in CHAINS {
+        assert!(rt; is_visited(alloc, chain(alloc, arrays), length, want));
+    }
+    for (arrays, length, want) in CHAINS_AND_MORE {
+        assert!(rt; is_visited(alloc, chain_and_more(alloc, arrays), length, want));
+    }
+    assert!(rt; is_visited(alloc, chain_and_lower(alloc), 444, Ok((32, false))));
+}
+
+#[test]
+fn overlapping_arrays_are_entered_once(rt: HostRuntime) {
+    let alloc = rt.alloc();
+    let (flat, deep, deeper) = (
+        overlapping(alloc, 100, 0),
+        overlapping(alloc, 100, 60),
+        overlapping(alloc, 100, 61),
     );
-    Ok(())
+    assert!(rt; is_visited(alloc, flat, 1_368, Ok((103, false))));
+    assert!(rt; is_visited(alloc, deep, 1_848, Ok((163, false))));
+    assert!(rt; is_visited(alloc, deeper, 1_856, Err(FileFault::TooDeep)));
 }
 
 #[test]
-fn overlapping_arrays_are_entered_once(rt: HostRuntime) -> Result<(), Fail> {
+fn a_large_file_is_accepted(rt: HostRuntime) {
     let alloc = rt.alloc();
-    assert_eq!(rt; visits_of(alloc, overlapping(alloc, 100, 0)?), Ok(103));
-    assert_eq!(rt; visits_of(alloc, overlapping(alloc, 100, 60)?), Ok(163));
-    assert_eq!(rt;
-        visits_of(alloc, overlapping(alloc, 100, 61)?),
-        Err(FileFault::TooDeep)
-    );
-    Ok(())
-}
-
-#[test]
-fn a_large_file_is_accepted(rt: HostRuntime) -> Result<(), Fail> {
-    let alloc = rt.alloc();
-    let file = numbers(alloc, 200_000)?;
-    assert_eq!(rt; file.len(), 3_200_060);
-    assert_eq!(rt; visits_of(alloc, file), Ok(1));
-    Ok(())
+    assert!(rt; is_visited(alloc, numbers(alloc, 200_000), 3_200_060, Ok((1, false))));
 }
 
 /// Compared byte by byte, these keys would take longer than a test may.
 #[test]
-fn many_keys_that_share_bytes_are_accepted(rt: HostRuntime) -> Result<(), Fail> {
+fn many_keys_that_share_bytes_are_accepted(rt: HostRuntime) {
     let alloc = rt.alloc();
-    let file = suffixes(alloc, 400_000, 24)?;
-    assert_eq!(rt; visits_of(alloc, file), Ok(1));
-    Ok(())
+    assert!(rt;
+        is_visited(
+            alloc,
+            suffixes(alloc, 400_000, 24),
+            3_600_068,
+            Ok((1, false))
+        )
+    );
 }

@@ -4,184 +4,174 @@ ghost use Rattle.rb_tree.specs.Keys.{IsKey};
 ghost use Rattle.rb_tree.specs.Table.{keys_in};
 
 use crate::samples::{
-    AS_WRITTEN, EMPTY, EMPTY_WITHOUT_FALLBACK, ONE_STRING, ONE_STRING_WITHOUT_FALLBACK,
-    THREE_NUMBERS, TWO_BINARIES, TWO_NUMBERS,
+    AS_WRITTEN, EMPTY, EMPTY_WITHOUT_FALLBACK, ONE_STRING, ONE_STRING_WITHOUT_FALLBACK, Sample,
+    THREE_NUMBERS, TWO_BINARIES, TWO_NUMBERS, bytes_of,
 };
 use rb_format::word;
 use rb_tree::{ByteList, Int28, NumberList, Tree, TreeList, UnitList, key_ok};
 use rb_writer::write;
 use std::alloc::Global;
-use std::test::Fail;
 
-fn number(n: u32) -> Result<Tree, Fail> {
-    Ok(Tree::Int(Int28::new(n).ok_or("too large")?))
+/// A value without children.
+#[derive(Clone, Copy)]
+enum Leaf<'a> {
+    Int(u32),
+    Ints(&'a [i32]),
+    Binary(&'a [u8]),
+    String(&'a [u16]),
+    Alias(&'a [u16]),
 }
 
-fn binary(alloc: Global, bytes: &[u8]) -> Result<Tree, Fail> {
-    Ok(Tree::Binary(ByteList::from_vec(bytes.to_vec(alloc)?)))
+/// A key and its value.
+type Row<'a> = (&'a [u8], Leaf<'a>);
+
+fn units(alloc: Global, text: &[u16]) -> Option<UnitList> {
+    Some(UnitList::from_vec(text.to_vec(alloc).ok()?))
+}
+
+fn tree_of(alloc: Global, leaf: Leaf<'_>) -> Option<Tree> {
+    Some(match leaf {
+        Leaf::Int(n) => Tree::Int(Int28::new(n)?),
+        Leaf::Ints(numbers) => Tree::Ints(NumberList::from_vec(numbers.to_vec(alloc).ok()?)),
+        Leaf::Binary(bytes) => Tree::Binary(ByteList::from_vec(bytes.to_vec(alloc).ok()?)),
+        Leaf::String(text) => Tree::String(units(alloc, text)?),
+        Leaf::Alias(text) => Tree::Alias(units(alloc, text)?),
+    })
 }
 
 /// Adds an entry.
-fn put(
-    alloc: Global,
-    pairs: &mut Vec<(ByteList, Tree)>,
-    text: &[u8],
-    tree: Tree,
-) -> Result<(), Fail>
+fn put(alloc: Global, pairs: &mut Vec<(ByteList, Tree)>, key: &[u8], tree: Tree) -> Option<()>
     requires { All IsKey (keys_in pairs.old.items) }
     ensures { All IsKey (keys_in pairs.new.items) }
 {
-    let key = ByteList::from_vec(text.to_vec(alloc)?);
+    let key = ByteList::from_vec(key.to_vec(alloc).ok()?);
     if !key_ok(key.as_slice()) {
-        return Err("no key".into());
+        return None;
     }
-    match pairs.push((key, tree)) {
-        Ok(()) => Ok(()),
-        Err(_) => Err("memory".into()),
-    }
+    pairs.push((key, tree)).ok()
 }
 
-/// Adds an Int.
-fn put_number(
-    alloc: Global,
-    pairs: &mut Vec<(ByteList, Tree)>,
-    text: &[u8],
-    n: u32,
-) -> Result<(), Fail>
+/// Adds entries.
+fn put_rows(alloc: Global, pairs: &mut Vec<(ByteList, Tree)>, rows: &[Row<'_>]) -> Option<()>
     requires { All IsKey (keys_in pairs.old.items) }
     ensures { All IsKey (keys_in pairs.new.items) }
 {
-    put(alloc, pairs, text, number(n)?)
+    for (key, leaf) in rows {
+        put(alloc, pairs, key, tree_of(alloc, *leaf)?)?;
+    }
+    Some(())
 }
 
-/// Adds a Binary.
-fn put_binary(
-    alloc: Global,
-    pairs: &mut Vec<(ByteList, Tree)>,
-    text: &[u8],
-    bytes: &[u8],
-) -> Result<(), Fail>
-    requires { All IsKey (keys_in pairs.old.items) }
-    ensures { All IsKey (keys_in pairs.new.items) }
-{
-    put(alloc, pairs, text, binary(alloc, bytes)?)
+fn table(alloc: Global, rows: &[Row<'_>]) -> Option<Tree> {
+    let mut pairs = Vec::new(alloc);
+    put_rows(alloc, &mut pairs, rows)?;
+    Tree::table(alloc, pairs).ok()
 }
 
-fn table(alloc: Global, pairs: Vec<(ByteList, Tree)>) -> Result<Tree, Fail>
-    requires { All IsKey (keys_in pairs.items) }
-{
-    Tree::table(alloc, pairs).map_err(|fault| fault.word().into())
-}
-
-pub fn file(alloc: Global, tree: &Tree, no_fallback: bool) -> Result<Vec<u8>, Fail> {
+/// The file of a tree.
+pub fn file(alloc: Global, tree: Option<Tree>, no_fallback: bool) -> Option<Vec<u8>> {
+    let tree = tree?;
     if tree.fits() {
-        Ok(write(alloc, tree, no_fallback)?)
+        write(alloc, &tree, no_fallback).ok()
     } else {
-        Err("too large".into())
+        None
     }
 }
 
-fn units(alloc: Global, text: &[u16]) -> Result<UnitList, Fail> {
-    Ok(UnitList::from_vec(text.to_vec(alloc)?))
-}
-
-fn one_string(alloc: Global) -> Result<Tree, Fail> {
-    let mut pairs = Vec::new(alloc);
-    put(alloc, &mut pairs, b"a", Tree::String(units(alloc, &[98])?))?;
-    table(alloc, pairs)
-}
-
-fn two_numbers(alloc: Global) -> Result<Tree, Fail> {
-    let mut pairs = Vec::new(alloc);
-    put_number(alloc, &mut pairs, b"b", 2)?;
-    put_number(alloc, &mut pairs, b"a", 1)?;
-    table(alloc, pairs)
-}
-
-fn three_numbers(alloc: Global) -> Result<Tree, Fail> {
-    let mut pairs = Vec::new(alloc);
-    put_number(alloc, &mut pairs, b"a", 1)?;
-    put_number(alloc, &mut pairs, b"b", 2)?;
-    put_number(alloc, &mut pairs, b"c", 3)?;
-    table(alloc, pairs)
-}
-
-fn two_binaries(alloc: Global) -> Result<Tree, Fail> {
-    let mut pairs = Vec::new(alloc);
-    put_binary(alloc, &mut pairs, b"b", &[0x00, 0xFF, 0x7F])?;
-    put_binary(alloc, &mut pairs, b"c", &[0x02])?;
-    table(alloc, pairs)
-}
-
-/// Adds an item.
-fn add(items: &mut Vec<Tree>, tree: Tree) -> Result<(), Fail> {
-    match items.push(tree) {
-        Ok(()) => Ok(()),
-        Err(_) => Err("memory".into()),
+/// Whether the tree's file is this one.
+fn is_written(alloc: Global, tree: Option<Tree>, no_fallback: bool, sample: Sample<'_>) -> bool {
+    match (file(alloc, tree, no_fallback), bytes_of(alloc, sample)) {
+        (Some(file), Some(bytes)) => file.as_slice() == bytes.as_slice(),
+        _ => false,
     }
 }
+
+const STRING: [Row<'static>; 1] = [(b"a", Leaf::String(&[98]))];
+
+/// The entries of a table, the flag, and the file.
+const WRITTEN: [(&[Row<'static>], bool, Sample<'static>); 7] = [
+    (&[], false, EMPTY),
+    (&STRING, false, ONE_STRING),
+    (
+        &[(b"b", Leaf::Int(2)), (b"a", Leaf::Int(1))],
+        false,
+        TWO_NUMBERS,
+    ),
+    (
+        &[
+            (b"a", Leaf::Int(1)),
+            (b"b", Leaf::Int(2)),
+            (b"c", Leaf::Int(3)),
+        ],
+        false,
+        THREE_NUMBERS,
+    ),
+    (
+        &[
+            (b"b", Leaf::Binary(&[0x00, 0xFF, 0x7F])),
+            (b"c", Leaf::Binary(&[0x02])),
+        ],
+        false,
+        TWO_BINARIES,
+    ),
+    (&[], true, EMPTY_WITHOUT_FALLBACK),
+    (&STRING, true, ONE_STRING_WITHOUT_FALLBACK),
+];
+
+#[test]
+fn samples_are_written(rt: HostRuntime) {
+    let alloc = rt.alloc();
+    for (rows, no_fallback, sample) in WRITTEN {
+        assert!(rt; is_written(alloc, table(alloc, rows), no_fallback, sample));
+    }
+}
+
+/// The empty values without a child.
+const EMPTY_LEAVES: [Leaf<'static>; 4] = [
+    Leaf::String(&[]),
+    Leaf::Binary(&[]),
+    Leaf::Ints(&[]),
+    Leaf::Alias(&[]),
+];
 
 /// Adds an empty value of each type.
-fn add_empty_values(alloc: Global, items: &mut Vec<Tree>) -> Result<(), Fail> {
-    add(items, Tree::String(UnitList::new(alloc)))?;
-    add(items, Tree::Binary(ByteList::from_vec(Vec::new(alloc))))?;
-    add(items, Tree::Ints(NumberList::from_vec(Vec::new(alloc))))?;
-    add(items, Tree::Alias(UnitList::new(alloc)))?;
-    add(items, Tree::Array(TreeList::from_vec(Vec::new(alloc))))?;
-    add(items, table(alloc, Vec::new(alloc))?)
+fn add_empty_values(alloc: Global, items: &mut Vec<Tree>) -> Option<()> {
+    for leaf in EMPTY_LEAVES {
+        items.push(tree_of(alloc, leaf)?).ok()?;
+    }
+    let array = Tree::Array(TreeList::from_vec(Vec::new(alloc)));
+    items.push(array).ok()?;
+    items.push(table(alloc, &[])?).ok()
 }
 
 /// An array of a table whose key is also one of the root's, and the empty values.
-fn nested(alloc: Global) -> Result<Tree, Fail> {
-    let mut pairs = Vec::new(alloc);
-    put(alloc, &mut pairs, b"a", Tree::Alias(units(alloc, &[0x78])?))?;
+fn nested(alloc: Global) -> Option<Tree> {
     let mut items = Vec::new(alloc);
-    add(&mut items, table(alloc, pairs)?)?;
+    items
+        .push(table(alloc, &[(b"a", Leaf::Alias(&[0x78]))])?)
+        .ok()?;
     add_empty_values(alloc, &mut items)?;
-    Ok(Tree::Array(TreeList::from_vec(items)))
+    Some(Tree::Array(TreeList::from_vec(items)))
 }
 
-fn every_type(alloc: Global) -> Result<Tree, Fail> {
+const LEAVES: [Row<'static>; 4] = [
+    (b"z", Leaf::Int(0x0FFF_FFFF)),
+    (b"s", Leaf::String(&[0x68, 0x69])),
+    (b"n", Leaf::Ints(&[1, -1])),
+    (b"bin", Leaf::Binary(&[0xFF])),
+];
+
+fn every_type(alloc: Global) -> Option<Tree> {
     let mut pairs = Vec::new(alloc);
-    let numbers = NumberList::from_vec([1, -1].to_vec(alloc)?);
-    put(alloc, &mut pairs, b"z", number(0x0FFF_FFFF)?)?;
-    put(
-        alloc,
-        &mut pairs,
-        b"s",
-        Tree::String(units(alloc, &[0x68, 0x69])?),
-    )?;
-    put(alloc, &mut pairs, b"n", Tree::Ints(numbers))?;
-    put(alloc, &mut pairs, b"bin", binary(alloc, &[0xFF])?)?;
+    put_rows(alloc, &mut pairs, &LEAVES)?;
     put(alloc, &mut pairs, b"a", nested(alloc)?)?;
-    table(alloc, pairs)
-}
-
-/// Whether the tree's file has these bytes.
-fn is_written(alloc: Global, tree: &Tree, no_fallback: bool, bytes: &[u8]) -> Result<bool, Fail> {
-    Ok(file(alloc, tree, no_fallback)?.as_slice() == bytes)
+    Tree::table(alloc, pairs).ok()
 }
 
 #[test]
-fn samples_are_written(rt: HostRuntime) -> Result<(), Fail> {
+fn every_type_is_laid_out(rt: HostRuntime) {
     let alloc = rt.alloc();
-    let empty = table(alloc, Vec::new(alloc))?;
-    assert!(rt; is_written(alloc, &empty, false, &EMPTY)?);
-    let string = one_string(alloc)?;
-    assert!(rt; is_written(alloc, &string, false, &ONE_STRING)?);
-    assert!(rt; is_written(alloc, &two_numbers(alloc)?, false, &TWO_NUMBERS)?);
-    assert!(rt; is_written(alloc, &three_numbers(alloc)?, false, &THREE_NUMBERS)?);
-    assert!(rt; is_written(alloc, &two_binaries(alloc)?, false, &TWO_BINARIES)?);
-    assert!(rt; is_written(alloc, &empty, true, &EMPTY_WITHOUT_FALLBACK)?);
-    assert!(rt; is_written(alloc, &string, true, &ONE_STRING_WITHOUT_FALLBACK)?);
-    Ok(())
-}
-
-#[test]
-fn every_type_is_laid_out(rt: HostRuntime) -> Result<(), Fail> {
-    let alloc = rt.alloc();
-    assert!(rt; is_written(alloc, &every_type(alloc)?, false, &AS_WRITTEN)?);
-    Ok(())
+    assert!(rt; is_written(alloc, every_type(alloc), false, AS_WRITTEN));
 }
 
 /// `k` and the last five digits of a number.
@@ -196,50 +186,63 @@ pub fn numbered_key(number: u32) -> [u8; 6] {
 }
 
 /// The table of the keys `k00000` and so on, so many of them, each with Int 0.
-pub fn numbered(alloc: Global, count: u32) -> Result<Tree, Fail> {
+pub fn numbered(alloc: Global, count: u32) -> Option<Tree> {
+    let zero = Int28::new(0)?;
     let mut pairs = Vec::new(alloc);
     for i in 0..count {
-        put_number(alloc, &mut pairs, &numbered_key(i), 0)?;
+        put(alloc, &mut pairs, &numbered_key(i), Tree::Int(zero))?;
     }
-    table(alloc, pairs)
+    Tree::table(alloc, pairs).ok()
+}
+
+/// The highest byte of the root item of a file of so many keys.
+fn root_type(alloc: Global, count: u32) -> Option<u8> {
+    let file = file(alloc, numbered(alloc, count), false)?;
+    file.get(35).copied()
 }
 
 #[test]
-fn long_tables_begin_past_short_offsets(rt: HostRuntime) -> Result<(), Fail> {
-    let alloc = rt.alloc();
-    for (count, kind) in [(9_359, 0x20), (9_360, 0x40)] {
-        let file = file(alloc, &numbered(alloc, count)?, false)?;
-        assert_eq!(rt; file.get(35).copied(), Some(kind), "{count} keys");
-    }
-    Ok(())
+fn long_tables_begin_past_short_offsets(rt: HostRuntime) {
+    assert!(rt; root_type(rt.alloc(), 9_359) == Some(0x20));
+    assert!(rt; root_type(rt.alloc(), 9_360) == Some(0x40));
 }
 
-#[test]
-fn a_long_table_has_words(rt: HostRuntime) -> Result<(), Fail> {
-    let alloc = rt.alloc();
-    let file = file(alloc, &numbered(alloc, 9_360)?, false)?;
-    assert_eq!(rt; file.len(), 32 + 4 * 35_107);
-    let body = &file[32..];
-    for (i, number) in [
-        (0, 0x4000_4002),
-        (2, 16_386),
-        (4, 35_107),
-        (5, 9_360),
-        (16_386, 9_360),
-    ] {
-        assert_eq!(rt; word(body, i), Some(number), "word {i}");
+/// Words of the file of a table of 9,360 keys.
+const LONG_WORDS: [(usize, u32); 5] = [
+    (0, 0x4000_4002),
+    (2, 16_386),
+    (4, 35_107),
+    (5, 9_360),
+    (16_386, 9_360),
+];
+
+/// Whether data has the words of a table of 9,360 keys, with each key's offset and each item.
+fn has_long_table(body: &[u8]) -> bool {
+    for (i, number) in LONG_WORDS {
+        if word(body, i) != Some(number) {
+            return false;
+        }
     }
     for i in 0..9_360 {
-        assert_eq!(rt;
-            word(body, 16_387 + i),
-            Some(24 + 7 * i as u32),
-            "the key of entry {i}"
-        );
-        assert_eq!(rt;
-            word(body, 25_747 + i),
-            Some(0x7000_0000),
-            "the item of entry {i}"
-        );
+        if word(body, 16_387 + i) != Some(24 + 7 * i as u32)
+            || word(body, 25_747 + i) != Some(0x7000_0000)
+        {
+            return false;
+        }
     }
-    Ok(())
+    true
+}
+
+/// Whether the file of a table of 9,360 keys has its length and its words.
+fn is_long_file(file: Option<Vec<u8>>) -> bool {
+    match file {
+        Some(file) => file.len() == 32 + 4 * 35_107 && has_long_table(&file[32..]),
+        None => false,
+    }
+}
+
+#[test]
+fn a_long_table_has_words(rt: HostRuntime) {
+    let alloc = rt.alloc();
+    assert!(rt; is_long_file(file(alloc, numbered(alloc, 9_360), false)));
 }

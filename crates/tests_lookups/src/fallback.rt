@@ -3,383 +3,331 @@ ghost use Rattle.std.specs.Prelude.{All};
 ghost use Rattle.rb_tree.specs.Keys.{IsKey};
 ghost use Rattle.rb_tree.specs.Table.{keys_in};
 
-use rb_fallback::{AliasFault, LookError, look};
+use crate::bundles::{Bundle, Bundles, Row, add, bundles, leaf, leaves, long_row, parents, put};
+use rb_fallback::{AliasFault, Found, LookError, look};
 use rb_locales::Name;
 use rb_parents::{ListShelf, Parents};
-use rb_tree::{ByteList, Kind, Node, Tree, UnitList, key_ok};
+use rb_tree::{ByteList, Tree};
 use std::alloc::Global;
-use std::test::Fail;
 
-// A text that begins with `>` is an alias of what follows it, any other a string.
-fn leaf(alloc: Global, text: &[u8]) -> Result<Tree, Fail> {
-    let is_alias = !text.is_empty() && text[0] == b'>';
-    let mut units = Vec::new(alloc);
-    for (i, b) in text.iter().enumerate() {
-        if i > 0 || !is_alias {
-            units.push(*b as u16)?;
+/// What a lookup answers: an item's text, empty where it is no string, with its actual and its valid locale; or the error's word.
+#[derive(Clone, Copy)]
+enum Answer<'a> {
+    Item(&'a [u8], &'a [u8], &'a [u8]),
+    Error(&'a str),
+}
+
+use Answer::{Error, Item};
+
+/// A lookup: the locale, the path and the answer.
+type Lookup<'a> = (&'a [u8], &'a [u8], Answer<'a>);
+
+/// Whether a tree is a string of these bytes, or none where there are none.
+fn has_text(tree: &Tree, text: &[u8]) -> bool {
+    let Tree::String(units) = tree else {
+        return text.is_empty();
+    };
+    let units = units.as_slice();
+    for (unit, byte) in units.iter().zip(text) {
+        if *unit != *byte as u16 {
+            return false;
         }
     }
-    let units = UnitList::from_vec(units);
-    Ok(if is_alias {
-        Tree::Alias(units)
-    } else {
-        Tree::String(units)
-    })
+    units.len() == text.len()
 }
 
-fn table(alloc: Global, entries: Vec<(&[u8], Tree)>) -> Result<Tree, Fail> {
-    let mut pairs = Vec::new(alloc);
-    for (text, tree) in entries {
-        let key = ByteList::from_vec(text.to_vec(alloc)?);
-        if !key_ok(key.as_slice()) {
-            return Err("no key".into());
+fn is_item(found: &Found<&Tree>, answer: Answer<'_>) -> bool {
+    match answer {
+        Item(text, actual, valid) => {
+            found.actual.as_bytes() == actual
+                && found.valid.as_bytes() == valid
+                && has_text(found.node, text)
         }
-        pairs.push((key, tree))?;
+        Error(_) => false,
     }
-    Tree::table(alloc, pairs).map_err(|_| "no table".into())
 }
 
-// A table of one entry.
-fn one(alloc: Global, key: &[u8], tree: Tree) -> Result<Tree, Fail> {
-    let mut entries = Vec::new(alloc);
-    entries.push((key, tree))?;
-    table(alloc, entries)
-}
-
-// A table of leaves.
-fn leaves(alloc: Global, rows: &[(&[u8], &[u8])]) -> Result<Tree, Fail> {
-    let mut entries = Vec::new(alloc);
-    for (key, text) in rows {
-        entries.push((*key, leaf(alloc, text)?))?;
+fn is_error(fault: LookError, answer: Answer<'_>) -> bool {
+    match answer {
+        Item(..) => false,
+        Error(word) => fault.word() == word,
     }
-    table(alloc, entries)
 }
 
-// A tree in which one path leads to a leaf.
-fn branch(alloc: Global, path: &[u8], text: &[u8]) -> Result<Tree, Fail> {
-    let mut tree = leaf(alloc, text)?;
-    for segment in path.split(|b| *b == b'/').rev() {
-        tree = one(alloc, segment, tree)?;
-    }
-    Ok(tree)
-}
-
-fn name(text: &[u8]) -> Result<Name, Fail> {
-    Name::read(text).map_err(|_| "no name".into())
-}
-
-// Adds a bundle.
-fn add(
-    list: &mut Vec<(Name, Tree, bool)>,
-    locale: &[u8],
-    tree: Tree,
-    no_fallback: bool,
-) -> Result<(), Fail> {
-    list.push((name(locale)?, tree, no_fallback))?;
-    Ok(())
-}
-
-// Bundles with one leaf each: the locale, the path and the text.
-fn bundles(alloc: Global, rows: &[(&[u8], &[u8], &[u8])]) -> Result<Vec<(Name, Tree, bool)>, Fail> {
-    let mut list = Vec::new(alloc);
-    for (locale, path, text) in rows {
-        add(&mut list, locale, branch(alloc, path, text)?, false)?;
-    }
-    Ok(list)
-}
-
-// The string that is found, with its actual and its valid locale; else the error's word.
-fn answer(
-    alloc: Global,
-    own: &[(Name, Tree, bool)],
-    icu: &[(Name, Tree, bool)],
+/// Whether each lookup over the bundles of a caller and of ICUDATA is answered so.
+fn all_answered<'x>(
+    own: &'x [(Name, Tree, bool)],
+    icu: &'x [(Name, Tree, bool)],
     parents: &Parents,
-    from: &[u8],
-    path: &[u8],
-) -> Result<Vec<u8>, Fail> {
-    let mut text = Vec::new(alloc);
+    lookups: &'x [Lookup<'x>],
+) -> bool {
     let own = ListShelf { entries: own };
     let icu = ListShelf { entries: icu };
-    let found = match look(own, icu, parents, &name(from)?, path) {
-        Ok(found) => found,
-        Err(fault) => {
-            text.extend_from_slice(fault.word().as_bytes())?;
-            return Ok(text);
-        }
-    };
-    if found.node.kind() == Kind::String {
-        for i in 0..found.node.len() {
-            text.push(u8::try_from(found.node.unit(i)).map_err(|_| "no byte")?)?;
-        }
-    }
-    text.push(b' ')?;
-    text.extend_from_slice(found.actual.as_bytes())?;
-    text.push(b'/')?;
-    text.extend_from_slice(found.valid.as_bytes())?;
-    Ok(text)
-}
-
-// The first row whose path, looked up from its locale, gives another answer than its third field.
-fn first_wrong(
-    alloc: Global,
-    own: &[(Name, Tree, bool)],
-    icu: &[(Name, Tree, bool)],
-    parents: &Parents,
-    rows: &[(&[u8], &[u8], &[u8])],
-) -> Result<Option<usize>, Fail> {
-    for (i, (from, path, want)) in rows.iter().enumerate() {
-        let found = answer(alloc, own, icu, parents, from, path)?;
-        if found.as_slice() != *want {
-            return Ok(Some(i));
-        }
-    }
-    Ok(None)
-}
-
-#[test]
-fn trails_are_looked_up(rt: HostRuntime) -> Result<(), Fail> {
-    let alloc = rt.alloc();
-    let rows: [(&[u8], &[u8], &[u8]); 7] = [
-        (b"de_AT", b"menu/open", b"O"),
-        (b"de", b"menu/close", b"C"),
-        (b"root", b"x", b"R"),
-        (b"xd", b"%%Parent", b""),
-        (b"de_CH", b"%%Parent", b""),
-        (b"xe", b"%%ALIAS", b"xe"),
-        (b"xt", b"%%Parent/a", b"de"),
-    ];
-    let own = bundles(alloc, &rows)?;
-    let answers: [(&[u8], &[u8], &[u8]); 14] = [
-        (b"de_AT", b"menu/close", b"C de/de_AT"),
-        (b"de-at", b"menu/open", b"O de_AT/de_AT"),
-        (b"de", b"menu/open", b"Missing"),
-        (b"de", b"", b" de/de"),
-        (b"fr", b"x", b"R root/root"),
-        (b"xd", b"x", b"R root/xd"),
-        (b"xd", b"%%Parent", b" xd/xd"),
-        (b"de_CH", b"menu/close", b"Missing"),
-        (b"xe", b"x", b"Chain"),
-        // A table at `%%Parent` isn't looked at, and is an ordinary item.
-        (b"xt", b"menu/close", b"Missing"),
-        (b"xt", b"%%Parent/a", b"de xt/xt"),
-        (b"de", b"a//b", b"BadPath"),
-        (b"de", b"/", b"BadPath"),
-        (b"de", b"\x7F", b"BadPath"),
-    ];
-    let parents = Parents::none(alloc);
-    assert!(rt; first_wrong(alloc, own.as_slice(), &[], &parents, &answers)?.is_none());
-    let none: [(&[u8], &[u8], &[u8]); 1] = [(b"de", b"x", b"NoBundle")];
-    assert!(rt; first_wrong(alloc, &[], &[], &parents, &none)?.is_none());
-    Ok(())
-}
-
-#[test]
-fn lookups_end_at_bundles_without_fallback(rt: HostRuntime) -> Result<(), Fail> {
-    let alloc = rt.alloc();
-    let root: [(&[u8], &[u8]); 2] = [(b"x", b"R"), (b"y", b"Y")];
-    let with_parent: [(&[u8], &[u8]); 2] = [(b"%%Parent", b"?"), (b"x", b"D")];
-    let mut own = Vec::new(alloc);
-    add(&mut own, b"root", leaves(alloc, &root)?, false)?;
-    add(&mut own, b"de", branch(alloc, b"x", b"D")?, true)?;
-    add(&mut own, b"es", leaves(alloc, &with_parent)?, true)?;
-    add(&mut own, b"iw", branch(alloc, b"%%ALIAS", b"he")?, true)?;
-    add(&mut own, b"he", branch(alloc, b"x", b"H")?, false)?;
-    let answers: [(&[u8], &[u8], &[u8]); 7] = [
-        (b"de_AT", b"x", b"D de/de"),
-        (b"de", b"y", b"Missing"),
-        // Its `%%Parent` isn't looked at.
-        (b"es", b"y", b"Missing"),
-        (b"es", b"x", b"D es/es"),
-        // Its `%%ALIAS` comes before its flag.
-        (b"iw", b"x", b"H he/he"),
-        (b"iw", b"y", b"Y root/he"),
-        (b"fr", b"y", b"Y root/root"),
-    ];
-    let parents = Parents::none(alloc);
-    assert!(rt; first_wrong(alloc, own.as_slice(), &[], &parents, &answers)?.is_none());
-    Ok(())
-}
-
-#[test]
-fn bundles_come_before_explicit_parents(rt: HostRuntime) -> Result<(), Fail> {
-    let alloc = rt.alloc();
-    let locales: [(&[u8], &[u8]); 2] = [(b"en", b"en_GB"), (b"root", b"zh_Hant")];
-    let tree = one(alloc, b"parentLocales", leaves(alloc, &locales)?)?;
-    let parents = Parents::read(alloc, &tree).map_err(|fault| fault.word())?;
-    let rows: [(&[u8], &[u8], &[u8]); 8] = [
-        (b"en_GB", b"%%Parent", b"en_001"),
-        (b"en_001", b"x", b"1"),
-        (b"en", b"x", b"E"),
-        (b"zh", b"x", b"Z"),
-        (b"root", b"x", b"R"),
-        (b"iw", b"%%ALIAS", b"he"),
-        (b"he", b"x", b"H"),
-        (b"xb", b"%%Parent", b"xa"),
-    ];
-    let mut own = bundles(alloc, &rows)?;
-    // The item is in the first bundle already, and yet the trail's error is the answer.
-    let to_xb: [(&[u8], &[u8]); 2] = [(b"%%Parent", b"xb"), (b"k", b"K")];
-    add(&mut own, b"xa", leaves(alloc, &to_xb)?, false)?;
-    let no_name: [(&[u8], &[u8]); 2] = [(b"%%Parent", b"?"), (b"k", b"K")];
-    add(&mut own, b"xc", leaves(alloc, &no_name)?, false)?;
-    let answers: [(&[u8], &[u8], &[u8]); 5] = [
-        (b"en_GB", b"x", b"1 en_001/en_GB"),
-        (b"zh_Hant_TW", b"x", b"R root/root"),
-        (b"iw_IL", b"x", b"H he/he"),
-        (b"xa", b"k", b"Chain"),
-        (b"xc", b"k", b"BadParent"),
-    ];
-    assert!(rt; first_wrong(alloc, own.as_slice(), &[], &parents, &answers)?.is_none());
-    Ok(())
-}
-
-// A root bundle with aliases of each form.
-fn alias_root(alloc: Global) -> Result<Tree, Fail> {
-    let rows: [(&[u8], &[u8]); 12] = [
-        (b"a", b">/ICUDATA/de/x"),
-        (b"b", b">/other/de/x"),
-        (b"c", b">de//x"),
-        (b"d", b">"),
-        (b"e", b">/ICUDATA/de/y"),
-        (b"f", b">root/f"),
-        (b"g", b">root/g/bbbbbbbbb"),
-        (b"h", b">/ICUDATA"),
-        (b"i", b">/"),
-        (b"j", b">de@x/x"),
-        (b"m", b">/LOCALE/n"),
-        (b"n", b">/LOCALE/"),
-    ];
-    leaves(alloc, &rows)
-}
-
-#[test]
-fn aliases_are_followed(rt: HostRuntime) -> Result<(), Fail> {
-    let alloc = rt.alloc();
-    let rows: [(&[u8], &[u8], &[u8]); 5] = [
-        (b"de", b"n", b"N"),
-        (b"fr", b"t/a", b">it"),
-        (b"it", b"t/a/k", b"V"),
-        (b"es", b"a", b">pt/x"),
-        (b"pt", b"y", b"P"),
-    ];
-    let mut own = bundles(alloc, &rows)?;
-    add(&mut own, b"root", alias_root(alloc)?, false)?;
-    let there: [(&[u8], &[u8]); 2] = [(b"x", b"I"), (b"y", b">de/x")];
-    let mut icu = Vec::new(alloc);
-    add(&mut icu, b"de", leaves(alloc, &there)?, false)?;
-    let answers: [(&[u8], &[u8], &[u8]); 15] = [
-        (b"root", b"a", b"I de/root"),
-        (b"root", b"b", b"AliasPackage"),
-        (b"root", b"c", b"AliasText"),
-        (b"root", b"d", b"AliasText"),
-        (b"root", b"e", b"I de/root"),
-        (b"root", b"f", b"TooManyAliases"),
-        (b"root", b"g", b"PathTooLong"),
-        (b"root", b"h", b"AliasText"),
-        (b"root", b"i", b"AliasPackage"),
-        (b"root", b"j", b"Missing"),
-        (b"de_AT", b"m", b"N de/de"),
-        (b"de_AT", b"n", b"N de/de"),
-        (b"fr", b"t/a/k", b"V it/fr"),
-        (b"es", b"a", b"Missing"),
-        (b"root", b"a/z", b"Missing"),
-    ];
-    let parents = Parents::none(alloc);
-    assert!(rt; first_wrong(alloc, own.as_slice(), icu.as_slice(), &parents, &answers)?.is_none());
-    Ok(())
-}
-
-#[test]
-fn an_alias_to_no_bundle_is_final(rt: HostRuntime) -> Result<(), Fail> {
-    let alloc = rt.alloc();
-    let rows: [(&[u8], &[u8], &[u8]); 1] = [(b"es", b"a", b">pt/x")];
-    let own = bundles(alloc, &rows)?;
-    let answers: [(&[u8], &[u8], &[u8]); 1] = [(b"es", b"a", b"NoBundle")];
-    let parents = Parents::none(alloc);
-    assert!(rt; first_wrong(alloc, own.as_slice(), &[], &parents, &answers)?.is_none());
-    assert!(rt;
-        AliasFault::AliasText.word() == "AliasText" && LookError::Missing.word() == "Missing"
-    );
-    Ok(())
-}
-
-// A root bundle in which each key up to a last one is an alias of the next.
-fn ladder(alloc: Global, last: u16) -> Result<Vec<(Name, Tree, bool)>, Fail> {
-    let mut keys = Vec::new(alloc);
-    for i in 0..=last {
-        keys.push(format!(in alloc; "x{i}")?)?;
-    }
-    let mut entries = Vec::new(alloc);
-    for i in 0..keys.len() {
-        let text = if i + 1 < keys.len() {
-            format!(in alloc; ">root/x{}", i + 1)?
-        } else {
-            format!(in alloc; "E")?
+    for (from, path, answer) in lookups {
+        let Ok(from) = Name::read(from) else {
+            return false;
         };
-        entries.push((keys[i].as_bytes(), leaf(alloc, text.as_bytes())?))?;
+        let is_same = match look(own, icu, parents, &from, path) {
+            Ok(found) => is_item(&found, *answer),
+            Err(fault) => is_error(fault, *answer),
+        };
+        if !is_same {
+            return false;
+        }
+    }
+    true
+}
+
+/// Whether each lookup over bundles without explicit parents, none of them in ICUDATA, is answered so.
+fn are_answered(alloc: Global, own: Option<Bundles>, lookups: &[Lookup<'_>]) -> bool {
+    match own {
+        Some(own) => all_answered(own.as_slice(), &[], &Parents::none(alloc), lookups),
+        None => false,
+    }
+}
+
+const TRAILS: [Bundle<'static>; 7] = [
+    (b"de_AT", &[(b"menu/open", b"O")], false),
+    (b"de", &[(b"menu/close", b"C")], false),
+    (b"root", &[(b"x", b"R")], false),
+    (b"xd", &[(b"%%Parent", b"")], false),
+    (b"de_CH", &[(b"%%Parent", b"")], false),
+    (b"xe", &[(b"%%ALIAS", b"xe")], false),
+    (b"xt", &[(b"%%Parent/a", b"de")], false),
+];
+
+const ALONG_TRAILS: [Lookup<'static>; 14] = [
+    (b"de_AT", b"menu/close", Item(b"C", b"de", b"de_AT")),
+    (b"de-at", b"menu/open", Item(b"O", b"de_AT", b"de_AT")),
+    (b"de", b"menu/open", Error("Missing")),
+    (b"de", b"", Item(b"", b"de", b"de")),
+    (b"fr", b"x", Item(b"R", b"root", b"root")),
+    (b"xd", b"x", Item(b"R", b"root", b"xd")),
+    (b"xd", b"%%Parent", Item(b"", b"xd", b"xd")),
+    (b"de_CH", b"menu/close", Error("Missing")),
+    (b"xe", b"x", Error("Chain")),
+    // A table at `%%Parent` isn't looked at, and is an ordinary item.
+    (b"xt", b"menu/close", Error("Missing")),
+    (b"xt", b"%%Parent/a", Item(b"de", b"xt", b"xt")),
+    (b"de", b"a//b", Error("BadPath")),
+    (b"de", b"/", Error("BadPath")),
+    (b"de", b"\x7F", Error("BadPath")),
+];
+
+#[test]
+fn trails_are_looked_up(rt: HostRuntime) {
+    let alloc = rt.alloc();
+    assert!(rt; are_answered(alloc, bundles(alloc, &TRAILS), &ALONG_TRAILS));
+    let none = Some(Vec::new(alloc));
+    assert!(rt; are_answered(alloc, none, &[(b"de", b"x", Error("NoBundle"))]));
+}
+
+const FLAGGED: [Bundle<'static>; 5] = [
+    (b"root", &[(b"x", b"R"), (b"y", b"Y")], false),
+    (b"de", &[(b"x", b"D")], true),
+    (b"es", &[(b"%%Parent", b"?"), (b"x", b"D")], true),
+    (b"iw", &[(b"%%ALIAS", b"he")], true),
+    (b"he", &[(b"x", b"H")], false),
+];
+
+const TO_FLAGGED: [Lookup<'static>; 7] = [
+    (b"de_AT", b"x", Item(b"D", b"de", b"de")),
+    (b"de", b"y", Error("Missing")),
+    // Its `%%Parent` isn't looked at.
+    (b"es", b"y", Error("Missing")),
+    (b"es", b"x", Item(b"D", b"es", b"es")),
+    // Its `%%ALIAS` comes before its flag.
+    (b"iw", b"x", Item(b"H", b"he", b"he")),
+    (b"iw", b"y", Item(b"Y", b"root", b"he")),
+    (b"fr", b"y", Item(b"Y", b"root", b"root")),
+];
+
+#[test]
+fn lookups_end_at_bundles_without_fallback(rt: HostRuntime) {
+    let alloc = rt.alloc();
+    assert!(rt; are_answered(alloc, bundles(alloc, &FLAGGED), &TO_FLAGGED));
+}
+
+const LOCALES: [Row<'static>; 2] = [(b"en", b"en_GB"), (b"root", b"zh_Hant")];
+
+const PARENTS: [Bundle<'static>; 10] = [
+    (b"en_GB", &[(b"%%Parent", b"en_001")], false),
+    (b"en_001", &[(b"x", b"1")], false),
+    (b"en", &[(b"x", b"E")], false),
+    (b"zh", &[(b"x", b"Z")], false),
+    (b"root", &[(b"x", b"R")], false),
+    (b"iw", &[(b"%%ALIAS", b"he")], false),
+    (b"he", &[(b"x", b"H")], false),
+    (b"xb", &[(b"%%Parent", b"xa")], false),
+    // The item is in the first bundle already, and yet the trail's error is the answer.
+    (b"xa", &[(b"%%Parent", b"xb"), (b"k", b"K")], false),
+    (b"xc", &[(b"%%Parent", b"?"), (b"k", b"K")], false),
+];
+
+const TO_PARENTS: [Lookup<'static>; 5] = [
+    (b"en_GB", b"x", Item(b"1", b"en_001", b"en_GB")),
+    (b"zh_Hant_TW", b"x", Item(b"R", b"root", b"root")),
+    (b"iw_IL", b"x", Item(b"H", b"he", b"he")),
+    (b"xa", b"k", Error("Chain")),
+    (b"xc", b"k", Error("BadParent")),
+];
+
+/// Whether lookups with explicit parents are answered so.
+fn are_answered_with(
+    alloc: Global,
+    own: &[Bundle<'_>],
+    locales: &[Row<'_>],
+    lookups: &[Lookup<'_>],
+) -> Option<bool> {
+    let parents = parents(alloc, leaves(alloc, locales)?)?;
+    let own = bundles(alloc, own)?;
+    Some(all_answered(own.as_slice(), &[], &parents, lookups))
+}
+
+#[test]
+fn bundles_come_before_explicit_parents(rt: HostRuntime) {
+    let found = are_answered_with(rt.alloc(), &PARENTS, &LOCALES, &TO_PARENTS);
+    assert!(rt; found == Some(true));
+}
+
+const ALIASES: [Bundle<'static>; 6] = [
+    (b"de", &[(b"n", b"N")], false),
+    (b"fr", &[(b"t/a", b">it")], false),
+    (b"it", &[(b"t/a/k", b"V")], false),
+    (b"es", &[(b"a", b">pt/x")], false),
+    (b"pt", &[(b"y", b"P")], false),
+    (b"root", &ALIAS_FORMS, false),
+];
+
+/// An alias of each form.
+const ALIAS_FORMS: [Row<'static>; 12] = [
+    (b"a", b">/ICUDATA/de/x"),
+    (b"b", b">/other/de/x"),
+    (b"c", b">de//x"),
+    (b"d", b">"),
+    (b"e", b">/ICUDATA/de/y"),
+    (b"f", b">root/f"),
+    (b"g", b">root/g/bbbbbbbbb"),
+    (b"h", b">/ICUDATA"),
+    (b"i", b">/"),
+    (b"j", b">de@x/x"),
+    (b"m", b">/LOCALE/n"),
+    (b"n", b">/LOCALE/"),
+];
+
+const ICU: [Bundle<'static>; 1] = [(b"de", &[(b"x", b"I"), (b"y", b">de/x")], false)];
+
+const TO_ALIASES: [Lookup<'static>; 15] = [
+    (b"root", b"a", Item(b"I", b"de", b"root")),
+    (b"root", b"b", Error("AliasPackage")),
+    (b"root", b"c", Error("AliasText")),
+    (b"root", b"d", Error("AliasText")),
+    (b"root", b"e", Item(b"I", b"de", b"root")),
+    (b"root", b"f", Error("TooManyAliases")),
+    (b"root", b"g", Error("PathTooLong")),
+    (b"root", b"h", Error("AliasText")),
+    (b"root", b"i", Error("AliasPackage")),
+    (b"root", b"j", Error("Missing")),
+    (b"de_AT", b"m", Item(b"N", b"de", b"de")),
+    (b"de_AT", b"n", Item(b"N", b"de", b"de")),
+    (b"fr", b"t/a/k", Item(b"V", b"it", b"fr")),
+    (b"es", b"a", Error("Missing")),
+    (b"root", b"a/z", Error("Missing")),
+];
+
+/// Whether lookups over bundles of a caller and of ICUDATA are answered so.
+fn are_answered_beside(
+    alloc: Global,
+    own: &[Bundle<'_>],
+    icu: &[Bundle<'_>],
+    lookups: &[Lookup<'_>],
+) -> Option<bool> {
+    let own = bundles(alloc, own)?;
+    let icu = bundles(alloc, icu)?;
+    let parents = Parents::none(alloc);
+    Some(all_answered(own.as_slice(), icu.as_slice(), &parents, lookups))
+}
+
+#[test]
+fn aliases_are_followed(rt: HostRuntime) {
+    let found = are_answered_beside(rt.alloc(), &ALIASES, &ICU, &TO_ALIASES);
+    assert!(rt; found == Some(true));
+}
+
+#[test]
+fn an_alias_to_no_bundle_is_final(rt: HostRuntime) {
+    let alloc = rt.alloc();
+    let own = bundles(alloc, &[(b"es", &[(b"a", b">pt/x")], false)]);
+    assert!(rt; are_answered(alloc, own, &[(b"es", b"a", Error("NoBundle"))]));
+    assert!(rt; AliasFault::AliasText.word() == "AliasText");
+    assert!(rt; LookError::Missing.word() == "Missing");
+}
+
+/// Adds an entry of a ladder, `x` and its number: an alias of the next one, or the end.
+fn put_rung(
+    alloc: Global,
+    pairs: &mut Vec<(ByteList, Tree)>,
+    rung: u16,
+    is_last: bool,
+) -> Option<()>
+    requires { All IsKey (keys_in pairs.old.items) }
+    ensures { All IsKey (keys_in pairs.new.items) }
+{
+    let key = format!(in alloc; "x{rung}").ok()?;
+    let next = format!(in alloc; ">root/x{}", rung as u32 + 1).ok()?;
+    let text = if is_last { b"E" } else { next.as_bytes() };
+    put(alloc, pairs, key.as_bytes(), leaf(alloc, text)?)
+}
+
+/// A root bundle in which each key up to a last one is an alias of the next.
+fn ladder(alloc: Global, last: u16) -> Option<Bundles> {
+    let mut pairs = Vec::new(alloc);
+    for i in 0..=last {
+        put_rung(alloc, &mut pairs, i, i == last)?;
     }
     let mut list = Vec::new(alloc);
-    add(&mut list, b"root", table(alloc, entries)?, false)?;
-    Ok(list)
+    add(&mut list, b"root", Tree::table(alloc, pairs).ok()?, false)?;
+    Some(list)
 }
 
-// Whether lookups over a ladder give these answers.
-fn climbs(alloc: Global, last: u16, answers: &[(&[u8], &[u8], &[u8])]) -> Result<bool, Fail> {
-    let own = ladder(alloc, last)?;
-    let parents = Parents::none(alloc);
-    Ok(first_wrong(alloc, own.as_slice(), &[], &parents, answers)?.is_none())
-}
+const END: Answer<'static> = Item(b"E", b"root", b"root");
 
 #[test]
-fn a_lookup_has_256_levels(rt: HostRuntime) -> Result<(), Fail> {
-    let answers: [(&[u8], &[u8], &[u8]); 2] = [
-        (b"root", b"x1", b"E root/root"),
-        (b"root", b"x0", b"TooManyAliases"),
+fn a_lookup_has_256_levels(rt: HostRuntime) {
+    let alloc = rt.alloc();
+    let answers: [Lookup<'_>; 2] = [
+        (b"root", b"x1", END),
+        (b"root", b"x0", Error("TooManyAliases")),
     ];
-    assert!(rt; climbs(rt.alloc(), 256, &answers)?);
-    let found: [(&[u8], &[u8], &[u8]); 1] = [(b"root", b"x0", b"E root/root")];
-    assert!(rt; climbs(rt.alloc(), 255, &found)?);
-    Ok(())
+    assert!(rt; are_answered(alloc, ladder(alloc, 256), &answers));
+    assert!(rt; are_answered(alloc, ladder(alloc, 255), &[(b"root", b"x0", END)]));
 }
 
 #[test]
-fn a_path_has_1024_bytes(rt: HostRuntime) -> Result<(), Fail> {
+fn a_path_has_1024_bytes(rt: HostRuntime) {
     let alloc = rt.alloc();
     let letters = [b'a'; 1025];
-    let rows: [(&[u8], &[u8], &[u8]); 1] = [(b"root", b"x", b"R")];
-    let own = bundles(alloc, &rows)?;
-    let answers: [(&[u8], &[u8], &[u8]); 2] = [
-        (b"root", &letters, b"PathTooLong"),
-        (b"root", &letters[1..], b"Missing"),
+    let answers: [Lookup<'_>; 2] = [
+        (b"root", &letters, Error("PathTooLong")),
+        (b"root", &letters[1..], Error("Missing")),
     ];
-    let parents = Parents::none(alloc);
-    assert!(rt; first_wrong(alloc, own.as_slice(), &[], &parents, &answers)?.is_none());
-    Ok(())
+    let own = bundles(alloc, &[(b"root", &[(b"x", b"R")], false)]);
+    assert!(rt; are_answered(alloc, own, &answers));
+}
+
+/// The long row and a root bundle.
+fn long_row_and_root(alloc: Global) -> Option<Bundles> {
+    let mut list = long_row(alloc)?;
+    add(&mut list, b"root", leaves(alloc, &[(b"x", b"R")])?, false)?;
+    Some(list)
 }
 
 #[test]
-fn trails_have_32_names(rt: HostRuntime) -> Result<(), Fail> {
+fn trails_have_32_names(rt: HostRuntime) {
     let alloc = rt.alloc();
-    let rows: [(&[u8], &[u8], &[u8]); 2] = [
-        (b"qq_31", b"%%Parent", b"root"),
-        (b"root", b"x", b"R"),
+    let answers: [Lookup<'_>; 2] = [
+        (b"qq_1", b"x", Item(b"R", b"root", b"qq_1")),
+        (b"qq_0", b"x", Error("Chain")),
     ];
-    let mut own = bundles(alloc, &rows)?;
-    for i in 0..31u8 {
-        let at = format!(in alloc; "qq_{i}")?;
-        let next = format!(in alloc; "qq_{}", i + 1)?;
-        add(
-            &mut own,
-            at.as_bytes(),
-            branch(alloc, b"%%Parent", next.as_bytes())?,
-            false,
-        )?;
-    }
-    let answers: [(&[u8], &[u8], &[u8]); 2] = [
-        (b"qq_1", b"x", b"R root/qq_1"),
-        (b"qq_0", b"x", b"Chain"),
-    ];
-    let parents = Parents::none(alloc);
-    assert!(rt; first_wrong(alloc, own.as_slice(), &[], &parents, &answers)?.is_none());
-    Ok(())
+    assert!(rt; are_answered(alloc, long_row_and_root(alloc), &answers));
 }

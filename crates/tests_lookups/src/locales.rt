@@ -1,24 +1,13 @@
 // Names of locales as texts and units give them.
-ghost use Rattle.std.specs.Prelude.{IfOk};
 ghost use Rattle.rb_tree.specs.Parts.{HasUnits, kind_of};
 ghost use Rattle.rb_tree.specs.View.{view_of};
 
+use crate::bundles::string;
 use rb_locales::{BadLocale, Name};
-use rb_tree::{Tree, UnitList};
+use rb_tree::Tree;
 use std::alloc::Global;
-use std::test::Fail;
 
-fn string(alloc: Global, text: &[u8]) -> Result<Tree, Fail>
-    ensures { IfOk result (λ t. HasUnits (kind_of (view_of t))) }
-{
-    let mut units = Vec::new(alloc);
-    for b in text {
-        units.push(*b as u16)?;
-    }
-    Ok(Tree::String(UnitList::from_vec(units)))
-}
-
-// Whether a text is read as this name.
+/// Whether a text is read as this name.
 fn reads(text: &[u8], want: &[u8]) -> bool {
     match Name::read(text) {
         Ok(name) => name.as_bytes() == want,
@@ -26,7 +15,7 @@ fn reads(text: &[u8], want: &[u8]) -> bool {
     }
 }
 
-// Whether a tree's units are read as this name.
+/// Whether a tree's units are read as this name.
 fn reads_units(tree: &Tree, want: &[u8]) -> bool
     requires { HasUnits (kind_of (view_of tree.now)) }
 {
@@ -36,66 +25,80 @@ fn reads_units(tree: &Tree, want: &[u8]) -> bool
     }
 }
 
-#[test]
-fn names_are_canonical(rt: HostRuntime) -> Result<(), Fail> {
-    let alloc = rt.alloc();
-    let rows: [(&[u8], &[u8]); 11] = [
-        (b"de-at@x=y", b"de_AT"),
-        (b"ZH-hant-tw", b"zh_Hant_TW"),
-        (b"", b"root"),
-        (b"@x", b"root"),
-        (b"root_DE", b"root_DE"),
-        (b"de_1996", b"de_1996"),
-        (b"DE_at_WIEN", b"de_AT_WIEN"),
-        (
-            b"de@12345678901234567890123456789012345678901234567890123456789012345678901234567890",
-            b"de",
-        ),
-        (
-            b"abcdefgh_abcdefgh_abcdefgh_abcdefgh_abcdefgh_abcdefgh_abcdefgh_1",
-            b"abcdefgh_ABCDEFGH_ABCDEFGH_ABCDEFGH_ABCDEFGH_ABCDEFGH_ABCDEFGH_1",
-        ),
-        (b"en_us_posix", b"en_US_POSIX"),
-        (b"sr_latn_hant", b"sr_Latn_HANT"),
-    ];
-    for (text, want) in rows {
-        let tree = string(alloc, text)?;
-        assert!(rt; reads(text, want) && reads_units(&tree, want));
+/// Texts, and the names that they are read as.
+const NAMES: [(&[u8], &[u8]); 11] = [
+    (b"de-at@x=y", b"de_AT"),
+    (b"ZH-hant-tw", b"zh_Hant_TW"),
+    (b"", b"root"),
+    (b"@x", b"root"),
+    (b"root_DE", b"root_DE"),
+    (b"de_1996", b"de_1996"),
+    (b"DE_at_WIEN", b"de_AT_WIEN"),
+    (
+        b"de@12345678901234567890123456789012345678901234567890123456789012345678901234567890",
+        b"de",
+    ),
+    (
+        b"abcdefgh_abcdefgh_abcdefgh_abcdefgh_abcdefgh_abcdefgh_abcdefgh_1",
+        b"abcdefgh_ABCDEFGH_ABCDEFGH_ABCDEFGH_ABCDEFGH_ABCDEFGH_ABCDEFGH_1",
+    ),
+    (b"en_us_posix", b"en_US_POSIX"),
+    (b"sr_latn_hant", b"sr_Latn_HANT"),
+];
+
+/// Whether a text is read as this name, as bytes and as units.
+fn reads_both(alloc: Global, text: &[u8], want: &[u8]) -> bool {
+    match string(alloc, text) {
+        Some(tree) => reads(text, want) && reads_units(&tree, want),
+        None => false,
     }
-    Ok(())
 }
 
-// Whether a tree's units are no name.
+#[test]
+fn names_are_canonical(rt: HostRuntime) {
+    for (text, want) in NAMES {
+        assert!(rt; reads_both(rt.alloc(), text, want));
+    }
+}
+
+/// Whether a tree's units are no name.
 fn refuses_units(tree: &Tree) -> bool
     requires { HasUnits (kind_of (view_of tree.now)) }
 {
     matches!(Name::read_units(tree), Err(BadLocale))
 }
 
-#[test]
-fn other_texts_are_refused(rt: HostRuntime) -> Result<(), Fail> {
-    let alloc = rt.alloc();
-    let rows: [&[u8]; 10] = [
-        b"de__X",
-        b"d",
-        b"de_DE.UTF-8",
-        b"de-",
-        b"-",
-        b"abcdefghi",
-        b"de_abcdefghi",
-        b"abcdefgh_abcdefgh_abcdefgh_abcdefgh_abcdefgh_abcdefgh_abcdefgh_12",
-        b"d\xC3\xA9",
-        b"?",
-    ];
-    for text in rows {
-        let tree = string(alloc, text)?;
-        assert!(rt; matches!(Name::read(text), Err(BadLocale)) && refuses_units(&tree));
+/// Whether a text is no name, as bytes and as units.
+fn refuses_both(alloc: Global, text: &[u8]) -> bool {
+    match string(alloc, text) {
+        Some(tree) => matches!(Name::read(text), Err(BadLocale)) && refuses_units(&tree),
+        None => false,
     }
-    assert!(rt; BadLocale.word() == "BadLocale");
-    Ok(())
 }
 
-// Whether a name's first part is this one, and `None` stands for no shorter name.
+/// Texts that are no names.
+const NO_NAMES: [&[u8]; 10] = [
+    b"de__X",
+    b"d",
+    b"de_DE.UTF-8",
+    b"de-",
+    b"-",
+    b"abcdefghi",
+    b"de_abcdefghi",
+    b"abcdefgh_abcdefgh_abcdefgh_abcdefgh_abcdefgh_abcdefgh_abcdefgh_12",
+    b"d\xC3\xA9",
+    b"?",
+];
+
+#[test]
+fn other_texts_are_refused(rt: HostRuntime) {
+    for text in NO_NAMES {
+        assert!(rt; refuses_both(rt.alloc(), text));
+    }
+    assert!(rt; BadLocale.word() == "BadLocale");
+}
+
+/// Whether a name's first part is this one, and `None` stands for no shorter name.
 fn shortens(text: &[u8], want: Option<&[u8]>) -> bool {
     match (Name::read(text), want) {
         (Ok(name), Some(want)) => name.shorter().is_some_and(|part| part.as_bytes() == want),

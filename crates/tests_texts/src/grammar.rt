@@ -1,5 +1,6 @@
 // Numbers, bytes and keys of worked examples.
-use rb_grammar::{is_key, read_bytes, read_element, read_int};
+use rb_grammar::{read_bytes, read_element, read_int};
+use rb_tree::key_ok;
 use std::alloc::Global;
 use std::test::Fail;
 
@@ -75,11 +76,6 @@ fn spells_nothing(alloc: Global, text: &str) -> Result<bool, Fail> {
     Ok(read_bytes(alloc, &units(alloc, text)?)?.is_none())
 }
 
-/// Whether a text is a key.
-fn is_key_text(alloc: Global, text: &str) -> Result<bool, Fail> {
-    Ok(is_key(&units(alloc, text)?))
-}
-
 #[test]
 fn reads_bytes_and_keys(rt: HostRuntime) -> Result<(), Fail> {
     let alloc = rt.alloc();
@@ -87,7 +83,7 @@ fn reads_bytes_and_keys(rt: HostRuntime) -> Result<(), Fail> {
     assert!(rt; spells(alloc, "0 0", &[0])?);
     assert!(rt; spells(alloc, " ", &[])?);
     assert!(rt; spells_nothing(alloc, "0")?);
-    assert!(rt; is_key_text(alloc, "a b~")?);
-    assert!(rt; !is_key_text(alloc, "")?);
+    assert!(rt; key_ok(b"a b~"));
+    assert!(rt; !key_ok(b""));
     Ok(())
 }

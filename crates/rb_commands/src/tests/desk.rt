@@ -125,7 +125,7 @@ impl Desk {
     }
 
     /// Puts a file on the desk.
-    pub fn put(&self, path: &str, bytes: &[u8]) -> io::Result<Bytes> {
+    fn place(&self, path: &str, bytes: &[u8]) -> io::Result<Bytes> {
         let held = Rc::new(self.alloc, RefCell::new(bytes.to_vec(self.alloc)?))?;
         let Ok(mut files) = self.files.try_borrow_mut() else {
             return Err(io::Error::from(ErrorKind::ResourceBusy));
@@ -137,11 +137,25 @@ impl Desk {
         Ok(held)
     }
 
-    /// A file's bytes, copied.
-    pub fn bytes(&self, path: &str) -> Option<Vec<u8>> {
-        let shared = self.shared(path)?;
-        let bytes = shared.try_borrow().ok()?;
-        bytes.to_vec(self.alloc).ok()
+    /// Puts a file on the desk; whether there was memory.
+    pub fn put(&self, path: &str, bytes: &[u8]) -> bool {
+        self.place(path, bytes).is_ok()
+    }
+
+    /// Whether a file is there and has these bytes.
+    pub fn has(&self, path: &str, bytes: &[u8]) -> bool {
+        match self.shared(path) {
+            Some(shared) => match shared.try_borrow() {
+                Ok(held) => held.as_slice() == bytes,
+                Err(_) => false,
+            },
+            None => false,
+        }
+    }
+
+    /// Whether there is such a file.
+    pub fn keeps(&self, path: &str) -> bool {
+        self.find(path).is_some()
     }
 
     /// From now on nothing can be printed to standard output.
@@ -149,18 +163,11 @@ impl Desk {
         self.output_is_closed.set(true);
     }
 
-    /// What was printed to standard output since the last call.
-    pub fn output(&self) -> String {
-        self.output
-            .try_replace(String::new(self.alloc))
-            .unwrap_or(String::new(self.alloc))
-    }
-
-    /// What was printed to standard error since the last call.
-    pub fn errors(&self) -> String {
-        self.errors
-            .try_replace(String::new(self.alloc))
-            .unwrap_or(String::new(self.alloc))
+    /// Whether this was printed to standard output and to standard error since the last call.
+    pub fn said(&self, output: &str, errors: &str) -> bool {
+        let printed = taken(self.alloc, &self.output);
+        let complained = taken(self.alloc, &self.errors);
+        printed.as_str() == output && complained.as_str() == errors
     }
 
     fn say<D: Display + Drop>(
@@ -175,6 +182,12 @@ impl Desk {
             Err(_) => Err(io::Error::from(ErrorKind::ResourceBusy)),
         }
     }
+}
+
+/// What was printed since the last call.
+fn taken(alloc: Global, said: &RefCell<String>) -> String {
+    said.try_replace(String::new(alloc))
+        .unwrap_or(String::new(alloc))
 }
 
 impl Alloc for Desk {
@@ -231,7 +244,7 @@ impl Files for Desk {
         how.check()?;
         let bytes = match self.shared(path) {
             Some(bytes) => bytes,
-            None if how.asks_create() => self.put(path, &[])?,
+            None if how.asks_create() => self.place(path, &[])?,
             None => return Err(io::Error::from(ErrorKind::NotFound)),
         };
         let paper = Paper {

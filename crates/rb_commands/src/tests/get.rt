@@ -1,12 +1,12 @@
 //! Items of files in memory, and paths that have none.
-use super::HOLDS_ITSELF;
+use super::Step::{Get, Put};
 use super::desk::Desk;
-use crate::commands::{compile, get};
+use super::{HOLDS_ITSELF, ROOM, Step, all_steps, are_steps};
+use crate::commands::compile;
 use crate::item::{ItemError, text_at};
 use rb_tree::{Tree, UnitList};
 use std::alloc::Global;
 use std::process::ExitCode;
-use std::test::Fail;
 
 const ONE_STRING: &[u8] = b"root{a{\"b\"}}";
 
@@ -31,54 +31,52 @@ const FOUND: [(&[u8], &str, &str); 5] = [
     ),
 ];
 
+/// A desk with the file of a bundle text; none where the text isn't compiled.
+fn desk_with(alloc: Global, text: &[u8]) -> Option<Desk> {
+    let desk = Desk::new(alloc, ROOM);
+    if !desk.put("in.txt", text) || compile(&desk, "in.txt", "a.res") != ExitCode::SUCCESS {
+        return None;
+    }
+    let _ = desk.said("", "");
+    Some(desk)
+}
+
+/// Whether each step on a desk with the file of a bundle text is as it says.
+fn are_steps_with(alloc: Global, text: &[u8], steps: &[Step<'_>]) -> bool {
+    match desk_with(alloc, text) {
+        Some(desk) => all_steps(&desk, steps),
+        None => false,
+    }
+}
+
+#[test]
+fn prints_items(rt: HostRuntime) {
+    for (text, path, said) in FOUND {
+        assert!(rt; are_steps_with(rt.alloc(), text, &[Get("a.res", path, 0, said, "")]));
+    }
+}
+
 /// Paths that have no item in a bundle with one string, and what is printed.
-const NONE: [(&str, &str); 3] = [
-    ("a/b", "a/b: Missing\n"),
-    ("b", "b: Missing\n"),
-    ("a//b", "a//b: BadPath\n"),
+const NONE: [Step<'static>; 3] = [
+    Get("a.res", "a/b", 1, "", "a/b: Missing\n"),
+    Get("a.res", "b", 1, "", "b: Missing\n"),
+    Get("a.res", "a//b", 1, "", "a//b: BadPath\n"),
 ];
 
-/// A desk with the file of a bundle text.
-fn desk_with(alloc: Global, text: &[u8]) -> Result<Desk, Fail> {
-    let desk = Desk::new(alloc, 1000);
-    desk.put("in.txt", text)?;
-    if compile(&desk, "in.txt", "a.res") != ExitCode::SUCCESS {
-        return Err("the text is not compiled".into());
-    }
-    desk.output();
-    Ok(desk)
+#[test]
+fn says_why_there_is_no_item(rt: HostRuntime) {
+    assert!(rt; are_steps_with(rt.alloc(), ONE_STRING, &NONE));
 }
 
-#[test]
-fn prints_items(rt: HostRuntime) -> Result<(), Fail> {
-    for (text, path, said) in FOUND {
-        let desk = desk_with(rt.alloc(), text)?;
-        assert!(rt; get(&desk, "a.res", path) == ExitCode::SUCCESS);
-        assert_eq!(rt; desk.output().as_str(), said);
-    }
-    Ok(())
-}
+const NO_FILE: [Step<'static>; 3] = [
+    Put("bad.res", &HOLDS_ITSELF),
+    Get("bad.res", "a//b", 1, "", "bad.res: TooDeep\n"),
+    Get("absent.res", "a", 2, "", "cannot read absent.res\n"),
+];
 
 #[test]
-fn says_why_there_is_no_item(rt: HostRuntime) -> Result<(), Fail> {
-    let desk = desk_with(rt.alloc(), ONE_STRING)?;
-    for (path, said) in NONE {
-        assert!(rt; get(&desk, "a.res", path) == ExitCode::from(1));
-        assert_eq!(rt; desk.errors().as_str(), said);
-        assert_eq!(rt; desk.output().as_str(), "");
-    }
-    Ok(())
-}
-
-#[test]
-fn says_why_a_file_is_refused(rt: HostRuntime) -> Result<(), Fail> {
-    let desk = Desk::new(rt.alloc(), 1000);
-    desk.put("bad.res", &HOLDS_ITSELF)?;
-    assert!(rt; get(&desk, "bad.res", "a//b") == ExitCode::from(1));
-    assert_eq!(rt; desk.errors().as_str(), "bad.res: TooDeep\n");
-    assert!(rt; get(&desk, "absent.res", "a") == ExitCode::from(2));
-    assert_eq!(rt; desk.errors().as_str(), "cannot read absent.res\n");
-    Ok(())
+fn says_why_a_file_is_refused(rt: HostRuntime) {
+    assert!(rt; are_steps(rt.alloc(), ROOM, &NO_FILE));
 }
 
 /// Paths of many bytes, and why they have no item in a tree without children.
@@ -88,10 +86,9 @@ const LONG: [(&[u8], ItemError); 2] = [
 ];
 
 #[test]
-fn limits_paths(rt: HostRuntime) -> Result<(), Fail> {
-    let leaf = Tree::String(UnitList::from_vec(Vec::new(rt.alloc())));
+fn limits_paths(rt: HostRuntime) {
+    let leaf = Tree::String(UnitList::new(rt.alloc()));
     for (path, error) in LONG {
         assert!(rt; text_at(rt.alloc(), &leaf, path).err() == Some(error));
     }
-    Ok(())
 }

@@ -1,7 +1,7 @@
-use Rattle.std.proofs.Common.{◌≡◌, ◌-◌, Ok, Err, ap, sym, ◌∙◌, subst, arith}
+use Rattle.std.proofs.Common.{◌-◌, Ok, Err, ap, sym, ◌∙◌, subst, arith}
 use Rattle.rb_tree.specs.Path.{segments}
 use Rattle.rb_parents.specs.Family.{parent_of}
-use Rattle.rb_fallback.specs.Search.{bundles_of, first_stop, found, goes, level, setting_of, step}
+use Rattle.rb_fallback.specs.Search.{bundles_of, found, goes, level, setting_of, step}
 use Rattle.rb_fallback.specs.Steps.{IsFollowed, GoesOn, GoesLong}
 use Rattle.rb_fallback.specs.declared.fault.LookError.TheVariants as fault
 use Rattle.rb_fallback.specs.declared.limits.TheConstants.{LEVEL_LIMIT}
@@ -11,10 +11,7 @@ use Rattle.rb_fallback.proofs.search.search_on.Goals as goal
 
 pub follow_alias-requires-clause-alias : goal.follow_alias-requires-clause-alias
 follow_alias-requires-clause-alias g c =
-    let p = c.loop-level.here in
-    let bundles = bundles_of (g.S.Shelf.bundles c.args.own) (g.I.Shelf.bundles c.args.icu) p.icudata in
-    let parents = parent_of c.args.parents.now in
-    link_kind g.S.N.Node.tree c.in_ok-hit.hit c.in-Link.node c.in-Link.cut p.path.items bundles parents p.name (first_stop bundles parents p.name) c.in_ok-hit.ensures.level c.in-Link.is
+    link_kind g.S.N.Node.tree c.in_ok-hit.hit c.in-Link.node c.in-Link.cut c.loop-level.here.path.items _ _ _ _ c.in_ok-hit.ensures.level c.in-Link.is
 
 pub returns-in_err-hit-clause-answer : goal.returns-in_err-hit-clause-answer
 returns-in_err-hit-clause-answer g c =
@@ -27,66 +24,50 @@ returns-in_err-hit-clause-answer g c =
 
 pub returns-in-End-clause-answer : goal.returns-in-End-clause-answer
 returns-in-End-clause-answer g c =
-    let tree = g.S.N.Node.tree in
-    let bundles = bundles_of (g.S.Shelf.bundles c.args.own) (g.I.Shelf.bundles c.args.icu) c.loop-level.here.icudata in
-    let parents = parent_of c.args.parents.now in
-    let s = setting_of (g.S.Shelf.bundles c.args.own) (g.I.Shelf.bundles c.args.icu) parents c.args.valid in
+    let s = setting_of (g.S.Shelf.bundles c.args.own) (g.I.Shelf.bundles c.args.icu) (parent_of c.args.parents.now) c.args.valid in
     let p = c.loop-level.here in
     let hit = c.in_ok-hit.hit in
-    let met = step_end tree hit c.in-End.node p.path.items (level bundles parents p.name (segments p.path.items)) (first_stop bundles parents p.name) p.icudata c.args.valid c.in_ok-hit.ensures.level c.in-End.is in
-    sym (level_step LEVEL_LIMIT c.loop-level.level s p.icudata p.name p.path.items (Ok (found (tree c.in-End.node) hit.actual)) (omega arith) c.level_at.ensures.short met) ∙ c.loop-level.invariant.same
+    let met = step_end g.S.N.Node.tree hit c.in-End.node p.path.items _ _ p.icudata c.args.valid c.in_ok-hit.ensures.level c.in-End.is in
+    sym (level_step LEVEL_LIMIT c.loop-level.level s p.icudata p.name p.path.items (Ok (found (g.S.N.Node.tree c.in-End.node) hit.actual)) (omega arith) c.level_at.ensures.short met) ∙ c.loop-level.invariant.same
 
 pub returns-in-Gone-clause-answer : goal.returns-in-Gone-clause-answer
 returns-in-Gone-clause-answer g c =
-    let tree = g.S.N.Node.tree in
-    let bundles = bundles_of (g.S.Shelf.bundles c.args.own) (g.I.Shelf.bundles c.args.icu) c.loop-level.here.icudata in
-    let parents = parent_of c.args.parents.now in
-    let s = setting_of (g.S.Shelf.bundles c.args.own) (g.I.Shelf.bundles c.args.icu) parents c.args.valid in
+    let s = setting_of (g.S.Shelf.bundles c.args.own) (g.I.Shelf.bundles c.args.icu) (parent_of c.args.parents.now) c.args.valid in
     let p = c.loop-level.here in
-    let met = step_gone tree c.in_ok-hit.hit p.path.items (level bundles parents p.name (segments p.path.items)) (first_stop bundles parents p.name) p.icudata c.args.valid c.in_ok-hit.ensures.level c.in-Gone.is in
+    let met = step_gone g.S.N.Node.tree c.in_ok-hit.hit p.path.items _ _ p.icudata c.args.valid c.in_ok-hit.ensures.level c.in-Gone.is in
     sym (level_step LEVEL_LIMIT c.loop-level.level s p.icudata p.name p.path.items (Err fault.Missing) (omega arith) c.level_at.ensures.short met) ∙ c.loop-level.invariant.same
 
 pub returns-in_err-next-in-Link-clause-answer : goal.returns-in_err-next-in-Link-clause-answer
 returns-in_err-next-in-Link-clause-answer g c =
-    let tree = g.S.N.Node.tree in
-    let bundles = bundles_of (g.S.Shelf.bundles c.args.own) (g.I.Shelf.bundles c.args.icu) c.loop-level.here.icudata in
-    let parents = parent_of c.args.parents.now in
-    let s = setting_of (g.S.Shelf.bundles c.args.own) (g.I.Shelf.bundles c.args.icu) parents c.args.valid in
+    let s = setting_of (g.S.Shelf.bundles c.args.own) (g.I.Shelf.bundles c.args.icu) (parent_of c.args.parents.now) c.args.valid in
     let p = c.loop-level.here in
     let e = c.in_err-next-in-Link.field-0.0 in
-    let met : step p.icudata c.args.valid (level bundles parents p.name (segments p.path.items)) ≡ Err e =
-    follow_link tree c.in_ok-hit.hit c.in-Link.node c.in-Link.cut p.path.items c.as_slice.result.now bundles parents p.name (first_stop bundles parents p.name) p.icudata c.args.valid (Err e) c.in_ok-hit.ensures.level c.in-Link.is c.as_slice.ensures.value c.in_err-next-in-Link.ensures in
-    answer_err tree c.from_residual-in_err-next-in-Link.result e c.from_residual-in_err-next-in-Link.ensures.1
+    let met = follow_link g.S.N.Node.tree c.in_ok-hit.hit c.in-Link.node c.in-Link.cut p.path.items c.as_slice.result.now _ _ _ _ p.icudata c.args.valid (Err e) c.in_ok-hit.ensures.level c.in-Link.is c.as_slice.ensures.value c.in_err-next-in-Link.ensures in
+    answer_err g.S.N.Node.tree c.from_residual-in_err-next-in-Link.result e c.from_residual-in_err-next-in-Link.ensures.1
     ∙ sym (level_step LEVEL_LIMIT c.loop-level.level s p.icudata p.name p.path.items (Err e) (omega arith) c.level_at.ensures.short met)
     ∙ c.loop-level.invariant.same
 
 pub returns-in-None-clause-answer : goal.returns-in-None-clause-answer
 returns-in-None-clause-answer g c =
-    let tree = g.S.N.Node.tree in
-    let bundles = bundles_of (g.S.Shelf.bundles c.args.own) (g.I.Shelf.bundles c.args.icu) c.loop-level.here.icudata in
-    let parents = parent_of c.args.parents.now in
-    let s = setting_of (g.S.Shelf.bundles c.args.own) (g.I.Shelf.bundles c.args.icu) parents c.args.valid in
+    let s = setting_of (g.S.Shelf.bundles c.args.own) (g.I.Shelf.bundles c.args.icu) (parent_of c.args.parents.now) c.args.valid in
     let p = c.loop-level.here in
-    let r = step p.icudata c.args.valid (level bundles parents p.name (segments p.path.items)) in
+    let r = step p.icudata c.args.valid (level (bundles_of s.own s.icu p.icudata) s.parents p.name (segments p.path.items)) in
     let met : GoesLong r =
     subst (λ o. IsFollowed (Ok o) r) c.in-None.is
-    (follow_link tree c.in_ok-hit.hit c.in-Link.node c.in-Link.cut p.path.items c.as_slice.result.now bundles parents p.name (first_stop bundles parents p.name) p.icudata c.args.valid (Ok c.in_ok-next-in-Link.field-0) c.in_ok-hit.ensures.level c.in-Link.is c.as_slice.ensures.value c.in_ok-next-in-Link.ensures) in
+    (follow_link g.S.N.Node.tree c.in_ok-hit.hit c.in-Link.node c.in-Link.cut p.path.items c.as_slice.result.now _ _ _ _ p.icudata c.args.valid (Ok c.in_ok-next-in-Link.field-0) c.in_ok-hit.ensures.level c.in-Link.is c.as_slice.ensures.value c.in_ok-next-in-Link.ensures) in
     sym (long_end LEVEL_LIMIT c.loop-level.level s met.in_icu met.name met.rest c.next_fault.result (omega arith) met.long c.next_fault.ensures)
     ∙ sym (level_step LEVEL_LIMIT c.loop-level.level s p.icudata p.name p.path.items (Ok (goes met.in_icu met.name met.rest)) (omega arith) c.level_at.ensures.short met.onto)
     ∙ c.loop-level.invariant.same
 
 pub loop-level-preserved : goal.loop-level-preserved
 loop-level-preserved g c =
-    let tree = g.S.N.Node.tree in
-    let bundles = bundles_of (g.S.Shelf.bundles c.args.own) (g.I.Shelf.bundles c.args.icu) c.loop-level.here.icudata in
-    let parents = parent_of c.args.parents.now in
-    let s = setting_of (g.S.Shelf.bundles c.args.own) (g.I.Shelf.bundles c.args.icu) parents c.args.valid in
+    let s = setting_of (g.S.Shelf.bundles c.args.own) (g.I.Shelf.bundles c.args.icu) (parent_of c.args.parents.now) c.args.valid in
     let p = c.loop-level.here in
     let q = c.in-Some.next in
-    let r = step p.icudata c.args.valid (level bundles parents p.name (segments p.path.items)) in
+    let r = step p.icudata c.args.valid (level (bundles_of s.own s.icu p.icudata) s.parents p.name (segments p.path.items)) in
     let met : GoesOn q r =
     subst (λ o. IsFollowed (Ok o) r) c.in-Some.is
-    (follow_link tree c.in_ok-hit.hit c.in-Link.node c.in-Link.cut p.path.items c.as_slice.result.now bundles parents p.name (first_stop bundles parents p.name) p.icudata c.args.valid (Ok c.in_ok-next-in-Link.field-0) c.in_ok-hit.ensures.level c.in-Link.is c.as_slice.ensures.value c.in_ok-next-in-Link.ensures) in
+    (follow_link g.S.N.Node.tree c.in_ok-hit.hit c.in-Link.node c.in-Link.cut p.path.items c.as_slice.result.now _ _ _ _ p.icudata c.args.valid (Ok c.in_ok-next-in-Link.field-0) c.in_ok-hit.ensures.level c.in-Link.is c.as_slice.ensures.value c.in_ok-next-in-Link.ensures) in
     record {
       path = met.path;
       same =

@@ -18,6 +18,8 @@ loop-unit-preserved c =
     let next : c.digit-next.result ≡ digit_value (get_or us i 0) = c.digit-next.ensures.value in
     let more = digits_value_more c.args.radix us i (grind arith) in (
       digits_more c.args.radix us i (grind arith) c.loop-unit.invariant.0 (grind (arith, next)),
-      c.min-value.ensures ∙ ap (λ v. min (v * c.args.radix + c.digit-next.result) CEILING) c.loop-unit.invariant.1 ∙ ap (λ v. min (min (digits_value c.args.radix (take i us)) CEILING * c.args.radix + v) CEILING) next
-          ∙ min_step (digits_value c.args.radix (take i us)) c.args.radix (digit_value (get_or us i 0)) CEILING c.requires.least ∙ ap (λ v. min v CEILING) (sym more),
+      c.min-value.ensures ∙ ap (λ v. min (v * c.args.radix + c.digit-next.result) CEILING) c.loop-unit.invariant.1
+          ∙ ap (λ v. min (min (digits_value c.args.radix (take i us)) CEILING * c.args.radix + v) CEILING) next
+          ∙ min_step (digits_value c.args.radix (take i us)) c.args.radix (digit_value (get_or us i 0)) CEILING c.requires.least
+          ∙ ap (λ v. min v CEILING) (sym more),
     )

@@ -3,7 +3,8 @@ use Rattle.rb_lexer.proofs.Comments.{line_more, line_ends, line_over}
 use Rattle.rb_lexer.proofs.comment.past_line.Goals as goal
 
 pub returns-then-ends_line-clause-taken : goal.returns-then-ends_line-clause-taken
-returns-then-ends_line-clause-taken c = line_ends _ _ c.line.invariant.so_far c.in-Some.c _ c.in-Some.ensures.taken (sym c.ends_line.ensures ∙ c.if-ends_line.true)
+returns-then-ends_line-clause-taken c =
+    line_ends _ _ c.line.invariant.so_far c.in-Some.c _ c.in-Some.ensures.taken (sym c.ends_line.ensures ∙ c.if-ends_line.true)
 
 pub line-preserved : goal.line-preserved
 line-preserved c = record {

@@ -15,10 +15,12 @@ items-init c = record {
 }
 
 pub returns-in_err-item-clause-ends : goal.returns-in_err-item-clause-ends
-returns-in_err-item-clause-ends c = let p = err_from_is_err_and c.from_residual.result c.from_residual.ensures.1 in rw (p.1, p.2) (items_stop _ _ _ _ _ _ _ c.items.invariant.so_far c.in_err-item.field-0.0 c.in_err-item.ensures.taken)
+returns-in_err-item-clause-ends c = let p = err_from_is_err_and c.from_residual.result c.from_residual.ensures.1 in
+    rw (p.1, p.2) (items_stop _ _ _ _ _ _ _ c.items.invariant.so_far c.in_err-item.field-0.0 c.in_err-item.ensures.taken)
 
 pub returns-in_err-add-clause-ends : goal.returns-in_err-add-clause-ends
-returns-in_err-add-clause-ends c = let p = err_from_is_err_and c.from_residual-in_err-add.result c.from_residual-in_err-add.ensures.1 in rw (p.1, p.2) (λ not_memory. absurd (not_memory c.in_err-add.ensures.memory))
+returns-in_err-add-clause-ends c = let p = err_from_is_err_and c.from_residual-in_err-add.result c.from_residual-in_err-add.ensures.1 in
+    rw (p.1, p.2) (λ not_memory. absurd (not_memory c.in_err-add.ensures.memory))
 
 pub line_feeds-line-requires-clause-order : goal.line_feeds-line-requires-clause-order
 line_feeds-line-requires-clause-order c =
@@ -32,14 +34,18 @@ items-preserved c =
     let p = turn_place c.items.first (chars c.items.rest.now) (chars c.in-Some.after.now) (length c.args.text.now) c.items.invariant.at w.0 w.1 in
     record {
       text = search rules;
-      so_far = items_turn _ _ _ _ _ _ _ c.items.invariant.so_far (length c.args.text.now) c.items.invariant.at w.0 _ w.1 w.2 (c.width.result - c.width-in-Some.result) (omega (arith, c.width.ensures.bytes, c.width-in-Some.ensures.characters)) _ _ _ (λ xs e. c.in_ok-add.ensures.added _ w.0 xs w.3 c.items.invariant.line_is e);
+      so_far =
+          items_turn _ _ _ _ _ _ _ c.items.invariant.so_far (length c.args.text.now) c.items.invariant.at w.0 _ w.1 w.2
+          (c.width.result - c.width-in-Some.result) (omega (arith, c.width.ensures.bytes, c.width-in-Some.ensures.characters)) _ _ _
+          (λ xs e. c.in_ok-add.ensures.added _ w.0 xs w.3 c.items.invariant.line_is e);
       at = omega (arith, p, c.width.ensures.bytes, c.width-in-Some.ensures.characters);
       line_is = rw c.items.invariant.line_is (rw c.as_bytes.ensures.value at c.line_feeds-line.ensures);
       no_longer = let shorter = rw c.in-Some.is at c.in_ok-item.ensures.shorter in omega (arith, shorter, c.items.invariant.no_longer);
     }
 
 pub returns-clause-ends : goal.returns-clause-ends
-returns-clause-ends c = finish_so _ _ _ _ _ _ _ _ c.items.invariant.so_far (rw c.in_default.is at c.in_ok-item.ensures.taken) c.finish.ensures.memory c.finish.ensures.tokens
+returns-clause-ends c =
+    finish_so _ _ _ _ _ _ _ _ c.items.invariant.so_far (rw c.in_default.is at c.in_ok-item.ensures.taken) c.finish.ensures.memory c.finish.ensures.tokens
 
 pub returns-in_err-item-clause-whole : goal.returns-in_err-item-clause-whole
 returns-in_err-item-clause-whole c = ap length (encodes-chars c.args.text.now c.utf8.text)

@@ -7,7 +7,12 @@ use Rattle.rb_lexer.proofs.Parts.{GoesOn}
 use Rattle.rb_lexer.proofs.quoted.quoted.Given as goal
 
 abbrev pub invariant-parts : goal.invariant-parts
-invariant-parts l = record { text : shadow (Utf8 l.rest); so_far : GoesOn IsQuotedPart [] (chars l.initial.rest) l.units (chars l.rest); no_longer : length l.rest ≤ length l.initial.rest }
+invariant-parts l =
+    record {
+      text : shadow (Utf8 l.rest);
+      so_far : GoesOn IsQuotedPart [] (chars l.initial.rest) l.units (chars l.rest);
+      no_longer : length l.rest ≤ length l.initial.rest;
+    }
 
 abbrev pub decreases-parts : goal.decreases-parts
 decreases-parts l = length l.rest

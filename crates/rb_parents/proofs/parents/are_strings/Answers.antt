@@ -8,7 +8,8 @@ use Rattle.rb_parents.proofs.parents.are_strings.Goals as goal
 pub returns-then-ne : goal.returns-then-ne
 returns-then-ne c =
     let other : kind_of (view_of c.at.result.now) ≡ Kinds.String → ⊥ = search rules in
-    array_texts (view_of c.args.value.now) c.requires ∙ strings_none (children_of (view_of c.args.value.now)) c.loop-i.i (view_of c.at.result.now) (sym c.at.ensures) other
+    array_texts (view_of c.args.value.now) c.requires ∙ strings_none (children_of (view_of c.args.value.now)) c.loop-i.i (view_of c.at.result.now)
+    (sym c.at.ensures) other
 
 pub loop-i-preserved : goal.loop-i-preserved
 loop-i-preserved c =
@@ -18,4 +19,5 @@ loop-i-preserved c =
 pub returns : goal.returns
 returns c =
     let t = view_of c.args.value.now in
-    array_texts t c.requires ∙ strings_all (children_of t) (λ k d l. c.loop-i.invariant k d (omega (arith, array_len t c.requires, c.len-i-end.ensures, c.loop-i-test.false)))
+    array_texts t c.requires ∙ strings_all (children_of t) (λ k d l. c.loop-i.invariant k d
+    (omega (arith, array_len t c.requires, c.len-i-end.ensures, c.loop-i-test.false)))

@@ -3,7 +3,8 @@ use Rattle.rb_parser.proofs.leaf.read_binary.Goals as goal
 
 pub returns-in-Some-2-clause-exact : goal.returns-in-Some-2-clause-exact
 returns-in-Some-2-clause-exact c =
-    rw c.from_vec-in-Some-2.ensures (bytes_read c.args.cursor.now.rest.items c.take_text.new.self.rest.items c.in-Some.text c.in-Some-2.bytes.items c.in-Some.ensures.text c.in-Some.ensures.rest
+    rw c.from_vec-in-Some-2.ensures (bytes_read c.args.cursor.now.rest.items c.take_text.new.self.rest.items c.in-Some.text c.in-Some-2.bytes.items
+    c.in-Some.ensures.text c.in-Some.ensures.rest
     (bytes_some c.in_ok-bytes.field-0 c.in-Some-2.bytes c.as_slice.result.now c.in-Some.text c.in_ok-bytes.ensures c.in-Some-2.is c.as_slice.ensures))
 
 pub returns-clause-exact : goal.returns-clause-exact

@@ -16,7 +16,8 @@ pub returns-in_default-read_element-clause-exact : goal.returns-in_default-read_
 returns-in_default-read_element-clause-exact c = λ n enough other.
     let ts = c.numbers.cursor.rest.items in
     let comes : first_text ts ≡ Some c.in-Some.text = c.in-Some.ensures.text in
-    numbers_stop n c.args.cursor.now.end c.args.cursor.now.rest.items ts c.numbers.found.items c.in-Some.text c.fault-bad.result (c.numbers.invariant.so_far n enough) comes
+    numbers_stop n c.args.cursor.now.end c.args.cursor.now.rest.items ts c.numbers.found.items c.in-Some.text c.fault-bad.result
+    (c.numbers.invariant.so_far n enough) comes
     (λ z h. c.in_default-read_element.ensures z (rw c.as_slice.ensures h)) c.fault-bad.ensures.kind
     (c.fault-bad.ensures.line ∙ ap (λ e. line_at e ts) c.numbers.invariant.same_end)
 
@@ -30,7 +31,9 @@ numbers-preserved c =
     record {
       same_end = c.take.ensures.same_end ∙ c.take_text.ensures.same_end ∙ c.numbers.invariant.same_end;
       no_longer = omega (arith, c.numbers.invariant.no_longer);
-      so_far = λ n enough. rw same (numbers_turn n c.args.cursor.now.rest.items ts c.take.new.self.rest.items c.numbers.found.items c.in-Some.text c.in-Some-read_element.number (c.numbers.invariant.so_far n enough) comes means
+      so_far =
+          λ n enough. rw same (numbers_turn n c.args.cursor.now.rest.items ts c.take.new.self.rest.items c.numbers.found.items c.in-Some.text
+          c.in-Some-read_element.number (c.numbers.invariant.so_far n enough) comes means
           (c.take.ensures.rest ∙ ap after_comma c.in-Some.ensures.rest) shorter);
     }
 

@@ -1,12 +1,17 @@
-use Rattle.std.proofs.Common.{[], ◌∷◌, ◌++◌, ◌∙◌, ap}
-use Rattle.std.proofs.lemmas.Result.{IfOk-weaker}
-use Rattle.serde_json.specs.Data.{Data}
-use Rattle.serde_json.specs.Written.{compact_text, has_float}
-use Rattle.rb_requests.proofs.NoFloats.{has_float-data_told}
+use Rattle.std.proofs.Common.{◌≡◌, Option, option_map, option_and_then, sym, ◌∙◌, ap, subst}
+use Rattle.std.proofs.lemmas.Result.{on_ok_weaker}
+use Rattle.serde_json.specs.View.{view}
+use Rattle.rb_engine.specs.Ask.{Call}
+use Rattle.rb_engine.specs.Kept.{state_of}
+use Rattle.rb_requests.specs.Asked.{call_in, call_of}
+use Rattle.rb_requests.specs.MayTell.{LineTold}
 use Rattle.rb_requests.proofs.answer.reply_of.Goals as goal
 
-pub returns-clause-told : goal.returns-clause-told
-returns-clause-told c =
-    let told = c.in_ok-value.ensures.told in
-    let plain = ap has_float told.2 ∙ has_float-data_told told.0 in
-    IfOk-weaker c.text_of.result _ _ (λ text h. (told.0, told.1, h plain ∙ ap (λ (d : Data). compact_text d ++ 10 ∷ []) told.2)) c.text_of.ensures
+pub returns-in-Some-clause-told : goal.returns-in-Some-clause-told
+returns-in-Some-clause-told c =
+    let calls : call_in (view c.in-Some.value) ≡ call_of c.args.line.now =
+    ap (option_and_then call_in) (sym (ap (option_map view) c.in-Some.is) ∙ c.in_ok-json_of.ensures) in
+    on_ok_weaker c.answer_texts-in-Some.result
+    (λ told. subst (λ (call : Option Call). LineTold (state_of c.args.engine.now) call c.answer_texts-in-Some.new.reply (state_of c.answer_texts-in-Some.new.engine))
+    calls (told (view c.in-Some.value) c.texts_of.ensures))
+    c.answer_texts-in-Some.ensures.told

@@ -22,7 +22,7 @@ use Rattle.rb_validator.proofs.items.+check.Goals as goal
 pub check_inner-returns-in-Open-clause-value : goal.check_inner-returns-in-Open-clause-value
 check_inner-returns-in-Open-clause-value t c =
     let cells = c.args.state.now.memo in
-    let is : mark_at cells c.args.kind (offset_of c.args.item) ≡ 255 = open_is _ (rw c.item_offset.ensures at c.in-Open.ensures) in
+    let is : mark_at cells c.args.kind (offset_of c.args.item) ≡ 65 = open_is _ (rw c.item_offset.ensures at c.in-Open.ensures) in
     sym (err_height _ TooDeep (cycle_deep c.args.layout.now c.args.body.now cells c.args.left c.args.item c.args.kind c.requires.leads c.requires.is_kind
     c.requires.there c.requires.inner is))
 
@@ -344,7 +344,7 @@ enter-check_items-requires t c =
     let inside : cell k o < length cells = rw c.requires.keeps.long (cell_low k o y.top c.requires.below) in
     let there : Ok c.in_ok-found.found ≡ children_at y body k o = rw c.item_offset-offset.ensures at c.in_ok-found.ensures.value in
     let at = children_there y body k o c.in_ok-found.found c.requires.inner (sym there) in
-    let new : c.enter.new.self ≡ set cells (cell k o) 255 = rw c.item_offset-offset.ensures at c.enter.ensures in (
+    let new : c.enter.new.self ≡ set cells (cell k o) 65 = rw c.item_offset-offset.ensures at c.enter.ensures in (
       omega arith,
       (
         c.requires.room,
@@ -361,8 +361,8 @@ enter-check_items-requires t c =
                   (
                     rw new (opened_keeps y body cells c.args.item k c.requires.keeps c.requires.met c.requires.is_kind c.requires.inner c.requires.full inside),
                     (
-                      rw new (runs_set y body cells (cell k o) 255 c.args.state.now.runs (λ z. omega arith) inside c.requires.holds),
-                      rw new (leads_shift y body (set cells (cell k o) 255) c.in_ok-found.found.first c.in_ok-found.found.count
+                      rw new (runs_set y body cells (cell k o) 65 c.args.state.now.runs (λ z. omega arith) inside c.requires.holds),
+                      rw new (leads_shift y body (set cells (cell k o) 65) c.in_ok-found.found.first c.in_ok-found.found.count
                           (leads_children y body cells c.args.item k c.in_ok-found.found c.requires.leads c.requires.is_kind c.requires.there c.requires.inner
                           inside (sym there))),
                     ),
@@ -396,7 +396,7 @@ enter-returns-clause-after t c =
     let cells = c.args.state.now.memo in
     let inside : cell k o < length cells = rw c.requires.keeps.long (cell_low k o y.top c.requires.below) in
     let there : Ok c.in_ok-found.found ≡ children_at y body k o = rw c.item_offset-offset.ensures at c.in_ok-found.ensures.value in
-    let new : c.enter.new.self ≡ set cells (cell k o) 255 = rw c.item_offset-offset.ensures at c.enter.ensures in
+    let new : c.enter.new.self ≡ set cells (cell k o) 65 = rw c.item_offset-offset.ensures at c.enter.ensures in
     let a = rw new at c.in_ok-below.ensures.after in
     let low = c.in_ok-below.ensures.low in
     rw (c.finish.ensures, c.item_offset-offset.ensures) (entered_after y body cells c.check_items.new.state.memo c.args.left c.args.item k c.in_ok-below.below

@@ -5,9 +5,11 @@ use Rattle.rb_lexer.proofs.builder.Builder.add.Goals as goal
 pub returns-then-goes_on-clause-added : goal.returns-then-goes_on-clause-added
 returns-then-goes_on-clause-added c = λ bytes xs rest shows at_line to.
     let l = c.in_ok-extend-in-Run.ensures.longer in
-    run_added bytes c.args.self.now.tokens.items xs rest c.args.first c.args.past c.in-Run.units (rw c.in-Run.is at shows) to c.args.self.now.pending _ c.args.self.now.is_open _ _ (sym c.goes_on.ensures ∙ c.if-goes_on.true) l.0 l.1 l.2
+    run_added bytes c.args.self.now.tokens.items xs rest c.args.first c.args.past c.in-Run.units (rw c.in-Run.is at shows) to c.args.self.now.pending _
+    c.args.self.now.is_open _ _ (sym c.goes_on.ensures ∙ c.if-goes_on.true) l.0 l.1 l.2
 
 pub returns-in_ok-join-in-Run-clause-added : goal.returns-in_ok-join-in-Run-clause-added
 returns-in_ok-join-in-Run-clause-added c = λ bytes xs rest shows at_line to.
     let j = c.in_ok-join-in-Run.ensures.joined in
-    run_joined bytes c.args.self.now.tokens.items xs rest c.args.first c.args.past c.in-Run.units (rw c.in-Run.is at shows) to c.args.self.now.pending _ c.args.self.now.is_open c.args.line _ (sym c.goes_on.ensures ∙ c.if-goes_on.false) at_line j.0 j.1
+    run_joined bytes c.args.self.now.tokens.items xs rest c.args.first c.args.past c.in-Run.units (rw c.in-Run.is at shows) to c.args.self.now.pending _
+    c.args.self.now.is_open c.args.line _ (sym c.goes_on.ensures ∙ c.if-goes_on.false) at_line j.0 j.1

@@ -17,4 +17,6 @@ pub returns-in-None : goal.returns-in-None
 returns-in-None c = sym (ap shorter (sym c.self.view_is) ∙ shorter_none (take c.self.inside.len c.self.inside.bytes) (none_from _ c.in-None.ensures))
 
 pub returns : goal.returns
-returns c = shorter_is (take c.self.inside.len c.self.inside.bytes) c.put_front.new.field c.in-Some.end c.in-Some.ensures c.put_front.ensures ∙ ap shorter c.self.view_is
+returns c =
+    shorter_is (take c.self.inside.len c.self.inside.bytes) c.put_front.new.field c.in-Some.end c.in-Some.ensures c.put_front.ensures
+    ∙ ap shorter c.self.view_is

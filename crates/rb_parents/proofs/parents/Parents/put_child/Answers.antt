@@ -12,4 +12,5 @@ pub returns-in-Ok-insert-clause-ok : goal.returns-in-Ok-insert-clause-ok
 returns-in-Ok-insert-clause-ok c =
     let read : name (units_of (view_of c.args.text.now)) ≡ Some c.in-Ok.child = sym c.read_units.ensures ∙ ap result_ok c.in-Ok.is in
     ap (λ o. put_child c.args.parent o (parent_of c.args.self.now)) read
-    ∙ put_new (parent_of c.args.self.now) (parent_of (record { by_child = c.insert.new.self })) c.args.parent c.in-Ok.child (sym c.if-contains_key.ensures) c.in-Ok-insert.ensures.updates.0
+    ∙ put_new (parent_of c.args.self.now) (parent_of (record { by_child = c.insert.new.self })) c.args.parent c.in-Ok.child (sym c.if-contains_key.ensures)
+    c.in-Ok-insert.ensures.updates.0

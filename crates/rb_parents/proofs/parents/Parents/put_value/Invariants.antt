@@ -7,4 +7,5 @@ use Rattle.rb_parents.proofs.parents.Parents.put_value.Given as goal
 
 abbrev pub invariant-loop-i : goal.invariant-loop-i
 invariant-loop-i l =
-    put_children l.parent (map units_of (drop l.i (children_of (view_of l.value)))) (parent_of l.self) ≡ put_children l.parent (map units_of (children_of (view_of l.value))) (parent_of l.initial.self)
+    put_children l.parent (map units_of (drop l.i (children_of (view_of l.value)))) (parent_of l.self)
+    ≡ put_children l.parent (map units_of (children_of (view_of l.value))) (parent_of l.initial.self)

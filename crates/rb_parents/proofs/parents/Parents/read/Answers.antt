@@ -12,9 +12,13 @@ returns-in_err-put_entry-clause-fault c =
     let u = view_of c.in-Some.table.now in
     let known = parent_of c.loop-i.parents in
     let part = put_entry (name c.key_at.result.now) (view_of c.at.result.now) known in
-    err_is c.from_residual.result here _ c.from_residual.ensures.1 (fault_on here part (explicit (view_of c.args.tree.now)) (λ e. sym c.loop-i.invariant ∙ entries_bad u c.loop-i.i c.key_at.result.now (view_of c.at.result.now) known here c.in-Some.ensures.kind (sym c.key_at.ensures) (sym c.at.ensures) e) c.in_err-put_entry.ensures.fault)
+    err_is c.from_residual.result here _ c.from_residual.ensures.1
+    (fault_on here part (explicit (view_of c.args.tree.now))
+    (λ e. sym c.loop-i.invariant ∙ entries_bad u c.loop-i.i c.key_at.result.now (view_of c.at.result.now) known here c.in-Some.ensures.kind
+    (sym c.key_at.ensures) (sym c.at.ensures) e) c.in_err-put_entry.ensures.fault)
 
 pub loop-i-preserved : goal.loop-i-preserved
 loop-i-preserved c =
     let t = view_of c.in-Some.table.now in
-    sym (entries_on t c.loop-i.i c.key_at.result.now (view_of c.at.result.now) (parent_of c.loop-i.parents) (parent_of c.put_entry.new.self) c.in-Some.ensures.kind (sym c.key_at.ensures) (sym c.at.ensures) c.in_ok-put_entry.ensures.ok) ∙ c.loop-i.invariant
+    sym (entries_on t c.loop-i.i c.key_at.result.now (view_of c.at.result.now) (parent_of c.loop-i.parents) (parent_of c.put_entry.new.self)
+    c.in-Some.ensures.kind (sym c.key_at.ensures) (sym c.at.ensures) c.in_ok-put_entry.ensures.ok) ∙ c.loop-i.invariant

@@ -1,12 +1,7 @@
 use Rattle.std.proofs.Common.{arith}
 use Rattle.rb_views.proofs.Readings.{laid_room}
-use Rattle.rb_views.proofs.Contents.{units_there, units_none}
+use Rattle.rb_views.proofs.Contents.{units_there}
 use Rattle.rb_views.proofs.item.Item.units.Goals as goal
-
-pub returns-then-offset-eq0 : goal.returns-then-offset-eq0
-returns-then-offset-eq0 c =
-    let s = c.args.self in
-    units_none s.body.now s.word c.item_offset-offset.result c.item_offset-offset.ensures s.stands c.requires c.if-offset-eq0.true
 
 pub word_at-requires : goal.word_at-requires
 word_at-requires c =
@@ -22,9 +17,3 @@ invariant_of-result-2 c =
     let r = laid_room s.body.now s.laid in
     let n = c.word_at.ensures in
     record { room = omega arith }
-
-pub returns : goal.returns
-returns c =
-    let s = c.args.self in
-    let a = units_there s.body.now s.word c.item_offset-offset.result c.item_offset-offset.ensures s.stands c.requires (omega arith) in
-    rw c.word_at.ensures a.are

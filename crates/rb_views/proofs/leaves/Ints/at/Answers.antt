@@ -4,15 +4,6 @@ use Rattle.rb_format.specs.Place.{word_at}
 use Rattle.rb_views.proofs.Values.{values_length, values_get}
 use Rattle.rb_views.proofs.leaves.Ints.at.Goals as goal
 
-pub overflow_add-self : goal.overflow_add-self
-overflow_add-self c = let h : c.args.i < c.args.self.count = rw values_length at c.requires in omega arith
-
-pub word_at-requires : goal.word_at-requires
-word_at-requires c =
-    let h : c.args.i < c.args.self.count = rw values_length at c.requires in
-    let r = c.args.self.room in
-    omega arith
-
 pub returns : goal.returns
 returns c =
     let s = c.args.self in

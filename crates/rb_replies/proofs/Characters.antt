@@ -1,0 +1,21 @@
+-- Texts of JSON, made byte by byte.
+use Rattle.std.proofs.Common.{◌≡◌, ℕ, ◌+◌, ◌<◌, ◌≤◌, List, [], ◌∷◌, ◌++◌, length, get_or, take, encode_utf8, encode_utf8_all, refl, ap, ◌∙◌, sym, append_assoc}
+use Rattle.std.proofs.lemmas.List.{append-nil, take_all}
+use Rattle.std.specs.Str.{IsAscii}
+use Rattle.std.proofs.lemmas.Str.{encodes-IsAscii}
+use Rattle.rb_replies.proofs.Elements.{element_more, is_at}
+
+encodes-append : (xs : List ℕ) (c : ℕ) → encode_utf8_all (xs ++ c ∷ []) ≡ encode_utf8_all xs ++ encode_utf8 c
+encodes-append [] c = append-nil (encode_utf8 c)
+encodes-append (x ∷ xs) c = ap (λ ys. encode_utf8 x ++ ys) (encodes-append xs c) ∙ sym (append_assoc (encode_utf8 x) (encode_utf8_all xs) (encode_utf8 c))
+
+pub character_more : (text more bytes : List ℕ) (i c d : ℕ) → text ≡ encode_utf8_all (take i bytes) → more ≡ text ++ encode_utf8 c → c ≡ get_or bytes i d → i < length bytes → more ≡ encode_utf8_all (take (i + 1) bytes)
+character_more text more bytes i c d so_far is same h =
+    let step : take i bytes ++ get_or bytes i d ∷ [] ≡ take (i + 1) bytes = element_more (take i bytes) (take i bytes ++ get_or bytes i d ∷ []) bytes i (get_or bytes i d) refl refl (is_at bytes i d h) in
+    is ∙ ap (λ t. t ++ encode_utf8 c) so_far ∙ sym (encodes-append (take i bytes) c) ∙ ap (λ x. encode_utf8_all (take i bytes ++ x ∷ [])) same ∙ ap encode_utf8_all step
+
+pub all_characters : (text bytes : List ℕ) (i : ℕ) → text ≡ encode_utf8_all (take i bytes) → length bytes ≤ i → text ≡ encode_utf8_all bytes
+all_characters text bytes i so_far h = so_far ∙ ap encode_utf8_all (take_all i bytes h)
+
+pub ascii_text : (text bytes : List ℕ) → text ≡ bytes → IsAscii bytes → text ≡ encode_utf8_all bytes
+ascii_text text bytes same h = same ∙ sym (encodes-IsAscii bytes h)

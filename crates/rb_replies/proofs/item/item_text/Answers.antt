@@ -1,0 +1,11 @@
+use Rattle.std.proofs.Common.{◌∙◌, ap, ℕ}
+use Rattle.std.specs.Global.{Vec}
+use Rattle.rb_replies.specs.Item.{item_data}
+use Rattle.rb_replies.proofs.Written.{text_told}
+use Rattle.rb_replies.proofs.item.item_text.Goals as goal
+
+pub returns : goal.returns
+returns g c =
+    let put = c.in_ok-put_item.ensures in
+    ap (λ (v : Vec ℕ). v.items) c.in-Ok.ensures.ok ∙ (c.into_inner-bytes.ensures.items
+    ∙ text_told (item_data (g.N.Node.tree c.args.node) c.args.rest.now) c.new-out.result c.put_item.new.out (c.new-out.ensures.before ∙ c.new.ensures.items) c.new-out.ensures.tokens put.0 put.1)

@@ -1,0 +1,29 @@
+-- For what is private. What is written of a reply, as the tokens of its JSON.
+use Rattle.std.specs.Prelude.{◌≡◌, ℕ, List, [], ◌∷◌, ◌++◌, Option, Some, None, Result, OnOk, codes}
+use Rattle.json.specs.Token.{Token, key}
+use Rattle.json.specs.Tree.{json_tokens, members_tokens}
+use Rattle.json.specs.Written.{Written}
+use Rattle.serde_json.specs.Data.{Data, Members, put}
+use Rattle.serde_json.specs.Written.{outline, members_outline}
+use Rattle.rb_replies.specs.Item.{text_data}
+
+abbrev pub data_tokens : Data → List Token
+data_tokens d = json_tokens (outline d)
+
+-- with the closing bracket
+abbrev pub rest_tokens : Members → List Token
+rest_tokens ms = members_tokens (members_outline ms)
+
+-- tokens are written after what there was; at an error nothing is known but that no byte before them has changed
+abbrev pub Puts : {E : Type 0} → Result (Unit {0}) E → Written → Written → List Token → Type 0
+Puts r old new ts = OnOk r ((new.tokens ≡ old.tokens ++ ts) × (new.before ≡ old.before))
+
+-- of an item that was found also the bundle that decided
+abbrev pub with_valid : Option (List ℕ) → Members → Members
+with_valid None ms = ms
+with_valid (Some valid) ms = put (codes "valid") (text_data valid) ms
+
+-- its tokens
+abbrev pub valid_tokens : Option (List ℕ) → List Token
+valid_tokens None = []
+valid_tokens (Some valid) = key (codes "valid") ∷ data_tokens (text_data valid)

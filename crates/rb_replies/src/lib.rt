@@ -1,0 +1,10 @@
+//! Replies as lines of JSON: what an engine answers, and items by themselves.
+#![tactic(auto)]
+
+mod item;
+mod line;
+mod text;
+mod told;
+
+pub use item::item_text;
+pub use line::ReplyLine;

@@ -1,0 +1,97 @@
+//! Texts as JSON, made in a buffer that is kept.
+ghost use Rattle.std.specs.Prelude.{◌≡◌, ◌<◌, ◌≤◌, ◌∷◌, IfOk, IfSome, OnOk, true, not, drop, string_bytes, encode_utf8_all};
+ghost use Rattle.std.specs.Char.Utf16.{has_unpaired_surrogate, utf16_chars, utf16_lossy_chars};
+ghost use Rattle.hex.specs.Hex.{encode_lower, lower_digits};
+ghost use Rattle.rb_tree.specs.Parts.{HasUnits, bytes_of, kind_of, len_of, units_of};
+ghost use Rattle.rb_tree.specs.declared.kind.Kind.TheVariants as Kinds;
+ghost use Rattle.std.specs.Prelude.{slice_index};
+
+use rb_tree::Node;
+use std::alloc::{AllocError, Global};
+
+/// Bytes as a text, a character each.
+pub(crate) fn characters(alloc: Global, bytes: &[u8]) -> Result<String, AllocError>
+    ensures { IfOk result (λ text. string_bytes text ≡ encode_utf8_all bytes.now) }
+{
+    let mut text = String::with_capacity(alloc, bytes.len())?;
+    for byte in bytes {
+        text.push(char::from(*byte))?;
+    }
+    Ok(text)
+}
+
+/// Bytes as a text, where they are ASCII.
+#[tactic(auto, using(crate::proofs::Characters::ascii_text))]
+pub(crate) fn ascii(bytes: &[u8]) -> Option<&str>
+    ensures { IfSome result (λ text. text.now ≡ encode_utf8_all bytes.now) }
+{
+    match str::from_utf8(bytes) {
+        Ok(text) if bytes.is_ascii() => Some(text),
+        _ => None,
+    }
+}
+
+fn digit(n: u8) -> char
+    requires { n < 16 }
+    ensures is { result ≡ slice_index lower_digits n }
+    ensures ascii { result < 128 }
+{
+    char::from(b"0123456789abcdef"[n as usize])
+}
+
+/// The bytes of a binary as hexadecimal digits.
+pub(crate) fn read_hex<N: Node>(text: &mut String, node: N) -> Result<(), AllocError>
+    requires { kind_of (N.tree node) ≡ Kinds.Binary }
+    ensures { OnOk result (string_bytes text.new ≡ encode_lower (bytes_of (N.tree node))) }
+{
+    text.clear();
+    for i in 0..node.len() {
+        let byte = node.byte(i);
+        text.push(digit(byte / 16))?;
+        text.push(digit(byte % 16))?;
+    }
+    Ok(())
+}
+
+/// The character whose units begin at an index, unless that unit is a surrogate without a partner, and where the next one begins.
+fn character_at<N: Node>(node: N, at: usize) -> (Option<char>, usize)
+    requires units { HasUnits (kind_of (N.tree node)) }
+    requires in_range { at < len_of (N.tree node) }
+    ensures bound { (at < result.1) × (result.1 ≤ len_of (N.tree node)) }
+    ensures first { utf16_chars (drop at (units_of (N.tree node))) ≡ result.0 ∷ utf16_chars (drop result.1 (units_of (N.tree node))) }
+{
+    let len = node.len();
+    let high = node.unit(at) as u32;
+    if high < 0xD800 || 0xE000 <= high {
+        return (char::from_u32(high), at + 1);
+    }
+    if 0xDC00 <= high || len - at < 2 {
+        return (None, at + 1);
+    }
+    let low = node.unit(at + 1) as u32;
+    if low < 0xDC00 || 0xE000 <= low {
+        return (None, at + 1);
+    }
+    let code = 0x1_0000 + (high - 0xD800) * 0x400 + (low - 0xDC00);
+    (char::from_u32(code), at + 2)
+}
+
+/// The units of a string or an alias as a text, and whether they are well-formed UTF-16.
+pub(crate) fn read_units<N: Node>(text: &mut String, node: N) -> Result<bool, AllocError>
+    requires { HasUnits (kind_of (N.tree node)) }
+    ensures whole { IfOk result (λ whole. whole ≡ not (has_unpaired_surrogate (units_of (N.tree node)))) }
+    ensures text { IfOk result (λ whole. whole ≡ true → string_bytes text.new ≡ encode_utf8_all (utf16_lossy_chars (units_of (N.tree node)))) }
+{
+    text.clear();
+    let len = node.len();
+    let mut at = 0;
+    while at < len {
+        let (character, next) = character_at(node, at);
+        let Some(character) = character else {
+            return Ok(false);
+        };
+        text.push(character)?;
+        at = next;
+    }
+    Ok(true)
+}
