@@ -9,3 +9,4 @@ pub mod Growing
 pub mod Grows
 pub mod Plainly
 pub mod Root
+mod KeyOrder

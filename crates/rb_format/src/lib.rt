@@ -6,6 +6,7 @@ mod constants;
 mod fault;
 mod geometry;
 mod header;
+mod key_order;
 mod kind;
 pub mod laws;
 mod layout;
@@ -19,6 +20,7 @@ pub use constants::{
 pub use fault::FileFault;
 pub use geometry::{KeyPlaces, TableParts, long_table_parts, table_parts};
 pub use header::{Header, body, is_short_enough};
+pub use key_order::compare_key;
 pub use kind::{ItemKind, is_table, item_kind, item_offset, item_type};
 pub use layout::{Layout, is_laid};
 pub use place::{half, half_at, key_at, key_within, word, word_at};

@@ -85,6 +85,11 @@ pub lookup_absent : {T : Type 0} (q : List ℕ) (key : ℕ → List ℕ) (value 
 lookup_absent q key value n ne = lookup_miss q key value 0 n (λ j l d. let y : 0 + j ≡ j = omega arith in ne j l (ap key (sym y) ∙ d))
 
 -- the second part of a pair
+pub first_at : {T : Type 0} (key : ℕ → List ℕ) (value : ℕ → T) (n m : ℕ) → m < n
+    → slice_get (map (λ (e : List ℕ × T). e.0) (values (λ k. (key k, value k)) 0 n)) m ≡ Some (key m)
+first_at {T} key value n m h = ap (λ (ks : List (List ℕ)). slice_get ks m) (values_map (λ (e : List ℕ × T). e.0) (λ (k : ℕ). (key k, value k)) 0 n)
+    ∙ values_at key n m h
+
 pub second_at : {T : Type 0} (key : ℕ → List ℕ) (value : ℕ → T) (n m : ℕ) → m < n
     → slice_get (map (λ (e : List ℕ × T). e.1) (values (λ k. (key k, value k)) 0 n)) m ≡ Some (value m)
 second_at {T} key value n m h = ap (λ (ts : List T). slice_get ts m) (values_map (λ (e : List ℕ × T). e.1) (λ (k : ℕ). (key k, value k)) 0 n)

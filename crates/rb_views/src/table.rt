@@ -1,13 +1,14 @@
 // Views of tables.
 ghost use Rattle.std.specs.Prelude.{◌≡◌, ◌<◌, ◌≤◌, IsTrue, Some, length, slice_get, option_map, nat_eq, IfSome};
 ghost use Rattle.std.specs.Map.{lookup, keys_of, values_of};
-ghost use Rattle.std.specs.Cmp.Lexicographic.{pointwise};
+ghost use Rattle.std.specs.Ordering.{nat_cmp};
+ghost use Rattle.std.specs.Cmp.Lexicographic.{pointwise, slice_cmp};
 ghost use Rattle.rb_format.specs.File.{is_laid};
 ghost use Rattle.rb_format.specs.Geometry.{keys_end};
 ghost use Rattle.rb_views.specs.Stands.{TableStands};
 
 use crate::item::Item;
-use rb_format::{Layout, TableParts, key_within};
+use rb_format::{Layout, TableParts, compare_key, key_within};
 use std::cmp::Ordering;
 
 /// The entries of a Table, in the file, in the order of their keys.
@@ -18,6 +19,19 @@ pub struct Table<'a> {
     ghost laid: { IsTrue (is_laid body.now) },
     ghost keys: { keys_end parts.keys parts.count ≤ length body.now },
     ghost stands: { TableStands body.now parts },
+}
+
+// Which of the keys from low to high a search looks at: the one in the middle, but for ICU's own keys, such as `%%ALIAS`, at first the
+// table's first key, since they come before nearly all others.
+fn probe(key: &[u8], low: usize, high: usize) -> usize
+    requires { low < high }
+    ensures from { low ≤ result }
+    ensures to { result < high }
+{
+    match key.first() {
+        Some(b'%') if low == 0 => 0,
+        _ => low + (high - low) / 2,
+    }
 }
 
 impl<'a> Table<'a> {
@@ -56,6 +70,14 @@ impl<'a> Table<'a> {
         }
     }
 
+    /// How a key compares with that of entry i, which is one of `len`.
+    fn compare(self, key: &[u8], i: usize) -> Ordering
+        requires { i < length (entries_seen self) }
+        ensures { IfSome (key_placed self.entry i) (λ stored. result ≡ slice_cmp nat_cmp key.now stored) }
+    {
+        compare_key(key, self.body, self.parts.keys.offset(self.body, i))
+    }
+
     /// The item with a key, by halving over the key offsets, which are in the order of their keys; None where the table has no such key.
     pub fn get(self, key: &[u8]) -> Option<Item<'a>>
         ensures tree { option_map tree_seen result ≡ lookup (pointwise nat_eq key.now) (entries_seen self.entry) }
@@ -65,8 +87,8 @@ impl<'a> Table<'a> {
         let mut low = 0;
         let mut high = count;
         while low < high {
-            let middle = low + (high - low) / 2;
-            match key.cmp(self.key(middle)) {
+            let middle = probe(key, low, high);
+            match self.compare(key, middle) {
                 Ordering::Less => high = middle,
                 Ordering::Greater => low = middle + 1,
                 Ordering::Equal => return Some(self.item(middle)),

@@ -1,4 +1,4 @@
-use Rattle.std.proofs.Common.{◌<◌, Some, sym, ap, ◌∙◌, arith}
+use Rattle.std.proofs.Common.{◌<◌, Some, sym, ap, ◌∙◌}
 use Rattle.rb_format.specs.Place.{half_at}
 use Rattle.rb_views.proofs.Values.{values_length, values_get}
 use Rattle.rb_views.proofs.leaves.Units.at.Goals as goal

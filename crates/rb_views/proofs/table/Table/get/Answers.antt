@@ -1,15 +1,17 @@
-use Rattle.std.proofs.Common.{◌≡◌, ℕ, ◌+◌, ◌-◌, ◌/◌, ◌<◌, List, Option, Some, sym, ap, subst, ◌∙◌, arith}
-use Rattle.std.specs.Prelude.{unwrap_or, []}
+use Rattle.std.proofs.Common.{◌≡◌, ℕ, ◌+◌, ◌<◌, List, Some, sym, ap, subst, ◌∙◌, arith}
+use Rattle.std.specs.Prelude.{IfSome}
 use Rattle.std.specs.Ordering.{nat_cmp}
+use Rattle.std.specs.declared.cmp.Ordering.{Ordering}
 use Rattle.std.specs.declared.cmp.Ordering.TheVariants.{Less, Equal, Greater}
 use Rattle.std.specs.Cmp.Lexicographic.{slice_cmp}
 use Rattle.rb_tree.specs.Resource.{Resource}
 use Rattle.rb_format.specs.declared.geometry.TableParts.{TableParts}
-use Rattle.rb_format.specs.Place.{word_at}
+use Rattle.rb_format.specs.Place.{word_at, key, layout_of}
 use Rattle.rb_format.specs.Geometry.{key_offset}
+use Rattle.rb_views.specs.Stands.{TableStands}
 use Rattle.rb_views.specs.Trees.{item_tree, key_from}
-use Rattle.rb_views.proofs.Values.{values_length, lookup_found, lookup_absent, second_at}
-use Rattle.rb_views.proofs.Containers.{table_rises}
+use Rattle.rb_views.proofs.Values.{values_length, lookup_found, lookup_absent, first_at, second_at}
+use Rattle.rb_views.proofs.Containers.{table_key, table_rises}
 use Rattle.rb_views.proofs.Halving.{IsHalved, halved_start, halved_left, halved_right, halved_none, equal_is, greater_is, earlier_differ}
 use Rattle.rb_views.proofs.table.Table.get.Goals as goal
 
@@ -19,6 +21,12 @@ name body p i = key_from body (key_offset body p.keys i)
 abbrev tree : List ℕ → TableParts → ℕ → Resource
 tree body p i = item_tree body (word_at body (p.first + i))
 
+-- how the key of entry i is ordered, told by a comparison with the key where its offset points
+ordered : (o : Ordering) (body : List ℕ) (p : TableParts) (i : ℕ) (wanted : List ℕ) → TableStands body p → i < p.count
+    → IfSome (key (layout_of body) body (key_offset body p.keys i)) (λ stored. o ≡ slice_cmp nat_cmp wanted stored)
+    → slice_cmp nat_cmp wanted (name body p i) ≡ o
+ordered o body p i wanted h l e = let f = rw (table_key body p i h l) at e in sym f
+
 pub loop-low-init : goal.loop-low-init
 loop-low-init c =
     let s = c.args.self in
@@ -26,39 +34,44 @@ loop-low-init c =
     subst (λ (h : ℕ). IsHalved (name s.body.now s.parts) s.parts.count c.args.key.now 0 h) (sym e)
     (halved_start (name s.body.now s.parts) s.parts.count c.args.key.now)
 
-pub key-requires : goal.key-requires
-key-requires c = let i = c.loop-low.invariant.inside in rw values_length (omega arith)
+pub compare-requires : goal.compare-requires
+compare-requires c = let i = c.loop-low.invariant.inside in let to = c.probe-middle.ensures.to in rw values_length (omega arith)
 
 pub loop-low-preserved-in-Less : goal.loop-low-preserved-in-Less
 loop-low-preserved-in-Less c =
     let s = c.args.self in
-    let m = c.loop-low.low + (c.loop-low.high - c.loop-low.low) / 2 in
-    let k : c.key.result.now ≡ name s.body.now s.parts m = ap (λ (o : Option (List ℕ)). unwrap_or o []) c.key.ensures.place in
-    let less : slice_cmp nat_cmp c.args.key.now (name s.body.now s.parts m) ≡ Less = rw (← k) (sym c.in-Less.ensures) in
+    let m = c.probe-middle.result in
+    let from = c.probe-middle.ensures.from in
+    let to = c.probe-middle.ensures.to in
+    let i = c.loop-low.invariant.inside in
+    let less = ordered Less s.body.now s.parts m c.args.key.now s.stands (omega arith) c.in-Less.ensures in
     halved_left (name s.body.now s.parts) s.parts.count c.args.key.now c.loop-low.low c.loop-low.high m
     (λ i j h l. table_rises s.body.now s.parts i j s.stands h l) c.loop-low.invariant (omega arith) (omega arith) less
 
 pub loop-low-preserved : goal.loop-low-preserved
 loop-low-preserved c =
     let s = c.args.self in
-    let m = c.loop-low.low + (c.loop-low.high - c.loop-low.low) / 2 in
-    let k : c.key.result.now ≡ name s.body.now s.parts m = ap (λ (o : Option (List ℕ)). unwrap_or o []) c.key.ensures.place in
-    let greater : slice_cmp nat_cmp c.args.key.now (name s.body.now s.parts m) ≡ Greater = rw (← k) (sym c.in-Greater.ensures) in
+    let m = c.probe-middle.result in
+    let from = c.probe-middle.ensures.from in
+    let to = c.probe-middle.ensures.to in
+    let i = c.loop-low.invariant.inside in
+    let greater = ordered Greater s.body.now s.parts m c.args.key.now s.stands (omega arith) c.in-Greater.ensures in
     halved_right (name s.body.now s.parts) s.parts.count c.args.key.now c.loop-low.low c.loop-low.high m
     (λ i j h l. table_rises s.body.now s.parts i j s.stands h l) c.loop-low.invariant (omega arith) (omega arith)
     (greater_is c.args.key.now (name s.body.now s.parts m) greater)
 
 pub item-requires : goal.item-requires
-item-requires c = let i = c.loop-low.invariant.inside in rw values_length (omega arith)
+item-requires c = let i = c.loop-low.invariant.inside in let to = c.probe-middle.ensures.to in rw values_length (omega arith)
 
 pub returns-in-Equal-clause-tree : goal.returns-in-Equal-clause-tree
 returns-in-Equal-clause-tree c =
     let s = c.args.self in
-    let m = c.loop-low.low + (c.loop-low.high - c.loop-low.low) / 2 in
+    let m = c.probe-middle.result in
+    let from = c.probe-middle.ensures.from in
+    let to = c.probe-middle.ensures.to in
     let i = c.loop-low.invariant.inside in
     let within : m < s.parts.count = omega arith in
-    let k : c.key.result.now ≡ name s.body.now s.parts m = ap (λ (o : Option (List ℕ)). unwrap_or o []) c.key.ensures.place in
-    let same : slice_cmp nat_cmp c.args.key.now (name s.body.now s.parts m) ≡ Equal = rw (← k) (sym c.in-Equal.ensures) in
+    let same = ordered Equal s.body.now s.parts m c.args.key.now s.stands within c.in-Equal.ensures in
     let found : name s.body.now s.parts m ≡ c.args.key.now = sym (equal_is c.args.key.now (name s.body.now s.parts m) same) in
     c.item.ensures.tree ∙ second_at (name s.body.now s.parts) (tree s.body.now s.parts) s.parts.count m within
     ∙ sym (lookup_found c.args.key.now (name s.body.now s.parts) (tree s.body.now s.parts) s.parts.count m within found
@@ -66,9 +79,15 @@ returns-in-Equal-clause-tree c =
 
 pub returns-in-Equal-clause-place : goal.returns-in-Equal-clause-place
 returns-in-Equal-clause-place c =
-    let m = c.loop-low.low + (c.loop-low.high - c.loop-low.low) / 2 in
-    let found : c.args.key.now ≡ c.key.result.now = equal_is c.args.key.now c.key.result.now (sym c.in-Equal.ensures) in
-    (m, sym c.key.ensures.key ∙ ap Some (sym found), c.item.ensures.place)
+    let s = c.args.self in
+    let m = c.probe-middle.result in
+    let from = c.probe-middle.ensures.from in
+    let to = c.probe-middle.ensures.to in
+    let i = c.loop-low.invariant.inside in
+    let within : m < s.parts.count = omega arith in
+    let same = ordered Equal s.body.now s.parts m c.args.key.now s.stands within c.in-Equal.ensures in
+    let found : c.args.key.now ≡ name s.body.now s.parts m = equal_is c.args.key.now (name s.body.now s.parts m) same in
+    (m, first_at (name s.body.now s.parts) (tree s.body.now s.parts) s.parts.count m within ∙ ap Some (sym found), c.item.ensures.place)
 
 pub returns-clause-tree : goal.returns-clause-tree
 returns-clause-tree c =

@@ -1,10 +1,8 @@
-use Rattle.std.proofs.Common.{◌≡◌, ◌+◌, ◌<◌, ℕ, List, Option, Some, None, sym, ap, ◌∙◌, arith}
-use Rattle.std.specs.Prelude.{slice_get}
-use Rattle.rb_tree.specs.Resource.{Resource}
+use Rattle.std.proofs.Common.{◌≡◌, ◌+◌, ◌<◌, ℕ, List, Option, Some, None, sym, ◌∙◌, arith}
 use Rattle.rb_format.specs.Place.{word_at, key, layout_of}
 use Rattle.rb_format.specs.Geometry.{key_offset}
 use Rattle.rb_views.specs.Trees.{item_tree, key_from}
-use Rattle.rb_views.proofs.Values.{values_length, values_at, values_map}
+use Rattle.rb_views.proofs.Values.{values_length, first_at}
 use Rattle.rb_views.proofs.Containers.{table_key, keys_within}
 use Rattle.rb_views.proofs.table.Table.key.Goals as goal
 
@@ -41,5 +39,4 @@ returns-clause-key c =
     c.in-Some.ensures in
     let name = λ (i : ℕ). key_from s.body.now (key_offset s.body.now s.parts.keys i) in
     let tree = λ (i : ℕ). item_tree s.body.now (word_at s.body.now (s.parts.first + i)) in
-    e ∙ t ∙ sym (ap (λ (ks : List (List ℕ)). slice_get ks c.args.i) (values_map (λ (e : List ℕ × Resource). e.0) (λ (i : ℕ). (name i, tree i)) 0 s.parts.count)
-    ∙ values_at name s.parts.count c.args.i h)
+    e ∙ t ∙ sym (first_at name tree s.parts.count c.args.i h)
