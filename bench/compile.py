@@ -63,28 +63,49 @@ def check_hostile(folder):
         )
 
 
+def ratio(ours, theirs):
+    return ours / max(theirs, 1e-3)
+
+
+def compiled(source, output, folder, genrb):
+    """Lines on `resb compile` of a text, beside genrb where it is there, and on `resb check` of the file."""
+    size = os.path.getsize(source) / 1e6
+    if os.path.exists(output):
+        os.remove(output)
+    seconds, memory, status = measured([PROGRAM, "compile", source, output])
+    yield f"resb {seconds / size:.3f} s/MB, peak {memory:.0f} MB ({memory / size:.1f} times the text), status {status}"
+    if genrb:
+        theirs, their_memory, their_status = measured([genrb, "--formatVersion", "1", "-q", "-d", folder, source])
+        yield f"genrb {theirs / size:.3f} s/MB, peak {their_memory:.0f} MB ({their_memory / size:.1f} times the text), status {their_status}"
+        yield f"resb takes {ratio(seconds, theirs):.2f} of genrb's time and {ratio(memory, their_memory):.2f} of its memory"
+    if status == 0:
+        length = os.path.getsize(output) / 1e6
+        seconds, memory, status = measured([PROGRAM, "check", output])
+        yield f"check {length / max(seconds, 1e-6):.0f} MB/s of {length:.2f} MB, peak {memory:.0f} MB, status {status}"
+
+
+TEXTS = (
+    ("nested text", lambda: nested(8_000_000)),
+    ("10,000 keys", lambda: keys(10_000)),
+    ("40,000 keys", lambda: keys(40_000)),
+    ("a million numbers", lambda: "root{\nv:intvector{" + "1," * 1_000_000 + "}\n}\n"),
+    ("a million empty arrays", lambda: "root{\na:array{" + ":array{}" * 1_000_000 + "}\n}\n"),
+    ("a million empty strings", lambda: "root{\na:array{" + '""' + ',""' * 999_999 + "}\n}\n"),
+    ("two million pairs of braces", lambda: "root{\na:array{" + "{}" * 2_000_000 + "}\n}\n"),
+)
+
+
 def main():
     genrb = shutil.which("genrb")
     if genrb is None:
         print("genrb: skipped, it isn't installed")
     with tempfile.TemporaryDirectory() as folder:
-        for name, text in (("nested text", nested(8_000_000)), ("10,000 keys", keys(10_000)), ("40,000 keys", keys(40_000))):
-            source = os.path.join(folder, "root.txt")
+        source, output = (os.path.join(folder, name) for name in ("root.txt", "out.res"))
+        for name, text in TEXTS:
             with open(source, "w", encoding="utf-8") as file:
-                file.write(text)
-            size = len(text.encode()) / 1e6
-            output = os.path.join(folder, "out.res")
-            if os.path.exists(output):
-                os.remove(output)
-            seconds, memory, compiled = measured([PROGRAM, "compile", source, output])
-            print(f"{name}, {size:.2f} MB: resb {seconds / size:.3f} s/MB, peak {memory:.0f} MB ({memory / size:.0f} times the text), status {compiled}")
-            if genrb:
-                seconds, memory, status = measured([genrb, "--formatVersion", "1", "-q", "-d", folder, source])
-                print(f"{name}, {size:.2f} MB: genrb {seconds / size:.3f} s/MB, peak {memory:.0f} MB ({memory / size:.1f} times the text), status {status}")
-            if compiled == 0:
-                length = os.path.getsize(output) / 1e6
-                seconds, memory, status = measured([PROGRAM, "check", output])
-                print(f"{name}: check {length / max(seconds, 1e-6):.0f} MB/s of {length:.2f} MB, peak {memory:.0f} MB, status {status}")
+                file.write(text())
+            for line in compiled(source, output, folder, genrb):
+                print(f"{name}, {os.path.getsize(source) / 1e6:.2f} MB: {line}")
         check_hostile(folder)
 
 
