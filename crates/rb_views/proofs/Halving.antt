@@ -56,9 +56,7 @@ pub not_self : (a : List ℕ) → Below a a → ⊥
 not_self a e = reversed (slice_cmp nat_cmp a a) e (nat_list_cmp_total.antisymm a a)
   where
     reversed : (o : Ordering) → o ≡ Less → o ≡ ordering_reverse o → ⊥
-    reversed Less e r = cc
-    reversed Equal e r = cc
-    reversed Greater e r = cc
+    reversed other e r = cc
 
 pub halved_none : (key : ℕ → List ℕ) (n : ℕ) (wanted : List ℕ) (low high : ℕ) → IsHalved key n wanted low high → high ≤ low → (j : ℕ) → j < n → key j ≡ wanted
     → ⊥

@@ -54,62 +54,28 @@ tree_kind body item k h e =
 pub only_text : (k : ItemKind) → HasUnits (kind_named k) → (k ≡ String) ⊎ (k ≡ Alias)
 only_text String h = inl refl
 only_text Alias h = inr refl
-only_text Binary h = absurd h
-only_text Table h = absurd h
-only_text LongTable h = absurd h
-only_text Int h = absurd h
-only_text Array h = absurd h
-only_text Ints h = absurd h
+only_text other h = absurd h
 
 pub only_binary : (k : ItemKind) → kind_named k ≡ named.Binary → k ≡ Binary
 only_binary Binary e = refl
-only_binary String e = absurd cc
-only_binary Alias e = absurd cc
-only_binary Table e = absurd cc
-only_binary LongTable e = absurd cc
-only_binary Int e = absurd cc
-only_binary Array e = absurd cc
-only_binary Ints e = absurd cc
+only_binary other e = absurd cc
 
 pub only_int : (k : ItemKind) → kind_named k ≡ named.Int → k ≡ Int
 only_int Int e = refl
-only_int Binary e = absurd cc
-only_int String e = absurd cc
-only_int Alias e = absurd cc
-only_int Table e = absurd cc
-only_int LongTable e = absurd cc
-only_int Array e = absurd cc
-only_int Ints e = absurd cc
+only_int other e = absurd cc
 
 pub only_ints : (k : ItemKind) → kind_named k ≡ named.Ints → k ≡ Ints
 only_ints Ints e = refl
-only_ints Binary e = absurd cc
-only_ints String e = absurd cc
-only_ints Alias e = absurd cc
-only_ints Table e = absurd cc
-only_ints LongTable e = absurd cc
-only_ints Int e = absurd cc
-only_ints Array e = absurd cc
+only_ints other e = absurd cc
 
 pub only_array : (k : ItemKind) → kind_named k ≡ named.Array → k ≡ Array
 only_array Array e = refl
-only_array Binary e = absurd cc
-only_array String e = absurd cc
-only_array Alias e = absurd cc
-only_array Table e = absurd cc
-only_array LongTable e = absurd cc
-only_array Int e = absurd cc
-only_array Ints e = absurd cc
+only_array other e = absurd cc
 
 pub only_table : (k : ItemKind) → kind_named k ≡ named.Table → (k ≡ Table) ⊎ (k ≡ LongTable)
 only_table Table e = inl refl
 only_table LongTable e = inr refl
-only_table Array e = absurd cc
-only_table Binary e = absurd cc
-only_table String e = absurd cc
-only_table Alias e = absurd cc
-only_table Int e = absurd cc
-only_table Ints e = absurd cc
+only_table other e = absurd cc
 
 -- the kind of an item, from that of its tree
 pub kind_back : (body : List ℕ) (item : ℕ) (c : Kind) → StandsFor body item → parts.kind_of (item_tree body item) ≡ c
@@ -139,191 +105,87 @@ bare_there body item o k c only d same h e z =
 
 pub text_is : (t : Resource) → parts.kind_of t ≡ named.String → text_of t ≡ Some (parts.units_of t)
 text_is (string us) e = refl
-text_is (int n) e = absurd cc
-text_is (ints zs) e = absurd cc
-text_is (binary bs) e = absurd cc
-text_is (alias us) e = absurd cc
-text_is (array ts) e = absurd cc
-text_is (table es) e = absurd cc
+text_is t e = absurd cc
 
 pub text_none : (t : Resource) → (parts.kind_of t ≡ named.String → ⊥) → text_of t ≡ None
 text_none (string us) n = absurd (n refl)
-text_none (int n) ne = refl
-text_none (ints zs) ne = refl
-text_none (binary bs) ne = refl
-text_none (alias us) ne = refl
-text_none (array ts) ne = refl
-text_none (table es) ne = refl
+text_none t ne = refl
 
 pub alias_is : (t : Resource) → parts.kind_of t ≡ named.Alias → alias_of t ≡ Some (parts.units_of t)
 alias_is (alias us) e = refl
-alias_is (string us) e = absurd cc
-alias_is (int n) e = absurd cc
-alias_is (ints zs) e = absurd cc
-alias_is (binary bs) e = absurd cc
-alias_is (array ts) e = absurd cc
-alias_is (table es) e = absurd cc
+alias_is t e = absurd cc
 
 pub alias_none : (t : Resource) → (parts.kind_of t ≡ named.Alias → ⊥) → alias_of t ≡ None
 alias_none (alias us) ne = absurd (ne refl)
-alias_none (string us) ne = refl
-alias_none (int n) ne = refl
-alias_none (ints zs) ne = refl
-alias_none (binary bs) ne = refl
-alias_none (array ts) ne = refl
-alias_none (table es) ne = refl
+alias_none t ne = refl
 
 pub ints_is : (t : Resource) → parts.kind_of t ≡ named.Ints → ints_of t ≡ Some (parts.numbers_of t)
 ints_is (ints zs) e = refl
-ints_is (alias us) e = absurd cc
-ints_is (string us) e = absurd cc
-ints_is (int n) e = absurd cc
-ints_is (binary bs) e = absurd cc
-ints_is (array ts) e = absurd cc
-ints_is (table es) e = absurd cc
+ints_is t e = absurd cc
 
 pub ints_none : (t : Resource) → (parts.kind_of t ≡ named.Ints → ⊥) → ints_of t ≡ None
 ints_none (ints zs) ne = absurd (ne refl)
-ints_none (alias us) ne = refl
-ints_none (string us) ne = refl
-ints_none (int n) ne = refl
-ints_none (binary bs) ne = refl
-ints_none (array ts) ne = refl
-ints_none (table es) ne = refl
+ints_none t ne = refl
 
 pub binary_is : (t : Resource) → parts.kind_of t ≡ named.Binary → binary_of t ≡ Some (parts.bytes_of t)
 binary_is (binary bs) e = refl
-binary_is (ints zs) e = absurd cc
-binary_is (alias us) e = absurd cc
-binary_is (string us) e = absurd cc
-binary_is (int n) e = absurd cc
-binary_is (array ts) e = absurd cc
-binary_is (table es) e = absurd cc
+binary_is t e = absurd cc
 
 pub binary_none : (t : Resource) → (parts.kind_of t ≡ named.Binary → ⊥) → binary_of t ≡ None
 binary_none (binary bs) ne = absurd (ne refl)
-binary_none (ints zs) ne = refl
-binary_none (alias us) ne = refl
-binary_none (string us) ne = refl
-binary_none (int n) ne = refl
-binary_none (array ts) ne = refl
-binary_none (table es) ne = refl
+binary_none t ne = refl
 
 pub uint_is : (t : Resource) → parts.kind_of t ≡ named.Int → uint_of t ≡ Some (parts.int_of t)
 uint_is (int n) e = refl
-uint_is (binary bs) e = absurd cc
-uint_is (ints zs) e = absurd cc
-uint_is (alias us) e = absurd cc
-uint_is (string us) e = absurd cc
-uint_is (array ts) e = absurd cc
-uint_is (table es) e = absurd cc
+uint_is t e = absurd cc
 
 pub uint_none : (t : Resource) → (parts.kind_of t ≡ named.Int → ⊥) → uint_of t ≡ None
 uint_none (int n) ne = absurd (ne refl)
-uint_none (binary bs) ne = refl
-uint_none (ints zs) ne = refl
-uint_none (alias us) ne = refl
-uint_none (string us) ne = refl
-uint_none (array ts) ne = refl
-uint_none (table es) ne = refl
+uint_none t ne = refl
 
 pub array_is : (t : Resource) → parts.kind_of t ≡ named.Array → array_of t ≡ Some (parts.children_of t)
 array_is (array ts) e = refl
-array_is (int n) e = absurd cc
-array_is (binary bs) e = absurd cc
-array_is (ints zs) e = absurd cc
-array_is (alias us) e = absurd cc
-array_is (string us) e = absurd cc
-array_is (table es) e = absurd cc
+array_is t e = absurd cc
 
 pub array_none : (t : Resource) → (parts.kind_of t ≡ named.Array → ⊥) → array_of t ≡ None
 array_none (array ts) ne = absurd (ne refl)
-array_none (int n) ne = refl
-array_none (binary bs) ne = refl
-array_none (ints zs) ne = refl
-array_none (alias us) ne = refl
-array_none (string us) ne = refl
-array_none (table es) ne = refl
+array_none t ne = refl
 
 pub table_is : (t : Resource) → parts.kind_of t ≡ named.Table → table_of t ≡ Some (parts.pairs_of t)
 table_is (table es) e = refl
-table_is (array ts) e = absurd cc
-table_is (int n) e = absurd cc
-table_is (binary bs) e = absurd cc
-table_is (ints zs) e = absurd cc
-table_is (alias us) e = absurd cc
-table_is (string us) e = absurd cc
+table_is t e = absurd cc
 
 pub table_none : (t : Resource) → (parts.kind_of t ≡ named.Table → ⊥) → table_of t ≡ None
 table_none (table es) ne = absurd (ne refl)
-table_none (array ts) ne = refl
-table_none (int n) ne = refl
-table_none (binary bs) ne = refl
-table_none (ints zs) ne = refl
-table_none (alias us) ne = refl
-table_none (string us) ne = refl
+table_none t ne = refl
 
 -- ---- how many there are, by the kind
 
 pub len_units : (t : Resource) → HasUnits (parts.kind_of t) → parts.len_of t ≡ length (parts.units_of t)
 len_units (string us) h = refl
 len_units (alias us) h = refl
-len_units (int n) h = absurd h
-len_units (ints zs) h = absurd h
-len_units (binary bs) h = absurd h
-len_units (array ts) h = absurd h
-len_units (table es) h = absurd h
+len_units t h = absurd h
 
 pub len_numbers : (t : Resource) → parts.kind_of t ≡ named.Ints → parts.len_of t ≡ length (parts.numbers_of t)
 len_numbers (ints zs) e = refl
-len_numbers (string us) e = absurd cc
-len_numbers (alias us) e = absurd cc
-len_numbers (int n) e = absurd cc
-len_numbers (binary bs) e = absurd cc
-len_numbers (array ts) e = absurd cc
-len_numbers (table es) e = absurd cc
+len_numbers t e = absurd cc
 
 pub len_bytes : (t : Resource) → parts.kind_of t ≡ named.Binary → parts.len_of t ≡ length (parts.bytes_of t)
 len_bytes (binary bs) e = refl
-len_bytes (ints zs) e = absurd cc
-len_bytes (string us) e = absurd cc
-len_bytes (alias us) e = absurd cc
-len_bytes (int n) e = absurd cc
-len_bytes (array ts) e = absurd cc
-len_bytes (table es) e = absurd cc
+len_bytes t e = absurd cc
 
 pub len_int : (t : Resource) → parts.kind_of t ≡ named.Int → parts.len_of t ≡ 0
 len_int (int n) e = refl
-len_int (binary bs) e = absurd cc
-len_int (ints zs) e = absurd cc
-len_int (string us) e = absurd cc
-len_int (alias us) e = absurd cc
-len_int (array ts) e = absurd cc
-len_int (table es) e = absurd cc
+len_int t e = absurd cc
 
 pub len_items : (t : Resource) → parts.kind_of t ≡ named.Array → parts.len_of t ≡ length (parts.children_of t)
 len_items (array ts) e = refl
-len_items (int n) e = absurd cc
-len_items (binary bs) e = absurd cc
-len_items (ints zs) e = absurd cc
-len_items (string us) e = absurd cc
-len_items (alias us) e = absurd cc
-len_items (table es) e = absurd cc
+len_items t e = absurd cc
 
 pub len_entries : (t : Resource) → parts.kind_of t ≡ named.Table → parts.len_of t ≡ length (parts.pairs_of t)
 len_entries (table es) e = refl
-len_entries (array ts) e = absurd cc
-len_entries (int n) e = absurd cc
-len_entries (binary bs) e = absurd cc
-len_entries (ints zs) e = absurd cc
-len_entries (string us) e = absurd cc
-len_entries (alias us) e = absurd cc
+len_entries t e = absurd cc
 
 pub children_entries : (t : Resource) → parts.kind_of t ≡ named.Table → parts.children_of t ≡ values_of (parts.pairs_of t)
 children_entries (table es) e = refl
-children_entries (array ts) e = absurd cc
-children_entries (int n) e = absurd cc
-children_entries (binary bs) e = absurd cc
-children_entries (ints zs) e = absurd cc
-children_entries (string us) e = absurd cc
-children_entries (alias us) e = absurd cc
+children_entries t e = absurd cc
