@@ -28,23 +28,14 @@ len_of (table es) = length (pairs es)
 
 -- what an array or a table holds, in order
 abbrev pub children_of : Resource → List Resource
-children_of (string us) = []
-children_of (int n) = []
-children_of (ints zs) = []
-children_of (binary bs) = []
-children_of (alias us) = []
 children_of (array ts) = items ts
 children_of (table es) = values_of (pairs es)
+children_of t = []
 
 -- a table's entries
 abbrev pub pairs_of : Resource → List (List ℕ × Resource)
-pairs_of (string us) = []
-pairs_of (int n) = []
-pairs_of (ints zs) = []
-pairs_of (binary bs) = []
-pairs_of (alias us) = []
-pairs_of (array ts) = []
 pairs_of (table es) = pairs es
+pairs_of t = []
 
 -- the child with a key
 abbrev pub child_of : List ℕ → Resource → Option Resource
@@ -52,59 +43,32 @@ child_of k t = lookup (pointwise nat_eq k) (pairs_of t)
 
 abbrev pub units_of : Resource → List ℕ
 units_of (string us) = us
-units_of (int n) = []
-units_of (ints zs) = []
-units_of (binary bs) = []
 units_of (alias us) = us
-units_of (array ts) = []
-units_of (table es) = []
+units_of t = []
 
 abbrev pub numbers_of : Resource → List ℤ
-numbers_of (string us) = []
-numbers_of (int n) = []
 numbers_of (ints zs) = zs
-numbers_of (binary bs) = []
-numbers_of (alias us) = []
-numbers_of (array ts) = []
-numbers_of (table es) = []
+numbers_of t = []
 
 abbrev pub bytes_of : Resource → List ℕ
-bytes_of (string us) = []
-bytes_of (int n) = []
-bytes_of (ints zs) = []
 bytes_of (binary bs) = bs
-bytes_of (alias us) = []
-bytes_of (array ts) = []
-bytes_of (table es) = []
+bytes_of t = []
 
 abbrev pub int_of : Resource → ℕ
-int_of (string us) = 0
 int_of (int n) = n
-int_of (ints zs) = 0
-int_of (binary bs) = 0
-int_of (alias us) = 0
-int_of (array ts) = 0
-int_of (table es) = 0
+int_of t = 0
 
 -- arrays and tables
 abbrev pub HasChildren : Kind → Type 0
-HasChildren kind.String = ⊥
-HasChildren kind.Int = ⊥
-HasChildren kind.Ints = ⊥
-HasChildren kind.Binary = ⊥
-HasChildren kind.Alias = ⊥
 HasChildren kind.Array = Unit {0}
 HasChildren kind.Table = Unit {0}
+HasChildren k = ⊥
 
 -- strings and aliases
 abbrev pub HasUnits : Kind → Type 0
 HasUnits kind.String = Unit {0}
-HasUnits kind.Int = ⊥
-HasUnits kind.Ints = ⊥
-HasUnits kind.Binary = ⊥
 HasUnits kind.Alias = Unit {0}
-HasUnits kind.Array = ⊥
-HasUnits kind.Table = ⊥
+HasUnits k = ⊥
 
 -- a table within the limits of a bundle
 pub record Fits (t : Resource) : Type 0 where
