@@ -11,7 +11,7 @@ use Rattle.rb_tree.specs.Keys.{IsPlain}
 use Rattle.rb_tree.specs.Path.{is_slash, segments, IsPath}
 use Rattle.rb_tree.specs.Walk.{behind}
 use Rattle.rb_locales.specs.Locale.{name}
-use Rattle.rb_locales.proofs.Canon.{both_true}
+use Rattle.rb_locales.proofs.Canonical.{both_true}
 use Rattle.rb_fallback.specs.Alias.{Aim, aims, no_text, no_package, is_plain, aim, plain_aim, packaged, located, named, with_path, target, target_of}
 use Rattle.rb_fallback.specs.Behind.{are_filled, led}
 use Rattle.rb_fallback.specs.Search.{follow, goes}

@@ -8,7 +8,7 @@ use Rattle.rb_tree.specs.Resource.{Resource}
 use Rattle.rb_tree.specs.Parts.{HasUnits, kind_of, len_of, units_of}
 use Rattle.rb_locales.proofs.Narrowed.{units_len}
 use Rattle.rb_fallback.specs.Alias.{is_plain}
-use Rattle.rb_locales.proofs.Canon.{both_true}
+use Rattle.rb_locales.proofs.Canonical.{both_true}
 
 pub plain_low : (t : Resource) (i : ℕ) → HasUnits (kind_of t) → list_all is_plain (units_of t) ≡ true → i < len_of t → slice_index (units_of t) i < 256
 plain_low t i u p h =
