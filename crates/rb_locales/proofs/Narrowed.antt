@@ -63,9 +63,6 @@ filled t from past field old u w h same each =
     ∙ ap narrow (get_or-take (length old) (drop from us) k 0 (omega arith) ∙ get_or-drop from us k 0)))
 
 -- ---- narrowing
-alpha_narrow : (b : ℕ) → is_ascii_alphabetic (narrow b) ≡ is_ascii_alphabetic b
-alpha_narrow b = grind (arith, nat_tests)
-
 sign_narrow : (b : ℕ) → is_ascii_alphanumeric (narrow b) ≡ is_ascii_alphanumeric b
 sign_narrow b = grind (arith, nat_tests)
 
