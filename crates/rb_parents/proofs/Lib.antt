@@ -2,3 +2,4 @@ pub mod Shelves
 pub mod Trails
 pub mod Explicits
 pub mod ParentMaps
+pub mod FirstErrors
