@@ -3,3 +3,4 @@ pub mod Trails
 pub mod Explicits
 pub mod ParentMaps
 pub mod FirstErrors
+pub mod OneReading

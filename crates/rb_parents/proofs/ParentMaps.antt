@@ -15,30 +15,35 @@ use Rattle.rb_parents.specs.Entries.{Read, and_then, put_each, put_child, put_ch
 use Rattle.rb_parents.specs.declared.fault.ParentsFault.TheVariants as fault
 
 -- ---- a reading, mention by mention
-abbrev put_named : Option (List ℕ) → Option (List ℕ) → ParentsOf → Read
+abbrev pub put_named : Option (List ℕ) → Option (List ℕ) → ParentsOf → Read
 put_named None child known = Err fault.BadLocale
 put_named (Some parent) child known = put_child parent child known
 
 abbrev pub put_all : Mentions → ParentsOf → Read
 put_all ms known = put_each (λ s k. put_named (name s.1) (name s.0) k) ms known
 
--- one after others
+-- some after others, and one
+pub each_append : {A : Type 0} (put : A → ParentsOf → Read) (xs ys : List A) (known more : ParentsOf) → put_each put xs known ≡ Ok more
+    → put_each put (xs ++ ys) known ≡ put_each put ys more
+each_append put [] ys known more e = let same : known ≡ more = cc in ap (put_each put ys) same
+each_append put (x ∷ xs) ys known more e = by (put x known) e (λ k g. each_append put xs ys k more g)
+  where
+    by : (r : Read) → and_then (λ k. put_each put xs k) r ≡ Ok more
+        → ((k : ParentsOf) → put_each put xs k ≡ Ok more → put_each put (xs ++ ys) k ≡ put_each put ys more)
+        → and_then (λ k. put_each put (xs ++ ys) k) r ≡ put_each put ys more
+    by (Ok k) g go = go k g
+    by (Err f) g go = cc
+
 pub each_push : {A : Type 0} (put : A → ParentsOf → Read) (xs : List A) (x : A) (known more new : ParentsOf) → put_each put xs known ≡ Ok more
     → put x more ≡ Ok new → put_each put (xs ++ x ∷ []) known ≡ Ok new
-each_push put [] x known more new e f = ap (and_then (λ m. Ok m)) (ap (put x) (let same : known ≡ more = cc in same) ∙ f)
-each_push put (y ∷ ys) x known more new e f = by (put y known) e (λ k g. each_push put ys x k more new g f)
-  where
-    by : (r : Read) → and_then (λ k. put_each put ys k) r ≡ Ok more → ((k : ParentsOf) → put_each put ys k ≡ Ok more → put_each put (ys ++ x ∷ []) k ≡ Ok new)
-        → and_then (λ k. put_each put (ys ++ x ∷ []) k) r ≡ Ok new
-    by (Ok k) g go = go k g
-    by (Err z) g go = cc
+each_push put xs x known more new e f = each_append put xs (x ∷ []) known more e ∙ ap (and_then (λ k. Ok k)) f
 
 -- an entry's children are its mentions
 pub child_put : (key parent us : List ℕ) (known : ParentsOf) → name key ≡ Some parent
     → put_named (name key) (name us) known ≡ put_child parent (name us) known
 child_put key parent us known e = ap (λ o. put_named o (name us) known) e
 
-children_all : (key parent : List ℕ) (uss : List (List ℕ)) (rest : Mentions) (known : ParentsOf) → name key ≡ Some parent
+pub children_all : (key parent : List ℕ) (uss : List (List ℕ)) (rest : Mentions) (known : ParentsOf) → name key ≡ Some parent
     → put_all (mentions_by key uss ++ rest) known ≡ and_then (λ m. put_all rest m) (put_children parent uss known)
 children_all key parent [] rest known e = refl
 children_all key parent (us ∷ uss) rest known e =

@@ -15,9 +15,11 @@ returns-in_err-put_entry-clause-fault c =
     let u = view_of c.in-Some.table.now in
     let known = parent_of c.loop-i.parents in
     let entry = view_of c.at.result.now in
-    let bad = entries_bad u c.loop-i.i c.key_at.result.now entry known here c.in-Some.ensures.kind (sym c.key_at.ensures) (sym c.at.ensures) in
+    let i = c.loop-i.i in
+    let key = c.key_at.result.now in
+    let bad = entries_bad u i key entry known here c.in-Some.ensures.kind (sym c.key_at.ensures) (sym c.at.ensures) in
     err_is c.from_residual.result here _ c.from_residual.ensures.1
-    (fault_on here (put_entry (name c.key_at.result.now) entry known) (RefusesParents t here) (λ e. table_refuses (parent_entries t) here (sym c.loop-i.invariant ∙ bad e))
+    (fault_on here (put_entry (name key) entry known) (RefusesParents t here) (λ e. table_refuses (parent_entries t) here (sym c.loop-i.invariant ∙ bad e))
     c.in_err-put_entry.ensures.fault)
 
 pub loop-i-preserved : goal.loop-i-preserved
