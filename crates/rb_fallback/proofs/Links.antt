@@ -9,7 +9,7 @@ use Rattle.rb_tree.specs.Path.{segments}
 use Rattle.rb_tree.specs.Walk.{Walked, ends, links, gone, behind, end, nowhere, stop_of, rest_of, link}
 use Rattle.rb_tree.specs.Ending.{stop_at, RestIs}
 use Rattle.rb_tree.specs.declared.ending.Ending.TheVariants.{End, Link, Gone}
-use Rattle.rb_parents.specs.Trail.{Bundles, ParentsOf, Trail, names, chain, bad_parent, trail, stops}
+use Rattle.rb_parents.specs.Trail.{Bundles, ParentsOf, Trail, names, trail, stops}
 use Rattle.rb_fallback.specs.Alias.{target}
 use Rattle.rb_fallback.specs.Search.{Decided, walk_of, unless_gone, decide, by_stops, by_trail, level, found, step, step_of, follow}
 use Rattle.rb_fallback.specs.LevelResult.{IsLevelResult}
@@ -27,9 +27,8 @@ walk_in None = gone
 
 unless_whole : (n : List ℕ) (v : Walked) (later : Option Decided) (d : Decided) (ss : List (List ℕ)) → Whole v ss → (later ≡ Some d → Whole d.walked ss)
     → unless_gone n v later ≡ Some d → Whole d.walked ss
-unless_whole n (ends t) later d ss h k e = let same : ends t ≡ d.walked = ap walk_in e in subst (λ x. Whole x ss) same h
-unless_whole n (links us walked rest) later d ss h k e = let same : links us walked rest ≡ d.walked = ap walk_in e in subst (λ x. Whole x ss) same h
 unless_whole n gone later d ss h k e = k e
+unless_whole n v later d ss h k e = let same : v ≡ d.walked = ap walk_in e in subst (λ x. Whole x ss) same h
 
 walk_of_whole : (o : Option SourceTree) (ss : List (List ℕ)) → Whole (walk_of o ss) ss
 walk_of_whole None ss = tt
@@ -50,20 +49,17 @@ stops_whole bundles (n ∷ ns) ss d e = decide_whole bundles (n ∷ ns) ss d (ok
 
 level_whole : (bundles : Bundles) (t : Trail) (ss : List (List ℕ)) (d : Decided) → by_trail bundles t ss ≡ Ok d → Whole d.walked ss
 level_whole bundles (names ns) ss d e = stops_whole bundles (stops bundles ns) ss d e
-level_whole bundles chain ss d e = cc
-level_whole bundles bad_parent ss d e = cc
+level_whole bundles t ss d e = cc
 
 -- ---- a deciding walk that ends at an item
 ends_at : (w : Walked) (t : Resource) → end t ≡ stop_of w → w ≡ ends t
 ends_at (ends u) t e = cc
-ends_at (links us walked rest) t e = cc
-ends_at gone t e = cc
+ends_at w t e = cc
 
 -- a deciding walk does not end nowhere, and where one did, the step would be an error
 gone_at : (w : Walked) → nowhere ≡ stop_of w → w ≡ gone
-gone_at (ends t) e = cc
-gone_at (links us walked rest) e = cc
 gone_at gone e = refl
+gone_at w e = cc
 
 -- ---- a deciding walk that ends at an alias
 record IsLink (t : Resource) (path : List ℕ) (cut : ℕ) (w : Walked) : Type 0 where

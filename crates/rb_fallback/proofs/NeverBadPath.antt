@@ -3,7 +3,7 @@ use Rattle.std.proofs.Common.{◌≡◌, ℕ, zero, suc, List, [], ◌∷◌, Bo
 use Rattle.std.specs.Option.{ok_or}
 use Rattle.rb_tree.specs.Resource.{Resource}
 use Rattle.rb_tree.specs.Walk.{Walked, ends, links, gone}
-use Rattle.rb_parents.specs.Trail.{Bundles, Trail, names, chain, bad_parent, trail, stops}
+use Rattle.rb_parents.specs.Trail.{Bundles, Trail, names, trail, stops}
 use Rattle.rb_fallback.specs.Alias.{Target, leads, bad_text, bad_package, target}
 use Rattle.rb_fallback.specs.Answers.{answer_of}
 use Rattle.rb_fallback.specs.Search.{Decided, decide, by_stops, by_trail, level, Step, found, goes, follow, step, step_of}
@@ -27,8 +27,7 @@ stops_never bundles (n ∷ ns) ss e = decide_never (decide bundles (n ∷ ns) ss
 
 trail_never : (bundles : Bundles) (t : Trail) (ss : List (List ℕ)) → by_trail bundles t ss ≡ Err fault.BadPath → ⊥
 trail_never bundles (names ns) ss e = stops_never bundles (stops bundles ns) ss e
-trail_never bundles chain ss e = cc
-trail_never bundles bad_parent ss e = cc
+trail_never bundles t ss e = cc
 
 follow_never : (rest : List (List ℕ)) (t : Target) → follow rest t ≡ Err fault.BadPath → ⊥
 follow_never rest (leads in_icu n ss) e = cc

@@ -3,24 +3,22 @@ use Rattle.std.proofs.Common.{◌≡◌, ℕ, List, [], ◌∷◌, ◌++◌, len
 use Rattle.std.specs.List.{slice_split, list_all, join_with_byte}
 use Rattle.std.specs.Str.{bytes_eq}
 use Rattle.std.proofs.lemmas.List.Splits.{join_with_byte-slice_split}
-use Rattle.rb_tree.specs.Resource.{Resource, string, int, ints, binary, alias, array, table}
+use Rattle.rb_tree.specs.Resource.{Resource, alias}
 use Rattle.rb_tree.specs.Path.{is_slash, segments}
-use Rattle.rb_tree.specs.Walk.{Walked, ends, links, gone, walk, after, onward, enter}
+use Rattle.rb_tree.specs.Walk.{Walked, links, walk, after, onward, enter}
 use Rattle.rb_locales.specs.Locale.{name}
-use Rattle.rb_fallback.specs.Alias.{Aim, aims, no_text, no_package, is_plain, aim, plain_aim, packaged, located, named, with_path}
+use Rattle.rb_fallback.specs.Alias.{Aim, aims, no_text, is_plain, aim, plain_aim, packaged, located, named, with_path}
 use Rattle.rb_fallback.specs.AliasPaths.{are_filled}
 use Rattle.rb_fallback.specs.Search.{is_long}
 
 -- ---- the segments walked and those left are all
 abbrev pub Whole : Walked → List (List ℕ) → Type 0
-Whole (ends t) ss = Unit {0}
 Whole (links us walked rest) ss = walked ++ rest ≡ ss
-Whole gone ss = Unit {0}
+Whole w ss = Unit {0}
 
 after_whole : (s : List ℕ) (w : Walked) (ss : List (List ℕ)) → Whole w ss → Whole (after s w) (s ∷ ss)
-after_whole s (ends t) ss h = tt
 after_whole s (links us walked rest) ss h = ap (λ l. s ∷ l) h
-after_whole s gone ss h = tt
+after_whole s w ss h = tt
 
 onward_whole : (s : List ℕ) (ss : List (List ℕ)) (o : Option Resource) → ((u : Resource) → Whole (walk u ss) ss) → Whole (onward s (λ u. walk u ss) o) (s ∷ ss)
 onward_whole s ss None h = tt
@@ -28,18 +26,8 @@ onward_whole s ss (Some u) h = after_whole s (walk u ss) ss (h u)
 
 pub walk_whole : (t : Resource) (ss : List (List ℕ)) → Whole (walk t ss) ss
 walk_whole (alias us) ss = refl
-walk_whole (string us) [] = tt
-walk_whole (string us) (s ∷ ss) = onward_whole s ss (enter s (string us)) (λ u. walk_whole u ss)
-walk_whole (int n) [] = tt
-walk_whole (int n) (s ∷ ss) = onward_whole s ss (enter s (int n)) (λ u. walk_whole u ss)
-walk_whole (ints zs) [] = tt
-walk_whole (ints zs) (s ∷ ss) = onward_whole s ss (enter s (ints zs)) (λ u. walk_whole u ss)
-walk_whole (binary bs) [] = tt
-walk_whole (binary bs) (s ∷ ss) = onward_whole s ss (enter s (binary bs)) (λ u. walk_whole u ss)
-walk_whole (array ts) [] = tt
-walk_whole (array ts) (s ∷ ss) = onward_whole s ss (enter s (array ts)) (λ u. walk_whole u ss)
-walk_whole (table es) [] = tt
-walk_whole (table es) (s ∷ ss) = onward_whole s ss (enter s (table es)) (λ u. walk_whole u ss)
+walk_whole t [] = tt
+walk_whole t (s ∷ ss) = onward_whole s ss (enter s t) (λ u. walk_whole u ss)
 
 -- ---- a path and its segments
 -- the segments, joined, are the path
@@ -60,10 +48,8 @@ aim_is_plain us valid n icu o e = by (list_all is_plain us) refl
 
 -- the path of an aim has no empty segment
 abbrev Filled : Aim → Type 0
-Filled (aims icu n None) = Unit {0}
 Filled (aims icu n (Some ss)) = are_filled ss ≡ true
-Filled no_text = Unit {0}
-Filled no_package = Unit {0}
+Filled x = Unit {0}
 
 either_filled : (b : Bool) (x y : Aim) → Filled x → Filled y → Filled (cond b x y)
 either_filled true x y f g = f

@@ -4,7 +4,7 @@ use Rattle.std.proofs.lemmas.List.Elements.{filter-append}
 use Rattle.rb_tree.specs.Resource.{Resource}
 use Rattle.rb_tree.specs.SourceTree.{SourceTree}
 use Rattle.rb_tree.specs.Path.{segments}
-use Rattle.rb_tree.specs.Walk.{Walked, ends, links, gone, walk, stop_of, rest_of, nowhere}
+use Rattle.rb_tree.specs.Walk.{Walked, gone, walk, stop_of, rest_of, nowhere}
 use Rattle.rb_tree.specs.Ending.{stop_at, RestIs}
 use Rattle.rb_tree.specs.declared.ending.Ending.{Ending}
 use Rattle.rb_tree.specs.declared.ending.Ending.TheVariants.{End, Link, Gone}
@@ -21,9 +21,8 @@ or_later None later = later
 or_later (Some h) later = Some h
 
 skips : (m : List ℕ) (w : Walked) (o later : Option Decided) → unless_gone m w (or_later o later) ≡ or_later (unless_gone m w o) later
-skips m (ends t) o later = refl
-skips m (links us walked rest) o later = refl
 skips m gone o later = refl
+skips m w o later = refl
 
 decide_on : (b : Bundles) (all : List (List ℕ)) (n : List ℕ) (ss : List (List ℕ))
     → decide b (all ++ n ∷ []) ss ≡ or_later (decide b all ss) (unless_gone n (walk_of (b n) ss) None)
@@ -31,14 +30,12 @@ decide_on b [] n ss = refl
 decide_on b (m ∷ all) n ss = ap (unless_gone m (walk_of (b m) ss)) (decide_on b all n ss) ∙ skips m (walk_of (b m) ss) (decide b all ss) _
 
 not_gone : (w : Walked) (n : List ℕ) (o : Option Decided) → (stop_of w ≡ nowhere → ⊥) → unless_gone n w o ≡ Some (record { stop = n; walked = w })
-not_gone (ends t) n o h = refl
-not_gone (links us walked rest) n o h = refl
 not_gone gone n o h = absurd (h refl)
+not_gone w n o h = refl
 
 is_gone : (w : Walked) (n : List ℕ) (o : Option Decided) → nowhere ≡ stop_of w → unless_gone n w o ≡ o
-is_gone (ends t) n o h = cc
-is_gone (links us walked rest) n o h = cc
 is_gone gone n o h = refl
+is_gone w n o h = cc
 
 -- the tree that a stop has is that of its bundle
 abbrev tree_in : Option SourceTree → Option Resource

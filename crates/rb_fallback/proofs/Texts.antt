@@ -1,6 +1,6 @@
 -- The texts of aliases.
-use Rattle.std.proofs.Common.{◌≡◌, ◌+◌, ◌-◌, ◌<◌, ◌≤◌, ◌&&◌, ℕ, List, [], ◌∷◌, length, take, drop, Bool, true, false, cond, nat_lt, get_or, slice_index, Some}
-use Rattle.std.proofs.Common.{refl, ap, sym, ◌∙◌, arith, subst, length-drop, codes, slice_range}
+use Rattle.std.proofs.Common.{◌≡◌, ◌+◌, ◌-◌, ◌<◌, ◌≤◌, ◌&&◌, ℕ, List, [], ◌∷◌, length, take, drop, Bool, true, false, cond, nat_lt, get_or}
+use Rattle.std.proofs.Common.{slice_index, Option, Some, refl, ap, sym, ◌∙◌, arith, subst, length-drop, codes, slice_range}
 use Rattle.std.proofs.lemmas.Bool.{ltb-true, ltb-false, lt-ltb, false_from_ne_true}
 use Rattle.std.proofs.lemmas.List.{get_or-drop, take_all, drop-drop, ext_get_or}
 use Rattle.std.proofs.lemmas.List.Sums.{position_or_len_is, fails_before_first}
@@ -124,11 +124,15 @@ located_first : (icu : Bool) (s : List ℕ) (ss : List (List ℕ)) → 0 < lengt
 located_first icu [] ss h = absurd (omega arith)
 located_first icu (u ∷ us) ss h = refl
 
-pub located_some : (icu : Bool) (us : List ℕ) (from past : ℕ) → past ≡ segment_end us from → past ≤ length us → (past ≡ from → ⊥)
-    → located icu (segments_from us from) ≡ named icu (name (slice_range us from past)) (segments_after us past)
-located_some icu us from past e h other =
-    ap (located icu) (split_is us from past e h)
-    ∙ located_first icu (slice_range us from past) (segments_after us past) (omega (arith, length-slice from past us h))
+pub located_named : (t : Resource) (icu : Bool) (from past : ℕ) (o : Option (List ℕ)) → HasUnits (kind_of t) → past ≡ segment_end (units_of t) from
+    → past ≤ len_of t → (past ≡ from → ⊥) → name (slice_range (units_of t) from past) ≡ o
+    → located icu (segments_from (units_of t) from) ≡ named icu o (segments_after (units_of t) past)
+located_named t icu from past o u e h other is =
+    let us = units_of t in
+    let len : length us ≡ len_of t = units_len t u in
+    ap (located icu) (split_is us from past e (omega arith))
+    ∙ located_first icu (slice_range us from past) (segments_after us past) (omega (arith, length-slice from past us (omega arith)))
+    ∙ ap (λ q. named icu q (segments_after us past)) is
 
 pub located_none : (icu : Bool) (us : List ℕ) (from past : ℕ) → past ≡ segment_end us from → past ≤ length us → past ≡ from
     → located icu (segments_from us from) ≡ no_text

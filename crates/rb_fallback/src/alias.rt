@@ -120,7 +120,7 @@ fn with_path<N: Node>(icudata: bool, name: Name, node: N, past: usize) -> Result
 }
 
 // A locale and a path, from here on.
-#[tactic(auto, using(crate::proofs::Texts::located_some, crate::proofs::Texts::located_none))]
+#[tactic(auto, using(crate::proofs::Texts::located_none))]
 fn located<N: Node>(icudata: bool, node: N, from: usize) -> Result<Target, AliasFault>
     requires units { HasUnits (kind_of (N.tree node)) }
     requires within { from ≤ len_of (N.tree node) }

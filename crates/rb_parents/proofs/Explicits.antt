@@ -9,7 +9,7 @@ use Rattle.std.specs.List.{slice_get}
 use Rattle.std.specs.Ordering.{nat_cmp, is_eq}
 use Rattle.std.specs.Cmp.Lexicographic.{slice_cmp, pointwise}
 use Rattle.std.specs.Map.{keys_of, values_of, update}
-use Rattle.rb_tree.specs.Resource.{Resource, string, int, ints, binary, alias, array, table}
+use Rattle.rb_tree.specs.Resource.{Resource, string, array, table}
 use Rattle.rb_tree.specs.Parts.{kind_of, len_of, units_of, children_of, pairs_of}
 use Rattle.rb_tree.specs.declared.kind.Kind.TheVariants as Kinds
 use Rattle.rb_locales.specs.Locale.{name, in_front}
@@ -22,21 +22,11 @@ use Rattle.rb_parents.specs.declared.fault.ParentsFault.TheVariants as fault
 -- ---- the texts of an array's items
 text_some : (t : Resource) → kind_of t ≡ Kinds.String → text_of t ≡ Some (units_of t)
 text_some (string us) k = refl
-text_some (int n) k = cc
-text_some (ints zs) k = cc
-text_some (binary bs) k = cc
-text_some (alias us) k = cc
-text_some (array ts) k = cc
-text_some (table es) k = cc
+text_some t k = cc
 
 text_none : (t : Resource) → (kind_of t ≡ Kinds.String → ⊥) → text_of t ≡ None
 text_none (string us) k = absurd (k refl)
-text_none (int n) k = refl
-text_none (ints zs) k = refl
-text_none (binary bs) k = refl
-text_none (alias us) k = refl
-text_none (array ts) k = refl
-text_none (table es) k = refl
+text_none t k = refl
 
 pub strings_all : (ts : List Resource) → ((k : ℕ) (d : Resource) → k < length ts → kind_of (get_or ts k d) ≡ Kinds.String)
     → texts_of ts ≡ Some (map units_of ts)
@@ -55,22 +45,12 @@ strings_none (t ∷ ts) zero x e h =
 strings_none (t ∷ ts) (suc i) x e h = ap (in_front (text_of t)) (strings_none ts i x e h) ∙ front_none (text_of t)
 
 pub array_texts : (t : Resource) → kind_of t ≡ Kinds.Array → texts_in t ≡ texts_of (children_of t)
-array_texts (string us) k = cc
-array_texts (int n) k = cc
-array_texts (ints zs) k = cc
-array_texts (binary bs) k = cc
-array_texts (alias us) k = cc
 array_texts (array ts) k = refl
-array_texts (table es) k = cc
+array_texts t k = cc
 
 pub array_len : (t : Resource) → kind_of t ≡ Kinds.Array → length (children_of t) ≡ len_of t
-array_len (string us) k = cc
-array_len (int n) k = cc
-array_len (ints zs) k = cc
-array_len (binary bs) k = cc
-array_len (alias us) k = cc
 array_len (array ts) k = refl
-array_len (table es) k = cc
+array_len t k = cc
 
 -- ---- one child
 pub put_new : (old new : ParentsOf) (parent child : List ℕ) → is_some (old child) ≡ false
@@ -125,22 +105,12 @@ pair_at (p ∷ ps) zero k t e f = λ i. Some (get_or_from_slice_get (p.0 ∷ key
 pair_at (p ∷ ps) (suc i) k t e f = pair_at ps i k t e f
 
 table_pairs : (u : Resource) → kind_of u ≡ Kinds.Table → children_of u ≡ values_of (pairs_of u)
-table_pairs (string us) k = cc
-table_pairs (int n) k = cc
-table_pairs (ints zs) k = cc
-table_pairs (binary bs) k = cc
-table_pairs (alias us) k = cc
-table_pairs (array ts) k = cc
 table_pairs (table es) k = refl
+table_pairs t k = cc
 
 pub table_len : (u : Resource) → kind_of u ≡ Kinds.Table → length (pairs_of u) ≡ len_of u
-table_len (string us) k = cc
-table_len (int n) k = cc
-table_len (ints zs) k = cc
-table_len (binary bs) k = cc
-table_len (alias us) k = cc
-table_len (array ts) k = cc
 table_len (table es) k = refl
+table_len t k = cc
 
 entry_at : (u : Resource) (i : ℕ) (k : List ℕ) (t : Resource) → kind_of u ≡ Kinds.Table → slice_get (keys_of (pairs_of u)) i ≡ Some k
     → slice_get (children_of u) i ≡ Some t → slice_get (pairs_of u) i ≡ Some (k, t)
@@ -185,12 +155,7 @@ texts_each ts i x uss e h = by (kind_string x)
 
     kind_string : (t : Resource) → (kind_of t ≡ Kinds.String) ⊎ (kind_of t ≡ Kinds.String → ⊥)
     kind_string (string us) = inl refl
-    kind_string (int n) = inr (λ k. cc)
-    kind_string (ints zs) = inr (λ k. cc)
-    kind_string (binary bs) = inr (λ k. cc)
-    kind_string (alias us) = inr (λ k. cc)
-    kind_string (array ts) = inr (λ k. cc)
-    kind_string (table es) = inr (λ k. cc)
+    kind_string t = inr (λ k. cc)
 
 pub string_in : (t : Resource) (i : ℕ) (x : Resource) → kind_of t ≡ Kinds.Array → texts_in t ≡ Some (map units_of (children_of t))
     → slice_get (children_of t) i ≡ Some x → kind_of x ≡ Kinds.String

@@ -1,7 +1,7 @@
 -- Which map explicit parents are, in terms of the table at `parentLocales` (the parent locales of UTS #35): what its entries name,
 -- and nothing else. Each key is a parent, and its value names the parent's children, as an array of strings or as one string.
 use Rattle.std.specs.Prelude.{◌≡◌, ◌↔◌, ◌<◌, ℕ, List, [], ◌∷◌, ◌++◌, length, Option, Some, None, map, slice_get, unwrap_or}
-use Rattle.rb_tree.specs.Resource.{Resource, string, int, ints, binary, alias, array, table}
+use Rattle.rb_tree.specs.Resource.{Resource, string, array, table}
 use Rattle.rb_tree.specs.Keys.{items, pairs}
 use Rattle.rb_locales.specs.Locale.{name, in_front}
 use Rattle.rb_parents.specs.Trail.{ParentsOf, text_of}
@@ -11,14 +11,8 @@ abbrev pub Entries : Type 0
 Entries = List (List ℕ × Resource)
 
 abbrev pub entries_in : Option Resource → Option Entries
-entries_in None = None
-entries_in (Some (string us)) = None
-entries_in (Some (int n)) = None
-entries_in (Some (ints zs)) = None
-entries_in (Some (binary bs)) = None
-entries_in (Some (alias us)) = None
-entries_in (Some (array ts)) = None
 entries_in (Some (table es)) = Some (pairs es)
+entries_in o = None
 
 -- the texts of strings, where all are strings
 abbrev pub texts_of : List Resource → Option (List (List ℕ))
@@ -28,12 +22,8 @@ texts_of (t ∷ ts) = in_front (text_of t) (texts_of ts)
 -- the texts of the children that a value names, where it has the shape of one
 abbrev pub texts_in : Resource → Option (List (List ℕ))
 texts_in (string us) = Some (us ∷ [])
-texts_in (int n) = None
-texts_in (ints zs) = None
-texts_in (binary bs) = None
-texts_in (alias us) = None
 texts_in (array ts) = texts_of (items ts)
-texts_in (table es) = None
+texts_in t = None
 
 -- texts of children, each beside the key of its entry
 abbrev pub Mentions : Type 0
