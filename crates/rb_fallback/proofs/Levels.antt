@@ -1,22 +1,26 @@
 -- A search, level by level.
-use Rattle.std.proofs.Common.{◌≡◌, ◌+◌, ◌-◌, ◌<◌, ◌≤◌, ◌==◌, ℕ, zero, suc, List, Bool, true, false, cond, Option, Some, Result, Ok, Err, IfOk, unwrap_or, refl, ap, sym, ◌∙◌, arith, length}
-use Rattle.std.proofs.Common.{IsErrAnd, ◌≢◌}
+use Rattle.std.proofs.Common.{◌≡◌, ◌≢◌, ◌+◌, ◌-◌, ◌<◌, ◌≤◌, ◌==◌, ℕ, zero, suc, List, length, Bool, true, false, cond, Option, Some, Result, Ok, Err, IfOk}
+use Rattle.std.proofs.Common.{IsErrAnd, unwrap_or, refl, ap, sym, ◌∙◌, arith}
 use Rattle.std.proofs.lemmas.Bool.{le-ltb, eqb-true, eqb-false}
-use Rattle.rb_fallback.specs.Answers.{answer_of}
-use Rattle.rb_fallback.specs.declared.found.Found.{Found}
 use Rattle.rb_tree.specs.Resource.{Resource}
-use Rattle.rb_tree.specs.Path.{segments}
+use Rattle.rb_tree.specs.Path.{segments, IsPath}
 use Rattle.rb_parents.specs.Trail.{Bundles, ParentsOf}
+use Rattle.rb_fallback.specs.Answers.{answer_of}
+use Rattle.rb_fallback.specs.LevelResult.{IsLevelResult}
 use Rattle.rb_fallback.specs.Search.{Setting, Step, search, is_long, go_on, step, level, bundles_of, first_stop, look_up, setting, setting_of}
+use Rattle.rb_fallback.specs.Steps.{GoesOn, GoesLong}
 use Rattle.rb_fallback.specs.declared.fault.LookError.{LookError}
 use Rattle.rb_fallback.specs.declared.fault.LookError.TheVariants as fault
+use Rattle.rb_fallback.specs.declared.found.Found.{Found}
+use Rattle.rb_fallback.specs.declared.level.LevelResult.{LevelResult}
+use Rattle.rb_fallback.specs.declared.search.Place.{Place}
 use Rattle.rb_fallback.proofs.Paths.{long_is}
 
 -- the step of a level
 abbrev pub step_at : Setting → Bool → List ℕ → List (List ℕ) → Result Step LookError
 step_at s in_icu n ss = step in_icu s.valid (level (bundles_of s.own s.icu in_icu) s.parents n ss)
 
-pub search_on : (k j : ℕ) (s : Setting) (in_icu : Bool) (n : List ℕ) (ss : List (List ℕ)) → k ≡ suc j → is_long ss ≡ false
+search_on : (k j : ℕ) (s : Setting) (in_icu : Bool) (n : List ℕ) (ss : List (List ℕ)) → k ≡ suc j → is_long ss ≡ false
     → search k s in_icu n ss ≡ go_on (λ p m ts. search j s p m ts) (step_at s in_icu n ss)
 unfolding search
 search_on zero j s in_icu n ss e f = cc
@@ -36,41 +40,61 @@ unfolding search
 search_end zero s in_icu n ss e = refl
 search_end (suc k) s in_icu n ss e = cc
 
-pub short_is : (p : List ℕ) → length p ≤ 1024 → is_long (segments p) ≡ false
+short_is : (p : List ℕ) → length p ≤ 1024 → is_long (segments p) ≡ false
 short_is p h = long_is p ∙ le-ltb 1024 (length p) h
 
--- one level on, by its step
-pub level_step : (most i : ℕ) (s : Setting) (in_icu : Bool) (n p : List ℕ) (r : Result Step LookError) → i < most → length p ≤ 1024
-    → step_at s in_icu n (segments p) ≡ r → search (most - i) s in_icu n (segments p) ≡ go_on (λ q m ts. search (most - (i + 1)) s q m ts) r
-level_step most i s in_icu n p r h l f =
-    search_on (most - i) (most - (i + 1)) s in_icu n (segments p) (omega arith) (short_is p l) ∙ ap (go_on (λ q m ts. search (most - (i + 1)) s q m ts)) f
+-- a search that has come to a level has this answer
+pub record ComesTo (most i : ℕ) (s : Setting) (in_icu : Bool) (n p : List ℕ) (answer : Result (Resource × List ℕ) LookError) : Type 0 where
+  pub path : IsPath p
+  pub same : search (most - i) s in_icu n (segments p) ≡ answer
 
--- the first level of a lookup, by its step
-pub first_level : (own icu : Bundles) (parents : ParentsOf) (n p : List ℕ) (r : Result Step LookError) → length p ≤ 1024
-    → step false (setting own icu parents n).valid (level own parents n (segments p)) ≡ r
-    → look_up own icu parents n (segments p) ≡ go_on (λ q m ts. search 255 (setting own icu parents n) q m ts) r
-first_level own icu parents n p r l f = level_step 256 0 (setting own icu parents n) false n p r (omega arith) l f
+-- a lookup has come to its first level
+pub start : (own icu : Bundles) (parents : ParentsOf) (n p : List ℕ) → IsPath p
+    → ComesTo 256 0 (setting own icu parents n) false n p (look_up own icu parents n (segments p))
+start own icu parents n p path = record { path = path; same = refl }
 
 -- the same, where the first stop is known
-pub first_level_from : (own icu : Bundles) (parents : ParentsOf) (n p first : List ℕ) (r : Result Step LookError) → first_stop own parents n ≡ Some first
-    → length p ≤ 1024 → step false first (level own parents n (segments p)) ≡ r
-    → look_up own icu parents n (segments p) ≡ go_on (λ q m ts. search 255 (setting_of own icu parents first) q m ts) r
-first_level_from own icu parents n p first r e l f =
-    ap (λ (x : Setting). search 256 x false n (segments p)) (ap (λ o. setting_of own icu parents (unwrap_or o n)) e)
-    ∙ level_step 256 0 (setting_of own icu parents first) false n p r (omega arith) l f
+pub start_from : {N : Type 0} {tree : N → Resource} {h : LevelResult N} {own : Bundles} {parents : ParentsOf} {n p : List ℕ} (icu : Bundles) → IsPath p
+    → IsLevelResult tree h p (level own parents n (segments p)) (first_stop own parents n)
+    → ComesTo 256 0 (setting_of own icu parents h.first) false n p (look_up own icu parents n (segments p))
+start_from {own = own} {parents = parents} {n = n} {p = p} icu path decided = record {
+  path = path;
+  same = ap (λ (x : Setting). search 256 x false n (segments p)) (ap (λ o. setting_of own icu parents (unwrap_or o n)) (sym decided.first));
+}
 
 -- where the next path is too long, the search ends
-pub long_end : (most i : ℕ) (s : Setting) (in_icu : Bool) (n : List ℕ) (rest : List (List ℕ)) (f : LookError) → i < most → is_long rest ≡ true
+long_end : (most i : ℕ) (s : Setting) (in_icu : Bool) (n : List ℕ) (rest : List (List ℕ)) (f : LookError) → i < most → is_long rest ≡ true
     → f ≡ cond (i + 1 == most) fault.TooManyAliases fault.PathTooLong → search (most - (i + 1)) s in_icu n rest ≡ Err f
 long_end most i s in_icu n rest f h l e = by (i + 1 == most) refl
   where
+    fault_at : (b : Bool) → (i + 1 == most) ≡ b → cond b fault.TooManyAliases fault.PathTooLong ≡ f
+    fault_at b t = sym (e ∙ ap (λ c. cond c fault.TooManyAliases fault.PathTooLong) t)
+
     by : (b : Bool) → (i + 1 == most) ≡ b → search (most - (i + 1)) s in_icu n rest ≡ Err f
     by true t =
         let last : i + 1 ≡ most = eqb-true (i + 1) most t in
-        search_end (most - (i + 1)) s in_icu n rest (omega arith) ∙ ap Err (sym (e ∙ ap (λ b. cond b fault.TooManyAliases fault.PathTooLong) t))
+        search_end (most - (i + 1)) s in_icu n rest (omega arith) ∙ ap Err (fault_at true t)
     by false t =
         let other : i + 1 ≢ most = eqb-false (i + 1) most t in
-        search_long (most - (i + 1)) (most - (i + 2)) s in_icu n rest (omega arith) l ∙ ap Err (sym (e ∙ ap (λ b. cond b fault.TooManyAliases fault.PathTooLong) t))
+        search_long (most - (i + 1)) (most - (i + 2)) s in_icu n rest (omega arith) l ∙ ap Err (fault_at false t)
+
+-- a level on
+module _ {most i : ℕ} {s : Setting} {in_icu : Bool} {n p : List ℕ} {answer : Result (Resource × List ℕ) LookError}
+    (at : ComesTo most i s in_icu n p answer) (more : i < most) (short : length p ≤ 1024) where
+  pub level_answer : {r : Result Step LookError} → step_at s in_icu n (segments p) ≡ r → go_on (λ q m ts. search (most - (i + 1)) s q m ts) r ≡ answer
+  level_answer e =
+      ap (go_on (λ q m ts. search (most - (i + 1)) s q m ts)) (sym e)
+      ∙ sym (search_on (most - i) (most - (i + 1)) s in_icu n (segments p) (omega arith) (short_is p short))
+      ∙ at.same
+
+  -- an alias leads on
+  pub next_level : (q : Place) → GoesOn q (step_at s in_icu n (segments p)) → ComesTo most (i + 1) s q.icudata q.name q.path.items answer
+  next_level q on = record { path = on.path; same = level_answer on.onto }
+
+  -- or to a path that is too long
+  pub long_answer : {f : LookError} → GoesLong (step_at s in_icu n (segments p)) → f ≡ cond (i + 1 == most) fault.TooManyAliases fault.PathTooLong
+      → Err f ≡ answer
+  long_answer {f = f} long e = sym (long_end most i s long.in_icu long.name long.rest f more long.long e) ∙ level_answer long.onto
 
 -- an error that a `?` hands on
 pub answer_err : {N : Type 0} (tree : N → Resource) (x : Result (Found N) LookError) (f : LookError) → IsErrAnd x (λ e. e ≡ f) → answer_of tree x ≡ Err f

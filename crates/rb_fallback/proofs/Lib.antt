@@ -1,8 +1,8 @@
 pub mod Texts
 pub mod Scans
 pub mod Paths
-pub mod Room
+pub mod AppendedUnits
 pub mod Follows
 pub mod Links
 pub mod Levels
-pub mod Never
+pub mod NeverBadPath

@@ -1,16 +1,16 @@
 -- A pass over a trail, name by name.
 use Rattle.std.proofs.Common.{◌≡◌, ℕ, List, [], ◌∷◌, ◌++◌, Bool, true, false, cond, Option, Some, None, unwrap_or, refl, ap, ◌∙◌, append-nil}
-use Rattle.std.specs.List.{filter}
+use Rattle.std.proofs.lemmas.List.Elements.{filter-append}
 use Rattle.rb_tree.specs.Resource.{Resource}
 use Rattle.rb_tree.specs.SourceTree.{SourceTree}
 use Rattle.rb_tree.specs.Path.{segments}
-use Rattle.rb_tree.specs.Walk.{Walked, ends, links, gone, walk, stop_of, rest_of, nowhere}
+use Rattle.rb_tree.specs.Walk.{Walked, gone, walk, stop_of, rest_of, nowhere}
 use Rattle.rb_tree.specs.Ending.{stop_at, RestIs}
 use Rattle.rb_tree.specs.declared.ending.Ending.{Ending}
 use Rattle.rb_tree.specs.declared.ending.Ending.TheVariants.{End, Link, Gone}
 use Rattle.rb_parents.specs.Trail.{Bundles, is_stop, stops_at, stop_tree, stops}
 use Rattle.rb_fallback.specs.Search.{Decided, walk_of, unless_gone, decide, first_of}
-use Rattle.rb_fallback.specs.Hits.{Decides, Came}
+use Rattle.rb_fallback.specs.LevelResult.{DecidingWalk, IsEnding}
 
 pub first_on : (o : Option (List ℕ)) (all : List (List ℕ)) (n : List ℕ) → o ≡ first_of all → Some (unwrap_or o n) ≡ first_of (all ++ n ∷ [])
 first_on o [] n e = ap (λ x. Some (unwrap_or x n)) e
@@ -21,9 +21,8 @@ or_later None later = later
 or_later (Some h) later = Some h
 
 skips : (m : List ℕ) (w : Walked) (o later : Option Decided) → unless_gone m w (or_later o later) ≡ or_later (unless_gone m w o) later
-skips m (ends t) o later = refl
-skips m (links us walked rest) o later = refl
 skips m gone o later = refl
+skips m w o later = refl
 
 decide_on : (b : Bundles) (all : List (List ℕ)) (n : List ℕ) (ss : List (List ℕ))
     → decide b (all ++ n ∷ []) ss ≡ or_later (decide b all ss) (unless_gone n (walk_of (b n) ss) None)
@@ -31,14 +30,12 @@ decide_on b [] n ss = refl
 decide_on b (m ∷ all) n ss = ap (unless_gone m (walk_of (b m) ss)) (decide_on b all n ss) ∙ skips m (walk_of (b m) ss) (decide b all ss) _
 
 not_gone : (w : Walked) (n : List ℕ) (o : Option Decided) → (stop_of w ≡ nowhere → ⊥) → unless_gone n w o ≡ Some (record { stop = n; walked = w })
-not_gone (ends t) n o h = refl
-not_gone (links us walked rest) n o h = refl
 not_gone gone n o h = absurd (h refl)
+not_gone w n o h = refl
 
 is_gone : (w : Walked) (n : List ℕ) (o : Option Decided) → nowhere ≡ stop_of w → unless_gone n w o ≡ o
-is_gone (ends t) n o h = cc
-is_gone (links us walked rest) n o h = cc
 is_gone gone n o h = refl
+is_gone w n o h = cc
 
 -- the tree that a stop has is that of its bundle
 abbrev tree_in : Option SourceTree → Option Resource
@@ -81,23 +78,23 @@ module _ {N : Type 0} (tree : N → Resource) (b : Bundles) (path : List ℕ) (a
       ∙ ap (λ w. unless_gone n w None) (stop_walk (b n) t (segments path) (stop_some (b n) t is).1)
 
   -- a walk decides where none did before
-  pub came_first : (x : Ending N) (t : Resource) → decide b all (segments path) ≡ None → stop_tree (b n) ≡ Some t
-      → stop_at tree x ≡ stop_of (walk t (segments path)) → RestIs x path (rest_of (walk t (segments path))) → Came tree b path x n (all ++ n ∷ [])
-  came_first Gone t none is stop rest = one_on t none is ∙ is_gone (walk t (segments path)) n None stop
-  came_first (End m) t none is stop rest = record {
+  pub ending_first : (x : Ending N) (t : Resource) → decide b all (segments path) ≡ None → stop_tree (b n) ≡ Some t
+      → stop_at tree x ≡ stop_of (walk t (segments path)) → RestIs x path (rest_of (walk t (segments path))) → IsEnding tree b path x n (all ++ n ∷ [])
+  ending_first Gone t none is stop rest = one_on t none is ∙ is_gone (walk t (segments path)) n None stop
+  ending_first (End m) t none is stop rest = record {
     walked = walk t (segments path);
     decides = one_on t none is ∙ not_gone (walk t (segments path)) n None (λ z. let never : stop_at tree (End m) ≡ nowhere = stop ∙ z in cc);
     stop = stop;
     rest = rest;
   }
-  came_first (Link m k) t none is stop rest = record {
+  ending_first (Link m k) t none is stop rest = record {
     walked = walk t (segments path);
     decides = one_on t none is ∙ not_gone (walk t (segments path)) n None (λ z. let never : stop_at tree (Link m k) ≡ nowhere = stop ∙ z in cc);
     stop = stop;
     rest = rest;
   }
 
-  decided_on : (x : Ending N) (a : List ℕ) → Decides tree b path x a all → Decides tree b path x a (all ++ n ∷ [])
+  decided_on : (x : Ending N) (a : List ℕ) → DecidingWalk tree b path x a all → DecidingWalk tree b path x a (all ++ n ∷ [])
   decided_on x a d = record {
     walked = d.walked;
     decides = decide_on b all n (segments path) ∙ ap (λ o. or_later o (unless_gone n (walk_of (b n) (segments path)) None)) d.decides;
@@ -106,27 +103,17 @@ module _ {N : Type 0} (tree : N → Resource) (b : Bundles) (path : List ℕ) (a
   }
 
   -- and later stops change nothing
-  pub came_later : (x : Ending N) (a : List ℕ) → (x ≡ Gone → ⊥) → Came tree b path x a all → Came tree b path x a (all ++ n ∷ [])
-  came_later Gone a other d = absurd (other refl)
-  came_later (End m) a other d = decided_on (End m) a d
-  came_later (Link m k) a other d = decided_on (Link m k) a d
+  pub ending_later : (x : Ending N) (a : List ℕ) → (x ≡ Gone → ⊥) → IsEnding tree b path x a all → IsEnding tree b path x a (all ++ n ∷ [])
+  ending_later Gone a other d = absurd (other refl)
+  ending_later (End m) a other d = decided_on (End m) a d
+  ending_later (Link m k) a other d = decided_on (Link m k) a d
 
 -- ---- the stops of the names so far
-filter_on : (test : List ℕ → Bool) (ns : List (List ℕ)) (n : List ℕ) → filter test (ns ++ n ∷ []) ≡ filter test ns ++ cond (test n) (n ∷ []) []
-filter_on test [] n = by (test n)
-  where
-    by : (v : Bool) → cond v (n ∷ []) [] ≡ [] ++ cond v (n ∷ []) []
-    by true = refl
-    by false = refl
-filter_on test (m ∷ ns) n = ap (λ l. cond (test m) (m ∷ l) l) (filter_on test ns n) ∙ by (test m)
-  where
-    by : (v : Bool)
-        → cond v (m ∷ (filter test ns ++ cond (test n) (n ∷ []) [])) (filter test ns ++ cond (test n) (n ∷ []) []) ≡ cond v (m ∷ filter test ns) (filter test ns) ++ cond (test n) (n ∷ []) []
-    by true = refl
-    by false = refl
-
 pub stops_with : (b : Bundles) (ns : List (List ℕ)) (n : List ℕ) (t : Resource) → stop_tree (b n) ≡ Some t → stops b (ns ++ n ∷ []) ≡ stops b ns ++ n ∷ []
-stops_with b ns n t e = filter_on (is_stop b) ns n ∙ ap (λ (v : Bool). stops b ns ++ cond v (n ∷ []) []) (stop_some (b n) t e).0
+stops_with b ns n t e = filter-append (is_stop b) ns (n ∷ []) ∙ ap (λ (v : Bool). stops b ns ++ cond v (n ∷ []) []) (stop_some (b n) t e).0
 
 pub stops_without : (b : Bundles) (ns : List (List ℕ)) (n : List ℕ) → None ≡ stop_tree (b n) → stops b (ns ++ n ∷ []) ≡ stops b ns
-stops_without b ns n e = filter_on (is_stop b) ns n ∙ ap (λ (v : Bool). stops b ns ++ cond v (n ∷ []) []) (stop_none (b n) e) ∙ append-nil (stops b ns)
+stops_without b ns n e =
+    filter-append (is_stop b) ns (n ∷ [])
+    ∙ ap (λ (v : Bool). stops b ns ++ cond v (n ∷ []) []) (stop_none (b n) e)
+    ∙ append-nil (stops b ns)

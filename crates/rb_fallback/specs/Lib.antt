@@ -2,6 +2,6 @@ pub mod Alias
 pub mod Search
 pub mod Answers
 pub mod Words
-pub mod Behind
-pub mod Hits
+pub mod AliasPaths
+pub mod LevelResult
 pub mod Steps

@@ -1,13 +1,12 @@
 // The texts of aliases.
-ghost use Rattle.std.specs.Prelude.{◌≡◌, ◌<◌, ◌≤◌, ◌+◌, ◌⊎◌, length, drop, slice_range};
-ghost use Rattle.std.specs.List.{list_all, slice_split, position_or_len};
+ghost use Rattle.std.specs.Prelude.{◌≡◌, ◌≤◌, slice_range};
+ghost use Rattle.std.specs.List.{list_all};
 ghost use Rattle.std.specs.Str.{bytes_eq};
 ghost use Rattle.rb_tree.specs.Parts.{HasUnits, kind_of, len_of, units_of};
 ghost use Rattle.rb_tree.specs.declared.kind.Kind.TheVariants as Kinds;
-ghost use Rattle.rb_tree.specs.Path.{is_slash};
-ghost use Rattle.rb_fallback.specs.Alias.{is_plain, aim, with_path, located};
+ghost use Rattle.rb_fallback.specs.Alias.{is_plain, aim, with_path, located, packaged};
 ghost use Rattle.rb_fallback.specs.Answers.{aim_of};
-ghost use Rattle.rb_fallback.specs.Behind.{are_filled, behind_parts};
+ghost use Rattle.rb_fallback.specs.AliasPaths.{are_filled, segment_end, segments_after, segments_from};
 
 use crate::fault::AliasFault;
 use rb_locales::Name;
@@ -40,10 +39,10 @@ fn units_plain<N: Node>(node: N) -> bool
 
 // Where the segment ends that begins here.
 #[tactic(auto, using(crate::proofs::Texts::slash_here, crate::proofs::Texts::slash_none))]
-fn segment_past<N: Node>(node: N, from: usize) -> usize
+fn segment_end<N: Node>(node: N, from: usize) -> usize
     requires units { HasUnits (kind_of (N.tree node)) }
     requires within { from ≤ len_of (N.tree node) }
-    ensures place { result ≡ from + position_or_len is_slash (drop from (units_of (N.tree node))) }
+    ensures place { result ≡ segment_end (units_of (N.tree node)) from }
     ensures within { result ≤ len_of (N.tree node) }
 {
     let len = node.len();
@@ -75,16 +74,16 @@ fn is_word<N: Node>(node: N, from: usize, past: usize, word: &[u8]) -> bool
 }
 
 // Whether no segment from here on is empty.
-#[tactic(auto, using(crate::proofs::Texts::filled_no, crate::proofs::Texts::filled_on, crate::proofs::Texts::behind_more, crate::proofs::Texts::behind_none))]
+#[tactic(auto, using(crate::proofs::Texts::filled_steps))]
 fn filled_from<N: Node>(node: N, from: usize) -> bool
     requires units { HasUnits (kind_of (N.tree node)) }
     requires within { from ≤ len_of (N.tree node) }
-    ensures { result ≡ are_filled (slice_split is_slash (drop from (units_of (N.tree node)))) }
+    ensures { result ≡ are_filled (segments_from (units_of (N.tree node)) from) }
 {
     let len = node.len();
     let mut at = from;
     'segments: loop {
-        let past = segment_past(node, at);
+        let past = segment_end(node, at);
         if past == at {
             return false;
         }
@@ -96,11 +95,11 @@ fn filled_from<N: Node>(node: N, from: usize) -> bool
 }
 
 // A name with the path after it.
-#[tactic(auto, using(crate::proofs::Texts::path_some, crate::proofs::Texts::behind_more))]
+#[tactic(auto, using(crate::proofs::Texts::path_some, crate::proofs::Texts::segments_after_some))]
 fn with_path<N: Node>(icudata: bool, name: Name, node: N, past: usize) -> Result<Target, AliasFault>
     requires units { HasUnits (kind_of (N.tree node)) }
     requires within { past ≤ len_of (N.tree node) }
-    ensures { aim_of (units_of (N.tree node)) result ≡ with_path icudata name (behind_parts (units_of (N.tree node)) past) }
+    ensures { aim_of (units_of (N.tree node)) result ≡ with_path icudata name (segments_after (units_of (N.tree node)) past) }
 {
     let len = node.len();
     if past == len || past + 1 == len {
@@ -121,13 +120,13 @@ fn with_path<N: Node>(icudata: bool, name: Name, node: N, past: usize) -> Result
 }
 
 // A locale and a path, from here on.
-#[tactic(auto, using(crate::proofs::Texts::located_some, crate::proofs::Texts::located_none))]
+#[tactic(auto, using(crate::proofs::Texts::located_none))]
 fn located<N: Node>(icudata: bool, node: N, from: usize) -> Result<Target, AliasFault>
     requires units { HasUnits (kind_of (N.tree node)) }
     requires within { from ≤ len_of (N.tree node) }
-    ensures { aim_of (units_of (N.tree node)) result ≡ located icudata (slice_split is_slash (drop from (units_of (N.tree node)))) }
+    ensures { aim_of (units_of (N.tree node)) result ≡ located icudata (segments_from (units_of (N.tree node)) from) }
 {
-    let past = segment_past(node, from);
+    let past = segment_end(node, from);
     if past == from {
         return Err(AliasFault::AliasText);
     }
@@ -137,23 +136,13 @@ fn located<N: Node>(icudata: bool, node: N, from: usize) -> Result<Target, Alias
     }
 }
 
-/// Reads the text of an alias, where `valid` is the valid locale of the lookup.
-///
-/// The errors come in this order. `AliasText`: the text is empty or has a unit outside of printable
-/// ASCII. `AliasPackage`: it begins with a slash, and neither `LOCALE` nor `ICUDATA` follows.
-/// `AliasText`: its locale is missing, empty or no name, or its path has an empty segment.
-#[tactic(auto, using(crate::proofs::Texts::aim_package, crate::proofs::Texts::behind_more, crate::proofs::Texts::behind_none))]
-pub fn read_alias<N: Node>(node: N, valid: &Name) -> Result<Target, AliasFault>
-    requires { kind_of (N.tree node) ≡ Kinds.Alias }
-    ensures { aim_of (units_of (N.tree node)) result ≡ aim (units_of (N.tree node)) valid.now }
+// A package, and what follows it, after the first slash.
+fn packaged<N: Node>(node: N, valid: &Name) -> Result<Target, AliasFault>
+    requires units { HasUnits (kind_of (N.tree node)) }
+    requires slash { 1 ≤ len_of (N.tree node) }
+    ensures { aim_of (units_of (N.tree node)) result ≡ packaged valid.now (segments_from (units_of (N.tree node)) 1) }
 {
-    if node.len() == 0 || !units_plain(node) {
-        return Err(AliasFault::AliasText);
-    }
-    if node.unit(0) != 0x2F {
-        return located(false, node, 0);
-    }
-    let past = segment_past(node, 1);
+    let past = segment_end(node, 1);
     if is_word(node, 1, past, b"LOCALE") {
         return with_path(false, *valid, node, past);
     }
@@ -164,4 +153,23 @@ pub fn read_alias<N: Node>(node: N, valid: &Name) -> Result<Target, AliasFault>
         return Err(AliasFault::AliasText);
     }
     located(true, node, past + 1)
+}
+
+/// Reads the text of an alias, where `valid` is the valid locale of the lookup.
+///
+/// The errors come in this order. `AliasText`: the text is empty or has a unit outside of printable
+/// ASCII. `AliasPackage`: it begins with a slash, and neither `LOCALE` nor `ICUDATA` follows.
+/// `AliasText`: its locale is missing, empty or no name, or its path has an empty segment.
+#[tactic(auto, using(crate::proofs::Texts::aim_slash))]
+pub fn read_alias<N: Node>(node: N, valid: &Name) -> Result<Target, AliasFault>
+    requires { kind_of (N.tree node) ≡ Kinds.Alias }
+    ensures { aim_of (units_of (N.tree node)) result ≡ aim (units_of (N.tree node)) valid.now }
+{
+    if node.len() == 0 || !units_plain(node) {
+        return Err(AliasFault::AliasText);
+    }
+    if node.unit(0) != 0x2F {
+        return located(false, node, 0);
+    }
+    packaged(node, valid)
 }

@@ -5,16 +5,16 @@ ghost use Rattle.rb_tree.specs.Path.{IsPath, segments};
 ghost use Rattle.rb_parents.specs.Trail.{Bundles, stop_tree, stops};
 ghost use Rattle.rb_parents.specs.Family.{parent_of};
 ghost use Rattle.rb_fallback.specs.Search.{by_stops, first_of, first_stop, level};
-ghost use Rattle.rb_fallback.specs.Hits.{IsLevel, IsSeen};
+ghost use Rattle.rb_fallback.specs.LevelResult.{IsLevel, IsLevelState};
 
 use crate::fault::LookError;
 use rb_locales::Name;
 use rb_parents::{Next, Parents, Shelf, TRAIL_LIMIT, visit};
 use rb_tree::{Ending, Node, walk};
 
-// What was seen of the stops so far: the first one, and the walk that decides with its stop.
+// The stops of a level so far: the first one, and the walk that decides with its stop.
 #[derive(Clone, Copy)]
-pub(crate) struct Seen<N> {
+pub(crate) struct LevelState<N> {
     pub(crate) first: Option<Name>,
     pub(crate) actual: Name,
     pub(crate) ending: Ending<N>,
@@ -22,59 +22,64 @@ pub(crate) struct Seen<N> {
 
 // The first stop of a level, and the walk that decides with its stop.
 #[derive(Clone, Copy)]
-pub(crate) struct Hit<N> {
+pub(crate) struct LevelResult<N> {
     pub(crate) first: Name,
     pub(crate) actual: Name,
     pub(crate) ending: Ending<N>,
 }
 
-// What is seen with one stop more. It is walked only where no earlier one decides.
-fn with_stop<N: Node>(seen: Seen<N>, name: &Name, root: N, path: &[u8]) -> Seen<N>
+// The state after one stop more. It is walked only where no earlier one decides.
+fn with_stop<N: Node>(state: LevelState<N>, name: &Name, root: N, path: &[u8]) -> LevelState<N>
     requires { IsPath path.now }
-    ensures { (b : Bundles) → (all : List (List ℕ)) → stop_tree (b name.now) ≡ Some (N.tree root) → IsSeen N.tree b path.now seen all
-        → IsSeen N.tree b path.now result (all ++ name.now ∷ []) }
+    ensures { (b : Bundles) → (all : List (List ℕ)) → stop_tree (b name.now) ≡ Some (N.tree root) → IsLevelState N.tree b path.now state all
+        → IsLevelState N.tree b path.now result (all ++ name.now ∷ []) }
 {
-    let first = Some(seen.first.unwrap_or(*name));
-    match seen.ending {
-        Ending::Gone => Seen {
+    let first = Some(state.first.unwrap_or(*name));
+    match state.ending {
+        Ending::Gone => LevelState {
             first,
             actual: *name,
             ending: walk(root, path),
         },
-        ending => Seen {
+        ending => LevelState {
             first,
-            actual: seen.actual,
+            actual: state.actual,
             ending,
         },
     }
 }
 
-// What is seen with one name more.
-fn with_name<N: Node>(seen: Seen<N>, name: &Name, stop: Option<N>, path: &[u8]) -> Seen<N>
+// The state after one name more.
+fn with_name<N: Node>(
+    state: LevelState<N>,
+    name: &Name,
+    stop: Option<N>,
+    path: &[u8],
+) -> LevelState<N>
     requires { IsPath path.now }
-    ensures { (b : Bundles) → (ns : List (List ℕ)) → option_map N.tree stop ≡ stop_tree (b name.now) → IsSeen N.tree b path.now seen (stops b ns)
-        → IsSeen N.tree b path.now result (stops b (ns ++ name.now ∷ [])) }
+    ensures { (b : Bundles) → (ns : List (List ℕ)) → option_map N.tree stop ≡ stop_tree (b name.now) → IsLevelState N.tree b path.now state (stops b ns)
+        → IsLevelState N.tree b path.now result (stops b (ns ++ name.now ∷ [])) }
 {
     match stop {
-        Some(root) => with_stop(seen, name, root, path),
-        None => seen,
+        Some(root) => with_stop(state, name, root, path),
+        None => state,
     }
 }
 
 // What the stops of a whole trail give.
-fn decided<N: Node>(seen: Seen<N>, path: &[u8]) -> Result<Hit<N>, LookError>
-    ensures { (b : Bundles) → (all : List (List ℕ)) → IsSeen N.tree b path.now seen all
+fn decided<N: Node>(state: LevelState<N>, path: &[u8]) -> Result<LevelResult<N>, LookError>
+    ensures { (b : Bundles) → (all : List (List ℕ)) → IsLevelState N.tree b path.now state all
         → IsLevel N.tree result path.now (by_stops b all (segments path.now)) (first_of all) }
 {
-    let first = match seen.first {
+    let first = match state.first {
         Some(first) => first,
         None => return Err(LookError::NoBundle),
     };
-    match seen.ending {
+    match state.ending {
         Ending::Gone => Err(LookError::Missing),
-        ending => Ok(Hit {
+        ending => Ok(LevelResult {
             first,
-            actual: seen.actual,
+            actual: state.actual,
             ending,
         }),
     }
@@ -86,23 +91,23 @@ pub(crate) fn level<'a, S: Shelf<'a>>(
     parents: &Parents,
     name: &Name,
     path: &[u8],
-) -> Result<Hit<S::N>, LookError>
+) -> Result<LevelResult<S::N>, LookError>
     requires { IsPath path.now }
     ensures { IsLevel S.N.tree result path.now (level (S.bundles shelf) (parent_of parents.now) name.now (segments path.now))
         (first_stop (S.bundles shelf) (parent_of parents.now) name.now) }
 {
     let mut here = *name;
-    let mut seen = Seen {
+    let mut state = LevelState {
         first: None,
         actual: *name,
         ending: Ending::Gone,
     };
     for _ in 0..TRAIL_LIMIT {
         let (next, stop) = visit(shelf, parents, &here);
-        seen = with_name(seen, &here, stop, path);
+        state = with_name(state, &here, stop, path);
         match next {
             Next::Name(name) => here = name,
-            Next::End => return decided(seen, path),
+            Next::End => return decided(state, path),
             Next::Bad => return Err(LookError::BadParent),
         }
     }

@@ -6,14 +6,14 @@ ghost use Rattle.arrayvec.specs.ArrayVec.{array_vec_len};
 ghost use Rattle.rb_tree.specs.Parts.{HasUnits, kind_of, len_of, units_of};
 ghost use Rattle.rb_tree.specs.Walk.{behind};
 ghost use Rattle.rb_fallback.specs.Alias.{is_plain};
-ghost use Rattle.rb_fallback.specs.Behind.{led};
+ghost use Rattle.rb_fallback.specs.AliasPaths.{joined_path};
 
 use crate::limits::PATH_LIMIT;
 use arrayvec::ArrayVec;
 use rb_tree::Node;
 
 // Appends a node's units from one on, where they fit.
-#[tactic(auto, using(crate::proofs::Room::plain_low, crate::proofs::Room::unit_on, crate::proofs::Room::unit_end, crate::proofs::Room::unit_count, crate::proofs::Room::unit_room))]
+#[tactic(auto, using(crate::proofs::AppendedUnits::append_steps))]
 pub(crate) fn append_units<N: Node>(path: &mut ArrayVec<u8, PATH_LIMIT>, node: N, at: usize) -> bool
     requires units { HasUnits (kind_of (N.tree node)) }
     requires plain { list_all is_plain (units_of (N.tree node)) ≡ true }
@@ -62,8 +62,8 @@ pub(crate) fn replaced<N: Node>(node: N, at: usize, rest: &[u8]) -> Option<Array
     requires units { HasUnits (kind_of (N.tree node)) }
     requires plain { list_all is_plain (units_of (N.tree node)) ≡ true }
     requires within { at ≤ len_of (N.tree node) }
-    ensures some { IfSome result (λ p. p.items ≡ led (drop at (units_of (N.tree node))) rest.now) }
-    ensures none { IfNone result (1024 < length (led (drop at (units_of (N.tree node))) rest.now)) }
+    ensures some { IfSome result (λ p. p.items ≡ joined_path (drop at (units_of (N.tree node))) rest.now) }
+    ensures none { IfNone result (1024 < length (joined_path (drop at (units_of (N.tree node))) rest.now)) }
 {
     let mut path = ArrayVec::new();
     if !append_units(&mut path, node, at) {

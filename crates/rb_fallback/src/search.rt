@@ -7,7 +7,7 @@ ghost use Rattle.rb_tree.specs.Walk.{behind};
 ghost use Rattle.rb_parents.specs.Family.{parent_of};
 ghost use Rattle.rb_fallback.specs.Alias.{target};
 ghost use Rattle.rb_fallback.specs.Answers.{answer_of};
-ghost use Rattle.rb_fallback.specs.Hits.{IsLevel};
+ghost use Rattle.rb_fallback.specs.LevelResult.{IsLevel};
 ghost use Rattle.rb_fallback.specs.Search.{bundles_of, first_stop, follow, level, look_up, search, setting_of};
 ghost use Rattle.rb_fallback.specs.Steps.{IsFollowed, place_at};
 ghost use Rattle.rb_fallback.specs.declared.fault.LookError.TheVariants as Faults;
@@ -15,7 +15,7 @@ ghost use Rattle.rb_fallback.specs.declared.fault.LookError.TheVariants as Fault
 use crate::alias::read_alias;
 use crate::fault::{AliasFault, LookError};
 use crate::found::Found;
-use crate::level::{Hit, level};
+use crate::level::{LevelResult, level};
 use crate::limits::{LEVEL_LIMIT, PATH_LIMIT};
 use crate::path::{replaced, rest_behind, short_path};
 use arrayvec::ArrayVec;
@@ -81,7 +81,7 @@ fn level_at<'a, S: Shelf<'a>, I: Shelf<'a, N = S::N>>(
     icu: I,
     parents: &Parents,
     place: &Place,
-) -> Result<Hit<S::N>, LookError>
+) -> Result<LevelResult<S::N>, LookError>
     requires { IsPath place.now.path.items }
     ensures level { IsLevel S.N.tree result place.now.path.items
         (level (bundles_of (S.bundles own) (I.bundles icu) place.now.icudata) (parent_of parents.now) place.now.name (segments place.now.path.items))
@@ -121,11 +121,11 @@ fn search_on<'a, S: Shelf<'a>, I: Shelf<'a, N = S::N>>(
 {
     let mut here = place;
     for level in 1..LEVEL_LIMIT {
-        let hit = level_at(own, icu, parents, &here)?;
-        match hit.ending {
+        let decided = level_at(own, icu, parents, &here)?;
+        match decided.ending {
             Ending::End(node) => return Ok(Found {
                 node,
-                actual: hit.actual,
+                actual: decided.actual,
                 valid,
             }),
             Ending::Link(node, cut) => match follow_alias(
@@ -157,15 +157,15 @@ fn search_path<'a, S: Shelf<'a>, I: Shelf<'a, N = S::N>>(
     ensures answer { answer_of S.N.tree result ≡ look_up (S.bundles own) (I.bundles icu) (parent_of parents.now) name.now (segments path.now) }
     ensures valid { IfOk result (λ f. first_stop (S.bundles own) (parent_of parents.now) name.now ≡ Some f.valid) }
 {
-    let hit = level(own, parents, name, path)?;
-    match hit.ending {
+    let decided = level(own, parents, name, path)?;
+    match decided.ending {
         Ending::End(node) => Ok(Found {
             node,
-            actual: hit.actual,
-            valid: hit.first,
+            actual: decided.actual,
+            valid: decided.first,
         }),
-        Ending::Link(node, cut) => match follow_alias(node, cut, &hit.first, false, path)? {
-            Some(place) => search_on(own, icu, parents, hit.first, place),
+        Ending::Link(node, cut) => match follow_alias(node, cut, &decided.first, false, path)? {
+            Some(place) => search_on(own, icu, parents, decided.first, place),
             None => Err(LookError::PathTooLong),
         },
         Ending::Gone => Err(LookError::Missing),

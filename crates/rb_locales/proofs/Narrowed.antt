@@ -9,7 +9,7 @@ use Rattle.std.specs.Char.{is_ascii_alphabetic, is_ascii_alphanumeric}
 use Rattle.rb_locales.specs.Locale.{Position, first, second, later, next_position, is_at, is_between, subtag, part_at, in_front, parts_from, written, before_at}
 use Rattle.rb_locales.specs.Locale.{named, name}
 use Rattle.rb_locales.specs.Narrow.{narrow}
-use Rattle.rb_locales.proofs.Canon.{is_clean, all_same, all_weaker, alpha_sign, both_true}
+use Rattle.rb_locales.proofs.Canonical.{is_clean, all_same, all_weaker, alpha_sign, both_true}
 use Rattle.rb_tree.specs.Resource.{Resource, string, int, ints, binary, alias, array, table}
 use Rattle.rb_tree.specs.Parts.{kind_of, len_of, units_of, HasUnits}
 
@@ -63,9 +63,6 @@ filled t from past field old u w h same each =
     ∙ ap narrow (get_or-take (length old) (drop from us) k 0 (omega arith) ∙ get_or-drop from us k 0)))
 
 -- ---- narrowing
-alpha_narrow : (b : ℕ) → is_ascii_alphabetic (narrow b) ≡ is_ascii_alphabetic b
-alpha_narrow b = grind (arith, nat_tests)
-
 sign_narrow : (b : ℕ) → is_ascii_alphanumeric (narrow b) ≡ is_ascii_alphanumeric b
 sign_narrow b = grind (arith, nat_tests)
 

@@ -4,7 +4,7 @@ use Rattle.std.proofs.Common.{All, refl, ap, sym, ◌∙◌, arith, subst, set, 
 use Rattle.std.proofs.lemmas.List.{take_all, drop_all, drop-drop, append-nil, length-set}
 use Rattle.std.specs.Option.{option_zip}
 use Rattle.std.specs.List.{slice_split, position_or_len, join_with_byte, onto_first}
-use Rattle.std.proofs.lemmas.List.Splits.{slice_split_first, slice_split_none}
+use Rattle.std.proofs.lemmas.List.Splits.{slice_split_first, slice_split_none, slice_split-cons_yes, length-slice_split}
 use Rattle.std.proofs.lemmas.List.Sums.{fails_before_first}
 use Rattle.std.proofs.lemmas.Bool.{ltb-true, ltb-false}
 use native.Mathlib.Numerals.{unary_clauses}
@@ -38,14 +38,20 @@ more position next p [] e h = absurd (omega arith)
 more position next p (s ∷ ss) e h =
     rw e (two (part_at position p) (part_at (next_position position) s) None (parts_from (next_position (next_position position)) ss))
 
-pub some_parts : (bs : List ℕ) → 0 < length (slice_split is_between bs)
-some_parts [] = omega arith
-some_parts (b ∷ bs) = by (is_between b) (slice_split is_between bs)
+-- a list that is cut has a part
+pub some_parts : (test : ℕ → Bool) (bs : List ℕ) → 0 < length (slice_split test bs)
+some_parts test bs = omega (arith, length-slice_split test bs)
+
+-- the parts of two lists with a cut between them
+pub split_append : (test : ℕ → Bool) (x : ℕ) (xs ys : List ℕ) → test x ≡ true → slice_split test (xs ++ x ∷ ys) ≡ slice_split test xs ++ slice_split test ys
+split_append test x [] ys t = slice_split-cons_yes test x ys t
+split_append test x (b ∷ bs) ys t = rw (split_append test x bs ys t) (by (test b) (slice_split test bs) (some_parts test bs))
   where
-    by : (c : Bool) (ss : List (List ℕ)) → 0 < length (cond c ([] ∷ ss) (onto_first b ss))
-    by true ss = omega arith
-    by false [] = omega arith
-    by false (s ∷ ss) = omega arith
+    by : (c : Bool) (ss : List (List ℕ)) → 0 < length ss → cond c ([] ∷ (ss ++ slice_split test ys)) (onto_first b (ss ++ slice_split test ys))
+        ≡ cond c ([] ∷ ss) (onto_first b ss) ++ slice_split test ys
+    by true ss l = refl
+    by false [] l = absurd (omega arith)
+    by false (s ∷ ss) l = refl
 
 pub written_more : (position : Position) (bs : List ℕ) (k : ℕ) → k ≡ position_or_len is_between bs → k < length bs
     → written position bs ≡ option_map joined (option_zip (part_at position (take k bs)) (written (next_position position) (drop (k + 1) bs)))
@@ -54,7 +60,7 @@ written_more position bs k e f =
     subst (λ (j : ℕ). slice_split is_between bs ≡ take j bs ∷ slice_split is_between (drop (j + 1) bs)) (sym e)
     (slice_split_first is_between bs 0 (omega arith)) in
     ap (λ ss. option_map (join_with_byte 95) (parts_from position ss)) first
-    ∙ more position (next_position position) (take k bs) (slice_split is_between (drop (k + 1) bs)) refl (some_parts (drop (k + 1) bs))
+    ∙ more position (next_position position) (take k bs) (slice_split is_between (drop (k + 1) bs)) refl (some_parts is_between (drop (k + 1) bs))
 
 -- the same where the part may not be there, and where the rest may not
 pub written_bad : (position : Position) (bs : List ℕ) (k : ℕ) → k ≡ position_or_len is_between bs → k ≤ length bs → part_at position (take k bs) ≡ None

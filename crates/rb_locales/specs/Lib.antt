@@ -1,6 +1,7 @@
 pub mod Locale
 pub mod Positions
-pub mod Short
-pub mod Last
+pub mod Padded
+pub mod NameFields
+pub mod LastUnderscore
 pub mod Narrow
 pub mod Words

@@ -3,7 +3,7 @@ ghost use Rattle.std.specs.Prelude.{◌≡◌, ◌≤◌, ◌++◌, ◌↔◌, �
 ghost use Rattle.std.specs.Result.{result_ok};
 ghost use Rattle.std.specs.List.{position_or_len};
 ghost use Rattle.rb_locales.specs.Locale.{name, shorter, is_at};
-ghost use Rattle.rb_locales.specs.Last.{IsLastIndex};
+ghost use Rattle.rb_locales.specs.LastUnderscore.{IsLastIndex};
 
 use crate::casing::{Position, write_parts};
 use crate::fault::BadLocale;
@@ -22,7 +22,7 @@ impl Model for Name {
 
     ghost Value = { List ℕ };
 
-    ghost use Rattle.rb_locales.specs.Short.{IsNameFields, name_fields, name_fields-view};
+    ghost use Rattle.rb_locales.specs.NameFields.{IsNameFields, name_fields, name_fields-view};
 
     ghost view = { λ n. take n.len n.bytes };
 
@@ -77,7 +77,7 @@ impl Name {
     /// let name = Name::read(b"ZH-hant-tw@x=y")?; // zh_Hant_TW
     /// name.shorter() // zh_Hant
     /// ```
-    #[tactic(auto, using(crate::proofs::Canon::own_name))]
+    #[tactic(auto, using(crate::proofs::Canonical::own_name))]
     pub fn read(bytes: &[u8]) -> Result<Name, BadLocale>
         ensures name { result_ok result ≡ name bytes.now }
         // A canonical name is its own canonical name.
@@ -102,7 +102,7 @@ impl Name {
     }
 
     /// The name's bytes.
-    #[tactic(auto, using(crate::proofs::Canon::own_name))]
+    #[tactic(auto, using(crate::proofs::Canonical::own_name))]
     pub fn as_bytes(&self) -> &[u8]
         ensures bytes { result.now ≡ self.now }
         ensures canonical { name self.now ≡ Some self.now }

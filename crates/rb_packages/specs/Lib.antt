@@ -3,5 +3,5 @@ pub mod Words
 pub mod Shelf
 pub mod Packages
 pub mod Lent
-pub mod Raw
-pub mod Padded
+pub mod Index
+pub mod AppFields

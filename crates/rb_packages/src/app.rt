@@ -21,11 +21,11 @@ impl Model for App {
 
     ghost Value = { List ℕ };
 
-    ghost use Rattle.rb_packages.specs.Padded.{IsApp, app_fields, app_fields-view};
+    ghost use Rattle.rb_packages.specs.AppFields.{IsAppFields, app_fields, app_fields-view};
 
     ghost view = { λ n. take n.len n.bytes };
 
-    ghost invariant = { IsApp };
+    ghost invariant = { IsAppFields };
 
     ghost inverse = { app_fields };
 

@@ -91,7 +91,7 @@ pub(crate) fn load(
 }
 
 /// Puts a bundle in the place of the one of its name, and gives that one.
-pub(crate) fn exchange(
+pub(crate) fn replace(
     bundles: &mut Bundles,
     name: &Name,
     bundle: Bundle,

@@ -3,7 +3,7 @@ ghost use Rattle.std.specs.Prelude.{◌≡◌, [], ◌∷◌, ◌++◌, Some, No
 ghost use Rattle.std.specs.Map.{lookup, set_value, remove_entry};
 ghost use Rattle.std.specs.Str.{bytes_eq};
 ghost use Rattle.rb_packages.specs.Packages.{shelf_of, install_fault, IsJudged};
-ghost use Rattle.rb_packages.specs.Raw.{files_at, seen, KeepsOthers};
+ghost use Rattle.rb_packages.specs.Index.{files_at, files_by_app, KeepsOthers};
 
 use crate::app::App;
 use crate::bundles;
@@ -43,7 +43,7 @@ pub(crate) fn install(
     ensures own { OnOk result (files_at app.now owned.new.entries ≡ files_at app.now owned.old.entries ++ (name, bundle) ∷ []) }
     ensures others { KeepsOthers app.now owned.old.entries owned.new.entries }
     ensures back { IfErr result (λ e. e.1 ≡ bundle) }
-    ensures stays { OnErr result (seen owned.new.entries ≡ seen owned.old.entries) }
+    ensures stays { OnErr result (files_by_app owned.new.entries ≡ files_by_app owned.old.entries) }
 {
     if let Some(bundles) = owned.get_mut(app) {
         return bundles::install(bundles, name, bundle);
@@ -55,7 +55,7 @@ pub(crate) fn install(
 }
 
 /// Puts a bundle in the place of the application's bundle of that name, and gives that one.
-pub(crate) fn exchange(
+pub(crate) fn replace(
     owned: &mut Owned,
     app: &App,
     name: &Name,
@@ -66,20 +66,20 @@ pub(crate) fn exchange(
     ensures own { OnOk result (files_at app.now owned.new.entries ≡ set_value (bytes_eq name.now) (files_at app.now owned.old.entries) bundle) }
     ensures others { KeepsOthers app.now owned.old.entries owned.new.entries }
     ensures back { IfErr result (λ e. e.1 ≡ bundle) }
-    ensures stays { OnErr result (seen owned.new.entries ≡ seen owned.old.entries) }
+    ensures stays { OnErr result (files_by_app owned.new.entries ≡ files_by_app owned.old.entries) }
 {
     match owned.get_mut(app) {
-        Some(bundles) => bundles::exchange(bundles, name, bundle),
+        Some(bundles) => bundles::replace(bundles, name, bundle),
         None => Err((Absent, bundle)),
     }
 }
 
 /// Takes a bundle out of the application's.
-fn take_out(owned: &mut Owned, app: &App, name: &Name) -> Option<Bundle>
+fn remove_bundle(owned: &mut Owned, app: &App, name: &Name) -> Option<Bundle>
     ensures found { result ≡ lookup (bytes_eq name.now) (files_at app.now owned.old.entries) }
     ensures own { files_at app.now owned.new.entries ≡ remove_entry (bytes_eq name.now) (files_at app.now owned.old.entries) }
     ensures others { KeepsOthers app.now owned.old.entries owned.new.entries }
-    ensures stays { IfNone result (seen owned.new.entries ≡ seen owned.old.entries) }
+    ensures stays { IfNone result (files_by_app owned.new.entries ≡ files_by_app owned.old.entries) }
 {
     match owned.get_mut(app) {
         Some(bundles) => bundles.shift_remove(name),
@@ -88,7 +88,7 @@ fn take_out(owned: &mut Owned, app: &App, name: &Name) -> Option<Bundle>
 }
 
 /// Takes an application without bundles out.
-fn forget_if_empty(owned: &mut Owned, app: &App)
+fn remove_if_empty(owned: &mut Owned, app: &App)
     ensures own { files_at app.now owned.new.entries ≡ files_at app.now owned.old.entries }
     ensures others { KeepsOthers app.now owned.old.entries owned.new.entries }
 {
@@ -107,11 +107,11 @@ pub(crate) fn remove(owned: &mut Owned, app: &App, name: &Name) -> Result<Bundle
     ensures absent { OnErr result (lookup (bytes_eq name.now) (files_at app.now owned.old.entries) ≡ None) }
     ensures own { OnOk result (files_at app.now owned.new.entries ≡ remove_entry (bytes_eq name.now) (files_at app.now owned.old.entries)) }
     ensures others { KeepsOthers app.now owned.old.entries owned.new.entries }
-    ensures stays { OnErr result (seen owned.new.entries ≡ seen owned.old.entries) }
+    ensures stays { OnErr result (files_by_app owned.new.entries ≡ files_by_app owned.old.entries) }
 {
-    match take_out(owned, app, name) {
+    match remove_bundle(owned, app, name) {
         Some(bundle) => {
-            forget_if_empty(owned, app);
+            remove_if_empty(owned, app);
             Ok(bundle)
         }
         None => Err(Absent),

@@ -32,7 +32,7 @@ pub struct Packages {
 
 impl Model for Packages {
     ghost use Rattle.rb_packages.specs.Packages.{Stored};
-    ghost use Rattle.rb_packages.specs.Raw.{seen};
+    ghost use Rattle.rb_packages.specs.Index.{files_by_app};
 
     ghost Value = { Stored };
 
@@ -40,7 +40,7 @@ impl Model for Packages {
 
     ghost coded = { Prim.hlevel codes };
 
-    ghost view = { λ p. record { icudata = p.icudata.entries; owned = seen p.owned.entries } };
+    ghost view = { λ p. record { icudata = p.icudata.entries; owned = files_by_app p.owned.entries } };
 }
 
 impl Packages {
@@ -111,7 +111,7 @@ impl Packages {
         ensures unchanged { OnErr result (self.new ≡ self.old) }
         ensures back { IfErr result (λ e. e.1 ≡ bundle) }
     {
-        owned::exchange(&mut self.owned, app, name, bundle)
+        owned::replace(&mut self.owned, app, name, bundle)
     }
 
     /// Takes the application's bundle of that name out and gives it. `Absent`: there is none; nothing is changed. It takes no memory.

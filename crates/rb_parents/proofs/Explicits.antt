@@ -9,33 +9,24 @@ use Rattle.std.specs.List.{slice_get}
 use Rattle.std.specs.Ordering.{nat_cmp, is_eq}
 use Rattle.std.specs.Cmp.Lexicographic.{slice_cmp, pointwise}
 use Rattle.std.specs.Map.{keys_of, values_of, update}
-use Rattle.rb_tree.specs.Resource.{Resource, string, int, ints, binary, alias, array, table}
+use Rattle.rb_tree.specs.Resource.{Resource, string, array, table}
 use Rattle.rb_tree.specs.Parts.{kind_of, len_of, units_of, children_of, pairs_of}
 use Rattle.rb_tree.specs.declared.kind.Kind.TheVariants as Kinds
 use Rattle.rb_locales.specs.Locale.{name, in_front}
 use Rattle.rb_parents.specs.Trail.{ParentsOf, text_of}
-use Rattle.rb_parents.specs.Explicit.{Read, and_then, texts_of, texts_in, put_child, put_children, put_entry, put_entries}
+use Rattle.rb_parents.specs.ParentMap.{texts_of, texts_in}
+use Rattle.rb_parents.specs.Entries.{Read, and_then, put_each, put_child, put_children, put_entry, put_entries}
 use Rattle.rb_parents.specs.declared.fault.ParentsFault.{ParentsFault}
 use Rattle.rb_parents.specs.declared.fault.ParentsFault.TheVariants as fault
 
 -- ---- the texts of an array's items
 text_some : (t : Resource) → kind_of t ≡ Kinds.String → text_of t ≡ Some (units_of t)
 text_some (string us) k = refl
-text_some (int n) k = cc
-text_some (ints zs) k = cc
-text_some (binary bs) k = cc
-text_some (alias us) k = cc
-text_some (array ts) k = cc
-text_some (table es) k = cc
+text_some t k = cc
 
 text_none : (t : Resource) → (kind_of t ≡ Kinds.String → ⊥) → text_of t ≡ None
 text_none (string us) k = absurd (k refl)
-text_none (int n) k = refl
-text_none (ints zs) k = refl
-text_none (binary bs) k = refl
-text_none (alias us) k = refl
-text_none (array ts) k = refl
-text_none (table es) k = refl
+text_none t k = refl
 
 pub strings_all : (ts : List Resource) → ((k : ℕ) (d : Resource) → k < length ts → kind_of (get_or ts k d) ≡ Kinds.String)
     → texts_of ts ≡ Some (map units_of ts)
@@ -54,22 +45,12 @@ strings_none (t ∷ ts) zero x e h =
 strings_none (t ∷ ts) (suc i) x e h = ap (in_front (text_of t)) (strings_none ts i x e h) ∙ front_none (text_of t)
 
 pub array_texts : (t : Resource) → kind_of t ≡ Kinds.Array → texts_in t ≡ texts_of (children_of t)
-array_texts (string us) k = cc
-array_texts (int n) k = cc
-array_texts (ints zs) k = cc
-array_texts (binary bs) k = cc
-array_texts (alias us) k = cc
 array_texts (array ts) k = refl
-array_texts (table es) k = cc
+array_texts t k = cc
 
 pub array_len : (t : Resource) → kind_of t ≡ Kinds.Array → length (children_of t) ≡ len_of t
-array_len (string us) k = cc
-array_len (int n) k = cc
-array_len (ints zs) k = cc
-array_len (binary bs) k = cc
-array_len (alias us) k = cc
 array_len (array ts) k = refl
-array_len (table es) k = cc
+array_len t k = cc
 
 -- ---- one child
 pub put_new : (old new : ParentsOf) (parent child : List ℕ) → is_some (old child) ≡ false
@@ -80,27 +61,41 @@ put_new old new parent child none more =
     ≡ new q = λ q. ap (λ b. cond b (Some parent) (old q)) (sym (is_eq-slice_cmp child q)) ∙ sym (more q) in
     λ i. Ok (λ q. same q i))
 
+-- ---- the next of a list
+each_at : {A : Type 0} (put : A → ParentsOf → Read) (xs : List A) (i : ℕ) (x : A) (known : ParentsOf) (r : Read) → slice_get xs i ≡ Some x → put x known ≡ r
+    → put_each put (drop i xs) known ≡ and_then (λ m. put_each put (drop (i + 1) xs) m) r
+each_at put xs i x known r e h =
+    at_drop_more (λ l. put_each put l known) xs i x (slice_get_within xs i x e)
+    ∙ ap (λ y. and_then (λ m. put_each put (drop (i + 1) xs) m) (put y known)) (get_or_from_slice_get xs i x x e)
+    ∙ ap (and_then (λ m. put_each put (drop (i + 1) xs) m)) h
+
+each_end : {A : Type 0} (put : A → ParentsOf → Read) (xs : List A) (i : ℕ) (known : ParentsOf) → length xs ≤ i → put_each put (drop i xs) known ≡ Ok known
+each_end put xs i known h = at_drop_all (λ l. put_each put l known) xs i h
+
 -- ---- the children of a value
+each_text : (parent : List ℕ) (ts : List Resource) (known : ParentsOf)
+    → put_children parent (map units_of ts) known ≡ put_each (λ t k. put_child parent (name (units_of t)) k) ts known
+each_text parent [] known = refl
+each_text parent (t ∷ ts) known = by (λ m. each_text parent ts m) (put_child parent (name (units_of t)) known)
+  where
+    by : ((m : ParentsOf) → put_children parent (map units_of ts) m ≡ put_each (λ u k. put_child parent (name (units_of u)) k) ts m) → (r : Read)
+        → and_then (λ m. put_children parent (map units_of ts) m) r ≡ and_then (λ m. put_each (λ u k. put_child parent (name (units_of u)) k) ts m) r
+    by go (Ok m) = go m
+    by go (Err e) = refl
+
 pub children_on : (parent : List ℕ) (ts : List Resource) (i : ℕ) (x : Resource) (known more : ParentsOf) → slice_get ts i ≡ Some x
     → put_child parent (name (units_of x)) known ≡ Ok more → put_children parent (map units_of (drop i ts)) known
     ≡ put_children parent (map units_of (drop (i + 1) ts)) more
 children_on parent ts i x known more e h =
-    at_drop_more (λ xs. put_children parent (map units_of xs) known) ts i x (slice_get_within ts i x e)
-    ∙ ap (λ y. and_then (λ m. put_children parent (map units_of (drop (i + 1) ts)) m) (put_child parent (name (units_of y)) known))
-    (get_or_from_slice_get ts i x x e)
-    ∙ ap (and_then (λ m. put_children parent (map units_of (drop (i + 1) ts)) m)) h
+    each_text parent (drop i ts) known ∙ each_at _ ts i x known (Ok more) e h ∙ sym (each_text parent (drop (i + 1) ts) more)
 
 pub children_bad : (parent : List ℕ) (ts : List Resource) (i : ℕ) (x : Resource) (known : ParentsOf) (f : ParentsFault) → slice_get ts i ≡ Some x
     → put_child parent (name (units_of x)) known ≡ Err f → put_children parent (map units_of (drop i ts)) known ≡ Err f
-children_bad parent ts i x known f e h =
-    at_drop_more (λ xs. put_children parent (map units_of xs) known) ts i x (slice_get_within ts i x e)
-    ∙ ap (λ y. and_then (λ m. put_children parent (map units_of (drop (i + 1) ts)) m) (put_child parent (name (units_of y)) known))
-    (get_or_from_slice_get ts i x x e)
-    ∙ ap (and_then (λ m. put_children parent (map units_of (drop (i + 1) ts)) m)) h
+children_bad parent ts i x known f e h = each_text parent (drop i ts) known ∙ each_at _ ts i x known (Err f) e h
 
 pub children_end : (parent : List ℕ) (ts : List Resource) (i : ℕ) (known : ParentsOf) → length ts ≤ i
     → put_children parent (map units_of (drop i ts)) known ≡ Ok known
-children_end parent ts i known h = at_drop_all (λ xs. put_children parent (map units_of xs) known) ts i h
+children_end parent ts i known h = each_text parent (drop i ts) known ∙ each_end _ ts i known h
 
 -- ---- the entries of a table
 pair_at : (ps : List (List ℕ × Resource)) (i : ℕ) (k : List ℕ) (t : Resource) → slice_get (keys_of ps) i ≡ Some k → slice_get (values_of ps) i ≡ Some t
@@ -110,52 +105,34 @@ pair_at (p ∷ ps) zero k t e f = λ i. Some (get_or_from_slice_get (p.0 ∷ key
 pair_at (p ∷ ps) (suc i) k t e f = pair_at ps i k t e f
 
 table_pairs : (u : Resource) → kind_of u ≡ Kinds.Table → children_of u ≡ values_of (pairs_of u)
-table_pairs (string us) k = cc
-table_pairs (int n) k = cc
-table_pairs (ints zs) k = cc
-table_pairs (binary bs) k = cc
-table_pairs (alias us) k = cc
-table_pairs (array ts) k = cc
 table_pairs (table es) k = refl
+table_pairs t k = cc
 
 pub table_len : (u : Resource) → kind_of u ≡ Kinds.Table → length (pairs_of u) ≡ len_of u
-table_len (string us) k = cc
-table_len (int n) k = cc
-table_len (ints zs) k = cc
-table_len (binary bs) k = cc
-table_len (alias us) k = cc
-table_len (array ts) k = cc
 table_len (table es) k = refl
+table_len t k = cc
 
 entry_at : (u : Resource) (i : ℕ) (k : List ℕ) (t : Resource) → kind_of u ≡ Kinds.Table → slice_get (keys_of (pairs_of u)) i ≡ Some k
     → slice_get (children_of u) i ≡ Some t → slice_get (pairs_of u) i ≡ Some (k, t)
 entry_at u i k t h e f = pair_at (pairs_of u) i k t e (ap (λ xs. slice_get xs i) (sym (table_pairs u h)) ∙ f)
 
-first_entry : (ps : List (List ℕ × Resource)) (i : ℕ) (p : List ℕ × Resource) (known : ParentsOf) (r : Read) → slice_get ps i ≡ Some p
-    → put_entry (name p.0) p.1 known ≡ r → put_entries (drop i ps) known ≡ and_then (λ m. put_entries (drop (i + 1) ps) m) r
-first_entry ps i p known r e h =
-    at_drop_more (λ xs. put_entries xs known) ps i p (slice_get_within ps i p e)
-    ∙ ap (λ (y : List ℕ × Resource). and_then (λ m. put_entries (drop (i + 1) ps) m) (put_entry (name y.0) y.1 known)) (get_or_from_slice_get ps i p p e)
-    ∙ ap (and_then (λ m. put_entries (drop (i + 1) ps) m)) h
-
 pub entries_on : (u : Resource) (i : ℕ) (k : List ℕ) (t : Resource) (known more : ParentsOf) → kind_of u ≡ Kinds.Table
     → slice_get (keys_of (pairs_of u)) i ≡ Some k → slice_get (children_of u) i ≡ Some t → put_entry (name k) t known ≡ Ok more
     → put_entries (drop i (pairs_of u)) known ≡ put_entries (drop (i + 1) (pairs_of u)) more
-entries_on u i k t known more is e f h = first_entry (pairs_of u) i (k, t) known (Ok more) (entry_at u i k t is e f) h
+entries_on u i k t known more is e f h = each_at _ (pairs_of u) i (k, t) known (Ok more) (entry_at u i k t is e f) h
 
 pub entries_bad : (u : Resource) (i : ℕ) (k : List ℕ) (t : Resource) (known : ParentsOf) (g : ParentsFault) → kind_of u ≡ Kinds.Table
     → slice_get (keys_of (pairs_of u)) i ≡ Some k → slice_get (children_of u) i ≡ Some t → put_entry (name k) t known ≡ Err g
     → put_entries (drop i (pairs_of u)) known ≡ Err g
-entries_bad u i k t known g is e f h = first_entry (pairs_of u) i (k, t) known (Err g) (entry_at u i k t is e f) h
+entries_bad u i k t known g is e f h = each_at _ (pairs_of u) i (k, t) known (Err g) (entry_at u i k t is e f) h
 
 pub entries_end : (u : Resource) (i : ℕ) (known : ParentsOf) → kind_of u ≡ Kinds.Table → len_of u ≤ i → put_entries (drop i (pairs_of u)) known ≡ Ok known
-entries_end u i known k h = at_drop_all (λ xs. put_entries xs known) (pairs_of u) i (omega (arith, table_len u k))
+entries_end u i known k h = each_end _ (pairs_of u) i known (omega (arith, table_len u k))
 
 -- an error that a step met is the error of the whole, or memory ran out
-pub fault_on : (e : ParentsFault) (part whole : Read) → (part ≡ Err e → whole ≡ Err e) → (e ≡ fault.Memory) ⊎ (part ≡ Err e)
-    → (e ≡ fault.Memory) ⊎ (whole ≡ Err e)
-fault_on e part whole h (inl m) = inl m
-fault_on e part whole h (inr f) = inr (h f)
+pub fault_on : (e : ParentsFault) (part : Read) (P : Type 0) → (part ≡ Err e → P) → (e ≡ fault.Memory) ⊎ (part ≡ Err e) → (e ≡ fault.Memory) ⊎ P
+fault_on e part P h (inl m) = inl m
+fault_on e part P h (inr f) = inr (h f)
 
 -- an error that a `?` hands on
 pub err_is : {A E : Type 0} (r : Result A E) (f : E) (P : E → Type 0) → IsErrAnd r (λ e. e ≡ f) → P f → IfErr r P
@@ -178,12 +155,7 @@ texts_each ts i x uss e h = by (kind_string x)
 
     kind_string : (t : Resource) → (kind_of t ≡ Kinds.String) ⊎ (kind_of t ≡ Kinds.String → ⊥)
     kind_string (string us) = inl refl
-    kind_string (int n) = inr (λ k. cc)
-    kind_string (ints zs) = inr (λ k. cc)
-    kind_string (binary bs) = inr (λ k. cc)
-    kind_string (alias us) = inr (λ k. cc)
-    kind_string (array ts) = inr (λ k. cc)
-    kind_string (table es) = inr (λ k. cc)
+    kind_string t = inr (λ k. cc)
 
 pub string_in : (t : Resource) (i : ℕ) (x : Resource) → kind_of t ≡ Kinds.Array → texts_in t ≡ Some (map units_of (children_of t))
     → slice_get (children_of t) i ≡ Some x → kind_of x ≡ Kinds.String

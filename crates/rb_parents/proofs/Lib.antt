@@ -2,3 +2,5 @@ pub mod Shelves
 pub mod Trails
 pub mod Explicits
 pub mod ParentMaps
+pub mod FirstErrors
+pub mod OneReading

@@ -1,76 +1,72 @@
--- The explicit parents that a tree gives, as the parent locales of UTS #35 (LDML) are in ICU's
--- `supplementalData`: in the table at `parentLocales` each key is a parent, and its value names the
--- parent's children, as an array of strings or as one string. Other entries of the tree say nothing.
-use Rattle.std.specs.Prelude.{ℕ, List, [], ◌∷◌, Option, Some, None, Result, Ok, Err, codes, is_some, if◌then◌else◌, nat_eq}
-use Rattle.std.specs.Cmp.Lexicographic.{pointwise}
-use Rattle.std.specs.Map.{update}
-use Rattle.rb_tree.specs.Resource.{Resource, string, int, ints, binary, alias, array, table}
-use Rattle.rb_tree.specs.Keys.{items, pairs}
+-- The explicit parents that a tree gives, as the parent locales of UTS #35 (LDML) are in ICU's `supplementalData`: those that the table
+-- at `parentLocales` names. Other entries of the tree say nothing. Where one of its entries is invalid it gives none: the first
+-- invalid one is the error.
+use Rattle.std.specs.Prelude.{◌≡◌, ℕ, List, ◌∷◌, ◌++◌, Option, Some, None, codes, slice_get}
+use Rattle.rb_tree.specs.Resource.{Resource}
 use Rattle.rb_tree.specs.Parts.{child_of}
-use Rattle.rb_locales.specs.Locale.{name, in_front}
-use Rattle.rb_parents.specs.Trail.{ParentsOf, text_of}
+use Rattle.rb_locales.specs.Locale.{name}
+use Rattle.rb_parents.specs.Trail.{ParentsOf}
+use Rattle.rb_parents.specs.ParentMap.{Entries, Mentions, Names, IsNamed, entries_in, mentions, mentions_by, texts_in}
 use Rattle.rb_parents.specs.declared.fault.ParentsFault.{ParentsFault}
 use Rattle.rb_parents.specs.declared.fault.ParentsFault.TheVariants as fault
 
--- a map from children to parents, or the first error that is met
-abbrev pub Read : Type 0
-Read = Result ParentsOf ParentsFault
+-- the key of an entry is a name, and its value has the shape of one
+pub record IsEntry (e : List ℕ × Resource) : Type 0 where
+  pub parent : List ℕ
+  pub texts : List (List ℕ)
+  pub parent_is : name e.0 ≡ Some parent
+  pub texts_are : texts_in e.1 ≡ Some texts
 
-abbrev pub and_then : (ParentsOf → Read) → Read → Read
-and_then go (Ok known) = go known
-and_then go (Err e) = Err e
+-- all entries are valid, and the map is what they name
+pub record GivesMap (es : Entries) (m : ParentsOf) : Type 0 where
+  pub entries : (i : ℕ) (e : List ℕ × Resource) → slice_get es i ≡ Some e → IsEntry e
+  pub named : IsNamed (mentions es) m
 
--- the texts of strings, where all are strings
-abbrev pub texts_of : List Resource → Option (List (List ℕ))
-texts_of [] = Some []
-texts_of (t ∷ ts) = in_front (text_of t) (texts_of ts)
+-- why a child is invalid after these mentions: it is no name, or one of them names it
+abbrev pub ChildError : Mentions → Option (List ℕ) → ParentsFault → Type 0
+ChildError ms None e = e ≡ fault.BadLocale
+ChildError ms (Some child) e = (e ≡ fault.TwoParents) × ((i : ℕ) × (parent : List ℕ) × Names ms i child parent)
 
--- the texts of the children that a value names, where it has the shape of one
-abbrev pub texts_in : Resource → Option (List (List ℕ))
-texts_in (string us) = Some (us ∷ [])
-texts_in (int n) = None
-texts_in (ints zs) = None
-texts_in (binary bs) = None
-texts_in (alias us) = None
-texts_in (array ts) = texts_of (items ts)
-texts_in (table es) = None
+-- the first invalid child of an entry after these mentions: those before it are valid
+pub record IsFirstBadChild (ms : Mentions) (key : List ℕ) (texts : List (List ℕ)) (e : ParentsFault) : Type 0 where
+  pub before : List (List ℕ)
+  pub text : List ℕ
+  pub after : List (List ℕ)
+  pub are : texts ≡ before ++ text ∷ after
+  pub known : ParentsOf
+  pub valid : IsNamed (ms ++ mentions_by key before) known
+  pub error : ChildError (ms ++ mentions_by key before) (name text) e
 
--- one child more, which must have a name and no parent yet
-abbrev pub put_child : List ℕ → Option (List ℕ) → ParentsOf → Read
-put_child parent None known = Err fault.BadLocale
-put_child parent (Some child) known =
-    if is_some (known child) then Err fault.TwoParents else Ok (update (pointwise nat_eq) known child (Some parent))
+-- why an entry is invalid after these mentions: its key is no name, its value has another shape, or a child is invalid
+abbrev pub EntryError : Mentions → List ℕ → Option (List ℕ) → Option (List (List ℕ)) → ParentsFault → Type 0
+EntryError ms key None texts e = e ≡ fault.BadLocale
+EntryError ms key (Some parent) None e = e ≡ fault.Shape
+EntryError ms key (Some parent) (Some texts) e = IsFirstBadChild ms key texts e
 
-abbrev pub put_children : List ℕ → List (List ℕ) → ParentsOf → Read
-put_children parent [] known = Ok known
-put_children parent (us ∷ uss) known = and_then (λ more. put_children parent uss more) (put_child parent (name us) known)
+-- the first invalid entry: those before it are valid
+pub record IsFirstError (es : Entries) (e : ParentsFault) : Type 0 where
+  pub before : Entries
+  pub entry : List ℕ × Resource
+  pub after : Entries
+  pub are : es ≡ before ++ entry ∷ after
+  pub known : ParentsOf
+  pub valid : GivesMap before known
+  pub error : EntryError (mentions before) entry.0 (name entry.0) (texts_in entry.1) e
 
--- one entry more: its key is read first, then the shape of its value, then its children
-abbrev pub put_value : List ℕ → Option (List (List ℕ)) → ParentsOf → Read
-put_value parent None known = Err fault.Shape
-put_value parent (Some uss) known = put_children parent uss known
+-- what the table at `parentLocales` gives, and what its error is; there must be one
+abbrev pub TableGives : Option Entries → ParentsOf → Type 0
+TableGives None m = ⊥
+TableGives (Some es) m = GivesMap es m
 
-abbrev pub put_entry : Option (List ℕ) → Resource → ParentsOf → Read
-put_entry None value known = Err fault.BadLocale
-put_entry (Some parent) value known = put_value parent (texts_in value) known
+abbrev pub TableRefuses : Option Entries → ParentsFault → Type 0
+TableRefuses None e = e ≡ fault.Shape
+TableRefuses (Some es) e = IsFirstError es e
 
-abbrev pub put_entries : List (List ℕ × Resource) → ParentsOf → Read
-put_entries [] known = Ok known
-put_entries (p ∷ ps) known = and_then (λ more. put_entries ps more) (put_entry (name p.0) p.1 known)
+abbrev pub parent_entries : Resource → Option Entries
+parent_entries t = entries_in (child_of (codes "parentLocales") t)
 
-abbrev pub no_parents : ParentsOf
-no_parents n = None
+abbrev pub GivesParents : Resource → ParentsOf → Type 0
+GivesParents t m = TableGives (parent_entries t) m
 
-abbrev pub explicit_in : Option Resource → Read
-explicit_in None = Err fault.Shape
-explicit_in (Some (string us)) = Err fault.Shape
-explicit_in (Some (int n)) = Err fault.Shape
-explicit_in (Some (ints zs)) = Err fault.Shape
-explicit_in (Some (binary bs)) = Err fault.Shape
-explicit_in (Some (alias us)) = Err fault.Shape
-explicit_in (Some (array ts)) = Err fault.Shape
-explicit_in (Some (table es)) = put_entries (pairs es) no_parents
-
--- the explicit parents of a tree
-abbrev pub explicit : Resource → Read
-explicit t = explicit_in (child_of (codes "parentLocales") t)
+abbrev pub RefusesParents : Resource → ParentsFault → Type 0
+RefusesParents t e = TableRefuses (parent_entries t) e

@@ -1,6 +1,7 @@
 pub mod Trail
 pub mod Shelf
 pub mod Explicit
+pub mod Entries
 pub mod ParentMap
 pub mod Family
 pub mod Answers

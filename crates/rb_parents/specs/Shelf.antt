@@ -10,5 +10,5 @@ abbrev pub bundle_of : {N : Type 0} → (N → Resource) → N × Bool → Sourc
 bundle_of tree b = record { tree = tree b.0; no_fallback = b.1 }
 
 -- the bundles of a list with their names, in order
-abbrev pub seen_bundles : List (List ℕ × Tree × Bool) → List (List ℕ × SourceTree)
-seen_bundles bs = map (λ b. (b.0, record { tree = view_of b.1; no_fallback = b.2 })) bs
+abbrev pub listed_bundles : List (List ℕ × Tree × Bool) → List (List ℕ × SourceTree)
+listed_bundles bs = map (λ b. (b.0, record { tree = view_of b.1; no_fallback = b.2 })) bs

@@ -6,7 +6,7 @@ use Rattle.std.specs.Prelude.{ℕ, zero, suc, List, [], ◌∷◌, Bool, true, f
 use Rattle.std.specs.Prelude.{if◌then◌else◌}
 use Rattle.std.specs.List.{filter}
 use Rattle.std.specs.Str.{bytes_eq}
-use Rattle.rb_tree.specs.Resource.{Resource, string, int, ints, binary, alias, array, table}
+use Rattle.rb_tree.specs.Resource.{Resource, string}
 use Rattle.rb_tree.specs.Parts.{child_of}
 use Rattle.rb_tree.specs.SourceTree.{SourceTree}
 use Rattle.rb_locales.specs.Locale.{name, shorter}
@@ -21,12 +21,7 @@ ParentsOf = List ℕ → Option (List ℕ)
 -- the units of a string, and nothing of another tree
 abbrev pub text_of : Resource → Option (List ℕ)
 text_of (string us) = Some us
-text_of (int n) = None
-text_of (ints zs) = None
-text_of (binary bs) = None
-text_of (alias us) = None
-text_of (array ts) = None
-text_of (table es) = None
+text_of t = None
 
 -- the string that a tree has at a key
 abbrev pub text_at : List ℕ → Resource → Option (List ℕ)

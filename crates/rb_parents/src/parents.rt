@@ -4,7 +4,9 @@ ghost use Rattle.rb_tree.specs.Parts.{children_of, kind_of, pairs_of, units_of};
 ghost use Rattle.rb_tree.specs.View.{view_of};
 ghost use Rattle.rb_tree.specs.declared.kind.Kind.TheVariants as Kinds;
 ghost use Rattle.rb_locales.specs.Locale.{name};
-ghost use Rattle.rb_parents.specs.Explicit.{explicit, no_parents, put_child, put_entries, put_entry, put_value, texts_in};
+ghost use Rattle.rb_parents.specs.Entries.{no_parents, put_child, put_entries, put_entry, put_value, read_tree};
+ghost use Rattle.rb_parents.specs.Explicit.{GivesParents, RefusesParents};
+ghost use Rattle.rb_parents.specs.ParentMap.{texts_in};
 ghost use Rattle.rb_parents.specs.declared.fault.ParentsFault.TheVariants as Faults;
 
 use crate::fault::ParentsFault;
@@ -45,9 +47,10 @@ impl Parents {
     /// let parents = Parents::read(alloc, &source.tree)?;
     /// parents.parent(&zh_hant) // Some(Name::root())
     /// ```
+    #[tactic(auto, using(crate::proofs::FirstErrors::table_refuses))]
     pub fn read(alloc: Global, tree: &Tree) -> Result<Parents, ParentsFault>
-        ensures parents { IfOk result (λ p. explicit (view_of tree.now) ≡ Ok (parent_of p)) }
-        ensures fault { IfErr result (λ e. (e ≡ Faults.Memory) ⊎ (explicit (view_of tree.now) ≡ Err e)) }
+        ensures parents { IfOk result (λ p. GivesParents (view_of tree.now) (parent_of p)) }
+        ensures fault { IfErr result (λ e. (e ≡ Faults.Memory) ⊎ RefusesParents (view_of tree.now) e) }
     {
         let table = match locales_table(tree) {
             Some(table) => table,
@@ -71,8 +74,8 @@ impl Parents {
 // The table of a tree that has explicit parents.
 fn locales_table(tree: &Tree) -> Option<&Tree>
     ensures kind { IfSome result (λ t. kind_of (view_of t.now) ≡ Kinds.Table) }
-    ensures entries { IfSome result (λ t. explicit (view_of tree.now) ≡ put_entries (pairs_of (view_of t.now)) no_parents) }
-    ensures none { IfNone result (explicit (view_of tree.now) ≡ Err Faults.Shape) }
+    ensures entries { IfSome result (λ t. read_tree (view_of tree.now) ≡ put_entries (pairs_of (view_of t.now)) no_parents) }
+    ensures none { IfNone result (read_tree (view_of tree.now) ≡ Err Faults.Shape) }
 {
     if tree.kind() != Kind::Table {
         return None;

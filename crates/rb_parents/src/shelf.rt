@@ -3,7 +3,7 @@ ghost use Rattle.std.specs.Prelude.{◌≡◌, ℕ, List, Option, option_map, na
 ghost use Rattle.std.specs.Map.{lookup};
 ghost use Rattle.std.specs.Cmp.Lexicographic.{pointwise};
 ghost use Rattle.rb_tree.specs.SourceTree.{SourceTree};
-ghost use Rattle.rb_parents.specs.Shelf.{bundle_of, seen_bundles};
+ghost use Rattle.rb_parents.specs.Shelf.{bundle_of, listed_bundles};
 
 use rb_locales::Name;
 use rb_tree::{Node, Tree};
@@ -29,7 +29,7 @@ pub struct ListShelf<'a> {
 impl<'a> Shelf<'a> for ListShelf<'a> {
     type N = &'a Tree;
 
-    ghost bundles = { λ s n. lookup (pointwise nat_eq n) (seen_bundles s.entries.now) };
+    ghost bundles = { λ s n. lookup (pointwise nat_eq n) (listed_bundles s.entries.now) };
 
     #[tactic(auto, using(crate::proofs::Shelves::entries_step, crate::proofs::Shelves::entries_end))]
     fn bundle(self, name: &Name) -> Option<(&'a Tree, bool)> {

@@ -1,24 +1,17 @@
-use Rattle.std.proofs.Common.{◌≡◌, length, ap, sym, ◌∙◌, arith}
+use Rattle.std.proofs.Common.{ap, sym, ◌∙◌}
 use Rattle.std.specs.Result.{result_ok}
-use Rattle.rb_tree.specs.Parts.{units_of, len_of}
-use Rattle.rb_locales.proofs.Narrowed.{units_len}
-use Rattle.rb_fallback.specs.Alias.{named}
-use Rattle.rb_fallback.specs.Behind.{behind_parts}
-use Rattle.rb_fallback.proofs.Texts.{located_some}
+use Rattle.rb_fallback.proofs.Texts.{located_named}
 use Rattle.rb_fallback.proofs.alias.located.Goals as goal
 
 pub returns-in-Ok : goal.returns-in-Ok
 returns-in-Ok g c =
-    let t = g.N.Node.tree c.args.node in
-    let us = units_of t in
-    let len : length us ≡ len_of t = units_len t c.requires.units in
-    let past = c.segment_past-past.result in
-    c.with_path.ensures ∙ sym (located_some c.args.icudata us c.args.from past c.segment_past-past.ensures.place (omega (arith, c.segment_past-past.ensures.within)) c.if-past-from.false ∙ ap (λ o. named c.args.icudata o (behind_parts us past)) (sym c.read_part.ensures ∙ ap result_ok c.in-Ok.is))
+    let end = c.segment_end-past.ensures in
+    let is = sym c.read_part.ensures ∙ ap result_ok c.in-Ok.is in
+    c.with_path.ensures
+    ∙ sym (located_named (g.N.Node.tree c.args.node) c.args.icudata c.args.from _ _ c.requires.units end.place end.within c.if-past-from.false is)
 
 pub returns-in-Err : goal.returns-in-Err
 returns-in-Err g c =
-    let t = g.N.Node.tree c.args.node in
-    let us = units_of t in
-    let len : length us ≡ len_of t = units_len t c.requires.units in
-    let past = c.segment_past-past.result in
-    sym (located_some c.args.icudata us c.args.from past c.segment_past-past.ensures.place (omega (arith, c.segment_past-past.ensures.within)) c.if-past-from.false ∙ ap (λ o. named c.args.icudata o (behind_parts us past)) (sym c.read_part.ensures ∙ ap result_ok c.in-Err.is))
+    let end = c.segment_end-past.ensures in
+    let is = sym c.read_part.ensures ∙ ap result_ok c.in-Err.is in
+    sym (located_named (g.N.Node.tree c.args.node) c.args.icudata c.args.from _ _ c.requires.units end.place end.within c.if-past-from.false is)

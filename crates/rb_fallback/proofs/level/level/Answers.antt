@@ -6,7 +6,7 @@ use Rattle.rb_parents.specs.Trail.{next, goes_to, end, bad, trail, Trail, names,
 use Rattle.rb_parents.specs.declared.limits.TheConstants.{TRAIL_LIMIT}
 use Rattle.rb_parents.proofs.Trails.{trail_goes, trail_end, trail_bad, trail_long}
 use Rattle.rb_fallback.specs.Search.{by_trail, first_in}
-use Rattle.rb_fallback.specs.Hits.{IsLevel}
+use Rattle.rb_fallback.specs.LevelResult.{IsLevel}
 use Rattle.rb_fallback.proofs.level.level.Goals as goal
 
 pub loop-preserved : goal.loop-preserved
@@ -18,7 +18,7 @@ loop-preserved g c =
     let on : next bundles parents here ≡ goes_to c.in-Name.name = sym c.visit-next.ensures.next ∙ ap next_of c.in-Name.is in (
       ns ++ here ∷ [],
       sym (trail_goes bundles parents here c.in-Name.name ns TRAIL_LIMIT c.loop.counter (omega arith) on) ∙ c.loop.invariant.1,
-      c.with_name-seen.ensures bundles ns c.visit-next.ensures.stop c.loop.invariant.2,
+      c.with_name-state.ensures bundles ns c.visit-next.ensures.stop c.loop.invariant.2,
     )
 
 pub returns-in-End : goal.returns-in-End
@@ -29,9 +29,10 @@ returns-in-End g c =
     let ns = c.loop.invariant.0 in
     let path = c.args.path.now in
     let on : next bundles parents here ≡ end = sym c.visit-next.ensures.next ∙ ap next_of c.in-End.is in
-    let all : trail bundles parents c.args.name.now ≡ names (ns ++ here ∷ []) = sym c.loop.invariant.1 ∙ trail_end bundles parents here ns TRAIL_LIMIT c.loop.counter (omega arith) on in
+    let all : trail bundles parents c.args.name.now ≡ names (ns ++ here ∷ []) =
+    sym c.loop.invariant.1 ∙ trail_end bundles parents here ns TRAIL_LIMIT c.loop.counter (omega arith) on in
     subst (λ (t : Trail). IsLevel g.S.N.Node.tree c.decided.result path (by_trail bundles t (segments path)) (first_in bundles t)) (sym all)
-    (c.decided.ensures bundles (stops bundles (ns ++ here ∷ [])) (c.with_name-seen.ensures bundles ns c.visit-next.ensures.stop c.loop.invariant.2))
+    (c.decided.ensures bundles (stops bundles (ns ++ here ∷ [])) (c.with_name-state.ensures bundles ns c.visit-next.ensures.stop c.loop.invariant.2))
 
 pub returns-in-Bad : goal.returns-in-Bad
 returns-in-Bad g c =
@@ -39,10 +40,12 @@ returns-in-Bad g c =
     let parents = parent_of c.args.parents.now in
     let here = c.loop.here in
     let on : next bundles parents here ≡ bad = sym c.visit-next.ensures.next ∙ ap next_of c.in-Bad.is in
-    ap (λ t. by_trail bundles t (segments c.args.path.now)) (sym c.loop.invariant.1 ∙ trail_bad bundles parents here c.loop.invariant.0 TRAIL_LIMIT c.loop.counter (omega arith) on)
+    let all = sym c.loop.invariant.1 ∙ trail_bad bundles parents here c.loop.invariant.0 TRAIL_LIMIT c.loop.counter (omega arith) on in
+    ap (λ t. by_trail bundles t (segments c.args.path.now)) all
 
 pub returns : goal.returns
 returns g c =
     let bundles = g.S.Shelf.bundles c.args.shelf in
     let parents = parent_of c.args.parents.now in
-    ap (λ t. by_trail bundles t (segments c.args.path.now)) (sym c.loop.invariant.1 ∙ trail_long bundles parents c.loop.here c.loop.invariant.0 TRAIL_LIMIT c.loop.counter (omega arith))
+    let all = sym c.loop.invariant.1 ∙ trail_long bundles parents c.loop.here c.loop.invariant.0 TRAIL_LIMIT c.loop.counter (omega arith) in
+    ap (λ t. by_trail bundles t (segments c.args.path.now)) all

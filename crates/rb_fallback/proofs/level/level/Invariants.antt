@@ -3,7 +3,7 @@ use Rattle.rb_parents.specs.Family.{parent_of}
 use Rattle.rb_parents.specs.Trail.{trail, trail_within, stops}
 use Rattle.rb_parents.specs.declared.limits.TheConstants.{TRAIL_LIMIT}
 use Rattle.rb_parents.proofs.Trails.{all_begin}
-use Rattle.rb_fallback.specs.Hits.{IsSeen}
+use Rattle.rb_fallback.specs.LevelResult.{IsLevelState}
 use Rattle.rb_fallback.proofs.level.level.Given as goal
 
 abbrev pub invariant-loop : goal.invariant-loop
@@ -11,4 +11,4 @@ invariant-loop g l =
     let bundles = g.S.Shelf.bundles l.shelf in
     (ns : List (List ℕ))
     × (all_begin ns (trail_within (TRAIL_LIMIT - l.counter) bundles (parent_of l.parents) l.here) ≡ trail bundles (parent_of l.parents) l.name)
-    × IsSeen g.S.N.Node.tree bundles l.path l.seen (stops bundles ns)
+    × IsLevelState g.S.N.Node.tree bundles l.path l.state (stops bundles ns)

@@ -8,15 +8,21 @@ use Rattle.rb_packages.proofs.shelf.bundle_in.Goals as goal
 
 pub returns-in-Some-clause-value : goal.returns-in-Some-clause-value
 returns-in-Some-clause-value c =
-    let there : lookup (bytes_eq c.args.name.now) c.args.bundles.now.entries ≡ Some c.in-Some.bundle.now = sym c.get.ensures.value ∙ ap option_copied c.in-Some.is in
-    (λ i. Some (record { tree = c.root.ensures.tree i; no_fallback = c.no_fallback.ensures i })) ∙ sym (bundle_at-shelf_of c.args.bundles.now.entries c.args.name.now ∙ ap (option_map source_tree_of) there)
+    let name = c.args.name.now in
+    let files = c.args.bundles.now.entries in
+    let there : lookup (bytes_eq name) files ≡ Some c.in-Some.bundle.now = sym c.get.ensures.value ∙ ap option_copied c.in-Some.is in
+    (λ i. Some (record { tree = c.root.ensures.tree i; no_fallback = c.no_fallback.ensures i }))
+    ∙ sym (bundle_at-shelf_of files name ∙ ap (option_map source_tree_of) there)
 
 pub returns-in-None-clause-value : goal.returns-in-None-clause-value
 returns-in-None-clause-value c =
-    let there : lookup (bytes_eq c.args.name.now) c.args.bundles.now.entries ≡ None = sym c.get.ensures.value ∙ ap option_copied c.in-None.is in
-    sym (bundle_at-shelf_of c.args.bundles.now.entries c.args.name.now ∙ ap (option_map source_tree_of) there)
+    let name = c.args.name.now in
+    let files = c.args.bundles.now.entries in
+    let there : lookup (bytes_eq name) files ≡ None = sym c.get.ensures.value ∙ ap option_copied c.in-None.is in
+    sym (bundle_at-shelf_of files name ∙ ap (option_map source_tree_of) there)
 
 pub returns-in-Some-clause-place : goal.returns-in-Some-clause-place
 returns-in-Some-clause-place c =
-    let there : lookup (bytes_eq c.args.name.now) c.args.bundles.now.entries ≡ Some c.in-Some.bundle.now = sym c.get.ensures.value ∙ ap option_copied c.in-Some.is in
+    let there : lookup (bytes_eq c.args.name.now) c.args.bundles.now.entries ≡ Some c.in-Some.bundle.now =
+    sym c.get.ensures.value ∙ ap option_copied c.in-Some.is in
     (c.in-Some.bundle.now, there, c.root.ensures.data, c.root.ensures.word)

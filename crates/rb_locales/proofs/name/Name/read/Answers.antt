@@ -1,6 +1,6 @@
 use Rattle.std.proofs.Common.{◌++◌, take, drop, arith}
 use Rattle.std.proofs.lemmas.List.{length-take-le}
-use Rattle.rb_locales.proofs.Canon.{own_name}
+use Rattle.rb_locales.proofs.Canonical.{own_name}
 use Rattle.rb_locales.proofs.Fields.{read_fields}
 use Rattle.rb_locales.proofs.name.Name.read.Goals as goal
 

@@ -3,7 +3,7 @@ use Rattle.std.proofs.lemmas.List.{length-take-le}
 use Rattle.rb_locales.specs.declared.limits.TheConstants.{NAME_LIMIT}
 use Rattle.rb_locales.specs.Locale.{shorter}
 use Rattle.rb_locales.proofs.Fields.{shorter_fields, shorter_is}
-use Rattle.rb_locales.proofs.Canon.{shorter_none, none_from}
+use Rattle.rb_locales.proofs.Canonical.{shorter_none, none_from}
 use Rattle.rb_locales.proofs.name.Name.shorter.Goals as goal
 
 pub invariant_of-result : goal.invariant_of-result

@@ -1,6 +1,6 @@
-use Rattle.std.proofs.Common.{arith}
-use Rattle.rb_packages.specs.Padded.{IsPadded-front}
+use Rattle.std.proofs.Common.{arith, refl}
+use Rattle.rb_locales.specs.Padded.{IsPadded-front}
 use Rattle.rb_packages.proofs.app.App.read.Goals as goal
 
 pub invariant_of-result : goal.invariant_of-result
-invariant_of-result c = rw c.put_front.ensures (IsPadded-front 64 c.args.bytes.now (omega arith))
+invariant_of-result c = rw c.put_front.ensures (IsPadded-front 64 _ c.args.bytes.now _ refl (omega arith) refl)

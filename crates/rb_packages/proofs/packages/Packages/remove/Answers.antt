@@ -1,22 +1,31 @@
+use Rattle.std.proofs.lemmas.Result.{IfOk-weaker, on_ok_weaker, on_err_weaker}
 use Rattle.std.specs.Map.{remove_entry}
 use Rattle.std.specs.Str.{bytes_eq}
-use Rattle.rb_packages.proofs.Lists.{files_changed, file_seen, found_seen, absent_seen, removed_seen, others_seen, if_ok, on_ok, on_err}
+use Rattle.rb_packages.proofs.Lists.{files_changed, file_seen, found_seen, absent_seen, removed_seen, others_seen}
 use Rattle.rb_packages.proofs.packages.Packages.remove.Goals as goal
 
 pub returns-clause-file : goal.returns-clause-file
-returns-clause-file c = if_ok c.remove.result (λ b. file_seen c.args.self.now c.self.inside.icudata.entries c.self.inside.owned.entries c.self.view_is c.args.app.now c.args.name.now b) c.remove.ensures.found
+returns-clause-file c =
+    IfOk-weaker c.remove.result _ _ (file_seen c.self.inside.owned.entries c.self.view_is c.args.app.now c.args.name.now) c.remove.ensures.found
 
 pub returns-clause-old : goal.returns-clause-old
-returns-clause-old c = if_ok c.remove.result (λ b. found_seen c.args.self.now c.self.inside.icudata.entries c.self.inside.owned.entries c.self.view_is c.args.app.now c.args.name.now b c.remove.new.owned.entries) c.remove.ensures.found
+returns-clause-old c =
+    IfOk-weaker c.remove.result _ _ (found_seen c.self.inside.owned.entries c.self.view_is c.args.app.now c.args.name.now) c.remove.ensures.found
 
 pub returns-clause-absent : goal.returns-clause-absent
-returns-clause-absent c = on_err c.remove.result (absent_seen c.args.self.now c.self.inside.icudata.entries c.self.inside.owned.entries c.self.view_is c.args.app.now c.args.name.now) c.remove.ensures.absent
+returns-clause-absent c =
+    on_err_weaker c.remove.result (absent_seen c.self.inside.owned.entries c.self.view_is c.args.app.now c.args.name.now) c.remove.ensures.absent
 
 pub returns-clause-files : goal.returns-clause-files
-returns-clause-files c = on_ok c.remove.result (files_changed c.args.self.now c.self.inside.icudata.entries c.self.inside.owned.entries c.self.view_is c.args.app.now c.remove.new.owned.entries (λ files. remove_entry (bytes_eq c.args.name.now) files)) c.remove.ensures.own
+returns-clause-files c =
+    let change = files_changed c.self.inside.owned.entries c.self.view_is c.args.app.now c.remove.new.owned.entries in
+    on_ok_weaker c.remove.result (change (λ files. remove_entry (bytes_eq c.args.name.now) files)) c.remove.ensures.own
 
 pub returns-clause-removed : goal.returns-clause-removed
-returns-clause-removed c = on_ok c.remove.result (removed_seen c.args.self.now c.self.inside.icudata.entries c.self.inside.owned.entries c.self.view_is c.args.app.now c.args.name.now c.remove.new.owned.entries) c.remove.ensures.own
+returns-clause-removed c =
+    let removal = removed_seen c.self.inside.owned.entries c.self.view_is c.args.app.now c.remove.new.owned.entries in
+    on_ok_weaker c.remove.result (removal c.args.name.now) c.remove.ensures.own
 
 pub returns-clause-others : goal.returns-clause-others
-returns-clause-others c = others_seen c.args.self.now c.self.inside.icudata.entries c.self.inside.owned.entries c.self.view_is c.args.app.now c.remove.new.owned.entries c.remove.ensures.others
+returns-clause-others c =
+    others_seen c.self.inside.owned.entries c.self.view_is c.args.app.now c.remove.new.owned.entries c.remove.ensures.others

@@ -1,22 +1,31 @@
+use Rattle.std.proofs.lemmas.Result.{IfOk-weaker, on_ok_weaker, on_err_weaker}
 use Rattle.std.specs.Map.{set_value}
 use Rattle.std.specs.Str.{bytes_eq}
-use Rattle.rb_packages.proofs.Lists.{files_changed, file_seen, found_seen, absent_seen, replaced_seen, others_seen, if_ok, on_ok, on_err}
+use Rattle.rb_packages.proofs.Lists.{files_changed, file_seen, found_seen, absent_seen, replaced_seen, others_seen}
 use Rattle.rb_packages.proofs.packages.Packages.replace.Goals as goal
 
 pub returns-clause-file : goal.returns-clause-file
-returns-clause-file c = if_ok c.exchange.result (λ b. file_seen c.args.self.now c.self.inside.icudata.entries c.self.inside.owned.entries c.self.view_is c.args.app.now c.args.name.now b) c.exchange.ensures.found
+returns-clause-file c =
+    IfOk-weaker c.replace.result _ _ (file_seen c.self.inside.owned.entries c.self.view_is c.args.app.now c.args.name.now) c.replace.ensures.found
 
 pub returns-clause-old : goal.returns-clause-old
-returns-clause-old c = if_ok c.exchange.result (λ b. found_seen c.args.self.now c.self.inside.icudata.entries c.self.inside.owned.entries c.self.view_is c.args.app.now c.args.name.now b c.exchange.new.owned.entries) c.exchange.ensures.found
+returns-clause-old c =
+    IfOk-weaker c.replace.result _ _ (found_seen c.self.inside.owned.entries c.self.view_is c.args.app.now c.args.name.now) c.replace.ensures.found
 
 pub returns-clause-absent : goal.returns-clause-absent
-returns-clause-absent c = on_err c.exchange.result (absent_seen c.args.self.now c.self.inside.icudata.entries c.self.inside.owned.entries c.self.view_is c.args.app.now c.args.name.now) c.exchange.ensures.absent
+returns-clause-absent c =
+    on_err_weaker c.replace.result (absent_seen c.self.inside.owned.entries c.self.view_is c.args.app.now c.args.name.now) c.replace.ensures.absent
 
 pub returns-clause-files : goal.returns-clause-files
-returns-clause-files c = on_ok c.exchange.result (files_changed c.args.self.now c.self.inside.icudata.entries c.self.inside.owned.entries c.self.view_is c.args.app.now c.exchange.new.owned.entries (λ files. set_value (bytes_eq c.args.name.now) files c.args.bundle)) c.exchange.ensures.own
+returns-clause-files c =
+    let change = files_changed c.self.inside.owned.entries c.self.view_is c.args.app.now c.replace.new.owned.entries in
+    on_ok_weaker c.replace.result (change (λ files. set_value (bytes_eq c.args.name.now) files c.args.bundle)) c.replace.ensures.own
 
 pub returns-clause-replaced : goal.returns-clause-replaced
-returns-clause-replaced c = on_ok c.exchange.result (replaced_seen c.args.self.now c.self.inside.icudata.entries c.self.inside.owned.entries c.self.view_is c.args.app.now c.args.name.now c.args.bundle c.exchange.new.owned.entries) c.exchange.ensures.own
+returns-clause-replaced c =
+    let replacement = replaced_seen c.self.inside.owned.entries c.self.view_is c.args.app.now c.replace.new.owned.entries in
+    on_ok_weaker c.replace.result (replacement c.args.name.now c.args.bundle) c.replace.ensures.own
 
 pub returns-clause-others : goal.returns-clause-others
-returns-clause-others c = others_seen c.args.self.now c.self.inside.icudata.entries c.self.inside.owned.entries c.self.view_is c.args.app.now c.exchange.new.owned.entries c.exchange.ensures.others
+returns-clause-others c =
+    others_seen c.self.inside.owned.entries c.self.view_is c.args.app.now c.replace.new.owned.entries c.replace.ensures.others

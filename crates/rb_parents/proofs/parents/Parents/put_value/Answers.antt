@@ -1,9 +1,10 @@
-use Rattle.std.proofs.Common.{◌≡◌, ap, sym, ◌∙◌, arith, rules, Some, map, drop}
+use Rattle.std.proofs.Common.{◌≡◌, ap, sym, ◌∙◌, arith, rules, Some, Err, map, drop}
 use Rattle.rb_tree.specs.Parts.{children_of, kind_of, units_of}
 use Rattle.rb_tree.specs.View.{view_of}
 use Rattle.rb_tree.specs.declared.kind.Kind.TheVariants as Kinds
 use Rattle.rb_locales.specs.Locale.{name}
-use Rattle.rb_parents.specs.Explicit.{texts_in, put_child, put_children, put_value}
+use Rattle.rb_parents.specs.Entries.{put_child, put_children, put_value}
+use Rattle.rb_parents.specs.ParentMap.{texts_in}
 use Rattle.rb_parents.specs.Family.{parent_of}
 use Rattle.rb_parents.proofs.Explicits.{array_len, children_on, children_bad, children_end, string_in, fault_on, err_is}
 use Rattle.rb_parents.proofs.parents.Parents.put_value.Goals as goal
@@ -26,7 +27,7 @@ returns-in_err-put_child-clause-fault c =
     let same : whole ≡ put_children c.args.parent (map units_of (drop c.loop-i.i (children_of t))) known =
     ap (λ o. put_value c.args.parent o (parent_of c.args.self.now)) texts ∙ sym c.loop-i.invariant in
     err_is c.from_residual.result here _ c.from_residual.ensures.1
-    (fault_on here (put_child c.args.parent (name (units_of x)) known) whole
+    (fault_on here (put_child c.args.parent (name (units_of x)) known) (whole ≡ Err here)
     (λ e. same ∙ children_bad c.args.parent (children_of t) c.loop-i.i x known here (sym c.at.ensures) e) c.in_err-put_child.ensures.fault)
 
 pub loop-i-preserved : goal.loop-i-preserved

@@ -1,9 +1,13 @@
--- For proofs only. The map of all applications' bundles, read as their lists.
+-- For proofs only: the program's index of all applications, read as the files of each.
 use Rattle.std.specs.Prelude.{◌≡◌, ◌≢◌, ℕ, List, [], Option, Some, None, map}
 use Rattle.std.specs.Map.{lookup}
 use Rattle.std.specs.Str.{bytes_eq}
 use Rattle.indexmap.specs.IndexMap.{IndexMap}
 use Rattle.rb_packages.specs.Packages.{Files}
+
+-- applications with their packages, where S is what hashes their names
+abbrev pub Rows : Type 0 → Type 0
+Rows S = List (List ℕ × IndexMap (List ℕ) (List ℕ) S)
 
 module _ {S : Type 0} where
   -- a package's files, where there is one
@@ -12,13 +16,13 @@ module _ {S : Type 0} where
   entries_of (Some bundles) = bundles.entries
 
   -- an application's files
-  abbrev pub files_at : List ℕ → List (List ℕ × IndexMap (List ℕ) (List ℕ) S) → Files
+  abbrev pub files_at : List ℕ → Rows S → Files
   files_at app rows = entries_of (lookup (bytes_eq app) rows)
 
   -- all applications' files
-  abbrev pub seen : List (List ℕ × IndexMap (List ℕ) (List ℕ) S) → List (List ℕ × Files)
-  seen rows = map (λ e. (e.0, e.1.entries)) rows
+  abbrev pub files_by_app : Rows S → List (List ℕ × Files)
+  files_by_app rows = map (λ e. (e.0, e.1.entries)) rows
 
   -- the files of all other applications stay
-  abbrev pub KeepsOthers : List ℕ → List (List ℕ × IndexMap (List ℕ) (List ℕ) S) → List (List ℕ × IndexMap (List ℕ) (List ℕ) S) → Type 0
+  abbrev pub KeepsOthers : List ℕ → Rows S → Rows S → Type 0
   KeepsOthers app old new = (other : List ℕ) → other ≢ app → files_at other new ≡ files_at other old

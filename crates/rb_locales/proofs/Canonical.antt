@@ -7,7 +7,7 @@ use Rattle.std.proofs.lemmas.List.{take_all, get_or-drop, get_or_default}
 use Rattle.std.proofs.lemmas.List.Sums.{AllPass-from_list_all, passes_at_first}
 use Rattle.std.proofs.lemmas.List.Folds.{list_all-append}
 use Rattle.std.proofs.lemmas.List.Splits.{slice_split_none, slice_split_at, join_with_byte-slice_split}
-use Rattle.rb_locales.proofs.Parts.{some_parts}
+use Rattle.rb_locales.proofs.Parts.{some_parts, split_append}
 use Rattle.std.specs.List.{slice_split, position_or_len, join_with_byte, onto_first, list_all}
 use Rattle.std.specs.Char.{is_ascii_alphabetic, is_ascii_alphanumeric, to_ascii_lowercase, to_ascii_uppercase}
 use Rattle.std.proofs.lemmas.Str.Ascii.{uppercase-uppercase, lowercase-lowercase}
@@ -15,7 +15,7 @@ use Rattle.std.proofs.lemmas.Bool.Decides.{nat_tests}
 use Rattle.std.proofs.lemmas.List.{length-map}
 use Rattle.rb_locales.specs.Locale.{Position, first, second, later, next_position, is_between, is_at, part_at, in_front, parts_from, written, is_language}
 use Rattle.rb_locales.specs.Locale.{is_subtag, is_script, title, subtag, name, named, before_at, is_underscore, without_last, shorter, shorter_of}
-use Rattle.rb_locales.specs.Last.{NoneFrom}
+use Rattle.rb_locales.specs.LastUnderscore.{NoneFrom}
 
 -- ---- bytes
 alpha_lower : (b : ℕ) → is_ascii_alphabetic (to_ascii_lowercase b) ≡ is_ascii_alphabetic b
@@ -201,7 +201,7 @@ empty_long (s ∷ ss) h = omega arith
 
 pub joined_long : (bs : List ℕ) → length (join_with_byte 95 (slice_split is_between bs)) ≡ length bs
 joined_long [] = refl
-joined_long (b ∷ bs) = by (is_between b) (slice_split is_between bs) (some_parts bs) (joined_long bs)
+joined_long (b ∷ bs) = by (is_between b) (slice_split is_between bs) (some_parts is_between bs) (joined_long bs)
   where
     by : (c : Bool) (ss : List (List ℕ)) → 0 < length ss → length (join_with_byte 95 ss) ≡ length bs
         → length (join_with_byte 95 (cond c ([] ∷ ss) (onto_first b ss))) ≡ suc (length bs)
@@ -245,7 +245,7 @@ canonical bs out h l = by (parts_from first (slice_split is_between bs)) refl
     by (Some qs) e =
         let is : join_with_byte 95 qs ≡ out = cc (ap (option_map (join_with_byte 95)) e) in
         let kept = parts_kept first (slice_split is_between bs) qs e in
-        let parts = split_joined is_between sign_within refl qs (omega (arith, kept.some, some_parts bs)) kept.clean in
+        let parts = split_joined is_between sign_within refl qs (omega (arith, kept.some, some_parts is_between bs)) kept.clean in
         let long : length (join_with_byte 95 qs) ≡ length bs = kept.long ∙ joined_long bs in
         let again : written first (join_with_byte 95 qs) ≡ Some (join_with_byte 95 qs) =
         ap (λ ss. option_map (join_with_byte 95) (parts_from first ss)) parts ∙ ap (option_map (join_with_byte 95)) kept.again in
@@ -253,24 +253,8 @@ canonical bs out h l = by (parts_from first (slice_split is_between bs)) refl
         (ap named (free_whole (join_with_byte 95 qs) (joined_free qs kept.clean)) ∙ own (join_with_byte 95 qs) (omega arith) again, long, again)
 
 -- ---- the shorter name
-underscores : (xs : List ℕ) → 0 < length (slice_split is_underscore xs)
-underscores [] = omega arith
-underscores (b ∷ bs) = by (is_underscore b) (slice_split is_underscore bs)
-  where
-    by : (c : Bool) (ss : List (List ℕ)) → 0 < length (cond c ([] ∷ ss) (onto_first b ss))
-    by true ss = omega arith
-    by false [] = omega arith
-    by false (s ∷ ss) = omega arith
-
 split_snoc : (xs ys : List ℕ) → All (λ b. is_underscore b ≡ false) ys → slice_split is_underscore (xs ++ 95 ∷ ys) ≡ slice_split is_underscore xs ++ ys ∷ []
-split_snoc [] ys h = ap (λ l. [] ∷ l) (slice_split_none is_underscore ys h)
-split_snoc (x ∷ xs) ys h = rw (split_snoc xs ys h) (by (is_underscore x) (slice_split is_underscore xs) (underscores xs))
-  where
-    by : (c : Bool) (ss : List (List ℕ)) → 0 < length ss → cond c ([] ∷ (ss ++ ys ∷ [])) (onto_first x (ss ++ ys ∷ []))
-        ≡ cond c ([] ∷ ss) (onto_first x ss) ++ ys ∷ []
-    by true ss l = refl
-    by false [] l = absurd (omega arith)
-    by false (s ∷ ss) l = refl
+split_snoc xs ys h = split_append is_underscore 95 xs ys refl ∙ ap (λ ps. slice_split is_underscore xs ++ ps) (slice_split_none is_underscore ys h)
 
 without_snoc : (ps : List (List ℕ)) (y : List ℕ) → without_last (ps ++ y ∷ []) ≡ ps
 without_snoc [] y = refl
@@ -282,7 +266,7 @@ pub shorter_some : (xs ys : List ℕ) → All (λ b. is_underscore b ≡ false) 
 shorter_some xs ys h =
     ap shorter_of (split_snoc xs ys h)
     ∙ ap (λ c. cond c (Some (join_with_byte 95 (without_last (slice_split is_underscore xs ++ ys ∷ [])))) None)
-    (le-leb _ _ (omega (arith, length-append (slice_split is_underscore xs) (ys ∷ []), underscores xs)))
+    (le-leb _ _ (omega (arith, length-append (slice_split is_underscore xs) (ys ∷ []), some_parts is_underscore xs)))
     ∙ ap (λ ps. Some (join_with_byte 95 ps)) (without_snoc (slice_split is_underscore xs) ys)
     ∙ ap Some (join_with_byte-slice_split 95 xs)
 
@@ -321,7 +305,7 @@ shorter_canonical xs ys h w = by (parts_from first (slice_split is_between (xs +
     by (Some qs) e =
         let is : join_with_byte 95 qs ≡ xs ++ 95 ∷ ys = cc (ap (option_map (join_with_byte 95)) e) in
         let kept = parts_kept first (slice_split is_between (xs ++ 95 ∷ ys)) qs e in
-        let some : 0 < length qs = omega (arith, kept.some, some_parts (xs ++ 95 ∷ ys)) in
+        let some : 0 < length qs = omega (arith, kept.some, some_parts is_between (xs ++ 95 ∷ ys)) in
         let cut : slice_split is_underscore xs ++ ys ∷ [] ≡ qs =
         sym (split_snoc xs ys h) ∙ ap (slice_split is_underscore) (sym is) ∙ split_joined is_underscore sign_not_underscore refl qs some kept.clean in
         let own : parts_from first (slice_split is_underscore xs) ≡ Some (slice_split is_underscore xs) =
@@ -329,7 +313,7 @@ shorter_canonical xs ys h w = by (parts_from first (slice_split is_between (xs +
         let clean : AllClean (slice_split is_underscore xs) = first_clean (slice_split is_underscore xs) ys (subst AllClean (sym cut) kept.clean) in
         let whole : join_with_byte 95 (slice_split is_underscore xs) ≡ xs = join_with_byte-slice_split 95 xs in
         let same : slice_split is_between xs ≡ slice_split is_underscore xs =
-        ap (slice_split is_between) (sym whole) ∙ split_joined is_between sign_within refl (slice_split is_underscore xs) (underscores xs) clean in
+        ap (slice_split is_between) (sym whole) ∙ split_joined is_between sign_within refl (slice_split is_underscore xs) (some_parts is_underscore xs) clean in
         ap (λ ss. option_map (join_with_byte 95) (parts_from first ss)) same ∙ ap (option_map (join_with_byte 95)) own ∙ ap Some whole
 
 -- where the last underscore is

@@ -1,10 +1,7 @@
--- For proofs only: a name and its fields. The bytes after its end are zero, so the fields follow from it.
-use Rattle.std.specs.Prelude.{◌≡◌, ℕ, ◌≤◌, ◌-◌, List, ◌++◌, length, take, drop, replicate, Some}
+-- For proofs only: a short text in an array of bytes. The bytes after its end are zero, so the array follows from the text.
+use Rattle.std.specs.Prelude.{◌≡◌, ℕ, ◌≤◌, ◌-◌, List, ◌++◌, length, take, drop, replicate}
 use Rattle.std.proofs.Common.{arith, ◌∙◌, ap, take-append-drop, length-append}
 use Rattle.std.proofs.lemmas.List.{drop_at, drop-replicate, length-replicate, length-take-le}
-use Rattle.rb_locales.specs.Locale.{written, first}
-use Rattle.rb_locales.specs.declared.limits.TheConstants.{NAME_LIMIT}
-use Rattle.rb_locales.specs.declared.name.Name.TheInside.{Inside}
 
 -- the first len of so many bytes, and zeros after them
 pub record IsPadded (most len : ℕ) (bytes : List ℕ) : Type 0 where
@@ -16,23 +13,13 @@ pub record IsPadded (most len : ℕ) (bytes : List ℕ) : Type 0 where
 abbrev pub padded : ℕ → List ℕ → List ℕ
 padded most bs = bs ++ replicate (most - length bs) 0
 
-padded-take : {A : Type 0} (most len : ℕ) (bytes : List ℕ) (make : List ℕ → ℕ → A) → IsPadded most len bytes
+-- what is made of the padded text and its length is made of the array and the length
+pub padded-take : {A : Type 0} (most len : ℕ) (bytes : List ℕ) (make : List ℕ → ℕ → A) → IsPadded most len bytes
     → make (padded most (take len bytes)) (length (take len bytes)) ≡ make bytes len
 padded-take most len bytes make h =
     let l : length (take len bytes) ≡ len = length-take-le len bytes (omega arith) in
     let b : take len bytes ++ replicate (most - len) 0 ≡ bytes = rw (← h.rest) (take-append-drop len bytes) in
     ap (λ (k : ℕ). make (take len bytes ++ replicate (most - k) 0) k) l ∙ ap (λ (bs : List ℕ). make bs len) b
-
--- zeros after the end, and a name that is canonical
-pub record IsNameFields (n : Inside) : Type 0 where
-  pub short : IsPadded NAME_LIMIT n.len n.bytes
-  pub canonical : written first (take n.len n.bytes) ≡ Some (take n.len n.bytes)
-
-abbrev pub name_fields : List ℕ → Inside
-name_fields bs = record { bytes = padded NAME_LIMIT bs; len = length bs }
-
-pub name_fields-view : (n : Inside) → IsNameFields n → name_fields (take n.len n.bytes) ≡ n
-name_fields-view n h = padded-take NAME_LIMIT n.len n.bytes (λ bs k. record { bytes = bs; len = k }) h.short
 
 pub IsPadded-front : (most k : ℕ) (bs rest : List ℕ) → length bs ≡ k → k ≤ most → rest ≡ drop k (replicate most 0) → IsPadded most k (bs ++ rest)
 IsPadded-front most k bs rest l h e = record {

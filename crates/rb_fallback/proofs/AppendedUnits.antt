@@ -1,5 +1,6 @@
 -- Units that are appended to a path.
-use Rattle.std.proofs.Common.{◌≡◌, ◌+◌, ◌-◌, ◌<◌, ◌≤◌, ℕ, List, [], ◌∷◌, ◌++◌, length, take, drop, get_or, slice_index, true, ap, sym, ◌∙◌, arith, length-drop}
+use Rattle.std.proofs.Common.{◌≡◌, ◌+◌, ◌-◌, ◌<◌, ◌≤◌, ℕ, List, [], ◌∷◌, ◌++◌, length, take, drop, get_or, slice_index, nat_le, true}
+use Rattle.std.proofs.Common.{ap, sym, ◌∙◌, arith, length-drop}
 use Rattle.std.specs.List.{list_all}
 use Rattle.std.proofs.lemmas.List.{get_or-drop, take_all, length-take-le, take_more}
 use Rattle.std.proofs.lemmas.List.Sums.{AllPass-from_list_all}
@@ -8,14 +9,16 @@ use Rattle.rb_tree.specs.Resource.{Resource}
 use Rattle.rb_tree.specs.Parts.{HasUnits, kind_of, len_of, units_of}
 use Rattle.rb_locales.proofs.Narrowed.{units_len}
 use Rattle.rb_fallback.specs.Alias.{is_plain}
-use Rattle.rb_locales.proofs.Canon.{both_true}
+use Rattle.rb_locales.proofs.Canonical.{both_true}
 
 pub plain_low : (t : Resource) (i : ℕ) → HasUnits (kind_of t) → list_all is_plain (units_of t) ≡ true → i < len_of t → slice_index (units_of t) i < 256
 plain_low t i u p h =
-    let b = (both_true _ _ (AllPass-from_list_all is_plain (units_of t) p i 0 (omega (arith, units_len t u)))).1 in
+    let within : i < length (units_of t) = omega (arith, units_len t u) in
+    let b : nat_le (slice_index (units_of t) i) 126 ≡ true = (both_true _ _ (AllPass-from_list_all is_plain (units_of t) p i 0 within)).1 in
     omega (arith, leb-true (slice_index (units_of t) i) 126 b)
 
-pub unit_on : (t : Resource) (at i : ℕ) (xs : List ℕ) → HasUnits (kind_of t) → at ≤ i → i < len_of t → xs ≡ take (i - at) (drop at (units_of t)) → xs ++ slice_index (units_of t) i ∷ [] ≡ take (i + 1 - at) (drop at (units_of t))
+pub unit_on : (t : Resource) (at i : ℕ) (xs : List ℕ) → HasUnits (kind_of t) → at ≤ i → i < len_of t → xs ≡ take (i - at) (drop at (units_of t))
+    → xs ++ slice_index (units_of t) i ∷ [] ≡ take (i + 1 - at) (drop at (units_of t))
 unit_on t at i xs u l h e =
     let x = drop at (units_of t) in
     let more : i - at < length x = omega (arith, length-drop at (units_of t), units_len t u) in
@@ -26,11 +29,15 @@ unit_on t at i xs u l h e =
     ∙ sym (take_more x (i - at) 0 more)
     ∙ ap (λ (k : ℕ). take k x) (let k : i - at + 1 ≡ i + 1 - at = omega arith in k)
 
-pub unit_end : (t : Resource) (at n : ℕ) (xs : List ℕ) → HasUnits (kind_of t) → n ≡ len_of t → xs ≡ take (n - at) (drop at (units_of t)) → xs ≡ drop at (units_of t)
+pub unit_end : (t : Resource) (at n : ℕ) (xs : List ℕ) → HasUnits (kind_of t) → n ≡ len_of t → xs ≡ take (n - at) (drop at (units_of t))
+    → xs ≡ drop at (units_of t)
 unit_end t at n xs u l e = e ∙ take_all (n - at) (drop at (units_of t)) (omega (arith, length-drop at (units_of t), units_len t u))
 
-pub unit_count : (t : Resource) (at i : ℕ) (xs : List ℕ) → HasUnits (kind_of t) → i ≤ len_of t → xs ≡ take (i - at) (drop at (units_of t)) → length xs ≡ i - at
+pub unit_count : (t : Resource) (at i : ℕ) (xs : List ℕ) → HasUnits (kind_of t) → i ≤ len_of t → xs ≡ take (i - at) (drop at (units_of t))
+    → length xs ≡ i - at
 unit_count t at i xs u l e = ap length e ∙ length-take-le (i - at) (drop at (units_of t)) (omega (arith, length-drop at (units_of t), units_len t u))
 
 pub unit_room : (t : Resource) (at : ℕ) → HasUnits (kind_of t) → length (drop at (units_of t)) ≡ len_of t - at
 unit_room t at u = length-drop at (units_of t) ∙ ap (λ (k : ℕ). k - at) (units_len t u)
+
+pub ruleset append_steps = (plain_low, unit_on, unit_end, unit_count, unit_room)

@@ -3,10 +3,11 @@ use Rattle.std.proofs.Common.{◌≡◌, ℕ, zero, suc, List, [], ◌∷◌, Bo
 use Rattle.std.specs.Option.{ok_or}
 use Rattle.rb_tree.specs.Resource.{Resource}
 use Rattle.rb_tree.specs.Walk.{Walked, ends, links, gone}
-use Rattle.rb_parents.specs.Trail.{Bundles, Trail, names, chain, bad_parent, trail, stops}
+use Rattle.rb_parents.specs.Trail.{Bundles, Trail, names, trail, stops}
 use Rattle.rb_fallback.specs.Alias.{Target, leads, bad_text, bad_package, target}
 use Rattle.rb_fallback.specs.Answers.{answer_of}
-use Rattle.rb_fallback.specs.Search.{Decided, decide, by_stops, by_trail, level, Step, found, goes, follow, step, step_of, Setting, bundles_of, go_on, is_long, search}
+use Rattle.rb_fallback.specs.Search.{Decided, decide, by_stops, by_trail, level, Step, found, goes, follow, step, step_of}
+use Rattle.rb_fallback.specs.Search.{Setting, bundles_of, go_on, is_long, search}
 use Rattle.rb_fallback.specs.declared.found.Found.{Found}
 use Rattle.rb_fallback.specs.declared.fault.LookError.{LookError}
 use Rattle.rb_fallback.specs.declared.fault.LookError.TheVariants as fault
@@ -26,8 +27,7 @@ stops_never bundles (n ∷ ns) ss e = decide_never (decide bundles (n ∷ ns) ss
 
 trail_never : (bundles : Bundles) (t : Trail) (ss : List (List ℕ)) → by_trail bundles t ss ≡ Err fault.BadPath → ⊥
 trail_never bundles (names ns) ss e = stops_never bundles (stops bundles ns) ss e
-trail_never bundles chain ss e = cc
-trail_never bundles bad_parent ss e = cc
+trail_never bundles t ss e = cc
 
 follow_never : (rest : List (List ℕ)) (t : Target) → follow rest t ≡ Err fault.BadPath → ⊥
 follow_never rest (leads in_icu n ss) e = cc
@@ -58,8 +58,9 @@ search_never (suc k) s in_icu n ss e = by (λ p m ts f. search_never k s p m ts 
         → cond b (Err fault.PathTooLong) (go_on (λ p m ts. search k s p m ts) (step_at s in_icu n ss)) ≡ Err fault.BadPath → ⊥
     by g true f = cc
     by g false f =
-        go_never (λ p m ts. search k s p m ts) (step_at s in_icu n ss) g
-        (step_never in_icu s.valid (level (bundles_of s.own s.icu in_icu) s.parents n ss) (trail_never (bundles_of s.own s.icu in_icu) (trail (bundles_of s.own s.icu in_icu) s.parents n) ss)) f
+        let bundles = bundles_of s.own s.icu in_icu in
+        let no_level = trail_never bundles (trail bundles s.parents n) ss in
+        go_never (λ p m ts. search k s p m ts) (step_at s in_icu n ss) g (step_never in_icu s.valid (level bundles s.parents n ss) no_level) f
 
 -- an answer that a search gives is no such error
 pub answer_never : {N : Type 0} (tree : N → Resource) (x : Result (Found N) LookError) (k : ℕ) (s : Setting) (in_icu : Bool) (n : List ℕ) (ss : List (List ℕ))
