@@ -1,6 +1,6 @@
 -- Marks that lie in bytes: what is read, and what a written byte changes.
-use Rattle.std.proofs.Common.{◌≡◌, ◌≢◌, ◌⊎◌, ℕ, ◌+◌, ◌-◌, ◌*◌, ◌/◌, ◌%◌, ◌<◌, ◌≤◌, List, length, get_or, set, Bool, cond, eqb, replicate, refl, sym, ap, subst, ◌∙◌, arith, inl, inr}
-use Rattle.std.proofs.Common.{get_or-set_other, get_or-set_same}
+use Rattle.std.proofs.Common.{◌≡◌, ◌≢◌, ◌⊎◌, ℕ, ◌+◌, ◌-◌, ◌*◌, ◌/◌, ◌%◌, ◌<◌, ◌≤◌, List, length, get_or, set, Bool, cond, eqb}
+use Rattle.std.proofs.Common.{replicate, refl, sym, ap, subst, ◌∙◌, arith, inl, inr, get_or-set_other, get_or-set_same}
 use Rattle.std.proofs.Math.ListN.{get_or-eq_default}
 use Rattle.std.proofs.lemmas.Bool.{cases_eq, cases_lt, eq-eqb, ne_eqb}
 use Rattle.std.proofs.lemmas.List.{ext_get_or, get_or_default, length-set, length-replicate}
@@ -25,7 +25,8 @@ mark_other first rest o s f n = rw (ne_eqb (get_or first o 0) 0 f, ne_eqb (get_o
 
 -- the same bytes are the same mark
 mark_same : (first rest after later : List ℕ) (o s : ℕ) → get_or after o 0 ≡ get_or first o 0
-    → (get_or first o 0 ≢ 0 → get_or first o 0 / 66 ≢ s → get_or later (other o s (get_or first o 0 / 66)) 0 ≡ get_or rest (other o s (get_or first o 0 / 66)) 0)
+    → (get_or first o 0 ≢ 0 → get_or first o 0 / 66 ≢ s
+      → get_or later (other o s (get_or first o 0 / 66)) 0 ≡ get_or rest (other o s (get_or first o 0 / 66)) 0)
     → mark_in after later o s ≡ mark_in first rest o s
 mark_same first rest after later o s e f = elim (cases_eq (get_or first o 0) 0) [
   | inl z ↦ mark_none after later o s (e ∙ z) ∙ sym (mark_none first rest o s z)
