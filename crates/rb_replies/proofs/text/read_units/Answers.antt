@@ -1,7 +1,7 @@
 use Rattle.std.proofs.Common.{◌≡◌, ◌∷◌, drop, string_bytes, subst, Option, ℕ, arith}
 use Rattle.std.specs.Char.Utf16.{utf16_chars}
 use Rattle.rb_tree.specs.Parts.{units_of}
-use Rattle.rb_replies.proofs.OfKinds.{as_many_units}
+use Rattle.rb_locales.proofs.Narrowed.{units_len}
 use Rattle.rb_replies.proofs.Surrogates.{read_more, all_read}
 use Rattle.rb_replies.proofs.text.read_units.Goals as goal
 
@@ -15,5 +15,5 @@ loop-at-preserved g c =
 pub returns : goal.returns
 returns g c =
     let t = g.N.Node.tree c.args.node in
-    let done = all_read (string_bytes c.loop-at.text) (units_of t) c.loop-at.at c.loop-at.invariant (omega (arith, as_many_units t c.requires, c.len-len.ensures, c.loop-at-test.false)) in
+    let done = all_read (string_bytes c.loop-at.text) (units_of t) c.loop-at.at c.loop-at.invariant (omega (arith, units_len t c.requires, c.len-len.ensures, c.loop-at-test.false)) in
     record { whole = done.0; text = λ e. done.1 }
