@@ -2,7 +2,7 @@
 use Rattle.std.proofs.Common.{◌≡◌, codes, length, refl}
 use Rattle.std.proofs.lemmas.List.{length-map}
 use Rattle.std.specs.Map.{keys_of}
-use Rattle.rb_tree.specs.Resource.{Resource, string, int, ints, binary, alias, array, table}
+use Rattle.rb_tree.specs.Resource.{Resource, string, ints, binary, alias, table}
 use Rattle.rb_tree.specs.Keys.{pairs}
 use Rattle.rb_tree.specs.Parts.{bytes_of, kind_of, len_of, numbers_of, pairs_of, units_of}
 use Rattle.serde_json.specs.Data.{put}
