@@ -90,8 +90,8 @@ check_item-returns-in-None-clause-value t c = sym (ap (result_map height)
 
 -- ---- several items, one by one
 
-pub check_each-loop-i-init : goal.check_each-loop-i-init
-check_each-loop-i-init t c =
+pub check_items-loop-i-init : goal.check_items-loop-i-init
+check_items-loop-i-init t c =
     let y = c.args.layout.now in let body = c.args.body.now in
     let all : c.args.first + c.args.count - c.args.first ≡ c.args.count = omega arith in
     record {
@@ -99,13 +99,13 @@ check_each-loop-i-init t c =
       low = omega arith;
       sound = c.requires.sound;
       after = record { keeps = c.requires.keeps; follows = follows_same c.args.state.now.memo };
-      holds = c.requires.holds;
+      holds = runs_ready y body c.args.state.now.memo c.args.state.now.runs c.is_plain.new.self c.requires.holds c.is_plain.ensures.runs;
       known = λ j h l. absurd (omega arith);
       leads = rw all c.requires.leads;
     }
 
-pub check_each-check_item-requires : goal.check_each-check_item-requires
-check_each-check_item-requires t c =
+pub check_items-check_item-requires : goal.check_items-check_item-requires
+check_items-check_item-requires t c =
     let y = c.args.layout.now in let body = c.args.body.now in let i = c.loop-i.i in
     let item = fields.word_at body in
     let end = c.args.first + c.args.count in
@@ -137,8 +137,8 @@ check_each-check_item-requires t c =
       ),
     )
 
-pub check_each-returns-in_err-child-clause-value : goal.check_each-returns-in_err-child-clause-value
-check_each-returns-in_err-child-clause-value t c =
+pub check_items-returns-in_err-child-clause-value : goal.check_items-returns-in_err-child-clause-value
+check_items-returns-in_err-child-clause-value t c =
     let y = c.args.layout.now in let body = c.args.body.now in let i = c.loop-i.i in
     let end = c.args.first + c.args.count in
     let p = err_from_is_err_and c.from_residual.result c.from_residual.ensures.1 in
@@ -148,8 +148,8 @@ check_each-returns-in_err-child-clause-value t c =
     rw (p.1, p.2) (sym (items_stop (λ w. read y body c.args.left w) (fields.word_at body) i (end - i)
     (end - (i + 1)) c.loop-i.height _ _ step e c.loop-i.invariant.value))
 
-pub check_each-loop-i-preserved : goal.check_each-loop-i-preserved
-check_each-loop-i-preserved t c =
+pub check_items-loop-i-preserved : goal.check_items-loop-i-preserved
+check_items-loop-i-preserved t c =
     let y = c.args.layout.now in let body = c.args.body.now in let i = c.loop-i.i in
     let item = fields.word_at body in
     let end = c.args.first + c.args.count in
@@ -173,30 +173,13 @@ check_each-loop-i-preserved t c =
           (leads_after y body _ _ _ a.follows c.loop-i.invariant.leads);
     }
 
-pub check_each-returns-clause-value : goal.check_each-returns-clause-value
-check_each-returns-clause-value t c =
+pub check_items-returns-then-is_plain-clause-value : goal.check_items-returns-then-is_plain-clause-value
+check_items-returns-then-is_plain-clause-value t c =
     let y = c.args.layout.now in let body = c.args.body.now in let i = c.loop-i.i in
     let none : c.args.first + c.args.count - i ≡ 0 = omega arith in
     items_end (λ w. read y body c.args.left w) (fields.word_at body) i (c.args.first + c.args.count - i) c.loop-i.height _ none c.loop-i.invariant.value
 
 -- ---- several items, in two parts
-
-pub check_items-check_each-requires : goal.check_items-check_each-requires
-check_items-check_each-requires t c =
-    let y = c.args.layout.now in let body = c.args.body.now in
-    let ready = runs_ready y body c.args.state.now.memo c.args.state.now.runs c.is_plain.new.self c.requires.holds c.is_plain.ensures.runs in (
-      omega arith,
-      (
-        c.requires.room,
-        (
-          c.requires.tops,
-          (
-            c.requires.small,
-            (c.requires.items, (c.requires.met, (c.requires.sound, (c.requires.keeps, (ready, c.requires.leads))))),
-          ),
-        ),
-      ),
-    )
 
 pub check_items-returns-then-height-left-clause-value : goal.check_items-returns-then-height-left-clause-value
 check_items-returns-then-height-left-clause-value t c =
@@ -253,7 +236,7 @@ check_items-returns-in_err-low-clause-value t c =
     let mid = c.split-parts.result.middle in let m = mid - from in
     let part : m ≤ n = omega arith in
     let q : mid ≡ from + m = omega arith in
-    let p = err_from_is_err_and c.from_residual.result c.from_residual.ensures.1 in
+    let p = err_from_is_err_and c.from_residual-in_err-low.result c.from_residual-in_err-low.ensures.1 in
     rw (p.1, p.2) (run_low_err y body c.args.left from m n _ part c.in_err-low.ensures.value)
 
 pub check_items-check_items-requires-2 : goal.check_items-check_items-requires-2
@@ -309,7 +292,7 @@ check_items-returns-clause-value t c =
     let mid = c.split-parts.result.middle in let m = mid - from in
     let part : m ≤ n = omega arith in
     let q : mid ≡ from + m = omega arith in
-    let high : c.max-height.result ≡ max c.in_ok-low.low c.in_ok-high.high = c.max-height.ensures in
+    let high : c.max-height-2.result ≡ max c.in_ok-low.low c.in_ok-high.high = c.max-height-2.ensures in
     ap Ok high ∙ (run_both y body c.args.left from m n mid c.in_ok-low.low c.in_ok-high.high part q c.in_ok-low.ensures.value c.in_ok-high.ensures.value)
 
 pub check_items-returns-clause-known : goal.check_items-returns-clause-known
@@ -325,8 +308,8 @@ pub check_items-returns-clause-holds : goal.check_items-returns-clause-holds
 check_items-returns-clause-holds t c =
     let y = c.args.layout.now in let body = c.args.body.now in let from = c.args.first in let n = c.args.count in
     let cells = c.check_items-2.new.state.memo in
-    let run = made_run y body cells c.args.left from n c.max-height.result (check_items-returns-clause-value t c) (check_items-returns-clause-known t c) in
-    runs_kept y body cells c.check_items-2.new.state.runs c.keep.new.self _ from n c.max-height.result c.in_ok-high.ensures.holds run c.keep.ensures
+    let run = made_run y body cells c.args.left from n c.max-height-2.result (check_items-returns-clause-value t c) (check_items-returns-clause-known t c) in
+    runs_kept y body cells c.check_items-2.new.state.runs c.keep.new.self _ from n c.max-height-2.result c.in_ok-high.ensures.holds run c.keep.ensures
 
 -- ---- an entry
 
