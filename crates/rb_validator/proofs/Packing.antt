@@ -249,3 +249,22 @@ read_at first rest cells k o e = subst (λ (x : List ℕ). cell k o < length x �
 
 pub inside_at : (first rest cells : List ℕ) (k : ItemKind) (o : ℕ) → cells_of first rest ≡ cells → cell k o < length cells → o < length first
 inside_at first rest cells k o e = subst (λ (x : List ℕ). cell k o < length x → o < length first) e (λ h. cell_inside first rest k o h)
+
+-- a mark is set beside the one that its offset has
+pub set_beside : (first rest later cells : List ℕ) (room after o s v place n code : ℕ) (k : ItemKind) → IsPacked first rest room → cells_of first rest ≡ cells
+    → cell k o < length cells → s ≡ slot k → code ≡ get_or first o code → (code ≢ 0) × (code / 66 ≢ s) → n ≡ length first
+    → later ≡ cond (eqb (length rest) 0) (replicate (2 * n) 0) rest → place ≡ other o s (code / 66)
+    → IsPacked first (set later place v) after × (cells_of first (set later place v) ≡ set cells (cell k o) v)
+set_beside first rest later cells room after o s v place n code k packed view inside is read apart len filled at =
+    let i = inside_at first rest cells k o view inside in
+    let same = code_is first o code i read in
+    let l = slot_low k in
+    let r = ready first rest later room after packed (filled ∙ ap (λ (x : ℕ). cond (eqb (length rest) 0) (replicate (2 * x) 0) rest) len) in
+    let full : get_or first o 0 ≢ 0 = λ z. apart.0 (same ∙ z) in
+    let other_slot : get_or first o 0 / 66 ≢ s = λ z. apart.1 (ap (λ (x : ℕ). x / 66) same ∙ z) in
+    let there : other o s (get_or first o 0 / 66) ≡ place = ap (λ (x : ℕ). other o s (x / 66)) (sym same) ∙ sym at in (
+      subst (λ (x : ℕ). IsPacked first (set later x v) after) there (rest_packed first later after o s v r.packed (omega arith) r.long full other_slot),
+      subst (λ (x : ℕ). cells_of first (set later x v) ≡ set (cells_of first later) (3 * o + s) v) there
+          (rest_set first later after o s v r.packed (omega arith) i r.long full other_slot)
+          ∙ ap (λ (x : List ℕ). set x (3 * o + s) v) (r.same ∙ view) ∙ ap (λ (x : ℕ). set cells (3 * o + x) v) is,
+    )
