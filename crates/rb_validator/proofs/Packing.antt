@@ -26,7 +26,7 @@ mark_other first rest o s f n = rw (ne_eqb (get_or first o 0) 0 f, ne_eqb (get_o
 -- the same bytes are the same mark
 mark_same : (first rest after later : List ℕ) (o s : ℕ) → get_or after o 0 ≡ get_or first o 0
     → (get_or first o 0 ≢ 0 → get_or first o 0 / 66 ≢ s
-      → get_or later (other o s (get_or first o 0 / 66)) 0 ≡ get_or rest (other o s (get_or first o 0 / 66)) 0)
+    → get_or later (other o s (get_or first o 0 / 66)) 0 ≡ get_or rest (other o s (get_or first o 0 / 66)) 0)
     → mark_in after later o s ≡ mark_in first rest o s
 mark_same first rest after later o s e f = elim (cases_eq (get_or first o 0) 0) [
   | inl z ↦ mark_none after later o s (e ∙ z) ∙ sym (mark_none first rest o s z)
@@ -107,26 +107,6 @@ first_set first rest room o s v packed l i f g h =
           subst (λ (x : ℕ). mark_in after rest x r ≡ mark_in first rest x r) (sym e) (a ∙ b)
       | inr d ↦ mark_same first rest after rest q r (get_or-set_other first o q (66 * s + v) 0 d) (λ n t. refl)
     ])
-
-pub first_packed : (first rest : List ℕ) (room o s v : ℕ) → IsPacked first rest room → s < 3 → o < length first → 0 < v → v < 66
-    → IsPacked (set first o (66 * s + v)) rest room
-first_packed first rest room o s v packed l i f g =
-    let long = length-set first o (66 * s + v) in
-    let is : get_or (set first o (66 * s + v)) o 0 ≡ 66 * s + v = get_or-set_same first o (66 * s + v) 0 i in
-    record {
-      small = rw long packed.small;
-      low = λ q. elim (cases_eq q o) [
-        | inl e ↦ subst (λ (x : ℕ). get_or (set first o (66 * s + v)) x 0 < 198) (sym e) (omega arith)
-        | inr d ↦ rw (get_or-set_other first o q (66 * s + v) 0 d) (packed.low q)
-      ];
-      none = λ q j z m. elim (cases_eq q o) [
-        | inl e ↦
-            let here : get_or (set first o (66 * s + v)) o 0 ≡ 0 = subst (λ (x : ℕ). get_or (set first o (66 * s + v)) x 0 ≡ 0) e z in
-            absurd (omega arith)
-        | inr d ↦ packed.none q j (sym (get_or-set_other first o q (66 * s + v) 0 d) ∙ z) m
-      ];
-      long = rw long packed.long;
-    }
 
 -- a further mark of an offset
 pub rest_set : (first rest : List ℕ) (room o s v : ℕ) → IsPacked first rest room → s < 3 → o < length first → length rest ≡ 2 * length first
