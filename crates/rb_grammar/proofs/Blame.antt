@@ -183,6 +183,38 @@ says_past kind pre last front rest other says = tt
 
 -- ---- a stop inside, seen from outside
 
+-- marks follow those of the form inside
+whole_longer : (inner : Sort) (ts : List Token) (s : Stop) (b : Blame inner ts s) (extra : List Mark)
+    → inner.spell b.form extra ≡ inner.spell b.form [] ++ extra → b.front ++ (b.seen ++ b.next ∷ (b.others ++ extra)) ≡ inner.spell b.form extra
+whole_longer inner ts s b extra along =
+    ap (λ ms. b.front ++ ms) (sym (append_assoc b.seen (b.next ∷ b.others) extra)) ∙ sym (append_assoc b.front (b.seen ++ b.next ∷ b.others) extra)
+    ∙ ap (λ ms. ms ++ extra) b.whole ∙ sym along
+
+-- the form outside begins with that inside
+pub within : (inner outer : Sort) (ts : List Token) (s : Stop) (b : Blame inner ts s) (form : outer.Form) (extra : List Mark) → outer.Good form
+    → outer.spell form [] ≡ inner.spell b.form extra → inner.spell b.form extra ≡ inner.spell b.form [] ++ extra
+    → ((f : outer.Form) (after ms : List Mark) → outer.Good f → Tail s.rest b.seen ms → outer.spell f after ≡ b.front ++ ms
+    → outer.has (IsBad s.kind) f after ms)
+    → outer.Fit ts form → ((ms : List Mark) → Tail s.rest b.seen ms → outer.Start ts (b.front ++ ms)) → Blame outer ts s
+within inner outer ts s b form extra good spelled along blame fit start = record {
+  front = b.front;
+  seen = b.seen;
+  left = b.left;
+  shows = b.shows;
+  says = b.says;
+  parts = b.parts;
+  sees = b.sees;
+  form = form;
+  next = b.next;
+  others = b.others ++ extra;
+  good = good;
+  fit = fit;
+  whole = whole_longer inner ts s b extra along ∙ sym spelled;
+  blame = blame;
+  start = start;
+}
+
+-- marks, the last of them no colon, come before it
 pub outside : (inner outer : Sort) (ts inside : List Token) (s : Stop) (b : Blame inner inside s) (pre : List Mark) (last : Mark) → (last ≡ Colon → ⊥)
     → marks ts ≡ pre ++ last ∷ marks inside
     → (form : outer.Form) (extra : List Mark) → outer.Good form → outer.spell form [] ≡ pre ++ last ∷ inner.spell b.form extra
@@ -203,15 +235,13 @@ outside inner outer ts inside s b pre last other there form extra good spelled a
   next = b.next;
   others = b.others ++ extra;
   good = good;
-  whole = append_assoc pre (last ∷ b.front) (b.seen ++ b.next ∷ (b.others ++ extra)) ∙ ap (λ ms. pre ++ last ∷ ms) longer ∙ sym spelled;
   fit = fit;
+  whole =
+      append_assoc pre (last ∷ b.front) (b.seen ++ b.next ∷ (b.others ++ extra))
+      ∙ ap (λ ms. pre ++ last ∷ ms) (whole_longer inner inside s b extra along) ∙ sym spelled;
   blame = λ f after ms g t e. blame f after ms g t (e ∙ append_assoc pre (last ∷ b.front) ms);
   start = λ ms t. subst (λ (r : List Mark). outer.Start ts r) (sym (append_assoc pre (last ∷ b.front) ms)) (start ms t);
-} where
-  longer : b.front ++ (b.seen ++ b.next ∷ (b.others ++ extra)) ≡ inner.spell b.form extra
-  longer =
-      ap (λ ms. b.front ++ ms) (sym (append_assoc b.seen (b.next ∷ b.others) extra)) ∙ sym (append_assoc b.front (b.seen ++ b.next ∷ b.others) extra)
-      ∙ ap (λ ms. ms ++ extra) b.whole ∙ sym along
+}
 
 -- ---- ways to stop
 

@@ -13,7 +13,7 @@ use Rattle.rb_grammar.specs.Reading.{Stop, stop, Read, ◌>>=◌, left, right, c
 use Rattle.rb_grammar.specs.Reading.{Tests, numbers_step, numbers, elements_step, elements}
 use Rattle.rb_grammar.specs.Tests.{AreTests}
 use Rattle.rb_grammar.specs.Faults.{element_text, NumbersHave, ElementsHave, IsBad}
-use Rattle.rb_grammar.proofs.Blame.{first_lacks, begins_bad}
+use Rattle.rb_grammar.proofs.Blame.{within, first_lacks, begins_bad}
 use Rattle.rb_grammar.proofs.Blame.{Tail, same_comma, Blame, bodies, arrays, vectors, Opened, Blames, outside, bind_err}
 use Rattle.rb_grammar.proofs.BlameLists.{no_mark, neither_mark, opened_still, not_opened, array_comma, array_mark, text_colon, Ended, body_ended}
 use Rattle.rb_grammar.proofs.BlameLists.{no_other_comma, one_less}
@@ -63,26 +63,9 @@ text_deep level ts s false none deep comes =
 
 -- part of a body was read
 in_body : (level : ℕ) (ts : List Token) (s : Stop) → (begins colon ts || begins left ts) ≡ true → Blame (bodies level) ts s → Blame (arrays level) ts s
-in_body level ts s opens b = record {
-  front = b.front;
-  seen = b.seen;
-  left = b.left;
-  shows = b.shows;
-  says = b.says;
-  parts = b.parts;
-  sees = b.sees;
-  form = one_body b.form false no_elements;
-  next = b.next;
-  others = b.others ++ RightBrace ∷ [];
-  good = (b.good, tt);
-  fit = λ is. tt;
-  whole =
-      ap (λ ms. b.front ++ ms) (sym (append_assoc b.seen (b.next ∷ b.others) (RightBrace ∷ [])))
-      ∙ sym (append_assoc b.front (b.seen ++ b.next ∷ b.others) (RightBrace ∷ [])) ∙ ap (λ ms. ms ++ RightBrace ∷ []) b.whole
-      ∙ sym (body_front b.form [] (RightBrace ∷ []));
-  blame = λ xs after ms good t e. inside xs after ms good t e;
-  start = λ ms t is. inl (opened_still ts b.front (marks s.rest) ms opens b.parts t.alike);
-} where
+in_body level ts s opens b =
+    within (bodies level) (arrays level) ts s b (one_body b.form false no_elements) (RightBrace ∷ []) (b.good, tt) refl (body_front b.form [] (RightBrace ∷ []))
+    inside (λ is. tt) (λ ms t is. inl (opened_still ts b.front (marks s.rest) ms opens b.parts t.alike)) where
   inside : (xs : Elements) (after ms : List Mark) → EachIsForm xs → Tail s.rest b.seen ms → elements_marks xs (RightBrace ∷ after) ≡ b.front ++ ms
       → ElementsHave (IsBad s.kind) xs level (RightBrace ∷ after) ms
   inside no_elements after ms good t e =

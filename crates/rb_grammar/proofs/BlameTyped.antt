@@ -1,6 +1,7 @@
 -- Stops after the brace of a body with a type.
 use Rattle.std.proofs.Common.{◌≡◌, ℕ, suc, Bool, true, false, cond, List, [], ◌∷◌, ◌++◌, length, Option, Some, None, Ok, Err, refl, sym, ap, subst, ◌∙◌, arith}
 use Rattle.std.proofs.Common.{inl, inr}
+use Rattle.std.proofs.lemmas.List.{append-nil}
 use Rattle.rb_lexer.specs.declared.fault.SourceKind.TheVariants.{Unexpected, BadInt, BadHex}
 use Rattle.rb_lexer.specs.declared.token.Token.{Token}
 use Rattle.rb_lexer.specs.declared.token.Mark.{Mark}
@@ -12,7 +13,7 @@ use Rattle.rb_grammar.specs.Reading.{binary_type, int_type, ints_type, table_typ
 use Rattle.rb_grammar.specs.Reading.{table_at, array_at, closed, typed_at}
 use Rattle.rb_grammar.specs.Tests.{AreTests}
 use Rattle.rb_grammar.specs.Faults.{Role, int_text, BodyHas, LeafHas, IsBad}
-use Rattle.rb_grammar.proofs.Blame.{Sort, Blame, tables, arrays, vectors, Blames, first_lacks, next_lacks, begins_bad, bind_err}
+use Rattle.rb_grammar.proofs.Blame.{Sort, Blame, tables, arrays, vectors, Blames, within, first_lacks, next_lacks, begins_bad, bind_err}
 use Rattle.rb_grammar.proofs.BlameLists.{no_mark, no_text, text_colon, entries_blame}
 use Rattle.rb_grammar.proofs.BlameElements.{elements_blame, numbers_blame}
 use Rattle.rb_grammar.proofs.Guess.{Alike, not_text, not_mark}
@@ -254,25 +255,10 @@ wrapped : (inner : Sort) (w : Word) (level : ℕ) (wrap : inner.Form → Body) �
     → ((x : inner.Form) (rest : List Mark) → inner_marks (wrap x) rest ≡ inner.spell x rest)
     → ((P : Role → Type 0) (x : inner.Form) (after from : List Mark) → inner.has P x after from → BodyHas P (wrap x) level after from)
     → (ts : List Token) (s : Stop) → Blame inner ts s → Blame (typed w level) ts s
-wrapped inner w level wrap word only form_of good_of spelled has ts s b = record {
-  front = b.front;
-  seen = b.seen;
-  left = b.left;
-  shows = b.shows;
-  says = b.says;
-  parts = b.parts;
-  sees = b.sees;
-  form = wrap b.form;
-  next = b.next;
-  others = b.others;
-  good = (word b.form, form_of b.form b.good);
-  fit = tt;
-  whole = b.whole ∙ sym (spelled b.form []);
-  blame =
-      λ f after ms good t e. each wrap w only (λ x. IsForm x → BodyHas (IsBad s.kind) x level after ms) f after (b.front ++ ms) good.0 e
-      (λ x e form. has (IsBad s.kind) x after ms (b.blame x after ms (good_of x form) t (sym (spelled x after) ∙ e))) good.1;
-  start = λ ms t. tt;
-}
+wrapped inner w level wrap word only form_of good_of spelled has ts s b =
+    within inner (typed w level) ts s b (wrap b.form) [] (word b.form, form_of b.form b.good) (spelled b.form []) (sym (append-nil (inner.spell b.form [])))
+    (λ f after ms good t e. each wrap w only (λ x. IsForm x → BodyHas (IsBad s.kind) x level after ms) f after (b.front ++ ms) good.0 e
+    (λ x e form. has (IsBad s.kind) x after ms (b.blame x after ms (good_of x form) t (sym (spelled x after) ∙ e))) good.1) tt (λ ms t. tt)
 
 in_vector : (level : ℕ) (ts : List Token) (s : Stop) → Blame vectors ts s → Blame (typed ints_type level) ts s
 in_vector level =

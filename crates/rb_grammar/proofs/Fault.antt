@@ -129,7 +129,8 @@ no_brace ts rest name untyped there no_colon none =
     (λ x after ms good t e. no_such x after ms t.alike e) (λ ms t. tt) where
       no_such : (x : Whole) (after ms : List Mark) → Alike (marks rest) ms → bundle_in x after ≡ Text name ∷ ms → ⊥
       no_such (n, untyped, es) after ms a e = not_mark left rest (entries_marks es (RightBrace ∷ after)) ms none a cc
-      no_such (n, plain_table, es) after ms a e = not_mark colon rest (Text table_word ∷ LeftBrace ∷ entries_marks es (RightBrace ∷ after)) ms (no_colon refl) a cc
+      no_such (n, plain_table, es) after ms a e =
+          not_mark colon rest (Text table_word ∷ LeftBrace ∷ entries_marks es (RightBrace ∷ after)) ms (no_colon refl) a cc
       no_such (n, no_fallback_table, es) after ms a e =
           not_mark colon rest (Text no_fallback_table_word ∷ LeftBrace ∷ entries_marks es (RightBrace ∷ after)) ms (no_colon refl) a cc
 
