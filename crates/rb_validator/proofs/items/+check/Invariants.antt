@@ -14,9 +14,6 @@ decreases-check_item l = 73786976294838206464 * l.left
 abbrev pub decreases-check_inner : goal.decreases-check_inner
 decreases-check_inner l = 73786976294838206464 * l.left + 73786976294838206463
 
-abbrev pub decreases-enter : goal.decreases-enter
-decreases-enter l = 73786976294838206464 * l.left + 73786976294838206462
-
 abbrev pub decreases-check_items : goal.decreases-check_items
 decreases-check_items l = 73786976294838206464 * l.left + l.count + 1
 
