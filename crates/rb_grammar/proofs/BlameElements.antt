@@ -1,6 +1,6 @@
 -- Stops among elements, and among numbers.
 use Rattle.std.proofs.Common.{◌≡◌, ℕ, zero, suc, ◌<◌, Bool, true, false, cond, ◌||◌, List, [], ◌∷◌, ◌++◌, length, Option, Some, None, Ok, Err, refl, sym, ap}
-use Rattle.std.proofs.Common.{subst, ◌∙◌, arith, append_assoc, ◌⊎◌, inl, inr}
+use Rattle.std.proofs.Common.{subst, ◌∙◌, arith, ◌⊎◌, inl, inr}
 use Rattle.std.proofs.lemmas.List.{append-nil}
 use Rattle.std.proofs.lemmas.Bool.{false≢true}
 use Rattle.rb_lexer.specs.declared.fault.SourceKind.TheVariants.{Unexpected, BadInt, TooDeep}
@@ -15,7 +15,7 @@ use Rattle.rb_grammar.specs.Tests.{AreTests}
 use Rattle.rb_grammar.specs.Faults.{element_text, NumbersHave, ElementsHave, IsBad}
 use Rattle.rb_grammar.proofs.Blame.{within, first_lacks, begins_bad}
 use Rattle.rb_grammar.proofs.Blame.{Tail, same_comma, Blame, bodies, arrays, vectors, Opened, Blames, outside, bind_err}
-use Rattle.rb_grammar.proofs.BlameLists.{no_mark, neither_mark, opened_still, not_opened, array_comma, array_mark, text_colon, Ended, body_ended}
+use Rattle.rb_grammar.proofs.BlameLists.{no_mark, neither_mark, opened_still, not_opened, array_comma, array_mark, text_colon, Ended, body_ended, ended_opens}
 use Rattle.rb_grammar.proofs.BlameLists.{no_other_comma, one_less}
 use Rattle.rb_grammar.proofs.Complete.{body_longer}
 use Rattle.rb_grammar.proofs.Front.{body_front}
@@ -66,14 +66,14 @@ in_body : (level : ℕ) (ts : List Token) (s : Stop) → (begins colon ts || beg
 in_body level ts s opens b =
     within (bodies level) (arrays level) ts s b (one_body b.form false no_elements) (RightBrace ∷ []) (b.good, tt) refl (body_front b.form [] (RightBrace ∷ []))
     inside (λ is. tt) (λ ms t is. inl (opened_still ts b.front (marks s.rest) ms opens b.parts t.alike)) where
-  inside : (xs : Elements) (after ms : List Mark) → EachIsForm xs → Tail s.rest b.seen ms → elements_marks xs (RightBrace ∷ after) ≡ b.front ++ ms
-      → ElementsHave (IsBad s.kind) xs level (RightBrace ∷ after) ms
-  inside no_elements after ms good t e =
-      absurd (not_opened RightBrace after (b.front ++ ms) (λ o. o) (opened_still ts b.front (marks s.rest) ms opens b.parts t.alike) e)
-  inside (one_text r c xs) after ms good t e =
-      absurd (not_opened (Text r) (comma_marks c (elements_marks xs (RightBrace ∷ after))) (b.front ++ ms) (λ o. o)
-      (opened_still ts b.front (marks s.rest) ms opens b.parts t.alike) e)
-  inside (one_body x c xs) after ms good t e = inl (b.blame x (comma_marks c (elements_marks xs (RightBrace ∷ after))) ms good.0 t e)
+      inside : (xs : Elements) (after ms : List Mark) → EachIsForm xs → Tail s.rest b.seen ms → elements_marks xs (RightBrace ∷ after) ≡ b.front ++ ms
+          → ElementsHave (IsBad s.kind) xs level (RightBrace ∷ after) ms
+      inside no_elements after ms good t e =
+          absurd (not_opened RightBrace after (b.front ++ ms) (λ o. o) (opened_still ts b.front (marks s.rest) ms opens b.parts t.alike) e)
+      inside (one_text r c xs) after ms good t e =
+          absurd (not_opened (Text r) (comma_marks c (elements_marks xs (RightBrace ∷ after))) (b.front ++ ms) (λ o. o)
+          (opened_still ts b.front (marks s.rest) ms opens b.parts t.alike) e)
+      inside (one_body x c xs) after ms good t e = inl (b.blame x (comma_marks c (elements_marks xs (RightBrace ∷ after))) ms good.0 t e)
 
 body_opened : (x : Body) (ms : List Mark) → Opened (body_marks x ms)
 body_opened x ms = let o = body_opens x ms in (o.first, o.others, o.opening, o.is)
@@ -85,22 +85,20 @@ after_body level ts mid x s form spelled b =
     outside (arrays level) (arrays level) ts (after_comma mid) s b h.pre h.last h.other
     (spelled ∙ ap (body_marks x) (comma_takes mid) ∙ h.is (marks (after_comma mid)))
     (one_body x c b.form) [] (form, b.good) (h.is (elements_marks b.form (RightBrace ∷ []))) (sym (append-nil (elements_marks b.form (RightBrace ∷ [])))) later
-    (λ is. tt) (λ ms t is. inl (opens (b.front ++ ms))) where
+    (λ is. tt) (λ ms t is. inl (ended_opens x c h (b.front ++ ms))) where
       c : Bool
       c = has_comma mid
 
       h : Ended x c
       h = body_ended x c
 
-      opens : (ms : List Mark) → Opened (h.pre ++ h.last ∷ ms)
-      opens ms = let o = body_opens x (comma_marks c ms) in (o.first, o.others, o.opening, sym (h.is ms) ∙ o.is)
-
       later : (xs : Elements) (after ms : List Mark) → EachIsForm xs → Tail s.rest b.seen ms
           → elements_marks xs (RightBrace ∷ after) ≡ h.pre ++ h.last ∷ (b.front ++ ms) → ElementsHave (IsBad s.kind) xs level (RightBrace ∷ after) ms
-      later no_elements after ms good t e = absurd (not_opened RightBrace after (h.pre ++ h.last ∷ (b.front ++ ms)) (λ o. o) (opens (b.front ++ ms)) e)
+      later no_elements after ms good t e =
+          absurd (not_opened RightBrace after (h.pre ++ h.last ∷ (b.front ++ ms)) (λ o. o) (ended_opens x c h (b.front ++ ms)) e)
       later (one_text r d xs) after ms good t e =
           absurd (not_opened (Text r) (comma_marks d (elements_marks xs (RightBrace ∷ after))) (h.pre ++ h.last ∷ (b.front ++ ms)) (λ o. o)
-          (opens (b.front ++ ms)) e)
+          (ended_opens x c h (b.front ++ ms)) e)
       later (one_body y d xs) after ms good t e =
           let rest =
           body_one y x (comma_marks d (elements_marks xs (RightBrace ∷ after))) (comma_marks (has_comma mid) (b.front ++ ms)) good.0 form

@@ -207,6 +207,10 @@ body_ended x false = let h = closes x in record {
   is = λ ms. body_front x [] ms ∙ ap (λ xs. xs ++ ms) h.1 ∙ append_assoc h.0 (RightBrace ∷ []) ms;
 }
 
+-- it begins with a sign that opens a body
+pub ended_opens : (x : Body) (c : Bool) (h : Ended x c) (ms : List Mark) → Opened (h.pre ++ h.last ∷ ms)
+ended_opens x c h ms = let o = body_opens x (comma_marks c ms) in (o.first, o.others, o.opening, sym (h.is ms) ∙ o.is)
+
 -- the tokens after a whole body and its comma begin with none where there was none
 pub no_other_comma : (mid : List Token) (front ms : List Mark) (rest : List Token) → marks (after_comma mid) ≡ front ++ marks rest → Alike (marks rest) ms
     → has_comma mid ≡ false → starts_comma (front ++ ms) ≡ false
@@ -221,16 +225,14 @@ in_others level earlier ts mid k x s comes form spelled b =
     outside (tables level (k ∷ earlier)) (tables level earlier) ts (after_comma mid) s b (Text k ∷ h.pre) h.last h.other
     (text_first ts k comes ∙ ap (λ ms. Text k ∷ ms) (spelled ∙ ap (body_marks x) (comma_takes mid) ∙ h.is (marks (after_comma mid))))
     (entry k x c b.form) [] (form, b.good) (ap (λ ms. Text k ∷ ms) (h.is (entries_marks b.form (RightBrace ∷ []))))
-    (sym (append-nil (entries_marks b.form (RightBrace ∷ [])))) later tt (λ ms t is. (k, h.pre ++ h.last ∷ (b.front ++ ms), opens (b.front ++ ms), refl))
+    (sym (append-nil (entries_marks b.form (RightBrace ∷ [])))) later tt
+    (λ ms t is. (k, h.pre ++ h.last ∷ (b.front ++ ms), ended_opens x c h (b.front ++ ms), refl))
   where
     c : Bool
     c = has_comma mid
 
     h : Ended x c
     h = body_ended x c
-
-    opens : (ms : List Mark) → Opened (h.pre ++ h.last ∷ ms)
-    opens ms = let o = body_opens x (comma_marks c ms) in (o.first, o.others, o.opening, sym (h.is ms) ∙ o.is)
 
     later : (es : Entries) (after ms : List Mark) → AreForms es → Tail s.rest b.seen ms
         → entries_marks es (RightBrace ∷ after) ≡ Text k ∷ (h.pre ++ h.last ∷ (b.front ++ ms))

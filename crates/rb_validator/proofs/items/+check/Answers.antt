@@ -11,8 +11,8 @@ use Rattle.rb_validator.specs.Marks.{cell, mark_of, mark_at, children_at, IsMet,
 use Rattle.rb_validator.proofs.Cells.{cell_low, follows_same, follows_then, known_after, leads_after}
 use Rattle.rb_validator.proofs.Shapes.{leaf_height, fault_height, err_height, height_ok, height_err, children_err, children_fault, children_there}
 use Rattle.rb_validator.proofs.Ways.{cycle_deep, leads_children, leads_first, leads_next}
-use Rattle.rb_validator.proofs.Entering.{new_is, open_is, met_done, limit_fits, limit_passed, item_refused, item_bare, item_inner, items_none, items_stop, items_next}
-use Rattle.rb_validator.proofs.Entering.{items_end, some_fault, entered_height, entered_after, opened_keeps, opened_met, read_low, max_is}
+use Rattle.rb_validator.proofs.Entering.{new_is, open_is, met_done, limit_fits, limit_passed, item_refused, item_bare, item_inner, items_none, items_stop}
+use Rattle.rb_validator.proofs.Entering.{items_next, items_end, some_fault, entered_height, entered_after, opened_keeps, opened_met, read_low, max_is}
 use Rattle.rb_validator.proofs.Spans.{run_height, leads_shift, runs_set, run_low_err, run_high_err, run_both, run_fits, run_passed, leads_low, leads_high}
 use Rattle.rb_validator.proofs.Spans.{known_both, kept_run, made_run, runs_kept, runs_ready}
 use Rattle.rb_validator.proofs.items.+check.Goals as goal
@@ -346,8 +346,8 @@ check_inner-check_items-requires t c =
                     (
                       rw new (runs_set y body cells (cell k o) 65 c.args.state.now.runs (λ z. omega arith) inside c.requires.holds),
                       rw new (leads_shift y body (set cells (cell k o) 65) c.in_ok-found-in-New.found.first c.in_ok-found-in-New.found.count
-                          (leads_children y body cells c.args.item k c.in_ok-found-in-New.found c.requires.leads c.requires.is_kind c.requires.there c.requires.inner
-                          inside (sym there))),
+                          (leads_children y body cells c.args.item k c.in_ok-found-in-New.found c.requires.leads c.requires.is_kind c.requires.there
+                          c.requires.inner inside (sym there))),
                     ),
                   ),
                 ),
@@ -364,7 +364,8 @@ check_inner-returns-in_err-below-in-New-clause-value t c =
     let p = err_from_is_err_and c.from_residual-in_err-below-in-New.result c.from_residual-in_err-below-in-New.ensures.1 in
     let there : Ok c.in_ok-found-in-New.found ≡ children_at y body k o = rw c.item_offset-offset.ensures at c.in_ok-found-in-New.ensures.value in
     let f = some_fault _ _ (run_height y body c.args.left _ _ _ c.in_err-below-in-New.ensures.value) in
-    rw (p.1, p.2) (sym (err_height _ _ (children_fault y body (λ w. read y body c.args.left w) k o c.in_ok-found-in-New.found _ c.requires.inner (sym there) f)))
+    let found = c.in_ok-found-in-New.found in
+    rw (p.1, p.2) (sym (err_height _ _ (children_fault y body (λ w. read y body c.args.left w) k o found _ c.requires.inner (sym there) f)))
 
 pub check_inner-returns-in_ok-below-in-New-clause-value : goal.check_inner-returns-in_ok-below-in-New-clause-value
 check_inner-returns-in_ok-below-in-New-clause-value t c =
@@ -383,7 +384,8 @@ check_inner-returns-in_ok-below-in-New-clause-after t c =
     let a = rw new at c.in_ok-below-in-New.ensures.after in
     let low = c.in_ok-below-in-New.ensures.low in
     let fresh : mark_at cells k o ≡ 0 = new_is _ (rw c.item_offset-offset.ensures at c.in-New.ensures) in
-    rw (c.finish.ensures, c.item_offset-offset.ensures) (entered_after y body cells c.check_items.new.state.memo c.args.left c.args.item k c.in_ok-below-in-New.below
+    let below = c.in_ok-below-in-New.below in
+    rw (c.finish.ensures, c.item_offset-offset.ensures) (entered_after y body cells c.check_items.new.state.memo c.args.left c.args.item k below
     c.in_ok-found-in-New.found c.requires.keeps c.requires.met c.requires.is_kind c.requires.inner c.requires.full inside fresh there
     (run_height y body c.args.left _ _ _ c.in_ok-below-in-New.ensures.value) (omega arith) a c.in_ok-below-in-New.ensures.known)
 
