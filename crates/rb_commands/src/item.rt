@@ -48,7 +48,7 @@ impl From<AllocError> for ItemError {
 }
 
 /// What is left of a path after the slash that follows its first bytes.
-#[tactic(auto, using(crate::proofs::Shown::behind_more))]
+#[tactic(auto, using(rb_fallback::proofs::Follows::behind_more))]
 fn rest_after(path: &[u8], cut: usize) -> &[u8]
     ensures { result.now ≡ drop (behind cut) path.now }
 {

@@ -7,7 +7,7 @@ use Rattle.rb_lexer.specs.declared.token.Mark.{Mark}
 use Rattle.rb_lexer.specs.declared.token.Mark.TheVariants.{Text, RightBrace, Colon, Comma}
 use Rattle.rb_grammar.specs.Form.{marks, Body, Entries, Elements, comma_marks, numbers_marks, body_marks, entries_marks, elements_marks, AreSome, BeginArray}
 use Rattle.rb_grammar.specs.Form.{IsForm, AreForms, EachIsForm}
-use Rattle.rb_grammar.specs.Reading.{Stop, ◌>>=◌, has_comma, after_comma, as_table, as_array, guess}
+use Rattle.rb_grammar.specs.Reading.{Stop, stop, ◌>>=◌, has_comma, after_comma, as_table, as_array, guess}
 use Rattle.rb_grammar.specs.Faults.{Role, NumbersHave, BodyHas, EntriesHas, ElementsHave, IsBad, NoWord}
 use Rattle.rb_grammar.proofs.Complete.{comma_first}
 use Rattle.rb_grammar.proofs.Guess.{Alike}
@@ -183,6 +183,38 @@ says_past kind pre last front rest other says = tt
 
 -- ---- a stop inside, seen from outside
 
+-- marks follow those of the form inside
+whole_longer : (inner : Sort) (ts : List Token) (s : Stop) (b : Blame inner ts s) (extra : List Mark)
+    → inner.spell b.form extra ≡ inner.spell b.form [] ++ extra → b.front ++ (b.seen ++ b.next ∷ (b.others ++ extra)) ≡ inner.spell b.form extra
+whole_longer inner ts s b extra along =
+    ap (λ ms. b.front ++ ms) (sym (append_assoc b.seen (b.next ∷ b.others) extra)) ∙ sym (append_assoc b.front (b.seen ++ b.next ∷ b.others) extra)
+    ∙ ap (λ ms. ms ++ extra) b.whole ∙ sym along
+
+-- the form outside begins with that inside
+pub within : (inner outer : Sort) (ts : List Token) (s : Stop) (b : Blame inner ts s) (form : outer.Form) (extra : List Mark) → outer.Good form
+    → outer.spell form [] ≡ inner.spell b.form extra → inner.spell b.form extra ≡ inner.spell b.form [] ++ extra
+    → ((f : outer.Form) (after ms : List Mark) → outer.Good f → Tail s.rest b.seen ms → outer.spell f after ≡ b.front ++ ms
+    → outer.has (IsBad s.kind) f after ms)
+    → outer.Fit ts form → ((ms : List Mark) → Tail s.rest b.seen ms → outer.Start ts (b.front ++ ms)) → Blame outer ts s
+within inner outer ts s b form extra good spelled along blame fit start = record {
+  front = b.front;
+  seen = b.seen;
+  left = b.left;
+  shows = b.shows;
+  says = b.says;
+  parts = b.parts;
+  sees = b.sees;
+  form = form;
+  next = b.next;
+  others = b.others ++ extra;
+  good = good;
+  fit = fit;
+  whole = whole_longer inner ts s b extra along ∙ sym spelled;
+  blame = blame;
+  start = start;
+}
+
+-- marks, the last of them no colon, come before it
 pub outside : (inner outer : Sort) (ts inside : List Token) (s : Stop) (b : Blame inner inside s) (pre : List Mark) (last : Mark) → (last ≡ Colon → ⊥)
     → marks ts ≡ pre ++ last ∷ marks inside
     → (form : outer.Form) (extra : List Mark) → outer.Good form → outer.spell form [] ≡ pre ++ last ∷ inner.spell b.form extra
@@ -203,17 +235,79 @@ outside inner outer ts inside s b pre last other there form extra good spelled a
   next = b.next;
   others = b.others ++ extra;
   good = good;
-  whole = append_assoc pre (last ∷ b.front) (b.seen ++ b.next ∷ (b.others ++ extra)) ∙ ap (λ ms. pre ++ last ∷ ms) longer ∙ sym spelled;
   fit = fit;
+  whole =
+      append_assoc pre (last ∷ b.front) (b.seen ++ b.next ∷ (b.others ++ extra))
+      ∙ ap (λ ms. pre ++ last ∷ ms) (whole_longer inner inside s b extra along) ∙ sym spelled;
   blame = λ f after ms g t e. blame f after ms g t (e ∙ append_assoc pre (last ∷ b.front) ms);
   start = λ ms t. subst (λ (r : List Mark). outer.Start ts r) (sym (append_assoc pre (last ∷ b.front) ms)) (start ms t);
-} where
-  longer : b.front ++ (b.seen ++ b.next ∷ (b.others ++ extra)) ≡ inner.spell b.form extra
-  longer =
-      ap (λ ms. b.front ++ ms) (sym (append_assoc b.seen (b.next ∷ b.others) extra)) ∙ sym (append_assoc b.front (b.seen ++ b.next ∷ b.others) extra)
-      ∙ ap (λ ms. ms ++ extra) b.whole ∙ sym along
+}
 
 -- ---- ways to stop
+
+-- a mark is missing: no form goes on as the tokens do
+pub lacks : (sort : Sort) (kind : SourceKind) → IsSeen kind [] → (ts rest : List Token) (front : List Mark) → Says kind front (marks rest)
+    → marks ts ≡ front ++ marks rest → (form : sort.Form) (next : Mark) (others : List Mark) → sort.Good form → sort.Fit ts form
+    → front ++ next ∷ others ≡ sort.spell form []
+    → ((f : sort.Form) (after ms : List Mark) → sort.Good f → Tail rest [] ms → sort.spell f after ≡ front ++ ms → ⊥)
+    → ((ms : List Mark) → Tail rest [] ms → sort.Start ts (front ++ ms)) → Blame sort ts (stop kind rest)
+lacks sort kind shows ts rest front says there form next others good fit whole none start = record {
+  front = front;
+  seen = [];
+  left = marks rest;
+  shows = shows;
+  says = says;
+  parts = there;
+  sees = refl;
+  form = form;
+  next = next;
+  others = others;
+  good = good;
+  fit = fit;
+  whole = whole;
+  blame = λ f after ms g t e. absurd (none f after ms g t e);
+  start = start;
+}
+
+-- the first mark is
+pub first_lacks : (sort : Sort) (ts : List Token) (form : sort.Form) (next : Mark) (others : List Mark) → sort.Good form → sort.Fit ts form
+    → next ∷ others ≡ sort.spell form []
+    → ((f : sort.Form) (after ms : List Mark) → sort.Good f → Tail ts [] ms → sort.spell f after ≡ ms → ⊥)
+    → ((ms : List Mark) → Tail ts [] ms → sort.Start ts ms) → Blame sort ts (stop Unexpected ts)
+first_lacks sort ts = lacks sort Unexpected refl ts ts [] (λ w. no_word_none (marks ts) w) refl
+
+-- the mark after one that is no colon is
+pub next_lacks : (sort : Sort) (ts rest : List Token) (pre : List Mark) (last : Mark) → (last ≡ Colon → ⊥)
+    → marks ts ≡ (pre ++ last ∷ []) ++ marks rest → (form : sort.Form) (next : Mark) (others : List Mark) → sort.Good form → sort.Fit ts form
+    → (pre ++ last ∷ []) ++ next ∷ others ≡ sort.spell form []
+    → ((f : sort.Form) (after ms : List Mark) → sort.Good f → Tail rest [] ms → sort.spell f after ≡ (pre ++ last ∷ []) ++ ms → ⊥)
+    → ((ms : List Mark) → Tail rest [] ms → sort.Start ts ((pre ++ last ∷ []) ++ ms)) → Blame sort ts (stop Unexpected rest)
+next_lacks sort ts rest pre last other =
+    lacks sort Unexpected refl ts rest (pre ++ last ∷ []) (λ w. no_word_none (marks rest) (word_past pre last [] (marks rest) other w))
+
+-- a mark has an error, and with it come marks that decide what it is there for
+pub begins_bad : (sort : Sort) (kind : SourceKind) (m : Mark) (ms : List Mark) → IsSeen kind (m ∷ ms) → (ts : List Token) → Says kind [] (marks ts)
+    → (left : List Mark) → marks ts ≡ m ∷ (ms ++ left) → (form : sort.Form) (next : Mark) (others : List Mark) → sort.Good form → sort.Fit ts form
+    → m ∷ (ms ++ next ∷ others) ≡ sort.spell form []
+    → ((f : sort.Form) (after from : List Mark) → sort.Good f → Tail ts (m ∷ ms) from → sort.spell f after ≡ from → sort.has (IsBad kind) f after from)
+    → ((from : List Mark) → Tail ts (m ∷ ms) from → sort.Start ts from) → Blame sort ts (stop kind ts)
+begins_bad sort kind m ms shows ts says left sees form next others good fit whole blame start = record {
+  front = [];
+  seen = m ∷ ms;
+  left = left;
+  shows = shows;
+  says = says;
+  parts = refl;
+  sees = sees;
+  form = form;
+  next = next;
+  others = others;
+  good = good;
+  fit = fit;
+  whole = whole;
+  blame = blame;
+  start = start;
+}
 
 pub bind_err : {A B : Type 0} (r : Result A Stop) (f : A → Result B Stop) (s : Stop) → (r >>= f) ≡ Err s → (r ≡ Err s) ⊎ ((x : A) × (r ≡ Ok x) × (f x ≡ Err s))
 bind_err (Ok x) f s e = inr (x, refl, e)

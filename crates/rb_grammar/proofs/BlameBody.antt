@@ -18,7 +18,8 @@ use Rattle.rb_grammar.specs.Reading.{is_no_fallback_word, word_or, word_at, Inne
 use Rattle.rb_grammar.specs.Reading.{none_at, guess_or, guess, untyped_at, body_at, body}
 use Rattle.rb_grammar.specs.Tests.{AreTests}
 use Rattle.rb_grammar.specs.Faults.{IsWord, is_string, is_alias, is_binary, is_int, is_ints, is_table, is_no_fallback_table, is_array, NoWord, BodyHas, IsBad}
-use Rattle.rb_grammar.proofs.Blame.{Tail, IsSeen, Says, Blame, bodies, tables, arrays, IsArrayStart, Blames, no_word_none, word_past, outside, bind_err}
+use Rattle.rb_grammar.proofs.Blame.{lacks, first_lacks, next_lacks, begins_bad}
+use Rattle.rb_grammar.proofs.Blame.{Tail, IsSeen, Says, Blame, bodies, tables, arrays, IsArrayStart, Blames, outside, bind_err}
 use Rattle.rb_grammar.proofs.BlameLists.{no_mark, no_text, either_mark, neither_mark, not_opened, text_colon, entries_blame}
 use Rattle.rb_grammar.proofs.BlameElements.{elements_blame}
 use Rattle.rb_grammar.proofs.BlameTyped.{body_word, inner_marks, typed_spelled, typed_of, typed, Inside, typed_blame}
@@ -33,23 +34,10 @@ use Rattle.rb_grammar.proofs.Unique.{IsOpening, word_found, leaf_type, leaf_type
 
 -- neither a colon nor a brace
 unopened : (level : ℕ) (ts : List Token) → begins colon ts ≡ false → begins left ts ≡ false → Blame (bodies level) ts (stop Unexpected ts)
-unopened level ts no_colon no_left = record {
-  front = [];
-  seen = [];
-  left = marks ts;
-  shows = refl;
-  says = λ w. no_word_none (marks ts) w;
-  parts = refl;
-  sees = refl;
-  form = plain [];
-  next = LeftBrace;
-  others = Text [] ∷ RightBrace ∷ [];
-  good = tt;
-  fit = tt;
-  whole = refl;
-  blame = λ f after ms good t e. absurd (not_body f ts after ms no_left no_colon t.alike e);
-  start = λ ms t. tt;
-}
+unopened level ts no_colon no_left =
+    first_lacks (bodies level) ts
+    (plain []) LeftBrace (Text [] ∷ RightBrace ∷ []) tt tt refl
+    (λ f after ms good t e. not_body f ts after ms no_left no_colon t.alike e) (λ ms t. tt)
 
 at_value : (f : Body) (level : ℕ) (after ms : List Mark) → level ≡ 65 → body_marks f after ≡ ms → BodyHas (IsBad TooDeep) f level after ms
 at_value (plain s) level after ms deep e = (sym e, deep)
@@ -60,42 +48,16 @@ at_value (table es) level after ms deep e = inl (sym e, deep)
 at_value (array xs) level after ms deep e = inl (sym e, deep)
 
 deep_left : (level : ℕ) (ts : List Token) → level ≡ 65 → begins left ts ≡ true → Blame (bodies level) ts (stop TooDeep ts)
-deep_left level ts deep opens = record {
-  front = [];
-  seen = LeftBrace ∷ [];
-  left = marks (tail ts);
-  shows = (LeftBrace, [], refl);
-  says = tt;
-  parts = refl;
-  sees = mark_there left ts opens;
-  form = plain [];
-  next = Text [];
-  others = RightBrace ∷ [];
-  good = tt;
-  fit = tt;
-  whole = refl;
-  blame = λ f after ms good t e. at_value f level after ms deep e;
-  start = λ ms t. tt;
-}
+deep_left level ts deep opens =
+    begins_bad (bodies level) TooDeep LeftBrace [] (LeftBrace, [], refl) ts tt (marks (tail ts)) (mark_there left ts opens)
+    (plain []) (Text []) (RightBrace ∷ []) tt tt refl
+    (λ f after ms good t e. at_value f level after ms deep e) (λ ms t. tt)
 
 deep_colon : (level : ℕ) (ts : List Token) → level ≡ 65 → begins colon ts ≡ true → Blame (bodies level) ts (stop TooDeep ts)
-deep_colon level ts deep opens = record {
-  front = [];
-  seen = Colon ∷ [];
-  left = marks (tail ts);
-  shows = (Colon, [], refl);
-  says = tt;
-  parts = refl;
-  sees = mark_there colon ts opens;
-  form = leaf (string None);
-  next = Text string_word;
-  others = LeftBrace ∷ RightBrace ∷ [];
-  good = tt;
-  fit = tt;
-  whole = refl;
-  blame = λ f after ms good t e. at_value f level after ms deep e;
-  start = λ ms t. tt;
-}
+deep_colon level ts deep opens =
+    begins_bad (bodies level) TooDeep Colon [] (Colon, [], refl) ts tt (marks (tail ts)) (mark_there colon ts opens)
+    (leaf (string None)) (Text string_word) (LeftBrace ∷ RightBrace ∷ []) tt tt refl
+    (λ f after ms good t e. at_value f level after ms deep e) (λ ms t. tt)
 
 -- ---- at the type
 
@@ -175,45 +137,19 @@ pub no_text_word : (before : List Mark) (ts : List Token) → first_text ts ≡ 
 no_text_word before ts none w = let bad : None ≡ Some w.word = sym none ∙ text_is ts (Text w.word) w.after w.text in cc
 
 no_type : (level : ℕ) (ts after : List Token) → marks ts ≡ Colon ∷ marks after → first_text after ≡ None → Blame (bodies level) ts (stop Unexpected after)
-no_type level ts after there none = record {
-  front = Colon ∷ [];
-  seen = [];
-  left = marks after;
-  shows = refl;
-  says = λ w. no_text_word (Colon ∷ []) after none w;
-  parts = there;
-  sees = refl;
-  form = leaf (string None);
-  next = Text string_word;
-  others = LeftBrace ∷ RightBrace ∷ [];
-  good = tt;
-  fit = tt;
-  whole = refl;
-  blame = λ f rest ms good t e. let w = colon_word f rest ms e in absurd (not_text after (word_units w.0) w.1 ms none t.alike (sym w.2));
-  start = λ ms t. tt;
-}
+no_type level ts after there none =
+    lacks (bodies level) Unexpected refl ts after (Colon ∷ []) (λ w. no_text_word (Colon ∷ []) after none w) there
+    (leaf (string None)) (Text string_word) (LeftBrace ∷ RightBrace ∷ []) tt tt refl
+    (λ f rest ms good t e. let w = colon_word f rest ms e in not_text after (word_units w.0) w.1 ms none t.alike (sym w.2)) (λ ms t. tt)
 
 -- after the colon of a value, a text that names no type of a value
 module _ (level : ℕ) (ts after : List Token) (r : List ℕ) (there : marks ts ≡ Colon ∷ marks after) (comes : first_text after ≡ Some r)
     (none : first_word r all_words ≡ None) where
   no_value_type : (kind : SourceKind) → IsSeen kind [] → Says kind (Colon ∷ []) (marks after) → Blame (bodies level) ts (stop kind after)
-  no_value_type kind shows says = record {
-    front = Colon ∷ [];
-    seen = [];
-    left = marks after;
-    shows = shows;
-    says = says;
-    parts = there;
-    sees = refl;
-    form = leaf (string None);
-    next = Text string_word;
-    others = LeftBrace ∷ RightBrace ∷ [];
-    good = tt;
-    fit = tt;
-    whole = refl;
-    blame = λ f rest ms good t e. absurd (unknown_word after r ms comes none t.alike (colon_word f rest ms e));
-    start = λ ms t. tt;
-  }
+  no_value_type kind shows says =
+      lacks (bodies level) kind shows ts after (Colon ∷ []) says there
+      (leaf (string None)) (Text string_word) (LeftBrace ∷ RightBrace ∷ []) tt tt refl
+      (λ f rest ms good t e. unknown_word after r ms comes none t.alike (colon_word f rest ms e)) (λ ms t. tt)
 
   unknown_type : is_no_fallback_word r ≡ false → Blame (bodies level) ts (stop UnknownType after)
   unknown_type other =
@@ -257,23 +193,10 @@ word_body_is array_type = (refl, tt)
 
 no_brace : (level : ℕ) (ts after : List Token) (w : Word) → marks ts ≡ Colon ∷ Text (word_units w) ∷ marks after → begins left after ≡ false
     → Blame (bodies level) ts (stop Unexpected after)
-no_brace level ts after w there none = let g = word_body_is w in record {
-  front = Colon ∷ Text (word_units w) ∷ [];
-  seen = [];
-  left = marks after;
-  shows = refl;
-  says = λ x. no_word_none (marks after) (word_past (Colon ∷ []) (Text (word_units w)) [] (marks after) (text_colon (word_units w)) x);
-  parts = there;
-  sees = refl;
-  form = word_body w;
-  next = LeftBrace;
-  others = inner_marks (word_body w) [];
-  good = g.1;
-  fit = tt;
-  whole = sym (typed_spelled (word_body w) w [] g.0);
-  blame = λ f rest ms good t e. absurd (not_mark left after (inner_marks f rest) ms none t.alike (typed_of f w rest ms e).1);
-  start = λ ms t. tt;
-}
+no_brace level ts after w there none = let g = word_body_is w in
+    next_lacks (bodies level) ts after (Colon ∷ []) (Text (word_units w)) (text_colon (word_units w)) there
+    (word_body w) LeftBrace (inner_marks (word_body w) []) g.1 tt (sym (typed_spelled (word_body w) w [] g.0))
+    (λ f rest ms good t e. not_mark left after (inner_marks f rest) ms none t.alike (typed_of f w rest ms e).1) (λ ms t. tt)
 
 brace_colon : LeftBrace ≡ Colon → ⊥
 brace_colon e = cc
@@ -315,43 +238,17 @@ typed_stop tests are level inner inside ts s opens e =
 
 none_first : (level : ℕ) (ts after : List Token) → marks ts ≡ LeftBrace ∷ marks after → first_text after ≡ None → begins left after ≡ false
     → begins colon after ≡ false → begins right after ≡ false → Blame (bodies level) ts (stop Unexpected after)
-none_first level ts after there none no_left no_colon no_right = record {
-  front = LeftBrace ∷ [];
-  seen = [];
-  left = marks after;
-  shows = refl;
-  says = λ w. no_word_none (marks after) (word_past [] LeftBrace [] (marks after) brace_colon w);
-  parts = there;
-  sees = refl;
-  form = plain [];
-  next = Text [];
-  others = RightBrace ∷ [];
-  good = tt;
-  fit = tt;
-  whole = refl;
-  blame = λ f rest ms good t e. absurd (unguessed_first after none no_left no_colon no_right f rest ms good t.alike e);
-  start = λ ms t. tt;
-}
+none_first level ts after there none no_left no_colon no_right =
+    next_lacks (bodies level) ts after [] LeftBrace brace_colon there
+    (plain []) (Text []) (RightBrace ∷ []) tt tt refl
+    (λ f rest ms good t e. unguessed_first after none no_left no_colon no_right f rest ms good t.alike e) (λ ms t. tt)
 
 none_second : (level : ℕ) (ts after : List Token) (r : List ℕ) → marks ts ≡ LeftBrace ∷ Text r ∷ marks after → begins left after ≡ false
     → begins colon after ≡ false → begins right after ≡ false → begins comma after ≡ false → Blame (bodies level) ts (stop Unexpected after)
-none_second level ts after r there no_left no_colon no_right no_comma = record {
-  front = LeftBrace ∷ Text r ∷ [];
-  seen = [];
-  left = marks after;
-  shows = refl;
-  says = λ w. no_word_none (marks after) (word_past (LeftBrace ∷ []) (Text r) [] (marks after) (text_colon r) w);
-  parts = there;
-  sees = refl;
-  form = plain r;
-  next = RightBrace;
-  others = [];
-  good = tt;
-  fit = tt;
-  whole = refl;
-  blame = λ f rest ms good t e. absurd (unguessed_second after r no_left no_colon no_right no_comma f rest ms good t.alike e);
-  start = λ ms t. tt;
-}
+none_second level ts after r there no_left no_colon no_right no_comma =
+    next_lacks (bodies level) ts after (LeftBrace ∷ []) (Text r) (text_colon r) there
+    (plain r) RightBrace [] tt tt refl
+    (λ f rest ms good t e. unguessed_second after r no_left no_colon no_right no_comma f rest ms good t.alike e) (λ ms t. tt)
 
 -- where the guess finds none
 pub data NoGuess (ts rest : List Token) : Type 0 where

@@ -1,6 +1,6 @@
 -- Stops among elements, and among numbers.
 use Rattle.std.proofs.Common.{◌≡◌, ℕ, zero, suc, ◌<◌, Bool, true, false, cond, ◌||◌, List, [], ◌∷◌, ◌++◌, length, Option, Some, None, Ok, Err, refl, sym, ap}
-use Rattle.std.proofs.Common.{subst, ◌∙◌, arith, append_assoc, ◌⊎◌, inl, inr}
+use Rattle.std.proofs.Common.{subst, ◌∙◌, arith, ◌⊎◌, inl, inr}
 use Rattle.std.proofs.lemmas.List.{append-nil}
 use Rattle.std.proofs.lemmas.Bool.{false≢true}
 use Rattle.rb_lexer.specs.declared.fault.SourceKind.TheVariants.{Unexpected, BadInt, TooDeep}
@@ -13,8 +13,9 @@ use Rattle.rb_grammar.specs.Reading.{Stop, stop, Read, ◌>>=◌, left, right, c
 use Rattle.rb_grammar.specs.Reading.{Tests, numbers_step, numbers, elements_step, elements}
 use Rattle.rb_grammar.specs.Tests.{AreTests}
 use Rattle.rb_grammar.specs.Faults.{element_text, NumbersHave, ElementsHave, IsBad}
-use Rattle.rb_grammar.proofs.Blame.{Tail, same_comma, Blame, bodies, arrays, vectors, Opened, Blames, no_word_none, outside, bind_err}
-use Rattle.rb_grammar.proofs.BlameLists.{no_mark, neither_mark, opened_still, not_opened, array_comma, array_mark, text_colon, Ended, body_ended}
+use Rattle.rb_grammar.proofs.Blame.{within, first_lacks, begins_bad}
+use Rattle.rb_grammar.proofs.Blame.{Tail, same_comma, Blame, bodies, arrays, vectors, Opened, Blames, outside, bind_err}
+use Rattle.rb_grammar.proofs.BlameLists.{no_mark, neither_mark, opened_still, not_opened, array_comma, array_mark, text_colon, Ended, body_ended, ended_opens}
 use Rattle.rb_grammar.proofs.BlameLists.{no_other_comma, one_less}
 use Rattle.rb_grammar.proofs.Complete.{body_longer}
 use Rattle.rb_grammar.proofs.Front.{body_front}
@@ -28,27 +29,14 @@ use Rattle.rb_grammar.proofs.Unique.{body_opens, no_comma_elements, no_comma_num
 -- neither an element nor the closing brace
 unclosed : (level : ℕ) (ts : List Token) → first_text ts ≡ None → begins colon ts ≡ false → begins left ts ≡ false → begins right ts ≡ false
     → Blame (arrays level) ts (stop Unexpected ts)
-unclosed level ts none no_colon no_left no_right = record {
-  front = [];
-  seen = [];
-  left = marks ts;
-  shows = refl;
-  says = λ w. no_word_none (marks ts) w;
-  parts = refl;
-  sees = refl;
-  form = one_text [] false no_elements;
-  next = Text [];
-  others = RightBrace ∷ [];
-  good = tt;
-  fit = λ is. absurd (array_mark ts none no_colon no_left no_right is);
-  whole = refl;
-  blame = λ xs after ms good t e. absurd (no_such xs after ms t.alike e);
-  start = λ ms t is. absurd (array_mark ts none no_colon no_left no_right is);
-} where
-  no_such : (xs : Elements) (after ms : List Mark) → Alike (marks ts) ms → elements_marks xs (RightBrace ∷ after) ≡ ms → ⊥
-  no_such no_elements after ms a e = not_mark right ts after ms no_right a e
-  no_such (one_text s c xs) after ms a e = not_text ts s (comma_marks c (elements_marks xs (RightBrace ∷ after))) ms none a e
-  no_such (one_body b c xs) after ms a e = not_body b ts (comma_marks c (elements_marks xs (RightBrace ∷ after))) ms no_left no_colon a e
+unclosed level ts none no_colon no_left no_right =
+    first_lacks (arrays level) ts
+    (one_text [] false no_elements) (Text []) (RightBrace ∷ []) tt (λ is. absurd (array_mark ts none no_colon no_left no_right is)) refl
+    (λ xs after ms good t e. no_such xs after ms t.alike e) (λ ms t is. absurd (array_mark ts none no_colon no_left no_right is)) where
+      no_such : (xs : Elements) (after ms : List Mark) → Alike (marks ts) ms → elements_marks xs (RightBrace ∷ after) ≡ ms → ⊥
+      no_such no_elements after ms a e = not_mark right ts after ms no_right a e
+      no_such (one_text s c xs) after ms a e = not_text ts s (comma_marks c (elements_marks xs (RightBrace ∷ after))) ms none a e
+      no_such (one_body b c xs) after ms a e = not_body b ts (comma_marks c (elements_marks xs (RightBrace ∷ after))) ms no_left no_colon a e
 
 -- a text one level too deep
 at_text : (level : ℕ) (s : List ℕ) → level ≡ 65 → (xs : Elements) (after ms more : List Mark) → ms ≡ Text s ∷ more → elements_marks xs (RightBrace ∷ after) ≡ ms
@@ -63,71 +51,29 @@ at_text level s deep (one_body b c xs) after ms more shown e =
 
 text_deep : (level : ℕ) (ts : List Token) (s : List ℕ) (c : Bool) → has_comma (tail ts) ≡ c → level ≡ 65 → first_text ts ≡ Some s
     → Blame (arrays level) ts (stop TooDeep ts)
-text_deep level ts s true follows deep comes = record {
-  front = [];
-  seen = Text s ∷ Comma ∷ [];
-  left = marks (tail (tail ts));
-  shows = (Text s, Comma ∷ [], refl);
-  says = tt;
-  parts = refl;
-  sees = text_first ts s comes ∙ ap (λ ms. Text s ∷ ms) (mark_there comma (tail ts) follows);
-  form = one_text s true no_elements;
-  next = RightBrace;
-  others = [];
-  good = tt;
-  fit = λ is. refl;
-  whole = refl;
-  blame = λ xs after ms good t e. at_text level s deep xs after ms (Comma ∷ t.shown.0) t.shown.1 e;
-  start = λ ms t is. inr (s, t.shown.0, t.shown.1);
-}
-text_deep level ts s false none deep comes = record {
-  front = [];
-  seen = Text s ∷ [];
-  left = marks (tail ts);
-  shows = (Text s, [], refl);
-  says = tt;
-  parts = refl;
-  sees = text_first ts s comes;
-  form = one_text s false no_elements;
-  next = RightBrace;
-  others = [];
-  good = tt;
-  fit = λ is. absurd (false≢true (sym none ∙ array_comma ts s comes is));
-  whole = refl;
-  blame = λ xs after ms good t e. at_text level s deep xs after ms t.shown.0 t.shown.1 e;
-  start = λ ms t is. absurd (false≢true (sym none ∙ array_comma ts s comes is));
-}
+text_deep level ts s true follows deep comes =
+    begins_bad (arrays level) TooDeep (Text s) (Comma ∷ []) (Text s, Comma ∷ [], refl) ts tt (marks (tail (tail ts)))
+    (text_first ts s comes ∙ ap (λ ms. Text s ∷ ms) (mark_there comma (tail ts) follows))
+    (one_text s true no_elements) RightBrace [] tt (λ is. refl) refl
+    (λ xs after ms good t e. at_text level s deep xs after ms (Comma ∷ t.shown.0) t.shown.1 e) (λ ms t is. inr (s, t.shown.0, t.shown.1))
+text_deep level ts s false none deep comes =
+    begins_bad (arrays level) TooDeep (Text s) [] (Text s, [], refl) ts tt (marks (tail ts)) (text_first ts s comes)
+    (one_text s false no_elements) RightBrace [] tt (λ is. absurd (false≢true (sym none ∙ array_comma ts s comes is))) refl
+    (λ xs after ms good t e. at_text level s deep xs after ms t.shown.0 t.shown.1 e) (λ ms t is. absurd (false≢true (sym none ∙ array_comma ts s comes is)))
 
 -- part of a body was read
 in_body : (level : ℕ) (ts : List Token) (s : Stop) → (begins colon ts || begins left ts) ≡ true → Blame (bodies level) ts s → Blame (arrays level) ts s
-in_body level ts s opens b = record {
-  front = b.front;
-  seen = b.seen;
-  left = b.left;
-  shows = b.shows;
-  says = b.says;
-  parts = b.parts;
-  sees = b.sees;
-  form = one_body b.form false no_elements;
-  next = b.next;
-  others = b.others ++ RightBrace ∷ [];
-  good = (b.good, tt);
-  fit = λ is. tt;
-  whole =
-      ap (λ ms. b.front ++ ms) (sym (append_assoc b.seen (b.next ∷ b.others) (RightBrace ∷ [])))
-      ∙ sym (append_assoc b.front (b.seen ++ b.next ∷ b.others) (RightBrace ∷ [])) ∙ ap (λ ms. ms ++ RightBrace ∷ []) b.whole
-      ∙ sym (body_front b.form [] (RightBrace ∷ []));
-  blame = λ xs after ms good t e. inside xs after ms good t e;
-  start = λ ms t is. inl (opened_still ts b.front (marks s.rest) ms opens b.parts t.alike);
-} where
-  inside : (xs : Elements) (after ms : List Mark) → EachIsForm xs → Tail s.rest b.seen ms → elements_marks xs (RightBrace ∷ after) ≡ b.front ++ ms
-      → ElementsHave (IsBad s.kind) xs level (RightBrace ∷ after) ms
-  inside no_elements after ms good t e =
-      absurd (not_opened RightBrace after (b.front ++ ms) (λ o. o) (opened_still ts b.front (marks s.rest) ms opens b.parts t.alike) e)
-  inside (one_text r c xs) after ms good t e =
-      absurd (not_opened (Text r) (comma_marks c (elements_marks xs (RightBrace ∷ after))) (b.front ++ ms) (λ o. o)
-      (opened_still ts b.front (marks s.rest) ms opens b.parts t.alike) e)
-  inside (one_body x c xs) after ms good t e = inl (b.blame x (comma_marks c (elements_marks xs (RightBrace ∷ after))) ms good.0 t e)
+in_body level ts s opens b =
+    within (bodies level) (arrays level) ts s b (one_body b.form false no_elements) (RightBrace ∷ []) (b.good, tt) refl (body_front b.form [] (RightBrace ∷ []))
+    inside (λ is. tt) (λ ms t is. inl (opened_still ts b.front (marks s.rest) ms opens b.parts t.alike)) where
+      inside : (xs : Elements) (after ms : List Mark) → EachIsForm xs → Tail s.rest b.seen ms → elements_marks xs (RightBrace ∷ after) ≡ b.front ++ ms
+          → ElementsHave (IsBad s.kind) xs level (RightBrace ∷ after) ms
+      inside no_elements after ms good t e =
+          absurd (not_opened RightBrace after (b.front ++ ms) (λ o. o) (opened_still ts b.front (marks s.rest) ms opens b.parts t.alike) e)
+      inside (one_text r c xs) after ms good t e =
+          absurd (not_opened (Text r) (comma_marks c (elements_marks xs (RightBrace ∷ after))) (b.front ++ ms) (λ o. o)
+          (opened_still ts b.front (marks s.rest) ms opens b.parts t.alike) e)
+      inside (one_body x c xs) after ms good t e = inl (b.blame x (comma_marks c (elements_marks xs (RightBrace ∷ after))) ms good.0 t e)
 
 body_opened : (x : Body) (ms : List Mark) → Opened (body_marks x ms)
 body_opened x ms = let o = body_opens x ms in (o.first, o.others, o.opening, o.is)
@@ -139,22 +85,20 @@ after_body level ts mid x s form spelled b =
     outside (arrays level) (arrays level) ts (after_comma mid) s b h.pre h.last h.other
     (spelled ∙ ap (body_marks x) (comma_takes mid) ∙ h.is (marks (after_comma mid)))
     (one_body x c b.form) [] (form, b.good) (h.is (elements_marks b.form (RightBrace ∷ []))) (sym (append-nil (elements_marks b.form (RightBrace ∷ [])))) later
-    (λ is. tt) (λ ms t is. inl (opens (b.front ++ ms))) where
+    (λ is. tt) (λ ms t is. inl (ended_opens x c h (b.front ++ ms))) where
       c : Bool
       c = has_comma mid
 
       h : Ended x c
       h = body_ended x c
 
-      opens : (ms : List Mark) → Opened (h.pre ++ h.last ∷ ms)
-      opens ms = let o = body_opens x (comma_marks c ms) in (o.first, o.others, o.opening, sym (h.is ms) ∙ o.is)
-
       later : (xs : Elements) (after ms : List Mark) → EachIsForm xs → Tail s.rest b.seen ms
           → elements_marks xs (RightBrace ∷ after) ≡ h.pre ++ h.last ∷ (b.front ++ ms) → ElementsHave (IsBad s.kind) xs level (RightBrace ∷ after) ms
-      later no_elements after ms good t e = absurd (not_opened RightBrace after (h.pre ++ h.last ∷ (b.front ++ ms)) (λ o. o) (opens (b.front ++ ms)) e)
+      later no_elements after ms good t e =
+          absurd (not_opened RightBrace after (h.pre ++ h.last ∷ (b.front ++ ms)) (λ o. o) (ended_opens x c h (b.front ++ ms)) e)
       later (one_text r d xs) after ms good t e =
           absurd (not_opened (Text r) (comma_marks d (elements_marks xs (RightBrace ∷ after))) (h.pre ++ h.last ∷ (b.front ++ ms)) (λ o. o)
-          (opens (b.front ++ ms)) e)
+          (ended_opens x c h (b.front ++ ms)) e)
       later (one_body y d xs) after ms good t e =
           let rest =
           body_one y x (comma_marks d (elements_marks xs (RightBrace ∷ after))) (comma_marks (has_comma mid) (b.front ++ ms)) good.0 form
@@ -258,52 +202,26 @@ module _ (tests : Tests) where
 
 -- neither a number nor the closing brace
 no_number : (ts : List Token) → first_text ts ≡ None → begins right ts ≡ false → Blame vectors ts (stop Unexpected ts)
-no_number ts none no_right = record {
-  front = [];
-  seen = [];
-  left = marks ts;
-  shows = refl;
-  says = λ w. no_word_none (marks ts) w;
-  parts = refl;
-  sees = refl;
-  form = ([], false) ∷ [];
-  next = Text [];
-  others = RightBrace ∷ [];
-  good = tt;
-  fit = tt;
-  whole = refl;
-  blame = λ ns after ms good t e. absurd (no_such ns after ms t.alike e);
-  start = λ ms t. tt;
-} where
-  no_such : (ns : List (List ℕ × Bool)) (after ms : List Mark) → Alike (marks ts) ms → numbers_marks ns (RightBrace ∷ after) ≡ ms → ⊥
-  no_such [] after ms a e = not_mark right ts after ms no_right a e
-  no_such (n ∷ ns) after ms a e = not_text ts n.0 (comma_marks n.1 (numbers_marks ns (RightBrace ∷ after))) ms none a e
+no_number ts none no_right =
+    first_lacks vectors ts
+    (([], false) ∷ []) (Text []) (RightBrace ∷ []) tt tt refl
+    (λ ns after ms good t e. no_such ns after ms t.alike e) (λ ms t. tt) where
+      no_such : (ns : List (List ℕ × Bool)) (after ms : List Mark) → Alike (marks ts) ms → numbers_marks ns (RightBrace ∷ after) ≡ ms → ⊥
+      no_such [] after ms a e = not_mark right ts after ms no_right a e
+      no_such (n ∷ ns) after ms a e = not_text ts n.0 (comma_marks n.1 (numbers_marks ns (RightBrace ∷ after))) ms none a e
 
 bad_number : (ts : List Token) (r : List ℕ) → first_text ts ≡ Some r → IsBad BadInt (element_text r) → Blame vectors ts (stop BadInt ts)
-bad_number ts r comes bad = record {
-  front = [];
-  seen = Text r ∷ [];
-  left = marks (tail ts);
-  shows = (Text r, [], refl);
-  says = tt;
-  parts = refl;
-  sees = text_first ts r comes;
-  form = (r, false) ∷ [];
-  next = RightBrace;
-  others = [];
-  good = tt;
-  fit = tt;
-  whole = refl;
-  blame = λ ns after ms good t e. at_number ns after ms t.shown.0 t.shown.1 e;
-  start = λ ms t. tt;
-} where
-  at_number : (ns : List (List ℕ × Bool)) (after ms more : List Mark) → ms ≡ Text r ∷ more → numbers_marks ns (RightBrace ∷ after) ≡ ms
-      → NumbersHave (IsBad BadInt) ns (RightBrace ∷ after) ms
-  at_number [] after ms more shown e = let both : RightBrace ∷ after ≡ Text r ∷ more = e ∙ shown in absurd cc
-  at_number (n ∷ ns) after ms more shown e =
-      let both : Text n.0 ∷ comma_marks n.1 (numbers_marks ns (RightBrace ∷ after)) ≡ Text r ∷ more = e ∙ shown in
-      let same : r ≡ n.0 = cc in
-      inl (sym e, subst (λ (x : List ℕ). IsBad BadInt (element_text x)) same bad)
+bad_number ts r comes bad =
+    begins_bad vectors BadInt (Text r) [] (Text r, [], refl) ts tt (marks (tail ts)) (text_first ts r comes)
+    ((r, false) ∷ []) RightBrace [] tt tt refl
+    (λ ns after ms good t e. at_number ns after ms t.shown.0 t.shown.1 e) (λ ms t. tt) where
+      at_number : (ns : List (List ℕ × Bool)) (after ms more : List Mark) → ms ≡ Text r ∷ more → numbers_marks ns (RightBrace ∷ after) ≡ ms
+          → NumbersHave (IsBad BadInt) ns (RightBrace ∷ after) ms
+      at_number [] after ms more shown e = let both : RightBrace ∷ after ≡ Text r ∷ more = e ∙ shown in absurd cc
+      at_number (n ∷ ns) after ms more shown e =
+          let both : Text n.0 ∷ comma_marks n.1 (numbers_marks ns (RightBrace ∷ after)) ≡ Text r ∷ more = e ∙ shown in
+          let same : r ≡ n.0 = cc in
+          inl (sym e, subst (λ (x : List ℕ). IsBad BadInt (element_text x)) same bad)
 
 after_number : (ts : List Token) (r : List ℕ) (s : Stop) → first_text ts ≡ Some r → Blame vectors (after_comma (tail ts)) s → Blame vectors ts s
 after_number ts r s comes b =

@@ -18,7 +18,8 @@ use Rattle.rb_grammar.specs.Reading.{first_text, has_comma, after_comma, Tests, 
 use Rattle.rb_grammar.specs.Reading.{guess_second, guess_or, guess}
 use Rattle.rb_grammar.specs.Tests.{AreTests}
 use Rattle.rb_grammar.specs.Faults.{key, IsAmong, EntriesHas, IsBad}
-use Rattle.rb_grammar.proofs.Blame.{Tail, alike_front, starts_alike, same_comma, comma_left, IsSeen, Blame, bodies, tables, Opened, Blames, no_word_none, Says}
+use Rattle.rb_grammar.proofs.Blame.{first_lacks, begins_bad}
+use Rattle.rb_grammar.proofs.Blame.{Tail, alike_front, starts_alike, same_comma, comma_left, IsSeen, Blame, bodies, tables, Opened, Blames, Says}
 use Rattle.rb_grammar.proofs.Blame.{outside, bind_err}
 use Rattle.rb_grammar.proofs.Complete.{count_of, comma_longer, body_longer}
 use Rattle.rb_grammar.proofs.Front.{leaf_front, body_front, entries_front, elements_front}
@@ -111,26 +112,13 @@ array_mark ts none no_colon no_left no_right is =
 -- neither a key nor the closing brace
 unclosed : (level : ℕ) (earlier : List (List ℕ)) (ts : List Token) → first_text ts ≡ None → begins right ts ≡ false
     → Blame (tables level earlier) ts (stop Unexpected ts)
-unclosed level earlier ts none no_right = record {
-  front = [];
-  seen = [];
-  left = marks ts;
-  shows = refl;
-  says = λ w. no_word_none (marks ts) w;
-  parts = refl;
-  sees = refl;
-  form = entry [] (plain []) false no_entries;
-  next = Text [];
-  others = LeftBrace ∷ Text [] ∷ RightBrace ∷ RightBrace ∷ [];
-  good = (tt, tt);
-  fit = tt;
-  whole = refl;
-  blame = λ es after ms good t e. absurd (no_such es after ms t.alike e);
-  start = λ ms t is. absurd (table_text ts none is);
-} where
-  no_such : (es : Entries) (after ms : List Mark) → Alike (marks ts) ms → entries_marks es (RightBrace ∷ after) ≡ ms → ⊥
-  no_such no_entries after ms a e = not_mark right ts after ms no_right a e
-  no_such (entry k b c es) after ms a e = not_text ts k (body_marks b (comma_marks c (entries_marks es (RightBrace ∷ after)))) ms none a e
+unclosed level earlier ts none no_right =
+    first_lacks (tables level earlier) ts
+    (entry [] (plain []) false no_entries) (Text []) (LeftBrace ∷ Text [] ∷ RightBrace ∷ RightBrace ∷ []) (tt, tt) tt refl
+    (λ es after ms good t e. no_such es after ms t.alike e) (λ ms t is. absurd (table_text ts none is)) where
+      no_such : (es : Entries) (after ms : List Mark) → Alike (marks ts) ms → entries_marks es (RightBrace ∷ after) ≡ ms → ⊥
+      no_such no_entries after ms a e = not_mark right ts after ms no_right a e
+      no_such (entry k b c es) after ms a e = not_text ts k (body_marks b (comma_marks c (entries_marks es (RightBrace ∷ after)))) ms none a e
 
 at_key : (kind : SourceKind) (level : ℕ) (earlier : List (List ℕ)) (k : List ℕ) → IsBad kind (key earlier k) → (es : Entries) (after ms more : List Mark)
     → ms ≡ Text k ∷ more → entries_marks es (RightBrace ∷ after) ≡ ms → EntriesHas (IsBad kind) es level earlier (RightBrace ∷ after) ms
@@ -143,61 +131,27 @@ at_key kind level earlier k bad (entry q b c es) after ms more shown e =
 module _ (kind : SourceKind) (shows : (m : Mark) (ms : List Mark) → IsSeen kind (m ∷ ms)) (says : (front rest : List Mark) → Says kind front rest) (level : ℕ)
     (earlier : List (List ℕ)) (ts : List Token) (k : List ℕ) (comes : first_text ts ≡ Some k) (bad : IsBad kind (key earlier k)) where
   key_alone : (begins colon (tail ts) || begins left (tail ts)) ≡ false → Blame (tables level earlier) ts (stop kind ts)
-  key_alone none = record {
-    front = [];
-    seen = Text k ∷ [];
-    left = marks (tail ts);
-    shows = shows (Text k) [];
-    says = says [] (marks ts);
-    parts = refl;
-    sees = text_first ts k comes;
-    form = entry k (plain []) false no_entries;
-    next = LeftBrace;
-    others = Text [] ∷ RightBrace ∷ RightBrace ∷ [];
-    good = (tt, tt);
-    fit = tt;
-    whole = refl;
-    blame = λ es after ms good t e. at_key kind level earlier k bad es after ms t.shown.0 t.shown.1 e;
-    start = λ ms t is. absurd (false≢true (sym none ∙ table_opens ts k comes is));
-  }
+  key_alone none =
+      begins_bad (tables level earlier) kind (Text k) [] (shows (Text k) []) ts (says [] (marks ts)) (marks (tail ts)) (text_first ts k comes)
+      (entry k (plain []) false no_entries) LeftBrace (Text [] ∷ RightBrace ∷ RightBrace ∷ []) (tt, tt) tt refl
+      (λ es after ms good t e. at_key kind level earlier k bad es after ms t.shown.0 t.shown.1 e)
+      (λ ms t is. absurd (false≢true (sym none ∙ table_opens ts k comes is)))
 
   key_left : begins left (tail ts) ≡ true → Blame (tables level earlier) ts (stop kind ts)
-  key_left opens = record {
-    front = [];
-    seen = Text k ∷ LeftBrace ∷ [];
-    left = marks (tail (tail ts));
-    shows = shows (Text k) (LeftBrace ∷ []);
-    says = says [] (marks ts);
-    parts = refl;
-    sees = text_first ts k comes ∙ ap (λ ms. Text k ∷ ms) (mark_there left (tail ts) opens);
-    form = entry k (plain []) false no_entries;
-    next = Text [];
-    others = RightBrace ∷ RightBrace ∷ [];
-    good = (tt, tt);
-    fit = tt;
-    whole = refl;
-    blame = λ es after ms good t e. at_key kind level earlier k bad es after ms (LeftBrace ∷ t.shown.0) t.shown.1 e;
-    start = λ ms t is. (k, LeftBrace ∷ t.shown.0, (LeftBrace, t.shown.0, tt, refl), t.shown.1);
-  }
+  key_left opens =
+      begins_bad (tables level earlier) kind (Text k) (LeftBrace ∷ []) (shows (Text k) (LeftBrace ∷ [])) ts (says [] (marks ts)) (marks (tail (tail ts)))
+      (text_first ts k comes ∙ ap (λ ms. Text k ∷ ms) (mark_there left (tail ts) opens))
+      (entry k (plain []) false no_entries) (Text []) (RightBrace ∷ RightBrace ∷ []) (tt, tt) tt refl
+      (λ es after ms good t e. at_key kind level earlier k bad es after ms (LeftBrace ∷ t.shown.0) t.shown.1 e)
+      (λ ms t is. (k, LeftBrace ∷ t.shown.0, (LeftBrace, t.shown.0, tt, refl), t.shown.1))
 
   key_colon : begins colon (tail ts) ≡ true → Blame (tables level earlier) ts (stop kind ts)
-  key_colon opens = record {
-    front = [];
-    seen = Text k ∷ Colon ∷ [];
-    left = marks (tail (tail ts));
-    shows = shows (Text k) (Colon ∷ []);
-    says = says [] (marks ts);
-    parts = refl;
-    sees = text_first ts k comes ∙ ap (λ ms. Text k ∷ ms) (mark_there colon (tail ts) opens);
-    form = entry k (leaf (string None)) false no_entries;
-    next = Text string_word;
-    others = LeftBrace ∷ RightBrace ∷ RightBrace ∷ [];
-    good = (tt, tt);
-    fit = tt;
-    whole = refl;
-    blame = λ es after ms good t e. at_key kind level earlier k bad es after ms (Colon ∷ t.shown.0) t.shown.1 e;
-    start = λ ms t is. (k, Colon ∷ t.shown.0, (Colon, t.shown.0, tt, refl), t.shown.1);
-  }
+  key_colon opens =
+      begins_bad (tables level earlier) kind (Text k) (Colon ∷ []) (shows (Text k) (Colon ∷ [])) ts (says [] (marks ts)) (marks (tail (tail ts)))
+      (text_first ts k comes ∙ ap (λ ms. Text k ∷ ms) (mark_there colon (tail ts) opens))
+      (entry k (leaf (string None)) false no_entries) (Text string_word) (LeftBrace ∷ RightBrace ∷ RightBrace ∷ []) (tt, tt) tt refl
+      (λ es after ms good t e. at_key kind level earlier k bad es after ms (Colon ∷ t.shown.0) t.shown.1 e)
+      (λ ms t is. (k, Colon ∷ t.shown.0, (Colon, t.shown.0, tt, refl), t.shown.1))
 
   key_stop : Blame (tables level earlier) ts (stop kind ts)
   key_stop = by (begins colon (tail ts)) (begins left (tail ts)) refl refl where
@@ -253,6 +207,10 @@ body_ended x false = let h = closes x in record {
   is = λ ms. body_front x [] ms ∙ ap (λ xs. xs ++ ms) h.1 ∙ append_assoc h.0 (RightBrace ∷ []) ms;
 }
 
+-- it begins with a sign that opens a body
+pub ended_opens : (x : Body) (c : Bool) (h : Ended x c) (ms : List Mark) → Opened (h.pre ++ h.last ∷ ms)
+ended_opens x c h ms = let o = body_opens x (comma_marks c ms) in (o.first, o.others, o.opening, sym (h.is ms) ∙ o.is)
+
 -- the tokens after a whole body and its comma begin with none where there was none
 pub no_other_comma : (mid : List Token) (front ms : List Mark) (rest : List Token) → marks (after_comma mid) ≡ front ++ marks rest → Alike (marks rest) ms
     → has_comma mid ≡ false → starts_comma (front ++ ms) ≡ false
@@ -267,16 +225,14 @@ in_others level earlier ts mid k x s comes form spelled b =
     outside (tables level (k ∷ earlier)) (tables level earlier) ts (after_comma mid) s b (Text k ∷ h.pre) h.last h.other
     (text_first ts k comes ∙ ap (λ ms. Text k ∷ ms) (spelled ∙ ap (body_marks x) (comma_takes mid) ∙ h.is (marks (after_comma mid))))
     (entry k x c b.form) [] (form, b.good) (ap (λ ms. Text k ∷ ms) (h.is (entries_marks b.form (RightBrace ∷ []))))
-    (sym (append-nil (entries_marks b.form (RightBrace ∷ [])))) later tt (λ ms t is. (k, h.pre ++ h.last ∷ (b.front ++ ms), opens (b.front ++ ms), refl))
+    (sym (append-nil (entries_marks b.form (RightBrace ∷ [])))) later tt
+    (λ ms t is. (k, h.pre ++ h.last ∷ (b.front ++ ms), ended_opens x c h (b.front ++ ms), refl))
   where
     c : Bool
     c = has_comma mid
 
     h : Ended x c
     h = body_ended x c
-
-    opens : (ms : List Mark) → Opened (h.pre ++ h.last ∷ ms)
-    opens ms = let o = body_opens x (comma_marks c ms) in (o.first, o.others, o.opening, sym (h.is ms) ∙ o.is)
 
     later : (es : Entries) (after ms : List Mark) → AreForms es → Tail s.rest b.seen ms
         → entries_marks es (RightBrace ∷ after) ≡ Text k ∷ (h.pre ++ h.last ∷ (b.front ++ ms))

@@ -1,6 +1,7 @@
 -- Stops after the brace of a body with a type.
 use Rattle.std.proofs.Common.{◌≡◌, ℕ, suc, Bool, true, false, cond, List, [], ◌∷◌, ◌++◌, length, Option, Some, None, Ok, Err, refl, sym, ap, subst, ◌∙◌, arith}
 use Rattle.std.proofs.Common.{inl, inr}
+use Rattle.std.proofs.lemmas.List.{append-nil}
 use Rattle.rb_lexer.specs.declared.fault.SourceKind.TheVariants.{Unexpected, BadInt, BadHex}
 use Rattle.rb_lexer.specs.declared.token.Token.{Token}
 use Rattle.rb_lexer.specs.declared.token.Mark.{Mark}
@@ -11,8 +12,8 @@ use Rattle.rb_grammar.specs.Reading.{Stop, stop, ◌>>=◌, right, begins, tail,
 use Rattle.rb_grammar.specs.Reading.{binary_type, int_type, ints_type, table_type, array_type, word_units, checked_at, maybe_or, numbers, anything, Inner}
 use Rattle.rb_grammar.specs.Reading.{table_at, array_at, closed, typed_at}
 use Rattle.rb_grammar.specs.Tests.{AreTests}
-use Rattle.rb_grammar.specs.Faults.{Role, NoWord, int_text, BodyHas, LeafHas, IsBad}
-use Rattle.rb_grammar.proofs.Blame.{Sort, Blame, tables, arrays, vectors, Blames, no_word_none, word_past, bind_err}
+use Rattle.rb_grammar.specs.Faults.{Role, int_text, BodyHas, LeafHas, IsBad}
+use Rattle.rb_grammar.proofs.Blame.{Sort, Blame, tables, arrays, vectors, Blames, within, first_lacks, next_lacks, begins_bad, bind_err}
 use Rattle.rb_grammar.proofs.BlameLists.{no_mark, no_text, text_colon, entries_blame}
 use Rattle.rb_grammar.proofs.BlameElements.{elements_blame, numbers_blame}
 use Rattle.rb_grammar.proofs.Guess.{Alike, not_text, not_mark}
@@ -117,95 +118,58 @@ typed w level = record {
   Start = λ ts ms. Unit {0};
 }
 
--- ---- a text, and the brace after it
+-- each body with this type is made of something
+each : {A : Type 0} (make : A → Body) (w : Word) → ((b : Body) → body_word b ≡ Some w → (x : A) × (b ≡ make x)) → (Q : Body → Type 0) (b : Body)
+    (after ms : List Mark) → body_word b ≡ Some w → inner_marks b after ≡ ms → ((x : A) → inner_marks (make x) after ≡ ms → Q (make x)) → Q b
+each make w only Q b after ms is e f =
+    let h = only b is in
+    subst Q (sym h.1) (f h.0 (ap (λ (x : Body). inner_marks x after) (sym h.1) ∙ e))
 
--- the marks from after the text on
-no_colon_text : (r : List ℕ) (rest : List Mark) → NoWord (Text r ∷ []) rest → ⊥
-no_colon_text r rest w = no_word_none rest (word_past [] (Text r) [] rest (text_colon r) w)
+-- ---- a text, and the brace after it
 
 module _ (w : Word) (level : ℕ) (make : Option (List ℕ) → Leaf) (word : (t : Option (List ℕ)) → body_word (leaf (make t)) ≡ Some w)
     (spelled : (t : Option (List ℕ)) (rest : List Mark) → leaf_inner (make t) rest ≡ text_marks t rest)
     (only : (b : Body) → body_word b ≡ Some w → (t : Option (List ℕ)) × (b ≡ leaf (make t))) where
   -- each body with this type has a text, or none
-  each_text : (P : Role → Type 0) (front ms : List Mark) (b : Body) (after : List Mark) → body_word b ≡ Some w → inner_marks b after ≡ front ++ ms
-      → ((t : Option (List ℕ)) → text_marks t (RightBrace ∷ after) ≡ front ++ ms → BodyHas P (leaf (make t)) level after ms) → BodyHas P b level after ms
-  each_text P front ms b after is e f =
-      let h = only b is in
-      subst (λ (x : Body). BodyHas P x level after ms) (sym h.1)
-      (f h.0 (sym (spelled h.0 (RightBrace ∷ after)) ∙ ap (λ (x : Body). inner_marks x after) (sym h.1) ∙ e))
+  each_text : (Q : Body → Type 0) (b : Body) (after ms : List Mark) → body_word b ≡ Some w → inner_marks b after ≡ ms
+      → ((t : Option (List ℕ)) → text_marks t (RightBrace ∷ after) ≡ ms → Q (leaf (make t))) → Q b
+  each_text Q b after ms is e f =
+      each (λ t. leaf (make t)) w only Q b after ms is e (λ t e. f t (sym (spelled t (RightBrace ∷ after)) ∙ e))
 
   none_there : (ts : List Token) → first_text ts ≡ None → begins right ts ≡ false → Blame (typed w level) ts (stop Unexpected ts)
-  none_there ts none no_right = record {
-    front = [];
-    seen = [];
-    left = marks ts;
-    shows = refl;
-    says = λ x. no_word_none (marks ts) x;
-    parts = refl;
-    sees = refl;
-    form = leaf (make (Some []));
-    next = Text [];
-    others = RightBrace ∷ [];
-    good = (word (Some []), tt);
-    fit = tt;
-    whole = sym (spelled (Some []) (RightBrace ∷ []));
-    blame = λ b after ms good t e. each_text (IsBad Unexpected) [] ms b after good.0 e (λ u e. absurd (no_such u after ms t.alike e));
-    start = λ ms t. tt;
-  } where
-    no_such : (u : Option (List ℕ)) (after ms : List Mark) → Alike (marks ts) ms → text_marks u (RightBrace ∷ after) ≡ ms → ⊥
-    no_such None after ms a e = not_mark right ts after ms no_right a e
-    no_such (Some s) after ms a e = not_text ts s (RightBrace ∷ after) ms none a e
+  none_there ts none no_right =
+      first_lacks (typed w level) ts
+      (leaf (make (Some []))) (Text []) (RightBrace ∷ []) (word (Some []), tt) tt (sym (spelled (Some []) (RightBrace ∷ [])))
+      (λ b after ms good t e. each_text (λ x. ⊥) b after ms good.0 e (λ u e. no_such u after ms t.alike e)) (λ ms t. tt) where
+        no_such : (u : Option (List ℕ)) (after ms : List Mark) → Alike (marks ts) ms → text_marks u (RightBrace ∷ after) ≡ ms → ⊥
+        no_such None after ms a e = not_mark right ts after ms no_right a e
+        no_such (Some s) after ms a e = not_text ts s (RightBrace ∷ after) ms none a e
 
   not_closed : (ts : List Token) (r : List ℕ) → first_text ts ≡ Some r → begins right (tail ts) ≡ false → Blame (typed w level) ts (stop Unexpected (tail ts))
-  not_closed ts r comes no_right = record {
-    front = Text r ∷ [];
-    seen = [];
-    left = marks (tail ts);
-    shows = refl;
-    says = λ x. no_colon_text r (marks (tail ts)) x;
-    parts = text_first ts r comes;
-    sees = refl;
-    form = leaf (make (Some r));
-    next = RightBrace;
-    others = [];
-    good = (word (Some r), tt);
-    fit = tt;
-    whole = sym (spelled (Some r) (RightBrace ∷ []));
-    blame = λ b after ms good t e. each_text (IsBad Unexpected) (Text r ∷ []) ms b after good.0 e (λ u e. absurd (no_such u after ms t.alike e));
-    start = λ ms t. tt;
-  } where
-    no_such : (u : Option (List ℕ)) (after ms : List Mark) → Alike (marks (tail ts)) ms → text_marks u (RightBrace ∷ after) ≡ Text r ∷ ms → ⊥
-    no_such None after ms a e = cc
-    no_such (Some s) after ms a e = not_mark right (tail ts) after ms no_right a cc
+  not_closed ts r comes no_right =
+      next_lacks (typed w level) ts (tail ts) [] (Text r) (text_colon r) (text_first ts r comes)
+      (leaf (make (Some r))) RightBrace [] (word (Some r), tt) tt (sym (spelled (Some r) (RightBrace ∷ [])))
+      (λ b after ms good t e. each_text (λ x. ⊥) b after (Text r ∷ ms) good.0 e (λ u e. no_such u after ms t.alike e)) (λ ms t. tt) where
+        no_such : (u : Option (List ℕ)) (after ms : List Mark) → Alike (marks (tail ts)) ms → text_marks u (RightBrace ∷ after) ≡ Text r ∷ ms → ⊥
+        no_such None after ms a e = cc
+        no_such (Some s) after ms a e = not_mark right (tail ts) after ms no_right a cc
 
   bad_bytes : (ts : List Token) (r : List ℕ) → first_text ts ≡ Some r
       → ((after : List Mark) → LeafHas (IsBad BadHex) (make (Some r)) (RightBrace ∷ after) (Text r ∷ RightBrace ∷ after))
       → Blame (typed w level) ts (stop BadHex ts)
-  bad_bytes ts r comes bad = record {
-    front = [];
-    seen = Text r ∷ [];
-    left = marks (tail ts);
-    shows = (Text r, [], refl);
-    says = tt;
-    parts = refl;
-    sees = text_first ts r comes;
-    form = leaf (make (Some r));
-    next = RightBrace;
-    others = [];
-    good = (word (Some r), tt);
-    fit = tt;
-    whole = sym (spelled (Some r) (RightBrace ∷ []));
-    blame = λ b after ms good t e. each_text (IsBad BadHex) [] ms b after good.0 e (λ u e. at_bytes u after ms t.shown.0 t.shown.1 e);
-    start = λ ms t. tt;
-  } where
-    at_bytes : (u : Option (List ℕ)) (after ms more : List Mark) → ms ≡ Text r ∷ more → text_marks u (RightBrace ∷ after) ≡ ms
-        → BodyHas (IsBad BadHex) (leaf (make u)) level after ms
-    at_bytes None after ms more shown e = let both : RightBrace ∷ after ≡ Text r ∷ more = e ∙ shown in absurd cc
-    at_bytes (Some s) after ms more shown e =
-        let both : Text s ∷ RightBrace ∷ after ≡ Text r ∷ more = e ∙ shown in
-        let same : r ≡ s = cc in
-        inr (subst (λ (x : List Mark). LeafHas (IsBad BadHex) (make (Some s)) (RightBrace ∷ after) x) e
-        (subst (λ (x : List ℕ). LeafHas (IsBad BadHex) (make (Some x)) (RightBrace ∷ after) (Text x ∷ RightBrace ∷ after)) same (bad after)))
+  bad_bytes ts r comes bad =
+      begins_bad (typed w level) BadHex (Text r) [] (Text r, [], refl) ts tt (marks (tail ts)) (text_first ts r comes)
+      (leaf (make (Some r))) RightBrace [] (word (Some r), tt) tt (sym (spelled (Some r) (RightBrace ∷ [])))
+      (λ b after ms good t e. each_text (λ x. BodyHas (IsBad BadHex) x level after ms) b after ms good.0 e (λ u e. at_bytes u after ms t.shown.0 t.shown.1 e))
+      (λ ms t. tt) where
+        at_bytes : (u : Option (List ℕ)) (after ms more : List Mark) → ms ≡ Text r ∷ more → text_marks u (RightBrace ∷ after) ≡ ms
+            → BodyHas (IsBad BadHex) (leaf (make u)) level after ms
+        at_bytes None after ms more shown e = let both : RightBrace ∷ after ≡ Text r ∷ more = e ∙ shown in absurd cc
+        at_bytes (Some s) after ms more shown e =
+            let both : Text s ∷ RightBrace ∷ after ≡ Text r ∷ more = e ∙ shown in
+            let same : r ≡ s = cc in
+            inr (subst (λ (x : List Mark). LeafHas (IsBad BadHex) (make (Some s)) (RightBrace ∷ after) x) e
+            (subst (λ (x : List ℕ). LeafHas (IsBad BadHex) (make (Some x)) (RightBrace ∷ after) (Text x ∷ RightBrace ∷ after)) same (bad after)))
 
   maybe_blame : (passes : List ℕ → Bool) (bad : (r : List ℕ) → passes r ≡ false → (after : List Mark)
       → LeafHas (IsBad BadHex) (make (Some r)) (RightBrace ∷ after) (Text r ∷ RightBrace ∷ after)) (ts : List Token) (o : Option (List ℕ)) (s : Stop)
@@ -225,77 +189,35 @@ module _ (w : Word) (level : ℕ) (make : Option (List ℕ) → Leaf) (word : (t
 -- ---- an Int
 
 module _ (long : Bool) (level : ℕ) where
-  each_int : (P : Role → Type 0) (front ms : List Mark) (b : Body) (after : List Mark) → body_word b ≡ Some (int_type long) → inner_marks b after ≡ front ++ ms
-      → ((s : List ℕ) → Text s ∷ RightBrace ∷ after ≡ front ++ ms → BodyHas P (leaf (int long s)) level after ms) → BodyHas P b level after ms
-  each_int P front ms b after is e f =
-      let h = is_int long b is in
-      subst (λ (x : Body). BodyHas P x level after ms) (sym h.1) (f h.0 (ap (λ (x : Body). inner_marks x after) (sym h.1) ∙ e))
+  each_int : (Q : Body → Type 0) (b : Body) (after ms : List Mark) → body_word b ≡ Some (int_type long) → inner_marks b after ≡ ms
+      → ((s : List ℕ) → Text s ∷ RightBrace ∷ after ≡ ms → Q (leaf (int long s))) → Q b
+  each_int = each (λ s. leaf (int long s)) (int_type long) (is_int long)
 
   no_int : (ts : List Token) → first_text ts ≡ None → Blame (typed (int_type long) level) ts (stop Unexpected ts)
-  no_int ts none = record {
-    front = [];
-    seen = [];
-    left = marks ts;
-    shows = refl;
-    says = λ x. no_word_none (marks ts) x;
-    parts = refl;
-    sees = refl;
-    form = leaf (int long []);
-    next = Text [];
-    others = RightBrace ∷ [];
-    good = (refl, tt);
-    fit = tt;
-    whole = refl;
-    blame = λ b after ms good t e. each_int (IsBad Unexpected) [] ms b after good.0 e (λ r e. absurd (not_text ts r (RightBrace ∷ after) ms none t.alike e));
-    start = λ ms t. tt;
-  }
+  no_int ts none =
+      first_lacks (typed (int_type long) level) ts
+      (leaf (int long [])) (Text []) (RightBrace ∷ []) (refl, tt) tt refl
+      (λ b after ms good t e. each_int (λ x. ⊥) b after ms good.0 e (λ r e. not_text ts r (RightBrace ∷ after) ms none t.alike e)) (λ ms t. tt)
 
   bad_int : (ts : List Token) (r : List ℕ) → first_text ts ≡ Some r → IsBad BadInt (int_text r) → Blame (typed (int_type long) level) ts (stop BadInt ts)
-  bad_int ts r comes bad = record {
-    front = [];
-    seen = Text r ∷ [];
-    left = marks (tail ts);
-    shows = (Text r, [], refl);
-    says = tt;
-    parts = refl;
-    sees = text_first ts r comes;
-    form = leaf (int long r);
-    next = RightBrace;
-    others = [];
-    good = (refl, tt);
-    fit = tt;
-    whole = refl;
-    blame = λ b after ms good t e. each_int (IsBad BadInt) [] ms b after good.0 e (λ s e. at_int s after ms t.shown.0 t.shown.1 e);
-    start = λ ms t. tt;
-  } where
-    at_int : (s : List ℕ) (after ms more : List Mark) → ms ≡ Text r ∷ more → Text s ∷ RightBrace ∷ after ≡ ms
-        → BodyHas (IsBad BadInt) (leaf (int long s)) level after ms
-    at_int s after ms more shown e =
-        let both : Text s ∷ RightBrace ∷ after ≡ Text r ∷ more = e ∙ shown in
-        let same : r ≡ s = cc in
-        inr (sym e, subst (λ (x : List ℕ). IsBad BadInt (int_text x)) same bad)
+  bad_int ts r comes bad =
+      begins_bad (typed (int_type long) level) BadInt (Text r) [] (Text r, [], refl) ts tt (marks (tail ts)) (text_first ts r comes)
+      (leaf (int long r)) RightBrace [] (refl, tt) tt refl
+      (λ b after ms good t e. each_int (λ x. BodyHas (IsBad BadInt) x level after ms) b after ms good.0 e (λ s e. at_int s after ms t.shown.0 t.shown.1 e))
+      (λ ms t. tt) where
+        at_int : (s : List ℕ) (after ms more : List Mark) → ms ≡ Text r ∷ more → Text s ∷ RightBrace ∷ after ≡ ms
+            → BodyHas (IsBad BadInt) (leaf (int long s)) level after ms
+        at_int s after ms more shown e =
+            let both : Text s ∷ RightBrace ∷ after ≡ Text r ∷ more = e ∙ shown in
+            let same : r ≡ s = cc in
+            inr (sym e, subst (λ (x : List ℕ). IsBad BadInt (int_text x)) same bad)
 
   int_open : (ts : List Token) (r : List ℕ) → first_text ts ≡ Some r → begins right (tail ts) ≡ false
       → Blame (typed (int_type long) level) ts (stop Unexpected (tail ts))
-  int_open ts r comes no_right = record {
-    front = Text r ∷ [];
-    seen = [];
-    left = marks (tail ts);
-    shows = refl;
-    says = λ x. no_colon_text r (marks (tail ts)) x;
-    parts = text_first ts r comes;
-    sees = refl;
-    form = leaf (int long r);
-    next = RightBrace;
-    others = [];
-    good = (refl, tt);
-    fit = tt;
-    whole = refl;
-    blame =
-        λ b after ms good t e. each_int (IsBad Unexpected) (Text r ∷ []) ms b after good.0 e
-        (λ s e. absurd (not_mark right (tail ts) after ms no_right t.alike cc));
-    start = λ ms t. tt;
-  }
+  int_open ts r comes no_right =
+      next_lacks (typed (int_type long) level) ts (tail ts) [] (Text r) (text_colon r) (text_first ts r comes)
+      (leaf (int long r)) RightBrace [] (refl, tt) tt refl
+      (λ b after ms good t e. each_int (λ x. ⊥) b after (Text r ∷ ms) good.0 e (λ s e. not_mark right (tail ts) after ms no_right t.alike cc)) (λ ms t. tt)
 
 module _ (tests : Tests) (are : AreTests tests) (long : Bool) (level : ℕ) where
   int_blame : (ts : List Token) (s : Stop) → closed (λ x. leaf (int long x)) (checked_at BadInt tests.is_int ts) ≡ Err s
@@ -326,70 +248,31 @@ module _ (tests : Tests) (are : AreTests tests) (long : Bool) (level : ℕ) wher
 
 -- ---- what the other types have inside
 
+-- a stop inside is one of the body around it
+wrapped : (inner : Sort) (w : Word) (level : ℕ) (wrap : inner.Form → Body) → ((x : inner.Form) → body_word (wrap x) ≡ Some w)
+    → ((b : Body) → body_word b ≡ Some w → (x : inner.Form) × (b ≡ wrap x))
+    → ((x : inner.Form) → inner.Good x → IsForm (wrap x)) → ((x : inner.Form) → IsForm (wrap x) → inner.Good x)
+    → ((x : inner.Form) (rest : List Mark) → inner_marks (wrap x) rest ≡ inner.spell x rest)
+    → ((P : Role → Type 0) (x : inner.Form) (after from : List Mark) → inner.has P x after from → BodyHas P (wrap x) level after from)
+    → (ts : List Token) (s : Stop) → Blame inner ts s → Blame (typed w level) ts s
+wrapped inner w level wrap word only form_of good_of spelled has ts s b =
+    within inner (typed w level) ts s b (wrap b.form) [] (word b.form, form_of b.form b.good) (spelled b.form []) (sym (append-nil (inner.spell b.form [])))
+    (λ f after ms good t e. each wrap w only (λ x. IsForm x → BodyHas (IsBad s.kind) x level after ms) f after (b.front ++ ms) good.0 e
+    (λ x e form. has (IsBad s.kind) x after ms (b.blame x after ms (good_of x form) t (sym (spelled x after) ∙ e))) good.1) tt (λ ms t. tt)
+
 in_vector : (level : ℕ) (ts : List Token) (s : Stop) → Blame vectors ts s → Blame (typed ints_type level) ts s
-in_vector level ts s b = record {
-  front = b.front;
-  seen = b.seen;
-  left = b.left;
-  shows = b.shows;
-  says = b.says;
-  parts = b.parts;
-  sees = b.sees;
-  form = leaf (ints b.form);
-  next = b.next;
-  others = b.others;
-  good = (refl, tt);
-  fit = tt;
-  whole = b.whole;
-  blame = λ f after ms good t e. let h = is_ints f good.0 in
-      subst (λ (x : Body). BodyHas (IsBad s.kind) x level after ms) (sym h.1)
-      (inr (b.blame h.0 after ms tt t (ap (λ (x : Body). inner_marks x after) (sym h.1) ∙ e)));
-  start = λ ms t. tt;
-}
+in_vector level =
+    wrapped vectors ints_type level (λ ns. leaf (ints ns)) (λ ns. refl) is_ints (λ ns good. tt) (λ ns form. tt) (λ ns rest. refl) (λ P ns after from h. inr h)
 
 in_table : (level : ℕ) (ts : List Token) (s : Stop) → Blame (tables (suc level) []) ts s → Blame (typed table_type level) ts s
-in_table level ts s b = record {
-  front = b.front;
-  seen = b.seen;
-  left = b.left;
-  shows = b.shows;
-  says = b.says;
-  parts = b.parts;
-  sees = b.sees;
-  form = table b.form;
-  next = b.next;
-  others = b.others;
-  good = (refl, b.good);
-  fit = tt;
-  whole = b.whole;
-  blame = λ f after ms good t e.
-      let h = is_table f good.0 in
-      subst (λ (x : Body). BodyHas (IsBad s.kind) x level after ms) (sym h.1)
-      (inr (b.blame h.0 after ms (subst IsForm h.1 good.1) t (ap (λ (x : Body). inner_marks x after) (sym h.1) ∙ e)));
-  start = λ ms t. tt;
-}
+in_table level =
+    wrapped (tables (suc level) []) table_type level table (λ es. refl) is_table (λ es good. good) (λ es form. form) (λ es rest. refl)
+    (λ P es after from h. inr h)
 
 in_array : (level : ℕ) (ts : List Token) (s : Stop) → Blame (arrays (suc level)) ts s → Blame (typed array_type level) ts s
-in_array level ts s b = record {
-  front = b.front;
-  seen = b.seen;
-  left = b.left;
-  shows = b.shows;
-  says = b.says;
-  parts = b.parts;
-  sees = b.sees;
-  form = array b.form;
-  next = b.next;
-  others = b.others;
-  good = (refl, b.good);
-  fit = tt;
-  whole = b.whole;
-  blame = λ f after ms good t e.
-      let h = is_array f good.0 in
-      subst (λ (x : Body). BodyHas (IsBad s.kind) x level after ms) (sym h.1)
-      (inr (b.blame h.0 after ms (subst IsForm h.1 good.1) t (ap (λ (x : Body). inner_marks x after) (sym h.1) ∙ e)));
-  start = λ ms t. tt;
-}
+in_array level =
+    wrapped (arrays (suc level)) array_type level array (λ xs. refl) is_array (λ xs good. good) (λ xs form. form) (λ xs rest. refl)
+    (λ P xs after from h. inr h)
 
 -- what reads the values inside, and why it stops
 pub record Inside (tests : Tests) (level : ℕ) (inner : Inner) : Type 0 where

@@ -1,7 +1,6 @@
 -- The tests that reading makes are the conditions.
-use Rattle.std.proofs.Common.{◌≡◌, ℕ, suc, ◌&&◌, ◌^◌, Bool, true, false, not, nat_lt, nat_le, List, [], ◌∷◌, length, All, Option, Some, None, refl, sym, ap}
+use Rattle.std.proofs.Common.{◌≡◌, ℕ, suc, ◌&&◌, ◌^◌, Bool, true, false, not, nat_lt, nat_le, List, [], ◌∷◌, length, All, refl, sym, ap}
 use Rattle.std.proofs.Common.{◌∙◌, arith}
-use Rattle.std.specs.Prelude.{MatchOption}
 use Rattle.std.specs.List.{filter, list_all}
 use Rattle.std.specs.Char.{digit_value}
 use Rattle.std.specs.Str.Parse.{AllDigits}
@@ -166,9 +165,3 @@ none_fails test means s is_test h = by (test s) refl where
   by : (b : Bool) → test s ≡ b → test s ≡ false
   by true e = let w = is_test.0 s e in absurd (h w.0 w.1)
   by false e = e
-
--- what is read is_test how its test ends
-pub test_read : {A B : Type 0} (test : List ℕ → Bool) (means : List ℕ → A → Type 0) (view : B → A) (s : List ℕ) (o : Option B) → IsTestOf test means
-    → MatchOption o ((x : A) → means s x → ⊥) (λ x. means s (view x)) → MatchOption o (test s ≡ false) (λ x. test s ≡ true)
-test_read test means view s None is_test h = none_fails test means s is_test h
-test_read test means view s (Some x) is_test h = means_passes test means s (view x) is_test h

@@ -17,7 +17,8 @@ use Rattle.rb_grammar.specs.Reading.{is_no_fallback_text, head_word_at, entries,
 use Rattle.rb_grammar.specs.Tests.{AreTests}
 use Rattle.rb_grammar.specs.Faults.{IsWord, Role, NumbersHave, BytesHave, LeafHas, BodyHas, EntriesHas, ElementsHave, IsBad, Begun, IsBundle, IsFront, NoWord}
 use Rattle.rb_grammar.specs.Faults.{Breaks, HasFault, line_at, IsFault}
-use Rattle.rb_grammar.proofs.Blame.{Tail, IsSeen, Says, Sort, Blame, tables, no_word_none, word_past, outside, bind_err}
+use Rattle.rb_grammar.proofs.Blame.{lacks, first_lacks, next_lacks}
+use Rattle.rb_grammar.proofs.Blame.{Tail, IsSeen, Says, Sort, Blame, tables, outside, bind_err}
 use Rattle.rb_grammar.proofs.BlameLists.{no_mark, no_text, text_colon, entries_blame}
 use Rattle.rb_grammar.proofs.BlameBody.{WordStop, no_text_there, no_word_there, out_of_place, word_stop, no_text_word, not_word, no_fallback_is, is_word}
 use Rattle.rb_grammar.proofs.BlameBody.{body_blames}
@@ -50,23 +51,10 @@ bundles = record {
 }
 
 unnamed : (ts : List Token) → first_text ts ≡ None → Blame bundles ts (stop Unexpected ts)
-unnamed ts none = record {
-  front = [];
-  seen = [];
-  left = marks ts;
-  shows = refl;
-  says = λ w. no_word_none (marks ts) w;
-  parts = refl;
-  sees = refl;
-  form = ([], untyped, no_entries);
-  next = Text [];
-  others = LeftBrace ∷ RightBrace ∷ [];
-  good = tt;
-  fit = tt;
-  whole = refl;
-  blame = λ x after ms good t e. absurd (not_text ts x.0 (head_marks x.1 (LeftBrace ∷ entries_marks x.2 (RightBrace ∷ after))) ms none t.alike e);
-  start = λ ms t. tt;
-}
+unnamed ts none =
+    first_lacks bundles ts
+    ([], untyped, no_entries) (Text []) (LeftBrace ∷ RightBrace ∷ []) tt tt refl
+    (λ x after ms good t e. not_text ts x.0 (head_marks x.1 (LeftBrace ∷ entries_marks x.2 (RightBrace ∷ after))) ms none t.alike e) (λ ms t. tt)
 
 -- after the colon of a bundle one of two words comes
 abbrev IsHeadWord : List ℕ → Type 0
@@ -81,23 +69,10 @@ word_there (n, no_fallback_table, es) name after ms e = (no_fallback_table_word,
 at_type : (kind : SourceKind) (ts rest : List Token) (name : List ℕ) → IsSeen kind [] → Says kind (Text name ∷ Colon ∷ []) (marks rest)
     → marks ts ≡ Text name ∷ Colon ∷ marks rest
     → ((s : List ℕ) (ms r : List Mark) → IsHeadWord s → Alike (marks rest) ms → ms ≡ Text s ∷ r → ⊥) → Blame bundles ts (stop kind rest)
-at_type kind ts rest name shows says there other = record {
-  front = Text name ∷ Colon ∷ [];
-  seen = [];
-  left = marks rest;
-  shows = shows;
-  says = says;
-  parts = there;
-  sees = refl;
-  form = (name, plain_table, no_entries);
-  next = Text table_word;
-  others = LeftBrace ∷ RightBrace ∷ [];
-  good = tt;
-  fit = tt;
-  whole = refl;
-  blame = λ x after ms good t e. let h = word_there x name after ms e in absurd (other h.0 ms h.2 h.1 t.alike h.3);
-  start = λ ms t. tt;
-}
+at_type kind ts rest name shows says there other =
+    lacks bundles kind shows ts rest (Text name ∷ Colon ∷ []) says there
+    (name, plain_table, no_entries) (Text table_word) (LeftBrace ∷ RightBrace ∷ []) tt tt refl
+    (λ x after ms good t e. let h = word_there x name after ms e in other h.0 ms h.2 h.1 t.alike h.3) (λ ms t. tt)
 
 -- a text that comes is the one in its place
 text_alike : (ts : List Token) (u s : List ℕ) (rest ms r : List Mark) → marks ts ≡ Text u ∷ rest → Alike (marks ts) ms → ms ≡ Text s ∷ r → u ≡ s
@@ -128,61 +103,36 @@ unknown_head ts u s ms r comes other none (inr is) a e =
 no_brace_typed : (ts rest : List Token) (name : List ℕ) (head : Head) (word : List ℕ) → ((ms : List Mark) → head_marks head ms ≡ Colon ∷ Text word ∷ ms)
     → marks ts ≡ Text name ∷ head_marks head (marks rest) → begins left rest ≡ false
     → Blame bundles ts (stop Unexpected rest)
-no_brace_typed ts rest name head word is there none = record {
-  front = Text name ∷ Colon ∷ Text word ∷ [];
-  seen = [];
-  left = marks rest;
-  shows = refl;
-  says = λ w. no_word_none (marks rest) (word_past (Text name ∷ Colon ∷ []) (Text word) [] (marks rest) (text_colon word) w);
-  parts = there ∙ ap (λ ms. Text name ∷ ms) (is (marks rest));
-  sees = refl;
-  form = (name, head, no_entries);
-  next = LeftBrace;
-  others = RightBrace ∷ [];
-  good = tt;
-  fit = tt;
-  whole = ap (λ ms. Text name ∷ ms) (sym (is (LeftBrace ∷ RightBrace ∷ [])));
-  blame = λ x after ms good t e. absurd (no_such x after ms t.alike e);
-  start = λ ms t. tt;
-} where
-  past_words : (a b c d : Mark) (xs ys : List Mark) → a ∷ Colon ∷ c ∷ xs ≡ b ∷ Colon ∷ d ∷ ys → xs ≡ ys
-  past_words a b c d xs ys e = cc
+no_brace_typed ts rest name head word is there none =
+    next_lacks bundles ts rest (Text name ∷ Colon ∷ []) (Text word) (text_colon word) (there ∙ ap (λ ms. Text name ∷ ms) (is (marks rest)))
+    (name, head, no_entries) LeftBrace (RightBrace ∷ []) tt tt (ap (λ ms. Text name ∷ ms) (sym (is (LeftBrace ∷ RightBrace ∷ []))))
+    (λ x after ms good t e. no_such x after ms t.alike e) (λ ms t. tt) where
+      past_words : (a b c d : Mark) (xs ys : List Mark) → a ∷ Colon ∷ c ∷ xs ≡ b ∷ Colon ∷ d ∷ ys → xs ≡ ys
+      past_words a b c d xs ys e = cc
 
-  no_such : (x : Whole) (after ms : List Mark) → Alike (marks rest) ms → bundle_in x after ≡ Text name ∷ Colon ∷ Text word ∷ ms → ⊥
-  no_such (n, untyped, es) after ms a e = cc
-  no_such (n, plain_table, es) after ms a e =
-      not_mark left rest (entries_marks es (RightBrace ∷ after)) ms none a
-      (past_words (Text n) (Text name) (Text table_word) (Text word) (LeftBrace ∷ entries_marks es (RightBrace ∷ after)) ms e)
-  no_such (n, no_fallback_table, es) after ms a e =
-      not_mark left rest (entries_marks es (RightBrace ∷ after)) ms none a
-      (past_words (Text n) (Text name) (Text no_fallback_table_word) (Text word) (LeftBrace ∷ entries_marks es (RightBrace ∷ after)) ms e)
+      no_such : (x : Whole) (after ms : List Mark) → Alike (marks rest) ms → bundle_in x after ≡ Text name ∷ Colon ∷ Text word ∷ ms → ⊥
+      no_such (n, untyped, es) after ms a e = cc
+      no_such (n, plain_table, es) after ms a e =
+          not_mark left rest (entries_marks es (RightBrace ∷ after)) ms none a
+          (past_words (Text n) (Text name) (Text table_word) (Text word) (LeftBrace ∷ entries_marks es (RightBrace ∷ after)) ms e)
+      no_such (n, no_fallback_table, es) after ms a e =
+          not_mark left rest (entries_marks es (RightBrace ∷ after)) ms none a
+          (past_words (Text n) (Text name) (Text no_fallback_table_word) (Text word) (LeftBrace ∷ entries_marks es (RightBrace ∷ after)) ms e)
 
 no_brace : (ts rest : List Token) (name : List ℕ) (head : Head) → marks ts ≡ Text name ∷ head_marks head (marks rest)
     → (head ≡ untyped → begins colon rest ≡ false) → begins left rest ≡ false → Blame bundles ts (stop Unexpected rest)
 no_brace ts rest name plain_table there no_colon none = no_brace_typed ts rest name plain_table table_word (λ ms. refl) there none
 no_brace ts rest name no_fallback_table there no_colon none = no_brace_typed ts rest name no_fallback_table no_fallback_table_word (λ ms. refl) there none
-no_brace ts rest name untyped there no_colon none = record {
-  front = Text name ∷ [];
-  seen = [];
-  left = marks rest;
-  shows = refl;
-  says = λ w. no_word_none (marks rest) (word_past [] (Text name) [] (marks rest) (text_colon name) w);
-  parts = there;
-  sees = refl;
-  form = (name, untyped, no_entries);
-  next = LeftBrace;
-  others = RightBrace ∷ [];
-  good = tt;
-  fit = tt;
-  whole = refl;
-  blame = λ x after ms good t e. absurd (no_such x after ms t.alike e);
-  start = λ ms t. tt;
-} where
-  no_such : (x : Whole) (after ms : List Mark) → Alike (marks rest) ms → bundle_in x after ≡ Text name ∷ ms → ⊥
-  no_such (n, untyped, es) after ms a e = not_mark left rest (entries_marks es (RightBrace ∷ after)) ms none a cc
-  no_such (n, plain_table, es) after ms a e = not_mark colon rest (Text table_word ∷ LeftBrace ∷ entries_marks es (RightBrace ∷ after)) ms (no_colon refl) a cc
-  no_such (n, no_fallback_table, es) after ms a e =
-      not_mark colon rest (Text no_fallback_table_word ∷ LeftBrace ∷ entries_marks es (RightBrace ∷ after)) ms (no_colon refl) a cc
+no_brace ts rest name untyped there no_colon none =
+    next_lacks bundles ts rest [] (Text name) (text_colon name) there
+    (name, untyped, no_entries) LeftBrace (RightBrace ∷ []) tt tt refl
+    (λ x after ms good t e. no_such x after ms t.alike e) (λ ms t. tt) where
+      no_such : (x : Whole) (after ms : List Mark) → Alike (marks rest) ms → bundle_in x after ≡ Text name ∷ ms → ⊥
+      no_such (n, untyped, es) after ms a e = not_mark left rest (entries_marks es (RightBrace ∷ after)) ms none a cc
+      no_such (n, plain_table, es) after ms a e =
+          not_mark colon rest (Text table_word ∷ LeftBrace ∷ entries_marks es (RightBrace ∷ after)) ms (no_colon refl) a cc
+      no_such (n, no_fallback_table, es) after ms a e =
+          not_mark colon rest (Text no_fallback_table_word ∷ LeftBrace ∷ entries_marks es (RightBrace ∷ after)) ms (no_colon refl) a cc
 
 type_pre : Head → List Mark
 type_pre untyped = []

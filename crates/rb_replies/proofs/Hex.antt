@@ -1,5 +1,6 @@
 -- Hexadecimal digits, made byte by byte.
-use Rattle.std.proofs.Common.{◌≡◌, ◌+◌, ◌<◌, ◌/◌, ◌%◌, ℕ, zero, suc, List, [], ◌∷◌, ◌++◌, refl, ap, ◌∙◌, sym, take, length, get_or, arith, append_assoc, encode_utf8}
+use Rattle.std.proofs.Common.{◌≡◌, ◌+◌, ◌<◌, ◌/◌, ◌%◌, ℕ, zero, suc, List, [], ◌∷◌, ◌++◌, take, length, get_or, encode_utf8}
+use Rattle.std.proofs.Common.{refl, ap, ◌∙◌, sym, arith, append_assoc}
 use Rattle.std.specs.List.{slice_index}
 use Rattle.hex.specs.Hex.{encode_with}
 
@@ -12,13 +13,15 @@ one_more t [] i h = absurd (omega arith)
 one_more t (x ∷ xs) zero h = refl
 one_more t (x ∷ xs) (suc i) h = ap (λ (ds : List ℕ). slice_index t (x / 16) ∷ slice_index t (x % 16) ∷ ds) (one_more t xs i (omega arith))
 
-pub hex_more : (t xs text mid more : List ℕ) (i : ℕ) → text ≡ encode_with t (take i xs) → i < length xs → mid ≡ text ++ slice_index t (get_or xs i 0 / 16) ∷ [] → more ≡ mid ++ slice_index t (get_or xs i 0 % 16) ∷ []
+pub hex_more : (t xs text mid more : List ℕ) (i : ℕ) → text ≡ encode_with t (take i xs) → i < length xs
+    → mid ≡ text ++ slice_index t (get_or xs i 0 / 16) ∷ [] → more ≡ mid ++ slice_index t (get_or xs i 0 % 16) ∷ []
     → more ≡ encode_with t (take (i + 1) xs)
 hex_more t xs text mid more i so_far h first second =
     let b = get_or xs i 0 in
     let n : suc i ≡ i + 1 = omega arith in
     second ∙ ap (λ (ds : List ℕ). ds ++ slice_index t (b % 16) ∷ []) (first ∙ ap (λ (ds : List ℕ). ds ++ slice_index t (b / 16) ∷ []) so_far)
-    ∙ append_assoc (encode_with t (take i xs)) (slice_index t (b / 16) ∷ []) (slice_index t (b % 16) ∷ []) ∙ sym (one_more t xs i h) ∙ ap (λ (m : ℕ). encode_with t (take m xs)) n
+    ∙ append_assoc (encode_with t (take i xs)) (slice_index t (b / 16) ∷ []) (slice_index t (b % 16) ∷ [])
+    ∙ sym (one_more t xs i h) ∙ ap (λ (m : ℕ). encode_with t (take m xs)) n
 
 pub no_digits : (t xs : List ℕ) → [] ≡ encode_with t (take 0 xs)
 unfolding encode_with

@@ -1,5 +1,6 @@
 -- Characters of UTF-16, unit by unit.
-use Rattle.std.proofs.Common.{◌≡◌, ◌+◌, ◌<◌, ◌≤◌, ℕ, List, ◌∷◌, ◌++◌, true, false, Option, Some, None, ap, sym, ◌∙◌, subst, drop, length, get_or, encode_utf8, encode_utf8_all, append_assoc, append-nil}
+use Rattle.std.proofs.Common.{◌≡◌, ◌+◌, ◌<◌, ◌≤◌, ℕ, List, ◌∷◌, ◌++◌, true, false, Option, Some, None, drop, length, get_or, encode_utf8}
+use Rattle.std.proofs.Common.{encode_utf8_all, ap, sym, ◌∙◌, subst, append_assoc, append-nil}
 use Rattle.std.specs.Prelude.{IsSome, not}
 use Rattle.std.specs.Option.{SomeIff}
 use Rattle.std.specs.Char.Utf16.{utf16_chars, lone_unit_char, surrogate_pair_char, utf16_lossy_chars, has_unpaired_surrogate}
@@ -9,28 +10,36 @@ pub is_value : (r : Option ℕ) (P : Type 0) (v : ℕ) → SomeIff r P v → IsS
 is_value None P v h some = cc
 is_value (Some x) P v h some = ap Some (sym h.1)
 
-pub lone : (us : List ℕ) (at u : ℕ) (o : Option ℕ) → u ≡ get_or us at 0 → at < length us → (IsPair u (get_or us (at + 1) 0) → ⊥) → lone_unit_char u ≡ o → utf16_chars (drop at us) ≡ o ∷ utf16_chars (drop (at + 1) us)
+pub lone : (us : List ℕ) (at u : ℕ) (o : Option ℕ) → u ≡ get_or us at 0 → at < length us → (IsPair u (get_or us (at + 1) 0) → ⊥)
+    → lone_unit_char u ≡ o → utf16_chars (drop at us) ≡ o ∷ utf16_chars (drop (at + 1) us)
 lone us at u o e h apart l =
-    utf16_chars-drop_lone us at h (subst (λ (x : ℕ). IsPair x (get_or us (at + 1) 0) → ⊥) e apart) ∙ ap (λ (x : Option ℕ). x ∷ utf16_chars (drop (at + 1) us)) (ap lone_unit_char (sym e) ∙ l)
+    utf16_chars-drop_lone us at h (subst (λ (x : ℕ). IsPair x (get_or us (at + 1) 0) → ⊥) e apart)
+    ∙ ap (λ (x : Option ℕ). x ∷ utf16_chars (drop (at + 1) us)) (ap lone_unit_char (sym e) ∙ l)
 
-pub paired : (us : List ℕ) (at u v : ℕ) (o : Option ℕ) → u ≡ get_or us at 0 → v ≡ get_or us (at + 1) 0 → at + 1 < length us → IsPair u v → Some (surrogate_pair_char u v) ≡ o
-    → utf16_chars (drop at us) ≡ o ∷ utf16_chars (drop (at + 2) us)
+pub paired : (us : List ℕ) (at u v : ℕ) (o : Option ℕ) → u ≡ get_or us at 0 → v ≡ get_or us (at + 1) 0 → at + 1 < length us
+    → IsPair u v → Some (surrogate_pair_char u v) ≡ o → utf16_chars (drop at us) ≡ o ∷ utf16_chars (drop (at + 2) us)
 paired us at u v o e f h pair l =
+    let first = ap (λ (x : ℕ). Some (surrogate_pair_char x (get_or us (at + 1) 0))) (sym e) in
+    let second = ap (λ (y : ℕ). Some (surrogate_pair_char u y)) (sym f) in
     utf16_chars-drop_pair us at h (subst (λ (x : ℕ). IsPair x (get_or us (at + 1) 0)) e (subst (λ (y : ℕ). IsPair u y) f pair))
-    ∙ ap (λ (x : Option ℕ). x ∷ utf16_chars (drop (at + 2) us)) (ap (λ (x : ℕ). Some (surrogate_pair_char x (get_or us (at + 1) 0))) (sym e) ∙ ap (λ (y : ℕ). Some (surrogate_pair_char u y)) (sym f) ∙ l)
+    ∙ ap (λ (x : Option ℕ). x ∷ utf16_chars (drop (at + 2) us)) (first ∙ second ∙ l)
 
 -- a text, with that of the units from an index on, is the text of all units, and of these none has lost its partner so far
 abbrev pub ReadSoFar : List ℕ → List ℕ → ℕ → Type 0
 ReadSoFar text us at =
-    (text ++ encode_utf8_all (utf16_lossy_chars (drop at us)) ≡ encode_utf8_all (utf16_lossy_chars us)) × (has_unpaired_surrogate (drop at us) ≡ has_unpaired_surrogate us)
+    (text ++ encode_utf8_all (utf16_lossy_chars (drop at us)) ≡ encode_utf8_all (utf16_lossy_chars us))
+    × (has_unpaired_surrogate (drop at us) ≡ has_unpaired_surrogate us)
 
-pub read_more : (text more us : List ℕ) (at next c : ℕ) → ReadSoFar text us at → utf16_chars (drop at us) ≡ Some c ∷ utf16_chars (drop next us) → more ≡ text ++ encode_utf8 c → ReadSoFar more us next
+pub read_more : (text more us : List ℕ) (at next c : ℕ) → ReadSoFar text us at → utf16_chars (drop at us) ≡ Some c ∷ utf16_chars (drop next us)
+    → more ≡ text ++ encode_utf8 c → ReadSoFar more us next
 read_more text more us at next c so_far step pushed = (rw (pushed, append_assoc) (rw step at so_far.0), rw step at so_far.1)
 
-pub not_read : (text us : List ℕ) (at next : ℕ) → ReadSoFar text us at → utf16_chars (drop at us) ≡ None ∷ utf16_chars (drop next us) → false ≡ not (has_unpaired_surrogate us)
+pub not_read : (text us : List ℕ) (at next : ℕ) → ReadSoFar text us at → utf16_chars (drop at us) ≡ None ∷ utf16_chars (drop next us)
+    → false ≡ not (has_unpaired_surrogate us)
 not_read text us at next so_far step = ap not (rw step at so_far.1)
 
-pub all_read : (text us : List ℕ) (at : ℕ) → ReadSoFar text us at → length us ≤ at → (true ≡ not (has_unpaired_surrogate us)) × (text ≡ encode_utf8_all (utf16_lossy_chars us))
+pub all_read : (text us : List ℕ) (at : ℕ) → ReadSoFar text us at → length us ≤ at
+    → (true ≡ not (has_unpaired_surrogate us)) × (text ≡ encode_utf8_all (utf16_lossy_chars us))
 all_read text us at so_far h =
     let none = utf16_chars-drop_all us at h in
     (ap not (rw none at so_far.1), sym (append-nil text) ∙ rw none at so_far.0)

@@ -8,10 +8,12 @@ use Rattle.serde_json.specs.Written.{compact_text}
 use Rattle.serde_json.proofs.Texts.{print-outline}
 use Rattle.rb_replies.specs.Put.{data_tokens}
 
-pub text_told : (d : Data) (old new : Written) → old.before ≡ [] → old.tokens ≡ [] → new.tokens ≡ old.tokens ++ data_tokens d → new.before ≡ old.before → new.before ++ print new.tokens ≡ compact_text d
+pub text_told : (d : Data) (old new : Written) → old.before ≡ [] → old.tokens ≡ [] → new.tokens ≡ old.tokens ++ data_tokens d
+    → new.before ≡ old.before → new.before ++ print new.tokens ≡ compact_text d
 text_told d old new b t put kept = rw (kept, b, put, t) (print-outline d)
 
-pub line_told : {E : Type 0} (r : Result (Unit {0}) E) (d : Data) (old new : Written) (line : List ℕ) → old.before ≡ [] → old.tokens ≡ [] → new.tokens ≡ old.tokens ++ data_tokens d → new.before ≡ old.before
+pub line_told : {E : Type 0} (r : Result (Unit {0}) E) (d : Data) (old new : Written) (line : List ℕ) → old.before ≡ [] → old.tokens ≡ []
+    → new.tokens ≡ old.tokens ++ data_tokens d → new.before ≡ old.before
     → OnOk r (line ≡ (new.before ++ print new.tokens) ++ 10 ∷ []) → OnOk r (line ≡ compact_text d ++ 10 ∷ [])
 line_told (Ok x) d old new line b t put kept ended = ended ∙ ap (λ (text : List ℕ). text ++ 10 ∷ []) (text_told d old new b t put kept)
 line_told (Err x) d old new line b t put kept ended = tt

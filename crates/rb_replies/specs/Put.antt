@@ -1,5 +1,6 @@
 -- For what is private. What is written of a reply, as the tokens of its JSON.
-use Rattle.std.specs.Prelude.{◌≡◌, ℕ, List, [], ◌∷◌, ◌++◌, Option, Some, None, Result, OnOk, codes}
+use Rattle.std.specs.Prelude.{◌≡◌, ℕ, List, [], ◌∷◌, ◌++◌, Option, Some, None, Result, OnOk, codes, option_map}
+use Rattle.std.specs.Borrow.{Bor}
 use Rattle.json.specs.Token.{Token, key}
 use Rattle.json.specs.Tree.{json_tokens, members_tokens}
 use Rattle.json.specs.Written.{Written}
@@ -22,6 +23,10 @@ Puts r old new ts = OnOk r ((new.tokens ≡ old.tokens ++ ts) × (new.before ≡
 abbrev pub with_valid : Option (List ℕ) → Members → Members
 with_valid None ms = ms
 with_valid (Some valid) ms = put (codes "valid") (text_data valid) ms
+
+-- the members of an item, `valid` among them where it is given, and the closing brace
+abbrev pub PutsMembers : {E : Type 0} → Result (Unit {0}) E → Written → Written → Option (Bor (List ℕ)) → Members → Type 0
+PutsMembers r old new valid ms = Puts r old new (rest_tokens (with_valid (option_map (λ v. v.now) valid) ms))
 
 -- its tokens
 abbrev pub valid_tokens : Option (List ℕ) → List Token

@@ -1,16 +1,16 @@
 //! Items as JSON.
 ghost use Rattle.std.specs.Prelude.{◌≡◌, [], ◌∷◌, ◌++◌, codes, option_map, string_bytes, IfOk};
+ghost use Rattle.rb_tree.specs.Resource.{binary, int, ints};
 ghost use Rattle.std.specs.Map.{keys_of};
 ghost use Rattle.json.specs.Token.{key, string};
-ghost use Rattle.serde_json.specs.Data.{number, put, string as text_of, unsigned};
+ghost use Rattle.serde_json.specs.Data.{number, put, unsigned};
 ghost use Rattle.serde_json.specs.Find.{of_integer};
 ghost use Rattle.serde_json.specs.Written.{compact_text};
 ghost use Rattle.rb_tree.specs.Path.{IsPath};
-ghost use Rattle.hex.specs.Hex.{encode_lower};
 ghost use Rattle.rb_tree.specs.Parts.{HasUnits, bytes_of, kind_of, numbers_of, pairs_of, units_of};
 ghost use Rattle.rb_tree.specs.declared.kind.Kind.TheVariants as Kinds;
 ghost use Rattle.rb_replies.specs.Item.{text_data, units_data, numbers_data, texts_data, signed_of, of_type, with_text, item_members, item_data, found_data};
-ghost use Rattle.rb_replies.specs.Put.{Puts, data_tokens, rest_tokens, valid_tokens, with_valid};
+ghost use Rattle.rb_replies.specs.Put.{Puts, PutsMembers, data_tokens, valid_tokens};
 
 use crate::text::{ascii, characters, read_hex, read_units};
 use json::Writer;
@@ -18,8 +18,11 @@ use rb_fallback::Found;
 use rb_tree::{Kind, Node};
 use std::alloc::{AllocError, Global};
 
+/// An error comes only where out of memory.
+type PutResult = Result<(), AllocError>;
+
 /// A member that is a word.
-pub(crate) fn put_word(out: &mut Writer, name: &str, word: &str) -> Result<(), AllocError>
+pub(crate) fn put_word(out: &mut Writer, name: &str, word: &str) -> PutResult
     ensures { Puts result out.old out.new (key name.now ∷ string word.now ∷ []) }
 {
     out.key(name)?;
@@ -27,7 +30,7 @@ pub(crate) fn put_word(out: &mut Writer, name: &str, word: &str) -> Result<(), A
 }
 
 /// Bytes as a text, a character each.
-pub(crate) fn put_text(out: &mut Writer, alloc: Global, bytes: &[u8]) -> Result<(), AllocError>
+pub(crate) fn put_text(out: &mut Writer, alloc: Global, bytes: &[u8]) -> PutResult
     ensures { Puts result out.old out.new (data_tokens (text_data bytes.now)) }
 {
     match ascii(bytes) {
@@ -36,7 +39,7 @@ pub(crate) fn put_text(out: &mut Writer, alloc: Global, bytes: &[u8]) -> Result<
     }
 }
 
-fn put_units<N: Node>(out: &mut Writer, node: N) -> Result<(), AllocError>
+fn put_units<N: Node>(out: &mut Writer, node: N) -> PutResult
     requires { HasUnits (kind_of (N.tree node)) }
     ensures { Puts result out.old out.new (data_tokens (units_data (units_of (N.tree node)))) }
 {
@@ -48,13 +51,13 @@ fn put_units<N: Node>(out: &mut Writer, node: N) -> Result<(), AllocError>
     out.end_array()
 }
 
-fn put_integer(out: &mut Writer, integer: i64) -> Result<(), AllocError>
+fn put_integer(out: &mut Writer, integer: i64) -> PutResult
     ensures { Puts result out.old out.new (data_tokens (number (of_integer integer))) }
 {
     out.i64(integer)
 }
 
-fn put_numbers<N: Node>(out: &mut Writer, node: N) -> Result<(), AllocError>
+fn put_numbers<N: Node>(out: &mut Writer, node: N) -> PutResult
     requires { kind_of (N.tree node) ≡ Kinds.Ints }
     ensures { Puts result out.old out.new (data_tokens (numbers_data (numbers_of (N.tree node)))) }
 {
@@ -66,7 +69,7 @@ fn put_numbers<N: Node>(out: &mut Writer, node: N) -> Result<(), AllocError>
     out.end_array()
 }
 
-fn put_keys<N: Node>(out: &mut Writer, alloc: Global, node: N) -> Result<(), AllocError>
+fn put_keys<N: Node>(out: &mut Writer, alloc: Global, node: N) -> PutResult
     requires { kind_of (N.tree node) ≡ Kinds.Table }
     ensures { Puts result out.old out.new (data_tokens (texts_data (keys_of (pairs_of (N.tree node))))) }
 {
@@ -90,14 +93,14 @@ fn signed(number: u32) -> i64
     }
 }
 
-fn put_signed(out: &mut Writer, bits: u32) -> Result<(), AllocError>
+fn put_signed(out: &mut Writer, bits: u32) -> PutResult
     ensures { Puts result out.old out.new (data_tokens (number (of_integer (signed_of bits)))) }
 {
     put_integer(out, signed(bits))
 }
 
 /// The member `valid`, where there is one.
-fn put_valid(out: &mut Writer, alloc: Global, valid: Option<&[u8]>) -> Result<(), AllocError>
+fn put_valid(out: &mut Writer, alloc: Global, valid: Option<&[u8]>) -> PutResult
     ensures { Puts result out.old out.new (valid_tokens (option_map (λ v. v.now) valid.entry)) }
 {
     match valid {
@@ -109,6 +112,15 @@ fn put_valid(out: &mut Writer, alloc: Global, valid: Option<&[u8]>) -> Result<()
     }
 }
 
+/// The type of an item, and what is written after it: `valid`, where it is given, and the closing brace.
+fn put_end(out: &mut Writer, alloc: Global, word: &str, valid: Option<&[u8]>) -> PutResult
+    ensures { PutsMembers result out.old out.new valid.entry (of_type word.now) }
+{
+    put_word(out, "type", word)?;
+    put_valid(out, alloc, valid)?;
+    out.end_object()
+}
+
 /// The members of a text, by its units where it isn't well-formed UTF-16.
 fn put_string<N: Node>(
     out: &mut Writer,
@@ -117,10 +129,9 @@ fn put_string<N: Node>(
     node: N,
     word: &str,
     valid: Option<&[u8]>,
-) -> Result<(), AllocError>
+) -> PutResult
     requires { HasUnits (kind_of (N.tree node)) }
-    ensures { Puts result out.old out.new (rest_tokens (with_valid (option_map (λ v. v.now) valid.entry)
-        (with_text (units_of (N.tree node)) (of_type word.now)))) }
+    ensures { PutsMembers result out.old out.new valid.entry (with_text (units_of (N.tree node)) (of_type word.now)) }
 {
     put_word(out, "type", word)?;
     if read_units(text, node)? {
@@ -134,14 +145,8 @@ fn put_string<N: Node>(
     out.end_object()
 }
 
-fn put_int(
-    out: &mut Writer,
-    alloc: Global,
-    bits: u32,
-    valid: Option<&[u8]>,
-) -> Result<(), AllocError>
-    ensures { Puts result out.old out.new (rest_tokens (with_valid (option_map (λ v. v.now) valid.entry)
-        (put (codes "signed") (number (of_integer (signed_of bits))) (put (codes "unsigned") (number (unsigned bits)) (of_type (codes "int")))))) }
+fn put_int(out: &mut Writer, alloc: Global, bits: u32, valid: Option<&[u8]>) -> PutResult
+    ensures { PutsMembers result out.old out.new valid.entry (item_members (int bits)) }
 {
     out.key("signed")?;
     put_signed(out, bits)?;
@@ -152,15 +157,9 @@ fn put_int(
     out.end_object()
 }
 
-fn put_ints<N: Node>(
-    out: &mut Writer,
-    alloc: Global,
-    node: N,
-    valid: Option<&[u8]>,
-) -> Result<(), AllocError>
+fn put_ints<N: Node>(out: &mut Writer, alloc: Global, node: N, valid: Option<&[u8]>) -> PutResult
     requires { kind_of (N.tree node) ≡ Kinds.Ints }
-    ensures { Puts result out.old out.new (rest_tokens (with_valid (option_map (λ v. v.now) valid.entry)
-        (put (codes "values") (numbers_data (numbers_of (N.tree node))) (of_type (codes "intvector"))))) }
+    ensures { PutsMembers result out.old out.new valid.entry (item_members (ints (numbers_of (N.tree node)))) }
 {
     put_word(out, "type", "intvector")?;
     put_valid(out, alloc, valid)?;
@@ -175,49 +174,30 @@ fn put_binary<N: Node>(
     alloc: Global,
     node: N,
     valid: Option<&[u8]>,
-) -> Result<(), AllocError>
+) -> PutResult
     requires { kind_of (N.tree node) ≡ Kinds.Binary }
-    ensures { Puts result out.old out.new (rest_tokens (with_valid (option_map (λ v. v.now) valid.entry)
-        (put (codes "hex") (text_of (encode_lower (bytes_of (N.tree node)))) (of_type (codes "bin"))))) }
+    ensures { PutsMembers result out.old out.new valid.entry (item_members (binary (bytes_of (N.tree node)))) }
 {
     read_hex(text, node)?;
     put_word(out, "hex", text)?;
-    put_word(out, "type", "bin")?;
-    put_valid(out, alloc, valid)?;
-    out.end_object()
+    put_end(out, alloc, "bin", valid)
 }
 
-fn put_array(
-    out: &mut Writer,
-    alloc: Global,
-    len: usize,
-    valid: Option<&[u8]>,
-) -> Result<(), AllocError>
-    ensures { Puts result out.old out.new (rest_tokens (with_valid (option_map (λ v. v.now) valid.entry)
-        (put (codes "len") (number (unsigned len)) (of_type (codes "array"))))) }
+fn put_array(out: &mut Writer, alloc: Global, len: usize, valid: Option<&[u8]>) -> PutResult
+    ensures { PutsMembers result out.old out.new valid.entry (put (codes "len") (number (unsigned len)) (of_type (codes "array"))) }
 {
     out.key("len")?;
     out.u64(len as u64)?;
-    put_word(out, "type", "array")?;
-    put_valid(out, alloc, valid)?;
-    out.end_object()
+    put_end(out, alloc, "array", valid)
 }
 
-fn put_table<N: Node>(
-    out: &mut Writer,
-    alloc: Global,
-    node: N,
-    valid: Option<&[u8]>,
-) -> Result<(), AllocError>
+fn put_table<N: Node>(out: &mut Writer, alloc: Global, node: N, valid: Option<&[u8]>) -> PutResult
     requires { kind_of (N.tree node) ≡ Kinds.Table }
-    ensures { Puts result out.old out.new (rest_tokens (with_valid (option_map (λ v. v.now) valid.entry)
-        (put (codes "keys") (texts_data (keys_of (pairs_of (N.tree node)))) (of_type (codes "table"))))) }
+    ensures { PutsMembers result out.old out.new valid.entry (put (codes "keys") (texts_data (keys_of (pairs_of (N.tree node)))) (of_type (codes "table"))) }
 {
     out.key("keys")?;
     put_keys(out, alloc, node)?;
-    put_word(out, "type", "table")?;
-    put_valid(out, alloc, valid)?;
-    out.end_object()
+    put_end(out, alloc, "table", valid)
 }
 
 /// What an item is, its members by their keys, with `valid` where it is given, and the closing brace.
@@ -227,8 +207,8 @@ fn put_members<N: Node>(
     alloc: Global,
     node: N,
     valid: Option<&[u8]>,
-) -> Result<(), AllocError>
-    ensures { Puts result out.old out.new (rest_tokens (with_valid (option_map (λ v. v.now) valid.entry) (item_members (N.tree node)))) }
+) -> PutResult
+    ensures { PutsMembers result out.old out.new valid.entry (item_members (N.tree node)) }
 {
     match node.kind() {
         Kind::String => put_string(out, text, alloc, node, "string", valid),
@@ -247,7 +227,7 @@ pub(crate) fn put_found<N: Node>(
     text: &mut String,
     alloc: Global,
     found: &Found<N>,
-) -> Result<(), AllocError>
+) -> PutResult
     ensures { Puts result out.old out.new (data_tokens (found_data (N.tree found.now.node) found.now.actual found.now.valid)) }
 {
     out.begin_object()?;
@@ -263,7 +243,7 @@ fn put_item<N: Node>(
     alloc: Global,
     node: N,
     rest: &[u8],
-) -> Result<(), AllocError>
+) -> PutResult
     ensures { Puts result out.old out.new (data_tokens (item_data (N.tree node) rest.now)) }
 {
     out.begin_object()?;

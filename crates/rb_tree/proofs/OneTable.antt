@@ -21,9 +21,6 @@ at q es = lookup (pointwise nat_eq q) (pairs es)
 abbrev Above : List ℕ → Members → Type 0
 Above q es = AllByRecursion (λ k. slice_cmp nat_cmp q k ≡ Less) (keys_of (pairs es))
 
-abbrev Rises : Members → Type 0
-Rises es = IsStrictlySortedBy (slice_cmp nat_cmp) (keys_of (pairs es))
-
 -- a key below another isn't that one
 not_same : (q k : List ℕ) → slice_cmp nat_cmp q k ≡ Less → pointwise nat_eq q k ≡ false
 not_same q k h = sym (is_eq-slice_cmp q k) ∙ ap is_eq h

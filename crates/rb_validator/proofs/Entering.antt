@@ -26,6 +26,14 @@ use Rattle.rb_validator.proofs.Ways.{met_again, met_place, met_child}
 
 -- ---- marks
 
+pub new_is : (x : ℕ) → New ≡ mark_of x → x ≡ 0
+new_is x e = by_tests (eqb x 0) (eqb x 65) refl e
+  where
+    by_tests : (a b : Bool) → eqb x 0 ≡ a → New ≡ cond a New (cond b Open (Done x)) → x ≡ 0
+    by_tests true b p e = grind (arith, nat_tests)
+    by_tests false true p e = absurd cc
+    by_tests false false p e = absurd cc
+
 pub open_is : (x : ℕ) → Open ≡ mark_of x → x ≡ 65
 open_is x e = by_tests (eqb x 0) (eqb x 65) refl refl e
   where

@@ -1,8 +1,7 @@
 -- How many cells are marked, and what a written cell changes.
-use Rattle.std.proofs.Common.{◌≡◌, ◌≢◌, ℕ, zero, suc, ◌<◌, ◌≤◌, Bool, true, false, cond, eqb, List, length, get_or, set, replicate, refl, sym, ap, arith}
+use Rattle.std.proofs.Common.{◌≡◌, ◌≢◌, ℕ, zero, suc, ◌<◌, ◌≤◌, Bool, true, false, cond, eqb, List, length, get_or, set, replicate, refl, ap, arith}
 use Rattle.std.proofs.Common.{subst, inl, inr, get_or-set_other, get_or-set_same}
 use Rattle.std.proofs.Math.Nat.{eq-or-lt_of_le}
-use Rattle.std.proofs.lemmas.Bool.{cases_eq}
 use Rattle.std.proofs.lemmas.Bool.Decides.{nat_tests}
 use Rattle.rb_validator.specs.Marks.{marked}
 
@@ -44,18 +43,6 @@ marked_more cells p v (suc n) h l e f = elim (eq-or-lt_of_le {n = p} {m = n} (om
     both : (b : Bool) (m : ℕ) → cond b (suc m) (suc (suc m)) ≡ suc (cond b m (suc m))
     both true m = refl
     both false m = refl
-
--- a cell that was marked stays so
-pub marked_same : (cells : List ℕ) (p v n : ℕ) → get_or cells p 0 ≢ 0 → v ≢ 0 → p < length cells → marked (set cells p v) n ≡ marked cells n
-marked_same cells p v zero e f l = refl
-marked_same cells p v (suc n) e f l = elim (cases_eq n p) [
-  | inl q ↦
-      let here : get_or (set cells p v) n 0 ≡ v = subst (λ (x : ℕ). get_or (set cells p v) x 0 ≡ v) (sym q) (get_or-set_same cells p v 0 l) in
-      let t : eqb v 0 ≡ false = test_zero v f in
-      let was : eqb (get_or cells n 0) 0 ≡ false = subst (λ (x : ℕ). eqb (get_or cells x 0) 0 ≡ false) (sym q) (test_zero (get_or cells p 0) e) in
-      rw (here, t, was, marked_same cells p v n e f l) refl
-  | inr ne ↦ rw (get_or-set_other cells p n v 0 ne, marked_same cells p v n e f l) refl
-]
 
 pub all_zero : (n i : ℕ) → ◌≡◌ {A = ℕ} (get_or (replicate n 0) i 0) 0
 all_zero zero i = refl

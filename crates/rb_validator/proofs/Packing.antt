@@ -1,6 +1,6 @@
 -- Marks that lie in bytes: what is read, and what a written byte changes.
-use Rattle.std.proofs.Common.{◌≡◌, ◌≢◌, ◌⊎◌, ℕ, ◌+◌, ◌-◌, ◌*◌, ◌/◌, ◌%◌, ◌<◌, ◌≤◌, List, length, get_or, set, Bool, cond, eqb, replicate, refl, sym, ap, subst, ◌∙◌, arith, inl, inr}
-use Rattle.std.proofs.Common.{get_or-set_other, get_or-set_same}
+use Rattle.std.proofs.Common.{◌≡◌, ◌≢◌, ◌⊎◌, ℕ, ◌+◌, ◌-◌, ◌*◌, ◌/◌, ◌%◌, ◌<◌, ◌≤◌, List, length, get_or, set, Bool, cond, eqb}
+use Rattle.std.proofs.Common.{replicate, refl, sym, ap, subst, ◌∙◌, arith, inl, inr, get_or-set_other, get_or-set_same}
 use Rattle.std.proofs.Math.ListN.{get_or-eq_default}
 use Rattle.std.proofs.lemmas.Bool.{cases_eq, cases_lt, eq-eqb, ne_eqb}
 use Rattle.std.proofs.lemmas.List.{ext_get_or, get_or_default, length-set, length-replicate}
@@ -25,7 +25,8 @@ mark_other first rest o s f n = rw (ne_eqb (get_or first o 0) 0 f, ne_eqb (get_o
 
 -- the same bytes are the same mark
 mark_same : (first rest after later : List ℕ) (o s : ℕ) → get_or after o 0 ≡ get_or first o 0
-    → (get_or first o 0 ≢ 0 → get_or first o 0 / 66 ≢ s → get_or later (other o s (get_or first o 0 / 66)) 0 ≡ get_or rest (other o s (get_or first o 0 / 66)) 0)
+    → (get_or first o 0 ≢ 0 → get_or first o 0 / 66 ≢ s
+    → get_or later (other o s (get_or first o 0 / 66)) 0 ≡ get_or rest (other o s (get_or first o 0 / 66)) 0)
     → mark_in after later o s ≡ mark_in first rest o s
 mark_same first rest after later o s e f = elim (cases_eq (get_or first o 0) 0) [
   | inl z ↦ mark_none after later o s (e ∙ z) ∙ sym (mark_none first rest o s z)
@@ -106,26 +107,6 @@ first_set first rest room o s v packed l i f g h =
           subst (λ (x : ℕ). mark_in after rest x r ≡ mark_in first rest x r) (sym e) (a ∙ b)
       | inr d ↦ mark_same first rest after rest q r (get_or-set_other first o q (66 * s + v) 0 d) (λ n t. refl)
     ])
-
-pub first_packed : (first rest : List ℕ) (room o s v : ℕ) → IsPacked first rest room → s < 3 → o < length first → 0 < v → v < 66
-    → IsPacked (set first o (66 * s + v)) rest room
-first_packed first rest room o s v packed l i f g =
-    let long = length-set first o (66 * s + v) in
-    let is : get_or (set first o (66 * s + v)) o 0 ≡ 66 * s + v = get_or-set_same first o (66 * s + v) 0 i in
-    record {
-      small = rw long packed.small;
-      low = λ q. elim (cases_eq q o) [
-        | inl e ↦ subst (λ (x : ℕ). get_or (set first o (66 * s + v)) x 0 < 198) (sym e) (omega arith)
-        | inr d ↦ rw (get_or-set_other first o q (66 * s + v) 0 d) (packed.low q)
-      ];
-      none = λ q j z m. elim (cases_eq q o) [
-        | inl e ↦
-            let here : get_or (set first o (66 * s + v)) o 0 ≡ 0 = subst (λ (x : ℕ). get_or (set first o (66 * s + v)) x 0 ≡ 0) e z in
-            absurd (omega arith)
-        | inr d ↦ packed.none q j (sym (get_or-set_other first o q (66 * s + v) 0 d) ∙ z) m
-      ];
-      long = rw long packed.long;
-    }
 
 -- a further mark of an offset
 pub rest_set : (first rest : List ℕ) (room o s v : ℕ) → IsPacked first rest room → s < 3 → o < length first → length rest ≡ 2 * length first
@@ -248,3 +229,22 @@ read_at first rest cells k o e = subst (λ (x : List ℕ). cell k o < length x �
 
 pub inside_at : (first rest cells : List ℕ) (k : ItemKind) (o : ℕ) → cells_of first rest ≡ cells → cell k o < length cells → o < length first
 inside_at first rest cells k o e = subst (λ (x : List ℕ). cell k o < length x → o < length first) e (λ h. cell_inside first rest k o h)
+
+-- a mark is set beside the one that its offset has
+pub set_beside : (first rest later cells : List ℕ) (room after o s v place n code : ℕ) (k : ItemKind) → IsPacked first rest room → cells_of first rest ≡ cells
+    → cell k o < length cells → s ≡ slot k → code ≡ get_or first o code → (code ≢ 0) × (code / 66 ≢ s) → n ≡ length first
+    → later ≡ cond (eqb (length rest) 0) (replicate (2 * n) 0) rest → place ≡ other o s (code / 66)
+    → IsPacked first (set later place v) after × (cells_of first (set later place v) ≡ set cells (cell k o) v)
+set_beside first rest later cells room after o s v place n code k packed view inside is read apart len filled at =
+    let i = inside_at first rest cells k o view inside in
+    let same = code_is first o code i read in
+    let l = slot_low k in
+    let r = ready first rest later room after packed (filled ∙ ap (λ (x : ℕ). cond (eqb (length rest) 0) (replicate (2 * x) 0) rest) len) in
+    let full : get_or first o 0 ≢ 0 = λ z. apart.0 (same ∙ z) in
+    let other_slot : get_or first o 0 / 66 ≢ s = λ z. apart.1 (ap (λ (x : ℕ). x / 66) same ∙ z) in
+    let there : other o s (get_or first o 0 / 66) ≡ place = ap (λ (x : ℕ). other o s (x / 66)) (sym same) ∙ sym at in (
+      subst (λ (x : ℕ). IsPacked first (set later x v) after) there (rest_packed first later after o s v r.packed (omega arith) r.long full other_slot),
+      subst (λ (x : ℕ). cells_of first (set later x v) ≡ set (cells_of first later) (3 * o + s) v) there
+          (rest_set first later after o s v r.packed (omega arith) i r.long full other_slot)
+          ∙ ap (λ (x : List ℕ). set x (3 * o + s) v) (r.same ∙ view) ∙ ap (λ (x : ℕ). set cells (3 * o + x) v) is,
+    )

@@ -60,7 +60,7 @@ pub fn check_item(
     }
 }
 
-/// The height of the tree of a table or an array with data: the one that is kept, or what an entry finds.
+/// The height of the tree of a table or an array with data. One that was not met before is entered, and its height is kept.
 #[cycle(check)]
 #[inline(never)]
 fn check_inner(
@@ -90,8 +90,15 @@ fn check_inner(
     ensures holds { IfOk result (λ _. AreRuns layout.now body.now state.new.memo state.new.runs) }
     ensures known { IfOk result (λ _. mark_at state.new.memo kind (offset_of item) ≢ 0) }
 {
-    match state.memo.mark(kind, item_offset(item)) {
-        Mark::New => enter(layout, body, state, item, kind, left),
+    let offset = item_offset(item);
+    match state.memo.mark(kind, offset) {
+        Mark::New => {
+            state.memo.enter(kind, offset);
+            let found = find_children(layout, body, &mut state.keys, kind, offset)?;
+            let below = check_items(layout, body, state, found.first, found.count, left)?;
+            state.memo.finish(kind, offset, below + 1);
+            Ok(below + 1)
+        }
         Mark::Open => Err(FileFault::TooDeep),
         Mark::Done(height) => {
             if height <= left + 1 {
@@ -103,45 +110,8 @@ fn check_inner(
     }
 }
 
-/// Enters a table or an array that was not entered before, and keeps the height of its tree.
-#[cycle(check)]
-fn enter(
-    layout: &Layout,
-    body: &[u8],
-    state: &mut CheckState,
-    item: u32,
-    kind: ItemKind,
-    left: u8,
-) -> Result<u8, FileFault>
-    requires room { 4 * layout.now.top ≤ length body.now }
-    requires tops { layout.now.keys_top ≤ layout.now.top }
-    requires small { left < 64 }
-    requires met { IsMet body.now item }
-    requires is_kind { kind_of item ≡ Some kind }
-    requires inner { geometry.has_children kind ≡ true }
-    requires full { 0 < offset_of item }
-    requires there { within layout.now kind (offset_of item) ≡ Ok true }
-    requires below { offset_of item < layout.now.top }
-    requires sound { IsSound layout.now body.now state.old.keys.known }
-    requires keeps { Keeps layout.now body.now state.old.memo }
-    requires holds { AreRuns layout.now body.now state.old.memo state.old.runs }
-    requires leads { Leads layout.now body.now state.old.memo (λ e. read layout.now body.now e item ≡ Err FileFault.TooDeep) }
-    requires fresh { mark_at state.old.memo kind (offset_of item) ≡ 0 }
-    ensures value { result ≡ result_map height (contents layout.now body.now (λ w. read layout.now body.now left w) (offset_of item) kind) }
-    ensures sound { IsSound layout.now body.now state.new.keys.known }
-    ensures after { IfOk result (λ _. After layout.now body.now state.old.memo state.new.memo) }
-    ensures holds { IfOk result (λ _. AreRuns layout.now body.now state.new.memo state.new.runs) }
-    ensures known { IfOk result (λ _. mark_at state.new.memo kind (offset_of item) ≢ 0) }
-{
-    let offset = item_offset(item);
-    state.memo.enter(kind, offset);
-    let found = find_children(layout, body, &mut state.keys, kind, offset)?;
-    let below = check_items(layout, body, state, found.first, found.count, left)?;
-    state.memo.finish(kind, offset, below + 1);
-    Ok(below + 1)
-}
-
-/// The greatest height of so many items from a word on. What is found of a block of them is kept.
+/// The greatest height of so many items from a word on: they are checked one by one, or in two parts. What is found of a block of
+/// them is kept.
 #[cycle(check)]
 fn check_items(
     layout: &Layout,
@@ -168,7 +138,12 @@ fn check_items(
     ensures known { IfOk result (λ _. IsRunKnown body.now state.new.memo first count) }
 {
     if state.runs.is_plain(count) {
-        return check_each(layout, body, state, first, count, left);
+        let mut height = 0;
+        for i in first..first + count {
+            let child = check_item(layout, body, state, word_at(body, i), left)?;
+            height = height.max(child);
+        }
+        return Ok(height);
     }
     let parts = split(first, count);
     if let Some(height) = state.runs.height(parts, first, count) {
@@ -182,39 +157,5 @@ fn check_items(
     let high = check_items(layout, body, state, parts.middle, count - before, left)?;
     let height = low.max(high);
     state.runs.keep(parts, first, count, height);
-    Ok(height)
-}
-
-/// The greatest height of so many items from a word on, which are checked one by one.
-#[cycle(check)]
-fn check_each(
-    layout: &Layout,
-    body: &[u8],
-    state: &mut CheckState,
-    first: usize,
-    count: usize,
-    left: u8,
-) -> Result<u8, FileFault>
-    requires room { 4 * layout.now.top ≤ length body.now }
-    requires tops { layout.now.keys_top ≤ layout.now.top }
-    requires small { left < 64 }
-    requires items { first + count ≤ layout.now.top }
-    requires met { (i : ℕ) → i < count → IsMet body.now (fields.word_at body.now (first + i)) }
-    requires sound { IsSound layout.now body.now state.old.keys.known }
-    requires keeps { Keeps layout.now body.now state.old.memo }
-    requires holds { AreRuns layout.now body.now state.old.memo state.old.runs }
-    requires leads { Leads layout.now body.now state.old.memo (λ e. run_of layout.now body.now e first count ≡ Err FileFault.TooDeep) }
-    ensures value { result ≡ result_map trees_height (run_of layout.now body.now left first count) }
-    ensures low { IfOk result (λ h. h ≤ left) }
-    ensures sound { IsSound layout.now body.now state.new.keys.known }
-    ensures after { IfOk result (λ _. After layout.now body.now state.old.memo state.new.memo) }
-    ensures holds { IfOk result (λ _. AreRuns layout.now body.now state.new.memo state.new.runs) }
-    ensures known { IfOk result (λ _. IsRunKnown body.now state.new.memo first count) }
-{
-    let mut height = 0;
-    for i in first..first + count {
-        let child = check_item(layout, body, state, word_at(body, i), left)?;
-        height = height.max(child);
-    }
     Ok(height)
 }

@@ -1,6 +1,6 @@
 -- Arrays and tables are after their children.
 use Rattle.rb_writer.specs.declared.area.KeyArea.{KeyArea}
-use Rattle.std.proofs.Common.{◌≡◌, ℕ, zero, suc, ◌+◌, ◌*◌, ◌/◌, ◌%◌, ◌^◌, ◌<◌, ◌≤◌, false, ltb, List}
+use Rattle.std.proofs.Common.{◌≡◌, ℕ, zero, suc, ◌+◌, ◌*◌, ◌/◌, ◌^◌, ◌<◌, ◌≤◌, false, ltb, List}
 use Rattle.std.proofs.Common.{[], ◌∷◌, length, get_or, Some, Result, Ok, refl, sym, ◌∙◌, arith, inl, inr}
 use Rattle.std.proofs.lemmas.Bool.{le-ltb}
 use Rattle.std.proofs.lemmas.List.{length-map}
@@ -274,11 +274,11 @@ pub table_stands : (ps : KeyPlaces) (area : KeyArea) (old mid new is : List ℕ)
 table_stands ps area old mid new is n item es t eq s e d ks w =
     rw eq (elim w.written [
       | inl p ↦ put_stands area old new _ (entries_height es) _ es no_entries (offset_of item) item kinds.Table table
-          (short_put ps area old mid new is w.offsets n (offset_of item) es s e d ks w.places w.ordered p.1 w.small) p.0 refl (λ q. refl) (short_contents _ _ _ _)
-          refl refl refl
+          (short_put ps area old mid new is w.offsets n (offset_of item) es s e d ks w.places w.ordered p.1 w.small) p.0 refl (λ q. refl)
+          (short_contents _ _ _ _) refl refl refl
       | inr p ↦ put_stands area old new _ (entries_height es) _ es no_entries (offset_of item) item kinds.LongTable table
-          (long_put ps area old mid new is w.offsets n (offset_of item) es s e d ks w.places w.ordered p.1 w.small) p.0 refl (λ q. refl) (long_contents _ _ _ _)
-          refl refl refl
+          (long_put ps area old mid new is w.offsets n (offset_of item) es s e d ks w.places w.ordered p.1 w.small) p.0 refl (λ q. refl)
+          (long_contents _ _ _ _) refl refl refl
     ])
 
 pub empty_table_stands : (area : KeyArea) (old mid : List ℕ) (is : List ℕ) (n item : ℕ) (es : Members) (t : Tree) → t ≡ trees.Table es

@@ -1,6 +1,5 @@
 -- The longest table, child by child.
 use Rattle.std.proofs.Common.{◌≡◌, ℕ, zero, suc, ◌+◌, ◌≤◌, max, List, [], ◌∷◌, length, drop, Some, refl, ap, arith}
-use Rattle.std.proofs.lemmas.List.{drop_all, length-map}
 use Rattle.std.specs.Prelude.{slice_get}
 use Rattle.std.specs.Map.{values_of}
 use Rattle.rb_tree.specs.Resource.{Resource, string, int, ints, binary, alias, array, table, Resources}
@@ -31,12 +30,6 @@ longest_more ts i m n u all e f g =
     let up : i + 1 ≡ suc i = omega arith in
     let turn = longest_turn ts i u f in
     rw up (omega arith)
-
-pub longest_end : (ts : List Resource) (i m all : ℕ) → length ts ≤ i → max m (longest_in (drop i ts)) ≡ all → m ≡ all
-longest_end ts i m all h g = let none : drop i ts ≡ [] = drop_all i ts h in let k : max m 0 ≡ all = rw none at g in omega arith
-
-pub values_len : (es : Members) → length (values_of (pairs es)) ≡ length (pairs es)
-values_len es = length-map (pairs es) (λ p. p.1)
 
 -- a table takes eight bytes for each entry at least
 mutual

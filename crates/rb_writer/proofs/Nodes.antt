@@ -56,12 +56,6 @@ most_turn [] i u e = cc
 most_turn (t ∷ cs) zero u e = let s : t ≡ u = cc in ap (λ (v : Resource). data_most v + children_most cs) s
 most_turn (t ∷ cs) (suc i) u e = most_turn cs i u e
 
-most_part : (cs : List Resource) (i : ℕ) → children_most (drop i cs) ≤ children_most cs
-most_part [] zero = omega arith
-most_part [] (suc i) = omega arith
-most_part (t ∷ cs) zero = omega arith
-most_part (t ∷ cs) (suc i) = omega (arith, most_part cs i)
-
 pub children_none : (area : KeyArea) (old : List ℕ) (cs : List Resource) → IsDraft area old → ChildrenStand area old old cs [] 0
 children_none area old cs d = record { adds = adds_refl old; drafted = d; little = omega arith; count = refl; reads = λ j u h. absurd (omega arith) }
 

@@ -6,7 +6,7 @@ use Rattle.std.proofs.lemmas.Bool.Decides.{nat_tests}
 use Rattle.std.proofs.lemmas.Bool.{le-ltb, lt-ltb}
 use Rattle.std.proofs.lemmas.List.{get_or-drop, get_or-take, length-drop, length-take, ext_get_or, length_push, get_or_push}
 use Rattle.std.specs.Prelude.{All, ◌==◌, IsSome}
-use Rattle.std.specs.List.{list_all, position_or_len}
+use Rattle.std.specs.List.{position_or_len}
 use Rattle.rb_tree.specs.Keys.{IsKey, IsPlain}
 use Rattle.rb_format.specs.Place.{key, key_front, key_ok}
 use Rattle.std.specs.Ordering.{is_eq, nat_cmp}

@@ -79,9 +79,6 @@ one_more xs f n j x d g h next before =
       | inr other ↦ before (omega arith)
     ]
 
-pub words_none : (old words : List ℕ) → PutsWords old old words 0
-words_none old words = record { adds = adds_refl old; len = omega arith; words_are = λ i j e h. absurd (omega arith) }
-
 pub words_more : (old mid new words : List ℕ) (w n : ℕ) → PutsWords old mid words n → PutsWord mid new w → w ≡ get_or words n w → n < length words
     → PutsWords old new words (n + 1)
 words_more old mid new words w n p q e h =
@@ -92,9 +89,6 @@ words_more old mid new words w n p q e h =
       words_are = λ i j f g. one_more words (λ k. word_at new (i + k)) n j w 0 g h (q.word_is (i + n) (omega arith) ∙ e)
           (λ b. word_stays mid new (i + j) q.adds (omega arith) ∙ p.words_are i j f b);
     }
-
-pub halves_none : (old halves : List ℕ) → PutsHalves old old halves 0
-halves_none old halves = record { adds = adds_refl old; len = omega arith; halves_are = λ i j e h. absurd (omega arith) }
 
 pub halves_more : (old mid new halves : List ℕ) (w n : ℕ) → PutsHalves old mid halves n → PutsHalf mid new w → w ≡ get_or halves n w → n < length halves
     → PutsHalves old new halves (n + 1)

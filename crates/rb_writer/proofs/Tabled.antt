@@ -1,5 +1,5 @@
 -- The places of a table's keys.
-use Rattle.std.proofs.Common.{◌≡◌, ℕ, zero, suc, ◌+◌, List, [], ◌∷◌, ◌++◌, get_or, Some, refl, sym, ap, ◌∙◌, arith, subst, inl, inr}
+use Rattle.std.proofs.Common.{◌≡◌, ℕ, zero, suc, ◌+◌, List, [], ◌∷◌, ◌++◌, get_or, Some, sym, ap, ◌∙◌, arith, subst, inl, inr}
 use Rattle.std.proofs.lemmas.List.{get_or_push, get_or_append_left, length_push}
 use Rattle.std.proofs.lemmas.Bool.{cases_eq}
 use Rattle.std.specs.Prelude.{slice_get, IsSome}
@@ -11,9 +11,6 @@ use Rattle.rb_writer.specs.Places.{EachKey, EachKeyIn, EachKeyOf}
 use Rattle.rb_writer.specs.Standing.{PlacesAre, HasPlaces}
 use Rattle.rb_writer.specs.Keyed.{place}
 use Rattle.rb_writer.specs.declared.keys.KeyPlaces.{KeyPlaces}
-
-pub places_none : (keys : KeyPlaces) (ks : List (List ℕ)) → PlacesAre keys ks [] 0
-places_none keys ks = record { count = refl; are = λ j k h. absurd (omega arith) }
 
 pub places_more : (keys : KeyPlaces) (ks : List (List ℕ)) (offsets : List ℕ) (n o : ℕ) (k : List ℕ) → PlacesAre keys ks offsets n → Some k ≡ slice_get ks n
     → place keys k ≡ Some o → PlacesAre keys ks (offsets ++ o ∷ []) (n + 1)

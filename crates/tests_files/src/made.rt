@@ -104,6 +104,21 @@ pub fn overlapping(alloc: Global, arrays: u32, above: u32) -> Option<Vec<u8>>
     file.done()
 }
 
+/// A table whose `a` is an item, and whose `b` is another below so many arrays of one item. At word 7 are a long table of one key, its
+/// item an array of an array of an Int, and an array of a string; at word 14 are an empty table of either kind, and an empty array.
+pub fn two_kinds(alloc: Global, a: u32, b: u32, above: u8) -> Option<Vec<u8>> {
+    let above = above as u32;
+    let table = 26 + 2 * above;
+    let last = if above == 0 { b } else { ARRAY + table - 2 };
+    let mut file = front(alloc, TABLE + table, 7, table + 4);
+    file.words(&[0x0062_0061, 1, 24, ARRAY + 10, 1, ARRAY + 12, 1, INT]);
+    // the words 24 and 25 are an empty string, for the key offset 24 is also the array's item
+    file.repeat(0, 12);
+    put_wraps(&mut file, b, 26, above);
+    file.words(&[0x0018_0002, 0xAAAA_001A, a, last]);
+    file.done()
+}
+
 /// A table of so many keys, each the end of one long key, the shortest first. The last key has an offset of its own.
 pub fn suffixes(alloc: Global, keys: u32, last: u32) -> Option<Vec<u8>>
     requires { keys < 2 ^ 20 }

@@ -2,7 +2,7 @@
 mod plain;
 mod seen;
 
-use crate::made::{chain, chain_and_more, numbers, overlapping, suffixes};
+use crate::made::{chain, chain_and_more, numbers, overlapping, suffixes, two_kinds};
 use crate::samples::{
     AS_WRITTEN, EMPTY, EVERY_TYPE, HOLDS_ITSELF, ONE_STRING, ONE_STRING_WITHOUT_FALLBACK,
     SUFFIX_KEY, Sample, THREE_NUMBERS, TWO_BINARIES, TWO_NUMBERS, bytes_of,
@@ -343,6 +343,42 @@ fn overlapping_arrays_are_entered_once(rt: HostRuntime) {
     assert!(rt; is_visited(alloc, flat, 1_368, Ok((103, false))));
     assert!(rt; is_visited(alloc, deep, 1_848, Ok((163, false))));
     assert!(rt; is_visited(alloc, deeper, 1_856, Err(FileFault::TooDeep)));
+}
+
+/// The items `a` and `b` of `two_kinds`, how many arrays `b` is below, and what is answered. The root is at level 1.
+const TWO_KINDS: [(u32, u32, u8, Verdict); 13] = [
+    // the root, the long table with its two arrays, 61 arrays, and the array at level 63 with its string at level 64
+    (0x4000_0007, 0x8000_0007, 61, Ok((66, false))),
+    // the string would be at level 65
+    (0x4000_0007, 0x8000_0007, 62, Err(FileFault::TooDeep)),
+    // the root, the array, 59 arrays, and the long table at level 61 with two arrays and an Int below it
+    (0x8000_0007, 0x4000_0007, 59, Ok((64, false))),
+    // the Int would be at level 65
+    (0x8000_0007, 0x4000_0007, 60, Err(FileFault::TooDeep)),
+    // the root and two of the three empty containers
+    (0x2000_000E, 0x8000_000E, 0, Ok((3, false))),
+    (0x8000_000E, 0x2000_000E, 0, Ok((3, false))),
+    (0x2000_000E, 0x4000_000E, 0, Ok((3, false))),
+    (0x4000_000E, 0x2000_000E, 0, Ok((3, false))),
+    // the root, one of them, 62 arrays, and another at level 64
+    (0x4000_000E, 0x8000_000E, 62, Ok((65, false))),
+    (0x4000_000E, 0x8000_000E, 63, Err(FileFault::TooDeep)),
+    // as a table, word 7 has one key, at the offset 0
+    (0x4000_0007, 0x2000_0007, 0, Err(FileFault::Key)),
+    // as an array or a long table, the root's first word is the count 0x180002
+    (0x8000_001A, 0x7000_0000, 0, Err(FileFault::Length)),
+    (0x4000_001A, 0x7000_0000, 0, Err(FileFault::Length)),
+];
+
+#[test]
+fn kinds_at_one_offset_are_entered_each_once(rt: HostRuntime) {
+    let alloc = rt.alloc();
+    for (a, b, above, want) in TWO_KINDS {
+        let length = 152 + 8 * above as usize;
+        assert!(rt; is_visited(alloc, two_kinds(alloc, a, b, above), length, want));
+    }
+    assert!(rt; agrees_on_all(alloc, two_kinds(alloc, 0x4000_0007, 0x8000_0007, 2)));
+    assert!(rt; agrees_on_all(alloc, two_kinds(alloc, 0x2000_000E, 0x8000_000E, 1)));
 }
 
 #[test]

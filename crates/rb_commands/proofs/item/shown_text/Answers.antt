@@ -7,12 +7,18 @@ use Rattle.rb_commands.proofs.item.shown_text.Goals as goal
 
 pub item_text-requires-in-Link : goal.item_text-requires-in-Link
 item_text-requires-in-Link g c =
-    subst IsPath (sym c.rest_after.ensures) (rest_is_path (g.N.Node.tree c.args.root) (g.N.Node.tree c.in-Link.node) c.in-Link.cut c.args.path.now c.requires c.in-Link.ensures.stop c.in-Link.ensures.rest)
+    let stop = c.in-Link.ensures.stop in
+    let is = rest_is_path (g.N.Node.tree c.args.root) (g.N.Node.tree c.in-Link.node) c.in-Link.cut c.args.path.now c.requires stop in
+    subst IsPath (sym c.rest_after.ensures) (is c.in-Link.ensures.rest)
 
 pub returns-in_ok-item_text-in-End-clause-text : goal.returns-in_ok-item_text-in-End-clause-text
 returns-in_ok-item_text-in-End-clause-text g c =
-    (_, shown_end (walk (g.N.Node.tree c.args.root) (segments c.args.path.now)) (g.N.Node.tree c.in-End.node) c.in-End.ensures.stop, c.in_ok-item_text-in-End.ensures)
+    let walked = walk (g.N.Node.tree c.args.root) (segments c.args.path.now) in
+    (_, shown_end walked (g.N.Node.tree c.in-End.node) c.in-End.ensures.stop, c.in_ok-item_text-in-End.ensures)
 
 pub returns-in_ok-item_text-in-Link-clause-text : goal.returns-in_ok-item_text-in-Link-clause-text
 returns-in_ok-item_text-in-Link-clause-text g c =
-    (_, shown_link (walk (g.N.Node.tree c.args.root) (segments c.args.path.now)) (g.N.Node.tree c.in-Link.node) c.in-Link.cut c.rest_after.result.now c.in-Link.ensures.stop (c.in-Link.ensures.rest ∙ ap segments (sym c.rest_after.ensures)), c.in_ok-item_text-in-Link.ensures)
+    let walked = walk (g.N.Node.tree c.args.root) (segments c.args.path.now) in
+    let rest = c.in-Link.ensures.rest ∙ ap segments (sym c.rest_after.ensures) in
+    let is = shown_link walked (g.N.Node.tree c.in-Link.node) c.in-Link.cut c.rest_after.result.now c.in-Link.ensures.stop rest in
+    (_, is, c.in_ok-item_text-in-Link.ensures)

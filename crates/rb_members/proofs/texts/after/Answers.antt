@@ -12,5 +12,6 @@ returns-then-eq c found held =
 
 pub returns-else-eq : goal.returns-else-eq
 returns-else-eq c found held =
-    let other : (c.args.name.now ≡ c.args.key.now → ⊥) = λ e. true≢false (sym ((bytes_eq-Decides c.args.key.now c.args.name.now).1 (sym e)) ∙ sym c.eq.ensures ∙ c.if-eq.false) in
+    let equal = λ (e : c.args.name.now ≡ c.args.key.now). (bytes_eq-Decides c.args.key.now c.args.name.now).1 (sym e) in
+    let other : (c.args.name.now ≡ c.args.key.now → ⊥) = λ e. true≢false (sym (equal e) ∙ sym c.eq.ensures ∙ c.if-eq.false) in
     get_member-put_other c.args.name.now c.args.key.now (string c.args.value.now) found other ∙ held

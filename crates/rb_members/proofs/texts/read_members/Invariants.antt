@@ -12,7 +12,8 @@ invariant-members l = record {
   turns : ℕ;
   enough : length l.reader ≤ turns;
   holds : Holds l.texts found;
-  read : converted (λ ms. of_members ms no_members) (members (value 126) (length l.fn.reader) l.fn.reader) ≡ converted (λ ms. of_members ms found) (members (value 126) turns l.reader);
+  read : converted (λ ms. of_members ms no_members) (members (value 126) (length l.fn.reader) l.fn.reader)
+    ≡ converted (λ ms. of_members ms found) (members (value 126) turns l.reader);
   all : AreTexts l.fn.reader → AreTexts l.reader;
 }
 

@@ -14,5 +14,7 @@ returns-then-read_members-clause-read c none =
     let first : tokens c.args.text.now ≡ Token.begin_object ∷ rest = grind arith in
     let told = c.read_members.ensures.read (search rules) in
     let empty : c.read_members.new.reader ≡ [] = grind arith in
-    let opened = ap (converted of_json) (ap (value 127) first ∙ value-begin_object 127 rest (omega arith)) ∙ converted-object (members (value 126) (length rest) rest) in
-    (told.0, told.1, whole_read (value 127 (tokens c.args.text.now)) (object told.0) (opened ∙ ap (parse_map object) told.2 ∙ ap (λ ts. Some (object told.0, ts)) empty))
+    let read = members (value 126) (length rest) rest in
+    let opened = ap (converted of_json) (ap (value 127) first ∙ value-begin_object 127 rest (omega arith)) ∙ converted-object read in
+    let whole = opened ∙ ap (parse_map object) told.2 ∙ ap (λ ts. Some (object told.0, ts)) empty in
+    (told.0, told.1, whole_read (value 127 (tokens c.args.text.now)) (object told.0) whole)

@@ -7,5 +7,7 @@ use Rattle.rb_replies.proofs.item.item_text.Goals as goal
 pub returns : goal.returns
 returns g c =
     let put = c.in_ok-put_item.ensures in
+    let empty = c.new-out.ensures.before ∙ c.new.ensures.items in
+    let told = item_data (g.N.Node.tree c.args.node) c.args.rest.now in
     ap (λ (v : Vec ℕ). v.items) c.in-Ok.ensures.ok ∙ (c.into_inner-bytes.ensures.items
-    ∙ text_told (item_data (g.N.Node.tree c.args.node) c.args.rest.now) c.new-out.result c.put_item.new.out (c.new-out.ensures.before ∙ c.new.ensures.items) c.new-out.ensures.tokens put.0 put.1)
+    ∙ text_told told c.new-out.result c.put_item.new.out empty c.new-out.ensures.tokens put.0 put.1)

@@ -9,5 +9,6 @@ use Rattle.rb_replies.proofs.item.put_integer.Goals as goal
 pub returns : goal.returns
 returns c =
     let fits : FitsSigned w64 c.args.integer = search rules in
-    let written = subst (λ (z : ℤ). Writes c.i64.result c.args.out.now c.i64.new.self (Token.number (signed_decimal z))) (to_z-of_z w64 c.args.integer fits) c.i64.ensures in
+    let told = λ (z : ℤ). Writes c.i64.result c.args.out.now c.i64.new.self (Token.number (signed_decimal z)) in
+    let written = subst told (to_z-of_z w64 c.args.integer fits) c.i64.ensures in
     puts_integer c.i64.result c.args.out.now c.i64.new.self c.args.integer written

@@ -8,4 +8,6 @@ use Rattle.rb_replies.proofs.item.put_signed.Goals as goal
 pub returns : goal.returns
 returns c =
     let fits : FitsSigned w64 c.signed.result = search rules in
-    subst (λ (z : ℤ). Puts c.put_integer.result c.args.out.now c.put_integer.new.out (data_tokens (number (of_integer z)))) (to_z-of_z w64 c.signed.result fits ∙ c.signed.ensures) c.put_integer.ensures
+    let same = to_z-of_z w64 c.signed.result fits ∙ c.signed.ensures in
+    let told = λ (z : ℤ). Puts c.put_integer.result c.args.out.now c.put_integer.new.out (data_tokens (number (of_integer z))) in
+    subst told same c.put_integer.ensures

@@ -1,11 +1,14 @@
-use Rattle.std.proofs.Common.{◌≡◌, ◌∷◌, [], ◌++◌, ◌∙◌, ap, get_or, decimal, arith, ℕ}
+use Rattle.std.proofs.Common.{◌≡◌, ◌<◌, ◌≤◌, ◌∷◌, [], ◌++◌, ◌∙◌, ap, get_or, length, decimal, arith, ℕ}
 use Rattle.json.specs.Token.{Token}
-use Rattle.serde_json.specs.Data.{number, unsigned}
+use Rattle.serde_json.specs.Data.{Data, number, unsigned}
 use Rattle.rb_tree.specs.Parts.{units_of}
-use Rattle.rb_replies.proofs.OfKinds.{as_many_units}
+use Rattle.rb_locales.proofs.Narrowed.{units_len}
 use Rattle.rb_replies.proofs.Elements.{is_at}
 use Rattle.rb_replies.proofs.Tokens.{put_more, put_all}
 use Rattle.rb_replies.proofs.item.put_units.Goals as goal
+
+abbrev unit_data : ℕ → Data
+unit_data u = number (unsigned u)
 
 pub loop-i-preserved : goal.loop-i-preserved
 loop-i-preserved g c =
@@ -13,9 +16,14 @@ loop-i-preserved g c =
     let i = c.loop-i.i in
     let same : c.from.result ≡ get_or us i 0 = c.from.ensures ∙ c.unit.ensures in
     let token = c.in_ok-u64.ensures.ok ∙ ap (λ (n : ℕ). c.loop-i.out.tokens ++ Token.number (decimal n) ∷ []) same in
-    put_more (λ u. number (unsigned u)) us i (get_or us i 0) c.args.out.now c.loop-i.out c.u64.new.self c.loop-i.invariant token c.in_ok-u64.ensures.room.0 (is_at us i 0 (omega (arith, as_many_units (g.N.Node.tree c.args.node) c.requires, c.len-len.ensures, c.loop-i-test.true)))
+    let kept = c.in_ok-u64.ensures.room.0 in
+    let inside : i < length us = omega (arith, units_len (g.N.Node.tree c.args.node) c.requires, c.len-len.ensures, c.loop-i-test.true) in
+    put_more unit_data us i (get_or us i 0) c.args.out.now c.loop-i.out c.u64.new.self c.loop-i.invariant token kept (is_at us i 0 inside)
 
 pub returns : goal.returns
 returns g c =
     let t = g.N.Node.tree c.args.node in
-    put_all (λ u. number (unsigned u)) (units_of t) c.loop-i.i c.end_array.result c.args.out.now c.loop-i.out c.end_array.new.self c.loop-i.invariant (omega (arith, as_many_units t c.requires, c.len-len.ensures, c.loop-i-test.false)) c.end_array.ensures
+    let i = c.loop-i.i in
+    let end = c.end_array in
+    let over : length (units_of t) ≤ i = omega (arith, units_len t c.requires, c.len-len.ensures, c.loop-i-test.false) in
+    put_all unit_data (units_of t) i end.result c.args.out.now c.loop-i.out end.new.self c.loop-i.invariant over end.ensures

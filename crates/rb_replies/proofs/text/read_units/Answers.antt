@@ -1,7 +1,7 @@
-use Rattle.std.proofs.Common.{◌≡◌, ◌∷◌, drop, string_bytes, subst, Option, ℕ, arith}
+use Rattle.std.proofs.Common.{◌≡◌, ◌≤◌, ◌∷◌, drop, length, string_bytes, subst, Option, ℕ, arith}
 use Rattle.std.specs.Char.Utf16.{utf16_chars}
 use Rattle.rb_tree.specs.Parts.{units_of}
-use Rattle.rb_replies.proofs.OfKinds.{as_many_units}
+use Rattle.rb_locales.proofs.Narrowed.{units_len}
 use Rattle.rb_replies.proofs.Surrogates.{read_more, all_read}
 use Rattle.rb_replies.proofs.text.read_units.Goals as goal
 
@@ -9,11 +9,15 @@ pub loop-at-preserved : goal.loop-at-preserved
 loop-at-preserved g c =
     let us = units_of (g.N.Node.tree c.args.node) in
     let next = c.character_at-character.result.1 in
-    let step = subst (λ (o : Option ℕ). utf16_chars (drop c.loop-at.at us) ≡ o ∷ utf16_chars (drop next us)) c.in-Some.is c.character_at-character.ensures.first in
-    read_more (string_bytes c.loop-at.text) (string_bytes c.push.new.self) us c.loop-at.at next c.in-Some.character c.loop-at.invariant step c.in_ok-push.ensures.bytes
+    let at = c.loop-at.at in
+    let first = c.character_at-character.ensures.first in
+    let step = subst (λ (o : Option ℕ). utf16_chars (drop at us) ≡ o ∷ utf16_chars (drop next us)) c.in-Some.is first in
+    let pushed = c.in_ok-push.ensures.bytes in
+    read_more (string_bytes c.loop-at.text) (string_bytes c.push.new.self) us at next c.in-Some.character c.loop-at.invariant step pushed
 
 pub returns : goal.returns
 returns g c =
     let t = g.N.Node.tree c.args.node in
-    let done = all_read (string_bytes c.loop-at.text) (units_of t) c.loop-at.at c.loop-at.invariant (omega (arith, as_many_units t c.requires, c.len-len.ensures, c.loop-at-test.false)) in
+    let over : length (units_of t) ≤ c.loop-at.at = omega (arith, units_len t c.requires, c.len-len.ensures, c.loop-at-test.false) in
+    let done = all_read (string_bytes c.loop-at.text) (units_of t) c.loop-at.at c.loop-at.invariant over in
     record { whole = done.0; text = λ e. done.1 }

@@ -5,5 +5,8 @@ use Rattle.rb_replies.proofs.told.put_names.Goals as goal
 
 pub returns : goal.returns
 returns c =
-    let all : take c.loop-name.name-index c.args.names.now ≡ c.args.names.now = take_all c.loop-name.name-index c.args.names.now (omega arith) in
-    puts_texts c.end_array.result c.args.out.now c.loop-name.out c.end_array.new.self c.args.names.now (c.loop-name.invariant.written ∙ rw all) c.loop-name.invariant.kept c.end_array.ensures
+    let names = c.args.names.now in
+    let l = c.loop-name in
+    let end = c.end_array in
+    let all : take l.name-index names ≡ names = take_all l.name-index names (omega arith) in
+    puts_texts end.result c.args.out.now l.out end.new.self names (l.invariant.written ∙ rw all) l.invariant.kept end.ensures

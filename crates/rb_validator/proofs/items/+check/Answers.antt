@@ -11,8 +11,8 @@ use Rattle.rb_validator.specs.Marks.{cell, mark_of, mark_at, children_at, IsMet,
 use Rattle.rb_validator.proofs.Cells.{cell_low, follows_same, follows_then, known_after, leads_after}
 use Rattle.rb_validator.proofs.Shapes.{leaf_height, fault_height, err_height, height_ok, height_err, children_err, children_fault, children_there}
 use Rattle.rb_validator.proofs.Ways.{cycle_deep, leads_children, leads_first, leads_next}
-use Rattle.rb_validator.proofs.Entering.{open_is, met_done, limit_fits, limit_passed, item_refused, item_bare, item_inner, items_none, items_stop, items_next}
-use Rattle.rb_validator.proofs.Entering.{items_end, some_fault, entered_height, entered_after, opened_keeps, opened_met, read_low, max_is}
+use Rattle.rb_validator.proofs.Entering.{new_is, open_is, met_done, limit_fits, limit_passed, item_refused, item_bare, item_inner, items_none, items_stop}
+use Rattle.rb_validator.proofs.Entering.{items_next, items_end, some_fault, entered_height, entered_after, opened_keeps, opened_met, read_low, max_is}
 use Rattle.rb_validator.proofs.Spans.{run_height, leads_shift, runs_set, run_low_err, run_high_err, run_both, run_fits, run_passed, leads_low, leads_high}
 use Rattle.rb_validator.proofs.Spans.{known_both, kept_run, made_run, runs_kept, runs_ready}
 use Rattle.rb_validator.proofs.items.+check.Goals as goal
@@ -22,14 +22,14 @@ use Rattle.rb_validator.proofs.items.+check.Goals as goal
 pub check_inner-returns-in-Open-clause-value : goal.check_inner-returns-in-Open-clause-value
 check_inner-returns-in-Open-clause-value t c =
     let cells = c.args.state.now.memo in
-    let is : mark_at cells c.args.kind (offset_of c.args.item) ≡ 65 = open_is _ (rw c.item_offset.ensures at c.in-Open.ensures) in
+    let is : mark_at cells c.args.kind (offset_of c.args.item) ≡ 65 = open_is _ (rw c.item_offset-offset.ensures at c.in-Open.ensures) in
     sym (err_height _ TooDeep (cycle_deep c.args.layout.now c.args.body.now cells c.args.left c.args.item c.args.kind c.requires.leads c.requires.is_kind
     c.requires.there c.requires.inner is))
 
 pub check_inner-returns-then-height-left-clause-value : goal.check_inner-returns-then-height-left-clause-value
 check_inner-returns-then-height-left-clause-value t c =
     let done : Done c.in-Done.height ≡ mark_of (mark_at c.args.state.now.memo c.args.kind (offset_of c.args.item)) =
-    rw c.item_offset.ensures at c.in-Done.ensures in
+    rw c.item_offset-offset.ensures at c.in-Done.ensures in
     let is = met_done c.args.layout.now c.args.body.now c.args.state.now.memo c.args.left c.args.item c.in-Done.height c.args.kind c.requires.keeps
     c.requires.is_kind c.requires.there c.requires.inner done in
     sym (is ∙ limit_fits c.args.left c.in-Done.height (omega arith))
@@ -37,7 +37,7 @@ check_inner-returns-then-height-left-clause-value t c =
 pub check_inner-returns-else-height-left-clause-value : goal.check_inner-returns-else-height-left-clause-value
 check_inner-returns-else-height-left-clause-value t c =
     let done : Done c.in-Done.height ≡ mark_of (mark_at c.args.state.now.memo c.args.kind (offset_of c.args.item)) =
-    rw c.item_offset.ensures at c.in-Done.ensures in
+    rw c.item_offset-offset.ensures at c.in-Done.ensures in
     let is = met_done c.args.layout.now c.args.body.now c.args.state.now.memo c.args.left c.args.item c.in-Done.height c.args.kind c.requires.keeps
     c.requires.is_kind c.requires.there c.requires.inner done in
     sym (is ∙ limit_passed c.args.left c.in-Done.height (omega arith))
@@ -90,8 +90,8 @@ check_item-returns-in-None-clause-value t c = sym (ap (result_map height)
 
 -- ---- several items, one by one
 
-pub check_each-loop-i-init : goal.check_each-loop-i-init
-check_each-loop-i-init t c =
+pub check_items-loop-i-init : goal.check_items-loop-i-init
+check_items-loop-i-init t c =
     let y = c.args.layout.now in let body = c.args.body.now in
     let all : c.args.first + c.args.count - c.args.first ≡ c.args.count = omega arith in
     record {
@@ -99,13 +99,13 @@ check_each-loop-i-init t c =
       low = omega arith;
       sound = c.requires.sound;
       after = record { keeps = c.requires.keeps; follows = follows_same c.args.state.now.memo };
-      holds = c.requires.holds;
+      holds = runs_ready y body c.args.state.now.memo c.args.state.now.runs c.is_plain.new.self c.requires.holds c.is_plain.ensures.runs;
       known = λ j h l. absurd (omega arith);
       leads = rw all c.requires.leads;
     }
 
-pub check_each-check_item-requires : goal.check_each-check_item-requires
-check_each-check_item-requires t c =
+pub check_items-check_item-requires : goal.check_items-check_item-requires
+check_items-check_item-requires t c =
     let y = c.args.layout.now in let body = c.args.body.now in let i = c.loop-i.i in
     let item = fields.word_at body in
     let end = c.args.first + c.args.count in
@@ -137,8 +137,8 @@ check_each-check_item-requires t c =
       ),
     )
 
-pub check_each-returns-in_err-child-clause-value : goal.check_each-returns-in_err-child-clause-value
-check_each-returns-in_err-child-clause-value t c =
+pub check_items-returns-in_err-child-clause-value : goal.check_items-returns-in_err-child-clause-value
+check_items-returns-in_err-child-clause-value t c =
     let y = c.args.layout.now in let body = c.args.body.now in let i = c.loop-i.i in
     let end = c.args.first + c.args.count in
     let p = err_from_is_err_and c.from_residual.result c.from_residual.ensures.1 in
@@ -148,8 +148,8 @@ check_each-returns-in_err-child-clause-value t c =
     rw (p.1, p.2) (sym (items_stop (λ w. read y body c.args.left w) (fields.word_at body) i (end - i)
     (end - (i + 1)) c.loop-i.height _ _ step e c.loop-i.invariant.value))
 
-pub check_each-loop-i-preserved : goal.check_each-loop-i-preserved
-check_each-loop-i-preserved t c =
+pub check_items-loop-i-preserved : goal.check_items-loop-i-preserved
+check_items-loop-i-preserved t c =
     let y = c.args.layout.now in let body = c.args.body.now in let i = c.loop-i.i in
     let item = fields.word_at body in
     let end = c.args.first + c.args.count in
@@ -173,30 +173,13 @@ check_each-loop-i-preserved t c =
           (leads_after y body _ _ _ a.follows c.loop-i.invariant.leads);
     }
 
-pub check_each-returns-clause-value : goal.check_each-returns-clause-value
-check_each-returns-clause-value t c =
+pub check_items-returns-then-is_plain-clause-value : goal.check_items-returns-then-is_plain-clause-value
+check_items-returns-then-is_plain-clause-value t c =
     let y = c.args.layout.now in let body = c.args.body.now in let i = c.loop-i.i in
     let none : c.args.first + c.args.count - i ≡ 0 = omega arith in
     items_end (λ w. read y body c.args.left w) (fields.word_at body) i (c.args.first + c.args.count - i) c.loop-i.height _ none c.loop-i.invariant.value
 
 -- ---- several items, in two parts
-
-pub check_items-check_each-requires : goal.check_items-check_each-requires
-check_items-check_each-requires t c =
-    let y = c.args.layout.now in let body = c.args.body.now in
-    let ready = runs_ready y body c.args.state.now.memo c.args.state.now.runs c.is_plain.new.self c.requires.holds c.is_plain.ensures.runs in (
-      omega arith,
-      (
-        c.requires.room,
-        (
-          c.requires.tops,
-          (
-            c.requires.small,
-            (c.requires.items, (c.requires.met, (c.requires.sound, (c.requires.keeps, (ready, c.requires.leads))))),
-          ),
-        ),
-      ),
-    )
 
 pub check_items-returns-then-height-left-clause-value : goal.check_items-returns-then-height-left-clause-value
 check_items-returns-then-height-left-clause-value t c =
@@ -253,7 +236,7 @@ check_items-returns-in_err-low-clause-value t c =
     let mid = c.split-parts.result.middle in let m = mid - from in
     let part : m ≤ n = omega arith in
     let q : mid ≡ from + m = omega arith in
-    let p = err_from_is_err_and c.from_residual.result c.from_residual.ensures.1 in
+    let p = err_from_is_err_and c.from_residual-in_err-low.result c.from_residual-in_err-low.ensures.1 in
     rw (p.1, p.2) (run_low_err y body c.args.left from m n _ part c.in_err-low.ensures.value)
 
 pub check_items-check_items-requires-2 : goal.check_items-check_items-requires-2
@@ -309,7 +292,7 @@ check_items-returns-clause-value t c =
     let mid = c.split-parts.result.middle in let m = mid - from in
     let part : m ≤ n = omega arith in
     let q : mid ≡ from + m = omega arith in
-    let high : c.max-height.result ≡ max c.in_ok-low.low c.in_ok-high.high = c.max-height.ensures in
+    let high : c.max-height-2.result ≡ max c.in_ok-low.low c.in_ok-high.high = c.max-height-2.ensures in
     ap Ok high ∙ (run_both y body c.args.left from m n mid c.in_ok-low.low c.in_ok-high.high part q c.in_ok-low.ensures.value c.in_ok-high.ensures.value)
 
 pub check_items-returns-clause-known : goal.check_items-returns-clause-known
@@ -325,25 +308,25 @@ pub check_items-returns-clause-holds : goal.check_items-returns-clause-holds
 check_items-returns-clause-holds t c =
     let y = c.args.layout.now in let body = c.args.body.now in let from = c.args.first in let n = c.args.count in
     let cells = c.check_items-2.new.state.memo in
-    let run = made_run y body cells c.args.left from n c.max-height.result (check_items-returns-clause-value t c) (check_items-returns-clause-known t c) in
-    runs_kept y body cells c.check_items-2.new.state.runs c.keep.new.self _ from n c.max-height.result c.in_ok-high.ensures.holds run c.keep.ensures
+    let run = made_run y body cells c.args.left from n c.max-height-2.result (check_items-returns-clause-value t c) (check_items-returns-clause-known t c) in
+    runs_kept y body cells c.check_items-2.new.state.runs c.keep.new.self _ from n c.max-height-2.result c.in_ok-high.ensures.holds run c.keep.ensures
 
 -- ---- an entry
 
-pub enter-returns-in_err-found-clause-value : goal.enter-returns-in_err-found-clause-value
-enter-returns-in_err-found-clause-value t c =
+pub check_inner-returns-in_err-found-in-New-clause-value : goal.check_inner-returns-in_err-found-in-New-clause-value
+check_inner-returns-in_err-found-in-New-clause-value t c =
     let y = c.args.layout.now in let body = c.args.body.now in
     let p = err_from_is_err_and c.from_residual.result c.from_residual.ensures.1 in
-    let e = rw c.item_offset-offset.ensures at c.in_err-found.ensures.value in
+    let e = rw c.item_offset-offset.ensures at c.in_err-found-in-New.ensures.value in
     rw (p.1, p.2) (sym (err_height _ _ (children_err y body (λ w. read y body c.args.left w) c.args.kind (offset_of c.args.item) _ c.requires.inner (sym e))))
 
-pub enter-check_items-requires : goal.enter-check_items-requires
-enter-check_items-requires t c =
+pub check_inner-check_items-requires : goal.check_inner-check_items-requires
+check_inner-check_items-requires t c =
     let y = c.args.layout.now in let body = c.args.body.now in let o = offset_of c.args.item in let k = c.args.kind in
     let cells = c.args.state.now.memo in
     let inside : cell k o < length cells = rw c.requires.keeps.long (cell_low k o y.top c.requires.below) in
-    let there : Ok c.in_ok-found.found ≡ children_at y body k o = rw c.item_offset-offset.ensures at c.in_ok-found.ensures.value in
-    let at = children_there y body k o c.in_ok-found.found c.requires.inner (sym there) in
+    let there : Ok c.in_ok-found-in-New.found ≡ children_at y body k o = rw c.item_offset-offset.ensures at c.in_ok-found-in-New.ensures.value in
+    let at = children_there y body k o c.in_ok-found-in-New.found c.requires.inner (sym there) in
     let new : c.enter.new.self ≡ set cells (cell k o) 65 = rw c.item_offset-offset.ensures at c.enter.ensures in (
       omega arith,
       (
@@ -355,16 +338,16 @@ enter-check_items-requires t c =
             (
               at.low,
               (
-                opened_met y body c.args.item k c.in_ok-found.found c.requires.met c.requires.is_kind c.requires.inner c.requires.full there,
+                opened_met y body c.args.item k c.in_ok-found-in-New.found c.requires.met c.requires.is_kind c.requires.inner c.requires.full there,
                 (
-                  c.in_ok-found.ensures.sound,
+                  c.in_ok-found-in-New.ensures.sound,
                   (
                     rw new (opened_keeps y body cells c.args.item k c.requires.keeps c.requires.met c.requires.is_kind c.requires.inner c.requires.full inside),
                     (
                       rw new (runs_set y body cells (cell k o) 65 c.args.state.now.runs (λ z. omega arith) inside c.requires.holds),
-                      rw new (leads_shift y body (set cells (cell k o) 65) c.in_ok-found.found.first c.in_ok-found.found.count
-                          (leads_children y body cells c.args.item k c.in_ok-found.found c.requires.leads c.requires.is_kind c.requires.there c.requires.inner
-                          inside (sym there))),
+                      rw new (leads_shift y body (set cells (cell k o) 65) c.in_ok-found-in-New.found.first c.in_ok-found-in-New.found.count
+                          (leads_children y body cells c.args.item k c.in_ok-found-in-New.found c.requires.leads c.requires.is_kind c.requires.there
+                          c.requires.inner inside (sym there))),
                     ),
                   ),
                 ),
@@ -375,38 +358,41 @@ enter-check_items-requires t c =
       ),
     )
 
-pub enter-returns-in_err-below-clause-value : goal.enter-returns-in_err-below-clause-value
-enter-returns-in_err-below-clause-value t c =
+pub check_inner-returns-in_err-below-in-New-clause-value : goal.check_inner-returns-in_err-below-in-New-clause-value
+check_inner-returns-in_err-below-in-New-clause-value t c =
     let y = c.args.layout.now in let body = c.args.body.now in let o = offset_of c.args.item in let k = c.args.kind in
-    let p = err_from_is_err_and c.from_residual-in_err-below.result c.from_residual-in_err-below.ensures.1 in
-    let there : Ok c.in_ok-found.found ≡ children_at y body k o = rw c.item_offset-offset.ensures at c.in_ok-found.ensures.value in
-    let f = some_fault _ _ (run_height y body c.args.left _ _ _ c.in_err-below.ensures.value) in
-    rw (p.1, p.2) (sym (err_height _ _ (children_fault y body (λ w. read y body c.args.left w) k o c.in_ok-found.found _ c.requires.inner (sym there) f)))
+    let p = err_from_is_err_and c.from_residual-in_err-below-in-New.result c.from_residual-in_err-below-in-New.ensures.1 in
+    let there : Ok c.in_ok-found-in-New.found ≡ children_at y body k o = rw c.item_offset-offset.ensures at c.in_ok-found-in-New.ensures.value in
+    let f = some_fault _ _ (run_height y body c.args.left _ _ _ c.in_err-below-in-New.ensures.value) in
+    let found = c.in_ok-found-in-New.found in
+    rw (p.1, p.2) (sym (err_height _ _ (children_fault y body (λ w. read y body c.args.left w) k o found _ c.requires.inner (sym there) f)))
 
-pub enter-returns-clause-value : goal.enter-returns-clause-value
-enter-returns-clause-value t c =
+pub check_inner-returns-in_ok-below-in-New-clause-value : goal.check_inner-returns-in_ok-below-in-New-clause-value
+check_inner-returns-in_ok-below-in-New-clause-value t c =
     let y = c.args.layout.now in let body = c.args.body.now in let o = offset_of c.args.item in let k = c.args.kind in
-    let there : Ok c.in_ok-found.found ≡ children_at y body k o = rw c.item_offset-offset.ensures at c.in_ok-found.ensures.value in
-    sym (entered_height y body (λ w. read y body c.args.left w) k o c.in_ok-below.below c.in_ok-found.found c.requires.inner there
-    (run_height y body c.args.left _ _ _ c.in_ok-below.ensures.value))
+    let there : Ok c.in_ok-found-in-New.found ≡ children_at y body k o = rw c.item_offset-offset.ensures at c.in_ok-found-in-New.ensures.value in
+    sym (entered_height y body (λ w. read y body c.args.left w) k o c.in_ok-below-in-New.below c.in_ok-found-in-New.found c.requires.inner there
+    (run_height y body c.args.left _ _ _ c.in_ok-below-in-New.ensures.value))
 
-pub enter-returns-clause-after : goal.enter-returns-clause-after
-enter-returns-clause-after t c =
+pub check_inner-returns-in_ok-below-in-New-clause-after : goal.check_inner-returns-in_ok-below-in-New-clause-after
+check_inner-returns-in_ok-below-in-New-clause-after t c =
     let y = c.args.layout.now in let body = c.args.body.now in let o = offset_of c.args.item in let k = c.args.kind in
     let cells = c.args.state.now.memo in
     let inside : cell k o < length cells = rw c.requires.keeps.long (cell_low k o y.top c.requires.below) in
-    let there : Ok c.in_ok-found.found ≡ children_at y body k o = rw c.item_offset-offset.ensures at c.in_ok-found.ensures.value in
+    let there : Ok c.in_ok-found-in-New.found ≡ children_at y body k o = rw c.item_offset-offset.ensures at c.in_ok-found-in-New.ensures.value in
     let new : c.enter.new.self ≡ set cells (cell k o) 65 = rw c.item_offset-offset.ensures at c.enter.ensures in
-    let a = rw new at c.in_ok-below.ensures.after in
-    let low = c.in_ok-below.ensures.low in
-    rw (c.finish.ensures, c.item_offset-offset.ensures) (entered_after y body cells c.check_items.new.state.memo c.args.left c.args.item k c.in_ok-below.below
-    c.in_ok-found.found c.requires.keeps c.requires.met c.requires.is_kind c.requires.inner c.requires.full inside c.requires.fresh there
-    (run_height y body c.args.left _ _ _ c.in_ok-below.ensures.value) (omega arith) a c.in_ok-below.ensures.known)
+    let a = rw new at c.in_ok-below-in-New.ensures.after in
+    let low = c.in_ok-below-in-New.ensures.low in
+    let fresh : mark_at cells k o ≡ 0 = new_is _ (rw c.item_offset-offset.ensures at c.in-New.ensures) in
+    let below = c.in_ok-below-in-New.below in
+    rw (c.finish.ensures, c.item_offset-offset.ensures) (entered_after y body cells c.check_items.new.state.memo c.args.left c.args.item k below
+    c.in_ok-found-in-New.found c.requires.keeps c.requires.met c.requires.is_kind c.requires.inner c.requires.full inside fresh there
+    (run_height y body c.args.left _ _ _ c.in_ok-below-in-New.ensures.value) (omega arith) a c.in_ok-below-in-New.ensures.known)
 
-pub enter-returns-clause-holds : goal.enter-returns-clause-holds
-enter-returns-clause-holds t c =
+pub check_inner-returns-in_ok-below-in-New-clause-holds : goal.check_inner-returns-in_ok-below-in-New-clause-holds
+check_inner-returns-in_ok-below-in-New-clause-holds t c =
     let y = c.args.layout.now in let body = c.args.body.now in let o = offset_of c.args.item in let k = c.args.kind in
-    let a = c.in_ok-below.ensures.after in
+    let a = c.in_ok-below-in-New.ensures.after in
     let inside : cell k o < length c.check_items.new.state.memo = rw a.keeps.long (cell_low k o y.top c.requires.below) in
     rw (c.finish.ensures, c.item_offset-offset.ensures) (runs_set y body c.check_items.new.state.memo (cell k o)
-    (c.in_ok-below.below + 1) c.check_items.new.state.runs (λ z. omega arith) inside c.in_ok-below.ensures.holds)
+    (c.in_ok-below-in-New.below + 1) c.check_items.new.state.runs (λ z. omega arith) inside c.in_ok-below-in-New.ensures.holds)

@@ -14,17 +14,11 @@ decreases-check_item l = 73786976294838206464 * l.left
 abbrev pub decreases-check_inner : goal.decreases-check_inner
 decreases-check_inner l = 73786976294838206464 * l.left + 73786976294838206463
 
-abbrev pub decreases-enter : goal.decreases-enter
-decreases-enter l = 73786976294838206464 * l.left + 73786976294838206462
-
 abbrev pub decreases-check_items : goal.decreases-check_items
-decreases-check_items l = 73786976294838206464 * l.left + 2 * l.count + 2
+decreases-check_items l = 73786976294838206464 * l.left + l.count + 1
 
-abbrev pub decreases-check_each : goal.decreases-check_each
-decreases-check_each l = 73786976294838206464 * l.left + 2 * l.count + 1
-
-abbrev pub invariant-check_each-loop-i : goal.invariant-check_each-loop-i
-invariant-check_each-loop-i l =
+abbrev pub invariant-check_items-loop-i : goal.invariant-check_items-loop-i
+invariant-check_items-loop-i l =
     record {
       value : result_map (λ ts. max l.height (trees_height ts)) (run_of l.layout l.body l.left l.i (l.first + l.count - l.i)) ≡ result_map trees_height
           (run_of l.layout l.body l.left l.first l.count);

@@ -1,8 +1,7 @@
-use Rattle.std.proofs.Common.{◌≡◌, ◌⊎◌, ℕ, ◌+◌, ◌*◌, ◌/◌, cond, eqb, List, length, get_or, set, replicate, sym, ap, subst, ◌∙◌, arith}
+use Rattle.std.proofs.Common.{◌≡◌, ◌⊎◌, ℕ, ◌+◌, ◌*◌, ◌/◌, cond, eqb, List, length, set, replicate, ap, subst, ◌∙◌, arith}
 use Rattle.rb_validator.specs.Marks.{slot}
-use Rattle.rb_validator.specs.Packed.{other, cells_of, IsPacked}
 use Rattle.rb_validator.proofs.Cells.{slot_low}
-use Rattle.rb_validator.proofs.Packing.{ready, code_is, inside_at, first_set, rest_set, rest_packed}
+use Rattle.rb_validator.proofs.Packing.{ready, code_is, inside_at, first_set, set_beside}
 use Rattle.rb_validator.proofs.heights.Heights.set.Goals as goal
 
 pub index-code-requires : goal.index-code-requires
@@ -60,39 +59,20 @@ index_mut-requires-else-is_for c =
 
 pub invariant_of-self-else-is_for : goal.invariant_of-self-else-is_for
 invariant_of-self-else-is_for c =
-    let first = c.self.inside.first.items in let rest = c.self.inside.rest.items in let o = c.args.offset in
-    let s = c.slot_of-slot.result in let v = c.args.number in let later = c.fill.new.list.items in
-    let i = inside_at first rest c.args.self.now c.args.kind o c.self.view_is c.requires.inside in
-    let code = code_is first o c.index-code.result.now i c.index-code.ensures in
-    let l = slot_low c.args.kind in
-    let is : s ≡ slot c.args.kind = c.slot_of-slot.ensures in
-    let no = c.is_for.ensures.no c.if-is_for.false in
+    let first = c.self.inside.first.items in let rest = c.self.inside.rest in let later = c.fill.new.list in
     let len = c.self.inside.first.ok.0 in
     let n : c.len.result ≡ length first = omega (arith, len, c.len.ensures) in
-    let e : later ≡ cond (eqb (length rest) 0) (replicate (2 * length first) 0) rest =
-    c.fill.ensures ∙ ap (λ (x : ℕ). cond (eqb (length rest) 0) (replicate (2 * x) 0) rest) n in
-    let r = ready first rest later c.self.inside.rest.cap c.fill.new.list.cap c.self.invariant e in
-    let place : other o s (get_or first o 0 / 66) ≡ c.place_of.result = ap (λ (x : ℕ). other o s (x / 66)) (sym code) ∙ sym c.place_of.ensures in
-    subst (λ (x : ℕ). IsPacked first (set later x v) c.fill.new.list.cap) place
-    (rest_packed first later c.fill.new.list.cap o s v r.packed (omega arith) r.long (λ z. no.0 (code ∙ z))
-    (λ z. no.1 (ap (λ (x : ℕ). x / 66) code ∙ z)))
+    let set = set_beside first rest.items later.items c.args.self.now rest.cap later.cap c.args.offset c.slot_of-slot.result c.args.number
+    c.place_of.result c.len.result c.index-code.result.now c.args.kind c.self.invariant c.self.view_is c.requires.inside c.slot_of-slot.ensures
+    c.index-code.ensures (c.is_for.ensures.no c.if-is_for.false) n c.fill.ensures c.place_of.ensures in
+    set.0
 
 pub returns-else-is_for : goal.returns-else-is_for
 returns-else-is_for c =
-    let first = c.self.inside.first.items in let rest = c.self.inside.rest.items in let o = c.args.offset in
-    let s = c.slot_of-slot.result in let v = c.args.number in let later = c.fill.new.list.items in
-    let i = inside_at first rest c.args.self.now c.args.kind o c.self.view_is c.requires.inside in
-    let code = code_is first o c.index-code.result.now i c.index-code.ensures in
-    let l = slot_low c.args.kind in
-    let is : s ≡ slot c.args.kind = c.slot_of-slot.ensures in
-    let no = c.is_for.ensures.no c.if-is_for.false in
+    let first = c.self.inside.first.items in let rest = c.self.inside.rest in let later = c.fill.new.list in
     let len = c.self.inside.first.ok.0 in
     let n : c.len.result ≡ length first = omega (arith, len, c.len.ensures) in
-    let e : later ≡ cond (eqb (length rest) 0) (replicate (2 * length first) 0) rest =
-    c.fill.ensures ∙ ap (λ (x : ℕ). cond (eqb (length rest) 0) (replicate (2 * x) 0) rest) n in
-    let r = ready first rest later c.self.inside.rest.cap c.fill.new.list.cap c.self.invariant e in
-    let place : other o s (get_or first o 0 / 66) ≡ c.place_of.result = ap (λ (x : ℕ). other o s (x / 66)) (sym code) ∙ sym c.place_of.ensures in
-    subst (λ (x : ℕ). cells_of first (set later x v) ≡ set (cells_of first later) (3 * o + s) v) place
-    (rest_set first later c.fill.new.list.cap o s v r.packed (omega arith) i r.long (λ z. no.0 (code ∙ z))
-    (λ z. no.1 (ap (λ (x : ℕ). x / 66) code ∙ z)))
-    ∙ ap (λ (x : List ℕ). set x (3 * o + s) v) (r.same ∙ c.self.view_is) ∙ ap (λ (x : ℕ). set c.args.self.now (3 * o + x) v) is
+    let set = set_beside first rest.items later.items c.args.self.now rest.cap later.cap c.args.offset c.slot_of-slot.result c.args.number
+    c.place_of.result c.len.result c.index-code.result.now c.args.kind c.self.invariant c.self.view_is c.requires.inside c.slot_of-slot.ensures
+    c.index-code.ensures (c.is_for.ensures.no c.if-is_for.false) n c.fill.ensures c.place_of.ensures in
+    set.1
