@@ -12,3 +12,4 @@ pub mod Decided
 pub mod Order
 pub mod Adds
 pub mod Total
+pub mod Pulls

@@ -5,3 +5,4 @@ pub mod Faults
 pub mod Words
 pub mod Atom
 pub mod Escapes
+pub mod Left

@@ -24,11 +24,7 @@ fn tokens_of(alloc: Global, text: &str) -> Result<Vec<Token>, LexError>
     ensures scalars { IsTrue (all_scalars (chars text.now)) }
     ensures bytes { encode_utf8_all (chars text.now) ≡ text.now }
 {
-    let mut builder = Builder {
-        tokens: Vec::new(alloc),
-        pending: None,
-        is_open: false,
-    };
+    let mut builder = Builder::new(alloc);
     let mut rest = text;
     let mut first = 0;
     let mut line = 1;
@@ -43,7 +39,7 @@ fn tokens_of(alloc: Global, text: &str) -> Result<Vec<Token>, LexError>
 }
 
 /// Why reading stopped, with its line.
-fn located(bytes: &[u8], error: LexError) -> SourceFault
+pub fn located(bytes: &[u8], error: LexError) -> SourceFault
     requires { (error.kind ≡ Memory → ⊥) → error.left ≤ length bytes.now }
     ensures kind { result.kind ≡ error.kind }
     ensures line { (error.kind ≡ Memory → ⊥) → result.line ≡ line_of bytes.now (length bytes.now - error.left) }

@@ -8,7 +8,7 @@ use Rattle.rb_lexer.proofs.lexer.tokens_of.Goals as goal
 pub items-init : goal.items-init
 items-init c = record {
   text = c.utf8.text;
-  so_far = rw c.new.ensures.items (items_start c.args.text.now (chars c.args.text.now));
+  so_far = rw (c.new-builder.ensures.tokens, c.new-builder.ensures.pending, c.new-builder.ensures.closed) (items_start c.args.text.now (chars c.args.text.now));
   at = omega (arith, ap length (encodes-chars c.args.text.now c.utf8.text));
   line_is = search rules;
   no_longer = omega arith;
