@@ -12,4 +12,5 @@ pub mod Decided
 pub mod Order
 pub mod Adds
 pub mod Total
+pub mod Passes
 pub mod Pulls

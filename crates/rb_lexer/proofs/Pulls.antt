@@ -8,11 +8,12 @@ use Rattle.rb_lexer.specs.declared.stream.Tokens.{Tokens}
 use Rattle.rb_lexer.specs.declared.token.Token.{Token}
 use Rattle.rb_lexer.specs.declared.fault.SourceKind.TheVariants.{Memory}
 use Rattle.rb_lexer.specs.declared.fault.LexError.{LexError}
-use Rattle.rb_lexer.specs.Faults.{Broken, broken_chars}
+use Rattle.rb_lexer.specs.Faults.{Broken}
 use Rattle.rb_lexer.specs.Tokens.{HasTokens}
 use Rattle.rb_lexer.specs.Merging.{flushed}
 use Rattle.rb_lexer.specs.Atom.{Atom, atoms_chars, AreAtoms, atoms_tokens, Stops}
-use Rattle.rb_lexer.specs.Left.{IsUnbroken, BreaksSo, Gives, Left}
+use Rattle.rb_lexer.specs.Passing.{IsUnbroken}
+use Rattle.rb_lexer.specs.Left.{Gives, Left}
 use Rattle.rb_lexer.proofs.Decided.{tail, texts_one}
 use Rattle.rb_lexer.proofs.Total.{reading}
 use Rattle.rb_lexer.proofs.Turns.{chars_front, are_front}
@@ -97,23 +98,6 @@ module _ (r : Tokens) (ts : List Token) where
 
   pub pop_gives : (l : Left r ts) → drop 1 ts ≡ drop 1 r.builder.tokens.items ++ more_of l.gives.atoms
   pop_gives l = popped r.builder.tokens.items (more_of l.gives.atoms) ts l.gives.tokens (two_or l)
-
--- ---- a text that is read to its end
--- Atoms of the text come before the rest.
-abbrev pub Follows : List ℕ → List ℕ → Type 0
-Follows text rest = (xs : List Atom) (end : List ℕ) → rest ≡ atoms_chars xs end → AreAtoms xs end
-    → (ys : List Atom) × (text ≡ atoms_chars ys end) × AreAtoms ys end
-
-pub follows_more : (text rest : List ℕ) → Follows text rest → (front : List Atom) (after : List ℕ) → rest ≡ atoms_chars front after → AreAtoms front after
-    → Follows text after
-follows_more text rest so_far front after e are = λ xs end spelled good.
-    so_far (front ++ xs) end (e ∙ ap (atoms_chars front) spelled ∙ sym (chars_front front xs end)) (are_front front xs end (rw (sym spelled) are) good)
-
-pub breaks_so : (text rest : List ℕ) → Follows text rest → (s : LexError) → Stops s rest → BreaksSo s text
-breaks_so text rest so_far s stops = λ other.
-    let b = stops other in
-    let w = so_far [] (broken_chars b.0) b.1 tt in
-    (w.0, (b.0, (w.1, w.2, b.2, b.3, b.4)))
 
 -- ---- where reading begins
 module _ (bytes : List ℕ) where

@@ -1,23 +1,10 @@
 -- For the contracts of a source of tokens: which tokens it has still to give.
-use Rattle.std.specs.Prelude.{◌≡◌, ℕ, ◌+◌, ◌≤◌, ◌⊎◌, List, [], ◌++◌, length, None}
+use Rattle.std.specs.Prelude.{◌≡◌, ◌+◌, ◌≤◌, ◌⊎◌, List, [], ◌++◌, length, None}
 use Rattle.std.specs.Str.{chars}
 use Rattle.rb_lexer.specs.declared.stream.Tokens.{Tokens}
 use Rattle.rb_lexer.specs.declared.token.Token.{Token}
-use Rattle.rb_lexer.specs.declared.fault.SourceKind.TheVariants.{Memory}
-use Rattle.rb_lexer.specs.declared.fault.LexError.{LexError}
-use Rattle.rb_lexer.specs.Faults.{Broken, broken_chars, IsBroken, broken_kind, from_fault}
 use Rattle.rb_lexer.specs.Tokens.{width, line_of}
 use Rattle.rb_lexer.specs.Atom.{Atom, atoms_chars, AreAtoms, atoms_tokens}
-
--- The characters have no error.
-abbrev pub IsUnbroken : List ℕ → Type 0
-IsUnbroken cs = (xs : List Atom) × (cs ≡ atoms_chars xs []) × AreAtoms xs []
-
--- The characters are broken so somewhere, unless memory ran out.
-abbrev pub BreaksSo : LexError → List ℕ → Type 0
-BreaksSo stop cs =
-    (stop.kind ≡ Memory → ⊥) → (xs : List Atom) × ((b : Broken) ×
-    ((cs ≡ atoms_chars xs (broken_chars b)) × AreAtoms xs (broken_chars b) × IsBroken b × (stop.kind ≡ broken_kind b) × (stop.left ≡ width (from_fault b))))
 
 -- What is not read begins at its byte and in its line.
 pub record IsPlaced (r : Tokens) : Type 0 where

@@ -9,6 +9,7 @@ mod front;
 pub mod laws;
 mod lexer;
 mod limits;
+mod pass;
 mod pending;
 mod quoted;
 mod scan;

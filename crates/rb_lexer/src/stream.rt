@@ -6,13 +6,14 @@ ghost use Rattle.rb_lexer.specs.declared.fault.SourceKind.TheVariants.{Memory};
 ghost use Rattle.rb_lexer.specs.declared.token.Token.{Token};
 ghost use Rattle.rb_lexer.specs.Tokens.{width, LexesTo};
 ghost use Rattle.rb_lexer.specs.Faults.{IsRefusal};
-ghost use Rattle.rb_lexer.specs.Atom.{Atom, atoms_chars, AreAtoms, Stops};
-ghost use Rattle.rb_lexer.specs.Left.{IsUnbroken, BreaksSo, IsPlaced, Gives, IsDone, IsFull, Left};
+ghost use Rattle.rb_lexer.specs.Passing.{IsUnbroken};
+ghost use Rattle.rb_lexer.specs.Left.{IsPlaced, Gives, IsDone, IsFull, Left};
 
 use crate::builder::Builder;
 use crate::fault::{LexError, SourceFault};
 use crate::front::width;
 use crate::lexer::located;
+use crate::pass::pass_over;
 use crate::scan::scan_first;
 use crate::text::{line_feeds, text_of};
 use crate::token::Token;
@@ -31,35 +32,8 @@ pub struct Tokens<'a> {
     builder: Builder,
 }
 
-/// What follows the first item of a text, if there is one.
-fn past_item(alloc: Global, text: &str) -> Result<Option<&str>, LexError>
-    ensures taken { MatchResult result
-        (λ found. MatchOption found (chars text.now ≡ []) (λ rest. (front : List Atom) ×
-        ((chars text.now ≡ atoms_chars front (chars rest.now)) × AreAtoms front (chars rest.now))))
-        (λ stop. Stops stop (chars text.now)) }
-    ensures shorter { IfOk result (λ found. IfSome found (λ rest. length rest.now < length text.now)) }
-{
-    match scan_first(alloc, text)? {
-        Some((_, rest)) => Ok(Some(rest)),
-        None => Ok(None),
-    }
-}
-
-/// Reads a text to its end, and keeps nothing: a text without errors passes.
-fn pass_over(alloc: Global, text: &str) -> Result<(), LexError>
-    ensures ends { MatchResult result (λ _. IsUnbroken (chars text.now)) (λ stop. BreaksSo stop (chars text.now)) }
-    ensures scalars { IsTrue (all_scalars (chars text.now)) }
-    ensures bytes { encode_utf8_all (chars text.now) ≡ text.now }
-{
-    let mut rest = text;
-    'items: while let Some(after) = past_item(alloc, rest)? {
-        rest = after;
-    }
-    Ok(())
-}
-
 /// The source as text without errors.
-fn good_text(alloc: Global, bytes: &[u8]) -> Result<&str, SourceFault>
+fn good_text(bytes: &[u8]) -> Result<&str, SourceFault>
     ensures short { OnOk result (length bytes.now ≤ 8388608) }
     ensures same { IfOk result (λ text. text.now ≡ bytes.now) }
     ensures unbroken { IfOk result (λ text. IsUnbroken (chars text.now)) }
@@ -68,7 +42,7 @@ fn good_text(alloc: Global, bytes: &[u8]) -> Result<&str, SourceFault>
     ensures fault { IfErr result (λ e. IsRefusal bytes.now e) }
 {
     let text = text_of(bytes)?;
-    match pass_over(alloc, text) {
+    match pass_over(text) {
         Ok(()) => Ok(text),
         Err(error) => Err(located(bytes, error)),
     }
@@ -91,7 +65,7 @@ impl<'a> Tokens<'a> {
         // A source that has tokens is read, unless memory runs out.
         ensures only { (ts : List Token) → LexesTo bytes.now ts → MatchResult result (λ tokens. Left tokens ts) (λ e. e.kind ≡ Memory) }
     {
-        let text = good_text(alloc, bytes)?;
+        let text = good_text(bytes)?;
         let mut tokens = Tokens {
             alloc,
             text,

@@ -2,8 +2,8 @@ use Rattle.std.proofs.Common.{length}
 use denote.Text.{Utf8}
 use denote.Shadow.{shadow}
 use Rattle.std.specs.Str.{chars}
-use Rattle.rb_lexer.proofs.Pulls.{Follows}
-use Rattle.rb_lexer.proofs.stream.pass_over.Given as goal
+use Rattle.rb_lexer.proofs.Passes.{Follows}
+use Rattle.rb_lexer.proofs.pass.pass_over.Given as goal
 
 abbrev pub invariant-items : goal.invariant-items
 invariant-items l = record {
