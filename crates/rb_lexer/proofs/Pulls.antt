@@ -124,3 +124,9 @@ left_one r ts l =
 
 pub left_is : (r : Tokens) (ts : List Token) → Left r ts → Left r (left r)
 left_is r ts l = subst (Left r) (left_one r ts l) l
+
+-- Where a token was taken, and where none was left.
+pub pop_more : (s : Tokens) (ts : List Token) (found : Option Token) (t : Token) → found ≡ Some t
+    → Left s (drop 1 ts) × MatchOption found (ts ≡ []) (λ x. ts ≡ x ∷ drop 1 ts) → Left s (left s) × (ts ≡ t ∷ left s)
+pop_more s ts found t is h =
+    let w = rw is at h in (left_is s (drop 1 ts) w.0, w.1 ∙ ap (λ (us : List Token). t ∷ us) (left_one s (drop 1 ts) w.0))

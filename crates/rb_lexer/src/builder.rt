@@ -173,13 +173,4 @@ impl Builder {
     {
         self.tokens.len()
     }
-
-    /// All tokens.
-    pub fn finish(mut self) -> Result<Vec<Token>, LexError>
-        ensures memory { IfErr result (λ e. e.kind ≡ Memory) }
-        ensures tokens { IfOk result (λ tokens. tokens.items ≡ self.tokens.items ++ flushed self.pending []) }
-    {
-        self.flush()?;
-        Ok(self.tokens.into_vec())
-    }
 }

@@ -1,5 +1,8 @@
 // A text that is read to its end for its errors. Nothing is kept, and no memory is taken.
-ghost use Rattle.std.specs.Prelude.{◌≡◌, ◌≤◌, ◌∷◌, length, IfOk, MatchResult, IsTrue, encode_utf8_all};
+ghost use Rattle.std.specs.Prelude.{◌≡◌, ◌≤◌, ◌∷◌, ◌-◌, length, OnOk, IfOk, IfErr, MatchResult, IsTrue, encode_utf8_all};
+ghost use Rattle.rb_lexer.specs.declared.fault.SourceKind.TheVariants.{Memory};
+ghost use Rattle.rb_lexer.specs.Tokens.{line_of};
+ghost use Rattle.rb_lexer.specs.Faults.{IsRefusal};
 ghost use Rattle.std.specs.Str.{chars, all_scalars};
 ghost use Rattle.rb_lexer.specs.Lexeme.{quote, backslash, slash};
 ghost use Rattle.rb_lexer.specs.Atom.{Stops};
@@ -7,8 +10,9 @@ ghost use Rattle.rb_lexer.specs.Passing.{Passes, IsUnbroken, BreaksSo};
 
 use crate::comment::{past_block, past_line};
 use crate::escape::escape;
-use crate::fault::{LexError, SourceKind};
+use crate::fault::{LexError, SourceFault, SourceKind};
 use crate::front::{split_first, strip, width};
+use crate::text::{line_at, text_of};
 
 /// What follows a quoted piece, given what is after its first quote.
 fn past_quoted(text: &str) -> Result<&str, LexError>
@@ -90,7 +94,7 @@ fn past_item(c: char, after: &str) -> Result<&str, LexError>
 }
 
 /// Whether a text has no error.
-pub fn pass_over(text: &str) -> Result<(), LexError>
+fn pass_over(text: &str) -> Result<(), LexError>
     ensures ends { MatchResult result (λ _. IsUnbroken (chars text.now)) (λ stop. BreaksSo stop (chars text.now)) }
     ensures scalars { IsTrue (all_scalars (chars text.now)) }
     ensures bytes { encode_utf8_all (chars text.now) ≡ text.now }
@@ -100,4 +104,37 @@ pub fn pass_over(text: &str) -> Result<(), LexError>
         rest = past_item(c, after)?;
     }
     Ok(())
+}
+
+/// Why reading stopped, with its line.
+pub fn located(bytes: &[u8], error: LexError) -> SourceFault
+    requires { (error.kind ≡ Memory → ⊥) → error.left ≤ length bytes.now }
+    ensures kind { result.kind ≡ error.kind }
+    ensures line { (error.kind ≡ Memory → ⊥) → result.line ≡ line_of bytes.now (length bytes.now - error.left) }
+    ensures no_line { error.kind ≡ Memory → result.line ≡ 0 }
+{
+    let line = match error.kind {
+        SourceKind::Memory => 0,
+        _ => line_at(bytes, bytes.len() - error.left),
+    };
+    SourceFault {
+        kind: error.kind,
+        line,
+    }
+}
+
+/// The source as text without errors.
+pub fn good_text(bytes: &[u8]) -> Result<&str, SourceFault>
+    ensures short { OnOk result (length bytes.now ≤ 8388608) }
+    ensures same { IfOk result (λ text. text.now ≡ bytes.now) }
+    ensures unbroken { IfOk result (λ text. IsUnbroken (chars text.now)) }
+    ensures scalars { IfOk result (λ text. IsTrue (all_scalars (chars text.now))) }
+    ensures encoded { IfOk result (λ text. encode_utf8_all (chars text.now) ≡ bytes.now) }
+    ensures fault { IfErr result (λ e. IsRefusal bytes.now e) }
+{
+    let text = text_of(bytes)?;
+    match pass_over(text) {
+        Ok(()) => Ok(text),
+        Err(error) => Err(located(bytes, error)),
+    }
 }

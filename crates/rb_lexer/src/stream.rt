@@ -1,21 +1,17 @@
 // Tokens as they are taken.
-ghost use Rattle.std.specs.Prelude.{◌≡◌, ◌<◌, ◌≤◌, ◌∷◌, [], ℕ, List, length, OnOk, IfOk, IfErr, MatchOption, MatchResult, IfSome, drop, false};
-ghost use Rattle.std.specs.Prelude.{IsTrue, encode_utf8_all};
-ghost use Rattle.std.specs.Str.{chars, all_scalars};
+ghost use Rattle.std.specs.Prelude.{◌≡◌, ◌<◌, ◌≤◌, ◌∷◌, [], ℕ, List, length, OnOk, IfOk, IfErr, MatchOption, MatchResult, IsTrue, drop, false};
 ghost use Rattle.rb_lexer.specs.declared.fault.SourceKind.TheVariants.{Memory};
 ghost use Rattle.rb_lexer.specs.declared.token.Token.{Token};
 ghost use Rattle.rb_lexer.specs.Tokens.{width, LexesTo};
 ghost use Rattle.rb_lexer.specs.Faults.{IsRefusal};
-ghost use Rattle.rb_lexer.specs.Passing.{IsUnbroken};
 ghost use Rattle.rb_lexer.specs.Left.{IsPlaced, Gives, IsDone, IsFull, Left};
 
 use crate::builder::Builder;
 use crate::fault::{LexError, SourceFault};
 use crate::front::width;
-use crate::lexer::located;
-use crate::pass::pass_over;
+use crate::pass::{good_text, located};
 use crate::scan::scan_first;
-use crate::text::{line_feeds, text_of};
+use crate::text::line_feeds;
 use crate::token::Token;
 use std::alloc::{AllocError, Global};
 
@@ -30,22 +26,6 @@ pub struct Tokens<'a> {
     first: usize,
     line: u64,
     builder: Builder,
-}
-
-/// The source as text without errors.
-fn good_text(bytes: &[u8]) -> Result<&str, SourceFault>
-    ensures short { OnOk result (length bytes.now ≤ 8388608) }
-    ensures same { IfOk result (λ text. text.now ≡ bytes.now) }
-    ensures unbroken { IfOk result (λ text. IsUnbroken (chars text.now)) }
-    ensures scalars { IfOk result (λ text. IsTrue (all_scalars (chars text.now))) }
-    ensures encoded { IfOk result (λ text. encode_utf8_all (chars text.now) ≡ bytes.now) }
-    ensures fault { IfErr result (λ e. IsRefusal bytes.now e) }
-{
-    let text = text_of(bytes)?;
-    match pass_over(text) {
-        Ok(()) => Ok(text),
-        Err(error) => Err(located(bytes, error)),
-    }
 }
 
 /// Out of memory, where this is why reading stopped.

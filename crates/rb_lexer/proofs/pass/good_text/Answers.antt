@@ -1,7 +1,7 @@
 use Rattle.std.proofs.Common.{◌∙◌, inl, inr, ⊎_elim}
 use Rattle.std.specs.Str.{chars}
 use Rattle.rb_lexer.proofs.Whole.{left_fits, faulty, memory_or}
-use Rattle.rb_lexer.proofs.stream.good_text.Goals as goal
+use Rattle.rb_lexer.proofs.pass.good_text.Goals as goal
 
 pub located-requires : goal.located-requires
 located-requires c = λ not_memory.
