@@ -2,6 +2,7 @@ pub mod Digits
 pub mod Escapes
 pub mod Comments
 pub mod Parts
+pub mod Blanks
 pub mod Items
 pub mod Turns
 pub mod Merged

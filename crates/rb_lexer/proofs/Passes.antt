@@ -30,7 +30,7 @@ passes_slash after k = (Run (units_of slash ++ []), slash_item after (units_of s
 -- white space, punctuation or a character of an unquoted piece
 pub passes_other : (c : ℕ) (after : List ℕ) → c ≢ quote → c ≢ backslash → c ≢ slash → Passes (c ∷ after) after
 passes_other c after q b s =
-    ⊎_elim (λ w. (White, white_item (c ∷ after) c after refl w))
+    ⊎_elim (λ w. (White, white_item (c ∷ after) c after refl after w ([], refl, tt)))
     (λ w. ⊎_elim (λ p. (Punctuation (punctuation_mark c), punctuation_item (c ∷ after) c after refl (punctuation_mark c) p refl))
     (λ p. (Run (units_of c ++ []), plain_item (c ∷ after) c after refl (units_of c ++ []) after w p q b (no_slash c after s) (run_of_one (units_of c) after)))
     (cases_Bool (is_punctuation c)))

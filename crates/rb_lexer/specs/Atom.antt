@@ -49,9 +49,13 @@ abbrev pub singles : List Part → List Atom
 singles [] = []
 singles (p ∷ ps) = single p ∷ singles ps
 
+abbrev pub blanks : List ℕ → List Atom
+blanks [] = []
+blanks (c ∷ cs) = blank c ∷ blanks cs
+
 -- What the code has for atoms.
 abbrev pub Shows : Scanned → List Atom → Type 0
-Shows White xs = (c : ℕ) × (xs ≡ blank c ∷ [])
+Shows White xs = (c : ℕ) × ((cs : List ℕ) × (xs ≡ blanks (c ∷ cs)))
 Shows CommentItem xs = (c : Comment) × (xs ≡ remark c ∷ [])
 Shows (Punctuation m) xs = (c : ℕ) × (xs ≡ punct c ∷ []) × (m ≡ punctuation_mark c)
 Shows (Quoted us) xs = (ps : List Part) × (xs ≡ cited ps ∷ []) × (us ≡ parts_units ps)
