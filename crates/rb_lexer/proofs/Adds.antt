@@ -6,9 +6,9 @@ use Rattle.rb_lexer.specs.declared.pending.PendingText.{PendingText}
 use Rattle.rb_lexer.specs.Lexeme.{Part, part_chars, part_units, parts_chars, parts_units}
 use Rattle.rb_lexer.specs.Tokens.{width, line_of}
 use Rattle.rb_lexer.specs.Merging.{grown, between, piece}
-use Rattle.rb_lexer.specs.Atom.{Atom, single, singles, atoms_chars, atoms_tokens, past_atom, with_character, extended, Shows}
-use Rattle.rb_lexer.specs.declared.scan.Scanned.TheVariants.{Run}
-use Rattle.rb_lexer.proofs.Turns.{width_part}
+use Rattle.rb_lexer.specs.Atom.{Atom, blank, blanks, single, singles, atoms_chars, atoms_tokens, past_atom, with_character, extended, Shows}
+use Rattle.rb_lexer.specs.declared.scan.Scanned.TheVariants.{White, Run}
+use Rattle.rb_lexer.proofs.Turns.{width_part, width_atom}
 
 -- a piece with more units
 abbrev stretched : PendingText → List ℕ → ℕ → PendingText
@@ -67,6 +67,24 @@ module _ (bytes : List ℕ) (rest : List Atom) where
       ∙ ap (λ n. atoms_tokens bytes n (Some (stretched (grown pending (piece bytes [] false at at)) (parts_units (p ∷ ps)) n)) true rest) (run_place p ps at)
       ∙ ap (λ (k : PendingText). atoms_tokens bytes (at + width (atoms_chars (singles (p ∷ ps)) [])) (Some k) true rest)
       (stretched_grown bytes pending [] (parts_units (p ∷ ps)) at at (at + width (atoms_chars (singles (p ∷ ps)) [])))
+
+-- white space
+module _ (bytes : List ℕ) (rest : List Atom) (pending : Option PendingText) where
+  blanks_added : (cs : List ℕ) (at : ℕ)
+      → atoms_tokens bytes at pending false (blanks cs ++ rest) ≡ atoms_tokens bytes (at + width (atoms_chars (blanks cs) [])) pending false rest
+  blanks_added [] at = let e : at ≡ at + width [] = omega arith in ap (λ n. atoms_tokens bytes n pending false rest) e
+  blanks_added (c ∷ cs) at =
+      let place : past_atom at (blank c) + width (atoms_chars (blanks cs) []) ≡ at + width (atoms_chars (blanks (c ∷ cs)) []) =
+      omega (arith, width_atom (blank c) (atoms_chars (blanks cs) [])) in
+      blanks_added cs (past_atom at (blank c)) ∙ ap (λ n. atoms_tokens bytes n pending false rest) place
+
+  pub white_added : (xs : List Atom) (is_open : Bool) (first past : ℕ) → Shows White xs → past ≡ first + width (atoms_chars xs [])
+      → atoms_tokens bytes first pending is_open (xs ++ rest) ≡ atoms_tokens bytes past pending false rest
+  white_added xs is_open first past shows to =
+      let place : past_atom first (blank shows.0) + width (atoms_chars (blanks shows.1.0) []) ≡ past =
+      omega (arith, width_atom (blank shows.0) (atoms_chars (blanks shows.1.0) []), to, ap (λ (ys : List Atom). width (atoms_chars ys [])) shows.1.1) in
+      ap (λ (ys : List Atom). atoms_tokens bytes first pending is_open (ys ++ rest)) shows.1.1
+      ∙ blanks_added shows.1.0 (past_atom first (blank shows.0)) ∙ ap (λ n. atoms_tokens bytes n pending false rest) place
 
 grows : (is_open : Bool) (pending : Option PendingText) → (is_open && is_some pending) ≡ false → (b : PendingText)
     → with_character is_open pending b ≡ grown pending b

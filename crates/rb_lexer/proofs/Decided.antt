@@ -44,7 +44,7 @@ tails_one None (Some c) g h e = ap broken_of (front_one at_end (at_broken c) tt 
 tails_one (Some b) None g h e = ap broken_of (front_one (at_broken b) at_end g tt e)
 tails_one (Some b) (Some c) g h e = ap broken_of (front_one (at_broken b) (at_broken c) g h e)
 
-texts_one : (xs ys : List Atom) (b c : Option Broken) → IsTail b → IsTail c → AreAtoms xs (tail b) → AreAtoms ys (tail c)
+pub texts_one : (xs ys : List Atom) (b c : Option Broken) → IsTail b → IsTail c → AreAtoms xs (tail b) → AreAtoms ys (tail c)
     → atoms_chars xs (tail b) ≡ atoms_chars ys (tail c) → (xs ≡ ys) × (b ≡ c)
 texts_one [] [] b c g h p q e = (refl, tails_one b c g h e)
 texts_one [] (y ∷ ys) None c g h p q e = let k : at_end ≡ at_atom y (atoms_chars ys (tail c)) =

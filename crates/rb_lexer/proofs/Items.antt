@@ -9,7 +9,7 @@ use Rattle.rb_lexer.specs.declared.fault.SourceKind.TheVariants.{BadEscape, Open
 use Rattle.rb_lexer.specs.declared.fault.LexError.{LexError}
 use Rattle.rb_lexer.specs.declared.token.Mark.{Mark}
 use Rattle.rb_lexer.specs.declared.scan.Scanned.TheVariants.{White, Comment as CommentItem, Punctuation, Quoted, Run}
-use Rattle.rb_lexer.specs.Atom.{blank, remark, punct, cited, singles, IsSingle, AreAtoms, Begins, Stops}
+use Rattle.rb_lexer.specs.Atom.{remark, punct, cited, singles, blanks, IsSingle, atoms_chars, AreAtoms, Begins, Stops}
 use Rattle.rb_lexer.proofs.Escapes.{escape_takes, no_escape}
 use Rattle.rb_lexer.proofs.Comments.{PastLine, PastBlock}
 use Rattle.rb_lexer.proofs.Turns.{width_append}
@@ -30,8 +30,9 @@ run_item p text after units rest e here r = (
 )
 
 module _ (text : List ℕ) (c : ℕ) (after : List ℕ) (spelled : text ≡ c ∷ after) where
-  pub white_item : is_white c ≡ true → Begins text White after
-  white_item e = (blank c ∷ [], spelled, (e, tt), (c, refl))
+  pub white_item : (rest : List ℕ) → is_white c ≡ true → (cs : List ℕ) × (after ≡ atoms_chars (blanks cs) rest) × AreAtoms (blanks cs) rest
+      → Begins text White rest
+  white_item rest e w = (blanks (c ∷ w.0), spelled ∙ ap (λ (xs : List ℕ). c ∷ xs) w.1, (e, w.2), (c, (w.0, refl)))
 
   pub punctuation_item : (mark : Mark) → is_punctuation c ≡ true → mark ≡ punctuation_mark c → Begins text (Punctuation mark) after
   punctuation_item mark e is = (punct c ∷ [], spelled, (e, tt), (c, refl, is))

@@ -2,6 +2,7 @@ pub mod Digits
 pub mod Escapes
 pub mod Comments
 pub mod Parts
+pub mod Blanks
 pub mod Items
 pub mod Turns
 pub mod Merged
@@ -12,3 +13,5 @@ pub mod Decided
 pub mod Order
 pub mod Adds
 pub mod Total
+pub mod Passes
+pub mod Pulls

@@ -162,7 +162,7 @@ atom_length (single (dropped c)) = comment_length c
 atom_longer : (a : Atom) (rest : List ℕ) → length rest < length (atom_chars a rest)
 atom_longer a rest = omega (arith, atom_length a, ap length (atom_front a rest), length-append (atom_chars a []) rest)
 
-abbrev Read : List ℕ → Type 0
+abbrev pub Read : List ℕ → Type 0
 Read cs = (xs : List Atom) × ((end : Option Broken) × (cs ≡ atoms_chars xs (tail end)) × AreAtoms xs (tail end) × IsTail end)
 
 read_with : (a : Atom) (cs rest : List ℕ) → cs ≡ atom_chars a rest → IsAtom a rest → Read rest → Read cs
@@ -174,6 +174,10 @@ read (suc n) [] short = ([], (None, refl, tt, tt))
 read (suc n) (c ∷ after) short =
     ⊎_elim (λ w. read_with w.0 (c ∷ after) w.1.0 w.1.1 w.1.2 (read n w.1.0 (omega (arith, atom_longer w.0 w.1.0, ap length w.1.1))))
     (λ w. ([], (Some w.0, w.1, tt, w.2))) (first_of c after)
+
+-- the whole text, read
+pub reading : (cs : List ℕ) → Read cs
+reading cs = read (suc (length cs)) cs (omega arith)
 
 abbrev Answered : List ℕ → Type 0
 Answered bytes = ((ts : List Token) × HasTokens bytes ts) ⊎ ((kind : SourceKind) × ((line : ℕ) × HasFault bytes kind line))
@@ -191,7 +195,7 @@ answered bytes cs encoded scalars xs (Some b) e are is =
     )
 
 utf8_answered : (bytes : List ℕ) → IsUtf8 bytes → Answered bytes
-utf8_answered bytes u = let w = read (suc (length u.0)) u.0 (omega arith) in answered bytes u.0 u.1.1 u.1.0 w.0 w.1.0 w.1.1 w.1.2 w.1.3
+utf8_answered bytes u = let w = reading u.0 in answered bytes u.0 u.1.1 u.1.0 w.0 w.1.0 w.1.1 w.1.2 w.1.3
 
 -- ---- what is no text
 record LongestFront (bytes : List ℕ) (most at : ℕ) : Type 0 where

@@ -1,19 +1,13 @@
 -- The loop over items.
-use Rattle.std.proofs.Common.{◌≡◌, ℕ, ◌+◌, ◌-◌, ◌≤◌, Bool, false, List, [], ◌∷◌, ◌++◌, length, Option, Some, None, refl, sym, ap, ◌∙◌, arith, encode_utf8_all}
-use Rattle.std.proofs.Common.{length-append, append_assoc, count_by, take, drop, eqb, cond, zero-le, Result, Ok, Err, IfOk, IfErr, take-add}
-use Rattle.std.specs.Global.{Vec}
+use Rattle.std.proofs.Common.{◌≡◌, ℕ, ◌+◌, ◌-◌, ◌≤◌, List, [], ◌∷◌, ◌++◌, length, Some, None, refl, sym, ap, ◌∙◌, arith, encode_utf8_all}
+use Rattle.std.proofs.Common.{length-append, append_assoc, count_by, take, drop, eqb, cond, zero-le, take-add}
 use Rattle.std.proofs.lemmas.List.Sums.{sum_by-append}
 use Rattle.std.proofs.lemmas.Str.{encodes-append}
-use Rattle.rb_lexer.specs.declared.token.Token.{Token}
-use Rattle.rb_lexer.specs.declared.pending.PendingText.{PendingText}
-use Rattle.rb_lexer.specs.declared.fault.SourceKind.TheVariants.{Memory}
-use Rattle.rb_lexer.specs.declared.fault.LexError.{LexError}
 use Rattle.rb_lexer.specs.Lexeme.{quote, Escape, four, eight, hex, octal, letter, escape_chars, Comment, line_comment, block_comment, comment_chars, Part}
 use Rattle.rb_lexer.specs.Lexeme.{plain, escaped, dropped, part_chars, parts_chars, slash, star}
-use Rattle.rb_lexer.specs.Faults.{Broken, open_quote, open_comment, bad_escape, bad_quoted, broken_chars, IsBroken, broken_kind, from_fault}
+use Rattle.rb_lexer.specs.Faults.{Broken, open_quote, open_comment, bad_escape, bad_quoted, broken_chars, from_fault}
 use Rattle.rb_lexer.specs.Tokens.{width, line_of}
-use Rattle.rb_lexer.specs.Merging.{flushed}
-use Rattle.rb_lexer.specs.Atom.{Atom, blank, remark, punct, cited, single, atom_chars, atoms_chars, AreAtoms, atoms_tokens, Stops, EndsSo}
+use Rattle.rb_lexer.specs.Atom.{Atom, blank, remark, punct, cited, single, atom_chars, atoms_chars, AreAtoms}
 
 -- ---- widths
 front : (ds rest : List ℕ) → ds ++ rest ≡ (ds ++ []) ++ rest
@@ -72,48 +66,9 @@ are_front [] ys rest h k = k
 are_front (a ∷ xs) ys rest h k = (rw (chars_front xs ys rest) h.0, are_front xs ys rest h.1 k)
 
 -- ---- the loop
-abbrev pub GoesOn : List ℕ → List ℕ → List Token → ℕ → Option PendingText → Bool → List ℕ → Type 0
-GoesOn bytes text tokens at pending is_open rest = (xs : List Atom) (end : List ℕ) → rest ≡ atoms_chars xs end → AreAtoms xs end
-    → (ys : List Atom) × (text ≡ atoms_chars ys end) × AreAtoms ys end
-    × (atoms_tokens bytes 0 None false ys ≡ tokens ++ atoms_tokens bytes at pending is_open xs)
-
-pub items_start : (bytes text : List ℕ) → GoesOn bytes text [] 0 None false text
-items_start bytes text xs end e good = (xs, e, good, refl)
-
-module _ (bytes text : List ℕ) (tokens : List Token) (at : ℕ) (pending : Option PendingText) (is_open : Bool) (rest : List ℕ)
-    (so_far : GoesOn bytes text tokens at pending is_open rest) where
-  pub items_more : (front : List Atom) (after : List ℕ) → rest ≡ atoms_chars front after → AreAtoms front after
-      → (past : ℕ) (tokens' : List Token) (pending' : Option PendingText) (is_open' : Bool)
-      → ((xs : List Atom) → tokens ++ atoms_tokens bytes at pending is_open (front ++ xs) ≡ tokens' ++ atoms_tokens bytes past pending' is_open' xs)
-      → GoesOn bytes text tokens' past pending' is_open' after
-  items_more front after e are past tokens' pending' is_open' added xs end spelled good =
-      let w =
-      so_far (front ++ xs) end (e ∙ ap (atoms_chars front) spelled ∙ sym (chars_front front xs end)) (are_front front xs end (rw (sym spelled) are) good) in
-      (w.0, w.1, w.2, w.3 ∙ added xs)
-
-  pub items_end : rest ≡ [] → (all : List Token) → all ≡ tokens ++ flushed pending []
-      → (xs : List Atom) × (text ≡ atoms_chars xs []) × AreAtoms xs [] × (all ≡ atoms_tokens bytes 0 None false xs)
-  items_end e all is = let w = so_far [] [] e tt in (w.0, w.1, w.2, is ∙ sym w.3)
-
-  pub items_stop : (s : LexError) → Stops s rest → (s.kind ≡ Memory → ⊥)
-      → (xs : List Atom) × ((b : Broken) × ((text ≡ atoms_chars xs (broken_chars b)) × AreAtoms xs (broken_chars b) × IsBroken b × (s.kind ≡ broken_kind b)
-      × (s.left ≡ width (from_fault b))))
-  items_stop s stops not_memory = let b = stops not_memory in let w = so_far [] (broken_chars b.0) b.1 tt in (w.0, (b.0, (w.1, w.2, b.2, b.3, b.4)))
-
 pub turn_place : (first : ℕ) (rest after : List ℕ) (all : ℕ) → first + width rest ≡ all → (front : List Atom) → rest ≡ atoms_chars front after
     → first + (width (atoms_chars front []) + width after) ≡ all
 turn_place first rest after all at front e = ap (λ n. first + n) (sym (ap width e ∙ width_atoms front after)) ∙ at
-
-module _ (bytes text : List ℕ) (tokens : List Token) (at : ℕ) (pending : Option PendingText) (is_open : Bool) (rest : List ℕ)
-    (so_far : GoesOn bytes text tokens at pending is_open rest) where
-  pub items_turn : (all : ℕ) → at + width rest ≡ all → (front : List Atom) (after : List ℕ) → rest ≡ atoms_chars front after → AreAtoms front after → (past : ℕ)
-      → past ≡ all - width after → (tokens' : List Token) (pending' : Option PendingText) (is_open' : Bool)
-      → ((xs : List Atom) → past ≡ at + width (atoms_chars front [])
-      → tokens ++ atoms_tokens bytes at pending is_open (front ++ xs) ≡ tokens' ++ atoms_tokens bytes past pending' is_open' xs)
-      → GoesOn bytes text tokens' past pending' is_open' after
-  items_turn all place front after e are past at_past tokens' pending' is_open' added =
-      let p = turn_place at rest after all place front e in
-      items_more bytes text tokens at pending is_open rest so_far front after e are past tokens' pending' is_open' (λ xs. added xs (omega (arith, p, at_past)))
 
 pub lines_between : (bytes : List ℕ) (first past : ℕ) → first ≤ past
     → line_of bytes first + count_by (λ b. eqb b 0x0A) (take (past - first) (drop first bytes)) ≡ line_of bytes past
@@ -123,12 +78,6 @@ lines_between bytes first past order =
     ap (λ n. count_by (λ b. eqb b 0x0A) (take n bytes)) whole ∙ ap (count_by (λ b. eqb b 0x0A)) (take-add first (past - first) bytes)
     ∙ sum_by-append (λ b. cond (eqb b 0x0A) 1 0) (take first bytes) (take (past - first) (drop first bytes)) in
     omega (arith, parts)
-
-pub finish_so : (r : Result (Vec Token) LexError) (bytes text : List ℕ) (tokens : List Token) (at : ℕ) (pending : Option PendingText) (is_open : Bool)
-    (rest : List ℕ) → GoesOn bytes text tokens at pending is_open rest → rest ≡ []
-    → IfErr r (λ stop. stop.kind ≡ Memory) → IfOk r (λ all. all.items ≡ tokens ++ flushed pending []) → EndsSo r bytes text
-finish_so (Ok all) bytes text tokens at pending is_open rest so_far e memory is = items_end bytes text tokens at pending is_open rest so_far e all.items is
-finish_so (Err stop) bytes text tokens at pending is_open rest so_far e memory is = λ not_memory. absurd (not_memory memory)
 
 -- ---- where an error is
 atoms_width : (xs : List Atom) (end : List ℕ) → width end ≤ width (atoms_chars xs end)

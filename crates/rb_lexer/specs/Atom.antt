@@ -1,6 +1,5 @@
 -- For proofs only: a second reading, which follows the code. In it an unquoted piece is read part by part.
-use Rattle.std.specs.Global.{Vec}
-use Rattle.std.specs.Prelude.{◌≡◌, ℕ, ◌+◌, Bool, true, false, cond, List, [], ◌∷◌, ◌++◌, Option, Some, None, Result, Ok, Err, IsTrue}
+use Rattle.std.specs.Prelude.{◌≡◌, ℕ, ◌+◌, Bool, true, false, cond, List, [], ◌∷◌, ◌++◌, Option, Some, None, IsTrue}
 use Rattle.rb_lexer.specs.Lexeme.{is_white, is_punctuation, quote, Comment, comment_chars, IsComment, Part, part_chars, part_units, parts_chars, parts_units}
 use Rattle.rb_lexer.specs.Lexeme.{AreParts, IsQuotedPart, IsUnquotedPart, Stays}
 use Rattle.rb_lexer.specs.Faults.{Broken, broken_chars, IsBroken, broken_kind, from_fault}
@@ -50,9 +49,13 @@ abbrev pub singles : List Part → List Atom
 singles [] = []
 singles (p ∷ ps) = single p ∷ singles ps
 
+abbrev pub blanks : List ℕ → List Atom
+blanks [] = []
+blanks (c ∷ cs) = blank c ∷ blanks cs
+
 -- What the code has for atoms.
 abbrev pub Shows : Scanned → List Atom → Type 0
-Shows White xs = (c : ℕ) × (xs ≡ blank c ∷ [])
+Shows White xs = (c : ℕ) × ((cs : List ℕ) × (xs ≡ blanks (c ∷ cs)))
 Shows CommentItem xs = (c : Comment) × (xs ≡ remark c ∷ [])
 Shows (Punctuation m) xs = (c : ℕ) × (xs ≡ punct c ∷ []) × (m ≡ punctuation_mark c)
 Shows (Quoted us) xs = (ps : List Part) × (xs ≡ cited ps ∷ []) × (us ≡ parts_units ps)
@@ -94,10 +97,3 @@ atoms_tokens bytes at pending is_open (cited ps ∷ xs) =
     atoms_tokens bytes (past_atom at (cited ps)) (Some (grown pending (piece bytes (parts_units ps) true at (past_atom at (cited ps))))) false xs
 atoms_tokens bytes at pending is_open (single p ∷ xs) =
     atoms_tokens bytes (past_atom at (single p)) (Some (with_character is_open pending (piece bytes (part_units p) false at (past_atom at (single p))))) true xs
-
--- The tokens of a text by the second reading, or what is broken in it, unless memory ran out.
-abbrev pub EndsSo : Result (Vec Token) LexError → List ℕ → List ℕ → Type 0
-EndsSo (Ok tokens) bytes cs = (xs : List Atom) × (cs ≡ atoms_chars xs []) × AreAtoms xs [] × (tokens.items ≡ atoms_tokens bytes 0 None false xs)
-EndsSo (Err stop) bytes cs =
-    (stop.kind ≡ Memory → ⊥) → (xs : List Atom) × ((b : Broken) ×
-    ((cs ≡ atoms_chars xs (broken_chars b)) × AreAtoms xs (broken_chars b) × IsBroken b × (stop.kind ≡ broken_kind b) × (stop.left ≡ width (from_fault b))))

@@ -5,3 +5,5 @@ pub mod Faults
 pub mod Words
 pub mod Atom
 pub mod Escapes
+pub mod Passing
+pub mod Left

@@ -1,5 +1,5 @@
 // Tokens as they come.
-ghost use Rattle.std.specs.Prelude.{◌≡◌, ◌++◌, ◌≤◌, ℕ, List, [], ◌+◌, ◌&&◌, is_some, None, Some, OnOk, IfOk, IfErr};
+ghost use Rattle.std.specs.Prelude.{◌≡◌, ◌++◌, ◌≤◌, ℕ, List, [], ◌+◌, ◌&&◌, is_some, None, Some, false, ◌∷◌, drop, length, MatchOption, OnOk, IfOk, IfErr};
 ghost use Rattle.rb_lexer.specs.declared.fault.SourceKind.TheVariants.{Memory};
 ghost use Rattle.rb_lexer.specs.Tokens.{line_of, width};
 ghost use Rattle.rb_lexer.specs.Merging.{flushed, grown};
@@ -10,23 +10,38 @@ use crate::pending::PendingText;
 use crate::scan::Scanned;
 use crate::token::{Mark, Token};
 use crate::units::UnitBuffer;
+use std::alloc::Global;
+use std::collections::VecDeque;
 
 /// The tokens so far, and the pending text after them. It is open where an unquoted piece may go on.
 #[derive(Drop)]
 pub struct Builder {
-    pub tokens: Vec<Token>,
+    pub tokens: VecDeque<Token>,
     pub pending: Option<PendingText>,
     pub is_open: bool,
 }
 
 impl Builder {
+    /// No tokens, and no text before them.
+    pub fn new(alloc: Global) -> Builder
+        ensures tokens { result.tokens.items ≡ [] }
+        ensures pending { result.pending ≡ None }
+        ensures closed { result.is_open ≡ false }
+    {
+        Builder {
+            tokens: VecDeque::new(alloc),
+            pending: None,
+            is_open: false,
+        }
+    }
+
     /// Adds the pending text as a token.
-    fn flush(&mut self) -> Result<(), LexError>
+    pub fn flush(&mut self) -> Result<(), LexError>
         ensures memory { IfErr result (λ e. e.kind ≡ Memory) }
         ensures flushed { OnOk result ((self.new.tokens.items ≡ self.old.tokens.items ++ flushed self.old.pending []) × (self.new.pending ≡ None)) }
     {
         if let Some(pending) = self.pending.take() {
-            self.tokens.push(Token {
+            self.tokens.push_back(Token {
                 what: Mark::Text(pending.units.into_list()),
                 first: pending.first,
                 past: pending.past,
@@ -92,7 +107,7 @@ impl Builder {
             Scanned::Punctuation(what) => {
                 self.flush()?;
                 self.is_open = false;
-                self.tokens.push(Token {
+                self.tokens.push_back(Token {
                     what,
                     first,
                     past,
@@ -127,12 +142,35 @@ impl Builder {
         Ok(())
     }
 
-    /// All tokens.
-    pub fn finish(mut self) -> Result<Vec<Token>, LexError>
-        ensures memory { IfErr result (λ e. e.kind ≡ Memory) }
-        ensures tokens { IfOk result (λ tokens. tokens.items ≡ self.tokens.items ++ flushed self.pending []) }
+    /// The first token.
+    pub fn first(&self) -> Option<&Token>
+        ensures { MatchOption result (self.now.tokens.items ≡ []) (λ t. self.now.tokens.items ≡ t.now ∷ drop 1 self.now.tokens.items) }
     {
-        self.flush()?;
-        Ok(self.tokens)
+        self.tokens.front()
+    }
+
+    /// The token after it.
+    pub fn second(&self) -> Option<&Token>
+        ensures { MatchOption result (drop 1 self.now.tokens.items ≡ [])
+            (λ t. drop 1 self.now.tokens.items ≡ t.now ∷ drop 1 (drop 1 self.now.tokens.items)) }
+    {
+        self.tokens.get(1)
+    }
+
+    /// Takes the first token.
+    pub fn pop(&mut self) -> Option<Token>
+        ensures token { MatchOption result (self.old.tokens.items ≡ []) (λ t. self.old.tokens.items ≡ t ∷ self.new.tokens.items) }
+        ensures rest { self.new.tokens.items ≡ drop 1 self.old.tokens.items }
+        ensures pending { self.new.pending ≡ self.old.pending }
+        ensures same_open { self.new.is_open ≡ self.old.is_open }
+    {
+        self.tokens.pop_front()
+    }
+
+    /// How many tokens there are.
+    pub fn count(&self) -> usize
+        ensures { result ≡ length self.now.tokens.items }
+    {
+        self.tokens.len()
     }
 }

@@ -12,7 +12,7 @@ use crate::front::{split_first, strip, width};
 use crate::quoted::quoted;
 use crate::token::Mark;
 use crate::units::UnitBuffer;
-use crate::unquoted::{is_white, run};
+use crate::unquoted::{is_white, past_white, run};
 use std::alloc::Global;
 
 /// What a text begins with. An unquoted piece is one run or several, with comments between them.
@@ -85,7 +85,7 @@ pub fn scan_first(alloc: Global, text: &str) -> Result<Option<(Scanned, &str)>, 
         return Ok(None);
     };
     if is_white(c) {
-        return Ok(Some((Scanned::White, after)));
+        return Ok(Some((Scanned::White, past_white(after))));
     }
     if let Some(mark) = punctuation(c) {
         return Ok(Some((Scanned::Punctuation(mark), after)));

@@ -2,7 +2,7 @@
 ghost use Rattle.std.specs.Prelude.{◌≡◌, ◌≤◌, ◌∷◌, ◌++◌, ◌||◌, ◌==◌, ℕ, List, length, IfOk};
 ghost use Rattle.std.specs.Str.{chars};
 ghost use Rattle.rb_lexer.specs.Lexeme.{quote, is_white, is_punctuation, begins_comment, units_of, Part, parts_chars, parts_units, AreParts};
-ghost use Rattle.rb_lexer.specs.Atom.{IsSingle};
+ghost use Rattle.rb_lexer.specs.Atom.{IsSingle, blanks, atoms_chars, AreAtoms};
 
 use crate::escape::{escape, push_code};
 use crate::front::{split_first, strip};
@@ -13,6 +13,21 @@ pub fn is_white(c: char) -> bool
     ensures { result ≡ is_white c }
 {
     c == '\t' || c == '\n' || c == '\r' || c == ' ' || c == '\u{2029}' || c == '\u{FEFF}'
+}
+
+/// What follows the white space that a text begins with.
+pub fn past_white(text: &str) -> &str
+    ensures taken { (cs : List ℕ) × (chars text.now ≡ atoms_chars (blanks cs) (chars result.now)) × AreAtoms (blanks cs) (chars result.now) }
+    ensures no_longer { length result.now ≤ length text.now }
+{
+    let mut rest = text;
+    'white: while let Some((c, after)) = split_first(rest) {
+        if !is_white(c) {
+            return rest;
+        }
+        rest = after;
+    }
+    rest
 }
 
 fn is_punctuation(c: char) -> bool

@@ -1,3 +1,4 @@
+pub mod Takes
 pub mod Steps
 pub mod Words
 pub mod Leaves

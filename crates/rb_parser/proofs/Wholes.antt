@@ -4,12 +4,12 @@ use Rattle.std.proofs.lemmas.Bool.{cases_lt}
 use Rattle.std.specs.Prelude.{◌≢◌}
 use Rattle.rb_lexer.specs.declared.token.Token.{Token}
 use Rattle.rb_lexer.specs.declared.fault.SourceKind.{SourceKind}
-use Rattle.rb_lexer.specs.declared.fault.SourceKind.TheVariants.{TooLong, NotUtf8, BadEscape, OpenQuote, OpenComment, Unexpected, UnknownType, BadKey}
-use Rattle.rb_lexer.specs.declared.fault.SourceKind.TheVariants.{DuplicateKey, BadInt, BadHex, TooDeep, TrailingText, TooLarge, Memory}
+use Rattle.rb_lexer.specs.declared.fault.SourceKind.TheVariants.{TooLong, TrailingText, TooLarge, Memory}
 use Rattle.rb_lexer.specs.declared.fault.SourceFault.{SourceFault}
 use Rattle.rb_lexer.specs.Tokens.{HasTokens}
 use Rattle.rb_lexer.proofs.Decided.{tokens_one, source_or}
 use Rattle.rb_lexer.proofs.Total.{source_answered}
+use Rattle.rb_lexer.proofs.Whole.{memory_or}
 use Rattle.rb_tree.specs.Resource.{Resource, height, weight}
 use Rattle.rb_tree.specs.SourceTree.{SourceTree}
 use Rattle.rb_tree.specs.Parts.{Fits, kind_of}
@@ -85,23 +85,8 @@ module _ (ts : List Token) where
 
 -- ---- sources
 
--- a kind is Memory, or it is not
 is_memory : (k : SourceKind) → (k ≢ Memory → ⊥) → k ≡ Memory
-is_memory TooLong h = absurd (h (λ e. cc))
-is_memory NotUtf8 h = absurd (h (λ e. cc))
-is_memory BadEscape h = absurd (h (λ e. cc))
-is_memory OpenQuote h = absurd (h (λ e. cc))
-is_memory OpenComment h = absurd (h (λ e. cc))
-is_memory Unexpected h = absurd (h (λ e. cc))
-is_memory UnknownType h = absurd (h (λ e. cc))
-is_memory BadKey h = absurd (h (λ e. cc))
-is_memory DuplicateKey h = absurd (h (λ e. cc))
-is_memory BadInt h = absurd (h (λ e. cc))
-is_memory BadHex h = absurd (h (λ e. cc))
-is_memory TooDeep h = absurd (h (λ e. cc))
-is_memory TrailingText h = absurd (h (λ e. cc))
-is_memory TooLarge h = absurd (h (λ e. cc))
-is_memory Memory h = refl
+is_memory k h = elim (memory_or k) [ inl m ↦ m | inr other ↦ absurd (h other) ]
 
 pub spelled : (ts : List Token) (s : Source) (end : ℕ) → ReadsBundle end (Ok s) (bundle the_tests ts) → IsSpelled (marks ts) s.name (source_tree s)
 spelled ts s end r =
@@ -157,23 +142,6 @@ good_fits bytes ts s end name source cut r g =
     }
 
 -- ---- errors
-
-memory_or : (k : SourceKind) → (k ≡ Memory) ⊎ (k ≢ Memory)
-memory_or TooLong = inr (λ e. cc)
-memory_or NotUtf8 = inr (λ e. cc)
-memory_or BadEscape = inr (λ e. cc)
-memory_or OpenQuote = inr (λ e. cc)
-memory_or OpenComment = inr (λ e. cc)
-memory_or Unexpected = inr (λ e. cc)
-memory_or UnknownType = inr (λ e. cc)
-memory_or BadKey = inr (λ e. cc)
-memory_or DuplicateKey = inr (λ e. cc)
-memory_or BadInt = inr (λ e. cc)
-memory_or BadHex = inr (λ e. cc)
-memory_or TooDeep = inr (λ e. cc)
-memory_or TrailingText = inr (λ e. cc)
-memory_or TooLarge = inr (λ e. cc)
-memory_or Memory = inl refl
 
 stop_located : (ts : List Token) (end : ℕ) (r : Result (List ℕ × Head × Entries) Stop) (e : SourceFault) → bundle the_tests ts ≡ r → located end r ≡ Err e
     → grammar.IsFault ts end e.kind e.line

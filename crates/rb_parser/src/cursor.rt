@@ -1,17 +1,18 @@
 // A place in the tokens of a text.
-ghost use Rattle.std.specs.Prelude.{◌≡◌, ◌||◌, ◌∷◌, [], ◌<◌, ◌≤◌, length, if◌then◌else◌, IsTrue, ◌↔◌, is_some};
-ghost use Rattle.std.specs.Prelude.{MatchOption, MatchResult, Some, None, Ok, Err, OnOk};
+ghost use Rattle.std.specs.Prelude.{◌≡◌, ◌≢◌, ◌||◌, ◌∷◌, [], ◌<◌, ◌≤◌, length, if◌then◌else◌, IsTrue, ◌↔◌, is_some};
+ghost use Rattle.std.specs.Prelude.{MatchOption, MatchResult, Some, None, Ok, Err, OnOk, IfOk};
 ghost use Rattle.rb_grammar.specs.Faults.{line_at};
-ghost use Rattle.rb_lexer.specs.declared.fault.SourceKind.TheVariants.{TooDeep, Unexpected};
+ghost use Rattle.rb_lexer.specs.declared.fault.SourceKind.TheVariants.{TooDeep, Unexpected, Memory};
 ghost use Rattle.rb_grammar.specs.Reading.{left, colon, begins, is_punctuation, tail, first_text, is_no_fallback_text};
 ghost use Rattle.rb_grammar.specs.Reading.{punctuation_at, text_at, word_at, guess, guess_second};
 ghost use Rattle.rb_parser.specs.Reads.{located, Reads};
 ghost use Rattle.rb_parser.specs.Views.{punctuation_of, guessed, word_of};
 
+use crate::left::TokensLeft;
 use crate::word::{Word, is_no_fallback_table, word_fault};
 use rb_lexer::{Mark, SourceFault, SourceKind, Token};
 use rb_tree::UnitList;
-use std::collections::VecDeque;
+use std::alloc::AllocError;
 
 /// A punctuation mark of the bundle syntax.
 #[derive(Clone, Copy)]
@@ -34,52 +35,42 @@ pub enum Guess {
 ///
 /// No more than the next two are looked at, and they are taken one by one.
 #[derive(Drop)]
-pub struct Cursor {
-    rest: VecDeque<Token>,
-    end: u64,
+pub struct Cursor<'a> {
+    pub rest: TokensLeft<'a>,
+    pub end: u64,
 }
 
-impl Cursor {
-    pub fn new(tokens: Vec<Token>, end: u64) -> Cursor
-        ensures rest { result.rest.items ≡ tokens.items }
-        ensures end { result.end ≡ end }
-    {
-        Cursor {
-            rest: VecDeque::from_vec(tokens),
-            end,
-        }
-    }
-
+impl<'a> Cursor<'a> {
     fn first(&self) -> Option<&Token>
-        ensures { MatchOption result (self.now.rest.items ≡ []) (λ t. self.now.rest.items ≡ t.now ∷ tail self.now.rest.items) }
+        ensures { MatchOption result (self.now.rest ≡ []) (λ t. self.now.rest ≡ t.now ∷ tail self.now.rest) }
     {
-        self.rest.front()
+        self.rest.first()
     }
 
     fn second(&self) -> Option<&Token>
-        ensures { MatchOption result (tail self.now.rest.items ≡ []) (λ t. tail self.now.rest.items ≡ t.now ∷ tail (tail self.now.rest.items)) }
+        ensures { MatchOption result (tail self.now.rest ≡ []) (λ t. tail self.now.rest ≡ t.now ∷ tail (tail self.now.rest)) }
     {
-        self.rest.get(1)
+        self.rest.second()
     }
 
-    fn pop(&mut self) -> Option<Token>
+    fn pop(&mut self) -> Result<Option<Token>, AllocError>
         ensures same_end { self.new.end ≡ self.old.end }
-        ensures token { MatchOption result (self.old.rest.items ≡ []) (λ t. self.old.rest.items ≡ t ∷ self.new.rest.items) }
-        ensures rest { self.new.rest.items ≡ tail self.old.rest.items }
+        ensures token { IfOk result (λ found. MatchOption found (self.old.rest ≡ []) (λ t. self.old.rest ≡ t ∷ self.new.rest)) }
+        ensures rest { OnOk result (self.new.rest ≡ tail self.old.rest) }
     {
-        self.rest.pop_front()
+        self.rest.pop()
     }
 
     /// Whether all tokens are taken.
     pub fn is_at_end(&self) -> bool
-        ensures { IsTrue result ↔ (self.now.rest.items ≡ []) }
+        ensures { IsTrue result ↔ (self.now.rest ≡ []) }
     {
-        self.rest.is_empty()
+        self.first().is_none()
     }
 
     /// The line of the next token, or of the end.
     fn line(&self) -> u64
-        ensures { result ≡ line_at self.now.end self.now.rest.items }
+        ensures { result ≡ line_at self.now.end self.now.rest }
     {
         match self.first() {
             Some(token) => token.line,
@@ -90,7 +81,7 @@ impl Cursor {
     /// An error at the next token, or at the end.
     pub fn fault(&self, kind: SourceKind) -> SourceFault
         ensures kind { result.kind ≡ kind }
-        ensures line { result.line ≡ line_at self.now.end self.now.rest.items }
+        ensures line { result.line ≡ line_at self.now.end self.now.rest }
     {
         SourceFault {
             kind,
@@ -100,7 +91,7 @@ impl Cursor {
 
     /// Whether a punctuation mark comes next.
     pub fn is_at(&self, punctuation: Punctuation) -> bool
-        ensures { result ≡ begins (punctuation_of punctuation) self.now.rest.items }
+        ensures { result ≡ begins (punctuation_of punctuation) self.now.rest }
     {
         match self.first() {
             Some(token) => is_punctuation(&token.what, punctuation),
@@ -110,15 +101,15 @@ impl Cursor {
 
     /// Whether a body comes next: a colon before its type, or its brace.
     pub fn is_at_body(&self) -> bool
-        ensures { result ≡ begins colon self.now.rest.items || begins left self.now.rest.items }
+        ensures { result ≡ begins colon self.now.rest || begins left self.now.rest }
     {
         self.is_at(Punctuation::Colon) || self.is_at(Punctuation::Left)
     }
 
     /// The error at the next token where no deeper value is allowed: it begins one, or it is out of place.
     pub fn depth_error(&self) -> SourceFault
-        ensures kind { result.kind ≡ (if begins colon self.now.rest.items || begins left self.now.rest.items then TooDeep else Unexpected) }
-        ensures line { result.line ≡ line_at self.now.end self.now.rest.items }
+        ensures kind { result.kind ≡ (if begins colon self.now.rest || begins left self.now.rest then TooDeep else Unexpected) }
+        ensures line { result.line ≡ line_at self.now.end self.now.rest }
     {
         if self.is_at_body() {
             self.fault(SourceKind::TooDeep)
@@ -128,29 +119,29 @@ impl Cursor {
     }
 
     /// Takes a punctuation mark, if it comes next.
-    pub fn take(&mut self, punctuation: Punctuation) -> bool
+    pub fn take(&mut self, punctuation: Punctuation) -> Result<bool, AllocError>
         ensures same_end { self.new.end ≡ self.old.end }
-        ensures value { result ≡ begins (punctuation_of punctuation) self.old.rest.items }
-        ensures rest { self.new.rest.items ≡ (if begins (punctuation_of punctuation) self.old.rest.items then tail self.old.rest.items
-            else self.old.rest.items) }
-        ensures shorter { IsTrue result → length self.new.rest.items < length self.old.rest.items }
-        ensures no_longer { length self.new.rest.items ≤ length self.old.rest.items }
+        ensures value { IfOk result (λ comes. comes ≡ begins (punctuation_of punctuation) self.old.rest) }
+        ensures rest { OnOk result (self.new.rest ≡ (if begins (punctuation_of punctuation) self.old.rest then tail self.old.rest
+            else self.old.rest)) }
+        ensures shorter { IfOk result (λ comes. IsTrue comes → length self.new.rest < length self.old.rest) }
+        ensures no_longer { OnOk result (length self.new.rest ≤ length self.old.rest) }
     {
         let comes = self.is_at(punctuation);
         if comes {
-            drop(self.pop());
+            drop(self.pop()?);
         }
-        comes
+        Ok(comes)
     }
 
     /// Takes a punctuation mark, which has to come next.
     pub fn expect(&mut self, punctuation: Punctuation) -> Result<(), SourceFault>
         ensures same_end { self.new.end ≡ self.old.end }
-        ensures exact { MatchResult result (λ _. punctuation_at (punctuation_of punctuation) self.old.rest.items ≡ Ok self.new.rest.items)
-            (λ e. located self.old.end (punctuation_at (punctuation_of punctuation) self.old.rest.items) ≡ Err e) }
-        ensures shorter { OnOk result (length self.new.rest.items < length self.old.rest.items) }
+        ensures exact { MatchResult result (λ _. punctuation_at (punctuation_of punctuation) self.old.rest ≡ Ok self.new.rest)
+            (λ e. e.kind ≢ Memory → located self.old.end (punctuation_at (punctuation_of punctuation) self.old.rest) ≡ Err e) }
+        ensures shorter { OnOk result (length self.new.rest < length self.old.rest) }
     {
-        if self.take(punctuation) {
+        if self.take(punctuation)? {
             Ok(())
         } else {
             Err(self.fault(SourceKind::Unexpected))
@@ -158,7 +149,7 @@ impl Cursor {
     }
 
     fn is_at_text(&self) -> bool
-        ensures { result ≡ is_some (first_text self.now.rest.items) }
+        ensures { result ≡ is_some (first_text self.now.rest) }
     {
         match self.first() {
             Some(token) => matches!(token.what, Mark::Text(_)),
@@ -167,23 +158,23 @@ impl Cursor {
     }
 
     /// Takes a text, if one comes next.
-    pub fn take_text(&mut self) -> Option<UnitList>
+    pub fn take_text(&mut self) -> Result<Option<UnitList>, AllocError>
         ensures same_end { self.new.end ≡ self.old.end }
-        ensures text { first_text self.old.rest.items ≡ result }
-        ensures rest { MatchOption result (self.new.rest.items ≡ self.old.rest.items) (λ _. self.new.rest.items ≡ tail self.old.rest.items) }
-        ensures shorter { MatchOption result (length self.new.rest.items ≤ length self.old.rest.items)
-            (λ _. length self.new.rest.items < length self.old.rest.items) }
+        ensures text { IfOk result (λ found. first_text self.old.rest ≡ found) }
+        ensures rest { IfOk result (λ found. MatchOption found (self.new.rest ≡ self.old.rest) (λ _. self.new.rest ≡ tail self.old.rest)) }
+        ensures shorter { IfOk result (λ found. MatchOption found (length self.new.rest ≤ length self.old.rest)
+            (λ _. length self.new.rest < length self.old.rest)) }
     {
         if !self.is_at_text() {
-            return None;
+            return Ok(None);
         }
-        match self.pop() {
+        match self.pop()? {
             Some(
                 Token {
                     what: Mark::Text(text),
                     ..
                 },
-            ) => Some(text),
+            ) => Ok(Some(text)),
             _ => unreachable!(),
         }
     }
@@ -191,18 +182,18 @@ impl Cursor {
     /// Takes a text, which has to come next.
     pub fn text(&mut self) -> Result<UnitList, SourceFault>
         ensures same_end { self.new.end ≡ self.old.end }
-        ensures exact { MatchResult result (λ s. text_at self.old.rest.items ≡ Ok (s, self.new.rest.items))
-            (λ e. located self.old.end (text_at self.old.rest.items) ≡ Err e) }
-        ensures shorter { OnOk result (length self.new.rest.items < length self.old.rest.items) }
+        ensures exact { MatchResult result (λ s. text_at self.old.rest ≡ Ok (s, self.new.rest))
+            (λ e. e.kind ≢ Memory → located self.old.end (text_at self.old.rest) ≡ Err e) }
+        ensures shorter { OnOk result (length self.new.rest < length self.old.rest) }
     {
-        match self.take_text() {
+        match self.take_text()? {
             Some(text) => Ok(text),
             None => Err(self.fault(SourceKind::Unexpected)),
         }
     }
 
     fn is_at_no_fallback_table(&self) -> bool
-        ensures { result ≡ is_no_fallback_text (first_text self.now.rest.items) }
+        ensures { result ≡ is_no_fallback_text (first_text self.now.rest) }
     {
         match self.first() {
             Some(token) => match &token.what {
@@ -214,22 +205,22 @@ impl Cursor {
     }
 
     /// Takes the text `table(nofallback)`, if it comes next.
-    pub fn take_no_fallback_table(&mut self) -> bool
+    pub fn take_no_fallback_table(&mut self) -> Result<bool, AllocError>
         ensures same_end { self.new.end ≡ self.old.end }
-        ensures value { result ≡ is_no_fallback_text (first_text self.old.rest.items) }
-        ensures rest { self.new.rest.items ≡ (if is_no_fallback_text (first_text self.old.rest.items) then tail self.old.rest.items
-            else self.old.rest.items) }
+        ensures value { IfOk result (λ comes. comes ≡ is_no_fallback_text (first_text self.old.rest)) }
+        ensures rest { OnOk result (self.new.rest ≡ (if is_no_fallback_text (first_text self.old.rest) then tail self.old.rest
+            else self.old.rest)) }
     {
         let comes = self.is_at_no_fallback_table();
         if comes {
-            drop(self.pop());
+            drop(self.pop()?);
         }
-        comes
+        Ok(comes)
     }
 
     /// What a body without a type is, whose brace was taken: the next two tokens decide.
     pub fn guess(&self) -> Result<Guess, SourceFault>
-        ensures { result ≡ guessed self.now.end (guess self.now.rest.items) }
+        ensures { result ≡ guessed self.now.end (guess self.now.rest) }
     {
         let Some(first) = self.first() else {
             return Err(self.fault(SourceKind::Unexpected));
@@ -242,7 +233,7 @@ impl Cursor {
     }
 
     fn guess_after_text(&self) -> Result<Guess, SourceFault>
-        ensures { result ≡ guessed self.now.end (guess_second (tail self.now.rest.items)) }
+        ensures { result ≡ guessed self.now.end (guess_second (tail self.now.rest)) }
     {
         let kind = SourceKind::Unexpected;
         let Some(second) = self.second() else {
@@ -263,8 +254,8 @@ impl Cursor {
     /// The type of a value that a text names, which has to come next.
     pub fn word(&mut self) -> Result<Word, SourceFault>
         ensures same_end { self.new.end ≡ self.old.end }
-        ensures exact { Reads (λ w v. w ≡ word_of v) self.old.end result self.new.rest.items (word_at self.old.rest.items) }
-        ensures shorter { OnOk result (length self.new.rest.items < length self.old.rest.items) }
+        ensures exact { Reads (λ w v. w ≡ word_of v) self.old.end result self.new.rest (word_at self.old.rest) }
+        ensures shorter { OnOk result (length self.new.rest < length self.old.rest) }
     {
         let line = self.line();
         let text = self.text()?;

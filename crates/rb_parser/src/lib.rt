@@ -5,6 +5,7 @@ mod cursor;
 mod key;
 pub mod laws;
 mod leaf;
+mod left;
 mod parser;
 mod source;
 mod word;

@@ -21,13 +21,13 @@ use std::collections::BTreeSet;
 #[cycle(body)]
 pub fn read_body(alloc: Global, cursor: &mut Cursor, depth: u64) -> Result<Tree, SourceFault>
     ensures same_end { cursor.new.end ≡ cursor.old.end }
-    ensures exact { Reads IsBodyTree cursor.old.end result cursor.new.rest.items (body the_tests depth cursor.old.rest.items) }
-    ensures shorter { OnOk result (length cursor.new.rest.items < length cursor.old.rest.items) }
+    ensures exact { Reads IsBodyTree cursor.old.end result cursor.new.rest (body the_tests depth cursor.old.rest) }
+    ensures shorter { OnOk result (length cursor.new.rest < length cursor.old.rest) }
 {
     if depth == 0 {
         return Err(cursor.depth_error());
     }
-    if cursor.take(Punctuation::Colon) {
+    if cursor.take(Punctuation::Colon)? {
         let word = cursor.word()?;
         cursor.expect(Punctuation::Left)?;
         read_typed(alloc, cursor, word, depth - 1)
@@ -46,9 +46,9 @@ fn read_typed(
     depth: u64,
 ) -> Result<Tree, SourceFault>
     ensures same_end { cursor.new.end ≡ cursor.old.end }
-    ensures exact { (w : reading.Word) → word_of w ≡ word → Reads IsBodyTree cursor.old.end result cursor.new.rest.items
-        (typed_at the_tests (inner_at depth) w cursor.old.rest.items) }
-    ensures shorter { OnOk result (length cursor.new.rest.items < length cursor.old.rest.items) }
+    ensures exact { (w : reading.Word) → word_of w ≡ word → Reads IsBodyTree cursor.old.end result cursor.new.rest
+        (typed_at the_tests (inner_at depth) w cursor.old.rest) }
+    ensures shorter { OnOk result (length cursor.new.rest < length cursor.old.rest) }
 {
     match word {
         Word::Leaf(leaf) => {
@@ -65,9 +65,9 @@ fn read_typed(
 #[cycle(body)]
 fn read_untyped(alloc: Global, cursor: &mut Cursor, depth: u64) -> Result<Tree, SourceFault>
     ensures same_end { cursor.new.end ≡ cursor.old.end }
-    ensures exact { Reads IsBodyTree cursor.old.end result cursor.new.rest.items
-        (untyped_at the_tests (inner_at depth) (guess cursor.old.rest.items) cursor.old.rest.items) }
-    ensures shorter { OnOk result (length cursor.new.rest.items < length cursor.old.rest.items) }
+    ensures exact { Reads IsBodyTree cursor.old.end result cursor.new.rest
+        (untyped_at the_tests (inner_at depth) (guess cursor.old.rest) cursor.old.rest) }
+    ensures shorter { OnOk result (length cursor.new.rest < length cursor.old.rest) }
 {
     match cursor.guess()? {
         Guess::Text => {
@@ -84,8 +84,8 @@ fn read_untyped(alloc: Global, cursor: &mut Cursor, depth: u64) -> Result<Tree, 
 #[cycle(body)]
 pub fn read_table(alloc: Global, cursor: &mut Cursor, depth: u64) -> Result<Tree, SourceFault>
     ensures same_end { cursor.new.end ≡ cursor.old.end }
-    ensures exact { Reads IsTableTree cursor.old.end result cursor.new.rest.items (table_at the_tests (inner_at depth) cursor.old.rest.items) }
-    ensures shorter { OnOk result (length cursor.new.rest.items < length cursor.old.rest.items) }
+    ensures exact { Reads IsTableTree cursor.old.end result cursor.new.rest (table_at the_tests (inner_at depth) cursor.old.rest) }
+    ensures shorter { OnOk result (length cursor.new.rest < length cursor.old.rest) }
 {
     let pairs = read_entries(alloc, cursor, depth)?;
     match Tree::table(alloc, pairs) {
@@ -106,16 +106,16 @@ fn read_entries(
     depth: u64,
 ) -> Result<Vec<(ByteList, Tree)>, SourceFault>
     ensures same_end { cursor.new.end ≡ cursor.old.end }
-    ensures exact { (n : ℕ) → length cursor.old.rest.items < n → Reads (λ v es. AreEntries v.items es) cursor.old.end result cursor.new.rest.items
-        (entries the_tests (body the_tests depth) n [] cursor.old.rest.items) }
+    ensures exact { (n : ℕ) → length cursor.old.rest < n → Reads (λ v es. AreEntries v.items es) cursor.old.end result cursor.new.rest
+        (entries the_tests (body the_tests depth) n [] cursor.old.rest) }
     ensures keys { IfOk result (λ v. All IsKey (keys_in v.items)) }
-    ensures shorter { OnOk result (length cursor.new.rest.items < length cursor.old.rest.items) }
+    ensures shorter { OnOk result (length cursor.new.rest < length cursor.old.rest) }
 {
     let mut pairs = Vec::new(alloc);
     let mut seen = BTreeSet::new(alloc);
     'entries: loop {
         let bad = cursor.fault(SourceKind::BadKey);
-        let Some(text) = cursor.take_text() else {
+        let Some(text) = cursor.take_text()? else {
             break;
         };
         let Some(key) = read_key(alloc, text.as_slice())? else {
@@ -129,7 +129,7 @@ fn read_entries(
         }
         let tree = read_body(alloc, cursor, depth)?;
         pairs.push((key, tree))?;
-        cursor.take(Punctuation::Comma);
+        cursor.take(Punctuation::Comma)?;
     }
     cursor.expect(Punctuation::Right)?;
     Ok(pairs)
@@ -139,13 +139,14 @@ fn read_entries(
 #[cycle(body)]
 fn read_array(alloc: Global, cursor: &mut Cursor, depth: u64) -> Result<Tree, SourceFault>
     ensures same_end { cursor.new.end ≡ cursor.old.end }
-    ensures exact { Reads IsArrayTree cursor.old.end result cursor.new.rest.items (array_at (inner_at depth) cursor.old.rest.items) }
-    ensures shorter { OnOk result (length cursor.new.rest.items < length cursor.old.rest.items) }
+    ensures exact { Reads IsArrayTree cursor.old.end result cursor.new.rest (array_at (inner_at depth) cursor.old.rest) }
+    ensures shorter { OnOk result (length cursor.new.rest < length cursor.old.rest) }
 {
     let mut trees = Vec::new(alloc);
     'elements: loop {
         let too_deep = cursor.fault(SourceKind::TooDeep);
-        if let Some(text) = cursor.take_text() {
+        let next = cursor.take_text()?;
+        if let Some(text) = next {
             if depth == 0 {
                 return Err(too_deep);
             }
@@ -155,7 +156,7 @@ fn read_array(alloc: Global, cursor: &mut Cursor, depth: u64) -> Result<Tree, So
         } else {
             break;
         }
-        cursor.take(Punctuation::Comma);
+        cursor.take(Punctuation::Comma)?;
     }
     cursor.expect(Punctuation::Right)?;
     Ok(Tree::Array(TreeList::from_vec(trees)))

@@ -11,9 +11,10 @@ ghost use Rattle.rb_parser.specs.ReadsBundle.{ReadsBundle};
 ghost use Rattle.rb_parser.specs.Source.{source_tree, IsGoodSource, last_line, IsRefusal};
 
 use crate::cursor::{Cursor, Punctuation};
+use crate::left::TokensLeft;
 use crate::parser::read_table;
 use crate::word::Word;
-use rb_lexer::{SourceFault, SourceKind, lex};
+use rb_lexer::{SourceFault, SourceKind};
 use rb_tree::{HEIGHT_LIMIT, Tree, UnitList};
 use std::alloc::Global;
 
@@ -31,12 +32,12 @@ pub struct Source {
 /// The type of a bundle, where one is written: `table`, or `table(nofallback)`, for which the answer is true.
 fn read_type(cursor: &mut Cursor) -> Result<bool, SourceFault>
     ensures same_end { cursor.new.end ≡ cursor.old.end }
-    ensures exact { Reads IsFlag cursor.old.end result cursor.new.rest.items (type_at cursor.old.rest.items) }
+    ensures exact { Reads IsFlag cursor.old.end result cursor.new.rest (type_at cursor.old.rest) }
 {
-    if !cursor.take(Punctuation::Colon) {
+    if !cursor.take(Punctuation::Colon)? {
         return Ok(false);
     }
-    if cursor.take_no_fallback_table() {
+    if cursor.take_no_fallback_table()? {
         return Ok(true);
     }
     let other = cursor.fault(SourceKind::Unexpected);
@@ -48,7 +49,7 @@ fn read_type(cursor: &mut Cursor) -> Result<bool, SourceFault>
 
 /// The bundle that all of the tokens spell, apart from its weight.
 fn read_bundle(alloc: Global, cursor: &mut Cursor) -> Result<Source, SourceFault>
-    ensures { ReadsBundle cursor.old.end result (bundle the_tests cursor.old.rest.items) }
+    ensures { ReadsBundle cursor.old.end result (bundle the_tests cursor.old.rest) }
 {
     let name = cursor.text()?;
     let no_fallback = read_type(cursor)?;
@@ -96,8 +97,11 @@ pub fn parse(alloc: Global, bytes: &[u8]) -> Result<Source, SourceFault>
     // What is reported is an error of the source, with its line, unless memory ran out.
     ensures fault { IfErr result (λ e. IsRefusal bytes.now e) }
 {
-    let tokens = lex(alloc, bytes)?;
-    let mut cursor = Cursor::new(tokens, last_line(bytes));
+    let tokens = TokensLeft::of(alloc, bytes)?;
+    let mut cursor = Cursor {
+        rest: tokens,
+        end: last_line(bytes),
+    };
     let source = match read_bundle(alloc, &mut cursor) {
         Ok(source) => source,
         Err(fault) => return Err(without_memory_line(fault)),

@@ -4,7 +4,7 @@ use Rattle.rb_lexer.proofs.Items.{white_item, punctuation_item, quoted_item, pla
 use Rattle.rb_lexer.proofs.scan.scan_first.Goals as goal
 
 pub returns-then-is_white-clause-taken : goal.returns-then-is_white-clause-taken
-returns-then-is_white-clause-taken c = white_item _ _ _ c.in-Some.ensures.taken (sym c.is_white.ensures ∙ c.if-is_white.true)
+returns-then-is_white-clause-taken c = white_item _ _ _ c.in-Some.ensures.taken _ (sym c.is_white.ensures ∙ c.if-is_white.true) c.past_white.ensures.taken
 
 pub returns-in-Some-punctuation-clause-taken : goal.returns-in-Some-punctuation-clause-taken
 returns-in-Some-punctuation-clause-taken c =

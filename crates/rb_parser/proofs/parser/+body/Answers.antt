@@ -20,59 +20,59 @@ use Rattle.rb_parser.proofs.parser.+body.Goals as goal
 
 pub read_body-returns-then-depth-eq0-clause-exact : goal.read_body-returns-then-depth-eq0-clause-exact
 read_body-returns-then-depth-eq0-clause-exact t c = λ other.
-    depth_error c.args.cursor.now.end c.args.depth c.args.cursor.now.rest.items c.depth_error.result c.if-depth-eq0.true c.depth_error.ensures.kind
+    depth_error c.args.cursor.now.end c.args.depth c.args.cursor.now.rest c.depth_error.result c.if-depth-eq0.true c.depth_error.ensures.kind
     c.depth_error.ensures.line
 
 pub read_body-returns-in_err-word-clause-exact : goal.read_body-returns-in_err-word-clause-exact
 read_body-returns-in_err-word-clause-exact t c =
-    let p = err_from_is_err_and c.from_residual.result c.from_residual.ensures.1 in
-    rw (p.1, p.2) (λ other. bad_word c.args.depth (c.args.depth - 1) c.args.cursor.now.rest.items c.take.new.self.rest.items c.take.result (omega arith)
-    c.take.ensures.value c.take.ensures.rest
-    c.args.cursor.now.end c.take.new.self.end _ c.if-take.true c.take.ensures.same_end (c.in_err-word.ensures.exact other))
+    let p = err_from_is_err_and c.from_residual-in_err-word.result c.from_residual-in_err-word.ensures.1 in
+    rw (p.1, p.2) (λ other. bad_word c.args.depth (c.args.depth - 1) c.args.cursor.now.rest c.take.new.self.rest c.in_ok-take.field-0 (omega arith)
+    c.in_ok-take.ensures.value c.in_ok-take.ensures.rest
+    c.args.cursor.now.end c.take.new.self.end _ c.if-branch.true c.in_ok-take.ensures.same_end (c.in_err-word.ensures.exact other))
 
 pub read_body-returns-in_err-expect-clause-exact : goal.read_body-returns-in_err-expect-clause-exact
 read_body-returns-in_err-expect-clause-exact t c =
     let p = err_from_is_err_and c.from_residual-in_err-expect.result c.from_residual-in_err-expect.ensures.1 in
     let w = c.in_ok-word.ensures.exact in
-    rw (p.1, p.2) (λ other. no_brace c.args.depth (c.args.depth - 1) c.args.cursor.now.rest.items c.take.new.self.rest.items c.take.result (omega arith)
-    c.take.ensures.value c.take.ensures.rest
-    w.0 c.word.new.self.rest.items c.if-take.true w.1 c.args.cursor.now.end c.word.new.self.end _ (c.in_ok-word.ensures.same_end ∙ c.take.ensures.same_end)
-    c.in_err-expect.ensures.exact)
+    rw (p.1, p.2) (λ other. no_brace c.args.depth (c.args.depth - 1) c.args.cursor.now.rest c.take.new.self.rest c.in_ok-take.field-0 (omega arith)
+    c.in_ok-take.ensures.value c.in_ok-take.ensures.rest
+    w.0 c.word.new.self.rest c.if-branch.true w.1 c.args.cursor.now.end c.word.new.self.end _ (c.in_ok-word.ensures.same_end ∙ c.in_ok-take.ensures.same_end)
+    (c.in_err-expect.ensures.exact other))
 
 pub read_body-returns-in_err-expect-2-clause-exact : goal.read_body-returns-in_err-expect-2-clause-exact
 read_body-returns-in_err-expect-2-clause-exact t c =
     let p = err_from_is_err_and c.from_residual-in_err-expect-2.result c.from_residual-in_err-expect-2.ensures.1 in
-    rw (p.1, p.2) (λ other. unopened c.args.depth (c.args.depth - 1) c.args.cursor.now.rest.items c.take.new.self.rest.items c.take.result (omega arith)
-    c.take.ensures.value c.take.ensures.rest
-    c.args.cursor.now.end c.take.new.self.end _ c.if-take.false c.take.ensures.same_end c.in_err-expect-2.ensures.exact)
+    rw (p.1, p.2) (λ other. unopened c.args.depth (c.args.depth - 1) c.args.cursor.now.rest c.take.new.self.rest c.in_ok-take.field-0 (omega arith)
+    c.in_ok-take.ensures.value c.in_ok-take.ensures.rest
+    c.args.cursor.now.end c.take.new.self.end _ c.if-branch.false c.in_ok-take.ensures.same_end (c.in_err-expect-2.ensures.exact other))
 
 pub read_body-returns-in_ok-expect-clause-exact : goal.read_body-returns-in_ok-expect-clause-exact
 read_body-returns-in_ok-expect-clause-exact t c =
     let w = c.in_ok-word.ensures.exact in
     let below = c.args.depth - 1 in
-    let same : c.expect.new.self.end ≡ c.args.cursor.now.end = c.in_ok-expect.ensures.same_end ∙ c.in_ok-word.ensures.same_end ∙ c.take.ensures.same_end in
-    reads_same IsBodyTree c.args.cursor.now.end c.expect.new.self.end c.read_typed.result c.read_typed.new.cursor.rest.items
-    (typed_at the_tests (inner_at below) w.0 c.expect.new.self.rest.items) (body the_tests c.args.depth c.args.cursor.now.rest.items) same
-    (typed_body c.args.depth below c.args.cursor.now.rest.items c.take.new.self.rest.items c.take.result (omega arith) c.take.ensures.value c.take.ensures.rest
-    w.0 c.word.new.self.rest.items c.if-take.true w.1 c.expect.new.self.rest.items c.in_ok-expect.ensures.exact)
+    let same : c.expect.new.self.end ≡ c.args.cursor.now.end = c.in_ok-expect.ensures.same_end ∙ c.in_ok-word.ensures.same_end ∙ c.in_ok-take.ensures.same_end in
+    reads_same IsBodyTree c.args.cursor.now.end c.expect.new.self.end c.read_typed.result c.read_typed.new.cursor.rest
+    (typed_at the_tests (inner_at below) w.0 c.expect.new.self.rest) (body the_tests c.args.depth c.args.cursor.now.rest) same
+    (typed_body c.args.depth below c.args.cursor.now.rest c.take.new.self.rest c.in_ok-take.field-0 (omega arith) c.in_ok-take.ensures.value c.in_ok-take.ensures.rest
+    w.0 c.word.new.self.rest c.if-branch.true w.1 c.expect.new.self.rest c.in_ok-expect.ensures.exact)
     (c.read_typed.ensures.exact w.0 (sym w.2))
 
 pub read_body-returns-in_ok-expect-2-clause-exact : goal.read_body-returns-in_ok-expect-2-clause-exact
 read_body-returns-in_ok-expect-2-clause-exact t c =
     let below = c.args.depth - 1 in
-    let after = c.expect-else-take.new.self.rest.items in
-    let same : c.expect-else-take.new.self.end ≡ c.args.cursor.now.end = c.in_ok-expect-2.ensures.same_end ∙ c.take.ensures.same_end in
-    reads_same IsBodyTree c.args.cursor.now.end c.expect-else-take.new.self.end c.read_untyped.result c.read_untyped.new.cursor.rest.items
-    (untyped_at the_tests (inner_at below) (guess after) after) (body the_tests c.args.depth c.args.cursor.now.rest.items) same
-    (untyped_body c.args.depth below c.args.cursor.now.rest.items c.take.new.self.rest.items c.take.result (omega arith) c.take.ensures.value
-    c.take.ensures.rest after c.if-take.false c.in_ok-expect-2.ensures.exact)
+    let after = c.expect-else-branch.new.self.rest in
+    let same : c.expect-else-branch.new.self.end ≡ c.args.cursor.now.end = c.in_ok-expect-2.ensures.same_end ∙ c.in_ok-take.ensures.same_end in
+    reads_same IsBodyTree c.args.cursor.now.end c.expect-else-branch.new.self.end c.read_untyped.result c.read_untyped.new.cursor.rest
+    (untyped_at the_tests (inner_at below) (guess after) after) (body the_tests c.args.depth c.args.cursor.now.rest) same
+    (untyped_body c.args.depth below c.args.cursor.now.rest c.take.new.self.rest c.in_ok-take.field-0 (omega arith) c.in_ok-take.ensures.value
+    c.in_ok-take.ensures.rest after c.if-branch.false c.in_ok-expect-2.ensures.exact)
     c.read_untyped.ensures.exact
 
 pub read_typed-returns-in_err-tree-in-Leaf-clause-exact : goal.read_typed-returns-in_err-tree-in-Leaf-clause-exact
 read_typed-returns-in_err-tree-in-Leaf-clause-exact t c = λ w is.
     let p = err_from_is_err_and c.from_residual.result c.from_residual.ensures.1 in
     let named = is ∙ c.in-Leaf.is in
-    rw (p.1, p.2) (λ other. leaf_stops (inner_at c.args.depth) w c.in-Leaf.leaf c.args.cursor.now.rest.items named c.args.cursor.now.end _
+    rw (p.1, p.2) (λ other. leaf_stops (inner_at c.args.depth) w c.in-Leaf.leaf c.args.cursor.now.rest named c.args.cursor.now.end _
     (c.in_err-tree-in-Leaf.ensures.exact w named other))
 
 pub read_typed-returns-in_err-expect-in-Leaf-clause-exact : goal.read_typed-returns-in_err-expect-in-Leaf-clause-exact
@@ -80,16 +80,16 @@ read_typed-returns-in_err-expect-in-Leaf-clause-exact t c = λ w is.
     let p = err_from_is_err_and c.from_residual-in_err-expect-in-Leaf.result c.from_residual-in_err-expect-in-Leaf.ensures.1 in
     let named = is ∙ c.in-Leaf.is in
     let y = c.in_ok-tree-in-Leaf.ensures.exact w named in
-    rw (p.1, p.2) (λ other. leaf_open (inner_at c.args.depth) w c.in-Leaf.leaf c.args.cursor.now.rest.items named y.0 c.read_leaf.new.cursor.rest.items y.1
-    c.args.cursor.now.end c.read_leaf.new.cursor.end _ c.in_ok-tree-in-Leaf.ensures.same_end c.in_err-expect-in-Leaf.ensures.exact)
+    rw (p.1, p.2) (λ other. leaf_open (inner_at c.args.depth) w c.in-Leaf.leaf c.args.cursor.now.rest named y.0 c.read_leaf.new.cursor.rest y.1
+    c.args.cursor.now.end c.read_leaf.new.cursor.end _ c.in_ok-tree-in-Leaf.ensures.same_end (c.in_err-expect-in-Leaf.ensures.exact other))
 
 pub read_typed-returns-in_ok-expect-in-Leaf-clause-exact : goal.read_typed-returns-in_ok-expect-in-Leaf-clause-exact
 read_typed-returns-in_ok-expect-in-Leaf-clause-exact t c = λ w is.
     let named = is ∙ c.in-Leaf.is in
     let y = c.in_ok-tree-in-Leaf.ensures.exact w named in (
       leaf y.0,
-      leaf_reads (inner_at c.args.depth) w c.in-Leaf.leaf c.args.cursor.now.rest.items named y.0 c.read_leaf.new.cursor.rest.items y.1
-          c.expect.new.self.rest.items c.in_ok-expect-in-Leaf.ensures.exact,
+      leaf_reads (inner_at c.args.depth) w c.in-Leaf.leaf c.args.cursor.now.rest named y.0 c.read_leaf.new.cursor.rest y.1
+          c.expect.new.self.rest c.in_ok-expect-in-Leaf.ensures.exact,
       y.2,
     )
 
@@ -97,25 +97,25 @@ pub read_untyped-returns-in_ok-expect-in-Text-clause-exact : goal.read_untyped-r
 read_untyped-returns-in_ok-expect-in-Text-clause-exact t c =
     let s = c.in_ok-text-in-Text.text in (
       plain s,
-      plain_reads (inner_at c.args.depth) c.args.cursor.now.end c.args.cursor.now.rest.items c.text.new.self.rest.items c.expect.new.self.rest.items s
+      plain_reads (inner_at c.args.depth) c.args.cursor.now.end c.args.cursor.now.rest c.text.new.self.rest c.expect.new.self.rest s
           c.guess.result (c.in_ok-guess.was ∙ ap Ok c.in-Text.is) c.guess.ensures c.in_ok-text-in-Text.ensures.exact c.in_ok-expect-in-Text.ensures.exact,
       refl,
     )
 
 pub read_table-unreachable-requires : goal.read_table-unreachable-requires
 read_table-unreachable-requires t c =
-    let es = c.in_ok-pairs.ensures.exact (suc (length c.args.cursor.now.rest.items)) (omega arith) in
+    let es = c.in_ok-pairs.ensures.exact (suc (length c.args.cursor.now.rest)) (omega arith) in
     no_repeat c.in_ok-pairs.pairs.items es.0 c.in-Err-DuplicateKey.field-0-0 es.2
-    (table_passed c.args.depth (suc (length c.args.cursor.now.rest.items)) c.args.cursor.now.rest.items es.0 c.read_entries.new.cursor.rest.items es.1)
+    (table_passed c.args.depth (suc (length c.args.cursor.now.rest)) c.args.cursor.now.rest es.0 c.read_entries.new.cursor.rest es.1)
     (c.table.ensures.duplicate c.in-Err-DuplicateKey.field-0-0 (c.in-Err-DuplicateKey.is ∙ ap Err c.in-Err-DuplicateKey.field-0-is))
 
 pub read_table-returns-in-Ok-clause-exact : goal.read_table-returns-in-Ok-clause-exact
 read_table-returns-in-Ok-clause-exact t c =
-    let es = c.in_ok-pairs.ensures.exact (suc (length c.args.cursor.now.rest.items)) (omega arith) in (
+    let es = c.in_ok-pairs.ensures.exact (suc (length c.args.cursor.now.rest)) (omega arith) in (
       es.0,
       es.1,
       table_spells c.in_ok-pairs.pairs.items es.0 _ es.2
-          (table_passed c.args.depth (suc (length c.args.cursor.now.rest.items)) c.args.cursor.now.rest.items es.0 c.read_entries.new.cursor.rest.items es.1)
+          (table_passed c.args.depth (suc (length c.args.cursor.now.rest)) c.args.cursor.now.rest es.0 c.read_entries.new.cursor.rest es.1)
           c.in-Ok.ensures.table,
     )
 
@@ -126,13 +126,13 @@ read_entries-entries-init t c =
 pub read_entries-returns-in_default-2-clause-exact : goal.read_entries-returns-in_default-2-clause-exact
 read_entries-returns-in_default-2-clause-exact t c =
     let none = rw c.in_default-2.is at c.in_ok-key.ensures in
-    entries_bad_key c.entries.invariant c.in-Some.text c.fault-bad.result c.in-Some.ensures.text
+    entries_bad_key c.entries.invariant c.in-Some.text c.fault-bad.result (rw c.in-Some.is at c.in_ok-text.ensures.text)
     (λ h. none (subst (λ (l : List ℕ). IsKey l) (sym c.as_slice.ensures) h)) c.fault-bad.ensures.kind c.fault-bad.ensures.line
 
 pub read_entries-returns-then-not-branch-clause-exact : goal.read_entries-returns-then-not-branch-clause-exact
 read_entries-returns-then-not-branch-clause-exact t c =
     let key = rw c.in-Some-2.is at c.in_ok-key.ensures in
-    entries_twice c.entries.invariant c.in-Some.text (record { kind = DuplicateKey; line = c.fault-bad.result.line }) c.in-Some.ensures.text
+    entries_twice c.entries.invariant c.in-Some.text (record { kind = DuplicateKey; line = c.fault-bad.result.line }) (rw c.in-Some.is at c.in_ok-text.ensures.text)
     (subst (λ (l : List ℕ). IsKey l) c.as_slice.ensures key.0)
     (seen_before c.entries.seen.keys c.in-Some.text c.into_vec.result c.in_ok-insert.field-0 c.in_ok-insert.ensures.added c.into_vec.ensures
     c.if-not-branch.true)
@@ -142,88 +142,88 @@ pub read_entries-returns-in_err-tree-clause-exact : goal.read_entries-returns-in
 read_entries-returns-in_err-tree-clause-exact t c =
     let p = err_from_is_err_and c.from_residual-in_err-tree.result c.from_residual-in_err-tree.ensures.1 in
     let key = rw c.in-Some-2.is at c.in_ok-key.ensures in
-    rw (p.1, p.2) (entries_bad_body c.entries.invariant c.in-Some.text _ c.take_text.new.self c.in-Some.ensures.text
+    rw (p.1, p.2) (entries_bad_body c.entries.invariant c.in-Some.text _ c.take_text.new.self (rw c.in-Some.is at c.in_ok-text.ensures.text)
     (subst (λ (l : List ℕ). IsKey l) c.as_slice.ensures key.0)
     (not_seen c.entries.seen.keys c.in-Some.text c.into_vec.result c.in_ok-insert.field-0 c.in_ok-insert.ensures.added c.into_vec.ensures c.if-not-branch.false)
-    (record { same_end = c.take_text.ensures.same_end; rest = c.in-Some.ensures.rest }) c.in_err-tree.ensures.exact)
+    (record { same_end = c.take_text.ensures.same_end; rest = (rw c.in-Some.is at c.in_ok-text.ensures.rest) }) c.in_err-tree.ensures.exact)
 
 pub read_entries-entries-preserved : goal.read_entries-entries-preserved
 read_entries-entries-preserved t c =
     let key = rw c.in-Some-2.is at c.in_ok-key.ensures in
     let b = c.in_ok-tree.ensures.exact in
-    let shorter : length c.take.new.self.rest.items < length c.entries.cursor.rest.items =
-    omega (arith, c.in-Some.ensures.shorter, c.in_ok-tree.ensures.shorter) in
+    let shorter : length c.take.new.self.rest < length c.entries.cursor.rest =
+    omega (arith, (rw c.in-Some.is at c.in_ok-text.ensures.shorter), c.in_ok-tree.ensures.shorter, c.in_ok-take.ensures.no_longer) in
     entries_more c.entries.invariant c.in-Some.text b.0 c.take_text.new.self c.read_body.new.cursor c.take.new.self c.in-Some-2.key c.in_ok-tree.tree
-    c.into_vec.result c.push.new.self.items c.insert.new.self.keys c.in-Some.ensures.text (subst (λ (l : List ℕ). IsKey l) c.as_slice.ensures key.0)
+    c.into_vec.result c.push.new.self.items c.insert.new.self.keys (rw c.in-Some.is at c.in_ok-text.ensures.text) (subst (λ (l : List ℕ). IsKey l) c.as_slice.ensures key.0)
     (not_seen c.entries.seen.keys c.in-Some.text c.into_vec.result c.in_ok-insert.field-0 c.in_ok-insert.ensures.added c.into_vec.ensures c.if-not-branch.false)
-    (record { same_end = c.take_text.ensures.same_end; rest = c.in-Some.ensures.rest }) b.1 b.2 c.in_ok-tree.ensures.same_end c.take.ensures.same_end
-    c.take.ensures.rest shorter (key.1 ∙ c.as_slice.ensures) c.into_vec.ensures c.in_ok-push.ensures.items c.in_ok-insert.ensures.keys
+    (record { same_end = c.take_text.ensures.same_end; rest = (rw c.in-Some.is at c.in_ok-text.ensures.rest) }) b.1 b.2 c.in_ok-tree.ensures.same_end c.in_ok-take.ensures.same_end
+    c.in_ok-take.ensures.rest shorter (key.1 ∙ c.as_slice.ensures) c.into_vec.ensures c.in_ok-push.ensures.items c.in_ok-insert.ensures.keys
 
 pub read_entries-returns-in_err-expect-clause-exact : goal.read_entries-returns-in_err-expect-clause-exact
 read_entries-returns-in_err-expect-clause-exact t c =
     let p = err_from_is_err_and c.from_residual-in_err-expect.result c.from_residual-in_err-expect.ensures.1 in
     rw (p.1, p.2) (entries_open c.entries.invariant _ c.take_text.new.self
-    (record { none = c.in_default.ensures.text; same_end = c.take_text.ensures.same_end; rest = c.in_default.ensures.rest }) c.in_err-expect.ensures.exact)
+    (record { none = (rw c.in_default.is at c.in_ok-text.ensures.text); same_end = c.take_text.ensures.same_end; rest = (rw c.in_default.is at c.in_ok-text.ensures.rest) }) c.in_err-expect.ensures.exact)
 
 pub read_entries-returns-clause-exact : goal.read_entries-returns-clause-exact
 read_entries-returns-clause-exact t c =
-    entries_done c.entries.invariant c.take_text.new.self c.expect.new.self.rest.items
-    (record { none = c.in_default.ensures.text; same_end = c.take_text.ensures.same_end; rest = c.in_default.ensures.rest }) c.in_ok-expect.ensures.exact
+    entries_done c.entries.invariant c.take_text.new.self c.expect.new.self.rest
+    (record { none = (rw c.in_default.is at c.in_ok-text.ensures.text); same_end = c.take_text.ensures.same_end; rest = (rw c.in_default.is at c.in_ok-text.ensures.rest) }) c.in_ok-expect.ensures.exact
 
 pub read_array-elements-init : goal.read_array-elements-init
 read_array-elements-init t c = elements_begin c.args.depth c.args.cursor.now c.new-trees.result.items c.new-trees.ensures.items
 
 pub read_array-returns-then-depth-eq0-clause-exact : goal.read_array-returns-then-depth-eq0-clause-exact
 read_array-returns-then-depth-eq0-clause-exact t c =
-    elements_too_deep c.elements.invariant c.in-Some.text c.fault-too_deep.result c.in-Some.ensures.text c.if-depth-eq0.true c.fault-too_deep.ensures.kind
+    elements_too_deep c.elements.invariant c.in-Some.text c.fault-too_deep.result (rw c.in-Some.is at c.in_ok-next.ensures.text) c.if-depth-eq0.true c.fault-too_deep.ensures.kind
     c.fault-too_deep.ensures.line
 
 pub read_array-returns-in_err-read_body-clause-exact : goal.read_array-returns-in_err-read_body-clause-exact
 read_array-returns-in_err-read_body-clause-exact t c =
     let p = err_from_is_err_and c.from_residual-in_err-read_body.result c.from_residual-in_err-read_body.ensures.1 in
     rw (p.1, p.2) (elements_bad_body c.elements.invariant _ c.take_text.new.self c.is_at_body.result
-    (record { none = c.in_default.ensures.text; same_end = c.take_text.ensures.same_end; rest = c.in_default.ensures.rest }) c.is_at_body.ensures
+    (record { none = (rw c.in_default.is at c.in_ok-next.ensures.text); same_end = c.take_text.ensures.same_end; rest = (rw c.in_default.is at c.in_ok-next.ensures.rest) }) c.is_at_body.ensures
     c.if-is_at_body.true c.in_err-read_body.ensures.exact)
 
 pub read_array-returns-in_err-expect-clause-exact : goal.read_array-returns-in_err-expect-clause-exact
 read_array-returns-in_err-expect-clause-exact t c =
     let p = err_from_is_err_and c.from_residual-in_err-expect.result c.from_residual-in_err-expect.ensures.1 in
     rw (p.1, p.2) (elements_open c.elements.invariant _ c.take_text.new.self c.is_at_body.result
-    (record { none = c.in_default.ensures.text; same_end = c.take_text.ensures.same_end; rest = c.in_default.ensures.rest }) c.is_at_body.ensures
+    (record { none = (rw c.in_default.is at c.in_ok-next.ensures.text); same_end = c.take_text.ensures.same_end; rest = (rw c.in_default.is at c.in_ok-next.ensures.rest) }) c.is_at_body.ensures
     c.if-is_at_body.false c.in_err-expect.ensures.exact)
 
 pub read_array-returns-clause-exact : goal.read_array-returns-clause-exact
 read_array-returns-clause-exact t c =
-    let x = elements_done c.elements.invariant c.take_text.new.self c.is_at_body.result c.expect.new.self.rest.items
-    (record { none = c.in_default.ensures.text; same_end = c.take_text.ensures.same_end; rest = c.in_default.ensures.rest }) c.is_at_body.ensures
+    let x = elements_done c.elements.invariant c.take_text.new.self c.is_at_body.result c.expect.new.self.rest
+    (record { none = (rw c.in_default.is at c.in_ok-next.ensures.text); same_end = c.take_text.ensures.same_end; rest = (rw c.in_default.is at c.in_ok-next.ensures.rest) }) c.is_at_body.ensures
     c.if-is_at_body.false c.in_ok-expect.ensures.exact in
     (x.0, x.1, (_, ap (λ v. Rattle.rb_tree.specs.Resource.array v) c.from_vec.ensures, x.2))
 
 pub read_array-elements-preserved : goal.read_array-elements-preserved
 read_array-elements-preserved t c =
-    elim c.match-take_text.branch [
+    elim c.match-next.branch [
       | read_array-in-Some+else-depth-eq0+in_ok-push w ↦
-          let now : length c.match-take_text.cursor.rest.items ≡ length c.take_text.new.self.rest.items =
-          ap (λ (x : Cursor). length x.rest.items) w.cursor-is in
-          let shorter : length c.take.new.self.rest.items < length c.elements.cursor.rest.items =
-          omega (arith, w.in-Some.ensures.shorter, c.take.ensures.no_longer, now) in
-          elements_text c.elements.invariant w.in-Some.text c.take_text.new.self c.take.new.self c.match-take_text.trees.items w.in-Some.ensures.text
+          let now : length c.match-next.cursor.rest ≡ length c.take_text.new.self.rest =
+          ap (λ (x : Cursor). length x.rest) w.cursor-is in
+          let shorter : length c.take.new.self.rest < length c.elements.cursor.rest =
+          omega (arith, (rw w.in-Some.is at c.in_ok-next.ensures.shorter), c.in_ok-take.ensures.no_longer, now) in
+          elements_text c.elements.invariant w.in-Some.text c.take_text.new.self c.take.new.self c.match-next.trees.items (rw w.in-Some.is at c.in_ok-next.ensures.text)
           (omega arith)
-          (record { same_end = c.take_text.ensures.same_end; rest = w.in-Some.ensures.rest })
-          (c.take.ensures.same_end ∙ ap (λ (x : Cursor). x.end) w.cursor-is)
-          (c.take.ensures.rest ∙ ap (λ (x : Cursor). after_comma x.rest.items) w.cursor-is) shorter
+          (record { same_end = c.take_text.ensures.same_end; rest = (rw w.in-Some.is at c.in_ok-next.ensures.rest) })
+          (c.in_ok-take.ensures.same_end ∙ ap (λ (x : Cursor). x.end) w.cursor-is)
+          (c.in_ok-take.ensures.rest ∙ ap (λ (x : Cursor). after_comma x.rest) w.cursor-is) shorter
           (ap (λ (v : Vec Tree Global). v.items) w.trees-is ∙ w.in_ok-push.ensures.items)
       | read_array-in_default+then-is_at_body+in_ok-read_body+in_ok-push-2 w ↦
-          let now : length c.match-take_text.cursor.rest.items ≡ length w.read_body.new.cursor.rest.items =
-          ap (λ (x : Cursor). length x.rest.items) w.cursor-is in
-          let same_length : length c.take_text.new.self.rest.items ≡ length c.elements.cursor.rest.items = ap length w.in_default.ensures.rest in
+          let now : length c.match-next.cursor.rest ≡ length w.read_body.new.cursor.rest =
+          ap (λ (x : Cursor). length x.rest) w.cursor-is in
+          let same_length : length c.take_text.new.self.rest ≡ length c.elements.cursor.rest = ap length (rw w.in_default.is at c.in_ok-next.ensures.rest) in
           let b = w.in_ok-read_body.ensures.exact in
-          let shorter : length c.take.new.self.rest.items < length c.elements.cursor.rest.items =
-          omega (arith, w.in_ok-read_body.ensures.shorter, c.take.ensures.no_longer, now, same_length) in
+          let shorter : length c.take.new.self.rest < length c.elements.cursor.rest =
+          omega (arith, w.in_ok-read_body.ensures.shorter, c.in_ok-take.ensures.no_longer, now, same_length) in
           elements_body c.elements.invariant b.0 c.take_text.new.self w.read_body.new.cursor c.take.new.self w.is_at_body.result w.in_ok-read_body.field-0
-          c.match-take_text.trees.items
-          (record { none = w.in_default.ensures.text; same_end = c.take_text.ensures.same_end; rest = w.in_default.ensures.rest }) w.is_at_body.ensures
-          w.if-is_at_body.true b.1 b.2 w.in_ok-read_body.ensures.same_end (c.take.ensures.same_end ∙ ap (λ (x : Cursor). x.end) w.cursor-is)
-          (c.take.ensures.rest ∙ ap (λ (x : Cursor). after_comma x.rest.items) w.cursor-is) shorter
+          c.match-next.trees.items
+          (record { none = (rw w.in_default.is at c.in_ok-next.ensures.text); same_end = c.take_text.ensures.same_end; rest = (rw w.in_default.is at c.in_ok-next.ensures.rest) }) w.is_at_body.ensures
+          w.if-is_at_body.true b.1 b.2 w.in_ok-read_body.ensures.same_end (c.in_ok-take.ensures.same_end ∙ ap (λ (x : Cursor). x.end) w.cursor-is)
+          (c.in_ok-take.ensures.rest ∙ ap (λ (x : Cursor). after_comma x.rest) w.cursor-is) shorter
           (ap (λ (v : Vec Tree Global). v.items) w.trees-is ∙ w.in_ok-push-2.ensures.items)
     ]

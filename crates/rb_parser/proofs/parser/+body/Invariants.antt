@@ -1,4 +1,4 @@
-use Rattle.std.proofs.Common.{ℕ, ◌+◌, ◌*◌, length}
+use Rattle.std.proofs.Common.{◌+◌, ◌*◌, length}
 use Rattle.rb_parser.proofs.Loops.{EntriesAt, ElementsAt}
 use Rattle.rb_parser.proofs.parser.+body.Given as goal
 
@@ -24,10 +24,10 @@ abbrev pub invariant-read_entries-entries : goal.invariant-read_entries-entries
 invariant-read_entries-entries l = EntriesAt l.depth l.initial.cursor l.cursor l.pairs.items l.seen.keys
 
 abbrev pub decreases-read_entries-entries : goal.decreases-read_entries-entries
-decreases-read_entries-entries l = length l.cursor.rest.items
+decreases-read_entries-entries l = length l.cursor.rest
 
 abbrev pub invariant-read_array-elements : goal.invariant-read_array-elements
 invariant-read_array-elements l = ElementsAt l.depth l.initial.cursor l.cursor l.trees.items
 
 abbrev pub decreases-read_array-elements : goal.decreases-read_array-elements
-decreases-read_array-elements l = length l.cursor.rest.items
+decreases-read_array-elements l = length l.cursor.rest

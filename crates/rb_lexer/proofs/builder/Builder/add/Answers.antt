@@ -1,6 +1,13 @@
-use Rattle.std.proofs.Common.{sym, ◌∙◌}
-use Rattle.rb_lexer.proofs.Adds.{run_added, run_joined}
+use Rattle.std.proofs.Common.{List, ◌++◌, sym, ap, ◌∙◌}
+use Rattle.rb_lexer.specs.declared.token.Token.{Token}
+use Rattle.rb_lexer.proofs.Adds.{white_added, run_added, run_joined}
 use Rattle.rb_lexer.proofs.builder.Builder.add.Goals as goal
+
+pub returns-in-White-clause-added : goal.returns-in-White-clause-added
+returns-in-White-clause-added c = λ bytes xs rest shows at_line to.
+    let s = c.args.self.now in
+    ap (λ (ts : List Token). s.tokens.items ++ ts)
+    (white_added bytes rest s.pending xs s.is_open c.args.first c.args.past (rw c.in-White.is at shows) to)
 
 pub returns-then-goes_on-clause-added : goal.returns-then-goes_on-clause-added
 returns-then-goes_on-clause-added c = λ bytes xs rest shows at_line to.

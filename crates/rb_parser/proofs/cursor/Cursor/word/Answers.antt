@@ -6,5 +6,5 @@ use Rattle.rb_parser.proofs.cursor.Cursor.word.Goals as goal
 
 pub returns-in-Some-clause-exact : goal.returns-in-Some-clause-exact
 returns-in-Some-clause-exact c =
-    word_reads c.args.self.now.rest.items c.text.new.self.rest.items c.in_ok-text.text c.in-Some.word c.in_ok-text.ensures.exact
+    word_reads c.args.self.now.rest c.text.new.self.rest c.in_ok-text.text c.in-Some.word c.in_ok-text.ensures.exact
     (sym c.in-Some.is ∙ c.read.ensures ∙ ap (λ s. option_map word_of (first_word s all_words)) c.as_slice.ensures)

@@ -1,0 +1,18 @@
+use Rattle.std.proofs.Common.{◌≤◌, ℕ, List, [], length}
+use denote.Text.{Utf8}
+use denote.Shadow.{shadow}
+use Rattle.std.specs.Str.{chars}
+use Rattle.rb_lexer.specs.Lexeme.{IsQuotedPart}
+use Rattle.rb_lexer.proofs.Parts.{GoesOn}
+use Rattle.rb_lexer.proofs.pass.past_quoted.Given as goal
+
+abbrev pub invariant-parts : goal.invariant-parts
+invariant-parts l =
+    record {
+      text : shadow (Utf8 l.rest);
+      so_far : (units : List ℕ) × GoesOn IsQuotedPart [] (chars l.initial.rest) units (chars l.rest);
+      no_longer : length l.rest ≤ length l.initial.rest;
+    }
+
+abbrev pub decreases-parts : goal.decreases-parts
+decreases-parts l = length l.rest
