@@ -1,7 +1,7 @@
 -- Serving line by line, and the lines of the whole input.
 use Rattle.std.proofs.Common.{◌≡◌, ◌<◌, ◌≤◌, ℕ, ◌+◌, inl, inr, ◌⊎◌, List, [], ◌∷◌, ◌++◌, length, Option, Some, None, refl, sym, ◌∙◌, ap, subst, arith}
 use Rattle.std.proofs.Common.{add-one, append_assoc, append-nil, length-append}
-use Rattle.std.specs.Prelude.{All}
+use Rattle.std.specs.Prelude.{All, Result, Ok, Err, IfOk, IfErr}
 use Rattle.std.specs.Io.KnownBytes.{Appends, Consumes, Keeps}
 use Rattle.std.proofs.lemmas.List.Elements.{All-nil, All-push}
 use Rattle.std.proofs.KnownBytes.{Appends-nil, Appends-trans, Appends-kept}
@@ -13,7 +13,8 @@ use Rattle.rb_requests.specs.Device.{risen, risen_by}
 use Rattle.rb_requests.specs.Served.{Moment, at, where_known, IsShort, Answers, AnswersWithin, FirstAnswered, IsNext, TakesEffect, After, AfterRead}
 use Rattle.rb_requests.specs.Served.{AfterLong, AfterLimit, AfterMemory, AfterFaultWithin}
 use Rattle.rb_requests.specs.OneLine.{Wrote, WrotePart, FailsLine}
-use Rattle.rb_requests.specs.Taken.{ReadsPart, ReadsLong, ReadsEnded, ReadsLast, ReadsEnd}
+use Rattle.rb_requests.specs.Taken.{ReadsPart, ReadsLong, ReadsEnded, ReadsLast, ReadsEnd, EndsAfter}
+use Rattle.rb_requests.specs.declared.lines.Served.{Served}
 use Rattle.rb_requests.specs.declared.lines.ServeFault.{ServeFault}
 use Rattle.rb_requests.specs.declared.lines.ServeFault.TheVariants.{Read, Write, LineLimit, LineTooLong, Memory}
 use Rattle.rb_requests.proofs.Reading.{feeds-append, lines_of-ended, lines_of-last}
@@ -323,7 +324,7 @@ last_not_answered limit fault before now after line count most h m k w t =
 
 -- ---- where no line may follow
 
-pub past_last : (limit : ℕ) (before now : Moment) (left : Option (List ℕ)) (count byte : ℕ) → ServedSoFar limit before now count
+past_last : (limit : ℕ) (before now : Moment) (left : Option (List ℕ)) (count byte : ℕ) → ServedSoFar limit before now count
     → Consumes now.left left (byte ∷ []) → AfterFaultWithin limit LineLimit before (read_on now left) count
 past_last limit before now left count byte h k =
     after_more limit before now count (AfterLimit limit before (read_on now left) count) (λ a b. Consumes a b (byte ∷ [])) left h k (λ l r. r) (
@@ -335,7 +336,7 @@ past_last limit before now left count byte h k =
       all = s.many;
     })
 
-pub no_end : (limit : ℕ) (before now : Moment) (left : Option (List ℕ)) (count : ℕ) → ServedSoFar limit before now count
+no_end : (limit : ℕ) (before now : Moment) (left : Option (List ℕ)) (count : ℕ) → ServedSoFar limit before now count
     → Keeps now.left left → AfterFaultWithin limit Read before (read_on now left) count
 no_end limit before now left count h k =
     after_more limit before now count (AfterRead limit before (read_on now left) count) Keeps left h k (λ l r. r) (
@@ -347,6 +348,22 @@ no_end limit before now left count h k =
       short = omega arith;
       last = λ e. refl;
     })
+
+pub all_at_end : (limit : ℕ) (before now : Moment) (left : Option (List ℕ)) (count : ℕ) (r : Result Served ServeFault)
+    → ServedSoFar limit before now count → EndsAfter now.left left count r
+    → IfOk r (λ served. AnswersWithin limit before (read_on now left) served.lines)
+all_at_end limit before now left count (Ok served) h (end, e) = rw e (all_read limit before now left count h end)
+all_at_end limit before now left count (Err fault) h k = tt
+
+pub fault_at_end : (limit : ℕ) (before now : Moment) (left : Option (List ℕ)) (count : ℕ) (r : Result Served ServeFault)
+    → ServedSoFar limit before now count → EndsAfter now.left left count r
+    → IfErr r (λ fault. AfterFaultWithin limit fault before (read_on now left) count)
+fault_at_end limit before now left count (Ok served) h k = tt
+fault_at_end limit before now left count (Err LineLimit) h (byte, k) = past_last limit before now left count byte h k
+fault_at_end limit before now left count (Err Read) h k = no_end limit before now left count h k
+fault_at_end limit before now left count (Err Write) h k = absurd k
+fault_at_end limit before now left count (Err LineTooLong) h k = absurd k
+fault_at_end limit before now left count (Err Memory) h k = absurd k
 
 -- ---- one reply
 

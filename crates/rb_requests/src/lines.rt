@@ -3,7 +3,7 @@ ghost use Rattle.std.specs.Prelude.{◌≡◌, ◌<◌, ◌≤◌, Ok, IfOk, IfE
 ghost use Rattle.std.specs.Io.KnownBytes.{Appends, IsAtEnd, Keeps};
 ghost use Rattle.rb_engine.specs.Kept.{state_of};
 ghost use Rattle.rb_requests.specs.Lines.{LineReply};
-ghost use Rattle.rb_requests.specs.Taken.{ReadsLine, ReadsPlain};
+ghost use Rattle.rb_requests.specs.Taken.{ReadsLine, ReadsPlain, EndsAfter};
 ghost use Rattle.rb_requests.specs.Device.{risen_by, counted, settles};
 ghost use Rattle.rb_requests.specs.Served.{AnswersAll, AnswersWithin, AfterFault, AfterFaultWithin, IsShort, at, reads_failed, writes_failed};
 ghost use Rattle.rb_requests.specs.OneLine.{Wrote, WrotePart, FailsLine, line_settled};
@@ -201,6 +201,18 @@ fn serve_line<S: Sink>(
     }
 }
 
+/// The end of the input, where as many lines were served as may be. A byte more is read, if there is one.
+fn end_after<F: Feed>(feed: &mut F, lines: u64) -> Result<Served, ServeFault>
+    ensures end { EndsAfter (F.left feed.old) (F.left feed.new) lines result }
+    ensures reads { F.faults feed.new ≡ reads_failed (F.faults feed.old) result }
+{
+    match feed.pull() {
+        Ok(None) => Ok(Served { lines }),
+        Ok(Some(_)) => Err(ServeFault::LineLimit),
+        Err(Failed) => Err(ServeFault::Read),
+    }
+}
+
 /// `serve`, with so many bytes for a line at most.
 #[tactic(auto, using(crate::proofs::Serving::at_first))]
 fn serve_within<F: Feed, S: Sink>(
@@ -247,11 +259,7 @@ fn serve_within<F: Feed, S: Sink>(
             Err(Failed) => return Err(ServeFault::Read),
         }
     }
-    match feed.pull() {
-        Ok(None) => Ok(Served { lines: max_lines }),
-        Ok(Some(_)) => Err(ServeFault::LineLimit),
-        Err(Failed) => Err(ServeFault::Read),
-    }
+    end_after(feed, max_lines)
 }
 
 /// Answers the lines of an input, each with one line: a line is read, answered and settled before the next one is read.

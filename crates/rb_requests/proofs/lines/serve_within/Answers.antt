@@ -2,7 +2,7 @@ use Rattle.std.proofs.Common.{◌≡◌, ◌∙◌, arith}
 use Rattle.std.proofs.lemmas.Result.{err_from_is_err_and}
 use Rattle.rb_engine.specs.Kept.{state_of}
 use Rattle.rb_requests.specs.Served.{at}
-use Rattle.rb_requests.proofs.Serving.{next, all_read, all_answered, not_read, no_memory, too_long, not_answered, last_not_answered, past_last, no_end}
+use Rattle.rb_requests.proofs.Serving.{next, all_read, all_answered, not_read, no_memory, too_long, not_answered, last_not_answered, all_at_end, fault_at_end}
 use Rattle.rb_requests.proofs.lines.serve_within.Goals as goal
 
 pub returns-in_err-serve_line-in-Ok-Ended-clause-fault : goal.returns-in_err-serve_line-in-Ok-Ended-clause-fault
@@ -62,18 +62,14 @@ lines-preserved g c =
 
 -- ---- where no line may follow
 
-pub returns-in-Ok-None-clause-all : goal.returns-in-Ok-None-clause-all
-returns-in-Ok-None-clause-all g c =
+pub returns-clause-all : goal.returns-clause-all
+returns-clause-all g c =
     let all : c.lines.lines ≡ c.args.max_lines = omega arith in
-    rw (← all) (all_read _ _ _ (g.F.Feed.left c.pull.new.self) _ c.lines.invariant.0 (rw c.in-Ok-None.field-0-is at c.in-Ok-None.ensures.bytes))
-
-pub returns-in-Ok-Some-clause-fault : goal.returns-in-Ok-Some-clause-fault
-returns-in-Ok-Some-clause-fault g c =
-    let all : c.lines.lines ≡ c.args.max_lines = omega arith in
-    let more = rw c.in-Ok-Some.field-0-is at c.in-Ok-Some.ensures.bytes in
-    rw (← all) (past_last _ _ _ (g.F.Feed.left c.pull.new.self) _ c.in-Ok-Some.field-0-0 c.lines.invariant.0 more)
+    let served = rw all at c.lines.invariant.0 in
+    all_at_end _ _ _ (g.F.Feed.left c.end_after.new.feed) _ c.end_after.result served c.end_after.ensures.end
 
 pub returns-clause-fault : goal.returns-clause-fault
 returns-clause-fault g c =
     let all : c.lines.lines ≡ c.args.max_lines = omega arith in
-    rw (← all) (no_end _ _ _ (g.F.Feed.left c.pull.new.self) _ c.lines.invariant.0 c.in-Err-pull.ensures.bytes)
+    let served = rw all at c.lines.invariant.0 in
+    fault_at_end _ _ _ (g.F.Feed.left c.end_after.new.feed) _ c.end_after.result served c.end_after.ensures.end
