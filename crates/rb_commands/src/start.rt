@@ -1,4 +1,7 @@
 //! The start of `resb serve`: its arguments, the files that they name, and the engine that is made of them.
+ghost use Rattle.std.specs.Prelude.{◌≡◌, length, vec_len, IfOk};
+ghost use Rattle.rb_engine.specs.Start.{IsIndexed};
+
 use crate::files::read_file;
 use rb_lexer::SourceKind;
 use rb_locales::Name;
@@ -53,14 +56,14 @@ impl<'a> StartError<'a> {
     }
 
     /// The error of an engine's start, whose entries are the files of these bundles.
-    fn of_engine(bundles: &[Common<'a>], fault: StartFault) -> StartError<'a> {
-        let index = match fault {
-            StartFault::BadText(i) | StartFault::BadFile(i) | StartFault::Twice(i) => i,
-            StartFault::Memory => return StartError::Memory,
-        };
-        match bundles.get(index) {
-            Some(bundle) => StartError::Refused(bundle.file, fault.word()),
-            None => StartError::Memory,
+    fn of_engine(bundles: &[Common<'a>], fault: StartFault) -> StartError<'a>
+        requires { IsIndexed (length bundles.now) fault }
+    {
+        match fault {
+            StartFault::BadText(i) | StartFault::BadFile(i) | StartFault::Twice(i) => {
+                StartError::Refused(bundles[i].file, fault.word())
+            }
+            StartFault::Memory => StartError::Memory,
         }
     }
 }
@@ -131,7 +134,9 @@ fn payload_of(file: &str, bytes: Vec<u8>) -> Payload {
 fn read_all<'a, R: Files + AllocGlobal>(
     rt: &R,
     bundles: &[Common<'a>],
-) -> Result<Vec<(Name, Payload)>, StartError<'a>> {
+) -> Result<Vec<(Name, Payload)>, StartError<'a>>
+    ensures { IfOk result (λ entries. vec_len entries ≡ length bundles.now) }
+{
     let mut entries = Vec::new(rt.alloc());
     for bundle in bundles {
         let payload = payload_of(bundle.file, bytes_of(rt, bundle.file)?);
@@ -160,7 +165,8 @@ pub fn start<'a, R: Files + AllocGlobal + RandomSource>(
     let Ok(state) = RandomState::new(rt) else {
         return Err(StartError::NoRandomState);
     };
-    Engine::start(rt.alloc(), state, entries, parents).map_err(|fault| StartError::of_engine(
-        &bundles, fault,
-    ))
+    match Engine::start(rt.alloc(), state, entries, parents) {
+        Ok(engine) => Ok(engine),
+        Err(fault) => Err(StartError::of_engine(&bundles, fault)),
+    }
 }

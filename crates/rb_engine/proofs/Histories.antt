@@ -24,9 +24,11 @@ use Rattle.rb_engine.specs.declared.request.Reply.{Reply}
 use Rattle.rb_engine.specs.declared.request.Reply.TheVariants.{Done, Exists, Absent, Full, Memory}
 use Rattle.rb_engine.specs.declared.request.LookFault.TheVariants as fault
 use Rattle.rb_packages.specs.Shelf.{Shelf, bundle_at, holds, is_full}
-use Rattle.rb_engine.specs.Ask.{Call, Requests, LooksUp, caller, Content, spelled, denoted, unread, IsContent, IsRead, Ask, Installs, Replaces, Removes, Lists, Looks, Means, RequestMeans}
-use Rattle.rb_engine.specs.Answer.{Start, Told, Replies, Refuses, answer_over, answer, shelf_then, shelf_from, refusal, add_reply, install_reply, replace_reply, remove_reply, list_reply, look_reply, found}
-use Rattle.rb_engine.specs.History.{State, Turn, Step, Run, own, asked_by, told_to, EachMeans, is_memory, AsksOne, AnswersOwn, IsIsolated, new_state}
+use Rattle.rb_engine.specs.Ask.{Call, Requests, LooksUp, caller, Content, spelled, denoted, unread, IsContent, IsRead, Ask, Installs, Replaces}
+use Rattle.rb_engine.specs.Ask.{Removes, Lists, Looks, Means, RequestMeans}
+use Rattle.rb_engine.specs.Answer.{Start, Response, Replies, Refuses, answer_over, answer, bundles_after, bundles_after_all, refusal, add_reply}
+use Rattle.rb_engine.specs.Answer.{install_reply, replace_reply, remove_reply, list_reply, look_reply, found}
+use Rattle.rb_engine.specs.History.{State, Turn, Step, Run, own_calls, asked_by, responses_to, EachMeans, is_memory, AsksOne, AnswersOwn, IsIsolated, new_state}
 
 -- ---- what a call asks is one thing
 
@@ -57,8 +59,10 @@ one_read one (Err e) payload a b p q = p ∙ sym q
 one_read one (Ok place) payload a b p q = one_content one payload a b p q
 
 one_request : SpellsOne → (r : Request) (a b : Ask) → RequestMeans r a → RequestMeans r b → a ≡ b
-one_request one (request.Install app locale payload) a b p q = p.2 ∙ ap (Installs app locale) (one_read one (place_of app locale) payload p.0 q.0 p.1 q.1) ∙ sym q.2
-one_request one (request.Replace app locale payload) a b p q = p.2 ∙ ap (Replaces app locale) (one_read one (place_of app locale) payload p.0 q.0 p.1 q.1) ∙ sym q.2
+one_request one (request.Install app locale payload) a b p q =
+    p.2 ∙ ap (Installs app locale) (one_read one (place_of app locale) payload p.0 q.0 p.1 q.1) ∙ sym q.2
+one_request one (request.Replace app locale payload) a b p q =
+    p.2 ∙ ap (Replaces app locale) (one_read one (place_of app locale) payload p.0 q.0 p.1 q.1) ∙ sym q.2
 one_request one (request.Remove app locale) a b p q = p ∙ sym q
 one_request one (request.List app) a b p q = p ∙ sym q
 
@@ -78,7 +82,8 @@ chosen_not_memory true x y h k = h
 chosen_not_memory false x y h k = k
 
 add_not_memory : (p : Place) (shelf : Shelf) → is_memory (Replies (add_reply p shelf)) ≡ false
-add_not_memory p shelf = chosen_not_memory (holds p.name shelf) Exists (cond (is_full shelf) Full Done) refl (chosen_not_memory (is_full shelf) Full Done refl refl)
+add_not_memory p shelf =
+    chosen_not_memory (holds p.name shelf) Exists (cond (is_full shelf) Full Done) refl (chosen_not_memory (is_full shelf) Full Done refl refl)
 
 install_not_memory : (p : Result Place PlaceFault) (c : Content) (shelf : Shelf) → is_memory (Replies (install_reply p c shelf)) ≡ false
 install_not_memory (Err e) c shelf = refusal_not_memory e
@@ -112,14 +117,16 @@ found_not_memory None (Ok r) = refl
 found_not_memory (Some valid) (Err e) = refl
 found_not_memory (Some valid) (Ok r) = refl
 
-looked_not_memory : (valid : Option (List ℕ)) (r : Result (Resource × List ℕ) LookError) (b : Bool) → is_memory (cond b (found valid r) (Refuses fault.BadPath)) ≡ false
+looked_not_memory : (valid : Option (List ℕ)) (r : Result (Resource × List ℕ) LookError) (b : Bool)
+    → is_memory (cond b (found valid r) (Refuses fault.BadPath)) ≡ false
 looked_not_memory valid r true = found_not_memory valid r
 looked_not_memory valid r false = refl
 
 look_not_memory : (start : Start) (shelf : Shelf) (p : Result Place PlaceFault) (path : List ℕ) → is_memory (look_reply start shelf p path) ≡ false
 look_not_memory start shelf (Err e) path = refl
 look_not_memory start shelf (Ok p) path =
-    looked_not_memory (first_stop (bundle_at shelf) start.parents p.name) (look_up (bundle_at shelf) (bundle_at start.icudata) start.parents p.name (segments path)) (is_path path)
+    looked_not_memory (first_stop (bundle_at shelf) start.parents p.name)
+    (look_up (bundle_at shelf) (bundle_at start.icudata) start.parents p.name (segments path)) (is_path path)
 
 answer_not_memory : (start : Start) (shelf : Shelf) (ask : Ask) → is_memory (answer_over start shelf ask) ≡ false
 answer_not_memory start shelf (Installs a l c) = install_not_memory (place_of a l) c shelf
@@ -130,39 +137,43 @@ answer_not_memory start shelf (Looks a l path) = look_not_memory start shelf (pl
 
 -- ---- a step as one application sees it
 
-pub data Seen (app : List ℕ) (old : State) (turn : Turn) (mid : State) : Type 0 where
-  Elsewhere : bytes_eq (caller turn.call) app ≡ false → mid.lists app ≡ old.lists app → Seen app old turn mid
-  Starved : bytes_eq (caller turn.call) app ≡ true → turn.told ≡ Replies Memory → mid.lists app ≡ old.lists app → Seen app old turn mid
-  Served : bytes_eq (caller turn.call) app ≡ true → (ask : Ask) → Means turn.call ask → turn.told ≡ answer_over old.start (old.lists app) ask → mid.lists app ≡ shelf_then ask (old.lists app) → Seen app old turn mid
+pub data SeenBy (app : List ℕ) (old : State) (turn : Turn) (mid : State) : Type 0 where
+  Elsewhere : bytes_eq (caller turn.call) app ≡ false → mid.lists app ≡ old.lists app → SeenBy app old turn mid
+  RanOut : bytes_eq (caller turn.call) app ≡ true → turn.response ≡ Replies Memory → mid.lists app ≡ old.lists app → SeenBy app old turn mid
+  WasAnswered : bytes_eq (caller turn.call) app ≡ true → (ask : Ask) → Means turn.call ask
+      → turn.response ≡ answer_over old.start (old.lists app) ask → mid.lists app ≡ bundles_after ask (old.lists app) → SeenBy app old turn mid
 
-seen_by : (app : List ℕ) (old : State) (turn : Turn) (mid : State) (b : Bool) → bytes_eq (caller turn.call) app ≡ b → Step old turn.call turn.told mid → Seen app old turn mid
+seen_by : (app : List ℕ) (old : State) (turn : Turn) (mid : State) (b : Bool) → bytes_eq (caller turn.call) app ≡ b
+    → Step old turn.call turn.response mid → SeenBy app old turn mid
 seen_by app old turn mid false e (inl s) = Elsewhere e (s.lists app)
-seen_by app old turn mid true e (inl s) = Starved e s.memory (s.lists app)
+seen_by app old turn mid true e (inl s) = RanOut e s.memory (s.lists app)
 seen_by app old turn mid false e (inr s) = Elsewhere e (s.others app (λ h. false≢true (sym e ∙ (bytes_eq-Decides (caller turn.call) app).1 (sym h))))
 seen_by app old turn mid true e (inr s) =
     let same : caller turn.call ≡ app = (bytes_eq-Decides (caller turn.call) app).0 e in
-    Served e s.ask s.means
+    WasAnswered e s.ask s.means
     (s.right ∙ ap (λ a. answer_over old.start (old.lists a) s.ask) same)
-    (ap mid.lists (sym same) ∙ s.own ∙ ap (λ a. shelf_then s.ask (old.lists a)) same)
+    (ap mid.lists (sym same) ∙ s.own ∙ ap (λ a. bundles_after s.ask (old.lists a)) same)
 
-keeps_start : (old : State) (turn : Turn) (mid : State) → Step old turn.call turn.told mid → mid.start ≡ old.start
+keeps_start : (old : State) (turn : Turn) (mid : State) → Step old turn.call turn.response mid → mid.start ≡ old.start
 keeps_start old turn mid (inl s) = s.start
 keeps_start old turn mid (inr s) = s.start
 
-served_not_memory : (old : State) (app : List ℕ) (turn : Turn) (ask : Ask) → turn.told ≡ answer_over old.start (old.lists app) ask → is_memory turn.told ≡ false
-served_not_memory old app turn ask m = ap is_memory m ∙ answer_not_memory old.start (old.lists app) ask
+response_not_memory : (old : State) (app : List ℕ) (turn : Turn) (ask : Ask) → turn.response ≡ answer_over old.start (old.lists app) ask
+    → is_memory turn.response ≡ false
+response_not_memory old app turn ask m = ap is_memory m ∙ answer_not_memory old.start (old.lists app) ask
 
 -- ---- an application's bundles after a list of steps
 
 -- what the application asked, with the bundles that it has then
 abbrev Asked : List ℕ → Shelf → List Turn → Shelf → Type 0
-Asked app shelf turns end = (asks : List Ask) × EachMeans (own app turns) asks × (end ≡ shelf_from shelf asks)
+Asked app shelf turns end = (asks : List Ask) × EachMeans (own_calls app turns) asks × (end ≡ bundles_after_all shelf asks)
 
-asked-step : (app : List ℕ) (old : State) (turn : Turn) (turns : List Turn) (mid : State) (end : Shelf) → Seen app old turn mid → Asked app (mid.lists app) turns end → Asked app (old.lists app) (turn ∷ turns) end
-asked-step app old turn turns mid end (Elsewhere e k) (asks, means, is) = (asks, rw e means, is ∙ ap (λ s. shelf_from s asks) k)
-asked-step app old turn turns mid end (Starved e m k) (asks, means, is) = (asks, rw (e, m) means, is ∙ ap (λ s. shelf_from s asks) k)
-asked-step app old turn turns mid end (Served e ask mean m k) (asks, means, is) =
-    (ask ∷ asks, rw (e, served_not_memory old app turn ask m) (mean, means), is ∙ ap (λ s. shelf_from s asks) k)
+asked-step : (app : List ℕ) (old : State) (turn : Turn) (turns : List Turn) (mid : State) (end : Shelf) → SeenBy app old turn mid
+    → Asked app (mid.lists app) turns end → Asked app (old.lists app) (turn ∷ turns) end
+asked-step app old turn turns mid end (Elsewhere e k) (asks, means, is) = (asks, rw e means, is ∙ ap (λ s. bundles_after_all s asks) k)
+asked-step app old turn turns mid end (RanOut e m k) (asks, means, is) = (asks, rw (e, m) means, is ∙ ap (λ s. bundles_after_all s asks) k)
+asked-step app old turn turns mid end (WasAnswered e ask mean m k) (asks, means, is) =
+    (ask ∷ asks, rw (e, response_not_memory old app turn ask m) (mean, means), is ∙ ap (λ s. bundles_after_all s asks) k)
 
 asked-run : (app : List ℕ) (old : State) (turns : List Turn) (new : State) → Run old turns new → Asked app (old.lists app) turns (new.lists app)
 asked-run app old [] new r = ([], tt, r.1 app)
@@ -174,59 +185,78 @@ start-run old [] new r = r.0
 start-run old (turn ∷ turns) new (mid, s, r) = start-run mid turns new r ∙ keeps_start old turn mid s
 
 -- a run up to a turn, and the step of that turn
-up_to : (old : State) (before after : List Turn) (turn : Turn) (new : State) → Run old (before ++ turn ∷ after) new → (mid : State) × (next : State) × Run old before mid × Step mid turn.call turn.told next
+up_to : (old : State) (before after : List Turn) (turn : Turn) (new : State) → Run old (before ++ turn ∷ after) new
+    → (mid : State) × (next : State) × Run old before mid × Step mid turn.call turn.response next
 up_to old [] after turn new (next, s, r) = (old, next, (refl, λ app. refl), s)
 up_to old (t ∷ before) after turn new (m, s, r) = let h = up_to m before after turn new r in (h.0, h.1, (m, s, h.2), h.3)
 
-answers : (start : Start) (asked : List Ask) (mid : State) (turn : Turn) (next : State) → mid.start ≡ start → mid.lists (caller turn.call) ≡ shelf_from [] asked → Step mid turn.call turn.told next → is_memory turn.told ≡ false → (ask : Ask) × Means turn.call ask × (turn.told ≡ answer start asked ask)
-answers start asked mid turn next st ls (inl s) told = let e : is_memory turn.told ≡ true = rw s.memory refl in absurd (false≢true (sym told ∙ e))
-answers start asked mid turn next st ls (inr s) told =
+answers : (start : Start) (asked : List Ask) (mid : State) (turn : Turn) (next : State) → mid.start ≡ start
+    → mid.lists (caller turn.call) ≡ bundles_after_all [] asked → Step mid turn.call turn.response next → is_memory turn.response ≡ false
+    → (ask : Ask) × Means turn.call ask × (turn.response ≡ answer start asked ask)
+answers start asked mid turn next st ls (inl s) n = let e : is_memory turn.response ≡ true = rw s.memory refl in absurd (false≢true (sym n ∙ e))
+answers start asked mid turn next st ls (inr s) n =
     (s.ask, s.means, s.right ∙ ap (λ z. answer_over z (mid.lists (caller turn.call)) s.ask) st ∙ ap (λ z. answer_over start z s.ask) ls)
 
 pub answers_own : AnswersOwn
-answers_own start before after turn end r told =
+answers_own start before after turn end r n =
     let h = up_to (new_state start) before after turn end r in
     let a = asked-run (caller turn.call) (new_state start) before h.0 h.2 in
-    let b = answers start a.0 h.0 turn h.1 (start-run (new_state start) before h.0 h.2) a.2 h.3 told in
+    let b = answers start a.0 h.0 turn h.1 (start-run (new_state start) before h.0 h.2) a.2 h.3 n in
     (a.0, b.0, a.1, b.1, b.2)
 
--- ---- what an application is told by a list of steps
+-- ---- what an application is answered by a list of steps
 
-abbrev Tells : Start → Shelf → List (Call × Bool) → List Told → Type 0
-Tells start shelf [] told = told ≡ []
-Tells start shelf ((call, true) ∷ rest) told = (more : List Told) × (told ≡ Replies Memory ∷ more) × Tells start shelf rest more
-Tells start shelf ((call, false) ∷ rest) told =
-    (ask : Ask) × (more : List Told) × Means call ask × (told ≡ answer_over start shelf ask ∷ more) × Tells start (shelf_then ask shelf) rest more
+abbrev AreResponses : Start → Shelf → List (Call × Bool) → List Response → Type 0
+AreResponses start shelf [] responses = responses ≡ []
+AreResponses start shelf ((call, true) ∷ rest) responses =
+    (more : List Response) × (responses ≡ Replies Memory ∷ more) × AreResponses start shelf rest more
+AreResponses start shelf ((call, false) ∷ rest) responses =
+    (ask : Ask) × (more : List Response) × Means call ask × (responses ≡ answer_over start shelf ask ∷ more)
+    × AreResponses start (bundles_after ask shelf) rest more
 
-tells_one : AsksOne → (start : Start) (shelf : Shelf) (asked : List (Call × Bool)) (a b : List Told) → Tells start shelf asked a → Tells start shelf asked b → a ≡ b
-tells_one one start shelf [] a b p q = p ∙ sym q
-tells_one one start shelf ((call, true) ∷ rest) a b p q =
-    p.1 ∙ ap (λ ts. Replies Memory ∷ ts) (tells_one one start shelf rest p.0 q.0 p.2 q.2) ∙ sym q.1
-tells_one one start shelf ((call, false) ∷ rest) a b p q =
+one_response_list : AsksOne → (start : Start) (shelf : Shelf) (asked : List (Call × Bool)) (a b : List Response)
+    → AreResponses start shelf asked a → AreResponses start shelf asked b → a ≡ b
+one_response_list one start shelf [] a b p q = p ∙ sym q
+one_response_list one start shelf ((call, true) ∷ rest) a b p q =
+    p.1 ∙ ap (λ ts. Replies Memory ∷ ts) (one_response_list one start shelf rest p.0 q.0 p.2 q.2) ∙ sym q.1
+one_response_list one start shelf ((call, false) ∷ rest) a b p q =
     let same : q.0 ≡ p.0 = one call q.0 p.0 q.2 p.2 in
-    let later : Tells start (shelf_then p.0 shelf) rest q.1 = subst (λ (x : Ask). Tells start (shelf_then x shelf) rest q.1) same q.4 in
-    p.3 ∙ ap (λ ts. answer_over start shelf p.0 ∷ ts) (tells_one one start (shelf_then p.0 shelf) rest p.1 q.1 p.4 later) ∙ ap (λ x. answer_over start shelf x ∷ q.1) (sym same) ∙ sym q.3
+    let later = subst (λ (x : Ask). AreResponses start (bundles_after x shelf) rest q.1) same q.4 in
+    p.3 ∙ ap (λ ts. answer_over start shelf p.0 ∷ ts) (one_response_list one start (bundles_after p.0 shelf) rest p.1 q.1 p.4 later)
+    ∙ ap (λ x. answer_over start shelf x ∷ q.1) (sym same) ∙ sym q.3
 
 -- the same from equal starts and bundles
-moved : (asked : List (Call × Bool)) (told : List Told) (s t : Start) (x y : Shelf) → s ≡ t → x ≡ y → Tells s x asked told → Tells t y asked told
-moved asked told s t x y e k h = subst (λ (z : Shelf). Tells t z asked told) k (subst (λ (z : Start). Tells z x asked told) e h)
+moved : (app : List ℕ) (turns : List Turn) (s t : Start) (x y : Shelf) → s ≡ t → x ≡ y
+    → AreResponses s x (asked_by app turns) (responses_to app turns) → AreResponses t y (asked_by app turns) (responses_to app turns)
+moved app turns s t x y e k h =
+    let at_start = subst (λ (z : Start). AreResponses z x (asked_by app turns) (responses_to app turns)) e h in
+    subst (λ (z : Shelf). AreResponses t z (asked_by app turns) (responses_to app turns)) k at_start
 
-tells-step : (app : List ℕ) (old : State) (turn : Turn) (turns : List Turn) (mid : State) → mid.start ≡ old.start → Seen app old turn mid → Tells mid.start (mid.lists app) (asked_by app turns) (told_to app turns) → Tells old.start (old.lists app) (asked_by app (turn ∷ turns)) (told_to app (turn ∷ turns))
-tells-step app old turn turns mid st (Elsewhere e k) h = rw e (moved (asked_by app turns) (told_to app turns) mid.start old.start (mid.lists app) (old.lists app) st k h)
-tells-step app old turn turns mid st (Starved e m k) h =
-    rw (e, m) (told_to app turns, refl, moved (asked_by app turns) (told_to app turns) mid.start old.start (mid.lists app) (old.lists app) st k h)
-tells-step app old turn turns mid st (Served e ask mean m k) h =
-    rw (e, served_not_memory old app turn ask m)
-    (ask, told_to app turns, mean, ap (λ t. t ∷ told_to app turns) m, moved (asked_by app turns) (told_to app turns) mid.start old.start (mid.lists app) (shelf_then ask (old.lists app)) st k h)
+responses-step : (app : List ℕ) (old : State) (turn : Turn) (turns : List Turn) (mid : State) → mid.start ≡ old.start → SeenBy app old turn mid
+    → AreResponses mid.start (mid.lists app) (asked_by app turns) (responses_to app turns)
+    → AreResponses old.start (old.lists app) (asked_by app (turn ∷ turns)) (responses_to app (turn ∷ turns))
+responses-step app old turn turns mid st (Elsewhere e k) h =
+    rw e (moved app turns mid.start old.start (mid.lists app) (old.lists app) st k h)
+responses-step app old turn turns mid st (RanOut e m k) h =
+    rw (e, m) (responses_to app turns, refl, moved app turns mid.start old.start (mid.lists app) (old.lists app) st k h)
+responses-step app old turn turns mid st (WasAnswered e ask mean m k) h =
+    rw (e, response_not_memory old app turn ask m) (
+      ask,
+      responses_to app turns,
+      mean,
+      ap (λ t. t ∷ responses_to app turns) m,
+      moved app turns mid.start old.start (mid.lists app) (bundles_after ask (old.lists app)) st k h,
+    )
 
-tells-run : (app : List ℕ) (old : State) (turns : List Turn) (new : State) → Run old turns new → Tells old.start (old.lists app) (asked_by app turns) (told_to app turns)
-tells-run app old [] new r = refl
-tells-run app old (turn ∷ turns) new (mid, s, r) =
-    tells-step app old turn turns mid (keeps_start old turn mid s)
-    (seen_by app old turn mid (bytes_eq (caller turn.call) app) refl s) (tells-run app mid turns new r)
+responses-run : (app : List ℕ) (old : State) (turns : List Turn) (new : State) → Run old turns new
+    → AreResponses old.start (old.lists app) (asked_by app turns) (responses_to app turns)
+responses-run app old [] new r = refl
+responses-run app old (turn ∷ turns) new (mid, s, r) =
+    responses-step app old turn turns mid (keeps_start old turn mid s)
+    (seen_by app old turn mid (bytes_eq (caller turn.call) app) refl s) (responses-run app mid turns new r)
 
 pub is_isolated : AsksOne → IsIsolated
 is_isolated one start app first second end end' r r' same =
-    tells_one one start [] (asked_by app second) (told_to app first) (told_to app second)
-    (subst (λ (a : List (Call × Bool)). Tells start [] a (told_to app first)) same (tells-run app (new_state start) first end r))
-    (tells-run app (new_state start) second end' r')
+    one_response_list one start [] (asked_by app second) (responses_to app first) (responses_to app second)
+    (subst (λ (a : List (Call × Bool)). AreResponses start [] a (responses_to app first)) same (responses-run app (new_state start) first end r))
+    (responses-run app (new_state start) second end' r')

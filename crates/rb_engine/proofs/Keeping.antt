@@ -14,7 +14,8 @@ source_is file source h =
     let none : SourceTree = record { tree = int 0; no_fallback = false } in
     ap (λ o. unwrap_or o none) h
 
-kept : (before after : Files) (locale file : List ℕ) (source : SourceTree) → Denotes file source → shelf_of (before ++ (locale, file) ∷ after) ≡ shelf_of before ++ (locale, source) ∷ shelf_of after
+kept : (before after : Files) (locale file : List ℕ) (source : SourceTree) → Denotes file source
+    → shelf_of (before ++ (locale, file) ∷ after) ≡ shelf_of before ++ (locale, source) ∷ shelf_of after
 kept [] after locale file source h = let cons : SourceTree → Shelf = λ s. (locale, s) ∷ shelf_of after in ap cons (source_is file source h)
 kept (b ∷ bs) after locale file source h = ap (λ l. (b.0, source_tree_of b.1) ∷ l) (kept bs after locale file source h)
 

@@ -1,5 +1,6 @@
 -- The steps of a request, once it is known which of its tests pass.
-use Rattle.std.proofs.Common.{◌≡◌, ℕ, inl, inr, Bool, true, false, not, cond, List, [], ◌∷◌, ◌++◌, Option, Some, None, Result, Ok, Err, is_some, map, refl, sym, ◌∙◌, ap}
+use Rattle.std.proofs.Common.{◌≡◌, ℕ, inl, inr, Bool, true, false, not, cond, List, [], ◌∷◌, ◌++◌, Option, Some, None, Result, Ok, Err, is_some}
+use Rattle.std.proofs.Common.{refl, sym, ap, subst}
 use Rattle.std.specs.Prelude.{codes, nat_eq, ◌⊎◌}
 use Rattle.std.specs.Cmp.Lexicographic.{pointwise}
 use Rattle.std.specs.Str.{bytes_eq}
@@ -12,7 +13,7 @@ use Rattle.rb_locales.specs.Locale.{name}
 use Rattle.rb_parents.specs.Trail.{ParentsOf}
 use Rattle.rb_packages.specs.App.{app_of, is_app}
 use Rattle.rb_packages.specs.Shelf.{Shelf, bundle_at, holds, is_full, replaced, removed}
-use Rattle.rb_packages.specs.Packages.{Stored, icudata_of, list_of, install_fault, IsJudged, OthersStay}
+use Rattle.rb_packages.specs.Packages.{Stored, list_of, install_fault, IsJudged, OthersStay}
 use Rattle.rb_packages.specs.declared.app.AppFault.{AppFault}
 use Rattle.rb_packages.specs.declared.app.AppFault.TheVariants as app
 use Rattle.rb_packages.specs.declared.fault.PackFault.{PackFault}
@@ -20,19 +21,24 @@ use Rattle.rb_packages.specs.declared.fault.PackFault.TheVariants as pack
 use Rattle.rb_engine.specs.Place.{place_of, place_by}
 use Rattle.rb_engine.specs.Kept.{state_over}
 use Rattle.rb_engine.specs.Start.{HasBundle}
-use Rattle.rb_engine.specs.Source.{HasNone, IsTextFault, Reads, unread_reply, install_reply}
-use Rattle.rb_engine.specs.Ask.{Requests, IsContent, Content, spelled, denoted, unread, Installs, Replaces, Removes, Lists}
-use Rattle.rb_engine.specs.Answer.{Start, Replies, install_reply as reply_to_install, add_reply, replace_reply, installed, exchanged, added as added_to, refusal}
-use Rattle.rb_engine.specs.History.{Step}
+use Rattle.rb_engine.specs.Source.{HasNone, IsTextFault, Reads, Handles, change_request, unread_reply, not_installed_reply}
+use Rattle.rb_engine.specs.Ask.{Requests, requester, RequestMeans, IsRead, IsContent, Content, spelled, denoted, unread}
+use Rattle.rb_engine.specs.Ask.{Ask, Installs, Replaces, Removes}
+use Rattle.rb_engine.specs.Answer.{Start, Replies, answer_over, bundles_after, refusal}
+use Rattle.rb_engine.specs.Answer.{install_reply, add_reply, replace_reply, installed, exchanged, added}
+use Rattle.rb_engine.specs.History.{may_run_out_of_memory}
+use Rattle.rb_engine.specs.declared.handle.Change.{Change}
+use Rattle.rb_engine.specs.declared.handle.Change.TheVariants as changes
 use Rattle.rb_engine.specs.declared.place.Place.{Place}
 use Rattle.rb_engine.specs.declared.place.PlaceFault.{PlaceFault}
 use Rattle.rb_engine.specs.declared.payload.PayloadFault.{PayloadFault}
 use Rattle.rb_engine.specs.declared.payload.PayloadFault.TheVariants as fault
 use Rattle.rb_engine.specs.declared.request.Payload.{Payload}
 use Rattle.rb_engine.specs.declared.request.Payload.TheVariants.{Text, File}
+use Rattle.rb_engine.specs.declared.request.Request.{Request}
 use Rattle.rb_engine.specs.declared.request.Request.TheVariants as request
 use Rattle.rb_engine.specs.declared.request.Reply.{Reply}
-use Rattle.rb_engine.specs.declared.request.Reply.TheVariants.{Exists, Full, Done, Absent, Names}
+use Rattle.rb_engine.specs.declared.request.Reply.TheVariants.{Exists, Full, Done, Absent, Memory, BadText, BadFile}
 
 -- ---- the application that is read is the one that was given
 
@@ -52,39 +58,96 @@ app_by (Ok a) (Some n) p h = cc
 pub app-place_of : (app locale : List ℕ) (p : Place) → place_of app locale ≡ Ok p → p.app ≡ app
 app-place_of app locale p h = app_is app p.app (app_by (app_of app) (name locale) p h)
 
--- ---- a step that changes nothing
+-- what holds of the application of a place holds of the one that was given
+at_place : (app locale : List ℕ) (p : Place) (Holds : List ℕ → Type 0) → place_of app locale ≡ Ok p
+    → (place_of p.app locale ≡ Ok p → Holds p.app) → Holds app
+at_place app locale p Holds h f =
+    let a = app-place_of app locale p h in
+    subst Holds a (f (subst (λ x. place_of x locale ≡ Ok p) (sym a) h))
 
-no_place_for : (app locale : List ℕ) (payload : Payload) (e : PlaceFault) (s : Stored) → place_of app locale ≡ Err e → (parents : ParentsOf) → Step (state_over parents s) (Requests (request.Install app locale payload)) (Replies (refusal e)) (state_over parents s)
-no_place_for app locale payload e s h parents = inr (record { ask = Installs app locale unread; means = (unread, rw h refl, refl); right = rw h refl; start = refl; own = rw h refl; others = λ a n. refl })
+-- ---- steps by what a request asks
 
-no_place_of : (app locale : List ℕ) (payload : Payload) (e : PlaceFault) (s : Stored) → place_of app locale ≡ Err e → (parents : ParentsOf) → Step (state_over parents s) (Requests (request.Replace app locale payload)) (Replies (refusal e)) (state_over parents s)
-no_place_of app locale payload e s h parents = inr (record { ask = Replaces app locale unread; means = (unread, rw h refl, refl); right = rw h refl; start = refl; own = rw h refl; others = λ a n. refl })
+abbrev start_with : ParentsOf → Shelf → Start
+start_with parents icudata = record { icudata = icudata; parents = parents }
 
-no_content : (app locale : List ℕ) (payload : Payload) (p : Place) (s : Stored) (e : PayloadFault) → place_of app locale ≡ Ok p → HasNone payload e → (parents : ParentsOf) → Step (state_over parents s) (Requests (request.Install app locale payload)) (Replies (unread_reply e)) (state_over parents s)
-no_content app locale (Text bytes) p s fault.Memory h k parents = inl (record { memory = refl; may = refl; start = refl; lists = λ a. refl })
-no_content app locale (File bytes) p s fault.Memory h k parents = inl (record { memory = refl; may = refl; start = refl; lists = λ a. refl })
-no_content app locale (Text bytes) p s fault.BadText h k parents = inr (record { ask = Installs app locale (spelled None); means = (spelled None, rw h k, refl); right = rw h refl; start = refl; own = rw h refl; others = λ a n. refl })
-no_content app locale (File bytes) p s fault.BadFile h k parents = inr (record { ask = Installs app locale (denoted None); means = (denoted None, rw h k, refl); right = rw h refl; start = refl; own = rw h refl; others = λ a n. refl })
-no_content app locale (Text bytes) p s fault.BadFile h k parents = absurd k
-no_content app locale (File bytes) p s fault.BadText h k parents = absurd k
+-- the caller's bundles change as it asks, and nothing else does
+changed : (r : Request) (ask : Ask) (reply : Reply) (old new : Stored) → RequestMeans r ask
+    → ((start : Start) → Replies reply ≡ answer_over start (list_of (requester r) old) ask)
+    → list_of (requester r) new ≡ bundles_after ask (list_of (requester r) old)
+    → OthersStay (requester r) old new → Handles r reply old new
+changed r ask reply old new means right own others parents = inr (record {
+  ask = ask;
+  means = means;
+  right = right (state_over parents old).start;
+  start = ap (start_with parents) others.icudata;
+  own = own;
+  others = others.others;
+})
 
-no_new_content : (app locale : List ℕ) (payload : Payload) (p : Place) (s : Stored) (e : PayloadFault) → place_of app locale ≡ Ok p → HasNone payload e → (parents : ParentsOf) → Step (state_over parents s) (Requests (request.Replace app locale payload)) (Replies (unread_reply e)) (state_over parents s)
-no_new_content app locale (Text bytes) p s fault.Memory h k parents = inl (record { memory = refl; may = refl; start = refl; lists = λ a. refl })
-no_new_content app locale (File bytes) p s fault.Memory h k parents = inl (record { memory = refl; may = refl; start = refl; lists = λ a. refl })
-no_new_content app locale (Text bytes) p s fault.BadText h k parents = inr (record { ask = Replaces app locale (spelled None); means = (spelled None, rw h k, refl); right = rw h refl; start = refl; own = rw h refl; others = λ a n. refl })
-no_new_content app locale (File bytes) p s fault.BadFile h k parents = inr (record { ask = Replaces app locale (denoted None); means = (denoted None, rw h k, refl); right = rw h refl; start = refl; own = rw h refl; others = λ a n. refl })
-no_new_content app locale (Text bytes) p s fault.BadFile h k parents = absurd k
-no_new_content app locale (File bytes) p s fault.BadText h k parents = absurd k
+-- nothing changes
+unchanged : (r : Request) (ask : Ask) (reply : Reply) (s : Stored) → RequestMeans r ask
+    → ((start : Start) → Replies reply ≡ answer_over start (list_of (requester r) s) ask)
+    → list_of (requester r) s ≡ bundles_after ask (list_of (requester r) s) → Handles r reply s s
+unchanged r ask reply s means right own parents = inr (record {
+  ask = ask;
+  means = means;
+  right = right (state_over parents s).start;
+  start = refl;
+  own = own;
+  others = λ app other. refl;
+})
 
-pub no_bundle : (app locale : List ℕ) (payload : Payload) (reply : Reply) (s : Stored) → Reads app locale payload (Err reply)
-    → (parents : ParentsOf) → Step (state_over parents s) (Requests (request.Install app locale payload)) (Replies reply) (state_over parents s)
-no_bundle app locale payload reply s (inl r) parents = rw r.2 (no_place_for app locale payload r.0 s r.1 parents)
-no_bundle app locale payload reply s (inr r) parents = rw r.4 (no_content app locale payload r.0 s r.1 r.2 r.3 parents)
+out_of_memory : (r : Request) (s : Stored) → may_run_out_of_memory (Requests r) ≡ true → Handles r Memory s s
+out_of_memory r s may parents = inl (record { memory = refl; may = may; start = refl; lists = λ app. refl })
 
-pub no_exchange : (app locale : List ℕ) (payload : Payload) (reply : Reply) (s : Stored) → Reads app locale payload (Err reply)
-    → (parents : ParentsOf) → Step (state_over parents s) (Requests (request.Replace app locale payload)) (Replies reply) (state_over parents s)
-no_exchange app locale payload reply s (inl r) parents = rw r.2 (no_place_of app locale payload r.0 s r.1 parents)
-no_exchange app locale payload reply s (inr r) parents = rw r.4 (no_new_content app locale payload r.0 s r.1 r.2 r.3 parents)
+-- ---- a request that brings no bundle
+
+-- what an install and a replacement come to where there is no bundle
+record BringsNone (r : Result Place PlaceFault) (content : Content) (reply : Reply) : Type 0 where
+  install : (shelf : Shelf) → Replies reply ≡ Replies (install_reply r content shelf)
+  replace : (shelf : Shelf) → Replies reply ≡ Replies (replace_reply r content shelf)
+  installed_none : (shelf : Shelf) → shelf ≡ installed r content shelf
+  replaced_none : (shelf : Shelf) → shelf ≡ exchanged r content shelf
+
+no_place : (e : PlaceFault) → BringsNone (Err e) unread (refusal e)
+no_place e = record { install = λ s. refl; replace = λ s. refl; installed_none = λ s. refl; replaced_none = λ s. refl }
+
+no_text : (p : Place) → BringsNone (Ok p) (spelled None) BadText
+no_text p = record { install = λ s. refl; replace = λ s. refl; installed_none = λ s. refl; replaced_none = λ s. refl }
+
+no_file : (p : Place) → BringsNone (Ok p) (denoted None) BadFile
+no_file p = record { install = λ s. refl; replace = λ s. refl; installed_none = λ s. refl; replaced_none = λ s. refl }
+
+brings_none : (change : Change) (app locale : List ℕ) (payload : Payload) (content : Content) (reply : Reply) (s : Stored)
+    → IsRead (place_of app locale) payload content → BringsNone (place_of app locale) content reply
+    → Handles (change_request change app locale payload) reply s s
+brings_none changes.Install app locale payload content reply s h n =
+    unchanged (request.Install app locale payload) (Installs app locale content) reply s (content, h, refl)
+    (λ start. n.install (list_of app s)) (n.installed_none (list_of app s))
+brings_none changes.Replace app locale payload content reply s h n =
+    unchanged (request.Replace app locale payload) (Replaces app locale content) reply s (content, h, refl)
+    (λ start. n.replace (list_of app s)) (n.replaced_none (list_of app s))
+
+no_memory : (change : Change) (app locale : List ℕ) (payload : Payload) (s : Stored)
+    → Handles (change_request change app locale payload) Memory s s
+no_memory changes.Install app locale payload s = out_of_memory (request.Install app locale payload) s refl
+no_memory changes.Replace app locale payload s = out_of_memory (request.Replace app locale payload) s refl
+
+no_content : (change : Change) (app locale : List ℕ) (payload : Payload) (p : Place) (e : PayloadFault) (s : Stored)
+    → place_of app locale ≡ Ok p → HasNone payload e → Handles (change_request change app locale payload) (unread_reply e) s s
+no_content change app locale payload p fault.Memory s h k = no_memory change app locale payload s
+no_content change app locale (Text bytes) p fault.BadText s h k =
+    brings_none change app locale (Text bytes) (spelled None) BadText s (rw h k) (rw h (no_text p))
+no_content change app locale (File bytes) p fault.BadFile s h k =
+    brings_none change app locale (File bytes) (denoted None) BadFile s (rw h k) (rw h (no_file p))
+no_content change app locale (Text bytes) p fault.BadFile s h k = absurd k
+no_content change app locale (File bytes) p fault.BadText s h k = absurd k
+
+pub no_bundle : (change : Change) (app locale : List ℕ) (payload : Payload) (reply : Reply) (s : Stored)
+    → Reads app locale payload (Err reply) → Handles (change_request change app locale payload) reply s s
+no_bundle change app locale payload reply s (inl (e, h, m)) =
+    rw m (brings_none change app locale payload unread (refusal e) s (rw h refl) (rw h (no_place e)))
+no_bundle change app locale payload reply s (inr (p, e, h, k, m)) = rw m (no_content change app locale payload p e s h k)
 
 -- a text that is refused spells nothing, unless memory ran out
 pub text_none : (bytes : List ℕ) (kind : SourceKind) (e : PayloadFault) → IsTextFault kind e
@@ -97,119 +160,89 @@ text_none bytes kind e (inr p) only = rw p.1 (λ name source good. p.0 (only nam
 -- a payload with a bundle counts by it alone
 pub record Puts (payload : Payload) (source : SourceTree) (content : Content) : Type 0 where
   pub read : IsContent payload content
-  pub installs : (p : Place) (shelf : Shelf) → installed (Ok p) content shelf ≡ added_to p source shelf
-  pub replies : (p : Place) (shelf : Shelf) → reply_to_install (Ok p) content shelf ≡ add_reply p shelf
+  pub installs : (p : Place) (shelf : Shelf) → installed (Ok p) content shelf ≡ added p source shelf
+  pub install : (p : Place) (shelf : Shelf) → install_reply (Ok p) content shelf ≡ add_reply p shelf
   pub exchanges : (p : Place) (shelf : Shelf) → exchanged (Ok p) content shelf ≡ replaced p.name source shelf
-  pub tells : (p : Place) (shelf : Shelf) → replace_reply (Ok p) content shelf ≡ cond (holds p.name shelf) Done Absent
+  pub replace : (p : Place) (shelf : Shelf) → replace_reply (Ok p) content shelf ≡ cond (holds p.name shelf) Done Absent
 
 puts : (payload : Payload) (source : SourceTree) → HasBundle payload source → (content : Content) × Puts payload source content
-puts (Text bytes) source h = (spelled (Some source), record { read = h; installs = λ p s. refl; replies = λ p s. refl; exchanges = λ p s. refl; tells = λ p s. refl })
-puts (File bytes) source h = (denoted (Some source), record { read = h; installs = λ p s. refl; replies = λ p s. refl; exchanges = λ p s. refl; tells = λ p s. refl })
+puts (Text bytes) source h =
+    (spelled (Some source), record { read = h; installs = λ p s. refl; install = λ p s. refl; exchanges = λ p s. refl; replace = λ p s. refl })
+puts (File bytes) source h =
+    (denoted (Some source), record { read = h; installs = λ p s. refl; install = λ p s. refl; exchanges = λ p s. refl; replace = λ p s. refl })
 
 -- ---- an install
-
--- why a bundle isn't installed
-judged_exists : (b c : Bool) → cond b (Some pack.Exists) (cond c (Some pack.Full) None) ≡ Some pack.Exists → b ≡ true
-judged_exists true c h = refl
-judged_exists false true h = absurd cc
-judged_exists false false h = absurd cc
-
-judged_full : (b c : Bool) → cond b (Some pack.Exists) (cond c (Some pack.Full) None) ≡ Some pack.Full → (b ≡ false) × (c ≡ true)
-judged_full true c h = absurd cc
-judged_full false true h = (refl, refl)
-judged_full false false h = absurd cc
 
 judged_none : (b c : Bool) → cond b (Some pack.Exists) (cond c (Some pack.Full) None) ≡ None → (b ≡ false) × (c ≡ false)
 judged_none true c h = absurd cc
 judged_none false true h = absurd cc
 judged_none false false h = (refl, refl)
 
-abbrev start_with : ParentsOf → Shelf → Start
-start_with parents icudata = record { icudata = icudata; parents = parents }
-
--- the start stays with the bundles of ICUDATA
-start_is : (parents : ParentsOf) (old new : Stored) → icudata_of new ≡ icudata_of old → (state_over parents new).start ≡ (state_over parents old).start
-start_is parents old new h = ap (start_with parents) h
-
-at_app : (p : Place) (app : List ℕ) (s : Stored) → p.app ≡ app → list_of p.app s ≡ list_of app s
-at_app p app s e = ap (λ a. list_of a s) e
-
-pub done : (app locale : List ℕ) (payload : Payload) (p : Place) (file : List ℕ) (old new : Stored) → place_of app locale ≡ Ok p → HasBundle payload (source_tree_of file) → install_fault p.name (list_of p.app old) ≡ None → list_of p.app new ≡ list_of p.app old ++ (p.name, source_tree_of file) ∷ [] → OthersStay p.app old new → (parents : ParentsOf) → Step (state_over parents old) (Requests (request.Install app locale payload)) (Replies Done) (state_over parents new)
-done app locale payload p file old new h k judged own others parents =
-    let a = app-place_of app locale p h in
-    let free : (holds p.name (list_of app old) ≡ false) × (is_full (list_of app old) ≡ false) = judged_none (holds p.name (list_of app old)) (is_full (list_of app old)) (ap (install_fault p.name) (sym (at_app p app old a)) ∙ judged) in
+pub done : (app locale : List ℕ) (payload : Payload) (p : Place) (file : List ℕ) (old new : Stored) → place_of app locale ≡ Ok p
+    → HasBundle payload (source_tree_of file) → install_fault p.name (list_of p.app old) ≡ None
+    → list_of p.app new ≡ list_of p.app old ++ (p.name, source_tree_of file) ∷ [] → OthersStay p.app old new
+    → Handles (request.Install app locale payload) Done old new
+done app locale payload p file old new here k judged own others =
+    let shelf = list_of p.app old in
+    let free : (holds p.name shelf ≡ false) × (is_full shelf ≡ false) = judged_none (holds p.name shelf) (is_full shelf) judged in
     let c = puts payload (source_tree_of file) k in
-    inr (record {
-      ask = Installs app locale c.0;
-      means = (c.0, rw h c.1.read, refl);
-      right = rw (h, c.1.replies p (list_of app old), free.0, free.1) refl;
-      start = start_is parents old new others.icudata;
-      own = rw (h, c.1.installs p (list_of app old), free.0, free.1) (sym (at_app p app new a) ∙ own ∙ ap (λ l. l ++ (p.name, source_tree_of file) ∷ []) (at_app p app old a));
-      others = λ other n. others.others other (λ q. n (q ∙ a));
-    })
+    at_place app locale p (λ a. Handles (request.Install a locale payload) Done old new) here (λ h.
+    changed (request.Install p.app locale payload) (Installs p.app locale c.0) Done old new (c.0, rw h c.1.read, refl)
+    (λ start. rw (h, c.1.install p shelf, free.0, free.1) refl) (rw (h, c.1.installs p shelf, free.0, free.1) own) others)
 
-exists : (app locale : List ℕ) (payload : Payload) (p : Place) (file : List ℕ) (s : Stored) → place_of app locale ≡ Ok p → HasBundle payload (source_tree_of file) → holds p.name (list_of app s) ≡ true → (parents : ParentsOf) → Step (state_over parents s) (Requests (request.Install app locale payload)) (Replies Exists) (state_over parents s)
-exists app locale payload p file s h k there parents =
+exists : (app locale : List ℕ) (payload : Payload) (p : Place) (file : List ℕ) (s : Stored) → place_of app locale ≡ Ok p
+    → HasBundle payload (source_tree_of file) → holds p.name (list_of app s) ≡ true → Handles (request.Install app locale payload) Exists s s
+exists app locale payload p file s h k there =
     let c = puts payload (source_tree_of file) k in
-    inr (record {
-      ask = Installs app locale c.0;
-      means = (c.0, rw h c.1.read, refl);
-      right = rw (h, c.1.replies p (list_of app s), there) refl;
-      start = refl;
-      own = rw (h, c.1.installs p (list_of app s), there) refl;
-      others = λ other n. refl;
-    })
+    unchanged (request.Install app locale payload) (Installs app locale c.0) Exists s (c.0, rw h c.1.read, refl)
+    (λ start. rw (h, c.1.install p (list_of app s), there) refl) (rw (h, c.1.installs p (list_of app s), there) refl)
 
-full : (app locale : List ℕ) (payload : Payload) (p : Place) (file : List ℕ) (s : Stored) → place_of app locale ≡ Ok p → HasBundle payload (source_tree_of file) → holds p.name (list_of app s) ≡ false → is_full (list_of app s) ≡ true → (parents : ParentsOf) → Step (state_over parents s) (Requests (request.Install app locale payload)) (Replies Full) (state_over parents s)
-full app locale payload p file s h k there most parents =
+full : (app locale : List ℕ) (payload : Payload) (p : Place) (file : List ℕ) (s : Stored) → place_of app locale ≡ Ok p
+    → HasBundle payload (source_tree_of file) → holds p.name (list_of app s) ≡ false → is_full (list_of app s) ≡ true
+    → Handles (request.Install app locale payload) Full s s
+full app locale payload p file s h k there most =
     let c = puts payload (source_tree_of file) k in
-    inr (record {
-      ask = Installs app locale c.0;
-      means = (c.0, rw h c.1.read, refl);
-      right = rw (h, c.1.replies p (list_of app s), there, most) refl;
-      start = refl;
-      own = rw (h, c.1.installs p (list_of app s), there, most) refl;
-      others = λ other n. refl;
-    })
+    unchanged (request.Install app locale payload) (Installs app locale c.0) Full s (c.0, rw h c.1.read, refl)
+    (λ start. rw (h, c.1.install p (list_of app s), there, most) refl) (rw (h, c.1.installs p (list_of app s), there, most) refl)
 
-no_memory_fault : (b c : Bool) → cond b (Some pack.Exists) (cond c (Some pack.Full) None) ≡ Some pack.Memory → ⊥
-no_memory_fault true c h = absurd cc
-no_memory_fault false true h = absurd cc
-no_memory_fault false false h = absurd cc
-
-no_twice_fault : (b c : Bool) → cond b (Some pack.Exists) (cond c (Some pack.Full) None) ≡ Some pack.Twice → ⊥
-no_twice_fault true c h = absurd cc
-no_twice_fault false true h = absurd cc
-no_twice_fault false false h = absurd cc
-
-pub not_installed : (app locale : List ℕ) (payload : Payload) (p : Place) (file : List ℕ) (s : Stored) (e : PackFault) → place_of app locale ≡ Ok p → HasBundle payload (source_tree_of file) → (e ≡ pack.Memory) ⊎ (install_fault p.name (list_of p.app s) ≡ Some e) → (parents : ParentsOf) → Step (state_over parents s) (Requests (request.Install app locale payload)) (Replies (install_reply e)) (state_over parents s)
-not_installed app locale payload p file s e h k (inl m) parents = inl (record { memory = ap (λ x. Replies (install_reply x)) m; may = refl; start = refl; lists = λ a. refl })
-not_installed app locale payload p file s e h k (inr judged) parents = by e (ap (install_fault p.name) (sym (at_app p app s (app-place_of app locale p h))) ∙ judged)
+pub not_installed : (app locale : List ℕ) (payload : Payload) (p : Place) (file : List ℕ) (s : Stored) (e : PackFault)
+    → place_of app locale ≡ Ok p → HasBundle payload (source_tree_of file)
+    → (e ≡ pack.Memory) ⊎ (install_fault p.name (list_of p.app s) ≡ Some e)
+    → Handles (request.Install app locale payload) (not_installed_reply e) s s
+not_installed app locale payload p file s e here k (inl m) =
+    rw m (out_of_memory (request.Install app locale payload) s refl)
+not_installed app locale payload p file s e here k (inr judged) =
+    at_place app locale p (λ a. Handles (request.Install a locale payload) (not_installed_reply e) s s) here (λ h.
+    by h (holds p.name (list_of p.app s)) (is_full (list_of p.app s)) refl refl judged)
   where
-    by : (e : PackFault) → install_fault p.name (list_of app s) ≡ Some e → Step (state_over parents s) (Requests (request.Install app locale payload)) (Replies (install_reply e)) (state_over parents s)
-    by pack.Exists j = exists app locale payload p file s h k (judged_exists (holds p.name (list_of app s)) (is_full (list_of app s)) j) parents
-    by pack.Full j = let free = judged_full (holds p.name (list_of app s)) (is_full (list_of app s)) j in full app locale payload p file s h k free.0 free.1 parents
-    by pack.Memory j = absurd (no_memory_fault (holds p.name (list_of app s)) (is_full (list_of app s)) j)
-    by pack.Twice j = absurd (no_twice_fault (holds p.name (list_of app s)) (is_full (list_of app s)) j)
+    by : place_of p.app locale ≡ Ok p → (b c : Bool) → holds p.name (list_of p.app s) ≡ b → is_full (list_of p.app s) ≡ c
+        → cond b (Some pack.Exists) (cond c (Some pack.Full) None) ≡ Some e
+        → Handles (request.Install p.app locale payload) (not_installed_reply e) s s
+    by h true c there most j =
+        let same : pack.Exists ≡ e = cc in
+        rw (← same) (exists p.app locale payload p file s h k there)
+    by h false true there most j =
+        let same : pack.Full ≡ e = cc in
+        rw (← same) (full p.app locale payload p file s h k there most)
+    by h false false there most j = absurd cc
 
 -- ---- the other requests
 
-pub replaces : (app locale : List ℕ) (payload : Payload) (p : Place) (file : List ℕ) (held : SourceTree) (old new : Stored) → place_of app locale ≡ Ok p → HasBundle payload (source_tree_of file) → bundle_at (list_of p.app old) p.name ≡ Some held → list_of p.app new ≡ replaced p.name (source_tree_of file) (list_of p.app old) → OthersStay p.app old new → (parents : ParentsOf) → Step (state_over parents old) (Requests (request.Replace app locale payload)) (Replies Done) (state_over parents new)
-replaces app locale payload p file held old new h k there own others parents =
-    let a = app-place_of app locale p h in
-    let e : holds p.name (list_of app old) ≡ true = ap (holds p.name) (sym (at_app p app old a)) ∙ ap is_some there in
+pub replaces : (app locale : List ℕ) (payload : Payload) (p : Place) (file : List ℕ) (held : SourceTree) (old new : Stored)
+    → place_of app locale ≡ Ok p → HasBundle payload (source_tree_of file) → bundle_at (list_of p.app old) p.name ≡ Some held
+    → list_of p.app new ≡ replaced p.name (source_tree_of file) (list_of p.app old) → OthersStay p.app old new
+    → Handles (request.Replace app locale payload) Done old new
+replaces app locale payload p file held old new here k there own others =
+    let e : holds p.name (list_of p.app old) ≡ true = ap is_some there in
     let c = puts payload (source_tree_of file) k in
-    inr (record {
-      ask = Replaces app locale c.0;
-      means = (c.0, rw h c.1.read, refl);
-      right = rw (h, c.1.tells p (list_of app old), e) refl;
-      start = start_is parents old new others.icudata;
-      own = rw (h, c.1.exchanges p (list_of app old)) (sym (at_app p app new a) ∙ own ∙ ap (replaced p.name (source_tree_of file)) (at_app p app old a));
-      others = λ other n. others.others other (λ q. n (q ∙ a));
-    })
+    at_place app locale p (λ a. Handles (request.Replace a locale payload) Done old new) here (λ h.
+    changed (request.Replace p.app locale payload) (Replaces p.app locale c.0) Done old new (c.0, rw h c.1.read, refl)
+    (λ start. rw (h, c.1.replace p (list_of p.app old), e) refl) (rw (h, c.1.exchanges p (list_of p.app old)) own) others)
 
 -- what is not there is not replaced or removed
-replaced_step : (name : List ℕ) (source : SourceTree) (e : List ℕ × SourceTree) (es : Shelf) (b : Bool) → (bundle_at es name ≡ None → replaced name source es ≡ es) → cond b (Some e.1) (bundle_at es name) ≡ None → cond b ((name, source) ∷ es) (e ∷ replaced name source es) ≡ e ∷ es
+replaced_step : (name : List ℕ) (source : SourceTree) (e : List ℕ × SourceTree) (es : Shelf) (b : Bool)
+    → (bundle_at es name ≡ None → replaced name source es ≡ es) → cond b (Some e.1) (bundle_at es name) ≡ None
+    → cond b ((name, source) ∷ es) (e ∷ replaced name source es) ≡ e ∷ es
 replaced_step name source e es true rest h = absurd cc
 replaced_step name source e es false rest h = ap (λ l. e ∷ l) (rest h)
 
@@ -217,7 +250,8 @@ replaced_none : (name : List ℕ) (source : SourceTree) (shelf : Shelf) → bund
 replaced_none name source [] h = refl
 replaced_none name source (e ∷ es) h = replaced_step name source e es (pointwise nat_eq name e.0) (replaced_none name source es) h
 
-removed_step : (name : List ℕ) (e : List ℕ × SourceTree) (es : Shelf) (b : Bool) → (bundle_at es name ≡ None → removed name es ≡ es) → cond b (Some e.1) (bundle_at es name) ≡ None → cond b es (e ∷ removed name es) ≡ e ∷ es
+removed_step : (name : List ℕ) (e : List ℕ × SourceTree) (es : Shelf) (b : Bool) → (bundle_at es name ≡ None → removed name es ≡ es)
+    → cond b (Some e.1) (bundle_at es name) ≡ None → cond b es (e ∷ removed name es) ≡ e ∷ es
 removed_step name e es true rest h = absurd cc
 removed_step name e es false rest h = ap (λ l. e ∷ l) (rest h)
 
@@ -225,60 +259,38 @@ removed_none : (name : List ℕ) (shelf : Shelf) → bundle_at shelf name ≡ No
 removed_none name [] h = refl
 removed_none name (e ∷ es) h = removed_step name e es (pointwise nat_eq name e.0) (removed_none name es) h
 
-pub not_replaced : (app locale : List ℕ) (payload : Payload) (p : Place) (file : List ℕ) (s : Stored) → place_of app locale ≡ Ok p → HasBundle payload (source_tree_of file) → bundle_at (list_of p.app s) p.name ≡ None → (parents : ParentsOf) → Step (state_over parents s) (Requests (request.Replace app locale payload)) (Replies Absent) (state_over parents s)
-not_replaced app locale payload p file s h k absent parents =
-    let none : bundle_at (list_of app s) p.name ≡ None = ap (λ l. bundle_at l p.name) (sym (at_app p app s (app-place_of app locale p h))) ∙ absent in
-    let e : holds p.name (list_of app s) ≡ false = ap is_some none in
+pub not_replaced : (app locale : List ℕ) (payload : Payload) (p : Place) (file : List ℕ) (s : Stored) → place_of app locale ≡ Ok p
+    → HasBundle payload (source_tree_of file) → bundle_at (list_of p.app s) p.name ≡ None
+    → Handles (request.Replace app locale payload) Absent s s
+not_replaced app locale payload p file s here k none =
+    let shelf = list_of p.app s in
+    let e : holds p.name shelf ≡ false = ap is_some none in
     let c = puts payload (source_tree_of file) k in
-    inr (record {
-      ask = Replaces app locale c.0;
-      means = (c.0, rw h c.1.read, refl);
-      right = rw (h, c.1.tells p (list_of app s), e) refl;
-      start = refl;
-      own = rw (h, c.1.exchanges p (list_of app s)) (sym (replaced_none p.name (source_tree_of file) (list_of app s) none));
-      others = λ other n. refl;
-    })
+    at_place app locale p (λ a. Handles (request.Replace a locale payload) Absent s s) here (λ h.
+    unchanged (request.Replace p.app locale payload) (Replaces p.app locale c.0) Absent s (c.0, rw h c.1.read, refl)
+    (λ start. rw (h, c.1.replace p shelf, e) refl)
+    (rw (h, c.1.exchanges p shelf) (sym (replaced_none p.name (source_tree_of file) shelf none))))
 
-pub removes : (app locale : List ℕ) (p : Place) (held : SourceTree) (old new : Stored) → place_of app locale ≡ Ok p → bundle_at (list_of p.app old) p.name ≡ Some held → list_of p.app new ≡ removed p.name (list_of p.app old) → OthersStay p.app old new → (parents : ParentsOf) → Step (state_over parents old) (Requests (request.Remove app locale)) (Replies Done) (state_over parents new)
-removes app locale p held old new h there own others parents =
-    let a = app-place_of app locale p h in
-    let e : holds p.name (list_of app old) ≡ true = ap (holds p.name) (sym (at_app p app old a)) ∙ ap is_some there in
-    inr (record {
-      ask = Removes app locale;
-      means = refl;
-      right = rw (h, e) refl;
-      start = start_is parents old new others.icudata;
-      own = rw h (sym (at_app p app new a) ∙ own ∙ ap (removed p.name) (at_app p app old a));
-      others = λ other n. others.others other (λ q. n (q ∙ a));
-    })
+pub removes : (app locale : List ℕ) (p : Place) (held : SourceTree) (old new : Stored) → place_of app locale ≡ Ok p
+    → bundle_at (list_of p.app old) p.name ≡ Some held → list_of p.app new ≡ removed p.name (list_of p.app old)
+    → OthersStay p.app old new → Handles (request.Remove app locale) Done old new
+removes app locale p held old new here there own others =
+    let e : holds p.name (list_of p.app old) ≡ true = ap is_some there in
+    at_place app locale p (λ a. Handles (request.Remove a locale) Done old new) here (λ h.
+    changed (request.Remove p.app locale) (Removes p.app locale) Done old new refl (λ start. rw (h, e) refl) (rw h own) others)
 
-pub not_removed : (app locale : List ℕ) (p : Place) (s : Stored) → place_of app locale ≡ Ok p → bundle_at (list_of p.app s) p.name ≡ None → (parents : ParentsOf) → Step (state_over parents s) (Requests (request.Remove app locale)) (Replies Absent) (state_over parents s)
-not_removed app locale p s h absent parents =
-    let none : bundle_at (list_of app s) p.name ≡ None = ap (λ l. bundle_at l p.name) (sym (at_app p app s (app-place_of app locale p h))) ∙ absent in
-    let e : holds p.name (list_of app s) ≡ false = ap is_some none in
-    inr (record {
-      ask = Removes app locale;
-      means = refl;
-      right = rw (h, e) refl;
-      start = refl;
-      own = rw h (sym (removed_none p.name (list_of app s) none));
-      others = λ other n. refl;
-    })
-
--- the names of an application's bundles
-pub listed : (bs app : List ℕ) (names : List (List ℕ)) (s : Stored) → app_of bs ≡ Ok app → names ≡ map (λ e. e.0) (list_of app s) → (parents : ParentsOf) → Step (state_over parents s) (Requests (request.List bs)) (Replies (Names names)) (state_over parents s)
-listed bs app names s h k parents =
-    let a : app ≡ bs = app_is bs app h in
-    let e : names ≡ map (λ e. e.0) (list_of bs s) = k ∙ ap (λ x. map (λ e. e.0) (list_of x s)) a in
-    inr (record { ask = Lists bs; means = refl; right = rw h (ap (λ x. Replies (Names x)) e); start = refl; own = refl; others = λ other n. refl })
+pub not_removed : (app locale : List ℕ) (p : Place) (s : Stored) → place_of app locale ≡ Ok p
+    → bundle_at (list_of p.app s) p.name ≡ None → Handles (request.Remove app locale) Absent s s
+not_removed app locale p s here none =
+    let e : holds p.name (list_of p.app s) ≡ false = ap is_some none in
+    at_place app locale p (λ a. Handles (request.Remove a locale) Absent s s) here (λ h.
+    unchanged (request.Remove p.app locale) (Removes p.app locale) Absent s refl (λ start. rw (h, e) refl)
+    (rw h (sym (removed_none p.name (list_of p.app s) none))))
 
 -- ---- an install by what packages say of it
 
-pub judged_ok : (r : Result (Unit {0}) (PackFault × List ℕ)) (x : Unit {0}) (o : Option PackFault) → r ≡ Ok x → IsJudged o r → o ≡ None
-judged_ok (Ok y) x o e h = h
-judged_ok (Err y) x o e h = absurd cc
-
-pub judged_err : (o : Option PackFault) (e : PackFault × List ℕ) (r : Result (Unit {0}) (PackFault × List ℕ)) → r ≡ Err e → IsJudged o r → (e.0 ≡ pack.Memory) ⊎ (o ≡ Some e.0)
+pub judged_err : (o : Option PackFault) (e : PackFault × List ℕ) (r : Result (Unit {0}) (PackFault × List ℕ)) → r ≡ Err e → IsJudged o r
+    → (e.0 ≡ pack.Memory) ⊎ (o ≡ Some e.0)
 judged_err o e (Ok x) q h = absurd cc
 judged_err None e (Err x) q h = let same : x ≡ e = cc in inl (rw (← same) h)
 judged_err (Some f) e (Err x) q h = let same : x ≡ e = cc in inr (rw (← same) (ap (λ g. Some g) (sym h)))

@@ -11,7 +11,7 @@ use Rattle.rb_packages.specs.App.{app_of}
 use Rattle.rb_engine.specs.Place.{place_of, app_refusal}
 use Rattle.rb_packages.specs.Shelf.{Shelf, bundle_at, holds, is_full, replaced, removed}
 use Rattle.rb_engine.specs.Ask.{Content, spelled, denoted, unread, Ask, Installs, Replaces, Removes, Lists, Looks}
-use Rattle.rb_engine.specs.Looked.{fault_from}
+use Rattle.rb_engine.specs.LookFaults.{look_fault_of}
 use Rattle.rb_packages.specs.declared.app.AppFault.{AppFault}
 use Rattle.rb_engine.specs.declared.place.Place.{Place}
 use Rattle.rb_engine.specs.declared.place.PlaceFault.{PlaceFault}
@@ -27,10 +27,10 @@ pub record Start : Type 0 where
   pub parents : ParentsOf
 
 -- what an application is answered: a reply, an item with the names of its bundle and of the first bundle asked, or why there is none
-pub data Told : Type 0 where
-  Replies : Reply → Told
-  Finds : Resource → (actual valid : List ℕ) → Told
-  Refuses : LookFault → Told
+pub data Response : Type 0 where
+  Replies : Reply → Response
+  Finds : Resource → (actual valid : List ℕ) → Response
+  Refuses : LookFault → Response
 
 -- ---- its bundles after what it asks
 
@@ -58,12 +58,12 @@ abbrev pub taken_out : Result Place PlaceFault → Shelf → Shelf
 taken_out (Err e) shelf = shelf
 taken_out (Ok p) shelf = removed p.name shelf
 
-abbrev pub shelf_then : Ask → Shelf → Shelf
-shelf_then (Installs app locale content) shelf = installed (place_of app locale) content shelf
-shelf_then (Replaces app locale content) shelf = exchanged (place_of app locale) content shelf
-shelf_then (Removes app locale) shelf = taken_out (place_of app locale) shelf
-shelf_then (Lists app) shelf = shelf
-shelf_then (Looks app locale path) shelf = shelf
+abbrev pub bundles_after : Ask → Shelf → Shelf
+bundles_after (Installs app locale content) shelf = installed (place_of app locale) content shelf
+bundles_after (Replaces app locale content) shelf = exchanged (place_of app locale) content shelf
+bundles_after (Removes app locale) shelf = taken_out (place_of app locale) shelf
+bundles_after (Lists app) shelf = shelf
+bundles_after (Looks app locale path) shelf = shelf
 
 -- ---- the reply
 
@@ -107,27 +107,27 @@ look_refusal place.Reserved = fault.Reserved
 look_refusal place.BadLocale = fault.BadLocale
 
 -- the valid locale is the first stop of the trail; where the trail has none there is nothing to find
-abbrev pub found : Option (List ℕ) → Result (Resource × List ℕ) LookError → Told
-found valid (Err e) = Refuses (fault_from e)
+abbrev pub found : Option (List ℕ) → Result (Resource × List ℕ) LookError → Response
+found valid (Err e) = Refuses (look_fault_of e)
 found None (Ok r) = Refuses fault.NoBundle
 found (Some valid) (Ok r) = Finds r.0 r.1 valid
 
 -- a path that is invalid is refused before anything is looked for
-abbrev pub looked_in : Bundles → Bundles → ParentsOf → List ℕ → List ℕ → Told
+abbrev pub looked_in : Bundles → Bundles → ParentsOf → List ℕ → List ℕ → Response
 looked_in own icu parents name path =
     if is_path path then found (first_stop own parents name) (look_up own icu parents name (segments path))
     else Refuses fault.BadPath
 
-abbrev pub looked : Start → Shelf → List ℕ → List ℕ → Told
+abbrev pub looked : Start → Shelf → List ℕ → List ℕ → Response
 looked start shelf name path = looked_in (bundle_at shelf) (bundle_at start.icudata) start.parents name path
 
-abbrev pub look_reply : Start → Shelf → Result Place PlaceFault → List ℕ → Told
+abbrev pub look_reply : Start → Shelf → Result Place PlaceFault → List ℕ → Response
 look_reply start shelf (Err e) path = Refuses (look_refusal e)
 look_reply start shelf (Ok p) path = looked start shelf p.name path
 
 -- ---- what is answered over these bundles
 
-abbrev pub answer_over : Start → Shelf → Ask → Told
+abbrev pub answer_over : Start → Shelf → Ask → Response
 answer_over start shelf (Installs app locale content) = Replies (install_reply (place_of app locale) content shelf)
 answer_over start shelf (Replaces app locale content) = Replies (replace_reply (place_of app locale) content shelf)
 answer_over start shelf (Removes app locale) = Replies (remove_reply (place_of app locale) shelf)
@@ -135,10 +135,10 @@ answer_over start shelf (Lists app) = Replies (list_reply (app_of app) shelf)
 answer_over start shelf (Looks app locale path) = look_reply start shelf (place_of app locale) path
 
 -- the bundles after what an application asks, one by one
-abbrev pub shelf_from : Shelf → List Ask → Shelf
-shelf_from shelf [] = shelf
-shelf_from shelf (ask ∷ asks) = shelf_from (shelf_then ask shelf) asks
+abbrev pub bundles_after_all : Shelf → List Ask → Shelf
+bundles_after_all shelf [] = shelf
+bundles_after_all shelf (ask ∷ asks) = bundles_after_all (bundles_after ask shelf) asks
 
 -- the answer to an application that asked this before, from no bundles
-abbrev pub answer : Start → List Ask → Ask → Told
-answer start asked ask = answer_over start (shelf_from [] asked) ask
+abbrev pub answer : Start → List Ask → Ask → Response
+answer start asked ask = answer_over start (bundles_after_all [] asked) ask

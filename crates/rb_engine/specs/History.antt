@@ -3,7 +3,7 @@ use Rattle.std.specs.Prelude.{◌≡◌, ◌≢◌, ℕ, Bool, true, false, List
 use Rattle.std.specs.Str.{bytes_eq}
 use Rattle.rb_packages.specs.Shelf.{Shelf}
 use Rattle.rb_engine.specs.Ask.{Call, Requests, LooksUp, caller, Ask, Means}
-use Rattle.rb_engine.specs.Answer.{Start, Told, Replies, Finds, Refuses, answer_over, answer, shelf_then}
+use Rattle.rb_engine.specs.Answer.{Start, Response, Replies, Finds, Refuses, answer_over, answer, bundles_after}
 use Rattle.rb_engine.specs.declared.request.Request.TheVariants as request
 use Rattle.rb_engine.specs.declared.request.Reply.{Reply}
 use Rattle.rb_engine.specs.declared.request.Reply.TheVariants.{Done, Names, BadApp, Reserved, BadLocale, BadText, BadFile, Exists, Absent, Full, Memory}
@@ -20,7 +20,7 @@ new_state start = record { start = start; lists = λ app. [] }
 -- a call with its answer
 pub record Turn : Type 0 where
   pub call : Call
-  pub told : Told
+  pub response : Response
 
 abbrev pub is_memory_reply : Reply → Bool
 is_memory_reply Memory = true
@@ -35,50 +35,50 @@ is_memory_reply Exists = false
 is_memory_reply Absent = false
 is_memory_reply Full = false
 
-abbrev pub is_memory : Told → Bool
+abbrev pub is_memory : Response → Bool
 is_memory (Replies reply) = is_memory_reply reply
 is_memory (Finds tree actual valid) = false
 is_memory (Refuses e) = false
 
 -- which calls may run out of memory: a removal and a lookup never do
-abbrev pub may_want_memory : Call → Bool
-may_want_memory (Requests (request.Install app locale payload)) = true
-may_want_memory (Requests (request.Replace app locale payload)) = true
-may_want_memory (Requests (request.Remove app locale)) = false
-may_want_memory (Requests (request.List app)) = true
-may_want_memory (LooksUp app locale path) = false
+abbrev pub may_run_out_of_memory : Call → Bool
+may_run_out_of_memory (Requests (request.Install app locale payload)) = true
+may_run_out_of_memory (Requests (request.Replace app locale payload)) = true
+may_run_out_of_memory (Requests (request.Remove app locale)) = false
+may_run_out_of_memory (Requests (request.List app)) = true
+may_run_out_of_memory (LooksUp app locale path) = false
 
 -- memory ran out, and nothing changes
-pub record Starves (old : State) (call : Call) (told : Told) (new : State) : Type 0 where
-  pub memory : told ≡ Replies Memory
-  pub may : may_want_memory call ≡ true
+pub record OutOfMemory (old : State) (call : Call) (response : Response) (new : State) : Type 0 where
+  pub memory : response ≡ Replies Memory
+  pub may : may_run_out_of_memory call ≡ true
   pub start : new.start ≡ old.start
   pub lists : (app : List ℕ) → new.lists app ≡ old.lists app
 
 -- the caller gets the answer over its own bundles, which change as it asks; no other application's do
-pub record Serves (old : State) (call : Call) (told : Told) (new : State) : Type 0 where
+pub record Answered (old : State) (call : Call) (response : Response) (new : State) : Type 0 where
   pub ask : Ask
   pub means : Means call ask
-  pub right : told ≡ answer_over old.start (old.lists (caller call)) ask
+  pub right : response ≡ answer_over old.start (old.lists (caller call)) ask
   pub start : new.start ≡ old.start
-  pub own : new.lists (caller call) ≡ shelf_then ask (old.lists (caller call))
+  pub own : new.lists (caller call) ≡ bundles_after ask (old.lists (caller call))
   pub others : (app : List ℕ) → app ≢ caller call → new.lists app ≡ old.lists app
 
-abbrev pub Step : State → Call → Told → State → Type 0
-Step old call told new = Starves old call told new ⊎ Serves old call told new
+abbrev pub Step : State → Call → Response → State → Type 0
+Step old call response new = OutOfMemory old call response new ⊎ Answered old call response new
 
 -- a list of steps
 abbrev pub Run : State → List Turn → State → Type 0
 Run old [] new = (new.start ≡ old.start) × ((app : List ℕ) → new.lists app ≡ old.lists app)
-Run old (turn ∷ turns) new = (mid : State) × Step old turn.call turn.told mid × Run mid turns new
+Run old (turn ∷ turns) new = (mid : State) × Step old turn.call turn.response mid × Run mid turns new
 
 -- the application's turns
 abbrev pub turns_of : List ℕ → List Turn → List Turn
 turns_of app history = filter (λ turn. bytes_eq (caller turn.call) app) history
 
 -- the application's own calls, without those that ran out of memory
-abbrev pub own : List ℕ → List Turn → List Call
-own app history = map (λ turn. turn.call) (filter (λ turn. not (is_memory turn.told)) (turns_of app history))
+abbrev pub own_calls : List ℕ → List Turn → List Call
+own_calls app history = map (λ turn. turn.call) (filter (λ turn. not (is_memory turn.response)) (turns_of app history))
 
 -- what each of the calls asks
 abbrev pub EachMeans : List Call → List Ask → Type 0
@@ -89,11 +89,11 @@ EachMeans (call ∷ calls) (ask ∷ asks) = Means call ask × EachMeans calls as
 
 -- the application's calls, each with whether it ran out of memory
 abbrev pub asked_by : List ℕ → List Turn → List (Call × Bool)
-asked_by app history = map (λ turn. (turn.call, is_memory turn.told)) (turns_of app history)
+asked_by app history = map (λ turn. (turn.call, is_memory turn.response)) (turns_of app history)
 
 -- what the application was answered
-abbrev pub told_to : List ℕ → List Turn → List Told
-told_to app history = map (λ turn. turn.told) (turns_of app history)
+abbrev pub responses_to : List ℕ → List Turn → List Response
+responses_to app history = map (λ turn. turn.response) (turns_of app history)
 
 -- ---- what holds of every history
 
@@ -106,8 +106,8 @@ abbrev pub AnswersOwn : Type 0
 AnswersOwn =
     (start : Start) (before after : List Turn) (turn : Turn) (end : State)
     → Run (new_state start) (before ++ turn ∷ after) end
-    → is_memory turn.told ≡ false
-    → (asked : List Ask) × (ask : Ask) × EachMeans (own (caller turn.call) before) asked × Means turn.call ask × (turn.told ≡ answer start asked ask)
+    → is_memory turn.response ≡ false
+    → (asked : List Ask) × (ask : Ask) × EachMeans (own_calls (caller turn.call) before) asked × Means turn.call ask × (turn.response ≡ answer start asked ask)
 
 -- two histories with the same start, and with the same calls of one application, the same ones of which ran out of memory, answer it the same
 abbrev pub IsIsolated : Type 0
@@ -116,4 +116,4 @@ IsIsolated =
     → Run (new_state start) first end
     → Run (new_state start) second end'
     → asked_by app first ≡ asked_by app second
-    → told_to app first ≡ told_to app second
+    → responses_to app first ≡ responses_to app second

@@ -6,5 +6,5 @@ pub mod Kept
 pub mod Start
 pub mod Source
 pub mod Words
-pub mod Looked
-pub mod Seen
+pub mod LookFaults
+pub mod LookResponse

@@ -6,11 +6,17 @@ use Rattle.rb_lexer.specs.declared.fault.SourceKind.TheVariants as text
 use Rattle.rb_format.specs.File.{source_tree_of}
 use Rattle.rb_format.specs.declared.fault.FileFault.{FileFault}
 use Rattle.rb_format.specs.declared.fault.FileFault.TheVariants as file
+use Rattle.rb_parents.specs.Trail.{ParentsOf}
+use Rattle.rb_packages.specs.Packages.{Stored}
 use Rattle.rb_packages.specs.Shelf.{Shelf, holds}
-use Rattle.rb_engine.specs.Ask.{IsContent, spelled, denoted}
+use Rattle.rb_engine.specs.Ask.{Requests, IsContent, spelled, denoted}
 use Rattle.rb_engine.specs.Start.{HasBundle}
 use Rattle.rb_engine.specs.Place.{place_of}
-use Rattle.rb_engine.specs.Answer.{refusal}
+use Rattle.rb_engine.specs.Answer.{Replies, refusal}
+use Rattle.rb_engine.specs.History.{Step}
+use Rattle.rb_engine.specs.Kept.{state_over}
+use Rattle.rb_engine.specs.declared.handle.Change.{Change}
+use Rattle.rb_engine.specs.declared.handle.Change.TheVariants as changes
 use Rattle.rb_engine.specs.declared.place.Place.{Place}
 use Rattle.rb_engine.specs.declared.place.PlaceFault.{PlaceFault}
 use Rattle.rb_engine.specs.declared.request.Payload.{Payload}
@@ -19,6 +25,8 @@ use Rattle.rb_engine.specs.declared.payload.PayloadFault.{PayloadFault}
 use Rattle.rb_engine.specs.declared.payload.PayloadFault.TheVariants as fault
 use Rattle.rb_packages.specs.declared.fault.PackFault.{PackFault}
 use Rattle.rb_packages.specs.declared.fault.PackFault.TheVariants as pack
+use Rattle.rb_engine.specs.declared.request.Request.{Request}
+use Rattle.rb_engine.specs.declared.request.Request.TheVariants as request
 use Rattle.rb_engine.specs.declared.request.Reply.{Reply}
 use Rattle.rb_engine.specs.declared.request.Reply.TheVariants as reply
 use Rattle.rb_engine.specs.declared.start.StartFault.{StartFault}
@@ -33,10 +41,10 @@ HasNone (File bytes) fault.BadText = ⊥
 HasNone (File bytes) fault.BadFile = IsContent (File bytes) (denoted None)
 HasNone (File bytes) fault.Memory = Unit {0}
 
--- the file of a payload's bundle
-abbrev pub IsRead : Payload → Result (List ℕ) PayloadFault → Type 0
-IsRead payload (Ok file) = HasBundle payload (source_tree_of file)
-IsRead payload (Err fault) = HasNone payload fault
+-- the file of a payload's bundle, or why there is none
+abbrev pub BundleOrFault : Payload → Result (List ℕ) PayloadFault → Type 0
+BundleOrFault payload (Ok file) = HasBundle payload (source_tree_of file)
+BundleOrFault payload (Err fault) = HasNone payload fault
 
 -- the error of a text as that of a payload; out of memory stays what it is
 abbrev pub IsTextFault : SourceKind → PayloadFault → Type 0
@@ -69,9 +77,18 @@ Reads app locale payload (Err reply) =
     ((e : PlaceFault) × (place_of app locale ≡ Err e) × (reply ≡ refusal e))
     ⊎ ((p : Place) × (e : PayloadFault) × (place_of app locale ≡ Ok p) × HasNone payload e × (reply ≡ unread_reply e))
 
+-- a request that brings a bundle
+abbrev pub change_request : Change → List ℕ → List ℕ → Payload → Request
+change_request changes.Install = request.Install
+change_request changes.Replace = request.Replace
+
+-- a request is answered with a reply over what packages have, and changes it, whatever the explicit parents are
+abbrev pub Handles : Request → Reply → Stored → Stored → Type 0
+Handles r reply old new = (parents : ParentsOf) → Step (state_over parents old) (Requests r) (Replies reply) (state_over parents new)
+
 -- the reply where a bundle isn't installed
-abbrev pub install_reply : PackFault → Reply
-install_reply pack.Twice = reply.Exists
-install_reply pack.Exists = reply.Exists
-install_reply pack.Full = reply.Full
-install_reply pack.Memory = reply.Memory
+abbrev pub not_installed_reply : PackFault → Reply
+not_installed_reply pack.Twice = reply.Exists
+not_installed_reply pack.Exists = reply.Exists
+not_installed_reply pack.Full = reply.Full
+not_installed_reply pack.Memory = reply.Memory

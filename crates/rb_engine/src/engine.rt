@@ -8,13 +8,13 @@ ghost use Rattle.rb_engine.specs.Ask.{Requests, Looks};
 ghost use Rattle.rb_engine.specs.Answer.{Replies, answer_over, looked_in};
 ghost use Rattle.rb_engine.specs.History.{Step};
 ghost use Rattle.rb_engine.specs.Kept.{state_of};
-ghost use Rattle.rb_engine.specs.Seen.{seen};
+ghost use Rattle.rb_engine.specs.LookResponse.{look_response};
 ghost use Rattle.rb_engine.specs.Start.{Loads, IsRefused, IsIndexed};
 
+use crate::handle::{self, Change};
 use crate::place::{Place, place_of};
 use crate::request::{LookFault, Payload, Reply, Request};
 use crate::start::{StartFault, load_all};
-use crate::steps;
 use rb_fallback::Found;
 use rb_locales::Name;
 use rb_packages::Packages;
@@ -90,14 +90,28 @@ impl Engine {
                 app,
                 locale,
                 payload,
-            } => steps::install(&mut self.packages, alloc, &app, &locale, payload),
+            } => handle::put(
+                &mut self.packages,
+                alloc,
+                Change::Install,
+                &app,
+                &locale,
+                payload,
+            ),
             Request::Replace {
                 app,
                 locale,
                 payload,
-            } => steps::replace(&mut self.packages, alloc, &app, &locale, payload),
-            Request::Remove { app, locale } => steps::remove(&mut self.packages, &app, &locale),
-            Request::List { app } => steps::list(&self.packages, alloc, &app),
+            } => handle::put(
+                &mut self.packages,
+                alloc,
+                Change::Replace,
+                &app,
+                &locale,
+                payload,
+            ),
+            Request::Remove { app, locale } => handle::remove(&mut self.packages, &app, &locale),
+            Request::List { app } => handle::list(&self.packages, alloc, &app),
         }
     }
 
@@ -112,7 +126,8 @@ impl Engine {
     /// engine.look(b"bank", b"de_AT", b"menu/open") // Err(LookFault::NoBundle)
     /// ```
     pub fn look(&self, app: &[u8], locale: &[u8], path: &[u8]) -> Result<Found<Item<'_>>, LookFault>
-        ensures { seen tree_seen result ≡ answer_over (state_of self.now).start ((state_of self.now).lists app.now) (Looks app.now locale.now path.now) }
+        ensures { look_response tree_seen result
+            ≡ answer_over (state_of self.now).start ((state_of self.now).lists app.now) (Looks app.now locale.now path.now) }
     {
         let place = place_of(app, locale)?;
         look_at(&self.packages, &self.parents, &place, path)
@@ -126,7 +141,7 @@ fn look_at<'a>(
     place: &Place,
     path: &[u8],
 ) -> Result<Found<Item<'a>>, LookFault>
-    ensures { seen tree_seen result ≡ looked_in (bundle_at (list_of place.now.app packages.now)) (bundle_at (icudata_of packages.now))
+    ensures { look_response tree_seen result ≡ looked_in (bundle_at (list_of place.now.app packages.now)) (bundle_at (icudata_of packages.now))
         (parent_of parents.now) place.now.name path.now }
 {
     look_in(
@@ -146,7 +161,7 @@ fn look_in<'a, S: Shelf<'a>, I: Shelf<'a, N = S::N>>(
     name: &Name,
     path: &[u8],
 ) -> Result<Found<S::N>, LookFault>
-    ensures { seen S.N.tree result ≡ looked_in (S.bundles own) (I.bundles icudata) (parent_of parents.now) name.now path.now }
+    ensures { look_response S.N.tree result ≡ looked_in (S.bundles own) (I.bundles icudata) (parent_of parents.now) name.now path.now }
 {
     Ok(rb_fallback::look(own, icudata, parents, name, path)?)
 }

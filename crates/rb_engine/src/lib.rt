@@ -2,12 +2,12 @@
 #![tactic(auto)]
 
 mod engine;
+mod handle;
 pub mod laws;
 mod payload;
 mod place;
 mod request;
 mod start;
-mod steps;
 
 pub use engine::Engine;
 pub use rb_packages::{App, AppFault, BUNDLE_LIMIT};

@@ -4,7 +4,7 @@ ghost use Rattle.rb_tree.specs.Parts.{Fits};
 ghost use Rattle.rb_tree.specs.View.{view_of};
 ghost use Rattle.rb_parser.specs.Source.{source_tree};
 ghost use Rattle.rb_format.specs.File.{source_tree_of};
-ghost use Rattle.rb_engine.specs.Source.{IsRead};
+ghost use Rattle.rb_engine.specs.Source.{BundleOrFault};
 ghost use Rattle.rb_engine.specs.declared.request.Payload.TheVariants.{Text, File};
 
 use crate::request::Payload;
@@ -79,7 +79,7 @@ fn source_bundle(alloc: Global, source: &Source) -> Result<Bundle, AllocError>
 
 /// The bundle that a text spells, if it spells one.
 fn text_bundle(alloc: Global, text: ByteList) -> Result<Bundle, PayloadFault>
-    ensures { IsRead (Text text) result }
+    ensures { BundleOrFault (Text text) result }
 {
     let source = parse(alloc, text.as_slice())?;
     Ok(source_bundle(alloc, &source)?)
@@ -87,7 +87,7 @@ fn text_bundle(alloc: Global, text: ByteList) -> Result<Bundle, PayloadFault>
 
 /// The bundle that a file denotes, if it denotes one.
 fn file_bundle(alloc: Global, file: ByteList) -> Result<Bundle, PayloadFault>
-    ensures { IsRead (File file) result }
+    ensures { BundleOrFault (File file) result }
 {
     rb_format::laws::a_tree_or_a_fault();
     match accept(alloc, file.into_vec()) {
@@ -98,7 +98,7 @@ fn file_bundle(alloc: Global, file: ByteList) -> Result<Bundle, PayloadFault>
 
 /// The bundle of a payload. `BadText` and `BadFile`: it has none.
 pub(crate) fn bundle_of(alloc: Global, payload: Payload) -> Result<Bundle, PayloadFault>
-    ensures { IsRead payload result }
+    ensures { BundleOrFault payload result }
 {
     match payload {
         Payload::Text(text) => text_bundle(alloc, text),

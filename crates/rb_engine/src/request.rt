@@ -153,9 +153,9 @@ impl From<PayloadFault> for Reply {
 }
 
 impl From<PackFault> for Reply {
-    ghost use Rattle.rb_engine.specs.Source.{install_reply};
+    ghost use Rattle.rb_engine.specs.Source.{not_installed_reply};
 
-    ghost from_gives = { λ e r. r ≡ install_reply e };
+    ghost from_gives = { λ e r. r ≡ not_installed_reply e };
 
     fn from(fault: PackFault) -> Self {
         match fault {
@@ -234,9 +234,9 @@ impl From<PlaceFault> for LookFault {
 }
 
 impl From<LookError> for LookFault {
-    ghost use Rattle.rb_engine.specs.Looked.{fault_from};
+    ghost use Rattle.rb_engine.specs.LookFaults.{look_fault_of};
 
-    ghost from_gives = { λ e f. f ≡ fault_from e };
+    ghost from_gives = { λ e f. f ≡ look_fault_of e };
 
     fn from(error: LookError) -> Self {
         match error {

@@ -2,7 +2,7 @@
 use Rattle.std.specs.Prelude.{ℕ, true, List, [], ◌∷◌, ◌++◌, Option, Some, None, codes}
 use Rattle.serde_json.specs.Data.{Data, boolean, string, object, no_members, member}
 use Rattle.serde_json.specs.Written.{compact_text}
-use Rattle.rb_engine.specs.Answer.{Told, Replies, Finds, Refuses}
+use Rattle.rb_engine.specs.Answer.{Response, Replies, Finds, Refuses}
 use Rattle.rb_replies.specs.Item.{texts_data, found_data}
 use Rattle.rb_engine.specs.Words.{reply_word, look_word}
 use Rattle.rb_engine.specs.declared.request.Reply.{Reply}
@@ -24,15 +24,15 @@ reply_data Absent = error (reply_word Absent)
 reply_data Full = error (reply_word Full)
 reply_data Memory = error (reply_word Memory)
 
-abbrev pub told_data : Told → Data
-told_data (Replies reply) = reply_data reply
-told_data (Finds t actual valid) = found_data t actual valid
-told_data (Refuses e) = error (look_word e)
+abbrev pub response_data : Response → Data
+response_data (Replies reply) = reply_data reply
+response_data (Finds t actual valid) = found_data t actual valid
+response_data (Refuses e) = error (look_word e)
 
--- a line that asks nothing is told so
-abbrev pub data_told : Option Told → Data
-data_told (Some told) = told_data told
-data_told None = error (codes "BadLine")
+-- a line that asks nothing is response so
+abbrev pub line_data : Option Response → Data
+line_data (Some response) = response_data response
+line_data None = error (codes "BadLine")
 
-abbrev pub reply_line : Option Told → List ℕ
-reply_line told = compact_text (data_told told) ++ 10 ∷ []
+abbrev pub reply_line : Option Response → List ℕ
+reply_line response = compact_text (line_data response) ++ 10 ∷ []

@@ -3,8 +3,8 @@
 
 mod item;
 mod line;
+mod reply;
 mod text;
-mod told;
 
 pub use item::item_text;
 pub use line::ReplyLine;

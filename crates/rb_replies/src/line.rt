@@ -2,11 +2,11 @@
 ghost use Rattle.std.specs.Prelude.{◌≡◌, [], ◌∷◌, ◌++◌, OnOk};
 ghost use Rattle.json.specs.Print.{print};
 ghost use Rattle.serde_json.specs.Written.{compact_text};
-ghost use Rattle.rb_replies.specs.Replied.{error as error_data, reply_data, told_data};
-ghost use Rattle.rb_engine.specs.Seen.{seen};
+ghost use Rattle.rb_replies.specs.Replied.{error as error_data, reply_data, response_data};
+ghost use Rattle.rb_engine.specs.LookResponse.{look_response};
 ghost use Rattle.rb_views.specs.Seen.{tree_seen};
 
-use crate::told::{put_error, put_look, put_reply};
+use crate::reply::{put_error, put_look, put_reply};
 use json::Writer;
 use rb_engine::{LookFault, Reply};
 use rb_fallback::Found;
@@ -103,7 +103,7 @@ impl ReplyLine {
         alloc: Global,
         found: &Result<Found<Item<'_>>, LookFault>,
     ) -> Result<(), AllocError>
-        ensures { OnOk result (self.new ≡ compact_text (told_data (seen tree_seen found.now)) ++ 10 ∷ []) }
+        ensures { OnOk result (self.new ≡ compact_text (response_data (look_response tree_seen found.now)) ++ 10 ∷ []) }
     {
         let mut out = self.begin(alloc);
         put_look(&mut out, &mut self.text, alloc, found)?;

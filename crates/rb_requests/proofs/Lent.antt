@@ -35,5 +35,6 @@ texts_of_object texts found h = record {
   app = held_text texts.app (get_member (codes "app") found) h.app;
   locale = held_text texts.locale (get_member (codes "locale") found) h.locale;
   path = held_text texts.path (get_member (codes "path") found) h.path;
-  payload = ap (λ x. payload_with x (get_member (codes "file") found)) h.text ∙ ap (payload_with (text_data texts.text)) h.file ∙ lent_payload texts.text texts.file;
+  payload = ap (λ x. payload_with x (get_member (codes "file") found)) h.text ∙ ap (payload_with (text_data texts.text)) h.file
+      ∙ lent_payload texts.text texts.file;
 }

@@ -1,5 +1,6 @@
 -- Runs of bytes that are moved from a reader's buffer onto a line.
-use Rattle.std.proofs.Common.{◌≡◌, ◌<◌, ◌≤◌, ◌+◌, ℕ, zero, suc, Bool, true, false, cond, eqb, eqb-true, List, [], ◌∷◌, ◌++◌, length, take, get_or, Option, refl, sym, ap, subst, ◌∙◌, arith, append-nil, get_or-take, take-take, length-take-le, length-append}
+use Rattle.std.proofs.Common.{◌≡◌, ◌<◌, ◌≤◌, ◌+◌, ℕ, zero, suc, Bool, true, false, cond, eqb, eqb-true, List, [], ◌∷◌, ◌++◌, length, take, get_or}
+use Rattle.std.proofs.Common.{Option, refl, sym, ap, subst, ◌∙◌, arith, append-nil, get_or-take, take-take, length-take-le, length-append}
 use Rattle.std.proofs.lemmas.List.{take_more}
 use Rattle.std.specs.Io.KnownBytes.{Consumes}
 use Rattle.memchr.specs.Find.{Nowhere, NoneBefore, Passes, is_byte}
@@ -17,7 +18,8 @@ feeds_none (x ∷ xs) (suc e) h =
     no_feed (eqb x 10) (feeds (take e xs)) (λ p. h 0 (omega arith) (omega arith) p)
     ∙ feeds_none xs e (λ k low high p. h (suc k) (omega arith) (omega arith) p)
 
-pub moves_feed : (old new : Option (List ℕ)) (line line' held : List ℕ) (m most e : ℕ) → m ≤ most → m ≤ length held → NoneBefore (Passes (is_byte 10) (take m held)) 0 (length (take m held)) e → Passes (is_byte 10) (take m held) e
+pub moves_feed : (old new : Option (List ℕ)) (line line' held : List ℕ) (m most e : ℕ) → m ≤ most → m ≤ length held
+    → NoneBefore (Passes (is_byte 10) (take m held)) 0 (length (take m held)) e → Passes (is_byte 10) (take m held) e
     → Consumes old new (take (e + 1) held) → line' ≡ line ++ take e (take m held) → Moves old new line line' most (10 ∷ [])
 moves_feed old new line line' held m most e small within none here read moved =
     let long : length (take m held) ≡ m = length-take-le m held within in
@@ -33,7 +35,8 @@ moves_feed old new line line' held m most e small within none here read moved =
       moved = moved;
     }
 
-pub moves_part : (old new : Option (List ℕ)) (line line' held : List ℕ) (m most : ℕ) → m ≤ most → m ≤ length held → 0 < m → Nowhere (Passes (is_byte 10) (take m held)) 0 (length (take m held))
+pub moves_part : (old new : Option (List ℕ)) (line line' held : List ℕ) (m most : ℕ) → m ≤ most → m ≤ length held → 0 < m
+    → Nowhere (Passes (is_byte 10) (take m held)) 0 (length (take m held))
     → Consumes old new (take m held) → line' ≡ line ++ take m held → Moves old new line line' most [] × (length line < length line')
 moves_part old new line line' held m most small within some none read moved =
     let long : length (take m held) ≡ m = length-take-le m held within in

@@ -1,5 +1,6 @@
 -- The bytes that are read of an input, and the lines of the whole text.
-use Rattle.std.proofs.Common.{◌≡◌, ◌<◌, ◌≤◌, ℕ, ◌+◌, ◌-◌, Bool, true, false, cond, eqb, List, [], ◌∷◌, ◌++◌, length, Option, Some, None, refl, sym, ◌∙◌, ap, subst, arith, append-nil, append_assoc, length-append}
+use Rattle.std.proofs.Common.{◌≡◌, ◌<◌, ◌≤◌, ℕ, ◌+◌, ◌-◌, Bool, true, false, cond, eqb, List, [], ◌∷◌, ◌++◌, length, Option, Some, None, refl, sym}
+use Rattle.std.proofs.Common.{◌∙◌, ap, subst, arith, append-nil, append_assoc, length-append}
 use Rattle.std.specs.Io.KnownBytes.{Consumes, Keeps, IsAtEnd}
 use Rattle.std.proofs.KnownBytes.{Consumes-nil, Consumes-trans, Consumes-kept, Consumes-all}
 use Rattle.std.proofs.lemmas.Bool.Decides.{nat_tests}
@@ -44,6 +45,9 @@ pub record Reader : Type 0 where
   pub left : Option (List ℕ)
   pub faults : ℕ
 
+abbrev pub reader : Option (List ℕ) → ℕ → Reader
+reader left faults = record { left = left; faults = faults }
+
 -- the bytes so far, no more than a line may have, and no call has failed
 pub record ReadSoFar (limit : ℕ) (before now : Reader) (line : List ℕ) : Type 0 where
   pub part : ReadsPlain before.left now.left line
@@ -51,7 +55,9 @@ pub record ReadSoFar (limit : ℕ) (before now : Reader) (line : List ℕ) : Typ
   pub quiet : now.faults ≡ before.faults
 
 pub read_none : (limit : ℕ) (now : Reader) (line : List ℕ) → line ≡ [] → ReadSoFar limit now now line
-read_none limit now line e = subst (λ (l : List ℕ). ReadSoFar limit now now l) (sym e) (record { part = record { read = Consumes-nil now.left; plain = refl }; short = omega arith; quiet = refl })
+read_none limit now line e =
+    subst (λ (l : List ℕ). ReadSoFar limit now now l) (sym e)
+    (record { part = record { read = Consumes-nil now.left; plain = refl }; short = omega arith; quiet = refl })
 
 not_a_feed : (b : ℕ) → (b ≡ 10 → ⊥) → eqb b 10 ≡ false
 not_a_feed b n = grind (arith, nat_tests)
@@ -69,7 +75,8 @@ pub plain_kept : (a b c : Option (List ℕ)) (line : List ℕ) → ReadsPlain a 
 plain_kept a b c line h k = record { read = Consumes-kept a b c line h.read k; plain = h.plain }
 
 -- a run that ends within a line
-pub run_more : (limit : ℕ) (before now then : Reader) (line line' : List ℕ) (most : ℕ) → ReadSoFar limit before now line → Moves now.left then.left line line' most [] → most ≡ limit - length line → then.faults ≡ now.faults → ReadSoFar limit before then line'
+pub run_more : (limit : ℕ) (before now then : Reader) (line line' : List ℕ) (most : ℕ) → ReadSoFar limit before now line
+    → Moves now.left then.left line line' most [] → most ≡ limit - length line → then.faults ≡ now.faults → ReadSoFar limit before then line'
 run_more limit before now then line line' most h m e q =
     let read = subst (λ (x : List ℕ). Consumes now.left then.left x) (append-nil m.bytes) m.read in
     subst (λ (l : List ℕ). ReadSoFar limit before then l) (sym m.moved) (record {
@@ -79,25 +86,24 @@ run_more limit before now then line line' most h m e q =
     })
 
 -- a run that ends with a line feed
-pub run_ended : (limit : ℕ) (before now : Reader) (left : Option (List ℕ)) (line line' : List ℕ) (most : ℕ) → ReadSoFar limit before now line → Moves now.left left line line' most (10 ∷ []) → most ≡ limit - length line → ReadsEnded limit line' before.left left
+pub run_ended : (limit : ℕ) (before now : Reader) (left : Option (List ℕ)) (line line' : List ℕ) (most : ℕ) → ReadSoFar limit before now line
+    → Moves now.left left line line' most (10 ∷ []) → most ≡ limit - length line → ReadsEnded limit line' before.left left
 run_ended limit before now left line line' most h m e =
     subst (λ (l : List ℕ). ReadsEnded limit l before.left left) (sym m.moved) (record {
-      read = subst (λ (x : List ℕ). Consumes before.left left x) (sym (append_assoc line m.bytes (10 ∷ []))) (Consumes-trans before.left now.left left line (m.bytes ++ 10 ∷ []) h.part.read m.read);
+      read = subst (λ (x : List ℕ). Consumes before.left left x) (sym (append_assoc line m.bytes (10 ∷ [])))
+          (Consumes-trans before.left now.left left line (m.bytes ++ 10 ∷ []) h.part.read m.read);
       plain = feeds-append line m.bytes ∙ rw (h.part.plain, m.plain) refl;
       short = short_run limit line m.bytes most h.short m.short e;
     })
 
 -- a run for which memory ran out
-pub run_lost : (limit : ℕ) (before now : Reader) (left : Option (List ℕ)) (line : List ℕ) (most : ℕ) → ReadSoFar limit before now line → Loses now.left left most → most ≡ limit - length line → ReadsPart limit before.left left
+pub run_lost : (limit : ℕ) (before now : Reader) (left : Option (List ℕ)) (line : List ℕ) (most : ℕ) → ReadSoFar limit before now line
+    → Loses now.left left most → most ≡ limit - length line → ReadsPart limit before.left left
 run_lost limit before now left line most h m e = record {
   bytes = line ++ m.bytes;
   part = plain_run before.left now.left left line m.bytes h.part m.read m.plain;
   short = short_run limit line m.bytes most h.short m.short e;
 }
-
--- a run that could not be read
-pub run_failed : (limit : ℕ) (before now : Reader) (left : Option (List ℕ)) (line : List ℕ) → ReadSoFar limit before now line → Keeps now.left left → ReadsPart limit before.left left
-run_failed limit before now left line h k = record { bytes = line; part = plain_kept before.left now.left left line h.part k; short = h.short }
 
 -- ---- the end of the input
 
@@ -112,7 +118,8 @@ nothing_read (Some xs) None c h k = absurd h
 nothing_read (Some xs) (Some ys) None h k = absurd k
 nothing_read (Some xs) (Some ys) (Some zs) h k = k ∙ sym h
 
-pub last_of : (limit : ℕ) (a b c : Option (List ℕ)) (line : List ℕ) → ReadsPlain a b line → IsAtEnd b → Keeps b c → 0 < length line → IsShort limit line → ReadsLast limit line a c
+pub last_of : (limit : ℕ) (a b c : Option (List ℕ)) (line : List ℕ) → ReadsPlain a b line → IsAtEnd b → Keeps b c → 0 < length line
+    → IsShort limit line → ReadsLast limit line a c
 last_of limit a b c line h e k n o = record { short = o; part = plain_kept a b c line h k; some = n; all = Consumes-all a b line [] line h.read e refl }
 
 pub end_of : (a b c : Option (List ℕ)) (line : List ℕ) → ReadsPlain a b line → IsAtEnd b → Keeps b c → line ≡ [] → ReadsEnd a c
@@ -122,10 +129,13 @@ end_of a b c line h e k n =
 
 -- ---- after the most bytes that a line may have
 
-pub longest_ended : (limit : ℕ) (a b c : Option (List ℕ)) (line : List ℕ) (byte : ℕ) → ReadsPlain a b line → Consumes b c (byte ∷ []) → byte ≡ 10 → length line ≡ limit → ReadsEnded limit line a c
-longest_ended limit a b c line byte h k e n = record { short = omega arith; read = Consumes-trans a b c line (10 ∷ []) h.read (subst (λ (x : ℕ). Consumes b c (x ∷ [])) e k); plain = h.plain }
+pub longest_ended : (limit : ℕ) (a b c : Option (List ℕ)) (line : List ℕ) (byte : ℕ) → ReadsPlain a b line → Consumes b c (byte ∷ []) → byte ≡ 10
+    → length line ≡ limit → ReadsEnded limit line a c
+longest_ended limit a b c line byte h k e n =
+    record { short = omega arith; read = Consumes-trans a b c line (10 ∷ []) h.read (subst (λ (x : ℕ). Consumes b c (x ∷ [])) e k); plain = h.plain }
 
-pub longest_passed : (limit : ℕ) (a b c : Option (List ℕ)) (line : List ℕ) (byte : ℕ) → ReadsPlain a b line → Consumes b c (byte ∷ []) → (byte ≡ 10 → ⊥) → length line ≡ limit → ReadsLong limit a c
+pub longest_passed : (limit : ℕ) (a b c : Option (List ℕ)) (line : List ℕ) (byte : ℕ) → ReadsPlain a b line → Consumes b c (byte ∷ [])
+    → (byte ≡ 10 → ⊥) → length line ≡ limit → ReadsLong limit a c
 longest_passed limit a b c line byte h k n e = record {
   bytes = line ++ byte ∷ [];
   part = plain_run a b c line (byte ∷ []) h k (rw (not_a_feed byte n) refl);
@@ -135,5 +145,8 @@ longest_passed limit a b c line byte h k n e = record {
 pub longest_part : (limit : ℕ) (a b c : Option (List ℕ)) (line : List ℕ) → ReadsPlain a b line → Keeps b c → length line ≡ limit → ReadsPart limit a c
 longest_part limit a b c line h k n = record { bytes = line; part = plain_kept a b c line h k; short = omega arith }
 
-pub longest_last : (limit : ℕ) (a b c : Option (List ℕ)) (line : List ℕ) → ReadsPlain a b line → IsAtEnd b → Keeps b c → length line ≡ limit → 0 < limit → ReadsLast limit line a c
+pub longest_last : (limit : ℕ) (a b c : Option (List ℕ)) (line : List ℕ) → ReadsPlain a b line → IsAtEnd b → Keeps b c → length line ≡ limit
+    → 0 < limit → ReadsLast limit line a c
 longest_last limit a b c line h e k n m = last_of limit a b c line h e k (omega arith) (omega arith)
+
+pub ruleset after_longest = (longest_ended, longest_last, longest_passed, longest_part)

@@ -1,62 +1,77 @@
 -- A step of the engine, as an equation of states.
-use Rattle.std.proofs.Common.{◌≡◌, ℕ, inl, inr, Bool, true, false, cond, List, Option, Some, Result, Ok, Err, IfErr, refl, sym, ◌∙◌, ap, subst}
+use Rattle.std.proofs.Common.{◌≡◌, ℕ, inl, inr, Bool, true, false, cond, List, Option, Some, Result, Ok, Err, IfErr, option_map, refl, sym, ◌∙◌, ap, subst}
 use Rattle.std.specs.Str.{bytes_eq}
 use Rattle.std.proofs.lemmas.Slice.Eq.{bytes_eq-Decides}
 use Rattle.std.proofs.lemmas.Bool.{false≢true}
 use Rattle.rb_packages.specs.Shelf.{Shelf}
 use Rattle.rb_engine.specs.Ask.{Call, Requests, LooksUp, Looks, requester}
-use Rattle.rb_engine.specs.Answer.{Start, Told, shelf_then, answer_over}
-use Rattle.rb_engine.specs.History.{State, Step, Serves, is_memory}
-use Rattle.rb_requests.specs.Lines.{Tells, TellsLine}
-use Rattle.rb_requests.specs.MayTell.{CallTold, LineTold, CallMayTell, LineMayTell}
+use Rattle.rb_engine.specs.Answer.{Start, Response, bundles_after, answer_over}
+use Rattle.rb_engine.specs.History.{State, Step, Answered, is_memory}
+use Rattle.serde_json.specs.Data.{Data}
+use Rattle.rb_members.specs.declared.texts.Texts.{Texts}
+use Rattle.rb_requests.specs.Asked.{call_in}
+use Rattle.rb_requests.specs.Line.{line_view, AreTextsOf}
+use Rattle.rb_requests.specs.declared.ask.Line.{Line}
+use Rattle.rb_requests.specs.Lines.{state_after, AnswersCall, AnswersAsked}
+use Rattle.rb_requests.specs.MayTakeEffect.{CallReply, AskedReply, CallMayTakeEffect, AskedMayTakeEffect}
 use Rattle.rb_engine.specs.declared.request.Request.{Request}
 
 funext : {A : Type 0} {B : Type 0} → (f g : A → B) → ((x : A) → f x ≡ g x) → f ≡ g
 funext f g h = λ i x. h x i
 
-same_state : (s x : Start) (f g : List ℕ → Shelf) → x ≡ s → ((app : List ℕ) → f app ≡ g app) → let made : Start → (List ℕ → Shelf) → State = λ y k. record { start = y; lists = k } in made x f ≡ made s g
-same_state s x f g e h = let made : Start → (List ℕ → Shelf) → State = λ y k. record { start = y; lists = k } in ap (λ y. made y f) e ∙ ap (made s) (funext f g h)
+abbrev state_with : Start → (List ℕ → Shelf) → State
+state_with start lists = record { start = start; lists = lists }
 
-list_then : (old new : State) (r : Request) (told : Told) (s : Serves old (Requests r) told new) (app : List ℕ) (b : Bool) → bytes_eq app (requester r) ≡ b → new.lists app ≡ cond b (shelf_then s.ask (old.lists app)) (old.lists app)
-list_then old new r told s app true e =
+same_state : (s x : Start) (f g : List ℕ → Shelf) → x ≡ s → ((app : List ℕ) → f app ≡ g app) → state_with x f ≡ state_with s g
+same_state s x f g e h = ap (λ y. state_with y f) e ∙ ap (state_with s) (funext f g h)
+
+list_after : (old new : State) (r : Request) (response : Response) (s : Answered old (Requests r) response new) (app : List ℕ) (b : Bool)
+    → bytes_eq app (requester r) ≡ b → new.lists app ≡ cond b (bundles_after s.ask (old.lists app)) (old.lists app)
+list_after old new r response s app true e =
     let same : app ≡ requester r = (bytes_eq-Decides app (requester r)).0 e in
-    ap new.lists same ∙ s.own ∙ ap (λ a. shelf_then s.ask (old.lists a)) (sym same)
-list_then old new r told s app false e = s.others app (λ h. false≢true (sym e ∙ (bytes_eq-Decides app (requester r)).1 h))
+    ap new.lists same ∙ s.own ∙ ap (λ a. bundles_after s.ask (old.lists a)) (sym same)
+list_after old new r response s app false e = s.others app (λ h. false≢true (sym e ∙ (bytes_eq-Decides app (requester r)).1 h))
 
-told_by : (old new : State) (r : Request) (told : Told) → Serves old (Requests r) told new → Tells old (Requests r) told new
-told_by old new r told s =
-    (s.ask, s.means, s.right, same_state old.start new.start new.lists (λ app. cond (bytes_eq app (requester r)) (shelf_then s.ask (old.lists app)) (old.lists app)) s.start (λ app. list_then old new r told s app (bytes_eq app (requester r)) refl))
+answered_by : (old new : State) (r : Request) (response : Response) → Answered old (Requests r) response new → AnswersCall old (Requests r) response new
+answered_by old new r response s =
+    let after = state_after old (Requests r) s.ask in
+    let lists = λ (app : List ℕ). list_after old new r response s app (bytes_eq app (requester r)) refl in
+    (s.ask, s.means, s.right, same_state old.start new.start new.lists after.lists s.start lists)
 
-pub served : (old new : State) (r : Request) (told : Told) → Step old (Requests r) told new → is_memory told ≡ false → Tells old (Requests r) told new
-served old new r told (inl s) m = let e : is_memory told ≡ true = rw s.memory refl in absurd (false≢true (sym m ∙ e))
-served old new r told (inr s) m = told_by old new r told s
+pub call_answered : (old new : State) (r : Request) (response : Response) → Step old (Requests r) response new → is_memory response ≡ false
+    → AnswersCall old (Requests r) response new
+call_answered old new r response (inl s) m = let e : is_memory response ≡ true = rw s.memory refl in absurd (false≢true (sym m ∙ e))
+call_answered old new r response (inr s) m = answered_by old new r response s
 
--- a request that wants memory changes nothing
-pub may_tell : (old new : State) (r : Request) (told : Told) → Step old (Requests r) told new → CallMayTell old (Requests r) new
-may_tell old new r told (inl s) = inl (same_state old.start new.start new.lists old.lists s.start s.lists)
-may_tell old new r told (inr s) = inr (told, told_by old new r told s)
+-- a request for which memory runs out changes nothing
+pub may_take_effect : (old new : State) (r : Request) (response : Response) → Step old (Requests r) response new → CallMayTakeEffect old (Requests r) new
+may_take_effect old new r response (inl s) = inl (same_state old.start new.start new.lists old.lists s.start s.lists)
+may_take_effect old new r response (inr s) = inr (response, answered_by old new r response s)
 
--- a line that calls is told as its call is
-pub line_told : (s : State) (call : Option Call) (k : Call) (text : List ℕ) (new : State) → call ≡ Some k → CallTold s k text new → LineTold s call text new
-line_told s call k text new e t = subst (λ (o : Option Call). LineTold s o text new) (sym e) (Some t.0, t.1, t.2)
+-- what a line calls, by what it was read as
+pub call_read : {o : Option Line} (texts : Texts) (line : Line) → ((d : Data) → AreTextsOf texts d → option_map line_view o ≡ call_in d)
+    → o ≡ Some line → (d : Data) → AreTextsOf texts d → call_in d ≡ Some (line_view line)
+call_read texts line h e d t = sym (h d t) ∙ ap (option_map line_view) e
 
-pub line_may_tell : (s : State) (call : Option Call) (k : Call) (new : State) → call ≡ Some k → CallMayTell s k new → LineMayTell s call new
-line_may_tell s call k new e (inl same) = inl same
-line_may_tell s call k new e (inr t) = inr (Some t.0, subst (λ (o : Option Call). TellsLine s o (Some t.0) new) (sym e) t.1)
+-- a line that calls is answered as its call is
+pub asked_reply : (s : State) (call : Option Call) (k : Call) (text : List ℕ) (new : State) → call ≡ Some k → CallReply s k text new
+    → AskedReply s call text new
+asked_reply s call k text new e t = subst (λ (o : Option Call). AskedReply s o text new) (sym e) (Some t.0, t.1, t.2)
 
--- a line that was told has taken effect
-pub line_was_told : (s : State) (call : Option Call) (text : List ℕ) (new : State) → LineTold s call text new → LineMayTell s call new
-line_was_told s call text new t = inr (t.0, t.1)
+pub asked_may_take_effect : (s : State) (call : Option Call) (k : Call) (new : State) → call ≡ Some k → CallMayTakeEffect s k new
+    → AskedMayTakeEffect s call new
+asked_may_take_effect s call k new e (inl same) = inl same
+asked_may_take_effect s call k new e (inr t) = inr (Some t.0, subst (λ (o : Option Call). AnswersAsked s o (Some t.0) new) (sym e) t.1)
 
 -- what holds in any case, where there is an error
 pub at_an_error : {T E P : Type 0} (r : Result T E) → P → IfErr r (λ e. P)
 at_an_error (Ok x) p = tt
 at_an_error (Err e) p = p
 
--- a lookup of texts is told as one of their bytes
-pub looked : (s : State) (told : Told) (a app l locale p path : List ℕ) → a ≡ app → l ≡ locale → p ≡ path
-    → told ≡ answer_over s.start (s.lists a) (Looks a l p) → Tells s (LooksUp app locale path) told s
-looked s told a app l locale p path same_app same_locale same_path e =
-    let by_path = subst (λ (x : List ℕ). told ≡ answer_over s.start (s.lists a) (Looks a l x)) same_path e in
-    let by_locale = subst (λ (x : List ℕ). told ≡ answer_over s.start (s.lists a) (Looks a x path)) same_locale by_path in
-    (Looks app locale path, refl, subst (λ (x : List ℕ). told ≡ answer_over s.start (s.lists x) (Looks x locale path)) same_app by_locale, refl)
+-- a lookup of texts is answered as one of their bytes
+pub look_answered : (s : State) (response : Response) (a app l locale p path : List ℕ) → a ≡ app → l ≡ locale → p ≡ path
+    → response ≡ answer_over s.start (s.lists a) (Looks a l p) → AnswersCall s (LooksUp app locale path) response s
+look_answered s response a app l locale p path same_app same_locale same_path e =
+    let by_path = subst (λ (x : List ℕ). response ≡ answer_over s.start (s.lists a) (Looks a l x)) same_path e in
+    let by_locale = subst (λ (x : List ℕ). response ≡ answer_over s.start (s.lists a) (Looks a x path)) same_locale by_path in
+    (Looks app locale path, refl, subst (λ (x : List ℕ). response ≡ answer_over s.start (s.lists x) (Looks x locale path)) same_app by_locale, refl)

@@ -5,13 +5,13 @@ use Rattle.std.specs.Str.{bytes_eq}
 use Rattle.rb_engine.specs.Ask.{Call, caller}
 use Rattle.rb_engine.specs.History.{State}
 use Rattle.rb_requests.specs.Asked.{call_of}
-use Rattle.rb_requests.specs.Lines.{AnswersLine, Replies}
+use Rattle.rb_requests.specs.Lines.{LineReply, LineReplies}
 
 -- the replies to lines, one for each, each line having taken effect before the next
 abbrev pub RepliesByLine : State → List (List ℕ) → List (List ℕ) → State → Type 0
 RepliesByLine s [] replies end = (replies ≡ []) × (end ≡ s)
 RepliesByLine s (line ∷ rest) replies end =
-    (reply : List ℕ) × (mid : State) × (more : List (List ℕ)) × AnswersLine s line reply mid × (replies ≡ reply ∷ more) × RepliesByLine mid rest more end
+    (reply : List ℕ) × (mid : State) × (more : List (List ℕ)) × LineReply s line reply mid × (replies ≡ reply ∷ more) × RepliesByLine mid rest more end
 
 -- whether a line is a call of the application
 abbrev pub is_of : List ℕ → Option Call → Bool
@@ -39,7 +39,7 @@ replies_to app (line ∷ rest) (reply ∷ more) = if is_of app (call_of line) th
 abbrev pub AreWrittenByLine : Type 0
 AreWrittenByLine =
     (s end : State) (lines : List (List ℕ)) (text : List ℕ)
-    → Replies s lines text end
+    → LineReplies s lines text end
     → (replies : List (List ℕ)) × RepliesByLine s lines replies end × (text ≡ concat replies)
 
 -- lines with the same calls of one application, in the same order, over the same start and the same bundles of it, reply the same to it

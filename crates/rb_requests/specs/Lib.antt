@@ -1,7 +1,7 @@
 pub mod Words
 pub mod Asked
 pub mod Lines
-pub mod MayTell
+pub mod MayTakeEffect
 pub mod Served
 pub mod OneLine
 pub mod Device

@@ -2,7 +2,7 @@
 use Rattle.std.specs.Prelude.{◌≡◌, ℕ, ◌+◌, List, [], ◌∷◌, ◌++◌, ◌==◌, if◌then◌else◌, Option, Some, None}
 use Rattle.std.specs.Str.{bytes_eq}
 use Rattle.rb_engine.specs.Ask.{Call, Requests, LooksUp, caller, Ask, Means}
-use Rattle.rb_engine.specs.Answer.{Told, answer_over, shelf_then}
+use Rattle.rb_engine.specs.Answer.{Response, answer_over, bundles_after}
 use Rattle.rb_engine.specs.History.{State}
 use Rattle.rb_requests.specs.Asked.{call_of}
 use Rattle.rb_replies.specs.Replied.{reply_line}
@@ -23,28 +23,28 @@ feeds [] = 0
 feeds (b ∷ bs) = (if b == 10 then 1 else 0) + feeds bs
 
 -- what is once a call has taken effect: the caller's bundles change as it asks, and nothing else; a look-up changes nothing
-abbrev pub state_then : State → Call → Ask → State
-state_then s (Requests r) ask =
-    record { start = s.start; lists = λ app. if bytes_eq app (caller (Requests r)) then shelf_then ask (s.lists app) else s.lists app }
-state_then s (LooksUp app locale path) ask = s
+abbrev pub state_after : State → Call → Ask → State
+state_after s (Requests r) ask =
+    record { start = s.start; lists = λ app. if bytes_eq app (caller (Requests r)) then bundles_after ask (s.lists app) else s.lists app }
+state_after s (LooksUp app locale path) ask = s
 
 -- a call is told its answer and takes effect
-abbrev pub Tells : State → Call → Told → State → Type 0
-Tells s call told new = (ask : Ask) × Means call ask × (told ≡ answer_over s.start (s.lists (caller call)) ask) × (new ≡ state_then s call ask)
+abbrev pub AnswersCall : State → Call → Response → State → Type 0
+AnswersCall s call response new = (ask : Ask) × Means call ask × (response ≡ answer_over s.start (s.lists (caller call)) ask) × (new ≡ state_after s call ask)
 
 -- a line that calls nothing is told so, and changes nothing
-abbrev pub TellsLine : State → Option Call → Option Told → State → Type 0
-TellsLine s None None new = new ≡ s
-TellsLine s None (Some told) new = ⊥
-TellsLine s (Some call) None new = ⊥
-TellsLine s (Some call) (Some told) new = Tells s call told new
+abbrev pub AnswersAsked : State → Option Call → Option Response → State → Type 0
+AnswersAsked s None None new = new ≡ s
+AnswersAsked s None (Some response) new = ⊥
+AnswersAsked s (Some call) None new = ⊥
+AnswersAsked s (Some call) (Some response) new = AnswersCall s call response new
 
 -- the text of the reply to a line, and what is then
-abbrev pub AnswersLine : State → List ℕ → List ℕ → State → Type 0
-AnswersLine s line text new = (told : Option Told) × TellsLine s (call_of line) told new × (text ≡ reply_line told)
+abbrev pub LineReply : State → List ℕ → List ℕ → State → Type 0
+LineReply s line text new = (response : Option Response) × AnswersAsked s (call_of line) response new × (text ≡ reply_line response)
 
 -- the text of the replies to lines, each of which has taken effect before the next
-abbrev pub Replies : State → List (List ℕ) → List ℕ → State → Type 0
-Replies s [] text end = (text ≡ []) × (end ≡ s)
-Replies s (line ∷ rest) text end =
-    (reply : List ℕ) × (mid : State) × (more : List ℕ) × AnswersLine s line reply mid × (text ≡ reply ++ more) × Replies mid rest more end
+abbrev pub LineReplies : State → List (List ℕ) → List ℕ → State → Type 0
+LineReplies s [] text end = (text ≡ []) × (end ≡ s)
+LineReplies s (line ∷ rest) text end =
+    (reply : List ℕ) × (mid : State) × (more : List ℕ) × LineReply s line reply mid × (text ≡ reply ++ more) × LineReplies mid rest more end

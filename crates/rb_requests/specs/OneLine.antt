@@ -3,14 +3,14 @@ use Rattle.std.specs.Prelude.{◌≡◌, ◌++◌, ◌⊎◌, ℕ, List, [], Opt
 use Rattle.std.specs.Io.KnownBytes.{Appends}
 use Rattle.rb_engine.specs.History.{State}
 use Rattle.rb_requests.specs.Device.{risen}
-use Rattle.rb_requests.specs.Lines.{AnswersLine}
+use Rattle.rb_requests.specs.Lines.{LineReply}
 use Rattle.rb_requests.specs.Served.{TakesEffect}
 use Rattle.rb_requests.specs.declared.lines.ServeFault.{ServeFault}
 use Rattle.rb_requests.specs.declared.lines.ServeFault.TheVariants.{Write, Memory}
 
 -- a line's reply is written, and the line has taken effect
 abbrev pub Wrote : State → List ℕ → Option (List ℕ) → Option (List ℕ) → State → Type 0
-Wrote old line written written' new = (text : List ℕ) × AnswersLine old line text new × Appends written written' text
+Wrote old line written written' new = (text : List ℕ) × LineReply old line text new × Appends written written' text
 
 -- a part of bytes is written
 pub record WrotePart (written written' : Option (List ℕ)) (bytes : List ℕ) : Type 0 where
@@ -22,12 +22,12 @@ pub record WrotePart (written written' : Option (List ℕ)) (bytes : List ℕ) :
 -- a line has taken effect, and a part of its reply is written
 pub record WroteSome (old : State) (line : List ℕ) (written written' : Option (List ℕ)) (new : State) : Type 0 where
   pub reply : List ℕ
-  pub answers : AnswersLine old line reply new
+  pub answers : LineReply old line reply new
   pub wrote : WrotePart written written' reply
 
 -- a line has taken effect or has not, and nothing is written
 pub record WroteNone (old : State) (line : List ℕ) (written written' : Option (List ℕ)) (new : State) : Type 0 where
-  pub tells : (new ≡ old) ⊎ TakesEffect old line new
+  pub effect : (new ≡ old) ⊎ TakesEffect old line new
   pub kept : Appends written written' []
 
 -- why a line is not answered: memory ran out, or its reply could not be written

@@ -2,10 +2,10 @@
 use Rattle.std.specs.Prelude.{◌≡◌, ◌≤◌, ◌<◌, ◌+◌, ◌++◌, ◌⊎◌, ℕ, List, [], ◌∷◌, length, All, ⊤, Option, Some, None, Result, Ok, Err}
 use Rattle.std.specs.Io.KnownBytes.{Appends}
 use Rattle.rb_requests.specs.Asked.{call_of}
-use Rattle.rb_engine.specs.Answer.{Told}
+use Rattle.rb_engine.specs.Answer.{Response}
 use Rattle.rb_requests.specs.Device.{risen, risen_by}
 use Rattle.rb_engine.specs.History.{State}
-use Rattle.rb_requests.specs.Lines.{TellsLine, AnswersLine, Replies, lines_of, feeds}
+use Rattle.rb_requests.specs.Lines.{AnswersAsked, LineReply, LineReplies, lines_of, feeds}
 use Rattle.rb_requests.specs.declared.lines.ServeFault.{ServeFault}
 use Rattle.rb_requests.specs.declared.lines.ServeFault.TheVariants.{Read, Write, LineLimit, LineTooLong, Memory}
 
@@ -37,7 +37,7 @@ pub record Answers (limit : ℕ) (before after : Moment) (count : ℕ) (input le
   pub read : left ≡ []
   pub text : List ℕ
   pub wrote : Appends before.written after.written text
-  pub replies : Replies before.state (lines_of input) text after.state
+  pub replies : LineReplies before.state (lines_of input) text after.state
   pub lines_read : count ≡ length (lines_of input)
   pub short : All (IsShort limit) (lines_of input)
 
@@ -52,7 +52,7 @@ AnswersAll before after count = AnswersWithin 268435456 before after count
 
 -- The first lines are read, each with its line feed, and then some bytes of what follows. These lines have taken effect and no others,
 -- and this is the text of their replies.
-pub record Stands (limit : ℕ) (old now : State) (most : ℕ) (input left : List ℕ) : Type 0 where
+pub record FirstAnswered (limit : ℕ) (old now : State) (most : ℕ) (input left : List ℕ) : Type 0 where
   pub done : List ℕ
   pub begun : List ℕ
   pub taken : input ≡ done ++ (begun ++ left)
@@ -62,7 +62,7 @@ pub record Stands (limit : ℕ) (old now : State) (most : ℕ) (input left : Lis
   pub few : length first ≤ most
   pub short : All (IsShort limit) first
   pub text : List ℕ
-  pub replies : Replies old first text now
+  pub replies : LineReplies old first text now
 
 -- as many replies are settled as lines are answered
 abbrev pub IsSettled : Moment → Moment → List (List ℕ) → Type 0
@@ -70,29 +70,29 @@ IsSettled before after lines = after.settled ≡ risen_by before.settled (length
 
 -- after `Read`: of the next line a part is read that is no longer than a line may be, and where no further line may come nothing is
 pub record AfterRead (limit : ℕ) (before after : Moment) (most : ℕ) (input left : List ℕ) : Type 0 where
-  pub stands : Stands limit before.state after.state most input left
-  pub wrote : Appends before.written after.written stands.text
-  pub settled : IsSettled before after stands.first
-  pub part : feeds stands.begun ≡ 0
-  pub short : IsShort limit stands.begun
-  pub last : length stands.first ≡ most → stands.begun ≡ []
+  pub answered : FirstAnswered limit before.state after.state most input left
+  pub wrote : Appends before.written after.written answered.text
+  pub settled : IsSettled before after answered.first
+  pub part : feeds answered.begun ≡ 0
+  pub short : IsShort limit answered.begun
+  pub last : length answered.first ≡ most → answered.begun ≡ []
 
 -- after `LineTooLong`: a part is read that is one byte longer than a line may be
 pub record AfterLong (limit : ℕ) (before after : Moment) (most : ℕ) (input left : List ℕ) : Type 0 where
-  pub stands : Stands limit before.state after.state most input left
-  pub wrote : Appends before.written after.written stands.text
-  pub settled : IsSettled before after stands.first
-  pub part : feeds stands.begun ≡ 0
-  pub long : length stands.begun ≡ limit + 1
-  pub more : length stands.first < most
+  pub answered : FirstAnswered limit before.state after.state most input left
+  pub wrote : Appends before.written after.written answered.text
+  pub settled : IsSettled before after answered.first
+  pub part : feeds answered.begun ≡ 0
+  pub long : length answered.begun ≡ limit + 1
+  pub more : length answered.first < most
 
 -- after `LineLimit`: as many lines are answered as may be, and one byte more is read
 pub record AfterLimit (limit : ℕ) (before after : Moment) (most : ℕ) (input left : List ℕ) : Type 0 where
-  pub stands : Stands limit before.state after.state most input left
-  pub wrote : Appends before.written after.written stands.text
-  pub settled : IsSettled before after stands.first
-  pub byte : length stands.begun ≡ 1
-  pub all : length stands.first ≡ most
+  pub answered : FirstAnswered limit before.state after.state most input left
+  pub wrote : Appends before.written after.written answered.text
+  pub settled : IsSettled before after answered.first
+  pub byte : length answered.begun ≡ 1
+  pub all : length answered.first ≡ most
 
 -- the next line, which keeps the limit and is read whole, with its line feed if it has one
 pub record IsNext (limit : ℕ) (begun left line : List ℕ) : Type 0 where
@@ -102,31 +102,31 @@ pub record IsNext (limit : ℕ) (begun left line : List ℕ) : Type 0 where
 
 -- a line has taken effect
 abbrev pub TakesEffect : State → List ℕ → State → Type 0
-TakesEffect old line new = (told : Option Told) × TellsLine old (call_of line) told new
+TakesEffect old line new = (response : Option Response) × AnswersAsked old (call_of line) response new
 
 -- after `Memory`: the next line is read, or a part of it, within the limit; where it is read, it has taken effect or has not
 pub record AfterMemory (limit : ℕ) (before after : Moment) (most : ℕ) (input left : List ℕ) : Type 0 where
   pub now : State
-  pub stands : Stands limit before.state now most input left
-  pub wrote : Appends before.written after.written stands.text
-  pub settled : IsSettled before after stands.first
-  pub part : length (lines_of stands.begun) ≤ 1
-  pub short : All (IsShort limit) (lines_of stands.begun)
-  pub more : length stands.first < most
-  pub next : (after.state ≡ now) ⊎ ((line : List ℕ) × IsNext limit stands.begun left line × TakesEffect now line after.state)
+  pub answered : FirstAnswered limit before.state now most input left
+  pub wrote : Appends before.written after.written answered.text
+  pub settled : IsSettled before after answered.first
+  pub part : length (lines_of answered.begun) ≤ 1
+  pub short : All (IsShort limit) (lines_of answered.begun)
+  pub more : length answered.first < most
+  pub next : (after.state ≡ now) ⊎ ((line : List ℕ) × IsNext limit answered.begun left line × TakesEffect now line after.state)
 
 -- after `Write`: the next line is read and has taken effect, and a part of its reply is written
 pub record AfterWrite (limit : ℕ) (before after : Moment) (most : ℕ) (input left : List ℕ) : Type 0 where
   pub now : State
-  pub stands : Stands limit before.state now most input left
-  pub settled : IsSettled before after stands.first
-  pub more : length stands.first < most
+  pub answered : FirstAnswered limit before.state now most input left
+  pub settled : IsSettled before after answered.first
+  pub more : length answered.first < most
   pub line : List ℕ
-  pub next : IsNext limit stands.begun left line
+  pub next : IsNext limit answered.begun left line
   pub part : List ℕ
   pub missing : List ℕ
-  pub answers : AnswersLine now line (part ++ missing) after.state
-  pub wrote : Appends before.written after.written (stands.text ++ part)
+  pub answers : LineReply now line (part ++ missing) after.state
+  pub wrote : Appends before.written after.written (answered.text ++ part)
 
 abbrev pub After : ℕ → ServeFault → Moment → Moment → ℕ → List ℕ → List ℕ → Type 0
 After limit Read before after most = AfterRead limit before after most

@@ -4,6 +4,9 @@ use Rattle.std.specs.Io.KnownBytes.{Consumes, Keeps, IsAtEnd}
 use Rattle.rb_requests.specs.Lines.{feeds}
 use Rattle.rb_requests.specs.Served.{IsShort}
 use Rattle.rb_requests.specs.declared.device.Failed.{Failed}
+use Rattle.rb_requests.specs.declared.lines.Served.{Served}
+use Rattle.rb_requests.specs.declared.lines.ServeFault.{ServeFault}
+use Rattle.rb_requests.specs.declared.lines.ServeFault.TheVariants as fault
 use Rattle.rb_requests.specs.declared.lines.NextLine.{NextLine}
 use Rattle.rb_requests.specs.declared.lines.NextLine.TheVariants.{Ended, Last, End, TooLong, Memory}
 
@@ -49,3 +52,12 @@ ReadsLine limit line old new (Ok End) = ReadsEnd old new
 ReadsLine limit line old new (Ok TooLong) = ReadsLong limit old new
 ReadsLine limit line old new (Ok Memory) = ReadsPart limit old new
 ReadsLine limit line old new (Err e) = ReadsPart limit old new
+
+-- after as many lines as may be served: nothing is left, or one byte is read, or a call failed
+abbrev pub EndsAfter : Option (List ℕ) → Option (List ℕ) → ℕ → Result Served ServeFault → Type 0
+EndsAfter old new lines (Ok served) = ReadsEnd old new × (served.lines ≡ lines)
+EndsAfter old new lines (Err fault.LineLimit) = (byte : ℕ) × Consumes old new (byte ∷ [])
+EndsAfter old new lines (Err fault.Read) = Keeps old new
+EndsAfter old new lines (Err fault.Write) = ⊥
+EndsAfter old new lines (Err fault.LineTooLong) = ⊥
+EndsAfter old new lines (Err fault.Memory) = ⊥

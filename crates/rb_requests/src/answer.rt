@@ -3,13 +3,12 @@ ghost use Rattle.std.specs.Prelude.{◌≡◌, IfErr, None, OnOk};
 ghost use Rattle.serde_json.specs.Data.{Data};
 ghost use Rattle.rb_engine.specs.Kept.{state_of};
 ghost use Rattle.rb_engine.specs.Ask.{Requests, LooksUp};
-ghost use Rattle.rb_engine.specs.Answer.{Replies as Told};
 ghost use Rattle.rb_engine.specs.History.{is_memory_reply};
 ghost use Rattle.rb_replies.specs.Replied.{reply_line};
 ghost use Rattle.rb_requests.specs.Asked.{call_of, call_in};
 ghost use Rattle.rb_requests.specs.Line.{AreTextsOf};
-ghost use Rattle.rb_requests.specs.Lines.{AnswersLine};
-ghost use Rattle.rb_requests.specs.MayTell.{CallTold, LineTold, CallMayTell, LineMayTell};
+ghost use Rattle.rb_requests.specs.Lines.{LineReply};
+ghost use Rattle.rb_requests.specs.MayTakeEffect.{CallReply, AskedReply, CallMayTakeEffect, AskedMayTakeEffect};
 
 use crate::ask::{Line, json_of, lent_texts, line_of, texts_of};
 use json::Scratch;
@@ -30,8 +29,8 @@ fn answer_request(
     request: Request,
     reply: &mut ReplyLine,
 ) -> Result<(), AllocError>
-    ensures told { OnOk result (CallTold (state_of engine.old) (Requests request) reply.new (state_of engine.new)) }
-    ensures fault { IfErr result (λ e. CallMayTell (state_of engine.old) (Requests request) (state_of engine.new)) }
+    ensures reply { OnOk result (CallReply (state_of engine.old) (Requests request) reply.new (state_of engine.new)) }
+    ensures fault { IfErr result (λ e. CallMayTakeEffect (state_of engine.old) (Requests request) (state_of engine.new)) }
 {
     let answer = engine.handle(alloc, request);
     if is_memory(&answer) {
@@ -48,7 +47,7 @@ fn answer_look(
     path: &str,
     reply: &mut ReplyLine,
 ) -> Result<(), AllocError>
-    ensures { OnOk result (CallTold (state_of engine.now) (LooksUp app.now locale.now path.now) reply.new (state_of engine.now)) }
+    ensures { OnOk result (CallReply (state_of engine.now) (LooksUp app.now locale.now path.now) reply.new (state_of engine.now)) }
 {
     let found = engine.look(app.as_bytes(), locale.as_bytes(), path.as_bytes());
     reply.tell_look(alloc, &found)
@@ -68,8 +67,8 @@ fn answer_texts(
     texts: &Texts<'_>,
     reply: &mut ReplyLine,
 ) -> Result<(), AllocError>
-    ensures told { OnOk result ((d : Data) → AreTextsOf texts.now d → LineTold (state_of engine.old) (call_in d) reply.new (state_of engine.new)) }
-    ensures fault { IfErr result (λ e. (d : Data) → AreTextsOf texts.now d → LineMayTell (state_of engine.old) (call_in d) (state_of engine.new)) }
+    ensures reply { OnOk result ((d : Data) → AreTextsOf texts.now d → AskedReply (state_of engine.old) (call_in d) reply.new (state_of engine.new)) }
+    ensures fault { IfErr result (λ e. (d : Data) → AreTextsOf texts.now d → AskedMayTakeEffect (state_of engine.old) (call_in d) (state_of engine.new)) }
 {
     match line_of(alloc, texts)? {
         None => bad_line(alloc, reply),
@@ -88,8 +87,8 @@ pub(crate) fn reply_of(
     line: &[u8],
     reply: &mut ReplyLine,
 ) -> Result<(), AllocError>
-    ensures told { OnOk result (AnswersLine (state_of engine.old) line.now reply.new (state_of engine.new)) }
-    ensures fault { IfErr result (λ e. LineMayTell (state_of engine.old) (call_of line.now) (state_of engine.new)) }
+    ensures reply { OnOk result (LineReply (state_of engine.old) line.now reply.new (state_of engine.new)) }
+    ensures fault { IfErr result (λ e. AskedMayTakeEffect (state_of engine.old) (call_of line.now) (state_of engine.new)) }
 {
     let mut texts = Texts::none();
     if lent_texts(line, scratch, &mut texts)? {

@@ -7,9 +7,9 @@ ghost use Rattle.rb_requests.specs.Isolation.{AreWrittenByLine, AreLinesIsolated
 pub fn isolated()
     // A call asks one thing, since a payload stands for at most one tree.
     ensures one { AsksOne }
-    // Each answer but for want of memory is that over what the caller itself asked before.
+    // Each answer but out of memory is that over what the caller itself asked before.
     ensures own { AnswersOwn }
-    // What an application is told depends on its own calls and wants of memory alone.
+    // What an application is answered depends on its own calls and on which of them ran out of memory alone.
     ensures alone { IsIsolated }
     // What is written for lines is the reply to each of them.
     ensures replies { AreWrittenByLine }

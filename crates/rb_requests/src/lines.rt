@@ -2,8 +2,8 @@
 ghost use Rattle.std.specs.Prelude.{◌≡◌, ◌<◌, ◌≤◌, Ok, IfOk, IfErr, OnOk, OnErr, Option, List, [], ℕ, length, drop};
 ghost use Rattle.std.specs.Io.KnownBytes.{Appends, IsAtEnd, Keeps};
 ghost use Rattle.rb_engine.specs.Kept.{state_of};
-ghost use Rattle.rb_requests.specs.Lines.{AnswersLine};
-ghost use Rattle.rb_requests.specs.Taken.{ReadsLine, ReadsPlain};
+ghost use Rattle.rb_requests.specs.Lines.{LineReply};
+ghost use Rattle.rb_requests.specs.Taken.{ReadsLine, ReadsPlain, EndsAfter};
 ghost use Rattle.rb_requests.specs.Device.{risen_by, counted, settles};
 ghost use Rattle.rb_requests.specs.Served.{AnswersAll, AnswersWithin, AfterFault, AfterFaultWithin, IsShort, at, reads_failed, writes_failed};
 ghost use Rattle.rb_requests.specs.OneLine.{Wrote, WrotePart, FailsLine, line_settled};
@@ -112,7 +112,7 @@ fn read_line<F: Feed>(feed: &mut F, line: &mut Vec<u8>, limit: usize) -> Result<
 }
 
 /// Reads what follows the most bytes that a line may have.
-#[tactic(auto, using(crate::proofs::Reading::longest_ended, crate::proofs::Reading::longest_last, crate::proofs::Reading::longest_passed, crate::proofs::Reading::longest_part))]
+#[tactic(auto, using(crate::proofs::Reading::after_longest))]
 fn after_longest<F: Feed>(feed: &mut F) -> Result<NextLine, Failed>
     ensures line { (limit : ℕ) → (first : Option (List ℕ)) → (line : List ℕ) → ReadsPlain first (F.left feed.old) line → length line ≡ limit → 0 < limit
         → ReadsLine limit line first (F.left feed.new) result }
@@ -177,7 +177,7 @@ fn put_reply<S: Sink>(sink: &mut S, reply: &[u8]) -> Result<(), Failed>
 }
 
 /// Answers a line.
-#[tactic(auto, using(crate::proofs::Serving::wrote, crate::proofs::Serving::not_written, crate::proofs::Serving::not_told))]
+#[tactic(auto, using(crate::proofs::Serving::wrote, crate::proofs::Serving::not_written, crate::proofs::Serving::not_replied))]
 fn serve_line<S: Sink>(
     alloc: Global,
     engine: &mut Engine,
@@ -198,6 +198,18 @@ fn serve_line<S: Sink>(
     match put_reply(sink, reply.as_bytes()) {
         Ok(()) => Ok(()),
         Err(Failed) => Err(ServeFault::Write),
+    }
+}
+
+/// The end of the input, where as many lines were served as may be. A byte more is read, if there is one.
+fn end_after<F: Feed>(feed: &mut F, lines: u64) -> Result<Served, ServeFault>
+    ensures end { EndsAfter (F.left feed.old) (F.left feed.new) lines result }
+    ensures reads { F.faults feed.new ≡ reads_failed (F.faults feed.old) result }
+{
+    match feed.pull() {
+        Ok(None) => Ok(Served { lines }),
+        Ok(Some(_)) => Err(ServeFault::LineLimit),
+        Err(Failed) => Err(ServeFault::Read),
     }
 }
 
@@ -247,11 +259,7 @@ fn serve_within<F: Feed, S: Sink>(
             Err(Failed) => return Err(ServeFault::Read),
         }
     }
-    match feed.pull() {
-        Ok(None) => Ok(Served { lines: max_lines }),
-        Ok(Some(_)) => Err(ServeFault::LineLimit),
-        Err(Failed) => Err(ServeFault::Read),
-    }
+    end_after(feed, max_lines)
 }
 
 /// Answers the lines of an input, each with one line: a line is read, answered and settled before the next one is read.

@@ -177,7 +177,8 @@ fn answers_lines(rt: HostRuntime) -> Result<(), Fail> {
 
 /// The install of a bundle with an item of each kind.
 const BUNDLE: &str =
-    "{\"op\":\"install\",\"app\":\"shop\",\"locale\":\"root\",\"text\":\"root{a{:int{1},\\\"x\\\"} b:bin{00 ff 7F} i:int{268435455} m:alias{\\\"/ICUDATA/de/x\\\"} s{\\\"\\\\u00e9\\\\U0001F600\\\\uD800\\\\101\\\\{\\\"} t{b:int{1} a:int{2}} v:intvector{1,-1}}\"}";
+    "{\"op\":\"install\",\"app\":\"shop\",\"locale\":\"root\",\"text\":\"root{a{:int{1},\\\"x\\\"} b:bin{00 ff 7F} i:int{268435455} \
+    m:alias{\\\"/ICUDATA/de/x\\\"} s{\\\"\\\\u00e9\\\\U0001F600\\\\uD800\\\\101\\\\{\\\"} t{b:int{1} a:int{2}} v:intvector{1,-1}}\"}";
 
 /// What a lookup of each is answered.
 const ITEMS: [(&str, &str); 9] = [
@@ -246,7 +247,8 @@ const FILES: [(&str, &str); 4] = [
         "{\"error\":\"BadFile\"}",
     ),
     (
-        "{\"op\":\"install\",\"app\":\"shop\",\"locale\":\"root\",\"file\":\"2000Da27140000000000020052657342010100000000000000000000000000000900002005000000070000000b0000000b000000010000006100aaaa01000000620000000100180007000000\"}",
+        "{\"op\":\"install\",\"app\":\"shop\",\"locale\":\"root\",\"file\":\"2000Da271400000000000200526573420101000000000000000000000000\
+        00000900002005000000070000000b0000000b000000010000006100aaaa01000000620000000100180007000000\"}",
         "{\"ok\":true}",
     ),
     (

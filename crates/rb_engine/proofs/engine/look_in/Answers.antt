@@ -14,4 +14,5 @@ returns-in_err-look g c =
 pub returns : goal.returns
 returns g c =
     looked_is g.S.N.Node.tree c.look.result (Ok c.in_ok-look.field-0) (g.S.Shelf.bundles c.args.own) (g.I.Shelf.bundles c.args.icudata)
-    (parent_of c.args.parents.now) c.args.name.now c.args.path.now (rw c.in_ok-look.was refl) c.look.ensures.bad_path.1 c.look.ensures.answer c.look.ensures.valid
+    (parent_of c.args.parents.now) c.args.name.now c.args.path.now (rw c.in_ok-look.was refl) c.look.ensures.bad_path.1 c.look.ensures.answer
+    c.look.ensures.valid

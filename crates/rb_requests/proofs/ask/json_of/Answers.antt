@@ -8,4 +8,5 @@ returns-in_default c = sym (data_of-no_text c.args.line.now c.in_default.ensures
 
 pub returns-in-Ok-from_str : goal.returns-in-Ok-from_str
 returns-in-Ok-from_str c =
-    sym (data_of-text c.args.line.now c.in-Ok.text.now (Some (view c.in-Ok-from_str.value)) c.in-Ok.ensures.cases.0 c.in-Ok.ensures.cases.1 c.in-Ok-from_str.ensures.ok)
+    let is = c.in-Ok.ensures.cases in
+    sym (data_of-text c.args.line.now c.in-Ok.text.now (Some (view c.in-Ok-from_str.value)) is.0 is.1 c.in-Ok-from_str.ensures.ok)

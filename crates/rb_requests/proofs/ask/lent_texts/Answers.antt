@@ -12,5 +12,8 @@ returns-in-Ok c =
     let text = c.in-Ok.text.now in
     let is = c.in-Ok.ensures.cases in
     IfOk-weaker c.read_texts.result _ _
-    (λ all h yes. let o = h yes in (object o.0, texts_of_object c.read_texts.new.texts o.0 o.1, ap (option_and_then call_in) (data_of-text line text (Some (object o.0)) is.0 is.1 o.2)))
+    (λ all h yes.
+    let o = h yes in
+    let asked = ap (option_and_then call_in) (data_of-text line text (Some (object o.0)) is.0 is.1 o.2) in
+    (object o.0, texts_of_object c.read_texts.new.texts o.0 o.1, asked))
     c.read_texts.ensures.read

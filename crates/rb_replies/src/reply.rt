@@ -3,9 +3,9 @@ ghost use Rattle.std.specs.Prelude.{◌≡◌, [], ◌∷◌, ◌++◌, codes};
 ghost use Rattle.json.specs.Token.{key};
 ghost use Rattle.rb_replies.specs.Item.{texts_data};
 ghost use Rattle.rb_replies.specs.Put.{Puts, data_tokens};
-ghost use Rattle.rb_replies.specs.Replied.{error as error_data, reply_data, told_data};
+ghost use Rattle.rb_replies.specs.Replied.{error as error_data, reply_data, response_data};
 ghost use Rattle.rb_engine.specs.declared.request.Reply.TheVariants as replies;
-ghost use Rattle.rb_engine.specs.Seen.{seen};
+ghost use Rattle.rb_engine.specs.LookResponse.{look_response};
 ghost use Rattle.rb_views.specs.Seen.{tree_seen};
 
 use crate::item::{put_found, put_text, put_word};
@@ -64,7 +64,7 @@ pub(crate) fn put_look(
     alloc: Global,
     found: &Result<Found<Item<'_>>, LookFault>,
 ) -> Result<(), AllocError>
-    ensures { Puts result out.old out.new (data_tokens (told_data (seen tree_seen found.now))) }
+    ensures { Puts result out.old out.new (data_tokens (response_data (look_response tree_seen found.now))) }
 {
     match found {
         Ok(found) => put_found(out, text, alloc, found),

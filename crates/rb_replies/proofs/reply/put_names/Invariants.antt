@@ -1,7 +1,7 @@
 use Rattle.std.proofs.Common.{◌≡◌, ◌∷◌, ◌++◌, map, take}
 use Rattle.json.specs.Token.{begin_array}
 use Rattle.rb_replies.proofs.Tokens.{text_token}
-use Rattle.rb_replies.proofs.told.put_names.Given as goal
+use Rattle.rb_replies.proofs.reply.put_names.Given as goal
 
 abbrev pub invariant-loop-name : goal.invariant-loop-name
 invariant-loop-name l = record {

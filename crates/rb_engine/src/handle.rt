@@ -1,10 +1,7 @@
 //! The requests, on the packages of all applications.
-ghost use Rattle.rb_parents.specs.Trail.{ParentsOf};
-ghost use Rattle.rb_engine.specs.Ask.{Requests};
-ghost use Rattle.rb_engine.specs.Answer.{Replies};
-ghost use Rattle.rb_engine.specs.History.{Step};
-ghost use Rattle.rb_engine.specs.Kept.{state_over};
-ghost use Rattle.rb_engine.specs.Source.{Reads};
+ghost use Rattle.std.specs.Prelude.{ℕ, List, Ok};
+ghost use Rattle.rb_engine.specs.Source.{Reads, Handles, change_request};
+ghost use Rattle.rb_engine.specs.declared.request.Payload.{Payload};
 ghost use Rattle.rb_engine.specs.declared.request.Request.TheVariants.{Install, Replace, Remove, List as Lists};
 
 use crate::payload::bundle_of;
@@ -29,40 +26,50 @@ fn read(
     Ok((place, bundle))
 }
 
-pub(crate) fn install(
+/// A request that brings a bundle.
+#[derive(Clone, Copy)]
+pub(crate) enum Change {
+    Install,
+    Replace,
+}
+
+/// Handles a request that brings a bundle.
+pub(crate) fn put(
     packages: &mut Packages,
     alloc: Global,
+    change: Change,
     app: &ByteList,
     locale: &ByteList,
     payload: Payload,
 ) -> Reply
-    ensures { (parents : ParentsOf) → Step (state_over parents packages.old) (Requests (Install app.now locale.now payload)) (Replies result)
-        (state_over parents packages.new) }
+    ensures { Handles (change_request change app.now locale.now payload) result packages.old packages.new }
 {
     let (place, bundle) = match read(alloc, app, locale, payload) {
         Ok(read) => read,
         Err(reply) => return reply,
     };
+    match change {
+        Change::Install => install(packages, &place, bundle),
+        Change::Replace => replace(packages, &place, bundle),
+    }
+}
+
+/// Installs the bundle that a request brings.
+fn install(packages: &mut Packages, place: &Place, bundle: Bundle) -> Reply
+    ensures { (app locale : List ℕ) → (payload : Payload) → Reads app locale payload (Ok (place.now, bundle))
+        → Handles (Install app locale payload) result packages.old packages.new }
+{
     match packages.install(&place.app, place.name, bundle) {
         Ok(()) => Reply::Done,
         Err((fault, _)) => Reply::from(fault),
     }
 }
 
-pub(crate) fn replace(
-    packages: &mut Packages,
-    alloc: Global,
-    app: &ByteList,
-    locale: &ByteList,
-    payload: Payload,
-) -> Reply
-    ensures { (parents : ParentsOf) → Step (state_over parents packages.old) (Requests (Replace app.now locale.now payload)) (Replies result)
-        (state_over parents packages.new) }
+/// Puts the bundle that a request brings in the place of the one that is there.
+fn replace(packages: &mut Packages, place: &Place, bundle: Bundle) -> Reply
+    ensures { (app locale : List ℕ) → (payload : Payload) → Reads app locale payload (Ok (place.now, bundle))
+        → Handles (Replace app locale payload) result packages.old packages.new }
 {
-    let (place, bundle) = match read(alloc, app, locale, payload) {
-        Ok(read) => read,
-        Err(reply) => return reply,
-    };
     match packages.replace(&place.app, &place.name, bundle) {
         Ok(_) => Reply::Done,
         Err(_) => Reply::Absent,
@@ -70,8 +77,7 @@ pub(crate) fn replace(
 }
 
 pub(crate) fn remove(packages: &mut Packages, app: &ByteList, locale: &ByteList) -> Reply
-    ensures { (parents : ParentsOf) → Step (state_over parents packages.old) (Requests (Remove app.now locale.now)) (Replies result)
-        (state_over parents packages.new) }
+    ensures { Handles (Remove app.now locale.now) result packages.old packages.new }
 {
     let place = match place_of(app.as_slice(), locale.as_slice()) {
         Ok(place) => place,
@@ -84,7 +90,7 @@ pub(crate) fn remove(packages: &mut Packages, app: &ByteList, locale: &ByteList)
 }
 
 pub(crate) fn list(packages: &Packages, alloc: Global, app: &ByteList) -> Reply
-    ensures { (parents : ParentsOf) → Step (state_over parents packages.now) (Requests (Lists app.now)) (Replies result) (state_over parents packages.now) }
+    ensures { Handles (Lists app.now) result packages.now packages.now }
 {
     let app = match App::read(app.as_slice()) {
         Ok(app) => app,

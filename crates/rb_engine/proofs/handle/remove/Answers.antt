@@ -1,0 +1,20 @@
+use Rattle.std.proofs.Common.{◌≡◌, Ok}
+use Rattle.rb_format.specs.File.{source_tree_of}
+use Rattle.rb_engine.specs.Place.{place_of}
+use Rattle.rb_engine.proofs.StepLemmas.{removes, not_removed}
+use Rattle.rb_engine.proofs.handle.remove.Goals as goal
+use Rattle.rb_engine.proofs.handle.remove.Goals.{in-Ok-remove, in-Err-remove}
+
+pub returns : goal.returns
+returns c =
+    let app = c.args.app.now in
+    let locale = c.args.locale.now in
+    let p = c.in-Ok.place in
+    let old = c.args.packages.now in
+    let h : place_of app locale ≡ Ok p = cc in
+    elim c.match-remove.branch [
+      | in-Ok-remove w ↦ rw w.result-is
+          (removes app locale p (source_tree_of w.in-Ok-remove.field-0) old c.remove.new.self h
+          w.in-Ok-remove.ensures.old w.in-Ok-remove.ensures.removed w.in-Ok-remove.ensures.others)
+      | in-Err-remove w ↦ rw (w.result-is, w.in-Err-remove.ensures.unchanged) (not_removed app locale p old h w.in-Err-remove.ensures.absent)
+    ]
