@@ -66,7 +66,9 @@ fn source_bundle(alloc: Global, source: &Source) -> Result<Bundle, AllocError>
     ensures { IfOk result (λ bundle. source_tree_of bundle ≡ source_tree source.now) }
 {
     rb_format::laws::a_tree_or_a_fault();
-    let file = write(alloc, &source.tree, source.no_fallback)?;
+    let mut file = write(alloc, &source.tree, source.no_fallback)?;
+    // A bundle is kept: the buffer gives back what its file doesn't need.
+    file.shrink_to_fit();
     match accept(alloc, file) {
         Ok(bundle) => Ok(bundle),
         Err((fault, _)) => {
