@@ -1,5 +1,6 @@
 -- A source that gives its tokens as they are taken.
-use Rattle.std.proofs.Common.{◌≡◌, ℕ, ◌≤◌, List, [], ◌∷◌, ◌++◌, length, drop, length-drop, append-nil, Option, Some, None, MatchOption, refl, sym, ap, subst, ◌∙◌, arith, false, IsTrue, encode_utf8_all}
+use Rattle.std.proofs.Common.{◌≡◌, ℕ, ◌≤◌, List, [], ◌∷◌, ◌++◌, length, drop, length-drop, append-nil, Option, Some, None, MatchOption, refl, sym, ap, subst}
+use Rattle.std.proofs.Common.{◌∙◌, arith, false, IsTrue, encode_utf8_all}
 use Rattle.std.proofs.Common.{◌⊎◌, inl, inr, ⊎_elim}
 use Rattle.std.specs.Str.{chars, all_scalars}
 use Rattle.rb_lexer.specs.declared.builder.Builder.{Builder}
@@ -79,7 +80,8 @@ module _ (r : Tokens) (ts : List Token) where
 
   pub flush_gives : Gives r ts → chars r.rest.now ≡ [] → (b : Builder) → b.tokens.items ≡ r.builder.tokens.items ++ flushed r.builder.pending []
       → b.pending ≡ None → ts ≡ b.tokens.items ++ flushed b.pending []
-  flush_gives g none b all off = at_end g none ∙ sym all ∙ sym (append-nil b.tokens.items) ∙ ap (λ (k : Option PendingText). b.tokens.items ++ flushed k []) (sym off)
+  flush_gives g none b all off =
+      at_end g none ∙ sym all ∙ sym (append-nil b.tokens.items) ∙ ap (λ (k : Option PendingText). b.tokens.items ++ flushed k []) (sym off)
 
   two_or : (l : Left r ts) → TwoOr r.builder.tokens.items (more_of l.gives.atoms)
   two_or l =

@@ -5,7 +5,8 @@ use Rattle.rb_parser.proofs.leaf.read_leaf.Goals as goal
 
 pub returns-in_ok-read_text-in-String-clause-exact : goal.returns-in_ok-read_text-in-String-clause-exact
 returns-in_ok-read_text-in-String-clause-exact c = λ w is.
-    string_reads c.args.cursor.now.end c.args.cursor.now.rest c.read_text.new.cursor.rest w c.in_ok-read_text-in-String.field-0 (is ∙ ap word.Leaf c.in-String.is)
+    string_reads c.args.cursor.now.end c.args.cursor.now.rest c.read_text.new.cursor.rest w c.in_ok-read_text-in-String.field-0
+    (is ∙ ap word.Leaf c.in-String.is)
     c.in_ok-read_text-in-String.ensures.exact
 
 pub returns-in_ok-read_text-in-Alias-clause-exact : goal.returns-in_ok-read_text-in-Alias-clause-exact

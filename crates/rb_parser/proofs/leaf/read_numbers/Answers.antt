@@ -41,4 +41,5 @@ pub returns-clause-exact : goal.returns-clause-exact
 returns-clause-exact c = λ n enough.
     let ts = c.numbers.cursor.rest in
     let none : first_text ts ≡ None = (rw c.in_default.is at c.in_ok-text.ensures.text) in
-    rw (rw c.in_default.is at c.in_ok-text.ensures.rest) (numbers_end n c.args.cursor.now.rest ts c.numbers.found.items (c.numbers.invariant.so_far n enough) none)
+    rw (rw c.in_default.is at c.in_ok-text.ensures.rest) (numbers_end n c.args.cursor.now.rest ts c.numbers.found.items
+    (c.numbers.invariant.so_far n enough) none)

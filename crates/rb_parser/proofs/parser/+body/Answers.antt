@@ -50,10 +50,12 @@ pub read_body-returns-in_ok-expect-clause-exact : goal.read_body-returns-in_ok-e
 read_body-returns-in_ok-expect-clause-exact t c =
     let w = c.in_ok-word.ensures.exact in
     let below = c.args.depth - 1 in
-    let same : c.expect.new.self.end ≡ c.args.cursor.now.end = c.in_ok-expect.ensures.same_end ∙ c.in_ok-word.ensures.same_end ∙ c.in_ok-take.ensures.same_end in
+    let same : c.expect.new.self.end ≡ c.args.cursor.now.end = c.in_ok-expect.ensures.same_end ∙ c.in_ok-word.ensures.same_end ∙
+    c.in_ok-take.ensures.same_end in
     reads_same IsBodyTree c.args.cursor.now.end c.expect.new.self.end c.read_typed.result c.read_typed.new.cursor.rest
     (typed_at the_tests (inner_at below) w.0 c.expect.new.self.rest) (body the_tests c.args.depth c.args.cursor.now.rest) same
-    (typed_body c.args.depth below c.args.cursor.now.rest c.take.new.self.rest c.in_ok-take.field-0 (omega arith) c.in_ok-take.ensures.value c.in_ok-take.ensures.rest
+    (typed_body c.args.depth below c.args.cursor.now.rest c.take.new.self.rest c.in_ok-take.field-0 (omega arith) c.in_ok-take.ensures.value
+    c.in_ok-take.ensures.rest
     w.0 c.word.new.self.rest c.if-branch.true w.1 c.expect.new.self.rest c.in_ok-expect.ensures.exact)
     (c.read_typed.ensures.exact w.0 (sym w.2))
 
@@ -132,7 +134,8 @@ read_entries-returns-in_default-2-clause-exact t c =
 pub read_entries-returns-then-not-branch-clause-exact : goal.read_entries-returns-then-not-branch-clause-exact
 read_entries-returns-then-not-branch-clause-exact t c =
     let key = rw c.in-Some-2.is at c.in_ok-key.ensures in
-    entries_twice c.entries.invariant c.in-Some.text (record { kind = DuplicateKey; line = c.fault-bad.result.line }) (rw c.in-Some.is at c.in_ok-text.ensures.text)
+    entries_twice c.entries.invariant c.in-Some.text (record { kind = DuplicateKey; line = c.fault-bad.result.line })
+    (rw c.in-Some.is at c.in_ok-text.ensures.text)
     (subst (λ (l : List ℕ). IsKey l) c.as_slice.ensures key.0)
     (seen_before c.entries.seen.keys c.in-Some.text c.into_vec.result c.in_ok-insert.field-0 c.in_ok-insert.ensures.added c.into_vec.ensures
     c.if-not-branch.true)
@@ -145,7 +148,7 @@ read_entries-returns-in_err-tree-clause-exact t c =
     rw (p.1, p.2) (entries_bad_body c.entries.invariant c.in-Some.text _ c.take_text.new.self (rw c.in-Some.is at c.in_ok-text.ensures.text)
     (subst (λ (l : List ℕ). IsKey l) c.as_slice.ensures key.0)
     (not_seen c.entries.seen.keys c.in-Some.text c.into_vec.result c.in_ok-insert.field-0 c.in_ok-insert.ensures.added c.into_vec.ensures c.if-not-branch.false)
-    (record { same_end = c.take_text.ensures.same_end; rest = (rw c.in-Some.is at c.in_ok-text.ensures.rest) }) c.in_err-tree.ensures.exact)
+    (record { same_end = c.take_text.ensures.same_end; rest = rw c.in-Some.is at c.in_ok-text.ensures.rest }) c.in_err-tree.ensures.exact)
 
 pub read_entries-entries-preserved : goal.read_entries-entries-preserved
 read_entries-entries-preserved t c =
@@ -154,48 +157,71 @@ read_entries-entries-preserved t c =
     let shorter : length c.take.new.self.rest < length c.entries.cursor.rest =
     omega (arith, (rw c.in-Some.is at c.in_ok-text.ensures.shorter), c.in_ok-tree.ensures.shorter, c.in_ok-take.ensures.no_longer) in
     entries_more c.entries.invariant c.in-Some.text b.0 c.take_text.new.self c.read_body.new.cursor c.take.new.self c.in-Some-2.key c.in_ok-tree.tree
-    c.into_vec.result c.push.new.self.items c.insert.new.self.keys (rw c.in-Some.is at c.in_ok-text.ensures.text) (subst (λ (l : List ℕ). IsKey l) c.as_slice.ensures key.0)
+    c.into_vec.result c.push.new.self.items c.insert.new.self.keys (rw c.in-Some.is at c.in_ok-text.ensures.text)
+    (subst (λ (l : List ℕ). IsKey l) c.as_slice.ensures key.0)
     (not_seen c.entries.seen.keys c.in-Some.text c.into_vec.result c.in_ok-insert.field-0 c.in_ok-insert.ensures.added c.into_vec.ensures c.if-not-branch.false)
-    (record { same_end = c.take_text.ensures.same_end; rest = (rw c.in-Some.is at c.in_ok-text.ensures.rest) }) b.1 b.2 c.in_ok-tree.ensures.same_end c.in_ok-take.ensures.same_end
+    (record { same_end = c.take_text.ensures.same_end; rest = rw c.in-Some.is at c.in_ok-text.ensures.rest }) b.1 b.2 c.in_ok-tree.ensures.same_end
+    c.in_ok-take.ensures.same_end
     c.in_ok-take.ensures.rest shorter (key.1 ∙ c.as_slice.ensures) c.into_vec.ensures c.in_ok-push.ensures.items c.in_ok-insert.ensures.keys
 
 pub read_entries-returns-in_err-expect-clause-exact : goal.read_entries-returns-in_err-expect-clause-exact
 read_entries-returns-in_err-expect-clause-exact t c =
     let p = err_from_is_err_and c.from_residual-in_err-expect.result c.from_residual-in_err-expect.ensures.1 in
     rw (p.1, p.2) (entries_open c.entries.invariant _ c.take_text.new.self
-    (record { none = (rw c.in_default.is at c.in_ok-text.ensures.text); same_end = c.take_text.ensures.same_end; rest = (rw c.in_default.is at c.in_ok-text.ensures.rest) }) c.in_err-expect.ensures.exact)
+    (record {
+      none = rw c.in_default.is at c.in_ok-text.ensures.text;
+      same_end = c.take_text.ensures.same_end;
+      rest = rw c.in_default.is at c.in_ok-text.ensures.rest;
+    }) c.in_err-expect.ensures.exact)
 
 pub read_entries-returns-clause-exact : goal.read_entries-returns-clause-exact
 read_entries-returns-clause-exact t c =
     entries_done c.entries.invariant c.take_text.new.self c.expect.new.self.rest
-    (record { none = (rw c.in_default.is at c.in_ok-text.ensures.text); same_end = c.take_text.ensures.same_end; rest = (rw c.in_default.is at c.in_ok-text.ensures.rest) }) c.in_ok-expect.ensures.exact
+    (record {
+      none = rw c.in_default.is at c.in_ok-text.ensures.text;
+      same_end = c.take_text.ensures.same_end;
+      rest = rw c.in_default.is at c.in_ok-text.ensures.rest;
+    }) c.in_ok-expect.ensures.exact
 
 pub read_array-elements-init : goal.read_array-elements-init
 read_array-elements-init t c = elements_begin c.args.depth c.args.cursor.now c.new-trees.result.items c.new-trees.ensures.items
 
 pub read_array-returns-then-depth-eq0-clause-exact : goal.read_array-returns-then-depth-eq0-clause-exact
 read_array-returns-then-depth-eq0-clause-exact t c =
-    elements_too_deep c.elements.invariant c.in-Some.text c.fault-too_deep.result (rw c.in-Some.is at c.in_ok-next.ensures.text) c.if-depth-eq0.true c.fault-too_deep.ensures.kind
+    elements_too_deep c.elements.invariant c.in-Some.text c.fault-too_deep.result (rw c.in-Some.is at c.in_ok-next.ensures.text) c.if-depth-eq0.true
+    c.fault-too_deep.ensures.kind
     c.fault-too_deep.ensures.line
 
 pub read_array-returns-in_err-read_body-clause-exact : goal.read_array-returns-in_err-read_body-clause-exact
 read_array-returns-in_err-read_body-clause-exact t c =
     let p = err_from_is_err_and c.from_residual-in_err-read_body.result c.from_residual-in_err-read_body.ensures.1 in
     rw (p.1, p.2) (elements_bad_body c.elements.invariant _ c.take_text.new.self c.is_at_body.result
-    (record { none = (rw c.in_default.is at c.in_ok-next.ensures.text); same_end = c.take_text.ensures.same_end; rest = (rw c.in_default.is at c.in_ok-next.ensures.rest) }) c.is_at_body.ensures
+    (record {
+      none = rw c.in_default.is at c.in_ok-next.ensures.text;
+      same_end = c.take_text.ensures.same_end;
+      rest = rw c.in_default.is at c.in_ok-next.ensures.rest;
+    }) c.is_at_body.ensures
     c.if-is_at_body.true c.in_err-read_body.ensures.exact)
 
 pub read_array-returns-in_err-expect-clause-exact : goal.read_array-returns-in_err-expect-clause-exact
 read_array-returns-in_err-expect-clause-exact t c =
     let p = err_from_is_err_and c.from_residual-in_err-expect.result c.from_residual-in_err-expect.ensures.1 in
     rw (p.1, p.2) (elements_open c.elements.invariant _ c.take_text.new.self c.is_at_body.result
-    (record { none = (rw c.in_default.is at c.in_ok-next.ensures.text); same_end = c.take_text.ensures.same_end; rest = (rw c.in_default.is at c.in_ok-next.ensures.rest) }) c.is_at_body.ensures
+    (record {
+      none = rw c.in_default.is at c.in_ok-next.ensures.text;
+      same_end = c.take_text.ensures.same_end;
+      rest = rw c.in_default.is at c.in_ok-next.ensures.rest;
+    }) c.is_at_body.ensures
     c.if-is_at_body.false c.in_err-expect.ensures.exact)
 
 pub read_array-returns-clause-exact : goal.read_array-returns-clause-exact
 read_array-returns-clause-exact t c =
     let x = elements_done c.elements.invariant c.take_text.new.self c.is_at_body.result c.expect.new.self.rest
-    (record { none = (rw c.in_default.is at c.in_ok-next.ensures.text); same_end = c.take_text.ensures.same_end; rest = (rw c.in_default.is at c.in_ok-next.ensures.rest) }) c.is_at_body.ensures
+    (record {
+      none = rw c.in_default.is at c.in_ok-next.ensures.text;
+      same_end = c.take_text.ensures.same_end;
+      rest = rw c.in_default.is at c.in_ok-next.ensures.rest;
+    }) c.is_at_body.ensures
     c.if-is_at_body.false c.in_ok-expect.ensures.exact in
     (x.0, x.1, (_, ap (λ v. Rattle.rb_tree.specs.Resource.array v) c.from_vec.ensures, x.2))
 
@@ -207,9 +233,10 @@ read_array-elements-preserved t c =
           ap (λ (x : Cursor). length x.rest) w.cursor-is in
           let shorter : length c.take.new.self.rest < length c.elements.cursor.rest =
           omega (arith, (rw w.in-Some.is at c.in_ok-next.ensures.shorter), c.in_ok-take.ensures.no_longer, now) in
-          elements_text c.elements.invariant w.in-Some.text c.take_text.new.self c.take.new.self c.match-next.trees.items (rw w.in-Some.is at c.in_ok-next.ensures.text)
+          elements_text c.elements.invariant w.in-Some.text c.take_text.new.self c.take.new.self c.match-next.trees.items
+          (rw w.in-Some.is at c.in_ok-next.ensures.text)
           (omega arith)
-          (record { same_end = c.take_text.ensures.same_end; rest = (rw w.in-Some.is at c.in_ok-next.ensures.rest) })
+          (record { same_end = c.take_text.ensures.same_end; rest = rw w.in-Some.is at c.in_ok-next.ensures.rest })
           (c.in_ok-take.ensures.same_end ∙ ap (λ (x : Cursor). x.end) w.cursor-is)
           (c.in_ok-take.ensures.rest ∙ ap (λ (x : Cursor). after_comma x.rest) w.cursor-is) shorter
           (ap (λ (v : Vec Tree Global). v.items) w.trees-is ∙ w.in_ok-push.ensures.items)
@@ -222,7 +249,12 @@ read_array-elements-preserved t c =
           omega (arith, w.in_ok-read_body.ensures.shorter, c.in_ok-take.ensures.no_longer, now, same_length) in
           elements_body c.elements.invariant b.0 c.take_text.new.self w.read_body.new.cursor c.take.new.self w.is_at_body.result w.in_ok-read_body.field-0
           c.match-next.trees.items
-          (record { none = (rw w.in_default.is at c.in_ok-next.ensures.text); same_end = c.take_text.ensures.same_end; rest = (rw w.in_default.is at c.in_ok-next.ensures.rest) }) w.is_at_body.ensures
+          (record {
+            none = rw w.in_default.is at c.in_ok-next.ensures.text;
+            same_end = c.take_text.ensures.same_end;
+            rest =
+                (rw w.in_default.is at c.in_ok-next.ensures.rest);
+          }) w.is_at_body.ensures
           w.if-is_at_body.true b.1 b.2 w.in_ok-read_body.ensures.same_end (c.in_ok-take.ensures.same_end ∙ ap (λ (x : Cursor). x.end) w.cursor-is)
           (c.in_ok-take.ensures.rest ∙ ap (λ (x : Cursor). after_comma x.rest) w.cursor-is) shorter
           (ap (λ (v : Vec Tree Global). v.items) w.trees-is ∙ w.in_ok-push-2.ensures.items)

@@ -20,19 +20,22 @@ returns-in_default-clause-same c = λ ts g.
 pub overflow_sub-past : goal.overflow_sub-past
 overflow_sub-past c =
     let w = rw c.in-Some.is at c.in_ok-item.ensures.taken in
-    let p = turn_place c.args.self.now.first (chars c.args.self.now.rest.now) (chars c.in-Some.after.now) (length c.args.self.now.text.now) c.requires.at w.0 w.1 in
+    let p = turn_place c.args.self.now.first (chars c.args.self.now.rest.now) (chars c.in-Some.after.now) (length c.args.self.now.text.now)
+    c.requires.at w.0 w.1 in
     omega (arith, p, c.width.ensures.bytes, c.width-2.ensures.characters)
 
 pub line_feeds-requires-clause-order : goal.line_feeds-requires-clause-order
 line_feeds-requires-clause-order c =
     let w = rw c.in-Some.is at c.in_ok-item.ensures.taken in
-    let p = turn_place c.args.self.now.first (chars c.args.self.now.rest.now) (chars c.in-Some.after.now) (length c.args.self.now.text.now) c.requires.at w.0 w.1 in
+    let p = turn_place c.args.self.now.first (chars c.args.self.now.rest.now) (chars c.in-Some.after.now) (length c.args.self.now.text.now)
+    c.requires.at w.0 w.1 in
     omega (arith, p, c.width.ensures.bytes, c.width-2.ensures.characters)
 
 pub returns-clause-placed : goal.returns-clause-placed
 returns-clause-placed c =
     let w = rw c.in-Some.is at c.in_ok-item.ensures.taken in
-    let p = turn_place c.args.self.now.first (chars c.args.self.now.rest.now) (chars c.in-Some.after.now) (length c.args.self.now.text.now) c.requires.at w.0 w.1 in
+    let p = turn_place c.args.self.now.first (chars c.args.self.now.rest.now) (chars c.in-Some.after.now) (length c.args.self.now.text.now)
+    c.requires.at w.0 w.1 in
     record {
       short = c.requires.short;
       at = omega (arith, p, c.width.ensures.bytes, c.width-2.ensures.characters);
