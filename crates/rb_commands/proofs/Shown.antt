@@ -1,5 +1,5 @@
 -- Where a walk ends, and what is shown of it.
-use Rattle.std.proofs.Common.{◌≡◌, ℕ, zero, suc, ◌+◌, ◌<◌, ◌≢◌, List, [], ◌∷◌, ◌++◌, length, drop, Ok, All, refl, sym, ap, ◌∙◌, subst, arith}
+use Rattle.std.proofs.Common.{◌≡◌, ℕ, ◌<◌, List, [], ◌∷◌, ◌++◌, length, drop, Ok, All, refl, sym, ap, ◌∙◌, subst}
 use Rattle.std.specs.List.{join_with_byte}
 use Rattle.std.proofs.lemmas.List.Elements.{All-drop}
 use Rattle.rb_tree.specs.Keys.{IsPlain}
@@ -9,10 +9,6 @@ use Rattle.rb_tree.specs.Walk.{Walked, ends, links, gone, walk, behind, stop_of,
 use Rattle.rb_fallback.proofs.Paths.{Whole, walk_whole, segments_joined}
 use Rattle.rb_replies.specs.Item.{item_data}
 use Rattle.rb_commands.specs.Got.{shown}
-
-pub behind_more : (cut : ℕ) → cut ≢ 0 → behind cut ≡ cut + 1
-behind_more zero h = absurd (h refl)
-behind_more (suc n) h = omega arith
 
 pub shown_end : (w : Walked) (t : Resource) → end t ≡ stop_of w → shown w ≡ Ok (item_data t [])
 shown_end (ends u) t h = let same : t ≡ u = cc in ap (λ v. Ok (item_data v [])) (sym same)

@@ -7,7 +7,7 @@ use Rattle.rb_commands.proofs.item.shown_text.Goals as goal
 
 pub item_text-requires-in-Link : goal.item_text-requires-in-Link
 item_text-requires-in-Link g c =
-    subst IsPath (sym c.rest_after.ensures) (rest_is_path (g.N.Node.tree c.args.root) (g.N.Node.tree c.in-Link.node) c.in-Link.cut c.args.path.now c.requires c.in-Link.ensures.stop c.in-Link.ensures.rest)
+    subst IsPath (sym c.rest_behind.ensures) (rest_is_path (g.N.Node.tree c.args.root) (g.N.Node.tree c.in-Link.node) c.in-Link.cut c.args.path.now c.requires c.in-Link.ensures.stop c.in-Link.ensures.rest)
 
 pub returns-in_ok-item_text-in-End-clause-text : goal.returns-in_ok-item_text-in-End-clause-text
 returns-in_ok-item_text-in-End-clause-text g c =
@@ -15,4 +15,4 @@ returns-in_ok-item_text-in-End-clause-text g c =
 
 pub returns-in_ok-item_text-in-Link-clause-text : goal.returns-in_ok-item_text-in-Link-clause-text
 returns-in_ok-item_text-in-Link-clause-text g c =
-    (_, shown_link (walk (g.N.Node.tree c.args.root) (segments c.args.path.now)) (g.N.Node.tree c.in-Link.node) c.in-Link.cut c.rest_after.result.now c.in-Link.ensures.stop (c.in-Link.ensures.rest ∙ ap segments (sym c.rest_after.ensures)), c.in_ok-item_text-in-Link.ensures)
+    (_, shown_link (walk (g.N.Node.tree c.args.root) (segments c.args.path.now)) (g.N.Node.tree c.in-Link.node) c.in-Link.cut c.rest_behind.result.now c.in-Link.ensures.stop (c.in-Link.ensures.rest ∙ ap segments (sym c.rest_behind.ensures)), c.in_ok-item_text-in-Link.ensures)
