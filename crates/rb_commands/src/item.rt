@@ -1,13 +1,13 @@
 //! One item of a file, as JSON.
-ghost use Rattle.std.specs.Prelude.{◌≡◌, ◌⊎◌, Ok, Err, IfOk, IfErr, drop, string_bytes};
+ghost use Rattle.std.specs.Prelude.{◌≡◌, ◌⊎◌, Ok, Err, IfOk, IfErr, string_bytes};
 ghost use Rattle.serde_json.specs.Data.{Data};
 ghost use Rattle.serde_json.specs.Written.{compact_text};
 ghost use Rattle.rb_tree.specs.Path.{IsPath, segments};
-ghost use Rattle.rb_tree.specs.Walk.{behind, walk};
+ghost use Rattle.rb_tree.specs.Walk.{walk};
 ghost use Rattle.rb_commands.specs.declared.item.ItemError.TheVariants as errors;
 ghost use Rattle.rb_commands.specs.Got.{got, item_word, shown};
 
-use rb_fallback::PATH_LIMIT;
+use rb_fallback::{PATH_LIMIT, rest_behind};
 use rb_requests::item_text;
 use rb_tree::{Ending, Node, path_ok, walk};
 use std::alloc::{AllocError, Global};
@@ -47,20 +47,6 @@ impl From<AllocError> for ItemError {
     }
 }
 
-/// What is left of a path after the slash that follows its first bytes.
-#[tactic(auto, using(rb_fallback::proofs::Follows::behind_more))]
-fn rest_after(path: &[u8], cut: usize) -> &[u8]
-    ensures { result.now ≡ drop (behind cut) path.now }
-{
-    if cut == 0 {
-        return path;
-    }
-    if cut >= path.len() {
-        return &[];
-    }
-    &path[cut + 1..]
-}
-
 /// The item to which a path leads.
 fn shown_text<N: Node>(alloc: Global, root: N, path: &[u8]) -> Result<String, ItemError>
     requires { IsPath path.now }
@@ -69,7 +55,7 @@ fn shown_text<N: Node>(alloc: Global, root: N, path: &[u8]) -> Result<String, It
 {
     match walk(root, path) {
         Ending::End(node) => Ok(item_text(alloc, node, b"")?),
-        Ending::Link(node, cut) => Ok(item_text(alloc, node, rest_after(path, cut))?),
+        Ending::Link(node, cut) => Ok(item_text(alloc, node, rest_behind(path, cut))?),
         Ending::Gone => Err(ItemError::Missing),
     }
 }

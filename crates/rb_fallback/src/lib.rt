@@ -13,4 +13,5 @@ pub use alias::{Target, read_alias};
 pub use fault::{AliasFault, LookError};
 pub use found::Found;
 pub use limits::{LEVEL_LIMIT, PATH_LIMIT};
+pub use path::rest_behind;
 pub use search::look;

@@ -43,9 +43,9 @@ pub(crate) fn short_path(path: &[u8]) -> Option<ArrayVec<u8, PATH_LIMIT>>
     Some(short)
 }
 
-// What is left of a path after its first `cut` bytes and the slash that follows them.
+/// What is left of a path after its first `cut` bytes and the slash that follows them.
 #[tactic(auto, using(crate::proofs::Follows::behind_more))]
-pub(crate) fn rest_behind(path: &[u8], cut: usize) -> &[u8]
+pub fn rest_behind(path: &[u8], cut: usize) -> &[u8]
     ensures { result.now ≡ drop (behind cut) path.now }
 {
     if cut == 0 {

@@ -9,7 +9,7 @@ pub item_text-requires-in-Link : goal.item_text-requires-in-Link
 item_text-requires-in-Link g c =
     let stop = c.in-Link.ensures.stop in
     let is = rest_is_path (g.N.Node.tree c.args.root) (g.N.Node.tree c.in-Link.node) c.in-Link.cut c.args.path.now c.requires stop in
-    subst IsPath (sym c.rest_after.ensures) (is c.in-Link.ensures.rest)
+    subst IsPath (sym c.rest_behind.ensures) (is c.in-Link.ensures.rest)
 
 pub returns-in_ok-item_text-in-End-clause-text : goal.returns-in_ok-item_text-in-End-clause-text
 returns-in_ok-item_text-in-End-clause-text g c =
@@ -19,6 +19,6 @@ returns-in_ok-item_text-in-End-clause-text g c =
 pub returns-in_ok-item_text-in-Link-clause-text : goal.returns-in_ok-item_text-in-Link-clause-text
 returns-in_ok-item_text-in-Link-clause-text g c =
     let walked = walk (g.N.Node.tree c.args.root) (segments c.args.path.now) in
-    let rest = c.in-Link.ensures.rest ∙ ap segments (sym c.rest_after.ensures) in
-    let is = shown_link walked (g.N.Node.tree c.in-Link.node) c.in-Link.cut c.rest_after.result.now c.in-Link.ensures.stop rest in
+    let rest = c.in-Link.ensures.rest ∙ ap segments (sym c.rest_behind.ensures) in
+    let is = shown_link walked (g.N.Node.tree c.in-Link.node) c.in-Link.cut c.rest_behind.result.now c.in-Link.ensures.stop rest in
     (_, is, c.in_ok-item_text-in-Link.ensures)
