@@ -207,10 +207,5 @@ is_written b out root area f t i d n room fits e =
     }
   where
     table_kind : (t : Resource) → parts.kind_of t ≡ tree_kinds.Table → has_table t ≡ true
-    table_kind (string us) e = absurd cc
-    table_kind (int n) e = absurd cc
-    table_kind (ints zs) e = absurd cc
-    table_kind (binary bs) e = absurd cc
-    table_kind (alias us) e = absurd cc
-    table_kind (array ts) e = absurd cc
     table_kind (table es) e = refl
+    table_kind _ e = absurd cc
