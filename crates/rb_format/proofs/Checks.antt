@@ -20,7 +20,7 @@ use Rattle.rb_format.specs.Place.{word_at, half_at, key, layout_of}
 use Rattle.rb_format.specs.Geometry.{key_offset, table_parts, long_table_parts, array_first, array_count, child_count, first_child}
 use Rattle.rb_format.specs.Item.{kind_of, offset_of, is_table, has_data, bare}
 use Rattle.rb_format.specs.Attributes.{attributes_of, has_pool}
-use Rattle.rb_format.specs.File.{has_magic, has_family, has_version, has_sizes, is_laid, flagged}
+use Rattle.rb_format.specs.File.{has_magic, has_family, has_version, has_sizes, has_valid_indexes, flagged}
 use Rattle.rb_format.specs.FirstFault.{◌>>=◌, result_map, fault_of, first_fault, trees, members, keys, next_key, key_or_fault, kind_or_fault, value, contents}
 use Rattle.rb_format.specs.FirstFault.{units, bytes, numbers, array_at, table_of, table16_at, table32_at, node, read, header, read_data, read_file}
 use Rattle.rb_format.specs.Checks.{file_checks, key_before, key_checks, table_checks, value_checks, kind_checks, item_checks, count_of, child_of}
@@ -369,9 +369,9 @@ file_first list =
     (header_first (ltb 67108864 (length list)) (ltb (length list) 24) (has_magic list) (slice_index list 8 == 0) (has_family list) (has_version list)
     (has_sizes list)
     (record { size = half_at list 0; minor = slice_index list 17 }) (λ h. read_data 64 h.minor (drop h.size list))
-    ((Indexes, not (is_laid body)) ∷ (faults.Attributes, has_pool bits) ∷ (Root, not (is_table (kind_of (word_at body 0)))) ∷ [])
+    ((Indexes, not (has_valid_indexes body)) ∷ (faults.Attributes, has_pool bits) ∷ (Root, not (is_table (kind_of (word_at body 0)))) ∷ [])
     (fault_of (read (layout_of body) body 64 (word_at body 0)))
-    (data_first (is_laid body) (has_pool bits) (is_table (kind_of (word_at body 0))) (flagged bits) (read (layout_of body) body 64 (word_at body 0))))
+    (data_first (has_valid_indexes body) (has_pool bits) (is_table (kind_of (word_at body 0))) (flagged bits) (read (layout_of body) body 64 (word_at body 0))))
 
 pub first_fault_none : (list : List ℕ) → first_fault list ≡ None → (c : Check) (f : FileFault) → Fails list c f → ⊥
 first_fault_none list h c f q = by c q

@@ -11,7 +11,7 @@ use Rattle.rb_format.specs.Place.{word_at, half_at, layout_of}
 use Rattle.rb_format.specs.Item.{kind_of, is_table}
 use Rattle.rb_format.specs.Denotation.{where_holds, tree_at}
 use Rattle.rb_format.specs.Attributes.{attributes_of, has_pool}
-use Rattle.rb_format.specs.File.{has_magic, has_family, has_version, has_sizes, has_header, is_laid}
+use Rattle.rb_format.specs.File.{has_magic, has_family, has_version, has_sizes, has_header, has_valid_indexes}
 use Rattle.rb_format.specs.File.{flagged, source_of_data, source_of_file, DenotesWithin, Denotes, source_tree_of}
 use Rattle.rb_format.specs.FirstFault.{◌>>=◌, header, read_data, read_file, fault_of, first_fault}
 use Rattle.rb_format.proofs.Plainly.{ok_part, agree_map, read_agrees, plain_raise}
@@ -26,7 +26,8 @@ ok_each false p b c d e r o h = refl
 data_agrees : (d minor : ℕ) (body : List ℕ) → ok_part (read_data d minor body) ≡ source_of_data d minor body
 unfolding read_data source_of_data
 data_agrees d minor body =
-    ok_each (is_laid body) (has_pool (attributes_of minor body)) (is_table (kind_of (word_at body 0))) faults.Indexes faults.Attributes faults.Root _ _
+    ok_each (has_valid_indexes body) (has_pool (attributes_of minor body)) (is_table (kind_of (word_at body 0)))
+    faults.Indexes faults.Attributes faults.Root _ _
     (agree_map (flagged (attributes_of minor body)) _ _ (read_agrees (layout_of body) body d (word_at body 0)))
 
 -- what follows a header that is read

@@ -17,7 +17,7 @@ use Rattle.rb_format.specs.Place.{word_at, half_at, key, layout_of}
 use Rattle.rb_format.specs.Geometry.{key_offset, table_parts, long_table_parts, array_first, array_count, child_count, first_child}
 use Rattle.rb_format.specs.Item.{kind_of, offset_of, is_table, has_data}
 use Rattle.rb_format.specs.Attributes.{attributes_of, has_pool}
-use Rattle.rb_format.specs.File.{is_short_enough, has_magic, has_family, has_version, has_sizes, is_laid}
+use Rattle.rb_format.specs.File.{is_short_enough, has_magic, has_family, has_version, has_sizes, has_valid_indexes}
 
 -- ---- the checks of a file itself
 
@@ -30,7 +30,7 @@ file_checks bytes =
     ∷ (Family, not (has_family bytes))
     ∷ (FormatVersion, not (has_version bytes))
     ∷ (faults.Header, not (has_sizes bytes))
-    ∷ (Indexes, not (is_laid body))
+    ∷ (Indexes, not (has_valid_indexes body))
     ∷ (faults.Attributes, has_pool (attributes_of (slice_index bytes 17) body))
     ∷ (Root, not (is_table (kind_of (word_at body 0))))
     ∷ []

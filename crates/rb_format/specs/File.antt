@@ -44,8 +44,8 @@ are_in_order body =
     nat_le 5 (word_at body 1) && nat_lt (word_at body 1) (word_at body 2)
     && nat_le (word_at body 2) (word_at body 3) && nat_le (word_at body 3) (word_at body 4) && nat_le (word_at body 4) (length body / 4)
 
-abbrev pub is_laid : List ℕ → Bool
-is_laid body = nat_le 24 (length body) && are_in_order body
+abbrev pub has_valid_indexes : List ℕ → Bool
+has_valid_indexes body = nat_le 24 (length body) && are_in_order body
 
 -- a tree, with the flag that the attributes give
 abbrev pub flagged : ℕ → Resource → SourceTree
@@ -55,7 +55,7 @@ flagged bits t = record { tree = t; no_fallback = no_fallback bits }
 -- a flag
 unfoldable pub source_of_data : ℕ → ℕ → List ℕ → Option SourceTree
 source_of_data h minor body =
-    where_holds (is_laid body && not (has_pool (attributes_of minor body)) && is_table (kind_of (word_at body 0)))
+    where_holds (has_valid_indexes body && not (has_pool (attributes_of minor body)) && is_table (kind_of (word_at body 0)))
     (option_map (flagged (attributes_of minor body)) (tree_at (layout_of body) body h (word_at body 0)))
 
 -- what a file denotes, whose data follow the header

@@ -21,7 +21,7 @@ use Rattle.rb_format.specs.Place.{word_at, half_at, key, values, layout_of}
 use Rattle.rb_format.specs.Geometry.{key_offset, table_parts, long_table_parts, array_first, array_count}
 use Rattle.rb_format.specs.Item.{kind_of, offset_of, is_table, has_data, bare}
 use Rattle.rb_format.specs.Attributes.{attributes_of, has_pool}
-use Rattle.rb_format.specs.File.{has_magic, has_family, has_version, has_sizes, is_laid, flagged}
+use Rattle.rb_format.specs.File.{has_magic, has_family, has_version, has_sizes, has_valid_indexes, flagged}
 
 infixl 10 ◌>>=◌
 abbrev pub ◌>>=◌ : {A B : Type 0} → Result A FileFault → (A → Result B FileFault) → Result B FileFault
@@ -173,7 +173,7 @@ header bytes =
 -- the data of a file of a minor version, whose tree has a height of at most d
 unfoldable pub read_data : ℕ → ℕ → List ℕ → Result SourceTree FileFault
 read_data d minor body =
-    if is_laid body then
+    if has_valid_indexes body then
     (if has_pool (attributes_of minor body) then Err faults.Attributes else
     (if is_table (kind_of (word_at body 0)) then result_map (flagged (attributes_of minor body)) (read (layout_of body) body d (word_at body 0)) else Err Root))
     else Err Indexes

@@ -17,7 +17,7 @@ impl Attributes {
     /// The attributes of the data of a file with this minor format version; none before version 1.2, or where fewer than six
     /// indexes are there.
     pub fn of(minor: u8, body: &[u8]) -> Attributes
-        requires { IsTrue (files.is_laid body.now) }
+        requires { IsTrue (files.has_valid_indexes body.now) }
         ensures { result.bits ≡ attributes_of minor body.now }
     {
         let there = ATTRIBUTES_VERSION <= minor && ATTRIBUTES_INDEX_COUNT <= word_at(body, 1);

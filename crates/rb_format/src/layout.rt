@@ -32,8 +32,8 @@ impl Layout {
 }
 
 /// Whether the indexes are there, and the keys, the resources and the bundle end in this order, within the data.
-pub fn is_laid(body: &[u8]) -> bool
-    ensures { result ≡ files.is_laid body.now }
+pub fn has_valid_indexes(body: &[u8]) -> bool
+    ensures { result ≡ files.has_valid_indexes body.now }
 {
     body.len() >= 24 && are_in_order(body)
 }

@@ -22,5 +22,5 @@ pub use geometry::{KeyPlaces, TableParts, long_table_parts, table_parts};
 pub use header::{Header, body, is_short_enough};
 pub use key_order::compare_key;
 pub use kind::{ItemKind, is_table, item_kind, item_offset, item_type};
-pub use layout::{Layout, is_laid};
+pub use layout::{Layout, has_valid_indexes};
 pub use place::{half, half_at, key_at, key_within, word, word_at};

@@ -1,6 +1,5 @@
 //! Items as JSON.
 ghost use Rattle.std.specs.Prelude.{◌≡◌, [], ◌∷◌, ◌++◌, codes, option_map, string_bytes, IfOk};
-ghost use Rattle.rb_tree.specs.Resource.{binary, int, ints};
 ghost use Rattle.std.specs.Map.{keys_of};
 ghost use Rattle.json.specs.Token.{key, string};
 ghost use Rattle.serde_json.specs.Data.{number, put, unsigned};
@@ -8,6 +7,7 @@ ghost use Rattle.serde_json.specs.Find.{of_integer};
 ghost use Rattle.serde_json.specs.Written.{compact_text};
 ghost use Rattle.rb_tree.specs.Path.{IsPath};
 ghost use Rattle.rb_tree.specs.Parts.{HasUnits, bytes_of, kind_of, numbers_of, pairs_of, units_of};
+ghost use Rattle.rb_tree.specs.Resource.{binary, int, ints};
 ghost use Rattle.rb_tree.specs.declared.kind.Kind.TheVariants as Kinds;
 ghost use Rattle.rb_replies.specs.Item.{text_data, units_data, numbers_data, texts_data, signed_of, of_type, with_text, item_members, item_data, found_data};
 ghost use Rattle.rb_replies.specs.Put.{Puts, PutsMembers, data_tokens, valid_tokens};

@@ -11,7 +11,7 @@ use Rattle.rb_format.specs.declared.fault.FileFault.TheVariants as faults
 use Rattle.rb_format.specs.declared.header.Header.{Header}
 use Rattle.rb_format.specs.Place.{word_at, half_at, layout_of}
 use Rattle.rb_format.specs.Item.{kind_of, is_table}
-use Rattle.rb_format.specs.File.{is_laid, has_magic, has_family, has_version, has_sizes, flagged, tree_of, source_tree_of, Denotes}
+use Rattle.rb_format.specs.File.{has_valid_indexes, has_magic, has_family, has_version, has_sizes, flagged, tree_of, source_tree_of, Denotes}
 use Rattle.rb_format.specs.Attributes.{attributes_of, no_fallback, has_pool}
 use Rattle.rb_format.specs.FirstFault.{result_map, read, bytes, header, read_data, read_file}
 use Rattle.rb_format.proofs.Root.{read_denotes}
@@ -22,7 +22,7 @@ use Rattle.rb_format.proofs.Steps.{bind_ok, ok_is, guard, guard_else}
 pub record IsRoot (bytes body : List ℕ) : Type 0 where
   pub long : 24 ≤ length bytes
   pub inside : half_at bytes 0 ≤ length bytes
-  pub laid : is_laid body ≡ true
+  pub laid : has_valid_indexes body ≡ true
   pub reads : read (layout_of body) body 64 (word_at body 0) ≡ Ok (tree_of bytes)
   pub flag : no_fallback (attributes_of (slice_index bytes 17) body) ≡ (source_tree_of bytes).no_fallback
 
@@ -59,7 +59,7 @@ root_is bytes e =
     let b = bind_ok (header bytes) (λ h. read_data 64 h.minor (drop h.size bytes)) t a.1 in
     let z = header_size bytes b.0 b.1 in
     let whole : read_data 64 (slice_index bytes 17) body ≡ Ok t = rw (← z.0, ← z.1) b.2 in
-    let c = guard_else (is_laid body) faults.Indexes _ t whole in
+    let c = guard_else (has_valid_indexes body) faults.Indexes _ t whole in
     let p = guard (has_pool bits) faults.Attributes _ t c.1 in
     let d = guard_else (is_table (kind_of (word_at body 0))) faults.Root _ t p.1 in
     let f = flagged_ok bits (read (layout_of body) body 64 (word_at body 0)) t d.1 in

@@ -10,7 +10,8 @@ use crate::memo::Memo;
 use crate::runs::Runs;
 use crate::state::CheckState;
 use rb_format::{
-    Attributes, FILE_LIMIT, FileFault, Header, Layout, is_laid, is_table, item_kind, word_at,
+    Attributes, FILE_LIMIT, FileFault, Header, Layout, has_valid_indexes, is_table, item_kind,
+    word_at,
 };
 use rb_tree::HEIGHT_LIMIT;
 use std::alloc::Global;
@@ -35,7 +36,7 @@ fn check_data(alloc: Global, minor: u8, body: &[u8]) -> Result<u64, FileFault>
         (λ e. (e ≡ FileFault.Memory) ⊎ (fault_of (read_data 64 minor body.now) ≡ Some e)) }
     ensures visits { IfOk result (λ n. IsCount (IsPlaceAt body.now) (3 * fields.word_at body.now 4) n) }
 {
-    if !is_laid(body) {
+    if !has_valid_indexes(body) {
         return Err(FileFault::Indexes);
     }
     if Attributes::of(minor, body).has_pool() {

@@ -9,7 +9,7 @@ use Rattle.rb_format.specs.declared.kind.ItemKind.{ItemKind}
 use Rattle.rb_format.specs.declared.layout.Layout.{Layout}
 use Rattle.rb_format.specs.Place.{word_at, layout_of}
 use Rattle.rb_format.specs.Item.{kind_of, offset_of, has_data, bare}
-use Rattle.rb_format.specs.File.{is_laid}
+use Rattle.rb_format.specs.File.{has_valid_indexes}
 use Rattle.rb_format.specs.Denotation.{where_holds, tree_at, value_at, item_at}
 use Rattle.rb_format.proofs.Plainly.{plain_limited}
 use Rattle.rb_views.specs.Stands.{stands_for, StandsFor}
@@ -111,11 +111,11 @@ without_data y body child o k t d e z =
 
 -- ---- the bounds
 
-laid_within : (body : List ℕ) → is_laid body ≡ true → word_at body 4 ≤ length body / 4
+laid_within : (body : List ℕ) → has_valid_indexes body ≡ true → word_at body 4 ≤ length body / 4
 laid_within body e = grind (arith, nat_tests)
 
-pub laid_long : (body : List ℕ) → is_laid body ≡ true → 24 ≤ length body
+pub laid_long : (body : List ℕ) → has_valid_indexes body ≡ true → 24 ≤ length body
 laid_long body e = grind (arith, nat_tests)
 
-pub laid_room : (body : List ℕ) → is_laid body ≡ true → 4 * word_at body 4 ≤ length body
+pub laid_room : (body : List ℕ) → has_valid_indexes body ≡ true → 4 * word_at body 4 ≤ length body
 laid_room body e = let h = laid_within body e in omega arith

@@ -9,7 +9,7 @@ use Rattle.rb_format.specs.Attributes.{attributes_of, has_pool}
 use Rattle.rb_format.specs.Place.{word_at, half_at, layout_of}
 use Rattle.rb_format.specs.Item.{kind_of, is_table}
 use Rattle.rb_format.specs.Denotation.{tree_at}
-use Rattle.rb_format.specs.File.{is_short_enough, has_header, is_laid, flagged, source_of_data, source_of_file, Denotes, source_tree_of, tree_of}
+use Rattle.rb_format.specs.File.{is_short_enough, has_header, has_valid_indexes, flagged, source_of_data, source_of_file, Denotes, source_tree_of, tree_of}
 use Rattle.rb_views.specs.Stands.{StandsFor}
 use Rattle.rb_views.specs.Trees.{item_tree}
 use Rattle.rb_views.proofs.Values.{where_some}
@@ -18,7 +18,7 @@ use Rattle.rb_views.proofs.Readings.{map_some, stands_from}
 pub record IsRoot (bytes body : List ℕ) : Type 0 where
   pub long : 24 ≤ length bytes
   pub inside : half_at bytes 0 ≤ length bytes
-  pub laid : is_laid body ≡ true
+  pub laid : has_valid_indexes body ≡ true
   pub stands : StandsFor body (word_at body 0)
   pub tree : item_tree body (word_at body 0) ≡ tree_of bytes
 
@@ -36,14 +36,15 @@ read_file h bytes s e =
     ((and_parts (is_short_enough bytes) (has_header bytes) a.0).1, a.1)
 
 read_data : (h minor : ℕ) (body : List ℕ) (s : SourceTree) → source_of_data h minor body ≡ Some s
-    → (is_laid body ≡ true) × (tree_at (layout_of body) body h (word_at body 0) ≡ Some s.tree)
+    → (has_valid_indexes body ≡ true) × (tree_at (layout_of body) body h (word_at body 0) ≡ Some s.tree)
 unfolding source_of_data
 read_data h minor body s e =
     let bits = attributes_of minor body in
     let read = tree_at (layout_of body) body h (word_at body 0) in
-    let a = where_some (is_laid body && not (has_pool bits) && is_table (kind_of (word_at body 0))) (option_map (flagged bits) read) s e in
+    let a = where_some (has_valid_indexes body && not (has_pool bits) && is_table (kind_of (word_at body 0))) (option_map (flagged bits) read) s e in
     let m = map_some (flagged bits) read s a.1 in (
-      (and_parts (is_laid body) (not (has_pool bits)) (and_parts (is_laid body && not (has_pool bits)) (is_table (kind_of (word_at body 0))) a.0).0).0,
+      (and_parts (has_valid_indexes body) (not (has_pool bits))
+          (and_parts (has_valid_indexes body && not (has_pool bits)) (is_table (kind_of (word_at body 0))) a.0).0).0,
       m.1
           ∙ ap (λ (x : SourceTree). Some x.tree) m.2,
     )

@@ -1,6 +1,6 @@
 // Views of arrays.
 ghost use Rattle.std.specs.Prelude.{◌≡◌, ◌<◌, IsTrue, Some, length, slice_get};
-ghost use Rattle.rb_format.specs.File.{is_laid};
+ghost use Rattle.rb_format.specs.File.{has_valid_indexes};
 ghost use Rattle.rb_views.specs.Stands.{AllStand};
 
 use crate::item::Item;
@@ -12,7 +12,7 @@ pub struct Array<'a> {
     pub(crate) body: &'a [u8],
     pub(crate) first: u32,
     pub(crate) count: u32,
-    ghost laid: { IsTrue (is_laid body.now) },
+    ghost laid: { IsTrue (has_valid_indexes body.now) },
     ghost stands: { AllStand body.now first count },
 }
 

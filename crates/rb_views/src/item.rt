@@ -3,7 +3,7 @@ ghost use Rattle.std.specs.Prelude.{◌≡◌, ◌+◌, ◌*◌, ◌<◌, ◌≤
 ghost use Rattle.std.specs.Option.{option_copied};
 ghost use Rattle.rb_tree.specs.Parts.{HasUnits, kind_of, units_of, numbers_of, bytes_of, children_of, pairs_of};
 ghost use Rattle.rb_tree.specs.declared.kind.Kind.TheVariants as Kinds;
-ghost use Rattle.rb_format.specs.File.{is_laid};
+ghost use Rattle.rb_format.specs.File.{has_valid_indexes};
 ghost use Rattle.rb_format.specs.Item as items;
 ghost use Rattle.rb_format.specs.Item.{offset_of};
 ghost use Rattle.rb_views.specs.Stands.{StandsFor, HasEntriesAt, kind_named};
@@ -24,7 +24,7 @@ use rb_tree::Kind;
 pub struct Item<'a> {
     pub(crate) body: &'a [u8],
     pub(crate) word: u32,
-    ghost laid: { IsTrue (is_laid body.now) },
+    ghost laid: { IsTrue (has_valid_indexes body.now) },
     ghost stands: { StandsFor body.now word },
 }
 

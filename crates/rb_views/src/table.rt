@@ -3,7 +3,7 @@ ghost use Rattle.std.specs.Prelude.{◌≡◌, ◌<◌, ◌≤◌, IsTrue, Some,
 ghost use Rattle.std.specs.Map.{lookup, keys_of, values_of};
 ghost use Rattle.std.specs.Ordering.{nat_cmp};
 ghost use Rattle.std.specs.Cmp.Lexicographic.{pointwise, slice_cmp};
-ghost use Rattle.rb_format.specs.File.{is_laid};
+ghost use Rattle.rb_format.specs.File.{has_valid_indexes};
 ghost use Rattle.rb_format.specs.Geometry.{keys_end};
 ghost use Rattle.rb_views.specs.Stands.{TableStands};
 
@@ -16,7 +16,7 @@ use std::cmp::Ordering;
 pub struct Table<'a> {
     pub(crate) body: &'a [u8],
     pub(crate) parts: TableParts,
-    ghost laid: { IsTrue (is_laid body.now) },
+    ghost laid: { IsTrue (has_valid_indexes body.now) },
     ghost keys: { keys_end parts.keys parts.count ≤ length body.now },
     ghost stands: { TableStands body.now parts },
 }

@@ -93,13 +93,9 @@ all_back P (x ∷ xs) ys h = all_back P xs ys h.1
 
 mutual
   pub each_from : (P : List ℕ → Type 0) (t : Resource) → AllIn P (tree_keys t) → EachKey P t
-  each_from P (string us) h = tt
-  each_from P (int n) h = tt
-  each_from P (ints zs) h = tt
-  each_from P (binary bs) h = tt
-  each_from P (alias us) h = tt
   each_from P (array ts) h = each_in P ts h
   each_from P (table es) h = each_of P es h
+  each_from P _ h = tt
 
   each_in : (P : List ℕ → Type 0) (ts : Resources) → AllIn P (keys_within ts) → EachKeyIn P ts
   each_in P no_trees h = tt

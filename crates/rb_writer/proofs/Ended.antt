@@ -12,7 +12,7 @@ use Rattle.rb_format.specs.declared.kind.ItemKind.TheVariants as kinds
 use Rattle.rb_format.proofs.Growing.{Grows}
 use Rattle.rb_format.specs.Place.{word_at, half_at, layout_of}
 use Rattle.rb_format.specs.FirstFault.{header, read_data, read_file, result_map, read, node, value, contents, kind_or_fault}
-use Rattle.rb_format.specs.File.{Denotes, is_laid}
+use Rattle.rb_format.specs.File.{Denotes, has_valid_indexes}
 use Rattle.rb_format.specs.Item.{is_table, bare, kind_of, offset_of}
 use Rattle.rb_format.proofs.Grows.{read_grow}
 use Rattle.rb_format.proofs.Steps.{bind_ok, map_ok, ok_is}
@@ -143,7 +143,7 @@ root_kind y body (suc d) item t e h = node_kind y body _ item t e h
 
 -- ---- the whole
 
-data_read : (b : Bool) (body : List ℕ) (t : Resource) → is_laid body ≡ true → word_at body 1 ≡ index_count b → (b ≡ true → word_at body 6 ≡ 1)
+data_read : (b : Bool) (body : List ℕ) (t : Resource) → has_valid_indexes body ≡ true → word_at body 1 ≡ index_count b → (b ≡ true → word_at body 6 ≡ 1)
     → is_table (kind_of (word_at body 0)) ≡ true → read (layout_of body) body 64 (word_at body 0) ≡ Ok t
     → read_data 64 (minor_of b) body ≡ Ok (record { tree = t; no_fallback = b })
 unfolding read_data
@@ -165,7 +165,7 @@ file_denotes b out root area most f t i d n room tab e =
     let t2 : ltb area.indexes area.top ≡ true = lt-ltb _ _ (omega arith) in
     let t3 : leb area.top (length out / 4) ≡ true = grind (arith, nat_tests) in
     let t4 : leb (length out / 4) (length out / 4) ≡ true = grind (arith, nat_tests) in
-    let laid : is_laid (drop 32 f) ≡ true = rw (l, x.indexes, x.keys_top, x.items_top, x.top, t0, t1, t2, t3, t4) refl in
+    let laid : has_valid_indexes (drop 32 f) ≡ true = rw (l, x.indexes, x.keys_top, x.items_top, x.top, t0, t1, t2, t3, t4) refl in
     let same_top : word_at (drop 32 f) 4 ≡ length out / 4 = x.top in
     let grow : Grows (draft area out) out (layout_of (drop 32 f)) (drop 32 f) = record {
       indexes = x.indexes;
@@ -207,10 +207,5 @@ is_written b out root area f t i d n room fits e =
     }
   where
     table_kind : (t : Resource) → parts.kind_of t ≡ tree_kinds.Table → has_table t ≡ true
-    table_kind (string us) e = absurd cc
-    table_kind (int n) e = absurd cc
-    table_kind (ints zs) e = absurd cc
-    table_kind (binary bs) e = absurd cc
-    table_kind (alias us) e = absurd cc
-    table_kind (array ts) e = absurd cc
     table_kind (table es) e = refl
+    table_kind _ e = absurd cc

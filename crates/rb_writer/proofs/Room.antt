@@ -1,6 +1,6 @@
 -- The room that the file of a tree that fits takes, and what the writer promises of it.
 use Rattle.std.proofs.Common.{◌≡◌, ℕ, Bool, ◌*◌, ◌+◌, ◌<◌, ◌≤◌, List, length, map, arith, Bor, subst}
-use Rattle.rb_tree.specs.Resource.{Resource, string, int, ints, binary, alias, array, table}
+use Rattle.rb_tree.specs.Resource.{Resource, table}
 use Rattle.rb_tree.specs.Parts.{Fits}
 use Rattle.rb_tree.specs.Parts as parts
 use Rattle.rb_tree.specs.declared.kind.Kind.TheVariants as kinds
@@ -18,13 +18,8 @@ use Rattle.rb_writer.proofs.Patches.{five_or_six}
 use Rattle.rb_writer.proofs.Longer.{longest_weight}
 
 most_of_table : (t : Resource) → parts.kind_of t ≡ kinds.Table → data_most t + keys_most t + 4 ≤ weight t
-most_of_table (string us) e = absurd cc
-most_of_table (int n) e = absurd cc
-most_of_table (ints zs) e = absurd cc
-most_of_table (binary bs) e = absurd cc
-most_of_table (alias us) e = absurd cc
-most_of_table (array ts) e = absurd cc
 most_of_table (table es) e = table_weight es
+most_of_table _ e = absurd cc
 
 pub fits_most : (t : Resource) → Fits t → data_most t + keys_most t + 4 ≤ 33554432
 fits_most t f = let l = f.light in omega (arith, most_of_table t f.is_table)

@@ -4,7 +4,7 @@ use Rattle.std.proofs.lemmas.List.{get_or_push, get_or_append_left, length_push}
 use Rattle.std.proofs.lemmas.Bool.{cases_eq}
 use Rattle.std.specs.Prelude.{slice_get, IsSome}
 use Rattle.std.specs.Map.{keys_of, values_of}
-use Rattle.rb_tree.specs.Resource.{Resource, string, int, ints, binary, alias, array, table, Resources, no_trees, tree_and, Members, no_entries, entry_and}
+use Rattle.rb_tree.specs.Resource.{Resource, array, table, Resources, no_trees, tree_and, Members, no_entries, entry_and}
 use Rattle.rb_tree.specs.Keys.{items, pairs}
 use Rattle.rb_tree.specs.Parts.{children_of}
 use Rattle.rb_writer.specs.Places.{EachKey, EachKeyIn, EachKeyOf}
@@ -50,10 +50,6 @@ member_in P (entry_and k t es) (suc i) u h e = member_in P es i u h.2 e
 
 -- a child's keys are among the keys of the tree
 pub child_keys : (P : List ℕ → Type 0) (t u : Resource) (i : ℕ) → EachKey P t → Some u ≡ slice_get (children_of t) i → EachKey P u
-child_keys P (string us) u i h e = cc
-child_keys P (int n) u i h e = cc
-child_keys P (ints zs) u i h e = cc
-child_keys P (binary bs) u i h e = cc
-child_keys P (alias us) u i h e = cc
 child_keys P (array ts) u i h e = item_in P ts i u h e
 child_keys P (table es) u i h e = member_in P es i u h e
+child_keys P _ u i h e = cc

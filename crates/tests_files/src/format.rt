@@ -1,8 +1,8 @@
 // The fields of sample files.
 use crate::samples::{ONE_STRING, ONE_STRING_WITHOUT_FALLBACK, Sample, bytes_of};
 use rb_format::{
-    Attributes, FileFault, Header, ItemKind, half, is_laid, item_kind, item_offset, item_type,
-    key_at, word,
+    Attributes, FileFault, Header, ItemKind, half, has_valid_indexes, item_kind, item_offset,
+    item_type, key_at, word,
 };
 use std::alloc::Global;
 
@@ -36,7 +36,7 @@ const VERSIONS: [(u8, u32); 3] = [(1, 0), (2, 1), (3, 1)];
 
 /// Whether data has the flag in each minor version but the first.
 fn has_flag(body: &[u8]) -> bool {
-    if !is_laid(body) {
+    if !has_valid_indexes(body) {
         return false;
     }
     for (minor, bits) in VERSIONS {
