@@ -27,7 +27,7 @@ use Rattle.rb_packages.specs.Shelf.{Shelf, bundle_at, holds, is_full}
 use Rattle.rb_engine.specs.Ask.{Call, Requests, LooksUp, caller, Content, spelled, denoted, unread, IsContent, IsRead, Ask, Installs, Replaces}
 use Rattle.rb_engine.specs.Ask.{Removes, Lists, Looks, Means, RequestMeans}
 use Rattle.rb_engine.specs.Answer.{Start, Response, Replies, Refuses, answer_over, answer, bundles_after, bundles_after_all, refusal, add_reply}
-use Rattle.rb_engine.specs.Answer.{install_reply, replace_reply, remove_reply, list_reply, look_reply, found}
+use Rattle.rb_engine.specs.Answer.{install_reply, replace_reply, remove_reply, list_reply, lookup_at, search_response}
 use Rattle.rb_engine.specs.History.{State, Turn, Step, Run, own_calls, asked_by, responses_to, EachMeans, is_memory, AsksOne, AnswersOwn, IsIsolated, new_state}
 
 -- ---- what a call asks is one thing
@@ -110,22 +110,22 @@ list_not_memory (Err app.BadApp) shelf = refl
 list_not_memory (Err app.Reserved) shelf = refl
 list_not_memory (Ok a) shelf = refl
 
--- a look-up finds or refuses
-found_not_memory : (valid : Option (List ℕ)) (r : Result (Resource × List ℕ) LookError) → is_memory (found valid r) ≡ false
-found_not_memory None (Err e) = refl
-found_not_memory None (Ok r) = refl
-found_not_memory (Some valid) (Err e) = refl
-found_not_memory (Some valid) (Ok r) = refl
+-- a lookup finds or refuses
+search_not_memory : (valid : Option (List ℕ)) (r : Result (Resource × List ℕ) LookError) → is_memory (search_response valid r) ≡ false
+search_not_memory None (Err e) = refl
+search_not_memory None (Ok r) = refl
+search_not_memory (Some valid) (Err e) = refl
+search_not_memory (Some valid) (Ok r) = refl
 
-looked_not_memory : (valid : Option (List ℕ)) (r : Result (Resource × List ℕ) LookError) (b : Bool)
-    → is_memory (cond b (found valid r) (Refuses fault.BadPath)) ≡ false
-looked_not_memory valid r true = found_not_memory valid r
-looked_not_memory valid r false = refl
+valid_path_not_memory : (valid : Option (List ℕ)) (r : Result (Resource × List ℕ) LookError) (b : Bool)
+    → is_memory (cond b (search_response valid r) (Refuses fault.BadPath)) ≡ false
+valid_path_not_memory valid r true = search_not_memory valid r
+valid_path_not_memory valid r false = refl
 
-look_not_memory : (start : Start) (shelf : Shelf) (p : Result Place PlaceFault) (path : List ℕ) → is_memory (look_reply start shelf p path) ≡ false
-look_not_memory start shelf (Err e) path = refl
-look_not_memory start shelf (Ok p) path =
-    looked_not_memory (first_stop (bundle_at shelf) start.parents p.name)
+lookup_not_memory : (start : Start) (shelf : Shelf) (p : Result Place PlaceFault) (path : List ℕ) → is_memory (lookup_at start shelf p path) ≡ false
+lookup_not_memory start shelf (Err e) path = refl
+lookup_not_memory start shelf (Ok p) path =
+    valid_path_not_memory (first_stop (bundle_at shelf) start.parents p.name)
     (look_up (bundle_at shelf) (bundle_at start.icudata) start.parents p.name (segments path)) (is_path path)
 
 answer_not_memory : (start : Start) (shelf : Shelf) (ask : Ask) → is_memory (answer_over start shelf ask) ≡ false
@@ -133,7 +133,7 @@ answer_not_memory start shelf (Installs a l c) = install_not_memory (place_of a 
 answer_not_memory start shelf (Replaces a l c) = replace_not_memory (place_of a l) c shelf
 answer_not_memory start shelf (Removes a l) = remove_not_memory (place_of a l) shelf
 answer_not_memory start shelf (Lists a) = list_not_memory (app_of a) shelf
-answer_not_memory start shelf (Looks a l path) = look_not_memory start shelf (place_of a l) path
+answer_not_memory start shelf (Looks a l path) = lookup_not_memory start shelf (place_of a l) path
 
 -- ---- a step as one application sees it
 

@@ -1,4 +1,4 @@
--- A look-up as an answer.
+-- A lookup as an answer.
 use Rattle.std.proofs.Common.{◌≡◌, ℕ, Bool, true, false, cond, List, Option, Some, Result, Ok, Err, MatchResult, IfOk, refl, sym, ◌∙◌, ap, subst}
 use Rattle.std.proofs.lemmas.Bool.{false≢true}
 use Rattle.rb_tree.specs.Resource.{Resource}
@@ -12,7 +12,7 @@ use Rattle.rb_fallback.specs.declared.fault.LookError.{LookError}
 use Rattle.rb_fallback.specs.declared.fault.LookError.TheVariants.{BadPath}
 use Rattle.rb_engine.specs.declared.request.LookFault.{LookFault}
 use Rattle.rb_engine.specs.declared.request.LookFault.TheVariants as fault
-use Rattle.rb_engine.specs.Answer.{Start, Refuses, found, looked_in, look_reply}
+use Rattle.rb_engine.specs.Answer.{Start, Refuses, search_response, lookup_in, lookup_at}
 use Rattle.rb_engine.specs.LookFaults.{look_fault_of}
 use Rattle.rb_packages.specs.Shelf.{bundle_at}
 use Rattle.rb_packages.specs.Packages.{Stored, list_of}
@@ -21,29 +21,30 @@ use Rattle.rb_engine.specs.declared.place.Place.{Place}
 use Rattle.rb_engine.proofs.StepLemmas.{app-place_of}
 use Rattle.rb_engine.specs.LookResponse.{look_response}
 
-found_is : {N : Type 0} (tree : N → Resource) (r : Result (Found N) LookError) (m : Result (Found N) LookFault) (valid : Option (List ℕ))
+search_is : {N : Type 0} (tree : N → Resource) (r : Result (Found N) LookError) (m : Result (Found N) LookFault) (valid : Option (List ℕ))
     (answer : Result (Resource × List ℕ) LookError)
     → MatchResult r (λ x. m ≡ Ok x) (λ e. m ≡ Err (look_fault_of e)) → answer_of tree r ≡ answer → IfOk r (λ f. valid ≡ Some f.valid)
-    → look_response tree m ≡ found valid answer
-found_is tree (Ok f) m valid answer h e v = ap (look_response tree) h ∙ ap (λ o. found o (Ok (tree f.node, f.actual))) (sym v) ∙ ap (found valid) e
-found_is tree (Err d) m valid answer h e v = ap (look_response tree) h ∙ ap (found valid) e
+    → look_response tree m ≡ search_response valid answer
+search_is tree (Ok f) m valid answer h e v =
+    ap (look_response tree) h ∙ ap (λ o. search_response o (Ok (tree f.node, f.actual))) (sym v) ∙ ap (search_response valid) e
+search_is tree (Err d) m valid answer h e v = ap (look_response tree) h ∙ ap (search_response valid) e
 
-pub looked_is : {N : Type 0} (tree : N → Resource) (r : Result (Found N) LookError) (m : Result (Found N) LookFault) (own icu : Bundles)
+pub lookup_is : {N : Type 0} (tree : N → Resource) (r : Result (Found N) LookError) (m : Result (Found N) LookFault) (own icu : Bundles)
     (parents : ParentsOf) (name path : List ℕ)
     → MatchResult r (λ x. m ≡ Ok x) (λ e. m ≡ Err (look_fault_of e)) → ((IsPath path → ⊥) → r ≡ Err BadPath)
     → (IsPath path → answer_of tree r ≡ look_up own icu parents name (segments path)) → IfOk r (λ f. first_stop own parents name ≡ Some f.valid)
-    → look_response tree m ≡ looked_in own icu parents name path
-looked_is tree r m own icu parents name path h bad good v = by (is_path path) refl
+    → look_response tree m ≡ lookup_in own icu parents name path
+lookup_is tree r m own icu parents name path h bad good v = by (is_path path) refl
   where
     by : (b : Bool) → is_path path ≡ b
-        → look_response tree m ≡ cond b (found (first_stop own parents name) (look_up own icu parents name (segments path))) (Refuses fault.BadPath)
-    by true e = found_is tree r m (first_stop own parents name) (look_up own icu parents name (segments path)) h (good ((path_test path).0 e)) v
+        → look_response tree m ≡ cond b (search_response (first_stop own parents name) (look_up own icu parents name (segments path))) (Refuses fault.BadPath)
+    by true e = search_is tree r m (first_stop own parents name) (look_up own icu parents name (segments path)) h (good ((path_test path).0 e)) v
     by false e =
         let none = bad (λ p. false≢true (sym e ∙ (path_test path).1 p)) in
         ap (look_response tree) (subst (λ x. MatchResult x (λ y. m ≡ Ok y) (λ d. m ≡ Err (look_fault_of d))) none h)
 
 -- a lookup at a place that was read
-pub looked_at : (start : Start) (app locale path : List ℕ) (p : Place) (s : Stored) → place_of app locale ≡ Ok p
-    → looked_in (bundle_at (list_of p.app s)) (bundle_at start.icudata) start.parents p.name path ≡ look_reply start (list_of app s) (place_of app locale) path
-looked_at start app locale path p s h =
-    rw h (ap (λ x. looked_in (bundle_at (list_of x s)) (bundle_at start.icudata) start.parents p.name path) (app-place_of app locale p h))
+pub lookup_at_place : (start : Start) (app locale path : List ℕ) (p : Place) (s : Stored) → place_of app locale ≡ Ok p
+    → lookup_in (bundle_at (list_of p.app s)) (bundle_at start.icudata) start.parents p.name path ≡ lookup_at start (list_of app s) (place_of app locale) path
+lookup_at_place start app locale path p s h =
+    rw h (ap (λ x. lookup_in (bundle_at (list_of x s)) (bundle_at start.icudata) start.parents p.name path) (app-place_of app locale p h))

@@ -107,23 +107,23 @@ look_refusal place.Reserved = fault.Reserved
 look_refusal place.BadLocale = fault.BadLocale
 
 -- the valid locale is the first stop of the trail; where the trail has none there is nothing to find
-abbrev pub found : Option (List ℕ) → Result (Resource × List ℕ) LookError → Response
-found valid (Err e) = Refuses (look_fault_of e)
-found None (Ok r) = Refuses fault.NoBundle
-found (Some valid) (Ok r) = Finds r.0 r.1 valid
+abbrev pub search_response : Option (List ℕ) → Result (Resource × List ℕ) LookError → Response
+search_response valid (Err e) = Refuses (look_fault_of e)
+search_response None (Ok r) = Refuses fault.NoBundle
+search_response (Some valid) (Ok r) = Finds r.0 r.1 valid
 
 -- a path that is invalid is refused before anything is looked for
-abbrev pub looked_in : Bundles → Bundles → ParentsOf → List ℕ → List ℕ → Response
-looked_in own icu parents name path =
-    if is_path path then found (first_stop own parents name) (look_up own icu parents name (segments path))
+abbrev pub lookup_in : Bundles → Bundles → ParentsOf → List ℕ → List ℕ → Response
+lookup_in own icu parents name path =
+    if is_path path then search_response (first_stop own parents name) (look_up own icu parents name (segments path))
     else Refuses fault.BadPath
 
-abbrev pub looked : Start → Shelf → List ℕ → List ℕ → Response
-looked start shelf name path = looked_in (bundle_at shelf) (bundle_at start.icudata) start.parents name path
+abbrev pub lookup_from : Start → Shelf → List ℕ → List ℕ → Response
+lookup_from start shelf name path = lookup_in (bundle_at shelf) (bundle_at start.icudata) start.parents name path
 
-abbrev pub look_reply : Start → Shelf → Result Place PlaceFault → List ℕ → Response
-look_reply start shelf (Err e) path = Refuses (look_refusal e)
-look_reply start shelf (Ok p) path = looked start shelf p.name path
+abbrev pub lookup_at : Start → Shelf → Result Place PlaceFault → List ℕ → Response
+lookup_at start shelf (Err e) path = Refuses (look_refusal e)
+lookup_at start shelf (Ok p) path = lookup_from start shelf p.name path
 
 -- ---- what is answered over these bundles
 
@@ -132,7 +132,7 @@ answer_over start shelf (Installs app locale content) = Replies (install_reply (
 answer_over start shelf (Replaces app locale content) = Replies (replace_reply (place_of app locale) content shelf)
 answer_over start shelf (Removes app locale) = Replies (remove_reply (place_of app locale) shelf)
 answer_over start shelf (Lists app) = Replies (list_reply (app_of app) shelf)
-answer_over start shelf (Looks app locale path) = look_reply start shelf (place_of app locale) path
+answer_over start shelf (Looks app locale path) = lookup_at start shelf (place_of app locale) path
 
 -- the bundles after what an application asks, one by one
 abbrev pub bundles_after_all : Shelf → List Ask → Shelf

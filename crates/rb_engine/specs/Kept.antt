@@ -6,7 +6,7 @@ use Rattle.rb_format.specs.File.{Denotes, tree_of}
 use Rattle.rb_parents.specs.Trail.{ParentsOf}
 use Rattle.rb_parents.specs.Family.{parent_in}
 use Rattle.rb_packages.specs.Packages.{Files, Stored, shelf_of, icudata_of, list_of}
-use Rattle.rb_engine.specs.Answer.{Start, looked}
+use Rattle.rb_engine.specs.Answer.{Start, lookup_from}
 use Rattle.rb_engine.specs.History.{State}
 
 pub record Kept : Type 0 where
@@ -27,8 +27,8 @@ KeepsTexts =
     (start : Start) (before after : Files) (locale text name file : List ℕ) (source : SourceTree)
     → IsGoodSource text name source
     → Denotes file source
-    → (from path : List ℕ) → looked start (shelf_of (before ++ (locale, file) ∷ after)) from path
-    ≡ looked start (shelf_of before ++ (locale, source) ∷ shelf_of after) from path
+    → (from path : List ℕ) → lookup_from start (shelf_of (before ++ (locale, file) ∷ after)) from path
+    ≡ lookup_from start (shelf_of before ++ (locale, source) ∷ shelf_of after) from path
 
 -- the root of the file is the tree of the text
 abbrev pub KeepsTrees : Type 0

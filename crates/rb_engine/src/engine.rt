@@ -5,7 +5,7 @@ ghost use Rattle.rb_views.specs.Seen.{tree_seen};
 ghost use Rattle.rb_packages.specs.Shelf.{bundle_at};
 ghost use Rattle.rb_packages.specs.Packages.{icudata_of, list_of};
 ghost use Rattle.rb_engine.specs.Ask.{Requests, Looks};
-ghost use Rattle.rb_engine.specs.Answer.{Replies, answer_over, looked_in};
+ghost use Rattle.rb_engine.specs.Answer.{Replies, answer_over, lookup_in};
 ghost use Rattle.rb_engine.specs.History.{Step};
 ghost use Rattle.rb_engine.specs.Kept.{state_of};
 ghost use Rattle.rb_engine.specs.LookResponse.{look_response};
@@ -141,7 +141,7 @@ fn look_at<'a>(
     place: &Place,
     path: &[u8],
 ) -> Result<Found<Item<'a>>, LookFault>
-    ensures { look_response tree_seen result ≡ looked_in (bundle_at (list_of place.now.app packages.now)) (bundle_at (icudata_of packages.now))
+    ensures { look_response tree_seen result ≡ lookup_in (bundle_at (list_of place.now.app packages.now)) (bundle_at (icudata_of packages.now))
         (parent_of parents.now) place.now.name path.now }
 {
     look_in(
@@ -161,7 +161,7 @@ fn look_in<'a, S: Shelf<'a>, I: Shelf<'a, N = S::N>>(
     name: &Name,
     path: &[u8],
 ) -> Result<Found<S::N>, LookFault>
-    ensures { look_response S.N.tree result ≡ looked_in (S.bundles own) (I.bundles icudata) (parent_of parents.now) name.now path.now }
+    ensures { look_response S.N.tree result ≡ lookup_in (S.bundles own) (I.bundles icudata) (parent_of parents.now) name.now path.now }
 {
     Ok(rb_fallback::look(own, icudata, parents, name, path)?)
 }

@@ -1,4 +1,4 @@
--- What one application is told by the lines of a text, whatever the other lines are: this project's own rule.
+-- What one application is answered by the lines of a text, whatever the other lines are: this project's own rule.
 use Rattle.std.specs.Prelude.{◌≡◌, ℕ, Bool, false, List, [], ◌∷◌, if◌then◌else◌, Option, Some, None}
 use Rattle.std.specs.List.{concat}
 use Rattle.std.specs.Str.{bytes_eq}

@@ -22,17 +22,17 @@ abbrev pub feeds : List ℕ → ℕ
 feeds [] = 0
 feeds (b ∷ bs) = (if b == 10 then 1 else 0) + feeds bs
 
--- what is once a call has taken effect: the caller's bundles change as it asks, and nothing else; a look-up changes nothing
+-- what is once a call has taken effect: the caller's bundles change as it asks, and nothing else; a lookup changes nothing
 abbrev pub state_after : State → Call → Ask → State
 state_after s (Requests r) ask =
     record { start = s.start; lists = λ app. if bytes_eq app (caller (Requests r)) then bundles_after ask (s.lists app) else s.lists app }
 state_after s (LooksUp app locale path) ask = s
 
--- a call is told its answer and takes effect
+-- a call is answered and takes effect
 abbrev pub AnswersCall : State → Call → Response → State → Type 0
 AnswersCall s call response new = (ask : Ask) × Means call ask × (response ≡ answer_over s.start (s.lists (caller call)) ask) × (new ≡ state_after s call ask)
 
--- a line that calls nothing is told so, and changes nothing
+-- a line that calls nothing is answered as such, and changes nothing
 abbrev pub AnswersAsked : State → Option Call → Option Response → State → Type 0
 AnswersAsked s None None new = new ≡ s
 AnswersAsked s None (Some response) new = ⊥
