@@ -24,16 +24,7 @@ pub record Turn : Type 0 where
 
 abbrev pub is_memory_reply : Reply → Bool
 is_memory_reply Memory = true
-is_memory_reply Done = false
-is_memory_reply (Names names) = false
-is_memory_reply BadApp = false
-is_memory_reply Reserved = false
-is_memory_reply BadLocale = false
-is_memory_reply BadText = false
-is_memory_reply BadFile = false
-is_memory_reply Exists = false
-is_memory_reply Absent = false
-is_memory_reply Full = false
+is_memory_reply other = false
 
 abbrev pub is_memory : Response → Bool
 is_memory (Replies reply) = is_memory_reply reply

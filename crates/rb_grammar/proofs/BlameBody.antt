@@ -41,11 +41,7 @@ unopened level ts no_colon no_left =
 
 at_value : (f : Body) (level : ℕ) (after ms : List Mark) → level ≡ 65 → body_marks f after ≡ ms → BodyHas (IsBad TooDeep) f level after ms
 at_value (plain s) level after ms deep e = (sym e, deep)
-at_value (group es) level after ms deep e = inl (sym e, deep)
-at_value (listed xs) level after ms deep e = inl (sym e, deep)
-at_value (leaf l) level after ms deep e = inl (sym e, deep)
-at_value (table es) level after ms deep e = inl (sym e, deep)
-at_value (array xs) level after ms deep e = inl (sym e, deep)
+at_value t level after ms deep e = inl (sym e, deep)
 
 deep_left : (level : ℕ) (ts : List Token) → level ≡ 65 → begins left ts ≡ true → Blame (bodies level) ts (stop TooDeep ts)
 deep_left level ts deep opens =

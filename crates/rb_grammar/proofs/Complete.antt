@@ -116,9 +116,7 @@ opening_left : (m : Mark) → IsOpening m → (text_of m ≡ None) × ((is_punct
     × ((is_punctuation left m || is_punctuation colon m) ≡ true) × (is_punctuation comma m ≡ false) × (is_punctuation right m ≡ false)
 opening_left LeftBrace o = (refl, refl, refl, refl, refl)
 opening_left Colon o = (refl, refl, refl, refl, refl)
-opening_left (Text s) o = absurd o
-opening_left RightBrace o = absurd o
-opening_left Comma o = absurd o
+opening_left t o = absurd o
 
 pub guess_text : (ts : List Token) (s : List ℕ) (ms : List Mark) → marks ts ≡ Text s ∷ RightBrace ∷ ms → guess ts ≡ as_text
 guess_text ts s ms e =
@@ -145,9 +143,7 @@ guess_opens ts m ms o e = by_mark m o e where
   by_mark : (m : Mark) → IsOpening m → marks ts ≡ m ∷ ms → guess ts ≡ as_array
   by_mark LeftBrace o e = rw (text_is ts LeftBrace ms e, begins_is left ts LeftBrace ms e) refl
   by_mark Colon o e = rw (text_is ts Colon ms e, begins_is left ts Colon ms e, begins_is colon ts Colon ms e) refl
-  by_mark (Text s) o e = absurd o
-  by_mark RightBrace o e = absurd o
-  by_mark Comma o e = absurd o
+  by_mark t o e = absurd o
 
 pub guess_array : (xs : Elements) (ts : List Token) (ms : List Mark) → BeginArray xs → marks ts ≡ elements_marks xs (RightBrace ∷ ms) → guess ts ≡ as_array
 guess_array no_elements ts ms begin e =

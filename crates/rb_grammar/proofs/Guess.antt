@@ -43,9 +43,7 @@ not_body b ts ms tail no_left no_colon a e = by_mark (body_opens b ms) where
     opened : (m : Mark) → IsOpening m → m ∷ h.others ≡ tail → ⊥
     opened LeftBrace o e = not_mark left ts h.others tail no_left a e
     opened Colon o e = not_mark colon ts h.others tail no_colon a e
-    opened (Text s) o e = o
-    opened RightBrace o e = o
-    opened Comma o e = o
+    opened t o e = o
 
 -- after the brace neither a text nor `{`, `:` or `}`
 pub unguessed_first : (after : List Token) → first_text after ≡ None → begins left after ≡ false → begins colon after ≡ false → begins right after ≡ false
@@ -85,9 +83,7 @@ unguessed_second mid r no_left no_colon no_right no_comma (listed (one_body b c 
         opened : (m : Mark) → IsOpening m → m ∷ h.others ≡ Text r ∷ ms → ⊥
         opened LeftBrace o e = cc
         opened Colon o e = cc
-        opened (Text s) o e = o
-        opened RightBrace o e = o
-        opened Comma o e = o
+        opened t o e = o
 unguessed_second mid r no_left no_colon no_right no_comma (leaf l) rest ms form a e = cc
 unguessed_second mid r no_left no_colon no_right no_comma (table es) rest ms form a e = cc
 unguessed_second mid r no_left no_colon no_right no_comma (array xs) rest ms form a e = cc

@@ -73,9 +73,7 @@ mutual
 leaf_height : (l : Leaf) (d : Resource) → LeafSpells l d → height d ≡ 1
 leaf_height (string t) d p = ap height p
 leaf_height (alias t) d p = ap height p
-leaf_height (binary long t) d p = ap height p.2
-leaf_height (int long s) d p = ap height p.2
-leaf_height (ints ns) d p = ap height p.2
+leaf_height t d p = ap height p.2
 
 table_height : (es : Entries) (rows : Members) → IsTable rows → HasJust es rows
     → ((q : List ℕ) (d : Resource) → IsKeyOf es q → item_at q rows ≡ Some d → height d ≤ entries_height es) → entries_height es ≤ resource.entries_height rows

@@ -31,10 +31,7 @@ abbrev pub ◌>>=◌ : {A B : Type 0} → Result A Stop → (A → Result B Stop
 
 abbrev pub text_of : Mark → Option (List ℕ)
 text_of (Text s) = Some s
-text_of LeftBrace = None
-text_of RightBrace = None
-text_of Colon = None
-text_of Comma = None
+text_of other = None
 
 -- punctuation
 pub data Punctuation : Type 0 where

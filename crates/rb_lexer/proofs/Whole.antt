@@ -51,17 +51,4 @@ module _ (bytes cs : List ℕ) (encoded : encode_utf8_all cs ≡ bytes) (scalars
 -- ---- memory or not
 pub memory_or : (kind : SourceKind) → (kind ≡ Memory) ⊎ (kind ≡ Memory → ⊥)
 memory_or Memory = inl refl
-memory_or TooLong = inr (λ e. cc)
-memory_or NotUtf8 = inr (λ e. cc)
-memory_or BadEscape = inr (λ e. cc)
-memory_or OpenQuote = inr (λ e. cc)
-memory_or OpenComment = inr (λ e. cc)
-memory_or Unexpected = inr (λ e. cc)
-memory_or UnknownType = inr (λ e. cc)
-memory_or BadKey = inr (λ e. cc)
-memory_or DuplicateKey = inr (λ e. cc)
-memory_or BadInt = inr (λ e. cc)
-memory_or BadHex = inr (λ e. cc)
-memory_or TooDeep = inr (λ e. cc)
-memory_or TrailingText = inr (λ e. cc)
-memory_or TooLarge = inr (λ e. cc)
+memory_or other = inr (λ e. cc)

@@ -361,9 +361,7 @@ pub fault_at_end : (limit : ℕ) (before now : Moment) (left : Option (List ℕ)
 fault_at_end limit before now left count (Ok served) h k = tt
 fault_at_end limit before now left count (Err LineLimit) h (byte, k) = past_last limit before now left count byte h k
 fault_at_end limit before now left count (Err Read) h k = no_end limit before now left count h k
-fault_at_end limit before now left count (Err Write) h k = absurd k
-fault_at_end limit before now left count (Err LineTooLong) h k = absurd k
-fault_at_end limit before now left count (Err Memory) h k = absurd k
+fault_at_end limit before now left count t h k = absurd k
 
 -- ---- one reply
 

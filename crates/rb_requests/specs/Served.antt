@@ -147,15 +147,10 @@ AfterFault fault before after most = AfterFaultWithin 268435456 fault before aft
 abbrev pub reads_failed : {T : Type 0} → ℕ → Result T ServeFault → ℕ
 reads_failed count (Ok x) = count
 reads_failed count (Err Read) = risen count
-reads_failed count (Err Write) = count
-reads_failed count (Err LineLimit) = count
-reads_failed count (Err LineTooLong) = count
-reads_failed count (Err Memory) = count
+reads_failed count other = count
 
 abbrev pub writes_failed : {T : Type 0} → ℕ → Result T ServeFault → ℕ
 writes_failed count (Ok x) = count
 writes_failed count (Err Read) = count
 writes_failed count (Err Write) = risen count
-writes_failed count (Err LineLimit) = count
-writes_failed count (Err LineTooLong) = count
-writes_failed count (Err Memory) = count
+writes_failed count other = count

@@ -58,6 +58,4 @@ abbrev pub EndsAfter : Option (List ℕ) → Option (List ℕ) → ℕ → Resul
 EndsAfter old new lines (Ok served) = ReadsEnd old new × (served.lines ≡ lines)
 EndsAfter old new lines (Err fault.LineLimit) = (byte : ℕ) × Consumes old new (byte ∷ [])
 EndsAfter old new lines (Err fault.Read) = Keeps old new
-EndsAfter old new lines (Err fault.Write) = ⊥
-EndsAfter old new lines (Err fault.LineTooLong) = ⊥
-EndsAfter old new lines (Err fault.Memory) = ⊥
+EndsAfter old new lines other = ⊥
