@@ -66,10 +66,6 @@ members_agree child child' c item i [] = refl
 members_agree child child' c item i (k ∷ ks) = agree_then (child (item i)) _ _ _ (c (item i))
     (λ t. agree_then (members child item (suc i) ks) _ _ _ (members_agree child child' c item (suc i) ks) (λ es. refl))
 
-key_agree : (o : Option (List ℕ)) → ok_part (key_or_fault o) ≡ o
-key_agree None = refl
-key_agree (Some k) = refl
-
 -- a key that was taken, and then what follows it
 then_where : {B : Type 0} (b : Bool) (k : List ℕ) (f : List ℕ → Result B FileFault) (o : Option B) → ok_part (f k) ≡ o
     → ok_part (cond {A = Result (List ℕ) FileFault} b (Ok k) (Err KeyOrder) >>= f) ≡ where_holds b o

@@ -22,11 +22,6 @@ pub guarded : {A B : Type 0} (b : Bool) (d : FileFault) (x : A) (y : Result A Fi
 guarded true d x y y' r' q e = absurd cc
 guarded false d x y y' r' q e = q e
 
-pub guarded_else : {A B : Type 0} (b : Bool) (d : FileFault) (x : A) (y : Result A FileFault) (y' r' : Result B FileFault) → (y ≡ Ok x → y' ≡ r')
-    → cond b y (Err d) ≡ Ok x → cond b y' (Err d) ≡ r'
-guarded_else false d x y y' r' q e = absurd cc
-guarded_else true d x y y' r' q e = q e
-
 pub ok_is : {A : Type 0} (x y : A) → ◌≡◌ {A = Result A FileFault} (Ok x) (Ok y) → x ≡ y
 ok_is x y e = cc
 
@@ -48,10 +43,6 @@ fault_first (Err c) f d e = e
 pub fault_map : {A B : Type 0} (f : A → B) (r : Result A FileFault) → fault_of (result_map f r) ≡ fault_of r
 fault_map f (Ok x) = refl
 fault_map f (Err d) = refl
-
-pub no_fault : {A : Type 0} (r : Result A FileFault) → fault_of r ≡ None → (x : A) × (r ≡ Ok x)
-no_fault (Ok x) e = (x, refl)
-no_fault (Err d) e = absurd cc
 
 -- a test that did not refuse
 pub guard : {A : Type 0} (b : Bool) (d : FileFault) (r : Result A FileFault) (x : A) → cond b (Err d) r ≡ Ok x → (b ≡ false) × (r ≡ Ok x)

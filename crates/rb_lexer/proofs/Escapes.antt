@@ -18,14 +18,8 @@ enough least kind x h = rw (le-ltb (length x.0) least h) refl
 pub too_few : (least : ℕ) (kind : List ℕ → Escape) (x : List ℕ × List ℕ) → length x.0 < least → at_least least kind x ≡ None
 too_few least kind x h = rw (lt-ltb (length x.0) least h) refl
 
-octal_digit : (c : ℕ) → 48 ≤ c → c ≤ 55 → is_digit c 8 ≡ true
-octal_digit c least most = grind (arith, nat_tests)
-
 octal_only : (c : ℕ) → is_digit c 8 ≡ true → (48 ≤ c) × (c ≤ 55)
 octal_only c h = grind (arith, nat_tests)
-
-not_octal : (c : ℕ) → (48 ≤ c → c ≤ 55 → ⊥) → is_digit c 8 ≡ false
-not_octal c h = grind (arith, nat_tests)
 
 pub nothing_read : escape_at [] ≡ None
 unfolding escape_at

@@ -3,8 +3,7 @@ use Rattle.std.proofs.Common.{◌≡◌, ℕ, ◌-◌, ◌≤◌, false, List, [
 use Rattle.std.specs.Str.{all_scalars}
 use Rattle.rb_lexer.specs.declared.token.Token.{Token}
 use Rattle.rb_lexer.specs.declared.fault.SourceKind.{SourceKind}
-use Rattle.rb_lexer.specs.declared.fault.SourceKind.TheVariants.{TooLong, NotUtf8, BadEscape, OpenQuote, OpenComment, Unexpected, UnknownType, BadKey}
-use Rattle.rb_lexer.specs.declared.fault.SourceKind.TheVariants.{DuplicateKey, BadInt, BadHex, TooDeep, TrailingText, TooLarge, Memory}
+use Rattle.rb_lexer.specs.declared.fault.SourceKind.TheVariants.{Memory}
 use Rattle.rb_lexer.specs.Lexeme.{chars_of}
 use Rattle.rb_lexer.specs.Tokens.{width, line_of, HasTokens}
 use Rattle.rb_lexer.specs.Faults.{Broken, broken_chars, IsBroken, broken_kind, from_fault, HasFault}

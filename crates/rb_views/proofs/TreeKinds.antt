@@ -1,11 +1,10 @@
 -- The kind of the tree that an item denotes, and the parts of a tree by its kind.
-use Rattle.std.proofs.Common.{◌≡◌, ℕ, ◌⊎◌, ltb, List, length, Option, Some, None, refl, sym, ap, subst, ◌∙◌, inl, inr}
-use Rattle.std.specs.Map.{values_of}
+use Rattle.std.proofs.Common.{◌≡◌, ℕ, ◌⊎◌, ltb, List, Option, Some, refl, sym, ap, subst, ◌∙◌, inl, inr}
 use Rattle.rb_tree.specs.declared.kind.Kind.{Kind}
 use Rattle.rb_tree.specs.declared.kind.Kind.TheVariants as named
 use Rattle.rb_tree.specs.Parts as parts
 use Rattle.rb_tree.specs.Parts.{HasUnits}
-use Rattle.rb_tree.specs.Resource.{Resource, string, binary, table, alias, int, array, ints}
+use Rattle.rb_tree.specs.Resource.{Resource, string, table, alias, int, array}
 use Rattle.rb_format.specs.declared.kind.ItemKind.{ItemKind}
 use Rattle.rb_format.specs.declared.kind.ItemKind.TheVariants.{String, Binary, Table, Alias, LongTable, Int, Array, Ints}
 use Rattle.rb_format.specs.declared.layout.Layout.{Layout}
@@ -14,7 +13,7 @@ use Rattle.rb_format.specs.Item.{kind_of, offset_of, has_data, bare}
 use Rattle.rb_format.specs.Denotation.{tree_at, value_at, item_at}
 use Rattle.rb_views.specs.Stands.{StandsFor, kind_named}
 use Rattle.rb_views.specs.Trees.{item_tree}
-use Rattle.rb_views.specs.Parts.{text_of, alias_of, ints_of, binary_of, uint_of, array_of, table_of}
+use Rattle.rb_views.specs.Parts.{uint_of}
 use Rattle.rb_views.proofs.Values.{some_eq, where_some}
 use Rattle.rb_views.proofs.Readings.{map_some, IsOfKind, has_kind, of_kind, choice, without_data}
 
@@ -101,91 +100,6 @@ bare_there body item o k c only d same h e z =
     let y = layout_of body in
     without_data y body (λ w. tree_at y body 63 w) o k (item_tree body item) d (value_there body item o k c only same h e) z
 
--- ---- the contents of a tree by its kind
-
-pub text_is : (t : Resource) → parts.kind_of t ≡ named.String → text_of t ≡ Some (parts.units_of t)
-text_is (string us) e = refl
-text_is t e = absurd cc
-
-pub text_none : (t : Resource) → (parts.kind_of t ≡ named.String → ⊥) → text_of t ≡ None
-text_none (string us) n = absurd (n refl)
-text_none t ne = refl
-
-pub alias_is : (t : Resource) → parts.kind_of t ≡ named.Alias → alias_of t ≡ Some (parts.units_of t)
-alias_is (alias us) e = refl
-alias_is t e = absurd cc
-
-pub alias_none : (t : Resource) → (parts.kind_of t ≡ named.Alias → ⊥) → alias_of t ≡ None
-alias_none (alias us) ne = absurd (ne refl)
-alias_none t ne = refl
-
-pub ints_is : (t : Resource) → parts.kind_of t ≡ named.Ints → ints_of t ≡ Some (parts.numbers_of t)
-ints_is (ints zs) e = refl
-ints_is t e = absurd cc
-
-pub ints_none : (t : Resource) → (parts.kind_of t ≡ named.Ints → ⊥) → ints_of t ≡ None
-ints_none (ints zs) ne = absurd (ne refl)
-ints_none t ne = refl
-
-pub binary_is : (t : Resource) → parts.kind_of t ≡ named.Binary → binary_of t ≡ Some (parts.bytes_of t)
-binary_is (binary bs) e = refl
-binary_is t e = absurd cc
-
-pub binary_none : (t : Resource) → (parts.kind_of t ≡ named.Binary → ⊥) → binary_of t ≡ None
-binary_none (binary bs) ne = absurd (ne refl)
-binary_none t ne = refl
-
 pub uint_is : (t : Resource) → parts.kind_of t ≡ named.Int → uint_of t ≡ Some (parts.int_of t)
 uint_is (int n) e = refl
 uint_is t e = absurd cc
-
-pub uint_none : (t : Resource) → (parts.kind_of t ≡ named.Int → ⊥) → uint_of t ≡ None
-uint_none (int n) ne = absurd (ne refl)
-uint_none t ne = refl
-
-pub array_is : (t : Resource) → parts.kind_of t ≡ named.Array → array_of t ≡ Some (parts.children_of t)
-array_is (array ts) e = refl
-array_is t e = absurd cc
-
-pub array_none : (t : Resource) → (parts.kind_of t ≡ named.Array → ⊥) → array_of t ≡ None
-array_none (array ts) ne = absurd (ne refl)
-array_none t ne = refl
-
-pub table_is : (t : Resource) → parts.kind_of t ≡ named.Table → table_of t ≡ Some (parts.pairs_of t)
-table_is (table es) e = refl
-table_is t e = absurd cc
-
-pub table_none : (t : Resource) → (parts.kind_of t ≡ named.Table → ⊥) → table_of t ≡ None
-table_none (table es) ne = absurd (ne refl)
-table_none t ne = refl
-
--- ---- how many there are, by the kind
-
-pub len_units : (t : Resource) → HasUnits (parts.kind_of t) → parts.len_of t ≡ length (parts.units_of t)
-len_units (string us) h = refl
-len_units (alias us) h = refl
-len_units t h = absurd h
-
-pub len_numbers : (t : Resource) → parts.kind_of t ≡ named.Ints → parts.len_of t ≡ length (parts.numbers_of t)
-len_numbers (ints zs) e = refl
-len_numbers t e = absurd cc
-
-pub len_bytes : (t : Resource) → parts.kind_of t ≡ named.Binary → parts.len_of t ≡ length (parts.bytes_of t)
-len_bytes (binary bs) e = refl
-len_bytes t e = absurd cc
-
-pub len_int : (t : Resource) → parts.kind_of t ≡ named.Int → parts.len_of t ≡ 0
-len_int (int n) e = refl
-len_int t e = absurd cc
-
-pub len_items : (t : Resource) → parts.kind_of t ≡ named.Array → parts.len_of t ≡ length (parts.children_of t)
-len_items (array ts) e = refl
-len_items t e = absurd cc
-
-pub len_entries : (t : Resource) → parts.kind_of t ≡ named.Table → parts.len_of t ≡ length (parts.pairs_of t)
-len_entries (table es) e = refl
-len_entries t e = absurd cc
-
-pub children_entries : (t : Resource) → parts.kind_of t ≡ named.Table → parts.children_of t ≡ values_of (parts.pairs_of t)
-children_entries (table es) e = refl
-children_entries t e = absurd cc

@@ -13,7 +13,7 @@ invariant-members l = record {
   enough : length l.reader ≤ turns;
   holds : Holds l.texts found;
   read : converted (λ ms. of_members ms no_members) (members (value 126) (length l.fn.reader) l.fn.reader)
-    ≡ converted (λ ms. of_members ms found) (members (value 126) turns l.reader);
+      ≡ converted (λ ms. of_members ms found) (members (value 126) turns l.reader);
   all : AreTexts l.fn.reader → AreTexts l.reader;
 }
 
