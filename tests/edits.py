@@ -186,6 +186,15 @@ def reached(said):
     return not unread and bool(re.search(r"^logic=(not-)?proved", said, re.M))
 
 
+def answered(names, error):
+    """The path of the function whose goals a file of proofs answers. Functions that call each other share one, `+NAME`, in which the
+    name of each goal begins with its function's."""
+    goal = re.match(r"`([\w.]+)-", error)
+    if names[-1].startswith("+") and goal:
+        return (*names[:-1], *goal[1].split("."))
+    return tuple(names)
+
+
 def refusals(said, crate):
     """What is refused at goals of its own: (paths of functions, places in the source), each with the line that says so."""
     paths, places = {}, {}
@@ -196,7 +205,7 @@ def refusals(said, crate):
         if function and "did not prove" in function[2]:
             paths.setdefault(tuple(function[1].removeprefix(f"{crate}::").split("::")), line)
         elif proof and not NAMES.search(proof[2]):
-            paths.setdefault(tuple(proof[1].split("/")), line)
+            paths.setdefault(answered(proof[1].split("/"), proof[2]), line)
         elif place:
             places.setdefault((place[1], int(place[2]) - 1), line)
     return paths, places

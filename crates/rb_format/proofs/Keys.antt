@@ -1,28 +1,12 @@
 -- The keys of a file are the keys of trees.
-use Rattle.std.proofs.Common.{◌≡◌, ℕ, ◌<◌, ◌&&◌, ◌↔◌, IsTrue, Bool, true, false, List, length, get_or, refl, sym, arith}
+use Rattle.std.proofs.Common.{◌≡◌, ℕ, ◌↔◌, IsTrue, Bool, true, false, List, get_or, refl, sym}
 use Rattle.std.specs.Bool.{Decides}
 use Rattle.std.specs.List.{list_all}
-use Rattle.std.proofs.lemmas.Bool.Decides.{nat_tests}
 use Rattle.std.proofs.lemmas.List.Sums.{AllPass-from_list_all, list_all-from_AllPass}
-use Rattle.rb_tree.specs.Keys.{IsKey, IsPlain}
+use Rattle.rb_tree.specs.Keys.{IsKey}
+use Rattle.rb_tree.proofs.Paths.{plain_test, filled_test, both_true, both_is}
 use Rattle.rb_tree.specs.Path.{is_plain, is_filled}
 use Rattle.rb_format.specs.Place.{key_ok}
-
-plain_test : (b : ℕ) → Decides (is_plain b) (IsPlain b)
-plain_test b = (λ h. (grind (arith, nat_tests), grind (arith, nat_tests)), λ h. grind (arith, nat_tests))
-
-filled_test : (s : List ℕ) → Decides (is_filled s) (0 < length s)
-filled_test s = (λ h. grind (arith, nat_tests), λ h. grind (arith, nat_tests))
-
-both_true : (a b : Bool) → a && b ≡ true → (a ≡ true) × (b ≡ true)
-both_true true true h = (refl, refl)
-both_true true false h = absurd cc
-both_true false b h = absurd cc
-
-both_is : (a b : Bool) → a ≡ true → b ≡ true → a && b ≡ true
-both_is true true h k = refl
-both_is true false h k = k
-both_is false b h k = absurd cc
 
 pub key_is : (k : List ℕ) → Decides (key_ok k) (IsKey k)
 key_is k = (

@@ -7,22 +7,22 @@ use Rattle.std.proofs.lemmas.List.Sums.{AllPass-from_list_all, list_all-from_All
 use Rattle.rb_tree.specs.Keys.{IsPlain}
 use Rattle.rb_tree.specs.Path.{IsPath, is_path, is_plain, is_filled, segments}
 
-plain_test : (b : ℕ) → Decides (is_plain b) (IsPlain b)
+pub plain_test : (b : ℕ) → Decides (is_plain b) (IsPlain b)
 plain_test b = (λ h. (grind (arith, nat_tests), grind (arith, nat_tests)), λ h. grind (arith, nat_tests))
 
-filled_test : (s : List ℕ) → Decides (is_filled s) (0 < length s)
+pub filled_test : (s : List ℕ) → Decides (is_filled s) (0 < length s)
 filled_test s = (λ h. grind (arith, nat_tests), λ h. grind (arith, nat_tests))
 
 all_test : {X : Type 0} (p : X → Bool) (P : X → Type 0) → ((x : X) → Decides (p x) (P x)) → (xs : List X) → Decides (list_all p xs) (All P xs)
 all_test p P each xs =
     (λ h k d l. (each (get_or xs k d)).0 (AllPass-from_list_all p xs h k d l), λ h. list_all-from_AllPass p xs (λ k d l. (each (get_or xs k d)).1 (h k d l)))
 
-both_true : (a b : Bool) → a && b ≡ true → (a ≡ true) × (b ≡ true)
+pub both_true : (a b : Bool) → a && b ≡ true → (a ≡ true) × (b ≡ true)
 both_true true true h = (refl, refl)
 both_true true false h = absurd cc
 both_true false b h = absurd cc
 
-both_is : (a b : Bool) → a ≡ true → b ≡ true → a && b ≡ true
+pub both_is : (a b : Bool) → a ≡ true → b ≡ true → a && b ≡ true
 both_is true true h k = refl
 both_is true false h k = k
 both_is false b h k = absurd cc

@@ -330,3 +330,7 @@ table_kinds body item k h e t = only_table k (sym (tree_kind body item k h e) �
 pub keys_within : (keys : KeyPlaces) (n i : ℕ) → i < n → keys_end keys (i + 1) ≤ keys_end keys n
 keys_within (Halves first) n i h = omega arith
 keys_within (Words first) n i h = omega arith
+
+-- the offset of a key that is among those of a table is within the data
+pub offset_fits : (p : TableParts) (i size : ℕ) → keys_end p.keys p.count ≤ size → i < p.count → keys_end p.keys (i + 1) ≤ size
+offset_fits p i size k h = let w = keys_within p.keys p.count i h in omega arith

@@ -1,18 +1,15 @@
-use Rattle.std.proofs.Common.{◌≡◌, ◌+◌, ◌<◌, ℕ, List, Option, Some, None, sym, ◌∙◌, arith}
+use Rattle.std.proofs.Common.{◌≡◌, ◌+◌, ◌<◌, ℕ, List, Option, Some, None, length, sym, ◌∙◌}
 use Rattle.rb_format.specs.Place.{word_at, key, layout_of}
 use Rattle.rb_format.specs.Geometry.{key_offset}
 use Rattle.rb_views.specs.Trees.{item_tree, key_from}
 use Rattle.rb_views.proofs.Values.{values_length, first_at}
-use Rattle.rb_views.proofs.Containers.{table_key, keys_within}
+use Rattle.rb_views.proofs.Containers.{table_key, offset_fits}
 use Rattle.rb_views.proofs.table.Table.key.Goals as goal
 
 pub offset-requires : goal.offset-requires
 offset-requires c =
     let s = c.args.self in
-    let h : c.args.i < s.parts.count = rw values_length at c.requires in
-    let w = keys_within s.parts.keys s.parts.count c.args.i h in
-    let k = s.keys in
-    omega arith
+    offset_fits s.parts c.args.i (length s.body.now) s.keys (rw values_length at c.requires)
 
 none_some : (k : List ℕ) → ◌≡◌ {A = Option (List ℕ)} None (Some k) → ⊥
 none_some k e = cc
