@@ -1,5 +1,5 @@
 // Views of tables.
-ghost use Rattle.std.specs.Prelude.{◌≡◌, ◌<◌, ◌≤◌, IsTrue, Some, length, slice_get, option_map, nat_eq, IfSome};
+ghost use Rattle.std.specs.Prelude.{◌≡◌, ◌<◌, ◌≤◌, ◌+◌, ◌-◌, ◌/◌, ◌⊎◌, IsTrue, Some, length, slice_get, option_map, nat_eq, IfSome};
 ghost use Rattle.std.specs.Map.{lookup, keys_of, values_of};
 ghost use Rattle.std.specs.Ordering.{nat_cmp};
 ghost use Rattle.std.specs.Cmp.Lexicographic.{pointwise, slice_cmp};
@@ -27,6 +27,7 @@ fn probe(key: &[u8], low: usize, high: usize) -> usize
     requires { low < high }
     ensures from { low ≤ result }
     ensures to { result < high }
+    ensures halves { (result ≡ 0) ⊎ (result ≡ low + (high - low) / 2) }
 {
     match key.first() {
         Some(b'%') if low == 0 => 0,
