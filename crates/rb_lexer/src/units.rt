@@ -36,10 +36,13 @@ impl UnitBuffer {
         self.units.is_empty()
     }
 
-    /// Adds a unit at the end.
+    /// Adds a unit at the end. The first takes room for 12, for which the allocator takes no more memory than for one.
     pub fn push(&mut self, unit: u16) -> Result<(), AllocError>
         ensures { OnOk result (self.new ≡ self.old ++ unit ∷ []) }
     {
+        if self.units.capacity() == 0 {
+            self.units.reserve_exact(12)?;
+        }
         self.units.push(unit)?;
         Ok(())
     }

@@ -31,7 +31,7 @@ use Rattle.rb_parser.specs.declared.cursor.Guess as program
 use Rattle.rb_parser.specs.declared.cursor.Guess.TheVariants.{Text}
 use Rattle.rb_parser.specs.declared.word.Word.TheVariants as word
 use Rattle.rb_parser.specs.declared.word.Leaf as word_leaf
-use Rattle.rb_parser.proofs.Rows.{Pair}
+use Rattle.rb_parser.specs.Seen.{Pair}
 use Rattle.rb_parser.proofs.Steps.{located_bind, fault_is}
 
 -- the same end and the same reading

@@ -2,7 +2,6 @@
 -- one that they have reached.
 use Rattle.std.proofs.Common.{◌≡◌, ◌≢◌, ℕ, ◌<◌, ◌≤◌, ◌++◌, ◌||◌, suc, Bool, true, false, List, [], ◌∷◌, length, nat_lt, Some, None, Ok, Err, All}
 use Rattle.std.proofs.Common.{refl, sym, ap, ap₂, subst, ◌∙◌, arith, Vec, Global}
-use Rattle.std.specs.BTreeSet.{insert_key}
 use Rattle.std.proofs.lemmas.Bool.{lt-ltb}
 use Rattle.rb_lexer.specs.declared.token.Token.{Token}
 use Rattle.rb_lexer.specs.declared.fault.SourceKind.TheVariants.{BadKey, DuplicateKey, TooDeep, Memory}
@@ -15,13 +14,15 @@ use Rattle.rb_tree.specs.declared.tree.Tree.TheVariants.{String}
 use Rattle.rb_grammar.specs.Faults.{line_at}
 use Rattle.rb_grammar.specs.Form.{Body, Entries, Elements}
 use Rattle.rb_grammar.specs.Good.{EachSpells}
-use Rattle.rb_grammar.specs.Reading.{left, right, colon, begins, tail, first_text, Read, punctuation_at, after_comma, body, entries, elements}
+use Rattle.rb_grammar.specs.Reading.{left, right, colon, begins, tail, first_text, is_among, Read, punctuation_at, after_comma, body, entries, elements}
 use Rattle.rb_grammar.specs.Tests.{the_tests}
 use Rattle.rb_parser.specs.Reads.{located, IsBodyTree, AreEntries}
 use Rattle.rb_parser.specs.declared.cursor.Cursor.{Cursor}
 use Rattle.rb_parser.proofs.Bodies.{keys_more, keys_none}
 use Rattle.rb_parser.proofs.Rows as rows
-use Rattle.rb_parser.proofs.Rows.{Pair, Seen, SameKeys, EntriesSoFar, was_seen, key_cmp, same_keys_none, same_keys_push}
+use Rattle.rb_parser.specs.Seen.{Pair, keys_after, Sees}
+use Rattle.rb_parser.specs.declared.seen.SeenKeys.{SeenKeys}
+use Rattle.rb_parser.proofs.Rows.{EntriesSoFar}
 use Rattle.rb_parser.proofs.Parts as parts
 use Rattle.rb_parser.proofs.Parts.{ElementsSoFar}
 
@@ -38,19 +39,19 @@ pub record NothingTaken (now next : Cursor) : Type 0 where
 -- ---- entries
 
 -- These pairs were read from `start` up to `now`, and these keys were seen.
-pub record EntriesAt (depth : ℕ) (start now : Cursor) (pairs : List Pair) (seen : Seen) : Type 0 where
+pub record EntriesAt (depth : ℕ) (start now : Cursor) (pairs : List Pair) (seen : SeenKeys) : Type 0 where
   pub same_end : now.end ≡ start.end
   pub no_longer : length now.rest ≤ length start.rest
   pub keys : All IsKey (keys_in pairs)
-  pub same_keys : SameKeys pairs seen
+  pub sees : Sees seen pairs
   pub so_far : (n : ℕ) → length start.rest < n → EntriesSoFar (body the_tests depth) n start.rest pairs now.rest
 
-pub entries_begin : (depth : ℕ) (start : Cursor) (pairs : List Pair) (seen : Seen) → pairs ≡ [] → seen ≡ [] → EntriesAt depth start start pairs seen
+pub entries_begin : (depth : ℕ) (start : Cursor) (pairs : List Pair) (seen : SeenKeys) → pairs ≡ [] → Sees seen [] → EntriesAt depth start start pairs seen
 entries_begin depth start pairs seen no_pairs no_keys = record {
   same_end = refl;
   no_longer = omega arith;
   keys = rw no_pairs keys_none;
-  same_keys = rw (no_pairs, no_keys) same_keys_none;
+  sees = rw no_pairs no_keys;
   so_far = λ n enough. rw no_pairs (rows.entries_start (body the_tests depth) n start.rest enough);
 }
 
@@ -59,7 +60,7 @@ abbrev pub EntriesStop : ℕ → Cursor → SourceFault → Type 0
 EntriesStop depth start e =
     (n : ℕ) → length start.rest < n → e.kind ≢ Memory → located start.end (entries the_tests (body the_tests depth) n [] start.rest) ≡ Err e
 
-module _ {depth : ℕ} {start now : Cursor} {pairs : List Pair} {seen : Seen} (inv : EntriesAt depth start now pairs seen) where
+module _ {depth : ℕ} {start now : Cursor} {pairs : List Pair} {seen : SeenKeys} (inv : EntriesAt depth start now pairs seen) where
   line_from_start : {line : ℕ} → line ≡ line_at now.end now.rest → line ≡ line_at start.end now.rest
   line_from_start l = l ∙ ap (λ e. line_at e now.rest) inv.same_end
 
@@ -68,17 +69,17 @@ module _ {depth : ℕ} {start now : Cursor} {pairs : List Pair} {seen : Seen} (i
   entries_bad_key s e comes bad kind line = λ n enough other.
       rows.stop_bad_key (body the_tests depth) n start.rest now.rest pairs (inv.so_far n enough) start.end s e comes bad kind (line_from_start line)
 
-  pub entries_twice : (s : List ℕ) (e : SourceFault) → first_text now.rest ≡ Some s → IsKey s → was_seen seen s ≡ true → e.kind ≡ DuplicateKey
+  pub entries_twice : (s : List ℕ) (e : SourceFault) → first_text now.rest ≡ Some s → IsKey s → is_among (keys_after pairs []) s ≡ true → e.kind ≡ DuplicateKey
       → e.line ≡ line_at now.end now.rest → EntriesStop depth start e
   entries_twice s e comes good old kind line = λ n enough other.
       rows.stop_twice (body the_tests depth) n start.rest now.rest pairs (inv.so_far n enough) start.end s e comes good
-      (sym (inv.same_keys s) ∙ old) kind (line_from_start line)
+      old kind (line_from_start line)
 
-  pub entries_bad_body : (s : List ℕ) (e : SourceFault) (next : Cursor) → first_text now.rest ≡ Some s → IsKey s → was_seen seen s ≡ false
+  pub entries_bad_body : (s : List ℕ) (e : SourceFault) (next : Cursor) → first_text now.rest ≡ Some s → IsKey s → is_among (keys_after pairs []) s ≡ false
       → TextTaken now next → (e.kind ≢ Memory → located next.end (body the_tests depth next.rest) ≡ Err e) → EntriesStop depth start e
   entries_bad_body s e next comes good new took h = λ n enough other.
       rows.stop_body (body the_tests depth) n start.rest now.rest pairs (inv.so_far n enough) start.end s e comes good
-      (sym (inv.same_keys s) ∙ new)
+      new
       (ap₂ (λ end r. located end (body the_tests depth r)) (sym (took.same_end ∙ inv.same_end)) (sym took.rest) ∙ h other)
 
   pub entries_open : (e : SourceFault) (next : Cursor) → NothingTaken now next → (e.kind ≢ Memory → located next.end (punctuation_at right next.rest) ≡ Err e)
@@ -94,19 +95,19 @@ module _ {depth : ℕ} {start now : Cursor} {pairs : List Pair} {seen : Seen} (i
       rows.entries_end (body the_tests depth) n start.rest now.rest pairs (inv.so_far n enough) r took.none
       (ap (punctuation_at right) (sym took.rest) ∙ h)
 
-  pub entries_more : (s : List ℕ) (b : Body) (next read after : Cursor) (key : List ℕ) (t : Tree) (k : Vec ℕ Global) (more : List Pair) (new : Seen)
-      → first_text now.rest ≡ Some s → IsKey s → was_seen seen s ≡ false → TextTaken now next
+  pub entries_more : (s : List ℕ) (b : Body) (next read after : Cursor) (key : List ℕ) (t : Tree) (more : List Pair) (new : SeenKeys)
+      → first_text now.rest ≡ Some s → IsKey s → is_among (keys_after pairs []) s ≡ false → TextTaken now next
       → body the_tests depth next.rest ≡ Ok (b, read.rest) → IsBodyTree t b → read.end ≡ next.end
       → after.end ≡ read.end → after.rest ≡ after_comma read.rest → length after.rest < length now.rest
-      → key ≡ s → k.items ≡ s → more ≡ pairs ++ (key, t) ∷ [] → new ≡ insert_key key_cmp seen k
+      → key ≡ s → more ≡ pairs ++ (key, t) ∷ [] → Sees new (pairs ++ (key, t) ∷ [])
       → EntriesAt depth start after more new
-  entries_more s b next read after key t k more new comes good fresh took h means read_end after_end rest shorter key_is k_is more_is new_is = record {
+  entries_more s b next read after key t more new comes good fresh took h means read_end after_end rest shorter key_is more_is sees = record {
     same_end = after_end ∙ read_end ∙ took.same_end ∙ inv.same_end;
     no_longer = omega (arith, inv.no_longer);
     keys = rw more_is (keys_more pairs key t inv.keys (subst (λ (l : List ℕ). IsKey l) (sym key_is) good));
-    same_keys = rw more_is (same_keys_push pairs seen new k s key t inv.same_keys new_is k_is key_is);
+    sees = rw more_is sees;
     so_far = λ n enough. rw more_is (rows.entries_turn (body the_tests depth) n start.rest now.rest pairs (inv.so_far n enough) s b
-        read.rest after.rest key t comes good (sym (inv.same_keys s) ∙ fresh) (ap (body the_tests depth) (sym took.rest) ∙ h) means key_is rest
+        read.rest after.rest key t comes good fresh (ap (body the_tests depth) (sym took.rest) ∙ h) means key_is rest
         shorter);
   }
 

@@ -18,10 +18,8 @@ use Rattle.rb_grammar.specs.Reading.{stop, Read, ◌>>=◌, right, tail, first_t
 use Rattle.rb_grammar.specs.Tests.{the_tests}
 use Rattle.rb_grammar.proofs.Conditions.{are_tests}
 use Rattle.rb_parser.specs.Reads.{located, IsBodyTree, AreEntries}
+use Rattle.rb_parser.specs.Seen.{Pair, keys_after, Seen, was_seen, SameKeys}
 use Rattle.rb_parser.proofs.Steps.{located_bind, stops_at}
-
-abbrev pub Pair : Type 0
-Pair = List ℕ × Tree
 
 -- an entry that was read: its key, its body, and whether a comma follows
 abbrev Row : Type 0
@@ -42,11 +40,6 @@ AreRows [] [] = Unit {0}
 AreRows [] (r ∷ rs) = ⊥
 AreRows (p ∷ ps) [] = ⊥
 AreRows (p ∷ ps) (r ∷ rs) = (p.0 ≡ r.0) × IsBodyTree p.1 r.1 × AreRows ps rs
-
--- the keys, the last first
-abbrev pub keys_after : List Pair → List (List ℕ) → List (List ℕ)
-keys_after [] ks = ks
-keys_after (p ∷ ps) ks = keys_after ps (p.0 ∷ ks)
 
 pub keys_push : (ps : List Pair) (p : Pair) (ks : List (List ℕ)) → keys_after (ps ++ p ∷ []) ks ≡ p.0 ∷ keys_after ps ks
 keys_push [] p ks = refl
@@ -184,18 +177,8 @@ module _ (reads : List Token → Read Body) where
 
 -- ---- the set of the keys
 
-abbrev pub Seen : Type 0
-Seen = List (Vec ℕ Global)
-
 abbrev pub key_cmp : Vec ℕ Global → Vec ℕ Global → Ordering
 key_cmp x y = slice_cmp nat_cmp x.items y.items
-
--- whether a key was seen
-abbrev pub was_seen : Seen → List ℕ → Bool
-was_seen ks q = list_any (λ (x : Vec ℕ Global). is_eq (slice_cmp nat_cmp q x.items)) ks
-
-abbrev pub SameKeys : List Pair → Seen → Type 0
-SameKeys ps ks = (q : List ℕ) → was_seen ks q ≡ is_among (keys_after ps []) q
 
 later : (a b c : Bool) → (a || (b || c)) ≡ (b || (a || c))
 later true true c = refl
@@ -240,17 +223,6 @@ was_in false added e f = absurd cc
 was_out : (b added : Bool) → added ≡ not b → added ≡ true → b ≡ false
 was_out true added e f = absurd cc
 was_out false added e f = refl
-
--- what putting a key in says of the keys before it
-module _ (seen : Seen) (s : List ℕ) (k : Vec ℕ Global) (added : Bool) (is : added ≡ not (was_seen seen k.items)) (at : k.items ≡ s) where
-  by_key : added ≡ not (was_seen seen s)
-  by_key = is ∙ ap (λ (l : List ℕ). not (was_seen seen l)) at
-
-  pub seen_before : added ≡ false → was_seen seen s ≡ true
-  seen_before old = was_in (was_seen seen s) added by_key old
-
-  pub not_seen : added ≡ true → was_seen seen s ≡ false
-  not_seen fresh = was_out (was_seen seen s) added by_key fresh
 
 pub same_keys_none : SameKeys [] []
 same_keys_none = λ q. refl

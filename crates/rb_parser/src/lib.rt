@@ -7,6 +7,7 @@ pub mod laws;
 mod leaf;
 mod left;
 mod parser;
+mod seen;
 mod source;
 mod word;
 

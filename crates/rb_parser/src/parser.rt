@@ -11,11 +11,11 @@ ghost use Rattle.rb_parser.specs.Views.{word_of};
 use crate::cursor::{Cursor, Guess, Punctuation};
 use crate::key::read_key;
 use crate::leaf::read_leaf;
+use crate::seen::SeenKeys;
 use crate::word::Word;
 use rb_lexer::{SourceFault, SourceKind};
 use rb_tree::{ByteList, TableFault, Tree, TreeList};
 use std::alloc::Global;
-use std::collections::BTreeSet;
 
 /// A value, whose height is at most `depth`.
 #[cycle(body)]
@@ -112,7 +112,7 @@ fn read_entries(
     ensures shorter { OnOk result (length cursor.new.rest < length cursor.old.rest) }
 {
     let mut pairs = Vec::new(alloc);
-    let mut seen = BTreeSet::new(alloc);
+    let mut seen = SeenKeys::new(alloc);
     'entries: loop {
         let bad = cursor.fault(SourceKind::BadKey);
         let Some(text) = cursor.take_text()? else {
@@ -121,7 +121,7 @@ fn read_entries(
         let Some(key) = read_key(alloc, text.as_slice())? else {
             return Err(bad);
         };
-        if !seen.insert(text.into_vec())? {
+        if !seen.add(alloc, &pairs, key.as_slice())? {
             return Err(SourceFault {
                 kind: SourceKind::DuplicateKey,
                 line: bad.line,

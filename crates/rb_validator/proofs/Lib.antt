@@ -9,3 +9,5 @@ pub mod Shapes
 pub mod Ways
 pub mod Ranking
 pub mod Pairs
+mod Refusals
+pub mod Measuring

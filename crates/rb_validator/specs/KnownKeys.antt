@@ -6,6 +6,7 @@ use Rattle.rb_format.specs.Place.{word_at, half_at, key}
 use Rattle.rb_format.specs.FirstFault.{next_key}
 use Rattle.rb_validator.specs.declared.known_keys.KnownKeys.{KnownKeys}
 use Rattle.rb_validator.specs.Ranks.{IsRanked}
+use Rattle.rb_validator.specs.Lengths.{AreCounted}
 
 -- the bytes of the keys
 abbrev pub key_run : Layout → List ℕ → List ℕ
@@ -48,6 +49,7 @@ IsRedirected old new from to p = (slice_index new p ≡ slice_index old p) ⊎ (
 
 -- what is true of it at all times
 pub record IsSound (y : Layout) (body : List ℕ) (m : KnownKeys) : Type 0 where
+  pub lengths : IfSome m.lengths (λ v. AreCounted (key_run y body) v.items)
   pub ranks : IfSome m.ranks (λ v. IsRanked (key_run y body) v.items)
   pub halves : IsLinked y body (half_at body) m.halves.items
   pub words : IsLinked y body (word_at body) m.words.items

@@ -4,3 +4,4 @@ pub mod Visits
 pub mod Ranks
 pub mod KnownKeys
 pub mod Packed
+pub mod Lengths

@@ -30,7 +30,8 @@ impl Model for Bundle {
 
 /// The bundle of a file that denotes one. Any other file is refused for its first fault, in the order of a reader's checks: the length,
 /// the header, the indexes, the attributes, the root item and the items, depth first. `Memory` comes in place of an answer where there
-/// is no memory for the marks of the tables and arrays, three bytes for each word of the file. An error gives the bytes back as they were.
+/// is no memory for the marks of the tables and arrays, three bytes for each word of the file, or for what is kept where they overlap or
+/// keys are costly to compare. An error gives the bytes back as they were.
 ///
 /// ```rust
 /// let bundle = accept(alloc, file)?; // `bundle.visits()` is 1 for `root{a{"b"}}`

@@ -1,5 +1,5 @@
 // The items of a table or an array, after the checks of its length and its keys.
-ghost use Rattle.std.specs.Prelude.{◌≡◌, ◌+◌, ◌*◌, ◌≤◌, ◌<◌, ◌^◌, length, true};
+ghost use Rattle.std.specs.Prelude.{◌≡◌, ◌⊎◌, ◌+◌, ◌*◌, ◌≤◌, ◌<◌, ◌^◌, length, true, Err};
 ghost use Rattle.rb_validator.specs.KnownKeys.{IsSound};
 ghost use Rattle.rb_validator.specs.Marks as marks;
 ghost use Rattle.rb_validator.specs.Marks.{children_with};
@@ -26,7 +26,7 @@ pub fn has_children(kind: ItemKind) -> bool
     )
 }
 
-/// The items of a table or an array, if its length and its keys are right.
+/// The items of a table or an array, if its length and its keys are right. `Memory` may come in place of an answer.
 #[tactic(auto, unfolding(crate::specs::Marks::children_at))]
 pub fn find_children(
     layout: &Layout,
@@ -40,7 +40,7 @@ pub fn find_children(
     requires sound { IsSound layout.now body.now keys.old.known }
     requires below { offset < layout.now.top }
     requires inner { geometry.has_children kind ≡ true }
-    ensures value { result ≡ marks.children_at layout.now body.now kind offset }
+    ensures value { (result ≡ Err FileFault.Memory) ⊎ (result ≡ marks.children_at layout.now body.now kind offset) }
     ensures sound { IsSound layout.now body.now keys.new.known }
 {
     match kind {
@@ -70,7 +70,7 @@ fn table_children(
     requires sound { IsSound layout.now body.now keys.old.known }
     requires small { parts.first + parts.count < 2 ^ 40 }
     requires places { parts.first + parts.count ≤ layout.now.top → keys_end parts.keys parts.count ≤ length body.now }
-    ensures value { result ≡ children_with layout.now body.now parts }
+    ensures value { (result ≡ Err FileFault.Memory) ⊎ (result ≡ children_with layout.now body.now parts) }
     ensures sound { IsSound layout.now body.now keys.new.known }
 {
     if (layout.top as usize) < parts.first + parts.count {

@@ -1,5 +1,5 @@
 // The checks of an item and of all below it. Each table and array is entered once.
-ghost use Rattle.std.specs.Prelude.{◌≡◌, ◌≢◌, true, ℕ, ◌+◌, ◌*◌, ◌≤◌, ◌<◌, length, Some, Ok, Err, IfOk};
+ghost use Rattle.std.specs.Prelude.{◌≡◌, ◌≢◌, ◌⊎◌, true, ℕ, ◌+◌, ◌*◌, ◌≤◌, ◌<◌, length, Some, Ok, Err, IfOk};
 ghost use Rattle.rb_format.specs.FirstFault.{result_map, within, contents, read};
 ghost use Rattle.rb_format.specs.Item.{kind_of, offset_of};
 ghost use Rattle.rb_format.specs.Place as fields;
@@ -15,8 +15,9 @@ use crate::runs::split;
 use crate::state::CheckState;
 use rb_format::{FileFault, ItemKind, Layout, item_kind, item_offset, word_at};
 
-/// The height of the tree that an item denotes, where that is at most `left`, or its first fault. Most items have no children, so that
-/// it is inlined where items are checked one by one, and the recursion goes through `check_inner`.
+/// The height of the tree that an item denotes, where that is at most `left`, or its first fault. `Memory` may come in place
+/// of an answer. Most items have no children, so that it is inlined where items are checked one by one, and the recursion goes
+/// through `check_inner`.
 #[cycle(check)]
 #[inline(always)]
 pub fn check_item(
@@ -34,7 +35,7 @@ pub fn check_item(
     requires keeps { Keeps layout.now body.now state.old.memo }
     requires holds { AreRuns layout.now body.now state.old.memo state.old.runs }
     requires leads { Leads layout.now body.now state.old.memo (λ e. read layout.now body.now e item ≡ Err FileFault.TooDeep) }
-    ensures value { result ≡ result_map height (read layout.now body.now left item) }
+    ensures value { (result ≡ Err FileFault.Memory) ⊎ (result ≡ result_map height (read layout.now body.now left item)) }
     ensures sound { IsSound layout.now body.now state.new.keys.known }
     ensures after { IfOk result (λ _. After layout.now body.now state.old.memo state.new.memo) }
     ensures holds { IfOk result (λ _. AreRuns layout.now body.now state.new.memo state.new.runs) }
@@ -84,7 +85,7 @@ fn check_inner(
     requires keeps { Keeps layout.now body.now state.old.memo }
     requires holds { AreRuns layout.now body.now state.old.memo state.old.runs }
     requires leads { Leads layout.now body.now state.old.memo (λ e. read layout.now body.now e item ≡ Err FileFault.TooDeep) }
-    ensures value { result ≡ result_map height (contents layout.now body.now (λ w. read layout.now body.now left w) (offset_of item) kind) }
+    ensures value { (result ≡ Err FileFault.Memory) ⊎ (result ≡ result_map height (contents layout.now body.now (λ w. read layout.now body.now left w) (offset_of item) kind)) }
     ensures sound { IsSound layout.now body.now state.new.keys.known }
     ensures after { IfOk result (λ _. After layout.now body.now state.old.memo state.new.memo) }
     ensures holds { IfOk result (λ _. AreRuns layout.now body.now state.new.memo state.new.runs) }
@@ -130,14 +131,17 @@ fn check_items(
     requires keeps { Keeps layout.now body.now state.old.memo }
     requires holds { AreRuns layout.now body.now state.old.memo state.old.runs }
     requires leads { Leads layout.now body.now state.old.memo (λ e. run_of layout.now body.now e first count ≡ Err FileFault.TooDeep) }
-    ensures value { result ≡ result_map trees_height (run_of layout.now body.now left first count) }
+    ensures value { (result ≡ Err FileFault.Memory) ⊎ (result ≡ result_map trees_height (run_of layout.now body.now left first count)) }
     ensures low { IfOk result (λ h. h ≤ left) }
     ensures sound { IsSound layout.now body.now state.new.keys.known }
     ensures after { IfOk result (λ _. After layout.now body.now state.old.memo state.new.memo) }
     ensures holds { IfOk result (λ _. AreRuns layout.now body.now state.new.memo state.new.runs) }
     ensures known { IfOk result (λ _. IsRunKnown body.now state.new.memo first count) }
 {
-    if state.runs.is_plain(count) {
+    let Ok(is_plain) = state.runs.is_plain(count) else {
+        return Err(FileFault::Memory);
+    };
+    if is_plain {
         let mut height = 0;
         for i in first..first + count {
             let child = check_item(layout, body, state, word_at(body, i), left)?;

@@ -1,18 +1,23 @@
-// The keys of tables. They are compared byte by byte, until that has read many times as many bytes as the file has. From then on they
-// are compared by their ranks, and what was found is kept.
-ghost use Rattle.std.specs.Prelude.{◌≡◌, ◌*◌, ◌≤◌, [], length, Some, IfOk, IfErr};
+// The keys of tables. They are compared byte by byte, until that has read many times as many bytes as the file has. From then on their
+// lengths are known, and only what two keys have in common is read. Where that too has become many times the file, they are compared by
+// their ranks, and what was found is kept.
+ghost use Rattle.std.specs.Prelude.{◌≡◌, ◌⊎◌, ◌*◌, ◌≤◌, [], length, Some, Err, IfOk, IfErr};
 ghost use Rattle.rb_format.specs.FirstFault.{fault_of, keys};
 ghost use Rattle.rb_validator.specs.KnownKeys.{IsSound, AreGood, key_run};
 ghost use Rattle.rb_format.specs.Geometry.{keys_end, key_offset as offset_in};
 
 use crate::keys::next_key;
 use crate::known_keys::KnownKeys;
+use crate::lengths::measure_keys;
 use crate::ranks::rank_keys;
 use rb_format::{FileFault, KeyPlaces, Layout};
-use std::alloc::Global;
+use std::alloc::{AllocError, Global};
 
 /// How many bytes of keys are compared byte by byte, for each byte of the data.
 const PLAIN_SHARE: usize = 8;
+
+/// The same once their lengths are known, when bytes are compared only as far as they are in common.
+const CLOSE_SHARE: usize = 16;
 
 /// Checks the keys of tables, each table after what was found in those before it.
 #[derive(Drop)]
@@ -20,6 +25,10 @@ pub struct KeyChecker {
     alloc: Global,
     /// How many bytes of keys may still be compared byte by byte.
     budget: usize,
+    /// How many may still be compared once the lengths of the keys are known.
+    close: usize,
+    /// Whether the lengths were asked for.
+    is_measured: bool,
     /// Whether the ranks were asked for.
     is_prepared: bool,
     /// What was found.
@@ -44,12 +53,14 @@ impl KeyChecker {
         KeyChecker {
             alloc,
             budget: body.len().saturating_mul(PLAIN_SHARE),
+            close: body.len().saturating_mul(CLOSE_SHARE),
+            is_measured: false,
             is_prepared: false,
             known: KnownKeys::new(alloc, layout, body),
         }
     }
 
-    /// Whether the keys of a table are keys, each above the one before.
+    /// Whether the keys of a table are keys, each above the one before. `Memory` may come in place of an answer.
     pub fn check_keys(
         &mut self,
         layout: &Layout,
@@ -60,16 +71,27 @@ impl KeyChecker {
         requires keys { 4 * layout.now.keys_top ≤ length body.now }
         requires places { keys_end places count ≤ length body.now }
         requires sound { IsSound layout.now body.now self.old.known }
-        ensures fault { fault_of result ≡ fault_of (keys layout.now body.now (offset_in body.now places) [] 0 count) }
+        ensures fault { (result ≡ Err FileFault.Memory) ⊎ (fault_of result ≡ fault_of (keys layout.now body.now (offset_in body.now places) [] 0 count)) }
         ensures sound { IsSound layout.now body.now self.new.known }
     {
         let reached = self.check_plainly(layout, body, places, count)?;
-        if reached < count {
-            self.prepare(layout, body);
-            self.known.check_rest(layout, body, places, reached, count)
-        } else {
-            Ok(())
+        if reached == count {
+            return Ok(());
         }
+        if self.measure(layout, body).is_err() {
+            return Err(FileFault::Memory);
+        }
+        let (reached, left) = self
+            .known
+            .check_closely(layout, body, places, count, self.close)?;
+        self.close = left;
+        if reached == count {
+            return Ok(());
+        }
+        if self.prepare(layout, body).is_err() {
+            return Err(FileFault::Memory);
+        }
+        self.known.check_rest(layout, body, places, reached, count)
     }
 
     /// Checks keys byte by byte within the budget, and gives how many are good.
@@ -98,17 +120,34 @@ impl KeyChecker {
         Ok(count)
     }
 
-    /// Ranks the keys, once. Where there is no memory for that, the keys are still compared byte by byte.
-    fn prepare(&mut self, layout: &Layout, body: &[u8])
+    /// Measures the keys, once.
+    fn measure(&mut self, layout: &Layout, body: &[u8]) -> Result<(), AllocError>
+        requires keys { 4 * layout.now.keys_top ≤ length body.now }
+        requires sound { IsSound layout.now body.now self.old.known }
+        ensures { IsSound layout.now body.now self.new.known }
+    {
+        if self.is_measured {
+            return Ok(());
+        }
+        let lengths = measure_keys(self.alloc, key_bytes(layout, body))?;
+        self.known = KnownKeys::measured(self.alloc, layout, body, lengths);
+        self.is_measured = true;
+        Ok(())
+    }
+
+    /// Ranks the keys, once.
+    fn prepare(&mut self, layout: &Layout, body: &[u8]) -> Result<(), AllocError>
         requires keys { 4 * layout.now.keys_top ≤ length body.now }
         requires sound { IsSound layout.now body.now self.old.known }
         ensures { IsSound layout.now body.now self.new.known }
     {
         if self.is_prepared {
-            return;
+            return Ok(());
         }
+        self.known = KnownKeys::new(self.alloc, layout, body); // no memory for lengths and ranks at one time
+        let ranks = rank_keys(self.alloc, key_bytes(layout, body))?;
+        self.known = KnownKeys::with(self.alloc, layout, body, ranks)?;
         self.is_prepared = true;
-        let ranks = rank_keys(self.alloc, key_bytes(layout, body));
-        self.known = KnownKeys::with(self.alloc, layout, body, ranks);
+        Ok(())
     }
 }

@@ -8,7 +8,7 @@ use rb_format::{FileFault, Layout, key_within};
 
 /// Whether bytes are below others.
 #[inline(always)]
-fn is_below(a: &[u8], b: &[u8]) -> bool
+pub fn is_below(a: &[u8], b: &[u8]) -> bool
     ensures { result ≡ is_lt (slice_cmp nat_cmp a.now b.now) }
 {
     a.cmp(b).is_lt()

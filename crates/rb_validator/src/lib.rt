@@ -10,6 +10,7 @@ mod key_checker;
 mod keys;
 mod known_keys;
 mod leaves;
+mod lengths;
 mod links;
 mod lists;
 mod memo;

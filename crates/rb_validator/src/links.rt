@@ -1,19 +1,16 @@
 // Links over a list of key offsets: the link of place p is a place q, so that the offsets from p to q are those of ascending keys. A
 // link that is 0 says nothing.
-ghost use Rattle.std.specs.Prelude.{◌≡◌, ℕ, ◌+◌, ◌-◌, slice_index};
+ghost use Rattle.std.specs.Prelude.{◌≡◌, ℕ, ◌+◌, ◌-◌, slice_index, IfOk};
 ghost use Rattle.rb_validator.specs.KnownKeys.{IsRedirected};
 
 use crate::lists::number_at;
-use std::alloc::Global;
+use std::alloc::{AllocError, Global};
 
-/// Links of so many places that say nothing; none where there is no memory for them.
-pub fn no_links(alloc: Global, count: usize) -> Vec<u32>
-    ensures { (n : ℕ) → slice_index result.items n ≡ 0 }
+/// Links of so many places that say nothing.
+pub fn no_links(alloc: Global, count: usize) -> Result<Vec<u32>, AllocError>
+    ensures { IfOk result (λ v. (n : ℕ) → slice_index v.items n ≡ 0) }
 {
-    match vec![in alloc; 0u32; count] {
-        Ok(links) => links,
-        Err(_) => Vec::new(alloc),
-    }
+    vec![in alloc; 0u32; count]
 }
 
 /// How far the link of the place `skip` after `first` leads.

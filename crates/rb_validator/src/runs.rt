@@ -1,9 +1,9 @@
 // The runs of items of which the greatest height is known. Tables and arrays may overlap, so that a file's words are the items of
 // very many of them: a run is split where blocks of the words meet, and the items of each block are checked once.
-ghost use Rattle.std.specs.Prelude.{◌≡◌, ◌⊎◌, true, ◌+◌, ◌*◌, ◌≤◌, ◌<◌, ◌/◌, ◌^◌, List, All, Contains, slice_set, IfSome};
+ghost use Rattle.std.specs.Prelude.{◌≡◌, ◌⊎◌, true, ◌+◌, ◌*◌, ◌≤◌, ◌<◌, ◌/◌, ◌^◌, List, All, Contains, slice_set, IfOk, IfSome};
 ghost use Rattle.rb_validator.specs.declared.runs.Run.{Run};
 
-use std::alloc::Global;
+use std::alloc::{AllocError, Global};
 use std::marker::Model;
 
 /// Up to so many items are checked one by one.
@@ -74,27 +74,26 @@ impl Runs {
         }
     }
 
-    /// Whether so many more items are checked one by one: a few of them, or those within the budget. Where there is no memory to keep
-    /// runs in, all are.
-    pub fn is_plain(&mut self, count: usize) -> bool
-        ensures long { (result ≡ true) ⊎ (1 < count) }
+    /// Whether so many more items are checked one by one: a few of them, or those within the budget.
+    pub fn is_plain(&mut self, count: usize) -> Result<bool, AllocError>
+        ensures long { IfOk result (λ plain. (plain ≡ true) ⊎ (1 < count)) }
         ensures runs { (self.new ≡ self.old) ⊎ All (λ run. run.count ≡ 0 × run.height ≡ 0) self.new }
     {
         if count <= self.budget {
             self.budget -= count;
-            return true;
+            return Ok(true);
         }
         if count <= SHORT {
-            return true;
+            return Ok(true);
         }
         if self.runs.is_empty() {
-            self.start();
+            self.start()?;
         }
-        self.runs.is_empty()
+        Ok(false)
     }
 
     /// Makes room for what is found.
-    fn start(&mut self)
+    fn start(&mut self) -> Result<(), AllocError>
         ensures { (self.new ≡ self.old) ⊎ All (λ run. run.count ≡ 0 × run.height ≡ 0) self.new }
     {
         let none = Run {
@@ -102,9 +101,8 @@ impl Runs {
             count: 0,
             height: 0,
         };
-        if let Ok(runs) = vec![in self.alloc; none; self.top / SHORT + 1] {
-            self.runs = runs;
-        }
+        self.runs = vec![in self.alloc; none; self.top / SHORT + 1]?;
+        Ok(())
     }
 
     /// The greatest height of a run's items, if it is known.

@@ -1,59 +1,18 @@
 -- The keys of a tree, gathered.
-use Rattle.std.proofs.Common.{◌≡◌, ℕ, zero, suc, ◌+◌, ◌≤◌, List, [], ◌∷◌, ◌++◌, length, drop, Some, refl, sym, ap, ◌∙◌, arith, append_assoc}
-use Rattle.std.proofs.lemmas.List.{drop_all, append-nil}
-use Rattle.rb_tree.specs.View.{view_of}
-use Rattle.rb_tree.specs.declared.tree.Tree.{Tree}
-use Rattle.rb_tree.specs.declared.tree.Tree.TheVariants as trees
-use Rattle.std.specs.Prelude.{slice_get}
+use Rattle.std.proofs.Common.{◌≡◌, ℕ, zero, suc, ◌+◌, ◌<◌, ◌≤◌, List, [], ◌∷◌, ◌++◌, length, drop, map, Some, refl, ap, arith, Bor, inl, inr, subst, sym, ◌∙◌}
+use Rattle.std.proofs.lemmas.Bool.{cases_eq}
+use Rattle.std.proofs.lemmas.List.{map-append}
+use Rattle.std.specs.Prelude.{slice_get, All}
 use Rattle.std.specs.Map.{keys_of, values_of}
 use Rattle.rb_tree.specs.Resource.{Resource, string, int, ints, binary, alias, array, table, Resources}
 use Rattle.rb_tree.specs.Resource.{no_trees, tree_and, Members, no_entries, entry_and, weight, trees_weight, entries_weight}
-use Rattle.rb_tree.specs.Keys.{items, pairs}
+use Rattle.rb_tree.specs.Keys.{items, pairs, IsKey}
+use Rattle.rb_tree.specs.View.{view_of}
+use Rattle.rb_tree.specs.declared.tree.Tree.{Tree}
+use Rattle.rb_tree.specs.declared.tree.Tree.TheVariants as trees
 use Rattle.rb_writer.specs.Most.{keys_most, trees_keys, members_keys, data_most, trees_most, members_most}
 use Rattle.rb_writer.specs.Places.{EachKey, EachKeyIn, EachKeyOf}
-use Rattle.rb_writer.specs.Collected.{tree_keys, keys_within, keys_below, keys_of_trees, keys_of_pairs, keys_size}
-
-pub within_is : (ts : Resources) → keys_of_trees (items ts) ≡ keys_within ts
-within_is no_trees = refl
-within_is (tree_and t ts) = ap (λ (ks : List (List ℕ)). tree_keys t ++ ks) (within_is ts)
-
-pub below_is : (es : Members) → keys_of_pairs (pairs es) ≡ keys_below es
-below_is no_entries = refl
-below_is (entry_and k t es) = ap (λ (ks : List (List ℕ)). (k ∷ tree_keys t) ++ ks) (below_is es)
-
-pub trees_turn : (ts : List Resource) (i : ℕ) (u : Resource) → Some u ≡ slice_get ts i
-    → keys_of_trees (drop i ts) ≡ tree_keys u ++ keys_of_trees (drop (suc i) ts)
-trees_turn [] i u e = cc
-trees_turn (t ∷ ts) zero u e = let s : t ≡ u = cc in ap (λ (v : Resource). tree_keys v ++ keys_of_trees ts) s
-trees_turn (t ∷ ts) (suc i) u e = trees_turn ts i u e
-
-pub pairs_turn : (ps : List (List ℕ × Resource)) (i : ℕ) (k : List ℕ) (u : Resource) → Some k ≡ slice_get (keys_of ps) i → Some u ≡ slice_get (values_of ps) i
-    → keys_of_pairs (drop i ps) ≡ (k ∷ tree_keys u) ++ keys_of_pairs (drop (suc i) ps)
-pairs_turn [] i k u e f = cc
-pairs_turn (p ∷ ps) zero k u e f = let s : p.1 ≡ u = cc in let r : p.0 ≡ k = cc in rw (s, r) refl
-pairs_turn (p ∷ ps) (suc i) k u e f = pairs_turn ps i k u e f
-
-size_append : (xs ys : List (List ℕ)) → keys_size (xs ++ ys) ≡ keys_size xs + keys_size ys
-size_append [] ys = omega arith
-size_append (x ∷ xs) ys = omega (arith, size_append xs ys)
-
-mutual
-  pub size_is : (t : Resource) → keys_size (tree_keys t) ≡ keys_most t
-  size_is (string us) = refl
-  size_is (int n) = refl
-  size_is (ints zs) = refl
-  size_is (binary bs) = refl
-  size_is (alias us) = refl
-  size_is (array ts) = size_within ts
-  size_is (table es) = size_below es
-
-  size_within : (ts : Resources) → keys_size (keys_within ts) ≡ trees_keys ts
-  size_within no_trees = refl
-  size_within (tree_and t ts) = omega (arith, size_append (tree_keys t) (keys_within ts), size_is t, size_within ts)
-
-  size_below : (es : Members) → keys_size (keys_below es) ≡ members_keys es
-  size_below no_entries = refl
-  size_below (entry_and k t es) = omega (arith, size_append (tree_keys t) (keys_below es), size_is t, size_below es)
+use Rattle.rb_writer.specs.Collected.{keys_size, size_of, Has, Gains, Gathers}
 
 -- data and keys together take no more than the weight
 mutual
@@ -78,65 +37,163 @@ mutual
 pub table_weight : (es : Members) → data_most (table es) + keys_most (table es) + 4 ≤ weight (table es)
 table_weight es = omega (arith, members_weight_most es)
 
--- each of a list, by cases
-abbrev pub AllIn : (List ℕ → Type 0) → List (List ℕ) → Type 0
-AllIn P [] = Unit {0}
-AllIn P (k ∷ ks) = P k × AllIn P ks
+-- what a key takes
+size_append : (xs ys : List (List ℕ)) → keys_size (xs ++ ys) ≡ keys_size xs + keys_size ys
+size_append [] ys = omega arith
+size_append (x ∷ xs) ys = omega (arith, size_append xs ys)
 
-all_front : (P : List ℕ → Type 0) (xs ys : List (List ℕ)) → AllIn P (xs ++ ys) → AllIn P xs
-all_front P [] ys h = tt
-all_front P (x ∷ xs) ys h = (h.0, all_front P xs ys h.1)
+pub size_push : (old : List (Bor (List ℕ))) (r : Bor (List ℕ)) → size_of (old ++ r ∷ []) ≡ size_of old + (1 + length r.now)
+size_push old r = ap keys_size (map-append (λ (q : Bor (List ℕ)). q.now) old (r ∷ [])) ∙ size_append (map (λ q. q.now) old) (r.now ∷ []) ∙ omega arith
 
-all_back : (P : List ℕ → Type 0) (xs ys : List (List ℕ)) → AllIn P (xs ++ ys) → AllIn P ys
-all_back P [] ys h = h
-all_back P (x ∷ xs) ys h = all_back P xs ys h.1
+key_size : (ks : List (List ℕ)) (i : ℕ) (k : List ℕ) → Some k ≡ slice_get ks i → keys_size (drop i ks) ≡ 1 + length k + keys_size (drop (suc i) ks)
+key_size [] i k e = cc
+key_size (q ∷ ks) zero k e = let s : q ≡ k = cc in ap (λ (x : List ℕ). 1 + length x + keys_size ks) s
+key_size (q ∷ ks) (suc i) k e = key_size ks i k e
 
+-- what each key of a tree has, each still has
 mutual
-  pub each_from : (P : List ℕ → Type 0) (t : Resource) → AllIn P (tree_keys t) → EachKey P t
-  each_from P (array ts) h = each_in P ts h
-  each_from P (table es) h = each_of P es h
-  each_from P _ h = tt
+  pub each_still : (P Q : List ℕ → Type 0) → ((k : List ℕ) → P k → Q k) → (t : Resource) → EachKey P t → EachKey Q t
+  each_still P Q f (array ts) h = in_still P Q f ts h
+  each_still P Q f (table es) h = of_still P Q f es h
+  each_still P Q f _ h = tt
 
-  each_in : (P : List ℕ → Type 0) (ts : Resources) → AllIn P (keys_within ts) → EachKeyIn P ts
-  each_in P no_trees h = tt
-  each_in P (tree_and t ts) h = (each_from P t (all_front P (tree_keys t) (keys_within ts) h), each_in P ts (all_back P (tree_keys t) (keys_within ts) h))
+  in_still : (P Q : List ℕ → Type 0) → ((k : List ℕ) → P k → Q k) → (ts : Resources) → EachKeyIn P ts → EachKeyIn Q ts
+  in_still P Q f no_trees h = tt
+  in_still P Q f (tree_and t ts) h = (each_still P Q f t h.0, in_still P Q f ts h.1)
 
-  each_of : (P : List ℕ → Type 0) (es : Members) → AllIn P (keys_below es) → EachKeyOf P es
-  each_of P no_entries h = tt
-  each_of P (entry_and k t es) h = (
-    h.0,
-    each_from P t (all_front P (tree_keys t) (keys_below es) h.1),
-    each_of P es
-        (all_back P (tree_keys t) (keys_below es) h.1),
-  )
+  of_still : (P Q : List ℕ → Type 0) → ((k : List ℕ) → P k → Q k) → (es : Members) → EachKeyOf P es → EachKeyOf Q es
+  of_still P Q f no_entries h = tt
+  of_still P Q f (entry_and k t es) h = (f k h.0, each_still P Q f t h.1, of_still P Q f es h.2)
+
+-- what the keys of trees take
+abbrev pub trees_size : List Resource → ℕ
+trees_size [] = 0
+trees_size (t ∷ ts) = keys_most t + trees_size ts
+
+trees_turn : (ts : List Resource) (i : ℕ) (u : Resource) → Some u ≡ slice_get ts i → trees_size (drop i ts) ≡ keys_most u + trees_size (drop (suc i) ts)
+trees_turn [] i u e = cc
+trees_turn (t ∷ ts) zero u e = let s : t ≡ u = cc in ap (λ (v : Resource). keys_most v + trees_size ts) s
+trees_turn (t ∷ ts) (suc i) u e = trees_turn ts i u e
+
+items_size : (ts : Resources) → trees_size (items ts) ≡ trees_keys ts
+items_size no_trees = refl
+items_size (tree_and t ts) = ap (λ n. keys_most t + n) (items_size ts)
+
+pairs_size : (es : Members) → trees_size (values_of (pairs es)) + keys_size (keys_of (pairs es)) ≡ members_keys es
+pairs_size no_entries = refl
+pairs_size (entry_and k t es) = omega (arith, pairs_size es)
 
 -- ---- the loops that gather
 
-pub turned : (new cur rest more all : List (List ℕ)) (turn : List (List ℕ)) → new ≡ cur ++ turn → more ≡ turn ++ rest → cur ++ more ≡ all → new ++ rest ≡ all
-turned new cur rest more all turn e f g = rw e (append_assoc cur turn rest ∙ ap (λ (ks : List (List ℕ)). cur ++ ks) (sym f) ∙ g)
+-- the keys of the first i of these trees were added
+pub record Values (old cur : List (Bor (List ℕ))) (ts : List Resource) (i : ℕ) : Type 0 where
+  pub covered : (j : ℕ) (u : Resource) → j < i → Some u ≡ slice_get ts j → EachKey (λ k. Has cur k) u
+  pub stay : (q : List ℕ) → Has old q → Has cur q
+  pub little : size_of cur + trees_size (drop i ts) ≤ size_of old + trees_size ts
+  pub is_key : All (λ r. IsKey r.now) old → All (λ r. IsKey r.now) cur
 
-pub gathered_trees : (cur old : List (List ℕ)) (ts : Resources) (i : ℕ) (t : Tree) → t ≡ trees.Array ts → length (items ts) ≤ i
-    → cur ++ keys_of_trees (drop i (items ts)) ≡ old ++ keys_of_trees (items ts) → cur ≡ old ++ tree_keys (view_of t)
-gathered_trees cur old ts i t eq h g =
-    let none : drop i (items ts) ≡ [] = drop_all i (items ts) h in
-    rw eq (sym (append-nil cur) ∙ (rw none at g) ∙ ap (λ (ks : List (List ℕ)). old ++ ks) (within_is ts))
+-- the keys of a table's values were added, and the first j of its own
+pub record Owned (old cur : List (Bor (List ℕ))) (es : Members) (j : ℕ) : Type 0 where
+  pub values : (i : ℕ) (u : Resource) → Some u ≡ slice_get (values_of (pairs es)) i → EachKey (λ k. Has cur k) u
+  pub keys : (i : ℕ) (k : List ℕ) → i < j → Some k ≡ slice_get (keys_of (pairs es)) i → Has cur k
+  pub stay : (q : List ℕ) → Has old q → Has cur q
+  pub little : size_of cur + keys_size (drop j (keys_of (pairs es))) ≤ size_of old + members_keys es
+  pub is_key : All (λ r. IsKey r.now) old → All (λ r. IsKey r.now) cur
 
-pub gathered_pairs : (cur old : List (List ℕ)) (es : Members) (i : ℕ) (t : Tree) → t ≡ trees.Table es → length (pairs es) ≤ i
-    → cur ++ keys_of_pairs (drop i (pairs es)) ≡ old ++ keys_of_pairs (pairs es) → cur ≡ old ++ tree_keys (view_of t)
-gathered_pairs cur old es i t eq h g =
-    let none : drop i (pairs es) ≡ [] = drop_all i (pairs es) h in
-    rw eq (sym (append-nil cur) ∙ (rw none at g) ∙ ap (λ (ks : List (List ℕ)). old ++ ks) (below_is es))
+pub values_none : (old : List (Bor (List ℕ))) (ts : List Resource) → Values old old ts 0
+values_none old ts = record { covered = λ j u h e. absurd (omega arith); stay = λ q h. h; little = omega arith; is_key = λ a. a }
 
-pub gather_tree : (new cur all : List (List ℕ)) (ts : List Resource) (i : ℕ) (u : Resource) → new ≡ cur ++ tree_keys u → Some u ≡ slice_get ts i
-    → cur ++ keys_of_trees (drop i ts) ≡ all → new ++ keys_of_trees (drop (i + 1) ts) ≡ all
-gather_tree new cur all ts i u e f g =
+pub values_more : (old cur new : List (Bor (List ℕ))) (ts : List Resource) (i : ℕ) (u : Resource) → Values old cur ts i → Some u ≡ slice_get ts i
+    → Gathers u cur new → Values old new ts (i + 1)
+values_more old cur new ts i u v e g =
     let up : i + 1 ≡ suc i = omega arith in
-    rw up (turned new cur (keys_of_trees (drop (suc i) ts)) (keys_of_trees (drop i ts)) all (tree_keys u) e (trees_turn ts i u f) g)
+    let a = v.little in let b = g.little in
+    record {
+      covered = λ j w h f. elim (cases_eq j i) [
+        | inl same ↦
+            let some : Some w ≡ Some u = f ∙ ap (slice_get ts) same ∙ sym e in
+            let is : w ≡ u = cc in
+            subst (EachKey (λ k. Has new k)) (sym is) g.covered
+        | inr other ↦ each_still (λ k. Has cur k) (λ k. Has new k) g.stay w (v.covered j w (omega arith) f)
+      ];
+      stay = λ q h. g.stay q (v.stay q h);
+      little = rw up (omega (arith, trees_turn ts i u e));
+      is_key = λ h. g.is_key (v.is_key h);
+    }
 
-pub gather_pair : (new mid cur all : List (List ℕ)) (ps : List (List ℕ × Resource)) (i : ℕ) (k : List ℕ) (u : Resource) → new ≡ mid ++ tree_keys u
-    → mid ≡ cur ++ k ∷ [] → Some k ≡ slice_get (keys_of ps) i → Some u ≡ slice_get (values_of ps) i → cur ++ keys_of_pairs (drop i ps) ≡ all
-    → new ++ keys_of_pairs (drop (i + 1) ps) ≡ all
-gather_pair new mid cur all ps i k u e m f h g =
-    let up : i + 1 ≡ suc i = omega arith in
-    let whole : new ≡ cur ++ (k ∷ tree_keys u) = e ∙ ap (λ (ks : List (List ℕ)). ks ++ tree_keys u) m ∙ append_assoc cur (k ∷ []) (tree_keys u) in
-    rw up (turned new cur (keys_of_pairs (drop (suc i) ps)) (keys_of_pairs (drop i ps)) all (k ∷ tree_keys u) whole (pairs_turn ps i k u f h) g)
+tree_low : (ts : List Resource) (i : ℕ) (u : Resource) → Some u ≡ slice_get ts i → i < length ts
+tree_low [] i u e = cc
+tree_low (t ∷ ts) zero u e = omega arith
+tree_low (t ∷ ts) (suc i) u e = omega (arith, tree_low ts i u e)
+
+value_low : (ps : List (List ℕ × Resource)) (i : ℕ) (u : Resource) → Some u ≡ slice_get (values_of ps) i → i < length ps
+value_low [] i u e = cc
+value_low (p ∷ ps) zero u e = omega arith
+value_low (p ∷ ps) (suc i) u e = omega (arith, value_low ps i u e)
+
+key_low : (ps : List (List ℕ × Resource)) (i : ℕ) (k : List ℕ) → Some k ≡ slice_get (keys_of ps) i → i < length ps
+key_low [] i k e = cc
+key_low (p ∷ ps) zero k e = omega arith
+key_low (p ∷ ps) (suc i) k e = omega (arith, key_low ps i k e)
+
+pub owned_none : (old cur : List (Bor (List ℕ))) (es : Members) (n : ℕ) → Values old cur (values_of (pairs es)) n → length (pairs es) ≤ n
+    → Owned old cur es 0
+owned_none old cur es n v h =
+    let a = v.little in
+    record {
+      values = λ i u e. v.covered i u (omega (arith, value_low (pairs es) i u e)) e;
+      keys = λ i k g e. absurd (omega arith);
+      stay = v.stay;
+      little = omega (arith, pairs_size es);
+      is_key = v.is_key;
+    }
+
+pub owned_more : (old cur new : List (Bor (List ℕ))) (es : Members) (j : ℕ) (k : List ℕ) → Owned old cur es j → Some k ≡ slice_get (keys_of (pairs es)) j
+    → IsKey k → Gains k cur new → Owned old new es (j + 1)
+owned_more old cur new es j k o e is_key g =
+    let up : j + 1 ≡ suc j = omega arith in
+    let a = o.little in let b = g.little in
+    record {
+      values = λ i u f. each_still (λ q. Has cur q) (λ q. Has new q) g.stay u (o.values i u f);
+      keys = λ i q h f. elim (cases_eq i j) [
+        | inl same ↦
+            let some : Some q ≡ Some k = f ∙ ap (slice_get (keys_of (pairs es))) same ∙ sym e in
+            let is : q ≡ k = cc in
+            subst (λ (x : List ℕ). Has new x) (sym is) g.here
+        | inr other ↦ g.stay q (o.keys i q (omega arith) f)
+      ];
+      stay = λ q h. g.stay q (o.stay q h);
+      little = rw up (omega (arith, key_size (keys_of (pairs es)) j k e));
+      is_key = λ h. g.is_key is_key (o.is_key h);
+    }
+
+trees_covered : (P : List ℕ → Type 0) (ts : Resources) → ((i : ℕ) (u : Resource) → Some u ≡ slice_get (items ts) i → EachKey P u) → EachKeyIn P ts
+trees_covered P no_trees h = tt
+trees_covered P (tree_and t ts) h = (h 0 t refl, trees_covered P ts (λ i u e. h (suc i) u e))
+
+members_covered : (P : List ℕ → Type 0) (es : Members) → ((i : ℕ) (k : List ℕ) → Some k ≡ slice_get (keys_of (pairs es)) i → P k)
+    → ((i : ℕ) (u : Resource) → Some u ≡ slice_get (values_of (pairs es)) i → EachKey P u) → EachKeyOf P es
+members_covered P no_entries f h = tt
+members_covered P (entry_and k t es) f h = (f 0 k refl, h 0 t refl, members_covered P es (λ i q e. f (suc i) q e) (λ i u e. h (suc i) u e))
+
+pub array_gathered : (old cur : List (Bor (List ℕ))) (ts : Resources) (n : ℕ) (t : Tree) → t ≡ trees.Array ts → Values old cur (items ts) n
+    → length (items ts) ≤ n → Gathers (view_of t) old cur
+array_gathered old cur ts n t eq v h =
+    let a = v.little in
+    rw eq (record {
+      covered = trees_covered (λ k. Has cur k) ts (λ i u e. v.covered i u (omega (arith, tree_low (items ts) i u e)) e);
+      stay = v.stay;
+      little = omega (arith, items_size ts);
+      is_key = v.is_key;
+    })
+
+pub table_gathered : (old cur : List (Bor (List ℕ))) (es : Members) (n : ℕ) (t : Tree) → t ≡ trees.Table es → Owned old cur es n → length (pairs es) ≤ n
+    → Gathers (view_of t) old cur
+table_gathered old cur es n t eq o h =
+    let a = o.little in
+    rw eq (record {
+      covered = members_covered (λ k. Has cur k) es (λ i k e. o.keys i k (omega (arith, key_low (pairs es) i k e)) e) o.values;
+      stay = o.stay;
+      little = omega arith;
+      is_key = o.is_key;
+    })

@@ -1,11 +1,13 @@
 -- A key that was written is read where it is.
 use Rattle.rb_writer.specs.declared.area.KeyArea.{KeyArea}
-use Rattle.std.proofs.Common.{◌≡◌, ℕ, suc, ◌+◌, ◌-◌, ◌*◌, ◌<◌, ◌≤◌, Bool, true, false, cond, ltb, List, [], ◌∷◌, ◌++◌}
-use Rattle.std.proofs.Common.{length, get_or, take, drop, Option, Some, refl, sym, ap, ◌∙◌, arith, position, subst, inl, inr, ◌⊎◌}
+use Rattle.std.proofs.Common.{◌≡◌, ℕ, zero, suc, ◌+◌, ◌-◌, ◌*◌, ◌<◌, ◌≤◌, Bool, true, false, cond, ltb, List, [], ◌∷◌, ◌++◌}
+use Rattle.std.proofs.Common.{length, get_or, take, drop, Option, Some, refl, sym, ap, ◌∙◌, arith, position, subst, inl, inr, ◌⊎◌, Bor}
 use Rattle.std.proofs.lemmas.Bool.Decides.{nat_tests}
 use Rattle.std.proofs.lemmas.Bool.{le-ltb, lt-ltb}
 use Rattle.std.proofs.lemmas.List.{get_or-drop, get_or-take, length-drop, length-take, ext_get_or, length_push, get_or_push}
+use Rattle.std.proofs.lemmas.List.Elements.{All-append}
 use Rattle.std.specs.Prelude.{All, ◌==◌, IsSome}
+use Rattle.std.specs.BTreeMap as tree_map
 use Rattle.std.specs.List.{position_or_len}
 use Rattle.rb_tree.specs.Keys.{IsKey, IsPlain}
 use Rattle.rb_format.specs.Place.{key, key_front, key_ok}
@@ -19,6 +21,8 @@ use Rattle.rb_writer.proofs.Puts.{adds_append}
 use Rattle.rb_writer.proofs.Values.{part_stays}
 use Rattle.rb_writer.specs.Growth.{Adds, draft, PutsBytes}
 use Rattle.rb_writer.specs.Keying.{KeyAt}
+use Rattle.rb_writer.specs.Keyed.{place, stored, AreStored}
+use Rattle.rb_writer.specs.declared.keys.KeyPlaces.{KeyPlaces}
 
 pub ok_key : (k : List ℕ) → IsKey k → key_ok k ≡ true
 ok_key k h = (key_is k).1 h
@@ -121,3 +125,18 @@ stands_or start c k q w o old h s = elim s [
   | inl p ↦ inl p
   | inr p ↦ inr (subst (λ (x : List ℕ). KeyAt start c x o) p.0 (subst (KeyAt start c k) p.1 h))
 ]
+
+-- ---- the keys that are known
+
+pub known_at : (keys : KeyPlaces) (i : ℕ) (p : Bor (List ℕ) × ℕ) (k : List ℕ) → AreStored keys → i < length keys.known.items
+    → p ≡ get_or keys.known.items i p → p.0.now ≡ k → place keys k ≡ Some p.1
+known_at keys i p k a h e f = subst (λ (q : List ℕ). stored keys.offsets q ≡ Some p.1) f
+    (subst (λ (x : Bor (List ℕ) × ℕ). stored keys.offsets x.0.now ≡ Some x.1) (sym e) (a i p h))
+
+pub known_push : (m : tree_map.BTreeMap (Bor (List ℕ)) ℕ) (ps : List (Bor (List ℕ) × ℕ)) (p : Bor (List ℕ) × ℕ)
+    → All (λ q. stored m q.0.now ≡ Some q.1) ps → stored m p.0.now ≡ Some p.1 → All (λ q. stored m q.0.now ≡ Some q.1) (ps ++ p ∷ [])
+known_push m ps p a e = All-append (λ (q : Bor (List ℕ) × ℕ). stored m q.0.now ≡ Some q.1) ps (p ∷ []) a one
+  where
+    one : All (λ (q : Bor (List ℕ) × ℕ). stored m q.0.now ≡ Some q.1) (p ∷ [])
+    one zero d h = e
+    one (suc i) d h = absurd (omega arith)

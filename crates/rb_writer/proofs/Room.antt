@@ -12,7 +12,6 @@ use Rattle.rb_writer.specs.Most.{data_most, keys_most}
 use Rattle.rb_writer.specs.Standing.{Stands}
 use Rattle.rb_writer.specs.Whole.{IsFile, index_count}
 use Rattle.rb_writer.proofs.Collecting.{table_weight}
-use Rattle.rb_writer.proofs.Gathered.{size_same}
 use Rattle.rb_writer.proofs.Ended.{IsWritten, is_written}
 use Rattle.rb_writer.proofs.Patches.{five_or_six}
 use Rattle.rb_writer.proofs.Longer.{longest_weight}
@@ -25,7 +24,7 @@ pub fits_most : (t : Resource) → Fits t → data_most t + keys_most t + 4 ≤ 
 fits_most t f = let l = f.light in omega (arith, most_of_table t f.is_table)
 
 pub keys_fit : (t : Resource) (keys : List (Bor (List ℕ))) → Fits t → GathersKeys t keys → keys_size (map (λ r. r.now) keys) + data_most t + 4 ≤ 33554432
-keys_fit t keys f g = omega (arith, fits_most t f, size_same t keys g)
+keys_fit t keys f g = let l = g.little in omega (arith, fits_most t f, l)
 
 pub longest_fits : (t : Resource) (n : ℕ) → Fits t → n ≡ longest t → n ≤ 33554432
 longest_fits t n f e = let l = f.light in omega (arith, longest_weight t)

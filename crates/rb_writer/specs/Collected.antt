@@ -1,46 +1,40 @@
 -- The keys of a tree. Only private contracts and proofs read this.
-use Rattle.std.specs.Prelude.{◌≡◌, ℕ, ◌+◌, List, [], ◌∷◌, ◌++◌, length, map, All}
+use Rattle.std.specs.Prelude.{◌≡◌, ◌≤◌, ℕ, ◌+◌, List, [], ◌∷◌, length, map, All, Contains}
 use Rattle.std.proofs.Common.{Bor}
-use Rattle.std.specs.List.Sorted.{IsPermutation}
 use Rattle.rb_tree.specs.Keys.{IsKey}
-use Rattle.rb_tree.specs.Resource.{Resource, string, int, ints, binary, alias, array, table, Resources, no_trees, tree_and, Members, no_entries, entry_and}
-
--- the keys, a table's before those of its values
-abbrev mutual
-  pub tree_keys : Resource → List (List ℕ)
-  tree_keys (string us) = []
-  tree_keys (int n) = []
-  tree_keys (ints zs) = []
-  tree_keys (binary bs) = []
-  tree_keys (alias us) = []
-  tree_keys (array ts) = keys_within ts
-  tree_keys (table es) = keys_below es
-
-  pub keys_within : Resources → List (List ℕ)
-  keys_within no_trees = []
-  keys_within (tree_and t ts) = tree_keys t ++ keys_within ts
-
-  pub keys_below : Members → List (List ℕ)
-  keys_below no_entries = []
-  keys_below (entry_and k t es) = (k ∷ tree_keys t) ++ keys_below es
-
--- the same of lists
-abbrev pub keys_of_trees : List Resource → List (List ℕ)
-keys_of_trees [] = []
-keys_of_trees (t ∷ ts) = tree_keys t ++ keys_of_trees ts
-
-abbrev pub keys_of_pairs : List (List ℕ × Resource) → List (List ℕ)
-keys_of_pairs [] = []
-keys_of_pairs (p ∷ ps) = (p.0 ∷ tree_keys p.1) ++ keys_of_pairs ps
+use Rattle.rb_tree.specs.Resource.{Resource}
+use Rattle.rb_writer.specs.Most.{keys_most}
+use Rattle.rb_writer.specs.Places.{EachKey}
 
 -- what keys take, each with its NUL
 abbrev pub keys_size : List (List ℕ) → ℕ
 keys_size [] = 0
 keys_size (k ∷ ks) = 1 + length k + keys_size ks
 
--- keys as they are lent, in any order, are those of the tree
+-- the same of keys as they are lent
+abbrev pub size_of : List (Bor (List ℕ)) → ℕ
+size_of keys = keys_size (map (λ r. r.now) keys)
+
+-- a key is one of those
+abbrev pub Has : List (Bor (List ℕ)) → List ℕ → Type 0
+Has keys k = (r : Bor (List ℕ)) × Contains keys r × (r.now ≡ k)
+
+-- a key was added, unless it was there
+pub record Gains (k : List ℕ) (old new : List (Bor (List ℕ))) : Type 0 where
+  pub here : Has new k
+  pub stay : (q : List ℕ) → Has old q → Has new q
+  pub little : size_of new ≤ size_of old + (1 + length k)
+  pub is_key : IsKey k → All (λ r. IsKey r.now) old → All (λ r. IsKey r.now) new
+
+-- the keys of a tree were added, unless they were there
+pub record Gathers (t : Resource) (old new : List (Bor (List ℕ))) : Type 0 where
+  pub covered : EachKey (λ k. Has new k) t
+  pub stay : (q : List ℕ) → Has old q → Has new q
+  pub little : size_of new ≤ size_of old + keys_most t
+  pub is_key : All (λ r. IsKey r.now) old → All (λ r. IsKey r.now) new
+
+-- keys as they are lent, in any order, have each of the tree and take no more than all of them
 pub record GathersKeys (t : Resource) (keys : List (Bor (List ℕ))) : Type 0 where
-  pub found : List (Bor (List ℕ))
-  pub are : map (λ r. r.now) found ≡ tree_keys t
-  pub same : IsPermutation found keys
+  pub covered : EachKey (λ k. Has keys k) t
+  pub little : size_of keys ≤ keys_most t
   pub is_key : All (λ r. IsKey r.now) keys

@@ -4,6 +4,7 @@ ghost use Rattle.std.specs.Map.{keys_of};
 ghost use Rattle.rb_tree.specs.Keys.{pairs, IsTable};
 ghost use Rattle.rb_tree.specs.Resource.{table};
 ghost use Rattle.rb_writer.specs.Growth.{PutsHalves};
+ghost use Rattle.rb_writer.specs.Keyed.{AreStored};
 ghost use Rattle.rb_writer.specs.Standing.{PutsArray, PutsShort, PutsLong, HasPlaces, PlacesAre};
 
 use crate::data::Data;
@@ -76,20 +77,23 @@ pub fn is_short(offsets: &[u32]) -> bool
     offsets.len() <= 0xFFFF && offsets.iter().all(|x| *x <= 0xFFFF)
 }
 
-/// The offsets of a table's keys.
+/// The offsets of a table's keys, whose entries are counted.
 #[tactic(auto, using(crate::proofs::Tabled::places_more, crate::proofs::Tabled::has_place))]
 pub fn key_offsets(
     alloc: Global,
     keys: &KeyPlaces<'_>,
+    entry: &mut usize,
     entries: &Entries,
 ) -> Result<Vec<u32>, AllocError>
-    requires { HasPlaces keys.now (table entries.now) }
+    requires known { AreStored keys.now }
+    requires each { HasPlaces keys.now (table entries.now) }
     ensures places { IfOk result (λ offsets. PlacesAre keys.now (keys_of (pairs entries.now)) offsets.items (length (pairs entries.now))) }
     ensures ordered { IsTable entries.now }
 {
-    let mut offsets = Vec::new(alloc);
+    let mut offsets = Vec::with_capacity(alloc, entries.len())?;
     for i in 0..entries.len() {
-        offsets.push(keys.offset(entries.key_at(i)))?;
+        offsets.push(keys.offset(*entry, entries.key_at(i)))?;
+        *entry = entry.wrapping_add(1);
     }
     Ok(offsets)
 }

@@ -10,10 +10,11 @@ ghost use Rattle.rb_writer.specs.Whole.{IsFile, IsIndexed, SetsWord};
 ghost use Rattle.rb_writer.specs.Longest.{longest};
 
 use crate::area::KeyArea;
-use crate::collect::{longest_table, sorted_keys};
 use crate::data::Data;
+use crate::gather::{gather, sorted_keys};
 use crate::header::header;
 use crate::keys::write_keys;
+use crate::longest::longest_table;
 use crate::tree::write_value;
 use rb_format::{ATTRIBUTES_INDEX_COUNT, HEADER_SIZE, INDEX_COUNT};
 use rb_tree::Tree;
@@ -97,10 +98,12 @@ pub fn write(alloc: Global, tree: &Tree, no_fallback: bool) -> Result<Vec<u8>, A
     ensures longest { IfOk result (λ f. word_at (drop 32 f.items) 5 ≡ longest (view_of tree.now)) }
 {
     let indexes = index_count(no_fallback);
-    let keys = sorted_keys(alloc, tree)?;
+    let gathered = gather(alloc, tree)?;
+    let keys = sorted_keys(alloc, &gathered)?;
     let mut out = Data::new(alloc, indexes)?;
-    let places = write_keys(alloc, &mut out, &keys, indexes)?;
-    let root = write_value(alloc, &mut out, &places, tree)?;
+    let places = write_keys(alloc, &mut out, &keys, gathered, indexes)?;
+    let mut entry = 0;
+    let root = write_value(alloc, &mut out, &places, &mut entry, tree)?;
     Ok(finish(
         out,
         root,

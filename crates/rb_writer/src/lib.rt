@@ -2,14 +2,15 @@
 #![tactic(auto)]
 
 mod area;
-mod collect;
 mod containers;
 mod data;
 mod file;
+mod gather;
 mod header;
 mod item;
 mod keys;
 mod leaves;
+mod longest;
 mod put;
 mod table;
 mod tree;

@@ -3,6 +3,7 @@ ghost use Rattle.std.specs.Prelude.{IfOk, length, ◌≡◌, ◌+◌, ◌^◌, �
 ghost use Rattle.rb_tree.specs.Parts.{kind_of, len_of, children_of, HasChildren};
 ghost use Rattle.rb_tree.specs.View.{view_of};
 ghost use Rattle.rb_writer.specs.Growth.{IsDraft};
+ghost use Rattle.rb_writer.specs.Keyed.{AreStored};
 ghost use Rattle.rb_writer.specs.Most.{data_most};
 ghost use Rattle.rb_writer.specs.Standing.{Stands, ChildrenStand, KeysStand, HasPlaces, children_most};
 
@@ -23,11 +24,13 @@ pub fn write_value(
     alloc: Global,
     out: &mut Data,
     keys: &KeyPlaces<'_>,
+    entry: &mut usize,
     tree: &Tree,
 ) -> Result<u32, AllocError>
     requires drafted { IsDraft keys.now.area out.old }
     requires room { length out.old + data_most (view_of tree.now) ≤ 2 ^ 28 }
     requires keys { KeysStand keys.now.area out.old keys.now }
+    requires known { AreStored keys.now }
     requires each { HasPlaces keys.now (view_of tree.now) }
     ensures { IfOk result (Stands keys.now.area out.old out.new (view_of tree.now)) }
 {
@@ -38,18 +41,18 @@ pub fn write_value(
         Tree::Binary(bytes) => Ok(item(ItemKind::Binary, write_bytes(out, bytes.as_slice())?)),
         Tree::Alias(units) => Ok(item(ItemKind::Alias, write_units(out, units.as_slice())?)),
         Tree::Array(_) => {
-            let items = write_children(alloc, out, keys, tree)?;
+            let items = write_children(alloc, out, keys, entry, tree)?;
             if items.is_empty() {
                 return Ok(item(ItemKind::Array, 0));
             }
             Ok(item(ItemKind::Array, write_array(out, &items)?))
         }
         Tree::Table(entries) => {
-            let items = write_children(alloc, out, keys, tree)?;
+            let items = write_children(alloc, out, keys, entry, tree)?;
             if items.is_empty() {
                 return Ok(item(ItemKind::Table, 0));
             }
-            write_table(alloc, out, keys, entries, &items)
+            write_table(alloc, out, keys, entry, entries, &items)
         }
     }
 }
@@ -61,18 +64,20 @@ fn write_children(
     alloc: Global,
     out: &mut Data,
     keys: &KeyPlaces<'_>,
+    entry: &mut usize,
     tree: &Tree,
 ) -> Result<Vec<u32>, AllocError>
     requires nested { HasChildren (kind_of (view_of tree.now)) }
     requires drafted { IsDraft keys.now.area out.old }
     requires room { length out.old + children_most (children_of (view_of tree.now)) ≤ 2 ^ 28 }
     requires keys { KeysStand keys.now.area out.old keys.now }
+    requires known { AreStored keys.now }
     requires each { HasPlaces keys.now (view_of tree.now) }
     ensures { IfOk result (λ items. ChildrenStand keys.now.area out.old out.new (children_of (view_of tree.now)) items.items (len_of (view_of tree.now))) }
 {
-    let mut items = Vec::new(alloc);
+    let mut items = Vec::with_capacity(alloc, tree.len())?;
     for i in 0..tree.len() {
-        let item = write_value(alloc, out, keys, tree.at(i))?;
+        let item = write_value(alloc, out, keys, entry, tree.at(i))?;
         items.push(item)?;
     }
     Ok(items)

@@ -13,7 +13,7 @@ use Rattle.rb_parser.proofs.Bodies.{plain_reads}
 use Rattle.rb_parser.proofs.Bodies.{table_spells, table_passed, no_repeat}
 use Rattle.rb_parser.proofs.Loops.{entries_begin, entries_bad_key, entries_twice, entries_bad_body, entries_open, entries_done, entries_more}
 use Rattle.rb_parser.proofs.Loops.{elements_begin, elements_too_deep, elements_bad_body, elements_open, elements_done, elements_text, elements_body}
-use Rattle.rb_parser.proofs.Rows.{seen_before, not_seen}
+use Rattle.rb_parser.proofs.Ascending.{seen_before, not_seen}
 use Rattle.rb_parser.proofs.parser.+body.Goals.{read_array-in-Some+else-depth-eq0+in_ok-push}
 use Rattle.rb_parser.proofs.parser.+body.Goals.{read_array-in_default+then-is_at_body+in_ok-read_body+in_ok-push-2}
 use Rattle.rb_parser.proofs.parser.+body.Goals as goal
@@ -123,7 +123,7 @@ read_table-returns-in-Ok-clause-exact t c =
 
 pub read_entries-entries-init : goal.read_entries-entries-init
 read_entries-entries-init t c =
-    entries_begin c.args.depth c.args.cursor.now c.new-pairs.result.items c.new-seen.result.keys c.new-pairs.ensures.items c.new-seen.ensures.empty
+    entries_begin c.args.depth c.args.cursor.now c.new-pairs.result.items c.new-seen.result c.new-pairs.ensures.items c.new-seen.ensures
 
 pub read_entries-returns-in_default-2-clause-exact : goal.read_entries-returns-in_default-2-clause-exact
 read_entries-returns-in_default-2-clause-exact t c =
@@ -137,8 +137,8 @@ read_entries-returns-then-not-branch-clause-exact t c =
     entries_twice c.entries.invariant c.in-Some.text (record { kind = DuplicateKey; line = c.fault-bad.result.line })
     (rw c.in-Some.is at c.in_ok-text.ensures.text)
     (subst (λ (l : List ℕ). IsKey l) c.as_slice.ensures key.0)
-    (seen_before c.entries.seen.keys c.in-Some.text c.into_vec.result c.in_ok-insert.field-0 c.in_ok-insert.ensures.added c.into_vec.ensures
-    c.if-not-branch.true)
+    (seen_before c.entries.pairs.items c.in-Some.text _ c.in_ok-add.field-0 (rw c.deref.ensures.value at c.in_ok-add.ensures.new)
+    (c.as_slice-in-entries.ensures ∙ key.1 ∙ c.as_slice.ensures) c.if-not-branch.true)
     refl c.fault-bad.ensures.line
 
 pub read_entries-returns-in_err-tree-clause-exact : goal.read_entries-returns-in_err-tree-clause-exact
@@ -147,7 +147,8 @@ read_entries-returns-in_err-tree-clause-exact t c =
     let key = rw c.in-Some-2.is at c.in_ok-key.ensures in
     rw (p.1, p.2) (entries_bad_body c.entries.invariant c.in-Some.text _ c.take_text.new.self (rw c.in-Some.is at c.in_ok-text.ensures.text)
     (subst (λ (l : List ℕ). IsKey l) c.as_slice.ensures key.0)
-    (not_seen c.entries.seen.keys c.in-Some.text c.into_vec.result c.in_ok-insert.field-0 c.in_ok-insert.ensures.added c.into_vec.ensures c.if-not-branch.false)
+    (not_seen c.entries.pairs.items c.in-Some.text _ c.in_ok-add.field-0 (rw c.deref.ensures.value at c.in_ok-add.ensures.new)
+    (c.as_slice-in-entries.ensures ∙ key.1 ∙ c.as_slice.ensures) c.if-not-branch.false)
     (record { same_end = c.take_text.ensures.same_end; rest = rw c.in-Some.is at c.in_ok-text.ensures.rest }) c.in_err-tree.ensures.exact)
 
 pub read_entries-entries-preserved : goal.read_entries-entries-preserved
@@ -157,12 +158,14 @@ read_entries-entries-preserved t c =
     let shorter : length c.take.new.self.rest < length c.entries.cursor.rest =
     omega (arith, (rw c.in-Some.is at c.in_ok-text.ensures.shorter), c.in_ok-tree.ensures.shorter, c.in_ok-take.ensures.no_longer) in
     entries_more c.entries.invariant c.in-Some.text b.0 c.take_text.new.self c.read_body.new.cursor c.take.new.self c.in-Some-2.key c.in_ok-tree.tree
-    c.into_vec.result c.push.new.self.items c.insert.new.self.keys (rw c.in-Some.is at c.in_ok-text.ensures.text)
+    c.push.new.self.items c.add.new.self (rw c.in-Some.is at c.in_ok-text.ensures.text)
     (subst (λ (l : List ℕ). IsKey l) c.as_slice.ensures key.0)
-    (not_seen c.entries.seen.keys c.in-Some.text c.into_vec.result c.in_ok-insert.field-0 c.in_ok-insert.ensures.added c.into_vec.ensures c.if-not-branch.false)
+    (not_seen c.entries.pairs.items c.in-Some.text _ c.in_ok-add.field-0 (rw c.deref.ensures.value at c.in_ok-add.ensures.new)
+    (c.as_slice-in-entries.ensures ∙ key.1 ∙ c.as_slice.ensures) c.if-not-branch.false)
     (record { same_end = c.take_text.ensures.same_end; rest = rw c.in-Some.is at c.in_ok-text.ensures.rest }) b.1 b.2 c.in_ok-tree.ensures.same_end
     c.in_ok-take.ensures.same_end
-    c.in_ok-take.ensures.rest shorter (key.1 ∙ c.as_slice.ensures) c.into_vec.ensures c.in_ok-push.ensures.items c.in_ok-insert.ensures.keys
+    c.in_ok-take.ensures.rest shorter (key.1 ∙ c.as_slice.ensures) c.in_ok-push.ensures.items
+    (rw (c.deref.ensures.value, c.as_slice-in-entries.ensures) at (c.in_ok-add.ensures.more c.in_ok-tree.tree))
 
 pub read_entries-returns-in_err-expect-clause-exact : goal.read_entries-returns-in_err-expect-clause-exact
 read_entries-returns-in_err-expect-clause-exact t c =

@@ -21,7 +21,7 @@ abbrev pub decreases-read_array : goal.decreases-read_array
 decreases-read_array l = 4 * l.depth + 1
 
 abbrev pub invariant-read_entries-entries : goal.invariant-read_entries-entries
-invariant-read_entries-entries l = EntriesAt l.depth l.initial.cursor l.cursor l.pairs.items l.seen.keys
+invariant-read_entries-entries l = EntriesAt l.depth l.initial.cursor l.cursor l.pairs.items l.seen
 
 abbrev pub decreases-read_entries-entries : goal.decreases-read_entries-entries
 decreases-read_entries-entries l = length l.cursor.rest

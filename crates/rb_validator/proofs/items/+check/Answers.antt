@@ -1,4 +1,4 @@
-use Rattle.std.proofs.Common.{◌≡◌, ℕ, suc, ◌+◌, ◌-◌, ◌<◌, ◌≤◌, max, length, set, below_more, Ok, arith, sym, ap, subst, ◌∙◌}
+use Rattle.std.proofs.Common.{◌≡◌, ℕ, suc, ◌+◌, ◌-◌, ◌<◌, ◌≤◌, max, length, set, below_more, Ok, arith, sym, ap, subst, ◌∙◌, inr}
 use Rattle.std.proofs.lemmas.Result.{err_from_is_err_and}
 use Rattle.rb_tree.specs.Resource.{height}
 use Rattle.rb_format.specs.declared.fault.FileFault.TheVariants.{TooDeep}
@@ -15,6 +15,7 @@ use Rattle.rb_validator.proofs.Entering.{new_is, open_is, met_done, limit_fits, 
 use Rattle.rb_validator.proofs.Entering.{items_next, items_end, some_fault, entered_height, entered_after, opened_keeps, opened_met, read_low, max_is}
 use Rattle.rb_validator.proofs.Spans.{run_height, leads_shift, runs_set, run_low_err, run_high_err, run_both, run_fits, run_passed, leads_low, leads_high}
 use Rattle.rb_validator.proofs.Spans.{known_both, kept_run, made_run, runs_kept, runs_ready}
+use Rattle.rb_validator.proofs.Refusals.{told, passed, onward}
 use Rattle.rb_validator.proofs.items.+check.Goals as goal
 
 -- ---- a pair that may have been met before
@@ -23,8 +24,8 @@ pub check_inner-returns-in-Open-clause-value : goal.check_inner-returns-in-Open-
 check_inner-returns-in-Open-clause-value t c =
     let cells = c.args.state.now.memo in
     let is : mark_at cells c.args.kind (offset_of c.args.item) ≡ 65 = open_is _ (rw c.item_offset-offset.ensures at c.in-Open.ensures) in
-    sym (err_height _ TooDeep (cycle_deep c.args.layout.now c.args.body.now cells c.args.left c.args.item c.args.kind c.requires.leads c.requires.is_kind
-    c.requires.there c.requires.inner is))
+    inr (sym (err_height _ TooDeep (cycle_deep c.args.layout.now c.args.body.now cells c.args.left c.args.item c.args.kind c.requires.leads c.requires.is_kind
+    c.requires.there c.requires.inner is)))
 
 pub check_inner-returns-then-height-left-clause-value : goal.check_inner-returns-then-height-left-clause-value
 check_inner-returns-then-height-left-clause-value t c =
@@ -32,7 +33,7 @@ check_inner-returns-then-height-left-clause-value t c =
     rw c.item_offset-offset.ensures at c.in-Done.ensures in
     let is = met_done c.args.layout.now c.args.body.now c.args.state.now.memo c.args.left c.args.item c.in-Done.height c.args.kind c.requires.keeps
     c.requires.is_kind c.requires.there c.requires.inner done in
-    sym (is ∙ limit_fits c.args.left c.in-Done.height (omega arith))
+    inr (sym (is ∙ limit_fits c.args.left c.in-Done.height (omega arith)))
 
 pub check_inner-returns-else-height-left-clause-value : goal.check_inner-returns-else-height-left-clause-value
 check_inner-returns-else-height-left-clause-value t c =
@@ -40,24 +41,24 @@ check_inner-returns-else-height-left-clause-value t c =
     rw c.item_offset-offset.ensures at c.in-Done.ensures in
     let is = met_done c.args.layout.now c.args.body.now c.args.state.now.memo c.args.left c.args.item c.in-Done.height c.args.kind c.requires.keeps
     c.requires.is_kind c.requires.there c.requires.inner done in
-    sym (is ∙ limit_passed c.args.left c.in-Done.height (omega arith))
+    inr (sym (is ∙ limit_passed c.args.left c.in-Done.height (omega arith)))
 
 -- ---- an item
 
 pub check_item-returns-then-left-eq0-clause-value : goal.check_item-returns-then-left-eq0-clause-value
-check_item-returns-then-left-eq0-clause-value t c = sym (ap (result_map height)
-    (read_zero c.args.layout.now c.args.body.now c.args.left c.args.item c.if-left-eq0.true))
+check_item-returns-then-left-eq0-clause-value t c = inr (sym (ap (result_map height)
+    (read_zero c.args.layout.now c.args.body.now c.args.left c.args.item c.if-left-eq0.true)))
 
 pub check_item-returns-in_err-check_offset-in-Some-clause-value : goal.check_item-returns-in_err-check_offset-in-Some-clause-value
 check_item-returns-in_err-check_offset-in-Some-clause-value t c =
     let p = err_from_is_err_and c.from_residual.result c.from_residual.ensures.1 in
     let w = rw c.item_offset-offset.ensures at c.in_err-check_offset-in-Some.ensures in
-    rw (p.1, p.2) (sym (item_refused c.args.layout.now c.args.body.now c.args.left c.args.item c.in-Some.kind _ (omega arith) (sym c.in-Some.ensures) w))
+    rw (p.1, p.2) (inr (sym (item_refused c.args.layout.now c.args.body.now c.args.left c.args.item c.in-Some.kind _ (omega arith) (sym c.in-Some.ensures) w)))
 
 pub check_item-returns-then-not-branch-clause-value : goal.check_item-returns-then-not-branch-clause-value
 check_item-returns-then-not-branch-clause-value t c =
     let w = rw (c.item_offset-offset.ensures, c.if-not-branch.true) at c.in_ok-check_offset-in-Some.ensures in
-    sym (item_bare c.args.layout.now c.args.body.now c.args.left c.args.item c.in-Some.kind (omega arith) (sym c.in-Some.ensures) w)
+    inr (sym (item_bare c.args.layout.now c.args.body.now c.args.left c.args.item c.in-Some.kind (omega arith) (sym c.in-Some.ensures) w))
 
 pub check_item-returns-in_err-check_leaf-in-Some-clause-value : goal.check_item-returns-in_err-check_leaf-in-Some-clause-value
 check_item-returns-in_err-check_leaf-in-Some-clause-value t c =
@@ -65,15 +66,15 @@ check_item-returns-in_err-check_leaf-in-Some-clause-value t c =
     let p = err_from_is_err_and c.from_residual-in_err-check_leaf-in-Some.result c.from_residual-in_err-check_leaf-in-Some.ensures.1 in
     let w = rw (c.item_offset-offset.ensures, c.if-not-branch.false) at c.in_ok-check_offset-in-Some.ensures in
     let f = rw c.item_offset-offset.ensures at (c.in_err-check_leaf-in-Some.ensures (λ w. read y body (c.args.left - 1) w)) in
-    rw (p.1, p.2) (sym (ap (result_map height) (item_inner y body c.args.left c.args.item c.in-Some.kind (omega arith) (sym c.in-Some.ensures) (sym w))
-    ∙ fault_height _ _ (sym f)))
+    rw (p.1, p.2) (inr (sym (ap (result_map height) (item_inner y body c.args.left c.args.item c.in-Some.kind (omega arith) (sym c.in-Some.ensures) (sym w))
+    ∙ fault_height _ _ (sym f))))
 
 pub check_item-returns-then-has_children-clause-value : goal.check_item-returns-then-has_children-clause-value
 check_item-returns-then-has_children-clause-value t c =
     let y = c.args.layout.now in let body = c.args.body.now in
     let w = rw (c.item_offset-offset.ensures, c.if-not-branch.false) at c.in_ok-check_offset-in-Some.ensures in
-    c.check_inner.ensures.value ∙ sym (ap (result_map height) (item_inner y body c.args.left c.args.item c.in-Some.kind (omega arith) (sym c.in-Some.ensures)
-    (sym w)))
+    onward _ _ _ c.check_inner.ensures.value (sym (ap (result_map height)
+    (item_inner y body c.args.left c.args.item c.in-Some.kind (omega arith) (sym c.in-Some.ensures) (sym w))))
 
 pub check_item-returns-in_ok-check_leaf-in-Some-clause-value : goal.check_item-returns-in_ok-check_leaf-in-Some-clause-value
 check_item-returns-in_ok-check_leaf-in-Some-clause-value t c =
@@ -81,12 +82,12 @@ check_item-returns-in_ok-check_leaf-in-Some-clause-value t c =
     let w = rw (c.item_offset-offset.ensures, c.if-not-branch.false) at c.in_ok-check_offset-in-Some.ensures in
     let f = rw c.item_offset-offset.ensures at (c.in_ok-check_leaf-in-Some.ensures (λ w. read y body (c.args.left - 1) w)) in
     let leaf = sym c.has_children.ensures ∙ c.if-has_children.false in
-    sym (ap (result_map height) (item_inner y body c.args.left c.args.item c.in-Some.kind (omega arith) (sym c.in-Some.ensures) (sym w))
-    ∙ leaf_height y body (λ w. read y body (c.args.left - 1) w) (offset_of c.args.item) c.in-Some.kind leaf (sym f))
+    inr (sym (ap (result_map height) (item_inner y body c.args.left c.args.item c.in-Some.kind (omega arith) (sym c.in-Some.ensures) (sym w))
+    ∙ leaf_height y body (λ w. read y body (c.args.left - 1) w) (offset_of c.args.item) c.in-Some.kind leaf (sym f)))
 
 pub check_item-returns-in-None-clause-value : goal.check_item-returns-in-None-clause-value
-check_item-returns-in-None-clause-value t c = sym (ap (result_map height)
-    (read_no_kind c.args.layout.now c.args.body.now c.args.left c.args.item (omega arith) (sym c.in-None.ensures)))
+check_item-returns-in-None-clause-value t c = inr (sym (ap (result_map height)
+    (read_no_kind c.args.layout.now c.args.body.now c.args.left c.args.item (omega arith) (sym c.in-None.ensures))))
 
 -- ---- several items, one by one
 
@@ -144,9 +145,8 @@ check_items-returns-in_err-child-clause-value t c =
     let p = err_from_is_err_and c.from_residual.result c.from_residual.ensures.1 in
     let step : end - i ≡ suc (end - (i + 1)) = omega arith in
     let v = rw c.word_at.ensures at c.in_err-child.ensures.value in
-    let e = height_err _ _ (sym v) in
-    rw (p.1, p.2) (sym (items_stop (λ w. read y body c.args.left w) (fields.word_at body) i (end - i)
-    (end - (i + 1)) c.loop-i.height _ _ step e c.loop-i.invariant.value))
+    rw (p.1, p.2) (passed _ _ _ (λ e. sym (items_stop (λ w. read y body c.args.left w) (fields.word_at body) i (end - i)
+    (end - (i + 1)) c.loop-i.height _ _ step (height_err _ _ (sym e)) c.loop-i.invariant.value)) v)
 
 pub check_items-loop-i-preserved : goal.check_items-loop-i-preserved
 check_items-loop-i-preserved t c =
@@ -155,7 +155,7 @@ check_items-loop-i-preserved t c =
     let end = c.args.first + c.args.count in
     let step : end - i ≡ suc (end - (i + 1)) = omega arith in
     let next : i + 1 ≡ suc i = omega arith in
-    let v = rw c.word_at.ensures at c.in_ok-child.ensures.value in
+    let v = told _ _ (rw c.word_at.ensures at c.in_ok-child.ensures.value) in
     let tree = height_ok (read y body c.args.left (item i)) c.in_ok-child.child (sym v) in
     let low : c.in_ok-child.child ≤ c.args.left = read_low y body c.args.left (item i) tree.0 c.in_ok-child.child tree.1 tree.2 in
     let m : c.max-height.result ≡ max c.loop-i.height c.in_ok-child.child = c.max-height.ensures ∙ max_is c.loop-i.height c.in_ok-child.child in
@@ -177,7 +177,7 @@ pub check_items-returns-then-is_plain-clause-value : goal.check_items-returns-th
 check_items-returns-then-is_plain-clause-value t c =
     let y = c.args.layout.now in let body = c.args.body.now in let i = c.loop-i.i in
     let none : c.args.first + c.args.count - i ≡ 0 = omega arith in
-    items_end (λ w. read y body c.args.left w) (fields.word_at body) i (c.args.first + c.args.count - i) c.loop-i.height _ none c.loop-i.invariant.value
+    inr (items_end (λ w. read y body c.args.left w) (fields.word_at body) i (c.args.first + c.args.count - i) c.loop-i.height _ none c.loop-i.invariant.value)
 
 -- ---- several items, in two parts
 
@@ -185,15 +185,15 @@ pub check_items-returns-then-height-left-clause-value : goal.check_items-returns
 check_items-returns-then-height-left-clause-value t c =
     let y = c.args.layout.now in let body = c.args.body.now in let from = c.args.first in let n = c.args.count in
     let ready = runs_ready y body c.args.state.now.memo c.args.state.now.runs c.is_plain.new.self c.requires.holds c.is_plain.ensures.runs in
-    run_fits y body c.args.state.now.memo c.args.left from n c.in-Some.height
-    (kept_run y body c.args.state.now.memo c.is_plain.new.self from n c.in-Some.height ready c.in-Some.ensures) (omega arith)
+    inr (run_fits y body c.args.state.now.memo c.args.left from n c.in-Some.height
+    (kept_run y body c.args.state.now.memo c.is_plain.new.self from n c.in-Some.height ready c.in-Some.ensures) (omega arith))
 
 pub check_items-returns-in-Some-clause-value : goal.check_items-returns-in-Some-clause-value
 check_items-returns-in-Some-clause-value t c =
     let y = c.args.layout.now in let body = c.args.body.now in let from = c.args.first in let n = c.args.count in
     let ready = runs_ready y body c.args.state.now.memo c.args.state.now.runs c.is_plain.new.self c.requires.holds c.is_plain.ensures.runs in
-    run_passed y body c.args.state.now.memo c.args.left from n c.in-Some.height
-    (kept_run y body c.args.state.now.memo c.is_plain.new.self from n c.in-Some.height ready c.in-Some.ensures) (omega arith)
+    inr (run_passed y body c.args.state.now.memo c.args.left from n c.in-Some.height
+    (kept_run y body c.args.state.now.memo c.is_plain.new.self from n c.in-Some.height ready c.in-Some.ensures) (omega arith))
 
 pub check_items-check_items-requires : goal.check_items-check_items-requires
 check_items-check_items-requires t c =
@@ -237,7 +237,7 @@ check_items-returns-in_err-low-clause-value t c =
     let part : m ≤ n = omega arith in
     let q : mid ≡ from + m = omega arith in
     let p = err_from_is_err_and c.from_residual-in_err-low.result c.from_residual-in_err-low.ensures.1 in
-    rw (p.1, p.2) (run_low_err y body c.args.left from m n _ part c.in_err-low.ensures.value)
+    rw (p.1, p.2) (passed _ _ _ (λ e. run_low_err y body c.args.left from m n _ part e) c.in_err-low.ensures.value)
 
 pub check_items-check_items-requires-2 : goal.check_items-check_items-requires-2
 check_items-check_items-requires-2 t c =
@@ -265,7 +265,7 @@ check_items-check_items-requires-2 t c =
                     a.keeps,
                     (
                       c.in_ok-low.ensures.holds,
-                      leads_high y body _ c.args.left from m n mid c.in_ok-low.low part q c.in_ok-low.ensures.value
+                      leads_high y body _ c.args.left from m n mid c.in_ok-low.low part q (told _ _ c.in_ok-low.ensures.value)
                           (leads_after y body _ _ _ a.follows c.requires.leads),
                     ),
                   ),
@@ -284,7 +284,8 @@ check_items-returns-in_err-high-clause-value t c =
     let part : m ≤ n = omega arith in
     let q : mid ≡ from + m = omega arith in
     let p = err_from_is_err_and c.from_residual-in_err-high.result c.from_residual-in_err-high.ensures.1 in
-    rw (p.1, p.2) (run_high_err y body c.args.left from m n mid c.in_ok-low.low _ part q c.in_ok-low.ensures.value c.in_err-high.ensures.value)
+    rw (p.1, p.2) (passed _ _ _ (λ e. run_high_err y body c.args.left from m n mid c.in_ok-low.low _ part q
+    (told _ _ c.in_ok-low.ensures.value) e) c.in_err-high.ensures.value)
 
 pub check_items-returns-clause-value : goal.check_items-returns-clause-value
 check_items-returns-clause-value t c =
@@ -293,7 +294,8 @@ check_items-returns-clause-value t c =
     let part : m ≤ n = omega arith in
     let q : mid ≡ from + m = omega arith in
     let high : c.max-height-2.result ≡ max c.in_ok-low.low c.in_ok-high.high = c.max-height-2.ensures in
-    ap Ok high ∙ (run_both y body c.args.left from m n mid c.in_ok-low.low c.in_ok-high.high part q c.in_ok-low.ensures.value c.in_ok-high.ensures.value)
+    inr (ap Ok high ∙ (run_both y body c.args.left from m n mid c.in_ok-low.low c.in_ok-high.high part q
+    (told _ _ c.in_ok-low.ensures.value) (told _ _ c.in_ok-high.ensures.value)))
 
 pub check_items-returns-clause-known : goal.check_items-returns-clause-known
 check_items-returns-clause-known t c =
@@ -308,7 +310,7 @@ pub check_items-returns-clause-holds : goal.check_items-returns-clause-holds
 check_items-returns-clause-holds t c =
     let y = c.args.layout.now in let body = c.args.body.now in let from = c.args.first in let n = c.args.count in
     let cells = c.check_items-2.new.state.memo in
-    let run = made_run y body cells c.args.left from n c.max-height-2.result (check_items-returns-clause-value t c) (check_items-returns-clause-known t c) in
+    let run = made_run y body cells c.args.left from n c.max-height-2.result (told _ _ (check_items-returns-clause-value t c)) (check_items-returns-clause-known t c) in
     runs_kept y body cells c.check_items-2.new.state.runs c.keep.new.self _ from n c.max-height-2.result c.in_ok-high.ensures.holds run c.keep.ensures
 
 -- ---- an entry
@@ -317,15 +319,17 @@ pub check_inner-returns-in_err-found-in-New-clause-value : goal.check_inner-retu
 check_inner-returns-in_err-found-in-New-clause-value t c =
     let y = c.args.layout.now in let body = c.args.body.now in
     let p = err_from_is_err_and c.from_residual.result c.from_residual.ensures.1 in
-    let e = rw c.item_offset-offset.ensures at c.in_err-found-in-New.ensures.value in
-    rw (p.1, p.2) (sym (err_height _ _ (children_err y body (λ w. read y body c.args.left w) c.args.kind (offset_of c.args.item) _ c.requires.inner (sym e))))
+    let v = rw c.item_offset-offset.ensures at c.in_err-found-in-New.ensures.value in
+    rw (p.1, p.2) (passed _ _ _ (λ e. sym (err_height _ _ (children_err y body (λ w. read y body c.args.left w) c.args.kind (offset_of c.args.item) _
+    c.requires.inner (sym e)))) v)
 
 pub check_inner-check_items-requires : goal.check_inner-check_items-requires
 check_inner-check_items-requires t c =
     let y = c.args.layout.now in let body = c.args.body.now in let o = offset_of c.args.item in let k = c.args.kind in
     let cells = c.args.state.now.memo in
     let inside : cell k o < length cells = rw c.requires.keeps.long (cell_low k o y.top c.requires.below) in
-    let there : Ok c.in_ok-found-in-New.found ≡ children_at y body k o = rw c.item_offset-offset.ensures at c.in_ok-found-in-New.ensures.value in
+    let there : Ok c.in_ok-found-in-New.found ≡ children_at y body k o =
+    told _ _ (rw c.item_offset-offset.ensures at c.in_ok-found-in-New.ensures.value) in
     let at = children_there y body k o c.in_ok-found-in-New.found c.requires.inner (sym there) in
     let new : c.enter.new.self ≡ set cells (cell k o) 65 = rw c.item_offset-offset.ensures at c.enter.ensures in (
       omega arith,
@@ -362,24 +366,27 @@ pub check_inner-returns-in_err-below-in-New-clause-value : goal.check_inner-retu
 check_inner-returns-in_err-below-in-New-clause-value t c =
     let y = c.args.layout.now in let body = c.args.body.now in let o = offset_of c.args.item in let k = c.args.kind in
     let p = err_from_is_err_and c.from_residual-in_err-below-in-New.result c.from_residual-in_err-below-in-New.ensures.1 in
-    let there : Ok c.in_ok-found-in-New.found ≡ children_at y body k o = rw c.item_offset-offset.ensures at c.in_ok-found-in-New.ensures.value in
-    let f = some_fault _ _ (run_height y body c.args.left _ _ _ c.in_err-below-in-New.ensures.value) in
+    let there : Ok c.in_ok-found-in-New.found ≡ children_at y body k o =
+    told _ _ (rw c.item_offset-offset.ensures at c.in_ok-found-in-New.ensures.value) in
     let found = c.in_ok-found-in-New.found in
-    rw (p.1, p.2) (sym (err_height _ _ (children_fault y body (λ w. read y body c.args.left w) k o found _ c.requires.inner (sym there) f)))
+    rw (p.1, p.2) (passed _ _ _ (λ e. sym (err_height _ _ (children_fault y body (λ w. read y body c.args.left w) k o found _ c.requires.inner (sym there)
+    (some_fault _ _ (run_height y body c.args.left _ _ _ e))))) c.in_err-below-in-New.ensures.value)
 
 pub check_inner-returns-in_ok-below-in-New-clause-value : goal.check_inner-returns-in_ok-below-in-New-clause-value
 check_inner-returns-in_ok-below-in-New-clause-value t c =
     let y = c.args.layout.now in let body = c.args.body.now in let o = offset_of c.args.item in let k = c.args.kind in
-    let there : Ok c.in_ok-found-in-New.found ≡ children_at y body k o = rw c.item_offset-offset.ensures at c.in_ok-found-in-New.ensures.value in
-    sym (entered_height y body (λ w. read y body c.args.left w) k o c.in_ok-below-in-New.below c.in_ok-found-in-New.found c.requires.inner there
-    (run_height y body c.args.left _ _ _ c.in_ok-below-in-New.ensures.value))
+    let there : Ok c.in_ok-found-in-New.found ≡ children_at y body k o =
+    told _ _ (rw c.item_offset-offset.ensures at c.in_ok-found-in-New.ensures.value) in
+    inr (sym (entered_height y body (λ w. read y body c.args.left w) k o c.in_ok-below-in-New.below c.in_ok-found-in-New.found c.requires.inner there
+    (run_height y body c.args.left _ _ _ (told _ _ c.in_ok-below-in-New.ensures.value))))
 
 pub check_inner-returns-in_ok-below-in-New-clause-after : goal.check_inner-returns-in_ok-below-in-New-clause-after
 check_inner-returns-in_ok-below-in-New-clause-after t c =
     let y = c.args.layout.now in let body = c.args.body.now in let o = offset_of c.args.item in let k = c.args.kind in
     let cells = c.args.state.now.memo in
     let inside : cell k o < length cells = rw c.requires.keeps.long (cell_low k o y.top c.requires.below) in
-    let there : Ok c.in_ok-found-in-New.found ≡ children_at y body k o = rw c.item_offset-offset.ensures at c.in_ok-found-in-New.ensures.value in
+    let there : Ok c.in_ok-found-in-New.found ≡ children_at y body k o =
+    told _ _ (rw c.item_offset-offset.ensures at c.in_ok-found-in-New.ensures.value) in
     let new : c.enter.new.self ≡ set cells (cell k o) 65 = rw c.item_offset-offset.ensures at c.enter.ensures in
     let a = rw new at c.in_ok-below-in-New.ensures.after in
     let low = c.in_ok-below-in-New.ensures.low in
@@ -387,7 +394,7 @@ check_inner-returns-in_ok-below-in-New-clause-after t c =
     let below = c.in_ok-below-in-New.below in
     rw (c.finish.ensures, c.item_offset-offset.ensures) (entered_after y body cells c.check_items.new.state.memo c.args.left c.args.item k below
     c.in_ok-found-in-New.found c.requires.keeps c.requires.met c.requires.is_kind c.requires.inner c.requires.full inside fresh there
-    (run_height y body c.args.left _ _ _ c.in_ok-below-in-New.ensures.value) (omega arith) a c.in_ok-below-in-New.ensures.known)
+    (run_height y body c.args.left _ _ _ (told _ _ c.in_ok-below-in-New.ensures.value)) (omega arith) a c.in_ok-below-in-New.ensures.known)
 
 pub check_inner-returns-in_ok-below-in-New-clause-holds : goal.check_inner-returns-in_ok-below-in-New-clause-holds
 check_inner-returns-in_ok-below-in-New-clause-holds t c =

@@ -21,7 +21,10 @@ write_children-write_value-requires t c =
           child_room _ _ _ _ _ _ _ (view_of c.at.result.now) c.loop-i.invariant c.at.ensures c.requires.room,
           (
             keys_stay c.args.keys.now.area c.args.out.now c.loop-i.out c.args.keys.now c.requires.drafted c.loop-i.invariant.adds c.requires.keys,
-            (child_keys (λ k. IsSome (place c.args.keys.now k)) (view_of c.args.tree.now) (view_of c.at.result.now) c.loop-i.i c.requires.each c.at.ensures),
+            (
+              c.requires.known,
+              (child_keys (λ k. IsSome (place c.args.keys.now k)) (view_of c.args.tree.now) (view_of c.at.result.now) c.loop-i.i c.requires.each c.at.ensures),
+            ),
           ),
         ),
       ),

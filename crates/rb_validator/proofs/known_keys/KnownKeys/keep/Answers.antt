@@ -16,6 +16,7 @@ returns-in-Halves c = λ y body s g.
     ∙ sym c.args.self.now.halves.ok.0 in
     let is = with_items_is c.args.self.now.halves c.link.new.links long in
     record {
+      lengths = s.lengths;
       ranks = s.ranks;
       halves = rw is (redirected_linked y body old c.link.new.links (half_at body)
           (offset_in body c.args.places) first c.args.good at s.halves g d);
@@ -33,6 +34,7 @@ returns-in-Words c = λ y body s g.
     ∙ sym c.args.self.now.words.ok.0 in
     let is = with_items_is c.args.self.now.words c.link-in-Words.new.links long in
     record {
+      lengths = s.lengths;
       ranks = s.ranks;
       halves = s.halves;
       words = rw is (redirected_linked y body old c.link-in-Words.new.links (word_at body)

@@ -4,7 +4,7 @@ use Rattle.rb_tree.specs.Keys.{items, pairs}
 use Rattle.rb_tree.specs.View.{view_of}
 use Rattle.rb_writer.specs.Longest.{longest}
 use Rattle.rb_writer.proofs.Longer.{longest_items, longest_values, longest_more}
-use Rattle.rb_writer.proofs.collect.+longest_table.Goals as goal
+use Rattle.rb_writer.proofs.longest.+longest_table.Goals as goal
 
 pub loop-i-init : goal.loop-i-init
 loop-i-init t c = omega (arith, longest_items c.in-Array.trees)

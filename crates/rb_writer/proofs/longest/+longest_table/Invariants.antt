@@ -5,7 +5,7 @@ use Rattle.rb_tree.specs.Keys.{items, pairs}
 use Rattle.rb_tree.specs.View.{view_of}
 use Rattle.rb_writer.specs.Longest.{longest_of_trees, longest_of_entries}
 use Rattle.rb_writer.proofs.Longer.{longest_in}
-use Rattle.rb_writer.proofs.collect.+longest_table.Given as goal
+use Rattle.rb_writer.proofs.longest.+longest_table.Given as goal
 
 abbrev pub decreases-longest_table : goal.decreases-longest_table
 decreases-longest_table l = height (view_of l.tree.now)

@@ -1,0 +1,21 @@
+-- Answers in the place of which `Memory` may come.
+use Rattle.std.proofs.Common.{◌≡◌, ◌∙◌, Ok, Err, inl, inr}
+use Rattle.std.specs.Prelude.{◌⊎◌, Result}
+use Rattle.rb_format.specs.declared.fault.FileFault.{FileFault}
+use Rattle.rb_format.specs.declared.fault.FileFault.TheVariants.{Memory}
+
+-- a value is no refusal
+pub told : {A : Type 0} (x : A) (v : Result A FileFault) → (Ok x ≡ Err Memory) ⊎ (Ok x ≡ v) → Ok x ≡ v
+told x v (inl z) = absurd cc
+told x v (inr e) = e
+
+-- a fault is passed on, and so is a refusal
+pub passed : {A B : Type 0} (d : FileFault) (v : Result A FileFault) (w : Result B FileFault) → (Err d ≡ v → Err d ≡ w)
+    → (◌≡◌ {A = Result A FileFault} (Err d) (Err Memory)) ⊎ (Err d ≡ v) → (◌≡◌ {A = Result B FileFault} (Err d) (Err Memory)) ⊎ (Err d ≡ w)
+passed d v w f (inl z) = inl cc
+passed d v w f (inr e) = inr (f e)
+
+-- the same of an answer as it is
+pub onward : {A : Type 0} (r v w : Result A FileFault) → (r ≡ Err Memory) ⊎ (r ≡ v) → v ≡ w → (r ≡ Err Memory) ⊎ (r ≡ w)
+onward r v w (inl z) e = inl z
+onward r v w (inr p) e = inr (p ∙ e)
