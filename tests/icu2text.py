@@ -116,7 +116,7 @@ EVERYTHING = """\
 de {
   a { "x\\"\\\\\U0001F600\\uD800" }
   b:bin { "00ff7f" }
-  c:table {
+  c {
     a { "1" }
     b { "2" }
   }
@@ -162,7 +162,7 @@ def user(order="<", limit=8, limit16=8, string=1):
 
 USER = """\
 de {
-  b:table {
+  b {
     x { "pooled" }
     yy { "mine" }
   }
@@ -252,7 +252,7 @@ class Texts(Case):
             strings = file.array(*(STRING_V2 << 28 | start for start in starts))
             text = self.text(file.end(file.table(a=ARRAY16 << 28 | array, b=TABLE16 << 28 | table, c=strings)))
             listed = "".join('    "%s",\n' % one.replace("\udfff", "\\uDFFF") for one in forms[:-1]) + '    "\0\U00010000\\uDFFF",\n'
-            self.assertEqual(text, 'de {\n  a:array {\n    "short",\n    "ort",\n    "",\n  }\n  b:table {\n    a { "" }\n    c { "%s" }\n  }\n  c:array {\n%s  }\n}\n' % (forms[2], listed))
+            self.assertEqual(text, 'de {\n  a:array {\n    "short",\n    "ort",\n    "",\n  }\n  b {\n    a { "" }\n    c { "%s" }\n  }\n  c:array {\n%s  }\n}\n' % (forms[2], listed))
 
     def test_keys_in_quotes(self):
         names = ["Africa:Abidjan", "%%ALIAS", "a,b", "a/b", 'q"', "x\\", "{"]
