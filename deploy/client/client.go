@@ -12,7 +12,7 @@ import (
 	"github.com/nats-io/nats.go"
 	"github.com/nats-io/nuid"
 
-	"../subjects"
+	"luvdregan.example/resb/deploy/internal/subjects"
 )
 
 // Patience is how long a caller asks again before it gives up.

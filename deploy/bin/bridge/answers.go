@@ -10,7 +10,7 @@ import (
 
 	"github.com/nats-io/nats.go"
 
-	"../subjects"
+	"luvdregan.example/resb/deploy/internal/subjects"
 )
 
 // The answers to a shard's changes, each given once: kept in a stream whose messages name the change that they answer, and here

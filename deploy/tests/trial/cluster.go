@@ -10,9 +10,9 @@ import (
 	"strings"
 	"syscall"
 
-	"../client"
-	"../passwords"
-	"../subjects"
+	"luvdregan.example/resb/deploy/client"
+	"luvdregan.example/resb/deploy/internal/passwords"
+	"luvdregan.example/resb/deploy/internal/subjects"
 )
 
 // A cluster is nats-server with shards, as deploy/start starts them, in a folder of its own.

@@ -9,9 +9,9 @@ import (
 	"fmt"
 	"os"
 
-	"../client"
-	"../passwords"
-	"../subjects"
+	"luvdregan.example/resb/deploy/client"
+	"luvdregan.example/resb/deploy/internal/passwords"
+	"luvdregan.example/resb/deploy/internal/subjects"
 )
 
 func main() {

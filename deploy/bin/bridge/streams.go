@@ -6,7 +6,7 @@ import (
 
 	"github.com/nats-io/nats.go"
 
-	"../subjects"
+	"luvdregan.example/resb/deploy/internal/subjects"
 )
 
 // makeStreams makes the streams of the shards 0 to n-1 where they aren't there. A full stream refuses what is published, and

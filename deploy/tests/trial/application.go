@@ -5,7 +5,7 @@ import (
 	"sync"
 	"time"
 
-	"../client"
+	"luvdregan.example/resb/deploy/client"
 )
 
 // An application is a caller of the shards, with a reference that is given the same requests.

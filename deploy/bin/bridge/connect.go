@@ -7,7 +7,7 @@ import (
 
 	"github.com/nats-io/nats.go"
 
-	"../passwords"
+	"luvdregan.example/resb/deploy/internal/passwords"
 )
 
 // connect reaches NATS, with growing pauses until it does, and again whenever the connection is lost.

@@ -11,9 +11,9 @@ import (
 
 	"github.com/nats-io/nats.go"
 
-	"../passwords"
-	"../stream"
-	"../subjects"
+	"luvdregan.example/resb/deploy/internal/passwords"
+	"luvdregan.example/resb/deploy/internal/stream"
+	"luvdregan.example/resb/deploy/internal/subjects"
 )
 
 // done is the answer to a change that was done; all others changed nothing.

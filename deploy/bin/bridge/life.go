@@ -9,7 +9,7 @@ import (
 
 	"github.com/nats-io/nats.go"
 
-	"../subjects"
+	"luvdregan.example/resb/deploy/internal/subjects"
 )
 
 // patience is how often the program may end at a change that has no answer yet; then the change is left out.

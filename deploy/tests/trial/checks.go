@@ -11,9 +11,9 @@ import (
 
 	"github.com/nats-io/nats.go"
 
-	"../passwords"
-	"../stream"
-	"../subjects"
+	"luvdregan.example/resb/deploy/internal/passwords"
+	"luvdregan.example/resb/deploy/internal/stream"
+	"luvdregan.example/resb/deploy/internal/subjects"
 )
 
 // raw gives a connection of an application's user, with a count of what NATS forbade it.

@@ -7,7 +7,7 @@ import (
 	"sync"
 	"time"
 
-	"../client"
+	"luvdregan.example/resb/deploy/client"
 )
 
 // A prober asks one shard for the first answer after a kill.
