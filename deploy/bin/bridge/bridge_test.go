@@ -2,6 +2,7 @@ package main
 
 import (
 	"bytes"
+	"context"
 	"fmt"
 	"log"
 	"net"
@@ -59,7 +60,7 @@ func serve(t *testing.T) (*nats.Conn, nats.JetStreamContext) {
 	t.Cleanup(nc.Close)
 	js, err := nc.JetStream()
 	if err == nil {
-		err = makeStreams(js, 1, -1)
+		err = makeStreams(js, 1, -1, 1)
 	}
 	if err != nil {
 		t.Fatal(err)
@@ -110,7 +111,7 @@ func expect(t *testing.T, b *bridge, want ...string) {
 	b.pidFile = pids
 	ended := make(chan string)
 	go func() {
-		_, end := b.run()
+		_, end := b.run(context.Background())
 		ended <- end
 	}()
 	other := newAnswers(b.js, 0)
@@ -120,7 +121,11 @@ func expect(t *testing.T, b *bridge, want ...string) {
 			t.Fatal(err)
 		}
 	}
-	if got := strings.Join(other.given, " "); got != strings.Join(want, " ") {
+	var texts []string
+	for _, given := range other.given {
+		texts = append(texts, given.text)
+	}
+	if got := strings.Join(texts, " "); got != strings.Join(want, " ") {
 		t.Errorf("answers: %s", got)
 	}
 	publish(t, b.js, "end")
@@ -129,36 +134,34 @@ func expect(t *testing.T, b *bridge, want ...string) {
 	}
 }
 
-const yes = `{"ok":true}`
-
 func TestAChangeThatEndsTheProgramIsLeftOut(t *testing.T) {
 	nc, js := serve(t)
 	publish(t, js, "de", "end", "fr")
 	b := bridgeOf(t, nc, js, "plain")
 	for k := 0; k < patience; k++ {
-		if served, end := b.run(); served || end != "Memory, exit status 1" {
+		if served, end := b.run(context.Background()); served || end != "Memory, exit status 1" {
 			t.Errorf("run %d: %v, %s", k, served, end)
 		}
 	}
-	expect(t, b, yes, shardEnded, yes)
+	expect(t, b, done, shardEnded, done)
 }
 
 func TestARefusalForMemoryIsLeftOutOfTheReplay(t *testing.T) {
 	nc, js := serve(t)
 	publish(t, js, "short", "de")
-	expect(t, bridgeOf(t, nc, js, "short"), outOfMemory, yes)
+	expect(t, bridgeOf(t, nc, js, "short"), outOfMemory, done)
 	b := bridgeOf(t, nc, js, "plain")
 	for k := 0; k < patience; k++ {
-		b.run()
+		b.run(context.Background())
 	}
-	expect(t, b, outOfMemory, yes, shardEnded)
+	expect(t, b, outOfMemory, done, shardEnded)
 }
 
 func TestAReplayWithoutMemoryDoesNotServe(t *testing.T) {
 	nc, js := serve(t)
 	publish(t, js, "short", "de")
-	expect(t, bridgeOf(t, nc, js, "plain"), yes, yes)
-	if served, end := bridgeOf(t, nc, js, "short").run(); served || end != "out of memory at change 1 in the replay" {
+	expect(t, bridgeOf(t, nc, js, "plain"), done, done)
+	if served, end := bridgeOf(t, nc, js, "short").run(context.Background()); served || end != "out of memory at change 1 in the replay" {
 		t.Errorf("%v, %s", served, end)
 	}
 }
@@ -166,15 +169,15 @@ func TestAReplayWithoutMemoryDoesNotServe(t *testing.T) {
 func TestAReplayThatDiffersIsLogged(t *testing.T) {
 	nc, js := serve(t)
 	publish(t, js, "de", "fr")
-	expect(t, bridgeOf(t, nc, js, "plain"), yes, yes)
+	expect(t, bridgeOf(t, nc, js, "plain"), done, done)
 	var lines bytes.Buffer
 	log.SetOutput(&lines)
 	defer log.SetOutput(os.Stderr)
 	b := bridgeOf(t, nc, js, "refuse")
 	for k := 0; k < patience; k++ {
-		b.run()
+		b.run(context.Background())
 	}
-	expect(t, b, yes, yes, shardEnded)
+	expect(t, b, done, done, shardEnded)
 	if want := `change 2: replied {"error":"Exists"}, and {"ok":true} when it was first given`; !strings.Contains(lines.String(), want) {
 		t.Errorf("the log has no %s: %s", want, lines.String())
 	}
@@ -194,20 +197,20 @@ func TestWhatIsPlantedAmongTheAnswersIsPassedOver(t *testing.T) {
 		t.Fatal(err)
 	}
 	plant()
-	expect(t, b, yes)
+	expect(t, b, done)
 }
 
 func TestLostChangesAreNoticed(t *testing.T) {
 	nc, js := serve(t)
 	publish(t, js, "de", "fr")
-	expect(t, bridgeOf(t, nc, js, "plain"), yes, yes)
+	expect(t, bridgeOf(t, nc, js, "plain"), done, done)
 	if err := js.DeleteStream(subjects.Changes(0)); err != nil {
 		t.Fatal(err)
 	}
-	if err := makeStreams(js, 1, -1); err != nil {
+	if err := makeStreams(js, 1, -1, 1); err != nil {
 		t.Fatal(err)
 	}
-	if served, end := bridgeOf(t, nc, js, "plain").run(); served || !strings.Contains(end, "they are lost") {
+	if served, end := bridgeOf(t, nc, js, "plain").run(context.Background()); served || !strings.Contains(end, "they are lost") {
 		t.Errorf("%v, %s", served, end)
 	}
 }
@@ -216,12 +219,12 @@ func TestTwoBridgesAnswerEachChangeOnce(t *testing.T) {
 	nc, js := serve(t)
 	var want []string
 	for k := 0; k < 50; k++ {
-		want = append(want, yes)
+		want = append(want, done)
 	}
 	ended := make(chan string)
 	other := bridgeOf(t, nc, js, "plain")
 	go func() {
-		_, end := other.run()
+		_, end := other.run(context.Background())
 		ended <- end
 	}()
 	go func() {

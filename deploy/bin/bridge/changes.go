@@ -8,43 +8,58 @@ import (
 	"time"
 
 	"github.com/nats-io/nats.go"
-
-	"luvdregan.example/resb/deploy/internal/subjects"
 )
 
 // window is how many changes may be on their way: given to the program and not yet answered.
 const window = 256
 
-// follow hands over each change of the shard's stream from the first on, in order and each once, until the context ends or
-// `each` fails. Where NATS fails it begins again at the next change, with growing pauses.
-func follow(ctx context.Context, js nats.JetStreamContext, shard int, each func(n uint64, m *nats.Msg) error) {
-	next, p := uint64(1), pause{}
-	for ctx.Err() == nil {
-		before := next
-		err := fetch(ctx, js, shard, &next, each)
-		if ctx.Err() != nil || errors.Is(err, errEnded) {
-			return
+var (
+	errAnew = errors.New("the connection was lost")
+	errGap  = errors.New("messages are gone")
+)
+
+// A part of a stream: its messages from first to last, or without an end where last is 0.
+type part struct {
+	stream      string
+	first, last uint64
+}
+
+// follow hands over each message of a part, in order and each once, until its end or the context's, or until `each` fails. Where
+// NATS fails it begins again at the next message, with growing pauses. Messages that are gone end it with an error.
+func follow(ctx context.Context, nc *nats.Conn, js nats.JetStreamContext, from part, each func(n uint64, m *nats.Msg) error) error {
+	p := pause{}
+	for ctx.Err() == nil && !from.done() {
+		before := from.first
+		err := fetch(ctx, nc, js, &from, each)
+		if err == nil || ctx.Err() != nil || errors.Is(err, errEnded) || errors.Is(err, errGap) {
+			return err
 		}
-		if next > before {
+		if from.first > before {
 			p.reset()
 		}
 		wait := p.grow()
-		log.Printf("stream of changes: %v; again from change %d in %v", err, next, wait)
+		log.Printf("stream %s: %v; again from message %d in %v", from.stream, err, from.first, wait)
 		rest(ctx, wait)
 	}
+	return nil
 }
 
-// fetch hands over changes from the next on until something fails.
-func fetch(ctx context.Context, js nats.JetStreamContext, shard int, next *uint64, each func(n uint64, m *nats.Msg) error) error {
-	messages, err := js.PullSubscribe("", "", nats.BindStream(subjects.Changes(shard)), nats.StartSequence(*next),
-		nats.AckExplicit(), nats.MaxAckPending(2*window), nats.AckWait(time.Hour), nats.InactiveThreshold(time.Minute))
+func (p part) done() bool { return p.last != 0 && p.first > p.last }
+
+// fetch hands over messages until the part's end or until something fails. Its consumer wants no acknowledgements, so none can
+// be lost, and is made anew after each loss of the connection.
+func fetch(ctx context.Context, nc *nats.Conn, js nats.JetStreamContext, from *part, each func(n uint64, m *nats.Msg) error) error {
+	reconnects := nc.Stats().Reconnects
+	messages, err := js.PullSubscribe("", "", nats.BindStream(from.stream), nats.StartSequence(from.first),
+		nats.AckNone(), nats.InactiveThreshold(time.Minute))
 	if err != nil {
 		return err
 	}
 	defer func() { _ = messages.Unsubscribe() }()
-	for there := 1; ctx.Err() == nil; {
+	delivered := uint64(0)
+	for there := 1; ctx.Err() == nil && !from.done(); {
 		few, done := context.WithTimeout(ctx, 2*time.Second)
-		batch, err := messages.Fetch(there, nats.Context(few))
+		batch, err := messages.Fetch(there, nats.Context(few), nats.PullMaxBytes(2*nc.MaxPayload()))
 		done()
 		if err != nil && !errors.Is(err, context.DeadlineExceeded) && !errors.Is(err, nats.ErrTimeout) {
 			return err
@@ -55,29 +70,39 @@ func fetch(ctx context.Context, js nats.JetStreamContext, shard int, next *uint6
 				return err
 			}
 		}
-		if there, err = hand(batch, next, each); err != nil {
+		if there, err = hand(batch, from, &delivered, each); err != nil {
 			return err
+		}
+		if nc.Stats().Reconnects != reconnects {
+			return errAnew
 		}
 	}
 	return ctx.Err()
 }
 
-// hand hands a batch over, which must go on at the next change. It tells how many changes to fetch next: as many as there are,
-// since a fetch of more would wait for them.
-func hand(batch []*nats.Msg, next *uint64, each func(n uint64, m *nats.Msg) error) (there int, err error) {
+// hand hands a batch over, which must go on at the next message, and counts what the consumer delivered. It tells how many to
+// fetch next: as many as there are, since a fetch of more would wait for them.
+func hand(batch []*nats.Msg, from *part, delivered *uint64, each func(n uint64, m *nats.Msg) error) (there int, err error) {
 	there = 1
 	for _, message := range batch {
 		data, err := message.Metadata()
 		if err != nil {
 			return 0, err
 		}
-		if data.Sequence.Stream != *next {
-			return 0, fmt.Errorf("change %d came in the place of %d", data.Sequence.Stream, *next)
+		if from.done() {
+			return there, nil
 		}
-		if err := each(*next, message); err != nil {
+		*delivered++
+		if data.Sequence.Consumer != *delivered {
+			return 0, fmt.Errorf("delivery %d came in the place of %d", data.Sequence.Consumer, *delivered)
+		}
+		if data.Sequence.Stream != from.first {
+			return 0, fmt.Errorf("stream %s: %d comes in the place of %d: %w", from.stream, data.Sequence.Stream, from.first, errGap)
+		}
+		if err := each(from.first, message); err != nil {
 			return 0, err
 		}
-		*next++
+		from.first++
 		there = within(data.NumPending)
 	}
 	return there, nil

@@ -5,6 +5,7 @@ import (
 	"fmt"
 	"log"
 	"sync"
+	"sync/atomic"
 	"time"
 
 	"github.com/nats-io/nats.go"
@@ -15,8 +16,11 @@ import (
 // patience is how often the program may end at a change that has no answer yet; then the change is left out.
 const patience = 3
 
-// outOfMemory is the shard's refusal that doesn't depend on the application's requests alone.
-const outOfMemory = `{"error":"Memory"}`
+// The shard's replies that matter here: a change was done; and the refusal that doesn't depend on the application's requests alone.
+const (
+	done        = `{"ok":true}`
+	outOfMemory = `{"error":"Memory"}`
+)
 
 // A bridge is what stays from one life of the program to the next.
 type bridge struct {
@@ -27,30 +31,38 @@ type bridge struct {
 	ends    map[uint64]int // how often the program ended at a change without an answer
 }
 
-// A life is one run of the program: a replay of all changes, and then serving.
+// A life is one run of the program: a replay of the bundles that stand and of all changes after them, and then serving.
 type life struct {
 	*bridge
 	program *program
 	cancel  context.CancelFunc
-	target  uint64 // the last change there was at the start; lookups are answered from its answer on
+	from    subjects.Generation
+	left    uint64 // how many lines of the replay aren't settled; lookups are answered when none is
 	replied chan reply
-	free    chan struct{} // has an element for each change on its way
+	gate    *gate
 	first   sync.Once
 	blamed  uint64 // the change that the program was at when it ended, or 0
-	asks    *nats.Subscription
+	asks    []*nats.Subscription
 	served  bool
 	began   time.Time
+	bytes   uint64 // settled in this life
+	count   uint64
 }
 
-// A reply is a change with what the program replied to it.
+// A reply is a bundle or a change with what the program replied to it.
 type reply struct {
-	n       uint64
+	n       uint64 // the change, or 0 for a bundle of the generation
 	message *nats.Msg
 	text    string
 }
 
-// run lives once and says how it ended, and whether lookups were answered.
-func (b *bridge) run() (served bool, end string) {
+// run lives once, at most until the context ends, and says how it ended, and whether lookups were answered.
+func (b *bridge) run(until context.Context) (served bool, end string) {
+	from, err := latest(b.js, b.shard)
+	if err != nil {
+		return false, err.Error()
+	}
+	b.answers.rebase(from.Upto)
 	if err := b.answers.load(); err != nil {
 		return false, err.Error()
 	}
@@ -58,52 +70,78 @@ func (b *bridge) run() (served bool, end string) {
 	if err != nil {
 		return false, "stream of changes: " + err.Error()
 	}
-	if given := uint64(len(b.answers.given)); given > info.State.LastSeq {
+	if given := b.answers.through(); given > info.State.LastSeq {
 		return false, fmt.Sprintf("the stream of changes ends at %d, and changes up to %d were answered: they are lost", info.State.LastSeq, given)
 	}
-	p, err := launch(b.path, b.arguments, b.note)
+	p, err := launch(b.path, b.arguments, b.memory, int(b.nc.MaxPayload()), b.note)
 	if err != nil {
 		return false, err.Error()
 	}
-	ctx, cancel := context.WithCancel(context.Background())
-	l := &life{bridge: b, program: p, cancel: cancel, target: info.State.LastSeq, began: time.Now()}
-	l.replied, l.free = make(chan reply, window), make(chan struct{}, window)
+	ctx, cancel := context.WithCancel(until)
+	l := &life{bridge: b, program: p, cancel: cancel, from: from, gate: newGate(), began: time.Now()}
+	l.left = from.Last + 1 - from.First + info.State.LastSeq - from.Upto
+	if from.Last == 0 {
+		l.left = info.State.LastSeq
+	}
+	l.replied = make(chan reply, window)
 	return l.live(ctx)
 }
 
 // live replays, serves, and cleans up.
 func (l *life) live(ctx context.Context) (served bool, end string) {
 	go func() {
-		<-l.program.ended
-		l.cancel()
+		select {
+		case <-l.program.ended:
+			l.cancel()
+		case <-ctx.Done():
+		}
+		l.gate.wake()
 	}()
 	settled := make(chan string)
 	go func() { settled <- l.settleAll(ctx) }()
-	follow(ctx, l.js, l.shard, func(n uint64, m *nats.Msg) error { return l.feed(ctx, n, m) })
+	go l.watch(ctx)
+	err := l.followAll(ctx)
+	l.cancel()
 	why := <-settled
-	if l.asks != nil {
-		_ = l.asks.Unsubscribe()
+	for _, asks := range l.asks {
+		_ = asks.Unsubscribe()
 	}
 	end = l.program.stop()
 	if _, isGiven := l.answers.to(l.blamed); l.blamed > 0 && !isGiven {
-		l.ends[l.blamed]++
+		l.bridge.ends[l.blamed]++
 	}
-	if why != "" {
+	switch {
+	case why != "":
 		end = why
+	case err != nil && err != errEnded && err != context.Canceled:
+		end = err.Error()
 	}
 	return l.served, end
 }
 
-// feed gives a change to the program. What the bridge answers itself, and what was refused for memory, so that it changed
+// followAll feeds the bundles of the generation and then the changes after it.
+func (l *life) followAll(ctx context.Context) error {
+	if l.from.First <= l.from.Last && l.from.Last > 0 {
+		bundles := part{subjects.Bundles(l.shard), l.from.First, l.from.Last}
+		err := follow(ctx, l.nc, l.js, bundles, func(_ uint64, m *nats.Msg) error { return l.feed(ctx, 0, m, m.Data, "") })
+		if err != nil {
+			return err
+		}
+	}
+	after := part{subjects.Changes(l.shard), l.from.Upto + 1, 0}
+	return follow(ctx, l.nc, l.js, after, func(n uint64, m *nats.Msg) error {
+		line, answer := l.read(n, m)
+		return l.feed(ctx, n, m, line, answer)
+	})
+}
+
+// feed gives a line to the program. What the bridge answers itself, and what was refused for memory, so that it changed
 // nothing, has the empty line in its place.
-func (l *life) feed(ctx context.Context, n uint64, m *nats.Msg) error {
-	line, answer := l.read(n, m)
-	select {
-	case l.free <- struct{}{}:
-	case <-ctx.Done():
+func (l *life) feed(ctx context.Context, n uint64, m *nats.Msg, line []byte, answer string) error {
+	if !l.gate.enter(ctx, len(m.Data)) {
 		return errEnded
 	}
-	return l.program.ask(line, func(text []byte) {
+	return l.program.ask(changes, line, func(text []byte) {
 		if text == nil {
 			l.first.Do(func() { l.blamed = n })
 			return
@@ -121,7 +159,7 @@ func (l *life) read(n uint64, m *nats.Msg) (line []byte, answer string) {
 	switch {
 	case given == outOfMemory, given == shardEnded:
 		return nil, given
-	case !isGiven && l.ends[n] >= patience:
+	case !isGiven && l.bridge.ends[n] >= patience:
 		log.Printf("change %d: the program ended %d times at it; it is left out", n, patience)
 		return nil, shardEnded
 	}
@@ -130,4 +168,35 @@ func (l *life) read(n uint64, m *nats.Msg) (line []byte, answer string) {
 		return nil, otherApp
 	}
 	return judge(change, app, m.Data)
+}
+
+// watch says every few seconds how a replay goes, and that it is slow where it is.
+func (l *life) watch(ctx context.Context) {
+	const each = 5 * time.Second
+	var count, bytes uint64
+	for left := atomic.LoadUint64(&l.left); left > 0; left = atomic.LoadUint64(&l.left) {
+		rest(ctx, each)
+		if ctx.Err() != nil {
+			return
+		}
+		nowCount, nowBytes := atomic.LoadUint64(&l.count), atomic.LoadUint64(&l.bytes)
+		log.Print(progress(nowCount-count, nowBytes-bytes, atomic.LoadUint64(&l.left), each))
+		count, bytes = nowCount, nowBytes
+	}
+}
+
+// Less than this in a second is slow.
+const (
+	slowCount = 500
+	slowBytes = 1 << 20
+)
+
+// progress tells how a replay went on in a time.
+func progress(count, bytes, left uint64, d time.Duration) string {
+	rate, volume := float64(count)/d.Seconds(), float64(bytes)/d.Seconds()
+	text := fmt.Sprintf("the replay goes on: %.0f lines and %.0f bytes a second, %d lines are left", rate, volume, left)
+	if rate < slowCount && volume < slowBytes {
+		text = "slow: " + text
+	}
+	return text
 }

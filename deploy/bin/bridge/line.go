@@ -19,6 +19,8 @@ const (
 	wrongSubject = `{"error":"WrongSubject"}`
 	tooLarge     = `{"error":"ReplyTooLarge"}`
 	shardEnded   = `{"error":"ShardEnded"}`
+	busy         = `{"error":"Busy"}`
+	noAnswer     = `{"error":"NoAnswer"}`
 )
 
 var kinds = map[string]kind{"install": change, "replace": change, "remove": change, "list": ask, "look": ask}

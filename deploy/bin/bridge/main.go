@@ -7,9 +7,11 @@ import (
 	"fmt"
 	"log"
 	"os"
+	"runtime"
 )
 
 func main() {
+	runtime.GOMAXPROCS(1) // one thread: what has come is handed on together, and no thread is woken for a line
 	log.SetFlags(log.LstdFlags | log.Lmicroseconds)
 	s := read()
 	log.SetPrefix(fmt.Sprintf("shard %d: ", s.shard))
@@ -30,11 +32,11 @@ func start(s settings) error {
 		return err
 	}
 	if s.setup > 0 {
-		return makeStreams(js, s.setup, s.bytes)
+		return makeStreams(js, s.setup, s.bytes, s.replicas)
 	}
 	b := &bridge{settings: s, nc: nc, js: js, answers: newAnswers(js, s.shard), ends: map[uint64]int{}}
 	for p := (pause{}); ; {
-		served, end := b.run()
+		served, end := b.run(context.Background())
 		if served {
 			p.reset()
 		}

@@ -5,6 +5,7 @@ import (
 	"io"
 	"os"
 	"os/exec"
+	"strconv"
 	"sync"
 )
 
@@ -17,9 +18,17 @@ type program struct {
 	word    string
 }
 
-// launch starts `PATH serve ARGUMENTS` and notes its process in the file.
-func launch(path string, arguments []string, note func(pid int)) (*program, error) {
-	command := exec.Command(path, append([]string{"serve"}, arguments...)...)
+// limited runs a command with at most so many kilobytes of memory: sh -c limited KILOBYTES COMMAND..
+const limited = `ulimit -v "$0" && exec "$@"`
+
+// launch starts `PATH serve ARGUMENTS` with at most so many bytes of memory, where that isn't 0, and notes its process in the
+// file. Of a reply no more than the limit is kept.
+func launch(path string, arguments []string, memory int64, limit int, note func(pid int)) (*program, error) {
+	words := append([]string{path, "serve"}, arguments...)
+	if memory > 0 {
+		words = append([]string{"/bin/sh", "-c", limited, strconv.FormatInt(memory/1024, 10)}, words...)
+	}
+	command := exec.Command(words[0], words[1:]...)
 	in, err := command.StdinPipe()
 	if err != nil {
 		return nil, err
@@ -36,9 +45,10 @@ func launch(path string, arguments []string, note func(pid int)) (*program, erro
 		return nil, err
 	}
 	note(command.Process.Pid)
-	p := &program{pipe: newPipe(in), command: command, input: in}
+	p := &program{pipe: newPipe(in, limit), command: command, input: in}
 	p.errors.Add(1)
 	go p.listen(errors)
+	go p.write()
 	go p.read(out)
 	return p, nil
 }

@@ -37,7 +37,7 @@ func TestMain(m *testing.M) {
 // launchFake starts this test as a program.
 func launchFake(t *testing.T, mode string) *program {
 	t.Setenv(fake, mode)
-	p, err := launch(os.Args[0], nil, func(int) {})
+	p, err := launch(os.Args[0], nil, 0, 1<<20, func(int) {})
 	if err != nil {
 		t.Fatal(err)
 	}
@@ -48,7 +48,7 @@ func TestTheLastWordOfAProgramIsTold(t *testing.T) {
 	p := launchFake(t, "plain")
 	replies := make(chan string, 2)
 	for _, line := range []string{"a", "end"} {
-		if err := p.ask([]byte(line), func(reply []byte) { replies <- string(reply) }); err != nil {
+		if err := p.ask(changes, []byte(line), func(reply []byte) { replies <- string(reply) }); err != nil {
 			t.Fatal(err)
 		}
 	}

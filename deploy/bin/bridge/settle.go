@@ -4,6 +4,7 @@ import (
 	"context"
 	"fmt"
 	"log"
+	"sync/atomic"
 	"time"
 
 	"github.com/nats-io/nats.go"
@@ -11,10 +12,10 @@ import (
 	"luvdregan.example/resb/deploy/internal/subjects"
 )
 
-// settleAll settles each change that the program replied to, in order, until the context ends; it says why it ended the life.
+// settleAll settles each line that the program replied to, in order, until the context ends; it says why it ended the life.
 func (l *life) settleAll(ctx context.Context) string {
 	defer l.cancel()
-	if l.target == 0 {
+	if atomic.LoadUint64(&l.left) == 0 {
 		l.open()
 	}
 	for {
@@ -25,28 +26,37 @@ func (l *life) settleAll(ctx context.Context) string {
 			if why := l.settle(ctx, r); why != "" {
 				return why
 			}
-			<-l.free
-			if r.n == l.target {
-				l.open()
+			l.gate.leave(len(r.message.Data))
+			atomic.AddUint64(&l.count, 1)
+			atomic.AddUint64(&l.bytes, uint64(len(r.message.Data)))
+			if left := atomic.LoadUint64(&l.left); left > 0 {
+				atomic.StoreUint64(&l.left, left-1)
+				if left == 1 {
+					l.open()
+				}
 			}
 		}
 	}
 }
 
-// settle compares a reply with the answer that was given, or gives it, and then acknowledges the change.
+// settle compares a reply with the answer that was given, or gives it.
 func (l *life) settle(ctx context.Context, r reply) string {
-	if given, isGiven := l.answers.to(r.n); isGiven {
-		if given != r.text {
-			log.Printf("change %d: replied %s, and %s when it was first given", r.n, r.text, given)
+	if r.n == 0 {
+		if r.text != done {
+			return fmt.Sprintf("a bundle of the generation up to change %d: replied %s", l.from.Upto, r.text)
 		}
-		if r.text == outOfMemory && given != outOfMemory {
-			return fmt.Sprintf("out of memory at change %d in the replay", r.n)
-		}
-	} else {
-		l.give(ctx, r)
+		return ""
 	}
-	if err := r.message.Ack(); err != nil && ctx.Err() == nil {
-		log.Printf("acknowledging change %d: %v", r.n, err)
+	given, isGiven := l.answers.to(r.n)
+	if !isGiven {
+		l.give(ctx, r)
+		return ""
+	}
+	if given != r.text {
+		log.Printf("change %d: replied %s, and %s when it was first given", r.n, r.text, given)
+	}
+	if r.text == outOfMemory && given != outOfMemory {
+		return fmt.Sprintf("out of memory at change %d in the replay", r.n)
 	}
 	return ""
 }
@@ -64,17 +74,23 @@ func (l *life) give(ctx context.Context, r reply) {
 	}
 }
 
-// open begins to answer lookups.
+// open begins to answer lookups, and has changes take their turn among them.
 func (l *life) open() {
-	asks, err := l.nc.Subscribe(subjects.ShardAsks(l.shard), l.answer)
-	if err == nil {
-		err = asks.SetPendingLimits(1<<16, 1<<26)
+	l.program.narrow()
+	for subject, answer := range map[string]nats.MsgHandler{
+		subjects.ShardAsks(l.shard): l.answer, subjects.ShardMany(l.shard): l.answerMany, subjects.ShardAsked(l.shard): l.tell,
+	} {
+		asks, err := l.nc.Subscribe(subject, answer)
+		if err == nil {
+			l.asks = append(l.asks, asks)
+			err = asks.SetPendingLimits(1<<16, 1<<28)
+		}
+		if err != nil {
+			log.Printf("lookups: %v", err)
+			l.cancel()
+			return
+		}
 	}
-	l.asks, l.served = asks, err == nil
-	if err != nil {
-		log.Printf("lookups: %v", err)
-		l.cancel()
-		return
-	}
-	log.Printf("serves after %d changes, %d ms", l.target, time.Since(l.began).Milliseconds())
+	l.served = true
+	log.Printf("serves after %d lines, %d ms", l.count, time.Since(l.began).Milliseconds())
 }

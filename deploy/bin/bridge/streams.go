@@ -9,25 +9,30 @@ import (
 	"luvdregan.example/resb/deploy/internal/subjects"
 )
 
-// makeStreams makes the streams of the shards 0 to n-1 where they aren't there. A full stream refuses what is published, and
-// nothing is ever taken out.
-func makeStreams(js nats.JetStreamContext, n int, bytes int64) error {
+// makeStreams makes the streams of the shards 0 to n-1 where they aren't there, with so many replicas. A full stream refuses what
+// is published; the compactor alone takes out what a generation of bundles has.
+func makeStreams(js nats.JetStreamContext, n int, bytes int64, replicas int) error {
 	for shard := 0; shard < n; shard++ {
-		changes := durable(subjects.Changes(shard), subjects.ShardChanges(shard), bytes)
-		if err := makeStream(js, changes); err != nil {
-			return err
+		all := []*nats.StreamConfig{
+			durable(subjects.Changes(shard), subjects.ShardChanges(shard)),
+			durable(subjects.AnswersOf(shard), subjects.ShardAnswers(shard)),
+			durable(subjects.Bundles(shard), subjects.Bundle(shard, "*"), subjects.Seals(shard)),
 		}
-		if err := makeStream(js, durable(subjects.AnswersOf(shard), subjects.ShardAnswers(shard), -1)); err != nil {
-			return err
+		all[0].MaxBytes = bytes
+		for _, config := range all {
+			config.Replicas = replicas
+			if err := makeStream(js, config); err != nil {
+				return err
+			}
 		}
 	}
 	return nil
 }
 
-func durable(name, subject string, bytes int64) *nats.StreamConfig {
+func durable(name string, of ...string) *nats.StreamConfig {
 	return &nats.StreamConfig{
-		Name: name, Subjects: []string{subject}, Storage: nats.FileStorage, Retention: nats.LimitsPolicy, Discard: nats.DiscardNew,
-		MaxBytes: bytes, Duplicates: 10 * time.Minute, DenyDelete: true, DenyPurge: true, AllowDirect: true,
+		Name: name, Subjects: of, Storage: nats.FileStorage, Retention: nats.LimitsPolicy, Discard: nats.DiscardNew,
+		MaxBytes: -1, Duplicates: 10 * time.Minute, DenyDelete: true,
 	}
 }
 

@@ -62,5 +62,35 @@ func Changes(shard int) string { return fmt.Sprintf("CHANGES_%d", shard) }
 // AnswersOf is the name of the stream of a shard's answers.
 func AnswersOf(shard int) string { return fmt.Sprintf("ANSWERS_%d", shard) }
 
+// Asked is where one asks for the answer to a change of the application: by its place in the stream of changes in decimal, or,
+// by an empty message, for the last.
+func Asked(app string) string { return "resb.answered." + Token(app) }
+
+// Many is where several lookups and lists are asked at once, a line each; so are the replies.
+func Many(app string) string { return "resb.many." + Token(app) }
+
+// ShardAsked and ShardMany are what a shard's bridge answers of these.
+func ShardAsked(shard int) string { return fmt.Sprintf("resb.answered.%d.*", shard) }
+
+// ShardMany is what a shard's bridge answers of several lines.
+func ShardMany(shard int) string { return fmt.Sprintf("resb.many.%d.*", shard) }
+
+// Bundles is the name of the stream with the generations of a shard's bundles.
+func Bundles(shard int) string { return fmt.Sprintf("BUNDLES_%d", shard) }
+
+// Bundle is where a bundle of a generation is kept, as the line that installs it.
+func Bundle(shard int, token string) string { return fmt.Sprintf("resb.bundle.%d.%s", shard, token) }
+
+// Seals is where the seal of each generation is kept.
+func Seals(shard int) string { return fmt.Sprintf("resb.generation.%d", shard) }
+
+// A Generation is what its seal says: the bundles that stood after the change Upto are the messages from First to Last of
+// the stream of bundles. All are 0 where there is none.
+type Generation struct {
+	First uint64 `json:"first"`
+	Last  uint64 `json:"last"`
+	Upto  uint64 `json:"upto"`
+}
+
 // Last gives the last token of a subject.
 func Last(subject string) string { return subject[strings.LastIndexByte(subject, '.')+1:] }
