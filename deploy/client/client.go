@@ -31,7 +31,6 @@ var (
 const (
 	ended = `{"error":"ShardEnded"}`
 	busy  = `{"error":"Busy"}`
-	other = `{"error":"OtherApp"}`
 )
 
 // A Client asks for one application. Its methods may be called at once.
@@ -157,8 +156,7 @@ func (p *Pending) publish() error {
 func (p *Pending) Shard() string { return p.stream }
 
 // Wait gives the answer to a change. The shard is asked for one that doesn't come, as it may have come while the connection was
-// lost. Where another application had stored a change under the same name, so that this one wasn't stored, it is published
-// again under another name.
+// lost.
 func (p *Pending) Wait() (string, error) {
 	defer p.forget()
 	for end := time.Now().Add(Patience); time.Now().Before(end); {
@@ -172,11 +170,6 @@ func (p *Pending) Wait() (string, error) {
 			if err == nil && answer.place == p.place {
 				return answer.text, nil
 			}
-			if err == nil && answer.text == other {
-				if err := p.rename(); err != nil {
-					return "", err
-				}
-			}
 		}
 	}
 	return "", errors.New("no answer")
@@ -189,16 +182,6 @@ func (p *Pending) stored() (told, error) {
 		return told{}, err
 	}
 	return told{string(m.Data), m.Header.Get(subjects.AnswerTo)}, nil
-}
-
-// rename publishes the change under a new name.
-func (p *Pending) rename() error {
-	p.forget()
-	p.id = name()
-	p.client.mu.Lock()
-	p.client.waiting[p.id] = p.answer
-	p.client.mu.Unlock()
-	return p.publish()
 }
 
 // Ask gives the reply to a lookup or a list, which is asked again where no shard replied; it tells how often it was.

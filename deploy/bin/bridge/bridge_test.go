@@ -93,7 +93,7 @@ func TestNATSIsTriedUntilItIsThere(t *testing.T) {
 func publish(t *testing.T, js nats.JetStreamContext, locales ...string) {
 	for _, locale := range locales {
 		line := `{"op":"install","app":"shop","locale":"` + locale + `"}`
-		if _, err := js.Publish("resb.change.0."+subjects.Token("shop"), []byte(line)); err != nil {
+		if _, err := js.Publish(subjects.Log(0, subjects.Token("shop")), []byte(line)); err != nil {
 			t.Fatal(err)
 		}
 	}

@@ -35,6 +35,9 @@ func start(s settings) error {
 		return makeStreams(js, s.setup, s.bytes, s.replicas)
 	}
 	b := &bridge{settings: s, nc: nc, js: js, answers: newAnswers(js, s.shard), ends: map[uint64]int{}}
+	if err := b.store(); err != nil {
+		return err
+	}
 	for p := (pause{}); ; {
 		served, end := b.run(context.Background())
 		if served {

@@ -53,7 +53,7 @@ func TestAReplayGoesOnAtFullSpeedWhenTheServerWasKilled(t *testing.T) {
 	}
 	const n, killed = 20000, 8000
 	for k := 0; k < n; k++ {
-		if _, err := js.PublishAsync("resb.change.0."+subjects.Token("shop"), []byte(`{"op":"install"}`)); err != nil {
+		if _, err := js.PublishAsync(subjects.Log(0, subjects.Token("shop")), []byte(`{"op":"install"}`)); err != nil {
 			t.Fatal(err)
 		}
 	}

@@ -64,7 +64,8 @@ func (l *life) settle(ctx context.Context, r reply) string {
 // give stores and sends an answer, as often as it takes.
 func (l *life) give(ctx context.Context, r reply) {
 	for p := (pause{}); ctx.Err() == nil; {
-		err := l.answers.give(r.n, subjects.Last(r.message.Subject), r.message.Header.Get(nats.MsgIdHdr), r.text)
+		token := subjects.Last(r.message.Subject)
+		err := l.answers.give(r.n, token, subjects.GivenID(token, r.message.Header.Get(nats.MsgIdHdr)), r.text)
 		if err == nil {
 			return
 		}
@@ -80,7 +81,7 @@ func (l *life) open() {
 	for subject, answer := range map[string]nats.MsgHandler{
 		subjects.ShardAsks(l.shard): l.answer, subjects.ShardMany(l.shard): l.answerMany, subjects.ShardAsked(l.shard): l.tell,
 	} {
-		asks, err := l.nc.Subscribe(subject, answer)
+		asks, err := l.nc.QueueSubscribe(subject, one, answer)
 		if err == nil {
 			l.asks = append(l.asks, asks)
 			err = asks.SetPendingLimits(1<<16, 1<<28)

@@ -14,7 +14,7 @@ import (
 func makeStreams(js nats.JetStreamContext, n int, bytes int64, replicas int) error {
 	for shard := 0; shard < n; shard++ {
 		all := []*nats.StreamConfig{
-			durable(subjects.Changes(shard), subjects.ShardChanges(shard)),
+			durable(subjects.Changes(shard), subjects.ShardLog(shard)),
 			durable(subjects.AnswersOf(shard), subjects.ShardAnswers(shard)),
 			durable(subjects.Bundles(shard), subjects.Bundle(shard, "*"), subjects.Seals(shard)),
 		}

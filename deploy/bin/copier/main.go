@@ -126,7 +126,7 @@ func copyShard(source, target *nats.Conn, shard int) (count int, err error) {
 
 // publish stores a change under a name made of its old place.
 func publish(js nats.JetStreamContext, shard int, n uint64, m *nats.Msg) error {
-	message := nats.NewMsg("resb.change." + subjects.Last(m.Subject))
+	message := nats.NewMsg("resb.log." + subjects.Last(m.Subject))
 	message.Data = m.Data
 	message.Header.Set(subjects.MessageID, fmt.Sprintf("%d-%d", shard, n))
 	_, err := js.PublishMsg(message)

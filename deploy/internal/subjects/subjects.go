@@ -29,7 +29,7 @@ func App(token string) (string, bool) {
 	return string(name), err == nil && len(name) > 0 && Token(string(name)) == token
 }
 
-// Change is where the application's changes are published.
+// Change is where the application's changes are published, as requests: nats-server's acknowledgement is the reply.
 func Change(app string) string { return "resb.change." + Token(app) }
 
 // Ask is where the application's lookups and lists are asked.
@@ -46,6 +46,18 @@ func User(app string) string { return "app-" + Token(app) }
 
 // ShardChanges, ShardAsks and ShardAnswers are the subjects of one shard, of all applications.
 func ShardChanges(shard int) string { return fmt.Sprintf("resb.change.%d.*", shard) }
+
+// ShardLog is what the stream of a shard's changes keeps: the shard's bridge alone publishes there.
+func ShardLog(shard int) string { return fmt.Sprintf("resb.log.%d.*", shard) }
+
+// Log is where one application's changes of one shard are kept.
+func Log(shard int, token string) string { return fmt.Sprintf("resb.log.%d.%s", shard, token) }
+
+// StoredID is the name under which a change is stored: names of different applications differ.
+func StoredID(token, id string) string { return token + "." + id }
+
+// GivenID is the name that the caller gave.
+func GivenID(token, stored string) string { return strings.TrimPrefix(stored, token+".") }
 
 // ShardAsks is what a shard's bridge answers.
 func ShardAsks(shard int) string { return fmt.Sprintf("resb.ask.%d.*", shard) }

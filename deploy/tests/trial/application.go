@@ -15,6 +15,7 @@ type application struct {
 	reference *reference
 	random    *rand.Rand
 	tally     *tally
+	cluster   *cluster
 	shard     string
 }
 

@@ -49,17 +49,18 @@ func (c *cluster) isolation(t *tally, applications []*application) error {
 		return err
 	}
 	defer nc.Close()
-	forbids(t, nc, forbidden, theirs.name)
+	forbids(t, nc, forbidden, ours.name, theirs.name)
 	refuses(t, ours, theirs.name)
 	plants(t, nc, ours.name, theirs)
 	repeats(t, nc, ours)
+	guesses(t, nc, ours, theirs)
 	theirs.verify()
 	ours.verify()
 	return nil
 }
 
 // forbids checks NATS' permissions: publishing for another application, and receiving what is another's.
-func forbids(t *tally, nc *nats.Conn, forbidden func() int, other string) {
+func forbids(t *tally, nc *nats.Conn, forbidden func() int, our, other string) {
 	tries := []func() error{
 		func() error { return nc.Publish(subjects.Change(other), []byte(install(other, "it", 1))) },
 		func() error { return nc.Publish(subjects.Answer(0, subjects.Token(other)), []byte(`{"ok":true}`)) },
@@ -67,7 +68,14 @@ func forbids(t *tally, nc *nats.Conn, forbidden func() int, other string) {
 			return nc.Publish("resb.change.0."+subjects.Token(other), []byte(install(other, "it", 1)))
 		},
 		func() error { return nc.Publish(subjects.Ask(other), []byte(list(other))) },
+		func() error { return nc.Publish("resb.log."+subjects.Token(other), []byte(install(other, "it", 1))) },
+		func() error { return nc.Publish(subjects.Asked(other), nil) },
+		func() error { return nc.Publish(subjects.Many(other), []byte(list(other))) },
 		func() error { return nc.Publish("$JS.API.STREAM.PURGE.CHANGES_0", nil) },
+		func() error { return nc.Publish("$JS.API.STREAM.MSG.GET.ANSWERS_0", []byte(`{"seq":1}`)) },
+		func() error {
+			return nc.PublishRequest("$JS.API.DIRECT.GET.ANSWERS_0."+subjects.Answer(0, subjects.Token(our)), subjects.Answer(0, subjects.Token(other)), nil)
+		},
 		func() error { _, err := nc.SubscribeSync(subjects.Answers(other)); return err },
 		func() error { _, err := nc.SubscribeSync(subjects.Inbox(other) + ".>"); return err },
 		func() error { _, err := nc.SubscribeSync("_INBOX.>"); return err },
@@ -121,9 +129,12 @@ func plants(t *tally, nc *nats.Conn, our string, theirs *application) {
 	}
 	for shard := 0; shard < 4; shard++ {
 		changes := fmt.Sprintf("resb.change.%d.%s", shard, token)
-		for _, subject := range []string{subjects.Answer(shard, token), changes, "$JS.API.STREAM.PURGE." + subjects.Changes(shard)} {
+		for _, subject := range []string{subjects.Answer(shard, token), changes, subjects.Log(shard, token), subjects.Inbox(theirs.name) + ".x",
+			"$JS.API.STREAM.PURGE." + subjects.Changes(shard), "$JS.API.STREAM.MSG.DELETE." + subjects.Changes(shard)} {
 			_ = nc.PublishRequest(subjects.Change(our), subject, []byte("planted"))
 			_ = nc.PublishRequest(subjects.Ask(our), subject, []byte(list(our)))
+			_ = nc.PublishRequest(subjects.Many(our), subject, []byte(list(our)))
+			_ = nc.PublishRequest(subjects.Asked(our), subject, nil)
 		}
 	}
 	_ = nc.Flush()
@@ -131,6 +142,54 @@ func plants(t *tally, nc *nats.Conn, our string, theirs *application) {
 		t.fail("a reply came where none was asked: %v", err)
 	}
 	theirs.change(randomChange(theirs.random, theirs.name), randomChange(theirs.random, theirs.name))
+}
+
+// guesses stores changes under names that the other application then uses: its changes are stored and answered all the same, and
+// nothing but these answers reaches it.
+func guesses(t *tally, nc *nats.Conn, ours, theirs *application) {
+	other, _, err := theirs.cluster.raw(theirs.name)
+	if err != nil {
+		t.fail("guesses: %v", err)
+		return
+	}
+	defer other.Close()
+	answers, err := other.SubscribeSync(subjects.Answers(theirs.name))
+	if err != nil {
+		t.fail("subscription: %v", err)
+		return
+	}
+	_ = other.Flush()
+	change := func(nc *nats.Conn, line, app string) {
+		message := nats.NewMsg(subjects.Change(app))
+		message.Data = []byte(line)
+		message.Header.Set(subjects.MessageID, "guessed")
+		if stored, err := nc.RequestMsg(message, 5*time.Second); err != nil || strings.Contains(string(stored.Data), "duplicate") {
+			t.fail("a change under a guessed name: %v", err)
+		}
+	}
+	for _, a := range []*application{ours, theirs} {
+		line := request{Op: "remove", App: a.name, Locale: "pt"}.line()
+		want, err := a.reference.ask(line)
+		if err != nil {
+			t.fail("the reference of %s: %v", a.name, err)
+			return
+		}
+		if a == ours {
+			change(nc, line, a.name)
+			_, _ = nc.Request(subjects.Asked(a.name), nil, time.Second)
+			continue
+		}
+		change(other, line, a.name)
+		m, err := answers.NextMsg(5 * time.Second)
+		if err != nil {
+			t.fail("the answer under a guessed name: %v", err)
+			return
+		}
+		t.compare(line, string(m.Data), want)
+		if m, err := answers.NextMsg(300 * time.Millisecond); err == nil {
+			t.fail("a second answer came: %s", m.Data)
+		}
+	}
 }
 
 // repeats publishes one change twice under one name: it is stored once and answered once.

@@ -72,7 +72,7 @@ func (c *cluster) applications(t *tally) ([]*application, error) {
 		if err != nil {
 			return nil, err
 		}
-		all[k] = &application{name: name, client: caller, reference: alone, random: rand.New(rand.NewSource(rand.Int63())), tally: t}
+		all[k] = &application{name: name, client: caller, reference: alone, random: rand.New(rand.NewSource(rand.Int63())), tally: t, cluster: c}
 	}
 	return all, nil
 }
