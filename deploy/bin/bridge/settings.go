@@ -18,6 +18,7 @@ type settings struct {
 	path      string
 	pidFile   string
 	memory    int64
+	name      string
 	arguments []string
 }
 
@@ -32,6 +33,7 @@ func read() settings {
 	flag.StringVar(&s.passwords, "passwords", "", "a file with lines of a user, a space and the password")
 	flag.StringVar(&s.path, "program", "resb", "the program whose `serve` is run")
 	flag.StringVar(&s.pidFile, "pid", "", "a file to which the program's process is written")
+	flag.StringVar(&s.name, "name", "bridge", "the bridge's own name among those of its shard")
 	flag.Int64Var(&s.memory, "memory", 0, "the most bytes of memory that the program may take; 0 is without a limit")
 	flag.Parse()
 	s.arguments = flag.Args()

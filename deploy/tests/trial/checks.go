@@ -231,6 +231,45 @@ func repeats(t *tally, nc *nats.Conn, ours *application) {
 	}
 }
 
+// comesAndGoes adds an application while all runs, and drops it: its callers are cut off, and nobody else is.
+func (c *cluster) comesAndGoes(t *tally, others *application) error {
+	const late = "late.one"
+	if err := c.run("add", late); err != nil {
+		return err
+	}
+	caller, err := c.dial(late)
+	if err != nil {
+		return err
+	}
+	defer caller.Close()
+	p, err := caller.Change(install(late, "de", 1))
+	if err != nil {
+		return err
+	}
+	if answer, err := p.Wait(); err != nil || answer != `{"ok":true}` {
+		t.fail("an application that was added: %s, %v", answer, err)
+	}
+	nc, _, err := others.cluster.raw(others.name)
+	if err != nil {
+		return err
+	}
+	defer nc.Close()
+	if err := c.run("drop", late); err != nil {
+		return err
+	}
+	if _, err := caller.Once(list(late), time.Second); err == nil {
+		t.fail("an application that was dropped is answered")
+	}
+	if _, err := c.dial(late); err == nil {
+		t.fail("an application that was dropped has a password")
+	}
+	if nc.Stats().Reconnects > 0 || !nc.IsConnected() {
+		t.fail("another application's caller was cut off")
+	}
+	others.verify()
+	return nil
+}
+
 // once checks that the streams have one answer to each change.
 func (c *cluster) once(t *tally) error {
 	password, err := passwords.Find(filepath.Join(c.state, "passwords"), "operator")

@@ -107,6 +107,9 @@ func (c *cluster) endure(t *tally, applications []*application, kills time.Durat
 	if err := c.isolation(t, applications); err != nil {
 		return err
 	}
+	if err := c.comesAndGoes(t, applications[1]); err != nil {
+		return err
+	}
 	if err := c.killServer(t, applications, probers[0]); err != nil {
 		return err
 	}
