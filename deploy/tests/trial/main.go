@@ -24,10 +24,16 @@ func main() {
 	scripts := flag.String("scripts", "", "the folder of start and stop")
 	folder := flag.String("folder", "", "an empty folder")
 	program := flag.String("program", "", "the program whose `serve` is run")
+	only := flag.String("only", "", "the part to run alone: churn")
 	flag.Parse()
 	rand.Seed(time.Now().UnixNano())
 	t := &tally{}
-	if err := try(t, *scripts, *folder, *program, time.Duration(*seconds)*time.Second); err != nil {
+	duration := time.Duration(*seconds) * time.Second
+	run := func() error { return try(t, *scripts, *folder, *program, duration) }
+	if *only == "churn" {
+		run = func() error { return churnFor(t, *scripts, *folder, *program, duration) }
+	}
+	if err := run(); err != nil {
 		t.fail("%v", err)
 	}
 	fmt.Printf("%d lookups and %d changes; %d times a lookup was asked again\n", t.lookups, t.changes, t.again)
@@ -57,7 +63,19 @@ func try(t *tally, scripts, folder, program string, duration time.Duration) erro
 			return err
 		}
 	}
+	if err := churnFor(t, scripts, folder, program, duration); err != nil {
+		return err
+	}
 	return full(t, scripts, filepath.Join(folder, "full"), program)
+}
+
+// churnFor replaces bundles 10,000 times, or less often in a short trial.
+func churnFor(t *tally, scripts, folder, program string, duration time.Duration) error {
+	replacements := 10000
+	if duration < long {
+		replacements = 1000
+	}
+	return churn(t, scripts, filepath.Join(folder, "churn"), program, replacements)
 }
 
 // try runs the parts over one cluster, and stops it.

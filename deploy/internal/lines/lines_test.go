@@ -1,4 +1,4 @@
-package main
+package lines
 
 import "testing"
 
@@ -13,7 +13,7 @@ func TestLinesOfTheApplicationAreSealed(t *testing.T) {
 		`{"op":"sing","app":"shop"}`:               `{"op":"sing","app":"shop","op":"sing","app":"shop"}`,
 	}
 	for message, want := range cases {
-		line, answer := judge(ask, "shop", []byte(message))
+		line, answer := Judge(Ask, "shop", []byte(message))
 		if string(line) != want || answer != "" {
 			t.Errorf("%s: %q, %q", message, line, answer)
 		}
@@ -26,7 +26,7 @@ func TestWhatIsNoRequestBecomesTheEmptyLine(t *testing.T) {
 		"{\"op\":\"list\",\n\"app\":\"shop\"}", "{\"op\":\"list\",\"app\":\"shop\"}\n{\"op\":\"list\",\"app\":\"bank\"}",
 		`{"op":"list","app":"shop"}{"op":"list","app":"bank"}`, `{"op":"list","App":"shop"}`, `{"op":"list","app":null}`,
 	} {
-		if line, answer := judge(ask, "shop", []byte(message)); len(line) != 0 || answer != "" {
+		if line, answer := Judge(Ask, "shop", []byte(message)); len(line) != 0 || answer != "" {
 			t.Errorf("%q: %q, %q", message, line, answer)
 		}
 	}
@@ -36,7 +36,7 @@ func TestOtherApplicationsAreRefused(t *testing.T) {
 	for _, message := range []string{
 		`{"op":"list","app":"bank"}`, `{"op":"list","app":"shop","app":"bank"}`, `{"op":"list","app":"shop","\u0061pp":"bank"}`, `{"op":"list","app":""}`,
 	} {
-		if line, answer := judge(ask, "shop", []byte(message)); line != nil || answer != otherApp {
+		if line, answer := Judge(Ask, "shop", []byte(message)); line != nil || answer != OtherApp {
 			t.Errorf("%s: %q, %q", message, line, answer)
 		}
 	}
@@ -45,10 +45,10 @@ func TestOtherApplicationsAreRefused(t *testing.T) {
 func TestEachOperationHasItsKind(t *testing.T) {
 	for op, of := range kinds {
 		message := []byte(`{"op":"` + op + `","app":"shop"}`)
-		if _, answer := judge(of, "shop", message); answer != "" {
+		if _, answer := Judge(of, "shop", message); answer != "" {
 			t.Errorf("%s: %q", op, answer)
 		}
-		if line, answer := judge(1-of, "shop", message); line != nil || answer != wrongSubject {
+		if line, answer := Judge(1-of, "shop", message); line != nil || answer != WrongSubject {
 			t.Errorf("%s of the other kind: %q, %q", op, line, answer)
 		}
 	}
