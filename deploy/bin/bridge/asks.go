@@ -24,8 +24,11 @@ func caller(m *nats.Msg) (app, token string, ok bool) {
 	return app, token, ok
 }
 
-// send publishes a reply.
+// send publishes a reply, unless another bridge may have the lease: then the caller asks again, and that one answers.
 func (l *life) send(to string, text []byte) {
+	if !l.lease.holds() {
+		return
+	}
 	if err := l.nc.Publish(to, text); err != nil {
 		log.Printf("reply to %s: %v", to, err)
 	}
@@ -122,7 +125,7 @@ func (j *joint) put(k int, text []byte) {
 // tell gives the answer to a change of the application.
 func (l *life) tell(m *nats.Msg) {
 	_, token, ok := caller(m)
-	if !ok {
+	if !ok || !l.lease.holds() {
 		return
 	}
 	n, ok := request(m.Data)

@@ -103,7 +103,7 @@ func publish(t *testing.T, js nats.JetStreamContext, locales ...string) {
 // bridgeOf gives a bridge whose program is this test.
 func bridgeOf(t *testing.T, nc *nats.Conn, js nats.JetStreamContext, mode string) *bridge {
 	t.Setenv(fake, mode)
-	return &bridge{settings: settings{path: os.Args[0]}, nc: nc, js: js, answers: newAnswers(js, 0), ends: map[uint64]int{}}
+	return &bridge{settings: settings{path: os.Args[0]}, nc: nc, js: js, lease: newLease(js, 0, "test", time.Minute), answers: newAnswers(js, 0), ends: map[uint64]int{}}
 }
 
 // expect runs a bridge until the answers are these, and ends its program.

@@ -26,6 +26,7 @@ type bridge struct {
 	settings
 	nc      *nats.Conn
 	js      nats.JetStreamContext
+	lease   *lease
 	answers *answers
 	ends    map[uint64]int // how often the program ended at a change without an answer
 }

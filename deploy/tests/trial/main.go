@@ -25,13 +25,17 @@ func main() {
 	folder := flag.String("folder", "", "an empty folder")
 	program := flag.String("program", "", "the program whose `serve` is run")
 	only := flag.String("only", "", "the part to run alone: churn")
+	servers := flag.Int("servers", 1, "how many nats-servers there are")
 	flag.Parse()
 	rand.Seed(time.Now().UnixNano())
 	t := &tally{}
 	duration := time.Duration(*seconds) * time.Second
 	run := func() error { return try(t, *scripts, *folder, *program, duration) }
-	if *only == "churn" {
+	switch {
+	case *only == "churn":
 		run = func() error { return churnFor(t, *scripts, *folder, *program, duration) }
+	case *servers > 1:
+		run = func() error { return tryServers(t, *scripts, *folder, *program, *servers, duration) }
 	}
 	if err := run(); err != nil {
 		t.fail("%v", err)
@@ -154,7 +158,7 @@ func (c *cluster) killServer(t *tally, applications []*application, p *prober) e
 		time.Sleep(500 * time.Millisecond)
 		err := c.kill("nats.pid", c.state)
 		if err == nil && p != nil {
-			p.first(t, "nats-server")
+			p.first(t, "first answer after a kill of nats-server")
 		}
 		failed <- err
 	}()
@@ -169,8 +173,7 @@ func (c *cluster) grow(applications []*application) error {
 	if err != nil {
 		return err
 	}
-	more := *c
-	more.state, more.port, more.shards = c.state+"-more", port, 7
+	more := cluster{scripts: c.scripts, state: c.state + "-more", program: c.program, port: port, shards: 7, names: c.names}
 	if err := more.start(); err != nil {
 		return err
 	}
@@ -200,6 +203,27 @@ func names() []string {
 		list[k] = fmt.Sprintf("%s%d", []string{"shop.", "bank-", "Play_", "x"}[k%4], k)
 	}
 	return list
+}
+
+// freePorts gives the first of so many ports on loopback in a row that nothing listens to.
+func freePorts(n int) (int, error) {
+	for try := 0; try < 100; try++ {
+		first, err := freePort()
+		if err != nil {
+			return 0, err
+		}
+		free := true
+		for port := first; port < first+n; port++ {
+			listener, err := net.Listen("tcp", fmt.Sprintf("127.0.0.1:%d", port))
+			if free = free && err == nil; err == nil {
+				listener.Close()
+			}
+		}
+		if free {
+			return first, nil
+		}
+	}
+	return 0, fmt.Errorf("no %d free ports in a row", n)
 }
 
 // freePort gives a port on loopback that nothing listens to.
