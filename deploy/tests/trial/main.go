@@ -24,7 +24,7 @@ func main() {
 	scripts := flag.String("scripts", "", "the folder of start and stop")
 	folder := flag.String("folder", "", "an empty folder")
 	program := flag.String("program", "", "the program whose `serve` is run")
-	only := flag.String("only", "", "the part to run alone: churn")
+	only := flag.String("only", "", "the part to run alone: churn or rate")
 	servers := flag.Int("servers", 1, "how many nats-servers there are")
 	flag.Parse()
 	rand.Seed(time.Now().UnixNano())
@@ -34,6 +34,8 @@ func main() {
 	switch {
 	case *only == "churn":
 		run = func() error { return churnFor(t, *scripts, *folder, *program, duration) }
+	case *only == "rate":
+		run = func() error { return tryRate(t, *scripts, *folder, *program, duration) }
 	case *servers > 1:
 		run = func() error { return tryServers(t, *scripts, *folder, *program, *servers, duration) }
 	}
@@ -73,6 +75,16 @@ func try(t *tally, scripts, folder, program string, duration time.Duration) erro
 	return full(t, scripts, filepath.Join(folder, "full"), program)
 }
 
+// tryRate measures lookups on one shard, 200 at once and one by one.
+func tryRate(t *tally, scripts, folder, program string, duration time.Duration) error {
+	port, err := freePort()
+	if err != nil {
+		return err
+	}
+	c := &cluster{scripts: scripts, state: filepath.Join(folder, "rate"), program: program, port: port, shards: 1, names: names()}
+	return c.try(t, duration, 0)
+}
+
 // churnFor replaces bundles 10,000 times, or less often in a short trial.
 func churnFor(t *tally, scripts, folder, program string, duration time.Duration) error {
 	replacements := 10000
@@ -104,6 +116,7 @@ func (c *cluster) try(t *tally, measure, kills time.Duration) (err error) {
 	all(applications, (*application).load)
 	fmt.Printf("%d shards: %d bundles installed in %v\n", c.shards, apps*len(locales), time.Since(began).Round(time.Millisecond))
 	c.rate(applications, measure)
+	c.oneByOne(applications[0], measure)
 	if kills == 0 {
 		return nil
 	}
