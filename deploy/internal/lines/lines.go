@@ -38,13 +38,11 @@ func Judge(k Kind, app string, message []byte) (line []byte, answer string) {
 	if bytes.IndexByte(message, '\n') >= 0 {
 		return nil, ""
 	}
-	var members map[string]json.RawMessage
-	if json.Unmarshal(message, &members) != nil {
-		return nil, ""
+	op, named, ok := quick(message)
+	if !ok {
+		op, named, ok = slow(message)
 	}
-	op, isText := text(members["op"])
-	named, isNamed := text(members["app"])
-	if !isText || !isNamed {
+	if !ok {
 		return nil, ""
 	}
 	if named != app {
@@ -54,6 +52,17 @@ func Judge(k Kind, app string, message []byte) (line []byte, answer string) {
 		return nil, WrongSubject
 	}
 	return Seal(message, op, app), ""
+}
+
+// slow reads the operation and the application of any object; it is false where one isn't a text.
+func slow(message []byte) (op, app string, ok bool) {
+	var members map[string]json.RawMessage
+	if json.Unmarshal(message, &members) != nil {
+		return "", "", false
+	}
+	op, isText := text(members["op"])
+	app, isNamed := text(members["app"])
+	return op, app, isText && isNamed
 }
 
 // Read gives the operation and the locale of a line that was done.
@@ -84,6 +93,13 @@ func text(value json.RawMessage) (string, bool) {
 // that the shard reads these, also if its reader and ours took some line apart in different ways.
 func Seal(object []byte, op, app string) []byte {
 	open := bytes.TrimSuffix(bytes.TrimRight(object, " \t\r"), []byte("}"))
+	line := make([]byte, 0, len(open)+len(op)+len(app)+19)
+	line = append(line, open...)
+	if isPlain(op) && isPlain(app) {
+		line = append(append(line, `,"op":"`...), op...)
+		line = append(append(line, `","app":"`...), app...)
+		return append(line, `"}`...)
+	}
 	end, err := json.Marshal(struct {
 		Op  string `json:"op"`
 		App string `json:"app"`
@@ -91,7 +107,5 @@ func Seal(object []byte, op, app string) []byte {
 	if err != nil {
 		return nil
 	}
-	line := make([]byte, 0, len(open)+len(end)+1)
-	line = append(append(line, open...), ',')
-	return append(line, end[1:]...)
+	return append(append(line, ','), end[1:]...)
 }

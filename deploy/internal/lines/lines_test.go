@@ -1,6 +1,9 @@
 package lines
 
-import "testing"
+import (
+	"math/rand"
+	"testing"
+)
 
 func TestLinesOfTheApplicationAreSealed(t *testing.T) {
 	cases := map[string]string{
@@ -50,6 +53,48 @@ func TestEachOperationHasItsKind(t *testing.T) {
 		}
 		if line, answer := Judge(1-of, "shop", message); line != nil || answer != WrongSubject {
 			t.Errorf("%s of the other kind: %q, %q", op, line, answer)
+		}
+	}
+}
+
+func TestQuickAndSlowReadAlike(t *testing.T) {
+	parts := []string{`{`, `}`, `"op"`, `"app"`, `"shop"`, `"look"`, `:`, `,`, ` `, "\t", `"\u0061pp"`, `"x"`, `1`, `[`, `]`, "\x01", "\xff", `"é"`, `\`, `"`, `null`}
+	r := rand.New(rand.NewSource(1))
+	count := 0
+	try := func(message string) {
+		op, app, ok := quick([]byte(message))
+		if !ok {
+			return
+		}
+		count++
+		if slowOp, slowApp, slowOk := slow([]byte(message)); !slowOk || slowOp != op || slowApp != app {
+			t.Errorf("%q: %q, %q, and slowly %q, %q, %v", message, op, app, slowOp, slowApp, slowOk)
+		}
+	}
+	whole := `{"op":"look","app":"shop" , "x":"y","app":"bank"}`
+	try(whole)
+	for k := 0; k < 300000; k++ {
+		message := ""
+		if k%2 == 0 {
+			for n := r.Intn(12); n >= 0; n-- {
+				message += parts[r.Intn(len(parts))]
+			}
+		} else {
+			at, to := r.Intn(len(whole)), r.Intn(len(whole))
+			message = whole[:at] + parts[r.Intn(len(parts))] + whole[to:]
+		}
+		try(message)
+	}
+	if count < 1000 {
+		t.Errorf("only %d were read quickly", count)
+	}
+}
+
+func BenchmarkJudge(b *testing.B) {
+	message := []byte(`{"op":"look","app":"shop","locale":"de_AT","path":"menu/open"}`)
+	for k := 0; k < b.N; k++ {
+		if line, _ := Judge(Ask, "shop", message); line == nil {
+			b.Fatal("no line")
 		}
 	}
 }
