@@ -1,0 +1,58 @@
+package main
+
+import (
+	"errors"
+	"fmt"
+	"time"
+
+	"github.com/nats-io/nats.go"
+
+	"luvdregan.example/resb/deploy/internal/subjects"
+)
+
+// makeStreams makes the streams of the shards 0 to n-1 where they aren't there, with so many replicas. A full stream refuses what
+// is published; the compactor alone takes out what a generation of bundles has.
+func makeStreams(js nats.JetStreamContext, n int, bytes int64, replicas int) error {
+	for shard := 0; shard < n; shard++ {
+		all := []*nats.StreamConfig{
+			durable(subjects.Changes(shard), subjects.ShardLog(shard)),
+			durable(subjects.AnswersOf(shard), subjects.ShardAnswers(shard)),
+			durable(subjects.Bundles(shard), subjects.Bundle(shard, "*"), subjects.Seals(shard)),
+			durable(subjects.Leases(shard), subjects.Lease(shard)),
+		}
+		all[0].MaxBytes = bytes
+		all[3].MaxMsgs, all[3].Discard = 1, nats.DiscardOld
+		for _, config := range all {
+			config.Replicas = replicas
+			if err := makeStream(js, config); err != nil {
+				return err
+			}
+		}
+	}
+	return nil
+}
+
+func durable(name string, of ...string) *nats.StreamConfig {
+	return &nats.StreamConfig{
+		Name: name, Subjects: of, Storage: nats.FileStorage, Retention: nats.LimitsPolicy, Discard: nats.DiscardNew,
+		MaxBytes: -1, Duplicates: 10 * time.Minute, DenyDelete: true,
+	}
+}
+
+// makeStream tries for a minute, as a cluster of servers isn't ready at once.
+func makeStream(js nats.JetStreamContext, config *nats.StreamConfig) error {
+	for began := time.Now(); ; time.Sleep(200 * time.Millisecond) {
+		_, err := js.StreamInfo(config.Name)
+		if err == nil {
+			return nil
+		}
+		if errors.Is(err, nats.ErrStreamNotFound) {
+			if _, err = js.AddStream(config); err == nil {
+				return nil
+			}
+		}
+		if time.Since(began) > time.Minute {
+			return fmt.Errorf("stream %s: %w", config.Name, err)
+		}
+	}
+}
