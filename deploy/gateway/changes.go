@@ -4,7 +4,6 @@ import (
 	"context"
 	"errors"
 	"mime"
-	"net"
 	"net/http"
 	"os"
 	"strings"
@@ -127,25 +126,22 @@ func (c *call) form(name string) (locale string, f form) {
 // body reads the body of a request, up to a limit.
 func (c *call) body(limit int64) (body []byte, p *problem) {
 	if c.r.ContentLength > limit {
-		c.w.Header().Set("Connection", "close")
 		return nil, &tooLong
 	}
 	body, err := c.limits.readAll(c.app, http.MaxBytesReader(c.w, c.r.Body, limit), &c.held)
-	var long *http.MaxBytesError
-	var network net.Error
-	switch {
-	case err == nil:
+	if err == nil {
+		c.whole = true
 		return body, nil
+	}
+	found := cutOff
+	var long *http.MaxBytesError
+	switch {
 	case errors.As(err, &long):
-		return nil, &tooLong
-	case errors.Is(err, os.ErrDeadlineExceeded), errors.As(err, &network) && network.Timeout():
-		c.w.Header().Set("Connection", "close")
-		return nil, &slow
+		found = tooLong
+	case errors.Is(err, os.ErrDeadlineExceeded):
+		found = slow
+	case errors.Is(err, errTooMany), errors.Is(err, errFull):
+		found = problemOf(err)
 	}
-	c.w.Header().Set("Connection", "close")
-	if errors.Is(err, errTooMany) || errors.Is(err, errFull) {
-		found := problemOf(err)
-		return nil, &found
-	}
-	return nil, &cutOff
+	return nil, &found
 }

@@ -105,6 +105,9 @@ func (a *fakeApp) answer(r fakeRequest) string {
 
 // look goes from a locale to its shorter names and root.
 func (a *fakeApp) look(name, path string) string {
+	if len(path) > 1024 {
+		return `{"error":"PathTooLong"}`
+	}
 	valid := ""
 	for _, at := range append(trail(name), "root") {
 		text, there := a.bundles[at]

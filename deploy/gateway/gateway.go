@@ -31,6 +31,7 @@ type call struct {
 	app   string
 	kind  string // what it is counted as
 	held  int64  // bytes of its body that are counted
+	whole bool   // its body was read
 	wrote int    // the status
 }
 
@@ -108,7 +109,8 @@ func (c *call) limited(do func(ctx context.Context)) {
 		return
 	}
 	defer func() { c.limits.end(c.app, c.held) }()
-	do(c.r.Context())
+	// A caller that has closed its side after the request still reads, so its end doesn't end the request.
+	do(context.Background())
 }
 
 // choose gives what a request does that has these parts after its application, the right that it needs, and the methods that
@@ -207,6 +209,9 @@ func matches(headers []string, tag string) bool {
 func (c *call) refuse(p problem) {
 	h := c.w.Header()
 	h.Set("Cache-Control", "no-store")
+	if c.r.ContentLength != 0 && !c.whole {
+		h.Set("Connection", "close") // so the caller is told at once, and not after the rest of its body
+	}
 	if p.status == http.StatusServiceUnavailable || p.status == http.StatusTooManyRequests {
 		h.Set("Retry-After", "1")
 	}

@@ -52,6 +52,7 @@ type conn struct {
 	closing sync.Once
 	begun   int32 // a part of a header has come
 	asked   int32 // a whole header has come, and its response isn't done
+	late    int32 // the caller was told that it is too slow
 }
 
 // Read takes bytes of the caller. Where they don't come in time, and a header is begun, the caller is told so.
@@ -64,8 +65,17 @@ func (c *conn) Read(b []byte) (int, error) {
 	if late && c.of.plain && atomic.LoadInt32(&c.begun) == 1 && atomic.LoadInt32(&c.asked) == 0 {
 		_ = c.SetWriteDeadline(time.Now().Add(time.Second))
 		_, _ = c.Write([]byte(tooSlow))
+		atomic.StoreInt32(&c.late, 1)
 	}
 	return n, err
+}
+
+// Write gives bytes to the caller, unless it was told that it is too slow: net/http takes what came of a line for the whole.
+func (c *conn) Write(b []byte) (int, error) {
+	if atomic.LoadInt32(&c.late) == 1 {
+		return 0, os.ErrDeadlineExceeded
+	}
+	return c.Conn.Write(b)
 }
 
 // Close ends the connection.
