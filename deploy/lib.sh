@@ -36,14 +36,37 @@ need_program() {
     }
 }
 
-# runs Go over Debian's libraries alone
-run_go() {
-    (cd "$here" && GOPATH=$libraries GO111MODULE=off GOFLAGS='' GOCACHE="$out/go" GOPROXY=off go "$@")
+# prints the go.mod FILE with each library that it requires found in Debian's packages; nuid has no go.mod there
+debian_module() {
+    cat "$1"
+    echo 'replace ('
+    for library in github.com/nats-io/nats.go github.com/nats-io/nkeys golang.org/x/crypto; do
+        echo "	$library => $libraries/src/$library"
+    done
+    echo "	github.com/nats-io/nuid => $out/nuid"
+    echo ')'
 }
 
+# runs Go in the folder over Debian's libraries alone: in_go FOLDER ARGUMENTS..
+in_go() {
+    folder=$1
+    shift
+    mkdir -p "$out/nuid"
+    cp "$libraries/src/github.com/nats-io/nuid/nuid.go" "$out/nuid/nuid.go"
+    printf 'module github.com/nats-io/nuid\n' >"$out/nuid/go.mod"
+    debian_module "$folder/go.mod" >"$out/debian.mod.$$"
+    mv "$out/debian.mod.$$" "$out/debian.mod"
+    (cd "$folder" && GO111MODULE=on GOFLAGS="-modfile=$out/debian.mod" GOCACHE="$out/go" GOPROXY=off go "$@")
+}
+
+run_go() { in_go "$here" "$@"; }
+
+# builds programs of this folder: those of bin/ by their names, others by their folders
 build() {
     for part in "$@"; do
-        run_go build -o "$out/bin/$part" "./$part"
+        folder=$part
+        [ -d "$here/$part" ] || folder=bin/$part
+        run_go build -o "$out/bin/${part##*/}" "./$folder"
     done
 }
 

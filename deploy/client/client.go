@@ -3,23 +3,35 @@
 package client
 
 import (
+	"crypto/rand"
+	"encoding/hex"
 	"errors"
 	"fmt"
+	"strconv"
 	"strings"
 	"sync"
 	"time"
 
 	"github.com/nats-io/nats.go"
-	"github.com/nats-io/nuid"
 
-	"../subjects"
+	"luvdregan.example/resb/deploy/internal/subjects"
 )
 
 // Patience is how long a caller asks again before it gives up.
 const Patience = time.Minute
 
-// ended is what a bridge answers a lookup whose shard ended under it.
-const ended = `{"error":"ShardEnded"}`
+// What a bridge answers in the place of the shard, so that it is worth asking again.
+var (
+	// ErrShardEnded says that the shard ended under a lookup.
+	ErrShardEnded = errors.New("the shard ended")
+	// ErrBusy says that as many lines of the application wait already as may.
+	ErrBusy = errors.New("too many lines of the application wait")
+)
+
+const (
+	ended = `{"error":"ShardEnded"}`
+	busy  = `{"error":"Busy"}`
+)
 
 // A Client asks for one application. Its methods may be called at once.
 type Client struct {
@@ -27,29 +39,44 @@ type Client struct {
 	nc      *nats.Conn
 	js      nats.JetStreamContext
 	mu      sync.Mutex
-	waiting map[string]chan string
+	waiting map[string]chan told
 }
+
+// What an answer says: the text, and the place of its change in the stream.
+type told struct{ text, place string }
 
 // A Pending change is stored in the stream of its shard, and its answer will come.
 type Pending struct {
 	client *Client
+	line   string
 	id     string
 	stream string
-	answer chan string
+	place  string
+	answer chan told
 }
 
-// Dial reaches NATS as the application's user.
+// Dial reaches NATS as the application's user. The URL may be several, parted by commas: those of a cluster.
 func Dial(url, app, password string) (*Client, error) {
 	nc, err := nats.Connect(url, nats.UserInfo(subjects.User(app), password), nats.CustomInboxPrefix(subjects.Inbox(app)), nats.MaxReconnects(-1),
 		nats.ReconnectWait(100*time.Millisecond), nats.ErrorHandler(func(*nats.Conn, *nats.Subscription, error) {}))
 	if err != nil {
 		return nil, err
 	}
+	c, err := over(nc, app)
+	if err != nil {
+		nc.Close()
+		return nil, err
+	}
+	return c, nil
+}
+
+// over makes a client of a connection.
+func over(nc *nats.Conn, app string) (*Client, error) {
 	js, err := nc.JetStream(nats.MaxWait(2 * time.Second))
 	if err != nil {
 		return nil, err
 	}
-	c := &Client{app: app, nc: nc, js: js, waiting: map[string]chan string{}}
+	c := &Client{app: app, nc: nc, js: js, waiting: map[string]chan told{}}
 	if _, err := nc.Subscribe(subjects.Answers(app), c.take); err != nil {
 		return nil, err
 	}
@@ -59,36 +86,62 @@ func Dial(url, app, password string) (*Client, error) {
 // Close ends the connection.
 func (c *Client) Close() { c.nc.Close() }
 
+// Connected tells whether NATS is reached now.
+func (c *Client) Connected() bool { return c.nc.IsConnected() }
+
 // take gets the answer to a change of this client, or of another one of the same application.
 func (c *Client) take(m *nats.Msg) {
 	c.mu.Lock()
 	defer c.mu.Unlock()
-	id := m.Header.Get(subjects.AnswerID)
-	if answer, ours := c.waiting[id]; ours {
-		delete(c.waiting, id)
-		answer <- string(m.Data)
+	if answer, ours := c.waiting[m.Header.Get(subjects.AnswerID)]; ours {
+		select {
+		case answer <- told{string(m.Data), m.Header.Get(subjects.AnswerTo)}:
+		default:
+		}
 	}
+}
+
+// name gives a name of a change that nobody guesses.
+func name() string {
+	var bytes [16]byte
+	if _, err := rand.Read(bytes[:]); err != nil {
+		panic(err) // the system gives no random bytes
+	}
+	return hex.EncodeToString(bytes[:])
 }
 
 // Change publishes a change. It has come into its shard's stream when Change returns, in the order of the calls.
 func (c *Client) Change(line string) (*Pending, error) {
-	p := &Pending{client: c, id: nuid.Next(), answer: make(chan string, 1)}
+	return c.change(line, name())
+}
+
+func (c *Client) change(line, id string) (*Pending, error) {
+	p := &Pending{client: c, line: line, id: id, answer: make(chan told, 4)}
 	c.mu.Lock()
 	c.waiting[p.id] = p.answer
 	c.mu.Unlock()
-	err := p.publish(line)
+	err := p.publish()
+	if err != nil {
+		p.forget()
+	}
 	return p, err
 }
 
+func (p *Pending) forget() {
+	p.client.mu.Lock()
+	defer p.client.mu.Unlock()
+	delete(p.client.waiting, p.id)
+}
+
 // publish stores the change. It is published again, under its one name, where it isn't known whether it was stored.
-func (p *Pending) publish(line string) error {
+func (p *Pending) publish() error {
 	message := nats.NewMsg(subjects.Change(p.client.app))
-	message.Data = []byte(line)
+	message.Data = []byte(p.line)
 	message.Header.Set(subjects.MessageID, p.id)
 	for end := time.Now().Add(Patience); ; {
 		stored, err := p.client.js.PublishMsg(message)
 		if err == nil {
-			p.stream = stored.Stream
+			p.stream, p.place = stored.Stream, strconv.FormatUint(stored.Sequence, 10)
 			return nil
 		}
 		unsure := errors.Is(err, nats.ErrTimeout) || errors.Is(err, nats.ErrNoResponders) || errors.Is(err, nats.ErrNoStreamResponse)
@@ -102,30 +155,33 @@ func (p *Pending) publish(line string) error {
 // Shard gives the stream that has the change.
 func (p *Pending) Shard() string { return p.stream }
 
-// Wait gives the answer to a change. One that came while the connection was lost is read from the stream of answers, where it
-// is the application's last one.
+// Wait gives the answer to a change. The shard is asked for one that doesn't come, as it may have come while the connection was
+// lost.
 func (p *Pending) Wait() (string, error) {
+	defer p.forget()
 	for end := time.Now().Add(Patience); time.Now().Before(end); {
 		select {
 		case answer := <-p.answer:
-			return answer, nil
+			if answer.place == p.place {
+				return answer.text, nil
+			}
 		case <-time.After(2 * time.Second):
-			if answer, ok := p.stored(); ok {
-				return answer, nil
+			answer, err := p.stored()
+			if err == nil && answer.place == p.place {
+				return answer.text, nil
 			}
 		}
 	}
 	return "", errors.New("no answer")
 }
 
-// stored reads the application's last answer, if it is this change's.
-func (p *Pending) stored() (string, bool) {
-	shard := strings.TrimPrefix(p.stream, "CHANGES_")
-	m, err := p.client.js.GetLastMsg("ANSWERS_"+shard, "resb.answer."+shard+"."+subjects.Token(p.client.app), nats.DirectGet())
-	if err != nil || m.Header.Get(subjects.AnswerID) != p.id {
-		return "", false
+// stored asks the shard for the answer.
+func (p *Pending) stored() (told, error) {
+	m, err := p.client.nc.Request(subjects.Asked(p.client.app), []byte(p.place), 2*time.Second)
+	if err != nil {
+		return told{}, err
 	}
-	return string(m.Data), true
+	return told{string(m.Data), m.Header.Get(subjects.AnswerTo)}, nil
 }
 
 // Ask gives the reply to a lookup or a list, which is asked again where no shard replied; it tells how often it was.
@@ -139,14 +195,43 @@ func (c *Client) Ask(line string) (reply string, again int, err error) {
 	return "", again, errors.New("no reply")
 }
 
-// Once asks once, and waits so long.
+// Once asks once, and waits so long. Its errors are those of NATS, ErrShardEnded and ErrBusy.
 func (c *Client) Once(line string, wait time.Duration) (string, error) {
 	m, err := c.nc.Request(subjects.Ask(c.app), []byte(line), wait)
 	if err != nil {
 		return "", err
 	}
-	if string(m.Data) == ended {
-		return "", errors.New("the shard ended")
+	return judged(string(m.Data))
+}
+
+func judged(reply string) (string, error) {
+	switch reply {
+	case ended:
+		return "", ErrShardEnded
+	case busy:
+		return "", ErrBusy
 	}
-	return string(m.Data), nil
+	return reply, nil
+}
+
+// OnceMany asks several lookups and lists in one message, and waits so long; it gives their replies in order. At most 1,024
+// lines, without line feeds, are taken at once. Its errors are those of Once.
+func (c *Client) OnceMany(lines []string, wait time.Duration) ([]string, error) {
+	if len(lines) == 0 {
+		return nil, nil
+	}
+	m, err := c.nc.Request(subjects.Many(c.app), []byte(strings.Join(lines, "\n")), wait)
+	if err != nil {
+		return nil, err
+	}
+	replies := strings.Split(string(m.Data), "\n")
+	for _, reply := range replies {
+		if _, err := judged(reply); err != nil {
+			return nil, err
+		}
+	}
+	if len(replies) != len(lines) {
+		return nil, fmt.Errorf("%d replies to %d lines", len(replies), len(lines))
+	}
+	return replies, nil
 }

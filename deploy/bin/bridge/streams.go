@@ -1,0 +1,47 @@
+package main
+
+import (
+	"fmt"
+	"time"
+
+	"github.com/nats-io/nats.go"
+
+	"luvdregan.example/resb/deploy/internal/subjects"
+)
+
+// makeStreams makes the streams of the shards 0 to n-1 where they aren't there, with so many replicas. A full stream refuses what
+// is published; the compactor alone takes out what a generation of bundles has.
+func makeStreams(js nats.JetStreamContext, n int, bytes int64, replicas int) error {
+	for shard := 0; shard < n; shard++ {
+		all := []*nats.StreamConfig{
+			durable(subjects.Changes(shard), subjects.ShardLog(shard)),
+			durable(subjects.AnswersOf(shard), subjects.ShardAnswers(shard)),
+			durable(subjects.Bundles(shard), subjects.Bundle(shard, "*"), subjects.Seals(shard)),
+		}
+		all[0].MaxBytes = bytes
+		for _, config := range all {
+			config.Replicas = replicas
+			if err := makeStream(js, config); err != nil {
+				return err
+			}
+		}
+	}
+	return nil
+}
+
+func durable(name string, of ...string) *nats.StreamConfig {
+	return &nats.StreamConfig{
+		Name: name, Subjects: of, Storage: nats.FileStorage, Retention: nats.LimitsPolicy, Discard: nats.DiscardNew,
+		MaxBytes: -1, Duplicates: 10 * time.Minute, DenyDelete: true,
+	}
+}
+
+func makeStream(js nats.JetStreamContext, config *nats.StreamConfig) error {
+	if _, err := js.StreamInfo(config.Name); err == nil {
+		return nil
+	}
+	if _, err := js.AddStream(config); err != nil {
+		return fmt.Errorf("stream %s: %w", config.Name, err)
+	}
+	return nil
+}

@@ -1,0 +1,134 @@
+// The copier publishes the changes that one set of shards has to another set, whose number may differ: those that were done,
+// each application's in their order. It is run while no caller is there.
+package main
+
+import (
+	"flag"
+	"fmt"
+	"log"
+	"sync"
+	"time"
+
+	"github.com/nats-io/nats.go"
+
+	"luvdregan.example/resb/deploy/internal/passwords"
+	"luvdregan.example/resb/deploy/internal/stream"
+	"luvdregan.example/resb/deploy/internal/subjects"
+)
+
+// done is the answer to a change that was done; all others changed nothing.
+const done = `{"ok":true}`
+
+func main() {
+	from := flag.String("from", "", "where the old nats-server is")
+	old := flag.String("old", "", "its file of passwords")
+	to := flag.String("to", "", "where the new nats-server is")
+	fresh := flag.String("new", "", "its file of passwords")
+	shards := flag.Int("shards", 0, "how many shards the old one has")
+	flag.Parse()
+	if err := run(*from, *old, *to, *fresh, *shards); err != nil {
+		log.Fatal(err)
+	}
+}
+
+// run copies all shards at once, and waits for the answers.
+func run(from, old, to, fresh string, shards int) error {
+	source, err := dial(from, old)
+	if err != nil {
+		return err
+	}
+	target, err := dial(to, fresh)
+	if err != nil {
+		return err
+	}
+	answers, err := target.SubscribeSync("resb.answer.*.*")
+	if err == nil {
+		err = answers.SetPendingLimits(-1, -1)
+	}
+	if err != nil {
+		return err
+	}
+	counts, failed := make([]int, shards), make([]error, shards)
+	var copies sync.WaitGroup
+	for shard := 0; shard < shards; shard++ {
+		copies.Add(1)
+		go func(shard int) {
+			defer copies.Done()
+			counts[shard], failed[shard] = copyShard(source, target, shard)
+		}(shard)
+	}
+	copies.Wait()
+	sum := 0
+	for shard, err := range failed {
+		if err != nil {
+			return fmt.Errorf("shard %d: %w", shard, err)
+		}
+		sum += counts[shard]
+	}
+	return await(answers, sum)
+}
+
+// dial reaches a nats-server as its operator.
+func dial(url, file string) (*nats.Conn, error) {
+	password, err := passwords.Find(file, "operator")
+	if err != nil {
+		return nil, err
+	}
+	return nats.Connect(url, nats.UserInfo("operator", password))
+}
+
+// await waits until so many changes are answered, each as done.
+func await(answers *nats.Subscription, n int) error {
+	for k := 0; k < n; k++ {
+		m, err := answers.NextMsg(time.Minute)
+		if err != nil {
+			return fmt.Errorf("%d of %d changes were answered: %w", k, n, err)
+		}
+		if string(m.Data) != done {
+			return fmt.Errorf("change %s was done, and is answered %s", m.Header.Get(subjects.AnswerID), m.Data)
+		}
+	}
+	fmt.Printf("%d changes\n", n)
+	return nil
+}
+
+// copyShard publishes the changes of one shard that were done.
+func copyShard(source, target *nats.Conn, shard int) (count int, err error) {
+	given := map[string]bool{}
+	err = stream.Each(source, subjects.AnswersOf(shard), func(m *nats.Msg) error {
+		given[m.Header.Get(subjects.AnswerTo)] = string(m.Data) == done
+		return nil
+	})
+	if err != nil {
+		return 0, err
+	}
+	js, err := target.JetStream()
+	if err != nil {
+		return 0, err
+	}
+	err = stream.Each(source, subjects.Changes(shard), func(m *nats.Msg) error {
+		place, err := m.Metadata()
+		if err != nil {
+			return err
+		}
+		wasDone, answered := given[fmt.Sprint(place.Sequence.Stream)]
+		if !answered {
+			return fmt.Errorf("change %d isn't answered yet", place.Sequence.Stream)
+		}
+		if !wasDone {
+			return nil
+		}
+		count++
+		return publish(js, shard, place.Sequence.Stream, m)
+	})
+	return count, err
+}
+
+// publish stores a change under a name made of its old place.
+func publish(js nats.JetStreamContext, shard int, n uint64, m *nats.Msg) error {
+	message := nats.NewMsg("resb.log." + subjects.Last(m.Subject))
+	message.Data = m.Data
+	message.Header.Set(subjects.MessageID, fmt.Sprintf("%d-%d", shard, n))
+	_, err := js.PublishMsg(message)
+	return err
+}

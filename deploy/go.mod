@@ -1,0 +1,10 @@
+module luvdregan.example/resb/deploy
+
+go 1.19
+
+require (
+	github.com/nats-io/nats.go v1.22.1
+	github.com/nats-io/nkeys v0.3.0
+	github.com/nats-io/nuid v1.0.1
+	golang.org/x/crypto v0.4.0
+)

@@ -1,0 +1,95 @@
+package main
+
+import (
+	"fmt"
+	"math/rand"
+	"os"
+	"os/exec"
+	"path/filepath"
+	"strconv"
+	"strings"
+	"syscall"
+
+	"luvdregan.example/resb/deploy/client"
+	"luvdregan.example/resb/deploy/internal/passwords"
+	"luvdregan.example/resb/deploy/internal/subjects"
+)
+
+// A cluster is nats-server with shards, as deploy/start starts them, in a folder of its own.
+type cluster struct {
+	scripts string
+	state   string
+	program string
+	port    int
+	shards  int
+	bytes   string
+	names   []string
+}
+
+// start runs deploy/start.
+func (c *cluster) start() error {
+	return c.run("start", append([]string{strconv.Itoa(c.shards)}, c.names...)...)
+}
+
+// stop runs deploy/stop.
+func (c *cluster) stop() error { return c.run("stop") }
+
+func (c *cluster) run(script string, arguments ...string) error {
+	command := exec.Command(filepath.Join(c.scripts, script), arguments...)
+	command.Env = append(os.Environ(), "RESB_STATE="+c.state, "RESB="+c.program, fmt.Sprintf("RESB_PORT=%d", c.port), "RESB_SERVE=")
+	if c.bytes != "" {
+		command.Env = append(command.Env, "RESB_STREAM_BYTES="+c.bytes)
+	}
+	command.Stderr = os.Stderr
+	return command.Run()
+}
+
+func (c *cluster) url() string { return fmt.Sprintf("nats://127.0.0.1:%d", c.port) }
+
+// password finds an application's password.
+func (c *cluster) password(app string) (string, error) {
+	return passwords.Find(filepath.Join(c.state, "passwords"), subjects.User(app))
+}
+
+// dial gives a caller for an application.
+func (c *cluster) dial(app string) (*client.Client, error) {
+	password, err := c.password(app)
+	if err != nil {
+		return nil, err
+	}
+	return client.Dial(c.url(), app, password)
+}
+
+// applications makes a caller and a reference for each name.
+func (c *cluster) applications(t *tally) ([]*application, error) {
+	all := make([]*application, len(c.names))
+	for k, name := range c.names {
+		caller, err := c.dial(name)
+		if err != nil {
+			return nil, err
+		}
+		alone, err := newReference(c.program)
+		if err != nil {
+			return nil, err
+		}
+		all[k] = &application{name: name, client: caller, reference: alone, random: rand.New(rand.NewSource(rand.Int63())), tally: t, cluster: c}
+	}
+	return all, nil
+}
+
+// kill kills a process of the cluster, whose number is in the file, if it is one yet.
+func (c *cluster) kill(file, word string) error {
+	text, err := os.ReadFile(filepath.Join(c.state, file))
+	if err != nil {
+		return err
+	}
+	pid, err := strconv.Atoi(strings.TrimSpace(string(text)))
+	if err != nil {
+		return err
+	}
+	command, err := os.ReadFile(fmt.Sprintf("/proc/%d/cmdline", pid))
+	if err != nil || !strings.Contains(string(command), word) {
+		return fmt.Errorf("%s isn't running", file)
+	}
+	return syscall.Kill(pid, syscall.SIGKILL)
+}
