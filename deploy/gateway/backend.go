@@ -27,7 +27,7 @@ var (
 	errReplaying = errors.New("the bundles are installed again")
 	errTimeout   = errors.New("no reply in time")
 	errTooLarge  = errors.New("too long for the way to the server")
-	errUnknown   = errors.New("the application is not known there")
+	errUnreached = errors.New("NATS is not reached, or doesn't know the application")
 )
 
 // wait gives what `ask` answers.

@@ -156,8 +156,11 @@ func (s *site) raw(bytes string) string {
 const plain = "text/plain"
 
 // TestOneSession asks one thing after the other, as a user would.
-func TestOneSession(t *testing.T) {
-	s := open(t)
+func TestOneSession(t *testing.T) { open(t).session() }
+
+func (s *site) session() {
+	t := s.t
+	t.Helper()
 	found := func(actual, valid, value string) string {
 		return fmt.Sprintf(`{"actual":%q,"type":"string","valid":%q,"value":%q}`+"\n", actual, valid, value)
 	}

@@ -103,6 +103,9 @@ func TestAnyCutLeavesWholeChanges(t *testing.T) {
 			before++
 		}
 		for _, tail := range [][]byte{nil, make([]byte, 40)} { // zeros, as a file system leaves them
+			if tail != nil && cut%4 != 0 {
+				continue
+			}
 			if before+1 < len(ends) && len(bytes.Trim(whole[cut:ends[before+1]], "\x00")) == 0 {
 				continue // with zeros the frame is whole
 			}

@@ -9,8 +9,9 @@ import (
 
 // How much may wait in a pipe: lines without a reply, and bytes that aren't written yet.
 const (
-	roomLines = 16384
-	roomBytes = 4 << 20
+	roomLines = 1 << 18
+	roomBytes = 32 << 20
+	roomSpare = 1 << 20 // of a buffer that is kept
 )
 
 var (
@@ -88,7 +89,7 @@ func (p *pipe) write() {
 		p.mu.Unlock()
 		_, _ = p.in.Write(lines)
 		p.mu.Lock()
-		if cap(lines) <= roomBytes {
+		if cap(lines) <= roomSpare {
 			p.spare = lines
 		}
 		p.space.Broadcast()

@@ -13,7 +13,7 @@ type settings struct {
 	serve                     bool
 	program, state            string
 	arguments                 []string
-	nats, passwords           string
+	nats, passwords, watcher  string
 
 	textBytes, fileBytes, lookBytes int64
 	bodyBytes                       int64
@@ -37,6 +37,7 @@ func readSettings(arguments []string) (settings, error) {
 	f.StringVar(&s.state, "state", "", "with -serve: the `folder` of the accepted changes")
 	f.StringVar(&s.nats, "nats", "", "serve by the shards behind this `URL`")
 	f.StringVar(&s.passwords, "passwords", "", "with -nats: the `file` of passwords that deploy/start writes")
+	f.StringVar(&s.watcher, "watcher", "", "with -nats: a `user` of NATS that may read the lengths of the streams, for the metrics")
 	f.Int64Var(&s.textBytes, "text-bytes", 8<<20, "the most bytes of a bundle text")
 	f.Int64Var(&s.fileBytes, "file-bytes", 64<<20, "the most bytes of a bundle's file")
 	f.Int64Var(&s.lookBytes, "look-bytes", 8<<20, "the most bytes of the lookups in one request")

@@ -35,6 +35,7 @@ var (
 	busy         = problem{http.StatusServiceUnavailable, "Busy"}
 	replaying    = problem{http.StatusServiceUnavailable, "Replaying"}
 	ended        = problem{http.StatusServiceUnavailable, "ShardEnded"}
+	unreached    = problem{http.StatusServiceUnavailable, "Unreached"}
 	notKept      = problem{http.StatusServiceUnavailable, "NotKept"}
 	timeout      = problem{http.StatusGatewayTimeout, "Timeout"}
 	noRoom       = problem{http.StatusInsufficientStorage, "NoRoom"}
@@ -46,7 +47,7 @@ var problems = []struct {
 	problem
 }{
 	{errReplaying, replaying}, {errEnded, ended}, {errBusy, busy}, {errFull, busy}, {errTooMany, tooMany}, {errNotKept, notKept},
-	{errNoRoom, noRoom}, {errTimeout, timeout}, {errTooLarge, tooLong}, {errUnknown, replaying},
+	{errNoRoom, noRoom}, {errTimeout, timeout}, {errTooLarge, tooLong}, {errUnreached, unreached},
 }
 
 // problemOf gives the problem of an error.
