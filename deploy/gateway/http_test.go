@@ -133,7 +133,34 @@ func (s *site) ask(method, path, token, body string, headers ...string) answer {
 	if err != nil {
 		s.t.Fatal(err)
 	}
+	s.described(method, path, got.StatusCode)
 	return answer{got, string(text)}
+}
+
+// described fails where openapi.json doesn't have a status that a request had.
+func (s *site) described(method, path string, status int) {
+	s.t.Helper()
+	var page struct {
+		Paths map[string]map[string]json.RawMessage
+	}
+	if err := json.Unmarshal(openAPI, &page); err != nil {
+		s.t.Fatal(err)
+	}
+	path, _, _ = strings.Cut(path, "?")
+	if parts := strings.SplitN(path, "/", 5); len(parts) > 2 && parts[1] == "v1" {
+		path = []string{"/v1/{app}", "/v1/{app}/{locale}", "/v1/{app}/{locale}/{path}"}[len(parts)-3]
+		if len(parts) == 4 && parts[3] == "look" && method == "POST" {
+			path = "/v1/{app}/look"
+		}
+	}
+	method = strings.ToLower(strings.Replace(method, "HEAD", "GET", 1))
+	var at struct{ Responses map[string]json.RawMessage }
+	if page.Paths[path][method] == nil {
+		return // a method or an address that isn't there
+	}
+	if err := json.Unmarshal(page.Paths[path][method], &at); err != nil || at.Responses[fmt.Sprint(status)] == nil {
+		s.t.Errorf("openapi.json has no status %d of %s %s: %v", status, method, path, err)
+	}
 }
 
 // raw sends bytes over a connection of their own, and gives all that comes back.
@@ -214,8 +241,11 @@ func (s *site) session() {
 			t.Errorf("%d: %v", n, got.Header)
 		}
 	}
-	if got := s.ask("POST", "/v1/shop/fr-ca", shopWrites, "fr_CA{}", "Content-Type", plain); got.Header.Get("Location") != "/v1/shop/fr_CA" {
-		t.Error(got.Header)
+	for name, want := range map[string]string{"fr-ca": "fr_CA", "sv@%0d%0aX:%20y": "sv", "@%0d%0aX:%20y": "root"} {
+		got := s.ask("POST", "/v1/shop/"+name, shopWrites, "x{}", "Content-Type", plain)
+		if got.StatusCode != 201 || got.Header.Get("Location") != "/v1/shop/"+want || got.Header.Get("X") != "" {
+			t.Errorf("%s: %d %v", name, got.StatusCode, got.Header)
+		}
 	}
 }
 

@@ -39,7 +39,7 @@ func main() {
 		end(err)
 		before := watched.times()
 		r := run(*address, request, n, *length)
-		fmt.Println(r.tell(n, *length, *lines) + watched.since(before, r.count()*max(*lines, 1)))
+		fmt.Println(r.tell(n, *lines) + watched.since(before, r.count()*max(*lines, 1)))
 		end(r.failed)
 	}
 }
@@ -98,10 +98,11 @@ func run(address string, request []byte, connections int, length time.Duration) 
 	for i := 0; i < connections; i++ {
 		<-ready
 	}
+	began := time.Now()
 	close(begin)
 	all.Wait()
 	close(results)
-	whole := result{}
+	whole := result{took: time.Since(began)}
 	for r := range results {
 		whole.add(r)
 	}

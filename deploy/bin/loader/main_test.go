@@ -34,7 +34,7 @@ func TestRequestsAreCounted(t *testing.T) {
 		if r.failed != nil || r.count() != int(asked) || r.statuses[503] != int(asked)/10 || len(r.statuses) != 1 {
 			t.Errorf("%d were asked; %d, %v, %v", asked, r.count(), r.statuses, r.failed)
 		}
-		if text := r.tell(3, time.Second, 2); !strings.Contains(text, "lookups/s, median ") || !strings.Contains(text, "responses with status 503") {
+		if text := r.tell(3, 2); !strings.Contains(text, "lookups/s, median ") || !strings.Contains(text, "responses with status 503") {
 			t.Error(text)
 		}
 	}

@@ -11,6 +11,7 @@ import (
 type result struct {
 	times    []time.Duration // of each response with status 200
 	statuses map[int]int     // how many responses had another status
+	took     time.Duration   // from the first request to the last response
 	failed   error
 }
 
@@ -50,11 +51,11 @@ func (r *result) count() int {
 }
 
 // tell gives a line about the result.
-func (r *result) tell(connections int, length time.Duration, lines int) string {
+func (r *result) tell(connections, lines int) string {
 	sort.Slice(r.times, func(i, j int) bool { return r.times[i] < r.times[j] })
-	text := fmt.Sprintf("%4d connections: %6.0f requests/s", connections, float64(len(r.times))/length.Seconds())
+	text := fmt.Sprintf("%4d connections: %6.0f requests/s", connections, float64(len(r.times))/r.took.Seconds())
 	if lines > 0 {
-		text += fmt.Sprintf(", %7.0f lookups/s", float64(len(r.times)*lines)/length.Seconds())
+		text += fmt.Sprintf(", %7.0f lookups/s", float64(len(r.times)*lines)/r.took.Seconds())
 	}
 	text += fmt.Sprintf(", median %v, 99th percentile %v, most %v", at(r.times, 0.5), at(r.times, 0.99), at(r.times, 1))
 	var others []string
