@@ -25,8 +25,9 @@ var (
 
 // A journal keeps accepted changes in a file, each synced before it is told.
 type journal struct {
-	path string
-	lock *os.File
+	path  string
+	lock  *os.File
+	spare int64 // bytes that a change must leave on the disk
 
 	mu       sync.Mutex
 	more     sync.Cond
@@ -57,7 +58,7 @@ func openJournal(folder string) (*journal, error) {
 	if err != nil {
 		return nil, err
 	}
-	j := &journal{path: filepath.Join(folder, "changes"), lock: lock}
+	j := &journal{path: filepath.Join(folder, "changes"), lock: lock, spare: 4 << 20}
 	j.more.L = &j.mu
 	if err := j.open(); err != nil {
 		_ = lock.Close()
@@ -194,13 +195,13 @@ func syncFolder(path string) error {
 	return folder.Sync()
 }
 
-// room tells whether the disk has room for a change of the length, and some more.
+// room tells whether the disk has room for a change of the length, and what is to be left.
 func (j *journal) room(length int) bool {
 	var disk syscall.Statfs_t
 	if syscall.Statfs(filepath.Dir(j.path), &disk) != nil {
 		return true
 	}
-	return int64(disk.Bavail)*disk.Bsize > int64(length)+4<<20
+	return int64(disk.Bavail)*disk.Bsize > int64(length)+j.spare
 }
 
 // inOrder gives the bundles that stand, in the order of installing.
