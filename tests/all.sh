@@ -2,7 +2,7 @@
 # All tests. First what needs no built program: the launcher, the manual page where mandoc is there, a program that must not compile,
 # and one of whose allocations each is refused in turn. Then the gate, which proves every crate from nothing, tries the wrong bodies,
 # runs each test, and builds the program. Last what runs that program: the examples, the documents, replies through pipes, lines read
-# in two ways, and the shards of deploy/.
+# in two ways, the shards of deploy/, and its gateway.
 set -eu
 cd "$(dirname "$0")/.."
 program=crates/rb_tool/out/rb_tool
@@ -30,3 +30,4 @@ if has python3; then
     tests/same_readings.py "$program"
 fi
 deploy/test "$program"
+deploy/gateway/test "$program"

@@ -1,0 +1,434 @@
+package main
+
+import (
+	"bufio"
+	"fmt"
+	"io"
+	"net"
+	"net/http"
+	"os"
+	"strings"
+	"sync"
+	"testing"
+	"time"
+)
+
+// head begins a request with a token for `shop`.
+func begins(method, path, rest string) string {
+	return method + " " + path + " HTTP/1.1\r\nHost: x\r\nAuthorization: Bearer " + shopWrites + "\r\n" + rest
+}
+
+// statusLine gives the first status of some responses.
+func statusOfText(text string) string {
+	words := strings.Fields(text)
+	if len(words) < 2 {
+		return ""
+	}
+	return words[1]
+}
+
+// alive fails where the gateway or its server has ended, or a plain lookup isn't answered.
+func (s *site) alive() {
+	s.t.Helper()
+	if got := s.ask("GET", "/v1/shop/de/a", shopReads, ""); got.StatusCode != 200 {
+		s.t.Fatalf("afterwards: %d %s", got.StatusCode, got.body)
+	}
+	if text := s.ask("GET", "/metrics", "", "").body; !strings.Contains(text, "resb_shard_replays_total{shard=\"0\"} 1\n") {
+		s.t.Fatal("the server was started again")
+	}
+}
+
+// withBundle gives a gateway where `shop` has one bundle.
+func withBundle(t *testing.T, options ...string) *site {
+	s := open(t, options...)
+	s.ask("PUT", "/v1/shop/de.txt", shopWrites, `de{a{"A"}}`)
+	return s
+}
+
+func TestBytesThatAreNoRequests(t *testing.T) {
+	s := withBundle(t)
+	put := func(headers, body string) string { return begins("PUT", "/v1/shop/fr.txt", headers+"\r\n"+body) }
+	for bytes, want := range map[string]string{
+		"\r\n\r\n\x00\x01":                                                                             "400",
+		"GET\r\n\r\n":                                                                                  "400",
+		"GET / HTTP/9.9\r\n\r\n":                                                                       "505",
+		"GET / HTTP/1.1\r\n\r\n":                                                                       "400", // no host
+		"GET /%zz HTTP/1.1\r\nHost: x\r\n\r\n":                                                         "400",
+		"GET /v1/shop\x00 HTTP/1.1\r\nHost: x\r\n\r\n":                                                 "400",
+		"GET / HTTP/1.1\r\nHost: x\r\nA\r\n\r\n":                                                       "400",
+		"GET / HTTP/1.1\r\nHost: x\r\nA: b\x00\r\n\r\n":                                                "400",
+		"G\x00T / HTTP/1.1\r\nHost: x\r\n\r\n":                                                         "400",
+		"\x16\x03\x01\x02\x00\x01\x00\x01\xfc\x03\x03\r\n\r\n":                                         "400", // TLS
+		"PRI * HTTP/2.0\r\n\r\nSM\r\n\r\n":                                                             "400",
+		"GET / HTTP/1.1\r\nHost: x\r\nA: " + strings.Repeat("x", 40000) + "\r\n\r\n":                   "431",
+		"GET /" + strings.Repeat("x", 40000) + " HTTP/1.1\r\nHost: x\r\n\r\n":                          "431",
+		begins("GET", "/v1/shop/de/"+strings.Repeat("x", 2000), "Connection: close\r\n\r\n"):           "400",
+		begins("GET", "/v1/shop/de/a%0d%0aX:y", "Connection: close\r\n\r\n"):                           "400",
+		begins("GET", "/v1/shop/../bank/de/a", "Connection: close\r\n\r\n"):                            "400",
+		begins("GET", "/v1/shop/de/a%00", "Connection: close\r\n\r\n"):                                 "400",
+		begins("GET", "*", "Connection: close\r\n\r\n"):                                                "400",
+		begins("GET", "http://other/v1/shop/de/a", "Connection: close\r\n\r\n"):                        "200",
+		put("Content-Length: 20\r\n", "fr{a"):                                                          "400", // cut off
+		put("Content-Length: -1\r\n", "fr{}"):                                                          "400",
+		put("Content-Length: 4\r\nContent-Length: 5\r\n", "fr{}"):                                      "400",
+		put("Content-Length: 999999999999\r\n", "fr{}"):                                                "413",
+		put("Content-Length: 9999999999999999999999\r\n", "fr{}"):                                      "400",
+		put("Transfer-Encoding: chunked\r\n", "4\r\nfr{}\r\n"):                                         "400", // cut off
+		put("Transfer-Encoding: chunked\r\n", "4\r\nfr{}"):                                             "400",
+		put("Transfer-Encoding: chunked\r\n", "zz\r\nfr{}\r\n0\r\n\r\n"):                               "400",
+		put("Transfer-Encoding: chunked\r\n", "ffffffffffffffffff\r\nfr{}\r\n0\r\n\r\n"):               "400",
+		put("Transfer-Encoding: gzip\r\n", "fr{}"):                                                     "501",
+		put("Content-Length: 4\r\nContent-Encoding: gzip\r\nConnection: close\r\n", "fr{}"):            "415",
+		put("Content-Length: 4\r\nExpect: 200-ok\r\nConnection: close\r\n", "fr{}"):                    "417",
+		put("Transfer-Encoding: chunked\r\nConnection: close\r\n", "4\r\nfr{}\r\n0\r\n\r\n"):           "201",
+		begins("POST", "/v1/shop/look", "Content-Length: 9\r\nConnection: close\r\n\r\n{\"path\":\n"):  "200",
+		begins("POST", "/v1/shop/look", "Content-Length: 90\r\nConnection: close\r\n\r\n{\"path\":\n"): "400",
+	} {
+		if got := s.raw(bytes); statusOfText(got) != want {
+			t.Errorf("%.90q: %.120q", bytes, got)
+		}
+	}
+	s.alive()
+}
+
+// TestLookupsOfTornJSON asks the beginnings of a line, and lines with each byte in a place: each has a reply, in order.
+func TestLookupsOfTornJSON(t *testing.T) {
+	s := withBundle(t)
+	const line = `{"locale":"de","path":"a"}`
+	var asked strings.Builder
+	count := 0
+	for cut := 0; cut < len(line); cut++ {
+		asked.WriteString(line[:cut] + "\n")
+		count++
+	}
+	for b := 0; b < 256; b++ {
+		if b != '\n' {
+			asked.WriteString(`{"locale":"de","path":"a` + string([]byte{byte(b)}) + `b"}` + "\n")
+			asked.WriteString(string([]byte{byte(b)}) + line + "\n" + line + string([]byte{byte(b)}) + "\n")
+			count += 3
+		}
+	}
+	asked.WriteString(strings.Repeat("[", 100000) + "\n" + `{"locale":"de","path":"a","x":` + strings.Repeat("[", 500) + strings.Repeat("]", 500) + "}\n" + line)
+	got := s.ask("POST", "/v1/shop/look", shopReads, asked.String())
+	replies := strings.Split(strings.TrimSuffix(got.body, "\n"), "\n")
+	if got.StatusCode != 200 || len(replies) != count+3 || replies[count+2] != `{"actual":"de","type":"string","valid":"de","value":"A"}` {
+		t.Errorf("%d, %d replies to %d: %q", got.StatusCode, len(replies), count+3, replies[len(replies)-1])
+	}
+	s.alive()
+}
+
+func TestLimitsOfBodies(t *testing.T) {
+	s := withBundle(t, "-text-bytes", "1000", "-file-bytes", "2000", "-look-bytes", "1500", "-body-bytes", "20000")
+	for n, at := range []struct {
+		method, path string
+		length, want int
+	}{
+		{"PUT", "/v1/shop/fr.txt", 1000, 201}, {"PUT", "/v1/shop/fr.txt", 1001, 413}, {"POST", "/v1/shop/fr.txt", 100000, 413},
+		{"PUT", "/v1/shop/fr.res", 2001, 413}, {"POST", "/v1/shop/look", 1500, 200}, {"POST", "/v1/shop/look", 1501, 413},
+	} {
+		body := "fr{a{\"" + strings.Repeat("x", at.length-9) + "\"}}"
+		if got := s.ask(at.method, at.path, shopWrites, body); got.StatusCode != at.want {
+			t.Errorf("%d: %d %s", n, got.StatusCode, got.body)
+		}
+		chunked := fmt.Sprintf("Transfer-Encoding: chunked\r\nConnection: close\r\n\r\n%x\r\n%s\r\n0\r\n\r\n", len(body), body)
+		want := at.want
+		if want == 201 {
+			want = 200 // it is there now
+		}
+		if got := s.raw(begins(at.method, at.path, chunked)); statusOfText(got) != fmt.Sprint(want) {
+			t.Errorf("%d in pieces: %.100q", n, got)
+		}
+	}
+	s.alive()
+}
+
+// TestBodiesAtOnce holds bodies open: past the bytes of an application it is 429, past those of all 503, and bank has its own.
+func TestBodiesAtOnce(t *testing.T) {
+	s := withBundle(t, "-body-bytes", "40000", "-text-bytes", "100000")
+	hold := func(token, app string, length int) (net.Conn, *bufio.Reader) {
+		c, err := net.Dial("tcp", strings.TrimPrefix(s.url, "http://"))
+		if err != nil {
+			t.Fatal(err)
+		}
+		fmt.Fprintf(c, "PUT /v1/%s/fr.txt HTTP/1.1\r\nHost: x\r\nAuthorization: Bearer %s\r\nContent-Length: 90000\r\n\r\n%s", app, token, strings.Repeat("x", length))
+		return c, bufio.NewReader(c)
+	}
+	first, _ := hold(shopWrites, "shop", 16000)
+	defer first.Close()
+	s.held(16000)
+	secondConn, second := hold(shopWrites, "shop", 16000)
+	defer secondConn.Close()
+	if line, _ := second.ReadString('\n'); statusOfText(line) != "429" {
+		t.Errorf("past an application's: %q", line)
+	}
+	third, _ := hold(bankWrites, "bank", 16000)
+	defer third.Close()
+	s.held(32000)
+	fourthConn, fourth := hold(bankWrites, "bank", 16000)
+	defer fourthConn.Close()
+	if line, _ := fourth.ReadString('\n'); statusOfText(line) != "429" && statusOfText(line) != "503" {
+		t.Errorf("past all: %q", line)
+	}
+	first.Close()
+	third.Close()
+	for end := time.Now().Add(10 * time.Second); ; time.Sleep(5 * time.Millisecond) {
+		if requests, bytes := s.limits.now(); requests == 0 && bytes == 0 {
+			break
+		} else if time.Now().After(end) {
+			t.Fatalf("%d requests with %d bytes are left", requests, bytes)
+		}
+	}
+	s.alive()
+}
+
+// held waits until so many bytes of bodies are held.
+func (s *site) held(least int64) {
+	s.t.Helper()
+	for end := time.Now().Add(10 * time.Second); ; time.Sleep(5 * time.Millisecond) {
+		if _, bytes := s.limits.now(); bytes >= least {
+			return
+		} else if time.Now().After(end) {
+			s.t.Fatalf("%d bytes are held", bytes)
+		}
+	}
+}
+
+// TestRequestsAtOnce has slow bodies take all places of an application: others of it are 429, and bank's go on.
+func TestRequestsAtOnce(t *testing.T) {
+	s := withBundle(t, "-each", "3", "-all", "4")
+	var slow []net.Conn
+	for i := 0; i < 3; i++ {
+		c, err := net.Dial("tcp", strings.TrimPrefix(s.url, "http://"))
+		if err != nil {
+			t.Fatal(err)
+		}
+		defer c.Close()
+		fmt.Fprint(c, begins("PUT", "/v1/shop/fr.txt", "Content-Length: 10\r\n\r\nfr"))
+		slow = append(slow, c)
+	}
+	s.held(3)
+	for end := time.Now().Add(10 * time.Second); ; time.Sleep(5 * time.Millisecond) {
+		if requests, _ := s.limits.now(); requests == 3 || time.Now().After(end) {
+			break
+		}
+	}
+	if got := s.ask("GET", "/v1/shop/de/a", shopReads, ""); got.StatusCode != 429 || got.Header.Get("Retry-After") == "" {
+		t.Errorf("past the application's: %d %v", got.StatusCode, got.Header)
+	}
+	if got := s.ask("GET", "/v1/bank/de/a", bankWrites, ""); got.StatusCode != 404 {
+		t.Errorf("another's: %d", got.StatusCode)
+	}
+	c, _ := net.Dial("tcp", strings.TrimPrefix(s.url, "http://"))
+	defer c.Close()
+	fmt.Fprintf(c, "PUT /v1/bank/fr.txt HTTP/1.1\r\nHost: x\r\nAuthorization: Bearer %s\r\nContent-Length: 10\r\n\r\nfr", bankWrites)
+	for end := time.Now().Add(10 * time.Second); ; time.Sleep(5 * time.Millisecond) {
+		if requests, _ := s.limits.now(); requests == 4 || time.Now().After(end) {
+			break
+		}
+	}
+	if got := s.ask("GET", "/v1/bank/de/a", bankWrites, ""); got.StatusCode != 503 || got.Header.Get("Retry-After") == "" {
+		t.Errorf("past all: %d %v", got.StatusCode, got.Header)
+	}
+	for _, one := range append(slow, c) {
+		one.Close()
+	}
+	for end := time.Now().Add(10 * time.Second); time.Now().Before(end); time.Sleep(5 * time.Millisecond) {
+		if requests, _ := s.limits.now(); requests == 0 {
+			break
+		}
+	}
+	s.alive()
+}
+
+// TestSlowSenders has headers and bodies not come in time: each sender is told so.
+func TestSlowSenders(t *testing.T) {
+	s := withBundle(t, "-header-time", "300ms", "-read-time", "600ms", "-idle-time", "300ms")
+	var all sync.WaitGroup
+	for bytes, want := range map[string]string{
+		"GET /v1/sh": "408", "GET / HTTP/1.1\r\nHost: x\r\nA: b": "408", "": "",
+		begins("PUT", "/v1/shop/fr.txt", "Content-Length: 20\r\n\r\nfr{"):                   "408",
+		begins("PUT", "/v1/shop/fr.txt", "Transfer-Encoding: chunked\r\n\r\n4\r\nfr"):       "408",
+		begins("GET", "/v1/shop/de/a", "\r\n") + "GET ":                                     "200",
+		begins("POST", "/v1/shop/look", "Content-Length: 100\r\n\r\n{\"locale\":\"de\"}\n"): "408",
+	} {
+		all.Add(1)
+		go func(bytes, want string) {
+			defer all.Done()
+			c, err := net.Dial("tcp", strings.TrimPrefix(s.url, "http://"))
+			if err != nil {
+				t.Error(err)
+				return
+			}
+			defer c.Close()
+			_ = c.SetDeadline(time.Now().Add(10 * time.Second))
+			for _, b := range []byte(bytes) { // a byte at a time
+				_, _ = c.Write([]byte{b})
+			}
+			text, err := io.ReadAll(c)
+			if err != nil || statusOfText(string(text)) != want {
+				t.Errorf("%q: %v, %.100q", bytes, err, text)
+			}
+			if begun := strings.HasSuffix(bytes, "GET "); begun && !strings.Contains(string(text), "HTTP/1.1 40") || !begun && strings.Count(string(text), "HTTP/1.1 ") > 1 {
+				t.Errorf("%q: %q", bytes, text)
+			}
+		}(bytes, want)
+	}
+	all.Wait()
+	s.alive()
+}
+
+// TestARefusalDoesntWaitForTheBody sends the beginning of a body alone: who may not, or asks in vain, is told so at once.
+func TestARefusalDoesntWaitForTheBody(t *testing.T) {
+	s := withBundle(t)
+	for bytes, want := range map[string]string{
+		"PUT /v1/shop/fr.txt HTTP/1.1\r\nHost: x\r\nContent-Length: 90\r\n\r\nfr":             "401",
+		begins("PUT", "/v1/bank/fr.txt", "Content-Length: 90\r\n\r\nfr"):                      "403",
+		begins("PUT", "/v1/shop/fr", "Content-Length: 90\r\n\r\nfr"):                          "415",
+		begins("PUT", "/v1/shop/fr/x", "Transfer-Encoding: chunked\r\n\r\n2"):                 "405",
+		begins("PUT", "/v1/shop/fr.txt", "Content-Length: 99999999\r\n\r\nfr"):                "413",
+		begins("PUT", "/v1/shop/fr.txt", "Content-Length: 9\r\nExpect: 100-continue\r\n\r\n"): "100",
+		begins("PUT", "/v1/bank/fr.txt", "Content-Length: 9\r\nExpect: 100-continue\r\n\r\n"): "403",
+	} {
+		c, err := net.Dial("tcp", strings.TrimPrefix(s.url, "http://"))
+		if err != nil {
+			t.Fatal(err)
+		}
+		fmt.Fprint(c, bytes)
+		_ = c.SetReadDeadline(time.Now().Add(10 * time.Second))
+		if line, err := bufio.NewReader(c).ReadString('\n'); statusOfText(line) != want {
+			t.Errorf("%q: %q, %v", bytes, line, err)
+		}
+		c.Close()
+	}
+	s.alive()
+}
+
+// TestConnectionsPastTheLimit opens more than may be: those are told 503, and the others go on.
+func TestConnectionsPastTheLimit(t *testing.T) {
+	s := withBundle(t, "-connections", "20")
+	http.DefaultClient.CloseIdleConnections()
+	for end := time.Now().Add(5 * time.Second); !strings.Contains(s.ask("GET", "/metrics", "", "", "Connection", "close").body, "resb_gateway_connections 1\n"); time.Sleep(5 * time.Millisecond) {
+		if time.Now().After(end) {
+			t.Fatal("connections aren't counted")
+		}
+	}
+	time.Sleep(50 * time.Millisecond)
+	var some []net.Conn
+	for i := 0; i < 20; i++ {
+		c, err := net.Dial("tcp", strings.TrimPrefix(s.url, "http://"))
+		if err != nil {
+			t.Fatal(err)
+		}
+		defer c.Close()
+		some = append(some, c)
+	}
+	if got := s.raw(""); statusOfText(got) != "503" || !strings.Contains(got, "Retry-After: ") || !strings.HasSuffix(got, "\r\n\r\n{\"error\":\"Busy\"}\n") {
+		t.Errorf("%q", got)
+	}
+	fmt.Fprint(some[7], begins("GET", "/v1/shop/de/a", "Connection: close\r\n\r\n"))
+	if got, _ := io.ReadAll(some[7]); statusOfText(string(got)) != "200" {
+		t.Errorf("%q", got)
+	}
+	for _, c := range some {
+		c.Close()
+	}
+	time.Sleep(50 * time.Millisecond)
+	s.alive()
+}
+
+// TestManyIdleConnections opens 10,000 connections to a gateway in a process of its own, and asks over a further one.
+func TestManyIdleConnections(t *testing.T) {
+	g := launchGateway(t, t.TempDir())
+	defer g.kill()
+	g.put("shop", "de", `de{a{"A"}}`)
+	const many = 10000
+	before := memoryOf(g.command.Process.Pid)
+	var idle []net.Conn
+	for i := 0; i < many; i++ {
+		c, err := net.Dial("tcp", g.address)
+		if err != nil {
+			t.Fatalf("connection %d: %v", i, err)
+		}
+		defer c.Close()
+		idle = append(idle, c)
+		if i%100 == 0 { // some have asked once
+			fmt.Fprint(c, begins("GET", "/v1/shop/de/a", "\r\n"))
+		}
+	}
+	if status, body := g.get("/v1/shop/de/a"); status != 200 || !strings.Contains(body, `"A"`) {
+		t.Errorf("%d %s", status, body)
+	}
+	t.Logf("%d idle connections take %d KB each", many, (memoryOf(g.command.Process.Pid)-before)/many/1024)
+	fmt.Fprint(idle[many-1], begins("GET", "/v1/shop/de/a", "Connection: close\r\n\r\n"))
+	if got, _ := io.ReadAll(idle[many-1]); statusOfText(string(got)) != "200" {
+		t.Errorf("the last one: %q", got)
+	}
+}
+
+// TestTheServerEndsUnderALookup kills it: lookups are 503 until it is back, and then as before.
+func TestTheServerEndsUnderALookup(t *testing.T) {
+	s := withBundle(t)
+	for round := 0; round < 3; round++ {
+		l := s.backend.(*single).serving()
+		l.kill()
+		for end := time.Now().Add(20 * time.Second); ; {
+			got := s.ask("GET", "/v1/shop/de/a", shopReads, "")
+			if got.StatusCode == 200 && s.backend.(*single).serving() != l {
+				break
+			}
+			if got.StatusCode != 200 && (got.StatusCode != 503 || got.Header.Get("Retry-After") == "") || time.Now().After(end) {
+				t.Fatalf("%d %s", got.StatusCode, got.body)
+			}
+		}
+	}
+}
+
+// TestATextThatEndsTheServer is 503, and takes nothing from others but the time of a replay. Only the fake server ends so.
+func TestATextThatEndsTheServer(t *testing.T) {
+	if os.Getenv("RESB") != "" {
+		t.Skip("the real server doesn't end at a text")
+	}
+	s := withBundle(t)
+	if got := s.ask("PUT", "/v1/shop/fr.txt", shopWrites, "fr{end}"); got.StatusCode != 503 || got.body != "{\"error\":\"ShardEnded\"}\n" {
+		t.Errorf("%d %s", got.StatusCode, got.body)
+	}
+	s.await()
+	for got := s.ask("GET", "/v1/shop", shopReads, ""); got.body != "{\"names\":[\"de\"]}\n"; got = s.ask("GET", "/v1/shop", shopReads, "") {
+		if got.StatusCode != 503 {
+			t.Fatalf("%d %s", got.StatusCode, got.body)
+		}
+	}
+}
+
+// TestGracefulEnd begins an upload, asks the gateway to end, and sends the rest: it is answered and kept.
+func TestGracefulEnd(t *testing.T) {
+	folder := t.TempDir()
+	g := launchGateway(t, folder)
+	defer g.kill()
+	c, err := net.Dial("tcp", g.address)
+	if err != nil {
+		t.Fatal(err)
+	}
+	defer c.Close()
+	fmt.Fprint(c, begins("PUT", "/v1/shop/de.txt", "Content-Length: 10\r\n\r\nde{a"))
+	time.Sleep(200 * time.Millisecond)
+	if err := g.command.Process.Signal(os.Interrupt); err != nil {
+		t.Fatal(err)
+	}
+	time.Sleep(200 * time.Millisecond)
+	if _, err := net.Dial("tcp", g.address); err == nil {
+		t.Error("it takes more connections")
+	}
+	fmt.Fprint(c, `{"A"}}`)
+	if got, _ := io.ReadAll(c); statusOfText(string(got)) != "201" {
+		t.Errorf("%q", got)
+	}
+	if err := g.command.Wait(); err != nil {
+		t.Error(err)
+	}
+	g = launchGateway(t, folder)
+	defer g.kill()
+	if status, body := g.get("/v1/shop/de/a"); status != 200 || !strings.Contains(body, `"A"`) {
+		t.Errorf("%d %s", status, body)
+	}
+}

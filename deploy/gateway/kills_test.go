@@ -1,0 +1,250 @@
+package main
+
+import (
+	"bytes"
+	"fmt"
+	"io"
+	"math/rand"
+	"net"
+	"net/http"
+	"os"
+	"os/exec"
+	"path/filepath"
+	"strings"
+	"sync"
+	"sync/atomic"
+	"testing"
+	"time"
+)
+
+// A process is a gateway in a process of its own.
+type process struct {
+	t       *testing.T
+	command *exec.Cmd
+	address string
+	log     bytes.Buffer
+}
+
+// launchGateway starts a gateway over a folder with its changes, and waits until it answers. A port that it had is its own again.
+func launchGateway(t *testing.T, folder string, options ...string) *process {
+	t.Helper()
+	tokens := filepath.Join(folder, "tokens")
+	if err := os.WriteFile(tokens, []byte(tokenLine("shop", "write", shopWrites)+tokenLine("bank", "write", bankWrites)), 0o600); err != nil {
+		t.Fatal(err)
+	}
+	p := &process{t: t, address: freeAddress(t)}
+	p.start(folder, tokens, options...)
+	return p
+}
+
+func freeAddress(t *testing.T) string {
+	t.Helper()
+	l, err := net.Listen("tcp", "127.0.0.1:0")
+	if err != nil {
+		t.Fatal(err)
+	}
+	defer l.Close()
+	return l.Addr().String()
+}
+
+func (p *process) start(folder, tokens string, options ...string) {
+	p.t.Helper()
+	arguments := append([]string{"-listen", p.address, "-serve", "-program", server(), "-state", folder, "-tokens", tokens}, options...)
+	p.command = exec.Command(os.Args[0], arguments...)
+	p.command.Env = append(os.Environ(), asGateway+"=1")
+	p.command.Stderr = &p.log
+	if err := p.command.Start(); err != nil {
+		p.t.Fatal(err)
+	}
+	for end := time.Now().Add(30 * time.Second); ; time.Sleep(2 * time.Millisecond) {
+		got, err := http.Get("http://" + p.address + "/readyz")
+		if err == nil {
+			got.Body.Close()
+			if got.StatusCode == 200 {
+				return
+			}
+		}
+		if time.Now().After(end) {
+			p.kill()
+			p.t.Fatalf("the gateway isn't ready: %v\n%s", err, p.log.String())
+		}
+	}
+}
+
+func (p *process) kill() {
+	_ = p.command.Process.Kill()
+	_ = p.command.Wait()
+}
+
+// send gives the status and the body of a response; the status is 0 where none came.
+func (p *process) send(method, path, token, body string) (status int, text string) {
+	r, err := http.NewRequest(method, "http://"+p.address+path, strings.NewReader(body))
+	if err != nil {
+		return 0, ""
+	}
+	r.Header.Set("Authorization", "Bearer "+token)
+	got, err := http.DefaultClient.Do(r)
+	if err != nil {
+		return 0, ""
+	}
+	defer got.Body.Close()
+	content, err := io.ReadAll(got.Body)
+	if err != nil {
+		return 0, ""
+	}
+	return got.StatusCode, string(content)
+}
+
+func (p *process) get(path string) (status int, text string) {
+	return p.send("GET", path, shopWrites, "")
+}
+
+func (p *process) put(app, locale, text string) (status int) {
+	status, _ = p.send("PUT", "/v1/"+app+"/"+locale+".txt", map[string]string{"shop": shopWrites, "bank": bankWrites}[app], text)
+	return status
+}
+
+// A writer changes one locale of an application over and over, and knows what may stand.
+type writer struct {
+	app, locale string
+	told        int // the last value that was told to be done; 0 is no bundle
+	tried       int // a later one that was tried since, of which nothing was told
+	changes     int
+}
+
+// step changes the bundle: the values go up, and every seventh change takes it out.
+func (w *writer) step(p *process, value int) {
+	w.changes++
+	token := map[string]string{"shop": shopWrites, "bank": bankWrites}[w.app]
+	if value%7 == 0 {
+		status, _ := p.send("DELETE", "/v1/"+w.app+"/"+w.locale, token, "")
+		switch {
+		case status == 200 || status == 404:
+			w.told, w.tried = 0, 0
+		default:
+			w.tried = -1
+		}
+		return
+	}
+	status := p.put(w.app, w.locale, fmt.Sprintf(`%s{v{"%d"} pad{"%s"}}`, w.locale, value, strings.Repeat("x", rand.Intn(3000))))
+	if status == 200 || status == 201 {
+		w.told, w.tried = value, 0
+	} else {
+		w.tried = value
+	}
+}
+
+// check compares what stands with what was told; a change of which nothing was told may be done or not.
+func (w *writer) check(p *process) error {
+	token := map[string]string{"shop": shopWrites, "bank": bankWrites}[w.app]
+	status, body := p.send("GET", "/v1/"+w.app+"/"+w.locale+"/v", token, "")
+	for status == 503 { // a server that was killed is noticed a little later
+		time.Sleep(5 * time.Millisecond)
+		status, body = p.send("GET", "/v1/"+w.app+"/"+w.locale+"/v", token, "")
+	}
+	is := func(value int) bool {
+		if value <= 0 {
+			return status == 404
+		}
+		return status == 200 && strings.Contains(body, fmt.Sprintf(`"value":"%d"`, value))
+	}
+	if is(w.told) || w.tried != 0 && is(w.tried) {
+		return nil
+	}
+	return fmt.Errorf("%s, %s: %d %s, where %d was told and then %d tried", w.app, w.locale, status, strings.TrimSpace(body), w.told, w.tried)
+}
+
+// TestNothingToldIsLost kills the gateway, and its server, again and again under changes and lookups, with the file being
+// rewritten meanwhile; after each kill all that was told to be done is there.
+func TestNothingToldIsLost(t *testing.T) {
+	folder := t.TempDir()
+	p := launchGateway(t, folder)
+	defer func() { p.kill() }()
+	var writers []*writer
+	for i := 0; i < 12; i++ {
+		writers = append(writers, &writer{app: []string{"shop", "bank"}[i%2], locale: fmt.Sprintf("l%c", 'a'+i)})
+	}
+	rounds, value := 12, 0
+	if testing.Short() {
+		rounds = 4
+	}
+	for round := 0; round < rounds; round++ {
+		var stop int32
+		var all sync.WaitGroup
+		for n, w := range writers {
+			all.Add(1)
+			go func(w *writer, next int) {
+				defer all.Done()
+				for ; atomic.LoadInt32(&stop) == 0; next++ {
+					w.step(p, next+1)
+					if w.tried != 0 {
+						return // what a change without an answer did is looked at after the kill
+					}
+				}
+			}(w, value+n)
+		}
+		value += 100000
+		time.Sleep(time.Duration(100+rand.Intn(300)) * time.Millisecond)
+		if round%3 == 2 {
+			killServerOf(t, p)
+		} else {
+			p.kill()
+		}
+		atomic.StoreInt32(&stop, 1)
+		all.Wait()
+		if round%3 != 2 {
+			p.start(folder, filepath.Join(folder, "tokens"))
+		}
+		for end := time.Now().Add(20 * time.Second); ; time.Sleep(5 * time.Millisecond) {
+			if status, _ := p.get("/readyz"); status == 200 {
+				break
+			} else if time.Now().After(end) {
+				t.Fatal("not ready")
+			}
+		}
+		for _, w := range writers {
+			if err := w.check(p); err != nil {
+				t.Errorf("round %d: %v", round, err)
+			}
+			w.told, w.tried = now(p, w), 0
+		}
+	}
+	changes := 0
+	for _, w := range writers {
+		changes += w.changes
+	}
+	t.Logf("%d changes, %d kills, %d times rewritten", changes, rounds, strings.Count(p.log.String(), "rewritten"))
+}
+
+// now gives the value that stands.
+func now(p *process, w *writer) (value int) {
+	token := map[string]string{"shop": shopWrites, "bank": bankWrites}[w.app]
+	_, body := p.send("GET", "/v1/"+w.app+"/"+w.locale+"/v", token, "")
+	if at := strings.Index(body, `"value":"`); at >= 0 {
+		_, _ = fmt.Sscanf(body[at+len(`"value":"`):], "%d", &value)
+	}
+	return value
+}
+
+// killServerOf kills the `serve` that a gateway has started.
+func killServerOf(t *testing.T, p *process) {
+	t.Helper()
+	content, err := os.ReadFile(fmt.Sprintf("/proc/%d/task/%d/children", p.command.Process.Pid, p.command.Process.Pid))
+	threads, _ := filepath.Glob(fmt.Sprintf("/proc/%d/task/*/children", p.command.Process.Pid))
+	for _, thread := range threads {
+		more, _ := os.ReadFile(thread)
+		content = append(append(content, ' '), more...)
+	}
+	killed := false
+	for _, word := range strings.Fields(string(content)) {
+		var pid int
+		if _, err := fmt.Sscan(word, &pid); err == nil {
+			if of, err := os.FindProcess(pid); err == nil && of.Kill() == nil {
+				killed = true
+			}
+		}
+	}
+	if !killed {
+		t.Fatalf("no server to kill: %v", err)
+	}
+}

@@ -1,0 +1,100 @@
+package main
+
+import (
+	"errors"
+	"net"
+	"net/http"
+	"os"
+	"sync"
+	"sync/atomic"
+	"time"
+)
+
+// A listener counts connections, refuses those past the limit, and tells callers that are too slow with a header so.
+type listener struct {
+	net.Listener
+	metrics *metrics
+	most    int64
+	plain   bool // no TLS is spoken over it
+}
+
+const (
+	tooManyConnections = "HTTP/1.1 503 Service Unavailable\r\nContent-Type: application/json\r\nContent-Length: 17\r\n" +
+		"Retry-After: 1\r\nConnection: close\r\n\r\n{\"error\":\"Busy\"}\n"
+	tooSlow = "HTTP/1.1 408 Request Timeout\r\nContent-Type: application/json\r\nContent-Length: 17\r\nConnection: close\r\n\r\n" +
+		"{\"error\":\"Slow\"}\n"
+)
+
+// Accept gives the next connection that is within the limit.
+func (l *listener) Accept() (net.Conn, error) {
+	for {
+		c, err := l.Listener.Accept()
+		if err != nil {
+			return nil, err
+		}
+		if atomic.AddInt64(&l.metrics.connections, 1) <= l.most {
+			return &conn{Conn: c, of: l}, nil
+		}
+		atomic.AddInt64(&l.metrics.connections, -1)
+		atomic.AddUint64(&l.metrics.refused, 1)
+		if l.plain {
+			_ = c.SetWriteDeadline(time.Now().Add(time.Second))
+			_, _ = c.Write([]byte(tooManyConnections))
+		}
+		_ = c.Close()
+	}
+}
+
+// A conn is a connection of a caller.
+type conn struct {
+	net.Conn
+	of      *listener
+	closing sync.Once
+	begun   int32 // a part of a header has come
+	asked   int32 // a whole header has come, and its response isn't done
+	late    int32 // the caller was told that it is too slow
+}
+
+// Read takes bytes of the caller. Where they don't come in time, and a header is begun, the caller is told so.
+func (c *conn) Read(b []byte) (int, error) {
+	n, err := c.Conn.Read(b)
+	if n > 0 {
+		atomic.StoreInt32(&c.begun, 1)
+	}
+	late := errors.Is(err, os.ErrDeadlineExceeded)
+	if late && c.of.plain && atomic.LoadInt32(&c.begun) == 1 && atomic.LoadInt32(&c.asked) == 0 {
+		_ = c.SetWriteDeadline(time.Now().Add(time.Second))
+		_, _ = c.Write([]byte(tooSlow))
+		atomic.StoreInt32(&c.late, 1)
+	}
+	return n, err
+}
+
+// Write gives bytes to the caller, unless it was told that it is too slow: net/http takes what came of a line for the whole.
+func (c *conn) Write(b []byte) (int, error) {
+	if atomic.LoadInt32(&c.late) == 1 {
+		return 0, os.ErrDeadlineExceeded
+	}
+	return c.Conn.Write(b)
+}
+
+// Close ends the connection.
+func (c *conn) Close() error {
+	c.closing.Do(func() { atomic.AddInt64(&c.of.metrics.connections, -1) })
+	return c.Conn.Close()
+}
+
+// state is told by the server how a connection goes on.
+func state(of net.Conn, to http.ConnState) {
+	c, ok := of.(*conn)
+	if !ok {
+		return
+	}
+	switch to {
+	case http.StateActive:
+		atomic.StoreInt32(&c.asked, 1)
+	case http.StateIdle:
+		atomic.StoreInt32(&c.begun, 0)
+		atomic.StoreInt32(&c.asked, 0)
+	}
+}

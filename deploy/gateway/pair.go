@@ -1,0 +1,71 @@
+package main
+
+import (
+	"crypto/tls"
+	"log"
+	"os"
+	"sync"
+	"time"
+)
+
+// A pair is a certificate with its key, read again when one of the files changes.
+type pair struct {
+	cert, key string
+	mu        sync.Mutex
+	now       *tls.Certificate
+	changed   time.Time
+}
+
+// openPair reads the files; without files there is no pair.
+func openPair(cert, key string) (*pair, error) {
+	if cert == "" {
+		return nil, nil
+	}
+	p := &pair{cert: cert, key: key, changed: lastChange(cert, key)}
+	now, err := tls.LoadX509KeyPair(cert, key)
+	p.now = &now
+	return p, err
+}
+
+// lastChange gives when the later of the files was changed.
+func lastChange(files ...string) (last time.Time) {
+	for _, file := range files {
+		if info, err := os.Stat(file); err == nil && info.ModTime().After(last) {
+			last = info.ModTime()
+		}
+	}
+	return last
+}
+
+// again reads the files again, if they have changed. Where they don't fit each other, the earlier ones stay.
+func (p *pair) again() {
+	if p == nil {
+		return
+	}
+	changed := lastChange(p.cert, p.key)
+	if changed.Equal(p.changed) {
+		return
+	}
+	p.changed = changed
+	now, err := tls.LoadX509KeyPair(p.cert, p.key)
+	if err != nil {
+		log.Printf("certificates: %v; the earlier ones stay", err)
+		return
+	}
+	p.mu.Lock()
+	defer p.mu.Unlock()
+	p.now = &now
+	log.Print("certificates: read again")
+}
+
+func (p *pair) configuration() *tls.Config {
+	return &tls.Config{
+		MinVersion: tls.VersionTLS12,
+		NextProtos: []string{"h2", "http/1.1"},
+		GetCertificate: func(*tls.ClientHelloInfo) (*tls.Certificate, error) {
+			p.mu.Lock()
+			defer p.mu.Unlock()
+			return p.now, nil
+		},
+	}
+}

@@ -1,0 +1,161 @@
+//go:build nats
+
+package main
+
+import (
+	"fmt"
+	"net/http"
+	"os"
+	"os/exec"
+	"strings"
+	"sync"
+	"testing"
+	"time"
+)
+
+// openShards begins a gateway over the shards that the script `test` has started.
+func openShards(t *testing.T) *site {
+	t.Helper()
+	url := os.Getenv("GATEWAY_NATS")
+	if url == "" {
+		t.Skip("skipped: no shards are started")
+	}
+	s, err := readSettings([]string{"-nats", url, "-passwords", os.Getenv("GATEWAY_STATE") + "/passwords", "-tokens", tokenFile(t), "-watcher", "operator"})
+	if err != nil {
+		t.Fatal(err)
+	}
+	return openWith(t, s)
+}
+
+// clear takes all bundles out.
+func (s *site) clear() {
+	s.t.Helper()
+	for _, app := range []string{"shop", "bank"} {
+		token := map[string]string{"shop": shopWrites, "bank": bankWrites}[app]
+		for _, name := range strings.FieldsFunc(s.ask("GET", "/v1/"+app, token, "").body, func(r rune) bool { return strings.ContainsRune(`{}[]":,`+"\n", r) }) {
+			if name != "names" {
+				s.ask("DELETE", "/v1/"+app+"/"+name, token, "")
+			}
+		}
+	}
+}
+
+func TestOneSessionOverNATS(t *testing.T) {
+	s := openShards(t)
+	s.clear()
+	s.session()
+}
+
+// TestTwoGateways change and ask by two at once: what one has told is found by the other.
+func TestTwoGateways(t *testing.T) {
+	one, two := openShards(t), openShards(t)
+	one.clear()
+	for i := 0; i < 40; i++ {
+		from, to := one, two
+		if i%2 == 1 {
+			from, to = two, one
+		}
+		if got := from.ask("PUT", "/v1/shop/de.txt", shopWrites, fmt.Sprintf(`de{a{"%d"}}`, i)); got.StatusCode/100 != 2 {
+			t.Fatalf("%d %s", got.StatusCode, got.body)
+		}
+		if got := to.ask("GET", "/v1/shop/de/a", shopReads, ""); !strings.Contains(got.body, fmt.Sprintf(`"value":"%d"`, i)) {
+			t.Fatalf("%d: %d %s", i, got.StatusCode, got.body)
+		}
+	}
+	var asked strings.Builder
+	for i := 0; i < 3000; i++ {
+		asked.WriteString(`{"locale":"de","path":"a"}` + "\n")
+	}
+	if got := two.ask("POST", "/v1/shop/look", shopReads, asked.String()); strings.Count(got.body, `"value":"39"`) != 3000 {
+		t.Errorf("%d: %.300s", got.StatusCode, got.body)
+	}
+}
+
+func TestLengthsOverNATS(t *testing.T) {
+	s := openShards(t)
+	for path, want := range map[string]int{"/v1/shop/fr.res": 413, "/v1/shop/fr.txt": 413} {
+		if got := s.ask("PUT", path, shopWrites, strings.Repeat("\n", 5<<20)); got.StatusCode != want {
+			t.Errorf("%s: %d %s", path, got.StatusCode, got.body)
+		}
+	}
+	s.ask("GET", "/v1/shop", shopReads, "")
+	if text := s.ask("GET", "/metrics", "", "").body; !strings.Contains(text, "resb_shard_stream_messages{shard=\"0\",stream=\"") {
+		t.Error(text)
+	}
+}
+
+// TestShardsAreKilled kills each `resb serve` under changes and lookups: a request is 503 or as it would be, and what was told to
+// be done is there afterwards.
+func TestShardsAreKilled(t *testing.T) {
+	s := openShards(t)
+	s.clear()
+	told := map[string]int{}
+	var mu sync.Mutex
+	var all sync.WaitGroup
+	stop := make(chan struct{})
+	for n := 0; n < 4; n++ {
+		all.Add(1)
+		go func(locale string) {
+			defer all.Done()
+			for value := 1; ; value++ {
+				select {
+				case <-stop:
+					return
+				default:
+				}
+				got := s.ask("PUT", "/v1/shop/"+locale+".txt", shopWrites, fmt.Sprintf(`%s{a{"%d"}}`, locale, value))
+				switch {
+				case got.StatusCode/100 == 2:
+					mu.Lock()
+					told[locale] = value
+					mu.Unlock()
+				case got.StatusCode != 503:
+					t.Errorf("%d %s", got.StatusCode, got.body)
+					return
+				}
+				look := s.ask("GET", "/v1/shop/"+locale+"/a", shopReads, "")
+				if look.StatusCode != 503 && look.StatusCode != 504 && !strings.Contains(look.body, fmt.Sprintf(`"value":"%d"`, value)) && got.StatusCode/100 == 2 {
+					t.Errorf("after %d: %d %s", value, look.StatusCode, look.body)
+				}
+			}
+		}(fmt.Sprintf("l%c", 'a'+n))
+	}
+	for i := 0; i < 4; i++ {
+		time.Sleep(300 * time.Millisecond)
+		for shard := 0; shard < 2; shard++ {
+			pid, err := os.ReadFile(fmt.Sprintf("%s/shard-%d.resb", os.Getenv("GATEWAY_STATE"), shard))
+			if err != nil {
+				t.Fatal(err)
+			}
+			_ = exec.Command("kill", "-9", strings.TrimSpace(string(pid))).Run()
+		}
+	}
+	time.Sleep(300 * time.Millisecond)
+	close(stop)
+	all.Wait()
+	for locale, value := range told {
+		got := answer{}
+		for end := time.Now().Add(20 * time.Second); time.Now().Before(end); time.Sleep(50 * time.Millisecond) {
+			if got = s.ask("GET", "/v1/shop/"+locale+"/a", shopReads, ""); got.StatusCode == 200 {
+				break
+			}
+		}
+		if value == 0 || !strings.Contains(got.body, fmt.Sprintf(`"value":"%d"`, value)) {
+			t.Errorf("%s: %d was told, and %d %s", locale, value, got.StatusCode, got.body)
+		}
+	}
+}
+
+// TestNATSIsNotThere asks for an application where no nats-server is.
+func TestNATSIsNotThere(t *testing.T) {
+	s, err := readSettings([]string{"-nats", "nats://" + freeAddress(t), "-passwords", tokenFile(t), "-tokens", tokenFile(t)})
+	if err != nil {
+		t.Fatal(err)
+	}
+	at := openWith(t, s)
+	for _, path := range []string{"/v1/shop", "/v1/shop/de/a", "/readyz"} {
+		if got := at.ask("GET", path, shopReads, ""); got.StatusCode != http.StatusServiceUnavailable || got.Header.Get("Retry-After") == "" {
+			t.Errorf("%s: %d %s", path, got.StatusCode, got.body)
+		}
+	}
+}

@@ -1,0 +1,89 @@
+package main
+
+import (
+	"crypto/ecdsa"
+	"crypto/elliptic"
+	"crypto/rand"
+	"crypto/tls"
+	"crypto/x509"
+	"crypto/x509/pkix"
+	"encoding/pem"
+	"io"
+	"math/big"
+	"net/http"
+	"os"
+	"path/filepath"
+	"strings"
+	"testing"
+	"time"
+)
+
+// writePair makes a certificate for 127.0.0.1 with a serial number, in the files `cert` and `key` of a folder.
+func writePair(t *testing.T, folder string, serial int64, at time.Time) {
+	t.Helper()
+	key, err := ecdsa.GenerateKey(elliptic.P256(), rand.Reader)
+	if err != nil {
+		t.Fatal(err)
+	}
+	about := x509.Certificate{SerialNumber: big.NewInt(serial), Subject: pkix.Name{CommonName: "gateway"}, NotAfter: time.Now().Add(time.Hour), DNSNames: []string{"localhost"}}
+	cert, err := x509.CreateCertificate(rand.Reader, &about, &about, &key.PublicKey, key)
+	if err != nil {
+		t.Fatal(err)
+	}
+	secret, err := x509.MarshalECPrivateKey(key)
+	if err != nil {
+		t.Fatal(err)
+	}
+	for name, block := range map[string]*pem.Block{"key": {Type: "EC PRIVATE KEY", Bytes: secret}, "cert": {Type: "CERTIFICATE", Bytes: cert}} {
+		if err := os.WriteFile(filepath.Join(folder, name), pem.EncodeToMemory(block), 0o600); err != nil {
+			t.Fatal(err)
+		}
+		_ = os.Chtimes(filepath.Join(folder, name), at, at)
+	}
+}
+
+// TestTLS speaks HTTP/2 and HTTP/1.1 over TLS, and changes the certificate meanwhile.
+func TestTLS(t *testing.T) {
+	folder := t.TempDir()
+	writePair(t, folder, 1, time.Now().Add(-time.Hour))
+	s := open(t, "-cert", filepath.Join(folder, "cert"), "-key", filepath.Join(folder, "key"), "-header-time", "1s")
+	address := strings.TrimPrefix(s.url, "http://")
+	get := func(h2 bool) (*http.Response, error) {
+		transport := &http.Transport{TLSClientConfig: &tls.Config{InsecureSkipVerify: true}, ForceAttemptHTTP2: h2}
+		defer transport.CloseIdleConnections()
+		r, _ := http.NewRequest("GET", "https://"+address+"/v1/shop", nil)
+		r.Header.Set("Authorization", "Bearer "+shopReads)
+		got, err := (&http.Client{Transport: transport}).Do(r)
+		if err == nil {
+			_, _ = io.Copy(io.Discard, got.Body)
+			got.Body.Close()
+		}
+		return got, err
+	}
+	for _, h2 := range []bool{true, false} {
+		got, err := get(h2)
+		if err != nil || got.StatusCode != 200 || (got.ProtoMajor == 2) != h2 || got.TLS.PeerCertificates[0].SerialNumber.Int64() != 1 {
+			t.Fatalf("%v, %v", err, got)
+		}
+	}
+	if got := s.raw("GET / HTTP/1.1\r\nHost: x\r\n\r\n"); !strings.HasPrefix(got, "HTTP/1.0 400 ") {
+		t.Errorf("without TLS: %q", got)
+	}
+	s.raw("\x16\x03\x01") // a handshake that is cut off
+	writePair(t, folder, 2, time.Now())
+	for end := time.Now().Add(10 * time.Second); ; time.Sleep(100 * time.Millisecond) {
+		got, err := get(true)
+		if err == nil && got.TLS.PeerCertificates[0].SerialNumber.Int64() == 2 {
+			break
+		} else if time.Now().After(end) {
+			t.Fatalf("the certificate isn't read again: %v", err)
+		}
+	}
+	if err := os.WriteFile(filepath.Join(folder, "cert"), []byte("half"), 0o600); err != nil {
+		t.Fatal(err)
+	}
+	time.Sleep(1200 * time.Millisecond)
+	if got, err := get(true); err != nil || got.StatusCode != 200 {
+		t.Errorf("with a wrong certificate in the file: %v", err)
+	}
+}

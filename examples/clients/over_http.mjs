@@ -1,0 +1,133 @@
+#!/usr/bin/env node
+// A client of resb's gateway (deploy/gateway/README.md), for Node 18 or later and for browsers, without packages.
+//
+//   const bundles = new Bundles("http://127.0.0.1:6422", "shop", "TOKEN");
+//   await bundles.put("de", 'de{menu{open{"Öffnen"}}}');
+//   await bundles.text("de_AT", "menu/open");   // "Öffnen"
+//
+// Run as a program it does what `session` does:  over_http.mjs URL APP TOKEN
+
+const PATIENCE = 30_000; // milliseconds in which a request that can't be answered now is asked again
+
+/** A refusal: its HTTP status, and its word. */
+export class Refused extends Error {
+  constructor(status, word) {
+    super(`${status} ${word}`);
+    this.status = status;
+    this.word = word;
+  }
+}
+
+/** The bundles of an application. */
+export class Bundles {
+  #url;
+  #app;
+  #token;
+  #known = new Map(); // of an address to the last reply and its tag
+
+  constructor(url, app, token) {
+    this.#url = url.replace(/\/$/, "");
+    this.#app = app;
+    this.#token = token;
+  }
+
+  /** The text of a String, or null where there is no such item. */
+  async text(locale, path) {
+    return (await this.look(locale, path))?.value ?? null;
+  }
+
+  /** An item, with the locales that it was found by, or null where there is none. */
+  async look(locale, path) {
+    try {
+      return await this.#get(this.#address(locale, ...path.split("/")));
+    } catch (error) {
+      if (error instanceof Refused && ["Missing", "NoBundle"].includes(error.word)) return null;
+      throw error;
+    }
+  }
+
+  /** The replies to pairs of a locale and a path, in order, by one request. */
+  async lookMany(questions) {
+    const lines = questions.map(([locale, path]) => JSON.stringify({ locale, path }) + "\n").join("");
+    const response = await this.#ask("POST", this.#address("look"), { body: lines });
+    return (await response.text()).split("\n").slice(0, -1).map((line) => JSON.parse(line));
+  }
+
+  /** The locales of the application's bundles, in the order of installing. */
+  async names() {
+    return (await this.#get(this.#address())).names;
+  }
+
+  /** Installs a bundle, or puts it in the place of the one that is there: a text, or the bytes of a .res file. */
+  async put(locale, bundle) {
+    const type = typeof bundle === "string" ? "text/plain; charset=utf-8" : "application/octet-stream";
+    await (await this.#ask("PUT", this.#address(locale), { body: bundle, headers: { "Content-Type": type } })).text();
+  }
+
+  /** Takes a bundle out. */
+  async remove(locale) {
+    await (await this.#ask("DELETE", this.#address(locale))).text();
+  }
+
+  #address(...parts) {
+    return [this.#url, "v1", ...[this.#app, ...parts].map(encodeURIComponent)].join("/");
+  }
+
+  /** A reply; one that hasn't changed since is not sent again. */
+  async #get(address) {
+    const known = this.#known.get(address);
+    const response = await this.#ask("GET", address, { headers: known?.tag ? { "If-None-Match": known.tag } : {} });
+    const body = await response.text();
+    if (response.status === 304) return known.reply;
+    const reply = JSON.parse(body);
+    this.#known.set(address, { tag: response.headers.get("ETag"), reply });
+    return reply;
+  }
+
+  /** A response; asks again while the server can't answer. */
+  async #ask(method, address, { body, headers = {} } = {}) {
+    const mayRepeat = method === "GET" || method === "PUT" || address.endsWith("/look");
+    for (const end = Date.now() + PATIENCE; ; ) {
+      let response;
+      try {
+        response = await fetch(address, { method, body, headers: { ...headers, Authorization: "Bearer " + this.#token } });
+      } catch (error) {
+        // A change may have been done, though its answer was lost: a PUT may be asked again, others are left to the caller.
+        if (!mayRepeat || Date.now() > end) throw error;
+        await new Promise((wake) => setTimeout(wake, 100));
+        continue;
+      }
+      if (response.ok || response.status === 304) return response;
+      const word = JSON.parse(await response.text()).error;
+      if (![429, 503].includes(response.status) || Date.now() > end) throw new Refused(response.status, word);
+      await new Promise((wake) => setTimeout(wake, 1000 * Number(response.headers.get("Retry-After") ?? 1)));
+    }
+  }
+}
+
+/** Installs two bundles, looks items up, and takes the bundles out. */
+async function session(url, app, token) {
+  const bundles = new Bundles(url, app, token);
+  await bundles.put("de", 'de{menu{open{"Öffnen"} close{"Schließen"}}}');
+  await bundles.put("de_AT", 'de_AT{menu{close{"Zumachen"}}}');
+  console.log((await bundles.names()).join(" "));
+  for (const path of ["menu/open", "menu/close", "menu/none"]) console.log(path, await bundles.text("de_AT", path));
+  console.log(await bundles.text("de_AT", "menu/open")); // by its tag
+  const replies = await bundles.lookMany([["de_AT", "menu/open"], ["de", "menu/close"], ["fr", "menu/open"]]);
+  console.log(replies.map((reply) => reply.value ?? reply.error).join(" "));
+  try {
+    await bundles.put("fr", "fr{");
+  } catch (error) {
+    console.log(error.message);
+  }
+  for (const name of await bundles.names()) await bundles.remove(name);
+  console.log(await bundles.look("de", "menu/open"));
+}
+
+if (globalThis.process?.argv[1]?.endsWith("over_http.mjs")) {
+  if (process.argv.length !== 5) {
+    console.error("usage: over_http.mjs URL APP TOKEN");
+    process.exit(2);
+  }
+  await session(...process.argv.slice(2));
+}

@@ -1,0 +1,138 @@
+#!/usr/bin/env python3
+"""A client of resb's gateway (deploy/gateway/README.md), with Python's standard library alone.
+
+    bundles = Bundles("http://127.0.0.1:6422", "shop", "TOKEN")
+    bundles.put("de", 'de{menu{open{"Öffnen"}}}')
+    bundles.text("de_AT", "menu/open")      # "Öffnen"
+
+Run as a program it does what `session` does:  over_http.py URL APP TOKEN
+"""
+import json
+import sys
+import time
+from http.client import HTTPConnection, HTTPException, HTTPSConnection
+from urllib.parse import quote, urlsplit
+
+PATIENCE = 30  # seconds in which a request that can't be answered now is asked again
+
+
+class Refused(Exception):
+    """A refusal: its HTTP status, and its word."""
+
+    def __init__(self, status, word):
+        super().__init__(f"{status} {word}")
+        self.status, self.word = status, word
+
+
+class Bundles:
+    """The bundles of an application. Not to be used by several threads at once."""
+
+    def __init__(self, url, app, token):
+        self.url, self.app, self.token = urlsplit(url), app, token
+        self.connection = None
+        self.known = {}  # of an address to the last reply and its tag
+
+    def text(self, locale, path):
+        """The text of a String, or None where there is no such item."""
+        item = self.look(locale, path)
+        return item["value"] if item else None
+
+    def look(self, locale, path):
+        """An item, with the locales that it was found by, or None where there is none."""
+        try:
+            return self._get(self._address(locale, *path.split("/")))
+        except Refused as refused:
+            if refused.word in ("Missing", "NoBundle"):
+                return None
+            raise
+
+    def look_many(self, questions):
+        """The replies to pairs of a locale and a path, in order, by one request."""
+        lines = "".join(json.dumps({"locale": locale, "path": path}) + "\n" for locale, path in questions)
+        _, _, reply = self._ask("POST", self._address("look"), lines.encode())
+        return [json.loads(line) for line in reply.splitlines()]
+
+    def names(self):
+        """The locales of the application's bundles, in the order of installing."""
+        return self._get(self._address())["names"]
+
+    def put(self, locale, text):
+        """Installs a bundle text, or puts it in the place of the one that is there."""
+        self._ask("PUT", self._address(locale), text.encode(), "text/plain; charset=utf-8")
+
+    def put_file(self, locale, data):
+        """The same with the bytes of a .res file."""
+        self._ask("PUT", self._address(locale), data, "application/octet-stream")
+
+    def remove(self, locale):
+        """Takes a bundle out."""
+        self._ask("DELETE", self._address(locale))
+
+    def _address(self, *parts):
+        return "/".join([self.url.path.rstrip("/"), "v1", *(quote(part, safe="") for part in (self.app, *parts))])
+
+    def _get(self, address):
+        """A reply; one that hasn't changed since is not sent again."""
+        tag, reply = self.known.get(address, (None, None))
+        status, headers, body = self._ask("GET", address, tag=tag)
+        if status == 304:
+            return reply
+        reply = json.loads(body)
+        self.known[address] = headers.get("ETag"), reply
+        return reply
+
+    def _ask(self, method, address, body=None, kind=None, tag=None):
+        """The status, headers and body of a response; asks again while the server can't answer."""
+        end = time.monotonic() + PATIENCE
+        while True:
+            try:
+                status, headers, reply = self._once(method, address, body, kind, tag)
+            except (OSError, HTTPException):
+                # A change may have been done, though its answer was lost: a PUT may be asked again, others are left to the caller.
+                self.connection = None
+                if method in ("POST", "DELETE") and not address.endswith("/look") or time.monotonic() > end:
+                    raise
+                time.sleep(0.1)
+                continue
+            if status < 400:
+                return status, headers, reply
+            if status not in (429, 503) or time.monotonic() > end:
+                raise Refused(status, json.loads(reply)["error"])
+            time.sleep(float(headers.get("Retry-After", "1")))
+
+    def _once(self, method, address, body, kind, tag):
+        if self.connection is None:
+            kinds = {"http": HTTPConnection, "https": HTTPSConnection}
+            self.connection = kinds[self.url.scheme](self.url.hostname, self.url.port, timeout=PATIENCE)
+        headers = {"Authorization": "Bearer " + self.token}
+        headers.update({"Content-Type": kind} if kind else {})
+        headers.update({"If-None-Match": tag} if tag else {})
+        self.connection.request(method, address, body, headers)
+        response = self.connection.getresponse()
+        return response.status, response.headers, response.read()
+
+
+def session(url, app, token):
+    """Installs two bundles, looks items up, and takes the bundles out."""
+    bundles = Bundles(url, app, token)
+    bundles.put("de", 'de{menu{open{"Öffnen"} close{"Schließen"}}}')
+    bundles.put("de_AT", 'de_AT{menu{close{"Zumachen"}}}')
+    print(" ".join(bundles.names()))
+    for path in ("menu/open", "menu/close", "menu/none"):
+        print(path, bundles.text("de_AT", path))
+    print(bundles.text("de_AT", "menu/open"))  # by its tag
+    replies = bundles.look_many([("de_AT", "menu/open"), ("de", "menu/close"), ("fr", "menu/open")])
+    print(" ".join(reply.get("value") or reply["error"] for reply in replies))
+    try:
+        bundles.put("fr", "fr{")
+    except Refused as refused:
+        print(refused)
+    for name in bundles.names():
+        bundles.remove(name)
+    print(bundles.look("de", "menu/open"))
+
+
+if __name__ == "__main__":
+    if len(sys.argv) != 4:
+        sys.exit("usage: over_http.py URL APP TOKEN")
+    session(*sys.argv[1:])
