@@ -3,9 +3,8 @@
 
 usage: cldr.py DATA [PROGRAM], or serve.py PROGRAM DATA
 
-DATA is the file icudt*l.dat of ICU's source package (`apt-get source icu`: source/data/in/). It is taken apart with icupkg, turned into
-text with derb -A, which keeps aliases, and compiled with genrb --formatVersion 1 (Debian's icu-devtools), so that both servers have the
-same files. The C server is built where pkg-config knows icu-uc (Debian's libicu-dev). Where one of these is missing, a line says
+DATA is the package icudt*l.dat of ICU's data (docs/ICU.md says where it is). Its bundles of locales are turned into text with
+tools/icu2text, and compiled with genrb --formatVersion 1 (Debian's icu-devtools), so that both servers have the same files. The C server is built where pkg-config knows icu-uc (Debian's libicu-dev). Where one of these is missing, a line says
 `skipped` and which.
 
 Looked up are the paths of the strings of LOCALES from all locales, in random order, where they find something. A lookup that the two
@@ -39,18 +38,16 @@ def have(*tools):
 
 def bundles(data, folder):
     """The .res files of the locales in ICU's data, in version 1 of the format."""
-    have("icupkg", "derb", "genrb")
+    have("genrb")
     if not os.path.exists(data):
         raise Skipped(data)
-    found, texts, files = (os.path.join(folder, name) for name in ("found", "texts", "files"))
-    for path in (found, texts, files):
-        os.mkdir(path)
-    subprocess.run(["icupkg", "-x", "*.res", "-d", found, data], check=True, stdout=subprocess.DEVNULL)
-    # the bundles of a package of ICU's own data lie beside each other; those of curr/, lang/ and so on are other packages
-    names = sorted(os.path.basename(path)[:-4] for path in glob.glob(f"{found}/*.res"))
+    texts, files = (os.path.join(folder, name) for name in ("texts", "files"))
+    os.mkdir(files)
+    # those at the top of the package; the bundles of curr/, lang/ and so on are other ones
+    subprocess.run([os.path.join(os.path.dirname(HERE), "tools", "icu2text"), "--package", data, "--to", texts], check=True)
+    names = sorted(os.path.basename(path)[:-4] for path in glob.glob(f"{texts}/*.txt"))
     locales = [name for name in names if name != "res_index" and (name == "root" or 2 <= len(name.split("_")[0]) <= 3)]
-    subprocess.run(["derb", "-A", "-e", "UTF-8", "-s", found, "-d", texts, *[f"{name}.res" for name in locales]], check=True, stdout=subprocess.DEVNULL, stderr=subprocess.DEVNULL)
-    subprocess.run(["genrb", "-q", "--formatVersion", "1", "-s", texts, "-d", files, *[f"{name}.txt" for name in locales]], check=True, stdout=subprocess.DEVNULL, stderr=subprocess.DEVNULL)
+    subprocess.run(["genrb", "-q", "-e", "UTF-8", "--formatVersion", "1", "-s", texts, "-d", files, *[f"{name}.txt" for name in locales]], check=True, stdout=subprocess.DEVNULL, stderr=subprocess.DEVNULL)
     return files
 
 

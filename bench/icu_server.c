@@ -1,7 +1,7 @@
 /* A line server over libicu, to measure resb serve against: it answers the lookups of docs/SERVER.md from a folder of .res files,
    whose bundles it keeps open. Replies are written out when no whole line is left in its buffer.
    ures_getByKeyWithFallback reads an index of an array in the bundles after the first alone; with the word `indexes` the numbers at the
-   end of a path are read with ures_getByIndex, as callers of libicu do.
+   end of a path are read with ures_getByIndex, as callers of libicu do, and the default locale is the root.
    usage: icu_server FOLDER [indexes] < LINES */
 #include <stdio.h>
 #include <stdlib.h>
@@ -13,13 +13,13 @@
 /* exported by libicuuc, declared in ICU's uresimp.h */
 U_CAPI UResourceBundle *U_EXPORT2 ures_getByKeyWithFallback(const UResourceBundle *, const char *, UResourceBundle *, UErrorCode *);
 
-enum { SLOTS = 8192, INPUT = 1 << 20, TEXT = 1 << 16 };
+enum { SLOTS = 8192, INPUT = 1 << 20, TEXT = 1 << 22 };
 
 static struct { char name[128]; UResourceBundle *bundle; } kept[SLOTS];
 static char input[INPUT], text[TEXT];
 
-/* the bundle of a locale, opened once; NULL where there is none */
-static UResourceBundle *bundle_of(const char *folder, const char *name) {
+/* the bundle of a locale, opened once; NULL where there is none, and no default locale's is asked for */
+static UResourceBundle *bundle_of(const char *folder, const char *name, int with_default) {
     unsigned at = 5381;
     for (const char *c = name; *c; c++) at = at * 33 + (unsigned char)*c;
     for (at %= SLOTS; kept[at].name[0]; at = (at + 1) % SLOTS)
@@ -27,7 +27,7 @@ static UResourceBundle *bundle_of(const char *folder, const char *name) {
     UErrorCode status = U_ZERO_ERROR;
     UResourceBundle *bundle = ures_open(folder, name, &status);
     snprintf(kept[at].name, sizeof kept[at].name, "%s", name);
-    kept[at].bundle = U_FAILURE(status) || status == U_USING_DEFAULT_WARNING ? NULL : bundle;
+    kept[at].bundle = U_FAILURE(status) || (status == U_USING_DEFAULT_WARNING && !with_default) ? NULL : bundle;
     return kept[at].bundle;
 }
 
@@ -118,7 +118,7 @@ static UResourceBundle *by_indexes(UResourceBundle *bundle, const char *path, UE
 static void answer(const char *folder, int indexes, char *line) {
     char *locale = NULL, *path = NULL;
     if (!read_line(line, &locale, &path)) { fputs("{\"error\":\"BadLine\"}\n", stdout); return; }
-    UResourceBundle *bundle = bundle_of(folder, locale);
+    UResourceBundle *bundle = bundle_of(folder, locale, indexes);
     if (!bundle) { fputs("{\"error\":\"NoBundle\"}\n", stdout); return; }
     static UResourceBundle *item = NULL;
     UErrorCode status = U_ZERO_ERROR;
@@ -136,6 +136,8 @@ static void answer(const char *folder, int indexes, char *line) {
 
 int main(int count, char **args) {
     if (count != 2 && !(count == 3 && strcmp(args[2], "indexes") == 0)) return 2;
+    UErrorCode status = U_ZERO_ERROR;
+    if (count == 3) uloc_setDefault("root", &status);
     setvbuf(stdout, NULL, _IOFBF, 1 << 16);
     for (size_t held = 0;;) {
         ssize_t got = read(0, input + held, INPUT - held);

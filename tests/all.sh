@@ -2,7 +2,7 @@
 # All tests. First what needs no built program: the launcher, the manual page where mandoc is there, a program that must not compile,
 # and one of whose allocations each is refused in turn. Then the gate, which proves every crate from nothing, tries the wrong bodies,
 # runs each test, and builds the program. Last what runs that program: the examples, the documents, replies through pipes, lines read
-# in two ways, the shards of deploy/, and its gateway.
+# in two ways, tools/icu2text beside ICU's tools, the shards of deploy/, and its gateway.
 set -eu
 cd "$(dirname "$0")/.."
 program=crates/rb_tool/out/rb_tool
@@ -28,6 +28,8 @@ if has python3; then
     tests/documents.py "$program"
     tests/pipe.py "$program"
     tests/same_readings.py "$program"
+    tests/icu2text.py "$program"
+    tests/icu.sh "$program" brkitr translit
 fi
 deploy/test "$program"
 deploy/gateway/test "$program"

@@ -25,6 +25,7 @@ import tempfile
 
 TOP = os.path.dirname(os.path.dirname(os.path.abspath(__file__)))
 TREES = ("main", "curr", "lang", "region", "unit", "zone", "brkitr", "coll", "rbnf")
+WITHOUT = "different without a reason"
 MARKER = "\u2205\u2205\u2205"
 
 
@@ -100,51 +101,72 @@ def line(request):
     return json.dumps(request).encode() + b"\n"
 
 
-def look(tree, locale, path):
-    return line({"op": "look", "app": tree, "locale": locale, "path": path})
-
-
 def replies(command, lines):
     environment = dict(os.environ, LC_ALL="C")
     run = subprocess.run(command, input=b"".join(lines), stdout=subprocess.PIPE, check=True, env=environment)
     return [json.loads(reply) for reply in run.stdout.splitlines()]
 
 
-def reason(our, their, begun):
-    """Why two replies differ, as docs/LOOKUP.md has it, or None. `begun` is our reply from the locale at which libicu began."""
+def answers(command, lines):
+    """The replies, without what libicu isn't asked for: the keys of a table and the length of an array."""
+    return [{name: value for name, value in reply.items() if name not in ("keys", "len")} for reply in replies(command, lines)]
+
+
+class Tree:
+    """The bundles of a tree, in both servers."""
+
+    def __init__(self, name, files, program, server, parents):
+        self.name, self.files = name, files
+        self.resb = [program, "serve", "--parents", parents]
+        self.libicu = [server, "ICUDATA" if name == "main" else f"ICUDATA-{name}", "indexes"]
+        self.installs = [line({"op": "install", "app": name, "locale": locale, "file": file.hex()}) for locale, file in sorted(files.items())]
+        self.refused = sum(reply != {"ok": True} for reply in replies(self.resb, self.installs))
+
+    def ours(self, asked):
+        return answers(self.resb, self.installs + self.looks(asked))[len(self.installs) :]
+
+    def theirs(self, asked):
+        return answers(self.libicu, self.looks(asked))
+
+    def looks(self, asked):
+        return [line({"op": "look", "app": self.name, "locale": locale, "path": path}) for locale, path in asked]
+
+    def paths(self):
+        read = reader()
+        return sorted({path for file in self.files.values() for path in strings(read(file).tree())})
+
+
+def reason(our, their, begun, ended):
+    """Why two replies differ, as docs/LOOKUP.md has it, or None. `begun` is our reply from the valid locale of libicu's reply, `ended`
+    libicu's reply from the actual locale of ours."""
     if our == {"error": "BadLocale"}:
-        return "left out: a name with an empty part, or one of more than 8 characters"
+        return "left out: a locale with an empty part, or with one of more than 8 characters"
     if our.get("value") == MARKER:
-        return "left out: three U+2205, an ordinary string here"
+        return "left out: three U+2205, which are an ordinary string in resb"
     if begun == their:
-        return "left out: libicu begins at the script that is likely for the locale, resb at the shorter name"
+        return "left out: libicu begins at the script that is likely for the locale, resb at the locale without its last part"
+    if their == {"error": "Missing"} and our.get("value", "") == ended.get("value"):
+        return "left out: an array of an earlier bundle is too short, and resb reads the index in the later ones too"
     return None
 
 
-def compare(program, server, tree, files, names, parents, count):
+def compare(tree, names, count):
     """Counts of lookups by what came of them."""
-    read = reader()
-    paths = sorted({path for file in files.values() for path in strings(read(file).tree())})
-    chosen = random.Random(tree)
+    paths, chosen = tree.paths(), random.Random(tree.name)
     asked = [(chosen.choice(names), chosen.choice(paths)) for _ in range(count)]
-    installs = [line({"op": "install", "app": tree, "locale": name, "file": file.hex()}) for name, file in sorted(files.items())]
-
-    def ours(lookups):
-        return replies([program, "serve", "--parents", parents], installs + [look(tree, *one) for one in lookups])
-
-    answers = ours(asked)
-    refused = [reply for reply in answers[: len(installs)] if reply != {"ok": True}]
-    theirs = replies([server, "ICUDATA" if tree == "main" else f"ICUDATA-{tree}", "indexes"], [look(tree, *one) for one in asked])
-    differing = [(one, our, their) for one, our, their in zip(asked, answers[len(installs) :], theirs) if our != their]
-    begun = ours([(their.get("valid", locale), path) for (locale, path), _, their in differing])[len(installs) :]
-    found = sum(our == their and "error" not in our for our, their in zip(answers[len(installs) :], theirs))
-    counts = collections.Counter({"found by both, alike": found, "found by neither": count - found - len(differing)})
-    for ((locale, path), our, their), again in zip(differing, begun):
-        why = reason(our, their, again) or "different without a reason"
-        counts[why] += 1
-        if why == "different without a reason":
-            print(f"{tree}: {locale} {path}\n  resb   {our}\n  libicu {their}")
-    print(f"{tree}: {len(files) - len(refused)} of {len(files)} bundles, {len(paths)} paths, {json.dumps(counts)}", flush=True)
+    both = list(zip(asked, tree.ours(asked), tree.theirs(asked)))
+    differing = [(one, our, their) for one, our, their in both if our != their]
+    begun = tree.ours([(their.get("valid", locale), path) for (locale, path), _, their in differing])
+    ended = tree.theirs([(our.get("actual", locale), path) for (locale, path), our, _ in differing])
+    counts = collections.Counter({"found, alike": sum(our == their and "actual" in our for _, our, their in both)})
+    counts["found by neither"] = count - counts["found, alike"] - len(differing)
+    for (one, our, their), again, last in zip(differing, begun, ended):
+        why = reason(our, their, again, last)
+        counts[why or WITHOUT] += 1
+        if why is None:
+            print(f"{tree.name}: {' '.join(one)}\n  resb   {our}\n  libicu {their}")
+    installed = len(tree.files) - tree.refused
+    print(f"{tree.name}: {installed} of {len(tree.files)} bundles, {len(paths)} paths, {json.dumps(counts)}", flush=True)
     return counts
 
 
@@ -163,11 +185,11 @@ def main():
         names = {name for files in trees.values() for name in files}
         names = sorted(names | {f"{name}_ZZ" for name in names})
         total = collections.Counter()
-        for tree, files in trees.items():
-            total += compare(program, server, tree, files, names, f"{folder}/main/supplementalData.txt", count)
+        for name, files in trees.items():
+            total += compare(Tree(name, files, program, server, f"{folder}/main/supplementalData.txt"), names, count)
     for what, number in total.most_common():
         print(f"{number} {what}")
-    return 1 if total["different without a reason"] else 0
+    return 1 if total[WITHOUT] else 0
 
 
 if __name__ == "__main__":

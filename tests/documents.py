@@ -4,7 +4,7 @@
 A block that begins with ```console has commands, as they are typed: a line that begins with `$ ` is a command, lines after it
 that begin with `> ` are more of it, and all other lines up to the next command are what it prints, on standard output and
 standard error together. The blocks of a page are run in their order, by one shell, in an empty folder; `resb` is the built
-program, and $EXAMPLES is the folder examples/ of this repository. A block of ```console by-hand needs more than a shell (other
+program, `icu2text` the script in tools/, and $EXAMPLES is the folder examples/ of this repository. A block of ```console by-hand needs more than a shell (other
 tools, or files from a network), and is run only where --with gives what it needs. All other blocks are left alone.
 
 It also compares the pages with the code: each relative link leads to a file and to a heading in it; docs/TROUBLESHOOTING.md and
@@ -67,6 +67,7 @@ def printed(program, asked, given):
         os.mkdir(os.path.join(folder, "bin"))
         os.mkdir(os.path.join(folder, "run"))
         os.symlink(os.path.abspath(program), os.path.join(folder, "bin", "resb"))
+        os.symlink(os.path.join(TOP, "tools", "icu2text"), os.path.join(folder, "bin", "icu2text"))
         for name in given:
             shutil.copy(name, os.path.join(folder, "run"))
         with open(os.path.join(folder, "script"), "w", encoding="utf-8") as file:

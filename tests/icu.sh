@@ -108,7 +108,10 @@ tree() {
     convert "$at/icu" "$at/unpacked" "unpacked"
     diff -rq "$at/texts" "$at/unpacked" >/dev/null || differ "$1: the texts of icupkg's files"
     "$icu2text" --package "$big" --tree "$1" --to "$at/big" 2>"$work/error" || differ "$1: $(cat "$work/error")"
-    diff -rq "$at/texts" "$at/big" >/dev/null || differ "$1: the texts of big-endian files"
+    if ! diff -rq "$at/texts" "$at/big" >/dev/null; then
+        diff -rq -I '%%CollationBin:bin' "$at/texts" "$at/big" >/dev/null || differ "$1: the texts of big-endian files"
+        reason "$1: icupkg swaps the numbers in collation's binaries too"
+    fi
     formats "$at/texts" "$at/genrb" "*.txt"
     compile "$at/texts"
     for format in 1 2 3; do
