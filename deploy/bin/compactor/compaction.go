@@ -25,9 +25,9 @@ type compaction struct {
 	js    nats.JetStreamContext
 	shard int
 	old   subjects.Generation
-	last  uint64          // the last message of the stream of bundles
-	done  map[uint64]bool // each answered change, and whether it was done
-	upto  uint64          // the last change that the new generation is to have
+	last  uint64 // the last message of the stream of bundles
+	done  []bool // of each answered change after the old generation, whether it was done
+	upto  uint64 // the last change that the new generation is to have
 	stand *standing
 }
 
@@ -82,14 +82,14 @@ func (c *compaction) worth() (bool, error) {
 
 // answers reads which changes were done, and finds the last one whose answer is older than the grace.
 func (c *compaction) answers() error {
-	c.done, c.upto = map[uint64]bool{}, c.old.Upto
+	c.done, c.upto = nil, c.old.Upto
 	old := time.Now().Add(-c.grace)
 	return stream.Each(c.nc, subjects.AnswersOf(c.shard), func(m *nats.Msg, at *nats.MsgMetadata) error {
 		n, err := strconv.ParseUint(m.Header.Get(subjects.AnswerTo), 10, 64)
-		if err != nil || n <= c.old.Upto {
+		if err != nil || n != c.old.Upto+1+uint64(len(c.done)) {
 			return nil
 		}
-		c.done[n] = string(m.Data) == lines.Done
+		c.done = append(c.done, string(m.Data) == lines.Done)
 		if n == c.upto+1 && !at.Timestamp.After(old) {
 			c.upto = n
 		}
@@ -137,7 +137,7 @@ func (c *compaction) readChanges(names *names) error {
 			return fmt.Errorf("change %d came in the place of %d", n, next)
 		}
 		next++
-		if !c.done[n] {
+		if !c.done[n-c.old.Upto-1] {
 			return nil
 		}
 		return c.stand.take(subjects.Last(m.Subject), m.Data, names, place{subjects.Changes(c.shard), n})

@@ -4,6 +4,7 @@ import (
 	"errors"
 	"fmt"
 	"path/filepath"
+	"sort"
 	"strings"
 	"sync"
 	"time"
@@ -53,6 +54,9 @@ func (c *cluster) isolation(t *tally, applications []*application) error {
 	plants(t, nc, ours.name, theirs)
 	repeats(t, nc, ours)
 	guesses(t, nc, ours, theirs)
+	if err := c.turns(t, theirs); err != nil {
+		return err
+	}
 	theirs.verify()
 	ours.verify()
 	return nil
@@ -228,6 +232,91 @@ func repeats(t *tally, nc *nats.Conn, ours *application) {
 	if count != 1 {
 		t.fail("a change was answered %d times", count)
 	}
+}
+
+// turns has one application of a shard ask a dear lookup without pause, 64 at once, and checks that another's lookups there wait
+// for a few of them and not for all.
+func (c *cluster) turns(t *tally, theirs *application) error {
+	const greedy, atOnce = "greedy", 64
+	if err := c.run("add", greedy); err != nil {
+		return err
+	}
+	caller, err := c.dial(greedy)
+	if err != nil {
+		return err
+	}
+	defer caller.Close()
+	var many strings.Builder
+	for k := 0; k < 20000; k++ {
+		fmt.Fprintf(&many, "k%d{\"\"}", k)
+	}
+	p, err := caller.Change(request{Op: "install", App: greedy, Locale: "root", Text: "root{t{" + many.String() + "}}"}.line())
+	if err != nil {
+		return err
+	}
+	if answer, err := p.Wait(); err != nil || answer != `{"ok":true}` {
+		return fmt.Errorf("the dear bundle: %s, %v", answer, err)
+	}
+	victim := c.inShard(p.Shard(), theirs)
+	nc, _, err := c.raw(greedy)
+	if err != nil {
+		return err
+	}
+	defer nc.Close()
+	dear := look(greedy, "root", "t")
+	took := func(ask func() error) (time.Duration, error) {
+		var times []time.Duration
+		for k := 0; k < 15; k++ {
+			began := time.Now()
+			if err := ask(); err != nil {
+				return 0, err
+			}
+			times = append(times, time.Since(began))
+		}
+		sort.Slice(times, func(i, j int) bool { return times[i] < times[j] })
+		return times[len(times)/2], nil
+	}
+	one, err := took(func() error { _, err := nc.Request(subjects.Ask(greedy), []byte(dear), 10*time.Second); return err })
+	if err != nil {
+		return err
+	}
+	stop := make(chan struct{})
+	var asking sync.WaitGroup
+	for k := 0; k < atOnce; k++ {
+		asking.Add(1)
+		go func() {
+			defer asking.Done()
+			for {
+				select {
+				case <-stop:
+					return
+				default:
+					_, _ = nc.Request(subjects.Ask(greedy), []byte(dear), 10*time.Second)
+				}
+			}
+		}()
+	}
+	waited, err := took(func() error { _, err := victim.client.Once(list(victim.name), 20*time.Second); return err })
+	close(stop)
+	asking.Wait()
+	if err != nil {
+		return err
+	}
+	fmt.Printf("a dear lookup takes %v; with %d of one application at once another's takes %v\n", one.Round(10*time.Microsecond), atOnce, waited.Round(10*time.Microsecond))
+	if waited > 4*one+20*time.Millisecond {
+		t.fail("a lookup took %v beside dear ones of %v", waited, one)
+	}
+	return c.run("drop", greedy)
+}
+
+// inShard gives an application of the shard, or the given one where none is known.
+func (c *cluster) inShard(shard string, other *application) *application {
+	for _, a := range c.all {
+		if a.shard == shard {
+			return a
+		}
+	}
+	return other
 }
 
 // comesAndGoes adds an application while all runs, and drops it: its callers are cut off, and nobody else is.

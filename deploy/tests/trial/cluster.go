@@ -26,6 +26,7 @@ type cluster struct {
 	servers int // 0 is one
 	bytes   string
 	names   []string
+	all     []*application
 	calm    sync.RWMutex // is held where nothing may be killed
 }
 
@@ -101,7 +102,7 @@ func (c *cluster) dial(app string) (*client.Client, error) {
 
 // applications makes a caller and a reference for each name.
 func (c *cluster) applications(t *tally) ([]*application, error) {
-	all := make([]*application, len(c.names))
+	c.all = make([]*application, len(c.names))
 	for k, name := range c.names {
 		caller, err := c.dial(name)
 		if err != nil {
@@ -111,9 +112,9 @@ func (c *cluster) applications(t *tally) ([]*application, error) {
 		if err != nil {
 			return nil, err
 		}
-		all[k] = &application{name: name, client: caller, reference: alone, random: rand.New(rand.NewSource(rand.Int63())), tally: t, cluster: c}
+		c.all[k] = &application{name: name, client: caller, reference: alone, random: rand.New(rand.NewSource(rand.Int63())), tally: t, cluster: c}
 	}
-	return all, nil
+	return c.all, nil
 }
 
 // kill kills a process of the cluster, whose number is in the file, if it is one yet.

@@ -14,12 +14,12 @@ import (
 )
 
 const (
-	// away is how long a server that was killed is away.
+	// away is how long a server that was killed is away in a long trial; in a short one it is half of it.
 	away = 5 * time.Second
-	// forgotten is what of a server's files a loss of power takes: all that was written in this time.
+	// forgotten is what of a server's files a loss of power takes: all that was written in this time, or in half of it.
 	forgotten = 3 * time.Second
 	// silence is how long no lookup may be answered while a server is away and nothing else is killed.
-	silence = 2 * time.Second
+	silence = 5 * time.Second
 )
 
 // tryServers loads bundles over several servers, kills bridges, programs and servers under load, one server at a time, and looks
@@ -68,7 +68,7 @@ func (c *cluster) endureServers(t *tally, applications []*application, duration 
 		close(killed)
 	}()
 	failed := make(chan error, 1)
-	go func() { failed <- c.killServers(ctx, t, applications[0]) }()
+	go func() { failed <- c.killServers(ctx, t, applications[0], duration) }()
 	all(applications, func(a *application) { a.work(time.Now().Add(duration), 4) })
 	cancel()
 	<-killed
@@ -91,15 +91,19 @@ func (c *cluster) endureServers(t *tally, applications []*application, duration 
 }
 
 // killServers kills one server after the other, each second time with the loss of what it wrote last, and starts it again.
-func (c *cluster) killServers(ctx context.Context, t *tally, a *application) error {
+func (c *cluster) killServers(ctx context.Context, t *tally, a *application, duration time.Duration) error {
+	away, forgotten := away, forgotten
+	if duration < long {
+		away, forgotten = away/2, forgotten/2
+	}
 	for k := 0; ctx.Err() == nil; k++ {
 		select {
 		case <-ctx.Done():
 			return nil
-		case <-time.After(time.Duration(1000+rand.Intn(2000)) * time.Millisecond):
+		case <-time.After(forgotten/2 + time.Duration(rand.Intn(1000))*time.Millisecond):
 		}
 		names := c.files()
-		if err := c.loseServer(t, a, names[rand.Intn(len(names))], k%2 == 1); err != nil {
+		if err := c.loseServer(t, a, names[rand.Intn(len(names))], k%2 == 1, away, forgotten); err != nil {
 			return err
 		}
 		select {
@@ -112,7 +116,7 @@ func (c *cluster) killServers(ctx context.Context, t *tally, a *application) err
 }
 
 // loseServer kills a server, looks items up while it is away, and starts it again.
-func (c *cluster) loseServer(t *tally, a *application, name string, power bool) error {
+func (c *cluster) loseServer(t *tally, a *application, name string, power bool, away, forgotten time.Duration) error {
 	store, kept := filepath.Join(c.state, "store"+strings.TrimPrefix(name, "nats")), filepath.Join(c.state, "kept")
 	kind := "with nothing else killed"
 	if power {
