@@ -47,7 +47,7 @@ func (c *call) stream(ctx context.Context, lines []byte) {
 			waiting = append(waiting, c.one(ctx, line))
 			continue
 		}
-		if !c.first(ctx, waiting[0], out) {
+		if !c.first(waiting[0], out) {
 			return
 		}
 		waiting = waiting[1:]
@@ -72,16 +72,18 @@ func (c *call) one(ctx context.Context, given []byte) <-chan []byte {
 }
 
 // first writes the reply that is next, and tells whether the caller still reads.
-func (c *call) first(ctx context.Context, reply <-chan []byte, out *bufio.Writer) bool {
-	late := time.NewTimer(c.patience)
-	defer late.Stop()
+func (c *call) first(reply <-chan []byte, out *bufio.Writer) bool {
 	var line []byte
 	select {
 	case line = <-reply:
-	case <-late.C:
-		line = timeout.reply()
-	case <-ctx.Done():
-		return false
+	default:
+		late := time.NewTimer(c.patience)
+		defer late.Stop()
+		select {
+		case line = <-reply:
+		case <-late.C:
+			line = timeout.reply()
+		}
 	}
 	_, err := out.Write(append(line[:len(line):len(line)], '\n'))
 	return err == nil
