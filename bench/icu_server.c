@@ -1,6 +1,8 @@
 /* A line server over libicu, to measure resb serve against: it answers the lookups of docs/SERVER.md from a folder of .res files,
    whose bundles it keeps open. Replies are written out when no whole line is left in its buffer.
-   usage: icu_server FOLDER < LINES */
+   ures_getByKeyWithFallback reads an index of an array in the bundles after the first alone; with the word `indexes` the numbers at the
+   end of a path are read with ures_getByIndex, as callers of libicu do.
+   usage: icu_server FOLDER [indexes] < LINES */
 #include <stdio.h>
 #include <stdlib.h>
 #include <string.h>
@@ -96,14 +98,33 @@ static void put_item(UResourceBundle *item, UErrorCode *status) {
     if (ures_getType(item) == URES_STRING) { fputs(",\"value\":", stdout); put_string(text); }
 }
 
-static void answer(const char *folder, char *line) {
+/* the item at the keys of a path and then at the indexes at its end; NULL where there are none, or no array is at the keys */
+static UResourceBundle *by_indexes(UResourceBundle *bundle, const char *path, UErrorCode *status) {
+    char keys[2048];
+    snprintf(keys, sizeof keys, "%s", path);
+    char *from = keys + strlen(keys);
+    for (char *slash; (slash = strrchr(keys, '/')) && slash[1] && strspn(slash + 1, "0123456789") == strlen(slash + 1); *slash = 0) from = slash + 1;
+    if (!*from) return NULL;
+    UErrorCode found = U_ZERO_ERROR;
+    UResourceBundle *item = ures_getByKeyWithFallback(bundle, keys, NULL, &found);
+    if (U_FAILURE(found) || ures_getType(item) != URES_ARRAY) { ures_close(item); return NULL; }
+    for (const char *index = path + (from - keys); U_SUCCESS(*status) && *index; index += strcspn(index, "/"), index += *index == '/') {
+        if (ures_getType(item) == URES_ARRAY) item = ures_getByIndex(item, atoi(index), item, status);
+        else *status = U_MISSING_RESOURCE_ERROR;
+    }
+    return item;
+}
+
+static void answer(const char *folder, int indexes, char *line) {
     char *locale = NULL, *path = NULL;
     if (!read_line(line, &locale, &path)) { fputs("{\"error\":\"BadLine\"}\n", stdout); return; }
     UResourceBundle *bundle = bundle_of(folder, locale);
     if (!bundle) { fputs("{\"error\":\"NoBundle\"}\n", stdout); return; }
     static UResourceBundle *item = NULL;
     UErrorCode status = U_ZERO_ERROR;
-    UResourceBundle *found = ures_getByKeyWithFallback(bundle, path, item, &status);
+    UResourceBundle *found = indexes ? by_indexes(bundle, path, &status) : NULL;
+    if (found) ures_close(item);
+    else found = ures_getByKeyWithFallback(bundle, path, item, &status);
     if (found) item = found;
     if (U_FAILURE(status)) { fputs("{\"error\":\"Missing\"}\n", stdout); return; }
     fputs("{\"actual\":", stdout);
@@ -114,7 +135,7 @@ static void answer(const char *folder, char *line) {
 }
 
 int main(int count, char **args) {
-    if (count != 2) return 2;
+    if (count != 2 && !(count == 3 && strcmp(args[2], "indexes") == 0)) return 2;
     setvbuf(stdout, NULL, _IOFBF, 1 << 16);
     for (size_t held = 0;;) {
         ssize_t got = read(0, input + held, INPUT - held);
@@ -123,7 +144,7 @@ int main(int count, char **args) {
         char *from = input, *feed;
         while ((feed = memchr(from, '\n', input + held - from))) {
             *feed = 0;
-            answer(args[1], from);
+            answer(args[1], count == 3, from);
             from = feed + 1;
         }
         held -= from - input;

@@ -9,11 +9,11 @@ failed=0
 
 # checkout FOLDER: a checkout in which the program is built.
 checkout() {
-    mkdir -p "$1/bin" "$1/crates/rb_tool/src" "$1/crates/rb_tool/out"
-    cp "$top/bin/resb" "$1/bin/resb"
+    mkdir -p "$1/bin" "$1/crates/rb_tool/src" "$1/crates/rb_tool/specs" "$1/crates/rb_tool/proofs" "$1/crates/rb_tool/out"
+    cp "$top"/bin/* "$1/bin"
     echo 'rb_tool:' >"$1/crates.txt"
     echo 'fn main() {}' >"$1/crates/rb_tool/src/main.rt"
-    touch -d '1 hour ago' "$1/crates.txt" "$1/crates/rb_tool/src/main.rt" "$1/crates/rb_tool/src"
+    touch -d '1 hour ago' "$1/crates.txt" "$1/crates/rb_tool/src/main.rt" "$1/crates/rb_tool/src" "$1/crates/rb_tool/specs"
     program "$1/crates/rb_tool/out/rb_tool"
 }
 
@@ -54,22 +54,63 @@ trial 'a relative link' 'ran: --version; 0' ./three --version
 mv "$made/first place" "$made/second"
 trial 'a checkout that was moved' 'ran: serve; 0' "$made/second/bin/resb" serve
 
-touch -d '1 hour' "$made/second/crates/rb_tool/src/main.rt"
+# a toolchain that is nowhere
 tools=$made/tools
 mkdir "$tools"
-for tool in dirname readlink find head sed tee mktemp rm cat; do
+for tool in dirname readlink realpath find sed awk wc date nproc tee grep mktemp mv rm cat; do
     ln -s "$(command -v "$tool")" "$tools/$tool"
 done
-trial 'no toolchain' 'resb: not built, and rt, the command of the toolchain, is not on the PATH; 2' env PATH="$tools" "$made/second/bin/resb" serve
+second=$made/second
+without() {
+    env PATH="$tools" "$second/bin/resb" "$@"
+}
+newer='resb: its sources are newer than the program that runs'
+missing='rt, the command of the toolchain, is not on the PATH'
 
-printf '#!/bin/sh\necho "of rt: $*"\n' >"$tools/rt"
-chmod +x "$tools/rt"
-building='resb: building; a first build takes a quarter of an hour or more'
+touch -d '1 hour' "$second/crates/rb_tool/proofs"
+trial 'proofs that are newer' 'ran: serve; 0' without serve
+touch -d '1 hour' "$second/crates/rb_tool/src/main.rt"
+trial 'newer sources and no toolchain' "$newer, and $missing
+ran: serve; 0" without serve
+mv "$second/crates/rb_tool/out/rb_tool" "$made/rb_tool"
+trial 'no program and no toolchain' "resb: not built, and $missing; 2" without serve
+trial 'no program and no toolchain, unproved' "resb: $missing; 2" without --unproved serve
+
+# rt LINE..: a toolchain that says what it was given, and then does what the lines say.
+rt() {
+    printf '%s\n' '#!/bin/sh' 'echo "of rt: $*"' "$@" >"$tools/rt"
+    chmod +x "$tools/rt"
+}
+building='resb: proving and building; a first build takes a quarter of an hour or more'
+
+rt 'exit 1'
 trial 'a build that fails' "$building
-of rt: run -- --version
-resb: the build failed; 2" env PATH="$tools" "$made/second/bin/resb" serve
+of rt: all check --jobs 3
+resb: the build failed; 2" env RESB_JOBS=3 PATH="$tools" "$second/bin/resb" serve
 
-printf '#!/bin/sh\necho "of rt: $*"\n%s -d "2 hours" out/rb_tool\n' "$(command -v touch)" >"$tools/rt"
-trial 'a build says so on standard error, and nothing of it is on standard output' "$building
-ran: check a; 0" env PATH="$tools" "$made/second/bin/resb" check a
+# It proves two crates, links the program, and says its version, as the real one does.
+rt 'case $* in' \
+    "'all check --jobs 3') echo '== rb_tool' ;;" \
+    "*) $(command -v mv) '$made/rb_tool' out/rb_tool; echo 'resb 0.0.0' ;;" \
+    'esac'
+trial 'a build says so on standard error, and nothing of it is on standard output' 'ran: check a; 0' \
+    env RESB_JOBS=3 PATH="$tools" /bin/sh -c '"$0" check a 2>"$1"' "$second/bin/resb" "$made/said"
+trial 'each crate has a line' "$building
+resb: 0:00: rb_tool is checked, 0 to go; 0" cat "$made/said"
+touch -d '1 hour ago' "$second/crates/rb_tool/src/main.rt"
+trial 'a program that was just built' 'ran: check a; 0' without check a
+
+touch -d '1 hour' "$second/crates/rb_tool/src/main.rt"
+trial 'no build is wanted' "$newer, and RESB_NO_BUILD is set
+ran: check a; 0" env RESB_NO_BUILD=1 PATH="$tools" "$second/bin/resb" check a
+rm "$second/crates/rb_tool/out/rb_tool"
+trial 'no build is wanted, and there is no program' 'resb: not built, and RESB_NO_BUILD is set; 2' \
+    env RESB_NO_BUILD=1 PATH="$tools" "$second/bin/resb" check a
+
+rt 'exit 0'
+echo 'de {}' >"$made/de.txt"
+cd "$made" || exit 2
+trial 'nothing proved, with a file' "resb: nothing is proved in this run; it begins in a minute or two
+of rt: try --seconds 600 --data de.txt=$made/de.txt -- check de.txt; 0" \
+    env PATH="$tools" "$second/bin/resb" --unproved check de.txt
 exit "$failed"

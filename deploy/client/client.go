@@ -26,6 +26,8 @@ var (
 	ErrShardEnded = errors.New("the shard ended")
 	// ErrBusy says that as many lines of the application wait already as may.
 	ErrBusy = errors.New("too many lines of the application wait")
+	// ErrReplies says that there aren't as many replies as lines, or that a line has a line feed.
+	ErrReplies = errors.New("not a reply for each line")
 )
 
 const (
@@ -40,6 +42,8 @@ type Client struct {
 	js      nats.JetStreamContext
 	mu      sync.Mutex
 	waiting map[string]chan told
+
+	together together
 }
 
 // What an answer says: the text, and the place of its change in the stream.
@@ -195,13 +199,26 @@ func (c *Client) Ask(line string) (reply string, again int, err error) {
 	return "", again, errors.New("no reply")
 }
 
-// Once asks once, and waits so long. Its errors are those of NATS, ErrShardEnded and ErrBusy.
+// Once asks once, and waits so long. Its errors are those of NATS, ErrShardEnded and ErrBusy. Lines that are asked at once go
+// together.
 func (c *Client) Once(line string, wait time.Duration) (string, error) {
-	m, err := c.nc.Request(subjects.Ask(c.app), []byte(line), wait)
-	if err != nil {
-		return "", err
+	line = strings.TrimSuffix(line, "\n")
+	if strings.Contains(line, "\n") {
+		return c.alone(line, wait)
 	}
-	return judged(string(m.Data))
+	a := &asking{line, time.Now().Add(wait), make(chan replied, 1)}
+	c.join(a)
+	timer := time.NewTimer(wait)
+	defer timer.Stop()
+	select {
+	case r := <-a.reply:
+		if r.shared && r.text == tooLarge {
+			return c.alone(line, time.Until(a.until))
+		}
+		return r.text, r.err
+	case <-timer.C:
+		return "", nats.ErrTimeout
+	}
 }
 
 func judged(reply string) (string, error) {
@@ -220,18 +237,19 @@ func (c *Client) OnceMany(lines []string, wait time.Duration) ([]string, error) 
 	if len(lines) == 0 {
 		return nil, nil
 	}
-	m, err := c.nc.Request(subjects.Many(c.app), []byte(strings.Join(lines, "\n")), wait)
+	for _, line := range lines {
+		if strings.Contains(line, "\n") {
+			return nil, ErrReplies
+		}
+	}
+	replies, err := c.many(lines, wait)
 	if err != nil {
 		return nil, err
 	}
-	replies := strings.Split(string(m.Data), "\n")
 	for _, reply := range replies {
 		if _, err := judged(reply); err != nil {
 			return nil, err
 		}
-	}
-	if len(replies) != len(lines) {
-		return nil, fmt.Errorf("%d replies to %d lines", len(replies), len(lines))
 	}
 	return replies, nil
 }

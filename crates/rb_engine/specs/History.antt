@@ -6,7 +6,7 @@ use Rattle.rb_engine.specs.Ask.{Call, Requests, LooksUp, caller, Ask, Means}
 use Rattle.rb_engine.specs.Answer.{Start, Response, Replies, Finds, Refuses, answer_over, answer, bundles_after}
 use Rattle.rb_engine.specs.declared.request.Request.TheVariants as request
 use Rattle.rb_engine.specs.declared.request.Reply.{Reply}
-use Rattle.rb_engine.specs.declared.request.Reply.TheVariants.{Done, Names, BadApp, Reserved, BadLocale, BadText, BadFile, Exists, Absent, Full, Memory}
+use Rattle.rb_engine.specs.declared.request.Reply.TheVariants.{Memory}
 
 -- an engine: its start, and the bundles of each application
 pub record State : Type 0 where

@@ -1,19 +1,14 @@
 //! The bundle of a payload.
-ghost use Rattle.std.specs.Prelude.{◌≡◌, IfOk};
-ghost use Rattle.rb_tree.specs.Parts.{Fits};
-ghost use Rattle.rb_tree.specs.View.{view_of};
-ghost use Rattle.rb_parser.specs.Source.{source_tree};
-ghost use Rattle.rb_format.specs.File.{source_tree_of};
+ghost use Rattle.std.specs.Prelude.{◌≡◌};
 ghost use Rattle.rb_engine.specs.Source.{BundleOrFault};
 ghost use Rattle.rb_engine.specs.declared.request.Payload.TheVariants.{Text, File};
 
 use crate::request::Payload;
+use rb_compiler::compile;
 use rb_format::FileFault;
 use rb_lexer::{SourceFault, SourceKind};
-use rb_parser::{Source, parse};
 use rb_tree::ByteList;
 use rb_validator::{Bundle, accept};
-use rb_writer::write;
 use std::alloc::{AllocError, Global};
 
 /// Why a payload gives no bundle.
@@ -60,31 +55,20 @@ impl From<FileFault> for PayloadFault {
     }
 }
 
-/// The bundle of a source, as the file that it is written as.
-fn source_bundle(alloc: Global, source: &Source) -> Result<Bundle, AllocError>
-    requires { Fits (view_of source.now.tree) }
-    ensures { IfOk result (λ bundle. source_tree_of bundle ≡ source_tree source.now) }
+/// The bundle that a text spells, if it spells one.
+fn text_bundle(alloc: Global, text: ByteList) -> Result<Bundle, PayloadFault>
+    ensures { BundleOrFault (Text text) result }
 {
     rb_format::laws::a_tree_or_a_fault();
-    let mut file = write(alloc, &source.tree, source.no_fallback)?;
-    // A bundle is kept: the buffer gives back what its file doesn't need.
-    file.shrink_to_fit();
+    let file = compile(alloc, text.as_slice())?;
     match accept(alloc, file) {
         Ok(bundle) => Ok(bundle),
         Err((fault, _)) => {
             let is_memory = fault == FileFault::Memory;
             prove!(is_memory);
-            Err(AllocError)
+            Err(PayloadFault::Memory)
         }
     }
-}
-
-/// The bundle that a text spells, if it spells one.
-fn text_bundle(alloc: Global, text: ByteList) -> Result<Bundle, PayloadFault>
-    ensures { BundleOrFault (Text text) result }
-{
-    let source = parse(alloc, text.as_slice())?;
-    Ok(source_bundle(alloc, &source)?)
 }
 
 /// The bundle that a file denotes, if it denotes one.

@@ -1,5 +1,5 @@
 -- What a table gives is one map or one error: each is what a reading answers.
-use Rattle.std.proofs.Common.{◌≡◌, ◌<◌, ℕ, zero, suc, List, [], ◌∷◌, ◌++◌, length, Option, Some, None, Ok, Err, is_some, cond, nat_eq, refl, ap, sym, ◌∙◌}
+use Rattle.std.proofs.Common.{◌≡◌, ◌⊎◌, inl, inr, ◌<◌, ℕ, zero, suc, List, [], ◌∷◌, ◌++◌, length, Option, Some, None, Ok, Err, is_some, cond, nat_eq, refl, ap, sym, ◌∙◌}
 use Rattle.std.proofs.Common.{subst, arith, append_assoc, append-nil, length-append, unwrap_or}
 use Rattle.std.proofs.lemmas.Option.{slice_get_within}
 use Rattle.std.specs.List.{slice_get}
@@ -13,6 +13,7 @@ use Rattle.rb_parents.specs.Explicit.{IsEntry, GivesMap, ChildError, IsFirstBadC
 use Rattle.rb_parents.specs.Entries.{Read, and_then, put_child, put_children, put_value, put_entry, put_entries, no_parents, read_entries}
 use Rattle.rb_parents.specs.declared.fault.ParentsFault.{ParentsFault}
 use Rattle.rb_parents.specs.declared.fault.ParentsFault.TheVariants as fault
+use Rattle.rb_parents.proofs.FirstErrors.{table_gives, table_refuses}
 use Rattle.rb_parents.proofs.ParentMaps.{put_all, put_named, each_append, each_push, children_all, entries_all, all_named}
 
 slice_get_front : {A : Type 0} (xs ys : List A) (i : ℕ) (x : A) → slice_get xs i ≡ Some x → slice_get (xs ++ ys) i ≡ Some x
@@ -157,3 +158,11 @@ same_parent ms m k h g n = by (m n) (k n) refl refl
 pub one_map : (o : Option Entries) (m k : ParentsOf) → TableGives o m → TableGives o k → (n : List ℕ) → m n ≡ k n
 one_map None m k h g n = absurd h
 one_map (Some es) m k h g n = same_parent (mentions es) m k h.named.is_map g.named.is_map n
+
+-- a reading gives a map or meets an error
+pub answered : (o : Option Entries) → ((m : ParentsOf) × TableGives o m) ⊎ ((e : ParentsFault) × TableRefuses o e)
+answered o = by (read_entries o) refl
+  where
+    by : (r : Read) → read_entries o ≡ r → ((m : ParentsOf) × TableGives o m) ⊎ ((e : ParentsFault) × TableRefuses o e)
+    by (Ok m) is = inl (m, table_gives o m is)
+    by (Err e) is = inr (e, table_refuses o e is)

@@ -11,6 +11,7 @@ import (
 
 	"github.com/nats-io/nats.go"
 
+	"luvdregan.example/resb/deploy/internal/lines"
 	"luvdregan.example/resb/deploy/internal/subjects"
 )
 
@@ -51,6 +52,17 @@ func (a *answers) rebase(base uint64) {
 	a.ends, a.same = map[string]ending{}, map[string]string{}
 }
 
+// trim forgets the answers to changes that a generation of bundles has.
+func (a *answers) trim(base uint64) {
+	a.mu.Lock()
+	defer a.mu.Unlock()
+	if base <= a.base || base > a.through() {
+		return
+	}
+	a.given = append([]answer(nil), a.given[base-a.base:]...)
+	a.base = base
+}
+
 // through is the last change that is answered.
 func (a *answers) through() uint64 { return a.base + uint64(len(a.given)) }
 
@@ -73,11 +85,11 @@ func (a *answers) told(token string, n uint64) ending {
 	case any && (n == 0 || n == last.n):
 		return last
 	case n <= a.base || n > a.through():
-		return ending{text: noAnswer}
+		return ending{text: lines.NoAnswer}
 	}
 	given := a.given[n-a.base-1]
 	if given.token != token {
-		return ending{text: otherApp}
+		return ending{text: lines.OtherApp}
 	}
 	return ending{n: n, text: given.text}
 }

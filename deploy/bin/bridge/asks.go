@@ -9,6 +9,7 @@ import (
 
 	"github.com/nats-io/nats.go"
 
+	"luvdregan.example/resb/deploy/internal/lines"
 	"luvdregan.example/resb/deploy/internal/subjects"
 )
 
@@ -23,8 +24,11 @@ func caller(m *nats.Msg) (app, token string, ok bool) {
 	return app, token, ok
 }
 
-// send publishes a reply.
+// send publishes a reply, unless another bridge may have the lease: then the caller asks again, and that one answers.
 func (l *life) send(to string, text []byte) {
+	if !l.lease.holds() {
+		return
+	}
 	if err := l.nc.Publish(to, text); err != nil {
 		log.Printf("reply to %s: %v", to, err)
 	}
@@ -37,10 +41,10 @@ func (l *life) answer(m *nats.Msg) {
 		return
 	}
 	if !l.program.accepts(token, 1, len(m.Data)) {
-		l.send(m.Reply, []byte(busy))
+		l.send(m.Reply, []byte(lines.Busy))
 		return
 	}
-	line, answer := judge(ask, app, m.Data)
+	line, answer := lines.Judge(lines.Ask, app, m.Data)
 	if answer != "" {
 		l.send(m.Reply, []byte(answer))
 		return
@@ -54,16 +58,16 @@ func (l *life) answer(m *nats.Msg) {
 func (l *life) full(text []byte) []byte {
 	if text == nil {
 		l.first.Do(func() {})
-		return []byte(shardEnded)
+		return []byte(lines.ShardEnded)
 	}
 	return text
 }
 
 func refusal(err error) []byte {
 	if err == errBusy {
-		return []byte(busy)
+		return []byte(lines.Busy)
 	}
-	return []byte(shardEnded)
+	return []byte(lines.ShardEnded)
 }
 
 // answerMany asks the shard each line of the message, and sends the replies together, in order.
@@ -72,15 +76,15 @@ func (l *life) answerMany(m *nats.Msg) {
 	if !ok {
 		return
 	}
-	lines := bytes.Split(bytes.TrimSuffix(m.Data, []byte("\n")), []byte("\n"))
-	if !l.program.accepts(token, len(lines), len(m.Data)) {
-		l.send(m.Reply, []byte(busy))
+	messages := bytes.Split(bytes.TrimSuffix(m.Data, []byte("\n")), []byte("\n"))
+	if !l.program.accepts(token, len(messages), len(m.Data)) {
+		l.send(m.Reply, []byte(lines.Busy))
 		return
 	}
-	j := newJoint(len(lines), int(l.nc.MaxPayload()), func(text []byte) { l.send(m.Reply, text) })
-	for k, message := range lines {
+	j := newJoint(len(messages), int(l.nc.MaxPayload()), func(text []byte) { l.send(m.Reply, text) })
+	for k, message := range messages {
 		k := k
-		line, answer := judge(ask, app, message)
+		line, answer := lines.Judge(lines.Ask, app, message)
 		if answer != "" {
 			j.put(k, []byte(answer))
 			continue
@@ -92,7 +96,7 @@ func (l *life) answerMany(m *nats.Msg) {
 }
 
 // A joint is the replies to several lines, which are sent together when the last is there. Where they are longer than the limit,
-// tooLarge is in the place of those that don't fit.
+// TooLarge is in the place of those that don't fit.
 type joint struct {
 	replies [][]byte
 	left    int32
@@ -102,15 +106,15 @@ type joint struct {
 }
 
 func newJoint(n, limit int, send func(text []byte)) *joint {
-	return &joint{make([][]byte, n), int32(n), int64(n * (len(tooLarge) + 1)), int64(limit), send}
+	return &joint{make([][]byte, n), int32(n), int64(n * (len(lines.TooLarge) + 1)), int64(limit), send}
 }
 
 // put keeps the reply to line k.
 func (j *joint) put(k int, text []byte) {
-	more := int64(len(text) - len(tooLarge))
+	more := int64(len(text) - len(lines.TooLarge))
 	if more > 0 && atomic.AddInt64(&j.size, more) > j.limit {
 		atomic.AddInt64(&j.size, -more)
-		text = []byte(tooLarge)
+		text = []byte(lines.TooLarge)
 	}
 	j.replies[k] = append([]byte(nil), text...)
 	if atomic.AddInt32(&j.left, -1) == 0 {
@@ -121,11 +125,11 @@ func (j *joint) put(k int, text []byte) {
 // tell gives the answer to a change of the application.
 func (l *life) tell(m *nats.Msg) {
 	_, token, ok := caller(m)
-	if !ok {
+	if !ok || !l.lease.holds() {
 		return
 	}
 	n, ok := request(m.Data)
-	found := ending{text: noAnswer}
+	found := ending{text: lines.NoAnswer}
 	if ok {
 		found = l.answers.told(token, n)
 	}

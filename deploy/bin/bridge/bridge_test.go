@@ -15,6 +15,7 @@ import (
 
 	"github.com/nats-io/nats.go"
 
+	"luvdregan.example/resb/deploy/internal/lines"
 	"luvdregan.example/resb/deploy/internal/subjects"
 )
 
@@ -102,7 +103,7 @@ func publish(t *testing.T, js nats.JetStreamContext, locales ...string) {
 // bridgeOf gives a bridge whose program is this test.
 func bridgeOf(t *testing.T, nc *nats.Conn, js nats.JetStreamContext, mode string) *bridge {
 	t.Setenv(fake, mode)
-	return &bridge{settings: settings{path: os.Args[0]}, nc: nc, js: js, answers: newAnswers(js, 0), ends: map[uint64]int{}}
+	return &bridge{settings: settings{path: os.Args[0]}, nc: nc, js: js, lease: newLease(js, 0, "test", time.Minute), answers: newAnswers(js, 0), ends: map[uint64]int{}}
 }
 
 // expect runs a bridge until the answers are these, and ends its program.
@@ -143,24 +144,24 @@ func TestAChangeThatEndsTheProgramIsLeftOut(t *testing.T) {
 			t.Errorf("run %d: %v, %s", k, served, end)
 		}
 	}
-	expect(t, b, done, shardEnded, done)
+	expect(t, b, lines.Done, lines.ShardEnded, lines.Done)
 }
 
 func TestARefusalForMemoryIsLeftOutOfTheReplay(t *testing.T) {
 	nc, js := serve(t)
 	publish(t, js, "short", "de")
-	expect(t, bridgeOf(t, nc, js, "short"), outOfMemory, done)
+	expect(t, bridgeOf(t, nc, js, "short"), outOfMemory, lines.Done)
 	b := bridgeOf(t, nc, js, "plain")
 	for k := 0; k < patience; k++ {
 		b.run(context.Background())
 	}
-	expect(t, b, outOfMemory, done, shardEnded)
+	expect(t, b, outOfMemory, lines.Done, lines.ShardEnded)
 }
 
 func TestAReplayWithoutMemoryDoesNotServe(t *testing.T) {
 	nc, js := serve(t)
 	publish(t, js, "short", "de")
-	expect(t, bridgeOf(t, nc, js, "plain"), done, done)
+	expect(t, bridgeOf(t, nc, js, "plain"), lines.Done, lines.Done)
 	if served, end := bridgeOf(t, nc, js, "short").run(context.Background()); served || end != "out of memory at change 1 in the replay" {
 		t.Errorf("%v, %s", served, end)
 	}
@@ -169,17 +170,17 @@ func TestAReplayWithoutMemoryDoesNotServe(t *testing.T) {
 func TestAReplayThatDiffersIsLogged(t *testing.T) {
 	nc, js := serve(t)
 	publish(t, js, "de", "fr")
-	expect(t, bridgeOf(t, nc, js, "plain"), done, done)
-	var lines bytes.Buffer
-	log.SetOutput(&lines)
+	expect(t, bridgeOf(t, nc, js, "plain"), lines.Done, lines.Done)
+	var logged bytes.Buffer
+	log.SetOutput(&logged)
 	defer log.SetOutput(os.Stderr)
 	b := bridgeOf(t, nc, js, "refuse")
 	for k := 0; k < patience; k++ {
 		b.run(context.Background())
 	}
-	expect(t, b, done, done, shardEnded)
-	if want := `change 2: replied {"error":"Exists"}, and {"ok":true} when it was first given`; !strings.Contains(lines.String(), want) {
-		t.Errorf("the log has no %s: %s", want, lines.String())
+	expect(t, b, lines.Done, lines.Done, lines.ShardEnded)
+	if want := `change 2: replied {"error":"Exists"}, and {"ok":true} when it was first given`; !strings.Contains(logged.String(), want) {
+		t.Errorf("the log has no %s: %s", want, logged.String())
 	}
 }
 
@@ -197,13 +198,13 @@ func TestWhatIsPlantedAmongTheAnswersIsPassedOver(t *testing.T) {
 		t.Fatal(err)
 	}
 	plant()
-	expect(t, b, done)
+	expect(t, b, lines.Done)
 }
 
 func TestLostChangesAreNoticed(t *testing.T) {
 	nc, js := serve(t)
 	publish(t, js, "de", "fr")
-	expect(t, bridgeOf(t, nc, js, "plain"), done, done)
+	expect(t, bridgeOf(t, nc, js, "plain"), lines.Done, lines.Done)
 	if err := js.DeleteStream(subjects.Changes(0)); err != nil {
 		t.Fatal(err)
 	}
@@ -219,7 +220,7 @@ func TestTwoBridgesAnswerEachChangeOnce(t *testing.T) {
 	nc, js := serve(t)
 	var want []string
 	for k := 0; k < 50; k++ {
-		want = append(want, done)
+		want = append(want, lines.Done)
 	}
 	ended := make(chan string)
 	other := bridgeOf(t, nc, js, "plain")

@@ -10,23 +10,23 @@ import (
 
 	"github.com/nats-io/nats.go"
 
+	"luvdregan.example/resb/deploy/internal/lines"
+	"luvdregan.example/resb/deploy/internal/stream"
 	"luvdregan.example/resb/deploy/internal/subjects"
 )
 
 // patience is how often the program may end at a change that has no answer yet; then the change is left out.
 const patience = 3
 
-// The shard's replies that matter here: a change was done; and the refusal that doesn't depend on the application's requests alone.
-const (
-	done        = `{"ok":true}`
-	outOfMemory = `{"error":"Memory"}`
-)
+// outOfMemory is the shard's refusal that doesn't depend on the application's requests alone.
+const outOfMemory = `{"error":"Memory"}`
 
 // A bridge is what stays from one life of the program to the next.
 type bridge struct {
 	settings
 	nc      *nats.Conn
 	js      nats.JetStreamContext
+	lease   *lease
 	answers *answers
 	ends    map[uint64]int // how often the program ended at a change without an answer
 }
@@ -58,7 +58,7 @@ type reply struct {
 
 // run lives once, at most until the context ends, and says how it ended, and whether lookups were answered.
 func (b *bridge) run(until context.Context) (served bool, end string) {
-	from, err := latest(b.js, b.shard)
+	from, err := stream.Latest(b.js, b.shard)
 	if err != nil {
 		return false, err.Error()
 	}
@@ -157,20 +157,21 @@ func (l *life) feed(ctx context.Context, n uint64, m *nats.Msg, line []byte, ans
 func (l *life) read(n uint64, m *nats.Msg) (line []byte, answer string) {
 	given, isGiven := l.answers.to(n)
 	switch {
-	case given == outOfMemory, given == shardEnded:
+	case given == outOfMemory, given == lines.ShardEnded:
 		return nil, given
 	case !isGiven && l.bridge.ends[n] >= patience:
 		log.Printf("change %d: the program ended %d times at it; it is left out", n, patience)
-		return nil, shardEnded
+		return nil, lines.ShardEnded
 	}
 	app, ok := subjects.App(subjects.Last(m.Subject))
 	if !ok {
-		return nil, otherApp
+		return nil, lines.OtherApp
 	}
-	return judge(change, app, m.Data)
+	return lines.Judge(lines.Change, app, m.Data)
 }
 
-// watch says every few seconds how a replay goes, and that it is slow where it is.
+// watch says every few seconds how a replay goes, and that it is slow where it is. Afterwards it forgets what a generation of
+// bundles has.
 func (l *life) watch(ctx context.Context) {
 	const each = 5 * time.Second
 	var count, bytes uint64
@@ -182,6 +183,15 @@ func (l *life) watch(ctx context.Context) {
 		nowCount, nowBytes := atomic.LoadUint64(&l.count), atomic.LoadUint64(&l.bytes)
 		log.Print(progress(nowCount-count, nowBytes-bytes, atomic.LoadUint64(&l.left), each))
 		count, bytes = nowCount, nowBytes
+	}
+	for {
+		rest(ctx, time.Minute)
+		if ctx.Err() != nil {
+			return
+		}
+		if now, err := stream.Latest(l.js, l.shard); err == nil {
+			l.answers.trim(now.Upto)
+		}
 	}
 }
 

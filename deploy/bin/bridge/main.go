@@ -7,7 +7,9 @@ import (
 	"fmt"
 	"log"
 	"os"
+	"os/signal"
 	"runtime"
+	"syscall"
 )
 
 func main() {
@@ -21,7 +23,7 @@ func main() {
 	}
 }
 
-// start makes the streams, or serves for ever.
+// start makes the streams, or serves until it is told to end.
 func start(s settings) error {
 	nc, err := connect(s)
 	if err != nil {
@@ -34,17 +36,45 @@ func start(s settings) error {
 	if s.setup > 0 {
 		return makeStreams(js, s.setup, s.bytes, s.replicas)
 	}
-	b := &bridge{settings: s, nc: nc, js: js, answers: newAnswers(js, s.shard), ends: map[uint64]int{}}
-	if err := b.store(); err != nil {
+	b := &bridge{settings: s, nc: nc, js: js, lease: newLease(js, s.shard, s.name, s.valid), answers: newAnswers(js, s.shard), ends: map[uint64]int{}}
+	term, cancel := signal.NotifyContext(context.Background(), os.Interrupt, syscall.SIGTERM)
+	defer cancel()
+	for term.Err() == nil {
+		if err := b.lead(term); err != nil {
+			return err
+		}
+	}
+	return nil
+}
+
+// lead feeds the shard while this bridge has the lease.
+func (b *bridge) lead(term context.Context) error {
+	b.lease.take(term)
+	if term.Err() != nil {
+		return nil
+	}
+	ctx, cancel := context.WithCancel(term)
+	defer cancel()
+	kept := make(chan struct{})
+	go func() {
+		b.lease.keep(ctx)
+		cancel()
+		close(kept)
+	}()
+	changes, err := b.store()
+	if err != nil {
 		return err
 	}
-	for p := (pause{}); ; {
-		served, end := b.run(context.Background())
+	for p := (pause{}); ctx.Err() == nil; {
+		served, end := b.run(ctx)
 		if served {
 			p.reset()
 		}
 		wait := p.grow()
 		log.Printf("ended: %s; again in %v", end, wait)
-		rest(context.Background(), wait)
+		rest(ctx, wait)
 	}
+	_ = changes.Unsubscribe()
+	<-kept
+	return nil
 }

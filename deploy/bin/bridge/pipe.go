@@ -6,6 +6,8 @@ import (
 	"errors"
 	"io"
 	"sync"
+
+	"luvdregan.example/resb/deploy/internal/lines"
 )
 
 const (
@@ -231,7 +233,7 @@ func (p *pipe) left() []line {
 	return all
 }
 
-// Replies are the lines of a program's output. Of one that is longer than the limit nothing is kept: tooLarge is in its place.
+// Replies are the lines of a program's output. Of one that is longer than the limit nothing is kept: TooLarge is in its place.
 type replies struct {
 	out   *bufio.Reader
 	limit int
@@ -265,7 +267,7 @@ func (r *replies) next() ([]byte, error) {
 		part, err = r.out.ReadSlice('\n')
 	}
 	if !kept {
-		return []byte(tooLarge), nil
+		return []byte(lines.TooLarge), nil
 	}
 	return r.long[:len(r.long)-1], nil
 }

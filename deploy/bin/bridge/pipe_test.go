@@ -8,6 +8,8 @@ import (
 	"strings"
 	"testing"
 	"time"
+
+	"luvdregan.example/resb/deploy/internal/lines"
 )
 
 // echo answers each of the first n lines with itself, then ends.
@@ -186,7 +188,7 @@ func TestNoMoreOfAReplyIsKeptThanTheLimit(t *testing.T) {
 		r := newReplies(strings.NewReader(text+"\nnext\n"), limit)
 		want := text
 		if n > limit {
-			want = tooLarge
+			want = lines.TooLarge
 		}
 		if got, err := r.next(); err != nil || string(got) != want {
 			t.Errorf("%d: %d bytes, %v", n, len(got), err)
@@ -204,18 +206,18 @@ func TestNoMoreOfAReplyIsKeptThanTheLimit(t *testing.T) {
 }
 
 func TestRepliesThatAreSentTogetherFit(t *testing.T) {
-	for _, limit := range []int{3 * (len(tooLarge) + 1), 200, 1000} {
+	for _, limit := range []int{3 * (len(lines.TooLarge) + 1), 200, 1000} {
 		var sent []byte
 		j := newJoint(3, limit, func(text []byte) { sent = text })
 		for _, k := range []int{2, 0, 1} {
 			j.put(k, bytes.Repeat([]byte{'a' + byte(k)}, 100))
 		}
-		lines := strings.Split(string(sent), "\n")
-		if len(sent) > limit || len(lines) != 3 {
+		sentLines := strings.Split(string(sent), "\n")
+		if len(sent) > limit || len(sentLines) != 3 {
 			t.Errorf("limit %d: %q", limit, sent)
 		}
-		for k, line := range lines {
-			if line != tooLarge && line != strings.Repeat(string(rune('a'+k)), 100) {
+		for k, line := range sentLines {
+			if line != lines.TooLarge && line != strings.Repeat(string(rune('a'+k)), 100) {
 				t.Errorf("limit %d, line %d: %q", limit, k, line)
 			}
 		}

@@ -4,6 +4,7 @@ import (
 	"flag"
 	"fmt"
 	"os"
+	"time"
 )
 
 // Settings are what the command line says.
@@ -19,6 +20,7 @@ type settings struct {
 	pidFile   string
 	memory    int64
 	name      string
+	valid     time.Duration
 	arguments []string
 }
 
@@ -34,6 +36,7 @@ func read() settings {
 	flag.StringVar(&s.path, "program", "resb", "the program whose `serve` is run")
 	flag.StringVar(&s.pidFile, "pid", "", "a file to which the program's process is written")
 	flag.StringVar(&s.name, "name", "bridge", "the bridge's own name among those of its shard")
+	flag.DurationVar(&s.valid, "lease", 15*time.Second, "how long a bridge may answer that doesn't reach NATS' streams; another takes its place after a quarter more")
 	flag.Int64Var(&s.memory, "memory", 0, "the most bytes of memory that the program may take; 0 is without a limit")
 	flag.Parse()
 	s.arguments = flag.Args()

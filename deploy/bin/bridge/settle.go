@@ -9,6 +9,7 @@ import (
 
 	"github.com/nats-io/nats.go"
 
+	"luvdregan.example/resb/deploy/internal/lines"
 	"luvdregan.example/resb/deploy/internal/subjects"
 )
 
@@ -42,7 +43,7 @@ func (l *life) settleAll(ctx context.Context) string {
 // settle compares a reply with the answer that was given, or gives it.
 func (l *life) settle(ctx context.Context, r reply) string {
 	if r.n == 0 {
-		if r.text != done {
+		if r.text != lines.Done {
 			return fmt.Sprintf("a bundle of the generation up to change %d: replied %s", l.from.Upto, r.text)
 		}
 		return ""

@@ -12,12 +12,12 @@ import (
 const one = "one"
 
 // store begins to have changes stored that callers publish.
-func (b *bridge) store() error {
+func (b *bridge) store() (*nats.Subscription, error) {
 	changes, err := b.nc.QueueSubscribe(subjects.ShardChanges(b.shard), one, b.keep)
 	if err == nil {
 		err = changes.SetPendingLimits(1<<16, 1<<28)
 	}
-	return err
+	return changes, err
 }
 
 // keep publishes a change to the shard's stream, for nats-server to acknowledge to the caller's own inbox: a caller that

@@ -1,6 +1,7 @@
 package main
 
 import (
+	"errors"
 	"fmt"
 	"time"
 
@@ -17,8 +18,10 @@ func makeStreams(js nats.JetStreamContext, n int, bytes int64, replicas int) err
 			durable(subjects.Changes(shard), subjects.ShardLog(shard)),
 			durable(subjects.AnswersOf(shard), subjects.ShardAnswers(shard)),
 			durable(subjects.Bundles(shard), subjects.Bundle(shard, "*"), subjects.Seals(shard)),
+			durable(subjects.Leases(shard), subjects.Lease(shard)),
 		}
 		all[0].MaxBytes = bytes
+		all[3].MaxMsgs, all[3].Discard = 1, nats.DiscardOld
 		for _, config := range all {
 			config.Replicas = replicas
 			if err := makeStream(js, config); err != nil {
@@ -36,12 +39,20 @@ func durable(name string, of ...string) *nats.StreamConfig {
 	}
 }
 
+// makeStream tries for a minute, as a cluster of servers isn't ready at once.
 func makeStream(js nats.JetStreamContext, config *nats.StreamConfig) error {
-	if _, err := js.StreamInfo(config.Name); err == nil {
-		return nil
+	for began := time.Now(); ; time.Sleep(200 * time.Millisecond) {
+		_, err := js.StreamInfo(config.Name)
+		if err == nil {
+			return nil
+		}
+		if errors.Is(err, nats.ErrStreamNotFound) {
+			if _, err = js.AddStream(config); err == nil {
+				return nil
+			}
+		}
+		if time.Since(began) > time.Minute {
+			return fmt.Errorf("stream %s: %w", config.Name, err)
+		}
 	}
-	if _, err := js.AddStream(config); err != nil {
-		return fmt.Errorf("stream %s: %w", config.Name, err)
-	}
-	return nil
 }

@@ -6,6 +6,7 @@ import (
 	"flag"
 	"fmt"
 	"log"
+	"strconv"
 	"sync"
 	"time"
 
@@ -92,43 +93,61 @@ func await(answers *nats.Subscription, n int) error {
 	return nil
 }
 
-// copyShard publishes the changes of one shard that were done.
+// copyShard publishes the bundles of one shard's generation and then the changes after it that were done.
 func copyShard(source, target *nats.Conn, shard int) (count int, err error) {
-	given := map[string]bool{}
-	err = stream.Each(source, subjects.AnswersOf(shard), func(m *nats.Msg) error {
-		given[m.Header.Get(subjects.AnswerTo)] = string(m.Data) == done
+	from, err := source.JetStream()
+	if err != nil {
+		return 0, err
+	}
+	to, err := target.JetStream()
+	if err != nil {
+		return 0, err
+	}
+	generation, err := stream.Latest(from, shard)
+	if err != nil {
+		return 0, err
+	}
+	given := map[uint64]bool{}
+	err = stream.Each(source, subjects.AnswersOf(shard), func(m *nats.Msg, _ *nats.MsgMetadata) error {
+		if n, err := strconv.ParseUint(m.Header.Get(subjects.AnswerTo), 10, 64); err == nil {
+			given[n] = string(m.Data) == done
+		}
 		return nil
 	})
 	if err != nil {
 		return 0, err
 	}
-	js, err := target.JetStream()
-	if err != nil {
-		return 0, err
-	}
-	err = stream.Each(source, subjects.Changes(shard), func(m *nats.Msg) error {
-		place, err := m.Metadata()
-		if err != nil {
-			return err
-		}
-		wasDone, answered := given[fmt.Sprint(place.Sequence.Stream)]
-		if !answered {
-			return fmt.Errorf("change %d isn't answered yet", place.Sequence.Stream)
-		}
-		if !wasDone {
+	err = stream.Each(source, subjects.Bundles(shard), func(m *nats.Msg, at *nats.MsgMetadata) error {
+		n := at.Sequence.Stream
+		if n < generation.First || n > generation.Last {
 			return nil
 		}
 		count++
-		return publish(js, shard, place.Sequence.Stream, m)
+		return publish(to, fmt.Sprintf("%d-bundle-%d", shard, n), m)
+	})
+	if err != nil {
+		return 0, err
+	}
+	err = stream.Each(source, subjects.Changes(shard), func(m *nats.Msg, at *nats.MsgMetadata) error {
+		n := at.Sequence.Stream
+		wasDone, answered := given[n]
+		switch {
+		case n <= generation.Upto || answered && !wasDone:
+			return nil
+		case !answered:
+			return fmt.Errorf("change %d isn't answered yet", n)
+		}
+		count++
+		return publish(to, fmt.Sprintf("%d-%d", shard, n), m)
 	})
 	return count, err
 }
 
 // publish stores a change under a name made of its old place.
-func publish(js nats.JetStreamContext, shard int, n uint64, m *nats.Msg) error {
+func publish(js nats.JetStreamContext, id string, m *nats.Msg) error {
 	message := nats.NewMsg("resb.log." + subjects.Last(m.Subject))
 	message.Data = m.Data
-	message.Header.Set(subjects.MessageID, fmt.Sprintf("%d-%d", shard, n))
+	message.Header.Set(subjects.MessageID, id)
 	_, err := js.PublishMsg(message)
 	return err
 }

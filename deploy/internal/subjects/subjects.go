@@ -96,6 +96,12 @@ func Bundle(shard int, token string) string { return fmt.Sprintf("resb.bundle.%d
 // Seals is where the seal of each generation is kept.
 func Seals(shard int) string { return fmt.Sprintf("resb.generation.%d", shard) }
 
+// Leases is the name of the stream that says which bridge feeds a shard.
+func Leases(shard int) string { return fmt.Sprintf("LEASE_%d", shard) }
+
+// Lease is where that bridge says so.
+func Lease(shard int) string { return fmt.Sprintf("resb.lease.%d", shard) }
+
 // A Generation is what its seal says: the bundles that stood after the change Upto are the messages from First to Last of
 // the stream of bundles. All are 0 where there is none.
 type Generation struct {

@@ -4,7 +4,6 @@ import (
 	"errors"
 	"fmt"
 	"path/filepath"
-	"strconv"
 	"strings"
 	"sync"
 	"time"
@@ -283,7 +282,7 @@ func (c *cluster) once(t *tally) error {
 	defer nc.Close()
 	for shard := 0; shard < c.shards; shard++ {
 		count := map[string]int{}
-		err := stream.Each(nc, subjects.AnswersOf(shard), func(m *nats.Msg) error {
+		err := stream.Each(nc, subjects.AnswersOf(shard), func(m *nats.Msg, _ *nats.MsgMetadata) error {
 			count[m.Header.Get(subjects.AnswerTo)]++
 			return nil
 		})
@@ -291,10 +290,10 @@ func (c *cluster) once(t *tally) error {
 			return err
 		}
 		n := 0
-		err = stream.Each(nc, subjects.Changes(shard), func(m *nats.Msg) error {
+		err = stream.Each(nc, subjects.Changes(shard), func(m *nats.Msg, at *nats.MsgMetadata) error {
 			n++
-			if answers := count[strconv.Itoa(n)]; answers != 1 {
-				t.fail("shard %d: change %d has %d answers", shard, n, answers)
+			if answers := count[fmt.Sprint(at.Sequence.Stream)]; answers != 1 {
+				t.fail("shard %d: change %d has %d answers", shard, at.Sequence.Stream, answers)
 			}
 			return nil
 		})

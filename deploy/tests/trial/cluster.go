@@ -8,6 +8,7 @@ import (
 	"path/filepath"
 	"strconv"
 	"strings"
+	"sync"
 	"syscall"
 
 	"luvdregan.example/resb/deploy/client"
@@ -22,13 +23,19 @@ type cluster struct {
 	program string
 	port    int
 	shards  int
+	servers int // 0 is one
 	bytes   string
 	names   []string
+	calm    sync.RWMutex // is held where nothing may be killed
 }
 
 // start runs deploy/start.
 func (c *cluster) start() error {
-	return c.run("start", append([]string{strconv.Itoa(c.shards)}, c.names...)...)
+	arguments := append([]string{strconv.Itoa(c.shards)}, c.names...)
+	if c.servers > 0 {
+		arguments = append([]string{"--servers", strconv.Itoa(c.servers)}, arguments...)
+	}
+	return c.run("start", arguments...)
 }
 
 // stop runs deploy/stop.
@@ -44,7 +51,39 @@ func (c *cluster) run(script string, arguments ...string) error {
 	return command.Run()
 }
 
-func (c *cluster) url() string { return fmt.Sprintf("nats://127.0.0.1:%d", c.port) }
+// url gives the address of each server.
+func (c *cluster) url() string {
+	all := []string{fmt.Sprintf("nats://127.0.0.1:%d", c.port)}
+	for k := 1; k < c.servers; k++ {
+		all = append(all, fmt.Sprintf("nats://127.0.0.1:%d", c.port+k))
+	}
+	return strings.Join(all, ",")
+}
+
+// bridges gives the names of the files of a shard's bridges.
+func (c *cluster) bridges(shard int) []string {
+	name := fmt.Sprintf("shard-%d", shard)
+	if c.servers == 0 {
+		return []string{name}
+	}
+	var all []string
+	for k := 1; k <= c.servers; k++ {
+		all = append(all, fmt.Sprintf("%s-%d", name, k))
+	}
+	return all
+}
+
+// files gives the names of the files of the nats-servers.
+func (c *cluster) files() []string {
+	if c.servers == 0 {
+		return []string{"nats"}
+	}
+	var all []string
+	for k := 1; k <= c.servers; k++ {
+		all = append(all, fmt.Sprintf("nats-%d", k))
+	}
+	return all
+}
 
 // password finds an application's password.
 func (c *cluster) password(app string) (string, error) {

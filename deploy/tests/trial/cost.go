@@ -18,12 +18,16 @@ func (c *cluster) spent() map[string]time.Duration {
 	var self syscall.Rusage
 	_ = syscall.Getrusage(syscall.RUSAGE_SELF, &self)
 	times := map[string]time.Duration{
-		"nats-server": c.processor("nats.pid"),
-		"callers":     time.Duration(self.Utime.Nano() + self.Stime.Nano()),
+		"callers": time.Duration(self.Utime.Nano() + self.Stime.Nano()),
+	}
+	for _, name := range c.files() {
+		times["nats-server"] += c.processor(name + ".pid")
 	}
 	for shard := 0; shard < c.shards; shard++ {
-		times["bridge"] += c.processor(fmt.Sprintf("shard-%d.pid", shard))
-		times["resb"] += c.processor(fmt.Sprintf("shard-%d.resb", shard))
+		for _, name := range c.bridges(shard) {
+			times["bridge"] += c.processor(name + ".pid")
+			times["resb"] += c.processor(name + ".resb")
+		}
 	}
 	return times
 }

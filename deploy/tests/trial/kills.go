@@ -61,22 +61,27 @@ func (c *cluster) killAll(ctx context.Context, t *tally, probers map[int]*prober
 		case <-time.After(time.Duration(300+rand.Intn(1200)) * time.Millisecond):
 		}
 		shard := rand.Intn(c.shards)
-		kind, file, word := "bridge", fmt.Sprintf("shard-%d.pid", shard), c.state
+		bridges := c.bridges(shard)
+		name := bridges[rand.Intn(len(bridges))]
+		kind, file, word := "bridge", name+".pid", c.state
 		if rand.Intn(2) == 0 {
-			kind, file, word = "resb", fmt.Sprintf("shard-%d.resb", shard), c.program
+			kind, file, word = "resb", name+".resb", c.program
 		}
 		p := probers[shard]
 		if p == nil || !p.busy.TryLock() {
 			continue
 		}
 		p.busy.Unlock()
-		if c.kill(file, word) != nil {
+		c.calm.RLock()
+		err := c.kill(file, word)
+		c.calm.RUnlock()
+		if err != nil {
 			continue
 		}
 		measuring.Add(1)
 		go func() {
 			defer measuring.Done()
-			p.first(t, kind)
+			p.first(t, "first answer after a kill of "+kind)
 		}()
 	}
 }

@@ -24,10 +24,22 @@ func main() {
 	scripts := flag.String("scripts", "", "the folder of start and stop")
 	folder := flag.String("folder", "", "an empty folder")
 	program := flag.String("program", "", "the program whose `serve` is run")
+	only := flag.String("only", "", "the part to run alone: churn or rate")
+	servers := flag.Int("servers", 1, "how many nats-servers there are")
 	flag.Parse()
 	rand.Seed(time.Now().UnixNano())
 	t := &tally{}
-	if err := try(t, *scripts, *folder, *program, time.Duration(*seconds)*time.Second); err != nil {
+	duration := time.Duration(*seconds) * time.Second
+	run := func() error { return try(t, *scripts, *folder, *program, duration) }
+	switch {
+	case *only == "churn":
+		run = func() error { return churnFor(t, *scripts, *folder, *program, duration) }
+	case *only == "rate":
+		run = func() error { return tryRate(t, *scripts, *folder, *program, duration) }
+	case *servers > 1:
+		run = func() error { return tryServers(t, *scripts, *folder, *program, *servers, duration) }
+	}
+	if err := run(); err != nil {
 		t.fail("%v", err)
 	}
 	fmt.Printf("%d lookups and %d changes; %d times a lookup was asked again\n", t.lookups, t.changes, t.again)
@@ -57,7 +69,29 @@ func try(t *tally, scripts, folder, program string, duration time.Duration) erro
 			return err
 		}
 	}
+	if err := churnFor(t, scripts, folder, program, duration); err != nil {
+		return err
+	}
 	return full(t, scripts, filepath.Join(folder, "full"), program)
+}
+
+// tryRate measures lookups on one shard, 200 at once and one by one.
+func tryRate(t *tally, scripts, folder, program string, duration time.Duration) error {
+	port, err := freePort()
+	if err != nil {
+		return err
+	}
+	c := &cluster{scripts: scripts, state: filepath.Join(folder, "rate"), program: program, port: port, shards: 1, names: names()}
+	return c.try(t, duration, 0)
+}
+
+// churnFor replaces bundles 10,000 times, or less often in a short trial.
+func churnFor(t *tally, scripts, folder, program string, duration time.Duration) error {
+	replacements := 10000
+	if duration < long {
+		replacements = 1000
+	}
+	return churn(t, scripts, filepath.Join(folder, "churn"), program, replacements)
 }
 
 // try runs the parts over one cluster, and stops it.
@@ -82,6 +116,7 @@ func (c *cluster) try(t *tally, measure, kills time.Duration) (err error) {
 	all(applications, (*application).load)
 	fmt.Printf("%d shards: %d bundles installed in %v\n", c.shards, apps*len(locales), time.Since(began).Round(time.Millisecond))
 	c.rate(applications, measure)
+	c.oneByOne(applications[0], measure)
 	if kills == 0 {
 		return nil
 	}
@@ -136,7 +171,7 @@ func (c *cluster) killServer(t *tally, applications []*application, p *prober) e
 		time.Sleep(500 * time.Millisecond)
 		err := c.kill("nats.pid", c.state)
 		if err == nil && p != nil {
-			p.first(t, "nats-server")
+			p.first(t, "first answer after a kill of nats-server")
 		}
 		failed <- err
 	}()
@@ -151,8 +186,7 @@ func (c *cluster) grow(applications []*application) error {
 	if err != nil {
 		return err
 	}
-	more := *c
-	more.state, more.port, more.shards = c.state+"-more", port, 7
+	more := cluster{scripts: c.scripts, state: c.state + "-more", program: c.program, port: port, shards: 7, names: c.names}
 	if err := more.start(); err != nil {
 		return err
 	}
@@ -182,6 +216,27 @@ func names() []string {
 		list[k] = fmt.Sprintf("%s%d", []string{"shop.", "bank-", "Play_", "x"}[k%4], k)
 	}
 	return list
+}
+
+// freePorts gives the first of so many ports on loopback in a row that nothing listens to.
+func freePorts(n int) (int, error) {
+	for try := 0; try < 100; try++ {
+		first, err := freePort()
+		if err != nil {
+			return 0, err
+		}
+		free := true
+		for port := first; port < first+n; port++ {
+			listener, err := net.Listen("tcp", fmt.Sprintf("127.0.0.1:%d", port))
+			if free = free && err == nil; err == nil {
+				listener.Close()
+			}
+		}
+		if free {
+			return first, nil
+		}
+	}
+	return 0, fmt.Errorf("no %d free ports in a row", n)
 }
 
 // freePort gives a port on loopback that nothing listens to.

@@ -2,6 +2,7 @@ package main
 
 import (
 	"fmt"
+	"sort"
 	"sync"
 	"sync/atomic"
 	"time"
@@ -51,6 +52,34 @@ func (c *cluster) rate(applications []*application, duration time.Duration) {
 	})
 	fmt.Printf("%d shards: %.0f lookups a second; processor time of each: %s\n", c.shards, float64(count)/time.Since(began).Seconds(),
 		cost(before, c.spent(), int(count)))
+}
+
+// oneByOne measures lookups of which the next is asked when the last is answered.
+func (c *cluster) oneByOne(a *application, duration time.Duration) {
+	lines, replies, err := a.expected()
+	if err != nil {
+		a.tally.fail("the reference of %s: %v", a.name, err)
+		return
+	}
+	times := make([]time.Duration, 0, 1<<16)
+	began, before := time.Now(), c.spent()
+	for last := began; last.Sub(began) < duration; {
+		k := len(times) % len(lines)
+		got, again, err := a.client.Ask(lines[k])
+		if err != nil {
+			a.tally.miss(lines[k], err)
+			return
+		}
+		a.tally.compare(lines[k], got, replies[k])
+		a.tally.add(1, 0, again)
+		now := time.Now()
+		times = append(times, now.Sub(last))
+		last = now
+	}
+	after := c.spent()
+	sort.Slice(times, func(i, j int) bool { return times[i] < times[j] })
+	fmt.Printf("%d shards, one by one: %v (median), %v (nine of ten); processor time of each: %s\n", c.shards,
+		times[len(times)/2].Round(time.Microsecond), times[len(times)*9/10].Round(time.Microsecond), cost(before, after, len(times)))
 }
 
 // askUntil asks line after line, and tells how many were answered.

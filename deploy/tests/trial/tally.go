@@ -76,13 +76,15 @@ func (t *tally) took(kind string, d time.Duration) {
 // times gives the middle and the longest time for each kind of kill.
 func (t *tally) times() string {
 	var rows []string
-	for _, kind := range []string{"resb", "bridge", "nats-server"} {
+	kinds := make([]string, 0, len(t.first))
+	for kind := range t.first {
+		kinds = append(kinds, kind)
+	}
+	sort.Strings(kinds)
+	for _, kind := range kinds {
 		all := t.first[kind]
-		if len(all) == 0 {
-			continue
-		}
 		sort.Slice(all, func(i, j int) bool { return all[i] < all[j] })
-		rows = append(rows, fmt.Sprintf("%s: %d kills, first answer after %v (median), %v (most)", kind, len(all),
+		rows = append(rows, fmt.Sprintf("%s: %d times, %v (median), %v (most)", kind, len(all),
 			all[len(all)/2].Round(time.Millisecond), all[len(all)-1].Round(time.Millisecond)))
 	}
 	return strings.Join(rows, "\n")

@@ -1,0 +1,6 @@
+//! Bundle texts as files: what ICU's `genrb` does, in this project's formats.
+#![tactic(auto)]
+
+mod text;
+
+pub use text::compile;

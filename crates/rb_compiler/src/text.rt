@@ -1,0 +1,46 @@
+//! A bundle text as a file.
+ghost use Rattle.std.specs.Prelude.{◌≡◌, ◌⊎◌, ◌+◌, ◌*◌, ℕ, List, length, drop, IfOk, IfErr, OnErr};
+ghost use Rattle.rb_lexer.specs.declared.fault.SourceKind.TheVariants.{Memory};
+ghost use Rattle.rb_tree.specs.SourceTree.{SourceTree};
+ghost use Rattle.rb_parser.specs.Source.{IsGoodSource, IsRefusal};
+ghost use Rattle.rb_format.specs.Place.{word_at};
+ghost use Rattle.rb_compiler.specs.Compiled.{IsCompiled};
+
+use rb_lexer::{SourceFault, SourceKind};
+use rb_parser::parse;
+use rb_writer::write;
+use std::alloc::Global;
+
+/// The file of the bundle that a text spells, in ResB format 1, as ICU's `genrb --formatVersion 1` writes it but for what it
+/// shares. Its buffer holds the file and nothing else.
+///
+/// The errors and their lines are those of `parse`; `Memory` has line 0. No memory is kept after an error.
+///
+/// ```rust
+/// let file = compile(alloc, b"root{a{\"b\"}}")?; // 76 bytes
+/// compile(alloc, b"root{\na:int{09}}") // Err: BadInt, line 2
+/// ```
+pub fn compile(alloc: Global, text: &[u8]) -> Result<Vec<u8>, SourceFault>
+    // What is given is a file of the bundle that the text spells.
+    ensures compiled { IfOk result (λ file. IsCompiled text.now file.items) }
+    // It ends with its bundle.
+    ensures end { IfOk result (λ file. length file.items ≡ 32 + 4 * word_at (drop 32 file.items) 4) }
+    // A good source is compiled, unless memory runs out.
+    ensures only { (name : List ℕ) (source : SourceTree) → IsGoodSource text.now name source
+        → IfErr result (λ e. e.kind ≡ Memory) }
+    // What is reported is an error of the text, with its line, unless memory ran out.
+    ensures refused { IfErr result (IsRefusal text.now) }
+{
+    let source = match parse(alloc, text) {
+        Ok(source) => source,
+        Err(fault) => return Err(fault),
+    };
+    let Ok(mut file) = write(alloc, &source.tree, source.no_fallback) else {
+        return Err(SourceFault {
+            kind: SourceKind::Memory,
+            line: 0,
+        });
+    };
+    file.shrink_to_fit();
+    Ok(file)
+}
