@@ -23,6 +23,8 @@ import (
 
 const (
 	unused          = 10 * time.Minute // how long the connection of an application is kept that nobody asks for
+	lost            = 3 * time.Second  // how long a lost connection is left alone
+	untried         = time.Second      // how long none is made after one that failed
 	turn            = 5 * time.Second  // how long a shard is asked again that has too many lines of the application
 	defaultPatience = 30 * time.Second
 	mostMany        = 16 // messages of several lookups of an application on their way; a shard takes some thousand lines
@@ -46,7 +48,9 @@ type shards struct {
 type link struct {
 	dialing sync.Mutex
 	client  atomic.Pointer[client.Client]
+	failed  time.Time     // when it was last tried in vain
 	used    atomic.Int64  // when it was last asked for
+	lost    atomic.Int64  // since when NATS isn't reached, or 0
 	many    chan struct{} // has an element for each message of several lookups on its way
 }
 
@@ -68,40 +72,55 @@ func (b *shards) linkOf(app string) *link {
 	return l
 }
 
-// of gives the application's connection.
+// of gives the application's connection. One that was lost is left alone for a while, as it finds NATS again by itself, and then
+// made anew: NATS may have forgotten its user meanwhile, and know it again by another password.
 func (b *shards) of(app string) (*client.Client, error) {
-	l := b.linkOf(app)
-	l.used.Store(time.Now().UnixNano())
+	l, now := b.linkOf(app), time.Now().UnixNano()
+	l.used.Store(now)
 	c := l.client.Load()
 	if c == nil {
 		var err error
 		if c, err = b.dial(app, l); err != nil {
-			log.Printf("%s is not reached: %v", app, err)
 			return nil, errUnreached
 		}
 	}
-	if !c.Connected() {
-		return nil, errUnreached
+	switch since := l.lost.Load(); {
+	case c.Connected():
+		if since != 0 {
+			l.lost.Store(0)
+		}
+		return c, nil
+	case since == 0:
+		l.lost.CompareAndSwap(0, now)
+	case now-since > int64(lost) && l.client.CompareAndSwap(c, nil):
+		l.lost.Store(0)
+		c.Close()
 	}
-	return c, nil
+	return nil, errUnreached
 }
 
-// dial makes an application's connection, where no other has made it meanwhile.
+// dial makes an application's connection, where no other has made it, or tried to, just before.
 func (b *shards) dial(app string, l *link) (*client.Client, error) {
 	l.dialing.Lock()
 	defer l.dialing.Unlock()
 	if c := l.client.Load(); c != nil {
 		return c, nil
 	}
+	if time.Since(l.failed) < untried {
+		return nil, errUnreached
+	}
 	password, err := passwords.Find(b.passwords, subjects.User(app))
+	var c *client.Client
+	if err == nil {
+		c, err = client.Dial(b.url, app, password)
+	}
 	if err != nil {
+		log.Printf("%s is not reached: %v", app, err)
+		l.failed = time.Now()
 		return nil, err
 	}
-	c, err := client.Dial(b.url, app, password)
-	if err == nil {
-		l.client.Store(c)
-	}
-	return c, err
+	l.client.Store(c)
+	return c, nil
 }
 
 // sweep closes connections that nobody uses.
