@@ -10,6 +10,8 @@ import (
 type backend interface {
 	// ask has a lookup or a list answered: the function is called once, with the reply or an error.
 	ask(ctx context.Context, app string, line []byte, answer func(reply []byte, err error))
+	// askMany has several lookups answered: the function is called once for each, with its place.
+	askMany(ctx context.Context, app string, lines [][]byte, answer func(place int, reply []byte, err error))
 	// change gives the reply to a change, once it is kept if it was done.
 	change(ctx context.Context, c change) (reply []byte, err error)
 	// has tells whether the application has a bundle of the locale, if that is cheap to know; else it says no.

@@ -8,8 +8,11 @@ import (
 	"time"
 )
 
-// ahead is how many lookups of one request are on their way at once.
-const ahead = 64
+// Of the lookups of one request so many are asked together, and more are asked while fewer than `ahead` are on their way.
+const (
+	together = 64
+	ahead    = 128
+)
 
 // looks answers many lookups: a line each, and a line of the reply each, in order.
 func (c *call) looks(ctx context.Context) {
@@ -38,50 +41,63 @@ func (c *call) stream(ctx context.Context, lines []byte) {
 	var waiting []<-chan []byte
 	for len(lines) > 0 || len(waiting) > 0 {
 		if len(lines) > 0 && len(waiting) < ahead {
-			var line []byte
-			if end := bytes.IndexByte(lines, '\n'); end < 0 {
-				line, lines = lines, nil
-			} else {
-				line, lines = lines[:end], lines[end+1:]
-			}
-			waiting = append(waiting, c.one(ctx, line))
+			var some [][]byte
+			some, lines = take(lines, together)
+			waiting = append(waiting, c.askSome(ctx, some)...)
 			continue
 		}
-		if !c.first(ctx, waiting[0], out) {
+		if !c.first(waiting[0], out) {
 			return
 		}
 		waiting = waiting[1:]
 	}
 }
 
-// one asks one line, and gives where its reply will be.
-func (c *call) one(ctx context.Context, given []byte) <-chan []byte {
-	replies := make(chan []byte, 1)
-	line, own := judge(c.app, given)
-	if own != "" {
-		replies <- []byte(own)
-		return replies
+// take takes the first lines, as many as are said at most.
+func take(from []byte, most int) (lines [][]byte, rest []byte) {
+	for len(from) > 0 && len(lines) < most {
+		line, rest, _ := bytes.Cut(from, []byte("\n"))
+		lines, from = append(lines, line), rest
 	}
-	c.backend.ask(ctx, c.app, line, func(reply []byte, err error) {
+	return lines, from
+}
+
+// askSome asks some lines, and gives where the reply to each will be.
+func (c *call) askSome(ctx context.Context, given [][]byte) (replies []<-chan []byte) {
+	var asked [][]byte
+	var answers []chan<- []byte
+	for _, one := range given {
+		reply := make(chan []byte, 1)
+		replies = append(replies, reply)
+		line, own := judge(c.app, one)
+		if own != "" {
+			reply <- []byte(own)
+			continue
+		}
+		asked, answers = append(asked, line), append(answers, reply)
+	}
+	c.backend.askMany(ctx, c.app, asked, func(place int, reply []byte, err error) {
 		if err != nil {
 			reply = problemOf(err).reply()
 		}
-		replies <- reply
+		answers[place] <- reply
 	})
 	return replies
 }
 
 // first writes the reply that is next, and tells whether the caller still reads.
-func (c *call) first(ctx context.Context, reply <-chan []byte, out *bufio.Writer) bool {
-	late := time.NewTimer(c.patience)
-	defer late.Stop()
+func (c *call) first(reply <-chan []byte, out *bufio.Writer) bool {
 	var line []byte
 	select {
 	case line = <-reply:
-	case <-late.C:
-		line = timeout.reply()
-	case <-ctx.Done():
-		return false
+	default:
+		late := time.NewTimer(c.patience)
+		defer late.Stop()
+		select {
+		case line = <-reply:
+		case <-late.C:
+			line = timeout.reply()
+		}
 	}
 	_, err := out.Write(append(line[:len(line):len(line)], '\n'))
 	return err == nil

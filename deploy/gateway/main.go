@@ -13,12 +13,18 @@ import (
 	"net/http"
 	"os"
 	"os/signal"
+	"runtime/debug"
 	"syscall"
 	"time"
 )
 
 func main() {
 	log.SetFlags(log.LstdFlags | log.Lmicroseconds)
+	if os.Getenv("GOGC") == "" {
+		// Requests leave much behind and little is kept, so memory is collected less often, as long as there is little of it.
+		debug.SetGCPercent(400)
+		debug.SetMemoryLimit(1 << 30)
+	}
 	s, err := readSettings(os.Args[1:])
 	if errors.Is(err, flag.ErrHelp) {
 		return

@@ -11,6 +11,7 @@ import (
 	"log"
 	"strings"
 	"sync"
+	"sync/atomic"
 	"time"
 
 	"github.com/nats-io/nats.go"
@@ -20,8 +21,17 @@ import (
 	"luvdregan.example/resb/deploy/internal/subjects"
 )
 
-// unused is how long the connection of an application is kept that nobody asks for.
-const unused = 10 * time.Minute
+const (
+	unused          = 10 * time.Minute // how long the connection of an application is kept that nobody asks for
+	lost            = 3 * time.Second  // how long a lost connection is left alone
+	untried         = time.Second      // how long none is made after one that failed
+	turn            = 5 * time.Second  // how long a shard is asked again that has too many lines of the application
+	defaultPatience = 30 * time.Second
+	mostMany        = 16 // messages of several lookups of an application on their way; a shard takes some thousand lines
+)
+
+// tooLarge is a bridge's answer where NATS doesn't take a reply.
+const tooLarge = `{"error":"ReplyTooLarge"}`
 
 // Shards is the backend over the shards behind NATS. It has a connection for each application that is asked for, with the
 // application's own user: what NATS doesn't let this user do, the gateway can't do for it either.
@@ -37,8 +47,11 @@ type shards struct {
 // A link is the connection of an application.
 type link struct {
 	dialing sync.Mutex
-	client  *client.Client // or nil
-	used    time.Time
+	client  atomic.Pointer[client.Client]
+	failed  time.Time     // when it was last tried in vain
+	used    atomic.Int64  // when it was last asked for
+	lost    atomic.Int64  // since when NATS isn't reached, or 0
+	many    chan struct{} // has an element for each message of several lookups on its way
 }
 
 func newShards(s settings) (backend, error) {
@@ -47,33 +60,67 @@ func newShards(s settings) (backend, error) {
 	return b, nil
 }
 
-// of gives the application's connection.
-func (b *shards) of(app string) (*client.Client, error) {
+// linkOf gives the application's link.
+func (b *shards) linkOf(app string) *link {
 	b.mu.Lock()
 	l := b.links[app]
 	if l == nil {
-		l = &link{}
+		l = &link{many: make(chan struct{}, mostMany)}
 		b.links[app] = l
 	}
-	l.used = time.Now()
 	b.mu.Unlock()
+	return l
+}
 
-	l.dialing.Lock()
-	defer l.dialing.Unlock()
-	if l.client == nil {
-		password, err := passwords.Find(b.passwords, subjects.User(app))
-		if err == nil {
-			l.client, err = client.Dial(b.url, app, password)
-		}
-		if err != nil {
-			log.Printf("%s is not reached: %v", app, err)
+// of gives the application's connection. One that was lost is left alone for a while, as it finds NATS again by itself, and then
+// made anew: NATS may have forgotten its user meanwhile, and know it again by another password.
+func (b *shards) of(app string) (*client.Client, error) {
+	l, now := b.linkOf(app), time.Now().UnixNano()
+	l.used.Store(now)
+	c := l.client.Load()
+	if c == nil {
+		var err error
+		if c, err = b.dial(app, l); err != nil {
 			return nil, errUnreached
 		}
 	}
-	if !l.client.Connected() {
+	switch since := l.lost.Load(); {
+	case c.Connected():
+		if since != 0 {
+			l.lost.Store(0)
+		}
+		return c, nil
+	case since == 0:
+		l.lost.CompareAndSwap(0, now)
+	case now-since > int64(lost) && l.client.CompareAndSwap(c, nil):
+		l.lost.Store(0)
+		c.Close()
+	}
+	return nil, errUnreached
+}
+
+// dial makes an application's connection, where no other has made it, or tried to, just before.
+func (b *shards) dial(app string, l *link) (*client.Client, error) {
+	l.dialing.Lock()
+	defer l.dialing.Unlock()
+	if c := l.client.Load(); c != nil {
+		return c, nil
+	}
+	if time.Since(l.failed) < untried {
 		return nil, errUnreached
 	}
-	return l.client, nil
+	password, err := passwords.Find(b.passwords, subjects.User(app))
+	var c *client.Client
+	if err == nil {
+		c, err = client.Dial(b.url, app, password)
+	}
+	if err != nil {
+		log.Printf("%s is not reached: %v", app, err)
+		l.failed = time.Now()
+		return nil, err
+	}
+	l.client.Store(c)
+	return c, nil
 }
 
 // sweep closes connections that nobody uses.
@@ -88,7 +135,7 @@ func (b *shards) sweep() {
 		}
 		b.mu.Lock()
 		for app, l := range b.links {
-			if time.Since(l.used) > unused {
+			if time.Since(time.Unix(0, l.used.Load())) > unused {
 				delete(b.links, app)
 				go l.close()
 			}
@@ -100,9 +147,8 @@ func (b *shards) sweep() {
 func (l *link) close() {
 	l.dialing.Lock()
 	defer l.dialing.Unlock()
-	if l.client != nil {
-		l.client.Close()
-		l.client = nil
+	if c := l.client.Swap(nil); c != nil {
+		c.Close()
 	}
 }
 
@@ -132,18 +178,83 @@ func (b *shards) ask(ctx context.Context, app string, line []byte, answer func(r
 		answer(nil, err)
 		return
 	}
-	patience := client.Patience
-	if end, ok := ctx.Deadline(); ok {
-		patience = time.Until(end)
-	}
 	go func() {
-		reply, err := c.Once(string(line), patience)
+		var reply string
+		err := again(ctx, func(patience time.Duration) (err error) {
+			reply, err = c.Once(string(line), patience)
+			return err
+		})
 		if err != nil {
 			answer(nil, judgedError(err))
 			return
 		}
 		answer([]byte(reply), nil)
 	}()
+}
+
+func (b *shards) askMany(ctx context.Context, app string, lines [][]byte, answer func(place int, reply []byte, err error)) {
+	c, err := b.of(app)
+	texts := make([]string, len(lines))
+	for place, line := range lines {
+		texts[place] = string(line)
+		if err != nil {
+			answer(place, nil, err)
+		}
+	}
+	if err != nil {
+		return
+	}
+	many := b.linkOf(app).many
+	go func() {
+		many <- struct{}{}
+		defer func() { <-many }()
+		var replies []string
+		err := again(ctx, func(patience time.Duration) (err error) {
+			replies, err = c.OnceMany(texts, patience)
+			return err
+		})
+		for place, line := range lines {
+			place := place
+			switch {
+			case err != nil:
+				answer(place, nil, judgedError(err))
+			case replies[place] == tooLarge: // among others, but perhaps not alone
+				b.ask(ctx, app, line, func(reply []byte, err error) { answer(place, reply, err) })
+			default:
+				answer(place, []byte(replies[place]), nil)
+			}
+		}
+	}()
+}
+
+// again asks, and asks again where the shard has too many lines of the application, or where the message may be lost, as it is
+// when a bridge ends under it.
+func again(ctx context.Context, ask func(patience time.Duration) error) error {
+	const longest = 50 * time.Millisecond
+	end := time.Now().Add(defaultPatience)
+	if sooner, ok := ctx.Deadline(); ok {
+		end = sooner
+	}
+	pause, patience := 2*time.Millisecond, 2*time.Second
+	for turns := time.Now().Add(turn); ; {
+		err := ask(min64(patience, time.Until(end)))
+		switch {
+		case errors.Is(err, client.ErrBusy) && time.Now().Before(turns):
+			time.Sleep(pause)
+			pause = min64(2*pause, longest)
+		case errors.Is(err, nats.ErrTimeout) && time.Now().Before(end):
+			patience *= 2
+		default:
+			return err
+		}
+	}
+}
+
+func min64(a, b time.Duration) time.Duration {
+	if a < b {
+		return a
+	}
+	return b
 }
 
 func (b *shards) change(ctx context.Context, asked change) (reply []byte, err error) {
@@ -198,12 +309,8 @@ func (b *shards) ready() error {
 	b.mu.Lock()
 	defer b.mu.Unlock()
 	for _, l := range b.links {
-		if l.dialing.TryLock() {
-			connected := l.client != nil && l.client.Connected()
-			l.dialing.Unlock()
-			if connected {
-				return nil
-			}
+		if c := l.client.Load(); c != nil && c.Connected() {
+			return nil
 		}
 	}
 	if len(b.links) > 0 {

@@ -146,6 +146,35 @@ func TestShardsAreKilled(t *testing.T) {
 	}
 }
 
+// TestAnApplicationOverNATSIsDropped drops one while the gateway runs, and adds it again.
+func TestAnApplicationOverNATSIsDropped(t *testing.T) {
+	s := openShards(t)
+	s.ask("PUT", "/v1/bank/de.txt", bankWrites, `de{a{"A"}}`)
+	until := func(status int) {
+		t.Helper()
+		got := answer{}
+		for end := time.Now().Add(30 * time.Second); time.Now().Before(end); time.Sleep(50 * time.Millisecond) {
+			if got = s.ask("GET", "/v1/bank/de/a", bankWrites, ""); got.StatusCode == status {
+				return
+			}
+		}
+		t.Fatalf("%d %s", got.StatusCode, got.body)
+	}
+	until(200)
+	for _, step := range []struct {
+		script string
+		status int
+	}{{"drop", 503}, {"add", 200}} {
+		if text, err := exec.Command("../"+step.script, "bank").CombinedOutput(); err != nil {
+			t.Fatalf("%s: %v: %s", step.script, err, text)
+		}
+		until(step.status)
+	}
+	if got := s.ask("GET", "/v1/shop", shopReads, ""); got.StatusCode != 200 {
+		t.Errorf("another application: %d %s", got.StatusCode, got.body)
+	}
+}
+
 // TestNATSIsNotThere asks for an application where no nats-server is.
 func TestNATSIsNotThere(t *testing.T) {
 	s, err := readSettings([]string{"-nats", "nats://" + freeAddress(t), "-passwords", tokenFile(t), "-tokens", tokenFile(t)})

@@ -209,6 +209,13 @@ func (s *single) ask(_ context.Context, _ string, line []byte, answer func(reply
 	}
 }
 
+func (s *single) askMany(ctx context.Context, app string, lines [][]byte, answer func(place int, reply []byte, err error)) {
+	for place, line := range lines {
+		place := place
+		s.ask(ctx, app, line, func(reply []byte, err error) { answer(place, reply, err) })
+	}
+}
+
 func (s *single) change(ctx context.Context, c change) (reply []byte, err error) {
 	l := s.serving()
 	switch {
