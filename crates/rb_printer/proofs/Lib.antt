@@ -1,0 +1,17 @@
+pub mod Tests
+pub mod Growths
+pub mod Texts
+pub mod Lexing
+pub mod Cutting
+pub mod Forming
+pub mod Numbers
+pub mod Meaning
+pub mod Pages
+pub mod Words
+pub mod Puts
+pub mod Splits
+pub mod Loops
+pub mod Trees
+pub mod Least
+pub mod Rooms
+pub mod Filed

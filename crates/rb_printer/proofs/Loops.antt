@@ -1,0 +1,202 @@
+-- What is still to be written in each loop.
+use Rattle.std.proofs.Common.{◌≡◌, ℕ, zero, suc, ◌+◌, ◌-◌, ◌/◌, ◌%◌, ◌<◌, ◌≤◌, ℤ, Bool, true, false, cond, List, [], ◌∷◌, ◌++◌, length, get_or, drop, refl, sym, ap, subst, ◌∙◌}
+use Rattle.std.proofs.Common.{arith, append_assoc, add-one, drop-cons, Some, encode_utf8_all}
+use Rattle.std.specs.Prelude.{slice_get}
+use Rattle.std.specs.List.{AllByRecursion}
+use Rattle.std.specs.Char.{digit_char}
+use Rattle.std.specs.Fmt.{signed_decimal}
+use Rattle.std.proofs.lemmas.List.{drop_all}
+use Rattle.std.proofs.lemmas.Bool.{lt-ltb, le-ltb, ltb-true, ltb-false}
+use Rattle.std.proofs.Common.{ne_eqb}
+use Rattle.std.specs.Prelude.{nat_lt}
+use Rattle.rb_lexer.specs.Lexeme.{quote}
+use Rattle.rb_tree.specs.Resource.{Resource, string, int, ints, binary, alias, array, table}
+use Rattle.rb_tree.specs.Parts.{kind_of, len_of, HasUnits, units_of, numbers_of, bytes_of}
+use Rattle.rb_tree.specs.declared.kind.Kind.TheVariants as Kinds
+use Rattle.rb_printer.specs.Sign.{unit_chars, units_chars, text_chars, signs_chars}
+use Rattle.rb_printer.specs.Page.{hex_units, indent, comma_if, are_more, numbers_signs}
+use Rattle.rb_printer.specs.Sound.{AreUnits, AreBytes, IsNumber}
+use Rattle.rb_printer.specs.Growth.{Adds, Owes}
+use Rattle.rb_printer.proofs.Growths.{owes_all, owes_step, owes_end}
+use Rattle.rb_printer.proofs.Splits.{same, comma_splits}
+use Rattle.rb_printer.proofs.Words.{ascii_shown, number_word}
+
+-- the same, with what is left written otherwise
+pub owes_as : {old total now xs ys : List ℕ} → Owes old total now xs → xs ≡ ys → Owes old total now ys
+owes_as {old} {total} {now} {xs} {ys} o e = record { is = o.is ∙ ap (λ (t : List ℕ). now ++ encode_utf8_all t) e }
+
+-- ---- units
+
+pub dropped : (us : List ℕ) (i : ℕ) → i < length us → drop i us ≡ get_or us i 0 ∷ drop (i + 1) us
+dropped us i h = rw (add-one, drop-cons us i 0) refl
+
+pub units_next : (us : List ℕ) (i : ℕ) → i < length us → units_chars (drop i us) ≡ unit_chars (get_or us i 0) ++ units_chars (drop (i + 1) us)
+units_next us i h = ap units_chars (dropped us i h)
+
+pub units_last : (us : List ℕ) (i : ℕ) → length us ≤ i → units_chars (drop i us) ≡ []
+units_last us i h = ap units_chars (drop_all i us h)
+
+-- the units of a text with quotes, of which i are written
+pub record UnitsPut (old now us : List ℕ) (i : ℕ) : Type 0 where
+  pub owes : Owes old (text_chars false us) now (units_chars (drop i us) ++ quote ∷ [])
+  pub sound : AreUnits (drop i us) → AreUnits us
+
+pub units_begin : (old now us : List ℕ) → Adds old now (quote ∷ []) → UnitsPut old now us 0
+units_begin old now us a = record { owes = owes_step (units_chars us ++ quote ∷ []) (owes_all old (text_chars false us)) a; sound = λ h. h }
+
+pub units_put : (old now new us : List ℕ) (i u : ℕ) → UnitsPut old now us i → i < length us → u ≡ get_or us i 0 → u < 65536 → Adds now new (unit_chars u)
+    → UnitsPut old new us (i + 1)
+units_put old now new us i u m h e small a = record {
+  owes = owes_step (units_chars (drop (i + 1) us) ++ quote ∷ []) (owes_as m.owes (ap (λ (cs : List ℕ). cs ++ quote ∷ []) (units_next us i h)
+      ∙ append_assoc (unit_chars (get_or us i 0)) (units_chars (drop (i + 1) us)) (quote ∷ []))) (subst (λ (x : ℕ). Adds now new (unit_chars x)) e a);
+  sound = λ (k : AreUnits (drop (i + 1) us)). m.sound (subst AreUnits (sym (dropped us i h)) (subst (λ (x : ℕ). x < 65536) e small, k));
+}
+
+pub units_end : (old now new us : List ℕ) (i : ℕ) → UnitsPut old now us i → length us ≤ i → Adds now new (quote ∷ []) → Adds old new (text_chars false us) × AreUnits us
+units_end old now new us i m h a = (
+  owes_end (owes_step [] (owes_as m.owes (ap (λ (cs : List ℕ). cs ++ quote ∷ []) (units_last us i h))) a),
+  m.sound (subst AreUnits (sym (drop_all i us h)) tt),
+)
+
+pub units_len : (t : Resource) → HasUnits (kind_of t) → len_of t ≡ length (units_of t)
+units_len (string us) h = refl
+units_len (int n) h = absurd h
+units_len (ints zs) h = absurd h
+units_len (binary bs) h = absurd h
+units_len (alias us) h = refl
+units_len (array ts) h = absurd h
+units_len (table es) h = absurd h
+
+-- ---- bytes
+
+hex_next : (bs : List ℕ) (i : ℕ) → i < length bs
+    → hex_units (drop i bs) ≡ digit_char (get_or bs i 0 / 16) ∷ digit_char (get_or bs i 0 % 16) ∷ hex_units (drop (i + 1) bs)
+hex_next bs i h = ap hex_units (dropped bs i h)
+
+-- the bytes of a Binary, of which i are written
+pub record BytesPut (old now bs : List ℕ) (i : ℕ) : Type 0 where
+  pub owes : Owes old (text_chars false (hex_units bs)) now (units_chars (hex_units (drop i bs)) ++ quote ∷ [])
+  pub sound : AreBytes (drop i bs) → AreBytes bs
+
+pub bytes_begin : (old now bs : List ℕ) → Adds old now (quote ∷ []) → BytesPut old now bs 0
+bytes_begin old now bs a = record {
+  owes = owes_step (units_chars (hex_units bs) ++ quote ∷ []) (owes_all old (text_chars false (hex_units bs))) a;
+  sound = λ h. h;
+}
+
+digit_shown : (d : ℕ) → d < 16 → unit_chars (digit_char d) ≡ digit_char d ∷ []
+digit_shown d h = by (nat_lt d 10) refl where
+  near : (c : ℕ) → 47 < c → c < 103 → (c ≡ 0x5C → ⊥) → unit_chars c ≡ c ∷ []
+  near c low high other = rw (ascii_shown c (omega arith) (omega arith) (ne_eqb c 0x22 (λ e. omega arith)) (ne_eqb c 0x5C other)) refl
+
+  by : (b : Bool) → nat_lt d 10 ≡ b → unit_chars (cond b (48 + d) (87 + d)) ≡ cond b (48 + d) (87 + d) ∷ []
+  by true e = let below : d < 10 = ltb-true d 10 e in near (48 + d) (omega arith) (omega arith) (λ e. omega arith)
+  by false e = let above : 10 ≤ d = ltb-false d 10 e in near (87 + d) (omega arith) (omega arith) (λ e. omega arith)
+
+byte_shown : (b : ℕ) (rest : List ℕ) → b < 256
+    → units_chars (digit_char (b / 16) ∷ digit_char (b % 16) ∷ rest) ≡ (digit_char (b / 16) ∷ digit_char (b % 16) ∷ []) ++ units_chars rest
+byte_shown b rest h =
+    ap (λ (cs : List ℕ). cs ++ (unit_chars (digit_char (b % 16)) ++ units_chars rest)) (digit_shown (b / 16) (omega arith))
+    ∙ ap (λ (cs : List ℕ). digit_char (b / 16) ∷ (cs ++ units_chars rest)) (digit_shown (b % 16) (omega arith))
+
+pub bytes_put : (old now new bs : List ℕ) (i b : ℕ) → BytesPut old now bs i → i < length bs → b ≡ get_or bs i 0 → b < 256
+    → Adds now new (digit_char (b / 16) ∷ digit_char (b % 16) ∷ []) → BytesPut old new bs (i + 1)
+bytes_put old now new bs i b m h e small a =
+    let here : hex_units (drop i bs) ≡ digit_char (b / 16) ∷ digit_char (b % 16) ∷ hex_units (drop (i + 1) bs) =
+    subst (λ (x : ℕ). hex_units (drop i bs) ≡ digit_char (x / 16) ∷ digit_char (x % 16) ∷ hex_units (drop (i + 1) bs)) (sym e) (hex_next bs i h) in
+    record {
+      owes = owes_step (units_chars (hex_units (drop (i + 1) bs)) ++ quote ∷ []) (owes_as m.owes (ap (λ (cs : List ℕ). cs ++ quote ∷ [])
+          (ap units_chars here ∙ byte_shown b (hex_units (drop (i + 1) bs)) small))) a;
+      sound = λ (k : AreBytes (drop (i + 1) bs)). m.sound (subst AreBytes (sym (dropped bs i h)) (subst (λ (x : ℕ). x < 256) e small, k));
+    }
+
+pub bytes_end : (old now new bs : List ℕ) (i : ℕ) → BytesPut old now bs i → length bs ≤ i → Adds now new (quote ∷ [])
+    → Adds old new (text_chars false (hex_units bs)) × AreBytes bs
+bytes_end old now new bs i m h a = (
+  owes_end (owes_step [] (owes_as m.owes (ap (λ (xs : List ℕ). units_chars (hex_units xs) ++ quote ∷ []) (drop_all i bs h))) a),
+  m.sound (subst AreBytes (sym (drop_all i bs h)) tt),
+)
+
+pub bytes_len : (t : Resource) → kind_of t ≡ Kinds.Binary → len_of t ≡ length (bytes_of t)
+bytes_len (string us) h = absurd cc
+bytes_len (int n) h = absurd cc
+bytes_len (ints zs) h = absurd cc
+bytes_len (binary bs) h = refl
+bytes_len (alias us) h = absurd cc
+bytes_len (array ts) h = absurd cc
+bytes_len (table es) h = absurd cc
+
+-- ---- numbers
+
+abbrev pub AreNumbers : List ℤ → Type 0
+AreNumbers zs = AllByRecursion IsNumber zs
+
+pub record NumbersPut (old now : List ℕ) (zs : List ℤ) (i : ℕ) : Type 0 where
+  pub owes : Owes old (signs_chars (numbers_signs zs [])) now (signs_chars (numbers_signs (drop i zs) []))
+  pub sound : AreNumbers (drop i zs) → AreNumbers zs
+
+pub numbers_begin : (old : List ℕ) (zs : List ℤ) → NumbersPut old old zs 0
+numbers_begin old zs = record { owes = owes_all old (signs_chars (numbers_signs zs [])); sound = λ h. h }
+
+number_at : (zs : List ℤ) (i : ℕ) (z : ℤ) → Some z ≡ slice_get zs i → drop i zs ≡ z ∷ drop (suc i) zs
+number_at [] i z e = absurd cc
+number_at (x ∷ zs) zero z e = let same : x ≡ z = cc in ap (λ (y : ℤ). y ∷ zs) same
+number_at (x ∷ zs) (suc i) z e = number_at zs i z e
+
+number_there : (zs : List ℤ) (i : ℕ) (z : ℤ) → Some z ≡ slice_get zs i → drop i zs ≡ z ∷ drop (i + 1) zs
+number_there zs i z e = rw add-one (number_at zs i z e)
+
+more_there : (zs : List ℤ) (i : ℕ) → are_more (drop i zs) ≡ nat_lt i (length zs)
+more_there [] zero = refl
+more_there [] (suc i) = sym (le-ltb (suc i) 0 (omega arith))
+more_there (z ∷ zs) zero = sym (lt-ltb 0 (length (z ∷ zs)) (omega arith))
+more_there (z ∷ zs) (suc i) = more_there zs i ∙ by (nat_lt i (length zs)) refl where
+  by : (b : Bool) → nat_lt i (length zs) ≡ b → nat_lt i (length zs) ≡ nat_lt (suc i) (length (z ∷ zs))
+  by true e = let h : i < length zs = ltb-true i (length zs) e in e ∙ sym (lt-ltb (suc i) (length (z ∷ zs)) (omega arith))
+  by false e = let h : length zs ≤ i = ltb-false i (length zs) e in e ∙ sym (le-ltb (suc i) (length (z ∷ zs)) (omega arith))
+
+pub numbers_put : (old now a b new : List ℕ) (zs : List ℤ) (i : ℕ) (z : ℤ) → NumbersPut old now zs i → Some z ≡ slice_get zs i → IsNumber z
+    → Adds now a (0x20 ∷ []) → Adds a b (signed_decimal z) → Adds b new (signs_chars (comma_if (nat_lt (i + 1) (length zs)) []))
+    → NumbersPut old new zs (i + 1)
+numbers_put old now a b new zs i z m e good p q r =
+    let there = number_there zs i z e in
+    let later = drop (i + 1) zs in
+    let after = signs_chars (numbers_signs later []) in
+    let last = signs_chars (comma_if (are_more later) []) in
+    let left : signs_chars (numbers_signs (drop i zs) []) ≡ 0x20 ∷ (signed_decimal z ++ (last ++ after)) =
+    ap (λ (xs : List ℤ). signs_chars (numbers_signs xs [])) there
+    ∙ ap (λ (w : Bool). 0x20 ∷ (text_chars w (signed_decimal z) ++ signs_chars (comma_if (are_more later) (numbers_signs later [])))) (number_word z good)
+    ∙ ap (λ (cs : List ℕ). 0x20 ∷ (signed_decimal z ++ cs)) ((comma_splits (are_more later) same).are (numbers_signs later [])) in
+    let more = subst (λ (w : Bool). Adds b new (signs_chars (comma_if w []))) (sym (more_there zs (i + 1))) r in
+    record {
+      owes = owes_step after (owes_step (last ++ after) (owes_step {xs = 0x20 ∷ []} (signed_decimal z ++ (last ++ after)) (owes_as m.owes left) p) q) more;
+      sound = λ (k : AreNumbers (drop (i + 1) zs)). m.sound (subst AreNumbers (sym there) (good, k));
+    }
+
+pub numbers_end : (old now : List ℕ) (zs : List ℤ) (i : ℕ) → NumbersPut old now zs i → length zs ≤ i → Adds old now (signs_chars (numbers_signs zs [])) × AreNumbers zs
+numbers_end old now zs i m h = (
+  owes_end (owes_as m.owes (ap (λ (xs : List ℤ). signs_chars (numbers_signs xs [])) (drop_all i zs h))),
+  m.sound (subst AreNumbers (sym (drop_all i zs h)) tt),
+)
+
+pub numbers_len : (t : Resource) → kind_of t ≡ Kinds.Ints → len_of t ≡ length (numbers_of t)
+numbers_len (string us) h = absurd cc
+numbers_len (int n) h = absurd cc
+numbers_len (ints zs) h = refl
+numbers_len (binary bs) h = absurd cc
+numbers_len (alias us) h = absurd cc
+numbers_len (array ts) h = absurd cc
+numbers_len (table es) h = absurd cc
+
+-- ---- indentation
+
+pub indent_more : (n i : ℕ) → i < n → signs_chars (indent (n - i) []) ≡ 0x20 ∷ 0x20 ∷ 0x20 ∷ 0x20 ∷ signs_chars (indent (n - (i + 1)) [])
+indent_more n i h = let e : n - i ≡ suc (n - (i + 1)) = omega arith in ap (λ (k : ℕ). signs_chars (indent k [])) e
+
+pub indent_put : (old now new : List ℕ) (n i : ℕ) → Owes old (signs_chars (indent n [])) now (signs_chars (indent (n - i) [])) → i < n
+    → Adds now new (0x20 ∷ 0x20 ∷ 0x20 ∷ 0x20 ∷ []) → Owes old (signs_chars (indent n [])) new (signs_chars (indent (n - (i + 1)) []))
+indent_put old now new n i o h a = owes_step (signs_chars (indent (n - (i + 1)) [])) (owes_as o (indent_more n i h)) a
+
+pub indent_end : (old now : List ℕ) (n i : ℕ) → Owes old (signs_chars (indent n [])) now (signs_chars (indent (n - i) [])) → n ≤ i
+    → Adds old now (signs_chars (indent n []))
+indent_end old now n i o h = let e : n - i ≡ 0 = omega arith in owes_end (owes_as o (ap (λ (k : ℕ). signs_chars (indent k [])) e))

@@ -1,0 +1,67 @@
+-- What one text puts.
+use Rattle.std.proofs.Common.{◌≡◌, ℕ, ◌/◌, ◌%◌, ◌<◌, ℤ, Bool, true, false, ◌&&◌, List, [], ◌∷◌, ◌++◌, Result, Ok, Err, OnOk, is_ok, encode_utf8_all, refl, sym, ap, subst, ◌∙◌}
+use Rattle.std.specs.Prelude.{if◌then◌else◌}
+use Rattle.std.specs.List.{list_all}
+use Rattle.std.specs.Char.{digit_char}
+use Rattle.std.specs.Str.{IsAscii}
+use Rattle.std.specs.Fmt.{decimal, signed_decimal}
+use Rattle.std.proofs.lemmas.Fmt.{IsAscii-decimal, IsAscii-signed}
+use Rattle.std.proofs.Common.{arith, ◌^◌, pos, negsuc, w32, to_z, of_z}
+use Rattle.std.proofs.lemmas.Int.{to_z-of_z}
+use mir.Val.{SFits}
+use Rattle.rb_printer.specs.Sound.{IsNumber}
+use Rattle.std.proofs.lemmas.Bool.{ltb-true}
+use Rattle.std.proofs.lemmas.Str.{encodes-IsAscii, encode_ascii}
+use Rattle.rb_lexer.specs.Lexeme.{quote, backslash}
+use Rattle.rb_printer.specs.Sign.{is_ascii, is_word, is_name, is_shown, unit_chars, units_chars, text, text_chars, sign_chars}
+use Rattle.rb_printer.specs.Growth.{Adds}
+use Rattle.rb_printer.proofs.Tests.{and_left, and_right}
+use Rattle.rb_printer.proofs.Growths.{adds_more}
+use Rattle.rb_printer.proofs.Words.{word_chars, name_word}
+
+pub adds_as : {old now xs ys : List ℕ} → Adds old now xs → xs ≡ ys → Adds old now ys
+adds_as {old} {now} {xs} {ys} a e = record { is = a.is ∙ ap (λ (t : List ℕ). old ++ encode_utf8_all t) e }
+
+pub escape_chars : (u a b c d : ℕ) → is_shown u ≡ false → a ≡ digit_char (u / 4096) → b ≡ digit_char (u / 256 % 16) → c ≡ digit_char (u / 16 % 16)
+    → d ≡ digit_char (u % 16) → (backslash ∷ 0x75 ∷ a ∷ b ∷ c ∷ d ∷ []) ≡ unit_chars u
+escape_chars u a b c d e p q r s = rw (e, p, q, r, s) refl
+
+pub ascii_encoded : (cs : List ℕ) → list_all is_ascii cs ≡ true → encode_utf8_all cs ≡ cs
+ascii_encoded [] e = refl
+ascii_encoded (c ∷ cs) e =
+    ap (λ (bs : List ℕ). bs ++ encode_utf8_all cs) (encode_ascii c (ltb-true c 128 (and_left (is_ascii c) (list_all is_ascii cs) e)))
+    ∙ ap (λ (bs : List ℕ). c ∷ bs) (ascii_encoded cs (and_right (is_ascii c) (list_all is_ascii cs) e))
+
+pub ascii_put : {E : Type 0} (r : Result (Unit {0}) E) (old new chars : List ℕ) → encode_utf8_all chars ≡ chars
+    → new ≡ (if is_ok r then old ++ chars else old) → OnOk r (Adds old new chars)
+ascii_put (Ok x) old new chars e is = record { is = is ∙ ap (λ (t : List ℕ). old ++ t) (sym e) }
+ascii_put (Err x) old new chars e is = tt
+
+pub bare_put : (us old new : List ℕ) (b : Bool) → b ≡ is_name us → b ≡ true → Adds old new (units_chars us) → Adds old new (sign_chars (text (is_name us) us))
+bare_put us old new b is holds a =
+    let name : is_name us ≡ true = sym is ∙ holds in
+    let word : is_word us ≡ true = name_word us name in
+    subst (λ (w : Bool). Adds old new (text_chars w us)) (sym (ap (λ (w : Bool). w && is_word us) name ∙ word)) (adds_as a (word_chars us word))
+
+pub cited_put : (us old first second new : List ℕ) (b : Bool) → b ≡ is_name us → b ≡ false → Adds old first (quote ∷ []) → Adds first second (units_chars us)
+    → Adds second new (quote ∷ []) → Adds old new (sign_chars (text (is_name us) us))
+cited_put us old first second new b is fails p q r =
+    let name : is_name us ≡ false = sym is ∙ fails in
+    subst (λ (w : Bool). Adds old new (text_chars (w && is_word us) us)) (sym name) (adds_more p (adds_more q r))
+
+pub decimal_put : (old new : List ℕ) (n : ℕ) → n < 2 ^ 32 → new ≡ old ++ decimal n → Adds old new (decimal n)
+decimal_put old new n h e = record { is = e ∙ ap (λ (t : List ℕ). old ++ t) (sym (encodes-IsAscii (decimal n) (IsAscii-decimal n (omega arith)))) }
+
+pub number_fits : (z : ℤ) → SFits w32 z → IsNumber z
+number_fits (pos n) h = omega arith
+number_fits (negsuc n) h = omega arith
+
+number_ascii : (z : ℤ) → IsNumber z → IsAscii (signed_decimal z)
+number_ascii (pos n) h = IsAscii-signed (pos n) (omega arith)
+number_ascii (negsuc n) h = IsAscii-signed (negsuc n) (omega arith)
+
+pub number_put : (old new : List ℕ) (z : ℤ) → SFits w32 z → new ≡ old ++ signed_decimal (to_z w32 (of_z w32 z)) → Adds old new (signed_decimal z)
+number_put old new z h e = record { is = e ∙ ap (λ (x : ℤ). old ++ signed_decimal x) (to_z-of_z w32 z h) ∙ ap (λ (t : List ℕ). old ++ t) (sym (encodes-IsAscii (signed_decimal z) (number_ascii z (number_fits z h)))) }
+
+pub number_read : {old new : List ℕ} (z : ℤ) → SFits w32 z → Adds old new (signed_decimal (to_z w32 (of_z w32 z))) → Adds old new (signed_decimal z)
+number_read {old} {new} z h a = subst (λ (x : ℤ). Adds old new (signed_decimal x)) (to_z-of_z w32 z h) a

@@ -1,0 +1,386 @@
+-- What is still to be written of arrays and tables.
+use Rattle.std.proofs.Common.{◌≡◌, ℕ, zero, suc, ◌+◌, ◌<◌, ◌≤◌, Bool, true, false, List, [], ◌∷◌, ◌++◌, length, refl, sym, ap, subst, ◌∙◌, arith, add-one, append-nil, Some}
+use Rattle.std.specs.Prelude.{slice_get}
+use Rattle.std.specs.Map.{keys_of, values_of}
+use Rattle.std.specs.Fmt.{decimal}
+use Rattle.std.proofs.Common.{◌^◌}
+use Rattle.rb_tree.specs.Resource.{Resource, string, int, ints, binary, alias, array, table, Resources, no_trees, tree_and, Members, no_entries, entry_and}
+use Rattle.rb_tree.specs.Keys.{IsTable, items, pairs}
+use Rattle.rb_tree.specs.Parts.{kind_of, len_of, children_of, pairs_of, units_of, numbers_of, bytes_of, int_of}
+use Rattle.rb_tree.specs.declared.kind.Kind.TheVariants as Kinds
+use Rattle.rb_grammar.specs.Form.{array_word, table_word}
+use Rattle.rb_printer.specs.Sign.{Sign, feed, space, left, right, comma, text, is_word, is_name, text_chars, sign_chars, signs_chars}
+use Rattle.rb_printer.specs.Page.{hex_units, indent, has_items, has_entries, is_guessed, numbers_signs, type_unless, gap, item_signs}
+use Rattle.rb_printer.specs.Page.{body_signs, items_signs, entries_signs, items_of, members_of}
+use Rattle.rb_printer.specs.Sound.{AreUnits, IsSound, AreSound, EachSound, IsWell, AreWell, EachWell}
+use Rattle.rb_printer.specs.Growth.{Adds, Owes}
+use Rattle.rb_printer.proofs.Growths.{adds_more, owes_all, owes_step, owes_end}
+use Rattle.rb_printer.proofs.Puts.{adds_as}
+use Rattle.rb_printer.proofs.Words.{decimal_word}
+use Rattle.rb_printer.proofs.Loops.{owes_as}
+use Rattle.rb_printer.proofs.Splits.{same, front, indent_splits, numbers_split, unless_splits, gap_splits, item_splits, body_splits, entries_split}
+
+-- ---- arrays
+
+abbrev pub drop_trees : ℕ → Resources → Resources
+drop_trees zero ts = ts
+drop_trees (suc i) no_trees = no_trees
+drop_trees (suc i) (tree_and t ts) = drop_trees i ts
+
+tree_at : (ts : Resources) (i : ℕ) (u : Resource) → Some u ≡ slice_get (items ts) i → drop_trees i ts ≡ tree_and u (drop_trees (suc i) ts)
+tree_at no_trees i u e = absurd cc
+tree_at (tree_and t ts) zero u e = let same : t ≡ u = cc in ap (λ (x : Resource). tree_and x ts) same
+tree_at (tree_and t ts) (suc i) u e = tree_at ts i u e
+
+pub tree_there : (ts : Resources) (i : ℕ) (u : Resource) → Some u ≡ slice_get (items ts) i → drop_trees i ts ≡ tree_and u (drop_trees (i + 1) ts)
+tree_there ts i u e = rw add-one (tree_at ts i u e)
+
+pub trees_out : (ts : Resources) (i : ℕ) → length (items ts) ≤ i → drop_trees i ts ≡ no_trees
+trees_out no_trees zero h = refl
+trees_out no_trees (suc i) h = refl
+trees_out (tree_and t ts) zero h = absurd (omega arith)
+trees_out (tree_and t ts) (suc i) h = trees_out ts i (omega arith)
+
+-- of an array at a level, i items are written
+pub record ItemsPut (old now : List ℕ) (level : ℕ) (t : Resource) (i : ℕ) : Type 0 where
+  pub owes : Owes old (signs_chars (body_signs level t [])) now (signs_chars (items_signs (level + 1) (drop_trees i (items_of t)) (indent level (right ∷ []))))
+  pub sound : AreSound (drop_trees i (items_of t)) → AreSound (items_of t)
+
+pub items_begin : (old now : List ℕ) (level : ℕ) (t : Resource) → kind_of t ≡ Kinds.Array
+    → Adds old now (signs_chars (type_unless (is_guessed t) array_word (left ∷ feed ∷ []))) → ItemsPut old now level t 0
+items_begin old now level (string us) k a = absurd cc
+items_begin old now level (int n) k a = absurd cc
+items_begin old now level (ints zs) k a = absurd cc
+items_begin old now level (binary bs) k a = absurd cc
+items_begin old now level (alias us) k a = absurd cc
+items_begin old now level (table es) k a = absurd cc
+items_begin old now level (array ts) k a =
+    let inner = items_signs (level + 1) ts (indent level (right ∷ [])) in
+    record {
+      owes = owes_step (signs_chars inner) (owes_as (owes_all old (signs_chars (body_signs level (array ts) [])))
+          ((unless_splits (has_items ts) array_word (front left (front feed same))).are inner)) a;
+      sound = λ h. h;
+    }
+
+item_left : (level : ℕ) (u : Resource) (ts : Resources) (rest : List Sign)
+    → signs_chars (items_signs level (tree_and u ts) rest)
+    ≡ signs_chars (indent level []) ++ (signs_chars (item_signs u (body_signs level u []) []) ++ (0x2C ∷ 0x0A ∷ signs_chars (items_signs level ts rest)))
+item_left level u ts rest =
+    let after = comma ∷ feed ∷ items_signs level ts rest in
+    (indent_splits level).are (item_signs u (body_signs level u after) after)
+    ∙ ap (λ (cs : List ℕ). signs_chars (indent level []) ++ cs) ((item_splits u (body_signs level u) (λ rest. rest) (body_splits u level) same).are after)
+
+pub items_put : (old now a b new : List ℕ) (level : ℕ) (t u : Resource) (i : ℕ) → ItemsPut old now level t i → Some u ≡ slice_get (items (items_of t)) i
+    → Adds now a (signs_chars (indent (level + 1) [])) → Adds a b (signs_chars (item_signs u (body_signs (level + 1) u []) [])) → IsSound u
+    → Adds b new (0x2C ∷ 0x0A ∷ []) → ItemsPut old new level t (i + 1)
+items_put old now a b new level t u i m e p q s r =
+    let there = tree_there (items_of t) i u e in
+    let end = indent level (right ∷ []) in
+    let after = signs_chars (items_signs (level + 1) (drop_trees (i + 1) (items_of t)) end) in
+    let left = ap (λ (ts : Resources). signs_chars (items_signs (level + 1) ts end)) there ∙ item_left (level + 1) u (drop_trees (i + 1) (items_of t)) end in
+    record {
+      owes = owes_step {xs = 0x2C ∷ 0x0A ∷ []} after (owes_step (0x2C ∷ 0x0A ∷ after)
+          (owes_step (signs_chars (item_signs u (body_signs (level + 1) u []) []) ++ (0x2C ∷ 0x0A ∷ after)) (owes_as m.owes left) p) q) r;
+      sound = λ (k : AreSound (drop_trees (i + 1) (items_of t))). m.sound (subst AreSound (sym there) (s, k));
+    }
+
+array_sound : (t : Resource) → kind_of t ≡ Kinds.Array → AreSound (items_of t) → IsSound t
+array_sound (string us) k s = absurd cc
+array_sound (int n) k s = absurd cc
+array_sound (ints zs) k s = absurd cc
+array_sound (binary bs) k s = absurd cc
+array_sound (alias us) k s = absurd cc
+array_sound (table es) k s = absurd cc
+array_sound (array ts) k s = s
+
+pub array_children : (t : Resource) → kind_of t ≡ Kinds.Array → children_of t ≡ items (items_of t)
+array_children (string us) k = absurd cc
+array_children (int n) k = absurd cc
+array_children (ints zs) k = absurd cc
+array_children (binary bs) k = absurd cc
+array_children (alias us) k = absurd cc
+array_children (table es) k = absurd cc
+array_children (array ts) k = refl
+
+pub array_len : (t : Resource) → kind_of t ≡ Kinds.Array → len_of t ≡ length (items (items_of t))
+array_len (string us) k = absurd cc
+array_len (int n) k = absurd cc
+array_len (ints zs) k = absurd cc
+array_len (binary bs) k = absurd cc
+array_len (alias us) k = absurd cc
+array_len (table es) k = absurd cc
+array_len (array ts) k = refl
+
+pub items_end : (old now new : List ℕ) (level : ℕ) (t : Resource) (i : ℕ) → ItemsPut old now level t i → kind_of t ≡ Kinds.Array → len_of t ≤ i
+    → Adds now new (signs_chars (indent level (right ∷ []))) → Adds old new (signs_chars (body_signs level t [])) × IsSound t
+items_end old now new level t i m k h p =
+    let len = array_len t k in
+    let out = trees_out (items_of t) i (omega arith) in
+    let end = indent level (right ∷ []) in
+    let left = ap (λ (ts : Resources). signs_chars (items_signs (level + 1) ts end)) out ∙ sym (append-nil (signs_chars end)) in
+    (owes_end (owes_step [] (owes_as m.owes left) p), array_sound t k (m.sound (subst AreSound (sym out) tt)))
+
+-- ---- an item
+
+item_string : (t : Resource) (level : ℕ) → kind_of t ≡ Kinds.String → signs_chars (item_signs t (body_signs level t []) []) ≡ text_chars false (units_of t)
+item_string (string us) level k = append-nil (text_chars false us)
+item_string (int n) level k = absurd cc
+item_string (ints zs) level k = absurd cc
+item_string (binary bs) level k = absurd cc
+item_string (alias us) level k = absurd cc
+item_string (array ts) level k = absurd cc
+item_string (table es) level k = absurd cc
+
+item_other : (t : Resource) (level : ℕ) → (kind_of t ≡ Kinds.String → ⊥) → signs_chars (item_signs t (body_signs level t []) []) ≡ signs_chars (body_signs level t [])
+item_other (string us) level k = absurd (k refl)
+item_other (int n) level k = refl
+item_other (ints zs) level k = refl
+item_other (binary bs) level k = refl
+item_other (alias us) level k = refl
+item_other (array ts) level k = refl
+item_other (table es) level k = refl
+
+pub string_item : (old new : List ℕ) (level : ℕ) (t : Resource) → kind_of t ≡ Kinds.String → Adds old new (text_chars false (units_of t))
+    → Adds old new (signs_chars (item_signs t (body_signs level t []) []))
+string_item old new level t k p = adds_as p (sym (item_string t level k))
+
+pub other_item : (old new : List ℕ) (level : ℕ) (t : Resource) → (kind_of t ≡ Kinds.String → ⊥) → Adds old new (signs_chars (body_signs level t []))
+    → Adds old new (signs_chars (item_signs t (body_signs level t []) []))
+other_item old new level t k p = adds_as p (sym (item_other t level k))
+
+pub string_sound : (t : Resource) → kind_of t ≡ Kinds.String → AreUnits (units_of t) → IsSound t
+string_sound (string us) k s = s
+string_sound (int n) k s = absurd cc
+string_sound (ints zs) k s = absurd cc
+string_sound (binary bs) k s = absurd cc
+string_sound (alias us) k s = absurd cc
+string_sound (array ts) k s = absurd cc
+string_sound (table es) k s = absurd cc
+
+-- ---- tables
+
+abbrev pub drop_members : ℕ → Members → Members
+drop_members zero es = es
+drop_members (suc i) no_entries = no_entries
+drop_members (suc i) (entry_and k t es) = drop_members i es
+
+entry_at : (es : Members) (i : ℕ) (k : List ℕ) (u : Resource) → Some k ≡ slice_get (keys_of (pairs es)) i → Some u ≡ slice_get (values_of (pairs es)) i
+    → drop_members i es ≡ entry_and k u (drop_members (suc i) es)
+entry_at no_entries i k u e f = absurd cc
+entry_at (entry_and l t es) zero k u e f =
+    let key : l ≡ k = cc in let same : t ≡ u = cc in ap (λ (x : List ℕ). entry_and x t es) key ∙ ap (λ (x : Resource). entry_and k x es) same
+entry_at (entry_and l t es) (suc i) k u e f = entry_at es i k u e f
+
+pub entry_there : (es : Members) (i : ℕ) (k : List ℕ) (u : Resource) → Some k ≡ slice_get (keys_of (pairs es)) i → Some u ≡ slice_get (values_of (pairs es)) i
+    → drop_members i es ≡ entry_and k u (drop_members (i + 1) es)
+entry_there es i k u e f = rw add-one (entry_at es i k u e f)
+
+pub members_out : (es : Members) (i : ℕ) → length (pairs es) ≤ i → drop_members i es ≡ no_entries
+members_out no_entries zero h = refl
+members_out no_entries (suc i) h = refl
+members_out (entry_and k t es) zero h = absurd (omega arith)
+members_out (entry_and k t es) (suc i) h = members_out es i (omega arith)
+
+-- of a table at a level, i entries are written
+pub record EntriesPut (old now : List ℕ) (level : ℕ) (t : Resource) (i : ℕ) : Type 0 where
+  pub owes : Owes old (signs_chars (entries_signs level (members_of t) [])) now (signs_chars (entries_signs level (drop_members i (members_of t)) []))
+  pub sound : EachSound (drop_members i (members_of t)) → EachSound (members_of t)
+
+pub entries_begin : (old : List ℕ) (level : ℕ) (t : Resource) → EntriesPut old old level t 0
+entries_begin old level t = record { owes = owes_all old (signs_chars (entries_signs level (members_of t) [])); sound = λ h. h }
+
+entry_left : (level : ℕ) (k : List ℕ) (u : Resource) (es : Members)
+    → signs_chars (entries_signs level (entry_and k u es) [])
+    ≡ signs_chars (indent level []) ++ (sign_chars (text (is_name k) k) ++ (signs_chars (gap (is_guessed u) [])
+    ++ (signs_chars (body_signs level u []) ++ (0x0A ∷ signs_chars (entries_signs level es [])))))
+entry_left level k u es =
+    let after = feed ∷ entries_signs level es [] in
+    let key = sign_chars (text (is_name k) k) in
+    let space = signs_chars (gap (is_guessed u) []) in
+    (indent_splits level).are (text (is_name k) k ∷ gap (is_guessed u) (body_signs level u after))
+    ∙ ap (λ (cs : List ℕ). signs_chars (indent level []) ++ (key ++ cs)) ((gap_splits (is_guessed u) same).are (body_signs level u after))
+    ∙ ap (λ (cs : List ℕ). signs_chars (indent level []) ++ (key ++ (space ++ cs))) ((body_splits u level).are after)
+
+pub entries_put : (old now a b c d new : List ℕ) (level : ℕ) (t u : Resource) (k : List ℕ) (i : ℕ) (guessed : Bool) → guessed ≡ is_guessed u → EntriesPut old now level t i
+    → Some k ≡ slice_get (keys_of (pairs (members_of t))) i → Some u ≡ slice_get (values_of (pairs (members_of t))) i
+    → Adds now a (signs_chars (indent level [])) → Adds a b (sign_chars (text (is_name k) k)) → Adds b c (signs_chars (gap guessed []))
+    → Adds c d (signs_chars (body_signs level u [])) → IsSound u → Adds d new (0x0A ∷ []) → EntriesPut old new level t (i + 1)
+entries_put old now a b c d new level t u k i guessed is m e f p q h r s w =
+    let there = entry_there (members_of t) i k u e f in
+    let after = signs_chars (entries_signs level (drop_members (i + 1) (members_of t)) []) in
+    let body = signs_chars (body_signs level u []) in
+    let space = signs_chars (gap (is_guessed u) []) in
+    let g = subst (λ (x : Bool). Adds b c (signs_chars (gap x []))) is h in
+    let left = ap (λ (es : Members). signs_chars (entries_signs level es [])) there ∙ entry_left level k u (drop_members (i + 1) (members_of t)) in
+    record {
+      owes = owes_step {xs = 0x0A ∷ []} after (owes_step (0x0A ∷ after) (owes_step (body ++ (0x0A ∷ after))
+          (owes_step (space ++ (body ++ (0x0A ∷ after))) (owes_step (sign_chars (text (is_name k) k) ++ (space ++ (body ++ (0x0A ∷ after)))) (owes_as m.owes left) p) q)
+          g) r) w;
+      sound = λ (h : EachSound (drop_members (i + 1) (members_of t))). m.sound (subst EachSound (sym there) (s, h));
+    }
+
+table_sound : (t : Resource) → kind_of t ≡ Kinds.Table → IsTable (members_of t) → EachSound (members_of t) → IsSound t
+table_sound (string us) k o s = absurd cc
+table_sound (int n) k o s = absurd cc
+table_sound (ints zs) k o s = absurd cc
+table_sound (binary bs) k o s = absurd cc
+table_sound (alias us) k o s = absurd cc
+table_sound (array ts) k o s = absurd cc
+table_sound (table es) k o s = (o, s)
+
+pub table_pairs : (t : Resource) → pairs_of t ≡ pairs (members_of t)
+table_pairs (string us) = refl
+table_pairs (int n) = refl
+table_pairs (ints zs) = refl
+table_pairs (binary bs) = refl
+table_pairs (alias us) = refl
+table_pairs (array ts) = refl
+table_pairs (table es) = refl
+
+pub table_children : (t : Resource) → kind_of t ≡ Kinds.Table → children_of t ≡ values_of (pairs (members_of t))
+table_children (string us) k = absurd cc
+table_children (int n) k = absurd cc
+table_children (ints zs) k = absurd cc
+table_children (binary bs) k = absurd cc
+table_children (alias us) k = absurd cc
+table_children (array ts) k = absurd cc
+table_children (table es) k = refl
+
+pub table_len : (t : Resource) → kind_of t ≡ Kinds.Table → len_of t ≡ length (pairs (members_of t))
+table_len (string us) k = absurd cc
+table_len (int n) k = absurd cc
+table_len (ints zs) k = absurd cc
+table_len (binary bs) k = absurd cc
+table_len (alias us) k = absurd cc
+table_len (array ts) k = absurd cc
+table_len (table es) k = refl
+
+table_order : (t : Resource) → kind_of t ≡ Kinds.Table → IsWell t → IsTable (members_of t)
+table_order (string us) k w = absurd cc
+table_order (int n) k w = absurd cc
+table_order (ints zs) k w = absurd cc
+table_order (binary bs) k w = absurd cc
+table_order (alias us) k w = absurd cc
+table_order (array ts) k w = absurd cc
+table_order (table es) k w = w.0
+
+pub entries_end : (old now : List ℕ) (level : ℕ) (t : Resource) (i : ℕ) → EntriesPut old now level t i → kind_of t ≡ Kinds.Table → len_of t ≤ i
+    → IsWell t → Adds old now (signs_chars (entries_signs level (members_of t) [])) × IsSound t
+entries_end old now level t i m k h w =
+    let len = table_len t k in
+    let out = members_out (members_of t) i (omega arith) in (
+      owes_end (owes_as m.owes (ap (λ (es : Members). signs_chars (entries_signs level es [])) out)),
+      table_sound t k (table_order t k w) (m.sound (subst EachSound (sym out) tt)),
+    )
+
+pub table_put : (old a b new : List ℕ) (level : ℕ) (t : Resource) (g : Bool) → kind_of t ≡ Kinds.Table → g ≡ is_guessed t
+    → Adds old a (signs_chars (type_unless g table_word (left ∷ feed ∷ [])))
+    → Adds a b (signs_chars (entries_signs (level + 1) (members_of t) [])) → Adds b new (signs_chars (indent level (right ∷ [])))
+    → Adds old new (signs_chars (body_signs level t []))
+table_put old a b new level (string us) g k w p q r = absurd cc
+table_put old a b new level (int n) g k w p q r = absurd cc
+table_put old a b new level (ints zs) g k w p q r = absurd cc
+table_put old a b new level (binary bs) g k w p q r = absurd cc
+table_put old a b new level (alias us) g k w p q r = absurd cc
+table_put old a b new level (array ts) g k w p q r = absurd cc
+table_put old a b new level (table es) g k w p q r =
+    let end = indent level (right ∷ []) in
+    let inner = entries_signs (level + 1) es end in
+    let begin = signs_chars (type_unless (has_entries es) table_word (left ∷ feed ∷ [])) in
+    let first = subst (λ (b : Bool). Adds old a (signs_chars (type_unless b table_word (left ∷ feed ∷ [])))) w p in
+    adds_as (adds_more first (adds_more q r))
+    (sym ((unless_splits (has_entries es) table_word (front left (front feed same))).are inner
+    ∙ ap (λ (cs : List ℕ). begin ++ cs) ((entries_split es (level + 1)).are end)))
+
+-- ---- children of a tree that is well
+
+well_item : (ts : Resources) (i : ℕ) (u : Resource) → AreWell ts → Some u ≡ slice_get (items ts) i → IsWell u
+well_item no_trees i u w e = absurd cc
+well_item (tree_and t ts) zero u w e = let same : t ≡ u = cc in subst IsWell same w.0
+well_item (tree_and t ts) (suc i) u w e = well_item ts i u w.1 e
+
+well_value : (es : Members) (i : ℕ) (u : Resource) → EachWell es → Some u ≡ slice_get (values_of (pairs es)) i → IsWell u
+well_value no_entries i u w e = absurd cc
+well_value (entry_and k t es) zero u w e = let same : t ≡ u = cc in subst IsWell same w.0
+well_value (entry_and k t es) (suc i) u w e = well_value es i u w.1 e
+
+pub child_well : (t u : Resource) (i : ℕ) → IsWell t → Some u ≡ slice_get (children_of t) i → IsWell u
+child_well (string us) u i w e = absurd cc
+child_well (int n) u i w e = absurd cc
+child_well (ints zs) u i w e = absurd cc
+child_well (binary bs) u i w e = absurd cc
+child_well (alias us) u i w e = absurd cc
+child_well (array ts) u i w e = well_item ts i u w e
+child_well (table es) u i w e = well_value es i u w.1 e
+
+pub int_well : (t : Resource) → kind_of t ≡ Kinds.Int → IsWell t → int_of t < 2 ^ 28
+int_well (string us) k w = absurd cc
+int_well (int n) k w = w
+int_well (ints zs) k w = absurd cc
+int_well (binary bs) k w = absurd cc
+int_well (alias us) k w = absurd cc
+int_well (array ts) k w = absurd cc
+int_well (table es) k w = absurd cc
+
+-- ---- leaves
+
+pub string_put : (old a b new : List ℕ) (level : ℕ) (t : Resource) → kind_of t ≡ Kinds.String → Adds old a (0x7B ∷ 0x20 ∷ []) → Adds a b (text_chars false (units_of t))
+    → Adds b new (0x20 ∷ 0x7D ∷ []) → Adds old new (signs_chars (body_signs level t []))
+string_put old a b new level (string us) k p q r = adds_more p (adds_more q r)
+string_put old a b new level (int n) k p q r = absurd cc
+string_put old a b new level (ints zs) k p q r = absurd cc
+string_put old a b new level (binary bs) k p q r = absurd cc
+string_put old a b new level (alias us) k p q r = absurd cc
+string_put old a b new level (array ts) k p q r = absurd cc
+string_put old a b new level (table es) k p q r = absurd cc
+
+-- `:int { `
+pub int_put : (old a b new : List ℕ) (level n : ℕ) (t : Resource) → kind_of t ≡ Kinds.Int → n ≡ int_of t → n < 2 ^ 28
+    → Adds old a (0x3A ∷ 0x69 ∷ 0x6E ∷ 0x74 ∷ 0x20 ∷ 0x7B ∷ 0x20 ∷ []) → Adds a b (decimal n) → Adds b new (0x20 ∷ 0x7D ∷ []) → Adds old new (signs_chars (body_signs level t []))
+int_put old a b new level m (string us) k e h p q r = absurd cc
+int_put old a b new level m (ints zs) k e h p q r = absurd cc
+int_put old a b new level m (binary bs) k e h p q r = absurd cc
+int_put old a b new level m (alias us) k e h p q r = absurd cc
+int_put old a b new level m (array ts) k e h p q r = absurd cc
+int_put old a b new level m (table es) k e h p q r = absurd cc
+int_put old a b new level m (int n) k e h p q r =
+    let word : is_word (decimal n) ≡ true = decimal_word n (omega arith) in
+    let digits : Adds a b (decimal n) = subst (λ (x : ℕ). Adds a b (decimal x)) e q in
+    adds_as (adds_more p (adds_more digits r)) (ap (λ (w : Bool). 0x3A ∷ 0x69 ∷ 0x6E ∷ 0x74 ∷ 0x20 ∷ 0x7B ∷ 0x20 ∷ (text_chars w (decimal n) ++ 0x20 ∷ 0x7D ∷ [])) (sym word))
+
+-- `:intvector {`
+pub ints_put : (old a b new : List ℕ) (level : ℕ) (t : Resource) → kind_of t ≡ Kinds.Ints
+    → Adds old a (0x3A ∷ 0x69 ∷ 0x6E ∷ 0x74 ∷ 0x76 ∷ 0x65 ∷ 0x63 ∷ 0x74 ∷ 0x6F ∷ 0x72 ∷ 0x20 ∷ 0x7B ∷ []) → Adds a b (signs_chars (numbers_signs (numbers_of t) []))
+    → Adds b new (0x20 ∷ 0x7D ∷ []) → Adds old new (signs_chars (body_signs level t []))
+ints_put old a b new level (string us) k p q r = absurd cc
+ints_put old a b new level (int n) k p q r = absurd cc
+ints_put old a b new level (binary bs) k p q r = absurd cc
+ints_put old a b new level (alias us) k p q r = absurd cc
+ints_put old a b new level (array ts) k p q r = absurd cc
+ints_put old a b new level (table es) k p q r = absurd cc
+ints_put old a b new level (ints zs) k p q r =
+    adds_as (adds_more p (adds_more q r))
+    (ap (λ (cs : List ℕ). (0x3A ∷ 0x69 ∷ 0x6E ∷ 0x74 ∷ 0x76 ∷ 0x65 ∷ 0x63 ∷ 0x74 ∷ 0x6F ∷ 0x72 ∷ 0x20 ∷ 0x7B ∷ []) ++ cs) (sym ((numbers_split zs).are (space ∷ right ∷ []))))
+
+-- `:bin { `
+pub binary_put : (old a b new : List ℕ) (level : ℕ) (t : Resource) → kind_of t ≡ Kinds.Binary → Adds old a (0x3A ∷ 0x62 ∷ 0x69 ∷ 0x6E ∷ 0x20 ∷ 0x7B ∷ 0x20 ∷ [])
+    → Adds a b (text_chars false (hex_units (bytes_of t))) → Adds b new (0x20 ∷ 0x7D ∷ []) → Adds old new (signs_chars (body_signs level t []))
+binary_put old a b new level (binary bs) k p q r = adds_more p (adds_more q r)
+binary_put old a b new level (string us) k p q r = absurd cc
+binary_put old a b new level (int n) k p q r = absurd cc
+binary_put old a b new level (ints zs) k p q r = absurd cc
+binary_put old a b new level (alias us) k p q r = absurd cc
+binary_put old a b new level (array ts) k p q r = absurd cc
+binary_put old a b new level (table es) k p q r = absurd cc
+
+-- `:alias { `
+pub alias_put : (old a b new : List ℕ) (level : ℕ) (t : Resource) → kind_of t ≡ Kinds.Alias
+    → Adds old a (0x3A ∷ 0x61 ∷ 0x6C ∷ 0x69 ∷ 0x61 ∷ 0x73 ∷ 0x20 ∷ 0x7B ∷ 0x20 ∷ []) → Adds a b (text_chars false (units_of t)) → Adds b new (0x20 ∷ 0x7D ∷ [])
+    → Adds old new (signs_chars (body_signs level t []))
+alias_put old a b new level (alias us) k p q r = adds_more p (adds_more q r)
+alias_put old a b new level (string us) k p q r = absurd cc
+alias_put old a b new level (int n) k p q r = absurd cc
+alias_put old a b new level (ints zs) k p q r = absurd cc
+alias_put old a b new level (binary bs) k p q r = absurd cc
+alias_put old a b new level (array ts) k p q r = absurd cc
+alias_put old a b new level (table es) k p q r = absurd cc

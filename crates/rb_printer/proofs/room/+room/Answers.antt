@@ -1,0 +1,131 @@
+use Rattle.std.proofs.Common.{◌≡◌, ◌+◌, ◌*◌, ◌<◌, ℕ, List, Some, length, subst, arith}
+use Rattle.std.specs.Prelude.{slice_get}
+use Rattle.std.specs.Map.{keys_of}
+use Rattle.rb_tree.specs.Resource.{Resource, height}
+use Rattle.rb_tree.specs.Lower.{child_lower}
+use Rattle.rb_tree.specs.Parts.{kind_of, children_of, pairs_of}
+use Rattle.rb_tree.specs.declared.kind.Kind.TheVariants as Kinds
+use Rattle.rb_printer.specs.Page.{items_of, members_of}
+use Rattle.rb_printer.specs.Least.{least, items_least, entries_least}
+use Rattle.rb_printer.proofs.Trees.{array_children, array_len, table_children, table_pairs, table_len, drop_trees, drop_members}
+use Rattle.rb_printer.proofs.Rooms.{items_next, entries_next, items_last, entries_last, none_left}
+use Rattle.rb_printer.proofs.room.+room.Goals as goal
+
+-- what the items from the present one on need
+items_need : (level i : ℕ) (t u : Resource) → kind_of t ≡ Kinds.Array → Some u ≡ slice_get (children_of t) i
+    → items_least level (drop_trees i (items_of t)) ≡ 4 * level + least level u + items_least level (drop_trees (i + 1) (items_of t))
+items_need level i t u k e = items_next level (items_of t) i u (subst (λ (xs : List Resource). Some u ≡ slice_get xs i) (array_children t k) e)
+
+entries_need : (level i : ℕ) (t u : Resource) (key : List ℕ) → kind_of t ≡ Kinds.Table → Some key ≡ slice_get (keys_of (pairs_of t)) i
+    → Some u ≡ slice_get (children_of t) i
+    → entries_least level (drop_members i (members_of t)) ≡ 4 * level + length key + least level u + entries_least level (drop_members (i + 1) (members_of t))
+entries_need level i t u key k e f =
+    entries_next level (members_of t) i key u (subst (λ (ps : List (List ℕ × Resource)). Some key ≡ slice_get (keys_of ps) i) (table_pairs t) e)
+    (subst (λ (xs : List Resource). Some u ≡ slice_get xs i) (table_children t k) f)
+
+pub after_items-returns-in_err-checked_sub : goal.after_items-returns-in_err-checked_sub
+after_items-returns-in_err-checked_sub g t c =
+    let tree = g.N.Node.tree in
+    none_left _ _ c.from_residual.result c.from_residual.ensures
+    (omega (arith, items_need c.args.level c.loop-i.i (tree c.args.node) (tree c.at-child.result) c.requires.array c.at-child.ensures, c.in_err-checked_sub.ensures, c.loop-i.invariant))
+
+pub after_items-after_body-requires : goal.after_items-after_body-requires
+after_items-after_body-requires g t c κs within =
+    let tree = g.N.Node.tree in
+    let lower : height (tree c.at-child.result) < height (tree c.args.node) =
+    child_lower (tree c.args.node) (tree c.at-child.result) c.loop-i.i c.at-child.ensures in
+    (omega (arith, lower, c.decreases), (within, omega (arith, lower, c.requires.low)))
+
+pub after_items-returns-in_err-left : goal.after_items-returns-in_err-left
+after_items-returns-in_err-left g t c =
+    let tree = g.N.Node.tree in
+    none_left _ _ c.from_residual-in_err-left.result c.from_residual-in_err-left.ensures
+    (omega (
+      arith,
+      items_need c.args.level c.loop-i.i (tree c.args.node) (tree c.at-child.result) c.requires.array c.at-child.ensures,
+      c.in_ok-checked_sub.ensures,
+      c.in_err-left.ensures,
+      c.loop-i.invariant,
+    ))
+
+pub after_items-loop-i-preserved : goal.after_items-loop-i-preserved
+after_items-loop-i-preserved g t c =
+    let tree = g.N.Node.tree in
+    omega (
+      arith,
+      items_need c.args.level c.loop-i.i (tree c.args.node) (tree c.at-child.result) c.requires.array c.at-child.ensures,
+      c.in_ok-checked_sub.ensures,
+      c.in_ok-left.ensures,
+      c.loop-i.invariant,
+    )
+
+pub after_items-returns : goal.after_items-returns
+after_items-returns g t c =
+    let tree = g.N.Node.tree in
+    let len = array_len (tree c.args.node) c.requires.array in
+    omega (arith, items_last c.args.level (items_of (tree c.args.node)) c.loop-i.i (omega (arith, len, c.len-i-end.ensures)), c.loop-i.invariant)
+
+pub after_entries-returns-in_err-checked_sub : goal.after_entries-returns-in_err-checked_sub
+after_entries-returns-in_err-checked_sub g t c =
+    let tree = g.N.Node.tree in
+    none_left _ _ c.from_residual.result c.from_residual.ensures
+    (omega (
+      arith,
+      entries_need c.args.level c.loop-i.i (tree c.args.node) (tree c.at-child.result) c.key_at-key.result.now c.requires.table c.key_at-key.ensures
+          c.at-child.ensures,
+      c.in_err-checked_sub.ensures,
+      c.loop-i.invariant,
+    ))
+
+pub after_entries-returns-in_err-room : goal.after_entries-returns-in_err-room
+after_entries-returns-in_err-room g t c =
+    let tree = g.N.Node.tree in
+    none_left _ _ c.from_residual-in_err-room.result c.from_residual-in_err-room.ensures
+    (omega (
+      arith,
+      entries_need c.args.level c.loop-i.i (tree c.args.node) (tree c.at-child.result) c.key_at-key.result.now c.requires.table c.key_at-key.ensures
+          c.at-child.ensures,
+      c.in_ok-checked_sub.ensures,
+      c.in_err-room.ensures,
+      c.loop-i.invariant,
+    ))
+
+pub after_entries-after_body-requires : goal.after_entries-after_body-requires
+after_entries-after_body-requires g t c κs within =
+    let tree = g.N.Node.tree in
+    let lower : height (tree c.at-child.result) < height (tree c.args.node) =
+    child_lower (tree c.args.node) (tree c.at-child.result) c.loop-i.i c.at-child.ensures in
+    (omega (arith, lower, c.decreases), (within, omega (arith, lower, c.requires.low)))
+
+pub after_entries-returns-in_err-left : goal.after_entries-returns-in_err-left
+after_entries-returns-in_err-left g t c =
+    let tree = g.N.Node.tree in
+    none_left _ _ c.from_residual-in_err-left.result c.from_residual-in_err-left.ensures
+    (omega (
+      arith,
+      entries_need c.args.level c.loop-i.i (tree c.args.node) (tree c.at-child.result) c.key_at-key.result.now c.requires.table c.key_at-key.ensures
+          c.at-child.ensures,
+      c.in_ok-checked_sub.ensures,
+      c.in_ok-room.ensures,
+      c.in_err-left.ensures,
+      c.loop-i.invariant,
+    ))
+
+pub after_entries-loop-i-preserved : goal.after_entries-loop-i-preserved
+after_entries-loop-i-preserved g t c =
+    let tree = g.N.Node.tree in
+    omega (
+      arith,
+      entries_need c.args.level c.loop-i.i (tree c.args.node) (tree c.at-child.result) c.key_at-key.result.now c.requires.table c.key_at-key.ensures
+          c.at-child.ensures,
+      c.in_ok-checked_sub.ensures,
+      c.in_ok-room.ensures,
+      c.in_ok-left.ensures,
+      c.loop-i.invariant,
+    )
+
+pub after_entries-returns : goal.after_entries-returns
+after_entries-returns g t c =
+    let tree = g.N.Node.tree in
+    let len = table_len (tree c.args.node) c.requires.table in
+    omega (arith, entries_last c.args.level (members_of (tree c.args.node)) c.loop-i.i (omega (arith, len, c.len-i-end.ensures)), c.loop-i.invariant)

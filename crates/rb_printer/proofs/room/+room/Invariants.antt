@@ -1,0 +1,22 @@
+use Rattle.std.proofs.Common.{◌≡◌, ◌+◌, ◌*◌}
+use Rattle.rb_tree.specs.Resource.{height}
+use Rattle.rb_printer.specs.Page.{items_of, members_of}
+use Rattle.rb_printer.specs.Least.{items_least, entries_least}
+use Rattle.rb_printer.proofs.Trees.{drop_trees, drop_members}
+use Rattle.rb_printer.proofs.room.+room.Given as goal
+
+abbrev pub decreases-after_body : goal.decreases-after_body
+decreases-after_body g l = 2 * height (g.N.Node.tree l.node) + 1
+
+abbrev pub decreases-after_items : goal.decreases-after_items
+decreases-after_items g l = 2 * height (g.N.Node.tree l.node)
+
+abbrev pub decreases-after_entries : goal.decreases-after_entries
+decreases-after_entries g l = 2 * height (g.N.Node.tree l.node)
+
+abbrev pub invariant-after_items-loop-i : goal.invariant-after_items-loop-i
+invariant-after_items-loop-i g l = let ts = items_of (g.N.Node.tree l.node) in l.left + items_least l.level ts ≡ l.fn.room + items_least l.level (drop_trees l.i ts)
+
+abbrev pub invariant-after_entries-loop-i : goal.invariant-after_entries-loop-i
+invariant-after_entries-loop-i g l =
+    let es = members_of (g.N.Node.tree l.node) in l.left + entries_least l.level es ≡ l.fn.room + entries_least l.level (drop_members l.i es)

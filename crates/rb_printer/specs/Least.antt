@@ -1,0 +1,26 @@
+-- For the contracts of this crate's own functions: characters that the text of a tree has at least. It weighs at most four times as many,
+-- so a text within its limit is one of a tree within its own.
+use Rattle.std.specs.Prelude.{◌≡◌, ◌<◌, ℕ, ◌+◌, ◌*◌, length, MatchOption, Option}
+use Rattle.rb_tree.specs.Resource.{Resource, string, int, ints, binary, alias, array, table, Resources, no_trees, tree_and, Members, no_entries, entry_and}
+
+abbrev mutual
+  pub least : ℕ → Resource → ℕ
+  least level (string us) = 2 + length us
+  least level (int n) = 1
+  least level (ints zs) = 1 + 2 * length zs
+  least level (binary bs) = 5 + 2 * length bs
+  least level (alias us) = 2 + length us
+  least level (array ts) = 2 + items_least (level + 1) ts
+  least level (table es) = 2 + entries_least (level + 1) es
+
+  pub items_least : ℕ → Resources → ℕ
+  items_least level no_trees = 0
+  items_least level (tree_and t ts) = 4 * level + least level t + items_least level ts
+
+  pub entries_least : ℕ → Members → ℕ
+  entries_least level no_entries = 0
+  entries_least level (entry_and k t es) = 4 * level + length k + least level t + entries_least level es
+
+-- so many of some characters are taken, or there aren't as many
+abbrev pub Takes : ℕ → ℕ → Option ℕ → Type 0
+Takes room count left = MatchOption left (room < count) (λ l. l + count ≡ room)

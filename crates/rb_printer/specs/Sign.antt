@@ -1,0 +1,95 @@
+-- What the printer writes: signs, and the characters of each. Which keys and names stand without quotes, and which units stand for
+-- themselves in a quoted text, is a rule of this project; both are read so by ICU's genrb.
+use Rattle.std.specs.Prelude.{ℕ, ◌/◌, ◌%◌, ◌==◌, ◌&&◌, ◌||◌, Bool, true, false, not, cond, nat_lt, nat_le, List, [], ◌∷◌, ◌++◌}
+use Rattle.std.specs.List.{list_all}
+use Rattle.std.specs.Char.{digit_char}
+use Rattle.rb_lexer.specs.Lexeme.{is_white, is_punctuation, quote, backslash, slash}
+use Rattle.rb_lexer.specs.Tokens.{is_empty}
+use Rattle.rb_lexer.specs.declared.token.Mark.{Mark}
+use Rattle.rb_lexer.specs.declared.token.Mark.TheVariants.{Text, LeftBrace, RightBrace, Colon, Comma}
+
+-- a text is bare where it may stand without quotes, if its units allow that
+pub data Sign : Type 0 where
+  feed : Sign
+  space : Sign
+  left : Sign
+  right : Sign
+  colon : Sign
+  comma : Sign
+  text : Bool → List ℕ → Sign
+
+-- ---- characters
+
+-- a printable ASCII character that ends no word
+abbrev pub is_word_unit : ℕ → Bool
+is_word_unit c = not (is_white c || (c == quote) || (c == backslash) || is_punctuation c) && (not (c == slash) && (nat_lt 0x20 c && nat_lt c 0x7F))
+
+abbrev pub is_word : List ℕ → Bool
+is_word us = not (is_empty us) && list_all is_word_unit us
+
+-- a letter, a digit, `_` or `-`
+abbrev pub is_name_unit : ℕ → Bool
+is_name_unit c = (nat_le 0x30 c && nat_le c 0x39) || (nat_le 0x41 c && nat_le c 0x5A) || (nat_le 0x61 c && nat_le c 0x7A) || (c == 0x5F) || (c == 0x2D)
+
+-- a key or a name that stands without quotes
+abbrev pub is_name : List ℕ → Bool
+is_name us = not (is_empty us) && list_all is_name_unit us
+
+-- the control characters of ASCII and of Latin-1
+abbrev pub is_control : ℕ → Bool
+is_control u = nat_lt u 0x20 || (nat_le 0x7F u && nat_lt u 0xA0)
+
+abbrev pub is_surrogate : ℕ → Bool
+is_surrogate u = nat_le 0xD800 u && nat_lt u 0xE000
+
+-- the separators of lines and paragraphs, and the byte order mark
+abbrev pub is_mark : ℕ → Bool
+is_mark u = (u == 0x2028) || (u == 0x2029) || (u == 0xFEFF)
+
+-- a unit that stands for itself between quotes
+abbrev pub is_shown : ℕ → Bool
+is_shown u = not ((u == quote) || (u == backslash)) && not (is_control u || is_surrogate u || is_mark u)
+
+-- the four hexadecimal digits of a unit
+abbrev pub four_digits : ℕ → List ℕ
+four_digits u = digit_char (u / 4096) ∷ digit_char (u / 256 % 16) ∷ digit_char (u / 16 % 16) ∷ digit_char (u % 16) ∷ []
+
+abbrev pub unit_chars : ℕ → List ℕ
+unit_chars u = cond (is_shown u) (u ∷ []) (backslash ∷ 0x75 ∷ four_digits u)
+
+abbrev pub units_chars : List ℕ → List ℕ
+units_chars [] = []
+units_chars (u ∷ us) = unit_chars u ++ units_chars us
+
+-- without quotes, or with them
+abbrev pub text_chars : Bool → List ℕ → List ℕ
+text_chars true us = us
+text_chars false us = quote ∷ (units_chars us ++ quote ∷ [])
+
+abbrev pub sign_chars : Sign → List ℕ
+sign_chars feed = 0x0A ∷ []
+sign_chars space = 0x20 ∷ []
+sign_chars left = 0x7B ∷ []
+sign_chars right = 0x7D ∷ []
+sign_chars colon = 0x3A ∷ []
+sign_chars comma = 0x2C ∷ []
+sign_chars (text bare us) = text_chars (bare && is_word us) us
+
+abbrev pub signs_chars : List Sign → List ℕ
+signs_chars [] = []
+signs_chars (s ∷ ss) = sign_chars s ++ signs_chars ss
+
+-- ---- marks
+
+abbrev pub signs_marks : List Sign → List Mark
+signs_marks [] = []
+signs_marks (feed ∷ ss) = signs_marks ss
+signs_marks (space ∷ ss) = signs_marks ss
+signs_marks (left ∷ ss) = LeftBrace ∷ signs_marks ss
+signs_marks (right ∷ ss) = RightBrace ∷ signs_marks ss
+signs_marks (colon ∷ ss) = Colon ∷ signs_marks ss
+signs_marks (comma ∷ ss) = Comma ∷ signs_marks ss
+signs_marks (text bare us ∷ ss) = Text us ∷ signs_marks ss
+
+abbrev pub is_ascii : ℕ → Bool
+is_ascii c = nat_lt c 128

@@ -1,0 +1,112 @@
+// Whole bundles.
+ghost use Rattle.std.specs.Prelude.{◌≡◌, ◌<◌, [], ◌∷◌, length, IfOk, IfErr, OnOk, string_bytes};
+ghost use Rattle.rb_tree.specs.Parts.{kind_of};
+ghost use Rattle.rb_printer.specs.Sign.{signs_chars, left, feed};
+ghost use Rattle.rb_format.specs.File.{source_tree_of};
+ghost use Rattle.rb_printer.specs.Page.{page, head_signs, members_of, page_bytes};
+ghost use Rattle.rb_printer.specs.Sound.{IsSound, IsBundleTree};
+ghost use Rattle.rb_printer.specs.Growth.{Adds};
+ghost use Rattle.rb_printer.specs.Whole.{IsBundleText};
+ghost use Rattle.rb_printer.specs.declared.error.PrintError.TheVariants as errors;
+
+use crate::error::PrintError;
+use crate::room::after_entries;
+use crate::text::{put_name, put_str};
+use crate::tree::put_entries;
+use rb_tree::{Node, UnitList};
+use rb_validator::Bundle;
+use rb_views::root;
+use std::alloc::{AllocError, Global};
+
+/// The length of the longest text that `parse` reads.
+const LENGTH_LIMIT: usize = 8_388_608;
+
+/// Writes what is between a bundle's name and its first entry.
+fn begin_bundle(out: &mut String, no_fallback: bool) -> Result<(), AllocError>
+    ensures { OnOk result (Adds (string_bytes out.old) (string_bytes out.new) (signs_chars (head_signs no_fallback (left ∷ feed ∷ [])))) }
+{
+    if no_fallback {
+        put_str(out, ":table(nofallback) {\n")
+    } else {
+        put_str(out, " {\n")
+    }
+}
+
+/// Writes the lines of a bundle.
+fn put_page<N: Node>(
+    out: &mut String,
+    name: &[u16],
+    root: N,
+    no_fallback: bool,
+) -> Result<(), AllocError>
+    requires { IsBundleTree (N.tree root) }
+    ensures adds { OnOk result (Adds (string_bytes out.old) (string_bytes out.new) (signs_chars (page name.now no_fallback (members_of (N.tree root))))) }
+    ensures sound { OnOk result (IsSound (N.tree root)) }
+{
+    put_name(out, name)?;
+    begin_bundle(out, no_fallback)?;
+    put_entries(out, 1, root)?;
+    put_str(out, "}\n")
+}
+
+/// The bundle text of a tree with its flag, and with a name of these units.
+fn printed<N: Node>(
+    alloc: Global,
+    name: &[u16],
+    root: N,
+    no_fallback: bool,
+) -> Result<Vec<u8>, PrintError>
+    requires { IsBundleTree (N.tree root) }
+    ensures text { IfOk result (λ bytes. IsBundleText bytes.items name.now (record { tree = N.tree root; no_fallback = no_fallback })) }
+    ensures error { IfErr result (λ e. e ≡ errors.TooLarge → 8388608 < length (page_bytes name.now (record { tree = N.tree root; no_fallback = no_fallback }))) }
+{
+    if after_entries(LENGTH_LIMIT, 1, root).is_none() {
+        return Err(PrintError::TooLarge);
+    }
+    let mut out = String::new(alloc);
+    put_page(&mut out, name, root, no_fallback)?;
+    let bytes = out.into_bytes();
+    if bytes.len() > LENGTH_LIMIT {
+        return Err(PrintError::TooLarge);
+    }
+    Ok(bytes)
+}
+
+/// The bundle text of a tree, with its name and its flag: `parse` reads just these back. No byte of it depends on anything else.
+///
+/// It looks as a person would write it. Each entry of a table and each item of an array stands in lines of its own, with four spaces a
+/// level. A key or a name of letters, digits, `_` and `-` stands bare, any other between quotes. A type is written where a reader wouldn't
+/// guess it: `:int`, `:intvector`, `:bin`, `:alias`, and `:array` and `:table` of empty ones. Texts are UTF-8; escapes of four digits
+/// stand for quotes, backslashes, control characters, surrogates, U+2028, U+2029 and U+FEFF.
+///
+/// Errors: `TooLarge` where the text would have more than 8,388,608 bytes, as that of each tree above the limit of weight would; where
+/// so many characters are there at the least, before anything is written, in no more steps than that. Else `Memory`, where out of memory.
+///
+/// ```rust
+/// print(alloc, &source.name, &source.tree, source.no_fallback)? // `root {`, a line feed, `}` and a line feed for `root{}`
+/// ```
+pub fn print<N: Node>(
+    alloc: Global,
+    name: &UnitList,
+    root: N,
+    no_fallback: bool,
+) -> Result<Vec<u8>, PrintError>
+    requires { IsBundleTree (N.tree root) }
+    ensures text { IfOk result (λ bytes. IsBundleText bytes.items name.now (record { tree = N.tree root; no_fallback = no_fallback })) }
+    ensures error { IfErr result (λ e. e ≡ errors.TooLarge → 8388608 < length (page_bytes name.now (record { tree = N.tree root; no_fallback = no_fallback }))) }
+{
+    printed(alloc, name.as_slice(), root, no_fallback)
+}
+
+/// The bundle text of a file, with a name, which a file doesn't have. It looks as that of `print`, and the errors are the same.
+///
+/// ```rust
+/// print_bundle(alloc, &name, &accept(alloc, file)?)?
+/// ```
+pub fn print_bundle(alloc: Global, name: &UnitList, bundle: &Bundle) -> Result<Vec<u8>, PrintError>
+    ensures text { IfOk result (λ bytes. IsBundleText bytes.items name.now (source_tree_of bundle.now)) }
+    ensures error { IfErr result (λ e. e ≡ errors.TooLarge → 8388608 < length (page_bytes name.now (source_tree_of bundle.now))) }
+{
+    let _denoted = bundle.bytes();
+    print(alloc, name, root(bundle), bundle.no_fallback())
+}

@@ -1,0 +1,84 @@
+// Trees without children.
+ghost use Rattle.std.specs.Prelude.{◌≡◌, ◌<◌, ◌^◌, ℕ, List, [], ◌∷◌, ◌++◌, true, false, OnOk, string_bytes, ◌/◌, ◌%◌};
+ghost use Rattle.std.specs.Char.{digit_char};
+ghost use Rattle.std.specs.List.{AllByRecursion};
+ghost use Rattle.std.specs.Fmt.{decimal, signed_decimal};
+ghost use Rattle.rb_tree.specs.Parts.{HasUnits, kind_of, units_of, numbers_of, bytes_of, int_of};
+ghost use Rattle.rb_tree.specs.declared.kind.Kind.TheVariants as Kinds;
+ghost use Rattle.rb_printer.specs.Sign.{signs_chars, text_chars, text, right};
+ghost use Rattle.rb_printer.specs.Page.{hex_units, numbers_signs, comma_if};
+ghost use Rattle.rb_printer.specs.Sound.{AreUnits, AreBytes, IsNumber};
+ghost use Rattle.rb_printer.specs.Growth.{Adds};
+
+use crate::text::{digit_char, put, put_unit};
+use rb_tree::Node;
+use std::alloc::AllocError;
+
+/// Writes the text of a String or an Alias, with quotes.
+pub fn put_units_of<N: Node>(out: &mut String, node: N) -> Result<(), AllocError>
+    requires { HasUnits (kind_of (N.tree node)) }
+    ensures adds { OnOk result (Adds (string_bytes out.old) (string_bytes out.new) (text_chars false (units_of (N.tree node)))) }
+    ensures sound { OnOk result (AreUnits (units_of (N.tree node))) }
+{
+    put(out, '"')?;
+    for i in 0..node.len() {
+        put_unit(out, node.unit(i))?;
+    }
+    put(out, '"')
+}
+
+/// Writes two hexadecimal digits.
+fn put_byte(out: &mut String, byte: u8) -> Result<(), AllocError>
+    ensures { OnOk result (Adds (string_bytes out.old) (string_bytes out.new) (digit_char (byte / 16) ∷ digit_char (byte % 16) ∷ [])) }
+{
+    put(out, digit_char(byte as u16 / 16))?;
+    put(out, digit_char(byte as u16 % 16))
+}
+
+/// Writes the bytes of a Binary, with quotes.
+pub fn put_bytes_of<N: Node>(out: &mut String, node: N) -> Result<(), AllocError>
+    requires { kind_of (N.tree node) ≡ Kinds.Binary }
+    ensures adds { OnOk result (Adds (string_bytes out.old) (string_bytes out.new) (text_chars false (hex_units (bytes_of (N.tree node))))) }
+    ensures sound { OnOk result (AreBytes (bytes_of (N.tree node))) }
+{
+    put(out, '"')?;
+    for i in 0..node.len() {
+        put_byte(out, node.byte(i))?;
+    }
+    put(out, '"')
+}
+
+/// Writes a number in decimal.
+pub fn put_int(out: &mut String, number: u32) -> Result<(), AllocError>
+    ensures { OnOk result (Adds (string_bytes out.old) (string_bytes out.new) (decimal number)) }
+{
+    write!(out, "{number}")
+}
+
+/// Writes a number with a sign where it is below 0, in decimal.
+fn put_number(out: &mut String, number: i32) -> Result<(), AllocError>
+    ensures { OnOk result (Adds (string_bytes out.old) (string_bytes out.new) (signed_decimal number)) }
+{
+    write!(out, "{number}")
+}
+
+/// Writes a comma where more numbers follow.
+fn put_comma(out: &mut String, more: bool) -> Result<(), AllocError>
+    ensures { OnOk result (Adds (string_bytes out.old) (string_bytes out.new) (signs_chars (comma_if more []))) }
+{
+    if more { put(out, ',') } else { Ok(()) }
+}
+
+/// Writes the numbers of a vector, each after a space, with commas between them.
+pub fn put_numbers_of<N: Node>(out: &mut String, node: N) -> Result<(), AllocError>
+    requires { kind_of (N.tree node) ≡ Kinds.Ints }
+    ensures adds { OnOk result (Adds (string_bytes out.old) (string_bytes out.new) (signs_chars (numbers_signs (numbers_of (N.tree node)) []))) }
+    ensures sound { OnOk result (AllByRecursion IsNumber (numbers_of (N.tree node))) }
+{
+    for i in 0..node.len() {
+        put(out, ' ')?;
+        put_number(out, node.number(i))?;
+        put_comma(out, i + 1 < node.len())?;
+    }
+    Ok(())
+}

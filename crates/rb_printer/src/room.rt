@@ -1,0 +1,65 @@
+// Whether a text would be too long, known before it is written.
+ghost use Rattle.std.specs.Prelude.{◌≡◌, ◌+◌, ◌*◌, ◌≤◌, ℕ, length, Option};
+ghost use Rattle.rb_tree.specs.Parts.{kind_of, len_of};
+ghost use Rattle.rb_tree.specs.Resource.{height};
+ghost use Rattle.rb_tree.specs.declared.kind.Kind.TheVariants as Kinds;
+ghost use Rattle.rb_printer.specs.Page.{items_of, members_of};
+ghost use Rattle.rb_printer.specs.Least.{least, items_least, entries_least, Takes};
+
+use rb_tree::{Kind, Node};
+
+/// What is left of some room after a text of a length, twice.
+fn after_twice(room: usize, length: usize) -> Option<usize>
+    ensures { Takes room (2 * length) result }
+{
+    room.checked_sub(length)?.checked_sub(length)
+}
+
+/// What is left of some room after the fewest characters that a tree's body has. Each step takes room, so what a file shares is entered
+/// no more often than the room allows.
+#[cycle(room)]
+pub fn after_body<N: Node>(room: usize, level: usize, node: N) -> Option<usize>
+    requires { level + height (N.tree node) ≤ 64 }
+    ensures { Takes room (least level (N.tree node)) result }
+{
+    match node.kind() {
+        Kind::String | Kind::Alias => room.checked_sub(2)?.checked_sub(node.len()),
+        Kind::Int => room.checked_sub(1),
+        Kind::Ints => after_twice(room.checked_sub(1)?, node.len()),
+        Kind::Binary => after_twice(room.checked_sub(5)?, node.len()),
+        Kind::Array => after_items(room.checked_sub(2)?, level + 1, node),
+        Kind::Table => after_entries(room.checked_sub(2)?, level + 1, node),
+    }
+}
+
+/// The same of the items of an array.
+#[cycle(room)]
+fn after_items<N: Node>(room: usize, level: usize, node: N) -> Option<usize>
+    requires array { kind_of (N.tree node) ≡ Kinds.Array }
+    requires low { level + height (N.tree node) ≤ 65 }
+    ensures { Takes room (items_least level (items_of (N.tree node))) result }
+{
+    let mut left = room;
+    for i in 0..node.len() {
+        let child = node.at(i);
+        left = after_body(left.checked_sub(4 * level)?, level, child)?;
+    }
+    Some(left)
+}
+
+/// The same of the entries of a table.
+#[cycle(room)]
+pub fn after_entries<N: Node>(room: usize, level: usize, node: N) -> Option<usize>
+    requires table { kind_of (N.tree node) ≡ Kinds.Table }
+    requires low { level + height (N.tree node) ≤ 65 }
+    ensures { Takes room (entries_least level (members_of (N.tree node))) result }
+{
+    let mut left = room;
+    for i in 0..node.len() {
+        let key = node.key_at(i);
+        let child = node.at(i);
+        let room = left.checked_sub(4 * level)?.checked_sub(key.len())?;
+        left = after_body(room, level, child)?;
+    }
+    Some(left)
+}

@@ -1,0 +1,174 @@
+// Texts, with quotes and without.
+ghost use Rattle.std.specs.Prelude.{◌≡◌, ◌<◌, ℕ, List, [], ◌∷◌, true, false, OnOk, MatchOption, string_bytes, IsTrue};
+ghost use Rattle.std.specs.Char.{digit_char};
+ghost use Rattle.std.specs.List.{list_all};
+ghost use Rattle.rb_printer.specs.Sign as sign;
+ghost use Rattle.rb_printer.specs.Sign.{text, unit_chars, units_chars, sign_chars, is_ascii};
+ghost use Rattle.rb_printer.specs.Growth.{Adds};
+
+use std::alloc::AllocError;
+
+const QUOTE: u16 = 0x22;
+
+const BACKSLASH: u16 = 0x5C;
+
+/// Whether a unit may stand in a key or a name without quotes: a letter, a digit, `_` or `-`.
+fn is_name_unit(unit: u16) -> bool
+    ensures { result ≡ sign.is_name_unit unit }
+{
+    (0x30 <= unit && unit <= 0x39)
+        || (0x41 <= unit && unit <= 0x5A)
+        || (0x61 <= unit && unit <= 0x7A)
+        || unit == 0x5F
+        || unit == 0x2D
+}
+
+/// Whether a name may stand without quotes.
+pub fn is_name(units: &[u16]) -> bool
+    ensures { result ≡ sign.is_name units.now }
+{
+    for unit in units {
+        if !is_name_unit(*unit) {
+            return false;
+        }
+    }
+    !units.is_empty()
+}
+
+/// The same of a key.
+pub fn is_name_key(key: &[u8]) -> bool
+    ensures { result ≡ sign.is_name key.now }
+{
+    for byte in key {
+        if !is_name_unit(*byte as u16) {
+            return false;
+        }
+    }
+    !key.is_empty()
+}
+
+fn is_control(unit: u16) -> bool
+    ensures { result ≡ sign.is_control unit }
+{
+    unit < 0x20 || (0x7F <= unit && unit < 0xA0)
+}
+
+fn is_surrogate(unit: u16) -> bool
+    ensures { result ≡ sign.is_surrogate unit }
+{
+    0xD800 <= unit && unit < 0xE000
+}
+
+fn is_mark(unit: u16) -> bool
+    ensures { result ≡ sign.is_mark unit }
+{
+    unit == 0x2028 || unit == 0x2029 || unit == 0xFEFF
+}
+
+/// Whether a unit stands for itself between quotes.
+fn is_shown(unit: u16) -> bool
+    ensures { result ≡ sign.is_shown unit }
+{
+    !(unit == QUOTE || unit == BACKSLASH)
+        && !(is_control(unit) || is_surrogate(unit) || is_mark(unit))
+}
+
+/// The character of a unit that stands for itself.
+fn shown(unit: u16) -> Option<char>
+    ensures { MatchOption result (sign.is_shown unit ≡ false) (λ c. (sign.is_shown unit ≡ true) × (c ≡ unit)) }
+{
+    if is_shown(unit) {
+        char::from_u32(unit as u32)
+    } else {
+        None
+    }
+}
+
+/// A digit's character.
+pub fn digit_char(digit: u16) -> char
+    requires { digit < 16 }
+    ensures { result ≡ digit_char digit }
+{
+    let code = if digit < 10 {
+        0x30 + digit as u8
+    } else {
+        87 + digit as u8
+    };
+    code as char
+}
+
+/// Writes a character.
+pub fn put(out: &mut String, c: char) -> Result<(), AllocError>
+    ensures { OnOk result (Adds (string_bytes out.old) (string_bytes out.new) (c ∷ [])) }
+{
+    out.push(c)
+}
+
+/// Writes a unit of a text with quotes: itself, or an escape.
+pub fn put_unit(out: &mut String, unit: u16) -> Result<(), AllocError>
+    ensures { OnOk result (Adds (string_bytes out.old) (string_bytes out.new) (unit_chars unit)) }
+{
+    match shown(unit) {
+        Some(c) => put(out, c),
+        None => {
+            put(out, '\\')?;
+            put(out, 'u')?;
+            put(out, digit_char(unit / 4096))?;
+            put(out, digit_char(unit / 256 % 16))?;
+            put(out, digit_char(unit / 16 % 16))?;
+            put(out, digit_char(unit % 16))
+        }
+    }
+}
+
+/// Writes units of a text with quotes.
+fn put_units(out: &mut String, units: &[u16]) -> Result<(), AllocError>
+    ensures { OnOk result (Adds (string_bytes out.old) (string_bytes out.new) (units_chars units.now)) }
+{
+    for unit in units {
+        put_unit(out, *unit)?;
+    }
+    Ok(())
+}
+
+/// Writes ASCII text as it is.
+pub fn put_str(out: &mut String, text: &str) -> Result<(), AllocError>
+    requires { IsTrue (list_all is_ascii text.now) }
+    ensures { OnOk result (Adds (string_bytes out.old) (string_bytes out.new) text.now) }
+{
+    out.push_str(text)
+}
+
+/// Writes the name of a bundle, without quotes where they may be left out.
+pub fn put_name(out: &mut String, units: &[u16]) -> Result<(), AllocError>
+    ensures { OnOk result (Adds (string_bytes out.old) (string_bytes out.new) (sign_chars (text (sign.is_name units.now) units.now))) }
+{
+    if is_name(units) {
+        return put_units(out, units);
+    }
+    put(out, '"')?;
+    put_units(out, units)?;
+    put(out, '"')
+}
+
+/// Writes a key, likewise.
+pub fn put_key(out: &mut String, key: &[u8]) -> Result<(), AllocError>
+    ensures { OnOk result (Adds (string_bytes out.old) (string_bytes out.new) (sign_chars (text (sign.is_name key.now) key.now))) }
+{
+    if is_name_key(key) {
+        return put_key_units(out, key);
+    }
+    put(out, '"')?;
+    put_key_units(out, key)?;
+    put(out, '"')
+}
+
+/// Writes bytes as units of a text with quotes.
+fn put_key_units(out: &mut String, key: &[u8]) -> Result<(), AllocError>
+    ensures { OnOk result (Adds (string_bytes out.old) (string_bytes out.new) (units_chars key.now)) }
+{
+    for byte in key {
+        put_unit(out, *byte as u16)?;
+    }
+    Ok(())
+}

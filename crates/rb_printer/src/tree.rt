@@ -1,0 +1,160 @@
+// Trees, each level indented by four spaces more.
+ghost use Rattle.std.specs.Prelude.{◌≡◌, ◌+◌, ◌≤◌, [], ◌∷◌, OnOk, string_bytes};
+ghost use Rattle.rb_grammar.specs.Form.{array_word, table_word};
+ghost use Rattle.rb_tree.specs.Resource.{height};
+ghost use Rattle.rb_tree.specs.Parts.{kind_of};
+ghost use Rattle.rb_tree.specs.declared.kind.Kind.TheVariants as Kinds;
+ghost use Rattle.rb_printer.specs.Sign.{signs_chars, left, right, feed};
+ghost use Rattle.rb_printer.specs.Page as page;
+ghost use Rattle.rb_printer.specs.Page.{indent, gap, type_unless, item_signs, body_signs, entries_signs, members_of};
+ghost use Rattle.rb_printer.specs.Sound.{IsSound, IsWell};
+ghost use Rattle.rb_printer.specs.Growth.{Adds};
+
+use crate::leaf::{put_bytes_of, put_int, put_numbers_of, put_units_of};
+use crate::text::{put_key, put_str};
+use rb_tree::{Kind, Node};
+use std::alloc::AllocError;
+
+/// Whether a reader guesses the type of a tree, so that it needn't be written.
+fn is_guessed<N: Node>(node: N) -> bool
+    ensures { result ≡ page.is_guessed (N.tree node) }
+{
+    match node.kind() {
+        Kind::String => true,
+        Kind::Array | Kind::Table => node.len() > 0,
+        Kind::Int | Kind::Ints | Kind::Binary | Kind::Alias => false,
+    }
+}
+
+/// Begins a line: writes four spaces for each level.
+fn put_indent(out: &mut String, level: usize) -> Result<(), AllocError>
+    ensures { OnOk result (Adds (string_bytes out.old) (string_bytes out.new) (signs_chars (indent level []))) }
+{
+    for _ in 0..level {
+        put_str(out, "    ")?;
+    }
+    Ok(())
+}
+
+/// Writes what is between a key and its body.
+fn put_gap(out: &mut String, guessed: bool) -> Result<(), AllocError>
+    ensures { OnOk result (Adds (string_bytes out.old) (string_bytes out.new) (signs_chars (gap guessed []))) }
+{
+    if guessed { put_str(out, " ") } else { Ok(()) }
+}
+
+/// Begins an array, and writes its type if it isn't guessed.
+fn begin_array(out: &mut String, guessed: bool) -> Result<(), AllocError>
+    ensures { OnOk result (Adds (string_bytes out.old) (string_bytes out.new) (signs_chars (type_unless guessed array_word (left ∷ feed ∷ [])))) }
+{
+    if guessed {
+        put_str(out, "{\n")
+    } else {
+        put_str(out, ":array {\n")
+    }
+}
+
+/// Begins a table, likewise.
+fn begin_table(out: &mut String, guessed: bool) -> Result<(), AllocError>
+    ensures { OnOk result (Adds (string_bytes out.old) (string_bytes out.new) (signs_chars (type_unless guessed table_word (left ∷ feed ∷ [])))) }
+{
+    if guessed {
+        put_str(out, "{\n")
+    } else {
+        put_str(out, ":table {\n")
+    }
+}
+
+/// Ends an array or a table of a level.
+fn end_braces(out: &mut String, level: usize) -> Result<(), AllocError>
+    ensures { OnOk result (Adds (string_bytes out.old) (string_bytes out.new) (signs_chars (indent level (right ∷ [])))) }
+{
+    put_indent(out, level)?;
+    put_str(out, "}")
+}
+
+/// Writes a tree as it is after a key: its type, if it isn't guessed, and braces.
+#[cycle(tree)]
+fn put_body<N: Node>(out: &mut String, level: usize, node: N) -> Result<(), AllocError>
+    requires low { level + height (N.tree node) ≤ 64 }
+    requires well { IsWell (N.tree node) }
+    ensures adds { OnOk result (Adds (string_bytes out.old) (string_bytes out.new) (signs_chars (body_signs level (N.tree node) []))) }
+    ensures sound { OnOk result (IsSound (N.tree node)) }
+{
+    match node.kind() {
+        Kind::String => {
+            put_str(out, "{ ")?;
+            put_units_of(out, node)?;
+            put_str(out, " }")?;
+        }
+        Kind::Int => {
+            put_str(out, ":int { ")?;
+            put_int(out, node.int())?;
+            put_str(out, " }")?;
+        }
+        Kind::Ints => {
+            put_str(out, ":intvector {")?;
+            put_numbers_of(out, node)?;
+            put_str(out, " }")?;
+        }
+        Kind::Binary => {
+            put_str(out, ":bin { ")?;
+            put_bytes_of(out, node)?;
+            put_str(out, " }")?;
+        }
+        Kind::Alias => {
+            put_str(out, ":alias { ")?;
+            put_units_of(out, node)?;
+            put_str(out, " }")?;
+        }
+        Kind::Array => {
+            begin_array(out, is_guessed(node))?;
+            for i in 0..node.len() {
+                put_indent(out, level + 1)?;
+                put_item(out, level + 1, node.at(i))?;
+                put_str(out, ",\n")?;
+            }
+            end_braces(out, level)?;
+        }
+        Kind::Table => {
+            begin_table(out, is_guessed(node))?;
+            put_entries(out, level + 1, node)?;
+            end_braces(out, level)?;
+        }
+    }
+    Ok(())
+}
+
+/// Writes an item of an array: a string without braces.
+#[cycle(tree)]
+fn put_item<N: Node>(out: &mut String, level: usize, node: N) -> Result<(), AllocError>
+    requires low { level + height (N.tree node) ≤ 64 }
+    requires well { IsWell (N.tree node) }
+    ensures adds { OnOk result (Adds (string_bytes out.old) (string_bytes out.new) (signs_chars (item_signs (N.tree node) (body_signs level (N.tree node) []) []))) }
+    ensures sound { OnOk result (IsSound (N.tree node)) }
+{
+    match node.kind() {
+        Kind::String => put_units_of(out, node),
+        _ => put_body(out, level, node),
+    }
+}
+
+/// Writes the entries of a table, each in lines of its own.
+#[cycle(tree)]
+pub fn put_entries<N: Node>(out: &mut String, level: usize, node: N) -> Result<(), AllocError>
+    requires table { kind_of (N.tree node) ≡ Kinds.Table }
+    requires low { level + height (N.tree node) ≤ 65 }
+    requires well { IsWell (N.tree node) }
+    ensures adds { OnOk result (Adds (string_bytes out.old) (string_bytes out.new) (signs_chars (entries_signs level (members_of (N.tree node)) []))) }
+    ensures sound { OnOk result (IsSound (N.tree node)) }
+{
+    for i in 0..node.len() {
+        put_indent(out, level)?;
+        put_key(out, node.key_at(i))?;
+        let child = node.at(i);
+        put_gap(out, is_guessed(child))?;
+        put_body(out, level, child)?;
+        put_str(out, "\n")?;
+    }
+    Ok(())
+}
