@@ -6,11 +6,11 @@ usage: compile.py [PROGRAM]   (default: crates/rb_tool/out/rb_tool)
 """
 import os
 import shutil
-import subprocess
 import sys
 import tempfile
 
 import hostile
+from measured import measured
 
 TOP = os.path.dirname(os.path.dirname(os.path.abspath(__file__)))
 PROGRAM = sys.argv[1] if len(sys.argv) > 1 else os.path.join(TOP, "crates/rb_tool/out/rb_tool")
@@ -26,22 +26,6 @@ def nested(size):
 
 def keys(count):
     return "root{\n" + "".join(f'key{number * 7919 % count:06}{{"value {number}"}}\n' for number in range(count)) + "}\n"
-
-
-# run by an interpreter of its own, as a child's peak memory is at least that of the process that starts it
-MEASURE = """
-import os, resource, sys
-pid = os.posix_spawn(sys.argv[1], sys.argv[1:], os.environ, file_actions=[(os.POSIX_SPAWN_OPEN, 1, os.devnull, os.O_WRONLY, 0)])
-_, status, used = os.wait4(pid, 0)
-print(used.ru_utime + used.ru_stime, used.ru_maxrss / 1024, os.waitstatus_to_exitcode(status))
-"""
-
-
-def measured(words):
-    """Seconds of processor time, peak memory in MB (no less than some 10, this script's own), and the status."""
-    printed = subprocess.run([sys.executable, "-S", "-c", MEASURE, *words], check=True, capture_output=True, text=True).stdout
-    seconds, memory, status = printed.split()
-    return float(seconds), float(memory), int(status)
 
 
 def checked(folder, data):

@@ -1,5 +1,22 @@
-"""Files that are made to be dear to check, each valid unless its docstring says otherwise, and a plain table to compare them with."""
+#!/usr/bin/env python3
+"""Inputs that are made to be dear. Each is valid unless its docstring says otherwise, and is measured beside plain input of its size in
+the same run: files by `resb check`, texts by `resb compile`, requests by `resb serve`. Prints the times, the ratio and what is allowed.
+The status is 1 where a ratio or an amount of memory is over what is allowed.
+
+usage: hostile.py [--large] [PROGRAM] [NAME..]     (default: crates/rb_tool/out/rb_tool; NAME: those whose name contains one of these)
+
+Files have 1, 4 and 16 MB, those that overlap 4, 16 and 62; with --large all have 62 MB besides.
+"""
+import os
+import random
 import struct
+import sys
+import tempfile
+from array import array
+
+from measured import measured
+
+TOP = os.path.dirname(os.path.dirname(os.path.abspath(__file__)))
 
 TABLE, ARRAY, LONG_TABLE, INT = 2, 8, 4, 7
 HEADER = bytes.fromhex("2000da27140000000000020052657342010100000000000000000000" "00000000")
@@ -11,7 +28,7 @@ def item(kind, value):
 
 
 def words(numbers):
-    return struct.pack(f"<{len(numbers)}I", *numbers)
+    return array("I", numbers).tobytes()
 
 
 class Builder:
@@ -33,11 +50,22 @@ class Builder:
         top = self.here()
         return HEADER + words([root, 5, self.keys_top, top, top, 0]) + bytes(self.data)
 
+    def table(self, keys):
+        """A long table of Ints with these keys, by their offsets among the keys."""
+        return self.add([len(keys)] + [FIRST_KEY + key for key in keys] + [item(INT, 0)] * len(keys))
+
+    def file_of_tables(self, tables):
+        """The file of an array of tables, under the first key: each is given by the offsets of its keys."""
+        places = [self.table(keys) for keys in tables]
+        at = self.add([len(places)] + [item(LONG_TABLE, place) for place in places])
+        return self.file(item(LONG_TABLE, self.add([1, FIRST_KEY, item(ARRAY, at)])))
+
     def file_of_one(self, child):
         """The file whose table has this one item, under the first key."""
         at = self.here()
         self.data += struct.pack("<HH", 1, FIRST_KEY) + words([child])
         return self.file(item(TABLE, at))
+
 
 
 def shared_arrays(levels):
@@ -73,15 +101,24 @@ def periodic_key(length, period):
     return made.file(item(LONG_TABLE, made.add([count] + keys + [item(INT, 0)] * count)))
 
 
-def overlapping_arrays(count):
+def mixed(count, is_mixed):
+    """The numbers below a count, in order or not."""
+    numbers = list(range(count))
+    if is_mixed:
+        random.Random(3).shuffle(numbers)
+    return numbers
+
+
+def overlapping_arrays(count, is_mixed=False):
     """Each word of a long run is the length of one array and an item of others, a String."""
     made = Builder(b"a\0")
-    length = count + 1 - count % 2  # odd, so that the String at this word ends in a zero unit
+    # odd, or a multiple of 2 to the 16th, so that the String at this word ends in a zero unit
+    length = count + 1 - count % 2 if count < 1 << 16 else count + -count % (1 << 16)
     first = made.add([length] * (count + length + 1))
-    return made.file_of_one(item(ARRAY, made.add([count] + [item(ARRAY, first + i) for i in range(count)])))
+    return made.file_of_one(item(ARRAY, made.add([count] + [item(ARRAY, first + i) for i in mixed(count, is_mixed)])))
 
 
-def overlapping_tables(count):
+def overlapping_tables(count, is_mixed=False):
     """Each word of a long run is the length of one long table, a key offset of others, and an item of others, an empty String."""
     base = 3 * count + 16
     longest = 3 * count + 2 * base
@@ -89,7 +126,7 @@ def overlapping_tables(count):
     made = Builder(key)
     made.add([0] * (base + longest + 4 - made.here()))  # a String at each of these words
     first = made.add([base + i for i in range(longest)])
-    return made.file_of_one(item(ARRAY, made.add([count] + [item(LONG_TABLE, first + i) for i in range(count)])))
+    return made.file_of_one(item(ARRAY, made.add([count] + [item(LONG_TABLE, first + i) for i in mixed(count, is_mixed)])))
 
 
 def plain_table(size):
@@ -98,6 +135,87 @@ def plain_table(size):
     made = Builder(b"".join(b"k%07d\0" % i for i in range(count)))
     keys = [FIRST_KEY + 9 * i for i in range(count)]
     return made.file(item(LONG_TABLE, made.add([count] + keys + [item(INT, 0)] * count)))
+
+
+# ---- letters of long keys
+
+
+def random_letters(count):
+    return random.Random(1).randbytes(count).translate(bytes(33 + i % 94 for i in range(256)))
+
+
+def thue_morse(count):
+    text, swapped = b"a", bytes.maketrans(b"ab", b"ba")
+    while len(text) < count:
+        text += text.translate(swapped)
+    return text[:count]
+
+
+def fibonacci(count):
+    text, shorter = b"ab", b"a"
+    while len(text) < count:
+        text, shorter = text + shorter, text
+    return text[:count]
+
+
+def periodic(count):
+    period = random_letters(1_000_003)
+    return (period * (count // len(period) + 1))[:count]
+
+
+def repeated(text):
+    return lambda count: (text * (count // len(text) + 1))[:count]
+
+
+# ---- files of about so many bytes
+
+
+def one_key(letters, tables=12):
+    """Tables of one key each, ends of one long key."""
+    def make(size):
+        return Builder(letters(size - 20 * tables) + b"\0").file_of_tables([[i] for i in range(tables)])
+    return make
+
+
+def random_ends(size):
+    """12 tables of 1,000 ends each of one long key of random letters."""
+    tables, count = 12, 1_000
+    key = random_letters(size - 8 * tables * count)
+    dice = random.Random(2)
+    ends = [sorted(dice.sample(range(len(key) - 64), count), key=lambda end: key[end:end + 64]) for _ in range(tables)]
+    return Builder(key + b"\0").file_of_tables(ends)
+
+
+def many_tables(size):
+    """Half of the file is one key, and the rest tables of that key."""
+    return Builder(random_letters(size // 2) + b"\0").file_of_tables([[i] for i in range(size // 32)])
+
+
+def copies(letters, count, tables):
+    """Copies of a long key with other last letters, and tables that have one end of each."""
+    def make(size):
+        long = (size - tables * (count + 1) * 8) // count - 2
+        key = letters(long)
+        made = Builder(b"".join(key + bytes([97 + i // 16, 97 + i % 16, 0]) for i in range(count)))
+        dice = random.Random(4)
+        ends = [dice.randrange(max(1, long // 8)) for _ in range(tables)]
+        return made.file_of_tables([[end + i * (long + 3) for i in range(count)] for end in ends])
+    return make
+
+
+def all_ends(size):
+    """One table of all ends of a key of one letter."""
+    return suffixes(size // 9)
+
+
+def mixed_arrays(size):
+    """Arrays that overlap, met in random order."""
+    return overlapping_arrays(size // 12, True)
+
+
+def mixed_tables(size):
+    """Tables that overlap, met in random order."""
+    return overlapping_tables(size // 88, True)
 
 
 FORMS = [
@@ -109,3 +227,206 @@ FORMS = [
     ("20,000 overlapping tables", lambda: overlapping_tables(20_000)),
     ("16 MB of one periodic key", lambda: periodic_key(16_000_000, 1_000)),
 ]
+
+
+# files that are made to be dear to check: what they are, how one of about so many bytes is made, and how many times the time of a plain
+# table is allowed. The last ones are made by someone who knows how keys are compared.
+CHECKED = [
+    ("one key of random letters in 12 tables", one_key(random_letters), 20),
+    ("one key of Thue and Morse in 12 tables", one_key(thue_morse), 20),
+    ("one key of Fibonacci in 12 tables", one_key(fibonacci), 20),
+    ("one key of a long period in 12 tables", one_key(periodic), 20),
+    ("one key `aaa..` in 12 tables", one_key(repeated(b"a")), 20),
+    ("one key `abab..` in 12 tables", one_key(repeated(b"ab")), 20),
+    ("random ends of a key of random letters", random_ends, 20),
+    ("many tables with one long key", many_tables, 20),
+    ("all ends of `aaa..` in one table", all_ends, 20),
+    ("2 copies of random letters, 25 tables", copies(random_letters, 2, 25), 20),
+    ("2 copies of random letters, 100 tables", copies(random_letters, 2, 100), 60),
+    ("2 copies of Thue and Morse, 100 tables", copies(thue_morse, 2, 100), 60),
+    ("2 copies of random letters, 1,000 tables", copies(random_letters, 2, 1_000), 60),
+    ("64 copies of random letters, 300 tables", copies(random_letters, 64, 300), 60),
+]
+OVERLAPPING = [
+    ("arrays that overlap, in random order", mixed_arrays, 30),
+    ("tables that overlap, in random order", mixed_tables, 30),
+]
+
+# ---- texts
+
+
+def plain_text(size):
+    return b"root{" + b"".join(b'k%07d{"value of some letters"}' % i for i in range(size // 34)) + b"}"
+
+
+def small_tables(size):
+    """Tables of one empty array each."""
+    return b"root{" + b"".join(b"k%d{a{}}" % i for i in range(size // 13)) + b"}"
+
+
+def nested_arrays(size):
+    """Arrays of 59 levels that hold nothing."""
+    return b"root{a{" + (b"{" * 59 + b"}" * 59) * (size // 118) + b"}}"
+
+
+TEXTS = [("texts `k{a{}}..`", small_tables), ("texts `{{{}}}` of 59 levels", nested_arrays)]
+
+# ---- requests: the lines that prepare, and the line that is dear
+
+
+def install(locale, text):
+    return b'{"op":"install","app":"a","locale":"%s","text":"%s"}\n' % (locale, text.replace(b'"', b'\\"'))
+
+
+def look(locale, path):
+    return b'{"op":"look","app":"a","locale":"%s","path":"%s"}\n' % (locale, path)
+
+
+def long_alias(size):
+    """An alias to itself with a long keyword after its locale."""
+    return install(b"root", b'root{a:alias{"root@' + b"x" * size + b'/a"}}'), look(b"root", b"a")
+
+
+def deep_trail(size):
+    """A trail of 32 names, of which the last has an alias to the whole way again; on the way there are tables 60 deep."""
+    names = [b"root"] + [b"b%c%c" % (97 + i // 26, 97 + i % 26) for i in range(30)]
+    path = b"/".join([b"k"] * 60)
+    filler = b"".join(b"%05d{}" % i for i in range(size // 31 // 420))
+    lines = []
+    for name, parent in zip(names[1:], names[2:] + [b"root"]):
+        deep = b"k{" * 59 + filler + b"}" * 59
+        lines.append(install(name, name + b'{%%Parent{"' + parent + b'"}' + deep + b"}"))
+    lines.append(install(b"root", b"root{" + b"k{" * 59 + b'k:alias{"baa/' + path + b'"}' + b"}" * 59 + b"}"))
+    return b"".join(lines), look(b"baa", path)
+
+
+def shared_keys(size):
+    """A table whose keys are the ends of one key, so that they are far longer together than the file."""
+    count = size // 9
+    data = suffixes(count)
+    return b'{"op":"install","app":"a","locale":"root","file":"%s"}\n' % data.hex().encode(), look(b"root", b"")
+
+
+def other_members(size):
+    """A line with a list that nobody asked for."""
+    return b"", b'{"op":"list","app":"a","x":[' + b"0," * (size // 2) + b"0]}\n"
+
+
+# ---- what is measured
+
+MB = 1_000_000
+
+
+class Report:
+    def __init__(self, program, words):
+        self.program, self.words, self.failed = program, words, False
+        self.folder = tempfile.TemporaryDirectory()
+        self.plain = {}
+
+    def file(self, name, data):
+        path = os.path.join(self.folder.name, name)
+        with open(path, "wb") as out:
+            out.write(data)
+        return path
+
+    def is_asked(self, name):
+        return not self.words or any(word in name for word in self.words)
+
+    def say(self, name, size, text, over):
+        self.failed = self.failed or over
+        print(f"{name}, {size / MB:.2f} MB: {text}{': OVER' if over else ''}", flush=True)
+
+    def best(self, words, runs=3, source=os.devnull):
+        return min(measured([self.program, *words], source) for _ in range(runs))
+
+    def check(self, name, make, allowed, sizes):
+        if not self.is_asked(name):
+            return
+        for size in sizes:
+            data = make(size)
+            seconds, memory, status = self.best(["check", self.file("made.res", data)], 2)
+            plain = self.plain_check(size)
+            ratio, times = seconds / plain, memory * MB / len(data)
+            over = ratio > allowed or status != 0 or size >= 16 * MB and times > 8
+            self.say(name, len(data), f"{seconds:.3f} s, a plain table {plain:.3f} s, {ratio:.1f} times of {allowed};"
+                     f" {memory:.0f} MB, {times:.1f} times the file of 8; status {status}", over)
+
+    def plain_check(self, size):
+        if size not in self.plain:
+            path = self.file("plain.res", plain_table(size))
+            # small files are measured against a multiple, since a program's start takes as long as they do
+            start = self.best(["--version"], 5)[0]
+            self.plain[size] = max(self.best(["check", path], 5)[0] - start, size / MB * 1e-3)
+        return self.plain[size]
+
+    def text(self, name, make, sizes):
+        if not self.is_asked(name):
+            return
+        for size in sizes:
+            out = os.path.join(self.folder.name, "out.res")
+            plain = self.best(["compile", self.file("plain.txt", plain_text(size)), out])[0]
+            seconds, memory, status = self.best(["compile", self.file("made.txt", make(size)), out])
+            over = seconds > 5 * plain or status != 0 or size >= 4 * MB and memory * MB > 40 * size
+            self.say(name, size, f"{seconds:.3f} s, plain text {plain:.3f} s, {seconds / plain:.1f} times of 5;"
+                     f" {memory:.0f} MB, {memory * MB / size:.1f} times the text of 40; status {status}", over)
+
+    def serve(self, prepared, line, count):
+        """Seconds for one more line, and the memory that it takes besides, in MB."""
+        before = self.best(["serve"], 2, self.file("before.jsonl", prepared))
+        after = self.best(["serve"], 2, self.file("after.jsonl", prepared + line * count))
+        return max(0.0, after[0] - before[0]) / count, after[1] - before[1]
+
+    def lookup(self, name, make, sizes, allowed):
+        if not self.is_asked(name):
+            return
+        for size in sizes:
+            seconds, _ = self.serve(*make(size), 3)
+            self.say(name, size, f"a lookup takes {1e3 * seconds:.1f} ms of {allowed}", 1e3 * seconds > allowed)
+
+    def reply(self, name, sizes):
+        if not self.is_asked(name):
+            return
+        for size in sizes:
+            seconds, memory = self.serve(*shared_keys(size), 1)
+            self.say(name, size, f"{seconds:.3f} s, {memory:.0f} MB besides of 4", memory > 4)
+
+    def line(self, name, sizes):
+        if not self.is_asked(name):
+            return
+        for size in sizes:
+            seconds, memory = self.serve(*other_members(size), 1)
+            over = memory * MB > 3 * size + 4 * MB or seconds > 1e-8 * size + 0.01
+            self.say(name, size, f"{1e9 * seconds / size:.1f} ns a byte of 10; {memory * MB / size:.1f} times the line of 3", over)
+
+    def applications(self, name, counts):
+        if not self.is_asked(name):
+            return
+        for count in counts:
+            lines = b"".join(b'{"op":"install","app":"app%d","locale":"de","text":"de{a{\\"b\\"}}"}\n' % i for i in range(count))
+            memory = self.serve(b"", lines, 1)[1]
+            each = memory * MB / count / 1000
+            self.say(name, len(lines), f"{each:.2f} KB for each of {count} of 0.70", each > 0.7)
+
+
+def main():
+    words = sys.argv[1:]
+    is_large = "--large" in words
+    words = [word for word in words if word != "--large"]
+    program = words.pop(0) if words and os.path.exists(words[0]) else os.path.join(TOP, "crates/rb_tool/out/rb_tool")
+    report = Report(os.path.abspath(program), words)
+    for name, make, allowed in CHECKED:
+        report.check(name, make, allowed, [MB, 4 * MB, 16 * MB] + [62 * MB] * is_large)
+    for name, make, allowed in OVERLAPPING:
+        report.check(name, make, allowed, [4 * MB, 16 * MB, 62 * MB])
+    for name, make in TEXTS:
+        report.text(name, make, [MB, 4 * MB, 8 * MB])
+    report.lookup("an alias with a long text", long_alias, [MB, 4 * MB, 8 * MB], 50)
+    report.lookup("a trail of 32 names, 256 levels", deep_trail, [MB // 100, MB, 7 * MB], 100)
+    report.reply("a reply whose keys share their bytes", [MB // 20, MB // 10, MB * 3 // 10])
+    report.line("members that nobody asked for", [MB, 8 * MB, 48 * MB])
+    report.applications("applications of one small bundle", [1_000, 10_000, 100_000])
+    sys.exit(report.failed)
+
+
+if __name__ == "__main__":
+    main()

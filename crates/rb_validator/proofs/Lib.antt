@@ -11,3 +11,4 @@ pub mod Ranking
 pub mod Pairs
 mod Refusals
 pub mod Measuring
+mod Comparing

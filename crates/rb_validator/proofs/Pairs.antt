@@ -1,5 +1,5 @@
 -- Keys that are good, pair by pair.
-use Rattle.std.proofs.Common.{◌≡◌, ◌⊎◌, ℕ, zero, suc, ◌+◌, ◌-◌, ◌<◌, ◌≤◌, Bool, true, false, cond, ltb, List, [], length, get_or, Option, Some, None}
+use Rattle.std.proofs.Common.{◌≡◌, ◌⊎◌, ℕ, zero, suc, ◌+◌, ◌-◌, ◌*◌, ◌<◌, ◌≤◌, Bool, true, false, cond, ltb, List, [], length, get_or, Option, Some, None}
 use Rattle.std.proofs.Common.{Result, Ok, Err, refl, sym, ap, subst, ◌∙◌, arith, inl, inr, set, get_or-set_other, get_or-set_same}
 use Rattle.std.specs.Ordering.{nat_cmp, is_lt}
 use Rattle.std.specs.Cmp.Lexicographic.{slice_cmp}
@@ -9,11 +9,18 @@ use Rattle.rb_format.specs.declared.fault.FileFault.{FileFault}
 use Rattle.rb_format.specs.declared.fault.FileFault.TheVariants.{Key, KeyOrder}
 use Rattle.rb_format.specs.declared.layout.Layout.{Layout}
 use Rattle.rb_format.specs.Place.{key}
+use Rattle.rb_validator.specs.declared.known_keys.KnownKeys.{KnownKeys}
 use Rattle.rb_format.specs.FirstFault.{◌>>=◌, fault_of, key_or_fault, next_key, keys}
 use Rattle.rb_format.proofs.Faults.{keys_on, keys_stop, keys_end}
-use Rattle.rb_validator.specs.KnownKeys.{key_run, key_or_none, previous_key, last_key, IsGood, AreGood, IsPair, IsLinked, IsRedirected}
+use Rattle.rb_validator.specs.KnownKeys.{key_run, key_or_none, previous_key, last_key, IsGood, AreGood, IsPair, IsLinked, IsRedirected, IsSound}
 use Rattle.rb_validator.specs.Ranks.{IsRanked, rank_at, previous_rank}
 use Rattle.rb_validator.proofs.Ranking.{read_all, ranked_nodes, ranked_climbs, rank_none, rank_some, rank_order, placed}
+
+-- ---- a count that was raised
+
+pub counted_more : (y : Layout) (body : List ℕ) (m : KnownKeys) (n : ℕ) → IsSound y body m → n ≤ 25 * length body → IsSound y body (record m { compared = n })
+counted_more y body m n s l =
+    record { lengths = s.lengths; ranks = s.ranks; halves = s.halves; words = s.words; few = l; short = s.short }
 
 -- ---- one key
 

@@ -1,5 +1,5 @@
 -- Answers in the place of which `Memory` may come.
-use Rattle.std.proofs.Common.{◌≡◌, ◌∙◌, Ok, Err, inl, inr}
+use Rattle.std.proofs.Common.{◌≡◌, ◌∙◌, Ok, Err, Option, Some, None, inl, inr}
 use Rattle.std.specs.Prelude.{◌⊎◌, Result}
 use Rattle.rb_format.specs.declared.fault.FileFault.{FileFault}
 use Rattle.rb_format.specs.declared.fault.FileFault.TheVariants.{Memory}
@@ -19,3 +19,13 @@ passed d v w f (inr e) = inr (f e)
 pub onward : {A : Type 0} (r v w : Result A FileFault) → (r ≡ Err Memory) ⊎ (r ≡ v) → v ≡ w → (r ≡ Err Memory) ⊎ (r ≡ w)
 onward r v w (inl z) e = inl z
 onward r v w (inr p) e = inr (p ∙ e)
+
+-- the same of what has no value
+pub agreed : {A : Type 0} (x : A) {f : Option FileFault} → (Ok x ≡ Err Memory) ⊎ (None ≡ f) → None ≡ f
+agreed x (inl z) = absurd cc
+agreed x (inr e) = e
+
+pub refused : {A : Type 0} (d : FileFault) {f g : Option FileFault} → (Some d ≡ f → g ≡ Some d)
+    → (◌≡◌ {A = Result A FileFault} (Err d) (Err Memory)) ⊎ (Some d ≡ f) → (d ≡ Memory) ⊎ (g ≡ Some d)
+refused d h (inl z) = inl cc
+refused d h (inr e) = inr (h e)

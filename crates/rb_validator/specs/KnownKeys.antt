@@ -1,5 +1,5 @@
 -- For proofs only: what is known of the keys of a file.
-use Rattle.std.specs.Prelude.{◌≡◌, ◌⊎◌, ℕ, zero, suc, ◌+◌, ◌-◌, ◌*◌, ◌≤◌, ◌<◌, List, [], take, drop, slice_index, Option, None, Some, Ok}
+use Rattle.std.specs.Prelude.{◌≡◌, ◌⊎◌, ℕ, zero, suc, ◌+◌, ◌-◌, ◌*◌, ◌≤◌, ◌<◌, List, [], length, take, drop, slice_index, Option, None, Some, Ok}
 use Rattle.std.specs.Prelude.{IfSome}
 use Rattle.rb_format.specs.declared.layout.Layout.{Layout}
 use Rattle.rb_format.specs.Place.{word_at, half_at, key}
@@ -53,3 +53,5 @@ pub record IsSound (y : Layout) (body : List ℕ) (m : KnownKeys) : Type 0 where
   pub ranks : IfSome m.ranks (λ v. IsRanked (key_run y body) v.items)
   pub halves : IsLinked y body (half_at body) m.halves.items
   pub words : IsLinked y body (word_at body) m.words.items
+  pub few : m.compared ≤ 25 * length body
+  pub short : length body ≤ 67108864

@@ -5,3 +5,4 @@ pub mod Ranks
 pub mod KnownKeys
 pub mod Packed
 pub mod Lengths
+pub mod Compared

@@ -1,11 +1,11 @@
 // Files that denote a bundle.
-ghost use Rattle.std.specs.Prelude.{◌≡◌, ◌⊎◌, ◌*◌, ◌≤◌, Some, IfOk, IfErr, drop};
+ghost use Rattle.std.specs.Prelude.{◌≡◌, ◌⊎◌, ◌*◌, ◌≤◌, Some, IfOk, IfErr, drop, length};
 ghost use Rattle.rb_format.specs.Place.{half_at, layout_of};
 ghost use Rattle.rb_validator.specs.Visits.{HasVisits};
 ghost use Rattle.rb_format.specs.File.{Denotes, source_tree_of};
 ghost use Rattle.rb_format.specs.FirstFault.{first_fault};
 
-use crate::file::check_file;
+use crate::file::{Counts, check_file};
 use rb_format::{Attributes, FileFault, body};
 use std::alloc::Global;
 use std::marker::Model;
@@ -15,6 +15,7 @@ use std::marker::Model;
 pub struct Bundle {
     bytes: Vec<u8>,
     visits: u64,
+    compared: u64,
 }
 
 impl Model for Bundle {
@@ -25,7 +26,7 @@ impl Model for Bundle {
 
     ghost view = { λ b. b.bytes.items };
 
-    ghost invariant = { λ b. IsAccepted b.bytes.items b.visits };
+    ghost invariant = { λ b. IsAccepted b.bytes.items b.visits b.compared };
 }
 
 /// The bundle of a file that denotes one. Any other file is refused for its first fault, in the order of a reader's checks: the length,
@@ -44,7 +45,11 @@ pub fn accept(alloc: Global, bytes: Vec<u8>) -> Result<Bundle, (FileFault, Vec<u
     ensures back { IfErr result (λ e. e.1.items ≡ bytes.items) }
 {
     match check_file(alloc, &bytes) {
-        Ok(visits) => Ok(Bundle { bytes, visits }),
+        Ok(Counts { visits, compared }) => Ok(Bundle {
+            bytes,
+            visits,
+            compared,
+        }),
         Err(fault) => Err((fault, bytes)),
     }
 }
@@ -73,5 +78,14 @@ impl Bundle {
         ensures few { let body = drop (half_at self.now 0) self.now in result ≤ 3 * (layout_of body).top }
     {
         self.visits
+    }
+
+    /// How many bytes of keys the acceptance compared. Where two keys of a table are compared byte by byte, all of the later one are
+    /// counted; where their lengths are known, those that they have in common, and the first that differs; where they are compared by
+    /// their ranks, none. It is at most 25 for each byte of the file.
+    pub fn compared(&self) -> u64
+        ensures { result ≤ 25 * length self.now }
+    {
+        self.compared
     }
 }

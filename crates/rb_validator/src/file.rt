@@ -1,5 +1,5 @@
 // The checks of a whole file.
-ghost use Rattle.std.specs.Prelude.{◌≡◌, ◌⊎◌, ◌+◌, ◌*◌, ◌≤◌, None, Some, IfOk, MatchResult};
+ghost use Rattle.std.specs.Prelude.{◌≡◌, ◌⊎◌, ◌+◌, ◌*◌, ◌≤◌, None, Some, length, IfOk, MatchResult};
 ghost use Rattle.rb_format.specs.FirstFault.{fault_of, first_fault, read_data};
 ghost use Rattle.rb_format.specs.Place as fields;
 ghost use Rattle.rb_validator.specs.Visits.{IsPlaceAt, IsCount, HasVisits};
@@ -16,11 +16,18 @@ use rb_format::{
 use rb_tree::HEIGHT_LIMIT;
 use std::alloc::Global;
 
-/// How many places a file has, or its first fault; `Memory` may come in place of an answer.
+/// What an acceptance counted: the places that it entered, and the bytes of keys that it compared.
+pub struct Counts {
+    pub visits: u64,
+    pub compared: u64,
+}
+
+/// How many places a file has, and how many bytes of its keys were compared, or its first fault; `Memory` may come in place of an answer.
 #[tactic(auto, unfolding(rb_format::specs::FirstFault::read_file))]
-pub fn check_file(alloc: Global, bytes: &[u8]) -> Result<u64, FileFault>
+pub fn check_file(alloc: Global, bytes: &[u8]) -> Result<Counts, FileFault>
     ensures answer { MatchResult result (λ _. first_fault bytes.now ≡ None) (λ e. (e ≡ FileFault.Memory) ⊎ (first_fault bytes.now ≡ Some e)) }
-    ensures visits { IfOk result (λ n. HasVisits bytes.now n) }
+    ensures visits { IfOk result (λ n. HasVisits bytes.now n.visits) }
+    ensures compared { IfOk result (λ n. n.compared ≤ 25 * length bytes.now) }
 {
     if bytes.len() > FILE_LIMIT {
         return Err(FileFault::TooLong);
@@ -31,10 +38,12 @@ pub fn check_file(alloc: Global, bytes: &[u8]) -> Result<u64, FileFault>
 
 /// The same of the data after the header of a file of a minor version.
 #[tactic(auto, unfolding(rb_format::specs::FirstFault::read_data))]
-fn check_data(alloc: Global, minor: u8, body: &[u8]) -> Result<u64, FileFault>
+fn check_data(alloc: Global, minor: u8, body: &[u8]) -> Result<Counts, FileFault>
+    requires { length body.now ≤ 67108864 }
     ensures answer { MatchResult result (λ _. fault_of (read_data 64 minor body.now) ≡ None)
         (λ e. (e ≡ FileFault.Memory) ⊎ (fault_of (read_data 64 minor body.now) ≡ Some e)) }
-    ensures visits { IfOk result (λ n. IsCount (IsPlaceAt body.now) (3 * fields.word_at body.now 4) n) }
+    ensures visits { IfOk result (λ n. IsCount (IsPlaceAt body.now) (3 * fields.word_at body.now 4) n.visits) }
+    ensures compared { IfOk result (λ n. n.compared ≤ 25 * length body.now) }
 {
     if !has_valid_indexes(body) {
         return Err(FileFault::Indexes);
@@ -54,5 +63,8 @@ fn check_data(alloc: Global, minor: u8, body: &[u8]) -> Result<u64, FileFault>
     let keys = KeyChecker::new(alloc, &layout, body);
     let mut state = CheckState { memo, runs, keys };
     check_item(&layout, body, &mut state, root, HEIGHT_LIMIT as u8)?;
-    Ok(state.memo.visits())
+    Ok(Counts {
+        visits: state.memo.visits(),
+        compared: state.keys.known.compared,
+    })
 }

@@ -13,20 +13,15 @@ use crate::ranks::rank_keys;
 use rb_format::{FileFault, KeyPlaces, Layout};
 use std::alloc::{AllocError, Global};
 
-/// How many bytes of keys are compared byte by byte, for each byte of the data.
-const PLAIN_SHARE: usize = 8;
-
-/// The same once their lengths are known, when bytes are compared only as far as they are in common.
-const CLOSE_SHARE: usize = 16;
+/// Up to how many bytes of keys are compared byte by byte, for each byte of the data.
+const PLAIN_SHARE: u64 = 8;
 
 /// Checks the keys of tables, each table after what was found in those before it.
 #[derive(Drop)]
 pub struct KeyChecker {
     alloc: Global,
-    /// How many bytes of keys may still be compared byte by byte.
-    budget: usize,
-    /// How many may still be compared once the lengths of the keys are known.
-    close: usize,
+    /// How many keys may still be compared with the one before by their lengths.
+    pairs: usize,
     /// Whether the lengths were asked for.
     is_measured: bool,
     /// Whether the ranks were asked for.
@@ -48,15 +43,15 @@ fn key_bytes<'a>(layout: &Layout, body: &'a [u8]) -> &'a [u8]
 impl KeyChecker {
     /// Nothing was found so far.
     pub fn new(alloc: Global, layout: &Layout, body: &[u8]) -> KeyChecker
+        requires { length body.now ≤ 67108864 }
         ensures { IsSound layout.now body.now result.known }
     {
         KeyChecker {
             alloc,
-            budget: body.len().saturating_mul(PLAIN_SHARE),
-            close: body.len().saturating_mul(CLOSE_SHARE),
+            pairs: body.len() / 2,
             is_measured: false,
             is_prepared: false,
-            known: KnownKeys::new(alloc, layout, body),
+            known: KnownKeys::new(alloc, layout, body, 0),
         }
     }
 
@@ -81,10 +76,9 @@ impl KeyChecker {
         if self.measure(layout, body).is_err() {
             return Err(FileFault::Memory);
         }
-        let (reached, left) = self
+        let reached = self
             .known
-            .check_closely(layout, body, places, count, self.close)?;
-        self.close = left;
+            .check_closely(layout, body, places, count, &mut self.pairs)?;
         if reached == count {
             return Ok(());
         }
@@ -104,18 +98,20 @@ impl KeyChecker {
     ) -> Result<usize, FileFault>
         requires keys { 4 * layout.now.keys_top ≤ length body.now }
         requires places { keys_end places count ≤ length body.now }
+        requires sound { IsSound layout.now body.now self.old.known }
         ensures good { IfOk result (λ n. AreGood layout.now body.now (offset_in body.now places) n) }
         ensures low { IfOk result (λ n. n ≤ count) }
         ensures fault { IfErr result (λ e. fault_of (keys layout.now body.now (offset_in body.now places) [] 0 count) ≡ Some e) }
-        ensures known { self.new.known ≡ self.old.known }
+        ensures sound { IsSound layout.now body.now self.new.known }
     {
+        let limit = PLAIN_SHARE * body.len() as u64;
         let mut last: &[u8] = &[];
         for i in 0..count {
-            if self.budget == 0 {
+            if limit <= self.known.compared {
                 return Ok(i);
             }
-            last = next_key(layout, body, last, places.offset(body, i))?;
-            self.budget = self.budget.saturating_sub(last.len());
+            let offset = places.offset(body, i);
+            last = next_key(layout, body, last, offset, &mut self.known.compared)?;
         }
         Ok(count)
     }
@@ -130,7 +126,7 @@ impl KeyChecker {
             return Ok(());
         }
         let lengths = measure_keys(self.alloc, key_bytes(layout, body))?;
-        self.known = KnownKeys::measured(self.alloc, layout, body, lengths);
+        self.known = KnownKeys::measured(self.alloc, layout, body, lengths, self.known.compared);
         self.is_measured = true;
         Ok(())
     }
@@ -144,9 +140,10 @@ impl KeyChecker {
         if self.is_prepared {
             return Ok(());
         }
-        self.known = KnownKeys::new(self.alloc, layout, body); // no memory for lengths and ranks at one time
+        let compared = self.known.compared;
+        self.known = KnownKeys::new(self.alloc, layout, body, compared); // no memory for lengths and ranks at one time
         let ranks = rank_keys(self.alloc, key_bytes(layout, body))?;
-        self.known = KnownKeys::with(self.alloc, layout, body, ranks)?;
+        self.known = KnownKeys::with(self.alloc, layout, body, ranks, compared)?;
         self.is_prepared = true;
         Ok(())
     }

@@ -109,6 +109,9 @@ impl Runs {
     pub fn height(&self, parts: Parts, first: usize, count: usize) -> Option<u8>
         ensures { IfSome result (λ h. Contains self.now (record { first = first; count = count; height = h })) }
     {
+        if !parts.is_block {
+            return None;
+        }
         match self.runs.get(parts.middle / SHORT) {
             Some(run) if run.first == first && run.count == count => Some(run.height),
             _ => None,

@@ -1,5 +1,5 @@
 use Rattle.std.proofs.Common.{◌≡◌}
-use Rattle.rb_validator.specs.KnownKeys.{AreGood, last_key}
+use Rattle.rb_validator.specs.KnownKeys.{AreGood, IsSound, last_key}
 use Rattle.rb_format.specs.Geometry.{key_offset as offset_in}
 use Rattle.rb_validator.proofs.key_checker.KeyChecker.check_plainly.Given as goal
 
@@ -8,5 +8,5 @@ invariant-loop-i l =
     record {
       good : AreGood l.layout l.body (offset_in l.body l.places) l.i;
       last : l.last ≡ last_key l.layout l.body (offset_in l.body l.places) l.i;
-      known : l.self.known ≡ l.initial.self.known;
+      sound : IsSound l.layout l.body l.self.known;
     }

@@ -1,9 +1,10 @@
-use Rattle.std.proofs.Common.{◌≡◌, Some, None, below_more, sym, arith}
+use Rattle.std.proofs.Common.{◌≡◌, None, below_more, sym, arith}
 use Rattle.std.proofs.lemmas.Result.{err_from_is_err_and}
 use Rattle.rb_format.specs.FirstFault.{fault_of, next_key}
 use Rattle.rb_validator.specs.KnownKeys.{last_key}
 use Rattle.rb_format.specs.Geometry.{key_offset as offset_in}
 use Rattle.rb_validator.proofs.Pairs.{good_stop, next_err, next_good}
+use Rattle.rb_validator.proofs.Refusals.{agreed, refused}
 use Rattle.rb_validator.proofs.known_keys.KnownKeys.check_from.Goals as goal
 
 pub returns-in_err-check_next-clause-fault : goal.returns-in_err-check_next-clause-fault
@@ -11,12 +12,12 @@ returns-in_err-check_next-clause-fault c =
     let y = c.args.layout.now in let body = c.args.body.now in let i = c.loop-good.good in
     let place = offset_in body c.args.places in
     let p = err_from_is_err_and c.from_residual.result c.from_residual.ensures.1 in
-    let f : fault_of (next_key y body (last_key y body place i) (place i)) ≡ Some c.in_err-check_next.field-0.0 = sym c.in_err-check_next.ensures in
-    rw (p.1, p.2) (good_stop y body place c.args.count i _ (omega arith) c.loop-good.invariant (next_err y body (last_key y body place i) (place i) _ f))
+    rw (p.1, p.2) (refused _ (λ f. good_stop y body place c.args.count i _ (omega arith) c.loop-good.invariant
+    (next_err y body (last_key y body place i) (place i) _ (sym f))) c.in_err-check_next.ensures)
 
 pub loop-good-preserved : goal.loop-good-preserved
 loop-good-preserved c =
     let y = c.args.layout.now in let body = c.args.body.now in let i = c.loop-good.good in
     let place = offset_in body c.args.places in
-    let f : fault_of (next_key y body (last_key y body place i) (place i)) ≡ None = sym c.in_ok-check_next.ensures in
+    let f : fault_of (next_key y body (last_key y body place i) (place i)) ≡ None = sym (agreed _ c.in_ok-check_next.ensures) in
     below_more _ _ c.loop-good.invariant (next_good y body (last_key y body place i) (place i) f)

@@ -21,6 +21,8 @@ returns-in-Halves c = λ y body s g.
       halves = rw is (redirected_linked y body old c.link.new.links (half_at body)
           (offset_in body c.args.places) first c.args.good at s.halves g d);
       words = s.words;
+      few = s.few;
+      short = s.short;
     }
 
 pub returns-in-Words : goal.returns-in-Words
@@ -39,4 +41,6 @@ returns-in-Words c = λ y body s g.
       halves = s.halves;
       words = rw is (redirected_linked y body old c.link-in-Words.new.links (word_at body)
           (offset_in body c.args.places) first c.args.good at s.words g d);
+      few = s.few;
+      short = s.short;
     }
