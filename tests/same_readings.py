@@ -1,27 +1,34 @@
 #!/usr/bin/env python3
-"""Whether `resb serve` answers a line the same whichever way it reads it: 100,000 made lines, served as they are and with a member
-`"x":1` more, and their replies compared byte for byte.
+"""Whether `resb serve` answers a line the same with a member that counts for nothing: 100,000 made lines, served as they are and with
+such a member more, and their replies compared byte for byte.
 
 usage: same_readings.py PROGRAM [SEED]
 
-An object whose members are all strings is read with its strings lent out of the line, and any other line as a `Value` of
-serde_json. A member that counts for nothing takes a line from the one to the other. The lines are those of same_replies.py.
+Members that count for nothing are passed over, whatever they hold: numbers, words, lists and objects. The lines are those of
+same_replies.py.
 """
 import os
 import sys
 
 from same_replies import lines, replies
 
-MEMBER = b'"x":1'
+MEMBERS = [
+    b'"x":1',
+    b'"x":null',
+    b'"x":[-0.5e-3,true,{"op":"list"}]',
+    b'"x":{"y":[],"z":{}}',
+    b'"x":"\\ud83d\\ude00"',
+    b'"x":[18446744073709551616,[[[]]]],"y":false',
+]
 
 
-def with_member(line):
+def with_member(line, member):
     """The line with one member more at the front of its object, if it has a brace."""
     front, brace, rest = line.partition(b"{")
     if not brace:
         return line
     comma = b"" if rest.lstrip(b" \t\r").startswith(b"}") else b","
-    return front + brace + MEMBER + comma + rest
+    return front + brace + member + comma + rest
 
 
 def main():
@@ -32,7 +39,8 @@ def main():
     seed = int(sys.argv[2]) if len(sys.argv) > 2 else 1
     asked = list(lines(seed))
     first = replies(program, b"\n".join(asked) + b"\n")
-    second = replies(program, b"\n".join(map(with_member, asked)) + b"\n")
+    more = [with_member(line, MEMBERS[at % len(MEMBERS)]) for at, line in enumerate(asked)]
+    second = replies(program, b"\n".join(more) + b"\n")
     assert len(first) == len(second) == len(asked), "a line was not answered"
     for line, one, other in zip(asked, first, second):
         assert one == other, f"{line!r} is answered {one!r}, and with a member more {other!r}"

@@ -1,7 +1,13 @@
 //! `resb serve`.
+ghost use Rattle.std.specs.Prelude.{◌≤◌, IfErr, IfOk};
+ghost use Rattle.rb_engine.specs.Kept.{state_of};
+ghost use Rattle.rb_requests.specs.Served.{AfterFault, at};
+ghost use Rattle.rb_commands.specs.Limits.{most_lines};
+
 use crate::handing::{NotingFeed, WaitingWriter};
 use crate::start::{not_started, start};
-use rb_requests::{Engine, ServeFault, WriteSink, serve};
+use rb_requests::{Engine, Feed, ServeFault, Served, Sink, WriteSink, serve};
+use std::alloc::Global;
 use std::cell::Cell;
 use std::io;
 use std::io::{BufReader, BufWriter, Write};
@@ -11,6 +17,21 @@ use std::rt::Files;
 
 /// The most lines of one run.
 const MAX_LINES: u64 = 1_099_511_627_776;
+
+/// Serves no more lines than one run may have.
+fn serve_run<F: Feed, S: Sink>(
+    alloc: Global,
+    engine: &mut Engine,
+    feed: &mut F,
+    sink: &mut S,
+) -> Result<Served, ServeFault>
+    ensures most { IfOk result (λ served. served.lines ≤ most_lines) }
+    ensures fault { IfErr result (λ fault. AfterFault fault
+        (at (state_of engine.old) (F.left feed.old) (S.written sink.old) (S.settled sink.old))
+        (at (state_of engine.new) (F.left feed.new) (S.written sink.new) (S.settled sink.new)) most_lines) }
+{
+    serve(alloc, engine, feed, sink, MAX_LINES)
+}
 
 /// Hands on the replies that are still held where serving ended early. Where that fails, the error is `Write`.
 fn handed_on<W: Write + Drop>(writer: &mut WaitingWriter<'_, W>, fault: ServeFault) -> ServeFault {
@@ -32,7 +53,7 @@ fn serve_buffered<R: Input + Print + AllocGlobal>(
     let mut feed = NotingFeed::new(reader, &holds_line);
     let mut writer = WaitingWriter::new(BufWriter::new(alloc, io::writer(rt))?, &holds_line);
     let mut sink = WriteSink::new(&mut writer);
-    match serve(alloc, engine, &mut feed, &mut sink, MAX_LINES) {
+    match serve_run(alloc, engine, &mut feed, &mut sink) {
         Ok(_) => Ok(Ok(())),
         Err(fault) => Ok(Err(handed_on(&mut writer, fault))),
     }

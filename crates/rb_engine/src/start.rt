@@ -10,18 +10,23 @@ use crate::request::Payload;
 use rb_locales::Name;
 use rb_packages::{PackFault, Packages};
 use std::alloc::Global;
+use thiserror::Error;
 
 /// Why an engine doesn't start. Each but `Memory` has the index of the first entry of ICUDATA that is refused; its payload is judged
 /// before its name.
-#[derive(Clone, Copy, Debug, PartialEq, Eq)]
+#[derive(Clone, Copy, Debug, PartialEq, Eq, Error)]
 pub enum StartFault {
     /// The entry's text is no good bundle text.
+    #[error("the text of entry {0} is not a valid bundle text")]
     BadText(usize),
     /// The entry's file denotes no bundle.
+    #[error("the file of entry {0} is not a valid bundle")]
     BadFile(usize),
     /// The entry has a bundle, and its name is that of an earlier entry.
+    #[error("the name of entry {0} is that of an earlier one")]
     Twice(usize),
     /// Out of memory.
+    #[error("out of memory")]
     Memory,
 }
 

@@ -1,72 +1,117 @@
--- The grammar's loop over members, a turn at a time, under the conversion to data.
-use Rattle.std.proofs.Common.{◌≡◌, ℕ, ◌-◌, ◌<◌, ◌≤◌, List, [], ◌∷◌, length, Option, Some, None, option_map, option_and_then, drop, refl, ap, sym, ◌∙◌}
+-- What a text is that begins with no brace, and items that were passed over.
+use Rattle.std.proofs.Common.{◌≡◌, ℕ, Bool, true, false, not, is_some, List, [], ◌∷◌, length, Option, Result, Ok, Err, OnErr, Some, None, option_map, refl, ap, sym, ◌∙◌, arith}
+use Rattle.std.proofs.lemmas.Bool.{false≢true}
 use Rattle.json.specs.Token.{Token}
 use Rattle.json.specs.Json as json
-use Rattle.json.specs.Json.{Parse, parse_map, read_key, members, if_last}
-use Rattle.json.proofs.Grammar.{members_end, members_more}
-use Rattle.serde_json.specs.Data.{Data, object, Members, no_members, put}
-use Rattle.serde_json.specs.Read.{of_json, of_members, converted}
-use Rattle.rb_members.specs.Texts.{AreTexts, BeginsWithNoText, member_tokens}
+use Rattle.json.specs.Json.{parse_map, items, members, value}
+use Rattle.json.specs.Reads.{token_of, Yields}
+use Rattle.json.specs.declared.token.Token as lent
+use Rattle.json.proofs.Grammar.{value_is, value-begin_array, value-begin_object}
+use Rattle.serde_json.specs.Data.{Data, Num, null, boolean, number, object, array, Items, item, Members, no_members}
+use Rattle.serde_json.specs.Read.{of_json, of_items, of_members, converted, number_of}
+use Rattle.serde_json.specs.Find.{as_str}
+use Rattle.rb_members.specs.Texts.{BeginsWithNoBrace}
+use Rattle.rb_members.proofs.Reading.{whole, converted-object}
 
-abbrev pick : {A : Type 0} → A → Option A → A
-pick d None = d
-pick d (Some a) = a
+-- one item more stands before those to come
+pub one_more_before : (before : Items → Items) (d : Data) (r : Option (Items × List Token))
+    → parse_map before (parse_map (item d) r) ≡ parse_map (λ ds. before (item d ds)) r
+one_more_before before d None = refl
+one_more_before before d (Some p) = refl
 
-found : {A B : Type 0} (a : A) (r s : List Token) (x : Option B) (b : B) → option_map {U = B × List Token} (λ y. (y, r)) x ≡ Some (b, s)
-    → (r ≡ s) × (x ≡ Some b)
-found a r s None b e = absurd (cc)
-found a r s (Some y) b e = let same = ap (pick (y, r)) e in (ap (λ p. p.1) same, ap (λ p. Some p.0) same)
+pub none_before : (r : Option (Items × List Token)) → r ≡ parse_map (λ ds. ds) r
+none_before None = refl
+none_before (Some p) = refl
 
-pub converted_some : {A B : Type 0} (f : A → Option B) (o : Option (A × List Token)) (b : B) (r : List Token) → converted f o ≡ Some (b, r)
-    → (a : A) × (o ≡ Some (a, r)) × (f a ≡ Some b)
-converted_some f None b r e = absurd (cc)
-converted_some f (Some p) b r e = let both = found p.0 p.1 r (f p.0) b e in (p.0, ap (λ s. Some (p.0, s)) both.0, both.1)
+-- what holds in any case, where there is an error
+pub at_an_error : {T E P : Type 0} (r : Result T E) → P → OnErr r P
+at_an_error (Ok x) p = tt
+at_an_error (Err e) p = p
 
-twice : {A B : Type 0} (g : A → B) (r : List Token) (x : Option A) → option_map (λ b. (b, r)) (option_map g x) ≡ parse_map g (option_map (λ a. (a, r)) x)
-twice g r None = refl
-twice g r (Some a) = refl
+-- ---- values of one token
 
-pub converted-object : (o : Option (json.Members × List Token))
-    → converted of_json (parse_map json.object o) ≡ parse_map object (converted (λ ms. of_members ms no_members) o)
-converted-object None = refl
-converted-object (Some p) = twice object p.1 (of_members p.0 no_members)
+pub boolean_read : (depth : ℕ) (ts r : List Token) (b : Bool) → ts ≡ Token.boolean b ∷ r → converted of_json (value depth ts) ≡ Some (boolean b, r)
+boolean_read depth ts r b e = ap (converted of_json) (ap (value depth) e ∙ value_is depth _)
 
-with_member : (k : List ℕ) (j : json.Json) (d : Data) (old : Members) → of_json j ≡ Some d → (o : Option (json.Members × List Token))
-    → converted (λ ms. of_members ms old) (parse_map (json.member k j) o) ≡ converted (λ ms. of_members ms (put k d old)) o
-with_member k j d old e None = refl
-with_member k j d old e (Some p) = rw e
+pub null_read : (depth : ℕ) (ts r : List Token) → ts ≡ Token.null ∷ r → converted of_json (value depth ts) ≡ Some (null, r)
+null_read depth ts r e = ap (converted of_json) (ap (value depth) e ∙ value_is depth _)
 
-module _ (p : Parse json.Json) (old : Members) where
-  pub member_read : (n : ℕ) (k : List ℕ) (ts s r : List Token) (d : Data) → 0 < n → read_key ts ≡ Some (Some k, s) → converted of_json (p s) ≡ Some (d, r)
-      → converted (λ ms. of_members ms old) (members p n ts) ≡ converted (λ ms. of_members ms (put k d old)) (members p (n - 1) r)
-  member_read n k ts s r d some key e =
-      let j = converted_some of_json (p s) d r e in
-      ap (converted (λ ms. of_members ms old)) (members_more p n k ts s r j.0 some key j.1) ∙ with_member k j.0 d old j.2 _
+number_kept : (s : List ℕ) (r : List Token) (o : Option Num) → number_of s ≡ o → true ≡ is_some o
+    → (d : Data) × (as_str d ≡ None) × (converted of_json (Some (json.number s, r)) ≡ Some (d, r))
+number_kept s r None e h = absurd (false≢true (sym h))
+number_kept s r (Some n) e h = (number n, refl, rw e refl)
 
-  pub members_over : (n : ℕ) (ts r : List Token) → length ts ≤ n → read_key ts ≡ Some (None, r)
-      → converted (λ ms. of_members ms old) (members p n ts) ≡ Some (old, r)
-  members_over n ts r enough e = ap (converted (λ ms. of_members ms old)) (members_end p n ts r enough e)
+number_lost : (s : List ℕ) (r : List Token) (o : Option Num) → number_of s ≡ o → false ≡ is_some o → converted of_json (Some (json.number s, r)) ≡ None
+number_lost s r None e h = rw e refl
+number_lost s r (Some n) e h = absurd (false≢true h)
 
-abbrev pub whole : Option (json.Json × List Token) → Option Data
-whole o = option_and_then of_json (option_and_then (λ p. if_last p.0 p.1) o)
+pub number_in_range : (depth : ℕ) (ts r : List Token) (s : List ℕ) → ts ≡ Token.number s ∷ r → true ≡ is_some (number_of s)
+    → (d : Data) × (as_str d ≡ None) × (converted of_json (value depth ts) ≡ Some (d, r))
+number_in_range depth ts r s e h =
+    let k = number_kept s r (number_of s) refl h in
+    (k.0, k.1, ap (converted of_json) (ap (value depth) e ∙ value_is depth _) ∙ k.2)
 
-pub whole_read : (o : Option (json.Json × List Token)) (d : Data) → converted of_json o ≡ Some (d, []) → whole o ≡ Some d
-whole_read o d e = let j = converted_some of_json o d [] e in ap whole j.1 ∙ j.2
+pub number_out_of_range : (depth : ℕ) (ts r : List Token) (s : List ℕ) → ts ≡ Token.number s ∷ r → false ≡ is_some (number_of s)
+    → converted of_json (value depth ts) ≡ None
+number_out_of_range depth ts r s e h = ap (converted of_json) (ap (value depth) e ∙ value_is depth _) ∙ number_lost s r (number_of s) refl h
 
--- ---- members that are texts
+-- ---- a text that begins with no brace
 
-pub keyless : (ts : List Token) → read_key ts ≡ None → AreTexts ts → ⊥
-keyless ts e ([], same) = cc
-keyless ts e (m ∷ ms, same) = cc
+array_made : (ds : Option Items) (found : Members) → option_map array ds ≡ Some (object found) → ⊥
+array_made None found e = cc
+array_made (Some ds) found e = cc
 
-pub textless : (ts rest : List Token) (k : List ℕ) → ts ≡ Token.key k ∷ rest → BeginsWithNoText rest → AreTexts ts → ⊥
-textless ts rest k first none ([], same) = cc
-textless ts rest k first none (m ∷ ms, same) = none m.1 (member_tokens ms) (ap (drop 1) (sym first ∙ same))
+number_made : (n : Option Num) (found : Members) → option_map number n ≡ Some (object found) → ⊥
+number_made None found e = cc
+number_made (Some n) found e = cc
 
-pub one_fewer : (ts rest : List Token) (k v : List ℕ) → ts ≡ Token.key k ∷ Token.string v ∷ rest → AreTexts ts → AreTexts rest
-one_fewer ts rest k v first ([], same) = absurd (cc)
-one_fewer ts rest k v first (m ∷ ms, same) = (ms, ap (drop 2) (sym first ∙ same))
+array_read : (r : Option (json.Items × List Token)) (found : Members) → whole (parse_map json.array r) ≡ Some (object found) → ⊥
+array_read None found e = cc
+array_read (Some (js, [])) found e = array_made (of_items js) found e
+array_read (Some (js, t ∷ r)) found e = cc
 
-pub nothing_after : (ts rest : List Token) → ts ≡ Token.end_object ∷ rest → AreTexts ts → rest ≡ []
-nothing_after ts rest first ([], same) = ap (drop 1) (sym first ∙ same)
-nothing_after ts rest first (m ∷ ms, same) = absurd (cc)
+nothing_read : (found : Members) (o : Option (json.Json × List Token)) → o ≡ None → whole o ≡ Some (object found) → ⊥
+nothing_read found o n e = let no : whole o ≡ None = ap whole n in cc
+
+string_read : (s : List ℕ) (ts : List Token) (found : Members) → whole (Some (json.string s, ts)) ≡ Some (object found) → ⊥
+string_read s [] found e = cc
+string_read s (t ∷ ts) found e = cc
+
+number_read : (s : List ℕ) (ts : List Token) (found : Members) → whole (Some (json.number s, ts)) ≡ Some (object found) → ⊥
+number_read s [] found e = number_made (number_of s) found e
+number_read s (t ∷ ts) found e = cc
+
+word_read : (j : json.Json) (d : Data) (ts : List Token) (found : Members) → of_json j ≡ Some d → (d ≡ object found → ⊥)
+    → whole (Some (j, ts)) ≡ Some (object found) → ⊥
+word_read j d [] found s n e = n (cc)
+word_read j d (t ∷ ts) found s n e = cc
+
+pub no_object : (ts : List Token) (found : Members) → BeginsWithNoBrace ts → whole (value 127 ts) ≡ Some (object found) → ⊥
+no_object [] found h e = nothing_read found (value 127 []) (value_is 127 []) e
+no_object (Token.begin_object ∷ ts) found h e = h ts refl
+no_object (Token.end_object ∷ ts) found h e = nothing_read found _ (value_is 127 (Token.end_object ∷ ts)) e
+no_object (Token.begin_array ∷ ts) found h e = array_read (items (value 126) (length ts) ts) found (sym (ap whole (value-begin_array 127 ts (omega arith))) ∙ e)
+no_object (Token.end_array ∷ ts) found h e = nothing_read found _ (value_is 127 (Token.end_array ∷ ts)) e
+no_object (Token.key s ∷ ts) found h e = nothing_read found _ (value_is 127 (Token.key s ∷ ts)) e
+no_object (Token.string s ∷ ts) found h e = string_read s ts found (sym (ap whole (value_is 127 (Token.string s ∷ ts))) ∙ e)
+no_object (Token.number s ∷ ts) found h e = number_read s ts found (sym (ap whole (value_is 127 (Token.number s ∷ ts))) ∙ e)
+no_object (Token.boolean b ∷ ts) found h e = word_read (json.boolean b) _ ts found refl (λ k. cc) (sym (ap whole (value_is 127 (Token.boolean b ∷ ts))) ∙ e)
+no_object (Token.null ∷ ts) found h e = word_read json.null _ ts found refl (λ k. cc) (sym (ap whole (value_is 127 (Token.null ∷ ts))) ∙ e)
+no_object (Token.bad ∷ ts) found h e = nothing_read found _ (value_is 127 (Token.bad ∷ ts)) e
+
+-- ---- a text that begins with a brace
+
+pub object_opened : (ts rest : List Token) → ts ≡ Token.begin_object ∷ rest
+    → converted of_json (value 127 ts)
+    ≡ parse_map object (converted (λ ms. of_members ms no_members) (members (value 126) (length rest) rest))
+object_opened ts rest first =
+    ap (converted of_json) (ap (value 127) first ∙ value-begin_object 127 rest (omega arith)) ∙ converted-object (members (value 126) (length rest) rest)
+
+pub no_value : (ts : List Token) (d : Data) → whole (value 127 ts) ≡ None → whole (value 127 ts) ≡ Some d → ⊥
+no_value ts d none e = cc
+
+pub ended : (next : Option lent.Token) (ts more : List Token) (last : Bool) → is_some next ≡ not last → Yields ts next more
+    → ((t : Token) → ts ≡ t ∷ more → ⊥) → last ≡ true
+ended None ts more true some y h = refl
+ended None ts more false some y h = absurd (false≢true some)
+ended (Some t) ts more last some y h = absurd (h (token_of t) y)

@@ -1,37 +1,31 @@
--- The texts of an object, beside the members that serde_json reads.
-use Rattle.std.specs.Prelude.{◌≡◌, ℕ, List, [], ◌∷◌, Option, option_map, codes}
-use Rattle.std.specs.Borrow.{Bor}
+-- What an object has at the names that count, beside the members that serde_json reads.
+use Rattle.std.specs.Prelude.{◌≡◌, ℕ, List, ◌∷◌, Option, Some, None, codes}
 use Rattle.json.specs.Token.{Token}
-use Rattle.json.specs.Lex.{tokens}
 use Rattle.serde_json.specs.Data.{Data, Members, string}
-use Rattle.serde_json.specs.Find.{get_member}
+use Rattle.serde_json.specs.Find.{get_member, as_str}
+use Rattle.rb_members.specs.declared.member.Member.{Member}
+use Rattle.rb_members.specs.declared.member.Member.TheVariants.{Text, Other}
 use Rattle.rb_members.specs.declared.texts.Texts.{Texts}
 
--- a text as a value
-abbrev pub text_data : Option (Bor (List ℕ)) → Option Data
-text_data text = option_map (λ s. string s.now) text
+-- a text, or some value that is none
+abbrev pub IsMember : Member → Data → Type 0
+IsMember (Text s) d = d ≡ string s.now
+IsMember Other d = as_str d ≡ None
 
--- at each name that counts the members have this text, or nothing where there is none
+-- what is there at a name, or that nothing is
+abbrev pub IsAt : Option Member → Option Data → Type 0
+IsAt None held = held ≡ None
+IsAt (Some m) held = (d : Data) × (held ≡ Some d) × IsMember m d
+
+-- at each name that counts the members have this
 pub record Holds (texts : Texts) (found : Members) : Type 0 where
-  pub op : get_member (codes "op") found ≡ text_data texts.op
-  pub app : get_member (codes "app") found ≡ text_data texts.app
-  pub locale : get_member (codes "locale") found ≡ text_data texts.locale
-  pub path : get_member (codes "path") found ≡ text_data texts.path
-  pub text : get_member (codes "text") found ≡ text_data texts.text
-  pub file : get_member (codes "file") found ≡ text_data texts.file
+  pub op : IsAt texts.op (get_member (codes "op") found)
+  pub app : IsAt texts.app (get_member (codes "app") found)
+  pub locale : IsAt texts.locale (get_member (codes "locale") found)
+  pub path : IsAt texts.path (get_member (codes "path") found)
+  pub text : IsAt texts.text (get_member (codes "text") found)
+  pub file : IsAt texts.file (get_member (codes "file") found)
 
--- members that are texts, with the closing brace, and nothing after it
-abbrev pub member_tokens : List (List ℕ × List ℕ) → List Token
-member_tokens [] = Token.end_object ∷ []
-member_tokens (m ∷ ms) = Token.key m.0 ∷ Token.string m.1 ∷ member_tokens ms
-
-abbrev pub AreTexts : List Token → Type 0
-AreTexts ts = (members : List (List ℕ × List ℕ)) × (ts ≡ member_tokens members)
-
--- the text is an object of texts alone
-abbrev pub IsOfTexts : List ℕ → Type 0
-IsOfTexts text = (rest : List Token) × (tokens text ≡ Token.begin_object ∷ rest) × AreTexts rest
-
--- no text comes next
-abbrev pub BeginsWithNoText : List Token → Type 0
-BeginsWithNoText ts = (text : List ℕ) (rest : List Token) → ts ≡ Token.string text ∷ rest → ⊥
+-- no opening brace comes next
+abbrev pub BeginsWithNoBrace : List Token → Type 0
+BeginsWithNoBrace ts = (rest : List Token) → ts ≡ Token.begin_object ∷ rest → ⊥

@@ -1,8 +1,12 @@
-//! Objects of JSON whose members are all texts, read with no copy: the texts are lent out of what is read, or out of a scratch where they have escapes.
+//! What an object of JSON has at the names that count, read with no copy: texts are lent out of what is read, or out of a scratch where they
+//! have escapes. Of all other values nothing is kept.
 #![tactic(auto)]
 
+mod member;
+mod number;
 #[cfg(test)]
 mod tests;
 mod texts;
 
+pub use member::Member;
 pub use texts::{Texts, read_texts};

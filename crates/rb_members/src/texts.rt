@@ -1,24 +1,26 @@
-//! The texts of an object, at the names that count.
-ghost use Rattle.std.specs.Prelude.{◌≡◌, [], ◌∷◌, Some, MatchOption, IfOk, IsTrue, length};
+//! What an object has at the names that count.
+ghost use Rattle.std.specs.Prelude.{◌≡◌, ◌∷◌, Some, None, IfOk, IsTrue, length};
+ghost use Rattle.std.specs.Bool.{MatchBool};
 ghost use Rattle.json.specs.Json.{members as members_of, value as value_of};
 ghost use Rattle.json.specs.Token as Tokens;
-ghost use Rattle.serde_json.specs.Data.{Members, no_members, put, string, object};
+ghost use Rattle.serde_json.specs.Data.{Data, Members, no_members, put, object};
 ghost use Rattle.serde_json.specs.Find.{get_member};
 ghost use Rattle.serde_json.specs.Read.{read, converted, of_members};
-ghost use Rattle.rb_members.specs.Texts.{Holds, text_data, AreTexts, IsOfTexts, BeginsWithNoText};
+ghost use Rattle.rb_members.specs.Texts.{Holds, IsAt, IsMember, BeginsWithNoBrace};
 
+use crate::member::{Member, read_value};
 use json::{Reader, Scratch, Token};
 use std::alloc::AllocError;
 
-/// The texts of an object at the names that count for a request, where it has them. Of two members with one name the last counts.
+/// What an object has at the names that count for a request, where it has something. Of two members with one name the last counts.
 #[derive(Clone, Copy, Debug, PartialEq, Eq)]
 pub struct Texts<'a> {
-    pub op: Option<&'a str>,
-    pub app: Option<&'a str>,
-    pub locale: Option<&'a str>,
-    pub path: Option<&'a str>,
-    pub text: Option<&'a str>,
-    pub file: Option<&'a str>,
+    pub op: Option<Member<'a>>,
+    pub app: Option<Member<'a>>,
+    pub locale: Option<Member<'a>>,
+    pub path: Option<Member<'a>>,
+    pub text: Option<Member<'a>>,
+    pub file: Option<Member<'a>>,
 }
 
 impl<'a> Texts<'a> {
@@ -37,50 +39,52 @@ impl<'a> Texts<'a> {
     }
 
     /// Those after one member more.
-    fn with(self, key: &str, value: &'a str) -> Self
-        ensures { (found : Members) → Holds self.entry found → Holds result (put key.now (string value.now) found) }
+    fn with(self, key: &str, member: Member<'a>) -> Self
+        ensures { (found : Members) (d : Data) → IsMember member.entry d → Holds self.entry found → Holds result (put key.now d found) }
     {
         Texts {
-            op: after(key, "op", value, self.op),
-            app: after(key, "app", value, self.app),
-            locale: after(key, "locale", value, self.locale),
-            path: after(key, "path", value, self.path),
-            text: after(key, "text", value, self.text),
-            file: after(key, "file", value, self.file),
+            op: after(key, "op", member, self.op),
+            app: after(key, "app", member, self.app),
+            locale: after(key, "locale", member, self.locale),
+            path: after(key, "path", member, self.path),
+            text: after(key, "text", member, self.text),
+            file: after(key, "file", member, self.file),
         }
     }
 }
 
 /// What a name has after one member more.
-fn after<'a>(key: &str, name: &str, value: &'a str, held: Option<&'a str>) -> Option<&'a str>
-    ensures { (found : Members) → get_member name.now found ≡ text_data held.entry
-        → get_member name.now (put key.now (string value.now) found) ≡ text_data result }
+fn after<'a>(
+    key: &str,
+    name: &str,
+    member: Member<'a>,
+    held: Option<Member<'a>>,
+) -> Option<Member<'a>>
+    ensures { (found : Members) (d : Data) → IsMember member.entry d → IsAt held.entry (get_member name.now found)
+        → IsAt result (get_member name.now (put key.now d found)) }
 {
-    if key == name { Some(value) } else { held }
+    if key == name { Some(member) } else { held }
 }
 
-/// The text that comes next, if one does.
-fn next_text<'a>(reader: &mut Reader<'a>) -> Option<&'a str>
-    ensures { MatchOption result (BeginsWithNoText reader.old) (λ text. reader.old ≡ Tokens.string text.now ∷ reader.new) }
+/// Whether an opening brace comes next, which is taken.
+fn opens_object(reader: &mut Reader<'_>) -> bool
+    ensures { MatchBool result (reader.old ≡ Tokens.begin_object ∷ reader.new) (BeginsWithNoBrace reader.old) }
 {
-    match reader.next() {
-        Some(Token::String(text)) => Some(text),
-        _ => None,
-    }
+    matches!(reader.next(), Some(Token::BeginObject))
 }
 
-/// Reads the members after an opening brace, and says whether all of them are texts.
+/// Reads the members after an opening brace, and says whether they are an object's.
 fn read_members<'a>(reader: &mut Reader<'a>, texts: &mut Texts<'a>) -> bool
     requires { Holds texts.old no_members }
-    ensures read { IsTrue result → (found : Members) × Holds texts.new found
-        × (converted (λ ms. of_members ms no_members) (members_of (value_of 126) (length reader.old) reader.old) ≡ Some (found, reader.new)) }
-    ensures all { AreTexts reader.old → IsTrue result × (reader.new ≡ []) }
+    ensures { MatchBool result ((found : Members) × Holds texts.new found
+        × (converted (λ ms. of_members ms no_members) (members_of (value_of 126) (length reader.old) reader.old) ≡ Some (found, reader.new)))
+        (converted (λ ms. of_members ms no_members) (members_of (value_of 126) (length reader.old) reader.old) ≡ None) }
 {
     'members: loop {
         match reader.next_key() {
-            Ok(Some(key)) => match next_text(reader) {
-                Some(value) => *texts = texts.with(key, value),
-                None => return false,
+            Ok(Some(key)) => match read_value(reader, 126) {
+                Ok(member) => *texts = texts.with(key, member),
+                Err(_) => return false,
             },
             Ok(None) => return true,
             Err(_) => return false,
@@ -88,21 +92,22 @@ fn read_members<'a>(reader: &mut Reader<'a>, texts: &mut Texts<'a>) -> bool
     }
 }
 
-/// Whether a text is a JSON object whose members are all texts. If so, its texts are in `texts`, as `serde_json` reads them;
-/// else what is there counts for nothing. The texts without escapes are lent out of the text, the others out of the scratch,
-/// which grows to the length of the text. The error comes where there is no memory for it.
+/// Whether a text is a JSON object, as `serde_json` reads it. If so, what it has at the names that count is in `texts`; else what is
+/// there counts for nothing. Texts without escapes are lent out of the text, the others out of the scratch, which grows to the length
+/// of the text; of other members and of values that are no texts nothing is kept. The error comes where there is no memory for the
+/// scratch.
 pub fn read_texts<'a>(
     text: &'a str,
     scratch: &'a mut Scratch,
     texts: &mut Texts<'a>,
 ) -> Result<bool, AllocError>
     ensures read { IfOk result (λ all. IsTrue all → (found : Members) × Holds texts.new found × (read text.now ≡ Some (object found))) }
-    ensures all { IfOk result (λ all. IsOfTexts text.now → IsTrue all) }
+    ensures all { IfOk result (λ all. (found : Members) → read text.now ≡ Some (object found) → IsTrue all) }
 {
     let mut reader = Reader::new(text, scratch)?;
-    let Some(Token::BeginObject) = reader.next() else {
-        return Ok(false);
-    };
     *texts = Texts::none();
+    if !opens_object(&mut reader) {
+        return Ok(false);
+    }
     Ok(read_members(&mut reader, texts) && reader.next().is_none())
 }

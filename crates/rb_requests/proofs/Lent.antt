@@ -1,21 +1,25 @@
--- Texts that are lent out of a line, beside the object that the line is.
-use Rattle.std.proofs.Common.{◌≡◌, ℕ, List, Option, Some, None, is_some, if◌then◌else◌, option_map, option_and_then, codes, refl, ap, ◌∙◌, Bor}
-use Rattle.serde_json.specs.Data.{Data, Members, object}
+-- What was lent out of a line, beside the object that the line is.
+use Rattle.std.proofs.Common.{◌≡◌, ℕ, List, Option, Some, None, is_some, true, false, if◌then◌else◌, option_map, option_and_then, codes, refl, ap, ◌∙◌}
+use Rattle.serde_json.specs.Data.{Data, null, boolean, number, string, array, Members, object}
 use Rattle.serde_json.specs.Find.{get_member, as_str}
 use Rattle.hex.specs.Hex.{decode_of}
+use Rattle.rb_engine.specs.Ask.{Call}
 use Rattle.rb_engine.specs.declared.request.Payload.{Payload}
 use Rattle.rb_engine.specs.declared.request.Payload.TheVariants.{Text}
-use Rattle.rb_members.specs.Texts.{Holds, text_data}
+use Rattle.rb_members.specs.Texts.{Holds, IsAt, IsMember}
+use Rattle.rb_members.specs.declared.member.Member.{Member}
+use Rattle.rb_members.specs.declared.member.Member.TheVariants as members
 use Rattle.rb_members.specs.declared.texts.Texts.{Texts}
-use Rattle.rb_requests.specs.Asked.{decoded}
-use Rattle.rb_requests.specs.Line.{AreTextsOf, lent, payload_by}
+use Rattle.rb_requests.specs.Asked.{decoded, call_in, call_of, data_of}
+use Rattle.rb_requests.specs.Line.{AreTextsOf, lent, text_in, payload_by}
 
-lent_text : (t : Option (Bor (List ℕ))) → option_and_then as_str (text_data t) ≡ lent t
-lent_text None = refl
-lent_text (Some s) = refl
+text_of_member : (m : Member) (d : Data) → IsMember m d → as_str d ≡ text_in m
+text_of_member (members.Text s) d e = ap as_str e
+text_of_member members.Other d e = e
 
-held_text : (t : Option (Bor (List ℕ))) (x : Option Data) → x ≡ text_data t → option_and_then as_str x ≡ lent t
-held_text t x e = ap (option_and_then as_str) e ∙ lent_text t
+held_text : (t : Option Member) (x : Option Data) → IsAt t x → option_and_then as_str x ≡ lent t
+held_text None x e = ap (option_and_then as_str) e
+held_text (Some m) x (d, e, h) = ap (option_and_then as_str) e ∙ text_of_member m d h
 
 -- the payload, by what is there as text and as file
 abbrev payload_with : Option Data → Option Data → Option Payload
@@ -23,11 +27,11 @@ payload_with x y =
     if is_some x then (if is_some y then None else option_map Text (option_and_then as_str x))
     else option_and_then (λ h. decoded (decode_of h)) (option_and_then as_str y)
 
-lent_payload : (t f : Option (Bor (List ℕ))) → payload_with (text_data t) (text_data f) ≡ payload_by (lent t) (lent f)
-lent_payload None None = refl
-lent_payload None (Some f) = refl
-lent_payload (Some t) None = refl
-lent_payload (Some t) (Some f) = refl
+held_payload : (t f : Option Member) (x y : Option Data) → IsAt t x → IsAt f y → payload_with x y ≡ payload_by t f
+held_payload None f x y e h = ap (λ o. payload_with o y) e ∙ ap (option_and_then (λ digits. decoded (decode_of digits))) (held_text f y h)
+held_payload (Some m) None x y (d, e, h) k =
+    ap (λ o. payload_with o y) e ∙ ap (payload_with (Some d)) k ∙ ap (option_map Text) (text_of_member m d h)
+held_payload (Some m) (Some f) x y (d, e, h) (d', e', h') = ap (λ o. payload_with o y) e ∙ ap (payload_with (Some d)) e'
 
 pub texts_of_object : (texts : Texts) (found : Members) → Holds texts found → AreTextsOf texts (object found)
 texts_of_object texts found h = record {
@@ -35,6 +39,18 @@ texts_of_object texts found h = record {
   app = held_text texts.app (get_member (codes "app") found) h.app;
   locale = held_text texts.locale (get_member (codes "locale") found) h.locale;
   path = held_text texts.path (get_member (codes "path") found) h.path;
-  payload = ap (λ x. payload_with x (get_member (codes "file") found)) h.text ∙ ap (payload_with (text_data texts.text)) h.file
-      ∙ lent_payload texts.text texts.file;
+  payload = held_payload texts.text texts.file (get_member (codes "text") found) (get_member (codes "file") found) h.text h.file;
 }
+
+-- only an object calls
+called_by : (o : Option Data) → ((found : Members) → o ≡ Some (object found) → ⊥) → option_and_then call_in o ≡ None
+called_by None h = refl
+called_by (Some null) h = refl
+called_by (Some (boolean b)) h = refl
+called_by (Some (number n)) h = refl
+called_by (Some (string s)) h = refl
+called_by (Some (array ds)) h = refl
+called_by (Some (object found)) h = absurd (h found refl)
+
+pub calls_nothing : (line : List ℕ) → ((found : Members) → data_of line ≡ Some (object found) → ⊥) → call_of line ≡ None
+calls_nothing line h = called_by (data_of line) h

@@ -4,10 +4,10 @@ use Rattle.std.proofs.Common.{◌∙◌, ap, subst, arith, append-nil, append_as
 use Rattle.std.specs.Io.KnownBytes.{Consumes, Keeps, IsAtEnd}
 use Rattle.std.proofs.KnownBytes.{Consumes-nil, Consumes-trans, Consumes-kept, Consumes-all}
 use Rattle.std.proofs.lemmas.Bool.Decides.{nat_tests}
-use Rattle.rb_requests.specs.Taken.{ReadsPlain, ReadsPart, ReadsLong, ReadsEnded, ReadsLast, ReadsEnd}
+use Rattle.rb_requests.specs.Taken.{ReadsPlain, ReadsPart, ReadsFewer, ReadsLong, ReadsEnded, ReadsLast, ReadsEnd}
 use Rattle.rb_requests.specs.Lines.{onto_first, lines_of, feeds}
 use Rattle.rb_requests.specs.Served.{IsShort}
-use Rattle.rb_requests.specs.Runs.{Moves, Loses}
+use Rattle.rb_requests.specs.Runs.{Moves}
 
 -- ---- line feeds
 
@@ -96,14 +96,11 @@ run_ended limit before now left line line' most h m e =
       short = short_run limit line m.bytes most h.short m.short e;
     })
 
--- a run for which memory ran out
-pub run_lost : (limit : ℕ) (before now : Reader) (left : Option (List ℕ)) (line : List ℕ) (most : ℕ) → ReadSoFar limit before now line
-    → Loses now.left left most → most ≡ limit - length line → ReadsPart limit before.left left
-run_lost limit before now left line most h m e = record {
-  bytes = line ++ m.bytes;
-  part = plain_run before.left now.left left line m.bytes h.part m.read m.plain;
-  short = short_run limit line m.bytes most h.short m.short e;
-}
+-- a run for which memory ran out, so that nothing was taken
+pub run_refused : (limit : ℕ) (before now : Reader) (left : Option (List ℕ)) (line : List ℕ) → ReadSoFar limit before now line
+    → Keeps now.left left → length line < limit → ReadsFewer limit before.left left
+run_refused limit before now left line h k f =
+    record { bytes = line; part = plain_kept before.left now.left left line h.part k; fewer = f }
 
 -- ---- the end of the input
 

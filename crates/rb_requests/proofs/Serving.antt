@@ -13,7 +13,7 @@ use Rattle.rb_requests.specs.Device.{risen, risen_by}
 use Rattle.rb_requests.specs.Served.{Moment, at, where_known, IsShort, Answers, AnswersWithin, FirstAnswered, IsNext, TakesEffect, After, AfterRead}
 use Rattle.rb_requests.specs.Served.{AfterLong, AfterLimit, AfterMemory, AfterFaultWithin}
 use Rattle.rb_requests.specs.OneLine.{Wrote, WrotePart, FailsLine}
-use Rattle.rb_requests.specs.Taken.{ReadsPart, ReadsLong, ReadsEnded, ReadsLast, ReadsEnd, EndsAfter}
+use Rattle.rb_requests.specs.Taken.{ReadsPart, ReadsFewer, ReadsLong, ReadsEnded, ReadsLast, ReadsEnd, EndsAfter}
 use Rattle.rb_requests.specs.declared.lines.Served.{Served}
 use Rattle.rb_requests.specs.declared.lines.ServeFault.{ServeFault}
 use Rattle.rb_requests.specs.declared.lines.ServeFault.TheVariants.{Read, Write, LineLimit, LineTooLong, Memory}
@@ -197,15 +197,6 @@ all_answered limit before now after line count h k w =
 
 -- ---- a line that is not read whole
 
--- a part of a line has one line at the most
-part_lines : (bytes : List ℕ) → feeds bytes ≡ 0 → length (lines_of bytes) ≤ 1
-part_lines [] p = omega arith
-part_lines (b ∷ bytes) p = rw (lines_of-last (b ∷ bytes) p (omega arith)) (omega arith)
-
-part_short : (limit : ℕ) (bytes : List ℕ) → feeds bytes ≡ 0 → IsShort limit bytes → All (IsShort limit) (lines_of bytes)
-part_short limit [] p s = All-nil (IsShort limit)
-part_short limit (b ∷ bytes) p s = rw (lines_of-last (b ∷ bytes) p (omega arith)) (All-push (IsShort limit) [] (b ∷ bytes) (All-nil (IsShort limit)) s)
-
 below_most : (n count most : ℕ) → n ≡ count → count < most → n ≡ most → ⊥
 below_most n count most e m f = omega arith
 
@@ -223,18 +214,16 @@ not_read limit before now left count most h m k =
     })
 
 pub no_memory : (limit : ℕ) (before now : Moment) (left : Option (List ℕ)) (count most : ℕ) → ServedSoFar limit before now count
-    → count < most → ReadsPart limit now.left left → AfterFaultWithin limit Memory before (read_on now left) most
+    → count < most → ReadsFewer limit now.left left → AfterFaultWithin limit Memory before (read_on now left) most
 no_memory limit before now left count most h m k =
-    after_more limit before now count (AfterMemory limit before (read_on now left) most) (ReadsPart limit) left h k (λ l r. r.part.read) (
+    after_more limit before now count (AfterMemory limit before (read_on now left) most) (ReadsFewer limit) left h k (λ l r. r.part.read) (
     λ input l l' s r. record {
       now = now.state;
       answered = first_answered limit before now count most input l l' r.bytes s r.part.read (omega arith);
       wrote = s.wrote;
       settled = settled_for (length s.lines) count before.settled now.settled s.many h.handed;
-      part = part_lines r.bytes r.part.plain;
-      short = part_short limit r.bytes r.part.plain r.short;
       more = fewer (length s.lines) count most s.many m;
-      next = inl refl;
+      next = inl ((r.part.plain, r.fewer), refl);
     })
 
 pub too_long : (limit : ℕ) (before now : Moment) (left : Option (List ℕ)) (count most : ℕ) → ServedSoFar limit before now count
@@ -252,14 +241,6 @@ too_long limit before now left count most h m k =
 
 -- ---- a line that is not answered
 
-may_have_taken_effect : (limit : ℕ) (now new : State) (begun left line : List ℕ) → IsNext limit begun left line
-    → AskedMayTakeEffect now (call_of line) new → (new ≡ now) ⊎ ((next : List ℕ) × IsNext limit begun left next × TakesEffect now next new)
-may_have_taken_effect limit now new begun left line n (inl same) = inl same
-may_have_taken_effect limit now new begun left line n (inr effect) = inr (line, n, effect)
-
-one_line : (begun line : List ℕ) → lines_of begun ≡ line ∷ [] → length (lines_of begun) ≤ 1
-one_line begun line e = rw e (omega arith)
-
 unanswered : (limit : ℕ) (fault : ServeFault) (before now after : Moment) (count most : ℕ) (line bytes input left left' : List ℕ)
     → SoFar limit before now count input left → count < most → after.settled ≡ risen_by before.settled count → left ≡ bytes ++ left'
     → IsNext limit bytes left' line → FailsLine fault now.state line now.written after.written after.state
@@ -270,10 +251,8 @@ unanswered limit fault before now after count most line bytes input left left' h
   wrote = subst (λ (x : List ℕ). Appends before.written after.written x) (append-nil h.text)
       (Appends-trans before.written now.written after.written h.text [] h.wrote k.kept);
   settled = settled_for (length h.lines) count before.settled after.settled h.many t;
-  part = one_line bytes line n.read;
-  short = subst (All (IsShort limit)) (sym n.read) (All-push (IsShort limit) [] line (All-nil (IsShort limit)) n.short);
   more = fewer (length h.lines) count most h.many m;
-  next = may_have_taken_effect limit now.state after.state bytes left' line n k.effect;
+  next = inr (line, n, k.effect);
 })
 unanswered limit fault before now after count most line bytes input left left' h m t e n (inr (f, k)) = rw f (record {
   now = now.state;

@@ -20,16 +20,10 @@ pub record Ends (old new : Option (List ℕ)) (line line' : List ℕ) : Type 0 w
   pub kept : Keeps old new
   pub same : line' ≡ line
 
--- some bytes without a line feed are read, and lost
-pub record Loses (old new : Option (List ℕ)) (most : ℕ) : Type 0 where
-  pub bytes : List ℕ
-  pub read : Consumes old new bytes
-  pub plain : feeds bytes ≡ 0
-  pub short : length bytes ≤ most
-
+-- where memory runs out, and where a call fails, nothing is read
 abbrev pub RunRead : Option (List ℕ) → Option (List ℕ) → List ℕ → List ℕ → ℕ → Result Run Failed → Type 0
 RunRead old new line line' most (Ok Feed) = Moves old new line line' most (10 ∷ [])
 RunRead old new line line' most (Ok Part) = Moves old new line line' most [] × (length line < length line')
 RunRead old new line line' most (Ok End) = Ends old new line line'
-RunRead old new line line' most (Ok Memory) = Loses old new most
+RunRead old new line line' most (Ok Memory) = Keeps old new × (line' ≡ line)
 RunRead old new line line' most (Err e) = Keeps old new × (line' ≡ line)

@@ -104,16 +104,19 @@ pub record IsNext (limit : ℕ) (begun left line : List ℕ) : Type 0 where
 abbrev pub TakesEffect : State → List ℕ → State → Type 0
 TakesEffect old line new = (response : Option Response) × AnswersAsked old (call_of line) response new
 
--- after `Memory`: the next line is read, or a part of it, within the limit; where it is read, it has taken effect or has not
+-- of a line nothing is read, or a part without its line feed that is shorter than a line may be
+abbrev pub IsBegun : ℕ → List ℕ → Type 0
+IsBegun limit begun = (feeds begun ≡ 0) × (length begun < limit)
+
+-- after `Memory`: the next line is at most begun, or it is read whole, keeps the limit, and has taken effect or has not
 pub record AfterMemory (limit : ℕ) (before after : Moment) (most : ℕ) (input left : List ℕ) : Type 0 where
   pub now : State
   pub answered : FirstAnswered limit before.state now most input left
   pub wrote : Appends before.written after.written answered.text
   pub settled : IsSettled before after answered.first
-  pub part : length (lines_of answered.begun) ≤ 1
-  pub short : All (IsShort limit) (lines_of answered.begun)
   pub more : length answered.first < most
-  pub next : (after.state ≡ now) ⊎ ((line : List ℕ) × IsNext limit answered.begun left line × TakesEffect now line after.state)
+  pub next : (IsBegun limit answered.begun × (after.state ≡ now))
+      ⊎ ((line : List ℕ) × IsNext limit answered.begun left line × ((after.state ≡ now) ⊎ TakesEffect now line after.state))
 
 -- after `Write`: the next line is read and has taken effect, and a part of its reply is written
 pub record AfterWrite (limit : ℕ) (before after : Moment) (most : ℕ) (input left : List ℕ) : Type 0 where

@@ -21,6 +21,12 @@ pub record ReadsPart (limit : ℕ) (old new : Option (List ℕ)) : Type 0 where
   pub part : ReadsPlain old new bytes
   pub short : IsShort limit bytes
 
+-- a part of a line is read, shorter than a line may be
+pub record ReadsFewer (limit : ℕ) (old new : Option (List ℕ)) : Type 0 where
+  pub bytes : List ℕ
+  pub part : ReadsPlain old new bytes
+  pub fewer : length bytes < limit
+
 -- a part is read that is one byte longer than a line may be
 pub record ReadsLong (limit : ℕ) (old new : Option (List ℕ)) : Type 0 where
   pub bytes : List ℕ
@@ -50,7 +56,7 @@ ReadsLine limit line old new (Ok Ended) = ReadsEnded limit line old new
 ReadsLine limit line old new (Ok Last) = ReadsLast limit line old new
 ReadsLine limit line old new (Ok End) = ReadsEnd old new
 ReadsLine limit line old new (Ok TooLong) = ReadsLong limit old new
-ReadsLine limit line old new (Ok Memory) = ReadsPart limit old new
+ReadsLine limit line old new (Ok Memory) = ReadsFewer limit old new
 ReadsLine limit line old new (Err e) = ReadsPart limit old new
 
 -- after as many lines as may be served: nothing is left, or one byte is read, or a call failed

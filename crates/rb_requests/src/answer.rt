@@ -10,7 +10,7 @@ ghost use Rattle.rb_requests.specs.Line.{AreTextsOf};
 ghost use Rattle.rb_requests.specs.Lines.{LineReply};
 ghost use Rattle.rb_requests.specs.MayTakeEffect.{CallReply, AskedReply, CallMayTakeEffect, AskedMayTakeEffect};
 
-use crate::ask::{Line, json_of, lent_texts, line_of, texts_of};
+use crate::ask::{Line, lent_texts, line_of};
 use json::Scratch;
 use rb_engine::{Engine, Reply, Request};
 use rb_members::Texts;
@@ -92,10 +92,8 @@ pub(crate) fn reply_of(
 {
     let mut texts = Texts::none();
     if lent_texts(line, scratch, &mut texts)? {
-        return answer_texts(alloc, engine, &texts, reply);
-    }
-    match json_of(alloc, line)? {
-        None => bad_line(alloc, reply),
-        Some(value) => answer_texts(alloc, engine, &texts_of(&value), reply),
+        answer_texts(alloc, engine, &texts, reply)
+    } else {
+        bad_line(alloc, reply)
     }
 }

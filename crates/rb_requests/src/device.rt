@@ -19,7 +19,7 @@ pub enum Run {
     Part,
     /// At the end of the input.
     End,
-    /// Out of memory for the line.
+    /// Out of memory for the line; nothing is taken.
     Memory,
 }
 
@@ -40,21 +40,22 @@ pub trait Feed {
         ensures count { faults self.new ≡ counted (faults self.old) result };
 
     /// Moves the next bytes onto the end of a line, at least one and at most so many: up to a line feed, which is taken and not moved,
-    /// or a part of the line. They are those that calls of `pull` would give. After an error nothing is taken.
+    /// or a part of the line. They are those that calls of `pull` would give. After an error nothing is taken, and where memory runs
+    /// out for the line neither.
     fn pull_run(&mut self, line: &mut Vec<u8>, most: usize) -> Result<Run, Failed>
         requires { 0 < most }
         ensures bytes { RunRead (left self.old) (left self.new) line.old.items line.new.items most result }
         ensures count { faults self.new ≡ counted (faults self.old) result }
     {
+        if line.reserve(1).is_err() {
+            return Ok(Run::Memory);
+        }
         match self.pull() {
             Ok(Some(b'\n')) => Ok(Run::Feed),
-            Ok(Some(byte)) => {
-                if line.push(byte).is_ok() {
-                    Ok(Run::Part)
-                } else {
-                    Ok(Run::Memory)
-                }
-            }
+            Ok(Some(byte)) => match line.push(byte) {
+                Ok(()) => Ok(Run::Part),
+                Err(_) => unreachable!(),
+            },
             Ok(None) => Ok(Run::End),
             Err(failed) => Err(failed),
         }

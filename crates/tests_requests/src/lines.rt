@@ -277,7 +277,7 @@ fn refuses_nesting(alloc: Global, engine: &mut Engine) -> Result<bool, Fail> {
 }
 
 /// Inputs with the most lines that may be served, how serving ends and what is written.
-const INPUTS: [(&[u8], u64, Result<u64, ServeFault>, &[u8]); 4] = [
+const INPUTS: [(&[u8], u64, Result<u64, ServeFault>, &[u8]); 5] = [
     (
         b"\n\n",
         1,
@@ -287,6 +287,12 @@ const INPUTS: [(&[u8], u64, Result<u64, ServeFault>, &[u8]); 4] = [
     (b"x", 9, Ok(1), b"{\"error\":\"BadLine\"}\n"),
     (b"", 9, Ok(0), b""),
     (b"\xFF\n", 9, Ok(1), b"{\"error\":\"BadLine\"}\n"),
+    (
+        b"\0\n\0",
+        9,
+        Ok(2),
+        b"{\"error\":\"BadLine\"}\n{\"error\":\"BadLine\"}\n",
+    ),
 ];
 
 fn serves_inputs(alloc: Global, engine: &mut Engine) -> Result<bool, Fail> {

@@ -2,7 +2,7 @@ use Rattle.std.proofs.Common.{◌≡◌, ℕ, ◌≤◌, length}
 use Rattle.json.specs.Json.{members, value}
 use Rattle.serde_json.specs.Data.{Members, no_members}
 use Rattle.serde_json.specs.Read.{converted, of_members}
-use Rattle.rb_members.specs.Texts.{Holds, AreTexts}
+use Rattle.rb_members.specs.Texts.{Holds}
 use Rattle.rb_members.proofs.texts.read_members.Given as goal
 
 -- `found` has the members that were read, and the rest takes at most so many turns
@@ -14,7 +14,6 @@ invariant-members l = record {
   holds : Holds l.texts found;
   read : converted (λ ms. of_members ms no_members) (members (value 126) (length l.fn.reader) l.fn.reader)
       ≡ converted (λ ms. of_members ms found) (members (value 126) turns l.reader);
-  all : AreTexts l.fn.reader → AreTexts l.reader;
 }
 
 abbrev pub decreases-members : goal.decreases-members

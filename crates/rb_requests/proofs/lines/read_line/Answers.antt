@@ -1,6 +1,6 @@
-use Rattle.std.proofs.Common.{◌≡◌, ◌∙◌, List, ℕ, length, Ok, subst, arith}
+use Rattle.std.proofs.Common.{◌≡◌, ◌<◌, ◌∙◌, List, ℕ, length, Ok, subst, arith}
 use Rattle.rb_requests.specs.Taken.{ReadsLine}
-use Rattle.rb_requests.proofs.Reading.{reader, run_ended, run_more, run_lost}
+use Rattle.rb_requests.proofs.Reading.{reader, run_ended, run_more, run_refused}
 use Rattle.rb_requests.proofs.lines.read_line.Goals as goal
 
 pub returns-in-Feed-clause-line : goal.returns-in-Feed-clause-line
@@ -28,8 +28,9 @@ returns-in-End-clause-line g c =
 
 pub returns-in-Memory-clause-line : goal.returns-in-Memory-clause-line
 returns-in-Memory-clause-line g c =
-    let lost = rw c.in-Memory.is at c.in_ok-pull_run.ensures.bytes in
-    run_lost _ _ _ (g.F.Feed.left c.pull_run.new.self) _ _ c.runs.invariant lost (omega (arith, c.len-in-runs.ensures))
+    let kept = rw c.in-Memory.is at c.in_ok-pull_run.ensures.bytes in
+    let room : length c.runs.line.items < c.args.limit = omega (arith, c.len.ensures, c.runs-test.true) in
+    run_refused _ _ _ (g.F.Feed.left c.pull_run.new.self) _ c.runs.invariant kept.0 room
 
 pub returns-clause-line : goal.returns-clause-line
 returns-clause-line g c =
