@@ -1,15 +1,20 @@
 //! The commands of `resb`, over any runtime: compiling, checking, printing items and serving.
 #![tactic(auto)]
 
+mod batch;
 mod commands;
+mod console;
 mod files;
 mod handing;
 mod item;
+mod progress;
 mod serve;
 mod start;
 #[cfg(test)]
 mod tests;
 
-pub use commands::{check, compile, get};
+pub use batch::{check_all, compile_all};
+pub use commands::{check, check_on, compile, compile_on, get, get_on};
+pub use console::{Console, Hint};
 pub use item::{ItemError, text_at};
-pub use serve::serve_input;
+pub use serve::{serve_input, serve_on};

@@ -4,7 +4,7 @@ use std::alloc::Global;
 use std::test::Fail;
 
 /// Command lines, with the status of those that are refused.
-const LINES: [(&[&str], i32); 14] = [
+const LINES: [(&[&str], i32); 20] = [
     (&["resb"], 2),
     (&["resb", "get", "a.res"], 2),
     (&["resb", "get", "a.res", "a/b"], 0),
@@ -29,6 +29,12 @@ const LINES: [(&[&str], i32); 14] = [
     (&["resb", "check", "a.res"], 0),
     (&["resb", "compile", "a.txt"], 2),
     (&["resb", "compile", "a.txt", "a.res"], 0),
+    (&["resb", "compile", "-", "-"], 0),
+    (&["resb", "compile", "-q", "a.txt", "a.res"], 0),
+    (&["resb", "compile", "a.txt", "b.txt", "c.txt"], 2),
+    (&["resb", "compile", "--to", "x", "a", "b", "c", "d"], 0),
+    (&["resb", "compile", "--to", "x"], 2),
+    (&["resb", "check", "--quiet", "a.res", "b.res"], 0),
 ];
 
 fn status_of(alloc: Global, words: &[&str]) -> Result<i32, Fail> {
