@@ -114,7 +114,7 @@ fn bytes_of<'a, R: Files + AllocGlobal>(rt: &R, file: &'a str) -> Result<Vec<u8>
 }
 
 /// The explicit parents that a file has, a bundle text.
-fn read_parents<'a, R: Files + AllocGlobal>(
+pub(crate) fn read_parents<'a, R: Files + AllocGlobal>(
     rt: &R,
     file: &'a str,
 ) -> Result<Parents, StartError<'a>> {

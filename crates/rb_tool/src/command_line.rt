@@ -1,4 +1,6 @@
 //! The command line.
+use crate::bundle_commands::{lines_command, look_command};
+use crate::text_commands::{explain_command, lint_command};
 use clap::{Arg, ArgAction, Command};
 use std::alloc::{AllocError, Global};
 
@@ -181,11 +183,21 @@ fn with_get<'a>(alloc: Global, command: Command<'a>) -> Result<Command<'a>, Allo
     command.subcommand(get_command(alloc)?)
 }
 
+/// The commands that help with texts and with lookups.
+fn with_helpers<'a>(alloc: Global, command: Command<'a>) -> Result<Command<'a>, AllocError> {
+    command
+        .subcommand(lint_command(alloc)?)?
+        .subcommand(explain_command(alloc)?)?
+        .subcommand(lines_command(alloc)?)?
+        .subcommand(look_command(alloc)?)
+}
+
 /// The commands.
 pub fn commands<'a>(alloc: Global) -> Result<Command<'a>, AllocError> {
     let command = bare(alloc)?;
     let command = with_compile(alloc, command)?;
     let command = with_check(alloc, command)?;
     let command = with_get(alloc, command)?;
+    let command = with_helpers(alloc, command)?;
     command.subcommand(serve_command(alloc)?)
 }

@@ -1,8 +1,11 @@
 //! The commands that take more than words, from what the command line gave.
 use clap::ArgMatches;
-use rb_commands::{Console, check_all, check_on, compile_all, compile_on};
+use rb_commands::{
+    Change, Console, Lookup, check_all, check_on, compile_all, compile_on, lines, look_up,
+};
 use std::alloc::{AllocError, Global};
 use std::process::ExitCode;
+use std::random::RandomSource;
 use std::rt::{Clock, Files};
 
 /// A console that says nothing on success where `--quiet` was given.
@@ -57,4 +60,44 @@ pub fn chosen_check<R: Files + Clock + AllocGlobal + Print + Eprint>(
         [name] => check_on(rt, console, name),
         names => check_all(rt, console, names),
     }
+}
+
+/// What `--op` says: `install` where it isn't given.
+fn change_of(op: Option<&str>) -> Option<Change> {
+    match op {
+        None => Some(Change::Install),
+        Some("install") => Some(Change::Install),
+        Some("replace") => Some(Change::Replace),
+        Some(_) => None,
+    }
+}
+
+/// `lines APP [LOCALE=]FILE..`
+pub fn chosen_lines<R: Files + AllocGlobal + Print + Eprint>(
+    rt: &R,
+    console: Console,
+    inner: &ArgMatches<'_>,
+) -> ExitCode {
+    let Some(change) = change_of(inner.get_str("op")) else {
+        let _ = eprintln!(rt; "resb: --op is install or replace");
+        return ExitCode::from(2);
+    };
+    let app = inner.get_str("APP").unwrap_or("");
+    let files = inner.get_strs("FILE").unwrap_or(&[]);
+    lines(rt, console, change, app, files)
+}
+
+/// `look LOCALE PATH [LOCALE=]FILE..`
+pub fn chosen_look<R: Files + RandomSource + AllocGlobal + Print + Eprint>(
+    rt: &R,
+    console: Console,
+    inner: &ArgMatches<'_>,
+) -> ExitCode {
+    let lookup = Lookup {
+        parents: inner.get_str("parents"),
+        locale: inner.get_str("LOCALE").unwrap_or(""),
+        path: inner.get_str("PATH").unwrap_or(""),
+        is_traced: inner.get_flag("trace"),
+    };
+    look_up(rt, console, lookup, inner.get_strs("FILE").unwrap_or(&[]))
 }

@@ -1,15 +1,17 @@
 //! `resb`: compiles bundle texts, checks files, prints their items, and serves lookups.
 #![tactic(auto)]
 
+mod bundle_commands;
 mod command_line;
 mod given;
 #[cfg(test)]
 mod tests;
+mod text_commands;
 
 use crate::command_line::commands;
-use crate::given::{chosen_check, chosen_compile};
+use crate::given::{chosen_check, chosen_compile, chosen_lines, chosen_look};
 use clap::ArgMatches;
-use rb_commands::{Console, get_on, serve_on};
+use rb_commands::{Console, explain, get_on, lint_all, serve_on};
 use std::io::{ErrorKind, IsTerminal};
 use std::process::ExitCode;
 use std::random::RandomSource;
@@ -31,6 +33,10 @@ fn chosen<R: Files + RandomSource + Clock + AllocGlobal + Input + Print + Eprint
             inner.get_str("FILE").unwrap_or(""),
             inner.get_str("PATH").unwrap_or(""),
         ),
+        Some(("lint", inner)) => lint_all(rt, console, inner.get_strs("TEXT").unwrap_or(&[])),
+        Some(("explain", inner)) => explain(rt, inner.get_str("WORD")),
+        Some(("lines", inner)) => chosen_lines(rt, console, inner),
+        Some(("look", inner)) => chosen_look(rt, console, inner),
         Some(("serve", inner)) => serve_on(
             rt,
             console,
