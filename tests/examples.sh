@@ -56,6 +56,7 @@ serves() {
 
 while IFS= read -r file; do
     case $file in
+        clients/*) ;; # tests/clients.sh runs them
         README.md | *.replies.jsonl | */replies.jsonl) ;;
         *.txt) accepts "$file" ;;
         */requests.jsonl) ;;
@@ -65,6 +66,7 @@ while IFS= read -r file; do
     esac
 done < <(find . -type f | sed 's,^\./,,' | sort)
 for folder in */; do
+    [ -f "$folder/requests.jsonl" ] || continue
     serves "${folder%/}" txt .
     serves "${folder%/}" res "$made"
 done

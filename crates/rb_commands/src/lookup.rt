@@ -5,13 +5,10 @@ use crate::files::{cannot_read_on, printed, read_file, refused_on};
 use crate::request_lines::{Given, all_given, is_text};
 use crate::start::{StartError, not_started_on, read_parents};
 use rb_locales::Name;
-use rb_packages::Packages;
 use rb_parents::Parents;
 use rb_replies::ReplyLine;
 use rb_requests::{App, Engine, Payload, Reply, Request};
-use rb_trace::trace_text;
 use rb_tree::ByteList;
-use rb_validator::accept;
 use std::alloc::{AllocError, Global};
 use std::hash::RandomState;
 use std::process::ExitCode;
@@ -28,8 +25,6 @@ pub struct Lookup<'a> {
     pub parents: Option<&'a str>,
     pub locale: &'a str,
     pub path: &'a str,
-    /// Why the answer is what it is goes to standard error.
-    pub is_traced: bool,
 }
 
 /// The files of bundles, each with its name: a text is compiled.
@@ -104,40 +99,6 @@ fn install_all<R: AllocGlobal + Eprint>(
     Ok(())
 }
 
-/// The bundles once more, on a shelf of their own.
-fn packed(
-    alloc: Global,
-    state: RandomState,
-    app: &App,
-    bundles: &[Given<'_>],
-    files: Vec<Vec<u8>>,
-) -> Option<Packages> {
-    let mut packages = Packages::new(alloc, state);
-    for (bundle, file) in bundles.iter().zip(files) {
-        let accepted = accept(alloc, file).ok()?;
-        packages.install(app, bundle.name, accepted).ok()?;
-    }
-    Some(packages)
-}
-
-/// Says on standard error why a lookup is answered as it is.
-fn trace<R: RandomSource + AllocGlobal + Eprint>(
-    rt: &R,
-    parents: &Parents,
-    lookup: Lookup<'_>,
-    bundles: &[Given<'_>],
-    files: Vec<Vec<u8>>,
-) -> Option<()> {
-    let alloc = rt.alloc();
-    let app = App::read(APP.as_bytes()).ok()?;
-    let state = RandomState::new(rt).ok()?;
-    let packages = packed(alloc, state, &app, bundles, files)?;
-    let name = Name::read(lookup.locale.as_bytes()).ok()?;
-    let (own, icu) = (packages.shelf(&app), packages.icu_shelf());
-    let text = trace_text(alloc, own, icu, parents, &name, lookup.path.as_bytes()).ok()?;
-    rt.eprint(text).ok()
-}
-
 /// Prints the reply to a lookup; the status is 0 where something is found, and else 1.
 fn answer<R: AllocGlobal + Print + Eprint>(
     rt: &R,
@@ -197,10 +158,6 @@ fn look_over<R: Files + RandomSource + AllocGlobal + Print + Eprint>(
     let files = files_of(rt, console, bundles)?;
     let mut engine = engine(rt, parents).map_err(said)?;
     install_all(rt, console, &mut engine, bundles, &files)?;
-    if lookup.is_traced {
-        let parents = parents_of(rt, lookup.parents).map_err(said)?;
-        let _ = trace(rt, &parents, lookup, bundles, files);
-    }
     Ok(answer(rt, console, &engine, lookup))
 }
 

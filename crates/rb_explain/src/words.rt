@@ -378,7 +378,7 @@ pub(crate) const OF_LOOKUP: [Explanation; 9] = [
         of: Of::Lookup,
         meaning: "no bundle on the way has the item",
         cause: "no bundle on the way has the item; a bundle without fallback ends the way; an alias decides, and its target doesn't have the item",
-        remedy: "look with a shorter path, and read the keys; resb look --trace says which bundle decided, and why",
+        remedy: "look with a shorter path, and read the keys",
     },
     Explanation {
         word: "Chain",

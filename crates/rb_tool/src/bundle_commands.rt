@@ -1,5 +1,5 @@
 //! The commands that take bundles into lookups: `lines` and `look`.
-use clap::{Arg, ArgAction, Command};
+use clap::{Arg, Command};
 use std::alloc::{AllocError, Global};
 
 /// The bundles of a command, each with its locale.
@@ -42,7 +42,7 @@ pub fn lines_command<'a>(alloc: Global) -> Result<Command<'a>, AllocError> {
 const LOOK_HELP: &str = "\
 Examples:
   resb look de_AT menu/close bundles/*.res
-  resb look --trace de_AT menu/close bundles/*.txt
+  resb look --parents parents.txt zh_Hant_TW menu/close bundles/*.txt
 
 Status:
   0  the item is found, and printed as serve replies
@@ -55,11 +55,7 @@ fn with_flags<'a>(alloc: Global, command: Command<'a>) -> Result<Command<'a>, Al
         .long("parents")
         .value_name("FILE")
         .help("a bundle text with the explicit parents, at parentLocales");
-    let trace = Arg::new(alloc, "trace")
-        .long("trace")
-        .action(ArgAction::SetTrue)
-        .help("say on standard error which bundles were asked, and what decided");
-    command.arg(parents)?.arg(trace)
+    command.arg(parents)
 }
 
 /// `look LOCALE PATH [LOCALE=]FILE..`

@@ -43,10 +43,7 @@ const LINES: [(&[&str], i32); 29] = [
     (&["resb", "lines", "shop", "--op", "replace", "de=a.res"], 0),
     (&["resb", "look", "de", "a"], 2),
     (&["resb", "look", "de", "a/b", "a.res", "de_AT=b.txt"], 0),
-    (
-        &["resb", "look", "--trace", "--parents", "p", "de", "", "a"],
-        0,
-    ),
+    (&["resb", "look", "--parents", "p", "de", "", "a"], 0),
 ];
 
 fn status_of(alloc: Global, words: &[&str]) -> Result<i32, Fail> {
