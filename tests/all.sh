@@ -24,8 +24,11 @@ tests/memory.sh
 rt ci
 tests/examples.sh "$program"
 tests/stdout.sh "$program"
+tests/files.sh "$program"
+tests/clients.sh "$program"
 if has python3; then
     tests/documents.py "$program"
+    tests/completions.py "$program"
     tests/pipe.py "$program"
     tests/same_readings.py "$program"
     tests/icu2text.py "$program"

@@ -56,7 +56,7 @@ serves() {
 
 while IFS= read -r file; do
     case $file in
-        clients/*) ;; # programs, which other tests run
+        clients/*) ;; # tests/clients.sh runs them
         README.md | *.replies.jsonl | */replies.jsonl) ;;
         *.txt) accepts "$file" ;;
         */requests.jsonl) ;;
@@ -66,7 +66,7 @@ while IFS= read -r file; do
     esac
 done < <(find . -type f | sed 's,^\./,,' | sort)
 for folder in */; do
-    [ "$folder" != clients/ ] || continue
+    [ -f "$folder/requests.jsonl" ] || continue
     serves "${folder%/}" txt .
     serves "${folder%/}" res "$made"
 done

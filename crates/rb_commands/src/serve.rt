@@ -4,8 +4,9 @@ ghost use Rattle.rb_engine.specs.Kept.{state_of};
 ghost use Rattle.rb_requests.specs.Served.{AfterFault, at};
 ghost use Rattle.rb_commands.specs.Limits.{most_lines};
 
+use crate::console::Console;
 use crate::handing::{NotingFeed, WaitingWriter};
-use crate::start::{not_started, start};
+use crate::start::{not_started_on, start};
 use rb_requests::{Engine, Feed, ServeFault, Served, Sink, WriteSink, serve};
 use std::alloc::Global;
 use std::cell::Cell;
@@ -61,14 +62,19 @@ fn serve_buffered<R: Input + Print + AllocGlobal>(
 
 /// Answers the lines of standard input. The status is 0 once the input is read, and else 1, with the fault's name on standard error;
 /// `Memory` also where there is none for the buffers.
-fn serve_lines<R: Input + Print + Eprint + AllocGlobal>(rt: &R, engine: &mut Engine) -> ExitCode {
+fn serve_lines<R: Input + Print + Eprint + AllocGlobal>(
+    rt: &R,
+    console: Console,
+    engine: &mut Engine,
+) -> ExitCode {
     let fault = match serve_buffered(rt, engine) {
         Ok(Ok(())) => return ExitCode::SUCCESS,
         Ok(Err(fault)) => fault,
         Err(_) => ServeFault::Memory,
     };
     let word = fault.word();
-    let _ = eprintln!(rt; "{word}");
+    let hint = console.hint(word);
+    let _ = eprintln!(rt; "{word}{hint}");
     ExitCode::from(1)
 }
 
@@ -85,8 +91,18 @@ pub fn serve_input<R: Files + RandomSource + Input + Print + Eprint + AllocGloba
     parents: Option<&str>,
     bundles: &[&str],
 ) -> ExitCode {
+    serve_on(rt, Console::plain(), parents, bundles)
+}
+
+/// Answers as `serve_input`, on a console.
+pub fn serve_on<R: Files + RandomSource + Input + Print + Eprint + AllocGlobal>(
+    rt: &R,
+    console: Console,
+    parents: Option<&str>,
+    bundles: &[&str],
+) -> ExitCode {
     match start(rt, parents, bundles) {
-        Ok(mut engine) => serve_lines(rt, &mut engine),
-        Err(error) => not_started(rt, error),
+        Ok(mut engine) => serve_lines(rt, console, &mut engine),
+        Err(error) => not_started_on(rt, console, error),
     }
 }

@@ -2,6 +2,7 @@
 ghost use Rattle.std.specs.Prelude.{◌≡◌, length, vec_len, IfOk};
 ghost use Rattle.rb_engine.specs.Start.{IsIndexed};
 
+use crate::console::Console;
 use crate::files::read_file;
 use rb_lexer::SourceKind;
 use rb_locales::Name;
@@ -69,13 +70,15 @@ impl<'a> StartError<'a> {
 }
 
 /// Says why serving doesn't start, on a line of standard error. The status is 1 where a file is refused and out of memory, and else 2.
-pub fn not_started<R: Eprint>(rt: &R, error: StartError<'_>) -> ExitCode {
+pub fn not_started_on<R: Eprint>(rt: &R, console: Console, error: StartError<'_>) -> ExitCode {
     let (_, status) = match error {
         StartError::BadArgument(argument) => (eprintln!(rt; "bad bundle argument: {argument}"), 2),
         StartError::Unreadable(file) => (eprintln!(rt; "cannot read {file}"), 2),
-        StartError::Refused(file, word) => (eprintln!(rt; "{file}: {word}"), 1),
+        StartError::Refused(file, word) => {
+            (eprintln!(rt; "{file}: {word}{}", console.hint(word)), 1)
+        }
         StartError::NoRandomState => (eprintln!(rt; "no random state"), 2),
-        StartError::Memory => (eprintln!(rt; "Memory"), 1),
+        StartError::Memory => (eprintln!(rt; "Memory{}", console.hint("Memory")), 1),
     };
     ExitCode::from(status)
 }
@@ -111,7 +114,7 @@ fn bytes_of<'a, R: Files + AllocGlobal>(rt: &R, file: &'a str) -> Result<Vec<u8>
 }
 
 /// The explicit parents that a file has, a bundle text.
-fn read_parents<'a, R: Files + AllocGlobal>(
+pub(crate) fn read_parents<'a, R: Files + AllocGlobal>(
     rt: &R,
     file: &'a str,
 ) -> Result<Parents, StartError<'a>> {

@@ -1,9 +1,11 @@
 //! The commands over files in memory: what they print, what they leave, and their statuses.
+mod batch;
 mod desk;
 mod get;
 
 use crate::commands::{check, compile, get};
-use crate::start::{StartError, not_started, start};
+use crate::console::Console;
+use crate::start::{StartError, not_started_on, start};
 use desk::Desk;
 use std::alloc::Global;
 use std::process::ExitCode;
@@ -144,14 +146,45 @@ fn compiles_before_it_writes(rt: HostRuntime) {
     assert!(rt; are_steps(rt.alloc(), ROOM, &BAD_TEXT));
 }
 
-const FULL_DISK: [Step<'static>; 6] = [
+const FULL_DISK: [Step<'static>; 10] = [
     Put("in.txt", b"root{}"),
     Compile("in.txt", "out.res", 2, "", "cannot write out.res\n"),
     Keeps("out.res", false),
+    Put("older.res", b"older"),
+    Compile("in.txt", "older.res", 2, "", "cannot write older.res\n"),
+    Has("older.res", b"older"),
+    Keeps("older.res.resb-unfinished", false),
     Put("/dev/full", b""),
     Compile("in.txt", "/dev/full", 2, "", "cannot write /dev/full\n"),
     Keeps("/dev/full", true),
 ];
+
+/// An older file, what a command that was killed left, and files that aren't overwritten.
+const OLDER: [Step<'static>; 12] = [
+    Put("in.txt", b"root{}"),
+    Put("out.res", b"older"),
+    Put("out.res.resb-unfinished", b"half"),
+    Compile("in.txt", "out.res", 0, "wrote 56 bytes\n", ""),
+    Has("out.res", &EMPTY),
+    Keeps("out.res.resb-unfinished", false),
+    Put("fr.txt", b"fr{}"),
+    Compile(
+        "in.txt",
+        "fr.txt",
+        2,
+        "",
+        "resb: OUT is a bundle text: fr.txt\n",
+    ),
+    Has("fr.txt", b"fr{}"),
+    Put("fr", b"fr{}"),
+    Compile("fr", "fr", 2, "", "resb: OUT is IN: fr\n"),
+    Has("fr", b"fr{}"),
+];
+
+#[test]
+fn replaces_files_and_no_texts(rt: HostRuntime) {
+    assert!(rt; are_steps(rt.alloc(), ROOM, &OLDER));
+}
 
 #[test]
 fn leaves_no_half_file(rt: HostRuntime) {
@@ -236,7 +269,7 @@ fn desk_with_files(alloc: Global) -> Option<Desk> {
 fn refusal(desk: &Desk, parents: Option<&str>, arguments: &[&str]) -> Option<ExitCode> {
     match start(desk, parents, arguments) {
         Ok(_) => None,
-        Err(error) => Some(not_started(desk, error)),
+        Err(error) => Some(not_started_on(desk, Console::plain(), error)),
     }
 }
 
@@ -283,7 +316,7 @@ fn starts_with_a_random_state(rt: HostRuntime) {
 
 /// Whether a start for which there is no memory is answered so.
 fn says_memory(desk: &Desk) -> bool {
-    let status = not_started(desk, StartError::Memory);
+    let status = not_started_on(desk, Console::plain(), StartError::Memory);
     ended(desk, status, 1, "", "Memory\n")
 }
 

@@ -1,5 +1,7 @@
 //! The command line.
-use clap::{Arg, Command};
+use crate::bundle_commands::{lines_command, look_command};
+use crate::text_commands::{explain_command, lint_command};
+use clap::{Arg, ArgAction, Command};
 use std::alloc::{AllocError, Global};
 
 /// The command with one more word that must be given.
@@ -12,39 +14,80 @@ fn with_word<'a>(
     command.arg(Arg::new(alloc, name).required(true).help(help))
 }
 
+/// The flag of commands that need say nothing on success.
+fn quiet_argument<'a>(alloc: Global) -> Arg<'a> {
+    Arg::new(alloc, "quiet")
+        .short('q')
+        .long("quiet")
+        .action(ArgAction::SetTrue)
+        .help("no line on success")
+}
+
 /// The end of the help of `compile`.
 const COMPILE_HELP: &str = "\
-Example:
+Examples:
   resb compile de.txt de.res
+  resb compile --to bundles texts/*.txt
+
+IN - is standard input, and OUT - is standard output. OUT is never IN, nor a file whose name ends
+in .txt. With --to each text is compiled to DIR/STEM.res.
 
 Status:
   0  OUT is written; its length is printed
-  1  the text is refused, as de.txt:3: BadInt, or out of memory; nothing is written
+  1  the text is refused, as de.txt:3: BadInt, or out of memory; nothing is written. With --to,
+     where this or an unreadable file is the fate of any text
   2  the command line is invalid, or a file or standard output can't be read or written";
 
+/// The texts of `compile`: IN and OUT, or with `--to` any number.
+fn with_texts<'a>(alloc: Global, command: Command<'a>) -> Result<Command<'a>, AllocError> {
+    let output = Arg::new(alloc, "OUT")
+        .required_unless_present("to")?
+        .help("the file to write; with --to, a further text");
+    let more = Arg::new(alloc, "TEXT")
+        .num_args(0..)
+        .requires_arg("to")?
+        .help("with --to, further texts");
+    with_word(alloc, command, "IN", "a bundle text, in UTF-8")?
+        .arg(output)?
+        .arg(more)
+}
+
 fn compile_command<'a>(alloc: Global) -> Result<Command<'a>, AllocError> {
+    let folder = Arg::new(alloc, "to")
+        .long("to")
+        .value_name("DIR")
+        .help("compile many texts into this folder");
     let command = Command::new(alloc, "compile")
-        .about("Compiles a bundle text to a .res file")
-        .after_help(COMPILE_HELP);
-    let command = with_word(alloc, command, "IN", "a bundle text, in UTF-8")?;
-    with_word(alloc, command, "OUT", "the file to write")
+        .about("Compiles bundle texts to .res files")
+        .after_help(COMPILE_HELP)
+        .arg(folder)?
+        .arg(quiet_argument(alloc))?;
+    with_texts(alloc, command)
 }
 
 /// The end of the help of `check`.
 const CHECK_HELP: &str = "\
-Example:
+Examples:
   resb check de.res
+  resb check bundles/*.res
+
+Each line begins with the file's name where there is more than one file.
 
 Status:
-  0  the file is a bundle; the number of its tables and arrays with data is printed
-  1  the file is refused, as de.res: KeyOrder, or out of memory
+  0  each file is a bundle; the number of its tables and arrays with data is printed
+  1  a file is refused, as de.res: KeyOrder, or out of memory; or one of many can't be read
   2  the command line is invalid, the file can't be read, or standard output can't be written";
 
 fn check_command<'a>(alloc: Global) -> Result<Command<'a>, AllocError> {
-    let command = Command::new(alloc, "check")
-        .about("Checks a .res file")
-        .after_help(CHECK_HELP);
-    with_word(alloc, command, "FILE", "a .res file")
+    let files = Arg::new(alloc, "FILE")
+        .required(true)
+        .num_args(1..)
+        .help("a .res file");
+    Command::new(alloc, "check")
+        .about("Checks .res files")
+        .after_help(CHECK_HELP)
+        .arg(quiet_argument(alloc))?
+        .arg(files)
 }
 
 /// The end of the help of `get`.
@@ -121,7 +164,7 @@ fn bare<'a>(alloc: Global) -> Result<Command<'a>, AllocError> {
     Ok(
         Command::new(alloc, "resb")
             .bin_name("resb")?
-            .version("1.0.0")
+            .version("1.1.0")
             .about("Compiles, checks, reads and serves ICU resource bundles")
             .after_help(HELP)
             .subcommand_required(true),
@@ -140,11 +183,21 @@ fn with_get<'a>(alloc: Global, command: Command<'a>) -> Result<Command<'a>, Allo
     command.subcommand(get_command(alloc)?)
 }
 
+/// The commands that help with texts and with lookups.
+fn with_helpers<'a>(alloc: Global, command: Command<'a>) -> Result<Command<'a>, AllocError> {
+    command
+        .subcommand(lint_command(alloc)?)?
+        .subcommand(explain_command(alloc)?)?
+        .subcommand(lines_command(alloc)?)?
+        .subcommand(look_command(alloc)?)
+}
+
 /// The commands.
 pub fn commands<'a>(alloc: Global) -> Result<Command<'a>, AllocError> {
     let command = bare(alloc)?;
     let command = with_compile(alloc, command)?;
     let command = with_check(alloc, command)?;
     let command = with_get(alloc, command)?;
+    let command = with_helpers(alloc, command)?;
     command.subcommand(serve_command(alloc)?)
 }

@@ -1,38 +1,45 @@
 //! `resb`: compiles bundle texts, checks files, prints their items, and serves lookups.
 #![tactic(auto)]
 
+mod bundle_commands;
 mod command_line;
+mod given;
 #[cfg(test)]
 mod tests;
+mod text_commands;
 
 use crate::command_line::commands;
+use crate::given::{chosen_check, chosen_compile, chosen_lines, chosen_look};
 use clap::ArgMatches;
-use rb_commands::{check, compile, get, serve_input};
-use std::io::ErrorKind;
+use rb_commands::{Console, explain, get_on, lint_all, serve_on};
+use std::io::{ErrorKind, IsTerminal};
 use std::process::ExitCode;
 use std::random::RandomSource;
-use std::rt::{Env, Files};
+use std::rt::{Clock, Env, Files};
 use std::{env, io};
 
 /// Runs the command that was chosen.
-fn chosen<R: Files + RandomSource + AllocGlobal + Input + Print + Eprint>(
+fn chosen<R: Files + RandomSource + Clock + AllocGlobal + Input + Print + Eprint>(
     rt: &R,
+    console: Console,
     matches: &ArgMatches<'_>,
 ) -> ExitCode {
     match matches.subcommand() {
-        Some(("compile", inner)) => compile(
+        Some(("compile", inner)) => chosen_compile(rt, console, inner),
+        Some(("check", inner)) => chosen_check(rt, console, inner),
+        Some(("get", inner)) => get_on(
             rt,
-            inner.get_str("IN").unwrap_or(""),
-            inner.get_str("OUT").unwrap_or(""),
-        ),
-        Some(("check", inner)) => check(rt, inner.get_str("FILE").unwrap_or("")),
-        Some(("get", inner)) => get(
-            rt,
+            console,
             inner.get_str("FILE").unwrap_or(""),
             inner.get_str("PATH").unwrap_or(""),
         ),
-        Some(("serve", inner)) => serve_input(
+        Some(("lint", inner)) => lint_all(rt, console, inner.get_strs("TEXT").unwrap_or(&[])),
+        Some(("explain", inner)) => explain(rt, inner.get_str("WORD")),
+        Some(("lines", inner)) => chosen_lines(rt, console, inner),
+        Some(("look", inner)) => chosen_look(rt, console, inner),
+        Some(("serve", inner)) => serve_on(
             rt,
+            console,
             inner.get_str("parents"),
             inner.get_strs("bundles").unwrap_or(&[]),
         ),
@@ -40,14 +47,15 @@ fn chosen<R: Files + RandomSource + AllocGlobal + Input + Print + Eprint>(
     }
 }
 
-fn run<R: Files + RandomSource + AllocGlobal + Input + Print + Eprint + Env>(
+fn run<R: Files + RandomSource + Clock + AllocGlobal + Input + Print + Eprint + Env>(
     rt: &R,
+    console: Console,
 ) -> io::Result<ExitCode> {
     let alloc = rt.alloc();
     let words: Vec<String> = env::args(rt)?.collect(alloc)?;
     let command = commands(alloc)?;
     match command.try_get_matches_from(words.as_slice()) {
-        Ok(matches) => Ok(chosen(rt, &matches)),
+        Ok(matches) => Ok(chosen(rt, console, &matches)),
         Err(error) => {
             error.print(rt)?;
             Ok(ExitCode::from(error.exit_code() as u8))
@@ -67,7 +75,11 @@ fn not_run<R: Eprint>(rt: &R, error: io::Error) -> ExitCode {
 }
 
 fn main(rt: HostRuntime) -> ExitCode {
-    match run(&rt) {
+    let console = Console {
+        is_quiet: false,
+        is_terminal: rt.stderr().is_terminal(),
+    };
+    match run(&rt, console) {
         Ok(status) => status,
         Err(error) => not_run(&rt, error),
     }

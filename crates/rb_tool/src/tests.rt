@@ -4,7 +4,7 @@ use std::alloc::Global;
 use std::test::Fail;
 
 /// Command lines, with the status of those that are refused.
-const LINES: [(&[&str], i32); 14] = [
+const LINES: [(&[&str], i32); 29] = [
     (&["resb"], 2),
     (&["resb", "get", "a.res"], 2),
     (&["resb", "get", "a.res", "a/b"], 0),
@@ -29,6 +29,21 @@ const LINES: [(&[&str], i32); 14] = [
     (&["resb", "check", "a.res"], 0),
     (&["resb", "compile", "a.txt"], 2),
     (&["resb", "compile", "a.txt", "a.res"], 0),
+    (&["resb", "compile", "-", "-"], 0),
+    (&["resb", "compile", "-q", "a.txt", "a.res"], 0),
+    (&["resb", "compile", "a.txt", "b.txt", "c.txt"], 2),
+    (&["resb", "compile", "--to", "x", "a", "b", "c", "d"], 0),
+    (&["resb", "compile", "--to", "x"], 2),
+    (&["resb", "check", "--quiet", "a.res", "b.res"], 0),
+    (&["resb", "lint"], 2),
+    (&["resb", "lint", "a.txt", "b.txt"], 0),
+    (&["resb", "explain"], 0),
+    (&["resb", "explain", "BadInt", "BadHex"], 2),
+    (&["resb", "lines", "shop"], 2),
+    (&["resb", "lines", "shop", "--op", "replace", "de=a.res"], 0),
+    (&["resb", "look", "de", "a"], 2),
+    (&["resb", "look", "de", "a/b", "a.res", "de_AT=b.txt"], 0),
+    (&["resb", "look", "--parents", "p", "de", "", "a"], 0),
 ];
 
 fn status_of(alloc: Global, words: &[&str]) -> Result<i32, Fail> {

@@ -2,12 +2,13 @@
 use std::alloc::{Allocator, Global};
 use std::cell::{Cell, RefCell};
 use std::fmt::Display;
-use std::fs::{Metadata, OpenFile, OpenOptions};
+use std::fs::{Metadata, OpenFile, OpenOptions, Permissions};
 use std::io;
 use std::io::{ErrorKind, Read, Seek, SeekFrom, Write};
 use std::random::RandomSource;
 use std::rc::Rc;
-use std::rt::Files;
+use std::rt::{Clock, Files};
+use std::time::Duration;
 
 /// Bytes that all openings of a file share.
 type Bytes = Rc<RefCell<Vec<u8>>>;
@@ -83,10 +84,14 @@ impl OpenFile for Paper {
     fn sync_data(&self) -> io::Result<()> {
         Ok(())
     }
+
+    fn set_permissions(&self, _perm: Permissions) -> io::Result<()> {
+        Ok(())
+    }
 }
 
 /// A desk with files, a disk that takes `room` bytes a file, and what was printed. Files below `/dev/` are devices, and there are random
-/// bytes only where there is a `/dev/random`.
+/// bytes only where there is a `/dev/random`. Each look at the clock takes a second.
 #[derive(Drop)]
 pub struct Desk {
     alloc: Global,
@@ -95,6 +100,7 @@ pub struct Desk {
     output: RefCell<String>,
     errors: RefCell<String>,
     output_is_closed: Cell<bool>,
+    seconds: Cell<u64>,
 }
 
 impl Desk {
@@ -106,6 +112,7 @@ impl Desk {
             output: RefCell::new(String::new(alloc)),
             errors: RefCell::new(String::new(alloc)),
             output_is_closed: Cell::new(false),
+            seconds: Cell::new(0),
         }
     }
 
@@ -235,6 +242,18 @@ impl RandomSource for Desk {
     }
 }
 
+impl Clock for Desk {
+    fn monotonic(&self) -> io::Result<Duration> {
+        let seconds = self.seconds.get();
+        self.seconds.set(seconds.saturating_add(1));
+        Ok(Duration::from_secs(seconds))
+    }
+
+    fn since_1970(&self) -> io::Result<Duration> {
+        self.monotonic()
+    }
+}
+
 impl Files for Desk {
     type File = Paper;
 
@@ -243,8 +262,11 @@ impl Files for Desk {
     fn open_file(&self, how: &OpenOptions, path: &str) -> io::Result<Paper> {
         how.check()?;
         let bytes = match self.shared(path) {
+            Some(_) if how.asks_create_new() => {
+                return Err(io::Error::from(ErrorKind::AlreadyExists));
+            }
             Some(bytes) => bytes,
-            None if how.asks_create() => self.place(path, &[])?,
+            None if how.asks_create() || how.asks_create_new() => self.place(path, &[])?,
             None => return Err(io::Error::from(ErrorKind::NotFound)),
         };
         let paper = Paper {
@@ -263,20 +285,33 @@ impl Files for Desk {
         Err(io::Error::from(ErrorKind::Unsupported))
     }
 
-    fn metadata(&self, _path: &str) -> io::Result<Metadata> {
-        Err(io::Error::from(ErrorKind::Unsupported))
+    fn metadata(&self, path: &str) -> io::Result<Metadata> {
+        match self.shared(path) {
+            None => Err(io::Error::from(ErrorKind::NotFound)),
+            Some(_) if path.starts_with("/dev/") => Err(io::Error::from(ErrorKind::Unsupported)),
+            Some(_) => Ok(Metadata::of_file(0)),
+        }
     }
 
-    fn symlink_metadata(&self, _path: &str) -> io::Result<Metadata> {
-        Err(io::Error::from(ErrorKind::Unsupported))
+    fn symlink_metadata(&self, path: &str) -> io::Result<Metadata> {
+        self.metadata(path)
     }
 
     fn copy(&self, _from: &str, _to: &str) -> io::Result<u64> {
         Err(io::Error::from(ErrorKind::Unsupported))
     }
 
-    fn rename(&self, _from: &str, _to: &str) -> io::Result<()> {
-        Err(io::Error::from(ErrorKind::Unsupported))
+    fn rename(&self, from: &str, to: &str) -> io::Result<()> {
+        let name = String::from_str(self.alloc, to)?;
+        let _ = self.remove_file(to);
+        let found = self.find(from);
+        if let (Some(i), Ok(mut files)) = (found, self.files.try_borrow_mut()) {
+            if let Some(file) = files.get_mut(i) {
+                file.0 = name;
+                return Ok(());
+            }
+        }
+        Err(io::Error::from(ErrorKind::NotFound))
     }
 
     fn remove_file(&self, path: &str) -> io::Result<()> {

@@ -1,0 +1,62 @@
+//! `resb explain`.
+use crate::files::printed;
+use rb_explain::Of;
+use std::io;
+use std::process::ExitCode;
+
+/// What errors are of, in the order in which they are explained.
+const KINDS: [Of; 8] = [
+    Of::Text,
+    Of::File,
+    Of::Path,
+    Of::Start,
+    Of::Request,
+    Of::Lookup,
+    Of::Serving,
+    Of::Memory,
+];
+
+/// The words of one kind of errors, each with its meaning.
+fn list_kind<R: Print>(rt: &R, of: Of) -> io::Result<()> {
+    println!(rt; "{of}:")?;
+    for explanation in of.explanations() {
+        let (word, meaning) = (explanation.word, explanation.meaning);
+        println!(rt; "  {word}: {meaning}")?;
+    }
+    Ok(())
+}
+
+fn list<R: Print>(rt: &R) -> io::Result<()> {
+    for of in KINDS {
+        list_kind(rt, of)?;
+    }
+    Ok(())
+}
+
+/// Prints the explanations of a word; whether there is one.
+fn explain_word<R: Print>(rt: &R, word: &str) -> io::Result<bool> {
+    let mut is_known = false;
+    for of in KINDS {
+        if let Some(explanation) = of.explanation(word) {
+            println!(rt; "{explanation}")?;
+            is_known = true;
+        }
+    }
+    Ok(is_known)
+}
+
+/// Prints what an error word means, its likely causes and what to do, or without a word the list of all words. The status is 0; 1
+/// where there is no such word; 2 where standard output can't be written.
+pub fn explain<R: Print + Eprint>(rt: &R, word: Option<&str>) -> ExitCode {
+    let Some(word) = word else {
+        return printed(rt, list(rt));
+    };
+    match explain_word(rt, word) {
+        Ok(true) => ExitCode::SUCCESS,
+        Ok(false) => {
+            let _ = eprintln!(rt; "resb: {word} is no error word: resb explain lists them");
+            ExitCode::from(1)
+        }
+        Err(error) => printed(rt, Err(error)),
+    }
+}

@@ -1,0 +1,91 @@
+//! Explanations of error words.
+use crate::words::{
+    OF_FILE, OF_LOOKUP, OF_MEMORY, OF_PATH, OF_REQUEST, OF_SERVING, OF_START, OF_TEXT,
+};
+use std::fmt;
+
+/// What an error is of.
+#[derive(Clone, Copy, Debug, PartialEq, Eq)]
+pub enum Of {
+    /// A bundle text.
+    Text,
+    /// A `.res` file.
+    File,
+    /// A path within one file.
+    Path,
+    /// What `serve` is given at its start.
+    Start,
+    /// A request to `serve`.
+    Request,
+    /// A lookup.
+    Lookup,
+    /// Serving that ends early.
+    Serving,
+    /// Memory.
+    Memory,
+}
+
+impl Of {
+    /// The explanations of its words.
+    pub fn explanations(self) -> &'static [Explanation] {
+        match self {
+            Of::Text => &OF_TEXT,
+            Of::File => &OF_FILE,
+            Of::Path => &OF_PATH,
+            Of::Start => &OF_START,
+            Of::Request => &OF_REQUEST,
+            Of::Lookup => &OF_LOOKUP,
+            Of::Serving => &OF_SERVING,
+            Of::Memory => &OF_MEMORY,
+        }
+    }
+
+    /// The explanation of a word, where it is an error of this; letters of either case are one.
+    pub fn explanation(self, word: &str) -> Option<&'static Explanation> {
+        for explanation in self.explanations() {
+            if explanation.word.eq_ignore_ascii_case(word) {
+                return Some(explanation);
+            }
+        }
+        None
+    }
+}
+
+impl fmt::Display for Of {
+    fn fmt<W: fmt::Write>(&self, f: &mut fmt::Formatter<W>) -> fmt::Result {
+        f.write_str(match self {
+            Of::Text => "an error of bundle texts",
+            Of::File => "an error of files",
+            Of::Path => "an error of resb get",
+            Of::Start => "an error at the start of resb serve",
+            Of::Request => "an error in a reply to a request",
+            Of::Lookup => "an error in a reply to a lookup",
+            Of::Serving => "why serving ended early",
+            Of::Memory => "an error of any command",
+        })
+    }
+}
+
+/// What an error word means.
+#[derive(Clone, Copy, Debug)]
+pub struct Explanation {
+    pub word: &'static str,
+    pub of: Of,
+    /// The meaning, without a capital and without a full stop, as the others.
+    pub meaning: &'static str,
+    /// Likely causes.
+    pub cause: &'static str,
+    /// What to do.
+    pub remedy: &'static str,
+}
+
+impl fmt::Display for Explanation {
+    fn fmt<W: fmt::Write>(&self, f: &mut fmt::Formatter<W>) -> fmt::Result {
+        let (word, of) = (self.word, self.of);
+        write!(
+            f,
+            "{word}, {of}\n  meaning: {}\n  likely cause: {}\n  what to do: {}",
+            self.meaning, self.cause, self.remedy
+        )
+    }
+}

@@ -1,0 +1,9 @@
+//! What the error words mean, their likely causes and what to do.
+#![tactic(auto)]
+
+mod explanation;
+#[cfg(test)]
+mod tests;
+mod words;
+
+pub use explanation::{Explanation, Of};

@@ -1,0 +1,18 @@
+//! What is valid in a bundle text and most likely not meant, and where an error of a text really began.
+#![tactic(auto)]
+
+mod braces;
+mod findings;
+mod name;
+mod piece;
+mod quotes;
+mod scan;
+mod search;
+mod sides;
+#[cfg(test)]
+mod tests;
+mod warning;
+
+pub use findings::WARNING_LIMIT;
+pub use search::lint;
+pub use warning::{Doubt, Warning};

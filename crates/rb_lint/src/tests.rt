@@ -1,0 +1,84 @@
+//! Texts with what is doubtful in them.
+use crate::search::lint;
+use crate::warning::{Doubt, Warning};
+use std::alloc::Global;
+
+/// Texts, and the warnings that they have.
+const DOUBTFUL: [(&[u8], &[(u64, Doubt)]); 14] = [
+    (b"de{a{\"b\"}}", &[]),
+    (b"", &[]),
+    (
+        b"de {\n a { \"b }\n c { \"d\" }\n}\n",
+        &[(2, Doubt::RunsOn)],
+    ),
+    (b"de {\n a { \"b\n c\" }\n}\n", &[(2, Doubt::RunsOn)]),
+    (b"de{a{\"b\" c}}", &[(1, Doubt::Mixed)]),
+    (b"de{a{\n\"b\"\n\"c\",\n\"d\"}}", &[(2, Doubt::Joined)]),
+    (b"de{a{\"b\" \"c\"}}", &[]),
+    (b"de{a:intvector{1 2}}", &[(1, Doubt::Joined)]),
+    (b"de{a{Guten Tag, Hallo Welt}}", &[]),
+    (b"de{a{\"\\q\" \"\\n\"}}", &[(1, Doubt::Escape('q'))]),
+    (b"de{a{\"\\\\u005c\"}}", &[(1, Doubt::TwoBackslashes)]),
+    (b"fr{a{\"b\"}}", &[(1, Doubt::OtherName)]),
+    (b"de { // \" {\n /* \" { */ a { \"b\" }\n}\n", &[]),
+    (b"\xEF\xBB\xBFde{a{\"b\"}}", &[]),
+];
+
+fn is_linted(alloc: Global, text: &[u8], wanted: &[(u64, Doubt)]) -> bool {
+    match lint(alloc, text, Some(b"de")) {
+        Ok(found) => {
+            found.len() == wanted.len()
+                && found.iter().zip(wanted).all(|(warning, other)| *warning
+                    == Warning {
+                        line: other.0,
+                        doubt: other.1,
+                    })
+        }
+        Err(_) => false,
+    }
+}
+
+#[test]
+fn finds_what_is_doubtful(rt: HostRuntime) {
+    for (text, wanted) in DOUBTFUL {
+        assert!(rt; is_linted(rt.alloc(), text, wanted));
+    }
+}
+
+const INDENTED: &[u8] =
+    b"de {\n    a {\n        b { \"c\" }\n    }\n    d {\n        e { \"f\" }\n    }\n}\n";
+
+/// Bytes that are taken out of the indented text, and a warning that it has then.
+const WITHOUT: [(usize, u64, Doubt); 5] = [
+    // the brace that opens `a`
+    (11, 3, Doubt::FurtherRight),
+    // that of `b`, and the one that closes it
+    (23, 3, Doubt::NotOpened),
+    (29, 4, Doubt::NotClosed(3)),
+    // the one that closes `a`
+    (35, 5, Doubt::NotClosed(2)),
+    // the quote that opens `c`
+    (25, 3, Doubt::RunsOn),
+];
+
+/// Whether the indented text without a byte has this warning.
+fn is_found(alloc: Global, without: usize, line: u64, doubt: Doubt) -> bool {
+    let Ok(mut text) = INDENTED.to_vec(alloc) else {
+        return false;
+    };
+    if without < text.len() {
+        let _ = text.remove(without);
+    }
+    match lint(alloc, &text, None) {
+        Ok(found) => found.contains(&Warning { line, doubt }),
+        Err(_) => false,
+    }
+}
+
+#[test]
+fn finds_what_is_missing(rt: HostRuntime) {
+    assert!(rt; is_linted(rt.alloc(), INDENTED, &[]));
+    for (without, line, doubt) in WITHOUT {
+        assert!(rt; is_found(rt.alloc(), without, line, doubt));
+    }
+}

@@ -1,0 +1,45 @@
+//! The commands that help with bundle texts: `lint` and `explain`.
+use clap::{Arg, Command};
+use std::alloc::{AllocError, Global};
+
+/// The end of the help of `lint`.
+const LINT_HELP: &str = "\
+Example:
+  resb lint texts/*.txt
+
+Status:
+  0  each text is compiled, and nothing in it is doubtful
+  1  there is a warning, as de.txt:3: warning: .., or an error of a text, as of compile
+  2  the command line is invalid, or standard output can't be written";
+
+/// `lint TEXT..`
+pub fn lint_command<'a>(alloc: Global) -> Result<Command<'a>, AllocError> {
+    let texts = Arg::new(alloc, "TEXT")
+        .required(true)
+        .num_args(1..)
+        .help("a bundle text, in UTF-8");
+    Command::new(alloc, "lint")
+        .about("Says what is doubtful in bundle texts, and where an error really began")
+        .after_help(LINT_HELP)
+        .arg(texts)
+}
+
+/// The end of the help of `explain`.
+const EXPLAIN_HELP: &str = "\
+Examples:
+  resb explain
+  resb explain FormatVersion
+
+Status:
+  0  the word is explained, or all words are listed
+  1  there is no such word
+  2  the command line is invalid, or standard output can't be written";
+
+/// `explain [WORD]`
+pub fn explain_command<'a>(alloc: Global) -> Result<Command<'a>, AllocError> {
+    let word = Arg::new(alloc, "WORD").help("an error word, as BadInt; none lists all");
+    Command::new(alloc, "explain")
+        .about("Says what an error word means, its likely causes and what to do")
+        .after_help(EXPLAIN_HELP)
+        .arg(word)
+}

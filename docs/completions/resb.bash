@@ -1,0 +1,27 @@
+# Completion of resb for bash: source this file, or put it into /usr/share/bash-completion/completions/resb.
+_resb() {
+    local word=${COMP_WORDS[COMP_CWORD]} before=${COMP_WORDS[COMP_CWORD - 1]} flags=
+    if [ "$COMP_CWORD" -eq 1 ]; then
+        COMPREPLY=($(compgen -W 'compile check get lint explain lines look serve help --help --version' -- "$word"))
+        return
+    fi
+    case ${COMP_WORDS[1]} in
+        compile) flags='--to --quiet --help' ;;
+        check) flags='--quiet --help' ;;
+        get) flags='--help' ;;
+        lint) flags='--help' ;;
+        explain) flags='--help' ;;
+        lines) flags='--op --help' ;;
+        look) flags='--parents --help' ;;
+        serve) flags='--parents --help' ;;
+    esac
+    case $before in
+        --to) COMPREPLY=($(compgen -d -- "$word")) && return ;;
+        --op) COMPREPLY=($(compgen -W 'install replace' -- "$word")) && return ;;
+    esac
+    case $word in
+        -*) COMPREPLY=($(compgen -W "$flags" -- "$word")) ;;
+        *) COMPREPLY=($(compgen -f -- "$word")) ;;
+    esac
+}
+complete -o filenames -F _resb resb

@@ -1,0 +1,19 @@
+#!/usr/bin/env bash
+# Runs the clients of examples/clients/ over the pipe of a built program, each where its language is there.
+#
+# usage: clients.sh PROGRAM
+# Ends with status 0 where each does what it should, and else with another; says `skipped` where there is no such program.
+set -eu
+program=${1:?usage: clients.sh PROGRAM}
+if [ ! -x "$program" ]; then
+    echo "skipped: $program is not there"
+    exit 0
+fi
+program=$(realpath "$program")
+cd "$(dirname "$0")/../examples/clients"
+if command -v python3 >/dev/null; then
+    PYTHONDONTWRITEBYTECODE=1 python3 try.py "$program"
+fi
+if command -v node >/dev/null; then
+    node try.mjs "$program"
+fi
