@@ -143,8 +143,12 @@ sources() {
             convert "$at/$format" "$at/texts$format" "$name in format $format"
             "$program" compile "$at/texts$format"/*.txt "$at/$format.bin" >/dev/null 2>"$work/error" || differ "$(cat "$work/error")"
         done
-        "$program" compile "$text" "$at/text.bin" >/dev/null 2>&1 && compiled=$((compiled + 1)) || cp "$at/1.bin" "$at/text.bin"
-        if grep -q '%%CollationBin' "$at"/texts1/*.txt && ! grep -q '%%CollationBin' "$text"; then
+        if "$program" compile "$text" "$at/text.bin" >/dev/null 2>&1; then
+            compiled=$((compiled + 1))
+        else
+            cp "$at/1.bin" "$at/text.bin"
+        fi
+        if grep -q '%%CollationBin' "$at"/texts1/*.txt && ! cmp -s "$at/1.bin" "$at/text.bin"; then
             reason "$name: genrb adds binaries to a table collations (docs/LANGUAGE.md)"
             cp "$at/1.bin" "$at/text.bin"
         fi
