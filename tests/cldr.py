@@ -117,13 +117,14 @@ class Tree:
 
     def __init__(self, name, files, program, server, parents):
         self.name, self.files = name, files
-        self.resb = [program, "serve", "--parents", parents]
+        self.alone = [program, "serve"]
+        self.resb = [*self.alone, "--parents", parents]
         self.libicu = [server, "ICUDATA" if name == "main" else f"ICUDATA-{name}", "indexes"]
         self.installs = [line({"op": "install", "app": name, "locale": locale, "file": file.hex()}) for locale, file in sorted(files.items())]
         self.refused = sum(reply != {"ok": True} for reply in replies(self.resb, self.installs))
 
-    def ours(self, asked):
-        return answers(self.resb, self.installs + self.looks(asked))[len(self.installs) :]
+    def ours(self, asked, with_parents=True):
+        return answers(self.resb if with_parents else self.alone, self.installs + self.looks(asked))[len(self.installs) :]
 
     def theirs(self, asked):
         return answers(self.libicu, self.looks(asked))
@@ -136,9 +137,9 @@ class Tree:
         return sorted({path for file in self.files.values() for path in strings(read(file).tree())})
 
 
-def reason(our, their, begun, ended):
+def reason(our, their, begun, ended, alone):
     """Why two replies differ, as docs/LOOKUP.md has it, or None. `begun` is our reply from the valid locale of libicu's reply, `ended`
-    libicu's reply from the actual locale of ours."""
+    libicu's reply from the actual locale of ours, `alone` our reply without explicit parents."""
     if our == {"error": "BadLocale"}:
         return "left out: a locale with an empty part, or with one of more than 8 characters"
     if our.get("value") == MARKER:
@@ -147,6 +148,8 @@ def reason(our, their, begun, ended):
         return "left out: libicu begins at the script that is likely for the locale, resb at the locale without its last part"
     if their == {"error": "Missing"} and our.get("value", "") == ended.get("value"):
         return "left out: an array of an earlier bundle is too short, and resb reads the index in the later ones too"
+    if alone == their:
+        return "left out: a bundle has an explicit parent, for which libicu asks only where there is no bundle"
     return None
 
 
@@ -158,10 +161,11 @@ def compare(tree, names, count):
     differing = [(one, our, their) for one, our, their in both if our != their]
     begun = tree.ours([(their.get("valid", locale), path) for (locale, path), _, their in differing])
     ended = tree.theirs([(our.get("actual", locale), path) for (locale, path), our, _ in differing])
+    alone = tree.ours([one for one, _, _ in differing], with_parents=False)
     counts = collections.Counter({"found, alike": sum(our == their and "actual" in our for _, our, their in both)})
     counts["found by neither"] = count - counts["found, alike"] - len(differing)
-    for (one, our, their), again, last in zip(differing, begun, ended):
-        why = reason(our, their, again, last)
+    for (one, our, their), *others in zip(differing, begun, ended, alone):
+        why = reason(our, their, *others)
         counts[why or WITHOUT] += 1
         if why is None:
             print(f"{tree.name}: {' '.join(one)}\n  resb   {our}\n  libicu {their}")

@@ -9,7 +9,7 @@
 # Where a tool or the data is missing, a line says `skipped` and which, and the status is 0.
 set -u
 export PATH="$PATH:/usr/sbin" LC_ALL=C.UTF-8
-cd "$(dirname "$0")/.."
+cd "$(dirname "$0")/.." || exit 2
 program=$(realpath "${1:-crates/rb_tool/out/rb_tool}")
 icu2text=$PWD/tools/icu2text
 trees="${*:2}"
@@ -74,10 +74,14 @@ genrb_as() {
 
 # formats TEXTS FILES NAMES: the texts in the formats 1, 2 and 3, in folders of these names; those of 3 share a pool bundle
 formats() {
-    genrb_as "$1" "$2/1" "$3" --formatVersion 1 &&
-        genrb_as "$1" "$2/2" "$3" &&
-        genrb_as "$1" "$2/3" "$3" --writePoolBundle &&
-        genrb_as "$1" "$2/3" "$3" --usePoolBundle "$2/3" || differ "genrb: $(head -n 1 "$work/error")"
+    if ! {
+        genrb_as "$1" "$2/1" "$3" --formatVersion 1 &&
+            genrb_as "$1" "$2/2" "$3" &&
+            genrb_as "$1" "$2/3" "$3" --writePoolBundle &&
+            genrb_as "$1" "$2/3" "$3" --usePoolBundle "$2/3"
+    }; then
+        differ "genrb: $(head -n 1 "$work/error")"
+    fi
 }
 
 # same_bytes TEXTS OTHERS WHAT: that each text and its other compile to the same bytes, which those of the same characters do
@@ -86,13 +90,16 @@ same_bytes() {
     for text in "$1"/*.txt; do
         other=$2/${text##*/}
         cmp -s "$text" "$other" && continue
-        "$program" compile "$other" "$work/other.bin" >/dev/null 2>&1 && cmp -s "$work/other.bin" "${text%.txt}.bin" || differ "${text##*/}: $3"
+        if ! "$program" compile "$other" "$work/other.bin" >/dev/null 2>&1 || ! cmp -s "$work/other.bin" "${text%.txt}.bin"; then
+            differ "${text##*/}: $3"
+        fi
     done
 }
 
 # printed FOLDER OUT: what derb prints of the files in a folder, without its comments
 printed() {
     mkdir -p "$2"
+    # shellcheck disable=SC2035 # no bundle has a name with a dash in front
     (cd "$1" && derb -A -e UTF-8 -s "$1" -d "$2" *.res) >"$work/error" 2>&1 || differ "derb: $(tail -n 1 "$work/error")"
     sed -i '/^\/\//d; 1s/^\xEF\xBB\xBF//' "$2"/*.txt
 }
@@ -125,7 +132,7 @@ tree() {
     printed "$at/ours" "$at/printed_ours"
     rm -f "$at/printed/pool.txt"
     diff -rq "$at/printed" "$at/printed_ours" || differ "$1: what derb prints"
-    echo "$1: $(ls "$at/texts" | grep -c txt) bundles"
+    echo "$1: $(find "$at/texts" -name '*.txt' | wc -l) bundles"
     rm -rf "$at"
 }
 
@@ -136,15 +143,20 @@ sources() {
     for text in "$1"/*.txt; do
         at=$(mktemp -d -p "$work")
         name=$(basename "$text")
-        genrb_as "$1" "$at/taken" "$name" && ls "$at"/taken/*.res >/dev/null 2>&1 || continue
+        genrb_as "$1" "$at/taken" "$name" || continue
+        compgen -G "$at/taken/*.res" >/dev/null || continue
         taken=$((taken + 1))
         formats "$1" "$at" "$name"
         for format in 1 2 3; do
             convert "$at/$format" "$at/texts$format" "$name in format $format"
             "$program" compile "$at/texts$format"/*.txt "$at/$format.bin" >/dev/null 2>"$work/error" || differ "$(cat "$work/error")"
         done
-        "$program" compile "$text" "$at/text.bin" >/dev/null 2>&1 && compiled=$((compiled + 1)) || cp "$at/1.bin" "$at/text.bin"
-        if grep -q '%%CollationBin' "$at"/texts1/*.txt && ! grep -q '%%CollationBin' "$text"; then
+        if "$program" compile "$text" "$at/text.bin" >/dev/null 2>&1; then
+            compiled=$((compiled + 1))
+        else
+            cp "$at/1.bin" "$at/text.bin"
+        fi
+        if grep -q '%%CollationBin' "$at"/texts1/*.txt && ! cmp -s "$at/1.bin" "$at/text.bin"; then
             reason "$name: genrb adds binaries to a table collations (docs/LANGUAGE.md)"
             cp "$at/1.bin" "$at/text.bin"
         fi

@@ -496,6 +496,16 @@ class Damage(Case):
                 os.remove(self.path("texts", "de.txt"))
         self.assertTrue(DAMAGED // 10 < texts < DAMAGED * 9 // 10, texts)
 
+    def test_what_resb_check_refuses(self):
+        chosen = random.Random(1)
+        for _ in range(DAMAGED // 4):
+            damaged = bytearray(everything((1, 3), "<"))
+            for _ in range(chosen.choice((1, 2))):
+                damaged[chosen.randrange(32, len(damaged))] = chosen.choice((0, 1, 0xFF, chosen.randrange(256)))
+            path = self.save("de.res", damaged)
+            run = subprocess.run([PROGRAM, "check", path], capture_output=True)
+            self.assertEqual(self.run_tool(path)[0], run.returncode, run.stderr)
+
     def compile(self, text):
         run = subprocess.run([PROGRAM, "compile", text, self.path("out.res")], capture_output=True, text=True)
         self.assertEqual((run.returncode, run.stderr), (0, ""))
