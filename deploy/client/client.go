@@ -206,19 +206,16 @@ func (c *Client) Once(line string, wait time.Duration) (string, error) {
 	if strings.Contains(line, "\n") {
 		return c.alone(line, wait)
 	}
-	a := &asking{line, time.Now().Add(wait), make(chan replied, 1)}
-	c.join(a)
-	timer := time.NewTimer(wait)
-	defer timer.Stop()
-	select {
-	case r := <-a.reply:
-		if r.shared && r.text == tooLarge {
-			return c.alone(line, time.Until(a.until))
-		}
-		return r.text, r.err
-	case <-timer.C:
-		return "", nats.ErrTimeout
+	a, first := c.together.lead(line, wait)
+	if first {
+		defer c.next()
+		return c.alone(line, wait)
 	}
+	r := c.join(a)
+	if r.shared && r.text == tooLarge {
+		return c.alone(line, time.Until(a.until))
+	}
+	return r.text, r.err
 }
 
 func judged(reply string) (string, error) {

@@ -5,6 +5,8 @@ import (
 	"sync"
 	"time"
 
+	"github.com/nats-io/nats.go"
+
 	"luvdregan.example/resb/deploy/internal/subjects"
 )
 
@@ -35,20 +37,45 @@ type replied struct {
 // their replies come in one.
 type together struct {
 	mu      sync.Mutex
-	flying  bool
+	flying  bool // a line is on its way, after which those that wait go
 	waiting []*asking
 }
 
-// join has a line go now, or with others when the earlier ones are answered.
-func (c *Client) join(a *asking) {
-	c.together.mu.Lock()
-	c.together.waiting = append(c.together.waiting, a)
-	var batch []*asking
-	if !c.together.flying {
-		batch = c.together.take()
+// join has a line go with others once the earlier ones are answered, or after a short time.
+func (c *Client) join(a *asking) replied {
+	timer := time.NewTimer(early)
+	defer timer.Stop()
+	select {
+	case r := <-a.reply:
+		return r
+	case <-timer.C:
 	}
+	c.together.mu.Lock()
+	batch := c.together.take()
 	c.together.mu.Unlock()
-	c.fly(batch)
+	if len(batch) > 0 {
+		go c.send(batch)
+	}
+	timer.Reset(time.Until(a.until))
+	select {
+	case r := <-a.reply:
+		return r
+	case <-timer.C:
+		return replied{err: nats.ErrTimeout}
+	}
+}
+
+// lead tells whether nothing of the application is on its way; else the line waits.
+func (t *together) lead(line string, wait time.Duration) (a *asking, alone bool) {
+	t.mu.Lock()
+	defer t.mu.Unlock()
+	if !t.flying {
+		t.flying = true
+		return nil, true
+	}
+	a = &asking{line, time.Now().Add(wait), make(chan replied, 1)}
+	t.waiting = append(t.waiting, a)
+	return a, false
 }
 
 // take takes what may go in one message.
@@ -60,30 +87,21 @@ func (t *together) take() (batch []*asking) {
 	}
 	batch = append(batch, t.waiting[:n]...)
 	t.waiting = append(t.waiting[:0], t.waiting[n:]...)
-	t.flying = n > 0
 	return batch
 }
 
-// fly sends a batch, and those after it when it is answered, or after a short time.
-func (c *Client) fly(batch []*asking) {
-	if len(batch) == 0 {
-		return
+// next sends what has waited for a line that is answered now, and then what waits for that.
+func (c *Client) next() {
+	c.together.mu.Lock()
+	batch := c.together.take()
+	c.together.flying = len(batch) > 0
+	c.together.mu.Unlock()
+	if len(batch) > 0 {
+		go func() {
+			c.send(batch)
+			c.next()
+		}()
 	}
-	var once sync.Once
-	next := func() {
-		once.Do(func() {
-			c.together.mu.Lock()
-			batch := c.together.take()
-			c.together.mu.Unlock()
-			c.fly(batch)
-		})
-	}
-	timer := time.AfterFunc(early, next)
-	go func() {
-		c.send(batch)
-		timer.Stop()
-		next()
-	}()
 }
 
 // send asks the lines of a batch and hands the replies out.

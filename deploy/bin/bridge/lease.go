@@ -17,7 +17,7 @@ import (
 
 // A lease says which of a shard's bridges feeds it: the last message of a stream names the bridge, which renews it. A lease is
 // good for a time from when its renewal was begun, and another bridge takes it after it has seen none for a longer time; each
-// measures by its own clock. So at no time do two bridges answer lookups, whatever NATS delays.
+// measures by its own clock. So two bridges don't answer lookups at once, whatever NATS delays.
 type lease struct {
 	js     nats.JetStreamContext
 	shard  int

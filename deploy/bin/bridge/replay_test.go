@@ -103,7 +103,7 @@ func TestTheProgramHasALimitOfMemory(t *testing.T) {
 		t.Skip("no sh")
 	}
 	script := filepath.Join(t.TempDir(), "serve")
-	if err := os.WriteFile(script, []byte("#!/bin/sh\nulimit -v\nread line\n"), 0o700); err != nil {
+	if err := os.WriteFile(script, []byte("#!/bin/sh\nread line\nulimit -v\nread line\n"), 0o700); err != nil {
 		t.Fatal(err)
 	}
 	p, err := launch(script, nil, 512<<20, 1<<20, func(int) {})

@@ -124,7 +124,14 @@ func (c *cluster) loseServer(t *tally, a *application, name string, power bool, 
 		if err := copyFiles(store, kept); err != nil {
 			return err
 		}
-		time.Sleep(forgotten)
+	} else {
+		// That it shows what the loss of the server alone does.
+		c.calm.Lock()
+		defer c.calm.Unlock()
+	}
+	time.Sleep(forgotten)
+	if _, _, err := a.client.Ask(list(a.name)); err != nil {
+		return fmt.Errorf("before a server is killed: %w", err)
 	}
 	keeper, err := c.process(name + ".keep")
 	if err != nil {
