@@ -290,7 +290,7 @@ func TestTheTokensFileIsReadAgain(t *testing.T) {
 		if err := os.WriteFile(s.tokenFile, []byte(text), 0o600); err != nil {
 			t.Fatal(err)
 		}
-		s.gateway.tokens.again()
+		s.gateway.tokens.again(true)
 	}
 	if status(shopReads) != 200 || status("new") != 401 {
 		t.Error("before")
@@ -306,7 +306,7 @@ func TestTheTokensFileIsReadAgain(t *testing.T) {
 		}
 	}
 	_ = os.Remove(s.tokenFile)
-	s.gateway.tokens.again()
+	s.gateway.tokens.again(true)
 	if status("new") != 200 {
 		t.Error("after the file went")
 	}

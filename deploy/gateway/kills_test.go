@@ -213,6 +213,7 @@ func TestNothingToldIsLost(t *testing.T) {
 	for _, w := range writers {
 		changes += w.changes
 	}
+	p.kill() // ends the copying of its log
 	t.Logf("%d changes, %d kills, %d times rewritten", changes, rounds, strings.Count(p.log.String(), "rewritten"))
 }
 

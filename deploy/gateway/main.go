@@ -99,9 +99,10 @@ func (g *gateway) refresh(ctx context.Context, p *pair) {
 		case <-ctx.Done():
 			return
 		case <-ticks.C:
+			g.tokens.again(false)
 		case <-hangups:
+			g.tokens.again(true)
 		}
-		g.tokens.again()
 		p.again()
 	}
 }

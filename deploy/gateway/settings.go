@@ -6,6 +6,12 @@ import (
 	"time"
 )
 
+// The longest text and file that the server takes. As lines both are below its limit on lines, past which it ends.
+const (
+	mostText = 8 << 20
+	mostFile = 64 << 20
+)
+
 // Settings are what the command line says.
 type settings struct {
 	listen, inside, tokenFile string
@@ -38,8 +44,8 @@ func readSettings(arguments []string) (settings, error) {
 	f.StringVar(&s.nats, "nats", "", "serve by the shards behind this `URL`")
 	f.StringVar(&s.passwords, "passwords", "", "with -nats: the `file` of passwords that deploy/start writes")
 	f.StringVar(&s.watcher, "watcher", "", "with -nats: a `user` of NATS that may read the lengths of the streams, for the metrics")
-	f.Int64Var(&s.textBytes, "text-bytes", 8<<20, "the most bytes of a bundle text")
-	f.Int64Var(&s.fileBytes, "file-bytes", 64<<20, "the most bytes of a bundle's file")
+	f.Int64Var(&s.textBytes, "text-bytes", mostText, "the most bytes of a bundle text")
+	f.Int64Var(&s.fileBytes, "file-bytes", mostFile, "the most bytes of a bundle's file")
 	f.Int64Var(&s.lookBytes, "look-bytes", 8<<20, "the most bytes of the lookups in one request")
 	f.Int64Var(&s.bodyBytes, "body-bytes", 512<<20, "the most bytes of all bodies at once; one application may have half")
 	f.IntVar(&s.each, "each", 512, "the most requests of an application at once")
@@ -71,6 +77,8 @@ func (s settings) check() error {
 		return errors.New("only -serve has arguments")
 	case s.tokenFile == "":
 		return errors.New("-tokens is missing")
+	case s.textBytes > mostText || s.fileBytes > mostFile || s.lookBytes > mostFile:
+		return errors.New("the server takes texts of 8 MB and files of 64 MB, and one longer line of lookups would end it for all")
 	case (s.cert == "") != (s.key == ""):
 		return errors.New("-cert and -key go together")
 	}

@@ -12,6 +12,7 @@ import (
 	"log"
 	"os"
 	"strings"
+	"sync"
 	"sync/atomic"
 )
 
@@ -46,8 +47,11 @@ type grants struct {
 type tokens struct {
 	path  string
 	now   atomic.Value // grants
-	seen  []byte
 	isBad int32
+
+	mu   sync.Mutex
+	seen []byte // what the tokens are from
+	last []byte // what was read last
 }
 
 // openTokens reads the file for the first time.
@@ -61,16 +65,24 @@ func openTokens(path string) (*tokens, error) {
 	if err != nil {
 		return nil, fmt.Errorf("%s: %w", path, err)
 	}
-	t.seen = content
+	t.seen, t.last = content, content
 	t.now.Store(g)
 	return t, nil
 }
 
-// again reads the file again, if it has changed. Where it can't be read, or a line is wrong, the tokens stay as they were.
-func (t *tokens) again() {
+// again reads the file again, and takes it if it has changed: at once, or when it is the same at two readings, as one may be made
+// while it is written. Where it can't be read, or a line is wrong, the tokens stay as they were.
+func (t *tokens) again(atOnce bool) {
+	t.mu.Lock()
+	defer t.mu.Unlock()
 	content, err := os.ReadFile(t.path)
+	before := t.last
+	t.last = content
 	if err == nil && bytes.Equal(content, t.seen) {
 		atomic.StoreInt32(&t.isBad, 0)
+		return
+	}
+	if err == nil && !atOnce && !bytes.Equal(content, before) {
 		return
 	}
 	var g grants

@@ -55,11 +55,19 @@ func timeOf(id int) time.Duration {
 	return time.Duration(user+system) * tick
 }
 
-// since gives a text about the processor times a request since an earlier reading.
+// since gives a text about the processor times a request since an earlier reading, of processes with one name together.
 func (all processes) since(before []time.Duration, requests int) (text string) {
+	var names []string
+	took := map[string]time.Duration{}
 	for i, now := range all.times() {
+		if _, there := took[all[i].name]; !there {
+			names = append(names, all[i].name)
+		}
+		took[all[i].name] += now - before[i]
+	}
+	for _, name := range names {
 		if requests > 0 {
-			text += fmt.Sprintf("; %s %.1f µs", all[i].name, float64((now-before[i]).Nanoseconds())/1000/float64(requests))
+			text += fmt.Sprintf("; %s %.1f µs", name, float64(took[name].Nanoseconds())/1000/float64(requests))
 		}
 	}
 	return text

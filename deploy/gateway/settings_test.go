@@ -1,0 +1,28 @@
+package main
+
+import (
+	"strings"
+	"testing"
+)
+
+func TestSettingsThatDontGoTogether(t *testing.T) {
+	for given, want := range map[string]string{
+		"":                                  "either",
+		"-serve -nats x":                    "either",
+		"-serve -tokens x":                  "-state",
+		"-serve -state x":                   "-tokens",
+		"-nats x -tokens x":                 "-passwords",
+		"-nats x -passwords x -tokens x de": "arguments",
+		"-serve -state x -tokens x -cert x": "-key",
+		"-serve -state x -tokens x -text-bytes 8388609":   "8 MB",
+		"-serve -state x -tokens x -file-bytes 67108865":  "64 MB",
+		"-serve -state x -tokens x -look-bytes 999999999": "line",
+		"-serve -state x -tokens x -parents x de=x":       "-parents",
+		"-serve -state x -tokens x -- --parents x de=x":   "",
+	} {
+		_, err := readSettings(strings.Fields(given))
+		if (err == nil) != (want == "") || err != nil && !strings.Contains(err.Error(), want) {
+			t.Errorf("%s: %v", given, err)
+		}
+	}
+}
