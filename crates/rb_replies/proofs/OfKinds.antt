@@ -9,14 +9,6 @@ use Rattle.serde_json.specs.Data.{put}
 use Rattle.rb_replies.specs.Item.{item_members, numbers_data, of_type, texts_data, with_text}
 use Rattle.rb_tree.specs.declared.kind.Kind.TheVariants as Kinds
 
-pub as_many_bytes : (t : Resource) → kind_of t ≡ Kinds.Binary → length (bytes_of t) ≡ len_of t
-as_many_bytes (binary bs) h = refl
-as_many_bytes _ h = absurd cc
-
-pub as_many_numbers : (t : Resource) → kind_of t ≡ Kinds.Ints → length (numbers_of t) ≡ len_of t
-as_many_numbers (ints zs) h = refl
-as_many_numbers _ h = absurd cc
-
 pub as_many_keys : (t : Resource) → kind_of t ≡ Kinds.Table → length (keys_of (pairs_of t)) ≡ len_of t
 as_many_keys (table es) h = length-map (pairs es) (λ p. p.0)
 as_many_keys _ h = absurd cc

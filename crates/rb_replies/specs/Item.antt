@@ -1,28 +1,15 @@
 -- Items as JSON, a form of this project: an object with its members in ascending order, as `put` keeps them.
-use Rattle.std.specs.Prelude.{ℕ, ℤ, pos, ◌-ℤ◌, ◌^◌, List, length, map, nat_lt, if◌then◌else◌, codes, encode_utf8_all}
+use Rattle.std.specs.Prelude.{ℕ, List, length, map, if◌then◌else◌, codes, encode_utf8_all}
 use Rattle.std.specs.Char.Utf16.{has_unpaired_surrogate, utf16_lossy_chars}
 use Rattle.std.specs.Map.{keys_of}
 use Rattle.serde_json.specs.Data.{Data, number, string, array, object, unsigned, Members, no_members, put}
 use Rattle.serde_json.specs.View.{items_of}
 use Rattle.serde_json.specs.Find.{of_integer}
 use Rattle.hex.specs.Hex.{encode_lower}
+pub use Rattle.rb_json.specs.Leaf.{text_data, signed_of, units_data, numbers_data}
 use Rattle.rb_tree.specs.Resource.{Resource, int, ints, binary, alias, table}
 use Rattle.rb_tree.specs.Resource as tree
 use Rattle.rb_tree.specs.Keys.{items, pairs}
-
--- bytes as a text, a character each; those of names, keys and paths are ASCII
-abbrev pub text_data : List ℕ → Data
-text_data bytes = string (encode_utf8_all bytes)
-
--- a number of 28 bits with its sign
-abbrev pub signed_of : ℕ → ℤ
-signed_of n = if nat_lt n (2 ^ 27) then pos n else pos n -ℤ pos (2 ^ 28)
-
-abbrev pub units_data : List ℕ → Data
-units_data us = array (items_of (map (λ u. number (unsigned u)) us))
-
-abbrev pub numbers_data : List ℤ → Data
-numbers_data zs = array (items_of (map (λ z. number (of_integer z)) zs))
 
 abbrev pub texts_data : List (List ℕ) → Data
 texts_data texts = array (items_of (map text_data texts))

@@ -2,14 +2,12 @@
 use Rattle.std.specs.Prelude.{◌≡◌, ℕ, List, [], ◌∷◌, ◌++◌, Option, Some, None, Result, OnOk, codes, option_map}
 use Rattle.std.specs.Borrow.{Bor}
 use Rattle.json.specs.Token.{Token, key}
-use Rattle.json.specs.Tree.{json_tokens, members_tokens}
+use Rattle.json.specs.Tree.{members_tokens}
 use Rattle.json.specs.Written.{Written}
-use Rattle.serde_json.specs.Data.{Data, Members, put}
-use Rattle.serde_json.specs.Written.{outline, members_outline}
+use Rattle.serde_json.specs.Data.{Members, put}
+use Rattle.serde_json.specs.Written.{members_outline}
+pub use Rattle.rb_json.specs.Tokens.{data_tokens}
 use Rattle.rb_replies.specs.Item.{text_data}
-
-abbrev pub data_tokens : Data → List Token
-data_tokens d = json_tokens (outline d)
 
 -- with the closing bracket
 abbrev pub rest_tokens : Members → List Token

@@ -12,9 +12,9 @@ ghost use Rattle.rb_tree.specs.declared.kind.Kind.TheVariants as Kinds;
 ghost use Rattle.rb_replies.specs.Item.{text_data, units_data, numbers_data, texts_data, signed_of, of_type, with_text, item_members, item_data, found_data};
 ghost use Rattle.rb_replies.specs.Put.{Puts, PutsMembers, data_tokens, valid_tokens};
 
-use crate::text::{ascii, characters, read_hex, read_units};
 use json::Writer;
 use rb_fallback::Found;
+use rb_json::{ascii, characters, read_hex, read_units};
 use rb_tree::{Kind, Node};
 use std::alloc::{AllocError, Global};
 

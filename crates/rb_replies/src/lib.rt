@@ -4,7 +4,6 @@
 mod item;
 mod line;
 mod reply;
-mod text;
 
 pub use item::item_text;
 pub use line::ReplyLine;

@@ -3,7 +3,7 @@ use Rattle.json.specs.Token.{Token}
 use Rattle.serde_json.specs.Data.{Data, number, unsigned}
 use Rattle.rb_tree.specs.Parts.{units_of}
 use Rattle.rb_locales.proofs.Narrowed.{units_len}
-use Rattle.rb_replies.proofs.Elements.{is_at}
+use Rattle.rb_json.proofs.Elements.{is_at}
 use Rattle.rb_replies.proofs.Tokens.{put_more, put_all}
 use Rattle.rb_replies.proofs.item.put_units.Goals as goal
 

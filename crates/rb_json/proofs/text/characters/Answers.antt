@@ -1,6 +1,6 @@
 use Rattle.std.proofs.Common.{string_bytes}
-use Rattle.rb_replies.proofs.Characters.{character_more, all_characters}
-use Rattle.rb_replies.proofs.text.characters.Goals as goal
+use Rattle.rb_json.proofs.Latin.{character_more, all_characters}
+use Rattle.rb_json.proofs.text.characters.Goals as goal
 
 pub loop-byte-preserved : goal.loop-byte-preserved
 loop-byte-preserved c =

@@ -9,8 +9,8 @@ ghost use Rattle.std.specs.Prelude.{slice_index};
 use rb_tree::Node;
 use std::alloc::{AllocError, Global};
 
-/// Bytes as a text, a character each.
-pub(crate) fn characters(alloc: Global, bytes: &[u8]) -> Result<String, AllocError>
+/// Bytes as a text, a character each: byte b is the character U+00b. An error comes only where out of memory.
+pub fn characters(alloc: Global, bytes: &[u8]) -> Result<String, AllocError>
     ensures { IfOk result (λ text. string_bytes text ≡ encode_utf8_all bytes.now) }
 {
     let mut text = String::with_capacity(alloc, bytes.len())?;
@@ -20,9 +20,9 @@ pub(crate) fn characters(alloc: Global, bytes: &[u8]) -> Result<String, AllocErr
     Ok(text)
 }
 
-/// Bytes as a text, where they are ASCII.
-#[tactic(auto, using(crate::proofs::Characters::ascii_text))]
-pub(crate) fn ascii(bytes: &[u8]) -> Option<&str>
+/// Bytes as a text without a copy, a character each, where they are ASCII; else `None`.
+#[tactic(auto, using(crate::proofs::Latin::ascii_text))]
+pub fn ascii(bytes: &[u8]) -> Option<&str>
     ensures { IfSome result (λ text. text.now ≡ encode_utf8_all bytes.now) }
 {
     match str::from_utf8(bytes) {
@@ -39,8 +39,9 @@ fn digit(n: u8) -> char
     char::from(b"0123456789abcdef"[n as usize])
 }
 
-/// The bytes of a binary as hexadecimal digits.
-pub(crate) fn read_hex<N: Node>(text: &mut String, node: N) -> Result<(), AllocError>
+/// Makes a text the bytes of a Binary as lower-case hexadecimal digits, two a byte. After an error, which comes only where out of
+/// memory, nothing is known of the text.
+pub fn read_hex<N: Node>(text: &mut String, node: N) -> Result<(), AllocError>
     requires { kind_of (N.tree node) ≡ Kinds.Binary }
     ensures { OnOk result (string_bytes text.new ≡ encode_lower (bytes_of (N.tree node))) }
 {
@@ -76,8 +77,9 @@ fn character_at<N: Node>(node: N, at: usize) -> (Option<char>, usize)
     (char::from_u32(code), at + 2)
 }
 
-/// The units of a string or an alias as a text, and whether they are well-formed UTF-16.
-pub(crate) fn read_units<N: Node>(text: &mut String, node: N) -> Result<bool, AllocError>
+/// Makes a text the characters of a String or an Alias, and says whether its units are well-formed UTF-16; where they aren't, nothing
+/// is known of the text, nor after an error, which comes only where out of memory.
+pub fn read_units<N: Node>(text: &mut String, node: N) -> Result<bool, AllocError>
     requires { HasUnits (kind_of (N.tree node)) }
     ensures whole { IfOk result (λ whole. whole ≡ not (has_unpaired_surrogate (units_of (N.tree node)))) }
     ensures text { IfOk result (λ whole. whole ≡ true → string_bytes text.new ≡ encode_utf8_all (utf16_lossy_chars (units_of (N.tree node)))) }

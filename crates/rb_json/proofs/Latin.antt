@@ -4,7 +4,7 @@ use Rattle.std.proofs.Common.{refl, ap, ◌∙◌, sym, append_assoc}
 use Rattle.std.proofs.lemmas.List.{append-nil, take_all}
 use Rattle.std.specs.Str.{IsAscii}
 use Rattle.std.proofs.lemmas.Str.{encodes-IsAscii}
-use Rattle.rb_replies.proofs.Elements.{element_more, is_at}
+use Rattle.rb_json.proofs.Elements.{element_more, is_at}
 
 encodes-append : (xs : List ℕ) (c : ℕ) → encode_utf8_all (xs ++ c ∷ []) ≡ encode_utf8_all xs ++ encode_utf8 c
 encodes-append [] c = append-nil (encode_utf8 c)

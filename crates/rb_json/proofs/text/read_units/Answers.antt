@@ -1,9 +1,9 @@
 use Rattle.std.proofs.Common.{◌≡◌, ◌≤◌, ◌∷◌, drop, length, string_bytes, subst, Option, ℕ, arith}
 use Rattle.std.specs.Char.Utf16.{utf16_chars}
 use Rattle.rb_tree.specs.Parts.{units_of}
-use Rattle.rb_locales.proofs.Narrowed.{units_len}
-use Rattle.rb_replies.proofs.Surrogates.{read_more, all_read}
-use Rattle.rb_replies.proofs.text.read_units.Goals as goal
+use Rattle.rb_json.proofs.OfKinds.{units_len}
+use Rattle.rb_json.proofs.Surrogates.{read_more, all_read}
+use Rattle.rb_json.proofs.text.read_units.Goals as goal
 
 pub loop-at-preserved : goal.loop-at-preserved
 loop-at-preserved g c =

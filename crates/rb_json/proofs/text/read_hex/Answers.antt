@@ -1,9 +1,9 @@
 use Rattle.std.proofs.Common.{◌∙◌, ◌<◌, ◌/◌, ◌%◌, ℕ, ap, get_or, length, string_bytes, arith}
 use Rattle.hex.specs.Hex.{lower_digits}
 use Rattle.rb_tree.specs.Parts.{bytes_of}
-use Rattle.rb_replies.proofs.OfKinds.{as_many_bytes}
-use Rattle.rb_replies.proofs.Hex.{hex_more, no_digits, digit_pushed}
-use Rattle.rb_replies.proofs.text.read_hex.Goals as goal
+use Rattle.rb_json.proofs.OfKinds.{as_many_bytes}
+use Rattle.rb_json.proofs.Hex.{hex_more, no_digits, digit_pushed}
+use Rattle.rb_json.proofs.text.read_hex.Goals as goal
 
 pub loop-i-init : goal.loop-i-init
 loop-i-init g c = c.clear.ensures.bytes ∙ no_digits lower_digits (bytes_of (g.N.Node.tree c.args.node))

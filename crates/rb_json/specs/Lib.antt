@@ -1,0 +1,5 @@
+pub mod Leaf
+pub mod Value
+pub mod Tokens
+pub mod Printed
+pub mod Room

@@ -1,0 +1,10 @@
+//! How a JSON value is laid out.
+
+/// How a JSON value is laid out. Its tokens are the same in each.
+#[derive(Clone, Copy, Debug, PartialEq, Eq)]
+pub enum Layout {
+    /// One line, with no space.
+    Compact,
+    /// A line for each item and each member, two spaces deeper for each bracket.
+    Pretty,
+}
