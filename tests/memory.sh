@@ -2,6 +2,8 @@
 # Each allocation refused in turn. The program programs/memory.rt.in starts an engine, makes requests of each kind, and loads, installs
 # and lists bundles; after a call that is answered out of memory it compares all that is kept, and calls once more. The program
 # programs/lines.rt.in serves lines of each kind; where memory runs out, the replies before are whole, and serving goes on with the line.
+# The program programs/acceptance.rt.in accepts a file of each kind that is dear to check, which Python writes: out of memory the file is
+# given back, and within three times what its acceptance takes with memory.
 #
 # The toolchain refuses one allocation of a run, by its number. So each run first takes and frees some blocks, fewer each time, down to
 # a run in which no allocation of the calls is refused and the next ones are given until the number is reached. A last run of the first
@@ -25,10 +27,20 @@ fails() {
 left() {
     grep -A 2 "^== $1\$" "$said" | sed -n 's/^\([0-9]*\) left$/\1/p'
 }
+# try_cases NAME REFUSED: runs a program with the allocation REFUSED refused, once for each of its cases, all of which must be kept.
+try_cases() {
+    local name=$1 refused=$2 runs
+    cd "$made/$name/crates/$name"
+    # The interpreter, which counts steps, is slow, and refuses the same allocations.
+    "$rt" try --fail-alloc "$refused" --steps 1 --cases "$made/$name/cases" >"$said" 2>&1 || true
+    runs=$(find "$made/$name/cases" -type f | wc -l)
+    grep -q "^cases=$runs ended=$runs fault=0 differs=0 no-answer=0" "$said" || fails 'a run stopped'
+    [ "$(grep -c '^kept$' "$said")" = "$runs" ] || fails "$(grep -m 1 -A 1 '^== ' <(grep -v '^kept$' "$said"))"
+}
 # refuse PROGRAM REFUSED FEWEST FURTHER LIBRARY..: runs a program with the allocation REFUSED refused, behind REFUSED - 1 down to FEWEST
 # blocks, and once more with the input FURTHER if it isn't empty.
 refuse() {
-    local name=$1 refused=$2 fewest=$3 further=$4 count runs
+    local name=$1 refused=$2 fewest=$3 further=$4 count
     shift 4
     said=$made/$name/said
     mkdir "$made/$name"
@@ -38,17 +50,50 @@ refuse() {
         echo "$count" >"$made/$name/cases/$count"
     done
     [ -z "$further" ] || echo "$further" >"$made/$name/cases/$further"
-    cd "$made/$name/crates/$name"
-    # The interpreter, which counts steps, is slow, and refuses the same allocations.
-    "$rt" try --fail-alloc "$refused" --steps 1 --cases "$made/$name/cases" >"$said" 2>&1 || true
-    runs=$(find "$made/$name/cases" -type f | wc -l)
-    grep -q "^cases=$runs ended=$runs fault=0 differs=0 no-answer=0" "$said" || fails 'a run stopped'
-    [ "$(grep -c '^kept$' "$said")" = "$runs" ] || fails "$(grep -m 1 -A 1 '^== ' <(grep -v '^kept$' "$said"))"
+    try_cases "$name" "$refused"
     [ -n "$(left "$fewest")" ] || fails 'not every allocation was refused in some run'
     echo "ok: each of $((refused - fewest - 1 - $(left "$fewest"))) allocations refused in turn"
+}
+# The files that are dear to check, behind as many blocks, in cases NUMBER-BLOCKS; prints the fewest blocks of each.
+dear_files() {
+    python3 - "$tests/../bench" "$@" <<'END'
+import sys
+
+sys.path.insert(0, sys.argv[1])
+from hostile import *
+
+folder, refused = sys.argv[2], int(sys.argv[3])
+# each with more allocations than its reading and acceptance make
+files = [
+    (one_key(random_letters)(20_000), 40), (many_tables(20_000), 40), (mixed_arrays(20_000), 40), (shared_arrays(62), 40),
+    (all_ends(20_000), 80), (mixed_tables(40_000), 80), (copies(thue_morse, 2, 100)(30_000), 190), (copies(random_letters, 2, 100)(30_000), 190),
+]
+for number, (data, most) in enumerate(files):
+    for blocks in range(refused - most, refused):
+        with open(f"{folder}/{number}-{blocks}", "wb") as case:
+            case.write(b"%08d" % blocks + data)
+print(*(refused - most for _, most in files))
+END
+}
+# refuse_files REFUSED: the acceptance of each dear file, with each of its allocations refused.
+refuse_files() {
+    local name=acceptance refused=$1 number=0 fewest all sum=0
+    said=$made/$name/said
+    mkdir "$made/$name"
+    (cd "$tests" && repository "$made/$name" "$name" rb_validator rb_format rb_tree)
+    mkdir "$made/$name/cases"
+    all=$(dear_files "$made/$name/cases" "$refused")
+    try_cases "$name" "$refused"
+    for fewest in $all; do
+        [ -n "$(left "$number-$fewest")" ] || fails "not every allocation was refused in some run of file $number"
+        sum=$((sum + refused - fewest - 1 - $(left "$number-$fewest")))
+        number=$((number + 1))
+    done
+    echo "ok: each of $sum allocations refused in turn over $number files that are dear to check"
 }
 
 refuse memory 760 20 20q rb_engine rb_packages rb_validator rb_format rb_locales rb_parents rb_views rb_tree
 [ "$(left 20q)" = "$(left 20)" ] || fails 'lookups, replacements or removals take memory'
 echo 'ok: lookups, replacements and removals take none'
 refuse lines 200 20 '' rb_requests rb_engine rb_parents
+refuse_files 220
