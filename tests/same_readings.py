@@ -34,7 +34,7 @@ def with_member(line, member):
 def main():
     program = sys.argv[1]
     if not os.access(program, os.X_OK):
-        print(f"lines read in two ways: skipped, as {program} isn't built")
+        print(f"lines with a member more: skipped, as {program} isn't built")
         return
     seed = int(sys.argv[2]) if len(sys.argv) > 2 else 1
     asked = list(lines(seed))

@@ -52,7 +52,7 @@ fn answers_all(alloc: Global, engine: &mut Engine, lines: &[(&str, &str)]) -> Re
 }
 
 /// Lines with their replies, one engine for all.
-const LINES: [(&str, &str); 34] = [
+const LINES: [(&str, &str); 38] = [
     (
         "{\"op\":\"install\",\"app\":\"shop\",\"locale\":\"de\",\"text\":\"de{hello{\\\"Hallo\\\"} menu{close{\\\"C\\\"}}}\"}",
         "{\"ok\":true}",
@@ -154,6 +154,22 @@ const LINES: [(&str, &str); 34] = [
     (
         "{\"op\":\"look\",\"op\":\"list\",\"app\":\"bank\"}",
         "{\"names\":[\"de\"]}",
+    ),
+    (
+        "{\"op\":\"install\",\"app\":\"shop\",\"locale\":\"it\",\"text\":1,\"file\":\"\"}",
+        "{\"error\":\"BadLine\"}",
+    ),
+    (
+        "{\"op\":\"list\",\"app\":1,\"x\":[{\"app\":null},-0.5],\"app\":\"bank\"}",
+        "{\"names\":[\"de\"]}",
+    ),
+    (
+        "{\"op\":\"list\",\"app\":\"bank\",\"x\":1e309}",
+        "{\"error\":\"BadLine\"}",
+    ),
+    (
+        "{\"op\":\"list\",\"app\":\"bank\",\"x\":{\"\\ud800\":1}}",
+        "{\"error\":\"BadLine\"}",
     ),
     (
         "{\"op\":\"list\",\"app\":\"a b\"}",
