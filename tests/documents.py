@@ -9,7 +9,7 @@ tools, or files from a network), and is run only where --with gives what it need
 
 It also compares the pages with the code: each relative link leads to a file and to a heading in it; docs/TROUBLESHOOTING.md and
 docs/resb.1 have each error word; docs/ARCHITECTURE.md has each crate of crates.txt with what it uses; and the definitions, laws and
-clauses that docs/PROOFS.md names are in the crates of its section.
+clauses that docs/PROOFS.md names are in the crates of its section; `resb explain` says what docs/TROUBLESHOOTING.md does.
 
 usage: documents.py [--with FILE]... [PROGRAM]   (default: crates/rb_tool/out/rb_tool)
   --with FILE  copies FILE into the folder that the blocks are run in, and runs those by hand too
@@ -181,6 +181,25 @@ def missing_words():
                 yield f"{name}: the error word {word} isn't there"
 
 
+def plain(cell):
+    """A cell of a table without the marks of code and links."""
+    return re.sub(r"\[([^\]]*)\]\([^)]*\)", r"\1", cell).replace("`", "").strip()
+
+
+def unexplained(program):
+    """The rows on error words of the page on errors that the program doesn't explain in the same words."""
+    rows = re.findall(r"^\| (`[^|]*) \| ([^|]*) \| ([^|]*)\|$", text_of("docs/TROUBLESHOOTING.md"), flags=re.M)
+    for words, cause, remedy in rows:
+        for word in re.findall(r"`(?:FILE: )?([A-Z]\w*)`", words):
+            if word not in error_words() | {"Memory"} or cause.startswith("[") or cause.startswith("as for any request"):
+                continue
+            told = subprocess.run([program, "explain", word], stdout=subprocess.PIPE, check=False).stdout.decode()
+            if f"  likely cause: {plain(cause)}\n  what to do: {plain(remedy)}\n" not in told:
+                yield f"docs/TROUBLESHOOTING.md: resb explain {word} says something else"
+    listed = subprocess.run([program, "explain"], stdout=subprocess.PIPE, check=False).stdout.decode()
+    yield from (f"resb explain: {word} isn't listed" for word in sorted(error_words()) if f"  {word}: " not in listed)
+
+
 def wrong_rows():
     """The crates whose row in the table of crates isn't that of crates.txt."""
     page = text_of("docs/ARCHITECTURE.md")
@@ -239,6 +258,9 @@ def main():
     chosen = options.parse_args()
     wrong = compare_code()
     if os.access(chosen.program, os.X_OK):
+        differ = list(unexplained(chosen.program))
+        print("".join(f"{line}\n" for line in differ), end="")
+        wrong += len(differ)
         wrong += sum(run_page(name, chosen.program, chosen.given) for name in PAGES)
     else:
         print(f"skipped: {chosen.program} is not there")

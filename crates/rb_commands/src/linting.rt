@@ -30,6 +30,14 @@ fn is_compiled<R: AllocGlobal + Eprint>(rt: &R, console: Console, name: &str, te
     }
 }
 
+/// Says that warnings could not be made, out of memory, or not be printed.
+fn not_warned<R: Eprint>(rt: &R, console: Console, name: &str, error: io::Error) -> ExitCode {
+    if error.kind() == io::ErrorKind::OutOfMemory {
+        return refused_on(rt, console, name, "Memory");
+    }
+    printed(rt, Err(error))
+}
+
 /// Says what is doubtful in one text.
 fn lint_one<R: Files + AllocGlobal + Print + Eprint>(
     rt: &R,
@@ -43,21 +51,17 @@ fn lint_one<R: Files + AllocGlobal + Print + Eprint>(
             return ExitCode::from(1);
         }
     };
-    let is_long = text.len() > rb_lexer::SOURCE_LIMIT;
-    let printed_any = if is_long {
+    let warned = if text.len() > rb_lexer::SOURCE_LIMIT {
         Ok(false)
     } else {
         print_warnings(rt, name, &text)
     };
-    match printed_any {
-        Ok(is_doubtful) if is_compiled(rt, console, name, &text) && !is_doubtful => {
-            ExitCode::SUCCESS
+    match warned {
+        Ok(is_doubtful) => {
+            let is_good = is_compiled(rt, console, name, &text);
+            ExitCode::from(if is_good && !is_doubtful { 0 } else { 1 })
         }
-        Ok(_) => ExitCode::from(1),
-        Err(error) if error.kind() == io::ErrorKind::OutOfMemory => {
-            refused_on(rt, console, name, "Memory")
-        }
-        Err(error) => printed(rt, Err(error)),
+        Err(error) => not_warned(rt, console, name, error),
     }
 }
 

@@ -146,6 +146,15 @@ fn engine<R: RandomSource + AllocGlobal>(
     }
 }
 
+/// An engine without bundles, with the explicit parents of a file.
+fn started<'a, R: Files + RandomSource + AllocGlobal>(
+    rt: &R,
+    parents: Option<&'a str>,
+) -> Result<Engine, StartError<'a>> {
+    let parents = parents_of(rt, parents)?;
+    engine(rt, parents)
+}
+
 /// The same lookup as `look_up`, over arguments that are split.
 fn look_over<R: Files + RandomSource + AllocGlobal + Print + Eprint>(
     rt: &R,
@@ -153,10 +162,11 @@ fn look_over<R: Files + RandomSource + AllocGlobal + Print + Eprint>(
     lookup: Lookup<'_>,
     bundles: &[Given<'_>],
 ) -> Result<ExitCode, ExitCode> {
-    let said = |error| not_started_on(rt, console, error);
-    let parents = parents_of(rt, lookup.parents).map_err(said)?;
+    let mut engine = match started(rt, lookup.parents) {
+        Ok(engine) => engine,
+        Err(error) => return Err(not_started_on(rt, console, error)),
+    };
     let files = files_of(rt, console, bundles)?;
-    let mut engine = engine(rt, parents).map_err(said)?;
     install_all(rt, console, &mut engine, bundles, &files)?;
     Ok(answer(rt, console, &engine, lookup))
 }

@@ -206,9 +206,12 @@ pub fn lines<R: Files + AllocGlobal + Print + Eprint>(
         Err(status) => return status,
     };
     match write_lines(rt, change, app, &bundles, &contents) {
-        Err(error) if error.kind() == io::ErrorKind::OutOfMemory => {
-            not_started_on(rt, console, StartError::Memory)
+        Ok(()) => ExitCode::SUCCESS,
+        Err(error) => {
+            if error.kind() == io::ErrorKind::OutOfMemory {
+                return not_started_on(rt, console, StartError::Memory);
+            }
+            printed(rt, Err(error))
         }
-        written => printed(rt, written),
     }
 }

@@ -1,4 +1,7 @@
 //! Explanations of error words.
+ghost use Rattle.std.specs.Prelude.{◌≡◌, IfSome, map};
+ghost use Rattle.std.specs.Char.{to_ascii_lowercase};
+
 use crate::words::{
     OF_FILE, OF_LOOKUP, OF_MEMORY, OF_PATH, OF_REQUEST, OF_SERVING, OF_START, OF_TEXT,
 };
@@ -41,7 +44,9 @@ impl Of {
     }
 
     /// The explanation of a word, where it is an error of this; letters of either case are one.
-    pub fn explanation(self, word: &str) -> Option<&'static Explanation> {
+    pub fn explanation(self, word: &str) -> Option<&'static Explanation>
+        ensures { IfSome result (λ e. map to_ascii_lowercase e.now.word.now ≡ map to_ascii_lowercase word.now) }
+    {
         for explanation in self.explanations() {
             if explanation.word.eq_ignore_ascii_case(word) {
                 return Some(explanation);
