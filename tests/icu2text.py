@@ -229,6 +229,11 @@ class Texts(Case):
             file = File(version)
             file.attributes = NO_FALLBACK
             self.assertEqual(self.text(file.end(TABLE << 28)), head_of_text + "\n}\n")
+        file = File((1, 2))
+        file.attributes = NO_FALLBACK
+        data = bytearray(file.end(TABLE << 28))
+        data[17] = 1
+        self.assertEqual(self.text(data), "de {\n}\n")
 
     def test_long_table(self):
         for version in (1, 1), (3, 0):
@@ -288,6 +293,19 @@ class Pools(Case):
             for limits in (8, 8), (8, 3), (0x1000008, 8):
                 self.save("pool.res", pool(order))
                 self.assertEqual(self.text(user(order, *limits)), USER)
+
+    def test_no_keys_of_its_own(self):
+        self.save("pool.res", pool())
+        file = File((3, 0))
+        file.attributes, file.checksum = USES_POOL, 0xC0FFEE
+        table = file.put(TABLE, file.pack("H", 2, 0, 2, 0), file.pack("I", STRING << 28, INT << 28))
+        self.assertEqual(self.text(file.end(table)), 'de {\n  x { "" }\n  yy:int { 0 }\n}\n')
+
+    def test_an_empty_string_of_its_own(self):
+        self.save("pool.res", pool())
+        file = File((3, 0), keys="b", units=[0, 0])
+        file.attributes, file.checksum, file.limit, file.limit16 = USES_POOL, 0xC0FFEE, 3, 2
+        self.assertEqual(self.text(file.end(file.table(b=STRING_V2 << 28 | 3))), 'de {\n  b { "" }\n}\n')
 
     def test_named_and_passed_over(self):
         named = self.save("other/keys.res", pool(">"))
@@ -355,6 +373,8 @@ class Refusals(Case):
         for kind, what in (STRING, "a string of 4294967295 units"), (ALIAS, "a string of"), (BINARY, "of which there are"), (TABLE32, "of which there are"), (ARRAY, "of which there are"), (VECTOR, "of which there are"), (TABLE, "of which there are"):
             self.refused_item(lambda file: file.put(kind, file.pack("I", 0xFFFFFFFF)), what)
         self.refused_item(lambda file: file.put(STRING, file.pack("I", 1), file.pack("H", 65, 66)), "has no zero after it")
+        file = File((2, 0), keys="a")
+        self.refused(file.end(file.put(TABLE32, file.pack("I", 1, file.key("a")))), "3 words of a value, of which there are 2")
         self.refused(File((2, 0)).end(INT << 28), "a root item of the type INT")
         self.refused(File((2, 0)).end(15 << 28), "a type that this format doesn't have")
 
@@ -399,6 +419,9 @@ class Refusals(Case):
         file = File((1, 3), keys="a")
         left = 8388608 - len('de {\n  a { "" }\n}\n')
         self.assertEqual(len(self.text(file.end(file.table(a=file.string("x" * left))))), 8388608)
+        os.remove(self.path("texts", "de.txt"))
+        file = File((1, 3), keys="a")
+        self.refused(file.end(file.table(a=file.string("x" * (left + 1)))), "more than 8388608 bytes")
 
 
 def package(items, order="<", version=(1, 0)):
@@ -426,10 +449,22 @@ class Packages(Case):
             self.assertEqual(self.run_tool("--package", path, "--tree", "none")[0], 1)
 
     def test_damaged(self):
-        good = package(ITEMS)
-        for data in b"", good[:40], good[:32], package(ITEMS, version=(2, 0)), good.replace(b"icudt/de.res", b"icudt/de\0res"), good[:36] + bytes([255] * 4) + good[40:], good[:40] + bytes([255] * 4) + good[44:]:
-            status, printed, _ = self.run_tool("--package", self.save("icudt.dat", data), "--tree", "none")
+        good, many, most = package(ITEMS), b"\xff\xff\xff\xff", len(ITEMS)
+        swapped = good[:36] + good[44:52] + good[36:44] + good[52:]
+        for data, what in (
+            (b"", "no header"),
+            (good[:32], "of which there are not so many"),
+            (good[:40], "of which there are not so many"),
+            (package(ITEMS, version=(2, 0)), "another format than 1"),
+            (good.replace(b"/lang/de.res", b"/curr/de.res"), "with that of another"),
+            (good[:36] + many + good[40:], "without a name"),
+            (good[:40] + many + good[44:], "out of order"),
+            (good[: 28 + 8 * most + 4] + many + good[28 + 8 * most + 8 :], "out of order"),
+            (swapped, "out of order"),
+        ):
+            status, printed, _ = self.run_tool("--package", self.save("icudt.dat", data))
             self.assertEqual((status, printed.count("\n")), (1, 1))
+            self.assertIn(what, printed)
 
     def test_no_name_leads_out_of_the_folder(self):
         items = {name: everything((2, 0), "<") for name in ("../../out.res", "curr/../../out.res", "/out.res", "..res", "a b.res", "de.res")}
