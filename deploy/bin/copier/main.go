@@ -117,6 +117,9 @@ func copyShard(source, target *nats.Conn, shard int) (count int, err error) {
 	if err != nil {
 		return 0, err
 	}
+	if generation.Last == 0 {
+		return copyChanges(source, to, shard, generation, given)
+	}
 	err = stream.Each(source, subjects.Bundles(shard), func(m *nats.Msg, at *nats.MsgMetadata) error {
 		n := at.Sequence.Stream
 		if n < generation.First || n > generation.Last {
@@ -128,6 +131,12 @@ func copyShard(source, target *nats.Conn, shard int) (count int, err error) {
 	if err != nil {
 		return 0, err
 	}
+	more, err := copyChanges(source, to, shard, generation, given)
+	return count + more, err
+}
+
+// copyChanges publishes the changes after a generation that were done.
+func copyChanges(source *nats.Conn, to nats.JetStreamContext, shard int, generation subjects.Generation, given map[uint64]bool) (count int, err error) {
 	err = stream.Each(source, subjects.Changes(shard), func(m *nats.Msg, at *nats.MsgMetadata) error {
 		n := at.Sequence.Stream
 		wasDone, answered := given[n]

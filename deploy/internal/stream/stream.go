@@ -47,11 +47,11 @@ func Each(nc *nats.Conn, name string, each func(m *nats.Msg, at *nats.MsgMetadat
 	return nil
 }
 
-// Latest reads which generation of a shard's bundles stands.
+// Latest reads which generation of a shard's bundles stands; a state of an earlier version has none.
 func Latest(js nats.JetStreamContext, shard int) (subjects.Generation, error) {
 	var g subjects.Generation
 	m, err := js.GetLastMsg(subjects.Bundles(shard), subjects.Seals(shard))
-	if errors.Is(err, nats.ErrMsgNotFound) {
+	if errors.Is(err, nats.ErrMsgNotFound) || errors.Is(err, nats.ErrStreamNotFound) {
 		return g, nil
 	}
 	if err == nil {
