@@ -1,4 +1,4 @@
-# What the scripts of this folder share. Sourced with `here` set to the folder.
+# What the scripts of this folder share. Sourced with `here` set to the folder. A name that a function here sets is set in the script.
 # shellcheck shell=sh disable=SC2034
 
 top=$(CDPATH='' cd -- "$here/.." && pwd)
@@ -49,14 +49,14 @@ debian_module() {
 
 # runs Go in the folder over Debian's libraries alone: in_go FOLDER ARGUMENTS..
 in_go() {
-    folder=$1
+    go_folder=$1
     shift
     mkdir -p "$out/nuid"
     cp "$libraries/src/github.com/nats-io/nuid/nuid.go" "$out/nuid/nuid.go"
     printf 'module github.com/nats-io/nuid\n' >"$out/nuid/go.mod"
-    debian_module "$folder/go.mod" >"$out/debian.mod.$$"
+    debian_module "$go_folder/go.mod" >"$out/debian.mod.$$"
     mv "$out/debian.mod.$$" "$out/debian.mod"
-    (cd "$folder" && GO111MODULE=on GOFLAGS="-modfile=$out/debian.mod" GOCACHE="$out/go" GOPROXY=off go "$@")
+    (cd "$go_folder" && GO111MODULE=on GOFLAGS="-modfile=$out/debian.mod" GOCACHE="$out/go" GOPROXY=off go "$@")
 }
 
 run_go() { in_go "$here" "$@"; }
@@ -64,9 +64,9 @@ run_go() { in_go "$here" "$@"; }
 # builds programs of this folder: those of bin/ by their names, others by their folders
 build() {
     for part in "$@"; do
-        folder=$part
-        [ -d "$here/$part" ] || folder=bin/$part
-        run_go build -o "$out/bin/${part##*/}" "./$folder"
+        built_from=$part
+        [ -d "$here/$part" ] || built_from=bin/$part
+        run_go build -o "$out/bin/${part##*/}" "./$built_from"
     done
 }
 
