@@ -1,7 +1,7 @@
 //! Greets a visitor of a shop in its language: the engine of many applications, without its lines.
 #![tactic(auto)]
+
 ghost use Rattle.std.specs.Prelude.{◌≡◌, ◌≢◌, ℕ, List};
-ghost use Rattle.std.specs.Str.{codes};
 ghost use Rattle.rb_engine.specs.Answer.{answer_over};
 ghost use Rattle.rb_engine.specs.Ask.{Requests, Looks, caller};
 ghost use Rattle.rb_engine.specs.Kept.{state_of};
@@ -22,13 +22,12 @@ fn install(alloc: Global, app: &str, locale: &str, text: &str) -> anyhow::Result
     })
 }
 
-/// Answers a request of any application but one, which is answered after it as before: each of its lookups gives the same.
-fn answer_another(engine: &mut Engine, alloc: Global, request: Request, app: &[u8]) -> Reply
-    requires another { caller (Requests request) ≢ app.now }
-    ensures unchanged {
-        (locale path : List ℕ)
-        → answer_over (state_of engine.new).start ((state_of engine.new).lists app.now) (Looks app.now locale path)
-        ≡ answer_over (state_of engine.old).start ((state_of engine.old).lists app.now) (Looks app.now locale path) }
+/// Answers a request. Each application that didn't make it is answered as before by each lookup.
+fn answer(engine: &mut Engine, alloc: Global, request: Request) -> Reply
+    ensures others { (app locale path : List ℕ)
+        → app ≢ caller (Requests request)
+        → answer_over (state_of engine.new).start ((state_of engine.new).lists app) (Looks app locale path)
+        ≡ answer_over (state_of engine.old).start ((state_of engine.old).lists app) (Looks app locale path) }
 {
     engine.handle(alloc, request)
 }
@@ -37,23 +36,26 @@ fn answer_another(engine: &mut Engine, alloc: Global, request: Request, app: &[u
 fn greeting(alloc: Global, engine: &Engine, locale: &str) -> anyhow::Result<String> {
     match engine.look(b"shop", locale.as_bytes(), b"greeting") {
         Ok(found) => Ok(item_text(alloc, found.node, b"")?),
-        Err(fault) => Ok(String::from_str(alloc, fault.word())?),
+        Err(fault) => Ok(format!(in alloc; "{}", fault.word())?),
     }
 }
 
 fn main(rt: HostRuntime) -> anyhow::Result<()> {
     let alloc = rt.alloc();
     let state = RandomState::new(&rt)?;
-    let mut engine = Engine::start(alloc, state, Vec::new(alloc), Parents::none(alloc))?;
+    let mut engine = match Engine::start(alloc, state, Vec::new(alloc), Parents::none(alloc)) {
+        Ok(engine) => engine,
+        Err(fault) => return Ok(println!(rt; "not started: {}", fault.word())?),
+    };
     for (locale, text) in [
         ("root", r#"root { greeting { "Hello" } }"#),
         ("de", r#"de { greeting { "Hallo" } }"#),
     ] {
-        let reply = engine.handle(alloc, install(alloc, "shop", locale, text)?);
+        let reply = answer(&mut engine, alloc, install(alloc, "shop", locale, text)?);
         println!(rt; "install {locale}: {}", reply.word())?;
     }
     let other = install(alloc, "bank", "de_AT", r#"de_AT { greeting { "Geld" } }"#)?;
-    let reply = answer_another(&mut engine, alloc, other, b"shop");
+    let reply = answer(&mut engine, alloc, other);
     println!(rt; "install of another: {}", reply.word())?;
     for locale in ["de_AT", "fr"] {
         println!(rt; "{locale}: {}", greeting(alloc, &engine, locale)?)?;
