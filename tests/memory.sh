@@ -65,8 +65,8 @@ from hostile import *
 folder, refused = sys.argv[2], int(sys.argv[3])
 # each with more allocations than its reading and acceptance make
 files = [
-    (one_key(random_letters)(20_000), 40), (many_tables(20_000), 40), (mixed_arrays(20_000), 40), (shared_arrays(62), 40),
-    (all_ends(20_000), 80), (mixed_tables(40_000), 80), (copies(thue_morse, 2, 100)(30_000), 190), (copies(random_letters, 2, 100)(30_000), 190),
+    (one_key(random_letters)(20_000), 20), (many_tables(20_000), 20), (mixed_arrays(20_000), 20), (shared_arrays(62), 12),
+    (all_ends(20_000), 50), (mixed_tables(40_000), 50), (copies(random_letters, 2, 100)(30_000), 150),
 ]
 for number, (data, most) in enumerate(files):
     for blocks in range(refused - most, refused):
