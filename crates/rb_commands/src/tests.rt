@@ -2,6 +2,7 @@
 mod batch;
 mod desk;
 mod get;
+mod helpers;
 
 use crate::commands::{check, compile, get};
 use crate::console::Console;

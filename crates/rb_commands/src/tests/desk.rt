@@ -217,8 +217,11 @@ impl Print for Desk {
         self.say(&self.output, value, "\n")
     }
 
-    fn write_all(&self, _bytes: &[u8]) -> io::Result<()> {
-        Err(io::Error::from(ErrorKind::Unsupported))
+    fn write_all(&self, bytes: &[u8]) -> io::Result<()> {
+        match str::from_utf8(bytes) {
+            Ok(text) => self.say(&self.output, text, ""),
+            Err(_) => Err(io::Error::from(ErrorKind::Unsupported)),
+        }
     }
 }
 
