@@ -9,7 +9,9 @@ mod serve;
 mod start;
 #[cfg(test)]
 mod tests;
+mod texts;
 
 pub use commands::{check, compile, get};
 pub use item::{ItemError, text_at};
 pub use serve::serve_input;
+pub use texts::text;

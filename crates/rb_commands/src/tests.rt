@@ -1,6 +1,7 @@
 //! The commands over files in memory: what they print, what they leave, and their statuses.
 mod desk;
 mod get;
+mod texts;
 
 use crate::commands::{check, compile, get};
 use crate::start::{StartError, not_started, start};

@@ -7,7 +7,7 @@ mod tests;
 
 use crate::command_line::commands;
 use clap::ArgMatches;
-use rb_commands::{check, compile, get, serve_input};
+use rb_commands::{check, compile, get, serve_input, text};
 use std::io::ErrorKind;
 use std::process::ExitCode;
 use std::random::RandomSource;
@@ -30,6 +30,11 @@ fn chosen<R: Files + RandomSource + AllocGlobal + Input + Print + Eprint>(
             rt,
             inner.get_str("FILE").unwrap_or(""),
             inner.get_str("PATH").unwrap_or(""),
+        ),
+        Some(("text", inner)) => text(
+            rt,
+            inner.get_str("FILE").unwrap_or(""),
+            inner.get_str("name"),
         ),
         Some(("serve", inner)) => serve_input(
             rt,

@@ -210,8 +210,14 @@ impl Print for Desk {
         self.say(&self.output, value, "\n")
     }
 
-    fn write_all(&self, _bytes: &[u8]) -> io::Result<()> {
-        Err(io::Error::from(ErrorKind::Unsupported))
+    fn write_all(&self, bytes: &[u8]) -> io::Result<()> {
+        if self.output_is_closed.get() {
+            return Err(io::Error::from(ErrorKind::BrokenPipe));
+        }
+        match str::from_utf8(bytes) {
+            Ok(text) => self.say(&self.output, text, ""),
+            Err(_) => Err(io::Error::from(ErrorKind::InvalidData)),
+        }
     }
 }
 
