@@ -1,11 +1,13 @@
 #!/usr/bin/env python3
-"""Holds `resb` against ICU's own tools, over each bundle text in examples/.
+"""Holds `resb` against ICU's own tools, over each bundle text in examples/ and in the folders that are given, such as CLDR's.
 
 A file of `genrb --formatVersion 1`, whose minor version is 3, must be accepted as it is, and denote the tree that our own file
 of the text denotes; `derb` must print both files alike. Trees are read by the reader below, which shares nothing with `resb`.
+What `resb text` prints of the file must compile to the same bytes, and genrb must read it to the same tree. Texts that genrb or
+`resb` doesn't compile are left out in the folders that are given, and counted.
 Needs genrb and derb (Debian: icu-devtools); says `skipped` and ends well where they aren't there.
 
-usage: genrb.py [PROGRAM]   (default: bin/resb)
+usage: genrb.py [PROGRAM [FOLDER ..]]   (default: bin/resb, and no folders)
 """
 import glob
 import os
@@ -77,26 +79,73 @@ def contents(path):
     return [line for line in printed.stdout.decode().splitlines() if not line.startswith("//")]
 
 
-def compare(text):
-    """The first thing in which the two compilers differ over a text, or None."""
-    with tempfile.TemporaryDirectory() as folder:
-        for name in ("theirs", "ours"):
-            os.mkdir(os.path.join(folder, name))
-        subprocess.run(["genrb", "--formatVersion", "1", "-q", "-d", os.path.join(folder, "theirs"), text], check=True, capture_output=True)
-        theirs = glob.glob(os.path.join(folder, "theirs", "*.res"))[0]
-        with open(theirs, "rb") as file:
-            file_of_genrb = file.read()
-        checked = subprocess.run([PROGRAM, "check", theirs], capture_output=True, text=True)
-        if checked.returncode or not checked.stdout.startswith("ok"):
-            return f"genrb's file is refused: {checked.stderr.strip()}"
-        ours = os.path.join(folder, "ours", os.path.basename(theirs))
-        subprocess.run([PROGRAM, "compile", text, ours], check=True, capture_output=True)
-        with open(ours, "rb") as file:
-            if Reader(file.read()).tree() != Reader(file_of_genrb).tree():
-                return "the trees differ"
-        if contents(ours) != contents(theirs):
-            return "derb prints them differently"
+def bytes_of(path):
+    with open(path, "rb") as file:
+        return file.read()
+
+
+def genrb(text, folder):
+    """The file that genrb makes of a text, or None where it refuses the text."""
+    os.mkdir(folder)
+    made = subprocess.run(["genrb", "--formatVersion", "1", "-q", "-d", folder, text], capture_output=True)
+    files = glob.glob(os.path.join(folder, "*.res"))
+    return files[0] if made.returncode == 0 and files else None
+
+
+def compare_printed(ours, folder):
+    """The first thing in which the printed text of a file differs from the file, or None."""
+    again = os.path.join(folder, "again.res")
+    printed = os.path.join(folder, os.path.splitext(os.path.basename(ours))[0] + ".txt")
+    with open(printed, "wb") as file:
+        done = subprocess.run([PROGRAM, "text", ours], stdout=file, stderr=subprocess.PIPE)
+    if done.returncode:
+        return f"the file isn't printed: {done.stderr.decode().strip()}"
+    done = subprocess.run([PROGRAM, "compile", printed, again], capture_output=True, text=True)
+    if done.returncode:
+        return f"the printed text is refused: {done.stderr.strip()}"
+    if bytes_of(again) != bytes_of(ours):
+        return "the printed text compiles to other bytes"
+    theirs = genrb(printed, os.path.join(folder, "printed"))
+    if theirs is None:
+        return "genrb refuses the printed text"
+    if Reader(bytes_of(theirs)).tree() != Reader(bytes_of(ours)).tree():
+        return "genrb reads another tree in the printed text"
     return None
+
+
+def compare(text, folder):
+    """The first thing in which the two compilers differ over a text, or None; and whether both compile it."""
+    theirs = genrb(text, os.path.join(folder, "theirs"))
+    if theirs is None:
+        return "genrb refuses the text", False
+    checked = subprocess.run([PROGRAM, "check", theirs], capture_output=True, text=True)
+    if checked.returncode or not checked.stdout.startswith("ok"):
+        return f"genrb's file is refused: {checked.stderr.strip()}", True
+    os.mkdir(os.path.join(folder, "ours"))
+    ours = os.path.join(folder, "ours", os.path.basename(theirs))
+    made = subprocess.run([PROGRAM, "compile", text, ours], capture_output=True, text=True)
+    if made.returncode:
+        return f"the text is refused: {made.stderr.strip()}", False
+    if Reader(bytes_of(ours)).tree() != Reader(bytes_of(theirs)).tree():
+        return "the trees differ", True
+    if contents(ours) != contents(theirs):
+        return "derb prints them differently", True
+    return compare_printed(ours, folder), True
+
+
+def compare_in(folder):
+    """How many texts of a folder failed, of those that both compile."""
+    failed = compared = left_out = 0
+    for text in sorted(glob.glob(os.path.join(folder, "*.txt"))):
+        with tempfile.TemporaryDirectory() as work:
+            fault, both = compare(text, work)
+        compared += both
+        left_out += not both
+        if fault:
+            failed += both
+            print(f"{text}: {fault}")
+    print(f"{folder}: {compared} compared, {failed} failed, {left_out} left out")
+    return failed
 
 
 def main():
@@ -105,9 +154,12 @@ def main():
         return 0
     failed = 0
     for text in sorted(glob.glob(os.path.join(TOP, "examples", "*.txt"))):
-        fault = compare(text)
+        with tempfile.TemporaryDirectory() as work:
+            fault, _ = compare(text, work)
         failed += fault is not None
         print(f"{os.path.basename(text)}: {fault or 'ok'}")
+    for folder in sys.argv[2:]:
+        failed += compare_in(folder)
     return 1 if failed else 0
 
 

@@ -16,6 +16,7 @@ mod serve;
 mod start;
 #[cfg(test)]
 mod tests;
+mod texts;
 
 pub use batch::{check_all, compile_all};
 pub use commands::{check, check_on, compile, compile_on, get, get_on};
@@ -26,3 +27,4 @@ pub use linting::lint_all;
 pub use lookup::{Lookup, look_up};
 pub use request_lines::{Change, lines};
 pub use serve::{serve_input, serve_on};
+pub use texts::text;

@@ -3,6 +3,7 @@ mod batch;
 mod desk;
 mod get;
 mod helpers;
+mod texts;
 
 use crate::commands::{check, compile, get};
 use crate::console::Console;

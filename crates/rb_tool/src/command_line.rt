@@ -115,6 +115,33 @@ fn get_command<'a>(alloc: Global) -> Result<Command<'a>, AllocError> {
     )
 }
 
+/// The end of the help of `text`.
+const TEXT_HELP: &str = "\
+Example:
+  resb text de.res > de.txt
+
+The text compiles to a file of the same bundle. A file doesn't have the bundle's name.
+
+Status:
+  0  the text is printed
+  1  the file is refused, as de.res: KeyOrder, or its text would be too large, or out of memory
+  2  the command line is invalid, the file can't be read, or standard output can't be written";
+
+fn name_argument<'a>(alloc: Global) -> Arg<'a> {
+    Arg::new(alloc, "name")
+        .long("name")
+        .value_name("NAME")
+        .help("the bundle's name; by default the file's, up to its first full stop")
+}
+
+fn text_command<'a>(alloc: Global) -> Result<Command<'a>, AllocError> {
+    let command = Command::new(alloc, "text")
+        .about("Prints a .res file as a bundle text")
+        .after_help(TEXT_HELP);
+    let command = with_word(alloc, command, "FILE", "a .res file")?;
+    command.arg(name_argument(alloc))
+}
+
 /// The end of the help of `serve`.
 const SERVE_HELP: &str = "\
 Example:
@@ -192,6 +219,10 @@ fn with_helpers<'a>(alloc: Global, command: Command<'a>) -> Result<Command<'a>, 
         .subcommand(look_command(alloc)?)
 }
 
+fn with_text<'a>(alloc: Global, command: Command<'a>) -> Result<Command<'a>, AllocError> {
+    command.subcommand(text_command(alloc)?)
+}
+
 /// The commands.
 pub fn commands<'a>(alloc: Global) -> Result<Command<'a>, AllocError> {
     let command = bare(alloc)?;
@@ -199,5 +230,6 @@ pub fn commands<'a>(alloc: Global) -> Result<Command<'a>, AllocError> {
     let command = with_check(alloc, command)?;
     let command = with_get(alloc, command)?;
     let command = with_helpers(alloc, command)?;
+    let command = with_text(alloc, command)?;
     command.subcommand(serve_command(alloc)?)
 }

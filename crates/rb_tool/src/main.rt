@@ -11,7 +11,7 @@ mod text_commands;
 use crate::command_line::commands;
 use crate::given::{chosen_check, chosen_compile, chosen_lines, chosen_look};
 use clap::ArgMatches;
-use rb_commands::{Console, explain, get_on, lint_all, serve_on};
+use rb_commands::{Console, explain, get_on, lint_all, serve_on, text};
 use std::io::{ErrorKind, IsTerminal};
 use std::process::ExitCode;
 use std::random::RandomSource;
@@ -32,6 +32,12 @@ fn chosen<R: Files + RandomSource + Clock + AllocGlobal + Input + Print + Eprint
             console,
             inner.get_str("FILE").unwrap_or(""),
             inner.get_str("PATH").unwrap_or(""),
+        ),
+        Some(("text", inner)) => text(
+            rt,
+            console,
+            inner.get_str("FILE").unwrap_or(""),
+            inner.get_str("name"),
         ),
         Some(("lint", inner)) => lint_all(rt, console, inner.get_strs("TEXT").unwrap_or(&[])),
         Some(("explain", inner)) => explain(rt, inner.get_str("WORD")),

@@ -4,7 +4,7 @@ use std::alloc::Global;
 use std::test::Fail;
 
 /// Command lines, with the status of those that are refused.
-const LINES: [(&[&str], i32); 29] = [
+const LINES: [(&[&str], i32); 33] = [
     (&["resb"], 2),
     (&["resb", "get", "a.res"], 2),
     (&["resb", "get", "a.res", "a/b"], 0),
@@ -27,6 +27,10 @@ const LINES: [(&[&str], i32); 29] = [
     (&["resb", "serve", "--locale", "de"], 2),
     (&["resb", "check"], 2),
     (&["resb", "check", "a.res"], 0),
+    (&["resb", "text"], 2),
+    (&["resb", "text", "a.res"], 0),
+    (&["resb", "text", "a.res", "--name", "de"], 0),
+    (&["resb", "text", "a.res", "--name"], 2),
     (&["resb", "compile", "a.txt"], 2),
     (&["resb", "compile", "a.txt", "a.res"], 0),
     (&["resb", "compile", "-", "-"], 0),

@@ -218,9 +218,12 @@ impl Print for Desk {
     }
 
     fn write_all(&self, bytes: &[u8]) -> io::Result<()> {
+        if self.output_is_closed.get() {
+            return Err(io::Error::from(ErrorKind::BrokenPipe));
+        }
         match str::from_utf8(bytes) {
             Ok(text) => self.say(&self.output, text, ""),
-            Err(_) => Err(io::Error::from(ErrorKind::Unsupported)),
+            Err(_) => Err(io::Error::from(ErrorKind::InvalidData)),
         }
     }
 }

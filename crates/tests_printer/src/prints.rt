@@ -1,0 +1,174 @@
+// Bundles that are printed, and what the parser reads.
+use crate::laws::again;
+use rb_parser::parse;
+use rb_printer::{PrintError, print_bundle};
+use rb_tree::UnitList;
+use rb_validator::{Bundle, accept};
+use rb_writer::write;
+use std::alloc::Global;
+use std::test::Fail;
+
+/// The bundle of a text, in a file, and its name.
+fn compiled(alloc: Global, text: &[u8]) -> Result<(UnitList, Bundle), Fail> {
+    let source = parse(alloc, text)?;
+    match accept(alloc, write(alloc, &source.tree, source.no_fallback)?) {
+        Ok(bundle) => Ok((source.name, bundle)),
+        Err(_) => Err(Fail::from("a file that is refused")),
+    }
+}
+
+/// What is printed of the bundle of a text.
+fn printed(alloc: Global, text: &[u8]) -> Result<Vec<u8>, Fail> {
+    let (name, bundle) = compiled(alloc, text)?;
+    Ok(print_bundle(alloc, &name, &bundle)?)
+}
+
+/// Whether a text and what is printed of it spell one name and one file.
+fn comes_back(alloc: Global, text: &[u8]) -> Result<bool, Fail> {
+    let (name, bundle) = compiled(alloc, text)?;
+    let (name_again, bundle_again) = compiled(alloc, &print_bundle(alloc, &name, &bundle)?)?;
+    Ok(name.as_slice() == name_again.as_slice() && bundle.bytes() == bundle_again.bytes())
+}
+
+/// A bundle with each kind of item.
+const EACH_KIND: &str =
+    "root{s{\"a b\"}n:int{-1}v:intvector{1,-2,0}b:bin{00ff}l:alias{\"/ICUDATA/x\"}a{{\"x\"}{\"y\"}:int{7}}t{\"k k\"{\"\"}}e:table{}w:intvector{}}";
+
+/// How it is printed: the layout as a person would write it.
+const EACH_PRINTED: &str = "\
+root {
+    a {
+        \"x\",
+        \"y\",
+        :int { 7 },
+    }
+    b:bin { \"00ff\" }
+    e:table {
+    }
+    l:alias { \"/ICUDATA/x\" }
+    n:int { 268435455 }
+    s { \"a b\" }
+    t {
+        \"k k\" { \"\" }
+    }
+    v:intvector { 1, -2, 0 }
+    w:intvector { }
+}
+";
+
+#[test]
+fn prints_each_kind(rt: HostRuntime) -> Result<(), Fail> {
+    let found = printed(rt.alloc(), EACH_KIND.as_bytes())?;
+    assert!(rt; found.as_slice() == EACH_PRINTED.as_bytes());
+    Ok(())
+}
+
+#[test]
+fn writes_names_and_flags(rt: HostRuntime) -> Result<(), Fail> {
+    let alloc = rt.alloc();
+    let rows: [(&str, &str); 4] = [
+        ("de{hello{\"Hallo\"}}", "de {\n    hello { \"Hallo\" }\n}\n"),
+        (
+            "de_AT:table(nofallback){}",
+            "de_AT:table(nofallback) {\n}\n",
+        ),
+        ("\"\"{}", "\"\" {\n}\n"),
+        (
+            "\"a b\"{\"k:\"{\"é\\u0007\\uD800\u{FEFF}\"}}",
+            "\"a b\" {\n    \"k:\" { \"é\\u0007\\ud800\\ufeff\" }\n}\n",
+        ),
+    ];
+    for (text, want) in rows {
+        assert!(rt; printed(alloc, text.as_bytes())?.as_slice() == want.as_bytes());
+    }
+    Ok(())
+}
+
+#[test]
+fn comes_back_from_each(rt: HostRuntime) -> Result<(), Fail> {
+    let alloc = rt.alloc();
+    let rows: [&[u8]; 11] = [
+        b"root{}",
+        b"de:table(nofallback){a{\"b\"}}",
+        b"\"\"{a:array{}}",
+        b"\"a{b\\\\\"{\"{}\"{\"\\u0000\\uD800\\\"\\\\\\n\\uDC00\"}}",
+        "zh{a{\"中文 é ÿ \u{1F600} \u{FEFF}\u{2028}\u{85}\u{7F}\u{FFFE}\"}b:alias{\"\"}c:bin{}d:intvector{}}".as_bytes(),
+        b"x{a:int{0}b:int{0x0fffffff}c:intvector{-2147483648,2147483647,0xffffffff}}",
+        b"x{a{{{{{}}}}}b{\"c//\"{\"//\"}\"/*\"{\"/*\"}%%ALIAS{\"z\"}%%Parent{\"y\"}}}",
+        b"x{a:array{:int{1},:alias{\"z\"},:bin{01},:intvector{3},:table{q{\"r\"}}, \"s\", :table{}, :array{}}}",
+        b"x{\"a b\"{\"it is \\\"q\\\" ok\"}\"k:colon\"{\"line\\ntwo\"}\"\\\"\"{\"C:\\\\new\\\\table\"}\"\\\\\"{\"\\uD800\"}\"{\"{\"\\U0001F600\"}\"/\"{\"\"}0{\"\\uFEFF\"}}",
+        b"x{a{\"one\",}b{{\"one\"}}c:array{{\"one\", \"two\"}{\"three\",}}}",
+        b"x{z:string{\"z\"}a-b{\"1\"}A_b{\"2\"}\"a.b\"{\"3\"}\"%%ALIAS\":alias{\"q\"}}",
+    ];
+    for text in rows {
+        assert!(rt; comes_back(alloc, text)?);
+    }
+    Ok(())
+}
+
+#[test]
+fn comes_back_from_64_levels(rt: HostRuntime) -> Result<(), Fail> {
+    let alloc = rt.alloc();
+    let mut text = String::new(alloc);
+    text.push_str("x{a")?;
+    for _ in 0..62 {
+        text.push_str(":array{")?;
+    }
+    text.push_str(":int{1}")?;
+    for _ in 0..62 {
+        text.push_str("}")?;
+    }
+    text.push_str("}")?;
+    assert!(rt; comes_back(alloc, text.as_bytes())?);
+    Ok(())
+}
+
+#[test]
+fn is_read_and_written_again(rt: HostRuntime) -> Result<(), Fail> {
+    let alloc = rt.alloc();
+    let (name, bundle) = compiled(alloc, EACH_KIND.as_bytes())?;
+    assert!(rt; again(alloc, &name, &bundle)?.as_slice() == bundle.bytes());
+    Ok(())
+}
+
+/// The header, the root item and the indexes of a file with one key, `a`, whose table is at a word.
+const FRONT: [u8; 32] = [
+    0x20, 0x00, 0xDA, 0x27, 0x14, 0x00, 0x00, 0x00, 0x00, 0x00, 0x02, 0x00, 0x52, 0x65, 0x73, 0x42,
+    0x01, 0x01, 0x00, 0x00, 0x00, 0x00, 0x00, 0x00, 0x00, 0x00, 0x00, 0x00, 0x00, 0x00, 0x00, 0x00,
+];
+
+/// A file of 812 bytes whose table has 62 arrays, each of two items that are one: Ints in the first, in each other one the array before.
+fn shared_arrays(alloc: Global) -> Result<Vec<u8>, Fail> {
+    let mut file = Vec::new(alloc);
+    file.extend_from_slice(&FRONT)?;
+    let mut words: Vec<u32> = Vec::new(alloc);
+    words.extend_from_slice(&[0x2000_00C1, 5, 7, 195, 195, 1, 0xAAAA_0061])?;
+    let mut item = 0x7000_0000;
+    for k in 0..62 {
+        words.extend_from_slice(&[2, item, item])?;
+        item = 0x8000_0007 + 3 * k;
+    }
+    words.extend_from_slice(&[0x0018_0001, item])?;
+    for word in &words {
+        file.extend_from_slice(&word.to_le_bytes())?;
+    }
+    Ok(file)
+}
+
+#[test]
+fn refuses_what_spells_too_much(rt: HostRuntime) -> Result<(), Fail> {
+    let alloc = rt.alloc();
+    let file = shared_arrays(alloc)?;
+    assert_eq!(rt; file.len(), 812);
+    let Ok(bundle) = accept(alloc, file) else {
+        return Err(Fail::from("a file that is refused"));
+    };
+    let name = UnitList::new(alloc);
+    assert!(rt;
+        matches!(
+            print_bundle(alloc, &name, &bundle),
+            Err(PrintError::TooLarge)
+        )
+    );
+    Ok(())
+}
