@@ -28,5 +28,6 @@ if has python3; then
     tests/documents.py "$program"
     tests/pipe.py "$program"
     tests/same_readings.py "$program"
+    tests/json_values.py "$program"
 fi
 deploy/test "$program"

@@ -50,7 +50,7 @@ pub fn compile<R: Files + AllocGlobal + Print + Eprint>(
 }
 
 /// The bundle in the file `name`. Where there is none, that is printed, and the status is given.
-fn accepted<R: Files + AllocGlobal + Eprint>(rt: &R, name: &str) -> Result<Bundle, ExitCode> {
+pub fn accepted<R: Files + AllocGlobal + Eprint>(rt: &R, name: &str) -> Result<Bundle, ExitCode> {
     let bytes = match read_file(rt, name) {
         Ok(bytes) => bytes,
         Err(error) => return Err(cannot_read(rt, name, "", error)),

@@ -7,12 +7,20 @@ mod tests;
 
 use crate::command_line::commands;
 use clap::ArgMatches;
-use rb_commands::{check, compile, get, serve_input};
+use rb_commands::{Layout, check, compile, get, json, serve_input};
 use std::io::ErrorKind;
 use std::process::ExitCode;
 use std::random::RandomSource;
 use std::rt::{Env, Files};
 use std::{env, io};
+
+fn layout_of(pretty: bool) -> Layout {
+    if pretty {
+        Layout::Pretty
+    } else {
+        Layout::Compact
+    }
+}
 
 /// Runs the command that was chosen.
 fn chosen<R: Files + RandomSource + AllocGlobal + Input + Print + Eprint>(
@@ -30,6 +38,12 @@ fn chosen<R: Files + RandomSource + AllocGlobal + Input + Print + Eprint>(
             rt,
             inner.get_str("FILE").unwrap_or(""),
             inner.get_str("PATH").unwrap_or(""),
+        ),
+        Some(("json", inner)) => json(
+            rt,
+            inner.get_str("FILE").unwrap_or(""),
+            inner.get_str("PATH").unwrap_or(""),
+            layout_of(inner.get_flag("pretty")),
         ),
         Some(("serve", inner)) => serve_input(
             rt,
