@@ -33,6 +33,7 @@ if has python3; then
     tests/same_readings.py "$program"
     tests/icu2text.py "$program"
     tests/icu.sh "$program" brkitr translit
+    tests/json_values.py "$program"
 fi
 deploy/test "$program"
 deploy/gateway/test "$program"

@@ -17,6 +17,7 @@ mod start;
 #[cfg(test)]
 mod tests;
 mod texts;
+mod value;
 
 pub use batch::{check_all, compile_all};
 pub use commands::{check, check_on, compile, compile_on, get, get_on};
@@ -25,6 +26,8 @@ pub use explain_words::explain;
 pub use item::{ItemError, text_at};
 pub use linting::lint_all;
 pub use lookup::{Lookup, look_up};
+pub use rb_json::Layout;
 pub use request_lines::{Change, lines};
 pub use serve::{serve_input, serve_on};
 pub use texts::text;
+pub use value::{ValueError, json, value_at};

@@ -4,11 +4,14 @@ mod desk;
 mod get;
 mod helpers;
 mod texts;
+mod values;
 
 use crate::commands::{check, compile, get};
 use crate::console::Console;
 use crate::start::{StartError, not_started_on, start};
+use crate::value::json;
 use desk::Desk;
+use rb_json::Layout;
 use std::alloc::Global;
 use std::process::ExitCode;
 
@@ -62,13 +65,15 @@ pub(crate) enum Step<'a> {
     Check(&'a str, u8, &'a str, &'a str),
     /// The item at a path of a file is printed; the same.
     Get(&'a str, &'a str, u8, &'a str, &'a str),
+    /// The whole item at a path of a file is printed as one value; the same.
+    Json(&'a str, &'a str, Layout, u8, &'a str, &'a str),
     /// There is a file with these bytes.
     Has(&'a str, &'a [u8]),
     /// There is such a file, or there is none.
     Keeps(&'a str, bool),
 }
 
-use Step::{Check, Close, Compile, Get, Has, Keeps, Put};
+use Step::{Check, Close, Compile, Get, Has, Json, Keeps, Put};
 
 /// Whether a command ended with this status, and printed this.
 fn ended(desk: &Desk, found: ExitCode, status: u8, output: &str, errors: &str) -> bool {
@@ -90,6 +95,9 @@ fn is_step(desk: &Desk, step: Step<'_>) -> bool {
         }
         Get(file, path, status, output, errors) => {
             ended(desk, get(desk, file, path), status, output, errors)
+        }
+        Json(file, path, layout, status, output, errors) => {
+            ended(desk, json(desk, Console::plain(), file, path, layout), status, output, errors)
         }
         Has(path, bytes) => desk.has(path, bytes),
         Keeps(path, is_there) => desk.keeps(path) == is_there,

@@ -142,6 +142,42 @@ fn text_command<'a>(alloc: Global) -> Result<Command<'a>, AllocError> {
     command.arg(name_argument(alloc))
 }
 
+/// The end of the help of `json`.
+const JSON_HELP: &str = "\
+Example:
+  resb json de.res menu
+
+A table is an object, an array an array, a String a string, an Int a number; the others are objects of one member, :alias, :bin,
+:intvector or :units. A key that begins with a colon has one colon more. Aliases are printed and not followed.
+
+Status:
+  0  the item is printed, as JSON
+  1  the file is refused, has no such item, as menu/shut: Missing, or the item is too large, or out of memory
+  2  the command line is invalid, the file can't be read, or standard output can't be written";
+
+fn pretty_argument<'a>(alloc: Global) -> Arg<'a> {
+    Arg::new(alloc, "pretty")
+        .long("pretty")
+        .action(ArgAction::SetTrue)
+        .help("a line for each item and member, indented")
+}
+
+fn path_argument<'a>(alloc: Global) -> Arg<'a> {
+    Arg::new(alloc, "PATH").help(
+        "keys and indexes, with slashes between them; the whole bundle without it",
+    )
+}
+
+fn json_command<'a>(alloc: Global) -> Result<Command<'a>, AllocError> {
+    let command = Command::new(alloc, "json")
+        .about("Prints a whole .res file, or the item at a path, as one JSON value")
+        .after_help(JSON_HELP);
+    let command = with_word(alloc, command, "FILE", "a .res file")?;
+    command
+        .arg(path_argument(alloc))?
+        .arg(pretty_argument(alloc))
+}
+
 /// The end of the help of `serve`.
 const SERVE_HELP: &str = "\
 Example:
@@ -223,6 +259,10 @@ fn with_text<'a>(alloc: Global, command: Command<'a>) -> Result<Command<'a>, All
     command.subcommand(text_command(alloc)?)
 }
 
+fn with_json<'a>(alloc: Global, command: Command<'a>) -> Result<Command<'a>, AllocError> {
+    command.subcommand(json_command(alloc)?)
+}
+
 /// The commands.
 pub fn commands<'a>(alloc: Global) -> Result<Command<'a>, AllocError> {
     let command = bare(alloc)?;
@@ -231,5 +271,6 @@ pub fn commands<'a>(alloc: Global) -> Result<Command<'a>, AllocError> {
     let command = with_get(alloc, command)?;
     let command = with_helpers(alloc, command)?;
     let command = with_text(alloc, command)?;
+    let command = with_json(alloc, command)?;
     command.subcommand(serve_command(alloc)?)
 }

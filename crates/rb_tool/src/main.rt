@@ -11,12 +11,20 @@ mod text_commands;
 use crate::command_line::commands;
 use crate::given::{chosen_check, chosen_compile, chosen_lines, chosen_look};
 use clap::ArgMatches;
-use rb_commands::{Console, explain, get_on, lint_all, serve_on, text};
+use rb_commands::{Console, Layout, explain, get_on, json, lint_all, serve_on, text};
 use std::io::{ErrorKind, IsTerminal};
 use std::process::ExitCode;
 use std::random::RandomSource;
 use std::rt::{Clock, Env, Files};
 use std::{env, io};
+
+fn layout_of(pretty: bool) -> Layout {
+    if pretty {
+        Layout::Pretty
+    } else {
+        Layout::Compact
+    }
+}
 
 /// Runs the command that was chosen.
 fn chosen<R: Files + RandomSource + Clock + AllocGlobal + Input + Print + Eprint>(
@@ -32,6 +40,13 @@ fn chosen<R: Files + RandomSource + Clock + AllocGlobal + Input + Print + Eprint
             console,
             inner.get_str("FILE").unwrap_or(""),
             inner.get_str("PATH").unwrap_or(""),
+        ),
+        Some(("json", inner)) => json(
+            rt,
+            console,
+            inner.get_str("FILE").unwrap_or(""),
+            inner.get_str("PATH").unwrap_or(""),
+            layout_of(inner.get_flag("pretty")),
         ),
         Some(("text", inner)) => text(
             rt,

@@ -4,11 +4,15 @@ use std::alloc::Global;
 use std::test::Fail;
 
 /// Command lines, with the status of those that are refused.
-const LINES: [(&[&str], i32); 33] = [
+const LINES: [(&[&str], i32); 37] = [
     (&["resb"], 2),
     (&["resb", "get", "a.res"], 2),
     (&["resb", "get", "a.res", "a/b"], 0),
     (&["resb", "get", "a.res", ""], 0),
+    (&["resb", "json"], 2),
+    (&["resb", "json", "a.res"], 0),
+    (&["resb", "json", "a.res", "a/b", "--pretty"], 0),
+    (&["resb", "json", "a.res", "a", "b"], 2),
     (&["resb", "serve"], 0),
     (&["resb", "serve", "x"], 0),
     (

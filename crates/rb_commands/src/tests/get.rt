@@ -32,7 +32,7 @@ const FOUND: [(&[u8], &str, &str); 5] = [
 ];
 
 /// A desk with the file of a bundle text; none where the text isn't compiled.
-fn desk_with(alloc: Global, text: &[u8]) -> Option<Desk> {
+pub(crate) fn desk_with(alloc: Global, text: &[u8]) -> Option<Desk> {
     let desk = Desk::new(alloc, ROOM);
     if !desk.put("in.txt", text) || compile(&desk, "in.txt", "a.res") != ExitCode::SUCCESS {
         return None;
@@ -42,7 +42,7 @@ fn desk_with(alloc: Global, text: &[u8]) -> Option<Desk> {
 }
 
 /// Whether each step on a desk with the file of a bundle text is as it says.
-fn are_steps_with(alloc: Global, text: &[u8], steps: &[Step<'_>]) -> bool {
+pub(crate) fn are_steps_with(alloc: Global, text: &[u8], steps: &[Step<'_>]) -> bool {
     match desk_with(alloc, text) {
         Some(desk) => all_steps(&desk, steps),
         None => false,
