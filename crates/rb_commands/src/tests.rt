@@ -97,7 +97,13 @@ fn is_step(desk: &Desk, step: Step<'_>) -> bool {
             ended(desk, get(desk, file, path), status, output, errors)
         }
         Json(file, path, layout, status, output, errors) => {
-            ended(desk, json(desk, Console::plain(), file, path, layout), status, output, errors)
+            ended(
+                desk,
+                json(desk, Console::plain(), file, path, layout),
+                status,
+                output,
+                errors,
+            )
         }
         Has(path, bytes) => desk.has(path, bytes),
         Keeps(path, is_there) => desk.keeps(path) == is_there,

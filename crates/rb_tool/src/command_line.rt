@@ -128,10 +128,9 @@ Status:
   2  the command line is invalid, the file can't be read, or standard output can't be written";
 
 fn name_argument<'a>(alloc: Global) -> Arg<'a> {
-    Arg::new(alloc, "name")
-        .long("name")
-        .value_name("NAME")
-        .help("the bundle's name; by default the file's, up to its first full stop")
+    Arg::new(alloc, "name").long("name").value_name("NAME").help(
+        "the bundle's name; by default the file's, up to its first full stop",
+    )
 }
 
 fn text_command<'a>(alloc: Global) -> Result<Command<'a>, AllocError> {
