@@ -57,7 +57,7 @@ serves() {
 while IFS= read -r file; do
     case $file in
         clients/*) ;; # tests/clients.sh runs them
-        README.md | *.replies.jsonl | */replies.jsonl) ;;
+        README.md | */README.md | *.replies.jsonl | */replies.jsonl) ;;
         *.txt) accepts "$file" ;;
         */requests.jsonl) ;;
         */*) fails "not run: $file" ;;
