@@ -2,7 +2,7 @@
 # All tests. First what needs no built program: the launcher, the manual page where mandoc is there, a program that must not compile,
 # and one of whose allocations each is refused in turn. Then the gate, which proves every crate from nothing, tries the wrong bodies,
 # runs each test, and builds the program. Last what runs that program: the examples, the documents, replies through pipes, lines read
-# in two ways, tools/icu2text beside ICU's tools, the shards of deploy/, and its gateway.
+# in two ways, the package, tools/icu2text beside ICU's tools, the shards of deploy/, and its gateway.
 set -eu
 cd "$(dirname "$0")/.."
 program=crates/rb_tool/out/rb_tool
@@ -26,6 +26,7 @@ tests/examples.sh "$program"
 tests/stdout.sh "$program"
 tests/files.sh "$program"
 tests/clients.sh "$program"
+tests/package.sh "$program"
 if has python3; then
     tests/documents.py "$program"
     tests/completions.py "$program"
