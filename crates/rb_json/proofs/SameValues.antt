@@ -1,6 +1,7 @@
 -- Trees of one value are equal.
-use Rattle.std.proofs.Common.{◌≡◌, ◌<◌, ◌≤◌, ◌+◌, ◌-◌, ◌*◌, ◌==◌, ◌&&◌, ◌||◌, ◌∙◌, ◌++◌, ℕ, zero, suc, ℤ, pos, negsuc, List, [], ◌∷◌, Bool, true, false, cond, Option, Some, None, Ok, Err, Result, refl, ap, sym, subst, arith, codes, map, length, length-append, encode_utf8, encode_utf8_all}
-use Rattle.std.specs.Prelude.{◌^◌, ◌-ℤ◌, nat_lt, nat_le, not, is_some, unwrap_or, slice_index, if◌then◌else◌}
+use Rattle.std.proofs.Common.{◌≡◌, ◌<◌, ◌+◌, ◌-◌, ◌*◌, ◌==◌, ◌&&◌, ◌||◌, ◌∙◌, ◌++◌, ℕ, zero, suc, ℤ, pos, negsuc, List, [], ◌∷◌, Bool, true, false, cond, Option, Some, None, Ok, Err, Result, refl, ap, sym, subst, arith, codes, map, length, length-append, encode_utf8, encode_utf8_all}
+use Rattle.std.proofs.Math.IntN.{◌+ℤ◌, -ℤ-+ℤ_cancel}
+use Rattle.std.specs.Prelude.{◌^◌, ◌-ℤ◌, nat_lt, nat_le, not, is_some, unwrap_or}
 use Rattle.std.specs.List.{list_any}
 use Rattle.std.specs.Char.{len_utf8}
 use Rattle.std.specs.Char.Utf16.{utf16_chars, utf16_lossy_chars, has_unpaired_surrogate, lone_unit_char, surrogate_pair_char, is_high_surrogate, is_low_surrogate}
@@ -11,12 +12,12 @@ use Rattle.std.proofs.str.Utf16.{pair_units, one_unit}
 use Rattle.hex.specs.Hex.{IsBytes, decode_of, encode_lower}
 use Rattle.hex.specs.declared.error.FromHexError.{FromHexError}
 use Rattle.hex.proofs.HexLemmas.{decode_of-encode_lower}
-use Rattle.serde_json.specs.Data.{Data, null, boolean, number, string, array, object, Items, no_items, item, Members, no_members, member}
+use Rattle.serde_json.specs.Data.{Data, null, boolean, number, string, array, object, no_members, member}
 use Rattle.serde_json.specs.Find.{of_integer}
 use Rattle.rb_tree.specs.Resource.{Resource, int, ints, binary, alias, table, Resources, no_trees, tree_and, no_entries, entry_and}
 use Rattle.rb_tree.specs.Resource as tree
 use Rattle.rb_json.specs.Leaf.{signed_of, units_data, numbers_data}
-use Rattle.rb_json.specs.Value.{value_of, items_value, members_value, tagged, text_or_units, string_value, with_colon, key_text}
+use Rattle.rb_json.specs.Value.{value_of, items_value, members_value, tagged, text_or_units, with_colon, key_text}
 use Rattle.rb_json.specs.Sound.{AreBelow, IsSound, AreSound, EntriesSound}
 
 -- ---- characters
@@ -159,18 +160,28 @@ bytes_same bs cs p q h =
     ok_same bs cs (decode_of (encode_lower bs)) (decode_of-encode_lower bs (below_at bs p))
     (ap decode_of h ∙ decode_of-encode_lower cs (below_at cs q))
 
-less : (m : ℕ) (b : Bool) → nat_lt m (2 ^ 27) ≡ b → signed_of m ≡ cond b (pos m) (pos m -ℤ pos (2 ^ 28))
-less m b e = ap (λ (t : Bool). cond t (pos m) (pos m -ℤ pos (2 ^ 28))) e
+-- a number less 2^28 has the number back
+wraps_back : (m : ℕ) (z : ℤ) → z ≡ pos m -ℤ pos (2 ^ 28) → z +ℤ pos (2 ^ 28) ≡ pos m
+wraps_back m z h = ap (λ (y : ℤ). y +ℤ pos (2 ^ 28)) h ∙ -ℤ-+ℤ_cancel (pos m) (pos (2 ^ 28))
 
-int_by : (m n : ℕ) (a b : Bool) → nat_lt m (2 ^ 27) ≡ a → nat_lt n (2 ^ 27) ≡ b → m < 2 ^ 28 → n < 2 ^ 28
+pos_same : (m n : ℕ) → pos m ≡ pos n → m ≡ n
+pos_same m n h = cc
+
+signs_apart : (m n : ℕ) → n < 2 ^ 28 → pos m ≡ pos n -ℤ pos (2 ^ 28) → ⊥
+signs_apart m n q h =
+    let sum : m + 2 ^ 28 ≡ n = pos_same (m + 2 ^ 28) n (wraps_back n (pos m) h) in
+    omega (arith, sum, q)
+
+int_by : (m n : ℕ) (a b : Bool) → m < 2 ^ 28 → n < 2 ^ 28
     → cond a (pos m) (pos m -ℤ pos (2 ^ 28)) ≡ cond b (pos n) (pos n -ℤ pos (2 ^ 28)) → m ≡ n
-int_by m n true true e f p q h = omega (arith, h)
-int_by m n true false e f p q h = omega (arith, h)
-int_by m n false true e f p q h = omega (arith, h)
-int_by m n false false e f p q h = let g : (pos m -ℤ pos (2 ^ 28)) ≡ (pos n -ℤ pos (2 ^ 28)) = h in search (arith, g)
+int_by m n true true p q h = pos_same m n h
+int_by m n true false p q h = absurd (signs_apart m n q h)
+int_by m n false true p q h = absurd (signs_apart n m p (sym h))
+int_by m n false false p q h =
+    pos_same m n (sym (wraps_back m (pos m -ℤ pos (2 ^ 28)) refl) ∙ wraps_back n (pos m -ℤ pos (2 ^ 28)) h)
 
 int_same : (m n : ℕ) → m < 2 ^ 28 → n < 2 ^ 28 → signed_of m ≡ signed_of n → m ≡ n
-int_same m n p q h = int_by m n (nat_lt m (2 ^ 27)) (nat_lt n (2 ^ 27)) refl refl p q h
+int_same m n p q h = int_by m n (nat_lt m (2 ^ 27)) (nat_lt n (2 ^ 27)) p q h
 
 -- ---- keys
 ascii_text : (cs : List ℕ) → AreBelow 128 cs → encode_utf8_all cs ≡ cs
