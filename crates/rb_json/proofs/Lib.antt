@@ -6,3 +6,4 @@ pub mod Hex
 pub mod Surrogates
 pub mod Rooms
 pub mod Tagged
+pub mod SameValues

@@ -1,7 +1,6 @@
 -- Items by their kinds: as many parts as their length says.
 use Rattle.std.proofs.Common.{◌≡◌, length, refl}
 use Rattle.rb_tree.specs.Resource.{Resource, string, ints, binary, alias, array, table}
-use Rattle.rb_tree.specs.Keys.{items, pairs}
 use Rattle.rb_tree.specs.Parts.{HasUnits, bytes_of, children_of, kind_of, len_of, numbers_of, pairs_of, units_of}
 use Rattle.rb_tree.specs.declared.kind.Kind.TheVariants as Kinds
 

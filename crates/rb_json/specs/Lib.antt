@@ -3,3 +3,4 @@ pub mod Value
 pub mod Tokens
 pub mod Printed
 pub mod Room
+pub mod Sound

@@ -1,5 +1,5 @@
 -- For what is private. What is left of a limit of weight.
-use Rattle.std.specs.Prelude.{◌≡◌, ◌+◌, ◌≤◌, ℕ, Option, Some, None, MatchOption}
+use Rattle.std.specs.Prelude.{◌≡◌, ◌+◌, ◌≤◌, ℕ, Option, MatchOption}
 use Rattle.rb_tree.specs.Resource.{Resource, height, weight}
 
 -- so many levels are enough, and so much room is left; or it isn't so

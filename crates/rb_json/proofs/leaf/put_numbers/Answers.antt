@@ -1,9 +1,8 @@
-use Rattle.std.proofs.Common.{◌≡◌, ◌≤◌, ◌∷◌, ◌++◌, ◌∙◌, [], List, ℕ, ℤ, pos, arith, length, ap, rules, FitsSigned, w32, w64}
+use Rattle.std.proofs.Common.{◌≤◌, ◌++◌, ◌∙◌, ℤ, arith, length, ap, rules, FitsSigned, w32, w64}
 use Rattle.std.proofs.lemmas.Int.{to_z-of_z}
 use Rattle.json.specs.Token.{begin_array, end_array}
-use Rattle.serde_json.specs.Data.{Data, number, unsigned, array}
+use Rattle.serde_json.specs.Data.{number}
 use Rattle.serde_json.specs.Find.{of_integer}
-use Rattle.serde_json.specs.View.{items_of}
 use Rattle.rb_tree.specs.Parts.{numbers_of}
 use Rattle.rb_json.specs.Leaf.{numbers_data}
 use Rattle.rb_json.specs.Tokens.{data_tokens}

@@ -1,9 +1,8 @@
-use Rattle.std.proofs.Common.{◌≡◌, ◌≤◌, ◌<◌, ◌+◌, ℕ, length, arith, min}
-use Rattle.rb_tree.specs.Resource.{Resource, height, weight}
+use Rattle.std.proofs.Common.{◌≤◌, arith}
+use Rattle.rb_tree.specs.Resource.{height, weight}
 use Rattle.rb_tree.specs.Parts.{children_of, pairs_of}
 use Rattle.rb_json.proofs.Growth.{entry_at}
-use Rattle.rb_json.proofs.OfKinds.{as_many_entries, as_many_items}
-use Rattle.rb_json.proofs.Rooms.{items_begin, entries_begin, left_more, left_less, left_none, height_above, item_weight, entry_height, entry_weight}
+use Rattle.rb_json.proofs.Rooms.{items_begin, entries_begin, left_more, left_less, height_above, item_weight, entry_height, entry_weight}
 use Rattle.rb_json.proofs.limit.+room.Goals as goal
 
 pub room_after-returns-then-levels-eq0 : goal.room_after-returns-then-levels-eq0

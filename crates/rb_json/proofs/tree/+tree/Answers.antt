@@ -1,6 +1,6 @@
-use Rattle.std.proofs.Common.{◌≡◌, ◌≤◌, ◌<◌, ◌+◌, ◌∷◌, [], ℕ, arith, length}
+use Rattle.std.proofs.Common.{◌≤◌, ◌<◌, arith, length}
 use Rattle.json.specs.Token.{begin_array, end_array, begin_object, end_object}
-use Rattle.rb_tree.specs.Resource.{Resource, height}
+use Rattle.rb_tree.specs.Resource.{height}
 use Rattle.rb_tree.specs.Parts.{children_of, pairs_of}
 use Rattle.rb_tree.specs.Lower.{child_lower}
 use Rattle.rb_json.specs.Tokens.{data_tokens}
