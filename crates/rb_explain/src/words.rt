@@ -117,14 +117,14 @@ pub(crate) const OF_FILE: [Explanation; 15] = [
         of: Of::File,
         meaning: "the file has another format than 1.1",
         cause: "a file that genrb wrote by default, of format 2 or 3",
-        remedy: "call genrb --formatVersion 1, or resb compile on the text; where there is no text, as of ICU's own files, derb -A prints it (TUTORIAL.md)",
+        remedy: "genrb --formatVersion 1, or resb compile on its text; where there is no text, as of ICU's own files, tools/icu2text writes it (ICU.md), and derb -A a damaged one",
     },
     Explanation {
         word: "BigEndian",
         of: Of::File,
         meaning: "the file is big-endian",
-        cause: "made by genrb on a big-endian machine",
-        remedy: "compile the text again",
+        cause: "made by genrb on a big-endian machine, or by ICU for Java",
+        remedy: "compile the text again, or the text that tools/icu2text writes (ICU.md)",
     },
     Explanation {
         word: "Family",
@@ -138,7 +138,7 @@ pub(crate) const OF_FILE: [Explanation; 15] = [
         of: Of::File,
         meaning: "the file's attributes aren't those of a bundle by itself",
         cause: "a pool bundle, or a file whose keys are in one",
-        remedy: "genrb without --writePoolBundle and --usePoolBundle",
+        remedy: "genrb without --writePoolBundle and --usePoolBundle; of the latter tools/icu2text writes the text (ICU.md)",
     },
     Explanation {
         word: "Indexes",
