@@ -79,8 +79,8 @@ out/fr.res: ok, 1 visits" "$program" check out/de.res out/fr.res
 says 'a lookup' 0 '{"actual":"de","type":"string","valid":"de","value":"A"}' "$program" look de_AT a out/de.res fr.txt
 says 'a lookup that finds nothing' 1 '{"error":"NoBundle"}' "$program" look it a out/de.res
 says 'lines that serve takes' 0 '{"ok":true}
-{"ok":true}' sh -c "'$program' lines shop out/de.res x_fr=fr.txt | sed 's/x_fr/fr/' | '$program' serve"
-says 'no locale' 2 'bad bundle argument: =' "$program" lines shop '='
+{"ok":true}' sh -c "'$program' lines shop out/de.res fr_FR=fr.txt | '$program' serve"
+says 'a file without a name' 2 'cannot read ' "$program" lines shop '='
 says 'a missing comma' 1 'list.txt:1: warning: two texts side by side are joined into one; is a comma missing?' \
     sh -c "printf 'list{a{\"A\" \"B\",\"C\"}}' >list.txt; '$program' lint list.txt"
 says 'nothing doubtful' 0 '' "$program" lint de.txt

@@ -2,13 +2,15 @@
 _resb() {
     local word=${COMP_WORDS[COMP_CWORD]} before=${COMP_WORDS[COMP_CWORD - 1]} flags=
     if [ "$COMP_CWORD" -eq 1 ]; then
-        COMPREPLY=($(compgen -W 'compile check get lint explain lines look serve help --help --version' -- "$word"))
+        COMPREPLY=($(compgen -W 'compile check get text json lint explain lines look serve help --help --version' -- "$word"))
         return
     fi
     case ${COMP_WORDS[1]} in
         compile) flags='--to --quiet --help' ;;
         check) flags='--quiet --help' ;;
         get) flags='--help' ;;
+        text) flags='--name --help' ;;
+        json) flags='--pretty --help' ;;
         lint) flags='--help' ;;
         explain) flags='--help' ;;
         lines) flags='--op --help' ;;

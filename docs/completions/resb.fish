@@ -1,10 +1,12 @@
 # Completion of resb for fish: put it into ~/.config/fish/completions/.
-complete -c resb -n __fish_use_subcommand -f -a 'compile check get lint explain lines look serve help'
+complete -c resb -n __fish_use_subcommand -f -a 'compile check get text json lint explain lines look serve help'
 complete -c resb -n __fish_use_subcommand -l version -d 'Print the version'
 complete -c resb -l help -d 'Print help'
 complete -c resb -n '__fish_seen_subcommand_from compile' -l to -x -a '(__fish_complete_directories)' -d 'Compile many texts into a folder'
 complete -c resb -n '__fish_seen_subcommand_from compile' -l quiet -d 'No line on success'
 complete -c resb -n '__fish_seen_subcommand_from check' -l quiet -d 'No line on success'
+complete -c resb -n '__fish_seen_subcommand_from text' -l name -x -d 'The name of the bundle'
+complete -c resb -n '__fish_seen_subcommand_from json' -l pretty -d 'A line for each item'
 complete -c resb -n '__fish_seen_subcommand_from lines' -l op -x -a 'install replace' -d 'What a line asks for'
 complete -c resb -n '__fish_seen_subcommand_from look' -l parents -r -d 'The explicit parents'
 complete -c resb -n '__fish_seen_subcommand_from serve' -l parents -r -d 'The explicit parents'
