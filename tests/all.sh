@@ -15,6 +15,14 @@ has() {
     }
 }
 
+# once_more COMMAND..: runs what waits for other processes a second time where it failed, as a machine may have been busy
+once_more() {
+    "$@" || {
+        echo "failed, and is tried once more: $1"
+        "$@"
+    }
+}
+
 tests/launcher.sh
 if has mandoc; then
     mandoc -T lint -W warning docs/resb.1
@@ -36,5 +44,5 @@ if has python3; then
     tests/icu.sh "$program" brkitr translit
     tests/json_values.py "$program"
 fi
-deploy/test "$program"
-deploy/gateway/test "$program"
+once_more deploy/test "$program"
+once_more deploy/gateway/test "$program"
