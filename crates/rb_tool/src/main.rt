@@ -1,16 +1,11 @@
 //! `resb`: compiles bundle texts, checks files, prints their items, and serves lookups.
 #![tactic(auto)]
 
-mod bundle_commands;
-mod command_line;
 mod given;
-#[cfg(test)]
-mod tests;
-mod text_commands;
 
-use crate::command_line::commands;
 use crate::given::{chosen_check, chosen_compile, chosen_lines, chosen_look};
 use clap::ArgMatches;
+use rb_arguments::commands;
 use rb_commands::{Console, Layout, explain, get_on, json, lint_all, serve_on, text};
 use std::io::{ErrorKind, IsTerminal};
 use std::process::ExitCode;
