@@ -1,3 +1,1 @@
-pub mod Got
 pub mod Limits
-pub mod Whole

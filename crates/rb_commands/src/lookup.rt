@@ -1,9 +1,7 @@
 //! `resb look`: one lookup over files.
-use crate::commands::compiled;
-use crate::console::Console;
-use crate::files::{cannot_read_on, printed, read_file, refused_on};
 use crate::request_lines::{Given, all_given, is_text};
 use crate::start::{StartError, not_started_on, read_parents};
+use rb_file_commands::{Console, cannot_read_on, compiled, printed, read_file, refused_on};
 use rb_locales::Name;
 use rb_parents::Parents;
 use rb_replies::ReplyLine;

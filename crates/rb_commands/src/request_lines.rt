@@ -1,9 +1,7 @@
 //! `resb lines`: request lines that install files.
-use crate::batch::stem;
-use crate::console::Console;
-use crate::files::{cannot_read_on, printed, read_file, refused_on};
 use crate::start::{StartError, not_started_on};
 use json::Writer;
+use rb_file_commands::{Console, cannot_read_on, printed, read_file, refused_on, stem};
 use rb_format::FILE_LIMIT;
 use rb_lexer::Tokens;
 use rb_locales::Name;

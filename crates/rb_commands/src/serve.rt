@@ -4,9 +4,9 @@ ghost use Rattle.rb_engine.specs.Kept.{state_of};
 ghost use Rattle.rb_requests.specs.Served.{AfterFault, at};
 ghost use Rattle.rb_commands.specs.Limits.{most_lines};
 
-use crate::console::Console;
 use crate::handing::{NotingFeed, WaitingWriter};
 use crate::start::{not_started_on, start};
+use rb_file_commands::Console;
 use rb_requests::{Engine, Feed, ServeFault, Served, Sink, WriteSink, serve};
 use std::alloc::Global;
 use std::cell::Cell;

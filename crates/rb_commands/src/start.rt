@@ -2,8 +2,7 @@
 ghost use Rattle.std.specs.Prelude.{◌≡◌, length, vec_len, IfOk};
 ghost use Rattle.rb_engine.specs.Start.{IsIndexed};
 
-use crate::console::Console;
-use crate::files::read_file;
+use rb_file_commands::{Console, read_file};
 use rb_lexer::SourceKind;
 use rb_locales::Name;
 use rb_parents::{Parents, ParentsFault};
@@ -40,6 +39,14 @@ pub enum StartError<'a> {
 }
 
 impl<'a> StartError<'a> {
+    /// The error of a file that can't be read.
+    fn of_reading(file: &'a str, kind: ErrorKind) -> StartError<'a> {
+        match kind {
+            ErrorKind::OutOfMemory => StartError::Memory,
+            _ => StartError::Unreadable(file),
+        }
+    }
+
     /// The error of a bundle text.
     fn of_text(file: &'a str, kind: SourceKind) -> StartError<'a> {
         match kind {
@@ -108,8 +115,7 @@ fn split_all<'a>(alloc: Global, arguments: &[&'a str]) -> Result<Vec<Common<'a>>
 fn bytes_of<'a, R: Files + AllocGlobal>(rt: &R, file: &'a str) -> Result<Vec<u8>, StartError<'a>> {
     match read_file(rt, file) {
         Ok(bytes) => Ok(bytes),
-        Err(error) if error.kind() == ErrorKind::OutOfMemory => Err(StartError::Memory),
-        Err(_) => Err(StartError::Unreadable(file)),
+        Err(error) => Err(StartError::of_reading(file, error.kind())),
     }
 }
 

@@ -6,12 +6,9 @@ mod helpers;
 mod texts;
 mod values;
 
-use crate::commands::{check, compile, get};
-use crate::console::Console;
 use crate::start::{StartError, not_started_on, start};
-use crate::value::json;
 use desk::Desk;
-use rb_json::Layout;
+use rb_file_commands::{Console, Layout, check, compile, get, json};
 use std::alloc::Global;
 use std::process::ExitCode;
 

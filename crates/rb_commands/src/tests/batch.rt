@@ -1,9 +1,7 @@
 //! Many texts and files at once.
 use super::desk::Desk;
 use super::{EMPTY, HOLDS_ITSELF, ONE_STRING, ROOM, ended};
-use crate::batch::{check_all, compile_all, stem};
-use crate::commands::check_on;
-use crate::console::Console;
+use rb_file_commands::{Console, check_all, check_on, compile_all, stem};
 use std::alloc::Global;
 
 const PLAIN: Console = Console {

@@ -1,9 +1,7 @@
 //! Files in memory, printed as bundle texts.
 use super::desk::Desk;
 use super::{HOLDS_ITSELF, ROOM};
-use crate::commands::compile;
-use crate::console::Console;
-use crate::texts::{name_of, text};
+use rb_file_commands::{Console, compile, name_of, text};
 use std::process::ExitCode;
 
 #[test]

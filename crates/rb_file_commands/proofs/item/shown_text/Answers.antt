@@ -2,8 +2,8 @@ use Rattle.std.proofs.Common.{ap, subst, sym, ◌∙◌}
 use Rattle.rb_tree.specs.Path.{IsPath}
 use Rattle.rb_tree.specs.Walk.{walk}
 use Rattle.rb_tree.specs.Path.{segments}
-use Rattle.rb_commands.proofs.Shown.{shown_end, shown_link, rest_is_path}
-use Rattle.rb_commands.proofs.item.shown_text.Goals as goal
+use Rattle.rb_file_commands.proofs.Shown.{shown_end, shown_link, rest_is_path}
+use Rattle.rb_file_commands.proofs.item.shown_text.Goals as goal
 
 pub item_text-requires-in-Link : goal.item_text-requires-in-Link
 item_text-requires-in-Link g c =

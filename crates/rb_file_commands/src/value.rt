@@ -2,8 +2,8 @@
 ghost use Rattle.std.specs.Prelude.{◌≡◌, ◌⊎◌, Ok, Err, IfOk, IfErr, option_map, string_bytes};
 ghost use Rattle.rb_tree.specs.Path.{IsPath, segments};
 ghost use Rattle.rb_tree.specs.Walk.{walk};
-ghost use Rattle.rb_commands.specs.declared.value.ValueError.TheVariants as errors;
-ghost use Rattle.rb_commands.specs.Whole.{reached, text_of, valued, value_word};
+ghost use Rattle.rb_file_commands.specs.declared.value.ValueError.TheVariants as errors;
+ghost use Rattle.rb_file_commands.specs.Whole.{reached, text_of, valued, value_word};
 
 use crate::commands::accepted;
 use crate::console::Console;

@@ -8,15 +8,15 @@ use Rattle.rb_tree.specs.Path.{IsPath, segments}
 use Rattle.rb_tree.specs.Walk.{Walked, ends, links, gone, walk, behind, stop_of, rest_of, end, link, nowhere}
 use Rattle.rb_fallback.proofs.Paths.{Whole, walk_whole, segments_joined}
 use Rattle.rb_replies.specs.Item.{item_data}
-use Rattle.rb_commands.specs.Got.{shown}
+use Rattle.rb_file_commands.specs.Got.{shown}
 use Rattle.std.specs.Prelude.{IsTrue, Result}
 use Rattle.rb_json.specs.Printed.{is_within, laid_out, refusal}
 use Rattle.rb_json.specs.Value.{value_of}
 use Rattle.rb_json.specs.declared.layout.Layout.{Layout}
 use Rattle.rb_json.specs.declared.error.JsonError.TheVariants as JsonErrors
-use Rattle.rb_commands.specs.Whole.{reached, text_of}
-use Rattle.rb_commands.specs.declared.value.ValueError.{ValueError}
-use Rattle.rb_commands.specs.declared.value.ValueError.TheVariants.{Missing, TooLarge}
+use Rattle.rb_file_commands.specs.Whole.{reached, text_of}
+use Rattle.rb_file_commands.specs.declared.value.ValueError.{ValueError}
+use Rattle.rb_file_commands.specs.declared.value.ValueError.TheVariants.{Missing, TooLarge}
 
 pub shown_end : (w : Walked) (t : Resource) → end t ≡ stop_of w → shown w ≡ Ok (item_data t [])
 shown_end (ends u) t h = let same : t ≡ u = cc in ap (λ v. Ok (item_data v [])) (sym same)

@@ -7,8 +7,8 @@ use Rattle.rb_tree.specs.Walk.{Walked, ends, links, gone, walk}
 use Rattle.rb_json.specs.Printed.{is_within, laid_out}
 use Rattle.rb_json.specs.Value.{value_of}
 use Rattle.rb_json.specs.declared.layout.Layout.{Layout}
-use Rattle.rb_commands.specs.declared.value.ValueError.{ValueError}
-use Rattle.rb_commands.specs.declared.value.ValueError.TheVariants.{BadPath, PathTooLong, Missing, TooLarge, Memory}
+use Rattle.rb_file_commands.specs.declared.value.ValueError.{ValueError}
+use Rattle.rb_file_commands.specs.declared.value.ValueError.TheVariants.{BadPath, PathTooLong, Missing, TooLarge, Memory}
 
 abbrev pub reached : Walked → Option Resource
 reached (ends t) = Some t

@@ -10,7 +10,7 @@ use std::process::ExitCode;
 use std::rt::Files;
 
 /// The name of a bundle where none is given: that of its file, without the folders, up to the first full stop.
-pub(crate) fn name_of(file: &str) -> &str {
+pub fn name_of(file: &str) -> &str {
     let last = match file.rsplit_once('/') {
         Some((_, last)) => last,
         None => file,

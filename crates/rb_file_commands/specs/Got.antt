@@ -6,8 +6,8 @@ use Rattle.rb_tree.specs.Resource.{Resource, alias}
 use Rattle.rb_tree.specs.Path.{is_path, segments}
 use Rattle.rb_tree.specs.Walk.{Walked, ends, links, gone, walk}
 use Rattle.rb_replies.specs.Item.{item_data}
-use Rattle.rb_commands.specs.declared.item.ItemError.{ItemError}
-use Rattle.rb_commands.specs.declared.item.ItemError.TheVariants.{BadPath, PathTooLong, Missing, Memory}
+use Rattle.rb_file_commands.specs.declared.item.ItemError.{ItemError}
+use Rattle.rb_file_commands.specs.declared.item.ItemError.TheVariants.{BadPath, PathTooLong, Missing, Memory}
 
 abbrev pub shown : Walked → Result Data ItemError
 shown (ends t) = Ok (item_data t [])

@@ -9,7 +9,7 @@ use std::process::ExitCode;
 use std::rt::{Clock, Files};
 
 /// The name of a file without its folder and without its last ending: `de` of `texts/de.txt`.
-pub(crate) fn stem(file: &str) -> &str {
+pub fn stem(file: &str) -> &str {
     let name = match file.rsplit_once('/') {
         Some((_, name)) => name,
         None => file,

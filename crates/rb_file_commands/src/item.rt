@@ -4,11 +4,11 @@ ghost use Rattle.serde_json.specs.Data.{Data};
 ghost use Rattle.serde_json.specs.Written.{compact_text};
 ghost use Rattle.rb_tree.specs.Path.{IsPath, segments};
 ghost use Rattle.rb_tree.specs.Walk.{walk};
-ghost use Rattle.rb_commands.specs.declared.item.ItemError.TheVariants as errors;
-ghost use Rattle.rb_commands.specs.Got.{got, item_word, shown};
+ghost use Rattle.rb_file_commands.specs.declared.item.ItemError.TheVariants as errors;
+ghost use Rattle.rb_file_commands.specs.Got.{got, item_word, shown};
 
 use rb_fallback::{PATH_LIMIT, rest_behind};
-use rb_requests::item_text;
+use rb_replies::item_text;
 use rb_tree::{Ending, Node, path_ok, walk};
 use std::alloc::{AllocError, Global};
 

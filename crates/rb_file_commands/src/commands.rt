@@ -15,7 +15,7 @@ use std::process::ExitCode;
 use std::rt::Files;
 
 /// The file that a bundle text spells.
-pub(crate) fn compiled(alloc: Global, text: &[u8]) -> Result<Vec<u8>, SourceFault> {
+pub fn compiled(alloc: Global, text: &[u8]) -> Result<Vec<u8>, SourceFault> {
     let source = parse(alloc, text)?;
     match write(alloc, &source.tree, source.no_fallback) {
         Ok(file) => Ok(file),

@@ -1,0 +1,24 @@
+//! The commands of `resb` over files, over any runtime: compiling, checking, linting, explaining, and printing items, texts and JSON.
+#![tactic(auto)]
+
+mod batch;
+mod commands;
+mod console;
+mod explain_words;
+mod files;
+mod item;
+mod linting;
+mod progress;
+mod texts;
+mod value;
+
+pub use batch::{check_all, compile_all, stem};
+pub use commands::{check, check_on, compile, compile_on, compiled, get, get_on};
+pub use console::{Console, Hint};
+pub use explain_words::explain;
+pub use files::{cannot_read_on, printed, read_file, refused_on};
+pub use item::{ItemError, text_at};
+pub use linting::lint_all;
+pub use rb_json::Layout;
+pub use texts::{name_of, text};
+pub use value::{ValueError, json, value_at};
