@@ -86,6 +86,7 @@ progress() {
     began=$(date +%s)
     while IFS= read -r line; do
         case $line in
+            '== summary') ;;
             '== '*)
                 left=$((left - 1))
                 seconds=$(($(date +%s) - began))

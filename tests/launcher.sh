@@ -90,7 +90,7 @@ resb: the build failed; 2" env RESB_JOBS=3 PATH="$tools" "$second/bin/resb" serv
 
 # It proves two crates, links the program, and says its version, as the real one does.
 rt 'case $* in' \
-    "'all check --jobs 3') echo '== rb_tool' ;;" \
+    "'all check --jobs 3') echo '== rb_tool'; echo '== summary' ;;" \
     "*) $(command -v mv) '$made/rb_tool' out/rb_tool; echo 'resb 0.0.0' ;;" \
     'esac'
 trial 'a build says so on standard error, and nothing of it is on standard output' 'ran: check a; 0' \
