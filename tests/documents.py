@@ -8,8 +8,8 @@ program, `icu2text` the script in tools/, and $EXAMPLES is the folder examples/ 
 tools, or files from a network), and is run only where --with gives what it needs. All other blocks are left alone.
 
 It also compares the pages with the code: each relative link leads to a file and to a heading in it; docs/TROUBLESHOOTING.md and
-docs/resb.1 have each error word; docs/ARCHITECTURE.md has each crate of crates.txt with what it uses; and the definitions, laws and
-clauses that docs/PROOFS.md names are in the crates of its section; `resb explain` says what docs/TROUBLESHOOTING.md does.
+docs/resb.1 have each error word; docs/ARCHITECTURE.md has each crate of crates.txt with what it uses, and these name what they cite; the
+definitions, laws and clauses that docs/PROOFS.md names are in the crates of its section, and it has the count of tests/trusted.py; `resb explain` says what docs/TROUBLESHOOTING.md does.
 
 usage: documents.py [--with FILE]... [PROGRAM]   (default: crates/rb_tool/out/rb_tool)
   --with FILE  copies FILE into the folder that the blocks are run in, and runs those by hand too
@@ -211,15 +211,36 @@ def wrong_rows():
             yield f"docs/ARCHITECTURE.md: {name} uses {' '.join(uses)}"
 
 
+def wrong_uses():
+    """The crates of crates.txt that name others than those that their sources, definitions and proofs cite."""
+    known = {*crates(), *(name for uses in crates().values() for name in uses)}
+    for name, uses in crates().items():
+        files = glob.glob(os.path.join(TOP, "crates", name, "[!o]*", "**"), recursive=True)
+        text = text_of(*(file for file in files if file.endswith((".rt", ".antt"))))
+        text = re.sub(r"//.*|--.*", "", text)
+        cited = {*re.findall(r"\bRattle\.(\w+)\.", text), *re.findall(r"\b(\w+)::", text)} & known - {name}
+        if cited != set(uses):
+            yield f"crates.txt: {name} uses {' '.join(sorted(cited))}"
+
+
+def wrong_count():
+    """The count of definitions, where docs/PROOFS.md doesn't have it."""
+    told = subprocess.run([os.path.join(TOP, "tests/trusted.py")], capture_output=True, text=True, check=True).stdout
+    calls, laws = (f"{int(count):,}" for count in told.split()[-2:])
+    sentence = f"The contracts of calls reach {calls} lines of definitions, and those of laws {laws} more"
+    if sentence not in text_of("docs/PROOFS.md"):
+        yield f"docs/PROOFS.md doesn't say: {sentence}"
+
+
 def is_named(name, named):
     """Whether crates have a definition, law, function, type or clause of this name."""
     word = re.escape(name.rpartition("::")[2])
     forms = (rf"\bfn {word}\b", rf"\b(struct|enum|trait|const) {word}\b", rf"\bensures {word} ")
     for crate in named:
-        specs = os.path.join(TOP, "crates", crate, "specs")
-        if os.path.exists(os.path.join(specs, f"{name}.antt")):
+        specs = glob.glob(os.path.join(TOP, "crates", crate, "specs", "**", "*.antt"), recursive=True)
+        if f"{name}.antt" in map(os.path.basename, specs):
             return True
-        definitions = text_of(*glob.glob(os.path.join(specs, "*.antt")))
+        definitions = text_of(*specs)
         if re.search(rf"^(abbrev pub|pub record|pub data) {word} ", definitions, flags=re.M):
             return True
         if any(re.search(form, sources(crate)) for form in forms):
@@ -246,7 +267,7 @@ def unknown_names():
 def compare_code():
     """Prints where a page isn't what the code is, and tells how often."""
     wrong = [f"{name}: the link {link} leads nowhere" for name in pages() for link in bad_links(name)]
-    wrong += [*missing_words(), *wrong_rows(), *unknown_names()]
+    wrong += [*missing_words(), *wrong_rows(), *wrong_uses(), *wrong_count(), *unknown_names()]
     print("".join(f"{line}\n" for line in wrong), end="")
     return len(wrong)
 
