@@ -14,9 +14,11 @@ mod progress;
 mod request_lines;
 mod serve;
 mod start;
+mod steps;
 #[cfg(test)]
 mod tests;
 mod texts;
+mod trace;
 mod value;
 
 pub use batch::{check_all, compile_all};
