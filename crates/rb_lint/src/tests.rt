@@ -90,7 +90,10 @@ const MESSAGES: [(&[u8], &[&[u8]]); 9] = [
     (b"Guten Tag, {name}!", &[b"name"]),
     (b"{0} von {1}, {0}", &[b"0", b"1"]),
     (b"{0,number} { 1 }", &[b"0", b"1"]),
-    (b"{n, plural, one{ein Ding} other{{m} Dinge}}", &[b"n", b"m"]),
+    (
+        b"{n, plural, one{ein Ding} other{{m} Dinge}}",
+        &[b"n", b"m"],
+    ),
     (b"'{0}' {1}", &[b"1"]),
     (b"it's {0}", &[b"0"]),
     (b"{} {a b} { {", &[]),
@@ -101,7 +104,10 @@ fn are_placeholders(alloc: Global, text: &[u8], wanted: &[&[u8]]) -> bool {
     match placeholders(alloc, text) {
         Ok(names) => {
             names.len() == wanted.len()
-                && names.iter().zip(wanted).all(|(name, other)| *name == *other)
+                && names
+                    .iter()
+                    .zip(wanted)
+                    .all(|(name, other)| *name == *other)
         }
         Err(_) => false,
     }
