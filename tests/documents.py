@@ -4,8 +4,10 @@
 A block that begins with ```console has commands, as they are typed: a line that begins with `$ ` is a command, lines after it
 that begin with `> ` are more of it, and all other lines up to the next command are what it prints, on standard output and
 standard error together. The blocks of a page are run in their order, by one shell, in an empty folder; `resb` is the built
-program, `icu2text` the script in tools/, and $EXAMPLES is the folder examples/ of this repository. A block of ```console by-hand needs more than a shell (other
-tools, or files from a network), and is run only where --with gives what it needs. All other blocks are left alone.
+program, `icu2text` the script in tools/, and $EXAMPLES is the folder examples/ of this repository. Where a page begins with a block
+of ```console first, each other block is run by a shell of its own, which runs that first block before it, in a folder that has bin/,
+tools/ and examples/ as this repository does. A block of ```console by-hand needs more than a shell (other tools, or files from a
+network), and is run only where --with gives what it needs. All other blocks are left alone.
 
 It also compares the pages with the code: each relative link leads to a file and to a heading in it; docs/TROUBLESHOOTING.md and
 docs/resb.1 have each error word; docs/ARCHITECTURE.md has each crate of crates.txt with what it uses, and these name what they cite; the
@@ -60,47 +62,63 @@ def commands(first, lines):
     return found
 
 
-def printed(program, asked, given):
-    """What each command prints, run one after the other by one shell in a folder of their own."""
-    script = "".join(f"{command}\nstatus_of_it=$?\nprintf '%s\\n' '{MARK}'\n(exit $status_of_it)\n" for _, command, _ in asked)
-    with tempfile.TemporaryDirectory() as folder:
-        os.mkdir(os.path.join(folder, "bin"))
-        os.mkdir(os.path.join(folder, "run"))
-        os.symlink(os.path.abspath(program), os.path.join(folder, "bin", "resb"))
-        os.symlink(os.path.join(TOP, "tools", "icu2text"), os.path.join(folder, "bin", "icu2text"))
-        for name in given:
-            shutil.copy(name, os.path.join(folder, "run"))
-        with open(os.path.join(folder, "script"), "w", encoding="utf-8") as file:
-            file.write(script)
-        path = os.path.join(folder, "bin") + os.pathsep + os.environ.get("PATH", "")
+def script_of(asked):
+    """A script of commands, with a mark after what each prints."""
+    return "".join(f"{command}\nstatus_of_it=$?\nprintf '%s\\n' '{MARK}'\n(exit $status_of_it)\n" for _, command, _ in asked)
+
+
+def run_script(script, folder, variables):
+    """What a script prints, run by a shell in a folder."""
+    with tempfile.NamedTemporaryFile("w", encoding="utf-8", suffix=".sh") as file:
+        file.write(script)
+        file.flush()
         run = subprocess.run(
-            ["/bin/sh", os.path.join(folder, "script")],
-            cwd=os.path.join(folder, "run"),
-            env={**os.environ, "PATH": path, "EXAMPLES": os.path.join(TOP, "examples"), "LC_ALL": "C.UTF-8"},
+            ["/bin/sh", file.name],
+            cwd=folder,
+            env={**os.environ, **variables, "LC_ALL": "C.UTF-8"},
             stdin=subprocess.DEVNULL,
             stdout=subprocess.PIPE,
             stderr=subprocess.STDOUT,
             timeout=SECONDS,
             check=False,
         )
-    text = run.stdout.decode("utf-8", "replace")
+    return run.stdout.decode("utf-8", "replace")
+
+
+def answers_in(text):
+    """What each command of a script printed."""
     return [part.splitlines() for part in text.split(MARK + "\n")[:-1]]
+
+
+def printed(program, first, groups, given):
+    """What each command of some blocks prints: where there is a first block, each is run by a shell of its own after it, and else all
+    by one shell."""
+    with tempfile.TemporaryDirectory() as folder:
+        for name in ("bin", "tools", "run"):
+            os.mkdir(os.path.join(folder, name))
+        os.symlink(os.path.abspath(program), os.path.join(folder, "bin", "resb"))
+        os.symlink(os.path.join(TOP, "tools", "icu2text"), os.path.join(folder, "tools", "icu2text"))
+        os.symlink(os.path.join(TOP, "examples"), os.path.join(folder, "examples"))
+        run = os.path.join(folder, "run")
+        if first:
+            variables, start = {"TMPDIR": run}, folder
+            before = "".join(f"{command}\n" for _, command, _ in first)
+            place = run_script(before + "pwd\n", start, variables).splitlines()[-1]
+        else:
+            path = os.pathsep.join([os.path.join(folder, "bin"), os.path.join(folder, "tools"), os.environ.get("PATH", "")])
+            variables, start = {"PATH": path, "EXAMPLES": os.path.join(TOP, "examples")}, run
+            before, place, groups = "", run, [[command for group in groups for command in group]]
+        for name in given:
+            shutil.copy(name, place)
+        return [answers_in(run_script(before + script_of(group), start, variables)) for group in groups]
 
 
 def is_device(path):
     return os.path.exists(path) and stat.S_ISCHR(os.stat(path).st_mode)
 
 
-def run_page(name, program, given):
-    """Prints what differs on a page, and tells how many commands did."""
-    with open(os.path.join(TOP, name), encoding="utf-8") as file:
-        page = file.read()
-    kinds = ("console", "console by-hand") if given else ("console",)
-    asked = [command for info, first, lines in blocks(page) if info in kinds for command in commands(first, lines)]
-    if not is_device(FULL):
-        print(f"{name}: commands that write to {FULL} are left out, as it is no device here")
-        asked = [command for command in asked if FULL not in command[1]]
-    answers = printed(program, asked, given)
+def told(name, asked, answers):
+    """Prints where commands print something else than a page says, and tells how many do."""
     differ = 0
     for index, (number, command, wanted) in enumerate(asked):
         answer = answers[index] if index < len(answers) else ["(nothing: the shell ended)"]
@@ -108,7 +126,26 @@ def run_page(name, program, given):
             differ += 1
             print(f"{name}:{number}: $ {command}")
             print("".join(f"  written: {line}\n" for line in wanted) + "".join(f"  printed: {line}\n" for line in answer), end="")
-    print(f"{name}: {len(asked) - differ} commands agree, {differ} differ")
+    return differ
+
+
+def run_page(name, program, given):
+    """Prints what differs on a page, and tells how many commands did."""
+    with open(os.path.join(TOP, name), encoding="utf-8") as file:
+        page = file.read()
+    kinds = ("console", "console by-hand") if given else ("console",)
+    found = [(info, commands(first, lines)) for info, first, lines in blocks(page) if info in kinds or info == "console first"]
+    first = [command for info, block in found if info == "console first" for command in block]
+    groups = [block for info, block in found if info != "console first"]
+    if not is_device(FULL):
+        print(f"{name}: commands that write to {FULL} are left out, as it is no device here")
+        groups = [[command for command in block if FULL not in command[1]] for block in groups]
+    answers = printed(program, first, groups, given)
+    if not first:
+        groups = [[command for block in groups for command in block]]
+    differ = sum(told(name, asked, given_answers) for asked, given_answers in zip(groups, answers))
+    count = sum(len(block) for block in groups)
+    print(f"{name}: {count - differ} commands agree, {differ} differ" + (f", in {len(groups)} shells" if first else ""))
     return differ
 
 

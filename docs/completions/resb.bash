@@ -11,10 +11,10 @@ _resb() {
         get) flags='--help' ;;
         text) flags='--name --help' ;;
         json) flags='--pretty --help' ;;
-        lint) flags='--help' ;;
+        lint) flags='--root --help' ;;
         explain) flags='--help' ;;
         lines) flags='--op --help' ;;
-        look) flags='--parents --help' ;;
+        look) flags='--parents --trace --help' ;;
         serve) flags='--parents --help' ;;
     esac
     case $before in

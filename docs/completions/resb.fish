@@ -7,6 +7,8 @@ complete -c resb -n '__fish_seen_subcommand_from compile' -l quiet -d 'No line o
 complete -c resb -n '__fish_seen_subcommand_from check' -l quiet -d 'No line on success'
 complete -c resb -n '__fish_seen_subcommand_from text' -l name -x -d 'The name of the bundle'
 complete -c resb -n '__fish_seen_subcommand_from json' -l pretty -d 'A line for each item'
+complete -c resb -n '__fish_seen_subcommand_from lint' -l root -r -d 'The text of the root locale'
 complete -c resb -n '__fish_seen_subcommand_from lines' -l op -x -a 'install replace' -d 'What a line asks for'
 complete -c resb -n '__fish_seen_subcommand_from look' -l parents -r -d 'The explicit parents'
+complete -c resb -n '__fish_seen_subcommand_from look' -l trace -d 'Say which bundles were asked, and why'
 complete -c resb -n '__fish_seen_subcommand_from serve' -l parents -r -d 'The explicit parents'

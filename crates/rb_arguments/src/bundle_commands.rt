@@ -1,5 +1,5 @@
 //! The commands that take bundles into lookups: `lines` and `look`.
-use clap::{Arg, Command};
+use clap::{Arg, ArgAction, Command};
 use std::alloc::{AllocError, Global};
 
 /// The bundles of a command, each with its locale.
@@ -43,6 +43,7 @@ const LOOK_HELP: &str = "\
 Examples:
   resb look de_AT menu/close bundles/*.res
   resb look --parents parents.txt zh_Hant_TW menu/close bundles/*.txt
+  resb look --trace de_AT menu/close bundles/*.txt
 
 Status:
   0  the item is found, and printed as serve replies
@@ -55,7 +56,11 @@ fn with_flags<'a>(alloc: Global, command: Command<'a>) -> Result<Command<'a>, Al
         .long("parents")
         .value_name("FILE")
         .help("a bundle text with the explicit parents, at parentLocales");
-    command.arg(parents)
+    let trace = Arg::new(alloc, "trace")
+        .long("trace")
+        .action(ArgAction::SetTrue)
+        .help("say on standard error which bundles were asked, and why");
+    command.arg(parents)?.arg(trace)
 }
 
 /// `look LOCALE PATH [LOCALE=]FILE..`

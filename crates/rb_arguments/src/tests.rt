@@ -4,7 +4,7 @@ use std::alloc::Global;
 use std::test::Fail;
 
 /// Command lines, with the status of those that are refused.
-const LINES: [(&[&str], i32); 37] = [
+const LINES: [(&[&str], i32); 40] = [
     (&["resb"], 2),
     (&["resb", "get", "a.res"], 2),
     (&["resb", "get", "a.res", "a/b"], 0),
@@ -45,6 +45,8 @@ const LINES: [(&[&str], i32); 37] = [
     (&["resb", "check", "--quiet", "a.res", "b.res"], 0),
     (&["resb", "lint"], 2),
     (&["resb", "lint", "a.txt", "b.txt"], 0),
+    (&["resb", "lint", "--root", "root.txt", "a.txt"], 0),
+    (&["resb", "lint", "--root", "root.txt"], 2),
     (&["resb", "explain"], 0),
     (&["resb", "explain", "BadInt", "BadHex"], 2),
     (&["resb", "lines", "shop"], 2),
@@ -52,6 +54,7 @@ const LINES: [(&[&str], i32); 37] = [
     (&["resb", "look", "de", "a"], 2),
     (&["resb", "look", "de", "a/b", "a.res", "de_AT=b.txt"], 0),
     (&["resb", "look", "--parents", "p", "de", "", "a"], 0),
+    (&["resb", "look", "--trace", "de", "", "a"], 0),
 ];
 
 fn status_of(alloc: Global, words: &[&str]) -> Result<i32, Fail> {

@@ -4,16 +4,24 @@ use std::alloc::{AllocError, Global};
 
 /// The end of the help of `lint`.
 const LINT_HELP: &str = "\
-Example:
+Examples:
   resb lint texts/*.txt
+  resb lint --root texts/root.txt texts/de.txt
+
+With --root it is also said which keys only one of a text and the root's has, and where an item has
+another type or other placeholders, as {0} and {name}.
 
 Status:
   0  each text is compiled, and nothing in it is doubtful
   1  there is a warning, as de.txt:3: warning: .., or an error of a text, as of compile
   2  the command line is invalid, or standard output can't be written";
 
-/// `lint TEXT..`
+/// `lint [--root ROOT] TEXT..`
 pub fn lint_command<'a>(alloc: Global) -> Result<Command<'a>, AllocError> {
+    let root = Arg::new(alloc, "root")
+        .long("root")
+        .value_name("ROOT")
+        .help("the bundle text of the root locale, to compare with");
     let texts = Arg::new(alloc, "TEXT")
         .required(true)
         .num_args(1..)
@@ -21,6 +29,7 @@ pub fn lint_command<'a>(alloc: Global) -> Result<Command<'a>, AllocError> {
     Command::new(alloc, "lint")
         .about("Says what is doubtful in bundle texts, and where an error really began")
         .after_help(LINT_HELP)
+        .arg(root)?
         .arg(texts)
 }
 

@@ -6,8 +6,10 @@ mod lookup;
 mod request_lines;
 mod serve;
 mod start;
+mod steps;
 #[cfg(test)]
 mod tests;
+mod trace;
 
 pub use lookup::{Lookup, look_up};
 pub use rb_file_commands::{

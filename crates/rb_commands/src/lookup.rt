@@ -1,12 +1,17 @@
 //! `resb look`: one lookup over files.
 use crate::request_lines::{Given, all_given, is_text};
 use crate::start::{StartError, not_started_on, read_parents};
-use rb_file_commands::{Console, cannot_read_on, compiled, printed, read_file, refused_on};
+use crate::trace::{Trace, Untraced};
+use rb_compiler::compile;
+use rb_explain::Of;
+use rb_file_commands::{Console, cannot_read_on, printed, read_file, refused_on};
 use rb_locales::Name;
+use rb_packages::Packages;
 use rb_parents::Parents;
 use rb_replies::ReplyLine;
 use rb_requests::{App, Engine, Payload, Reply, Request};
 use rb_tree::ByteList;
+use rb_validator::accept;
 use std::alloc::{AllocError, Global};
 use std::hash::RandomState;
 use std::process::ExitCode;
@@ -23,6 +28,8 @@ pub struct Lookup<'a> {
     pub parents: Option<&'a str>,
     pub locale: &'a str,
     pub path: &'a str,
+    /// Whether standard error says why the answer is what it is.
+    pub is_traced: bool,
 }
 
 /// The files of bundles, each with its name: a text is compiled.
@@ -55,7 +62,7 @@ fn file_of<R: Files + AllocGlobal + Eprint>(
     if !is_text(name) {
         return Ok(bytes);
     }
-    match compiled(rt.alloc(), &bytes) {
+    match compile(rt.alloc(), &bytes) {
         Ok(file) => Ok(file),
         Err(fault) => {
             let word = fault.kind.word();
@@ -129,28 +136,73 @@ fn parents_of<'a, R: Files + AllocGlobal>(
     }
 }
 
-/// An engine without bundles.
-fn engine<R: RandomSource + AllocGlobal>(
+/// The bundles of files, for `APP`; none where one of them is refused.
+fn packages_of<R: RandomSource + AllocGlobal>(
     rt: &R,
-    parents: Parents,
-) -> Result<Engine, StartError<'static>> {
+    app: &App,
+    bundles: &[Given<'_>],
+    files: &[Vec<u8>],
+) -> Option<Packages> {
     let alloc = rt.alloc();
-    let Ok(state) = RandomState::new(rt) else {
-        return Err(StartError::NoRandomState);
-    };
-    match Engine::start(alloc, state, Vec::new(alloc), parents) {
-        Ok(engine) => Ok(engine),
-        Err(_) => Err(StartError::Memory),
+    let mut packages = Packages::new(alloc, RandomState::new(rt).ok()?);
+    for (bundle, file) in bundles.iter().zip(files) {
+        let Ok(accepted) = accept(alloc, file.to_vec(alloc).ok()?) else {
+            return None;
+        };
+        if packages.install(app, bundle.name, accepted).is_err() {
+            return None;
+        }
     }
+    Some(packages)
 }
 
-/// An engine without bundles, with the explicit parents of a file.
-fn started<'a, R: Files + RandomSource + AllocGlobal>(
+/// What an error word of a lookup means.
+fn meaning(word: &str) -> &'static str {
+    for of in [Of::Lookup, Of::Request, Of::Memory] {
+        if let Some(explanation) = of.explanation(word) {
+            return explanation.meaning;
+        }
+    }
+    ""
+}
+
+/// Says how a traced lookup ends that has no answer.
+fn say_fault<R: Eprint>(rt: &R, console: Console, word: &str) {
+    let (meaning, hint) = (meaning(word), console.hint(word));
+    let _ = eprintln!(rt; "{word}: {meaning}{hint}");
+}
+
+/// Says on standard error, step by step, why a lookup over files finds what it finds; nothing where one of them is refused.
+fn say_trace<R: RandomSource + AllocGlobal + Eprint>(
     rt: &R,
-    parents: Option<&'a str>,
-) -> Result<Engine, StartError<'a>> {
-    let parents = parents_of(rt, parents)?;
-    engine(rt, parents)
+    console: Console,
+    lookup: Lookup<'_>,
+    parents: &Parents,
+    bundles: &[Given<'_>],
+    files: &[Vec<u8>],
+) {
+    let Ok(app) = App::read(APP.as_bytes()) else {
+        return;
+    };
+    let Some(packages) = packages_of(rt, &app, bundles, files) else {
+        return;
+    };
+    let Ok(name) = Name::read(lookup.locale.as_bytes()) else {
+        return say_fault(rt, console, "BadLocale");
+    };
+    let trace = Trace {
+        rt,
+        bundles,
+        parents,
+    };
+    let (own, icudata) = (packages.shelf(&app), packages.icu_shelf());
+    match trace.look(own, icudata, &name, lookup.path.as_bytes()) {
+        Ok(actual) => {
+            let _ = eprintln!(rt; "found in {}", trace.file(&actual));
+        }
+        Err(Untraced::Fault(fault)) => say_fault(rt, console, fault.word()),
+        Err(Untraced::Memory) => say_fault(rt, console, "Memory"),
+    }
 }
 
 /// The same lookup as `look_up`, over arguments that are split.
@@ -160,18 +212,29 @@ fn look_over<R: Files + RandomSource + AllocGlobal + Print + Eprint>(
     lookup: Lookup<'_>,
     bundles: &[Given<'_>],
 ) -> Result<ExitCode, ExitCode> {
-    let mut engine = match started(rt, lookup.parents) {
-        Ok(engine) => engine,
+    let alloc = rt.alloc();
+    let parents = match parents_of(rt, lookup.parents) {
+        Ok(parents) => parents,
         Err(error) => return Err(not_started_on(rt, console, error)),
     };
+    let Ok(state) = RandomState::new(rt) else {
+        return Err(not_started_on(rt, console, StartError::NoRandomState));
+    };
     let files = files_of(rt, console, bundles)?;
+    if lookup.is_traced {
+        say_trace(rt, console, lookup, &parents, bundles, &files);
+    }
+    let Ok(mut engine) = Engine::start(alloc, state, Vec::new(alloc), parents) else {
+        return Err(not_started_on(rt, console, StartError::Memory));
+    };
     install_all(rt, console, &mut engine, bundles, &files)?;
     Ok(answer(rt, console, &engine, lookup))
 }
 
 /// Looks a path up from a locale on over the bundles of files, with fallback, and prints the reply that `serve` would give. An
 /// argument is `LOCALE=FILE`, or `FILE`, whose stem is the locale; a file whose name ends in `.txt` is bundle text, any other a `.res`
-/// file. There are no common bundles.
+/// file. There are no common bundles. A traced lookup says on standard error before its reply, and where no file is refused, which
+/// names were asked at each level, what decided on the next name, how far the path was walked, and where an alias leads.
 ///
 /// The status is 0 where something is found; 1 where nothing is, and where a file is refused, with its error; 2 for an argument
 /// without a locale's name, a file that can't be read, and where standard output can't be written.

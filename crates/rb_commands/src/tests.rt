@@ -3,7 +3,9 @@ mod batch;
 mod desk;
 mod get;
 mod helpers;
+mod root;
 mod texts;
+mod traces;
 mod values;
 
 use crate::start::{StartError, not_started_on, start};

@@ -3,7 +3,8 @@ ghost use Rattle.std.specs.Prelude.{◌≡◌, IfSome, map};
 ghost use Rattle.std.specs.Char.{to_ascii_lowercase};
 
 use crate::words::{
-    OF_FILE, OF_LOOKUP, OF_MEMORY, OF_PATH, OF_REQUEST, OF_SERVING, OF_START, OF_TEXT,
+    OF_FILE, OF_LOOKUP, OF_MEMORY, OF_PATH, OF_PRINTING, OF_REQUEST, OF_SERVING, OF_START, OF_TEXT,
+    OF_VALUE,
 };
 use std::fmt;
 
@@ -16,6 +17,10 @@ pub enum Of {
     File,
     /// A path within one file.
     Path,
+    /// A file that is printed as a text.
+    Printing,
+    /// An item that is printed as one value.
+    Value,
     /// What `serve` is given at its start.
     Start,
     /// A request to `serve`.
@@ -35,6 +40,8 @@ impl Of {
             Of::Text => &OF_TEXT,
             Of::File => &OF_FILE,
             Of::Path => &OF_PATH,
+            Of::Printing => &OF_PRINTING,
+            Of::Value => &OF_VALUE,
             Of::Start => &OF_START,
             Of::Request => &OF_REQUEST,
             Of::Lookup => &OF_LOOKUP,
@@ -59,13 +66,15 @@ impl Of {
 impl fmt::Display for Of {
     fn fmt<W: fmt::Write>(&self, f: &mut fmt::Formatter<W>) -> fmt::Result {
         f.write_str(match self {
-            Of::Text => "an error of bundle texts",
-            Of::File => "an error of files",
-            Of::Path => "an error of resb get",
-            Of::Start => "an error at the start of resb serve",
-            Of::Request => "an error in a reply to a request",
-            Of::Lookup => "an error in a reply to a lookup",
-            Of::Serving => "why serving ended early",
+            Of::Text => "an error of bundle texts (compile, lint, look, lines)",
+            Of::File => "an error of files (check, get, text, json)",
+            Of::Path => "an error of paths in one file (get, json)",
+            Of::Printing => "an error of files that are printed (text)",
+            Of::Value => "an error of whole items (json)",
+            Of::Start => "an error of files that are given (serve, look)",
+            Of::Request => "an error in a reply to a request (serve), or of an argument (lines)",
+            Of::Lookup => "an error in a reply to a lookup (serve, look)",
+            Of::Serving => "why serving ended early (serve)",
             Of::Memory => "an error of any command",
         })
     }

@@ -1,10 +1,13 @@
 //! Words that have an explanation, and one that has none.
 use crate::explanation::Of;
 
-const WORDS: [(Of, &str, Option<&str>); 4] = [
+const WORDS: [(Of, &str, Option<&str>); 7] = [
     (Of::Text, "badint", Some("BadInt")),
     (Of::File, "FormatVersion", Some("FormatVersion")),
     (Of::Text, "FormatVersion", None),
+    (Of::Printing, "TooLarge", Some("TooLarge")),
+    (Of::Value, "missing", Some("Missing")),
+    (Of::Printing, "Missing", None),
     (Of::Memory, "Memory", Some("Memory")),
 ];
 

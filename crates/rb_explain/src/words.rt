@@ -237,6 +237,33 @@ pub(crate) const OF_PATH: [Explanation; 3] = [
     },
 ];
 
+/// The words of files that are printed as texts.
+pub(crate) const OF_PRINTING: [Explanation; 1] = [Explanation {
+    word: "TooLarge",
+    of: Of::Printing,
+    meaning: "the text would have more than 8,388,608 bytes",
+    cause: "a file with more items than a text may have, or with items that it shares; it can still be checked, served and looked up",
+    remedy: "print the parts that you want with resb get",
+}];
+
+/// The words of items that are printed as one value.
+pub(crate) const OF_VALUE: [Explanation; 2] = [
+    Explanation {
+        word: "Missing",
+        of: Of::Value,
+        meaning: "the path leads on from an alias",
+        cause: "an alias stands before the path's end; json follows none",
+        remedy: "resb get FILE PATH prints the alias and the rest of the path; ask for the rest where the alias leads",
+    },
+    Explanation {
+        word: "TooLarge",
+        of: Of::Value,
+        meaning: "the item has more than 64 levels, or a weight above 33,554,432",
+        cause: "a file in which many items share others, so that it spells a far larger tree; no bundle that compile makes is refused",
+        remedy: "print a part: resb json FILE PATH; get prints any item",
+    },
+];
+
 /// The words of what keeps serving from starting.
 pub(crate) const OF_START: [Explanation; 6] = [
     Explanation {

@@ -3,28 +3,12 @@ use crate::console::Console;
 use crate::files::{are_same_file, cannot_read_on, printed, read_file, refused_on, write_file};
 use crate::item::{ItemError, text_at};
 use rb_format::FILE_LIMIT;
-use rb_lexer::{SourceFault, SourceKind};
-use rb_parser::parse;
 use rb_validator::{Bundle, accept};
 use rb_views::root;
-use rb_writer::write;
-use std::alloc::Global;
 use std::io;
 use std::io::Read;
 use std::process::ExitCode;
 use std::rt::Files;
-
-/// The file that a bundle text spells.
-pub fn compiled(alloc: Global, text: &[u8]) -> Result<Vec<u8>, SourceFault> {
-    let source = parse(alloc, text)?;
-    match write(alloc, &source.tree, source.no_fallback) {
-        Ok(file) => Ok(file),
-        Err(_) => Err(SourceFault {
-            kind: SourceKind::Memory,
-            line: 0,
-        }),
-    }
-}
 
 /// The file of a text that was read from `input`. Where there is none, that is said, and the status is given.
 fn file_of<R: AllocGlobal + Eprint>(
@@ -37,7 +21,7 @@ fn file_of<R: AllocGlobal + Eprint>(
         Ok(text) => text,
         Err(error) => return Err(cannot_read_on(rt, console, input, ":0", error)),
     };
-    match compiled(rt.alloc(), &text) {
+    match rb_compiler::compile(rt.alloc(), &text) {
         Ok(file) => Ok(file),
         Err(fault) => {
             let word = fault.kind.word();

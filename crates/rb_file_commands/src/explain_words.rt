@@ -5,10 +5,12 @@ use std::io;
 use std::process::ExitCode;
 
 /// What errors are of, in the order in which they are explained.
-const KINDS: [Of; 8] = [
+const KINDS: [Of; 10] = [
     Of::Text,
     Of::File,
     Of::Path,
+    Of::Printing,
+    Of::Value,
     Of::Start,
     Of::Request,
     Of::Lookup,
@@ -45,7 +47,8 @@ fn explain_word<R: Print>(rt: &R, word: &str) -> io::Result<bool> {
     Ok(is_known)
 }
 
-/// Prints what an error word means, its likely causes and what to do, or without a word the list of all words. The status is 0; 1
+/// Prints what an error word means, its likely causes and what to do, or without a word the list of all words. Where a word means
+/// one thing in a command and another in the next, each meaning is printed, with the commands that have it. The status is 0; 1
 /// where there is no such word; 2 where standard output can't be written.
 pub fn explain<R: Print + Eprint>(rt: &R, word: Option<&str>) -> ExitCode {
     let Some(word) = word else {

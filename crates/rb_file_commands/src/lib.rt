@@ -13,7 +13,7 @@ mod texts;
 mod value;
 
 pub use batch::{check_all, compile_all, stem};
-pub use commands::{check, check_on, compile, compile_on, compiled, get, get_on};
+pub use commands::{check, check_on, compile, compile_on, get, get_on};
 pub use console::{Console, Hint};
 pub use explain_words::explain;
 pub use files::{cannot_read_on, printed, read_file, refused_on};

@@ -1,9 +1,11 @@
 //! `resb lint`.
 use crate::batch::stem;
-use crate::commands::compiled;
 use crate::console::Console;
 use crate::files::{cannot_read_on, printed, read_file, refused_on};
-use rb_lint::lint;
+use rb_compiler::compile;
+use rb_lint::{beside_root, lint};
+use rb_parser::parse;
+use rb_tree::Tree;
 use std::io;
 use std::process::ExitCode;
 use std::rt::Files;
@@ -20,7 +22,7 @@ fn print_warnings<R: AllocGlobal + Print>(rt: &R, name: &str, text: &[u8]) -> io
 
 /// Whether a text is compiled; its error is said.
 fn is_compiled<R: AllocGlobal + Eprint>(rt: &R, console: Console, name: &str, text: &[u8]) -> bool {
-    match compiled(rt.alloc(), text) {
+    match compile(rt.alloc(), text) {
         Ok(_) => true,
         Err(fault) => {
             let word = fault.kind.word();
@@ -38,11 +40,51 @@ fn not_warned<R: Eprint>(rt: &R, console: Console, name: &str, error: io::Error)
     printed(rt, Err(error))
 }
 
+/// Prints how a text that was compiled differs from the root's; whether it does.
+fn print_differences<R: AllocGlobal + Print>(
+    rt: &R,
+    name: &str,
+    text: &[u8],
+    root: &Tree,
+) -> io::Result<bool> {
+    let Ok(source) = parse(rt.alloc(), text) else {
+        return Err(io::Error::from(io::ErrorKind::OutOfMemory));
+    };
+    let warnings = beside_root(rt.alloc(), text, &source.tree, root)?;
+    for warning in &warnings {
+        let line = warning.line;
+        println!(rt; "{name}:{line}: warning: {warning}")?;
+    }
+    Ok(!warnings.is_empty())
+}
+
+/// Says what is doubtful in a text that was read; whether nothing is.
+fn lint_read<R: AllocGlobal + Print + Eprint>(
+    rt: &R,
+    console: Console,
+    name: &str,
+    text: &[u8],
+    root: Option<&Tree>,
+) -> io::Result<bool> {
+    if text.len() > rb_lexer::SOURCE_LIMIT {
+        return Ok(is_compiled(rt, console, name, text));
+    }
+    let is_doubtful = print_warnings(rt, name, text)?;
+    if !is_compiled(rt, console, name, text) {
+        return Ok(false);
+    }
+    match root {
+        Some(root) => Ok(!print_differences(rt, name, text, root)? && !is_doubtful),
+        None => Ok(!is_doubtful),
+    }
+}
+
 /// Says what is doubtful in one text.
 fn lint_one<R: Files + AllocGlobal + Print + Eprint>(
     rt: &R,
     console: Console,
     name: &str,
+    root: Option<&Tree>,
 ) -> ExitCode {
     let text = match read_file(rt, name) {
         Ok(text) => text,
@@ -51,31 +93,23 @@ fn lint_one<R: Files + AllocGlobal + Print + Eprint>(
             return ExitCode::from(1);
         }
     };
-    let warned = if text.len() > rb_lexer::SOURCE_LIMIT {
-        Ok(false)
-    } else {
-        print_warnings(rt, name, &text)
-    };
-    match warned {
-        Ok(is_doubtful) => {
-            let is_good = is_compiled(rt, console, name, &text);
-            ExitCode::from(if is_good && !is_doubtful { 0 } else { 1 })
-        }
+    match lint_read(rt, console, name, &text, root) {
+        Ok(true) => ExitCode::SUCCESS,
+        Ok(false) => ExitCode::from(1),
         Err(error) => not_warned(rt, console, name, error),
     }
 }
 
-/// Prints what is doubtful in bundle texts, a line each, as `TEXT:LINE: warning: ..`, and to standard error the error of each text
-/// that isn't compiled, as `compile` does. The status is 0; 1 where there is a warning or an error of a text, and where one can't be
-/// read; 2 as soon as standard output can't be written.
-pub fn lint_all<R: Files + AllocGlobal + Print + Eprint>(
+/// Says what is doubtful in each of many texts.
+fn lint_each<R: Files + AllocGlobal + Print + Eprint>(
     rt: &R,
     console: Console,
+    root: Option<&Tree>,
     names: &[&str],
 ) -> ExitCode {
     let mut status = ExitCode::SUCCESS;
     for name in names {
-        let one = lint_one(rt, console, name);
+        let one = lint_one(rt, console, name, root);
         if one == ExitCode::from(2) {
             return one;
         }
@@ -84,4 +118,46 @@ pub fn lint_all<R: Files + AllocGlobal + Print + Eprint>(
         }
     }
     status
+}
+
+/// The tree of the root's text. Where there is none, that is said.
+fn root_tree<R: Files + AllocGlobal + Eprint>(
+    rt: &R,
+    console: Console,
+    name: &str,
+) -> Option<Tree> {
+    let text = match read_file(rt, name) {
+        Ok(text) => text,
+        Err(error) => {
+            let _ = cannot_read_on(rt, console, name, ":0", error);
+            return None;
+        }
+    };
+    match parse(rt.alloc(), &text) {
+        Ok(source) => Some(source.tree),
+        Err(fault) => {
+            let word = fault.kind.word();
+            let _ = eprintln!(rt; "{name}:{}: {word}{}", fault.line, console.hint(word));
+            None
+        }
+    }
+}
+
+/// Prints what is doubtful in bundle texts, a line each, as `TEXT:LINE: warning: ..`, and to standard error the error of each text
+/// that isn't compiled, as `compile` does. Where `root` names the root locale's text, it is also printed how each text that is
+/// compiled differs from it. The status is 0; 1 where there is a warning or an error of a text, where one can't be read, and where
+/// the root's text is refused or can't be read, before anything is printed; 2 as soon as standard output can't be written.
+pub fn lint_all<R: Files + AllocGlobal + Print + Eprint>(
+    rt: &R,
+    console: Console,
+    root: Option<&str>,
+    names: &[&str],
+) -> ExitCode {
+    let Some(root) = root else {
+        return lint_each(rt, console, None, names);
+    };
+    match root_tree(rt, console, root) {
+        Some(tree) => lint_each(rt, console, Some(&tree), names),
+        None => ExitCode::from(1),
+    }
 }

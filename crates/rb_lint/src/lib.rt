@@ -1,10 +1,14 @@
 //! What is valid in a bundle text and most likely not meant, and where an error of a text really began.
 #![tactic(auto)]
 
+mod beside;
 mod braces;
+mod difference;
 mod findings;
 mod name;
+mod outline;
 mod piece;
+mod placeholders;
 mod quotes;
 mod scan;
 mod search;
@@ -13,6 +17,8 @@ mod sides;
 mod tests;
 mod warning;
 
+pub use beside::beside_root;
+pub use difference::{Difference, RootWarning};
 pub use findings::WARNING_LIMIT;
 pub use search::lint;
 pub use warning::{Doubt, Warning};

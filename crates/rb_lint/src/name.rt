@@ -5,7 +5,7 @@ use crate::warning::Doubt;
 use std::alloc::AllocError;
 
 /// The characters of a piece, where no escape is among them.
-fn characters<'a>(text: &'a [u8], piece: &Piece) -> Option<&'a [u8]> {
+pub(crate) fn characters<'a>(text: &'a [u8], piece: &Piece) -> Option<&'a [u8]> {
     let bytes = text.get(piece.first..piece.past)?;
     if bytes.contains(&b'\\') {
         return None;

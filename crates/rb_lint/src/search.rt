@@ -12,7 +12,7 @@ use crate::warning::Warning;
 use std::alloc::{AllocError, Global};
 
 /// How many lines a text has, with the one after its last line feed.
-fn line_count(text: &[u8]) -> u64
+pub(crate) fn line_count(text: &[u8]) -> u64
     ensures { result ≡ line_count text.now }
 {
     let feeds = text.iter().filter(|byte| **byte == b'\n').count();

@@ -1,4 +1,5 @@
 //! Texts with what is doubtful in them.
+use crate::placeholders::placeholders;
 use crate::search::lint;
 use crate::warning::{Doubt, Warning};
 use std::alloc::Global;
@@ -80,5 +81,41 @@ fn finds_what_is_missing(rt: HostRuntime) {
     assert!(rt; is_linted(rt.alloc(), INDENTED, &[]));
     for (without, line, doubt) in WITHOUT {
         assert!(rt; is_found(rt.alloc(), without, line, doubt));
+    }
+}
+
+/// Texts of messages, and the names of their placeholders.
+const MESSAGES: [(&[u8], &[&[u8]]); 9] = [
+    (b"Guten Tag", &[]),
+    (b"Guten Tag, {name}!", &[b"name"]),
+    (b"{0} von {1}, {0}", &[b"0", b"1"]),
+    (b"{0,number} { 1 }", &[b"0", b"1"]),
+    (
+        b"{n, plural, one{ein Ding} other{{m} Dinge}}",
+        &[b"n", b"m"],
+    ),
+    (b"'{0}' {1}", &[b"1"]),
+    (b"it's {0}", &[b"0"]),
+    (b"{} {a b} { {", &[]),
+    (b"}{0}", &[b"0"]),
+];
+
+fn are_placeholders(alloc: Global, text: &[u8], wanted: &[&[u8]]) -> bool {
+    match placeholders(alloc, text) {
+        Ok(names) => {
+            names.len() == wanted.len()
+                && names
+                    .iter()
+                    .zip(wanted)
+                    .all(|(name, other)| *name == *other)
+        }
+        Err(_) => false,
+    }
+}
+
+#[test]
+fn finds_placeholders(rt: HostRuntime) {
+    for (text, names) in MESSAGES {
+        assert!(rt; are_placeholders(rt.alloc(), text, names));
     }
 }

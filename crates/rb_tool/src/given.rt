@@ -87,7 +87,7 @@ pub fn chosen_lines<R: Files + AllocGlobal + Print + Eprint>(
     lines(rt, console, change, app, files)
 }
 
-/// `look LOCALE PATH [LOCALE=]FILE..`
+/// `look [--trace] LOCALE PATH [LOCALE=]FILE..`
 pub fn chosen_look<R: Files + RandomSource + AllocGlobal + Print + Eprint>(
     rt: &R,
     console: Console,
@@ -97,6 +97,7 @@ pub fn chosen_look<R: Files + RandomSource + AllocGlobal + Print + Eprint>(
         parents: inner.get_str("parents"),
         locale: inner.get_str("LOCALE").unwrap_or(""),
         path: inner.get_str("PATH").unwrap_or(""),
+        is_traced: inner.get_flag("trace"),
     };
     look_up(rt, console, lookup, inner.get_strs("FILE").unwrap_or(&[]))
 }

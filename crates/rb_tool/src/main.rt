@@ -49,7 +49,12 @@ fn chosen<R: Files + RandomSource + Clock + AllocGlobal + Input + Print + Eprint
             inner.get_str("FILE").unwrap_or(""),
             inner.get_str("name"),
         ),
-        Some(("lint", inner)) => lint_all(rt, console, inner.get_strs("TEXT").unwrap_or(&[])),
+        Some(("lint", inner)) => lint_all(
+            rt,
+            console,
+            inner.get_str("root"),
+            inner.get_strs("TEXT").unwrap_or(&[]),
+        ),
         Some(("explain", inner)) => explain(rt, inner.get_str("WORD")),
         Some(("lines", inner)) => chosen_lines(rt, console, inner),
         Some(("look", inner)) => chosen_look(rt, console, inner),

@@ -23,14 +23,14 @@ fn lints(desk: Option<Desk>) -> bool {
     };
     let warning =
         "b/de_AT.txt:2: warning: two texts side by side are joined into one; is a comma missing?\n";
-    let all = lint_all(&desk, Console::plain(), &["de.txt", "b/de_AT.txt"]);
+    let all = lint_all(&desk, Console::plain(), None, &["de.txt", "b/de_AT.txt"]);
     let is_warned = ended(&desk, all, 1, warning, "");
-    let refused = lint_all(&desk, Console::plain(), &["none.txt", "de.txt"]);
+    let refused = lint_all(&desk, Console::plain(), None, &["none.txt", "de.txt"]);
     is_warned
         && ended(&desk, refused, 1, "", "cannot read none.txt\n")
         && ended(
             &desk,
-            lint_all(&desk, Console::plain(), &["de.txt"]),
+            lint_all(&desk, Console::plain(), None, &["de.txt"]),
             0,
             "",
             "",
@@ -87,6 +87,7 @@ fn looks_up(desk: Option<Desk>) -> bool {
         parents: None,
         locale: "de_AT",
         path: "a",
+        is_traced: false,
     };
     let files = ["de.txt", "b/de_AT.txt"];
     let found = look_up(&desk, Console::plain(), lookup, &files);
@@ -110,7 +111,7 @@ fn looks_over_files(rt: HostRuntime) {
 
 fn explains(desk: &Desk) -> bool {
     let hex =
-        "BadHex, an error of bundle texts\n  meaning: a binary isn't an even number of hexadecimal digits\n  likely cause: an odd number of digits, or another character\n  what to do: two digits for each byte\n";
+        "BadHex, an error of bundle texts (compile, lint, look, lines)\n  meaning: a binary isn't an even number of hexadecimal digits\n  likely cause: an odd number of digits, or another character\n  what to do: two digits for each byte\n";
     let unknown = "resb: BadHax is no error word: resb explain lists them\n";
     ended(desk, explain(desk, Some("BadHex")), 0, hex, "")
         && ended(desk, explain(desk, Some("BadHax")), 1, "", unknown)

@@ -1,4 +1,4 @@
-use Rattle.std.proofs.Common.{rules, arith}
+use Rattle.std.proofs.Common.{rules}
 use Rattle.rb_lint.proofs.Ordered.{one_more}
 use Rattle.rb_lint.proofs.findings.in_order.Goals as goal
 

@@ -1,0 +1,295 @@
+//! A text beside that of the root locale.
+ghost use Rattle.std.specs.Prelude.{◌≤◌, IfOk, vec_len};
+ghost use Rattle.rb_lint.specs.Beside.{AreInOrder, AreWithin};
+ghost use Rattle.rb_lint.specs.Warnings.{line_count};
+
+use crate::difference::{Difference, RootWarning};
+use crate::findings::{Findings, WARNING_LIMIT};
+use crate::outline::Outline;
+use crate::placeholders::placeholders;
+use crate::scan::{Quoting, cut};
+use crate::search::line_count;
+use rb_tree::{Entries, Kind, Node, Tree, TreeList, UnitList};
+use std::alloc::{AllocError, Global};
+
+/// An item that the root and the text both have.
+#[derive(Drop)]
+struct Pair<'a> {
+    path: Vec<u8>,
+    /// Where the text has it, if that is known.
+    place: Option<usize>,
+    root: &'a Tree,
+    tree: &'a Tree,
+}
+
+/// A path with one segment more.
+fn below(alloc: Global, path: &[u8], segment: &[u8]) -> Result<Vec<u8>, AllocError> {
+    let mut below = path.to_vec(alloc)?;
+    if !below.is_empty() {
+        below.push(b'/')?;
+    }
+    below.extend_from_slice(segment)?;
+    Ok(below)
+}
+
+/// The units of a String as bytes, where those that aren't plain ASCII are `?`.
+fn plain(alloc: Global, units: &[u16]) -> Result<Vec<u8>, AllocError> {
+    let mut bytes = Vec::new(alloc);
+    for unit in units {
+        bytes.push(u8::try_from(*unit).unwrap_or(b'?'))?;
+    }
+    Ok(bytes)
+}
+
+/// Whether a name is among others.
+fn is_among(name: &[u8], others: &[&[u8]]) -> bool {
+    for other in others {
+        if *other == name {
+            return true;
+        }
+    }
+    false
+}
+
+/// The names that aren't among others.
+fn others<'a>(
+    alloc: Global,
+    names: &[&'a [u8]],
+    others: &[&[u8]],
+) -> Result<Vec<&'a [u8]>, AllocError> {
+    let mut found = Vec::new(alloc);
+    for name in names {
+        if !is_among(name, others) {
+            found.push(*name)?;
+        }
+    }
+    Ok(found)
+}
+
+/// Whether a key is one of ICU's own, which a bundle has for itself alone: `%%ALIAS`, `%%Parent`.
+fn is_own(key: &[u8]) -> bool {
+    key.starts_with(b"%%")
+}
+
+/// A text that is compared with the root's, item by item.
+#[derive(Drop)]
+struct Comparison<'a> {
+    alloc: Global,
+    text: &'a [u8],
+    outline: Outline,
+    /// The items that are still to be compared.
+    pairs: Vec<Pair<'a>>,
+    found: Vec<RootWarning>,
+}
+
+impl<'a> Comparison<'a> {
+    fn add(
+        &mut self,
+        place: Option<usize>,
+        path: Vec<u8>,
+        difference: Difference,
+    ) -> Result<(), AllocError> {
+        let line = self.outline.line(place);
+        self.found.push(RootWarning {
+            line,
+            path,
+            difference,
+        })?;
+        Ok(())
+    }
+
+    /// The root has a key, and the text may have it.
+    fn entry(
+        &mut self,
+        pair: &Pair<'a>,
+        key: &[u8],
+        root: &'a Tree,
+        tree: Option<&'a Tree>,
+    ) -> Result<(), AllocError> {
+        let path = below(self.alloc, &pair.path, key)?;
+        match tree {
+            None if is_own(key) => Ok(()),
+            None => self.add(pair.place, path, Difference::Absent),
+            Some(tree) => {
+                self.pairs.push(Pair {
+                    path,
+                    place: self.outline.entry(self.text, pair.place, key),
+                    root,
+                    tree,
+                })?;
+                Ok(())
+            }
+        }
+    }
+
+    /// The keys of the root's table.
+    fn entries(
+        &mut self,
+        pair: &Pair<'a>,
+        root: &'a Entries,
+        tree: &'a Entries,
+    ) -> Result<(), AllocError> {
+        for i in 0..root.len() {
+            let key = root.key_at(i);
+            self.entry(pair, key, root.at(i), tree.get(key))?;
+        }
+        Ok(())
+    }
+
+    /// The keys of the text's table that the root's hasn't.
+    fn additions(
+        &mut self,
+        pair: &Pair<'a>,
+        root: &Entries,
+        tree: &Entries,
+    ) -> Result<(), AllocError> {
+        for i in 0..tree.len() {
+            let key = tree.key_at(i);
+            if root.get(key).is_none() && !is_own(key) {
+                let place = self.outline.entry(self.text, pair.place, key);
+                let path = below(self.alloc, &pair.path, key)?;
+                self.add(place, path, Difference::Additional)?;
+            }
+        }
+        Ok(())
+    }
+
+    /// The items of two arrays, as far as both have them.
+    fn items(
+        &mut self,
+        pair: &Pair<'a>,
+        root: &'a TreeList,
+        tree: &'a TreeList,
+    ) -> Result<(), AllocError> {
+        let both = root.as_slice().iter().zip(tree.as_slice());
+        for (i, (root, tree)) in both.enumerate() {
+            let index = format!(in self.alloc; "{i}")?;
+            self.pairs.push(Pair {
+                path: below(self.alloc, &pair.path, index.as_bytes())?,
+                place: self.outline.item(pair.place, i),
+                root,
+                tree,
+            })?;
+        }
+        Ok(())
+    }
+
+    /// The placeholders of two Strings.
+    fn strings(
+        &mut self,
+        pair: &Pair<'a>,
+        root: &UnitList,
+        tree: &UnitList,
+    ) -> Result<(), AllocError> {
+        let alloc = self.alloc;
+        let (root, tree) = (
+            plain(alloc, root.as_slice())?,
+            plain(alloc, tree.as_slice())?,
+        );
+        let (asked, given) = (placeholders(alloc, &root)?, placeholders(alloc, &tree)?);
+        for name in &others(alloc, &asked, &given)? {
+            let difference = Difference::Lacks(name.to_vec(alloc)?);
+            self.add(pair.place, pair.path.to_vec(alloc)?, difference)?;
+        }
+        for name in &others(alloc, &given, &asked)? {
+            let difference = Difference::Adds(name.to_vec(alloc)?);
+            self.add(pair.place, pair.path.to_vec(alloc)?, difference)?;
+        }
+        Ok(())
+    }
+
+    /// Another kind of items than the root's; an alias may stand for any.
+    fn kinds(&mut self, pair: &Pair<'a>) -> Result<(), AllocError> {
+        let (root, here) = (pair.root.kind(), pair.tree.kind());
+        if root == here || root == Kind::Alias || here == Kind::Alias {
+            return Ok(());
+        }
+        let path = pair.path.to_vec(self.alloc)?;
+        self.add(pair.place, path, Difference::OtherKind { here, root })
+    }
+
+    fn step(&mut self, pair: &Pair<'a>) -> Result<(), AllocError> {
+        match (pair.root, pair.tree) {
+            (Tree::Table(root), Tree::Table(tree)) => {
+                self.entries(pair, root, tree)?;
+                self.additions(pair, root, tree)
+            }
+            (Tree::Array(root), Tree::Array(tree)) => self.items(pair, root, tree),
+            (Tree::String(root), Tree::String(tree)) => self.strings(pair, root, tree),
+            _ => self.kinds(pair),
+        }
+    }
+
+    /// Compares all items, and gives what was found.
+    fn compared(mut self) -> Result<Vec<RootWarning>, AllocError> {
+        for _ in 0..u64::MAX {
+            let Some(pair) = self.pairs.pop() else {
+                return Ok(self.found);
+            };
+            self.step(&pair)?;
+        }
+        Ok(self.found)
+    }
+}
+
+/// The first of some warnings, in the order of their lines.
+fn in_order(
+    alloc: Global,
+    mut found: Vec<RootWarning>,
+    lines: u64,
+) -> Result<Vec<RootWarning>, AllocError>
+    ensures order { IfOk result (λ ws. AreInOrder ws.items) }
+    ensures within { IfOk result (λ ws. AreWithin lines ws.items) }
+    ensures few { IfOk result (λ ws. vec_len ws ≤ 100) }
+{
+    found.sort_by_key(|warning| warning.line)?;
+    let mut settled = Vec::new(alloc);
+    let mut last = 1;
+    for warning in found {
+        if warning.line < last || lines < warning.line || settled.len() >= WARNING_LIMIT {
+            continue;
+        }
+        last = warning.line;
+        settled.push(warning)?;
+    }
+    Ok(settled)
+}
+
+/// How a bundle text differs from that of the root locale: keys that only one of them has, items of another kind, and placeholders of
+/// messages, as `{0}` and `{name}`, that only one of two Strings has; at most 100 warnings, in the order of their lines. `tree` is the
+/// bundle that the text spells. The rules are this project's own.
+///
+/// A key that the text doesn't have is found at the line of its table. Keys that begin with `%%` and aliases are passed over, and of
+/// arrays the items that both have are compared.
+///
+/// ```rust
+/// // Of the text `de{a{"Hallo {nmae}"}}` beside `root{a{"Hello {name}"} b{"B"}}`:
+/// beside_root(alloc, text, &tree, &root)? // three warnings at line 1
+/// ```
+pub fn beside_root(
+    alloc: Global,
+    text: &[u8],
+    tree: &Tree,
+    root: &Tree,
+) -> Result<Vec<RootWarning>, AllocError>
+    // Each is at a line of the text, and none before the one that it follows.
+    ensures order { IfOk result (λ ws. AreInOrder ws.items) }
+    ensures within { IfOk result (λ ws. AreWithin (line_count text.now) ws.items) }
+    ensures few { IfOk result (λ ws. vec_len ws ≤ 100) }
+{
+    let (pieces, _) = cut(alloc, text, Quoting::OverLines, &mut Findings::new(alloc))?;
+    let mut comparison = Comparison {
+        alloc,
+        text,
+        outline: Outline::of(alloc, &pieces)?,
+        pairs: Vec::new(alloc),
+        found: Vec::new(alloc),
+    };
+    comparison.pairs.push(Pair {
+        path: Vec::new(alloc),
+        place: Some(0),
+        root,
+        tree,
+    })?;
+    in_order(alloc, comparison.compared()?, line_count(text))
+}
