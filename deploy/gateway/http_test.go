@@ -48,6 +48,8 @@ type site struct {
 	url   string
 	leave context.CancelFunc
 	ended chan error
+
+	before string // how often bundles were installed again, when the test began
 }
 
 // open begins a gateway over a server of its own, with settings like those of the command line.
@@ -63,6 +65,14 @@ func open(t *testing.T, options ...string) *site {
 
 func openWith(t *testing.T, s settings) *site {
 	t.Helper()
+	at := openUnreached(t, s)
+	at.await()
+	return at
+}
+
+// openUnreached begins a gateway, and doesn't wait until its backend answers.
+func openUnreached(t *testing.T, s settings) *site {
+	t.Helper()
 	leaving, leave := context.WithCancel(context.Background())
 	g, err := newGateway(leaving, s)
 	if err != nil {
@@ -76,7 +86,7 @@ func openWith(t *testing.T, s settings) *site {
 	if err != nil {
 		t.Fatal(err)
 	}
-	at := &site{g, t, "http://" + l.Addr().String(), leave, make(chan error, 1)}
+	at := &site{gateway: g, t: t, url: "http://" + l.Addr().String(), leave: leave, ended: make(chan error, 1)}
 	go g.refresh(leaving, p)
 	go func() { at.ended <- g.listenOn(l, p) }()
 	t.Cleanup(func() {
@@ -87,7 +97,6 @@ func openWith(t *testing.T, s settings) *site {
 		}
 		g.backend.close()
 	})
-	at.await()
 	return at
 }
 
@@ -353,8 +362,11 @@ func TestTagsAndHeads(t *testing.T) {
 	}
 }
 
-func TestWrongMethodsAndPages(t *testing.T) {
-	s := open(t)
+func TestWrongMethodsAndPages(t *testing.T) { open(t).wrongMethods() }
+
+func (s *site) wrongMethods() {
+	t := s.t
+	t.Helper()
 	for _, at := range []struct {
 		method, path string
 		status       int

@@ -65,6 +65,10 @@ func (b *bridge) lead(term context.Context) error {
 	if err != nil {
 		return err
 	}
+	asked, err := b.report()
+	if err != nil {
+		return err
+	}
 	for p := (pause{}); ctx.Err() == nil; {
 		served, end := b.run(ctx)
 		if served {
@@ -75,6 +79,7 @@ func (b *bridge) lead(term context.Context) error {
 		rest(ctx, wait)
 	}
 	_ = changes.Unsubscribe()
+	_ = asked.Unsubscribe()
 	<-kept
 	return nil
 }

@@ -54,6 +54,7 @@ func (l *life) settle(ctx context.Context, r reply) string {
 		return ""
 	}
 	if given != r.text {
+		l.record.differs()
 		log.Printf("change %d: replied %s, and %s when it was first given", r.n, r.text, given)
 	}
 	if r.text == outOfMemory && given != outOfMemory {
@@ -94,5 +95,6 @@ func (l *life) open() {
 		}
 	}
 	l.served = true
+	l.record.replayed()
 	log.Printf("serves after %d lines, %d ms", l.count, time.Since(l.began).Milliseconds())
 }
