@@ -295,6 +295,40 @@ func TestTokensPart(t *testing.T) {
 	}
 }
 
+// TestWhoHasNoRightReachesNothing asks with wrong tokens and in wrong ways: no line comes to a server by that.
+func TestWhoHasNoRightReachesNothing(t *testing.T) { open(t).noRights() }
+
+func (s *site) noRights() {
+	s.t.Helper()
+	lines := func() (all float64) {
+		for name, value := range s.measured() {
+			if strings.HasPrefix(name, "resb_shard_lines_total{") {
+				all += value
+			}
+		}
+		return all
+	}
+	before := lines()
+	for _, at := range []struct {
+		method, path, token, body string
+		status                    int
+	}{
+		{"GET", "/v1/shop", "", "", 401}, {"GET", "/v1/shop/de/a", "none", "", 401}, {"PUT", "/v1/shop/de.txt", "none", "de{}", 401},
+		{"DELETE", "/v1/shop/de", "", "", 401}, {"POST", "/v1/shop/look", "none", `{"locale":"de","path":"a"}`, 401},
+		{"GET", "/v1/bank", shopWrites, "", 403}, {"GET", "/v1/bank/de/a", shopWrites, "", 403}, {"PUT", "/v1/bank/de.txt", shopWrites, "de{}", 403},
+		{"PUT", "/v1/shop/de.txt", shopReads, "de{}", 403}, {"POST", "/v1/shop/de.txt", shopReads, "de{}", 403},
+		{"DELETE", "/v1/shop/de", shopReads, "", 403}, {"POST", "/v1/bank/look", shopWrites, `{"locale":"de","path":"a"}`, 403},
+		{"GET", "/v1/none", shopWrites, "", 403}, {"PATCH", "/v1/shop/de", shopWrites, "de{}", 405}, {"GET", "/v1/shop/../de", shopWrites, "", 400},
+	} {
+		if got := s.ask(at.method, at.path, at.token, at.body); got.StatusCode != at.status {
+			s.t.Errorf("%s %s: %d %s", at.method, at.path, got.StatusCode, got.body)
+		}
+	}
+	if after := lines(); after != before {
+		s.t.Errorf("%v lines came to a server", after-before)
+	}
+}
+
 // TestTheTokensFileIsReadAgain changes the file: tokens come and go, and a file that is wrong changes nothing.
 func TestTheTokensFileIsReadAgain(t *testing.T) {
 	s := open(t)

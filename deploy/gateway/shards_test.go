@@ -55,6 +55,7 @@ func TestBadInputOverNATS(t *testing.T) {
 	s.noRequests()
 	s.tornJSON()
 	s.wrongMethods()
+	s.noRights()
 	s.alive()
 }
 
