@@ -48,7 +48,7 @@ func writePair(t *testing.T, folder string, serial int64, at time.Time) {
 func TestTLS(t *testing.T) {
 	folder := t.TempDir()
 	writePair(t, folder, 1, time.Now().Add(-time.Hour))
-	s := open(t, "-cert", filepath.Join(folder, "cert"), "-key", filepath.Join(folder, "key"), "-header-time", "1s")
+	s := open(t, "-cert", filepath.Join(folder, "cert"), "-key", filepath.Join(folder, "key"), "-header-time", "1s", "-read-time", "2s")
 	address := strings.TrimPrefix(s.url, "http://")
 	get := func(h2 bool) (*http.Response, error) {
 		transport := &http.Transport{TLSClientConfig: &tls.Config{InsecureSkipVerify: true}, ForceAttemptHTTP2: h2}
@@ -91,11 +91,12 @@ func TestTLS(t *testing.T) {
 	}
 }
 
-// slowOverTLS begins a handshake, and headers after one, and doesn't go on: each connection is ended. What came of a first line is
-// judged as if it were whole.
+// slowOverTLS begins a handshake, and headers after one, and doesn't go on: each connection is ended, and who began a header is
+// told why.
 func slowOverTLS(t *testing.T, address string) {
 	t.Helper()
-	for bytes, want := range map[string]string{"\x16\x03\x01\x02": "", "": "", "GET /v1/sh": "400", "GET / HTTP/1.1\r\nHost: x\r\nA: b": ""} {
+	for bytes, want := range map[string]string{"\x16\x03\x01\x02": "", "": "", "GET /v1/sh": "408", "GET / HTTP/1.1\r\nHost: x\r\nA: b": "408",
+		begins("PUT", "/v1/shop/fr.txt", "Content-Length: 20\r\n\r\nfr{"): "408"} {
 		c, err := net.Dial("tcp", address)
 		if err != nil {
 			t.Fatal(err)
@@ -107,7 +108,8 @@ func slowOverTLS(t *testing.T, address string) {
 		if _, err := io.WriteString(c, bytes); err != nil {
 			t.Error(err)
 		}
-		if text, err := io.ReadAll(c); statusOfText(string(text)) != want || errors.Is(err, os.ErrDeadlineExceeded) {
+		text, err := io.ReadAll(c)
+		if statusOfText(string(text)) != want || strings.Count(string(text), "HTTP/1.1 ") > 1 || errors.Is(err, os.ErrDeadlineExceeded) {
 			t.Errorf("%q: %q, %v", bytes, text, err)
 		}
 		c.Close()
