@@ -69,7 +69,7 @@ func (b *bridge) lead(term context.Context) error {
 	if err != nil {
 		return err
 	}
-	for p := (pause{}); ctx.Err() == nil; {
+	for p := (pause{}); b.await(ctx); {
 		served, end := b.run(ctx)
 		if served {
 			p.reset()

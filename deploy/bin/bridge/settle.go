@@ -65,7 +65,7 @@ func (l *life) settle(ctx context.Context, r reply) string {
 
 // give stores and sends an answer, as often as it takes.
 func (l *life) give(ctx context.Context, r reply) {
-	for p := (pause{}); ctx.Err() == nil; {
+	for p := (pause{most: streamPause}); ctx.Err() == nil; {
 		token := subjects.Last(r.message.Subject)
 		err := l.answers.give(r.n, token, subjects.GivenID(token, r.message.Header.Get(nats.MsgIdHdr)), r.text)
 		if err == nil {
