@@ -75,9 +75,8 @@ func (b *bridge) await(ctx context.Context) bool {
 
 // reads tells why a stream can't be read now.
 func (b *bridge) reads() error {
-	const wait = 2 * time.Second
 	for _, name := range []string{subjects.Bundles(b.shard), subjects.AnswersOf(b.shard), subjects.Changes(b.shard)} {
-		if _, err := b.js.StreamInfo(name, nats.MaxWait(wait)); err != nil {
+		if _, err := b.js.StreamInfo(name); err != nil {
 			return fmt.Errorf("stream %s: %w", name, err)
 		}
 	}
