@@ -100,9 +100,10 @@ authorization {
 END
     user operator '">"' '">"'
     # shellcheck disable=SC2016
-    user bridge '"resb.log.*.*", "resb.answer.*.*", "resb.lease.*", "_INBOX.*.>", "$JS.API.STREAM.INFO.*", "$JS.API.STREAM.MSG.GET.*", "$JS.API.CONSUMER.>"' '"resb.change.*.*", "resb.ask.*.*", "resb.many.*.*", "resb.answered.*.*", "_INBOX.bridge.>"'
+    user bridge '"resb.log.*.*", "resb.answer.*.*", "resb.lease.*", "_INBOX.*.>", "$JS.API.STREAM.INFO.*", "$JS.API.STREAM.MSG.GET.*", "$JS.API.CONSUMER.>"' '"resb.change.*.*", "resb.ask.*.*", "resb.many.*.*", "resb.answered.*.*", "resb.status", "_INBOX.bridge.>"'
     # shellcheck disable=SC2016
     user compactor '"resb.bundle.*.*", "resb.generation.*", "$JS.API.STREAM.INFO.*", "$JS.API.STREAM.MSG.GET.*", "$JS.API.STREAM.PURGE.*", "$JS.API.CONSUMER.>", "$JS.FC.>"' '"_INBOX.compactor.>"'
+    user watcher '"resb.status"' '"_INBOX.watcher.>"'
     applications | while IFS= read -r app; do
         app_user "$(token "$app")"
     done

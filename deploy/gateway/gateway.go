@@ -90,6 +90,9 @@ func (c *call) application(parts []string) {
 	case apps[c.app] == 0 || do != nil && apps[c.app] < needed:
 		c.refuse(forbidden)
 		return
+	case hasEmpty(parts[1:]):
+		c.refuse(badPath)
+		return
 	case c.r.Method == http.MethodOptions:
 		c.w.Header().Set("Allow", methods)
 		c.write(http.StatusNoContent, "", nil)
@@ -100,6 +103,16 @@ func (c *call) application(parts []string) {
 		return
 	}
 	c.limited(do)
+}
+
+// hasEmpty tells whether a part after the application is empty: joined again, a path of one empty part would be none.
+func hasEmpty(parts []string) bool {
+	for _, part := range parts {
+		if part == "" {
+			return true
+		}
+	}
+	return false
 }
 
 // limited does a request, if there is room for it.

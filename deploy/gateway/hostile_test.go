@@ -33,20 +33,43 @@ func (s *site) alive() {
 	if got := s.ask("GET", "/v1/shop/de/a", shopReads, ""); got.StatusCode != 200 {
 		s.t.Fatalf("afterwards: %d %s", got.StatusCode, got.body)
 	}
-	if text := s.ask("GET", "/metrics", "", "").body; !strings.Contains(text, "resb_shard_replays_total{shard=\"0\"} 1\n") {
-		s.t.Fatal("the server was started again")
+	if now := s.replays(); now != s.before {
+		s.t.Fatalf("a server was started again: %q, and %q before", now, s.before)
 	}
+}
+
+// replays gives how often the bundles of each shard were installed again.
+func (s *site) replays() (lines string) {
+	s.t.Helper()
+	for _, line := range strings.Split(s.ask("GET", "/metrics", "", "").body, "\n") {
+		if strings.HasPrefix(line, "resb_shard_replays_total{") {
+			lines += line + "\n"
+		}
+	}
+	if lines == "" {
+		s.t.Fatal("it isn't told how often bundles were installed again")
+	}
+	return lines
 }
 
 // withBundle gives a gateway where `shop` has one bundle.
 func withBundle(t *testing.T, options ...string) *site {
 	s := open(t, options...)
-	s.ask("PUT", "/v1/shop/de.txt", shopWrites, `de{a{"A"}}`)
+	s.fill()
 	return s
 }
 
-func TestBytesThatAreNoRequests(t *testing.T) {
-	s := withBundle(t)
+// fill installs the bundle, from when on no server may end.
+func (s *site) fill() {
+	s.t.Helper()
+	s.ask("PUT", "/v1/shop/de.txt", shopWrites, `de{a{"A"}}`)
+	s.before = s.replays()
+}
+
+func TestBytesThatAreNoRequests(t *testing.T) { withBundle(t).noRequests() }
+
+func (s *site) noRequests() {
+	s.t.Helper()
 	put := func(headers, body string) string { return begins("PUT", "/v1/shop/fr.txt", headers+"\r\n"+body) }
 	for bytes, want := range map[string]string{
 		"\r\n\r\n\x00\x01":                                                                             "400",
@@ -65,7 +88,18 @@ func TestBytesThatAreNoRequests(t *testing.T) {
 		begins("GET", "/v1/shop/de/"+strings.Repeat("x", 2000), "Connection: close\r\n\r\n"):           "400",
 		begins("GET", "/v1/shop/de/a%0d%0aX:y", "Connection: close\r\n\r\n"):                           "400",
 		begins("GET", "/v1/shop/../bank/de/a", "Connection: close\r\n\r\n"):                            "400",
+		begins("GET", "/v1/shop/de/..", "Connection: close\r\n\r\n"):                                   "400",
+		begins("GET", "/v1/shop/%2e%2e/bank/de", "Connection: close\r\n\r\n"):                          "400",
+		begins("GET", "/v1/shop/..%2fbank/de", "Connection: close\r\n\r\n"):                            "400",
+		begins("GET", "/../../etc/passwd", "Connection: close\r\n\r\n"):                                "400",
+		begins("GET", "/..", "Connection: close\r\n\r\n"):                                              "400",
 		begins("GET", "/v1/shop/de/a%00", "Connection: close\r\n\r\n"):                                 "400",
+		begins("GET", "/v1/shop/de%00/a", "Connection: close\r\n\r\n"):                                 "400",
+		begins("GET", "/v1/shop%00/de/a", "Connection: close\r\n\r\n"):                                 "403",
+		begins("GET", "/%00", "Connection: close\r\n\r\n"):                                             "404",
+		begins("PUT", "/v1/shop/..", "Content-Length: 4\r\n\r\nfr{}"):                                  "400",
+		begins("PUT", "/v1/shop/f%00r.txt", "Content-Length: 4\r\nConnection: close\r\n\r\nfr{}"):      "400",
+		begins("DELETE", "/v1/shop/d%00e", "Connection: close\r\n\r\n"):                                "400",
 		begins("GET", "*", "Connection: close\r\n\r\n"):                                                "400",
 		begins("GET", "http://other/v1/shop/de/a", "Connection: close\r\n\r\n"):                        "200",
 		put("Content-Length: 20\r\n", "fr{a"):                                                          "400", // cut off
@@ -85,15 +119,17 @@ func TestBytesThatAreNoRequests(t *testing.T) {
 		begins("POST", "/v1/shop/look", "Content-Length: 90\r\nConnection: close\r\n\r\n{\"path\":\n"): "400",
 	} {
 		if got := s.raw(bytes); statusOfText(got) != want {
-			t.Errorf("%.90q: %.120q", bytes, got)
+			s.t.Errorf("%.90q: %.120q", bytes, got)
 		}
 	}
 	s.alive()
 }
 
 // TestLookupsOfTornJSON asks the beginnings of a line, and lines with each byte in a place: each has a reply, in order.
-func TestLookupsOfTornJSON(t *testing.T) {
-	s := withBundle(t)
+func TestLookupsOfTornJSON(t *testing.T) { withBundle(t).tornJSON() }
+
+func (s *site) tornJSON() {
+	s.t.Helper()
 	const line = `{"locale":"de","path":"a"}`
 	var asked strings.Builder
 	count := 0
@@ -112,7 +148,7 @@ func TestLookupsOfTornJSON(t *testing.T) {
 	got := s.ask("POST", "/v1/shop/look", shopReads, asked.String())
 	replies := strings.Split(strings.TrimSuffix(got.body, "\n"), "\n")
 	if got.StatusCode != 200 || len(replies) != count+3 || replies[count+2] != `{"actual":"de","type":"string","valid":"de","value":"A"}` {
-		t.Errorf("%d, %d replies to %d: %q", got.StatusCode, len(replies), count+3, replies[len(replies)-1])
+		s.t.Errorf("%d, %d replies to %d: %q", got.StatusCode, len(replies), count+3, replies[len(replies)-1])
 	}
 	s.alive()
 }

@@ -48,6 +48,8 @@ type site struct {
 	url   string
 	leave context.CancelFunc
 	ended chan error
+
+	before string // how often bundles were installed again, when the test began
 }
 
 // open begins a gateway over a server of its own, with settings like those of the command line.
@@ -63,6 +65,14 @@ func open(t *testing.T, options ...string) *site {
 
 func openWith(t *testing.T, s settings) *site {
 	t.Helper()
+	at := openUnreached(t, s)
+	at.await()
+	return at
+}
+
+// openUnreached begins a gateway, and doesn't wait until its backend answers.
+func openUnreached(t *testing.T, s settings) *site {
+	t.Helper()
 	leaving, leave := context.WithCancel(context.Background())
 	g, err := newGateway(leaving, s)
 	if err != nil {
@@ -76,7 +86,7 @@ func openWith(t *testing.T, s settings) *site {
 	if err != nil {
 		t.Fatal(err)
 	}
-	at := &site{g, t, "http://" + l.Addr().String(), leave, make(chan error, 1)}
+	at := &site{gateway: g, t: t, url: "http://" + l.Addr().String(), leave: leave, ended: make(chan error, 1)}
 	go g.refresh(leaving, p)
 	go func() { at.ended <- g.listenOn(l, p) }()
 	t.Cleanup(func() {
@@ -87,7 +97,6 @@ func openWith(t *testing.T, s settings) *site {
 		}
 		g.backend.close()
 	})
-	at.await()
 	return at
 }
 
@@ -227,6 +236,10 @@ func (s *site) session() {
 		{"GET", "/v1/shop/de/%ff", shopReads, "", "", 400, no("BadPath")},
 		{"GET", "/v1/shop/de/a/", shopReads, "", "", 400, no("BadPath")},
 		{"GET", "/v1/shop/de//a", shopReads, "", "", 400, no("BadPath")},
+		{"GET", "/v1/shop/de/", shopReads, "", "", 400, no("BadPath")},
+		{"GET", "/v1/shop/", shopReads, "", "", 400, no("BadPath")},
+		{"PUT", "/v1/shop/", shopWrites, plain, `root{}`, 400, no("BadPath")},
+		{"DELETE", "/v1/shop/", shopWrites, "", "", 400, no("BadPath")},
 		{"GET", "/v1/shop/de/a%2fb", shopReads, "", "", 400, no("BadPath")},
 		{"GET", "/v1/shop/de/..", shopReads, "", "", 400, no("BadPath")},
 		{"GET", "/v1/shop/de/%2e%2E/x", shopReads, "", "", 400, no("BadPath")},
@@ -279,6 +292,40 @@ func TestTokensPart(t *testing.T) {
 	twice := s.raw("GET /v1/shop HTTP/1.1\r\nHost: x\r\nConnection: close\r\nAuthorization: Bearer " + shopReads + "\r\nAuthorization: Bearer " + shopReads + "\r\n\r\n")
 	if !strings.HasPrefix(twice, "HTTP/1.1 401 ") {
 		t.Error(twice)
+	}
+}
+
+// TestWhoHasNoRightReachesNothing asks with wrong tokens and in wrong ways: no line comes to a server by that.
+func TestWhoHasNoRightReachesNothing(t *testing.T) { open(t).noRights() }
+
+func (s *site) noRights() {
+	s.t.Helper()
+	lines := func() (all float64) {
+		for name, value := range s.measured() {
+			if strings.HasPrefix(name, "resb_shard_lines_total{") {
+				all += value
+			}
+		}
+		return all
+	}
+	before := lines()
+	for _, at := range []struct {
+		method, path, token, body string
+		status                    int
+	}{
+		{"GET", "/v1/shop", "", "", 401}, {"GET", "/v1/shop/de/a", "none", "", 401}, {"PUT", "/v1/shop/de.txt", "none", "de{}", 401},
+		{"DELETE", "/v1/shop/de", "", "", 401}, {"POST", "/v1/shop/look", "none", `{"locale":"de","path":"a"}`, 401},
+		{"GET", "/v1/bank", shopWrites, "", 403}, {"GET", "/v1/bank/de/a", shopWrites, "", 403}, {"PUT", "/v1/bank/de.txt", shopWrites, "de{}", 403},
+		{"PUT", "/v1/shop/de.txt", shopReads, "de{}", 403}, {"POST", "/v1/shop/de.txt", shopReads, "de{}", 403},
+		{"DELETE", "/v1/shop/de", shopReads, "", 403}, {"POST", "/v1/bank/look", shopWrites, `{"locale":"de","path":"a"}`, 403},
+		{"GET", "/v1/none", shopWrites, "", 403}, {"PATCH", "/v1/shop/de", shopWrites, "de{}", 405}, {"GET", "/v1/shop/../de", shopWrites, "", 400},
+	} {
+		if got := s.ask(at.method, at.path, at.token, at.body); got.StatusCode != at.status {
+			s.t.Errorf("%s %s: %d %s", at.method, at.path, got.StatusCode, got.body)
+		}
+	}
+	if after := lines(); after != before {
+		s.t.Errorf("%v lines came to a server", after-before)
 	}
 }
 
@@ -353,8 +400,11 @@ func TestTagsAndHeads(t *testing.T) {
 	}
 }
 
-func TestWrongMethodsAndPages(t *testing.T) {
-	s := open(t)
+func TestWrongMethodsAndPages(t *testing.T) { open(t).wrongMethods() }
+
+func (s *site) wrongMethods() {
+	t := s.t
+	t.Helper()
 	for _, at := range []struct {
 		method, path string
 		status       int

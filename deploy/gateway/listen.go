@@ -10,7 +10,7 @@ import (
 	"time"
 )
 
-// A listener counts connections, refuses those past the limit, and tells callers that are too slow with a header so.
+// A listener counts connections, and refuses those past the limit.
 type listener struct {
 	net.Listener
 	metrics *metrics
@@ -33,7 +33,11 @@ func (l *listener) Accept() (net.Conn, error) {
 			return nil, err
 		}
 		if atomic.AddInt64(&l.metrics.connections, 1) <= l.most {
-			return &conn{Conn: c, of: l}, nil
+			counted := &conn{Conn: c, of: l}
+			if l.plain {
+				return &caller{Conn: counted}, nil
+			}
+			return counted, nil
 		}
 		atomic.AddInt64(&l.metrics.connections, -1)
 		atomic.AddUint64(&l.metrics.refused, 1)
@@ -45,37 +49,11 @@ func (l *listener) Accept() (net.Conn, error) {
 	}
 }
 
-// A conn is a connection of a caller.
+// A conn is a connection, which is counted as long as it is open.
 type conn struct {
 	net.Conn
 	of      *listener
 	closing sync.Once
-	begun   int32 // a part of a header has come
-	asked   int32 // a whole header has come, and its response isn't done
-	late    int32 // the caller was told that it is too slow
-}
-
-// Read takes bytes of the caller. Where they don't come in time, and a header is begun, the caller is told so.
-func (c *conn) Read(b []byte) (int, error) {
-	n, err := c.Conn.Read(b)
-	if n > 0 {
-		atomic.StoreInt32(&c.begun, 1)
-	}
-	late := errors.Is(err, os.ErrDeadlineExceeded)
-	if late && c.of.plain && atomic.LoadInt32(&c.begun) == 1 && atomic.LoadInt32(&c.asked) == 0 {
-		_ = c.SetWriteDeadline(time.Now().Add(time.Second))
-		_, _ = c.Write([]byte(tooSlow))
-		atomic.StoreInt32(&c.late, 1)
-	}
-	return n, err
-}
-
-// Write gives bytes to the caller, unless it was told that it is too slow: net/http takes what came of a line for the whole.
-func (c *conn) Write(b []byte) (int, error) {
-	if atomic.LoadInt32(&c.late) == 1 {
-		return 0, os.ErrDeadlineExceeded
-	}
-	return c.Conn.Write(b)
 }
 
 // Close ends the connection.
@@ -84,9 +62,39 @@ func (c *conn) Close() error {
 	return c.Conn.Close()
 }
 
+// A caller is a connection over which HTTP/1.1 is spoken, within TLS where that is.
+type caller struct {
+	net.Conn
+	begun int32 // a part of a header has come
+	asked int32 // a whole header has come, and its response isn't done
+	late  int32 // the caller was told that it is too slow
+}
+
+// Read takes bytes of the caller. Where they don't come in time, and a header is begun, the caller is told so.
+func (c *caller) Read(b []byte) (int, error) {
+	n, err := c.Conn.Read(b)
+	if n > 0 {
+		atomic.StoreInt32(&c.begun, 1)
+	}
+	late := errors.Is(err, os.ErrDeadlineExceeded) && atomic.LoadInt32(&c.begun) == 1 && atomic.LoadInt32(&c.asked) == 0
+	if late && atomic.CompareAndSwapInt32(&c.late, 0, 1) {
+		_ = c.SetWriteDeadline(time.Now().Add(time.Second))
+		_, _ = c.Conn.Write([]byte(tooSlow))
+	}
+	return n, err
+}
+
+// Write gives bytes to the caller, unless it was told that it is too slow: net/http takes what came of a line for the whole.
+func (c *caller) Write(b []byte) (int, error) {
+	if atomic.LoadInt32(&c.late) == 1 {
+		return 0, os.ErrDeadlineExceeded
+	}
+	return c.Conn.Write(b)
+}
+
 // state is told by the server how a connection goes on.
 func state(of net.Conn, to http.ConnState) {
-	c, ok := of.(*conn)
+	c, ok := of.(*caller)
 	if !ok {
 		return
 	}

@@ -4,7 +4,6 @@ package main
 
 import (
 	"context"
-	"crypto/tls"
 	"errors"
 	"flag"
 	"fmt"
@@ -125,7 +124,7 @@ func (g *gateway) listenOn(outer net.Listener, p *pair) error {
 	server := g.server(g)
 	var l net.Listener = &listener{Listener: outer, metrics: g.metrics, most: g.connections, plain: p == nil}
 	if p != nil {
-		l = tls.NewListener(l, p.configuration())
+		l = newSecure(l, p.configuration(), g.headerTime)
 	}
 	ended := make(chan error, 1)
 	go func() { ended <- server.Serve(l) }()

@@ -10,15 +10,10 @@ import (
 	"testing"
 )
 
-// TestMetrics reads them as Prometheus would: each line is a measure of a name with a type, and the buckets go up to the count.
-func TestMetrics(t *testing.T) {
-	s := open(t)
-	s.ask("PUT", "/v1/shop/de.txt", shopWrites, `de{a{"A"}}`)
-	for i := 0; i < 5; i++ {
-		s.ask("GET", "/v1/shop/de/a", shopReads, "")
-	}
-	s.ask("GET", "/v1/shop/de/b", shopReads, "")
-	s.ask("GET", "/v1/shop/de/b", "", "")
+// measured reads the metrics as Prometheus would: each line is a measure of a name with a type.
+func (s *site) measured() map[string]float64 {
+	t := s.t
+	t.Helper()
 	got := s.ask("GET", "/metrics", "", "")
 	if got.StatusCode != 200 || !strings.HasPrefix(got.Header.Get("Content-Type"), "text/plain; version=0.0.4") {
 		t.Errorf("%d %v", got.StatusCode, got.Header)
@@ -51,6 +46,19 @@ func TestMetrics(t *testing.T) {
 		}
 		values[parts[1]+parts[2]] = value
 	}
+	return values
+}
+
+// TestMetrics counts some requests; the buckets go up to the count.
+func TestMetrics(t *testing.T) {
+	s := open(t)
+	s.ask("PUT", "/v1/shop/de.txt", shopWrites, `de{a{"A"}}`)
+	for i := 0; i < 5; i++ {
+		s.ask("GET", "/v1/shop/de/a", shopReads, "")
+	}
+	s.ask("GET", "/v1/shop/de/b", shopReads, "")
+	s.ask("GET", "/v1/shop/de/b", "", "")
+	values := s.measured()
 	for at, want := range map[string]float64{
 		`resb_gateway_requests_total{kind="look",status="200"}`:   5,
 		`resb_gateway_requests_total{kind="look",status="404"}`:   1,

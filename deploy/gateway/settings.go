@@ -43,7 +43,7 @@ func readSettings(arguments []string) (settings, error) {
 	f.StringVar(&s.state, "state", "", "with -serve: the `folder` of the accepted changes")
 	f.StringVar(&s.nats, "nats", "", "serve by the shards behind this `URL`")
 	f.StringVar(&s.passwords, "passwords", "", "with -nats: the `file` of passwords that deploy/start writes")
-	f.StringVar(&s.watcher, "watcher", "", "with -nats: a `user` of NATS that may read the lengths of the streams, for the metrics")
+	f.StringVar(&s.watcher, "watcher", "watcher", "with -nats: the `user` of NATS that may ask how the shards do, for the metrics; none where it is empty")
 	f.Int64Var(&s.textBytes, "text-bytes", mostText, "the most bytes of a bundle text")
 	f.Int64Var(&s.fileBytes, "file-bytes", mostFile, "the most bytes of a bundle's file")
 	f.Int64Var(&s.lookBytes, "look-bytes", 8<<20, "the most bytes of the lookups in one request")

@@ -6,7 +6,6 @@ import (
 	"context"
 	"encoding/json"
 	"errors"
-	"fmt"
 	"io"
 	"log"
 	"strings"
@@ -37,7 +36,7 @@ const tooLarge = `{"error":"ReplyTooLarge"}`
 // application's own user: what NATS doesn't let this user do, the gateway can't do for it either.
 type shards struct {
 	url, passwords string
-	watcher        string // the user that reads the lengths of streams, or empty
+	watcher        *watcher
 
 	mu    sync.Mutex
 	links map[string]*link
@@ -55,7 +54,8 @@ type link struct {
 }
 
 func newShards(s settings) (backend, error) {
-	b := &shards{url: s.nats, passwords: s.passwords, watcher: s.watcher, links: map[string]*link{}, stop: make(chan struct{})}
+	w := &watcher{url: s.nats, passwords: s.passwords, name: s.watcher}
+	b := &shards{url: s.nats, passwords: s.passwords, watcher: w, links: map[string]*link{}, stop: make(chan struct{})}
 	go b.sweep()
 	return b, nil
 }
@@ -304,23 +304,33 @@ func (b *shards) has(app, locale string) bool {
 	return false
 }
 
-// ready tells whether NATS is reached, as far as anybody has asked for an application yet.
+// ready tells whether NATS is reached: by an application's connection or by the watcher's, as far as there is one.
 func (b *shards) ready() error {
+	tried, reached := b.reaches()
+	if reached {
+		return nil
+	}
+	if has, there := b.watcher.reaches(); there || !has && !tried {
+		return nil
+	}
+	return errUnreached
+}
+
+// reaches tells whether an application was asked for, and whether one has a connection.
+func (b *shards) reaches() (tried, reached bool) {
 	b.mu.Lock()
 	defer b.mu.Unlock()
 	for _, l := range b.links {
 		if c := l.client.Load(); c != nil && c.Connected() {
-			return nil
+			return true, true
 		}
 	}
-	if len(b.links) > 0 {
-		return errUnreached
-	}
-	return nil
+	return len(b.links) > 0, false
 }
 
 func (b *shards) close() {
 	close(b.stop)
+	b.watcher.close()
 	b.mu.Lock()
 	defer b.mu.Unlock()
 	for _, l := range b.links {
@@ -328,53 +338,11 @@ func (b *shards) close() {
 	}
 }
 
-// measures writes the lengths of the streams, where a user is given that may read them.
+// measures writes how many connections there are, and how each shard does.
 func (b *shards) measures(to io.Writer) {
 	b.mu.Lock()
 	open := len(b.links)
 	b.mu.Unlock()
 	gauge(to, "resb_gateway_nats_connections", "Connections to NATS, one for each application.", "gauge", "", float64(open))
-	if b.watcher == "" {
-		return
-	}
-	if err := b.lengths(to); err != nil {
-		log.Printf("streams: %v", err)
-	}
-}
-
-// lengths writes the length of each stream.
-func (b *shards) lengths(to io.Writer) error {
-	password, err := passwords.Find(b.passwords, b.watcher)
-	if err != nil {
-		return err
-	}
-	nc, err := nats.Connect(b.url, nats.UserInfo(b.watcher, password), nats.Timeout(2*time.Second))
-	if err != nil {
-		return err
-	}
-	defer nc.Close()
-	js, err := nc.JetStream(nats.MaxWait(2 * time.Second))
-	if err != nil {
-		return err
-	}
-	var bytes, messages []string
-	for stream := range js.StreamsInfo() {
-		labels := fmt.Sprintf(`{shard=%q,stream=%q}`, shardOf(stream.Config.Name), stream.Config.Name)
-		bytes = append(bytes, fmt.Sprintf("resb_shard_stream_bytes%s %d\n", labels, stream.State.Bytes))
-		messages = append(messages, fmt.Sprintf("resb_shard_stream_messages%s %d\n", labels, stream.State.Msgs))
-	}
-	head(to, "resb_shard_stream_bytes", "Length of a shard's stream.", "gauge")
-	fmt.Fprint(to, strings.Join(bytes, ""))
-	head(to, "resb_shard_stream_messages", "Messages of a shard's stream.", "gauge")
-	fmt.Fprint(to, strings.Join(messages, ""))
-	return nil
-}
-
-// shardOf gives the number of the shard that a stream's name has.
-func shardOf(stream string) string {
-	parts := strings.Split(stream, "_")
-	if len(parts) < 2 {
-		return ""
-	}
-	return parts[1]
+	writeShards(to, b.watcher.see())
 }

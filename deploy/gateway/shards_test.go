@@ -7,6 +7,7 @@ import (
 	"net/http"
 	"os"
 	"os/exec"
+	"path/filepath"
 	"strings"
 	"sync"
 	"testing"
@@ -20,7 +21,7 @@ func openShards(t *testing.T) *site {
 	if url == "" {
 		t.Skip("skipped: no shards are started")
 	}
-	s, err := readSettings([]string{"-nats", url, "-passwords", os.Getenv("GATEWAY_STATE") + "/passwords", "-tokens", tokenFile(t), "-watcher", "operator"})
+	s, err := readSettings([]string{"-nats", url, "-passwords", os.Getenv("GATEWAY_STATE") + "/passwords", "-tokens", tokenFile(t)})
 	if err != nil {
 		t.Fatal(err)
 	}
@@ -44,6 +45,18 @@ func TestOneSessionOverNATS(t *testing.T) {
 	s := openShards(t)
 	s.clear()
 	s.session()
+}
+
+// TestBadInputOverNATS sends what the tests over a server of its own send: the statuses are the same, and no `resb serve` ends.
+func TestBadInputOverNATS(t *testing.T) {
+	s := openShards(t)
+	s.clear()
+	s.fill()
+	s.noRequests()
+	s.tornJSON()
+	s.wrongMethods()
+	s.noRights()
+	s.alive()
 }
 
 // TestTwoGateways change and ask by two at once: what one has told is found by the other.
@@ -78,9 +91,49 @@ func TestLengthsOverNATS(t *testing.T) {
 			t.Errorf("%s: %d %s", path, got.StatusCode, got.body)
 		}
 	}
-	s.ask("GET", "/v1/shop", shopReads, "")
-	if text := s.ask("GET", "/metrics", "", "").body; !strings.Contains(text, "resb_shard_stream_messages{shard=\"0\",stream=\"") {
-		t.Error(text)
+}
+
+// TestMetricsOverNATS reads what the bridges and nats-server tell of each shard.
+func TestMetricsOverNATS(t *testing.T) {
+	s := openShards(t)
+	before := s.measured()
+	for i := 0; i < 10; i++ {
+		s.ask("GET", "/v1/shop/de/a", shopReads, "")
+		s.ask("GET", "/v1/bank/de/a", bankWrites, "")
+	}
+	after := s.measured()
+	lines := 0.0
+	for shard := 0; shard < 2; shard++ {
+		of := func(name string) string { return fmt.Sprintf("%s{shard=\"%d\"}", name, shard) }
+		lines += after[of("resb_shard_lines_total")] - before[of("resb_shard_lines_total")]
+		for name, least := range map[string]float64{
+			"resb_shard_serves": 1, "resb_shard_replays_total": 1, "resb_shard_memory_bytes": 1 << 16, "resb_shard_bridge_memory_bytes": 1 << 20,
+		} {
+			if after[of(name)] < least {
+				t.Errorf("%s is %v", of(name), after[of(name)])
+			}
+		}
+		for _, name := range []string{"resb_shard_replay_differences_total", "resb_shard_replay_lines_left", "resb_shard_waiting_lines"} {
+			if value, there := after[of(name)]; !there || value != 0 {
+				t.Errorf("%s is %v, %v", of(name), value, there)
+			}
+		}
+		for _, kind := range []string{"CHANGES", "ANSWERS", "BUNDLES", "LEASE"} {
+			labels := fmt.Sprintf("{shard=\"%d\",stream=\"%s_%d\"}", shard, kind, shard)
+			messages, there := after["resb_shard_stream_messages"+labels]
+			if _, sized := after["resb_shard_stream_bytes"+labels]; !there || !sized || kind == "LEASE" && messages != 1 {
+				t.Errorf("%s: %v, %v, %v", labels, messages, there, sized)
+			}
+		}
+	}
+	if lines < 20 || after["resb_gateway_shards_seen"] != 2 {
+		t.Errorf("%v lines, %v shards", lines, after["resb_gateway_shards_seen"])
+	}
+	for _, name := range []string{"", "nobody"} {
+		s.backend.(*shards).watcher = &watcher{url: s.nats, passwords: s.passwords, name: name}
+		if none := s.measured(); none["resb_gateway_shards_seen"] != 0 || none["resb_shard_serves{shard=\"0\"}"] != 0 {
+			t.Errorf("%q sees the shards", name)
+		}
 	}
 }
 
@@ -181,10 +234,20 @@ func TestNATSIsNotThere(t *testing.T) {
 	if err != nil {
 		t.Fatal(err)
 	}
-	at := openWith(t, s)
+	at := openUnreached(t, s)
 	for _, path := range []string{"/v1/shop", "/v1/shop/de/a", "/readyz"} {
 		if got := at.ask("GET", path, shopReads, ""); got.StatusCode != http.StatusServiceUnavailable || got.Header.Get("Retry-After") == "" {
 			t.Errorf("%s: %d %s", path, got.StatusCode, got.body)
 		}
+	}
+	if seen := at.measured()["resb_gateway_shards_seen"]; seen != 0 {
+		t.Errorf("%v shards are seen", seen)
+	}
+	s.passwords = filepath.Join(t.TempDir(), "passwords")
+	if err := os.WriteFile(s.passwords, []byte("watcher x\n"), 0o600); err != nil {
+		t.Fatal(err)
+	}
+	if got := openUnreached(t, s).ask("GET", "/readyz", "", ""); got.StatusCode != http.StatusServiceUnavailable {
+		t.Errorf("ready before an application is asked for: %d %s", got.StatusCode, got.body)
 	}
 }

@@ -8,8 +8,10 @@ import (
 	"crypto/x509"
 	"crypto/x509/pkix"
 	"encoding/pem"
+	"errors"
 	"io"
 	"math/big"
+	"net"
 	"net/http"
 	"os"
 	"path/filepath"
@@ -46,7 +48,7 @@ func writePair(t *testing.T, folder string, serial int64, at time.Time) {
 func TestTLS(t *testing.T) {
 	folder := t.TempDir()
 	writePair(t, folder, 1, time.Now().Add(-time.Hour))
-	s := open(t, "-cert", filepath.Join(folder, "cert"), "-key", filepath.Join(folder, "key"), "-header-time", "1s")
+	s := open(t, "-cert", filepath.Join(folder, "cert"), "-key", filepath.Join(folder, "key"), "-header-time", "1s", "-read-time", "2s")
 	address := strings.TrimPrefix(s.url, "http://")
 	get := func(h2 bool) (*http.Response, error) {
 		transport := &http.Transport{TLSClientConfig: &tls.Config{InsecureSkipVerify: true}, ForceAttemptHTTP2: h2}
@@ -70,6 +72,7 @@ func TestTLS(t *testing.T) {
 		t.Errorf("without TLS: %q", got)
 	}
 	s.raw("\x16\x03\x01") // a handshake that is cut off
+	slowOverTLS(t, address)
 	writePair(t, folder, 2, time.Now())
 	for end := time.Now().Add(10 * time.Second); ; time.Sleep(100 * time.Millisecond) {
 		got, err := get(true)
@@ -85,5 +88,30 @@ func TestTLS(t *testing.T) {
 	time.Sleep(1200 * time.Millisecond)
 	if got, err := get(true); err != nil || got.StatusCode != 200 {
 		t.Errorf("with a wrong certificate in the file: %v", err)
+	}
+}
+
+// slowOverTLS begins a handshake, and headers after one, and doesn't go on: each connection is ended, and who began a header is
+// told why.
+func slowOverTLS(t *testing.T, address string) {
+	t.Helper()
+	for bytes, want := range map[string]string{"\x16\x03\x01\x02": "", "": "", "GET /v1/sh": "408", "GET / HTTP/1.1\r\nHost: x\r\nA: b": "408",
+		begins("PUT", "/v1/shop/fr.txt", "Content-Length: 20\r\n\r\nfr{"): "408"} {
+		c, err := net.Dial("tcp", address)
+		if err != nil {
+			t.Fatal(err)
+		}
+		if !strings.HasPrefix(bytes, "\x16") {
+			c = tls.Client(c, &tls.Config{InsecureSkipVerify: true})
+		}
+		_ = c.SetDeadline(time.Now().Add(10 * time.Second))
+		if _, err := io.WriteString(c, bytes); err != nil {
+			t.Error(err)
+		}
+		text, err := io.ReadAll(c)
+		if statusOfText(string(text)) != want || strings.Count(string(text), "HTTP/1.1 ") > 1 || errors.Is(err, os.ErrDeadlineExceeded) {
+			t.Errorf("%q: %q, %v", bytes, text, err)
+		}
+		c.Close()
 	}
 }

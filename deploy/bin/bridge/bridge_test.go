@@ -238,3 +238,23 @@ func TestTwoBridgesAnswerEachChangeOnce(t *testing.T) {
 		t.Errorf("ended: %s", end)
 	}
 }
+
+func TestStreamsThatCannotBeReadAreWaitedFor(t *testing.T) {
+	nc, js := serve(t)
+	b := bridgeOf(t, nc, js, "plain")
+	if !b.await(context.Background()) {
+		t.Error("the streams are there, and can't be read")
+	}
+	if err := js.DeleteStream(subjects.Bundles(0)); err != nil {
+		t.Fatal(err)
+	}
+	few, done := context.WithTimeout(context.Background(), 400*time.Millisecond)
+	defer done()
+	if b.await(few) {
+		t.Error("a stream isn't there, and can be read")
+	}
+	time.AfterFunc(300*time.Millisecond, func() { _ = makeStreams(js, 1, -1, 1) })
+	if !b.await(context.Background()) {
+		t.Error("the stream that came isn't read")
+	}
+}

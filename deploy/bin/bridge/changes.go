@@ -27,7 +27,7 @@ type part struct {
 // follow hands over each message of a part, in order and each once, until its end or the context's, or until `each` fails. Where
 // NATS fails it begins again at the next message, with growing pauses. Messages that are gone end it with an error.
 func follow(ctx context.Context, nc *nats.Conn, js nats.JetStreamContext, from part, each func(n uint64, m *nats.Msg) error) error {
-	p := pause{}
+	p := pause{most: streamPause}
 	for ctx.Err() == nil && !from.done() {
 		before := from.first
 		err := fetch(ctx, nc, js, &from, each)

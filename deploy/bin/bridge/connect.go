@@ -18,7 +18,7 @@ func connect(s settings) (*nats.Conn, error) {
 	}
 	for p := (pause{}); ; {
 		nc, err := nats.Connect(s.url, nats.UserInfo(s.user, password), nats.Name("resb "+s.user), nats.MaxReconnects(-1),
-			nats.CustomInboxPrefix("_INBOX."+s.user),
+			nats.CustomInboxPrefix("_INBOX."+s.user), nats.SetCustomDialer(dialer{}),
 			nats.CustomReconnectDelay(func(failed int) time.Duration { return after(failed) }),
 			nats.DisconnectErrHandler(func(_ *nats.Conn, err error) { log.Printf("NATS is lost: %v; trying again", err) }),
 			nats.ReconnectHandler(func(*nats.Conn) { log.Print("NATS is there again") }),

@@ -52,7 +52,7 @@ func (l *lease) seen() (holder []byte, at uint64, err error) {
 
 // take waits until this bridge has the lease: at once where nobody has it or this bridge had it, else once it isn't renewed.
 func (l *lease) take(ctx context.Context) {
-	since, p := time.Now(), pause{}
+	since, p := time.Now(), pause{most: streamPause}
 	for first := true; ctx.Err() == nil; first = false {
 		holder, at, err := l.seen()
 		if err != nil {

@@ -29,6 +29,7 @@ type bridge struct {
 	lease   *lease
 	answers *answers
 	ends    map[uint64]int // how often the program ended at a change without an answer
+	record  record
 }
 
 // A life is one run of the program: a replay of the bundles that stand and of all changes after them, and then serving.
@@ -84,6 +85,8 @@ func (b *bridge) run(until context.Context) (served bool, end string) {
 		l.left = info.State.LastSeq
 	}
 	l.replied = make(chan reply, window)
+	b.record.begins(l)
+	defer b.record.ends()
 	return l.live(ctx)
 }
 

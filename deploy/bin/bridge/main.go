@@ -10,7 +10,13 @@ import (
 	"os/signal"
 	"runtime"
 	"syscall"
+	"time"
+
+	"github.com/nats-io/nats.go"
 )
+
+// streamTime is how long an answer about a stream is waited for. One whose leader is lost has none, and is asked again.
+const streamTime = 2 * time.Second
 
 func main() {
 	runtime.GOMAXPROCS(1) // one thread: what has come is handed on together, and no thread is woken for a line
@@ -29,7 +35,7 @@ func start(s settings) error {
 	if err != nil {
 		return err
 	}
-	js, err := nc.JetStream()
+	js, err := nc.JetStream(nats.MaxWait(streamTime))
 	if err != nil {
 		return err
 	}
@@ -65,7 +71,11 @@ func (b *bridge) lead(term context.Context) error {
 	if err != nil {
 		return err
 	}
-	for p := (pause{}); ctx.Err() == nil; {
+	asked, err := b.report()
+	if err != nil {
+		return err
+	}
+	for p := (pause{}); b.await(ctx); {
 		served, end := b.run(ctx)
 		if served {
 			p.reset()
@@ -75,6 +85,7 @@ func (b *bridge) lead(term context.Context) error {
 		rest(ctx, wait)
 	}
 	_ = changes.Unsubscribe()
+	_ = asked.Unsubscribe()
 	<-kept
 	return nil
 }

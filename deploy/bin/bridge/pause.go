@@ -8,10 +8,15 @@ import (
 const (
 	firstPause = 100 * time.Millisecond
 	mostPause  = 30 * time.Second
+	// streamPause is the longest pause where streams can't be reached: servers choose a leader within seconds, and callers wait.
+	streamPause = time.Second
 )
 
 // A pause doubles from one failure to the next, until a success.
-type pause struct{ next time.Duration }
+type pause struct {
+	next time.Duration
+	most time.Duration // 0 is mostPause
+}
 
 // after gives the pause after n failures in a row, of which there is at least one.
 func after(n int) time.Duration {
@@ -28,9 +33,13 @@ func (p *pause) grow() time.Duration {
 	if now == 0 {
 		now = firstPause
 	}
+	most := p.most
+	if most == 0 {
+		most = mostPause
+	}
 	p.next = 2 * now
-	if p.next > mostPause {
-		p.next = mostPause
+	if p.next > most {
+		p.next = most
 	}
 	return now
 }

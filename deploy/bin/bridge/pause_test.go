@@ -18,3 +18,12 @@ func TestPausesGrowUpToTheMost(t *testing.T) {
 		t.Errorf("after a success: %v", got)
 	}
 }
+
+func TestPausesForStreamsAreShort(t *testing.T) {
+	p := pause{most: streamPause}
+	for _, ms := range []time.Duration{100, 200, 400, 800, 1000, 1000} {
+		if got := p.grow(); got != ms*time.Millisecond {
+			t.Errorf("%v in the place of %d ms", got, ms)
+		}
+	}
+}

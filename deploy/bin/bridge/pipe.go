@@ -60,7 +60,9 @@ type pipe struct {
 	queues  map[string]*queue
 	turns   []*queue
 	sent    []line // what the program has, in order
-	bytes   int    // of all lines that wait
+	lines   int    // that wait, of all callers
+	bytes   int    // of these
+	replies uint64 // that came
 	over    bool
 	ended   chan struct{} // closed at the end of the program's output
 	drained chan struct{} // closed when all waiters were called after that
@@ -115,6 +117,7 @@ func (p *pipe) ask(caller string, text []byte, done waiter) error {
 	}
 	q.lines = append(q.lines, line{text, done, q})
 	q.bytes += len(text)
+	p.lines++
 	p.bytes += len(text)
 	p.offer(q)
 	return nil
@@ -172,6 +175,7 @@ func (p *pipe) next(q *queue) line {
 	l := q.lines[0]
 	q.lines[0], q.lines = line{}, q.lines[1:]
 	q.bytes -= len(l.text)
+	p.lines--
 	p.bytes -= len(l.text)
 	q.inside++
 	return l
@@ -208,6 +212,7 @@ func (p *pipe) answered() (done waiter, asked bool) {
 	}
 	l := p.sent[0]
 	p.sent[0], p.sent = line{}, p.sent[1:]
+	p.replies++
 	if len(p.sent) == room-1 {
 		p.work.Signal()
 	}
@@ -229,8 +234,15 @@ func (p *pipe) left() []line {
 	for _, q := range p.queues {
 		all = append(all, q.lines...)
 	}
-	p.sent, p.turns, p.queues, p.bytes = nil, nil, map[string]*queue{}, 0
+	p.sent, p.turns, p.queues, p.lines, p.bytes = nil, nil, map[string]*queue{}, 0, 0
 	return all
+}
+
+// progress tells how many replies came, and how many lines have none yet.
+func (p *pipe) progress() (replies uint64, waiting int) {
+	p.mu.Lock()
+	defer p.mu.Unlock()
+	return p.replies, p.lines + len(p.sent)
 }
 
 // Replies are the lines of a program's output. Of one that is longer than the limit nothing is kept: TooLarge is in its place.

@@ -41,15 +41,23 @@ func launch(path string, arguments []string, memory int64, limit int, note func(
 	if err != nil {
 		return nil, err
 	}
+	to, err := directly(in)
+	if err != nil {
+		return nil, err
+	}
+	from, err := directly(out)
+	if err != nil {
+		return nil, err
+	}
 	if err := command.Start(); err != nil {
 		return nil, err
 	}
 	note(command.Process.Pid)
-	p := &program{pipe: newPipe(in, limit), command: command, input: in}
+	p := &program{pipe: newPipe(to, limit), command: command, input: in}
 	p.errors.Add(1)
 	go p.listen(errors)
 	go p.write()
-	go p.read(out)
+	go p.read(from)
 	return p, nil
 }
 

@@ -10,6 +10,7 @@ import (
 // Settings are what the command line says.
 type settings struct {
 	shard     int
+	shards    int
 	setup     int
 	bytes     int64
 	replicas  int
@@ -27,6 +28,7 @@ type settings struct {
 func read() settings {
 	s := settings{}
 	flag.IntVar(&s.shard, "shard", 0, "the shard to serve")
+	flag.IntVar(&s.shards, "shards", 0, "how many shards there are, to be told with the metrics")
 	flag.IntVar(&s.setup, "setup", 0, "make the streams of so many shards, and end")
 	flag.Int64Var(&s.bytes, "bytes", -1, "with -setup: the most bytes of a shard's stream of changes")
 	flag.IntVar(&s.replicas, "replicas", 1, "with -setup: how many nats-servers keep each stream")

@@ -54,6 +54,7 @@ func (l *life) settle(ctx context.Context, r reply) string {
 		return ""
 	}
 	if given != r.text {
+		l.record.differs()
 		log.Printf("change %d: replied %s, and %s when it was first given", r.n, r.text, given)
 	}
 	if r.text == outOfMemory && given != outOfMemory {
@@ -64,7 +65,7 @@ func (l *life) settle(ctx context.Context, r reply) string {
 
 // give stores and sends an answer, as often as it takes.
 func (l *life) give(ctx context.Context, r reply) {
-	for p := (pause{}); ctx.Err() == nil; {
+	for p := (pause{most: streamPause}); ctx.Err() == nil; {
 		token := subjects.Last(r.message.Subject)
 		err := l.answers.give(r.n, token, subjects.GivenID(token, r.message.Header.Get(nats.MsgIdHdr)), r.text)
 		if err == nil {
@@ -94,5 +95,6 @@ func (l *life) open() {
 		}
 	}
 	l.served = true
+	l.record.replayed()
 	log.Printf("serves after %d lines, %d ms", l.count, time.Since(l.began).Milliseconds())
 }

@@ -1,8 +1,10 @@
 package main
 
 import (
+	"context"
 	"errors"
 	"fmt"
+	"log"
 	"time"
 
 	"github.com/nats-io/nats.go"
@@ -55,4 +57,28 @@ func makeStream(js nats.JetStreamContext, config *nats.StreamConfig) error {
 			return fmt.Errorf("stream %s: %w", config.Name, err)
 		}
 	}
+}
+
+// await waits until the shard's streams can be read; it is false where the context ended before.
+func (b *bridge) await(ctx context.Context) bool {
+	for p := (pause{most: streamPause}); ctx.Err() == nil; {
+		err := b.reads()
+		if err == nil {
+			return true
+		}
+		wait := p.grow()
+		log.Printf("%v; again in %v", err, wait)
+		rest(ctx, wait)
+	}
+	return false
+}
+
+// reads tells why a stream can't be read now.
+func (b *bridge) reads() error {
+	for _, name := range []string{subjects.Bundles(b.shard), subjects.AnswersOf(b.shard), subjects.Changes(b.shard)} {
+		if _, err := b.js.StreamInfo(name); err != nil {
+			return fmt.Errorf("stream %s: %w", name, err)
+		}
+	}
+	return nil
 }

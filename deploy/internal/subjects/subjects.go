@@ -87,6 +87,12 @@ func ShardAsked(shard int) string { return fmt.Sprintf("resb.answered.%d.*", sha
 // ShardMany is what a shard's bridge answers of several lines.
 func ShardMany(shard int) string { return fmt.Sprintf("resb.many.%d.*", shard) }
 
+// Status is where the watcher asks how the shards do: each bridge that feeds one answers, to the watcher's own inbox.
+const Status = "resb.status"
+
+// Watcher is the user that may ask this.
+const Watcher = "watcher"
+
 // Bundles is the name of the stream with the generations of a shard's bundles.
 func Bundles(shard int) string { return fmt.Sprintf("BUNDLES_%d", shard) }
 

@@ -74,6 +74,7 @@ func forbids(t *tally, nc *nats.Conn, forbidden func() int, our, other string) {
 		func() error { return nc.Publish("resb.log."+subjects.Token(other), []byte(install(other, "it", 1))) },
 		func() error { return nc.Publish(subjects.Asked(other), nil) },
 		func() error { return nc.Publish(subjects.Many(other), []byte(list(other))) },
+		func() error { return nc.Publish(subjects.Status, nil) },
 		func() error { return nc.Publish("$JS.API.STREAM.PURGE.CHANGES_0", nil) },
 		func() error { return nc.Publish("$JS.API.STREAM.MSG.GET.ANSWERS_0", []byte(`{"seq":1}`)) },
 		func() error {

@@ -20,12 +20,12 @@ const churned, left = 100, 300
 
 // churn replaces 100 bundles so many times while compactors are killed, has the streams shortened, and looks everything up
 // before and after, also in a shard that begins anew.
-func churn(t *tally, scripts, state, program string, replacements int) error {
-	port, err := freePort()
+func churn(t *tally, scripts, state, program string, replacements, servers int) error {
+	port, err := freePorts(2*servers + 1)
 	if err != nil {
 		return err
 	}
-	c := &cluster{scripts: scripts, state: state, program: program, port: port, shards: 2, names: []string{"churn", "other"}}
+	c := &cluster{scripts: scripts, state: state, program: program, port: port, shards: 2, servers: servers, names: []string{"churn", "other"}}
 	if err := c.start(); err != nil {
 		return err
 	}
@@ -47,7 +47,7 @@ func churn(t *tally, scripts, state, program string, replacements int) error {
 	for running := true; running; {
 		c.compact(t, time.Duration(rand.Intn(150))*time.Millisecond)
 		if rand.Intn(4) == 0 {
-			_ = c.kill(fmt.Sprintf("shard-%d.pid", rand.Intn(c.shards)), c.state)
+			c.killBridges(rand.Intn(c.shards))
 		}
 		select {
 		case <-ended:
@@ -67,7 +67,7 @@ func churn(t *tally, scripts, state, program string, replacements int) error {
 		return err
 	}
 	for shard := 0; shard < c.shards; shard++ {
-		_ = c.kill(fmt.Sprintf("shard-%d.pid", shard), c.state)
+		c.killBridges(shard)
 	}
 	all(applications, (*application).verifyChurn)
 	fmt.Printf("%d replacements of %d bundles: %d messages in all streams, %d after a compaction\n", replacements, churned, before, after)
@@ -75,6 +75,13 @@ func churn(t *tally, scripts, state, program string, replacements int) error {
 		t.fail("%d messages are left", after)
 	}
 	return nil
+}
+
+// killBridges kills all bridges of a shard.
+func (c *cluster) killBridges(shard int) {
+	for _, name := range c.bridges(shard) {
+		_ = c.kill(name+".pid", c.state)
+	}
 }
 
 // compact shortens the streams, but for the changes of the last moments; after the given time, where it isn't 0, the compactor

@@ -33,7 +33,7 @@ func main() {
 	run := func() error { return try(t, *scripts, *folder, *program, duration) }
 	switch {
 	case *only == "churn":
-		run = func() error { return churnFor(t, *scripts, *folder, *program, duration) }
+		run = func() error { return churnFor(t, *scripts, *folder, *program, duration, *servers) }
 	case *only == "rate":
 		run = func() error { return tryRate(t, *scripts, *folder, *program, duration) }
 	case *servers > 1:
@@ -69,7 +69,7 @@ func try(t *tally, scripts, folder, program string, duration time.Duration) erro
 			return err
 		}
 	}
-	if err := churnFor(t, scripts, folder, program, duration); err != nil {
+	if err := churnFor(t, scripts, folder, program, duration, 1); err != nil {
 		return err
 	}
 	return full(t, scripts, filepath.Join(folder, "full"), program)
@@ -86,12 +86,15 @@ func tryRate(t *tally, scripts, folder, program string, duration time.Duration) 
 }
 
 // churnFor replaces bundles 10,000 times, or less often in a short trial.
-func churnFor(t *tally, scripts, folder, program string, duration time.Duration) error {
+func churnFor(t *tally, scripts, folder, program string, duration time.Duration, servers int) error {
 	replacements := 10000
 	if duration < long {
 		replacements = 1000
 	}
-	return churn(t, scripts, filepath.Join(folder, "churn"), program, replacements)
+	if servers == 1 {
+		servers = 0 // as a cluster names one
+	}
+	return churn(t, scripts, filepath.Join(folder, "churn"), program, replacements, servers)
 }
 
 // try runs the parts over one cluster, and stops it.
