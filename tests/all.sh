@@ -1,8 +1,9 @@
 #!/usr/bin/env bash
 # All tests. First what needs no built program: the launcher, the manual page where mandoc is there, a program that must not compile,
 # and one of whose allocations each is refused in turn. Then the gate, which proves every crate from nothing, tries the wrong bodies,
-# runs each test, and builds the program. Last what runs that program: the examples, the documents, replies through pipes, lines read
-# in two ways, the package, tools/icu2text beside ICU's tools, the shards of deploy/, and its gateway.
+# runs each test, and builds the program. Last what runs that program: the examples, the documents, traced lookups, the bench of daily
+# use over small texts, replies through pipes, lines read in two ways, the package, tools/icu2text beside ICU's tools, the shards of
+# deploy/, and its gateway.
 set -eu
 cd "$(dirname "$0")/.."
 program=crates/rb_tool/out/rb_tool
@@ -38,6 +39,8 @@ tests/package.sh "$program"
 if has python3; then
     tests/documents.py "$program"
     tests/completions.py "$program"
+    tests/traces.py "$program"
+    bench/daily.py --self-test "$program"
     tests/pipe.py "$program"
     tests/same_readings.py "$program"
     tests/icu2text.py "$program"

@@ -5,7 +5,7 @@ ghost use Rattle.rb_lint.specs.Warnings.{line_count};
 
 use crate::difference::{Difference, RootWarning};
 use crate::findings::{Findings, WARNING_LIMIT};
-use crate::outline::Outline;
+use crate::outline::{Outline, place_of};
 use crate::placeholders::placeholders;
 use crate::scan::{Quoting, cut};
 use crate::search::line_count;
@@ -98,11 +98,12 @@ impl<'a> Comparison<'a> {
         Ok(())
     }
 
-    /// The root has a key, and the text may have it.
+    /// The root has a key, and the text may have it at a place.
     fn entry(
         &mut self,
         pair: &Pair<'a>,
         key: &[u8],
+        place: Option<usize>,
         root: &'a Tree,
         tree: Option<&'a Tree>,
     ) -> Result<(), AllocError> {
@@ -113,7 +114,7 @@ impl<'a> Comparison<'a> {
             Some(tree) => {
                 self.pairs.push(Pair {
                     path,
-                    place: self.outline.entry(self.text, pair.place, key),
+                    place,
                     root,
                     tree,
                 })?;
@@ -122,16 +123,17 @@ impl<'a> Comparison<'a> {
         }
     }
 
-    /// The keys of the root's table.
+    /// The keys of the root's table; those of the text have their places.
     fn entries(
         &mut self,
         pair: &Pair<'a>,
+        places: &[(&[u8], usize)],
         root: &'a Entries,
         tree: &'a Entries,
     ) -> Result<(), AllocError> {
         for i in 0..root.len() {
             let key = root.key_at(i);
-            self.entry(pair, key, root.at(i), tree.get(key))?;
+            self.entry(pair, key, place_of(places, key), root.at(i), tree.get(key))?;
         }
         Ok(())
     }
@@ -140,18 +142,31 @@ impl<'a> Comparison<'a> {
     fn additions(
         &mut self,
         pair: &Pair<'a>,
+        places: &[(&[u8], usize)],
         root: &Entries,
         tree: &Entries,
     ) -> Result<(), AllocError> {
         for i in 0..tree.len() {
             let key = tree.key_at(i);
             if root.get(key).is_none() && !is_own(key) {
-                let place = self.outline.entry(self.text, pair.place, key);
                 let path = below(self.alloc, &pair.path, key)?;
-                self.add(place, path, Difference::Additional)?;
+                self.add(place_of(places, key), path, Difference::Additional)?;
             }
         }
         Ok(())
+    }
+
+    /// The keys of two tables.
+    fn tables(
+        &mut self,
+        pair: &Pair<'a>,
+        root: &'a Entries,
+        tree: &'a Entries,
+    ) -> Result<(), AllocError> {
+        let text = self.text;
+        let places = self.outline.keys(self.alloc, text, pair.place)?;
+        self.entries(pair, &places, root, tree)?;
+        self.additions(pair, &places, root, tree)
     }
 
     /// The items of two arrays, as far as both have them.
@@ -210,10 +225,7 @@ impl<'a> Comparison<'a> {
 
     fn step(&mut self, pair: &Pair<'a>) -> Result<(), AllocError> {
         match (pair.root, pair.tree) {
-            (Tree::Table(root), Tree::Table(tree)) => {
-                self.entries(pair, root, tree)?;
-                self.additions(pair, root, tree)
-            }
+            (Tree::Table(root), Tree::Table(tree)) => self.tables(pair, root, tree),
             (Tree::Array(root), Tree::Array(tree)) => self.items(pair, root, tree),
             (Tree::String(root), Tree::String(tree)) => self.strings(pair, root, tree),
             _ => self.kinds(pair),

@@ -6,13 +6,16 @@ use std::alloc::{AllocError, Global};
 /// An entry of a table or an item of an array. Those within it follow it.
 #[derive(Clone, Copy, Debug)]
 pub(crate) struct Place {
-    /// Its key, where that is a single piece without escapes: the first byte and the byte past the last.
+    /// Its key, where that is a single piece.
     key: Option<Piece>,
     /// The line in which it begins.
     pub(crate) line: u64,
     /// The place after the last within it.
     past: usize,
 }
+
+/// The keys of a table, ascending, each with its place.
+pub(crate) type Keys<'a> = Vec<(&'a [u8], usize)>;
 
 /// Texts side by side, which are a key or an item.
 #[derive(Clone, Copy, Debug)]
@@ -130,21 +133,30 @@ impl Outline {
         }
     }
 
-    /// The place of an entry of a table.
-    pub(crate) fn entry(&self, text: &[u8], table: Option<usize>, key: &[u8]) -> Option<usize> {
-        let mut at = table?.saturating_add(1);
+    /// The keys of a table, but for those of many pieces and those with escapes.
+    pub(crate) fn keys<'a>(
+        &self,
+        alloc: Global,
+        text: &'a [u8],
+        table: Option<usize>,
+    ) -> Result<Keys<'a>, AllocError> {
+        let mut keys = Vec::new(alloc);
         let end = self.past(table);
+        let mut at = table.unwrap_or(end).saturating_add(1);
         for _ in 0..self.places.len() {
-            let place = self.places.get(at)?;
             if at >= end {
-                return None;
+                break;
             }
-            if is_key(text, place, key) {
-                return Some(at);
+            let Some(place) = self.places.get(at) else {
+                break;
+            };
+            if let Some(key) = key_of(text, place) {
+                keys.push((key, at))?;
             }
             at = place.past;
         }
-        None
+        keys.sort_by_key(|entry| entry.0)?;
+        Ok(keys)
     }
 
     /// The place of an item of an array.
@@ -166,10 +178,18 @@ impl Outline {
     }
 }
 
-/// Whether a place has this key.
-fn is_key(text: &[u8], place: &Place, key: &[u8]) -> bool {
+/// The key of a place, where it is a single piece without escapes.
+fn key_of<'a>(text: &'a [u8], place: &Place) -> Option<&'a [u8]> {
     match &place.key {
-        Some(piece) => characters(text, piece) == Some(key),
-        None => false,
+        Some(piece) => characters(text, piece),
+        None => None,
+    }
+}
+
+/// The place of a key.
+pub(crate) fn place_of(keys: &[(&[u8], usize)], key: &[u8]) -> Option<usize> {
+    match keys.binary_search_by(|entry| entry.0.cmp(key)) {
+        Ok(i) => Some(keys[i].1),
+        Err(_) => None,
     }
 }
