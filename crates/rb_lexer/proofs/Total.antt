@@ -52,7 +52,7 @@ block_total text (c ∷ cs) so_far =
     (ends_here c cs)
 
 -- ---- quoted pieces
-escape_longer : (e : Escape) (rest : List ℕ) → length rest ≤ length (escape_chars e rest)
+pub escape_longer : (e : Escape) (rest : List ℕ) → length rest ≤ length (escape_chars e rest)
 escape_longer e rest = omega (arith, ap length (escape_front e rest), length-append (escape_chars e []) rest)
 
 abbrev Fails : List ℕ → Type 0
@@ -159,7 +159,7 @@ atom_length (single (plain c)) = omega arith
 atom_length (single (escaped e)) = omega arith
 atom_length (single (dropped c)) = comment_length c
 
-atom_longer : (a : Atom) (rest : List ℕ) → length rest < length (atom_chars a rest)
+pub atom_longer : (a : Atom) (rest : List ℕ) → length rest < length (atom_chars a rest)
 atom_longer a rest = omega (arith, atom_length a, ap length (atom_front a rest), length-append (atom_chars a []) rest)
 
 abbrev pub Read : List ℕ → Type 0

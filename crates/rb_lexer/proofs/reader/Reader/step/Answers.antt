@@ -4,7 +4,7 @@ use Rattle.std.specs.Str.{chars}
 use Rattle.rb_lexer.specs.Atom.{Atom, atoms_tokens}
 use Rattle.rb_lexer.proofs.Turns.{turn_place}
 use Rattle.rb_lexer.proofs.Pulls.{rest_of, no_stop, flush_gives}
-use Rattle.rb_lexer.proofs.stream.Tokens.step.Goals as goal
+use Rattle.rb_lexer.proofs.reader.Reader.step.Goals as goal
 
 pub returns-in_err-item-clause-same : goal.returns-in_err-item-clause-same
 returns-in_err-item-clause-same c = λ ts g.
