@@ -14,11 +14,11 @@ use Rattle.rb_lexer.specs.Lexeme.{units_of, Comment, line_comment, block_comment
 use Rattle.rb_lexer.specs.Escapes.{escape_at}
 use Rattle.rb_lexer.specs.Tokens.{width, line_of, HasTokens, LexesTo}
 use Rattle.rb_lexer.specs.Faults.{Broken, open_comment, bad_escape, broken_chars, IsBroken, broken_kind, from_fault, HasFault, IsSourceFault}
-use Rattle.rb_lexer.specs.Atom.{Atom, blank, remark, punct, cited, single, atom_chars, IsAtom, atoms_chars, AreAtoms, atoms_tokens}
+use Rattle.rb_lexer.specs.Atom.{Atom, blank, remark, punct, cited, single, atom_chars, IsAtom, atoms_chars, AreAtoms, atoms_tokens, IsPastQuote}
 use Rattle.rb_lexer.proofs.Escapes.{escape_takes, no_escape}
 use Rattle.rb_lexer.proofs.Comments.{LineGoesOn, PastLine, line_starts, line_more, line_ends, line_over, BlockGoesOn, PastBlock, block_starts, block_more}
 use Rattle.rb_lexer.proofs.Comments.{block_ends, block_open}
-use Rattle.rb_lexer.proofs.Parts.{GoesOn, PastQuote, parts_start, plain_more, escape_more, plain_quoted, plain_single, quote_ends, quote_open, quote_bad}
+use Rattle.rb_lexer.proofs.Parts.{GoesOn, parts_start, plain_more, escape_more, plain_quoted, plain_single, quote_ends, quote_open, quote_bad}
 use Rattle.rb_lexer.proofs.Turns.{escape_front, atom_front}
 use Rattle.rb_lexer.proofs.Whole.{found, faulty}
 use Rattle.rb_lexer.proofs.Decided.{tail, IsTail}
@@ -59,7 +59,7 @@ abbrev Fails : List ℕ → Type 0
 Fails cs = (b : Broken) × (cs ≡ broken_chars b) × IsBroken b
 
 abbrev Quoted : List ℕ → Type 0
-Quoted text = ((units : List ℕ) × ((past : List ℕ) × PastQuote text units past)) ⊎ Fails (quote ∷ text)
+Quoted text = ((units : List ℕ) × ((past : List ℕ) × IsPastQuote text units past)) ⊎ Fails (quote ∷ text)
 
 left_open : (text units rest : List ℕ) → GoesOn IsQuotedPart [] text units rest → rest ≡ [] → Quoted text
 left_open text units rest so_far e =

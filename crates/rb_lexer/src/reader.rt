@@ -10,6 +10,7 @@ use crate::fault::LexError;
 use crate::front::width;
 use crate::scan::scan_first;
 use crate::text::line_feeds;
+use crate::units::UnitBuffer;
 use std::alloc::Global;
 
 /// A source without lexical errors: what of it is not read, the byte and the line where that
@@ -47,12 +48,13 @@ impl<'a> Reader<'a> {
         ensures shorter { IfOk result (λ more. IsTrue more → length self.new.rest.now < length self.old.rest.now) }
         ensures done { IfOk result (λ more. more ≡ false → IsDone self.new) }
     {
-        let Some((item, after)) = scan_first(self.alloc, self.rest)? else {
+        let mut units = UnitBuffer::new(self.alloc);
+        let Some((item, after)) = scan_first(&mut units, self.rest)? else {
             self.builder.flush()?;
             return Ok(false);
         };
         let past = width(self.text) - width(after);
-        self.builder.add(item, self.first, past, self.line)?;
+        self.builder.add(item, units, self.first, past, self.line)?;
         self.line += line_feeds(self.text.as_bytes(), self.first, past);
         self.first = past;
         self.rest = after;
