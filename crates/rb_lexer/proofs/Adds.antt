@@ -78,9 +78,9 @@ module _ (bytes : List ℕ) (rest : List Atom) (pending : Option PendingText) wh
       omega (arith, width_atom (blank c) (atoms_chars (blanks cs) [])) in
       blanks_added cs (past_atom at (blank c)) ∙ ap (λ n. atoms_tokens bytes n pending false rest) place
 
-  pub white_added : (xs : List Atom) (is_open : Bool) (first past : ℕ) → Shows White xs → past ≡ first + width (atoms_chars xs [])
+  pub white_added : (us : List ℕ) (xs : List Atom) (is_open : Bool) (first past : ℕ) → Shows White us xs → past ≡ first + width (atoms_chars xs [])
       → atoms_tokens bytes first pending is_open (xs ++ rest) ≡ atoms_tokens bytes past pending false rest
-  white_added xs is_open first past shows to =
+  white_added us xs is_open first past shows to =
       let place : past_atom first (blank shows.0) + width (atoms_chars (blanks shows.1.0) []) ≡ past =
       omega (arith, width_atom (blank shows.0) (atoms_chars (blanks shows.1.0) []), to, ap (λ (ys : List Atom). width (atoms_chars ys [])) shows.1.1) in
       ap (λ (ys : List Atom). atoms_tokens bytes first pending is_open (ys ++ rest)) shows.1.1
@@ -92,7 +92,7 @@ grows false pending off b = refl
 grows true None off b = refl
 grows true (Some h) off b = cc
 
-module _ (bytes : List ℕ) (tokens : List Token) (xs rest : List Atom) (first past : ℕ) (units : List ℕ) (shows : Shows (Run units) xs)
+module _ (bytes : List ℕ) (tokens : List Token) (xs rest : List Atom) (first past : ℕ) (units : List ℕ) (shows : Shows Run units xs)
     (to : past ≡ first + width (atoms_chars xs [])) where
   pub run_added : (pending after : Option PendingText) (is_open open_after : Bool) (tokens' : List Token) → (is_open && is_some pending) ≡ true
       → tokens' ≡ tokens → after ≡ extended pending units past → open_after ≡ is_open

@@ -9,19 +9,18 @@ use Rattle.rb_lexer.specs.declared.fault.SourceKind.TheVariants.{BadEscape, Open
 use Rattle.rb_lexer.specs.declared.fault.LexError.{LexError}
 use Rattle.rb_lexer.specs.declared.token.Mark.{Mark}
 use Rattle.rb_lexer.specs.declared.scan.Scanned.TheVariants.{White, Comment as CommentItem, Punctuation, Quoted, Run}
-use Rattle.rb_lexer.specs.Atom.{remark, punct, cited, singles, blanks, IsSingle, atoms_chars, AreAtoms, Begins, Stops}
+use Rattle.rb_lexer.specs.Atom.{remark, punct, cited, singles, blanks, IsSingle, atoms_chars, AreAtoms, Begins, Stops, IsPastQuote, IsPastRun}
 use Rattle.rb_lexer.proofs.Escapes.{escape_takes, no_escape}
 use Rattle.rb_lexer.proofs.Comments.{PastLine, PastBlock}
 use Rattle.rb_lexer.proofs.Turns.{width_append}
 use Rattle.rb_lexer.proofs.Adds.{singles_chars}
-use Rattle.rb_lexer.proofs.Parts.{PastQuote, PastRun}
 
 singles_good : (ps : List Part) (rest : List ℕ) → AreParts IsSingle ps rest → AreAtoms (singles ps) rest
 singles_good [] rest h = tt
 singles_good (p ∷ ps) rest h = (rw (sym (singles_chars ps rest)) h.0, singles_good ps rest h.1)
 
-run_item : (p : Part) (text after units rest : List ℕ) → text ≡ part_chars p after → IsSingle p after → PastRun (part_units p) after units rest
-    → Begins text (Run units) rest
+run_item : (p : Part) (text after units rest : List ℕ) → text ≡ part_chars p after → IsSingle p after → IsPastRun (part_units p) after units rest
+    → Begins text Run units rest
 run_item p text after units rest e here r = (
   singles (p ∷ r.0),
   e ∙ ap (part_chars p) (r.1 ∙ singles_chars r.0 rest),
@@ -30,24 +29,24 @@ run_item p text after units rest e here r = (
 )
 
 module _ (text : List ℕ) (c : ℕ) (after : List ℕ) (spelled : text ≡ c ∷ after) where
-  pub white_item : (rest : List ℕ) → is_white c ≡ true → (cs : List ℕ) × (after ≡ atoms_chars (blanks cs) rest) × AreAtoms (blanks cs) rest
-      → Begins text White rest
-  white_item rest e w = (blanks (c ∷ w.0), spelled ∙ ap (λ (xs : List ℕ). c ∷ xs) w.1, (e, w.2), (c, (w.0, refl)))
+  pub white_item : (units rest : List ℕ) → is_white c ≡ true → (cs : List ℕ) × (after ≡ atoms_chars (blanks cs) rest) × AreAtoms (blanks cs) rest
+      → Begins text White units rest
+  white_item units rest e w = (blanks (c ∷ w.0), spelled ∙ ap (λ (xs : List ℕ). c ∷ xs) w.1, (e, w.2), (c, (w.0, refl)))
 
-  pub punctuation_item : (mark : Mark) → is_punctuation c ≡ true → mark ≡ punctuation_mark c → Begins text (Punctuation mark) after
-  punctuation_item mark e is = (punct c ∷ [], spelled, (e, tt), (c, refl, is))
+  pub punctuation_item : (mark : Mark) (units : List ℕ) → is_punctuation c ≡ true → mark ≡ punctuation_mark c → Begins text (Punctuation mark) units after
+  punctuation_item mark units e is = (punct c ∷ [], spelled, (e, tt), (c, refl, is))
 
-  pub quoted_item : (units rest : List ℕ) → c ≡ quote → PastQuote after units rest → Begins text (Quoted units) rest
+  pub quoted_item : (units rest : List ℕ) → c ≡ quote → IsPastQuote after units rest → Begins text Quoted units rest
   quoted_item units rest e p = (cited p.0 ∷ [], spelled ∙ rw e (ap (λ (xs : List ℕ). quote ∷ xs) p.1), (p.2, tt), (p.0, refl, p.3))
 
   pub plain_item : (units rest : List ℕ) → is_white c ≡ false → is_punctuation c ≡ false → c ≢ quote → c ≢ backslash → begins_comment (c ∷ after) ≡ false
-      → PastRun (units_of c) after units rest → Begins text (Run units) rest
+      → IsPastRun (units_of c) after units rest → Begins text Run units rest
   plain_item units rest w s q b k run =
       run_item (plain c) text after units rest spelled (tt, (rw (w, s, ne_eqb c quote q, ne_eqb c backslash b) refl, rw k refl)) run
 
 module _ (after : List ℕ) where
   pub escape_item : (code : ℕ) (past units rest : List ℕ) (e : Escape) → escape_at after ≡ Some (e, past) → code ≡ escape_value e
-      → PastRun (units_of code) past units rest → Begins (backslash ∷ after) (Run units) rest
+      → IsPastRun (units_of code) past units rest → Begins (backslash ∷ after) Run units rest
   escape_item code past units rest e read value run =
       let t = escape_takes after e past read in
       run_item (escaped e) (backslash ∷ after) past units rest (ap (λ (xs : List ℕ). backslash ∷ xs) t.0) (tt, t.1) (rw (sym value) run)
@@ -60,17 +59,17 @@ module _ (after : List ℕ) where
   escape_stop none s kind left not_memory =
       (bad_escape after, refl, no_escape after none, kind, omega (arith, left, backslash_width, width_append (backslash ∷ []) after))
 
-  pub line_item : (inside rest : List ℕ) → after ≡ slash ∷ inside → PastLine inside rest → Begins (slash ∷ after) CommentItem rest
-  line_item inside rest e p = (remark (line_comment p.0 p.1.0) ∷ [], rw e p.1.1.0, (p.1.1.1, tt), (line_comment p.0 p.1.0, refl))
+  pub line_item : (inside units rest : List ℕ) → after ≡ slash ∷ inside → PastLine inside rest → Begins (slash ∷ after) CommentItem units rest
+  line_item inside units rest e p = (remark (line_comment p.0 p.1.0) ∷ [], rw e p.1.1.0, (p.1.1.1, tt), (line_comment p.0 p.1.0, refl))
 
-  pub block_item : (inside rest : List ℕ) → after ≡ star ∷ inside → PastBlock inside rest → Begins (slash ∷ after) CommentItem rest
-  block_item inside rest e p = (remark (block_comment p.0) ∷ [], rw e p.1.0, (p.1.1, tt), (block_comment p.0, refl))
+  pub block_item : (inside units rest : List ℕ) → after ≡ star ∷ inside → PastBlock inside rest → Begins (slash ∷ after) CommentItem units rest
+  block_item inside units rest e p = (remark (block_comment p.0) ∷ [], rw e p.1.0, (p.1.1, tt), (block_comment p.0, refl))
 
   pub block_stop : (inside : List ℕ) → after ≡ star ∷ inside → HasNoEnd inside → (s : LexError) → s.kind ≡ OpenComment → s.left ≡ 0 → Stops s (slash ∷ after)
   block_stop inside e p s kind left not_memory = (open_comment inside, rw e refl, p, kind, left)
 
-  pub slash_item : (units rest : List ℕ) → begins_comment (slash ∷ after) ≡ false → PastRun (units_of slash) after units rest
-      → Begins (slash ∷ after) (Run units) rest
+  pub slash_item : (units rest : List ℕ) → begins_comment (slash ∷ after) ≡ false → IsPastRun (units_of slash) after units rest
+      → Begins (slash ∷ after) Run units rest
   slash_item units rest k run = run_item (plain slash) (slash ∷ after) after units rest refl (tt, (refl, rw k refl)) run
 
 pub no_slash : (c : ℕ) (after : List ℕ) → c ≢ slash → begins_comment (c ∷ after) ≡ false

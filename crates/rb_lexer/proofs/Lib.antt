@@ -14,4 +14,5 @@ pub mod Order
 pub mod Adds
 pub mod Total
 pub mod Passes
+pub mod Coming
 pub mod Pulls

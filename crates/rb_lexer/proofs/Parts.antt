@@ -7,7 +7,7 @@ use Rattle.rb_lexer.specs.declared.fault.SourceKind.TheVariants.{BadEscape, Open
 use Rattle.rb_lexer.specs.declared.fault.LexError.{LexError}
 use Rattle.rb_lexer.specs.Faults.{open_quote, bad_quoted}
 use Rattle.rb_lexer.specs.Tokens.{width}
-use Rattle.rb_lexer.specs.Atom.{Stops, IsSingle}
+use Rattle.rb_lexer.specs.Atom.{Stops, IsSingle, IsPastQuote, IsPastRun}
 use Rattle.rb_lexer.proofs.Escapes.{escape_takes, no_escape}
 
 -- however the rest goes on, the whole does too
@@ -15,13 +15,6 @@ abbrev pub GoesOn : (Part → List ℕ → Type 0) → List ℕ → List ℕ →
 GoesOn Is before text units rest =
     (ps : List Part) (more : List ℕ) → rest ≡ parts_chars ps more → AreParts Is ps more
     → (qs : List Part) × (text ≡ parts_chars qs more) × AreParts Is qs more × (before ++ parts_units qs ≡ units ++ parts_units ps)
-
-abbrev pub PastQuote : List ℕ → List ℕ → List ℕ → Type 0
-PastQuote text units rest = (ps : List Part) × (text ≡ parts_chars ps (quote ∷ rest)) × AreParts IsQuotedPart ps (quote ∷ rest) × (units ≡ parts_units ps)
-
--- what a run of an unquoted piece takes
-abbrev pub PastRun : List ℕ → List ℕ → List ℕ → List ℕ → Type 0
-PastRun before text units rest = (ps : List Part) × (text ≡ parts_chars ps rest) × AreParts IsSingle ps rest × (units ≡ before ++ parts_units ps)
 
 module _ (Is : Part → List ℕ → Type 0) where
   pub parts_start : (before text : List ℕ) → GoesOn Is before text before text
@@ -63,12 +56,12 @@ plain_single c rest not_backslash e =
     let white = either_false (is_white c) (eqb c quote) mark.0 in
     (tt, (rw (white.0, white.1, ne_eqb c backslash not_backslash, mark.1) refl, rw comment.1 refl))
 
-pub run_ends : (before front text units rest : List ℕ) → before ≡ front → GoesOn IsSingle before text units rest → PastRun front text units rest
+pub run_ends : (before front text units rest : List ℕ) → before ≡ front → GoesOn IsSingle before text units rest → IsPastRun front text units rest
 run_ends before front text units rest e so_far = let w = so_far [] rest refl tt in
     (w.0, w.1, w.2, sym (append-nil units) ∙ sym w.3 ∙ ap (λ (us : List ℕ). us ++ parts_units w.0) e)
 
 module _ (text units rest : List ℕ) (so_far : GoesOn IsQuotedPart [] text units rest) where
-  pub quote_ends : (after : List ℕ) → rest ≡ quote ∷ after → PastQuote text units after
+  pub quote_ends : (after : List ℕ) → rest ≡ quote ∷ after → IsPastQuote text units after
   quote_ends after e = let w = so_far [] (quote ∷ after) e tt in (w.0, w.1, w.2, sym (w.3 ∙ append-nil units))
 
   pub quote_open : rest ≡ [] → (s : LexError) → s.kind ≡ OpenQuote → s.left ≡ 0 → Stops s (quote ∷ text)

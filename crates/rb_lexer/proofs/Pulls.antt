@@ -2,19 +2,22 @@
 use Rattle.std.proofs.Common.{◌≡◌, ℕ, ◌≤◌, List, [], ◌∷◌, ◌++◌, length, drop, length-drop, append-nil, Option, Some, None, MatchOption, refl, sym, ap, subst}
 use Rattle.std.proofs.Common.{◌∙◌, arith, false, IsTrue, encode_utf8_all}
 use Rattle.std.proofs.Common.{◌⊎◌, inl, inr, ⊎_elim}
+use Rattle.std.proofs.lemmas.Str.{chars-nil}
 use Rattle.std.specs.Str.{chars, all_scalars}
 use Rattle.rb_lexer.specs.declared.builder.Builder.{Builder}
 use Rattle.rb_lexer.specs.declared.pending.PendingText.{PendingText}
-use Rattle.rb_lexer.specs.declared.stream.Tokens.{Tokens}
+use Rattle.rb_lexer.specs.declared.reader.Reader.{Reader}
 use Rattle.rb_lexer.specs.declared.token.Token.{Token}
 use Rattle.rb_lexer.specs.declared.fault.SourceKind.TheVariants.{Memory}
 use Rattle.rb_lexer.specs.declared.fault.LexError.{LexError}
 use Rattle.rb_lexer.specs.Faults.{Broken}
-use Rattle.rb_lexer.specs.Tokens.{HasTokens}
+use Rattle.rb_lexer.specs.Tokens.{width, HasTokens}
 use Rattle.rb_lexer.specs.Merging.{flushed}
 use Rattle.rb_lexer.specs.Atom.{Atom, atoms_chars, AreAtoms, atoms_tokens, Stops}
 use Rattle.rb_lexer.specs.Passing.{IsUnbroken}
-use Rattle.rb_lexer.specs.Left.{Gives, Left}
+use Rattle.rb_lexer.specs.Left.{IsAtStart, IsPlaced, Gives, Left}
+use Rattle.rb_lexer.specs.Coming.{atoms_at, left}
+use Rattle.rb_lexer.proofs.Coming.{atoms_read}
 use Rattle.rb_lexer.proofs.Decided.{tail, texts_one}
 use Rattle.rb_lexer.proofs.Total.{reading}
 use Rattle.rb_lexer.proofs.Turns.{chars_front, are_front}
@@ -71,7 +74,7 @@ popped [] more ts e (inl two) = absurd (omega arith)
 popped [] more ts e (inr none) = rw (e, none) refl
 popped (t ∷ items) more ts e full = ap (drop 1) e
 
-module _ (r : Tokens) (ts : List Token) where
+module _ (r : Reader) (ts : List Token) where
   abbrev more_of : List Atom → List Token
   more_of atoms = atoms_tokens r.text.now r.first r.builder.pending r.builder.is_open atoms
 
@@ -109,26 +112,44 @@ module _ (bytes : List ℕ) where
   pub has_all : (cs : List ℕ) (u : IsUnbroken cs) → encode_utf8_all cs ≡ bytes → IsTrue (all_scalars cs) → HasTokens bytes (all_of cs u)
   has_all cs u encoded scalars = found bytes cs encoded scalars (all_of cs u) (u.0, u.1, u.2, refl)
 
-  pub gives_all : (r : Tokens) (u : IsUnbroken (chars r.rest.now)) → r.text.now ≡ bytes → r.first ≡ 0 → r.builder.tokens.items ≡ []
-      → r.builder.pending ≡ None → r.builder.is_open ≡ false → Gives r (all_of (chars r.rest.now) u)
-  gives_all r u text first none off closed = record { atoms = u.0; spelled = u.1; good = u.2; tokens = rw (text, first, none, off, closed) refl }
+  pub gives_all : (r : Reader) (text : List ℕ) (u : IsUnbroken (chars text)) → IsAtStart r text → text ≡ bytes → Gives r (all_of (chars text) u)
+  gives_all r text u s same = record {
+    atoms = u.0;
+    spelled = rw s.rest_is u.1;
+    good = u.2;
+    tokens = rw (s.text_is ∙ same, s.first_is, s.no_tokens, s.no_pending, s.closed) refl;
+  }
+
+pub placed_at_start : (r : Reader) (text : List ℕ) → IsAtStart r text → length text ≤ 8388608 → width (chars text) ≡ length text → IsPlaced r
+placed_at_start r text s short wide = record {
+  short = rw s.text_is short;
+  at = rw (s.text_is, s.rest_is, s.first_is) (omega (arith, wide));
+  line_is = rw (s.line_is, s.first_is) refl;
+}
+
+-- A source without bytes gives no tokens.
+pub none_at_start : (r : Reader) → IsAtStart r [] → Left r []
+none_at_start r s =
+    let nothing : chars r.rest.now ≡ [] = rw s.rest_is chars-nil in
+    record {
+      placed = placed_at_start r [] s (omega arith) (ap width chars-nil);
+      full = inr (nothing, s.no_pending);
+      gives = record { atoms = []; spelled = nothing; good = tt; tokens = rw (s.no_tokens, s.no_pending) refl };
+    }
 
 -- ---- the tokens that are left, as a function
-pub left : Tokens → List Token
-left r = r.builder.tokens.items ++ more_of r [] (reading (chars r.rest.now)).0
-
-pub left_one : (r : Tokens) (ts : List Token) → Left r ts → ts ≡ left r
+pub left_one : (r : Reader) (ts : List Token) → Left r ts → ts ≡ left r
 unfolding left
 left_one r ts l =
-    let w = reading (chars r.rest.now) in
-    l.gives.tokens ∙ ap (λ (xs : List Atom). r.builder.tokens.items ++ more_of r ts xs)
-    (texts_one l.gives.atoms w.0 None w.1.0 tt w.1.3 l.gives.good w.1.2 (sym l.gives.spelled ∙ w.1.1)).0
+    let cs = chars r.rest.now in
+    let read : atoms_at (length cs) cs ≡ l.gives.atoms = rw l.gives.spelled (atoms_read (length (atoms_chars l.gives.atoms [])) l.gives.atoms (omega arith) l.gives.good) in
+    l.gives.tokens ∙ ap (λ (xs : List Atom). r.builder.tokens.items ++ more_of r ts xs) (sym read)
 
-pub left_is : (r : Tokens) (ts : List Token) → Left r ts → Left r (left r)
+pub left_is : (r : Reader) (ts : List Token) → Left r ts → Left r (left r)
 left_is r ts l = subst (Left r) (left_one r ts l) l
 
--- Where a token was taken, and where none was left.
-pub pop_more : (s : Tokens) (ts : List Token) (found : Option Token) (t : Token) → found ≡ Some t
-    → Left s (drop 1 ts) × MatchOption found (ts ≡ []) (λ x. ts ≡ x ∷ drop 1 ts) → Left s (left s) × (ts ≡ t ∷ left s)
-pop_more s ts found t is h =
-    let w = rw is at h in (left_is s (drop 1 ts) w.0, w.1 ∙ ap (λ (us : List Token). t ∷ us) (left_one s (drop 1 ts) w.0))
+-- Where the next token was taken.
+pub pop_leaves : (s : Reader) (ts : List Token) (found : Option Token) → Left s (drop 1 ts) → MatchOption found (ts ≡ []) (λ t. ts ≡ t ∷ drop 1 ts)
+    → MatchOption found (ts ≡ []) (λ t. ts ≡ t ∷ left s)
+pop_leaves s ts None l h = h
+pop_leaves s ts (Some t) l h = h ∙ ap (λ (us : List Token). t ∷ us) (left_one s (drop 1 ts) l)

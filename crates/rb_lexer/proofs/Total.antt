@@ -14,11 +14,11 @@ use Rattle.rb_lexer.specs.Lexeme.{units_of, Comment, line_comment, block_comment
 use Rattle.rb_lexer.specs.Escapes.{escape_at}
 use Rattle.rb_lexer.specs.Tokens.{width, line_of, HasTokens, LexesTo}
 use Rattle.rb_lexer.specs.Faults.{Broken, open_comment, bad_escape, broken_chars, IsBroken, broken_kind, from_fault, HasFault, IsSourceFault}
-use Rattle.rb_lexer.specs.Atom.{Atom, blank, remark, punct, cited, single, atom_chars, IsAtom, atoms_chars, AreAtoms, atoms_tokens}
+use Rattle.rb_lexer.specs.Atom.{Atom, blank, remark, punct, cited, single, atom_chars, IsAtom, atoms_chars, AreAtoms, atoms_tokens, IsPastQuote}
 use Rattle.rb_lexer.proofs.Escapes.{escape_takes, no_escape}
 use Rattle.rb_lexer.proofs.Comments.{LineGoesOn, PastLine, line_starts, line_more, line_ends, line_over, BlockGoesOn, PastBlock, block_starts, block_more}
 use Rattle.rb_lexer.proofs.Comments.{block_ends, block_open}
-use Rattle.rb_lexer.proofs.Parts.{GoesOn, PastQuote, parts_start, plain_more, escape_more, plain_quoted, plain_single, quote_ends, quote_open, quote_bad}
+use Rattle.rb_lexer.proofs.Parts.{GoesOn, parts_start, plain_more, escape_more, plain_quoted, plain_single, quote_ends, quote_open, quote_bad}
 use Rattle.rb_lexer.proofs.Turns.{escape_front, atom_front}
 use Rattle.rb_lexer.proofs.Whole.{found, faulty}
 use Rattle.rb_lexer.proofs.Decided.{tail, IsTail}
@@ -52,14 +52,14 @@ block_total text (c ∷ cs) so_far =
     (ends_here c cs)
 
 -- ---- quoted pieces
-escape_longer : (e : Escape) (rest : List ℕ) → length rest ≤ length (escape_chars e rest)
+pub escape_longer : (e : Escape) (rest : List ℕ) → length rest ≤ length (escape_chars e rest)
 escape_longer e rest = omega (arith, ap length (escape_front e rest), length-append (escape_chars e []) rest)
 
 abbrev Fails : List ℕ → Type 0
 Fails cs = (b : Broken) × (cs ≡ broken_chars b) × IsBroken b
 
 abbrev Quoted : List ℕ → Type 0
-Quoted text = ((units : List ℕ) × ((past : List ℕ) × PastQuote text units past)) ⊎ Fails (quote ∷ text)
+Quoted text = ((units : List ℕ) × ((past : List ℕ) × IsPastQuote text units past)) ⊎ Fails (quote ∷ text)
 
 left_open : (text units rest : List ℕ) → GoesOn IsQuotedPart [] text units rest → rest ≡ [] → Quoted text
 left_open text units rest so_far e =
@@ -159,7 +159,7 @@ atom_length (single (plain c)) = omega arith
 atom_length (single (escaped e)) = omega arith
 atom_length (single (dropped c)) = comment_length c
 
-atom_longer : (a : Atom) (rest : List ℕ) → length rest < length (atom_chars a rest)
+pub atom_longer : (a : Atom) (rest : List ℕ) → length rest < length (atom_chars a rest)
 atom_longer a rest = omega (arith, atom_length a, ap length (atom_front a rest), length-append (atom_chars a []) rest)
 
 abbrev pub Read : List ℕ → Type 0

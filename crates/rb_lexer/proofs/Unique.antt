@@ -26,7 +26,7 @@ abbrev Ends : List ℕ → Type 0
 Ends [] = Unit {0}
 Ends (c ∷ cs) = (c ≡ quote) ⊎ ((c ≡ backslash) × NoEscape cs)
 
-neither : (c : ℕ) → IsTrue (not (eqb c quote || eqb c backslash)) → (c ≡ quote → ⊥) × (c ≡ backslash → ⊥)
+pub neither : (c : ℕ) → IsTrue (not (eqb c quote || eqb c backslash)) → (c ≡ quote → ⊥) × (c ≡ backslash → ⊥)
 neither c h = (λ e. absurd (not_both (eqb c quote || eqb c backslash) h (rw e refl)), λ e. absurd (not_both (eqb c quote || eqb c backslash) h (rw e refl)))
 
 not_plain : (c : ℕ) (cs : List ℕ) → Ends (c ∷ cs) → IsTrue (not (eqb c quote || eqb c backslash)) → ⊥
@@ -70,7 +70,7 @@ line_cons : (x y : ℕ) (a c : List ℕ) (b d : Option ℕ) (r s : List ℕ) →
 line_cons x y a c b d r s e w = (ap (λ n. n ∷ a) e ∙ ap (λ (xs : List ℕ). y ∷ xs) w.0, w.1, w.2)
 
 -- a line comment without its first character
-line_rest : (x : ℕ) (a : List ℕ) (b : Option ℕ) (r : List ℕ) → IsComment (line_comment (x ∷ a) b) r
+pub line_rest : (x : ℕ) (a : List ℕ) (b : Option ℕ) (r : List ℕ) → IsComment (line_comment (x ∷ a) b) r
     → IsTrue (not (ends_line x)) × IsComment (line_comment a b) r
 line_rest x a None r g = (g.0.0, (g.0.1, g.1))
 line_rest x a (Some c) r g = (g.0.0, (g.0.1, g.1))
@@ -154,7 +154,7 @@ text_class (c ∷ cs) =
     cond (is_white c) 1 (cond (is_punctuation c) 2 (cond (eqb c quote) 10
     (cond (eqb c backslash) 12 (cond (begins_comment (c ∷ cs)) (cond (begins (λ d. eqb d slash) cs) 3 11) 4))))
 
-or_true : (a b : Bool) → (a || b) ≡ true → (a ≡ true) ⊎ (b ≡ true)
+pub or_true : (a b : Bool) → (a || b) ≡ true → (a ≡ true) ⊎ (b ≡ true)
 or_true true b e = inl refl
 or_true false b e = inr e
 
@@ -164,14 +164,14 @@ punctuation_class c r h =
     (λ h2. rw (eqb-true c 0x2C h2) refl) (or_true (eqb c 0x7B || eqb c 0x7D) (eqb c 0x2C) h1)) (λ h1. rw (eqb-true c 0x3A h1) refl)
     (or_true ((eqb c 0x7B || eqb c 0x7D) || eqb c 0x2C) (eqb c 0x3A) h)
 
-four_false : (a b c d : Bool) → IsTrue (not (((a || b) || c) || d)) → (a ≡ false) × (b ≡ false) × (c ≡ false) × (d ≡ false)
+pub four_false : (a b c d : Bool) → IsTrue (not (((a || b) || c) || d)) → (a ≡ false) × (b ≡ false) × (c ≡ false) × (d ≡ false)
 four_false false false false false h = (refl, refl, refl, refl)
 four_false true b c d h = cc
 four_false false true c d h = cc
 four_false false false true d h = cc
 four_false false false false true h = cc
 
-not_false : (b : Bool) → IsTrue (not b) → b ≡ false
+pub not_false : (b : Bool) → IsTrue (not b) → b ≡ false
 not_false true h = cc
 not_false false h = refl
 

@@ -53,17 +53,25 @@ abbrev pub blanks : List ℕ → List Atom
 blanks [] = []
 blanks (c ∷ cs) = blank c ∷ blanks cs
 
--- What the code has for atoms.
-abbrev pub Shows : Scanned → List Atom → Type 0
-Shows White xs = (c : ℕ) × ((cs : List ℕ) × (xs ≡ blanks (c ∷ cs)))
-Shows CommentItem xs = (c : Comment) × (xs ≡ remark c ∷ [])
-Shows (Punctuation m) xs = (c : ℕ) × (xs ≡ punct c ∷ []) × (m ≡ punctuation_mark c)
-Shows (Quoted us) xs = (ps : List Part) × (xs ≡ cited ps ∷ []) × (us ≡ parts_units ps)
-Shows (Run us) xs = (p : Part) × ((ps : List Part) × (xs ≡ singles (p ∷ ps)) × (us ≡ parts_units (p ∷ ps)))
+-- the characters after a quote go on with a quoted piece of these units, its last quote, and the rest
+abbrev pub IsPastQuote : List ℕ → List ℕ → List ℕ → Type 0
+IsPastQuote text units rest = (ps : List Part) × (text ≡ parts_chars ps (quote ∷ rest)) × AreParts IsQuotedPart ps (quote ∷ rest) × (units ≡ parts_units ps)
 
--- The characters begin with what this item is, and the rest follows it.
-abbrev pub Begins : List ℕ → Scanned → List ℕ → Type 0
-Begins text item rest = (xs : List Atom) × (text ≡ atoms_chars xs rest) × AreAtoms xs rest × Shows item xs
+-- The characters go on with parts of a run of an unquoted piece, and the rest; the units are those before and those of the parts.
+abbrev pub IsPastRun : List ℕ → List ℕ → List ℕ → List ℕ → Type 0
+IsPastRun before text units rest = (ps : List Part) × (text ≡ parts_chars ps rest) × AreParts IsSingle ps rest × (units ≡ before ++ parts_units ps)
+
+-- What the code has for atoms.
+abbrev pub Shows : Scanned → List ℕ → List Atom → Type 0
+Shows White us xs = (c : ℕ) × ((cs : List ℕ) × (xs ≡ blanks (c ∷ cs)))
+Shows CommentItem us xs = (c : Comment) × (xs ≡ remark c ∷ [])
+Shows (Punctuation m) us xs = (c : ℕ) × (xs ≡ punct c ∷ []) × (m ≡ punctuation_mark c)
+Shows Quoted us xs = (ps : List Part) × (xs ≡ cited ps ∷ []) × (us ≡ parts_units ps)
+Shows Run us xs = (p : Part) × ((ps : List Part) × (xs ≡ singles (p ∷ ps)) × (us ≡ parts_units (p ∷ ps)))
+
+-- The characters begin with what this item is, with these units if it is a piece, and the rest follows it.
+abbrev pub Begins : List ℕ → Scanned → List ℕ → List ℕ → Type 0
+Begins text item us rest = (xs : List Atom) × (text ≡ atoms_chars xs rest) × AreAtoms xs rest × Shows item us xs
 
 -- These characters are broken in this way, unless memory ran out.
 abbrev pub Stops : LexError → List ℕ → Type 0

@@ -7,3 +7,4 @@ pub mod Atom
 pub mod Escapes
 pub mod Passing
 pub mod Left
+pub mod Coming

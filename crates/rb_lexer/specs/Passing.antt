@@ -1,15 +1,10 @@
 -- For the contracts of this crate's own functions: whether a text has an error, by the second reading.
 use Rattle.std.specs.Prelude.{◌≡◌, ℕ, List, []}
-use Rattle.rb_lexer.specs.declared.scan.Scanned.{Scanned}
 use Rattle.rb_lexer.specs.declared.fault.SourceKind.TheVariants.{Memory}
 use Rattle.rb_lexer.specs.declared.fault.LexError.{LexError}
 use Rattle.rb_lexer.specs.Faults.{Broken, broken_chars, IsBroken, broken_kind, from_fault}
 use Rattle.rb_lexer.specs.Tokens.{width}
-use Rattle.rb_lexer.specs.Atom.{Atom, atoms_chars, AreAtoms, Begins}
-
--- The characters begin with some item, and the rest follows it.
-abbrev pub Passes : List ℕ → List ℕ → Type 0
-Passes text rest = (item : Scanned) × Begins text item rest
+use Rattle.rb_lexer.specs.Atom.{Atom, atoms_chars, AreAtoms}
 
 -- The characters have no error.
 abbrev pub IsUnbroken : List ℕ → Type 0

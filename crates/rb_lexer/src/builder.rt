@@ -87,16 +87,17 @@ impl Builder {
         Ok(())
     }
 
-    /// Adds an item with its span and its line.
+    /// Adds an item with its units, its span and its line.
     pub fn add(
         &mut self,
         item: Scanned,
+        units: UnitBuffer,
         first: usize,
         past: usize,
         line: u64,
     ) -> Result<(), LexError>
         ensures memory { IfErr result (λ e. e.kind ≡ Memory) }
-        ensures added { OnOk result ((bytes : List ℕ) (xs rest : List Atom) → Shows item xs
+        ensures added { OnOk result ((bytes : List ℕ) (xs rest : List Atom) → Shows item units xs
             → line ≡ line_of bytes first → past ≡ first + width (atoms_chars xs [])
             → self.old.tokens.items ++ atoms_tokens bytes first self.old.pending self.old.is_open (xs ++ rest)
             ≡ self.new.tokens.items ++ atoms_tokens bytes past self.new.pending self.new.is_open rest) }
@@ -114,7 +115,7 @@ impl Builder {
                     line,
                 })?;
             }
-            Scanned::Quoted(units) => {
+            Scanned::Quoted => {
                 self.join(PendingText {
                     units,
                     is_quoted: true,
@@ -124,7 +125,7 @@ impl Builder {
                 })?;
                 self.is_open = false;
             }
-            Scanned::Run(units) => {
+            Scanned::Run => {
                 if self.goes_on() {
                     self.extend(&units, past)?;
                     return Ok(());

@@ -1,18 +1,18 @@
 // Escapes.
-ghost use Rattle.std.specs.Prelude.{◌≡◌, ◌≤◌, ◌<◌, ◌++◌, ◌^◌, length, MatchOption, IfSome, OnOk};
+ghost use Rattle.std.specs.Prelude.{◌≡◌, ◌≤◌, ◌<◌, ◌++◌, ◌^◌, ℕ, List, length, MatchOption, IfSome, OnOk};
 ghost use Rattle.std.specs.Str.{chars};
 ghost use Rattle.std.specs.Str.Parse.{digits_value};
 ghost use Rattle.rb_lexer.specs.Lexeme.{Escape, escape_value, letter_value, units_of};
 ghost use Rattle.rb_lexer.specs.Escapes.{digits_at, escape_at};
 
 use crate::front::split_first;
-use crate::units::UnitBuffer;
+use crate::units::UnitSink;
 use std::alloc::AllocError;
 
 /// Adds the units of a code point.
-pub fn push_code(units: &mut UnitBuffer, code: u32) -> Result<(), AllocError>
+pub fn push_code<U: UnitSink>(units: &mut U, code: u32) -> Result<(), AllocError>
     requires { code ≤ 0x10FFFF }
-    ensures { OnOk result (units.new ≡ units.old ++ units_of code) }
+    ensures { (us : List ℕ) → U.has units.old us → OnOk result (U.has units.new (us ++ units_of code)) }
 {
     if code < 0x10000 {
         units.push(code as u16)?;

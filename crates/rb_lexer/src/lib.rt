@@ -12,6 +12,7 @@ mod limits;
 mod pass;
 mod pending;
 mod quoted;
+mod reader;
 mod scan;
 mod stream;
 mod text;

@@ -22,7 +22,7 @@ impl PendingText {
     {
         let joins_directly = self.units.is_empty() || self.is_quoted && next.is_quoted;
         if !joins_directly {
-            self.units.push(0x20)?;
+            self.units.add(0x20)?;
         }
         self.units.extend(&next.units)?;
         self.is_quoted = next.is_quoted;

@@ -1,5 +1,6 @@
 // The front of a text.
-ghost use Rattle.std.specs.Prelude.{◌≡◌, ◌<◌, ◌≤◌, ◌∷◌, [], true, false, MatchOption, MatchResult, IfOk, IfSome, OnSome, length};
+ghost use Rattle.rb_lexer.specs.declared.scan.Scanned.TheVariants.{Run};
+ghost use Rattle.std.specs.Prelude.{◌≡◌, ◌<◌, ◌≤◌, ◌∷◌, [], ℕ, List, true, false, MatchOption, MatchResult, IfOk, IfSome, OnSome, length};
 ghost use Rattle.std.specs.Str.{chars};
 ghost use Rattle.rb_lexer.specs.Lexeme.{is_punctuation, slash, backslash};
 ghost use Rattle.rb_lexer.specs.Tokens.{punctuation_mark};
@@ -11,9 +12,8 @@ use crate::fault::{LexError, SourceKind};
 use crate::front::{split_first, strip, width};
 use crate::quoted::quoted;
 use crate::token::Mark;
-use crate::units::UnitBuffer;
+use crate::units::UnitSink;
 use crate::unquoted::{is_white, past_white, run};
-use std::alloc::Global;
 
 /// What a text begins with. An unquoted piece is one run or several, with comments between them.
 #[derive(Drop)]
@@ -21,8 +21,8 @@ pub enum Scanned {
     White,
     Comment,
     Punctuation(Mark),
-    Quoted(UnitBuffer),
-    Run(UnitBuffer),
+    Quoted,
+    Run,
 }
 
 /// The mark of a punctuation character.
@@ -38,10 +38,13 @@ fn punctuation(c: char) -> Option<Mark>
     }
 }
 
-/// What a backslash begins, given what follows it.
-fn escaped(alloc: Global, after: &str) -> Result<(Scanned, &str), LexError>
-    ensures taken { MatchResult result (λ x. Begins (backslash ∷ chars after.now) x.0 (chars x.1.now)) (λ stop. Stops stop (backslash ∷ chars after.now)) }
-    ensures no_longer { IfOk result (λ x. length x.1.now ≤ length after.now) }
+/// What follows the run that a backslash begins, given what is after it.
+fn escaped<'a, U: UnitSink>(units: &mut U, after: &'a str) -> Result<&'a str, LexError>
+    requires { U.has units.old [] }
+    ensures taken { MatchResult result
+        (λ rest. (us : List ℕ) × U.has units.new us × Begins (backslash ∷ chars after.now) Run us (chars rest.now))
+        (λ stop. Stops stop (backslash ∷ chars after.now)) }
+    ensures no_longer { IfOk result (λ rest. length rest.now ≤ length after.now) }
 {
     let Some((code, past)) = escape(after) else {
         return Err(LexError {
@@ -49,13 +52,16 @@ fn escaped(alloc: Global, after: &str) -> Result<(Scanned, &str), LexError>
             left: width(after) + 1,
         });
     };
-    let (units, rest) = run(alloc, code, past)?;
-    Ok((Scanned::Run(units), rest))
+    let rest = run(units, code, past)?;
+    Ok(rest)
 }
 
 /// What a slash begins, given what follows it.
-fn slashed(alloc: Global, after: &str) -> Result<(Scanned, &str), LexError>
-    ensures taken { MatchResult result (λ x. Begins (slash ∷ chars after.now) x.0 (chars x.1.now)) (λ stop. Stops stop (slash ∷ chars after.now)) }
+fn slashed<'a, U: UnitSink>(units: &mut U, after: &'a str) -> Result<(Scanned, &'a str), LexError>
+    requires { U.has units.old [] }
+    ensures taken { MatchResult result
+        (λ x. (us : List ℕ) × U.has units.new us × Begins (slash ∷ chars after.now) x.0 us (chars x.1.now))
+        (λ stop. Stops stop (slash ∷ chars after.now)) }
     ensures no_longer { IfOk result (λ x. length x.1.now ≤ length after.now) }
 {
     if let Some(inside) = strip(after, '/') {
@@ -70,14 +76,19 @@ fn slashed(alloc: Global, after: &str) -> Result<(Scanned, &str), LexError>
         };
         return Ok((Scanned::Comment, rest));
     }
-    let (units, rest) = run(alloc, '/' as u32, after)?;
-    Ok((Scanned::Run(units), rest))
+    let rest = run(units, '/' as u32, after)?;
+    Ok((Scanned::Run, rest))
 }
 
-/// What a text begins with, and what follows it.
-pub fn scan_first(alloc: Global, text: &str) -> Result<Option<(Scanned, &str)>, LexError>
+/// What a text begins with, and what follows it. The sink, in which nothing is, takes the units of a piece.
+pub fn scan_first<'a, U: UnitSink>(
+    units: &mut U,
+    text: &'a str,
+) -> Result<Option<(Scanned, &'a str)>, LexError>
+    requires { U.has units.old [] }
     ensures taken { MatchResult result
-        (λ found. MatchOption found (chars text.now ≡ []) (λ x. Begins (chars text.now) x.0 (chars x.1.now)))
+        (λ found. MatchOption found (chars text.now ≡ [])
+        (λ x. (us : List ℕ) × U.has units.new us × Begins (chars text.now) x.0 us (chars x.1.now)))
         (λ stop. Stops stop (chars text.now)) }
     ensures shorter { IfOk result (λ found. IfSome found (λ x. length x.1.now < length text.now)) }
 {
@@ -91,15 +102,16 @@ pub fn scan_first(alloc: Global, text: &str) -> Result<Option<(Scanned, &str)>, 
         return Ok(Some((Scanned::Punctuation(mark), after)));
     }
     if c == '"' {
-        let (units, rest) = quoted(alloc, after)?;
-        return Ok(Some((Scanned::Quoted(units), rest)));
+        let rest = quoted(units, after)?;
+        return Ok(Some((Scanned::Quoted, rest)));
     }
     if c == '\\' {
-        return Ok(Some(escaped(alloc, after)?));
+        let rest = escaped(units, after)?;
+        return Ok(Some((Scanned::Run, rest)));
     }
     if c == '/' {
-        return Ok(Some(slashed(alloc, after)?));
+        return Ok(Some(slashed(units, after)?));
     }
-    let (units, rest) = run(alloc, c as u32, after)?;
-    Ok(Some((Scanned::Run(units), rest)))
+    let rest = run(units, c as u32, after)?;
+    Ok(Some((Scanned::Run, rest)))
 }

@@ -1,31 +1,38 @@
 // Tokens as they are taken.
-ghost use Rattle.std.specs.Prelude.{◌≡◌, ◌<◌, ◌≤◌, ◌∷◌, [], ℕ, List, length, OnOk, IfOk, IfErr, MatchOption, MatchResult, IsTrue, drop, false};
+ghost use Rattle.std.specs.Prelude.{◌≡◌, ◌∷◌, [], List, IfOk, IfErr, MatchOption, MatchResult, drop};
 ghost use Rattle.rb_lexer.specs.declared.fault.SourceKind.TheVariants.{Memory};
 ghost use Rattle.rb_lexer.specs.declared.token.Token.{Token};
-ghost use Rattle.rb_lexer.specs.Tokens.{width, LexesTo};
+ghost use Rattle.rb_lexer.specs.Tokens.{LexesTo};
 ghost use Rattle.rb_lexer.specs.Faults.{IsRefusal};
-ghost use Rattle.rb_lexer.specs.Left.{IsPlaced, Gives, IsDone, IsFull, Left};
 
-use crate::builder::Builder;
 use crate::fault::{LexError, SourceFault};
-use crate::front::width;
 use crate::pass::{good_text, located};
-use crate::scan::scan_first;
-use crate::text::line_feeds;
+use crate::reader::Reader;
 use crate::token::Token;
 use std::alloc::{AllocError, Global};
+use std::marker::Model;
 
-/// The tokens of a source without lexical errors, read as they are taken.
+/// The tokens of a source that are still to come, seen by contracts as a list. They are read as
+/// they are taken; no more than the next two wait.
 ///
-/// The next two wait, if there are two.
+/// The source has no lexical error: it was read for them before the first token.
 #[derive(Drop)]
 pub struct Tokens<'a> {
-    alloc: Global,
-    text: &'a str,
-    rest: &'a str,
-    first: usize,
-    line: u64,
-    builder: Builder,
+    reader: Reader<'a>,
+}
+
+impl<'a> Model for Tokens<'a> {
+    ghost use Rattle.std.specs.Prelude.{List};
+    ghost use Rattle.rb_lexer.specs.declared.token.Token.{Token};
+
+    ghost Value = { List Token };
+
+    ghost use Rattle.rb_lexer.specs.Left.{Left};
+    ghost use Rattle.rb_lexer.specs.Coming.{left};
+
+    ghost view = { λ a. left a.reader };
+
+    ghost invariant = { λ a. Left a.reader (left a.reader) };
 }
 
 /// Out of memory, where this is why reading stopped.
@@ -36,102 +43,65 @@ fn memory_error(_error: LexError) -> AllocError
 }
 
 impl<'a> Tokens<'a> {
-    /// The tokens of a source, which is read once beforehand for its errors: those of `lex`.
+    /// The tokens of a source, none of them taken. The source is read to its end for its errors.
+    ///
+    /// # Errors
+    ///
+    /// Those of `lex`.
     pub fn of(alloc: Global, bytes: &'a [u8]) -> Result<Tokens<'a>, SourceFault>
-        // What is left are the source's tokens.
-        ensures found { IfOk result (λ tokens. (ts : List Token) × LexesTo bytes.now ts × Left tokens ts) }
+        // These are the source's tokens.
+        ensures found { IfOk result (λ tokens. LexesTo bytes.now tokens) }
         // What is reported is an error of the source, with its line, unless memory ran out.
         ensures fault { IfErr result (λ e. IsRefusal bytes.now e) }
         // A source that has tokens is read, unless memory runs out.
-        ensures only { (ts : List Token) → LexesTo bytes.now ts → MatchResult result (λ tokens. Left tokens ts) (λ e. e.kind ≡ Memory) }
+        ensures only { (ts : List Token) → LexesTo bytes.now ts → MatchResult result (λ tokens. tokens ≡ ts) (λ e. e.kind ≡ Memory) }
     {
         let text = good_text(bytes)?;
-        let mut tokens = Tokens {
-            alloc,
-            text,
-            rest: text,
-            first: 0,
-            line: 1,
-            builder: Builder::new(alloc),
-        };
-        match tokens.fill() {
-            Ok(()) => Ok(tokens),
+        let mut reader = Reader::new(alloc, text);
+        match reader.fill() {
+            Ok(()) => Ok(Tokens { reader }),
             Err(error) => Err(located(bytes, error)),
         }
     }
 
     /// No tokens.
     fn none(alloc: Global) -> Tokens<'a>
-        ensures { Left result [] }
+        ensures { result ≡ [] }
     {
         Tokens {
-            alloc,
-            text: "",
-            rest: "",
-            first: 0,
-            line: 1,
-            builder: Builder::new(alloc),
+            reader: Reader::new(alloc, ""),
         }
     }
 
-    /// Reads one item. The answer is whether there was one.
-    fn step(&mut self) -> Result<bool, LexError>
-        requires { IsPlaced self.old }
-        ensures placed { OnOk result (IsPlaced self.new) }
-        ensures same { (ts : List Token) → Gives self.old ts → MatchResult result (λ _. Gives self.new ts) (λ e. e.kind ≡ Memory) }
-        ensures shorter { IfOk result (λ more. IsTrue more → length self.new.rest.now < length self.old.rest.now) }
-        ensures done { IfOk result (λ more. more ≡ false → IsDone self.new) }
-    {
-        let Some((item, after)) = scan_first(self.alloc, self.rest)? else {
-            self.builder.flush()?;
-            return Ok(false);
-        };
-        let past = width(self.text) - width(after);
-        self.builder.add(item, self.first, past, self.line)?;
-        self.line += line_feeds(self.text.as_bytes(), self.first, past);
-        self.first = past;
-        self.rest = after;
-        Ok(true)
-    }
-
-    /// Reads on until two tokens wait, or all that are left.
-    fn fill(&mut self) -> Result<(), LexError>
-        requires { IsPlaced self.old }
-        ensures same { (ts : List Token) → Gives self.old ts → MatchResult result (λ _. Left self.new ts) (λ e. e.kind ≡ Memory) }
-    {
-        'items: while self.builder.count() < 2 {
-            if !self.step()? {
-                return Ok(());
-            }
-        }
-        Ok(())
-    }
-
-    /// The next token.
+    /// The next token, or `None` where all are taken.
     pub fn first(&self) -> Option<&Token>
-        ensures { (ts : List Token) → Left self.now ts → MatchOption result (ts ≡ []) (λ t. ts ≡ t.now ∷ drop 1 ts) }
+        ensures { MatchOption result (self.now ≡ []) (λ t. self.now ≡ t.now ∷ drop 1 self.now) }
     {
-        self.builder.first()
+        self.reader.builder.first()
     }
 
-    /// The token after it.
+    /// The token after the next, or `None` where there is none.
     pub fn second(&self) -> Option<&Token>
-        ensures { (ts : List Token) → Left self.now ts → MatchOption result (drop 1 ts ≡ []) (λ t. drop 1 ts ≡ t.now ∷ drop 1 (drop 1 ts)) }
+        ensures { MatchOption result (drop 1 self.now ≡ []) (λ t. drop 1 self.now ≡ t.now ∷ drop 1 (drop 1 self.now)) }
     {
-        self.builder.second()
+        self.reader.builder.second()
     }
 
-    /// Takes the next token. Where memory ran out, none are left.
+    /// Takes the next token; `None` where all are taken.
+    ///
+    /// # Errors
+    ///
+    /// `AllocError` where an allocation was refused, as what comes after was read. None are left
+    /// then, and the token is lost.
     pub fn pop(&mut self) -> Result<Option<Token>, AllocError>
-        requires { (ts : List Token) × Left self.old ts }
-        ensures { (ts : List Token) → Left self.old ts → MatchResult result
-            (λ found. Left self.new (drop 1 ts) × MatchOption found (ts ≡ []) (λ t. ts ≡ t ∷ drop 1 ts)) (λ _. Left self.new []) }
+        ensures token { IfOk result (λ found. MatchOption found (self.old ≡ []) (λ t. self.old ≡ t ∷ self.new)) }
+        ensures left { MatchResult result (λ _. self.new ≡ drop 1 self.old) (λ _. self.new ≡ []) }
     {
-        let token = self.builder.pop();
-        match self.fill() {
+        let token = self.reader.builder.pop();
+        match self.reader.fill() {
             Ok(()) => Ok(token),
             Err(error) => {
-                *self = Tokens::none(self.alloc);
+                *self = Tokens::none(self.reader.alloc);
                 Err(memory_error(error))
             }
         }

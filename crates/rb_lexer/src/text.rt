@@ -7,6 +7,7 @@ ghost use Rattle.rb_lexer.specs.Faults.{IsTextFault};
 
 use crate::fault::{SourceFault, SourceKind};
 use crate::limits::SOURCE_LIMIT;
+use bstr::ByteSlice;
 
 /// How many line feeds there are.
 fn count_line_feeds(bytes: &[u8]) -> u64
@@ -32,7 +33,7 @@ pub fn line_at(bytes: &[u8], at: usize) -> u64
     line_feeds(bytes, 0, at) + 1
 }
 
-/// The source as text.
+/// The source as text. Where it is none, the error is at the first byte from which no character reads.
 pub fn text_of(bytes: &[u8]) -> Result<&str, SourceFault>
     ensures { MatchResult result
         (λ text. (length bytes.now ≤ 8388608) × (text.now ≡ bytes.now) × IsUtf8 bytes.now)
@@ -44,7 +45,7 @@ pub fn text_of(bytes: &[u8]) -> Result<&str, SourceFault>
             line: 1,
         });
     }
-    match std::str::from_utf8(bytes) {
+    match bytes.to_str() {
         Ok(text) => Ok(text),
         Err(e) => Err(SourceFault {
             kind: SourceKind::NotUtf8,

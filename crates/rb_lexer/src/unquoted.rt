@@ -1,13 +1,13 @@
 // Unquoted pieces.
-ghost use Rattle.std.specs.Prelude.{◌≡◌, ◌≤◌, ◌∷◌, ◌++◌, ◌||◌, ◌==◌, ℕ, List, length, IfOk};
+ghost use Rattle.std.specs.Prelude.{◌≡◌, ◌≤◌, ◌∷◌, [], ◌||◌, ◌==◌, ℕ, List, length, IfOk};
 ghost use Rattle.std.specs.Str.{chars};
-ghost use Rattle.rb_lexer.specs.Lexeme.{quote, is_white, is_punctuation, begins_comment, units_of, Part, parts_chars, parts_units, AreParts};
-ghost use Rattle.rb_lexer.specs.Atom.{IsSingle, blanks, atoms_chars, AreAtoms};
+ghost use Rattle.rb_lexer.specs.Lexeme.{quote, is_white, is_punctuation, begins_comment, units_of};
+ghost use Rattle.rb_lexer.specs.Atom.{IsPastRun, blanks, atoms_chars, AreAtoms};
 
 use crate::escape::{escape, push_code};
 use crate::front::{split_first, strip};
-use crate::units::UnitBuffer;
-use std::alloc::{AllocError, Global};
+use crate::units::UnitSink;
+use std::alloc::AllocError;
 
 pub fn is_white(c: char) -> bool
     ensures { result ≡ is_white c }
@@ -43,38 +43,42 @@ fn begins_comment(c: char, after: &str) -> bool
     c == '/' && (strip(after, '/').is_some() || strip(after, '*').is_some())
 }
 
-/// Whether a character ends a run of an unquoted piece, given what follows it.
+/// Whether a character ends a run of an unquoted piece, given what follows it. It is asked of each
+/// character of such a piece.
+#[inline(always)]
 fn ends_run(c: char, after: &str) -> bool
     ensures { result ≡ (is_white c || (c == quote) || is_punctuation c || begins_comment (c ∷ chars after.now)) }
 {
-    is_white(c) || c == '"' || is_punctuation(c) || begins_comment(c, after)
+    match c {
+        '/' => begins_comment(c, after),
+        _ => is_white(c) || c == '"' || is_punctuation(c),
+    }
 }
 
-/// The units of a run of an unquoted piece, which begins with a character, and what follows it. A run ends where the
-/// piece does, before a comment, and before a backslash that begins no escape.
-pub fn run(alloc: Global, first: u32, text: &str) -> Result<(UnitBuffer, &str), AllocError>
-    requires { first ≤ 0x10FFFF }
-    ensures taken { IfOk result (λ x. (ps : List Part) ×
-        (chars text.now ≡ parts_chars ps (chars x.1.now)) × AreParts IsSingle ps (chars x.1.now) × (x.0 ≡ units_of first ++ parts_units ps)) }
-    ensures no_longer { IfOk result (λ x. length x.1.now ≤ length text.now) }
+/// What follows a run of an unquoted piece, given its first code point and what is after that. The sink, in which nothing
+/// is, takes its units. A run ends where the piece does, before a comment, and before a backslash that begins no escape.
+pub fn run<'a, U: UnitSink>(units: &mut U, first: u32, text: &'a str) -> Result<&'a str, AllocError>
+    requires first { first ≤ 0x10FFFF }
+    requires empty { U.has units.old [] }
+    ensures taken { IfOk result (λ rest. (us : List ℕ) × U.has units.new us × IsPastRun (units_of first) (chars text.now) us (chars rest.now)) }
+    ensures no_longer { IfOk result (λ rest. length rest.now ≤ length text.now) }
 {
-    let mut units = UnitBuffer::new(alloc);
-    push_code(&mut units, first)?;
+    push_code(units, first)?;
     let mut rest = text;
     'parts: while let Some((c, after)) = split_first(rest) {
         if c == '\\' {
             let Some((code, past)) = escape(after) else {
-                return Ok((units, rest));
+                return Ok(rest);
             };
-            push_code(&mut units, code)?;
+            push_code(units, code)?;
             rest = past;
         } else {
             if ends_run(c, after) {
-                return Ok((units, rest));
+                return Ok(rest);
             }
-            push_code(&mut units, c as u32)?;
+            push_code(units, c as u32)?;
             rest = after;
         }
     }
-    Ok((units, rest))
+    Ok(rest)
 }

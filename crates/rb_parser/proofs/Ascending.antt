@@ -1,9 +1,9 @@
 -- Keys that ascend, and sets of those that don't.
-use Rattle.std.proofs.Common.{◌≡◌, ℕ, zero, suc, ◌+◌, ◌<◌, ◌-◌, ◌||◌, Bool, true, false, not, List, [], ◌∷◌, ◌++◌, length, get_or, map, take, refl, sym, ap, ◌∙◌}
-use Rattle.std.proofs.Common.{subst, arith, Vec, Global, nat_eq, Ordering, Less, Equal, Greater, nat_cmp, inl, inr, ◌⊎◌, All}
+use Rattle.std.proofs.Common.{◌≡◌, ℕ, zero, suc, ◌+◌, ◌<◌, ◌-◌, Bool, true, false, not, List, [], ◌∷◌, ◌++◌, length, get_or, take, refl, sym, ap, ◌∙◌}
+use Rattle.std.proofs.Common.{subst, arith, Vec, Global, nat_eq, Less, nat_cmp, inl, inr, All}
 use Rattle.std.proofs.Math.Seq.{take-suc}
 use Rattle.std.proofs.lemmas.Cmp.{nat_list_cmp_total}
-use Rattle.std.proofs.lemmas.List.{map-append, length-map, length_push, get_or_push, get_or_append_left}
+use Rattle.std.proofs.lemmas.List.{map-append, length-map, length_push, get_or_push}
 use Rattle.std.proofs.lemmas.List.Elements.{All-append}
 use Rattle.std.proofs.lemmas.Map.Text.{is_eq-slice_cmp}
 use Rattle.std.proofs.lemmas.Slice.Eq.{bytes_eq-Decides}
@@ -15,7 +15,7 @@ use Rattle.rb_tree.specs.declared.tree.Tree.{Tree}
 use Rattle.rb_grammar.specs.Reading.{is_among}
 use Rattle.rb_parser.specs.Seen.{Pair, Seen, keys_after, was_seen, SameKeys, IsAbove, Ascends, Sees}
 use Rattle.rb_parser.specs.declared.seen.SeenKeys.{SeenKeys}
-use Rattle.rb_parser.proofs.Rows.{key_cmp, same_keys_push, same_keys_none}
+use Rattle.rb_parser.proofs.Rows.{key_cmp, same_keys_push}
 
 was_in : (b added : Bool) → added ≡ not b → added ≡ false → b ≡ true
 was_in true added e f = refl

@@ -1,7 +1,7 @@
 -- The loops over the entries of a table and the elements of an array: what holds between the cursor where they begin and the
 -- one that they have reached.
 use Rattle.std.proofs.Common.{◌≡◌, ◌≢◌, ℕ, ◌<◌, ◌≤◌, ◌++◌, ◌||◌, suc, Bool, true, false, List, [], ◌∷◌, length, nat_lt, Some, None, Ok, Err, All}
-use Rattle.std.proofs.Common.{refl, sym, ap, ap₂, subst, ◌∙◌, arith, Vec, Global}
+use Rattle.std.proofs.Common.{refl, sym, ap, ap₂, subst, ◌∙◌, arith}
 use Rattle.std.proofs.lemmas.Bool.{lt-ltb}
 use Rattle.rb_lexer.specs.declared.token.Token.{Token}
 use Rattle.rb_lexer.specs.declared.fault.SourceKind.TheVariants.{BadKey, DuplicateKey, TooDeep, Memory}

@@ -8,9 +8,8 @@ ghost use Rattle.rb_grammar.specs.Reading.{punctuation_at, text_at, word_at, gue
 ghost use Rattle.rb_parser.specs.Reads.{located, Reads};
 ghost use Rattle.rb_parser.specs.Views.{punctuation_of, guessed, word_of};
 
-use crate::left::TokensLeft;
 use crate::word::{Word, is_no_fallback_table, word_fault};
-use rb_lexer::{Mark, SourceFault, SourceKind, Token};
+use rb_lexer::{Mark, SourceFault, SourceKind, Token, Tokens};
 use rb_tree::UnitList;
 use std::alloc::AllocError;
 
@@ -36,7 +35,7 @@ pub enum Guess {
 /// No more than the next two are looked at, and they are taken one by one.
 #[derive(Drop)]
 pub struct Cursor<'a> {
-    pub rest: TokensLeft<'a>,
+    pub rest: Tokens<'a>,
     pub end: u64,
 }
 
@@ -53,6 +52,7 @@ impl<'a> Cursor<'a> {
         self.rest.second()
     }
 
+    #[tactic(auto, using(crate::proofs::Takes::dropped))]
     fn pop(&mut self) -> Result<Option<Token>, AllocError>
         ensures same_end { self.new.end ≡ self.old.end }
         ensures token { IfOk result (λ found. MatchOption found (self.old.rest ≡ []) (λ t. self.old.rest ≡ t ∷ self.new.rest)) }

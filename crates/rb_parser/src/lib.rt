@@ -5,7 +5,6 @@ mod cursor;
 mod key;
 pub mod laws;
 mod leaf;
-mod left;
 mod parser;
 mod seen;
 mod source;

@@ -11,10 +11,9 @@ ghost use Rattle.rb_parser.specs.ReadsBundle.{ReadsBundle};
 ghost use Rattle.rb_parser.specs.Source.{source_tree, IsGoodSource, last_line, IsRefusal};
 
 use crate::cursor::{Cursor, Punctuation};
-use crate::left::TokensLeft;
 use crate::parser::read_table;
 use crate::word::Word;
-use rb_lexer::{SourceFault, SourceKind};
+use rb_lexer::{SourceFault, SourceKind, Tokens};
 use rb_tree::{HEIGHT_LIMIT, Tree, UnitList};
 use std::alloc::Global;
 
@@ -97,7 +96,7 @@ pub fn parse(alloc: Global, bytes: &[u8]) -> Result<Source, SourceFault>
     // What is reported is an error of the source, with its line, unless memory ran out.
     ensures fault { IfErr result (λ e. IsRefusal bytes.now e) }
 {
-    let tokens = TokensLeft::of(alloc, bytes)?;
+    let tokens = Tokens::of(alloc, bytes)?;
     let mut cursor = Cursor {
         rest: tokens,
         end: last_line(bytes),

@@ -8,6 +8,7 @@ ghost use Rattle.hex.specs.Hex.{decode_of};
 ghost use Rattle.rb_requests.specs.Asked.{call_of, call_in, decoded, change_in, remove_in, list_in, look_in};
 ghost use Rattle.rb_requests.specs.Line.{line_view, made, payload_by, AreTextsOf};
 
+use bstr::ByteSlice;
 use hex::FromHexError;
 use json::Scratch;
 use rb_engine::{Payload, Request};
@@ -167,7 +168,7 @@ pub(crate) fn lent_texts<'a>(
     ensures object { IfOk result (λ all. IsTrue all → (d : Data) × AreTextsOf texts.new d × (call_of line.now ≡ call_in d)) }
     ensures other { IfOk result (λ all. all ≡ false → call_of line.now ≡ None) }
 {
-    match str::from_utf8(line) {
+    match line.to_str() {
         Ok(text) => read_texts(text, scratch, texts),
         Err(_) => Ok(false),
     }

@@ -1,10 +1,9 @@
-use Rattle.std.proofs.Common.{◌≡◌, List, [], ◌∷◌, ◌++◌, length, sym, ap, subst, ◌∙◌, arith, append-nil, append_assoc}
+use Rattle.std.proofs.Common.{◌≡◌, List, [], ◌∷◌, ◌++◌, sym, ap, subst, ◌∙◌, append-nil, append_assoc}
 use Rattle.std.proofs.lemmas.Result.{err_from_is_err_and}
 use Rattle.rb_lexer.specs.declared.token.Token.{Token}
 use Rattle.rb_lexer.specs.Tokens.{LexesTo}
 use Rattle.rb_lexer.proofs.Decided.{only_ok, only_err, source_or, refused_for}
 use Rattle.rb_lexer.proofs.Order.{spans_in_order}
-use Rattle.rb_lexer.proofs.Pulls.{left, left_one, left_is, pop_more}
 use Rattle.rb_lexer.proofs.lexer.lex.Goals as goal
 
 pub returns-in_err-rest-clause-only : goal.returns-in_err-rest-clause-only
@@ -17,35 +16,20 @@ returns-in_err-rest-clause-refused c = λ kind line f.
     let p = err_from_is_err_and c.from_residual.result c.from_residual.ensures.1 in
     rw (p.1, p.2) (refused_for c.args.bytes.now c.in_err-rest.field-0.0 c.in_err-rest.ensures.fault kind line f)
 
-pub tokens-init : goal.tokens-init
-tokens-init c =
-    let f = c.in_ok-rest.ensures.found in
-    record {
-      remain = left_is c.in_ok-rest.rest f.0 f.2;
-      all = rw (c.new-tokens.ensures.items, sym (left_one c.in_ok-rest.rest f.0 f.2)) f.1;
-    }
-
-pub tokens-smaller : goal.tokens-smaller
-tokens-smaller c =
-    let ts = left c.tokens.rest in
-    let w = pop_more c.pop.new.self ts c.in_ok-token.field-0 c.in-Some.token c.in-Some.is (c.in_ok-token.ensures ts c.tokens.invariant.remain) in
-    omega (arith, ap length w.1)
-
 pub tokens-preserved : goal.tokens-preserved
 tokens-preserved c =
-    let ts = left c.tokens.rest in
-    let w = pop_more c.pop.new.self ts c.in_ok-token.field-0 c.in-Some.token c.in-Some.is (c.in_ok-token.ensures ts c.tokens.invariant.remain) in
-    let same : c.tokens.tokens.items ++ ts ≡ c.push.new.self.items ++ left c.pop.new.self =
-    ap (λ (us : List Token). c.tokens.tokens.items ++ us) w.1 ∙ sym (append_assoc c.tokens.tokens.items (c.in-Some.token ∷ []) (left c.pop.new.self))
-    ∙ ap (λ (us : List Token). us ++ left c.pop.new.self) (sym c.in_ok-push.ensures.items) in
-    record { remain = w.0; all = subst (λ (us : List Token). LexesTo c.args.bytes.now us) same c.tokens.invariant.all }
+    let taken = rw c.in-Some.is at c.in_ok-token.ensures.token in
+    let more = c.pop.new.self in
+    let same : c.tokens.tokens.items ++ c.tokens.rest ≡ c.push.new.self.items ++ more =
+    ap (λ (us : List Token). c.tokens.tokens.items ++ us) taken ∙ sym (append_assoc c.tokens.tokens.items (c.in-Some.token ∷ []) more)
+    ∙ ap (λ (us : List Token). us ++ more) (sym c.in_ok-push.ensures.items) in
+    subst (λ (us : List Token). LexesTo c.args.bytes.now us) same c.tokens.invariant
 
 pub returns-clause-found : goal.returns-clause-found
 returns-clause-found c =
-    let ts = left c.tokens.rest in
-    let w = rw c.in_default.is at c.in_ok-token.ensures ts c.tokens.invariant.remain in
-    subst (λ (us : List Token). LexesTo c.args.bytes.now us) (ap (λ (us : List Token). c.tokens.tokens.items ++ us) w.1 ∙ append-nil c.tokens.tokens.items)
-    c.tokens.invariant.all
+    let none = rw c.in_default.is at c.in_ok-token.ensures.token in
+    subst (λ (us : List Token). LexesTo c.args.bytes.now us)
+    (ap (λ (us : List Token). c.tokens.tokens.items ++ us) none ∙ append-nil c.tokens.tokens.items) c.tokens.invariant
 
 pub returns-clause-in_order : goal.returns-clause-in_order
 returns-clause-in_order c = spans_in_order c.args.bytes.now c.tokens.tokens.items (returns-clause-found c).1

@@ -1,34 +1,39 @@
-use Rattle.std.proofs.Common.{[], sym, rules, ◌∙◌}
+use Rattle.std.proofs.Common.{[], rules}
 use Rattle.std.proofs.lemmas.Result.{err_from_is_err_and}
 use Rattle.std.proofs.lemmas.Str.{encodes-chars, scalars-chars}
 use Rattle.std.specs.Str.{chars}
 use Rattle.rb_lexer.proofs.Passes.{follows_more, breaks_so}
 use Rattle.rb_lexer.proofs.pass.pass_over.Goals as goal
 
-pub returns-in_err-rest-clause-ends : goal.returns-in_err-rest-clause-ends
-returns-in_err-rest-clause-ends c =
+pub returns-in_err-after-clause-ends : goal.returns-in_err-after-clause-ends
+returns-in_err-after-clause-ends c =
     let p = err_from_is_err_and c.from_residual.result c.from_residual.ensures.1 in
-    rw (p.1, p.2) (breaks_so (chars c.args.text.now) (chars c.items.rest.now) c.items.invariant.so_far _
-    (rw (sym c.in-Some.ensures.taken) at c.in_err-rest.ensures.taken))
+    rw (p.1, p.2) (breaks_so (chars c.args.text.now) (chars c.items.rest.now) c.items.invariant.so_far _ c.in_err-after.ensures.taken)
 
-pub returns-in_err-rest-clause-scalars : goal.returns-in_err-rest-clause-scalars
-returns-in_err-rest-clause-scalars c = scalars-chars c.args.text.now c.utf8.text
+pub returns-in_err-after-clause-scalars : goal.returns-in_err-after-clause-scalars
+returns-in_err-after-clause-scalars c = scalars-chars c.args.text.now c.utf8.text
 
-pub returns-in_err-rest-clause-bytes : goal.returns-in_err-rest-clause-bytes
-returns-in_err-rest-clause-bytes c = encodes-chars c.args.text.now c.utf8.text
+pub returns-in_err-after-clause-bytes : goal.returns-in_err-after-clause-bytes
+returns-in_err-after-clause-bytes c = encodes-chars c.args.text.now c.utf8.text
 
-pub items-preserved : goal.items-preserved
-items-preserved c =
-    let w = c.in_ok-rest.ensures.taken.1 in
+pub items-preserved-in-Some-2 : goal.items-preserved-in-Some-2
+items-preserved-in-Some-2 c =
+    let w = (rw c.in-Some.is at c.in_ok-after.ensures.taken).2 in
     record {
       text = search rules;
-      so_far =
-          follows_more (chars c.args.text.now) (chars c.items.rest.now) c.items.invariant.so_far w.0 (chars c.in_ok-rest.rest.now)
-          (c.in-Some.ensures.taken ∙ w.1) w.2;
+      so_far = follows_more (chars c.args.text.now) (chars c.items.rest.now) c.items.invariant.so_far w.0 (chars c.in-Some.after.now) w.1 w.2;
+    }
+
+pub items-preserved-in-Some-3 : goal.items-preserved-in-Some-3
+items-preserved-in-Some-3 c =
+    let w = (rw c.in-Some.is at c.in_ok-after.ensures.taken).2 in
+    record {
+      text = search rules;
+      so_far = follows_more (chars c.args.text.now) (chars c.items.rest.now) c.items.invariant.so_far w.0 (chars c.in-Some.after.now) w.1 w.2;
     }
 
 pub returns-clause-ends : goal.returns-clause-ends
-returns-clause-ends c = c.items.invariant.so_far [] [] c.in_default.ensures.taken tt
+returns-clause-ends c = c.items.invariant.so_far [] [] (rw c.in_default.is at c.in_ok-after.ensures.taken) tt
 
 pub returns-clause-scalars : goal.returns-clause-scalars
 returns-clause-scalars c = scalars-chars c.args.text.now c.utf8.text

@@ -1,4 +1,4 @@
-use Rattle.std.proofs.Common.{◌≤◌, [], length}
+use Rattle.std.proofs.Common.{◌≤◌, ℕ, List, [], length}
 use denote.Text.{Utf8}
 use denote.Shadow.{shadow}
 use Rattle.std.specs.Str.{chars}
@@ -7,12 +7,12 @@ use Rattle.rb_lexer.proofs.Parts.{GoesOn}
 use Rattle.rb_lexer.proofs.quoted.quoted.Given as goal
 
 abbrev pub invariant-parts : goal.invariant-parts
-invariant-parts l =
+invariant-parts g l =
     record {
       text : shadow (Utf8 l.rest);
-      so_far : GoesOn IsQuotedPart [] (chars l.initial.rest) l.units (chars l.rest);
+      so_far : (us : List ℕ) × g.U.UnitSink.has l.units us × GoesOn IsQuotedPart [] (chars l.initial.rest) us (chars l.rest);
       no_longer : length l.rest ≤ length l.initial.rest;
     }
 
 abbrev pub decreases-parts : goal.decreases-parts
-decreases-parts l = length l.rest
+decreases-parts g l = length l.rest

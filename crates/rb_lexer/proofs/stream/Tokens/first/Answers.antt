@@ -1,5 +1,9 @@
 use Rattle.rb_lexer.proofs.Pulls.{first_of}
+use Rattle.rb_lexer.specs.Coming.{left}
 use Rattle.rb_lexer.proofs.stream.Tokens.first.Goals as goal
 
 pub returns : goal.returns
-returns c = λ ts l. first_of c.args.self.now ts l (λ t. t.now) c.first.result c.first.ensures
+returns c =
+    let r = c.self.inside.reader in
+    let h = first_of r (left r) c.self.invariant (λ t. t.now) c.first.result c.first.ensures in
+    rw c.self.view_is at h

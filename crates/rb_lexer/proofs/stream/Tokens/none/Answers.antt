@@ -1,11 +1,9 @@
-use Rattle.std.proofs.Common.{[], inr, refl, ap, arith}
-use Rattle.std.proofs.lemmas.Str.{chars-nil}
-use Rattle.rb_lexer.specs.Tokens.{width}
+use Rattle.std.proofs.Common.{[], sym}
+use Rattle.rb_lexer.proofs.Pulls.{left_one, left_is, none_at_start}
 use Rattle.rb_lexer.proofs.stream.Tokens.none.Goals as goal
 
+pub invariant_of-result : goal.invariant_of-result
+invariant_of-result c = left_is c.new.result [] (none_at_start c.new.result c.new.ensures)
+
 pub returns : goal.returns
-returns c = record {
-  placed = record { short = omega arith; at = omega (arith, ap width chars-nil); line_is = refl };
-  full = inr (chars-nil, c.new.ensures.pending);
-  gives = record { atoms = []; spelled = chars-nil; good = tt; tokens = rw (c.new.ensures.tokens, c.new.ensures.pending) refl };
-}
+returns c = sym (left_one c.new.result [] (none_at_start c.new.result c.new.ensures))

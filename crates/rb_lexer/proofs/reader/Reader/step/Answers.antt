@@ -1,10 +1,10 @@
-use Rattle.std.proofs.Common.{List, ◌++◌, [], length, sym, ap, ◌∙◌, arith}
+use Rattle.std.proofs.Common.{List, ◌++◌, [], length, sym, ap, subst, ℕ, ◌∙◌, arith}
 use Rattle.std.proofs.lemmas.Result.{err_from_is_err_and}
 use Rattle.std.specs.Str.{chars}
-use Rattle.rb_lexer.specs.Atom.{Atom, atoms_tokens}
+use Rattle.rb_lexer.specs.Atom.{Atom, Shows, atoms_tokens}
 use Rattle.rb_lexer.proofs.Turns.{turn_place}
 use Rattle.rb_lexer.proofs.Pulls.{rest_of, no_stop, flush_gives}
-use Rattle.rb_lexer.proofs.stream.Tokens.step.Goals as goal
+use Rattle.rb_lexer.proofs.reader.Reader.step.Goals as goal
 
 pub returns-in_err-item-clause-same : goal.returns-in_err-item-clause-same
 returns-in_err-item-clause-same c = λ ts g.
@@ -19,21 +19,21 @@ returns-in_default-clause-same c = λ ts g.
 
 pub overflow_sub-past : goal.overflow_sub-past
 overflow_sub-past c =
-    let w = rw c.in-Some.is at c.in_ok-item.ensures.taken in
+    let w = (rw c.in-Some.is at c.in_ok-item.ensures.taken).2 in
     let p = turn_place c.args.self.now.first (chars c.args.self.now.rest.now) (chars c.in-Some.after.now) (length c.args.self.now.text.now)
     c.requires.at w.0 w.1 in
     omega (arith, p, c.width.ensures.bytes, c.width-2.ensures.characters)
 
 pub line_feeds-requires-clause-order : goal.line_feeds-requires-clause-order
 line_feeds-requires-clause-order c =
-    let w = rw c.in-Some.is at c.in_ok-item.ensures.taken in
+    let w = (rw c.in-Some.is at c.in_ok-item.ensures.taken).2 in
     let p = turn_place c.args.self.now.first (chars c.args.self.now.rest.now) (chars c.in-Some.after.now) (length c.args.self.now.text.now)
     c.requires.at w.0 w.1 in
     omega (arith, p, c.width.ensures.bytes, c.width-2.ensures.characters)
 
 pub returns-clause-placed : goal.returns-clause-placed
 returns-clause-placed c =
-    let w = rw c.in-Some.is at c.in_ok-item.ensures.taken in
+    let w = (rw c.in-Some.is at c.in_ok-item.ensures.taken).2 in
     let p = turn_place c.args.self.now.first (chars c.args.self.now.rest.now) (chars c.in-Some.after.now) (length c.args.self.now.text.now)
     c.requires.at w.0 w.1 in
     record {
@@ -45,7 +45,8 @@ returns-clause-placed c =
 pub returns-clause-same : goal.returns-clause-same
 returns-clause-same c = λ ts g.
     let r = c.args.self.now in
-    let w = rw c.in-Some.is at c.in_ok-item.ensures.taken in
+    let s = rw c.in-Some.is at c.in_ok-item.ensures.taken in
+    let w = s.2 in
     let p = turn_place r.first (chars r.rest.now) (chars c.in-Some.after.now) (length r.text.now) c.requires.at w.0 w.1 in
     let y = rest_of g.atoms w.0 (chars c.in-Some.after.now) (sym g.spelled ∙ w.1) g.good w.2 in
     record {
@@ -54,5 +55,5 @@ returns-clause-same c = λ ts g.
       good = y.2;
       tokens =
           g.tokens ∙ ap (λ (xs : List Atom). r.builder.tokens.items ++ atoms_tokens r.text.now r.first r.builder.pending r.builder.is_open xs) y.3
-          ∙ c.in_ok-add.ensures.added r.text.now w.0 y.0 w.3 c.requires.line_is (omega (arith, p, c.width.ensures.bytes, c.width-2.ensures.characters));
+          ∙ c.in_ok-add.ensures.added r.text.now w.0 y.0 (subst (λ (us : List ℕ). Shows c.in-Some.item us w.0) (sym s.1) w.3) c.requires.line_is (omega (arith, p, c.width.ensures.bytes, c.width-2.ensures.characters));
     }

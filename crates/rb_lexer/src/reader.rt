@@ -1,0 +1,76 @@
+// A source that is read item by item.
+ghost use Rattle.std.specs.Prelude.{◌≡◌, ◌<◌, ℕ, List, length, OnOk, IfOk, MatchResult, IsTrue, false};
+ghost use Rattle.rb_lexer.specs.declared.fault.SourceKind.TheVariants.{Memory};
+ghost use Rattle.rb_lexer.specs.declared.token.Token.{Token};
+ghost use Rattle.rb_lexer.specs.Tokens.{width};
+ghost use Rattle.rb_lexer.specs.Left.{IsAtStart, IsPlaced, Gives, IsDone, Left};
+
+use crate::builder::Builder;
+use crate::fault::LexError;
+use crate::front::width;
+use crate::scan::scan_first;
+use crate::text::line_feeds;
+use crate::units::UnitBuffer;
+use std::alloc::Global;
+
+/// A source without lexical errors: what of it is not read, the byte and the line where that
+/// begins, and the tokens of what is.
+#[derive(Drop)]
+pub struct Reader<'a> {
+    pub alloc: Global,
+    text: &'a str,
+    rest: &'a str,
+    first: usize,
+    line: u64,
+    pub builder: Builder,
+}
+
+impl<'a> Reader<'a> {
+    /// A source of which nothing is read.
+    pub fn new(alloc: Global, text: &'a str) -> Reader<'a>
+        ensures { IsAtStart result text.now }
+    {
+        Reader {
+            alloc,
+            text,
+            rest: text,
+            first: 0,
+            line: 1,
+            builder: Builder::new(alloc),
+        }
+    }
+
+    /// Reads one item. The answer is whether there was one.
+    fn step(&mut self) -> Result<bool, LexError>
+        requires { IsPlaced self.old }
+        ensures placed { OnOk result (IsPlaced self.new) }
+        ensures same { (ts : List Token) → Gives self.old ts → MatchResult result (λ _. Gives self.new ts) (λ e. e.kind ≡ Memory) }
+        ensures shorter { IfOk result (λ more. IsTrue more → length self.new.rest.now < length self.old.rest.now) }
+        ensures done { IfOk result (λ more. more ≡ false → IsDone self.new) }
+    {
+        let mut units = UnitBuffer::new(self.alloc);
+        let Some((item, after)) = scan_first(&mut units, self.rest)? else {
+            self.builder.flush()?;
+            return Ok(false);
+        };
+        let past = width(self.text) - width(after);
+        self.builder.add(item, units, self.first, past, self.line)?;
+        self.line += line_feeds(self.text.as_bytes(), self.first, past);
+        self.first = past;
+        self.rest = after;
+        Ok(true)
+    }
+
+    /// Reads on until two tokens wait, or all that are left.
+    pub fn fill(&mut self) -> Result<(), LexError>
+        requires { IsPlaced self.old }
+        ensures same { (ts : List Token) → Gives self.old ts → MatchResult result (λ _. Left self.new ts) (λ e. e.kind ≡ Memory) }
+    {
+        'items: while self.builder.count() < 2 {
+            if !self.step()? {
+                return Ok(());
+            }
+        }
+        Ok(())
+    }
+}

@@ -1,9 +1,0 @@
-use Rattle.rb_lexer.proofs.Pulls.{left}
-use Rattle.rb_parser.proofs.Takes.{dropped}
-use Rattle.rb_parser.proofs.left.TokensLeft.first.Goals as goal
-
-pub returns : goal.returns
-returns c =
-    let ts = left c.self.inside.tokens in
-    let h = c.first.ensures ts c.self.invariant in
-    rw (dropped ts, c.self.view_is) at h
