@@ -6,8 +6,8 @@ use Rattle.rb_tree.specs.SourceTree.{SourceTree}
 use Rattle.rb_format.specs.File.{Denotes, source_tree_of}
 use Rattle.rb_packages.specs.Packages.{Files, shelf_of}
 use Rattle.rb_packages.specs.Shelf.{Shelf}
-use Rattle.rb_engine.specs.Answer.{lookup_from}
-use Rattle.rb_engine.specs.Kept.{KeepsTexts, KeepsTrees}
+use Rattle.rb_engine.specs.Answer.{Start, lookup_from}
+use Rattle.rb_engine.specs.Kept.{KeepsTexts, KeepsCommonTexts, KeepsTrees}
 
 source_is : (file : List ℕ) (source : SourceTree) → Denotes file source → source_tree_of file ≡ source
 source_is file source h =
@@ -21,6 +21,11 @@ kept (b ∷ bs) after locale file source h = ap (λ l. (b.0, source_tree_of b.1)
 
 pub keeps_texts : KeepsTexts
 keeps_texts start before after locale text name file source good h from path = ap (λ l. lookup_from start l from path) (kept before after locale file source h)
+
+pub keeps_common_texts : KeepsCommonTexts
+keeps_common_texts parents own before after locale text name file source good h from path =
+    let over : Shelf → Start = λ l. record { icudata = l; parents = parents } in
+    ap (λ l. lookup_from (over l) own from path) (kept before after locale file source h)
 
 pub keeps_trees : KeepsTrees
 keeps_trees text name file source good h = ap (λ s. s.tree) (source_is file source h)

@@ -5,6 +5,7 @@ use Rattle.rb_parser.specs.Source.{IsGoodSource}
 use Rattle.rb_format.specs.File.{Denotes, tree_of}
 use Rattle.rb_parents.specs.Trail.{ParentsOf}
 use Rattle.rb_parents.specs.Family.{parent_in}
+use Rattle.rb_packages.specs.Shelf.{Shelf}
 use Rattle.rb_packages.specs.Packages.{Files, Stored, shelf_of, icudata_of, list_of}
 use Rattle.rb_engine.specs.Answer.{Start, lookup_from}
 use Rattle.rb_engine.specs.History.{State}
@@ -29,6 +30,15 @@ KeepsTexts =
     → Denotes file source
     → (from path : List ℕ) → lookup_from start (shelf_of (before ++ (locale, file) ∷ after)) from path
     ≡ lookup_from start (shelf_of before ++ (locale, source) ∷ shelf_of after) from path
+
+-- the same where ICUDATA has such a file
+abbrev pub KeepsCommonTexts : Type 0
+KeepsCommonTexts =
+    (parents : ParentsOf) (own : Shelf) (before after : Files) (locale text name file : List ℕ) (source : SourceTree)
+    → IsGoodSource text name source
+    → Denotes file source
+    → (from path : List ℕ) → lookup_from (record { icudata = shelf_of (before ++ (locale, file) ∷ after); parents = parents }) own from path
+    ≡ lookup_from (record { icudata = shelf_of before ++ (locale, source) ∷ shelf_of after; parents = parents }) own from path
 
 -- the root of the file is the tree of the text
 abbrev pub KeepsTrees : Type 0

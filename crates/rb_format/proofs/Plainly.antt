@@ -142,7 +142,7 @@ limit_agrees : (b : Bool) (t : Resource) → ok_part (cond {A = Result Resource 
 limit_agrees true t = refl
 limit_agrees false t = refl
 
-read_is : (r : Result Resource FileFault) (t : Resource) → ok_part r ≡ Some t → r ≡ Ok t
+pub read_is : (r : Result Resource FileFault) (t : Resource) → ok_part r ≡ Some t → r ≡ Ok t
 read_is (Ok u) t e = cc
 read_is (Err d) t e = absurd cc
 

@@ -1,20 +1,24 @@
 -- The reading of a file and what it denotes agree, and a file denotes the same under every greater limit of heights.
-use Rattle.std.proofs.Common.{◌≡◌, ℕ, Bool, true, false, cond, ltb, leb, List, length, drop, Result, Ok, Err, Option, Some, None, refl, sym, ap, ◌∙◌, arith}
+use Rattle.std.proofs.Common.{◌≡◌, ℕ, Bool, true, false, cond, ltb, leb, List, length, drop, Result, Ok, Err, Option, Some, None, refl, sym, ap, subst, ◌∙◌, arith}
 use Rattle.std.proofs.lemmas.Bool.Decides.{nat_tests}
 use Rattle.std.specs.Prelude.{◌≤◌, slice_index, ◌==◌, ◌&&◌, not, option_map, MatchOption, unwrap_or}
-use Rattle.rb_tree.specs.Resource.{Resource}
+use Rattle.rb_tree.specs.Resource.{Resource, height}
 use Rattle.rb_tree.specs.SourceTree.{SourceTree}
 use Rattle.rb_format.specs.declared.fault.FileFault.{FileFault}
 use Rattle.rb_format.specs.declared.fault.FileFault.TheVariants as faults
 use Rattle.rb_format.specs.declared.header.Header.{Header}
+use Rattle.rb_format.specs.declared.layout.Layout.{Layout}
 use Rattle.rb_format.specs.Place.{word_at, half_at, layout_of}
 use Rattle.rb_format.specs.Item.{kind_of, is_table}
 use Rattle.rb_format.specs.Denotation.{where_holds, tree_at}
 use Rattle.rb_format.specs.Attributes.{attributes_of, has_pool}
 use Rattle.rb_format.specs.File.{has_magic, has_family, has_version, has_sizes, has_header, has_valid_indexes}
 use Rattle.rb_format.specs.File.{flagged, source_of_data, source_of_file, DenotesWithin, Denotes, source_tree_of}
-use Rattle.rb_format.specs.FirstFault.{◌>>=◌, header, read_data, read_file, fault_of, first_fault}
-use Rattle.rb_format.proofs.Plainly.{ok_part, agree_map, read_agrees, plain_raise}
+use Rattle.rb_format.specs.FirstFault.{◌>>=◌, header, read, read_data, read_file, fault_of}
+use Rattle.rb_format.specs.Checks.{first_failed, item_checks, first_fault}
+use Rattle.rb_format.proofs.Checks.{item_first, file_first}
+use Rattle.rb_format.proofs.Levels.{read-limited}
+use Rattle.rb_format.proofs.Plainly.{ok_part, agree_map, read_agrees, read_is, plain_raise}
 
 ok_each : {A : Type 0} (a p b : Bool) (c d e : FileFault) (r : Result A FileFault) (o : Option A) → ok_part r ≡ o
     → ok_part (cond a (cond p (Err d) (cond b r (Err e))) (Err c)) ≡ where_holds ((a && not p) && b) o
@@ -91,7 +95,9 @@ one_of_two (Err d) o e = λ s f. absurd cc
 
 -- a bundle or a fault, and never both
 pub tree_or_fault : (bytes : List ℕ) → MatchOption (first_fault bytes) ((s : SourceTree) × Denotes bytes s) (λ e. (s : SourceTree) → ¬ (Denotes bytes s))
-tree_or_fault bytes = one_of_two (read_file 64 bytes) (source_of_file 64 bytes) (file_agrees 64 bytes)
+tree_or_fault bytes =
+    subst (λ (o : Option FileFault). MatchOption o ((s : SourceTree) × Denotes bytes s) (λ e. (s : SourceTree) → ¬ (Denotes bytes s)))
+    (file_first bytes) (one_of_two (read_file 64 bytes) (source_of_file 64 bytes) (file_agrees 64 bytes))
 
 no_fault_denotes : (r : Result SourceTree FileFault) (o : Option SourceTree) (s : SourceTree) → ok_part r ≡ o → fault_of r ≡ None → o ≡ Some (unwrap_or o s)
 no_fault_denotes (Ok r) o s e f = sym e ∙ ap (λ p. Some (unwrap_or p s)) e
@@ -99,7 +105,18 @@ no_fault_denotes (Err d) o s e f = absurd cc
 
 -- a file without a fault denotes its bundle
 pub fault_free : (bytes : List ℕ) → first_fault bytes ≡ None → Denotes bytes (source_tree_of bytes)
-fault_free bytes e = no_fault_denotes (read_file 64 bytes) (source_of_file 64 bytes) _ (file_agrees 64 bytes) e
+fault_free bytes e = no_fault_denotes (read_file 64 bytes) (source_of_file 64 bytes) _ (file_agrees 64 bytes) (file_first bytes ∙ e)
+
+-- an item that denotes a tree at one level has no fault at each level that leaves room for the tree, and at the others it is too deep
+pub level_fault : (y : Layout) (body : List ℕ) (d e item : ℕ) (t : Resource) → tree_at y body d item ≡ Some t
+    → first_failed (item_checks y body e item) ≡ cond (leb (height t) e) None (Some faults.TooDeep)
+level_fault y body d e item t p =
+    sym (item_first y body e item) ∙ ap fault_of (read-limited y body d e item t (read_is (read y body d item) t (read_agrees y body d item ∙ p)))
+    ∙ by (leb (height t) e)
+  where
+    by : (b : Bool) → fault_of (cond {A = Result Resource FileFault} b (Ok t) (Err faults.TooDeep)) ≡ cond b None (Some faults.TooDeep)
+    by true = refl
+    by false = refl
 
 -- ---- greater heights
 where_keeps : {A : Type 0} (b : Bool) (o p : Option A) (x : A) → (o ≡ Some x → p ≡ Some x) → where_holds b o ≡ Some x → where_holds b p ≡ Some x

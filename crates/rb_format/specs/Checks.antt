@@ -1,11 +1,12 @@
--- The checks of a file in their order, each with the error that it names and whether the file fails it, and the first that is failed. The
--- checks of the file itself come first, then those of its items, depth first: an item before its children, and these in their order. Which
--- checks there are and their order are rules of this project; what they look at is `uresdata.h`, format version 1.
-use Rattle.std.specs.Prelude.{◌≡◌, Bool, true, false, ℕ, zero, suc, ◌+◌, ◌*◌, ◌<◌, ◌==◌, ◌⊎◌, ◌&&◌, ◌||◌, not, ⊤}
-use Rattle.std.specs.Prelude.{nat_lt, nat_le, if◌then◌else◌, List, [], ◌∷◌, length, drop, slice_index, slice_get, Option, Some, None, is_none, unwrap_or}
+-- The checks of a file as one list in their order, each with the error that it names and whether the file fails it: those of the file
+-- itself, then those of its items, depth first, an item before its children and these in their order. Which checks there are, and their
+-- order, are rules of this project; what they look at is `uresdata.h`, format version 1.
+use Rattle.std.specs.Prelude.{Bool, true, ℕ, zero, suc, ◌+◌, ◌*◌, ◌==◌, ◌&&◌, ◌||◌, not, nat_lt, nat_le, if◌then◌else◌}
+use Rattle.std.specs.Prelude.{List, [], ◌∷◌, ◌++◌, length, drop, slice_index, Option, Some, None, is_none, unwrap_or, Result, Ok, Err}
 use Rattle.std.specs.Ordering.{is_lt, nat_cmp}
 use Rattle.std.specs.Cmp.Lexicographic.{slice_cmp}
 use Rattle.rb_format.specs.declared.layout.Layout.{Layout}
+use Rattle.rb_format.specs.declared.header.Header.{Header}
 use Rattle.rb_format.specs.declared.geometry.TableParts.{TableParts}
 use Rattle.rb_format.specs.declared.kind.ItemKind.{ItemKind}
 use Rattle.rb_format.specs.declared.kind.ItemKind.TheVariants.{String, Binary, Table, Alias, LongTable, Int, Array, Ints}
@@ -19,19 +20,39 @@ use Rattle.rb_format.specs.Item.{kind_of, offset_of, is_table, has_data}
 use Rattle.rb_format.specs.Attributes.{attributes_of, has_pool}
 use Rattle.rb_format.specs.File.{is_short_enough, has_magic, has_family, has_version, has_sizes, has_valid_indexes}
 
+-- of each check the error that it names, and whether it is failed
+abbrev pub CheckList : Type 0
+CheckList = List (FileFault × Bool)
+
+-- the error of the first check that is failed
+abbrev pub first_failed : CheckList → Option FileFault
+first_failed [] = None
+first_failed (c ∷ cs) = if c.1 then Some c.0 else first_failed cs
+
 -- ---- the checks of a file itself
 
-abbrev pub file_checks : List ℕ → List (FileFault × Bool)
-file_checks bytes =
-    let body = drop (half_at bytes 0) bytes in
-    (TooLong, not (is_short_enough bytes))
-    ∷ (faults.Header, not (nat_le 24 (length bytes) && has_magic bytes))
+abbrev pub header_checks : List ℕ → CheckList
+header_checks bytes =
+    (faults.Header, not (nat_le 24 (length bytes) && has_magic bytes))
     ∷ (BigEndian, not (slice_index bytes 8 == 0))
     ∷ (Family, not (has_family bytes))
     ∷ (FormatVersion, not (has_version bytes))
     ∷ (faults.Header, not (has_sizes bytes))
-    ∷ (Indexes, not (has_valid_indexes body))
-    ∷ (faults.Attributes, has_pool (attributes_of (slice_index bytes 17) body))
+    ∷ []
+
+-- the header of a file, or its first error
+abbrev pub header_unless : List ℕ → Option FileFault → Result Header FileFault
+header_unless bytes None = Ok (record { size = half_at bytes 0; minor = slice_index bytes 17 })
+header_unless bytes (Some e) = Err e
+
+unfoldable pub header_of : List ℕ → Result Header FileFault
+header_of bytes = header_unless bytes (first_failed (header_checks bytes))
+
+-- of the data in a file of a minor version
+abbrev pub data_checks : ℕ → List ℕ → CheckList
+data_checks minor body =
+    (Indexes, not (has_valid_indexes body))
+    ∷ (faults.Attributes, has_pool (attributes_of minor body))
     ∷ (Root, not (is_table (kind_of (word_at body 0))))
     ∷ []
 
@@ -43,7 +64,7 @@ key_before y body place zero = []
 key_before y body place (suc i) = unwrap_or (key y body (place i)) []
 
 -- of each of the n keys from place i on: whether it is one, and whether it is above the one before
-abbrev pub key_checks : Layout → List ℕ → (ℕ → ℕ) → ℕ → ℕ → List (FileFault × Bool)
+abbrev pub key_checks : Layout → List ℕ → (ℕ → ℕ) → ℕ → ℕ → CheckList
 key_checks y body place i zero = []
 key_checks y body place i (suc n) =
     (Key, is_none (key y body (place i)))
@@ -51,17 +72,17 @@ key_checks y body place i (suc n) =
     ∷ key_checks y body place (suc i) n
 
 -- of a table with these parts: whether its items end below the top, and the checks of its keys
-abbrev pub table_checks : Layout → List ℕ → TableParts → List (FileFault × Bool)
+abbrev pub table_checks : Layout → List ℕ → TableParts → CheckList
 table_checks y body p = (Length, nat_lt y.top (p.first + p.count)) ∷ key_checks y body (key_offset body p.keys) 0 p.count
 
 -- of a text: whether it ends below the top, with a zero unit
-abbrev pub text_checks : Layout → List ℕ → ℕ → List (FileFault × Bool)
+abbrev pub text_checks : Layout → List ℕ → ℕ → CheckList
 text_checks y body o =
     let n = word_at body o in
     (Length, nat_lt (4 * y.top) (4 * o + 6 + 2 * n)) ∷ (NotTerminated, not (half_at body (2 * o + 2 + n) == 0)) ∷ []
 
 -- of the data at an offset
-abbrev pub value_checks : Layout → List ℕ → ℕ → ItemKind → List (FileFault × Bool)
+abbrev pub value_checks : Layout → List ℕ → ℕ → ItemKind → CheckList
 value_checks y body o String = text_checks y body o
 value_checks y body o Binary = (Length, nat_lt (4 * y.top) (4 * o + 4 + word_at body o)) ∷ []
 value_checks y body o Table = table_checks y body (table_parts body o)
@@ -72,14 +93,10 @@ value_checks y body o Array = (Length, nat_lt y.top (array_first o + array_count
 value_checks y body o Ints = (Length, nat_lt y.top (o + 1 + word_at body o)) ∷ []
 
 -- of an item with an offset: that its type is one, where its data begin, and the checks of these
-abbrev pub kind_checks : Layout → List ℕ → ℕ → Option ItemKind → List (FileFault × Bool)
+abbrev pub kind_checks : Layout → List ℕ → ℕ → Option ItemKind → CheckList
 kind_checks y body o None = (ItemType, true) ∷ []
 kind_checks y body o (Some k) =
-    (ItemType, false) ∷ (if has_data k o then (Offset, nat_lt o y.keys_top || not (nat_lt o y.top)) ∷ value_checks y body o k else [])
-
--- of an item for which d levels are left
-abbrev pub item_checks : Layout → List ℕ → ℕ → ℕ → List (FileFault × Bool)
-item_checks y body d item = (TooDeep, d == 0) ∷ kind_checks y body (offset_of item) (kind_of item)
+    if has_data k o then (Offset, nat_lt o y.keys_top || not (nat_lt o y.top)) ∷ value_checks y body o k else []
 
 -- ---- the items of a file
 
@@ -92,43 +109,26 @@ abbrev pub child_of : List ℕ → ℕ → Option ItemKind → ℕ → ℕ
 child_of body o None i = 0
 child_of body o (Some k) i = word_at body (first_child body k o + i)
 
--- along a path of children from an item for which d levels are left there is an item that fails its check n, which names the error e
-abbrev pub ItemFails : Layout → List ℕ → ℕ → ℕ → List ℕ → ℕ → FileFault → Type 0
-ItemFails y body d item [] n e = slice_get (item_checks y body d item) n ≡ Some (e, true)
-ItemFails y body zero item (i ∷ path) n e = ⊥
-ItemFails y body (suc d) item (i ∷ path) n e =
-    (i < count_of body (offset_of item) (kind_of item)) × ItemFails y body d (child_of body (offset_of item) (kind_of item) i) path n e
+-- of n items from item i on, in their order
+abbrev pub all_checks : (ℕ → CheckList) → ℕ → ℕ → CheckList
+all_checks of i zero = []
+all_checks of i (suc n) = of i ++ all_checks of (suc i) n
 
--- ---- the first failed check
+-- of an item for which d levels are left, and then of its children
+unfoldable pub item_checks : Layout → List ℕ → ℕ → ℕ → CheckList
+item_checks y body zero item = (TooDeep, true) ∷ []
+item_checks y body (suc d) item =
+    let o = offset_of item in let k = kind_of item in
+    kind_checks y body o k ++ all_checks (λ i. item_checks y body d (child_of body o k i)) 0 (count_of body o k)
 
--- one of the file's own checks, or one of the item to which a path of children leads from the root item
-pub data Check : Type 0 where
-  of_file : ℕ → Check
-  of_item : List ℕ → ℕ → Check
+-- ---- the first fault
 
--- a file fails a check, which names the error e
-abbrev pub Fails : List ℕ → Check → FileFault → Type 0
-Fails bytes (of_file n) e = slice_get (file_checks bytes) n ≡ Some (e, true)
-Fails bytes (of_item path n) e =
+-- of a file and its items
+abbrev pub file_checks : List ℕ → CheckList
+file_checks bytes =
     let body = drop (half_at bytes 0) bytes in
-    ItemFails (layout_of body) body 64 (word_at body 0) path n e
+    (TooLong, not (is_short_enough bytes))
+    ∷ (header_checks bytes ++ (data_checks (slice_index bytes 17) body ++ item_checks (layout_of body) body 64 (word_at body 0)))
 
--- check n of the item at a path comes before check m of the one at another
-abbrev pub IsItemSooner : List ℕ → ℕ → List ℕ → ℕ → Type 0
-IsItemSooner [] n [] m = n < m
-IsItemSooner [] n (j ∷ other) m = ⊤
-IsItemSooner (i ∷ path) n [] m = ⊥
-IsItemSooner (i ∷ path) n (j ∷ other) m = (i < j) ⊎ ((i ≡ j) × IsItemSooner path n other m)
-
--- a check comes before another
-abbrev pub IsSooner : Check → Check → Type 0
-IsSooner (of_file n) (of_file m) = n < m
-IsSooner (of_file n) (of_item other m) = ⊤
-IsSooner (of_item path n) (of_file m) = ⊥
-IsSooner (of_item path n) (of_item other m) = IsItemSooner path n other m
-
--- the error is that of a check that the file fails, and it fails none before that one
-pub record IsFirst (bytes : List ℕ) (e : FileFault) : Type 0 where
-  pub check : Check
-  pub fails : Fails bytes check e
-  pub first : (c : Check) (f : FileFault) → IsSooner c check → Fails bytes c f → ⊥
+unfoldable pub first_fault : List ℕ → Option FileFault
+first_fault bytes = first_failed (file_checks bytes)

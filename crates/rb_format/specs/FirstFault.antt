@@ -1,6 +1,5 @@
--- The first fault of a file, in the order in which a reader checks it: the length, the header, the indexes, the attributes, the
--- root item, and then the items depth first; of an item its level, its type, its offset, its length, its zero unit or its keys one
--- by one, and its children. What is read without a fault is what the file denotes.
+-- For proofs alone. The reading of a file as code does it, check by check: what is read without a fault is what the file denotes, and a fault
+-- is the first of those in `Checks`.
 use Rattle.std.specs.Prelude.{Bool, true, false, ℕ, zero, suc, ◌+◌, ◌*◌, ◌==◌, nat_lt, nat_le, if◌then◌else◌, List}
 use Rattle.std.specs.Prelude.{[], ◌∷◌, length, take, drop, map, slice_index, Option, Some, None, Result, Ok, Err}
 use Rattle.std.specs.Ordering.{is_lt, nat_cmp}
@@ -183,7 +182,3 @@ read_file d bytes =
     if nat_lt 67108864 (length bytes) then Err TooLong else (do
       h ← header bytes
       read_data d h.minor (drop h.size bytes))
-
--- the first fault of a file
-abbrev pub first_fault : List ℕ → Option FileFault
-first_fault bytes = fault_of (read_file 64 bytes)

@@ -2,7 +2,7 @@
 ghost use Rattle.std.specs.Prelude.{◌≡◌, ◌+◌, ◌≤◌, length, drop, IfOk, IsTrue};
 ghost use Rattle.rb_format.specs.Place.{half_at};
 ghost use Rattle.rb_format.specs.File as files;
-ghost use Rattle.rb_format.specs.FirstFault.{header};
+ghost use Rattle.rb_format.specs.Checks.{header_of};
 
 use crate::constants::{
     CHARSET_FAMILY, DATA_FORMAT, FILE_LIMIT, HEADER_SIZE, INFO_SIZE, MAGIC, MAJOR_VERSION,
@@ -27,9 +27,9 @@ impl Header {
     /// let header = Header::read(&file)?;
     /// let data = &file[header.size as usize..]; // its word 0 is the root item
     /// ```
-    #[tactic(auto, unfolding(crate::specs::FirstFault::header))]
+    #[tactic(auto, unfolding(crate::specs::Checks::header_of))]
     pub fn read(bytes: &[u8]) -> Result<Header, FileFault>
-        ensures value { result ≡ header bytes.now }
+        ensures value { result ≡ header_of bytes.now }
         ensures inside { IfOk result (λ h. h.size ≤ length bytes.now) }
     {
         if bytes.len() < 24 || !has_magic(bytes) {

@@ -1,24 +1,21 @@
 //! What holds of the definitions, as contracts of functions that do nothing.
-ghost use Rattle.std.specs.Prelude.{◌≡◌, ◌≤◌, ℕ, List, Ok, Some, None, MatchOption, nat_le, if◌then◌else◌};
+ghost use Rattle.std.specs.Prelude.{◌≡◌, ◌≤◌, ℕ, List, Some, None, MatchOption, is_none, nat_le, if◌then◌else◌};
 ghost use Rattle.rb_format.specs.declared.layout.Layout.{Layout};
 ghost use Rattle.rb_tree.specs.Resource.{Resource, height};
 ghost use Rattle.rb_tree.specs.SourceTree.{SourceTree};
 ghost use Rattle.rb_format.specs.Denotation.{tree_at};
-ghost use Rattle.rb_format.specs.File.{Denotes, DenotesWithin};
-ghost use Rattle.rb_format.specs.declared.fault.FileFault.{FileFault};
-ghost use Rattle.rb_format.specs.FirstFault.{first_fault, read, limited};
-ghost use Rattle.rb_format.specs.Checks.{Check, Fails, IsFirst};
+ghost use Rattle.rb_format.specs.File.{Denotes, DenotesWithin, has_header};
+ghost use Rattle.rb_format.specs.declared.fault.FileFault.TheVariants.{TooDeep};
+ghost use Rattle.rb_format.specs.Checks.{first_failed, first_fault, header_checks, item_checks};
 
 /// A file denotes a bundle or has a first fault, and never both.
 pub fn a_tree_or_a_fault()
     ensures { (bytes : List ℕ) → MatchOption (first_fault bytes) ((s : SourceTree) × Denotes bytes s) (λ e. (s : SourceTree) → ¬ (Denotes bytes s)) }
 {}
 
-/// The first fault of a file is that of the first check that it fails, in the order of the checks: that check fails, and none before
-/// it does. A file without a fault fails none.
-pub fn the_first_fault_is_of_the_first_failed_check()
-    ensures fault { (bytes : List ℕ) (e : FileFault) → first_fault bytes ≡ Some e → IsFirst bytes e }
-    ensures none { (bytes : List ℕ) → first_fault bytes ≡ None → (c : Check) (f : FileFault) → ¬ (Fails bytes c f) }
+/// A header fails none of its checks exactly where it is the header of a resource bundle.
+pub fn a_header_or_a_fault()
+    ensures { (bytes : List ℕ) → is_none (first_failed (header_checks bytes)) ≡ has_header bytes }
 {}
 
 /// A file denotes at most one bundle.
@@ -31,7 +28,8 @@ pub fn at_most_one_tree()
 pub fn same_at_every_level()
     ensures tree { (y : Layout) (body : List ℕ) (d e item : ℕ) (t : Resource) → tree_at y body d item ≡ Some t
         → tree_at y body e item ≡ (if nat_le (height t) e then Some t else None) }
-    ensures fault { (y : Layout) (body : List ℕ) (d e item : ℕ) (t : Resource) → read y body d item ≡ Ok t → read y body e item ≡ limited e (height t) t }
+    ensures fault { (y : Layout) (body : List ℕ) (d e item : ℕ) (t : Resource) → tree_at y body d item ≡ Some t
+        → first_failed (item_checks y body e item) ≡ (if nat_le (height t) e then None else Some TooDeep) }
 {}
 
 /// A file that denotes a bundle under one limit of heights denotes the same one under every greater limit. So each file that was

@@ -1,22 +1,16 @@
 -- The replies to one application's lines.
-use Rattle.std.proofs.Common.{◌≡◌, ℕ, Bool, true, false, cond, List, [], ◌∷◌, ◌++◌, Option, Some, None, refl, sym, ◌∙◌, ap, subst}
+use Rattle.std.proofs.Common.{◌≡◌, ℕ, Bool, true, false, List, [], ◌∷◌, Option, Some, None, refl, sym, ◌∙◌, ap, subst}
 use Rattle.std.specs.Str.{bytes_eq}
 use Rattle.std.proofs.lemmas.Slice.Eq.{bytes_eq-Decides}
 use Rattle.std.proofs.lemmas.Bool.{false≢true}
 use Rattle.rb_packages.specs.Shelf.{Shelf}
-use Rattle.rb_engine.specs.Ask.{Call, Requests, LooksUp, caller, requester, Ask, Means}
+use Rattle.rb_engine.specs.Ask.{Call, caller, Ask, Means}
 use Rattle.rb_engine.specs.Answer.{Start, Response, answer_over, bundles_after}
-use Rattle.rb_engine.specs.History.{State, AsksOne}
+use Rattle.rb_engine.specs.History.{State, Answered, AsksOne}
 use Rattle.rb_requests.specs.Asked.{call_of}
-use Rattle.rb_requests.specs.Lines.{AnswersCall, AnswersAsked}
+use Rattle.rb_requests.specs.Lines.{AnswersAsked, RepliesByLine}
 use Rattle.rb_replies.specs.Replied.{reply_line}
-use Rattle.rb_requests.specs.Isolation.{RepliesByLine, is_of, calls_of, replies_to, AreWrittenByLine, AreLinesIsolated}
-
-pub written_by_line : AreWrittenByLine
-written_by_line s end [] text (e, f) = ([], (refl, f), e)
-written_by_line s end (line ∷ rest) text (reply, mid, more, a, e, r) =
-    let h = written_by_line mid end rest more r in
-    (reply ∷ h.0, (reply, mid, h.0, a, refl, h.1), e ∙ ap (λ x. reply ++ x) h.2)
+use Rattle.rb_requests.specs.Isolation.{is_of, calls_of, replies_to, AreLinesIsolated}
 
 -- what a line does to one application's bundles
 record Moves (app : List ℕ) (s : State) (call : Call) (response : Response) (mid : State) : Type 0 where
@@ -30,49 +24,24 @@ record Stays (app : List ℕ) (s mid : State) : Type 0 where
   start : mid.start ≡ s.start
   own : mid.lists app ≡ s.lists app
 
-picked : (b : Bool) (x y : Shelf) → b ≡ true → cond b x y ≡ x
-picked true x y e = refl
-picked false x y e = absurd (false≢true e)
-
-passed : (b : Bool) (x y : Shelf) → b ≡ false → cond b x y ≡ y
-passed false x y e = refl
-passed true x y e = absurd (false≢true (sym e))
-
 moves : (app : List ℕ) (s : State) (call : Call) (response : Response) (mid : State) → bytes_eq (caller call) app ≡ true
-    → AnswersCall s call response mid → Moves app s call response mid
-moves app s (Requests r) response mid e (ask, means, right, then) =
-    let same : requester r ≡ app = (bytes_eq-Decides (requester r) app).0 e in
+    → Answered s call response mid → Moves app s call response mid
+moves app s call response mid e t =
+    let same : caller call ≡ app = (bytes_eq-Decides (caller call) app).0 e in
     record {
-      ask = ask;
-      means = means;
-      right = right ∙ ap (λ a. answer_over s.start (s.lists a) ask) same;
-      start = ap (λ x. x.start) then;
-      own = ap (λ x. x.lists app) then
-          ∙ picked (bytes_eq app (requester r)) (bundles_after ask (s.lists app)) (s.lists app) ((bytes_eq-Decides app (requester r)).1 (sym same));
+      ask = t.ask;
+      means = t.means;
+      right = t.right ∙ ap (λ a. answer_over s.start (s.lists a) t.ask) same;
+      start = t.start;
+      own = ap mid.lists (sym same) ∙ t.own ∙ ap (λ a. bundles_after t.ask (s.lists a)) same;
     }
-moves app s (LooksUp a locale path) response mid e (ask, means, right, then) =
-    let same : a ≡ app = (bytes_eq-Decides a app).0 e in
-    record {
-      ask = ask;
-      means = means;
-      right = right ∙ ap (λ b. answer_over s.start (s.lists b) ask) same;
-      start = ap (λ x. x.start) then;
-      own = ap (λ x. x.lists app) then ∙ ap (λ k. bundles_after k (s.lists app)) (sym means);
-    }
-
-unequal : (b : Bool) (x y : List ℕ) → bytes_eq x y ≡ b → bytes_eq y x ≡ false → b ≡ false
-unequal false x y h e = refl
-unequal true x y h e = absurd (false≢true (sym e ∙ (bytes_eq-Decides y x).1 (sym ((bytes_eq-Decides x y).0 h))))
 
 stays : (app : List ℕ) (s : State) (call : Call) (response : Response) (mid : State) → bytes_eq (caller call) app ≡ false
-    → AnswersCall s call response mid → Stays app s mid
-stays app s (Requests r) response mid e (ask, means, right, then) =
-    let other : bytes_eq app (requester r) ≡ false = unequal (bytes_eq app (requester r)) app (requester r) refl e in
-    record {
-      start = ap (λ x. x.start) then;
-      own = ap (λ x. x.lists app) then ∙ passed (bytes_eq app (requester r)) (bundles_after ask (s.lists app)) (s.lists app) other;
-    }
-stays app s (LooksUp a locale path) response mid e (ask, means, right, then) = record { start = ap (λ x. x.start) then; own = ap (λ x. x.lists app) then }
+    → Answered s call response mid → Stays app s mid
+stays app s call response mid e t = record {
+  start = t.start;
+  own = t.others app (λ h. false≢true (sym e ∙ (bytes_eq-Decides (caller call) app).1 (sym h)));
+}
 
 -- ---- the replies that an application's calls are given from some bundles on
 
@@ -122,9 +91,9 @@ replies-line app s mid line reply rest more (Some call) (Some response) true c e
 replies-run : (app : List ℕ) (s end : State) (lines replies : List (List ℕ)) → RepliesByLine s lines replies end
     → AreReplies s.start (s.lists app) (calls_of app lines) (replies_to app lines replies)
 replies-run app s end [] replies r = refl
-replies-run app s end (line ∷ rest) replies (reply, mid, more, (response, t, e), f, r) =
-    subst (λ (x : List (List ℕ)). AreReplies s.start (s.lists app) (calls_of app (line ∷ rest)) (replies_to app (line ∷ rest) x)) (sym f)
-    (replies-line app s mid line reply rest more (call_of line) response (is_of app (call_of line)) refl refl t e (replies-run app mid end rest more r))
+replies-run app s end (line ∷ rest) [] r = absurd r
+replies-run app s end (line ∷ rest) (reply ∷ more) (mid, (response, t, e), r) =
+    replies-line app s mid line reply rest more (call_of line) response (is_of app (call_of line)) refl refl t e (replies-run app mid end rest more r)
 
 pub lines_isolated : AsksOne → AreLinesIsolated
 lines_isolated one app s t u v first second a b st own p q same =

@@ -2,12 +2,14 @@
 use Rattle.std.proofs.Common.{◌≡◌, ◌<◌, ◌≤◌, ℕ, ◌+◌, inl, inr, ◌⊎◌, List, [], ◌∷◌, ◌++◌, length, Option, Some, None, refl, sym, ◌∙◌, ap, subst, arith}
 use Rattle.std.proofs.Common.{add-one, append_assoc, append-nil, length-append}
 use Rattle.std.specs.Prelude.{All, Result, Ok, Err, IfOk, IfErr}
+use Rattle.std.specs.List.{concat}
+use Rattle.std.proofs.lemmas.List.Folds.{concat-append}
 use Rattle.std.specs.Io.KnownBytes.{Appends, Consumes, Keeps}
 use Rattle.std.proofs.lemmas.List.Elements.{All-nil, All-push}
 use Rattle.std.proofs.KnownBytes.{Appends-nil, Appends-trans, Appends-kept}
 use Rattle.rb_requests.specs.Asked.{call_of}
 use Rattle.rb_engine.specs.History.{State}
-use Rattle.rb_requests.specs.Lines.{LineReply, LineReplies, lines_of, feeds}
+use Rattle.rb_requests.specs.Lines.{LineReply, RepliesByLine, lines_of, feeds}
 use Rattle.rb_requests.specs.MayTakeEffect.{AskedMayTakeEffect}
 use Rattle.rb_requests.specs.Device.{risen, risen_by}
 use Rattle.rb_requests.specs.Served.{Moment, at, where_known, IsShort, Answers, AnswersWithin, FirstAnswered, IsNext, TakesEffect, After, AfterRead}
@@ -28,9 +30,9 @@ pub record SoFar (limit : ℕ) (before now : Moment) (count : ℕ) (input left :
   pub fed : feeds done ≡ length lines
   pub many : length lines ≡ count
   pub short : All (IsShort limit) lines
-  pub text : List ℕ
-  pub replies : LineReplies before.state lines text now.state
-  pub wrote : Appends before.written now.written text
+  pub replies : List (List ℕ)
+  pub by_line : RepliesByLine before.state lines replies now.state
+  pub wrote : Appends before.written now.written (concat replies)
 
 -- and each reply is settled
 pub record ServedSoFar (limit : ℕ) (before now : Moment) (count : ℕ) : Type 0 where
@@ -47,8 +49,8 @@ known_first limit now (Some input) = record {
   fed = refl;
   many = refl;
   short = All-nil (IsShort limit);
-  text = [];
-  replies = (refl, refl);
+  replies = [];
+  by_line = refl;
   wrote = Appends-nil now.written;
 }
 
@@ -91,8 +93,8 @@ first_answered limit before now count most input left left' bytes h e m = record
   fed = h.fed;
   few = subst (λ (n : ℕ). n ≤ most) (sym h.many) m;
   short = h.short;
-  text = h.text;
   replies = h.replies;
+  by_line = h.by_line;
 }
 
 settled_for : (n count s s' : ℕ) → n ≡ count → s' ≡ risen_by s count → s' ≡ risen_by s n
@@ -104,13 +106,20 @@ one_settled s count = ap (risen_by s) (sym (add-one count))
 fewer : (n count most : ℕ) → n ≡ count → count < most → n < most
 fewer n count most e m = subst (λ (x : ℕ). x < most) (sym e) m
 
-replies_more : (s mid end : State) (ls : List (List ℕ)) (line text reply : List ℕ) → LineReplies s ls text mid
-    → LineReply mid line reply end → LineReplies s (ls ++ line ∷ []) (text ++ reply) end
-replies_more s mid end [] line text reply (e, f) a =
-    subst (λ (x : List ℕ). LineReplies s (line ∷ []) (x ++ reply) end) (sym e)
-    (reply, end, [], subst (λ (x : State). LineReply x line reply end) f a, sym (append-nil reply), (refl, refl))
-replies_more s mid end (l ∷ ls) line text reply (r, m, more, b, e, rest) a =
-    (r, m, more ++ reply, b, ap (λ x. x ++ reply) e ∙ append_assoc r more reply, replies_more m mid end ls line more reply rest a)
+replies_more : (s mid end : State) (ls replies : List (List ℕ)) (line reply : List ℕ) → RepliesByLine s ls replies mid
+    → LineReply mid line reply end → RepliesByLine s (ls ++ line ∷ []) (replies ++ reply ∷ []) end
+replies_more s mid end [] [] line reply e a = (end, subst (λ (x : State). LineReply x line reply end) e a, refl)
+replies_more s mid end [] (r ∷ rs) line reply h a = absurd h
+replies_more s mid end (l ∷ ls) [] line reply h a = absurd h
+replies_more s mid end (l ∷ ls) (r ∷ rs) line reply (m, b, rest) a = (m, b, replies_more m mid end ls rs line reply rest a)
+
+one_more_text : (replies : List (List ℕ)) (reply : List ℕ) → concat replies ++ reply ≡ concat (replies ++ reply ∷ [])
+one_more_text replies reply = ap (λ x. concat replies ++ x) (sym (append-nil reply)) ∙ sym (concat-append replies (reply ∷ []))
+
+written_more : (replies : List (List ℕ)) (reply : List ℕ) (a b c : Option (List ℕ)) → Appends a b (concat replies) → Appends b c reply
+    → Appends a c (concat (replies ++ reply ∷ []))
+written_more replies reply a b c h k =
+    subst (λ (x : List ℕ). Appends a c x) (one_more_text replies reply) (Appends-trans a b c (concat replies) reply h k)
 
 -- the front of what is left, and the lines of it
 ended_lines : (left left' line : List ℕ) → left ≡ (line ++ 10 ∷ []) ++ left' → feeds line ≡ 0 → lines_of left ≡ line ∷ lines_of left'
@@ -132,9 +141,9 @@ one_more limit before now then line count input left left' h k (text, response, 
       fed = ended_feeds h.done line k.plain ∙ (ap (λ n. n + 1) h.fed ∙ sym (length-append h.lines (line ∷ [])));
       many = length-append h.lines (line ∷ []) ∙ ap (λ n. n + 1) h.many;
       short = All-push (IsShort limit) h.lines line h.short k.short;
-      text = h.text ++ text;
-      replies = replies_more before.state now.state then.state h.lines line h.text text h.replies response;
-      wrote = Appends-trans before.written now.written then.written h.text text h.wrote wrote;
+      replies = h.replies ++ text ∷ [];
+      by_line = replies_more before.state now.state then.state h.lines h.replies line text h.by_line response;
+      wrote = written_more h.replies text before.written now.written then.written h.wrote wrote;
     }
 
 pub next : (limit : ℕ) (before now then : Moment) (line : List ℕ) (count : ℕ) → ServedSoFar limit before now count
@@ -155,9 +164,9 @@ all_of limit before now rest count input left left' h (end, kept) =
     let all : lines_of input ≡ h.lines = h.split ∙ (ap (λ x. h.lines ++ lines_of x) end ∙ append-nil h.lines) in
     record {
       read = kept ∙ end;
-      text = h.text;
+      replies = h.replies;
+      by_line = subst (λ (x : List (List ℕ)). RepliesByLine before.state x h.replies now.state) (sym all) h.by_line;
       wrote = h.wrote;
-      replies = subst (λ (x : List (List ℕ)). LineReplies before.state x h.text now.state) (sym all) h.replies;
       lines_read = sym h.many ∙ ap length (sym all);
       short = subst (All (IsShort limit)) (sym all) h.short;
     }
@@ -178,12 +187,12 @@ last_answered : (limit : ℕ) (before now after : Moment) (line : List ℕ) (cou
 last_answered limit before now after line count input left left' h k (text, response, wrote) =
     let only = ap lines_of (sym k.all) ∙ lines_of-last line k.part.plain k.some in
     let all : lines_of input ≡ h.lines ++ line ∷ [] = h.split ∙ ap (λ x. h.lines ++ x) only in
-    let replies = replies_more before.state now.state after.state h.lines line h.text text h.replies response in
+    let by_line = replies_more before.state now.state after.state h.lines h.replies line text h.by_line response in
     record {
       read = nothing_behind line left' (k.all ∙ k.part.read);
-      text = h.text ++ text;
-      wrote = Appends-trans before.written now.written after.written h.text text h.wrote wrote;
-      replies = subst (λ (x : List (List ℕ)). LineReplies before.state x (h.text ++ text) after.state) (sym all) replies;
+      replies = h.replies ++ text ∷ [];
+      by_line = subst (λ (x : List (List ℕ)). RepliesByLine before.state x (h.replies ++ text ∷ []) after.state) (sym all) by_line;
+      wrote = written_more h.replies text before.written now.written after.written h.wrote wrote;
       lines_read = sym (ap length all ∙ (length-append h.lines (line ∷ []) ∙ ap (λ m. m + 1) h.many));
       short = subst (All (IsShort limit)) (sym all) (All-push (IsShort limit) h.lines line h.short k.short);
     }
@@ -248,8 +257,8 @@ unanswered : (limit : ℕ) (fault : ServeFault) (before now after : Moment) (cou
 unanswered limit fault before now after count most line bytes input left left' h m t e n (inl (f, k)) = rw f (record {
   now = now.state;
   answered = first_answered limit before now count most input left left' bytes h e (omega arith);
-  wrote = subst (λ (x : List ℕ). Appends before.written after.written x) (append-nil h.text)
-      (Appends-trans before.written now.written after.written h.text [] h.wrote k.kept);
+  wrote = subst (λ (x : List ℕ). Appends before.written after.written x) (append-nil (concat h.replies))
+      (Appends-trans before.written now.written after.written (concat h.replies) [] h.wrote k.kept);
   settled = settled_for (length h.lines) count before.settled after.settled h.many t;
   more = fewer (length h.lines) count most h.many m;
   next = inr (line, n, k.effect);
@@ -264,7 +273,7 @@ unanswered limit fault before now after count most line bytes input left left' h
   part = k.wrote.part;
   missing = k.wrote.missing;
   answers = subst (λ (x : List ℕ). LineReply now.state line x after.state) (sym k.wrote.whole) k.answers;
-  wrote = Appends-trans before.written now.written after.written h.text k.wrote.part h.wrote k.wrote.wrote;
+  wrote = Appends-trans before.written now.written after.written (concat h.replies) k.wrote.part h.wrote k.wrote.wrote;
 })
 
 ended_is_next : (limit : ℕ) (line left left' : List ℕ) → ReadsEnded limit line (Some left) (Some left')

@@ -12,7 +12,7 @@ use Rattle.rb_members.specs.declared.texts.Texts.{Texts}
 use Rattle.rb_requests.specs.Asked.{call_in}
 use Rattle.rb_requests.specs.Line.{line_view, AreTextsOf}
 use Rattle.rb_requests.specs.declared.ask.Line.{Line}
-use Rattle.rb_requests.specs.Lines.{state_after, AnswersCall, AnswersAsked}
+use Rattle.rb_requests.specs.Lines.{AnswersAsked}
 use Rattle.rb_requests.specs.MayTakeEffect.{CallReply, AskedReply, CallMayTakeEffect, AskedMayTakeEffect}
 use Rattle.rb_engine.specs.declared.request.Request.{Request}
 
@@ -25,28 +25,15 @@ state_with start lists = record { start = start; lists = lists }
 same_state : (s x : Start) (f g : List ℕ → Shelf) → x ≡ s → ((app : List ℕ) → f app ≡ g app) → state_with x f ≡ state_with s g
 same_state s x f g e h = ap (λ y. state_with y f) e ∙ ap (state_with s) (funext f g h)
 
-list_after : (old new : State) (r : Request) (response : Response) (s : Answered old (Requests r) response new) (app : List ℕ) (b : Bool)
-    → bytes_eq app (requester r) ≡ b → new.lists app ≡ cond b (bundles_after s.ask (old.lists app)) (old.lists app)
-list_after old new r response s app true e =
-    let same : app ≡ requester r = (bytes_eq-Decides app (requester r)).0 e in
-    ap new.lists same ∙ s.own ∙ ap (λ a. bundles_after s.ask (old.lists a)) (sym same)
-list_after old new r response s app false e = s.others app (λ h. false≢true (sym e ∙ (bytes_eq-Decides app (requester r)).1 h))
-
-answered_by : (old new : State) (r : Request) (response : Response) → Answered old (Requests r) response new → AnswersCall old (Requests r) response new
-answered_by old new r response s =
-    let after = state_after old (Requests r) s.ask in
-    let lists = λ (app : List ℕ). list_after old new r response s app (bytes_eq app (requester r)) refl in
-    (s.ask, s.means, s.right, same_state old.start new.start new.lists after.lists s.start lists)
-
 pub call_answered : (old new : State) (r : Request) (response : Response) → Step old (Requests r) response new → is_memory response ≡ false
-    → AnswersCall old (Requests r) response new
+    → Answered old (Requests r) response new
 call_answered old new r response (inl s) m = let e : is_memory response ≡ true = rw s.memory refl in absurd (false≢true (sym m ∙ e))
-call_answered old new r response (inr s) m = answered_by old new r response s
+call_answered old new r response (inr s) m = s
 
 -- a request for which memory runs out changes nothing
 pub may_take_effect : (old new : State) (r : Request) (response : Response) → Step old (Requests r) response new → CallMayTakeEffect old (Requests r) new
 may_take_effect old new r response (inl s) = inl (same_state old.start new.start new.lists old.lists s.start s.lists)
-may_take_effect old new r response (inr s) = inr (response, answered_by old new r response s)
+may_take_effect old new r response (inr s) = inr (response, s)
 
 -- what a line calls, by what it was read as
 pub call_read : {o : Option Line} (texts : Texts) (line : Line) → ((d : Data) → AreTextsOf texts d → option_map line_view o ≡ call_in d)
@@ -70,8 +57,15 @@ at_an_error (Err e) p = p
 
 -- a lookup of texts is answered as one of their bytes
 pub look_answered : (s : State) (response : Response) (a app l locale p path : List ℕ) → a ≡ app → l ≡ locale → p ≡ path
-    → response ≡ answer_over s.start (s.lists a) (Looks a l p) → AnswersCall s (LooksUp app locale path) response s
+    → response ≡ answer_over s.start (s.lists a) (Looks a l p) → Answered s (LooksUp app locale path) response s
 look_answered s response a app l locale p path same_app same_locale same_path e =
     let by_path = subst (λ (x : List ℕ). response ≡ answer_over s.start (s.lists a) (Looks a l x)) same_path e in
     let by_locale = subst (λ (x : List ℕ). response ≡ answer_over s.start (s.lists a) (Looks a x path)) same_locale by_path in
-    (Looks app locale path, refl, subst (λ (x : List ℕ). response ≡ answer_over s.start (s.lists x) (Looks x locale path)) same_app by_locale, refl)
+    record {
+      ask = Looks app locale path;
+      means = refl;
+      right = subst (λ (x : List ℕ). response ≡ answer_over s.start (s.lists x) (Looks x locale path)) same_app by_locale;
+      start = refl;
+      own = refl;
+      others = λ other differs. refl;
+    }

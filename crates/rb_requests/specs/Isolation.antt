@@ -1,17 +1,10 @@
 -- What one application is answered by the lines of a text, whatever the other lines are: this project's own rule.
 use Rattle.std.specs.Prelude.{◌≡◌, ℕ, Bool, false, List, [], ◌∷◌, if◌then◌else◌, Option, Some, None}
-use Rattle.std.specs.List.{concat}
 use Rattle.std.specs.Str.{bytes_eq}
 use Rattle.rb_engine.specs.Ask.{Call, caller}
 use Rattle.rb_engine.specs.History.{State}
 use Rattle.rb_requests.specs.Asked.{call_of}
-use Rattle.rb_requests.specs.Lines.{LineReply, LineReplies}
-
--- the replies to lines, one for each, each line having taken effect before the next
-abbrev pub RepliesByLine : State → List (List ℕ) → List (List ℕ) → State → Type 0
-RepliesByLine s [] replies end = (replies ≡ []) × (end ≡ s)
-RepliesByLine s (line ∷ rest) replies end =
-    (reply : List ℕ) × (mid : State) × (more : List (List ℕ)) × LineReply s line reply mid × (replies ≡ reply ∷ more) × RepliesByLine mid rest more end
+use Rattle.rb_requests.specs.Lines.{RepliesByLine}
 
 -- whether a line is a call of the application
 abbrev pub is_of : List ℕ → Option Call → Bool
@@ -34,13 +27,6 @@ replies_to app (line ∷ rest) [] = []
 replies_to app (line ∷ rest) (reply ∷ more) = if is_of app (call_of line) then reply ∷ replies_to app rest more else replies_to app rest more
 
 -- ---- what holds of every text
-
--- what is written for lines is their replies, one after the other
-abbrev pub AreWrittenByLine : Type 0
-AreWrittenByLine =
-    (s end : State) (lines : List (List ℕ)) (text : List ℕ)
-    → LineReplies s lines text end
-    → (replies : List (List ℕ)) × RepliesByLine s lines replies end × (text ≡ concat replies)
 
 -- lines with the same calls of one application, in the same order, over the same start and the same bundles of it, reply the same to it
 abbrev pub AreLinesIsolated : Type 0

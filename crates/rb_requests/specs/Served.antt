@@ -1,11 +1,12 @@
 -- What serving comes to at the end of the input, and what stands where it ends earlier, this project's own rule: each line is answered before the next is read.
 use Rattle.std.specs.Prelude.{◌≡◌, ◌≤◌, ◌<◌, ◌+◌, ◌++◌, ◌⊎◌, ℕ, List, [], ◌∷◌, length, All, ⊤, Option, Some, None, Result, Ok, Err}
+use Rattle.std.specs.List.{concat}
 use Rattle.std.specs.Io.KnownBytes.{Appends}
 use Rattle.rb_requests.specs.Asked.{call_of}
 use Rattle.rb_engine.specs.Answer.{Response}
 use Rattle.rb_requests.specs.Device.{risen, risen_by}
 use Rattle.rb_engine.specs.History.{State}
-use Rattle.rb_requests.specs.Lines.{AnswersAsked, LineReply, LineReplies, lines_of, feeds}
+use Rattle.rb_requests.specs.Lines.{AnswersAsked, LineReply, RepliesByLine, lines_of, feeds}
 use Rattle.rb_requests.specs.declared.lines.ServeFault.{ServeFault}
 use Rattle.rb_requests.specs.declared.lines.ServeFault.TheVariants.{Read, Write, LineLimit, LineTooLong, Memory}
 
@@ -35,9 +36,9 @@ IsShort limit line = length line ≤ limit
 -- all the input is read, what is written is the replies to its lines and nothing else, and their requests have taken effect
 pub record Answers (limit : ℕ) (before after : Moment) (count : ℕ) (input left : List ℕ) : Type 0 where
   pub read : left ≡ []
-  pub text : List ℕ
-  pub wrote : Appends before.written after.written text
-  pub replies : LineReplies before.state (lines_of input) text after.state
+  pub replies : List (List ℕ)
+  pub by_line : RepliesByLine before.state (lines_of input) replies after.state
+  pub wrote : Appends before.written after.written (concat replies)
   pub lines_read : count ≡ length (lines_of input)
   pub short : All (IsShort limit) (lines_of input)
 
@@ -51,7 +52,7 @@ AnswersAll before after count = AnswersWithin 268435456 before after count
 -- ---- a part of it
 
 -- The first lines are read, each with its line feed, and then some bytes of what follows. These lines have taken effect and no others,
--- and this is the text of their replies.
+-- and these are their replies.
 pub record FirstAnswered (limit : ℕ) (old now : State) (most : ℕ) (input left : List ℕ) : Type 0 where
   pub done : List ℕ
   pub begun : List ℕ
@@ -61,8 +62,8 @@ pub record FirstAnswered (limit : ℕ) (old now : State) (most : ℕ) (input lef
   pub fed : feeds done ≡ length first
   pub few : length first ≤ most
   pub short : All (IsShort limit) first
-  pub text : List ℕ
-  pub replies : LineReplies old first text now
+  pub replies : List (List ℕ)
+  pub by_line : RepliesByLine old first replies now
 
 -- as many replies are settled as lines are answered
 abbrev pub IsSettled : Moment → Moment → List (List ℕ) → Type 0
@@ -71,7 +72,7 @@ IsSettled before after lines = after.settled ≡ risen_by before.settled (length
 -- after `Read`: of the next line a part is read that is no longer than a line may be, and where no further line may come nothing is
 pub record AfterRead (limit : ℕ) (before after : Moment) (most : ℕ) (input left : List ℕ) : Type 0 where
   pub answered : FirstAnswered limit before.state after.state most input left
-  pub wrote : Appends before.written after.written answered.text
+  pub wrote : Appends before.written after.written (concat answered.replies)
   pub settled : IsSettled before after answered.first
   pub part : feeds answered.begun ≡ 0
   pub short : IsShort limit answered.begun
@@ -80,7 +81,7 @@ pub record AfterRead (limit : ℕ) (before after : Moment) (most : ℕ) (input l
 -- after `LineTooLong`: a part is read that is one byte longer than a line may be
 pub record AfterLong (limit : ℕ) (before after : Moment) (most : ℕ) (input left : List ℕ) : Type 0 where
   pub answered : FirstAnswered limit before.state after.state most input left
-  pub wrote : Appends before.written after.written answered.text
+  pub wrote : Appends before.written after.written (concat answered.replies)
   pub settled : IsSettled before after answered.first
   pub part : feeds answered.begun ≡ 0
   pub long : length answered.begun ≡ limit + 1
@@ -89,7 +90,7 @@ pub record AfterLong (limit : ℕ) (before after : Moment) (most : ℕ) (input l
 -- after `LineLimit`: as many lines are answered as may be, and one byte more is read
 pub record AfterLimit (limit : ℕ) (before after : Moment) (most : ℕ) (input left : List ℕ) : Type 0 where
   pub answered : FirstAnswered limit before.state after.state most input left
-  pub wrote : Appends before.written after.written answered.text
+  pub wrote : Appends before.written after.written (concat answered.replies)
   pub settled : IsSettled before after answered.first
   pub byte : length answered.begun ≡ 1
   pub all : length answered.first ≡ most
@@ -112,7 +113,7 @@ IsBegun limit begun = (feeds begun ≡ 0) × (length begun < limit)
 pub record AfterMemory (limit : ℕ) (before after : Moment) (most : ℕ) (input left : List ℕ) : Type 0 where
   pub now : State
   pub answered : FirstAnswered limit before.state now most input left
-  pub wrote : Appends before.written after.written answered.text
+  pub wrote : Appends before.written after.written (concat answered.replies)
   pub settled : IsSettled before after answered.first
   pub more : length answered.first < most
   pub next : (IsBegun limit answered.begun × (after.state ≡ now))
@@ -129,7 +130,7 @@ pub record AfterWrite (limit : ℕ) (before after : Moment) (most : ℕ) (input 
   pub part : List ℕ
   pub missing : List ℕ
   pub answers : LineReply now line (part ++ missing) after.state
-  pub wrote : Appends before.written after.written (answered.text ++ part)
+  pub wrote : Appends before.written after.written (concat answered.replies ++ part)
 
 abbrev pub After : ℕ → ServeFault → Moment → Moment → ℕ → List ℕ → List ℕ → Type 0
 After limit Read before after most = AfterRead limit before after most

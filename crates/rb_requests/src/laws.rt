@@ -1,6 +1,6 @@
 //! What holds of every history, and of the lines of every text.
 ghost use Rattle.rb_engine.specs.History.{AsksOne, AnswersOwn, IsIsolated};
-ghost use Rattle.rb_requests.specs.Isolation.{AreWrittenByLine, AreLinesIsolated};
+ghost use Rattle.rb_requests.specs.Isolation.{AreLinesIsolated};
 
 /// Does nothing: whatever the applications ask in whatever order, each is answered over its own bundles, those of ICUDATA and
 /// the explicit parents, and so are the lines of a text.
@@ -11,8 +11,6 @@ pub fn isolated()
     ensures own { AnswersOwn }
     // What an application is answered depends on its own calls and on which of them ran out of memory alone.
     ensures alone { IsIsolated }
-    // What is written for lines is the reply to each of them.
-    ensures replies { AreWrittenByLine }
     // The replies to an application's lines depend on these lines alone.
     ensures lines { AreLinesIsolated }
 {

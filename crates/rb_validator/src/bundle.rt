@@ -3,7 +3,7 @@ ghost use Rattle.std.specs.Prelude.{◌≡◌, ◌⊎◌, ◌*◌, ◌≤◌, So
 ghost use Rattle.rb_format.specs.Place.{half_at, layout_of};
 ghost use Rattle.rb_validator.specs.Visits.{HasVisits};
 ghost use Rattle.rb_format.specs.File.{Denotes, source_tree_of};
-ghost use Rattle.rb_format.specs.FirstFault.{first_fault};
+ghost use Rattle.rb_format.specs.Checks.{first_fault};
 
 use crate::file::{Counts, check_file};
 use rb_format::{Attributes, FileFault, body};

@@ -1,6 +1,6 @@
 // The checks of a whole file.
 ghost use Rattle.std.specs.Prelude.{◌≡◌, ◌⊎◌, ◌+◌, ◌*◌, ◌≤◌, None, Some, length, IfOk, MatchResult};
-ghost use Rattle.rb_format.specs.FirstFault.{fault_of, first_fault, read_data};
+ghost use Rattle.rb_format.specs.FirstFault.{fault_of, read_data, read_file};
 ghost use Rattle.rb_format.specs.Place as fields;
 ghost use Rattle.rb_validator.specs.Visits.{IsPlaceAt, IsCount, HasVisits};
 
@@ -23,9 +23,10 @@ pub struct Counts {
 }
 
 /// How many places a file has, and how many bytes of its keys were compared, or its first fault; `Memory` may come in place of an answer.
-#[tactic(auto, unfolding(rb_format::specs::FirstFault::read_file))]
+#[tactic(auto, using(rb_format::proofs::Checks::header_is), unfolding(rb_format::specs::FirstFault::read_file))]
 pub fn check_file(alloc: Global, bytes: &[u8]) -> Result<Counts, FileFault>
-    ensures answer { MatchResult result (λ _. first_fault bytes.now ≡ None) (λ e. (e ≡ FileFault.Memory) ⊎ (first_fault bytes.now ≡ Some e)) }
+    ensures answer { MatchResult result (λ _. fault_of (read_file 64 bytes.now) ≡ None)
+        (λ e. (e ≡ FileFault.Memory) ⊎ (fault_of (read_file 64 bytes.now) ≡ Some e)) }
     ensures visits { IfOk result (λ n. HasVisits bytes.now n.visits) }
     ensures compared { IfOk result (λ n. n.compared ≤ 25 * length bytes.now) }
 {

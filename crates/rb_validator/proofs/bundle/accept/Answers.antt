@@ -1,17 +1,36 @@
-use Rattle.std.proofs.Common.{◌≡◌, ◌*◌, ◌≤◌, length, None}
-use Rattle.rb_format.specs.FirstFault.{first_fault}
+use Rattle.std.proofs.Common.{◌≡◌, ◌*◌, ◌≤◌, List, length, ℕ, Some, None, sym, ◌∙◌, inl, inr}
+use Rattle.std.specs.Prelude.{◌⊎◌}
+use Rattle.rb_format.specs.declared.fault.FileFault.{FileFault}
+use Rattle.rb_format.specs.declared.fault.FileFault.TheVariants.{Memory}
+use Rattle.rb_format.specs.FirstFault.{fault_of, read_file}
+use Rattle.rb_format.specs.Checks.{first_fault}
+use Rattle.rb_format.proofs.Checks.{file_first}
 use Rattle.rb_format.proofs.Root.{fault_free}
 use Rattle.rb_validator.specs.Visits.{HasVisits}
 use Rattle.rb_validator.proofs.bundle.accept.Goals as goal
 
+-- what the reading refuses is the first fault
+fault_checked : (bytes : List ℕ) (e : FileFault) → (e ≡ Memory) ⊎ (fault_of (read_file 64 bytes) ≡ Some e) → (e ≡ Memory) ⊎ (first_fault bytes ≡ Some e)
+fault_checked bytes e (inl m) = inl m
+fault_checked bytes e (inr f) = inr (sym (file_first bytes) ∙ f)
+
 pub invariant_of-result : goal.invariant_of-result
 invariant_of-result c =
-    let none : first_fault c.args.bytes.items ≡ None = rw (← c.deref.ensures.value) c.in-Ok.ensures.answer in
-    let counted : HasVisits c.args.bytes.items c.in-Ok.field-0.visits = rw (← c.deref.ensures.value) c.in-Ok.ensures.visits in
-    let few : c.in-Ok.field-0.compared ≤ 25 * length c.args.bytes.items = rw (← c.deref.ensures.value) c.in-Ok.ensures.compared in
-    record { denoted = fault_free c.args.bytes.items none; counted = counted; few = few }
+    let bytes = c.args.bytes.items in
+    let none : fault_of (read_file 64 bytes) ≡ None = rw (← c.deref.ensures.value) c.in-Ok.ensures.answer in
+    let counted : HasVisits bytes c.in-Ok.field-0.visits = rw (← c.deref.ensures.value) c.in-Ok.ensures.visits in
+    let few : c.in-Ok.field-0.compared ≤ 25 * length bytes = rw (← c.deref.ensures.value) c.in-Ok.ensures.compared in
+    record { denoted = fault_free bytes (sym (file_first bytes) ∙ none); counted = counted; few = few }
 
 pub returns-in-Ok-clause-tree : goal.returns-in-Ok-clause-tree
 returns-in-Ok-clause-tree c =
-    let none : first_fault c.args.bytes.items ≡ None = rw (← c.deref.ensures.value) c.in-Ok.ensures.answer in
-    fault_free c.args.bytes.items none
+    let bytes = c.args.bytes.items in
+    let none : fault_of (read_file 64 bytes) ≡ None = rw (← c.deref.ensures.value) c.in-Ok.ensures.answer in
+    fault_free bytes (sym (file_first bytes) ∙ none)
+
+pub returns-in-Err-clause-fault : goal.returns-in-Err-clause-fault
+returns-in-Err-clause-fault c =
+    let bytes = c.args.bytes.items in
+    let e = c.in-Err.fault in
+    let told : (e ≡ Memory) ⊎ (fault_of (read_file 64 bytes) ≡ Some e) = rw (← c.deref.ensures.value) c.in-Err.ensures.answer in
+    fault_checked bytes e told
