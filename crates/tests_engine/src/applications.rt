@@ -1,7 +1,8 @@
-//! Two engines, of which one serves another application more: the first application's replies are the same.
+//! Two engines, of which one serves another application more: the first application's replies are the same. And one engine of many
+//! applications.
 
 use crate::engine::Step::{Find, Install, List, Remove};
-use crate::engine::{Step, answers, empty_engine, is_answered};
+use crate::engine::{Step, answers, empty_engine, installs, is_answered};
 use crate::payloads::Given::Text;
 use rb_engine::Engine;
 use std::alloc::Global;
@@ -67,4 +68,58 @@ fn shop_is_served(rt: &HostRuntime, is_busy: bool) -> bool {
 fn answers_one_application_alike(rt: HostRuntime) {
     assert!(rt; shop_is_served(&rt, false));
     assert!(rt; shop_is_served(&rt, true));
+}
+
+/// Whether an application of a number can install a bundle with a text of its own.
+fn installs_own(alloc: Global, engine: &mut Engine, number: u32) -> Option<bool> {
+    let app = format!(in alloc; "app_{number}").ok()?;
+    let text = format!(in alloc; "root{{a{{\"text {number}\"}}}}").ok()?;
+    let place: (&[u8], &[u8]) = (app.as_bytes(), b"root");
+    Some(installs(alloc, engine, place, Text(text.as_bytes()), "Done"))
+}
+
+/// Whether it finds this text, and has no other bundle.
+fn finds_own(alloc: Global, engine: &mut Engine, number: u32) -> Option<bool> {
+    let app = format!(in alloc; "app_{number}").ok()?;
+    let text = format!(in alloc; "text {number}").ok()?;
+    let place: (&[u8], &[u8]) = (app.as_bytes(), b"root");
+    let hit: (&[u8], &[u8], &[u8]) = (text.as_bytes(), b"root", b"root");
+    Some(
+        is_answered(alloc, engine, Find(place, b"a", hit))
+            && is_answered(alloc, engine, List(app.as_bytes(), 1)),
+    )
+}
+
+/// How many applications one engine serves.
+const MANY: u32 = 1_000;
+
+fn all_install(alloc: Global, engine: &mut Engine) -> bool {
+    for number in 0..MANY {
+        if installs_own(alloc, engine, number) != Some(true) {
+            return false;
+        }
+    }
+    true
+}
+
+fn all_find(alloc: Global, engine: &mut Engine) -> bool {
+    for number in 0..MANY {
+        if finds_own(alloc, engine, number) != Some(true) {
+            return false;
+        }
+    }
+    true
+}
+
+fn serves_many(rt: &HostRuntime) -> bool {
+    match empty_engine(rt) {
+        Some(mut engine) => all_install(rt.alloc(), &mut engine)
+            && all_find(rt.alloc(), &mut engine),
+        None => false,
+    }
+}
+
+#[test]
+fn serves_a_thousand_applications(rt: HostRuntime) {
+    assert!(rt; serves_many(&rt));
 }

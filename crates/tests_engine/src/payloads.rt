@@ -16,6 +16,10 @@ pub(crate) enum Given<'a> {
     Nested(u32),
     /// The text `root{` and so many `a{`.
     Braces(u32),
+    /// The text of a string at `a`, of so many bytes in all.
+    LongText(usize),
+    /// A file of a Binary at `a`, of so many words of data in all.
+    LongFile(u32),
 }
 
 /// The header of a file of format 1.1.
@@ -71,6 +75,25 @@ fn braces(alloc: Global, count: u32) -> Option<Vec<u8>> {
     Some(text)
 }
 
+fn long_text(alloc: Global, length: usize) -> Option<Vec<u8>> {
+    let units = "x".repeat(alloc, length.saturating_sub(11)).ok()?;
+    let mut text = b"root{a{\"".as_slice().to_vec(alloc).ok()?;
+    text.extend_from_slice(units.as_bytes()).ok()?;
+    text.extend_from_slice(b"\"}}").ok()?;
+    Some(text)
+}
+
+fn long_file(alloc: Global, words: u32) -> Option<Vec<u8>> {
+    let count = words.saturating_sub(10).saturating_mul(4);
+    let zeros = "\0".repeat(alloc, count as usize).ok()?;
+    let front = [
+        0x20000007, 5, 7, words, words, 1, KEY, 0x00180001, 0x10000009, count,
+    ];
+    let mut file = file(alloc, 1, &front)?;
+    file.extend_from_slice(zeros.as_bytes()).ok()?;
+    Some(file)
+}
+
 pub(crate) fn payload(alloc: Global, given: Given<'_>) -> Option<Payload> {
     let bytes = match given {
         Given::Text(text) => text.to_vec(alloc).ok()?,
@@ -78,10 +101,12 @@ pub(crate) fn payload(alloc: Global, given: Given<'_>) -> Option<Payload> {
         Given::Cut(minor, words) => cut_file(alloc, minor, words)?,
         Given::Nested(count) => nested_arrays(alloc, count)?,
         Given::Braces(count) => braces(alloc, count)?,
+        Given::LongText(length) => long_text(alloc, length)?,
+        Given::LongFile(words) => long_file(alloc, words)?,
     };
     let bytes = ByteList::from_vec(bytes);
     Some(match given {
-        Given::Text(_) | Given::Braces(_) => Payload::Text(bytes),
+        Given::Text(_) | Given::Braces(_) | Given::LongText(_) => Payload::Text(bytes),
         _ => Payload::File(bytes),
     })
 }

@@ -2,8 +2,8 @@
 
 use crate::engine::Step::{Find, Install, List, Miss};
 use crate::engine::{Step, answers, bytes, empty_engine, installs, is_served};
-use crate::payloads::Given::{Cut, File, Text};
-use crate::payloads::KEY;
+use crate::payloads::Given::{Cut, File, LongFile, LongText, Text};
+use crate::payloads::{KEY, payload};
 use rb_engine::{App, AppFault, Engine, LookFault, Payload, StartFault};
 use rb_locales::Name;
 use rb_parents::Parents;
@@ -121,6 +121,65 @@ fn keeps_4096(rt: &HostRuntime) -> bool {
 #[test]
 fn keeps_to_the_most_bundles_of_one_application(rt: HostRuntime) {
     assert!(rt; keeps_4096(&rt));
+}
+
+/// The longest text and file, and each with one more byte or word.
+const LIMITS: [Step<'static>; 5] = [
+    Install((b"shop", b"root"), LongText(8_388_608), "Done"),
+    Install((b"shop", b"de"), LongText(8_388_609), "BadText"),
+    Install((b"shop", b"fr"), LongFile(16_777_208), "Done"),
+    Install((b"shop", b"it"), LongFile(16_777_209), "BadFile"),
+    List(b"shop", 2),
+];
+
+#[test]
+fn takes_the_longest_text_and_file(rt: HostRuntime) {
+    assert!(rt; is_served(&rt, &LIMITS));
+}
+
+/// The common bundles `qq_0` and so on, so many of them, each with its name at `a`.
+fn common_bundles(alloc: Global, count: u32) -> Option<Vec<(Name, Payload)>> {
+    let mut icudata = Vec::new(alloc);
+    for i in 0..count {
+        let locale = format!(in alloc; "qq_{i}").ok()?;
+        let text = format!(in alloc; "x{{a{{\"qq_{i}\"}}}}").ok()?;
+        let name = Name::read(locale.as_bytes()).ok()?;
+        icudata
+            .push((name, payload(alloc, Text(text.as_bytes()))?))
+            .ok()?;
+    }
+    Some(icudata)
+}
+
+/// An engine with so many common bundles.
+fn engine_over(rt: &HostRuntime, count: u32) -> Option<Engine> {
+    let alloc = rt.alloc();
+    let icudata = common_bundles(alloc, count)?;
+    let state = RandomState::new(rt).ok()?;
+    Engine::start(alloc, state, icudata, Parents::none(alloc)).ok()
+}
+
+/// A bundle with aliases to the first and the last of 5,001 common bundles, and to one past them.
+const LINKS: &[u8] =
+    b"root{a:alias{\"/ICUDATA/qq_0/a\"} b:alias{\"/ICUDATA/qq_5000/a\"} c:alias{\"/ICUDATA/qq_5001/a\"}}";
+
+const LINKED: [Step<'static>; 4] = [
+    Install((b"shop", b"root"), Text(LINKS), "Done"),
+    Find((b"shop", b"root"), b"a", (b"qq_0", b"qq_0", b"root")),
+    Find((b"shop", b"root"), b"b", (b"qq_5000", b"qq_5000", b"root")),
+    Miss((b"shop", b"root"), b"c", LookFault::NoBundle),
+];
+
+fn finds_common_bundles(rt: &HostRuntime) -> bool {
+    match engine_over(rt, 5_001) {
+        Some(mut engine) => answers(rt.alloc(), &mut engine, &LINKED),
+        None => false,
+    }
+}
+
+#[test]
+fn has_more_common_bundles_than_an_application_may_have(rt: HostRuntime) {
+    assert!(rt; finds_common_bundles(&rt));
 }
 
 #[test]

@@ -4,8 +4,8 @@ ghost use Rattle.rb_tree.specs.Keys.{IsKey};
 ghost use Rattle.rb_tree.specs.Table.{keys_in};
 
 use crate::samples::{
-    AS_WRITTEN, EMPTY, EMPTY_WITHOUT_FALLBACK, ONE_STRING, ONE_STRING_WITHOUT_FALLBACK, Sample,
-    THREE_NUMBERS, TWO_BINARIES, TWO_NUMBERS, bytes_of,
+    AS_WRITTEN, Draft, EMPTY, EMPTY_WITHOUT_FALLBACK, ONE_STRING, ONE_STRING_WITHOUT_FALLBACK,
+    Sample, THREE_NUMBERS, TWO_BINARIES, TWO_NUMBERS, bytes_of,
 };
 use rb_format::word;
 use rb_tree::{ByteList, Int28, NumberList, Tree, TreeList, UnitList, key_ok};
@@ -172,6 +172,42 @@ fn every_type(alloc: Global) -> Option<Tree> {
 fn every_type_is_laid_out(rt: HostRuntime) {
     let alloc = rt.alloc();
     assert!(rt; is_written(alloc, every_type(alloc), false, AS_WRITTEN));
+}
+
+/// A key of 1,000 bytes.
+const LONG_KEY: [u8; 1_000] = [b'k'; 1_000];
+
+/// A table of the long key, which is an Int.
+fn long_key_table(alloc: Global, number: u32) -> Option<Tree> {
+    table(alloc, &[(&LONG_KEY, Leaf::Int(number))])
+}
+
+/// Tables `a` and `b` with the long key each, whose Ints are 1 and 2.
+fn long_key_twice(alloc: Global) -> Option<Tree> {
+    let mut pairs = Vec::new(alloc);
+    put_rows(alloc, &mut pairs, &[])?;
+    put(alloc, &mut pairs, b"b", long_key_table(alloc, 2)?)?;
+    put(alloc, &mut pairs, b"a", long_key_table(alloc, 1)?)?;
+    Tree::table(alloc, pairs).ok()
+}
+
+/// Its file: the keys `a`, `b` and, once, the long one with its NUL and three bytes of padding; then the two tables and the root.
+fn long_key_file(alloc: Global) -> Option<Vec<u8>> {
+    let mut file = Draft::new(alloc, 1);
+    file.words(&[0x20000106, 5, 258, 266, 266, 2, 0x00620061]);
+    file.repeat(0x6B6B6B6B, 250);
+    file.words(&[
+        0xAAAAAA00, 0x001C0001, 0x70000001, 0x001C0001, 0x70000002, 0x00180002, 0xAAAA001A,
+        0x20000102, 0x20000104,
+    ]);
+    file.done()
+}
+
+#[test]
+fn a_long_key_is_written_once(rt: HostRuntime) {
+    let alloc = rt.alloc();
+    let wanted = long_key_file(alloc);
+    assert!(rt; wanted.is_some() && file(alloc, long_key_twice(alloc), false) == wanted);
 }
 
 /// `k` and the last five digits of a number.

@@ -329,6 +329,89 @@ fn stops_at_the_last_line(rt: HostRuntime) -> Result<(), Fail> {
     Ok(())
 }
 
+/// The line of an install by the text `root{a{".."}}` of so many bytes.
+fn text_line(alloc: Global, length: usize) -> Result<String, Fail> {
+    let units = "x".repeat(alloc, length.saturating_sub(11))?;
+    Ok(format!(in alloc;
+        "{{\"op\":\"install\",\"app\":\"shop\",\"locale\":\"root\",\"text\":\"root{{a{{\\\"{units}\\\"}}}}\"}}"
+    )?)
+}
+
+/// The longest file but its last bytes, which are zeros: a Binary at `a` of 67,108,792 bytes.
+const LONG_FILE: &str = "\
+    2000DA271400000000000200526573420101000000000000000000000000000007000020050000000700000\
+    0F8FFFF00F8FFFF00010000006100AAAA0100180009000010B8FFFF03";
+
+/// The line of an install by the longest file.
+fn file_line(alloc: Global) -> Result<String, Fail> {
+    let zeros = "0".repeat(alloc, 134_217_584)?;
+    Ok(format!(in alloc;
+        "{{\"op\":\"install\",\"app\":\"shop\",\"locale\":\"de\",\"file\":\"{LONG_FILE}{zeros}\"}}"
+    )?)
+}
+
+#[test]
+fn takes_the_longest_text(rt: HostRuntime) -> Result<(), Fail> {
+    let alloc = rt.alloc();
+    let mut engine = empty_engine(&rt)?;
+    let over = text_line(alloc, 8_388_609)?;
+    assert!(rt; answers(alloc, &mut engine, over.as_str(), "{\"error\":\"BadText\"}")?);
+    let longest = text_line(alloc, 8_388_608)?;
+    assert!(rt; answers(alloc, &mut engine, longest.as_str(), "{\"ok\":true}")?);
+    Ok(())
+}
+
+#[test]
+fn takes_the_longest_file(rt: HostRuntime) -> Result<(), Fail> {
+    let alloc = rt.alloc();
+    let mut engine = empty_engine(&rt)?;
+    let longest = file_line(alloc)?;
+    assert!(rt; answers(alloc, &mut engine, longest.as_str(), "{\"ok\":true}")?);
+    Ok(())
+}
+
+/// The line of a lookup by `shop` from `root`.
+fn look_line(alloc: Global, path: &str) -> Result<String, Fail> {
+    Ok(format!(in alloc;
+        "{{\"op\":\"look\",\"app\":\"shop\",\"locale\":\"root\",\"path\":\"{path}\"}}"
+    )?)
+}
+
+/// The reply to a lookup that finds a string.
+fn found(alloc: Global, text: &str) -> Result<String, Fail> {
+    Ok(format!(in alloc;
+        "{{\"actual\":\"root\",\"type\":\"string\",\"valid\":\"root\",\"value\":\"{text}\"}}"
+    )?)
+}
+
+/// Lookups of a string of 200,000 units, of nothing and of a short string, by one call of `serve`, and their replies.
+fn long_and_short(alloc: Global) -> Result<(String, String), Fail> {
+    let text = "x".repeat(alloc, 200_000)?;
+    let (long, none, short) = (
+        look_line(alloc, "a")?,
+        look_line(alloc, "b")?,
+        look_line(alloc, "c")?,
+    );
+    let lines = format!(in alloc;
+        "{{\"op\":\"install\",\"app\":\"shop\",\"locale\":\"root\",\"text\":\"root{{a{{\\\"{text}\\\"}} c{{\\\"C\\\"}}}}\"}}\n\
+        {long}\n{none}\n{short}\n{none}\n{long}\n"
+    )?;
+    let (long, short) = (found(alloc, text.as_str())?, found(alloc, "C")?);
+    let none = "{\"error\":\"Missing\"}";
+    let replies = format!(in alloc; "{{\"ok\":true}}\n{long}\n{none}\n{short}\n{none}\n{long}\n")?;
+    Ok((lines, replies))
+}
+
+#[test]
+fn a_refused_lookup_leaves_nothing(rt: HostRuntime) -> Result<(), Fail> {
+    let alloc = rt.alloc();
+    let mut engine = empty_engine(&rt)?;
+    let (lines, replies) = long_and_short(alloc)?;
+    let written = written(alloc, &mut engine, lines.as_bytes(), 9, Ok(6))?;
+    assert!(rt; written.as_slice() == replies.as_bytes());
+    Ok(())
+}
+
 #[test]
 fn names_faults(rt: HostRuntime) {
     assert_eq!(rt; ServeFault::LineTooLong.word(), "LineTooLong");
