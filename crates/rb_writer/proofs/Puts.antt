@@ -1,6 +1,8 @@
 -- What is put after data is there, and what was there stays.
-use Rattle.std.proofs.Common.{◌≡◌, ℕ, zero, suc, ◌+◌, ◌*◌, ◌^◌, ◌<◌, ◌≤◌, ℤ, List, [], ◌∷◌, ◌++◌, length, get_or, drop, refl, sym, ap, ◌∙◌, arith, inl, inr}
-use Rattle.std.proofs.lemmas.List.{get_or_append_left, length-append, get_or-drop, append-nil}
+use Rattle.std.proofs.Common.{◌≡◌, ℕ, zero, suc, ◌+◌, ◌*◌, ◌^◌, ◌<◌, ◌≤◌, ℤ, List, [], ◌∷◌, ◌++◌, length, get_or, take, drop, replicate, refl, sym, ap, ◌∙◌, arith, inl, inr}
+use Rattle.std.specs.Prelude.{All}
+use Rattle.std.proofs.lemmas.List.{get_or_append_left, length-append, get_or-drop, append-nil, drop_all}
+use Rattle.std.proofs.lemmas.List.Elements.{All-nil, All-take, All-drop, All-replicate}
 use Rattle.std.proofs.lemmas.Bool.{cases_eq}
 use Rattle.std.specs.Int.{cast_signed, w32}
 use Rattle.byteorder.specs.Endian.{little_bytes, little_number}
@@ -115,3 +117,14 @@ numbers_more old mid new numbers z w n p q t e h =
           (ap (cast_signed w32) (q.word_is (i + n) (omega arith)) ∙ t ∙ e)
           (λ b. ap (cast_signed w32) (word_stays mid new (i + j) q.adds (omega arith)) ∙ p.numbers_are i j d f b);
     }
+
+-- ---- padding
+
+-- the last of three bytes of padding
+pub padded : (old new : List ℕ) (k n : ℕ) → PutsBytes old new (take n (drop k (replicate 3 170))) → All (λ b. b ≡ 170) (drop (length old) new)
+padded old new k n p =
+    rw p.bytes_are (All-take (λ (b : ℕ). b ≡ 170) n (drop k (replicate 3 170)) (All-drop (λ (b : ℕ). b ≡ 170) k (replicate 3 170)
+    (All-replicate (λ (b : ℕ). b ≡ 170) 3 170 refl)))
+
+pub not_padded : (old : List ℕ) → All (λ b. b ≡ 170) (drop (length old) old)
+not_padded old = rw (drop_all (length old) old (omega arith)) (All-nil (λ (b : ℕ). b ≡ 170))

@@ -1,5 +1,8 @@
 // The keys of a tree, each once.
 ghost use Rattle.std.specs.Prelude.{◌≡◌, OnOk, IfOk, IfSome, IsTrue, []};
+ghost use Rattle.std.specs.List.Sorted.{IsSorted};
+ghost use Rattle.std.specs.Ordering.{nat_cmp};
+ghost use Rattle.std.specs.Cmp.Lexicographic.{slice_cmp};
 ghost use Rattle.rb_tree.specs.Resource.{Resource};
 ghost use Rattle.rb_tree.specs.View.{view_of};
 ghost use Rattle.rb_writer.specs.Collected.{Has, Gains, Gathers, GathersKeys};
@@ -155,7 +158,8 @@ pub fn gather(alloc: Global, tree: &Tree) -> Result<Gathered<'_>, AllocError>
 /// Keys in ascending order.
 #[tactic(auto, using(crate::proofs::Gathered::sorted))]
 pub fn sorted_keys<'a>(alloc: Global, gathered: &Gathered<'a>) -> Result<Vec<&'a [u8]>, AllocError>
-    ensures { IfOk result (λ v. (t : Resource) → GathersKeys t gathered.now.keys.items → GathersKeys t v.items) }
+    ensures keys { IfOk result (λ v. (t : Resource) → GathersKeys t gathered.now.keys.items → GathersKeys t v.items) }
+    ensures ascending { IfOk result (λ v. IsSorted (λ a b. slice_cmp nat_cmp a.now b.now) v.items) }
 {
     let mut ascending = Vec::new(alloc);
     ascending.extend_from_slice(&gathered.keys)?;

@@ -1,5 +1,5 @@
 // Values without children.
-ghost use Rattle.std.specs.Prelude.{IfOk, length, ◌≡◌, ◌+◌, ◌*◌, ◌%◌, ◌^◌, ◌≤◌, ◌<◌, ℕ, [], map};
+ghost use Rattle.std.specs.Prelude.{IfOk, length, ◌≡◌, ◌⊎◌, ◌+◌, ◌*◌, ◌%◌, ◌^◌, ◌≤◌, ◌<◌, ℕ, [], map};
 ghost use Rattle.rb_format.specs.FirstFault.{units, bytes};
 ghost use Rattle.rb_writer.specs.declared.area.KeyArea.{KeyArea};
 ghost use Rattle.rb_writer.specs.Growth.{IsDraft, Put, signed_numbers};
@@ -53,6 +53,7 @@ pub fn write_bytes(out: &mut Data, binary: &[u8]) -> Result<u32, AllocError>
     requires room { length out.old + (20 + length binary.now) ≤ 2 ^ 28 }
     ensures put { IfOk result (λ offset. (area : KeyArea) → IsDraft area out.old
         → Put area out.old out.new (20 + length binary.now) bytes binary.now [] offset) }
+    ensures aligned { IfOk result (λ offset. (length binary.now ≡ 0) ⊎ ((4 * offset + 4) % 16 ≡ 0)) }
     ensures small { IfOk result (λ offset. offset < 2 ^ 28) }
 {
     if binary.is_empty() {

@@ -1,5 +1,5 @@
 // Numbers and bytes after what is there.
-ghost use Rattle.std.specs.Prelude.{OnOk, length, ◌≡◌, ◌+◌, ◌<◌, ◌%◌, ◌≤◌, map};
+ghost use Rattle.std.specs.Prelude.{OnOk, All, drop, length, ◌≡◌, ◌+◌, ◌<◌, ◌%◌, ◌≤◌, map};
 ghost use Rattle.rb_writer.specs.Growth.{Adds, PutsWord, PutsHalf, PutsBytes, PutsWords, PutsHalves, PutsNumbers};
 
 use crate::data::Data;
@@ -67,6 +67,7 @@ pub fn pad(out: &mut Data) -> Result<(), AllocError>
     ensures adds { OnOk result (Adds out.old out.new) }
     ensures whole { OnOk result (length out.new % 4 ≡ 0) }
     ensures little { OnOk result (length out.new < length out.old + 4) }
+    ensures padding { OnOk result (All (λ b. b ≡ 170) (drop (length out.old) out.new)) }
 {
     let over = out.len() % 4;
     if over > 0 {

@@ -177,13 +177,17 @@ fn every_type_is_laid_out(rt: HostRuntime) {
 /// A key of 1,000 bytes.
 const LONG_KEY: [u8; 1_000] = [b'k'; 1_000];
 
+/// A table of the long key, which is an Int.
+fn long_key_table(alloc: Global, number: u32) -> Option<Tree> {
+    table(alloc, &[(&LONG_KEY, Leaf::Int(number))])
+}
+
 /// Tables `a` and `b` with the long key each, whose Ints are 1 and 2.
 fn long_key_twice(alloc: Global) -> Option<Tree> {
     let mut pairs = Vec::new(alloc);
-    for (key, number) in [(b"b", 2), (b"a", 1)] {
-        let inner = table(alloc, &[(&LONG_KEY, Leaf::Int(number))])?;
-        put(alloc, &mut pairs, key, inner)?;
-    }
+    put_rows(alloc, &mut pairs, &[])?;
+    put(alloc, &mut pairs, b"b", long_key_table(alloc, 2)?)?;
+    put(alloc, &mut pairs, b"a", long_key_table(alloc, 1)?)?;
     Tree::table(alloc, pairs).ok()
 }
 

@@ -15,14 +15,14 @@ pub write_keys-requires-clause-room : goal.write_keys-requires-clause-room
 write_keys-requires-clause-room c =
     let t = view_of c.args.tree.now in
     let f : keys_size (map {A = Bor (List ℕ)} (λ r. r.now) c.in_ok-keys.keys.items) + data_most t + 4 ≤ 33554432 = keys_fit t c.in_ok-keys.keys.items
-    c.requires (c.in_ok-keys.ensures t c.in_ok-gathered.ensures) in
+    c.requires (c.in_ok-keys.ensures.keys t c.in_ok-gathered.ensures) in
     rw c.deref.ensures.value (omega (arith, f))
 
 pub write_value-requires-clause-room : goal.write_value-requires-clause-room
 write_value-requires-clause-room c =
     let t = view_of c.args.tree.now in
     let f : keys_size (map {A = Bor (List ℕ)} (λ r. r.now) c.in_ok-keys.keys.items) + data_most t + 4 ≤ 33554432 = keys_fit t c.in_ok-keys.keys.items
-    c.requires (c.in_ok-keys.ensures t c.in_ok-gathered.ensures) in
+    c.requires (c.in_ok-keys.ensures.keys t c.in_ok-gathered.ensures) in
     let short = rw c.deref.ensures.value at c.in_ok-places.ensures.little in
     let five = five_or_six c.args.no_fallback c.index_count-indexes.result c.index_count-indexes.ensures in
     omega (arith, f, short)
@@ -30,7 +30,7 @@ write_value-requires-clause-room c =
 pub write_value-requires-clause-each : goal.write_value-requires-clause-each
 write_value-requires-clause-each c =
     each_key (λ k. IsSome (place c.in_ok-places.places k)) (view_of c.args.tree.now) c.in_ok-keys.keys.items
-    (c.in_ok-keys.ensures (view_of c.args.tree.now) c.in_ok-gathered.ensures)
+    (c.in_ok-keys.ensures.keys (view_of c.args.tree.now) c.in_ok-gathered.ensures)
     (rw c.deref.ensures.value at c.in_ok-places.ensures.each)
 
 pub overflow_cast-longest_table : goal.overflow_cast-longest_table
@@ -42,7 +42,7 @@ pub finish-requires-clause-room : goal.finish-requires-clause-room
 finish-requires-clause-room c =
     let t = view_of c.args.tree.now in
     let f : keys_size (map {A = Bor (List ℕ)} (λ r. r.now) c.in_ok-keys.keys.items) + data_most t + 4 ≤ 33554432 = keys_fit t c.in_ok-keys.keys.items
-    c.requires (c.in_ok-keys.ensures t c.in_ok-gathered.ensures) in
+    c.requires (c.in_ok-keys.ensures.keys t c.in_ok-gathered.ensures) in
     let short = rw c.deref.ensures.value at c.in_ok-places.ensures.little in
     let l = c.in_ok-root.ensures.little in
     let five = five_or_six c.args.no_fallback c.index_count-indexes.result c.index_count-indexes.ensures in
@@ -57,6 +57,6 @@ returns c =
     (map {A = Bor (List ℕ)} (λ r. r.now) c.in_ok-keys.keys.items) = rw c.in_ok-places.ensures.area short in
     let h : IsWritten c.args.no_fallback t c.finish.result.items = written_by c.args.no_fallback t c.in_ok-keys.keys.items c.write_keys.new.out
     c.write_value.new.out c.in_ok-root.root c.in_ok-places.places.area c.longest_table.result c.finish.result.items c.requires
-    (c.in_ok-keys.ensures t c.in_ok-gathered.ensures) count
+    (c.in_ok-keys.ensures.keys t c.in_ok-gathered.ensures) count
     few c.in_ok-root.ensures c.longest_table.ensures c.finish.ensures in
     record { denotes = h.denotes; front = h.front; end = h.end; longest = h.longest }
