@@ -1,5 +1,5 @@
 -- What is left of some room after a part of a tree.
-use Rattle.std.proofs.Common.{◌≡◌, ℕ, zero, suc, ◌+◌, ◌*◌, ◌<◌, ◌≤◌, List, length, Bool, true, not, Option, Some, None, sym, subst, ap, ◌∙◌, arith}
+use Rattle.std.proofs.Common.{◌≡◌, ℕ, ◌+◌, ◌*◌, ◌<◌, ◌≤◌, List, length, Bool, true, not, Option, Some, None, sym, subst, ap}
 use Rattle.std.specs.Prelude.{slice_get, is_some}
 use Rattle.std.specs.Map.{keys_of, values_of}
 use Rattle.rb_tree.specs.Resource.{Resource, Resources, Members}

@@ -1,8 +1,9 @@
 -- What the printer writes: signs, and the characters of each. Which keys and names stand without quotes, and which units stand for
 -- themselves in a quoted text, is a rule of this project; both are read so by ICU's genrb.
-use Rattle.std.specs.Prelude.{ℕ, ◌/◌, ◌%◌, ◌==◌, ◌&&◌, ◌||◌, Bool, true, false, not, cond, nat_lt, nat_le, List, [], ◌∷◌, ◌++◌}
+use Rattle.std.specs.Prelude.{ℕ, ◌/◌, ◌%◌, ◌==◌, ◌&&◌, ◌||◌, Bool, true, false, not, cond, nat_lt, nat_le, List, [], ◌∷◌, ◌++◌, Option, Some, None}
 use Rattle.std.specs.List.{list_all}
 use Rattle.std.specs.Char.{digit_char}
+use Rattle.std.specs.Char.Utf16.{is_high_surrogate, is_low_surrogate, surrogate_pair_char}
 use Rattle.rb_lexer.specs.Lexeme.{is_white, is_punctuation, quote, backslash, slash}
 use Rattle.rb_lexer.specs.Tokens.{is_empty}
 use Rattle.rb_lexer.specs.declared.token.Mark.{Mark}
@@ -46,25 +47,51 @@ is_surrogate u = nat_le 0xD800 u && nat_lt u 0xE000
 abbrev pub is_mark : ℕ → Bool
 is_mark u = (u == 0x2028) || (u == 0x2029) || (u == 0xFEFF)
 
+-- a quote or a backslash
+abbrev pub is_cited : ℕ → Bool
+is_cited u = (u == quote) || (u == backslash)
+
 -- a unit that stands for itself between quotes
 abbrev pub is_shown : ℕ → Bool
-is_shown u = not ((u == quote) || (u == backslash)) && not (is_control u || is_surrogate u || is_mark u)
+is_shown u = not (is_cited u) && not (is_control u || is_surrogate u || is_mark u)
 
 -- the four hexadecimal digits of a unit
 abbrev pub four_digits : ℕ → List ℕ
 four_digits u = digit_char (u / 4096) ∷ digit_char (u / 256 % 16) ∷ digit_char (u / 16 % 16) ∷ digit_char (u % 16) ∷ []
 
-abbrev pub unit_chars : ℕ → List ℕ
-unit_chars u = cond (is_shown u) (u ∷ []) (backslash ∷ 0x75 ∷ four_digits u)
+-- a backslash, and a quote or a backslash itself, or the digits of any other unit
+abbrev pub escape_chars : ℕ → List ℕ
+escape_chars u = backslash ∷ cond (is_cited u) (u ∷ []) (0x75 ∷ four_digits u)
 
-abbrev pub units_chars : List ℕ → List ℕ
-units_chars [] = []
-units_chars (u ∷ us) = unit_chars u ++ units_chars us
+-- the first unit, if there is one
+abbrev pub first_unit : List ℕ → Option ℕ
+first_unit [] = None
+first_unit (u ∷ us) = Some u
+
+abbrev pub is_low : Option ℕ → Bool
+is_low None = false
+is_low (Some u) = is_low_surrogate u
+
+-- the character of a surrogate pair
+abbrev pub pair_chars : ℕ → Option ℕ → List ℕ
+pair_chars u None = []
+pair_chars u (Some v) = surrogate_pair_char u v ∷ []
+
+-- A unit between quotes, after a high surrogate or not, and in front of the next unit. The first unit of a surrogate pair is written as
+-- the pair's character, and then the second as nothing. A surrogate without its partner is escaped.
+abbrev pub unit_chars : Bool → ℕ → Option ℕ → List ℕ
+unit_chars after_high u next = cond (is_shown u) (u ∷ [])
+    (cond (is_high_surrogate u && is_low next) (pair_chars u next) (cond (after_high && is_low_surrogate u) [] (escape_chars u)))
+
+-- units between quotes, after a high surrogate or not
+abbrev pub units_chars : List ℕ → Bool → List ℕ
+units_chars [] after_high = []
+units_chars (u ∷ us) after_high = unit_chars after_high u (first_unit us) ++ units_chars us (is_high_surrogate u)
 
 -- without quotes, or with them
 abbrev pub text_chars : Bool → List ℕ → List ℕ
 text_chars true us = us
-text_chars false us = quote ∷ (units_chars us ++ quote ∷ [])
+text_chars false us = quote ∷ (units_chars us false ++ quote ∷ [])
 
 abbrev pub sign_chars : Sign → List ℕ
 sign_chars feed = 0x0A ∷ []

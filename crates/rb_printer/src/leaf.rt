@@ -1,18 +1,32 @@
 // Trees without children.
-ghost use Rattle.std.specs.Prelude.{◌≡◌, ◌<◌, ◌^◌, ℕ, List, [], ◌∷◌, ◌++◌, true, false, OnOk, string_bytes, ◌/◌, ◌%◌};
+ghost use Rattle.std.specs.Prelude.{◌≡◌, ◌<◌, ◌+◌, ◌^◌, ℕ, List, drop, [], ◌∷◌, ◌++◌, true, false, OnOk, string_bytes, ◌/◌, ◌%◌};
 ghost use Rattle.std.specs.Char.{digit_char};
 ghost use Rattle.std.specs.List.{AllByRecursion};
 ghost use Rattle.std.specs.Fmt.{decimal, signed_decimal};
-ghost use Rattle.rb_tree.specs.Parts.{HasUnits, kind_of, units_of, numbers_of, bytes_of, int_of};
+ghost use Rattle.rb_tree.specs.Parts.{HasUnits, kind_of, len_of, units_of, numbers_of, bytes_of, int_of};
 ghost use Rattle.rb_tree.specs.declared.kind.Kind.TheVariants as Kinds;
-ghost use Rattle.rb_printer.specs.Sign.{signs_chars, text_chars, text, right};
+ghost use Rattle.rb_printer.specs.Sign.{first_unit, signs_chars, text_chars, text, right};
 ghost use Rattle.rb_printer.specs.Page.{hex_units, numbers_signs, comma_if};
 ghost use Rattle.rb_printer.specs.Sound.{AreUnits, AreBytes, IsNumber};
 ghost use Rattle.rb_printer.specs.Growth.{Adds};
 
-use crate::text::{digit_char, put, put_unit};
+use crate::text::{digit_char, is_high, put, put_unit};
 use rb_tree::Node;
 use std::alloc::AllocError;
+
+/// The unit after one of a String's or an Alias's.
+fn next_of<N: Node>(node: N, i: usize) -> Option<u16>
+    requires units { HasUnits (kind_of (N.tree node)) }
+    requires in_range { i < len_of (N.tree node) }
+    ensures { result ≡ first_unit (drop (i + 1) (units_of (N.tree node))) }
+{
+    let len = node.len();
+    if i + 1 < len {
+        Some(node.unit(i + 1))
+    } else {
+        None
+    }
+}
 
 /// Writes the text of a String or an Alias, with quotes.
 pub fn put_units_of<N: Node>(out: &mut String, node: N) -> Result<(), AllocError>
@@ -21,8 +35,11 @@ pub fn put_units_of<N: Node>(out: &mut String, node: N) -> Result<(), AllocError
     ensures sound { OnOk result (AreUnits (units_of (N.tree node))) }
 {
     put(out, '"')?;
+    let mut after_high = false;
     for i in 0..node.len() {
-        put_unit(out, node.unit(i))?;
+        let unit = node.unit(i);
+        put_unit(out, after_high, unit, next_of(node, i))?;
+        after_high = is_high(unit);
     }
     put(out, '"')
 }

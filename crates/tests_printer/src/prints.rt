@@ -66,7 +66,7 @@ fn prints_each_kind(rt: HostRuntime) -> Result<(), Fail> {
 #[test]
 fn writes_names_and_flags(rt: HostRuntime) -> Result<(), Fail> {
     let alloc = rt.alloc();
-    let rows: [(&str, &str); 4] = [
+    let rows: [(&str, &str); 5] = [
         ("de{hello{\"Hallo\"}}", "de {\n    hello { \"Hallo\" }\n}\n"),
         (
             "de_AT:table(nofallback){}",
@@ -76,6 +76,10 @@ fn writes_names_and_flags(rt: HostRuntime) -> Result<(), Fail> {
         (
             "\"a b\"{\"k:\"{\"é\\u0007\\uD800\u{FEFF}\"}}",
             "\"a b\" {\n    \"k:\" { \"é\\u0007\\ud800\\ufeff\" }\n}\n",
+        ),
+        (
+            "\u{1F600}{a{\"\\uD83D\\uDE00\\uD83D\\uD83D\\uDE00\\uDE00 \\\"q\\\" C:\\\\x\"}}",
+            "\"\u{1F600}\" {\n    a { \"\u{1F600}\\ud83d\u{1F600}\\ude00 \\\"q\\\" C:\\\\x\" }\n}\n",
         ),
     ];
     for (text, want) in rows {
