@@ -2,6 +2,7 @@
 use Rattle.std.proofs.Common.{◌≡◌, ℕ, zero, suc, ◌+◌, ◌*◌, ◌≤◌, ℤ, Bool, true, false, cond, ◌&&◌, not, List, [], ◌∷◌, ◌++◌, length}
 use Rattle.std.proofs.Common.{refl, ap, arith, length-append, encode_utf8, encode_utf8_all, Option, Some, None}
 use Rattle.std.specs.Fmt.{decimal, signed_decimal}
+use Rattle.std.specs.Prelude.{nat_le}
 use Rattle.std.proofs.lemmas.Str.{length-encode, len_utf8_bounds}
 use Rattle.std.proofs.lemmas.Bool.{le-ltb}
 use Rattle.std.specs.Char.{len_utf8}
@@ -14,9 +15,10 @@ use Rattle.rb_tree.specs.Resource.{weight, trees_weight, entries_weight}
 use Rattle.rb_printer.specs.Sign.{Sign, feed, space, left, right, comma, text, is_word, is_name, is_shown, is_cited, is_low, four_digits, escape_chars}
 use Rattle.rb_printer.specs.Sign.{pair_chars, first_unit, unit_chars, units_chars}
 use Rattle.rb_printer.specs.Sign.{text_chars, sign_chars, signs_chars}
+use Rattle.rb_printer.specs.Page.{pause, room_after, wraps, number_fits, text_width, item_fits, item_room}
 use Rattle.rb_printer.specs.Page.{hex_units, indent, comma_if, are_more, has_items, has_entries, is_guessed, numbers_signs, type_unless, gap, item_signs}
 use Rattle.rb_printer.specs.Page.{head_signs, body_signs, items_signs, entries_signs, page}
-use Rattle.rb_printer.specs.Least.{least, items_least, entries_least}
+use Rattle.rb_printer.specs.Least.{item_lead, least, items_least, entries_least}
 use Rattle.rb_printer.proofs.Tests.{and_left, and_right}
 use Rattle.rb_printer.proofs.Texts.{shown_high, low_not_high}
 
@@ -111,6 +113,13 @@ indent_least : (n : ℕ) (rest : List Sign) → 4 * n + size (signs_chars rest) 
 indent_least zero rest = omega arith
 indent_least (suc n) rest = omega (arith, indent_least n rest)
 
+pause_least : (b : Bool) (n : ℕ) (rest : List Sign) → 1 + size (signs_chars rest) ≤ size (signs_chars (pause b n rest))
+pause_least true n rest = omega arith
+pause_least false n rest = omega (arith, indent_least n rest)
+
+new_line_least : (n : ℕ) (rest : List Sign) → 1 + 4 * n + size (signs_chars rest) ≤ size (signs_chars (pause false n rest))
+new_line_least n rest = omega (arith, indent_least n rest)
+
 comma_least : (b : Bool) (rest : List Sign) → size (signs_chars rest) ≤ size (signs_chars (comma_if b rest))
 comma_least true rest = omega arith
 comma_least false rest = omega arith
@@ -127,15 +136,21 @@ head_least : (b : Bool) (rest : List Sign) → size (signs_chars rest) ≤ size 
 head_least true rest = omega (arith, size_append (sign_chars (text true no_fallback_table_word)) (signs_chars (space ∷ rest)))
 head_least false rest = omega arith
 
-numbers_least : (zs : List ℤ) (rest : List Sign) → 2 * length zs + size (signs_chars rest) ≤ size (signs_chars (numbers_signs zs rest))
-numbers_least [] rest = omega arith
-numbers_least (z ∷ zs) rest = omega (
-  arith,
-  size_append (sign_chars (text true (signed_decimal z))) (signs_chars (comma_if (are_more zs) (numbers_signs zs rest))),
-  text_some (signed_decimal z),
-  comma_least (are_more zs) (numbers_signs zs rest),
-  numbers_least zs rest,
-)
+numbers_least : (zs : List ℤ) (w : Bool) (level room : ℕ) (rest : List Sign)
+    → 2 * length zs + size (signs_chars rest) ≤ size (signs_chars (numbers_signs zs w level room rest))
+numbers_least [] w level room rest = omega arith
+numbers_least (z ∷ zs) w level room rest =
+    let fits = number_fits w room in
+    let next = room_after fits level room (length (signed_decimal z)) in
+    let after = comma_if (are_more zs) (numbers_signs zs w level next rest) in
+    omega (
+      arith,
+      pause_least fits level (text true (signed_decimal z) ∷ after),
+      size_append (sign_chars (text true (signed_decimal z))) (signs_chars after),
+      text_some (signed_decimal z),
+      comma_least (are_more zs) (numbers_signs zs w level next rest),
+      numbers_least zs w level next rest,
+    )
 
 item_least : (t : Resource) (n : ℕ) (body after : List Sign) → least n t + size (signs_chars after) ≤ size (signs_chars body)
     → least n t + size (signs_chars after) ≤ size (signs_chars (item_signs t body after))
@@ -147,11 +162,38 @@ item_least (alias us) n body after h = h
 item_least (array ts) n body after h = h
 item_least (table es) n body after h = h
 
+-- what stands in front of an item, with the comma after it
+lead_least : (t : Resource) (level room : ℕ) (rest : List Sign) → item_lead level t + size (signs_chars rest) ≤ size (signs_chars (pause (item_fits level room t) level rest)) + 1
+lead_least (string us) level room rest = by (nat_le level 12) where
+  by : (b : Bool) → cond b 2 (4 * level) + size (signs_chars rest) ≤ size (signs_chars (pause (b && nat_le (text_width us + 2) room) level rest)) + 1
+  by true = omega (arith, pause_least (nat_le (text_width us + 2) room) level rest)
+  by false = omega (arith, new_line_least level rest)
+lead_least (int n) level room rest = omega (arith, new_line_least level rest)
+lead_least (ints zs) level room rest = omega (arith, new_line_least level rest)
+lead_least (binary bs) level room rest = omega (arith, new_line_least level rest)
+lead_least (alias us) level room rest = omega (arith, new_line_least level rest)
+lead_least (array ts) level room rest = omega (arith, new_line_least level rest)
+lead_least (table es) level room rest = omega (arith, new_line_least level rest)
+
+lead_some : (t : Resource) (level : ℕ) → 1 ≤ level → 2 ≤ item_lead level t
+lead_some (string us) level h = by (nat_le level 12) where
+  by : (b : Bool) → 2 ≤ cond b 2 (4 * level)
+  by true = omega arith
+  by false = omega arith
+lead_some (int n) level h = omega arith
+lead_some (ints zs) level h = omega arith
+lead_some (binary bs) level h = omega arith
+lead_some (alias us) level h = omega arith
+lead_some (array ts) level h = omega arith
+lead_some (table es) level h = omega arith
+
 mutual
   pub body_least : (t : Resource) (level : ℕ) (rest : List Sign) → least level t + size (signs_chars rest) ≤ size (signs_chars (body_signs level t rest))
   body_least (string us) level rest = omega (arith, size_append (text_chars false us) (0x20 ∷ 0x7D ∷ signs_chars rest), quoted_least us)
   body_least (int n) level rest = omega (arith, size_append (sign_chars (text true (decimal n))) (0x20 ∷ 0x7D ∷ signs_chars rest))
-  body_least (ints zs) level rest = omega (arith, numbers_least zs (space ∷ right ∷ rest))
+  body_least (ints zs) level rest =
+      let w = wraps (level + 1) zs in
+      omega (arith, numbers_least zs w (level + 1) 0 (pause (not w) level (right ∷ rest)), pause_least (not w) level (right ∷ rest))
   body_least (binary bs) level rest =
       omega (arith, size_append (text_chars false (hex_units bs)) (0x20 ∷ 0x7D ∷ signs_chars rest), quoted_least (hex_units bs), hex_length bs)
   body_least (alias us) level rest = omega (arith, size_append (text_chars false us) (0x20 ∷ 0x7D ∷ signs_chars rest), quoted_least us)
@@ -159,8 +201,8 @@ mutual
       let end = indent level (right ∷ rest) in
       omega (
         arith,
-        unless_least (has_items ts) array_word (left ∷ feed ∷ items_signs (level + 1) ts end),
-        items_least_of ts (level + 1) end,
+        unless_least (has_items ts) array_word (left ∷ items_signs (level + 1) ts 0 (feed ∷ end)),
+        items_least_of ts (level + 1) 0 (feed ∷ end),
         indent_least level (right ∷ rest),
       )
   body_least (table es) level rest =
@@ -172,16 +214,17 @@ mutual
         indent_least level (right ∷ rest),
       )
 
-  pub items_least_of : (ts : Resources) (level : ℕ) (rest : List Sign)
-      → items_least level ts + size (signs_chars rest) ≤ size (signs_chars (items_signs level ts rest))
-  items_least_of no_trees level rest = omega arith
-  items_least_of (tree_and t ts) level rest =
-      let after = comma ∷ feed ∷ items_signs level ts rest in
+  pub items_least_of : (ts : Resources) (level room : ℕ) (rest : List Sign)
+      → items_least level ts + size (signs_chars rest) ≤ size (signs_chars (items_signs level ts room rest))
+  items_least_of no_trees level room rest = omega arith
+  items_least_of (tree_and t ts) level room rest =
+      let next = item_room level room t in
+      let after = comma ∷ items_signs level ts next rest in
       omega (
         arith,
-        indent_least level (item_signs t (body_signs level t after) after),
+        lead_least t level room (item_signs t (body_signs level t after) after),
         item_least t level (body_signs level t after) after (body_least t level after),
-        items_least_of ts level rest,
+        items_least_of ts level next rest,
       )
 
   pub entries_least_of : (es : Members) (level : ℕ) (rest : List Sign)
@@ -214,7 +257,7 @@ mutual
 
   items_weight : (ts : Resources) (level : ℕ) → 1 ≤ level → trees_weight ts ≤ 4 * items_least level ts
   items_weight no_trees level h = omega arith
-  items_weight (tree_and t ts) level h = omega (arith, weight_least t level, items_weight ts level h)
+  items_weight (tree_and t ts) level h = omega (arith, lead_some t level h, weight_least t level, items_weight ts level h)
 
   members_weight : (es : Members) (level : ℕ) → 1 ≤ level → entries_weight es ≤ 4 * entries_least level es
   members_weight no_entries level h = omega arith

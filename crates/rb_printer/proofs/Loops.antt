@@ -14,12 +14,12 @@ use Rattle.rb_lexer.specs.Lexeme.{quote}
 use Rattle.rb_tree.specs.Resource.{Resource, string, int, ints, binary, alias, array, table}
 use Rattle.rb_tree.specs.Parts.{kind_of, len_of, HasUnits, units_of, numbers_of, bytes_of}
 use Rattle.rb_tree.specs.declared.kind.Kind.TheVariants as Kinds
-use Rattle.rb_printer.specs.Sign.{is_shown, is_low, escape_chars, pair_chars, first_unit, unit_chars, units_chars, text_chars, signs_chars}
-use Rattle.rb_printer.specs.Page.{hex_units, indent, comma_if, are_more, numbers_signs}
+use Rattle.rb_printer.specs.Sign.{text, is_shown, is_low, escape_chars, pair_chars, first_unit, unit_chars, units_chars, text_chars, signs_chars}
+use Rattle.rb_printer.specs.Page.{hex_units, indent, pause, room_after, comma_if, are_more, number_fits, numbers_signs}
 use Rattle.rb_printer.specs.Sound.{AreUnits, AreBytes, IsNumber}
 use Rattle.rb_printer.specs.Growth.{Adds, Owes}
 use Rattle.rb_printer.proofs.Growths.{owes_all, owes_step, owes_end}
-use Rattle.rb_printer.proofs.Splits.{same, comma_splits}
+use Rattle.rb_printer.proofs.Splits.{same, pause_splits, comma_splits}
 use Rattle.rb_printer.proofs.Texts.{shown_next}
 use Rattle.rb_printer.proofs.Words.{ascii_shown, number_word}
 
@@ -184,12 +184,13 @@ bytes_len (table es) h = absurd cc
 abbrev pub AreNumbers : List ℤ → Type 0
 AreNumbers zs = AllByRecursion IsNumber zs
 
-pub record NumbersPut (old now : List ℕ) (zs : List ℤ) (i : ℕ) : Type 0 where
-  pub owes : Owes old (signs_chars (numbers_signs zs [])) now (signs_chars (numbers_signs (drop i zs) []))
+-- of numbers from a line with no columns left on, i are written, after which so many columns are left
+pub record NumbersPut (old now : List ℕ) (zs : List ℤ) (wrapped : Bool) (level room i : ℕ) : Type 0 where
+  pub owes : Owes old (signs_chars (numbers_signs zs wrapped level 0 [])) now (signs_chars (numbers_signs (drop i zs) wrapped level room []))
   pub sound : AreNumbers (drop i zs) → AreNumbers zs
 
-pub numbers_begin : (old : List ℕ) (zs : List ℤ) → NumbersPut old old zs 0
-numbers_begin old zs = record { owes = owes_all old (signs_chars (numbers_signs zs [])); sound = λ h. h }
+pub numbers_begin : (old : List ℕ) (zs : List ℤ) (w : Bool) (level : ℕ) → NumbersPut old old zs w level 0 0
+numbers_begin old zs w level = record { owes = owes_all old (signs_chars (numbers_signs zs w level 0 [])); sound = λ h. h }
 
 number_at : (zs : List ℤ) (i : ℕ) (z : ℤ) → Some z ≡ slice_get zs i → drop i zs ≡ z ∷ drop (suc i) zs
 number_at [] i z e = absurd cc
@@ -208,27 +209,35 @@ more_there (z ∷ zs) (suc i) = more_there zs i ∙ by (nat_lt i (length zs)) re
   by true e = let h : i < length zs = ltb-true i (length zs) e in e ∙ sym (lt-ltb (suc i) (length (z ∷ zs)) (omega arith))
   by false e = let h : length zs ≤ i = ltb-false i (length zs) e in e ∙ sym (le-ltb (suc i) (length (z ∷ zs)) (omega arith))
 
-pub numbers_put : (old now a b new : List ℕ) (zs : List ℤ) (i : ℕ) (z : ℤ) → NumbersPut old now zs i → Some z ≡ slice_get zs i → IsNumber z
-    → Adds now a (0x20 ∷ []) → Adds a b (signed_decimal z) → Adds b new (signs_chars (comma_if (nat_lt (i + 1) (length zs)) []))
-    → NumbersPut old new zs (i + 1)
-numbers_put old now a b new zs i z m e good p q r =
+pub numbers_put : (old now a b new : List ℕ) (zs : List ℤ) (w : Bool) (level room left i : ℕ) (z : ℤ) → NumbersPut old now zs w level room i
+    → Some z ≡ slice_get zs i → IsNumber z → left ≡ room_after (number_fits w room) level room (length (signed_decimal z))
+    → Adds now a (signs_chars (pause (number_fits w room) level [])) → Adds a b (signed_decimal z)
+    → Adds b new (signs_chars (comma_if (nat_lt (i + 1) (length zs)) [])) → NumbersPut old new zs w level left (i + 1)
+numbers_put old now a b new zs w level room left i z m e good f p q r =
     let there = number_there zs i z e in
     let later = drop (i + 1) zs in
-    let after = signs_chars (numbers_signs later []) in
+    let fits = number_fits w room in
+    let next = room_after fits level room (length (signed_decimal z)) in
+    let after = signs_chars (numbers_signs later w level left []) in
+    let front = signs_chars (pause fits level []) in
     let last = signs_chars (comma_if (are_more later) []) in
-    let left : signs_chars (numbers_signs (drop i zs) []) ≡ 0x20 ∷ (signed_decimal z ++ (last ++ after)) =
-    ap (λ (xs : List ℤ). signs_chars (numbers_signs xs [])) there
-    ∙ ap (λ (w : Bool). 0x20 ∷ (text_chars w (signed_decimal z) ++ signs_chars (comma_if (are_more later) (numbers_signs later [])))) (number_word z good)
-    ∙ ap (λ (cs : List ℕ). 0x20 ∷ (signed_decimal z ++ cs)) ((comma_splits (are_more later) same).are (numbers_signs later [])) in
-    let more = subst (λ (w : Bool). Adds b new (signs_chars (comma_if w []))) (sym (more_there zs (i + 1))) r in
+    let rest = numbers_signs later w level next [] in
+    let owed : signs_chars (numbers_signs (drop i zs) w level room []) ≡ front ++ (signed_decimal z ++ (last ++ after)) =
+    ap (λ (xs : List ℤ). signs_chars (numbers_signs xs w level room [])) there
+    ∙ (pause_splits fits level same).are (text true (signed_decimal z) ∷ comma_if (are_more later) rest)
+    ∙ ap (λ (v : Bool). front ++ (text_chars v (signed_decimal z) ++ signs_chars (comma_if (are_more later) rest))) (number_word z good)
+    ∙ ap (λ (cs : List ℕ). front ++ (signed_decimal z ++ cs)) ((comma_splits (are_more later) same).are rest)
+    ∙ ap (λ (n : ℕ). front ++ (signed_decimal z ++ (last ++ signs_chars (numbers_signs later w level n [])))) (sym f) in
+    let more = subst (λ (v : Bool). Adds b new (signs_chars (comma_if v []))) (sym (more_there zs (i + 1))) r in
     record {
-      owes = owes_step after (owes_step (last ++ after) (owes_step {xs = 0x20 ∷ []} (signed_decimal z ++ (last ++ after)) (owes_as m.owes left) p) q) more;
+      owes = owes_step after (owes_step (last ++ after) (owes_step (signed_decimal z ++ (last ++ after)) (owes_as m.owes owed) p) q) more;
       sound = λ (k : AreNumbers (drop (i + 1) zs)). m.sound (subst AreNumbers (sym there) (good, k));
     }
 
-pub numbers_end : (old now : List ℕ) (zs : List ℤ) (i : ℕ) → NumbersPut old now zs i → length zs ≤ i → Adds old now (signs_chars (numbers_signs zs [])) × AreNumbers zs
-numbers_end old now zs i m h = (
-  owes_end (owes_as m.owes (ap (λ (xs : List ℤ). signs_chars (numbers_signs xs [])) (drop_all i zs h))),
+pub numbers_end : (old now : List ℕ) (zs : List ℤ) (w : Bool) (level room i : ℕ) → NumbersPut old now zs w level room i → length zs ≤ i
+    → Adds old now (signs_chars (numbers_signs zs w level 0 [])) × AreNumbers zs
+numbers_end old now zs w level room i m h = (
+  owes_end (owes_as m.owes (ap (λ (xs : List ℤ). signs_chars (numbers_signs xs w level room [])) (drop_all i zs h))),
   m.sound (subst AreNumbers (sym (drop_all i zs h)) tt),
 )
 

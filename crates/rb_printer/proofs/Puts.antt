@@ -7,7 +7,7 @@ use Rattle.std.specs.Char.Utf16.{is_high_surrogate, is_low_surrogate}
 use Rattle.std.specs.Str.{IsAscii}
 use Rattle.std.specs.Fmt.{decimal, signed_decimal}
 use Rattle.std.proofs.lemmas.Fmt.{IsAscii-decimal, IsAscii-signed}
-use Rattle.std.proofs.Common.{arith, ◌^◌, pos, negsuc, w32, to_z, of_z}
+use Rattle.std.proofs.Common.{arith, ◌+◌, ◌-◌, length, length-append, ◌^◌, pos, negsuc, w32, to_z, of_z}
 use Rattle.std.proofs.lemmas.Int.{to_z-of_z}
 use mir.Val.{SFits}
 use Rattle.rb_printer.specs.Sound.{IsNumber}
@@ -79,6 +79,14 @@ number_ascii (negsuc n) h = IsAscii-signed (negsuc n) (omega arith)
 
 pub number_put : (old new : List ℕ) (z : ℤ) → SFits w32 z → new ≡ old ++ signed_decimal (to_z w32 (of_z w32 z)) → Adds old new (signed_decimal z)
 number_put old new z h e = record { is = e ∙ ap (λ (x : ℤ). old ++ signed_decimal x) (to_z-of_z w32 z h) ∙ ap (λ (t : List ℕ). old ++ t) (sym (encodes-IsAscii (signed_decimal z) (number_ascii z (number_fits z h)))) }
+
+pub number_wide : (old new first last : List ℕ) (z : ℤ) → SFits w32 z → Adds old new (signed_decimal z) → first ≡ old → last ≡ new
+    → length last - length first ≡ length (signed_decimal z)
+number_wide old new first last z h a e f =
+    let same = encodes-IsAscii (signed_decimal z) (number_ascii z (number_fits z h)) in
+    let longer : length new ≡ length old + length (signed_decimal z) =
+    ap length a.is ∙ length-append old (encode_utf8_all (signed_decimal z)) ∙ ap (λ (t : List ℕ). length old + length t) same in
+    omega (arith, ap length e, ap length f, longer)
 
 pub number_read : {old new : List ℕ} (z : ℤ) → SFits w32 z → Adds old new (signed_decimal (to_z w32 (of_z w32 z))) → Adds old new (signed_decimal z)
 number_read {old} {new} z h a = subst (λ (x : ℤ). Adds old new (signed_decimal x)) (to_z-of_z w32 z h) a

@@ -1,5 +1,5 @@
 // Trees without children.
-ghost use Rattle.std.specs.Prelude.{◌≡◌, ◌<◌, ◌+◌, ◌^◌, ℕ, List, drop, [], ◌∷◌, ◌++◌, true, false, OnOk, string_bytes, ◌/◌, ◌%◌};
+ghost use Rattle.std.specs.Prelude.{◌≡◌, ◌<◌, ◌+◌, ◌^◌, ℕ, List, drop, [], ◌∷◌, ◌++◌, true, false, length, ◌≤◌, OnOk, IfOk, string_bytes, ◌/◌, ◌%◌};
 ghost use Rattle.std.specs.Char.{digit_char};
 ghost use Rattle.std.specs.List.{AllByRecursion};
 ghost use Rattle.std.specs.Fmt.{decimal, signed_decimal};
@@ -10,12 +10,13 @@ ghost use Rattle.rb_printer.specs.Page.{hex_units, numbers_signs, comma_if};
 ghost use Rattle.rb_printer.specs.Sound.{AreUnits, AreBytes, IsNumber};
 ghost use Rattle.rb_printer.specs.Growth.{Adds};
 
+use crate::line::{number_fits, put_pause, room_after};
 use crate::text::{digit_char, is_high, put, put_unit};
 use rb_tree::Node;
 use std::alloc::AllocError;
 
 /// The unit after one of a String's or an Alias's.
-fn next_of<N: Node>(node: N, i: usize) -> Option<u16>
+pub fn next_of<N: Node>(node: N, i: usize) -> Option<u16>
     requires units { HasUnits (kind_of (N.tree node)) }
     requires in_range { i < len_of (N.tree node) }
     ensures { result ≡ first_unit (drop (i + 1) (units_of (N.tree node))) }
@@ -79,6 +80,16 @@ fn put_number(out: &mut String, number: i32) -> Result<(), AllocError>
     write!(out, "{number}")
 }
 
+/// Writes the same, and gives its width.
+fn put_wide(out: &mut String, number: i32) -> Result<usize, AllocError>
+    ensures adds { OnOk result (Adds (string_bytes out.old) (string_bytes out.new) (signed_decimal number)) }
+    ensures width { IfOk result (λ width. width ≡ length (signed_decimal number)) }
+{
+    let start = out.as_bytes().len();
+    put_number(out, number)?;
+    Ok(out.as_bytes().len() - start)
+}
+
 /// Writes a comma where more numbers follow.
 fn put_comma(out: &mut String, more: bool) -> Result<(), AllocError>
     ensures { OnOk result (Adds (string_bytes out.old) (string_bytes out.new) (signs_chars (comma_if more []))) }
@@ -86,16 +97,25 @@ fn put_comma(out: &mut String, more: bool) -> Result<(), AllocError>
     if more { put(out, ',') } else { Ok(()) }
 }
 
-/// Writes the numbers of a vector, each after a space, with commas between them.
-pub fn put_numbers_of<N: Node>(out: &mut String, node: N) -> Result<(), AllocError>
-    requires { kind_of (N.tree node) ≡ Kinds.Ints }
-    ensures adds { OnOk result (Adds (string_bytes out.old) (string_bytes out.new) (signs_chars (numbers_signs (numbers_of (N.tree node)) []))) }
+/// Writes the numbers of a vector, each after a space or in a new line of a level, with commas between them.
+pub fn put_numbers_of<N: Node>(
+    out: &mut String,
+    wrapped: bool,
+    level: usize,
+    node: N,
+) -> Result<(), AllocError>
+    requires ints { kind_of (N.tree node) ≡ Kinds.Ints }
+    requires low { level ≤ 65 }
+    ensures adds { OnOk result (Adds (string_bytes out.old) (string_bytes out.new) (signs_chars (numbers_signs (numbers_of (N.tree node)) wrapped level 0 []))) }
     ensures sound { OnOk result (AllByRecursion IsNumber (numbers_of (N.tree node))) }
 {
+    let mut room = 0;
     for i in 0..node.len() {
-        put(out, ' ')?;
-        put_number(out, node.number(i))?;
+        let fits = number_fits(wrapped, room);
+        put_pause(out, fits, level)?;
+        let width = put_wide(out, node.number(i))?;
         put_comma(out, i + 1 < node.len())?;
+        room = room_after(fits, level, room, width);
     }
     Ok(())
 }

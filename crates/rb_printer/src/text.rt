@@ -66,14 +66,14 @@ fn is_mark(unit: u16) -> bool
     unit == 0x2028 || unit == 0x2029 || unit == 0xFEFF
 }
 
-fn is_cited(unit: u16) -> bool
+pub fn is_cited(unit: u16) -> bool
     ensures { result ≡ sign.is_cited unit }
 {
     unit == QUOTE || unit == BACKSLASH
 }
 
 /// Whether a unit stands for itself between quotes.
-fn is_shown(unit: u16) -> bool
+pub fn is_shown(unit: u16) -> bool
     ensures { result ≡ sign.is_shown unit }
 {
     !is_cited(unit) && !(is_control(unit) || is_surrogate(unit) || is_mark(unit))
@@ -86,7 +86,7 @@ pub fn is_high(unit: u16) -> bool
     0xD800 <= unit && unit < 0xDC00
 }
 
-fn is_low(unit: u16) -> bool
+pub fn is_low(unit: u16) -> bool
     ensures { result ≡ is_low_surrogate unit }
 {
     0xDC00 <= unit && unit < 0xE000
@@ -124,7 +124,7 @@ pub fn put(out: &mut String, c: char) -> Result<(), AllocError>
 }
 
 /// The character of a surrogate pair, where a unit and the next one are that.
-fn paired(unit: u16, next: Option<u16>) -> Option<char>
+pub fn paired(unit: u16, next: Option<u16>) -> Option<char>
     ensures { MatchOption result ((is_high_surrogate unit && sign.is_low next) ≡ false)
         (λ c. ((is_high_surrogate unit && sign.is_low next) ≡ true) × (c ∷ [] ≡ pair_chars unit next)) }
 {
