@@ -1,5 +1,5 @@
 -- The marks of a page are those of the tree's written form, and no two texts of it stand side by side.
-use Rattle.std.proofs.Common.{◌≡◌, ℕ, zero, suc, ◌<◌, ◌^◌, ℤ, pos, negsuc, Bool, true, false, List, [], ◌∷◌, refl, ap, ◌∙◌, arith, get_or}
+use Rattle.std.proofs.Common.{◌≡◌, ℕ, zero, suc, ◌<◌, ◌^◌, ℤ, pos, negsuc, Bool, true, false, List, [], ◌∷◌, ◌++◌, refl, ap, ◌∙◌, arith, get_or}
 use Rattle.std.specs.Prelude.{nat_lt, not, cond, length, ◌+◌, ◌/◌, ◌%◌, ◌≤◌}
 use Rattle.std.specs.Map.{keys_of}
 use Rattle.std.specs.List.{AllByRecursion, list_all}
@@ -13,11 +13,11 @@ use Rattle.rb_tree.specs.Resource.{Resource, string, int, ints, binary, alias, a
 use Rattle.rb_tree.specs.Keys.{IsKey, IsTable, pairs}
 use Rattle.rb_grammar.specs.Form.{int_word, ints_word, binary_word, alias_word, array_word, table_word, no_fallback_table_word, body_marks, entries_marks}
 use Rattle.rb_grammar.specs.Form.{Body, Entries, Elements, comma_marks, elements_marks, numbers_marks, bundle_marks}
-use Rattle.rb_printer.specs.Sign.{Sign, feed, left, right, comma, text, is_name, signs_marks}
-use Rattle.rb_printer.specs.Page.{pause, room_after, wraps, number_fits, item_fits, item_room}
+use Rattle.rb_printer.specs.Sign.{Sign, feed, left, right, comma, text, pieces, joined, is_name, signs_marks}
+use Rattle.rb_printer.specs.Page.{hex_first, hex_later, is_short, pause, room_after, wraps, number_fits, item_fits, item_room}
 use Rattle.rb_printer.specs.Page.{hex_units, indent, comma_if, are_more, has_items, has_entries, is_guessed, numbers_signs, type_unless, gap, item_signs}
 use Rattle.rb_printer.specs.Page.{head_signs, body_signs, items_signs, entries_signs, page}
-use Rattle.rb_printer.specs.Lexed.{Apart}
+use Rattle.rb_printer.specs.Lexed.{EachUnits, Apart}
 use Rattle.rb_printer.specs.Formed.{numbers_form, array_form, table_form, item_form, body_form, items_form, entries_form, head_form}
 use Rattle.rb_printer.specs.Sound.{AreUnits, AreBytes, IsNumber, IsSound, AreSound, EachSound}
 use Rattle.rb_printer.proofs.Tests.{and_left, and_right}
@@ -45,6 +45,11 @@ numbers_marks_are (z ∷ zs) w level room rest =
     pause_marks fits level (text true (signed_decimal z) ∷ comma_if (are_more zs) (numbers_signs zs w level next rest))
     ∙ ap (λ (ms : List Mark). Text (signed_decimal z) ∷ ms)
     (comma_marks_are (are_more zs) (numbers_signs zs w level next rest) ∙ ap (comma_marks (are_more zs)) (numbers_marks_are zs w level next rest))
+
+pub hex_joined : (bs : List ℕ) (room : ℕ) → hex_first bs room ++ joined (hex_later bs room) ≡ hex_units bs
+hex_joined [] room = refl
+hex_joined (b ∷ bs) zero = ap (λ (us : List ℕ). digit_char (b / 16) ∷ digit_char (b % 16) ∷ us) (hex_joined bs 31)
+hex_joined (b ∷ bs) (suc n) = ap (λ (us : List ℕ). digit_char (b / 16) ∷ digit_char (b % 16) ∷ us) (hex_joined bs n)
 
 array_marks : (b : Bool) (ss : List Sign) (xs : Elements) (ms : List Mark) → signs_marks ss ≡ elements_marks xs (RightBrace ∷ ms)
     → signs_marks (type_unless b array_word (left ∷ ss)) ≡ body_marks (array_form b xs) ms
@@ -79,7 +84,12 @@ mutual
       let end = pause (not w) level (right ∷ rest) in
       ap (λ (ms : List Mark). Colon ∷ Text ints_word ∷ LeftBrace ∷ ms)
       (numbers_marks_are zs w (level + 1) 0 end ∙ ap (numbers_marks (numbers_form zs)) (pause_marks (not w) level (right ∷ rest)))
-  body_marks_are (binary bs) level rest = refl
+  body_marks_are (binary bs) level rest =
+      let end = pause (is_short bs) level (right ∷ rest) in
+      ap (λ (ms : List Mark). Colon ∷ Text (binary_word false) ∷ LeftBrace ∷ ms)
+      (pause_marks (is_short bs) (level + 1) (pieces (level + 1) (hex_first bs 32) (hex_later bs 32) ∷ end)
+      ∙ ap (λ (us : List ℕ). Text us ∷ signs_marks end) (hex_joined bs 32)
+      ∙ ap (λ (ms : List Mark). Text (hex_units bs) ∷ ms) (pause_marks (is_short bs) level (right ∷ rest)))
   body_marks_are (alias us) level rest = refl
   body_marks_are (array ts) level rest =
       array_marks (has_items ts) (items_signs (level + 1) ts 0 (feed ∷ indent level (right ∷ rest))) (items_form ts) (signs_marks rest)
@@ -136,9 +146,18 @@ digit_unit d h = by (nat_lt d 10) where
   by true = omega arith
   by false = omega arith
 
-hex_are_units : (bs : List ℕ) → AreBytes bs → AllByRecursion (λ u. u < 65536) (hex_units bs)
-hex_are_units [] h = tt
-hex_are_units (b ∷ bs) h = let low : b < 256 = h.0 in (digit_unit (b / 16) (omega arith), (digit_unit (b % 16) (omega arith), hex_are_units bs h.1))
+first_units : (bs : List ℕ) (room : ℕ) → AreBytes bs → AllByRecursion (λ u. u < 65536) (hex_first bs room)
+first_units [] room h = tt
+first_units (b ∷ bs) zero h = tt
+first_units (b ∷ bs) (suc n) h =
+    let low : b < 256 = h.0 in (digit_unit (b / 16) (omega arith), (digit_unit (b % 16) (omega arith), first_units bs n h.1))
+
+later_units : (bs : List ℕ) (room : ℕ) → AreBytes bs → EachUnits (hex_later bs room)
+later_units [] room h = tt
+later_units (b ∷ bs) zero h =
+    let low : b < 256 = h.0 in
+    ((digit_unit (b / 16) (omega arith), (digit_unit (b % 16) (omega arith), first_units bs 31 h.1)), later_units bs 31 h.1)
+later_units (b ∷ bs) (suc n) h = later_units bs n h.1
 
 key_low : (k : List ℕ) → ((i d : ℕ) → i < length k → (32 ≤ get_or k i d) × (get_or k i d ≤ 126)) → AllByRecursion (λ u. u < 65536) k
 key_low [] h = tt
@@ -208,7 +227,12 @@ mutual
     numbers_apart zs (wraps (level + 1) zs) (level + 1) 0
         (pause (not (wraps (level + 1) zs)) level (right ∷ rest)) s (λ b. pause_apart b (not (wraps (level + 1) zs)) level (right ∷ rest) h),
   )
-  body_apart (binary bs) b level rest s h = (refl, listed (binary_word false) refl, (refl, hex_are_units bs s, h))
+  body_apart (binary bs) b level rest s h = (
+    refl,
+    listed (binary_word false) refl,
+    pause_apart false (is_short bs) (level + 1) (pieces (level + 1) (hex_first bs 32) (hex_later bs 32) ∷ pause (is_short bs) level (right ∷ rest))
+        (refl, first_units bs 32 s, later_units bs 32 s, pause_apart true (is_short bs) level (right ∷ rest) h),
+  )
   body_apart (alias us) b level rest s h = (refl, listed alias_word refl, (refl, s, h))
   body_apart (array ts) b level rest s h =
       unless_apart (has_items ts) b array_word (items_signs (level + 1) ts 0 (feed ∷ indent level (right ∷ rest))) (listed array_word refl)

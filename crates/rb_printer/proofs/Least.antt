@@ -14,8 +14,9 @@ use Rattle.rb_tree.specs.Resource.{Resource, string, int, ints, binary, alias, a
 use Rattle.rb_tree.specs.Resource.{weight, trees_weight, entries_weight}
 use Rattle.rb_printer.specs.Sign.{Sign, feed, space, left, right, comma, text, is_word, is_name, is_shown, is_cited, is_low, four_digits, escape_chars}
 use Rattle.rb_printer.specs.Sign.{pair_chars, first_unit, unit_chars, units_chars}
-use Rattle.rb_printer.specs.Sign.{text_chars, sign_chars, signs_chars}
-use Rattle.rb_printer.specs.Page.{pause, room_after, wraps, number_fits, text_width, item_fits, item_room}
+use Rattle.rb_printer.specs.Sign.{pieces, joined, spaces, lines_chars, text_chars, sign_chars, signs_chars}
+use Rattle.rb_printer.proofs.Forming.{hex_joined}
+use Rattle.rb_printer.specs.Page.{hex_first, hex_later, is_short, pause, room_after, wraps, number_fits, text_width, item_fits, item_room}
 use Rattle.rb_printer.specs.Page.{hex_units, indent, comma_if, are_more, has_items, has_entries, is_guessed, numbers_signs, type_unless, gap, item_signs}
 use Rattle.rb_printer.specs.Page.{head_signs, body_signs, items_signs, entries_signs, page}
 use Rattle.rb_printer.specs.Least.{item_lead, least, items_least, entries_least}
@@ -162,6 +163,28 @@ item_least (alias us) n body after h = h
 item_least (array ts) n body after h = h
 item_least (table es) n body after h = h
 
+lines_least : (ps : List (List ℕ)) (level : ℕ) → length (joined ps) ≤ size (lines_chars ps level)
+lines_least [] level = omega arith
+lines_least (p ∷ ps) level = omega (
+  arith,
+  length-append p (joined ps),
+  size_append (spaces level) (text_chars false p ++ lines_chars ps level),
+  size_append (text_chars false p) (lines_chars ps level),
+  quoted_least p,
+  lines_least ps level,
+)
+
+pieces_least : (bs : List ℕ) (level : ℕ) → 2 + 2 * length bs ≤ size (sign_chars (pieces level (hex_first bs 32) (hex_later bs 32)))
+pieces_least bs level = omega (
+  arith,
+  size_append (text_chars false (hex_first bs 32)) (lines_chars (hex_later bs 32) level),
+  quoted_least (hex_first bs 32),
+  lines_least (hex_later bs 32) level,
+  length-append (hex_first bs 32) (joined (hex_later bs 32)),
+  ap length (hex_joined bs 32),
+  hex_length bs,
+)
+
 -- what stands in front of an item, with the comma after it
 lead_least : (t : Resource) (level room : ℕ) (rest : List Sign) → item_lead level t + size (signs_chars rest) ≤ size (signs_chars (pause (item_fits level room t) level rest)) + 1
 lead_least (string us) level room rest = by (nat_le level 12) where
@@ -195,7 +218,15 @@ mutual
       let w = wraps (level + 1) zs in
       omega (arith, numbers_least zs w (level + 1) 0 (pause (not w) level (right ∷ rest)), pause_least (not w) level (right ∷ rest))
   body_least (binary bs) level rest =
-      omega (arith, size_append (text_chars false (hex_units bs)) (0x20 ∷ 0x7D ∷ signs_chars rest), quoted_least (hex_units bs), hex_length bs)
+      let end = pause (is_short bs) level (right ∷ rest) in
+      let one = pieces (level + 1) (hex_first bs 32) (hex_later bs 32) in
+      omega (
+        arith,
+        pause_least (is_short bs) (level + 1) (one ∷ end),
+        size_append (sign_chars one) (signs_chars end),
+        pieces_least bs (level + 1),
+        pause_least (is_short bs) level (right ∷ rest),
+      )
   body_least (alias us) level rest = omega (arith, size_append (text_chars false us) (0x20 ∷ 0x7D ∷ signs_chars rest), quoted_least us)
   body_least (array ts) level rest =
       let end = indent level (right ∷ rest) in

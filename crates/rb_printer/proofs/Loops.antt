@@ -14,11 +14,12 @@ use Rattle.rb_lexer.specs.Lexeme.{quote}
 use Rattle.rb_tree.specs.Resource.{Resource, string, int, ints, binary, alias, array, table}
 use Rattle.rb_tree.specs.Parts.{kind_of, len_of, HasUnits, units_of, numbers_of, bytes_of}
 use Rattle.rb_tree.specs.declared.kind.Kind.TheVariants as Kinds
-use Rattle.rb_printer.specs.Sign.{text, is_shown, is_low, escape_chars, pair_chars, first_unit, unit_chars, units_chars, text_chars, signs_chars}
-use Rattle.rb_printer.specs.Page.{hex_units, indent, pause, room_after, comma_if, are_more, number_fits, numbers_signs}
+use Rattle.rb_printer.specs.Sign.{text, is_shown, is_low, escape_chars, pair_chars, first_unit, unit_chars, units_chars, pieces, spaces, lines_chars, text_chars, sign_chars, signs_chars}
+use Rattle.rb_printer.specs.Page.{hex_first, hex_later, indent, pause, room_after, comma_if, are_more, number_fits, numbers_signs}
 use Rattle.rb_printer.specs.Sound.{AreUnits, AreBytes, IsNumber}
-use Rattle.rb_printer.specs.Growth.{Adds, Owes}
-use Rattle.rb_printer.proofs.Growths.{owes_all, owes_step, owes_end}
+use Rattle.rb_printer.specs.Growth.{Adds, Owes, break_chars, after_break}
+use Rattle.rb_printer.proofs.Growths.{adds_more, owes_all, owes_step, owes_end}
+use Rattle.rb_printer.proofs.Puts.{adds_as}
 use Rattle.rb_printer.proofs.Splits.{same, pause_splits, comma_splits}
 use Rattle.rb_printer.proofs.Texts.{shown_next}
 use Rattle.rb_printer.proofs.Words.{ascii_shown, number_word}
@@ -122,18 +123,22 @@ units_len (table es) h = absurd h
 
 -- ---- bytes
 
-hex_next : (bs : List ℕ) (i : ℕ) → i < length bs
-    → hex_units (drop i bs) ≡ digit_char (get_or bs i 0 / 16) ∷ digit_char (get_or bs i 0 % 16) ∷ hex_units (drop (i + 1) bs)
-hex_next bs i h = ap hex_units (dropped bs i h)
+-- what is left of a Binary's text where the present piece has room for so many bytes
+abbrev pub tail : ℕ → List ℕ → ℕ → List ℕ
+tail level bs room = units_chars (hex_first bs room) false ++ quote ∷ lines_chars (hex_later bs room) level
 
--- the bytes of a Binary, of which i are written
-pub record BytesPut (old now bs : List ℕ) (i : ℕ) : Type 0 where
-  pub owes : Owes old (text_chars false (hex_units bs)) now (units_chars (hex_units (drop i bs)) false ++ quote ∷ [])
+abbrev pub whole : ℕ → List ℕ → List ℕ
+whole level bs = sign_chars (pieces level (hex_first bs 32) (hex_later bs 32))
+
+-- the bytes of a Binary, of which i are written, and the piece then has room for so many
+pub record BytesPut (old now bs : List ℕ) (level room i : ℕ) : Type 0 where
+  pub owes : Owes old (whole level bs) now (tail level (drop i bs) room)
   pub sound : AreBytes (drop i bs) → AreBytes bs
 
-pub bytes_begin : (old now bs : List ℕ) → Adds old now (quote ∷ []) → BytesPut old now bs 0
-bytes_begin old now bs a = record {
-  owes = owes_step (units_chars (hex_units bs) false ++ quote ∷ []) (owes_all old (text_chars false (hex_units bs))) a;
+pub bytes_begin : (old now bs : List ℕ) (level : ℕ) → Adds old now (quote ∷ []) → BytesPut old now bs level 32 0
+bytes_begin old now bs level a = record {
+  owes = owes_step (tail level bs 32) (owes_as (owes_all old (whole level bs))
+      (ap (λ (cs : List ℕ). quote ∷ cs) (append_assoc (units_chars (hex_first bs 32) false) (quote ∷ []) (lines_chars (hex_later bs 32) level)))) a;
   sound = λ h. h;
 }
 
@@ -152,21 +157,36 @@ byte_shown b rest h =
     shown_next (digit_char (b / 16)) (digit_char (b % 16) ∷ rest) false (digit_shown (b / 16) (omega arith))
     ∙ ap (λ (cs : List ℕ). digit_char (b / 16) ∷ cs) (shown_next (digit_char (b % 16)) rest false (digit_shown (b % 16) (omega arith)))
 
-pub bytes_put : (old now new bs : List ℕ) (i b : ℕ) → BytesPut old now bs i → i < length bs → b ≡ get_or bs i 0 → b < 256
-    → Adds now new (digit_char (b / 16) ∷ digit_char (b % 16) ∷ []) → BytesPut old new bs (i + 1)
-bytes_put old now new bs i b m h e small a =
-    let here : hex_units (drop i bs) ≡ digit_char (b / 16) ∷ digit_char (b % 16) ∷ hex_units (drop (i + 1) bs) =
-    subst (λ (x : ℕ). hex_units (drop i bs) ≡ digit_char (x / 16) ∷ digit_char (x % 16) ∷ hex_units (drop (i + 1) bs)) (sym e) (hex_next bs i h) in
+tail_next : (b : ℕ) (bs : List ℕ) (room level : ℕ) → b < 256
+    → tail level (b ∷ bs) room ≡ break_chars room level ++ (digit_char (b / 16) ∷ digit_char (b % 16) ∷ tail level bs (after_break room))
+tail_next b bs (suc n) level h = ap (λ (cs : List ℕ). cs ++ quote ∷ lines_chars (hex_later bs n) level) (byte_shown b (hex_first bs n) h)
+tail_next b bs zero level h =
+    let units = digit_char (b / 16) ∷ digit_char (b % 16) ∷ hex_first bs 31 in
+    let later = lines_chars (hex_later bs 31) level in
+    let after = digit_char (b / 16) ∷ digit_char (b % 16) ∷ tail level bs 31 in
+    ap (λ (cs : List ℕ). quote ∷ 0x0A ∷ (spaces level ++ quote ∷ cs))
+    (append_assoc (units_chars units false) (quote ∷ []) later ∙ ap (λ (cs : List ℕ). cs ++ quote ∷ later) (byte_shown b (hex_first bs 31) h))
+    ∙ ap (λ (cs : List ℕ). quote ∷ 0x0A ∷ cs) (sym (append_assoc (spaces level) (quote ∷ []) after))
+
+pub bytes_put : (old now a new bs : List ℕ) (level room next i b : ℕ) → BytesPut old now bs level room i → i < length bs → b ≡ get_or bs i 0 → b < 256
+    → next ≡ after_break room → Adds now a (break_chars room level) → Adds a new (digit_char (b / 16) ∷ digit_char (b % 16) ∷ [])
+    → BytesPut old new bs level next (i + 1)
+bytes_put old now a new bs level room next i b m h e small f p q =
+    let later = drop (i + 1) bs in
+    let digits = digit_char (b / 16) ∷ digit_char (b % 16) ∷ [] in
+    let there : drop i bs ≡ b ∷ later = dropped bs i h ∙ ap (λ (x : ℕ). x ∷ later) (sym e) in
+    let left : tail level (drop i bs) room ≡ break_chars room level ++ (digits ++ tail level later next) =
+    ap (λ (xs : List ℕ). tail level xs room) there ∙ tail_next b later room level small
+    ∙ ap (λ (n : ℕ). break_chars room level ++ (digits ++ tail level later n)) (sym f) in
     record {
-      owes = owes_step (units_chars (hex_units (drop (i + 1) bs)) false ++ quote ∷ []) (owes_as m.owes (ap (λ (cs : List ℕ). cs ++ quote ∷ [])
-          (ap (λ (us : List ℕ). units_chars us false) here ∙ byte_shown b (hex_units (drop (i + 1) bs)) small))) a;
-      sound = λ (k : AreBytes (drop (i + 1) bs)). m.sound (subst AreBytes (sym (dropped bs i h)) (subst (λ (x : ℕ). x < 256) e small, k));
+      owes = owes_step {xs = digits} (tail level later next) (owes_step (digits ++ tail level later next) (owes_as m.owes left) p) q;
+      sound = λ (k : AreBytes later). m.sound (subst AreBytes (sym there) (small, k));
     }
 
-pub bytes_end : (old now new bs : List ℕ) (i : ℕ) → BytesPut old now bs i → length bs ≤ i → Adds now new (quote ∷ [])
-    → Adds old new (text_chars false (hex_units bs)) × AreBytes bs
-bytes_end old now new bs i m h a = (
-  owes_end (owes_step [] (owes_as m.owes (ap (λ (xs : List ℕ). units_chars (hex_units xs) false ++ quote ∷ []) (drop_all i bs h))) a),
+pub bytes_end : (old now new bs : List ℕ) (level room i : ℕ) → BytesPut old now bs level room i → length bs ≤ i → Adds now new (quote ∷ [])
+    → Adds old new (whole level bs) × AreBytes bs
+bytes_end old now new bs level room i m h a = (
+  owes_end (owes_step [] (owes_as m.owes (ap (λ (xs : List ℕ). tail level xs room) (drop_all i bs h))) a),
   m.sound (subst AreBytes (sym (drop_all i bs h)) tt),
 )
 
@@ -262,3 +282,12 @@ indent_put old now new n i o h a = owes_step (signs_chars (indent (n - (i + 1)) 
 pub indent_end : (old now : List ℕ) (n i : ℕ) → Owes old (signs_chars (indent n [])) now (signs_chars (indent (n - i) [])) → n ≤ i
     → Adds old now (signs_chars (indent n []))
 indent_end old now n i o h = let e : n - i ≡ 0 = omega arith in owes_end (owes_as o (ap (λ (k : ℕ). signs_chars (indent k [])) e))
+
+pub indent_spaces : (n : ℕ) → signs_chars (indent n []) ≡ spaces n
+indent_spaces zero = refl
+indent_spaces (suc n) = ap (λ (cs : List ℕ). 0x20 ∷ 0x20 ∷ 0x20 ∷ 0x20 ∷ cs) (indent_spaces n)
+
+pub break_put : (old a b new : List ℕ) (room level : ℕ) → room ≤ 0 → Adds old a (quote ∷ 0x0A ∷ []) → Adds a b (signs_chars (indent level []))
+    → Adds b new (quote ∷ []) → Adds old new (break_chars room level)
+break_put old a b new zero level h p q r = adds_more p (adds_more (adds_as q (indent_spaces level)) r)
+break_put old a b new (suc n) level h p q r = absurd (omega arith)

@@ -3,9 +3,9 @@ use Rattle.std.proofs.Common.{◌≡◌, ℕ, zero, suc, ◌+◌, ℤ, Bool, tru
 use Rattle.std.specs.Fmt.{decimal, signed_decimal}
 use Rattle.rb_tree.specs.Resource.{Resource, string, int, ints, binary, alias, array, table, Resources, no_trees, tree_and, Members, no_entries, entry_and}
 use Rattle.rb_grammar.specs.Form.{alias_word, binary_word, int_word, ints_word, table_word, array_word, no_fallback_table_word}
-use Rattle.rb_printer.specs.Sign.{Sign, feed, space, left, right, colon, comma, text, is_name, sign_chars, signs_chars}
-use Rattle.rb_printer.specs.Page.{pause, room_after, wraps, number_fits, item_fits, item_room}
-use Rattle.rb_printer.specs.Page.{hex_units, indent, comma_if, are_more, has_items, has_entries, is_guessed, numbers_signs, type_unless, gap, item_signs}
+use Rattle.rb_printer.specs.Sign.{Sign, feed, space, left, right, colon, comma, text, pieces, is_name, sign_chars, signs_chars}
+use Rattle.rb_printer.specs.Page.{hex_first, hex_later, is_short, pause, room_after, wraps, number_fits, item_fits, item_room}
+use Rattle.rb_printer.specs.Page.{indent, comma_if, are_more, has_items, has_entries, is_guessed, numbers_signs, type_unless, gap, item_signs}
 use Rattle.rb_printer.specs.Page.{head_signs, body_signs, items_signs, entries_signs}
 
 -- the characters are those in front of nothing, and then those of the rest
@@ -83,7 +83,9 @@ mutual
       (then (numbers_signs zs (wraps (level + 1) zs) (level + 1) 0) (λ rest. pause (not (wraps (level + 1) zs)) level (right ∷ rest))
       (numbers_split zs (wraps (level + 1) zs) (level + 1) 0) (pause_splits (not (wraps (level + 1) zs)) level (front right same))))))
   body_splits (binary bs) level =
-      front colon (front (text true (binary_word false)) (front space (front left (front space (front (text false (hex_units bs)) (front space (front right same)))))))
+      front colon (front (text true (binary_word false)) (front space (front left
+      (pause_splits (is_short bs) (level + 1) (front (pieces (level + 1) (hex_first bs 32) (hex_later bs 32))
+      (pause_splits (is_short bs) level (front right same)))))))
   body_splits (alias us) level =
       front colon (front (text true alias_word) (front space (front left (front space (front (text false us) (front space (front right same)))))))
   body_splits (array ts) level =

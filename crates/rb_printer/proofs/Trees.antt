@@ -9,9 +9,9 @@ use Rattle.rb_tree.specs.Keys.{IsTable, items, pairs}
 use Rattle.rb_tree.specs.Parts.{kind_of, len_of, children_of, pairs_of, units_of, numbers_of, bytes_of, int_of}
 use Rattle.rb_tree.specs.declared.kind.Kind.TheVariants as Kinds
 use Rattle.rb_grammar.specs.Form.{array_word, table_word}
-use Rattle.rb_printer.specs.Sign.{Sign, feed, left, right, comma, text, is_word, is_name, text_chars, sign_chars, signs_chars}
-use Rattle.rb_printer.specs.Page.{pause, wraps, item_fits, item_room}
-use Rattle.rb_printer.specs.Page.{hex_units, indent, has_items, has_entries, is_guessed, numbers_signs, type_unless, gap, item_signs}
+use Rattle.rb_printer.specs.Sign.{Sign, feed, left, right, comma, text, pieces, is_word, is_name, text_chars, sign_chars, signs_chars}
+use Rattle.rb_printer.specs.Page.{hex_first, hex_later, is_short, pause, wraps, item_fits, item_room}
+use Rattle.rb_printer.specs.Page.{indent, has_items, has_entries, is_guessed, numbers_signs, type_unless, gap, item_signs}
 use Rattle.rb_printer.specs.Page.{body_signs, items_signs, entries_signs, items_of, members_of}
 use Rattle.rb_printer.specs.Sound.{AreUnits, IsSound, AreSound, EachSound, IsWell, AreWell, EachWell}
 use Rattle.rb_printer.specs.Growth.{Adds, Owes}
@@ -378,16 +378,25 @@ ints_put old a b c new level w (ints zs) k e p q r s =
     ∙ ap (λ (cs : List ℕ). word ++ cs) (sym ((numbers_split zs w (level + 1) 0).are (pause (not w) level (right ∷ []))))
     ∙ ap (λ (v : Bool). word ++ whole v) e)
 
--- `:bin { `
-pub binary_put : (old a b new : List ℕ) (level : ℕ) (t : Resource) → kind_of t ≡ Kinds.Binary → Adds old a (0x3A ∷ 0x62 ∷ 0x69 ∷ 0x6E ∷ 0x20 ∷ 0x7B ∷ 0x20 ∷ [])
-    → Adds a b (text_chars false (hex_units (bytes_of t))) → Adds b new (0x20 ∷ 0x7D ∷ []) → Adds old new (signs_chars (body_signs level t []))
-binary_put old a b new level (binary bs) k p q r = adds_more p (adds_more q r)
-binary_put old a b new level (string us) k p q r = absurd cc
-binary_put old a b new level (int n) k p q r = absurd cc
-binary_put old a b new level (ints zs) k p q r = absurd cc
-binary_put old a b new level (alias us) k p q r = absurd cc
-binary_put old a b new level (array ts) k p q r = absurd cc
-binary_put old a b new level (table es) k p q r = absurd cc
+-- `:bin {`
+pub binary_put : (old a b c d new : List ℕ) (level : ℕ) (short : Bool) (t : Resource) → kind_of t ≡ Kinds.Binary → short ≡ is_short (bytes_of t)
+    → Adds old a (0x3A ∷ 0x62 ∷ 0x69 ∷ 0x6E ∷ 0x20 ∷ 0x7B ∷ []) → Adds a b (signs_chars (pause short (level + 1) []))
+    → Adds b c (sign_chars (pieces (level + 1) (hex_first (bytes_of t) 32) (hex_later (bytes_of t) 32))) → Adds c d (signs_chars (pause short level []))
+    → Adds d new (0x7D ∷ []) → Adds old new (signs_chars (body_signs level t []))
+binary_put old a b c d new level short (string us) k e p q r s u = absurd cc
+binary_put old a b c d new level short (int n) k e p q r s u = absurd cc
+binary_put old a b c d new level short (ints zs) k e p q r s u = absurd cc
+binary_put old a b c d new level short (alias us) k e p q r s u = absurd cc
+binary_put old a b c d new level short (array ts) k e p q r s u = absurd cc
+binary_put old a b c d new level short (table es) k e p q r s u = absurd cc
+binary_put old a b c d new level short (binary bs) k e p q r s u =
+    let word = 0x3A ∷ 0x62 ∷ 0x69 ∷ 0x6E ∷ 0x20 ∷ 0x7B ∷ [] in
+    let one = pieces (level + 1) (hex_first bs 32) (hex_later bs 32) in
+    let front = signs_chars (pause short (level + 1) []) in
+    adds_as (adds_more p (adds_more q (adds_more r (adds_more s u))))
+    (ap (λ (cs : List ℕ). word ++ (front ++ (sign_chars one ++ cs))) (sym ((pause_splits short level same).are (right ∷ [])))
+    ∙ ap (λ (cs : List ℕ). word ++ cs) (sym ((pause_splits short (level + 1) same).are (one ∷ pause short level (right ∷ []))))
+    ∙ ap (λ (v : Bool). word ++ signs_chars (pause v (level + 1) (one ∷ pause v level (right ∷ [])))) e)
 
 -- `:alias { `
 pub alias_put : (old a b new : List ℕ) (level : ℕ) (t : Resource) → kind_of t ≡ Kinds.Alias

@@ -5,12 +5,28 @@ use Rattle.std.specs.Fmt.{decimal, signed_decimal}
 use Rattle.rb_tree.specs.Resource.{Resource, string, int, ints, binary, alias, array, table, Resources, no_trees, tree_and, Members, no_entries, entry_and}
 use Rattle.rb_tree.specs.SourceTree.{SourceTree}
 use Rattle.rb_grammar.specs.Form.{alias_word, binary_word, int_word, ints_word, table_word, no_fallback_table_word, array_word}
-use Rattle.rb_printer.specs.Sign.{Sign, feed, space, left, right, colon, comma, text, is_name, text_chars, signs_chars}
+use Rattle.rb_printer.specs.Sign.{Sign, feed, space, left, right, colon, comma, text, pieces, is_name, text_chars, signs_chars}
 
 -- two hexadecimal digits for each byte
 abbrev pub hex_units : List ℕ → List ℕ
 hex_units [] = []
 hex_units (b ∷ bs) = digit_char (b / 16) ∷ digit_char (b % 16) ∷ hex_units bs
+
+-- those of the first bytes, at most so many
+abbrev pub hex_first : List ℕ → ℕ → List ℕ
+hex_first [] room = []
+hex_first (b ∷ bs) zero = []
+hex_first (b ∷ bs) (suc n) = digit_char (b / 16) ∷ digit_char (b % 16) ∷ hex_first bs n
+
+-- those of the others, 32 bytes a piece
+abbrev pub hex_later : List ℕ → ℕ → List (List ℕ)
+hex_later [] room = []
+hex_later (b ∷ bs) zero = (digit_char (b / 16) ∷ digit_char (b % 16) ∷ hex_first bs 31) ∷ hex_later bs 31
+hex_later (b ∷ bs) (suc n) = hex_later bs n
+
+-- more than 32 bytes have lines of their own
+abbrev pub is_short : List ℕ → Bool
+is_short bs = nat_le (length bs) 32
 
 -- four spaces for each level
 abbrev pub indent : ℕ → List Sign → List Sign
@@ -123,7 +139,8 @@ abbrev mutual
   body_signs level (int n) rest = colon ∷ text true (int_word false) ∷ space ∷ left ∷ space ∷ text true (decimal n) ∷ space ∷ right ∷ rest
   body_signs level (ints zs) rest = colon ∷ text true ints_word ∷ space ∷ left
       ∷ numbers_signs zs (wraps (level + 1) zs) (level + 1) 0 (pause (not (wraps (level + 1) zs)) level (right ∷ rest))
-  body_signs level (binary bs) rest = colon ∷ text true (binary_word false) ∷ space ∷ left ∷ space ∷ text false (hex_units bs) ∷ space ∷ right ∷ rest
+  body_signs level (binary bs) rest = colon ∷ text true (binary_word false) ∷ space ∷ left ∷ pause (is_short bs) (level + 1)
+      (pieces (level + 1) (hex_first bs 32) (hex_later bs 32) ∷ pause (is_short bs) level (right ∷ rest))
   body_signs level (alias us) rest = colon ∷ text true alias_word ∷ space ∷ left ∷ space ∷ text false us ∷ space ∷ right ∷ rest
   body_signs level (array ts) rest = type_unless (has_items ts) array_word (left ∷ items_signs (level + 1) ts 0 (feed ∷ indent level (right ∷ rest)))
   body_signs level (table es) rest = type_unless (has_entries es) table_word (left ∷ feed ∷ entries_signs (level + 1) es (indent level (right ∷ rest)))

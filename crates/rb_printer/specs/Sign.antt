@@ -1,6 +1,6 @@
 -- What the printer writes: signs, and the characters of each. Which keys and names stand without quotes, and which units stand for
 -- themselves in a quoted text, is a rule of this project; both are read so by ICU's genrb.
-use Rattle.std.specs.Prelude.{ℕ, ◌/◌, ◌%◌, ◌==◌, ◌&&◌, ◌||◌, Bool, true, false, not, cond, nat_lt, nat_le, List, [], ◌∷◌, ◌++◌, Option, Some, None}
+use Rattle.std.specs.Prelude.{ℕ, zero, suc, ◌/◌, ◌%◌, ◌==◌, ◌&&◌, ◌||◌, Bool, true, false, not, cond, nat_lt, nat_le, List, [], ◌∷◌, ◌++◌, Option, Some, None}
 use Rattle.std.specs.List.{list_all}
 use Rattle.std.specs.Char.{digit_char}
 use Rattle.std.specs.Char.Utf16.{is_high_surrogate, is_low_surrogate, surrogate_pair_char}
@@ -9,7 +9,8 @@ use Rattle.rb_lexer.specs.Tokens.{is_empty}
 use Rattle.rb_lexer.specs.declared.token.Mark.{Mark}
 use Rattle.rb_lexer.specs.declared.token.Mark.TheVariants.{Text, LeftBrace, RightBrace, Colon, Comma}
 
--- a text is bare where it may stand without quotes, if its units allow that
+-- A text is bare where it may stand without quotes, if its units allow that. A text in quoted pieces has all but the first in new lines
+-- of a level.
 pub data Sign : Type 0 where
   feed : Sign
   space : Sign
@@ -18,6 +19,7 @@ pub data Sign : Type 0 where
   colon : Sign
   comma : Sign
   text : Bool → List ℕ → Sign
+  pieces : ℕ → List ℕ → List (List ℕ) → Sign
 
 -- ---- characters
 
@@ -93,6 +95,16 @@ abbrev pub text_chars : Bool → List ℕ → List ℕ
 text_chars true us = us
 text_chars false us = quote ∷ (units_chars us false ++ quote ∷ [])
 
+-- four spaces for each level
+abbrev pub spaces : ℕ → List ℕ
+spaces zero = []
+spaces (suc n) = 0x20 ∷ 0x20 ∷ 0x20 ∷ 0x20 ∷ spaces n
+
+-- pieces of a text, each in a new line of a level
+abbrev pub lines_chars : List (List ℕ) → ℕ → List ℕ
+lines_chars [] level = []
+lines_chars (p ∷ ps) level = 0x0A ∷ (spaces level ++ (text_chars false p ++ lines_chars ps level))
+
 abbrev pub sign_chars : Sign → List ℕ
 sign_chars feed = 0x0A ∷ []
 sign_chars space = 0x20 ∷ []
@@ -101,12 +113,18 @@ sign_chars right = 0x7D ∷ []
 sign_chars colon = 0x3A ∷ []
 sign_chars comma = 0x2C ∷ []
 sign_chars (text bare us) = text_chars (bare && is_word us) us
+sign_chars (pieces level p ps) = text_chars false p ++ lines_chars ps level
 
 abbrev pub signs_chars : List Sign → List ℕ
 signs_chars [] = []
 signs_chars (s ∷ ss) = sign_chars s ++ signs_chars ss
 
 -- ---- marks
+
+-- pieces as one text
+abbrev pub joined : List (List ℕ) → List ℕ
+joined [] = []
+joined (p ∷ ps) = p ++ joined ps
 
 abbrev pub signs_marks : List Sign → List Mark
 signs_marks [] = []
@@ -117,6 +135,7 @@ signs_marks (right ∷ ss) = RightBrace ∷ signs_marks ss
 signs_marks (colon ∷ ss) = Colon ∷ signs_marks ss
 signs_marks (comma ∷ ss) = Comma ∷ signs_marks ss
 signs_marks (text bare us ∷ ss) = Text us ∷ signs_marks ss
+signs_marks (pieces level p ps ∷ ss) = Text (p ++ joined ps) ∷ signs_marks ss
 
 abbrev pub is_ascii : ℕ → Bool
 is_ascii c = nat_lt c 128

@@ -5,13 +5,13 @@ ghost use Rattle.std.specs.List.{AllByRecursion};
 ghost use Rattle.std.specs.Fmt.{decimal, signed_decimal};
 ghost use Rattle.rb_tree.specs.Parts.{HasUnits, kind_of, len_of, units_of, numbers_of, bytes_of, int_of};
 ghost use Rattle.rb_tree.specs.declared.kind.Kind.TheVariants as Kinds;
-ghost use Rattle.rb_printer.specs.Sign.{first_unit, signs_chars, text_chars, text, right};
-ghost use Rattle.rb_printer.specs.Page.{hex_units, numbers_signs, comma_if};
+ghost use Rattle.rb_printer.specs.Sign.{first_unit, pieces, sign_chars, signs_chars, text_chars, text, right};
+ghost use Rattle.rb_printer.specs.Page.{hex_first, hex_later, numbers_signs, comma_if};
 ghost use Rattle.rb_printer.specs.Sound.{AreUnits, AreBytes, IsNumber};
-ghost use Rattle.rb_printer.specs.Growth.{Adds};
+ghost use Rattle.rb_printer.specs.Growth.{Adds, after_break, break_chars};
 
-use crate::line::{number_fits, put_pause, room_after};
-use crate::text::{digit_char, is_high, put, put_unit};
+use crate::line::{number_fits, put_indent, put_pause, room_after};
+use crate::text::{digit_char, is_high, put, put_str, put_unit};
 use rb_tree::Node;
 use std::alloc::AllocError;
 
@@ -53,14 +53,31 @@ fn put_byte(out: &mut String, byte: u8) -> Result<(), AllocError>
     put(out, digit_char(byte as u16 % 16))
 }
 
-/// Writes the bytes of a Binary, with quotes.
-pub fn put_bytes_of<N: Node>(out: &mut String, node: N) -> Result<(), AllocError>
+/// Begins a new piece where the present one, at a level, has no room for another byte. Gives how many more it has room for after that.
+fn put_break(out: &mut String, level: usize, room: usize) -> Result<usize, AllocError>
+    ensures adds { OnOk result (Adds (string_bytes out.old) (string_bytes out.new) (break_chars room level)) }
+    ensures room { IfOk result (λ more. more ≡ after_break room) }
+{
+    if room > 0 {
+        return Ok(room - 1);
+    }
+    put_str(out, "\"\n")?;
+    put_indent(out, level)?;
+    put(out, '"')?;
+    Ok(31)
+}
+
+/// Writes the bytes of a Binary, with quotes: 32 a piece, each but the first in a new line of a level.
+pub fn put_bytes_of<N: Node>(out: &mut String, level: usize, node: N) -> Result<(), AllocError>
     requires { kind_of (N.tree node) ≡ Kinds.Binary }
-    ensures adds { OnOk result (Adds (string_bytes out.old) (string_bytes out.new) (text_chars false (hex_units (bytes_of (N.tree node))))) }
+    ensures adds { OnOk result (Adds (string_bytes out.old) (string_bytes out.new)
+        (sign_chars (pieces level (hex_first (bytes_of (N.tree node)) 32) (hex_later (bytes_of (N.tree node)) 32)))) }
     ensures sound { OnOk result (AreBytes (bytes_of (N.tree node))) }
 {
     put(out, '"')?;
+    let mut room = 32;
     for i in 0..node.len() {
+        room = put_break(out, level, room)?;
         put_byte(out, node.byte(i))?;
     }
     put(out, '"')

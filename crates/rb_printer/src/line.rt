@@ -1,6 +1,6 @@
 // Lines: their indentation, and what has room in them.
 ghost use Rattle.std.specs.Prelude.{◌≡◌, ◌≤◌, [], length, drop, OnOk, string_bytes};
-ghost use Rattle.rb_tree.specs.Parts.{HasUnits, kind_of, len_of, units_of, numbers_of};
+ghost use Rattle.rb_tree.specs.Parts.{HasUnits, kind_of, len_of, units_of, numbers_of, bytes_of};
 ghost use Rattle.rb_tree.specs.declared.kind.Kind.TheVariants as Kinds;
 ghost use Rattle.rb_printer.specs.Sign.{first_unit, signs_chars, unit_chars};
 ghost use Rattle.rb_printer.specs.Page as page;
@@ -59,6 +59,14 @@ pub fn wraps<N: Node>(level: usize, node: N) -> bool
     ensures { result ≡ page.wraps level (numbers_of (N.tree node)) }
 {
     4 < node.len() && level <= DEEPEST
+}
+
+/// Whether the bytes of a Binary have no lines of their own.
+pub fn is_short<N: Node>(node: N) -> bool
+    requires { kind_of (N.tree node) ≡ Kinds.Binary }
+    ensures { result ≡ page.is_short (bytes_of (N.tree node)) }
+{
+    node.len() <= 32
 }
 
 /// Whether a number stands in the present line.

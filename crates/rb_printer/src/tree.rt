@@ -11,7 +11,7 @@ ghost use Rattle.rb_printer.specs.Sound.{IsSound, IsWell};
 ghost use Rattle.rb_printer.specs.Growth.{Adds};
 
 use crate::leaf::{put_bytes_of, put_int, put_numbers_of, put_units_of};
-use crate::line::{place_of, put_indent, put_pause, wraps};
+use crate::line::{is_short, place_of, put_indent, put_pause, wraps};
 use crate::text::{put_key, put_str};
 use rb_tree::{Kind, Node};
 use std::alloc::AllocError;
@@ -99,9 +99,12 @@ fn put_body<N: Node>(out: &mut String, level: usize, node: N) -> Result<(), Allo
             put_str(out, "}")?;
         }
         Kind::Binary => {
-            put_str(out, ":bin { ")?;
-            put_bytes_of(out, node)?;
-            put_str(out, " }")?;
+            let short = is_short(node);
+            put_str(out, ":bin {")?;
+            put_pause(out, short, level + 1)?;
+            put_bytes_of(out, level + 1, node)?;
+            put_pause(out, short, level)?;
+            put_str(out, "}")?;
         }
         Kind::Alias => {
             put_str(out, ":alias { ")?;

@@ -90,7 +90,7 @@ fn writes_names_and_flags(rt: HostRuntime) -> Result<(), Fail> {
 #[test]
 fn fills_lines(rt: HostRuntime) -> Result<(), Fail> {
     let alloc = rt.alloc();
-    let rows: [(&str, &str); 5] = [
+    let rows: [(&str, &str); 7] = [
         // seven numbers of ten digits take 91 columns, and the widest has no room then
         (
             "x{v:intvector{1000000000,1000000000,1000000000,1000000000,1000000000,1000000000,1000000000,1}}",
@@ -99,6 +99,15 @@ fn fills_lines(rt: HostRuntime) -> Result<(), Fail> {
         (
             "x{v:intvector{-2147483648,-2147483648,-2147483648,-2147483648}}",
             "x {\n    v:intvector { -2147483648, -2147483648, -2147483648, -2147483648 }\n}\n",
+        ),
+        // 32 bytes, and one more
+        (
+            "x{b:bin{00112233445566778899aabbccddeeff00112233445566778899aabbccddeeff}}",
+            "x {\n    b:bin { \"00112233445566778899aabbccddeeff00112233445566778899aabbccddeeff\" }\n}\n",
+        ),
+        (
+            "x{b:bin{00112233445566778899aabbccddeeff00112233445566778899aabbccddeeff00112233445566778899aabbccddeeff00112233445566778899aabbccddeeff01}}",
+            "x {\n    b:bin {\n        \"00112233445566778899aabbccddeeff00112233445566778899aabbccddeeff\"\n        \"00112233445566778899aabbccddeeff00112233445566778899aabbccddeeff\"\n        \"01\"\n    }\n}\n",
         ),
         // two strings of 42 and 47 columns fill a line of 100
         (

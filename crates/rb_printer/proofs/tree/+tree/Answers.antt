@@ -41,8 +41,9 @@ put_body-returns-in_ok-put_str-in-Ints-2-clause-adds g t c =
 
 pub put_body-returns-in_ok-put_str-in-Binary-2-clause-adds : goal.put_body-returns-in_ok-put_str-in-Binary-2-clause-adds
 put_body-returns-in_ok-put_str-in-Binary-2-clause-adds g t c =
-    binary_put _ _ _ _ c.args.level (g.N.Node.tree c.args.node) (sym c.in-Binary.ensures) c.in_ok-put_str-in-Binary.ensures
-    c.in_ok-put_bytes_of-in-Binary.ensures.adds c.in_ok-put_str-in-Binary-2.ensures
+    binary_put _ _ _ _ _ _ c.args.level c.is_short-short.result (g.N.Node.tree c.args.node) (sym c.in-Binary.ensures) c.is_short-short.ensures
+    c.in_ok-put_str-in-Binary.ensures c.in_ok-put_pause-in-Binary.ensures c.in_ok-put_bytes_of-in-Binary.ensures.adds
+    c.in_ok-put_pause-in-Binary-2.ensures c.in_ok-put_str-in-Binary-2.ensures
 
 pub put_body-returns-in_ok-put_str-in-Alias-2-clause-adds : goal.put_body-returns-in_ok-put_str-in-Alias-2-clause-adds
 put_body-returns-in_ok-put_str-in-Alias-2-clause-adds g t c =
