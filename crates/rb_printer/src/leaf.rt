@@ -5,13 +5,13 @@ ghost use Rattle.std.specs.List.{AllByRecursion};
 ghost use Rattle.std.specs.Fmt.{decimal, signed_decimal};
 ghost use Rattle.rb_tree.specs.Parts.{HasUnits, kind_of, len_of, units_of, numbers_of, bytes_of, int_of};
 ghost use Rattle.rb_tree.specs.declared.kind.Kind.TheVariants as Kinds;
-ghost use Rattle.rb_printer.specs.Sign.{first_unit, pieces, sign_chars, signs_chars, text_chars, text, right};
+ghost use Rattle.rb_printer.specs.Sign.{first_unit, unit_chars, pieces, sign_chars, signs_chars, text_chars, text, right};
 ghost use Rattle.rb_printer.specs.Page.{hex_first, hex_later, numbers_signs, comma_if};
 ghost use Rattle.rb_printer.specs.Sound.{AreUnits, AreBytes, IsNumber};
 ghost use Rattle.rb_printer.specs.Growth.{Adds, after_break, break_chars};
 
 use crate::line::{number_fits, put_indent, put_pause, room_after};
-use crate::text::{digit_char, is_high, put, put_str, put_unit};
+use crate::text::{digit_char, is_high, put, put_other, put_str, shown};
 use rb_tree::Node;
 use std::alloc::AllocError;
 
@@ -29,6 +29,25 @@ pub fn next_of<N: Node>(node: N, i: usize) -> Option<u16>
     }
 }
 
+/// Writes a unit of a String's or an Alias's text.
+#[inline(always)]
+fn put_unit_of<N: Node>(
+    out: &mut String,
+    after_high: bool,
+    unit: u16,
+    node: N,
+    i: usize,
+) -> Result<(), AllocError>
+    requires units { HasUnits (kind_of (N.tree node)) }
+    requires in_range { i < len_of (N.tree node) }
+    ensures { OnOk result (Adds (string_bytes out.old) (string_bytes out.new) (unit_chars after_high unit (first_unit (drop (i + 1) (units_of (N.tree node)))))) }
+{
+    match shown(unit) {
+        Some(c) => put(out, c),
+        None => put_other(out, after_high, unit, next_of(node, i)),
+    }
+}
+
 /// Writes the text of a String or an Alias, with quotes.
 pub fn put_units_of<N: Node>(out: &mut String, node: N) -> Result<(), AllocError>
     requires { HasUnits (kind_of (N.tree node)) }
@@ -39,7 +58,7 @@ pub fn put_units_of<N: Node>(out: &mut String, node: N) -> Result<(), AllocError
     let mut after_high = false;
     for i in 0..node.len() {
         let unit = node.unit(i);
-        put_unit(out, after_high, unit, next_of(node, i))?;
+        put_unit_of(out, after_high, unit, node, i)?;
         after_high = is_high(unit);
     }
     put(out, '"')

@@ -1,14 +1,15 @@
 // Lines: their indentation, and what has room in them.
-ghost use Rattle.std.specs.Prelude.{◌≡◌, ◌≤◌, [], length, drop, OnOk, string_bytes};
+ghost use Rattle.std.specs.Prelude.{◌≡◌, ◌≤◌, ◌<◌, ◌+◌, false, [], length, drop, OnOk, string_bytes};
 ghost use Rattle.rb_tree.specs.Parts.{HasUnits, kind_of, len_of, units_of, numbers_of, bytes_of};
 ghost use Rattle.rb_tree.specs.declared.kind.Kind.TheVariants as Kinds;
 ghost use Rattle.rb_printer.specs.Sign.{first_unit, signs_chars, unit_chars};
 ghost use Rattle.rb_printer.specs.Page as page;
+ghost use Rattle.rb_printer.specs.Sign as Signs;
 ghost use Rattle.rb_printer.specs.Page.{indent, pause};
 ghost use Rattle.rb_printer.specs.Growth.{Adds};
 
 use crate::leaf::next_of;
-use crate::text::{is_cited, is_high, is_low, is_shown, paired, put_str};
+use crate::text::{is_cited, is_high, is_low, is_shown, paired, put, put_str};
 use rb_tree::{Kind, Node};
 use std::alloc::AllocError;
 
@@ -33,7 +34,7 @@ pub fn put_pause(out: &mut String, fits: bool, level: usize) -> Result<(), Alloc
     ensures { OnOk result (Adds (string_bytes out.old) (string_bytes out.new) (signs_chars (pause fits level []))) }
 {
     if fits {
-        return put_str(out, " ");
+        return put(out, ' ');
     }
     put_str(out, "\n")?;
     put_indent(out, level)
@@ -76,18 +77,35 @@ pub fn number_fits(wrapped: bool, room: usize) -> bool
     !wrapped || 13 <= room
 }
 
-/// The columns of a unit between quotes.
-fn unit_width(after_high: bool, unit: u16, next: Option<u16>) -> usize
+/// The columns of a unit between quotes that doesn't stand for itself.
+#[inline(never)]
+fn other_width(after_high: bool, unit: u16, next: Option<u16>) -> usize
+    requires { Signs.is_shown unit ≡ false }
     ensures width { result ≡ length (unit_chars after_high unit next) }
     ensures bound { result ≤ 6 }
 {
-    if is_shown(unit) || paired(unit, next).is_some() {
+    if paired(unit, next).is_some() {
         return 1;
     }
     if after_high && is_low(unit) {
         return 0;
     }
     if is_cited(unit) { 2 } else { 6 }
+}
+
+/// The columns of a unit of a String's text.
+#[inline(always)]
+fn width_of<N: Node>(after_high: bool, unit: u16, node: N, i: usize) -> usize
+    requires units { HasUnits (kind_of (N.tree node)) }
+    requires in_range { i < len_of (N.tree node) }
+    ensures width { result ≡ length (unit_chars after_high unit (first_unit (drop (i + 1) (units_of (N.tree node))))) }
+    ensures bound { result ≤ 6 }
+{
+    if is_shown(unit) {
+        1
+    } else {
+        other_width(after_high, unit, next_of(node, i))
+    }
 }
 
 /// The columns of a String's text with quotes, at most those of a line.
@@ -99,7 +117,7 @@ pub fn text_width<N: Node>(node: N) -> usize
     let mut after_high = false;
     for i in 0..node.len() {
         let unit = node.unit(i);
-        width += unit_width(after_high, unit, next_of(node, i));
+        width += width_of(after_high, unit, node, i);
         if LINE <= width {
             return LINE;
         }

@@ -73,6 +73,7 @@ pub fn is_cited(unit: u16) -> bool
 }
 
 /// Whether a unit stands for itself between quotes.
+#[inline(always)]
 pub fn is_shown(unit: u16) -> bool
     ensures { result ≡ sign.is_shown unit }
 {
@@ -93,7 +94,8 @@ pub fn is_low(unit: u16) -> bool
 }
 
 /// The character of a unit that stands for itself.
-fn shown(unit: u16) -> Option<char>
+#[inline(always)]
+pub fn shown(unit: u16) -> Option<char>
     ensures { MatchOption result (sign.is_shown unit ≡ false) (λ c. (sign.is_shown unit ≡ true) × (c ≡ unit)) }
 {
     if is_shown(unit) {
@@ -117,6 +119,7 @@ pub fn digit_char(digit: u16) -> char
 }
 
 /// Writes a character.
+#[inline(always)]
 pub fn put(out: &mut String, c: char) -> Result<(), AllocError>
     ensures { OnOk result (Adds (string_bytes out.old) (string_bytes out.new) (c ∷ [])) }
 {
@@ -160,7 +163,8 @@ fn put_escape(out: &mut String, unit: u16) -> Result<(), AllocError>
 }
 
 /// Writes a unit that doesn't stand for itself.
-fn put_other(
+#[inline(never)]
+pub fn put_other(
     out: &mut String,
     after_high: bool,
     unit: u16,
@@ -179,7 +183,7 @@ fn put_other(
 }
 
 /// Writes a unit of a text with quotes, after a high surrogate or not, and in front of the next unit.
-pub fn put_unit(
+fn put_unit(
     out: &mut String,
     after_high: bool,
     unit: u16,
