@@ -2,9 +2,11 @@
 """Holds `resb` against ICU's own tools, over each bundle text in examples/ and in the folders that are given, such as CLDR's.
 
 A file of `genrb --formatVersion 1`, whose minor version is 3, must be accepted as it is, and denote the tree that our own file
-of the text denotes; `derb` must print both files alike. Trees are read by the reader below, which shares nothing with `resb`.
+of the text denotes; `derb` must print both files alike, but for those on which
+it doesn't end. Trees are read by the reader below, which shares nothing with `resb`.
 What `resb text` prints of the file must compile to the same bytes, and genrb must read it to the same tree. Texts that genrb or
-`resb` doesn't compile are left out in the folders that are given, and counted.
+`resb` doesn't compile are left out in the folders that are given, and counted. All texts of CLDR are those that `tools/icu2text`
+writes of the package of ICU's data (docs/ICU.md), a folder for each of its trees.
 Needs genrb and derb (Debian: icu-devtools); says `skipped` and ends well where they aren't there.
 
 usage: genrb.py [PROGRAM [FOLDER ..]]   (default: bin/resb, and no folders)
@@ -16,6 +18,7 @@ import struct
 import subprocess
 import sys
 import tempfile
+from concurrent.futures import ThreadPoolExecutor
 
 TOP = os.path.dirname(os.path.dirname(os.path.abspath(__file__)))
 PROGRAM = sys.argv[1] if len(sys.argv) > 1 else os.path.join(TOP, "bin/resb")
@@ -73,9 +76,12 @@ class Reader:
 
 
 def contents(path):
-    """What derb prints of a file, without its comments."""
+    """What derb prints of a file, without its comments; None where it looks for a parent that isn't there, and doesn't end (`nb_NO`)."""
     folder, name = os.path.split(path)
-    printed = subprocess.run(["derb", "-s", folder, "-c", os.path.splitext(name)[0]], check=True, capture_output=True)
+    try:
+        printed = subprocess.run(["derb", "-s", folder, "-c", os.path.splitext(name)[0]], check=True, capture_output=True, timeout=10)
+    except subprocess.TimeoutExpired:
+        return None
     return [line for line in printed.stdout.decode().splitlines() if not line.startswith("//")]
 
 
@@ -126,19 +132,27 @@ def compare(text, folder):
     made = subprocess.run([PROGRAM, "compile", text, ours], capture_output=True, text=True)
     if made.returncode:
         return f"the text is refused: {made.stderr.strip()}", False
-    if Reader(bytes_of(ours)).tree() != Reader(bytes_of(theirs)).tree():
+    tree = Reader(bytes_of(ours)).tree()
+    if tree != Reader(bytes_of(theirs)).tree():
         return "the trees differ", True
     if contents(ours) != contents(theirs):
         return "derb prints them differently", True
     return compare_printed(ours, folder), True
 
 
+def compared_alone(text):
+    """What `compare` says of a text, in a folder of its own."""
+    with tempfile.TemporaryDirectory() as work:
+        return compare(text, work)
+
+
 def compare_in(folder):
     """How many texts of a folder failed, of those that both compile."""
     failed = compared = left_out = 0
-    for text in sorted(glob.glob(os.path.join(folder, "*.txt"))):
-        with tempfile.TemporaryDirectory() as work:
-            fault, both = compare(text, work)
+    texts = sorted(glob.glob(os.path.join(folder, "*.txt")))
+    with ThreadPoolExecutor(os.cpu_count()) as pool:
+        results = list(pool.map(compared_alone, texts))
+    for text, (fault, both) in zip(texts, results):
         compared += both
         left_out += not both
         if fault:
@@ -154,8 +168,7 @@ def main():
         return 0
     failed = 0
     for text in sorted(glob.glob(os.path.join(TOP, "examples", "*.txt"))):
-        with tempfile.TemporaryDirectory() as work:
-            fault, _ = compare(text, work)
+        fault, _ = compared_alone(text)
         failed += fault is not None
         print(f"{os.path.basename(text)}: {fault or 'ok'}")
     for folder in sys.argv[2:]:

@@ -1,6 +1,6 @@
 -- The marks of a page are those of the tree's written form, and no two texts of it stand side by side.
-use Rattle.std.proofs.Common.{◌≡◌, ℕ, zero, suc, ◌<◌, ◌^◌, ℤ, pos, negsuc, Bool, true, false, List, [], ◌∷◌, refl, ap, ◌∙◌, arith, get_or}
-use Rattle.std.specs.Prelude.{nat_lt, cond, length, ◌+◌, ◌/◌, ◌%◌, ◌≤◌}
+use Rattle.std.proofs.Common.{◌≡◌, ℕ, zero, suc, ◌<◌, ◌^◌, ℤ, pos, negsuc, Bool, true, false, List, [], ◌∷◌, ◌++◌, refl, ap, ◌∙◌, arith, get_or}
+use Rattle.std.specs.Prelude.{nat_lt, not, cond, length, ◌+◌, ◌/◌, ◌%◌, ◌≤◌}
 use Rattle.std.specs.Map.{keys_of}
 use Rattle.std.specs.List.{AllByRecursion, list_all}
 use Rattle.std.specs.Char.{digit_char}
@@ -13,10 +13,11 @@ use Rattle.rb_tree.specs.Resource.{Resource, string, int, ints, binary, alias, a
 use Rattle.rb_tree.specs.Keys.{IsKey, IsTable, pairs}
 use Rattle.rb_grammar.specs.Form.{int_word, ints_word, binary_word, alias_word, array_word, table_word, no_fallback_table_word, body_marks, entries_marks}
 use Rattle.rb_grammar.specs.Form.{Body, Entries, Elements, comma_marks, elements_marks, numbers_marks, bundle_marks}
-use Rattle.rb_printer.specs.Sign.{Sign, feed, space, left, right, comma, text, is_name, signs_marks}
+use Rattle.rb_printer.specs.Sign.{Sign, feed, left, right, comma, text, pieces, joined, is_name, signs_marks}
+use Rattle.rb_printer.specs.Page.{hex_first, hex_later, is_short, pause, room_after, wraps, number_fits, item_fits, item_room}
 use Rattle.rb_printer.specs.Page.{hex_units, indent, comma_if, are_more, has_items, has_entries, is_guessed, numbers_signs, type_unless, gap, item_signs}
 use Rattle.rb_printer.specs.Page.{head_signs, body_signs, items_signs, entries_signs, page}
-use Rattle.rb_printer.specs.Lexed.{Apart}
+use Rattle.rb_printer.specs.Lexed.{EachUnits, Apart}
 use Rattle.rb_printer.specs.Formed.{numbers_form, array_form, table_form, item_form, body_form, items_form, entries_form, head_form}
 use Rattle.rb_printer.specs.Sound.{AreUnits, AreBytes, IsNumber, IsSound, AreSound, EachSound}
 use Rattle.rb_printer.proofs.Tests.{and_left, and_right}
@@ -27,18 +28,31 @@ indent_marks : (n : ℕ) (rest : List Sign) → signs_marks (indent n rest) ≡ 
 indent_marks zero rest = refl
 indent_marks (suc n) rest = indent_marks n rest
 
+pause_marks : (b : Bool) (n : ℕ) (rest : List Sign) → signs_marks (pause b n rest) ≡ signs_marks rest
+pause_marks true n rest = refl
+pause_marks false n rest = indent_marks n rest
+
 comma_marks_are : (b : Bool) (rest : List Sign) → signs_marks (comma_if b rest) ≡ comma_marks b (signs_marks rest)
 comma_marks_are true rest = refl
 comma_marks_are false rest = refl
 
-numbers_marks_are : (zs : List ℤ) (rest : List Sign) → signs_marks (numbers_signs zs rest) ≡ numbers_marks (numbers_form zs) (signs_marks rest)
-numbers_marks_are [] rest = refl
-numbers_marks_are (z ∷ zs) rest =
-    ap (λ (ms : List Mark). Text (signed_decimal z) ∷ ms)
-    (comma_marks_are (are_more zs) (numbers_signs zs rest) ∙ ap (comma_marks (are_more zs)) (numbers_marks_are zs rest))
+numbers_marks_are : (zs : List ℤ) (w : Bool) (level room : ℕ) (rest : List Sign)
+    → signs_marks (numbers_signs zs w level room rest) ≡ numbers_marks (numbers_form zs) (signs_marks rest)
+numbers_marks_are [] w level room rest = refl
+numbers_marks_are (z ∷ zs) w level room rest =
+    let fits = number_fits w room in
+    let next = room_after fits level room (length (signed_decimal z)) in
+    pause_marks fits level (text true (signed_decimal z) ∷ comma_if (are_more zs) (numbers_signs zs w level next rest))
+    ∙ ap (λ (ms : List Mark). Text (signed_decimal z) ∷ ms)
+    (comma_marks_are (are_more zs) (numbers_signs zs w level next rest) ∙ ap (comma_marks (are_more zs)) (numbers_marks_are zs w level next rest))
+
+pub hex_joined : (bs : List ℕ) (room : ℕ) → hex_first bs room ++ joined (hex_later bs room) ≡ hex_units bs
+hex_joined [] room = refl
+hex_joined (b ∷ bs) zero = ap (λ (us : List ℕ). digit_char (b / 16) ∷ digit_char (b % 16) ∷ us) (hex_joined bs 31)
+hex_joined (b ∷ bs) (suc n) = ap (λ (us : List ℕ). digit_char (b / 16) ∷ digit_char (b % 16) ∷ us) (hex_joined bs n)
 
 array_marks : (b : Bool) (ss : List Sign) (xs : Elements) (ms : List Mark) → signs_marks ss ≡ elements_marks xs (RightBrace ∷ ms)
-    → signs_marks (type_unless b array_word (left ∷ feed ∷ ss)) ≡ body_marks (array_form b xs) ms
+    → signs_marks (type_unless b array_word (left ∷ ss)) ≡ body_marks (array_form b xs) ms
 array_marks true ss xs ms e = ap (λ (ns : List Mark). LeftBrace ∷ ns) e
 array_marks false ss xs ms e = ap (λ (ns : List Mark). Colon ∷ Text array_word ∷ LeftBrace ∷ ns) e
 
@@ -65,22 +79,33 @@ mutual
   pub body_marks_are : (t : Resource) (level : ℕ) (rest : List Sign) → signs_marks (body_signs level t rest) ≡ body_marks (body_form t) (signs_marks rest)
   body_marks_are (string us) level rest = refl
   body_marks_are (int n) level rest = refl
-  body_marks_are (ints zs) level rest = ap (λ (ms : List Mark). Colon ∷ Text ints_word ∷ LeftBrace ∷ ms) (numbers_marks_are zs (space ∷ right ∷ rest))
-  body_marks_are (binary bs) level rest = refl
+  body_marks_are (ints zs) level rest =
+      let w = wraps (level + 1) zs in
+      let end = pause (not w) level (right ∷ rest) in
+      ap (λ (ms : List Mark). Colon ∷ Text ints_word ∷ LeftBrace ∷ ms)
+      (numbers_marks_are zs w (level + 1) 0 end ∙ ap (numbers_marks (numbers_form zs)) (pause_marks (not w) level (right ∷ rest)))
+  body_marks_are (binary bs) level rest =
+      let end = pause (is_short bs) level (right ∷ rest) in
+      ap (λ (ms : List Mark). Colon ∷ Text (binary_word false) ∷ LeftBrace ∷ ms)
+      (pause_marks (is_short bs) (level + 1) (pieces (level + 1) (hex_first bs 32) (hex_later bs 32) ∷ end)
+      ∙ ap (λ (us : List ℕ). Text us ∷ signs_marks end) (hex_joined bs 32)
+      ∙ ap (λ (ms : List Mark). Text (hex_units bs) ∷ ms) (pause_marks (is_short bs) level (right ∷ rest)))
   body_marks_are (alias us) level rest = refl
   body_marks_are (array ts) level rest =
-      array_marks (has_items ts) (items_signs (level + 1) ts (indent level (right ∷ rest))) (items_form ts) (signs_marks rest)
-      (items_marks_are ts (level + 1) (indent level (right ∷ rest)) ∙ ap (elements_marks (items_form ts)) (indent_marks level (right ∷ rest)))
+      array_marks (has_items ts) (items_signs (level + 1) ts 0 (feed ∷ indent level (right ∷ rest))) (items_form ts) (signs_marks rest)
+      (items_marks_are ts (level + 1) 0 (feed ∷ indent level (right ∷ rest)) ∙ ap (elements_marks (items_form ts)) (indent_marks level (right ∷ rest)))
   body_marks_are (table es) level rest =
       table_marks (has_entries es) (entries_signs (level + 1) es (indent level (right ∷ rest))) (entries_form es) (signs_marks rest)
       (entries_marks_are es (level + 1) (indent level (right ∷ rest)) ∙ ap (entries_marks (entries_form es)) (indent_marks level (right ∷ rest)))
 
-  pub items_marks_are : (ts : Resources) (level : ℕ) (rest : List Sign) → signs_marks (items_signs level ts rest) ≡ elements_marks (items_form ts) (signs_marks rest)
-  items_marks_are no_trees level rest = refl
-  items_marks_are (tree_and t ts) level rest =
-      let after = comma ∷ feed ∷ items_signs level ts rest in
-      let later = items_marks_are ts level rest in
-      indent_marks level (item_signs t (body_signs level t after) after)
+  pub items_marks_are : (ts : Resources) (level room : ℕ) (rest : List Sign)
+      → signs_marks (items_signs level ts room rest) ≡ elements_marks (items_form ts) (signs_marks rest)
+  items_marks_are no_trees level room rest = refl
+  items_marks_are (tree_and t ts) level room rest =
+      let next = item_room level room t in
+      let after = comma ∷ items_signs level ts next rest in
+      let later = items_marks_are ts level next rest in
+      pause_marks (item_fits level room t) level (item_signs t (body_signs level t after) after)
       ∙ item_marks t (body_form t) (items_form ts) (body_signs level t after) after (signs_marks rest)
       (body_marks_are t level after ∙ ap (λ (ms : List Mark). body_marks (body_form t) (Comma ∷ ms)) later) (ap (λ (ms : List Mark). Comma ∷ ms) later)
 
@@ -121,9 +146,18 @@ digit_unit d h = by (nat_lt d 10) where
   by true = omega arith
   by false = omega arith
 
-hex_are_units : (bs : List ℕ) → AreBytes bs → AllByRecursion (λ u. u < 65536) (hex_units bs)
-hex_are_units [] h = tt
-hex_are_units (b ∷ bs) h = let low : b < 256 = h.0 in (digit_unit (b / 16) (omega arith), (digit_unit (b % 16) (omega arith), hex_are_units bs h.1))
+first_units : (bs : List ℕ) (room : ℕ) → AreBytes bs → AllByRecursion (λ u. u < 65536) (hex_first bs room)
+first_units [] room h = tt
+first_units (b ∷ bs) zero h = tt
+first_units (b ∷ bs) (suc n) h =
+    let low : b < 256 = h.0 in (digit_unit (b / 16) (omega arith), (digit_unit (b % 16) (omega arith), first_units bs n h.1))
+
+later_units : (bs : List ℕ) (room : ℕ) → AreBytes bs → EachUnits (hex_later bs room)
+later_units [] room h = tt
+later_units (b ∷ bs) zero h =
+    let low : b < 256 = h.0 in
+    ((digit_unit (b / 16) (omega arith), (digit_unit (b % 16) (omega arith), first_units bs 31 h.1)), later_units bs 31 h.1)
+later_units (b ∷ bs) (suc n) h = later_units bs n h.1
 
 key_low : (k : List ℕ) → ((i d : ℕ) → i < length k → (32 ≤ get_or k i d) × (get_or k i d ≤ 126)) → AllByRecursion (λ u. u < 65536) k
 key_low [] h = tt
@@ -137,14 +171,25 @@ indent_apart : (b : Bool) (n : ℕ) (rest : List Sign) → Apart b rest → Apar
 indent_apart b zero rest h = h
 indent_apart b (suc n) rest h = indent_apart b n rest h
 
-numbers_apart : (zs : List ℤ) (rest : List Sign) → AllByRecursion IsNumber zs → ((b : Bool) → Apart b rest) → Apart false (numbers_signs zs rest)
-numbers_apart [] rest s h = h false
-numbers_apart (z ∷ zs) rest s h = (refl, number_units z s.0, next zs (numbers_apart zs rest s.1 h)) where
-  next : (ys : List ℤ) → Apart false (numbers_signs ys rest) → Apart true (comma_if (are_more ys) (numbers_signs ys rest))
-  next [] p = h true
-  next (y ∷ ys) p = p
+pause_apart : (b c : Bool) (n : ℕ) (rest : List Sign) → Apart b rest → Apart b (pause c n rest)
+pause_apart b true n rest h = h
+pause_apart b false n rest h = indent_apart b n rest h
 
-unless_apart : (g b : Bool) (word : List ℕ) (ss : List Sign) → AllByRecursion (λ u. u < 65536) word → Apart false ss → Apart b (type_unless g word (left ∷ feed ∷ ss))
+comma_apart : (zs : List ℤ) (w : Bool) (level room : ℕ) (rest : List Sign) → ((b : Bool) → Apart b rest) → Apart false (numbers_signs zs w level room rest)
+    → Apart true (comma_if (are_more zs) (numbers_signs zs w level room rest))
+comma_apart [] w level room rest h p = h true
+comma_apart (z ∷ zs) w level room rest h p = p
+
+numbers_apart : (zs : List ℤ) (w : Bool) (level room : ℕ) (rest : List Sign) → AllByRecursion IsNumber zs → ((b : Bool) → Apart b rest)
+    → Apart false (numbers_signs zs w level room rest)
+numbers_apart [] w level room rest s h = h false
+numbers_apart (z ∷ zs) w level room rest s h =
+    let fits = number_fits w room in
+    let next = room_after fits level room (length (signed_decimal z)) in
+    pause_apart false fits level (text true (signed_decimal z) ∷ comma_if (are_more zs) (numbers_signs zs w level next rest))
+    (refl, number_units z s.0, comma_apart zs w level next rest h (numbers_apart zs w level next rest s.1 h))
+
+unless_apart : (g b : Bool) (word : List ℕ) (ss : List Sign) → AllByRecursion (λ u. u < 65536) word → Apart false ss → Apart b (type_unless g word (left ∷ ss))
 unless_apart true b word ss w h = h
 unless_apart false b word ss w h = (refl, w, h)
 
@@ -176,23 +221,34 @@ mutual
   pub body_apart : (t : Resource) (b : Bool) (level : ℕ) (rest : List Sign) → IsSound t → Apart false rest → Apart b (body_signs level t rest)
   body_apart (string us) b level rest s h = (refl, s, h)
   body_apart (int n) b level rest s h = (refl, listed (int_word false) refl, (refl, decimal_units n s, h))
-  body_apart (ints zs) b level rest s h = (refl, listed ints_word refl, numbers_apart zs (space ∷ right ∷ rest) s (λ b. h))
-  body_apart (binary bs) b level rest s h = (refl, listed (binary_word false) refl, (refl, hex_are_units bs s, h))
+  body_apart (ints zs) b level rest s h = (
+    refl,
+    listed ints_word refl,
+    numbers_apart zs (wraps (level + 1) zs) (level + 1) 0
+        (pause (not (wraps (level + 1) zs)) level (right ∷ rest)) s (λ b. pause_apart b (not (wraps (level + 1) zs)) level (right ∷ rest) h),
+  )
+  body_apart (binary bs) b level rest s h = (
+    refl,
+    listed (binary_word false) refl,
+    pause_apart false (is_short bs) (level + 1) (pieces (level + 1) (hex_first bs 32) (hex_later bs 32) ∷ pause (is_short bs) level (right ∷ rest))
+        (refl, first_units bs 32 s, later_units bs 32 s, pause_apart true (is_short bs) level (right ∷ rest) h),
+  )
   body_apart (alias us) b level rest s h = (refl, listed alias_word refl, (refl, s, h))
   body_apart (array ts) b level rest s h =
-      unless_apart (has_items ts) b array_word (items_signs (level + 1) ts (indent level (right ∷ rest))) (listed array_word refl)
-      (items_apart ts (level + 1) (indent level (right ∷ rest)) s (indent_apart false level (right ∷ rest) h))
+      unless_apart (has_items ts) b array_word (items_signs (level + 1) ts 0 (feed ∷ indent level (right ∷ rest))) (listed array_word refl)
+      (items_apart ts (level + 1) 0 (feed ∷ indent level (right ∷ rest)) s (indent_apart false level (right ∷ rest) h))
   body_apart (table es) b level rest s h =
-      unless_apart (has_entries es) b table_word (entries_signs (level + 1) es (indent level (right ∷ rest))) (listed table_word refl)
+      unless_apart (has_entries es) b table_word (feed ∷ entries_signs (level + 1) es (indent level (right ∷ rest))) (listed table_word refl)
       (entries_apart es (level + 1) (indent level (right ∷ rest)) (keys_are es s.0) s.1 (indent_apart false level (right ∷ rest) h))
 
-  pub items_apart : (ts : Resources) (level : ℕ) (rest : List Sign) → AreSound ts → Apart false rest → Apart false (items_signs level ts rest)
-  items_apart no_trees level rest s h = h
-  items_apart (tree_and t ts) level rest s h =
-      let later = items_apart ts level rest s.1 h in
-      let after = comma ∷ feed ∷ items_signs level ts rest in
-      indent_apart false level (item_signs t (body_signs level t after) after)
-      (item_apart t (body_signs level t after) (feed ∷ items_signs level ts rest) s.0 (body_apart t false level after s.0 later) later)
+  pub items_apart : (ts : Resources) (level room : ℕ) (rest : List Sign) → AreSound ts → Apart false rest → Apart false (items_signs level ts room rest)
+  items_apart no_trees level room rest s h = h
+  items_apart (tree_and t ts) level room rest s h =
+      let next = item_room level room t in
+      let later = items_apart ts level next rest s.1 h in
+      let after = comma ∷ items_signs level ts next rest in
+      pause_apart false (item_fits level room t) level (item_signs t (body_signs level t after) after)
+      (item_apart t (body_signs level t after) (items_signs level ts next rest) s.0 (body_apart t false level after s.0 later) later)
 
   pub entries_apart : (es : Members) (level : ℕ) (rest : List Sign) → KeysAre es → EachSound es → Apart false rest → Apart false (entries_signs level es rest)
   entries_apart no_entries level rest k s h = h

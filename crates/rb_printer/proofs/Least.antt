@@ -1,38 +1,93 @@
 -- The fewest characters of a text, and its tree's weight.
-use Rattle.std.proofs.Common.{◌≡◌, ℕ, zero, suc, ◌+◌, ◌*◌, ◌/◌, ◌%◌, ◌<◌, ◌≤◌, ℤ, Bool, true, false, cond, ◌&&◌, not, List, [], ◌∷◌, ◌++◌, length}
-use Rattle.std.proofs.Common.{refl, sym, ap, subst, arith, length-append, encode_utf8_all}
-use Rattle.std.specs.Char.{digit_char}
+use Rattle.std.proofs.Common.{◌≡◌, ℕ, zero, suc, ◌+◌, ◌*◌, ◌≤◌, ℤ, Bool, true, false, cond, ◌&&◌, not, List, [], ◌∷◌, ◌++◌, length}
+use Rattle.std.proofs.Common.{refl, ap, arith, length-append, encode_utf8, encode_utf8_all, Option, Some, None}
 use Rattle.std.specs.Fmt.{decimal, signed_decimal}
-use Rattle.std.proofs.lemmas.Str.{length-le-encodes}
+use Rattle.std.specs.Prelude.{nat_le}
+use Rattle.std.proofs.lemmas.Str.{length-encode, len_utf8_bounds}
+use Rattle.std.proofs.lemmas.Bool.{le-ltb}
+use Rattle.std.specs.Char.{len_utf8}
+use Rattle.std.specs.Char.Utf16.{is_high_surrogate, is_low_surrogate, surrogate_pair_char}
 use Rattle.rb_lexer.specs.Lexeme.{quote, backslash}
 use Rattle.rb_lexer.specs.Tokens.{is_empty}
-use Rattle.rb_grammar.specs.Form.{alias_word, binary_word, int_word, ints_word, table_word, array_word, no_fallback_table_word}
+use Rattle.rb_grammar.specs.Form.{table_word, array_word, no_fallback_table_word}
 use Rattle.rb_tree.specs.Resource.{Resource, string, int, ints, binary, alias, array, table, Resources, no_trees, tree_and, Members, no_entries, entry_and}
 use Rattle.rb_tree.specs.Resource.{weight, trees_weight, entries_weight}
-use Rattle.rb_printer.specs.Sign.{Sign, feed, space, left, right, colon, comma, text, is_word, is_word_unit, is_name, is_shown, four_digits, unit_chars, units_chars}
-use Rattle.rb_printer.specs.Sign.{text_chars, sign_chars, signs_chars}
+use Rattle.rb_printer.specs.Sign.{Sign, feed, space, left, right, comma, text, is_word, is_name, is_shown, is_cited, is_low, four_digits, escape_chars}
+use Rattle.rb_printer.specs.Sign.{pair_chars, first_unit, unit_chars, units_chars}
+use Rattle.rb_printer.specs.Sign.{pieces, joined, spaces, lines_chars, text_chars, sign_chars, signs_chars}
+use Rattle.rb_printer.proofs.Forming.{hex_joined}
+use Rattle.rb_printer.specs.Page.{hex_first, hex_later, is_short, pause, room_after, wraps, number_fits, text_width, item_fits, item_room}
 use Rattle.rb_printer.specs.Page.{hex_units, indent, comma_if, are_more, has_items, has_entries, is_guessed, numbers_signs, type_unless, gap, item_signs}
 use Rattle.rb_printer.specs.Page.{head_signs, body_signs, items_signs, entries_signs, page}
-use Rattle.rb_printer.specs.Least.{least, items_least, entries_least}
+use Rattle.rb_printer.specs.Least.{item_lead, least, items_least, entries_least}
 use Rattle.rb_printer.proofs.Tests.{and_left, and_right}
+use Rattle.rb_printer.proofs.Texts.{shown_high, low_not_high}
+
+-- ---- bytes
+
+-- how many bytes characters take in UTF-8
+abbrev size : List ℕ → ℕ
+size [] = 0
+size (c ∷ cs) = len_utf8 c + size cs
+
+size_append : (cs ds : List ℕ) → size (cs ++ ds) ≡ size cs + size ds
+size_append [] ds = omega arith
+size_append (c ∷ cs) ds = omega (arith, size_append cs ds)
+
+size_is : (cs : List ℕ) → length (encode_utf8_all cs) ≡ size cs
+size_is [] = refl
+size_is (c ∷ cs) = omega (arith, length-append (encode_utf8 c) (encode_utf8_all cs), length-encode c, size_is cs)
+
+size_least : (cs : List ℕ) → length cs ≤ size cs
+size_least [] = omega arith
+size_least (c ∷ cs) = omega (arith, len_utf8_bounds c, size_least cs)
 
 -- ---- one text
 
-one_char : (u : ℕ) → 1 ≤ length (unit_chars u)
-one_char u = by (is_shown u) where
-  by : (b : Bool) → 1 ≤ length (cond b (u ∷ []) (backslash ∷ 0x75 ∷ four_digits u))
-  by true = omega arith
+-- a pair takes four bytes
+pair_size : (u : ℕ) (next : Option ℕ) → (is_high_surrogate u && is_low next) ≡ true → 2 ≤ size (pair_chars u next)
+pair_size u None e = let none = and_right (is_high_surrogate u) false e in cc
+pair_size u (Some v) e =
+    rw (
+      le-ltb (surrogate_pair_char u v) 0x80 (omega arith),
+      le-ltb (surrogate_pair_char u v) 0x800 (omega arith),
+      le-ltb (surrogate_pair_char u v) 0x1_0000 (omega arith),
+    ) (omega arith)
+
+escape_size : (u : ℕ) → 2 ≤ size (escape_chars u)
+escape_size u = by (is_cited u) where
+  by : (b : Bool) → 2 ≤ size (backslash ∷ cond b (u ∷ []) (0x75 ∷ four_digits u))
+  by true = omega (arith, len_utf8_bounds u)
   by false = omega arith
 
-many_chars : (us : List ℕ) → length us ≤ length (units_chars us)
-many_chars [] = omega arith
-many_chars (u ∷ us) = omega (arith, length-append (unit_chars u) (units_chars us), one_char u, many_chars us)
+-- a high surrogate has a byte in hand for the second unit of its pair
+abbrev in_hand : Bool → ℕ
+in_hand b = cond b 1 0
 
-quoted_least : (us : List ℕ) → 2 + length us ≤ length (text_chars false us)
-quoted_least us = omega (arith, length-append (units_chars us) (quote ∷ []), many_chars us)
+unit_size : (after : Bool) (u : ℕ) (next : Option ℕ) → 1 + in_hand (is_high_surrogate u) ≤ size (unit_chars after u next) + in_hand after
+unit_size after u next = by (is_shown u) (is_high_surrogate u && is_low next) (after && is_low_surrogate u) refl refl refl where
+  most : (b : Bool) → cond b 1 0 ≤ 1
+  most true = omega arith
+  most false = omega arith
 
-text_least : (b : Bool) (us : List ℕ) → length us ≤ length (text_chars b us)
-text_least true us = omega arith
+  by : (a b c : Bool) → is_shown u ≡ a → (is_high_surrogate u && is_low next) ≡ b → (after && is_low_surrogate u) ≡ c
+      → 1 + cond (is_high_surrogate u) 1 0 ≤ size (cond a (u ∷ []) (cond b (pair_chars u next) (cond c [] (escape_chars u)))) + cond after 1 0
+  by true b c e f g = omega (arith, ap in_hand (shown_high u e), len_utf8_bounds u)
+  by false true c e f g = omega (arith, most (is_high_surrogate u), pair_size u next f)
+  by false false true e f g = omega (arith, ap in_hand (low_not_high u (and_right after (is_low_surrogate u) g)), ap in_hand (and_left after (is_low_surrogate u) g))
+  by false false false e f g = omega (arith, most (is_high_surrogate u), escape_size u)
+
+many_chars : (us : List ℕ) (after : Bool) → length us ≤ size (units_chars us after) + in_hand after
+many_chars [] after = omega arith
+many_chars (u ∷ us) after =
+    let high = is_high_surrogate u in
+    omega (arith, size_append (unit_chars after u (first_unit us)) (units_chars us high), unit_size after u (first_unit us), many_chars us high)
+
+quoted_least : (us : List ℕ) → 2 + length us ≤ size (text_chars false us)
+quoted_least us = omega (arith, size_append (units_chars us false) (quote ∷ []), many_chars us false)
+
+text_least : (b : Bool) (us : List ℕ) → length us ≤ size (text_chars b us)
+text_least true us = size_least us
 text_least false us = omega (arith, quoted_least us)
 
 some_units : (us : List ℕ) → not (is_empty us) ≡ true → 1 ≤ length us
@@ -40,13 +95,13 @@ some_units [] e = cc
 some_units (u ∷ us) e = omega arith
 
 -- a text has a character, with quotes or without
-text_some : (us : List ℕ) → 1 ≤ length (sign_chars (text true us))
+text_some : (us : List ℕ) → 1 ≤ size (sign_chars (text true us))
 text_some us = by (is_word us) refl where
-  by : (b : Bool) → is_word us ≡ b → 1 ≤ length (text_chars b us)
-  by true e = some_units us (and_left _ _ e)
+  by : (b : Bool) → is_word us ≡ b → 1 ≤ size (text_chars b us)
+  by true e = omega (arith, some_units us (and_left _ _ e), size_least us)
   by false e = omega (arith, quoted_least us)
 
-key_least : (k : List ℕ) → length k ≤ length (sign_chars (text (is_name k) k))
+key_least : (k : List ℕ) → length k ≤ size (sign_chars (text (is_name k) k))
 key_least k = text_least (is_name k && is_word k) k
 
 hex_length : (bs : List ℕ) → length (hex_units bs) ≡ 2 * length bs
@@ -55,39 +110,52 @@ hex_length (b ∷ bs) = omega (arith, hex_length bs)
 
 -- ---- a tree, in front of what follows
 
-indent_least : (n : ℕ) (rest : List Sign) → 4 * n + length (signs_chars rest) ≤ length (signs_chars (indent n rest))
+indent_least : (n : ℕ) (rest : List Sign) → 4 * n + size (signs_chars rest) ≤ size (signs_chars (indent n rest))
 indent_least zero rest = omega arith
 indent_least (suc n) rest = omega (arith, indent_least n rest)
 
-comma_least : (b : Bool) (rest : List Sign) → length (signs_chars rest) ≤ length (signs_chars (comma_if b rest))
+pause_least : (b : Bool) (n : ℕ) (rest : List Sign) → 1 + size (signs_chars rest) ≤ size (signs_chars (pause b n rest))
+pause_least true n rest = omega arith
+pause_least false n rest = omega (arith, indent_least n rest)
+
+new_line_least : (n : ℕ) (rest : List Sign) → 1 + 4 * n + size (signs_chars rest) ≤ size (signs_chars (pause false n rest))
+new_line_least n rest = omega (arith, indent_least n rest)
+
+comma_least : (b : Bool) (rest : List Sign) → size (signs_chars rest) ≤ size (signs_chars (comma_if b rest))
 comma_least true rest = omega arith
 comma_least false rest = omega arith
 
-gap_least : (b : Bool) (rest : List Sign) → length (signs_chars rest) ≤ length (signs_chars (gap b rest))
+gap_least : (b : Bool) (rest : List Sign) → size (signs_chars rest) ≤ size (signs_chars (gap b rest))
 gap_least true rest = omega arith
 gap_least false rest = omega arith
 
-unless_least : (b : Bool) (word : List ℕ) (rest : List Sign) → length (signs_chars rest) ≤ length (signs_chars (type_unless b word rest))
+unless_least : (b : Bool) (word : List ℕ) (rest : List Sign) → size (signs_chars rest) ≤ size (signs_chars (type_unless b word rest))
 unless_least true word rest = omega arith
-unless_least false word rest = omega (arith, length-append (sign_chars (text true word)) (signs_chars (space ∷ rest)))
+unless_least false word rest = omega (arith, size_append (sign_chars (text true word)) (signs_chars (space ∷ rest)))
 
-head_least : (b : Bool) (rest : List Sign) → length (signs_chars rest) ≤ length (signs_chars (head_signs b rest))
-head_least true rest = omega (arith, length-append (sign_chars (text true no_fallback_table_word)) (signs_chars (space ∷ rest)))
+head_least : (b : Bool) (rest : List Sign) → size (signs_chars rest) ≤ size (signs_chars (head_signs b rest))
+head_least true rest = omega (arith, size_append (sign_chars (text true no_fallback_table_word)) (signs_chars (space ∷ rest)))
 head_least false rest = omega arith
 
-numbers_least : (zs : List ℤ) (rest : List Sign) → 2 * length zs + length (signs_chars rest) ≤ length (signs_chars (numbers_signs zs rest))
-numbers_least [] rest = omega arith
-numbers_least (z ∷ zs) rest = omega (
-  arith,
-  length-append (sign_chars (text true (signed_decimal z))) (signs_chars (comma_if (are_more zs) (numbers_signs zs rest))),
-  text_some (signed_decimal z),
-  comma_least (are_more zs) (numbers_signs zs rest),
-  numbers_least zs rest,
-)
+numbers_least : (zs : List ℤ) (w : Bool) (level room : ℕ) (rest : List Sign)
+    → 2 * length zs + size (signs_chars rest) ≤ size (signs_chars (numbers_signs zs w level room rest))
+numbers_least [] w level room rest = omega arith
+numbers_least (z ∷ zs) w level room rest =
+    let fits = number_fits w room in
+    let next = room_after fits level room (length (signed_decimal z)) in
+    let after = comma_if (are_more zs) (numbers_signs zs w level next rest) in
+    omega (
+      arith,
+      pause_least fits level (text true (signed_decimal z) ∷ after),
+      size_append (sign_chars (text true (signed_decimal z))) (signs_chars after),
+      text_some (signed_decimal z),
+      comma_least (are_more zs) (numbers_signs zs w level next rest),
+      numbers_least zs w level next rest,
+    )
 
-item_least : (t : Resource) (n : ℕ) (body after : List Sign) → least n t + length (signs_chars after) ≤ length (signs_chars body)
-    → least n t + length (signs_chars after) ≤ length (signs_chars (item_signs t body after))
-item_least (string us) n body after h = omega (arith, length-append (text_chars false us) (signs_chars after), quoted_least us)
+item_least : (t : Resource) (n : ℕ) (body after : List Sign) → least n t + size (signs_chars after) ≤ size (signs_chars body)
+    → least n t + size (signs_chars after) ≤ size (signs_chars (item_signs t body after))
+item_least (string us) n body after h = omega (arith, size_append (text_chars false us) (signs_chars after), quoted_least us)
 item_least (int m) n body after h = h
 item_least (ints zs) n body after h = h
 item_least (binary bs) n body after h = h
@@ -95,20 +163,77 @@ item_least (alias us) n body after h = h
 item_least (array ts) n body after h = h
 item_least (table es) n body after h = h
 
+lines_least : (ps : List (List ℕ)) (level : ℕ) → length (joined ps) ≤ size (lines_chars ps level)
+lines_least [] level = omega arith
+lines_least (p ∷ ps) level = omega (
+  arith,
+  length-append p (joined ps),
+  size_append (spaces level) (text_chars false p ++ lines_chars ps level),
+  size_append (text_chars false p) (lines_chars ps level),
+  quoted_least p,
+  lines_least ps level,
+)
+
+pieces_least : (bs : List ℕ) (level : ℕ) → 2 + 2 * length bs ≤ size (sign_chars (pieces level (hex_first bs 32) (hex_later bs 32)))
+pieces_least bs level = omega (
+  arith,
+  size_append (text_chars false (hex_first bs 32)) (lines_chars (hex_later bs 32) level),
+  quoted_least (hex_first bs 32),
+  lines_least (hex_later bs 32) level,
+  length-append (hex_first bs 32) (joined (hex_later bs 32)),
+  ap length (hex_joined bs 32),
+  hex_length bs,
+)
+
+-- what stands in front of an item, with the comma after it
+lead_least : (t : Resource) (level room : ℕ) (rest : List Sign) → item_lead level t + size (signs_chars rest) ≤ size (signs_chars (pause (item_fits level room t) level rest)) + 1
+lead_least (string us) level room rest = by (nat_le level 12) where
+  by : (b : Bool) → cond b 2 (4 * level) + size (signs_chars rest) ≤ size (signs_chars (pause (b && nat_le (text_width us + 2) room) level rest)) + 1
+  by true = omega (arith, pause_least (nat_le (text_width us + 2) room) level rest)
+  by false = omega (arith, new_line_least level rest)
+lead_least (int n) level room rest = omega (arith, new_line_least level rest)
+lead_least (ints zs) level room rest = omega (arith, new_line_least level rest)
+lead_least (binary bs) level room rest = omega (arith, new_line_least level rest)
+lead_least (alias us) level room rest = omega (arith, new_line_least level rest)
+lead_least (array ts) level room rest = omega (arith, new_line_least level rest)
+lead_least (table es) level room rest = omega (arith, new_line_least level rest)
+
+lead_some : (t : Resource) (level : ℕ) → 1 ≤ level → 2 ≤ item_lead level t
+lead_some (string us) level h = by (nat_le level 12) where
+  by : (b : Bool) → 2 ≤ cond b 2 (4 * level)
+  by true = omega arith
+  by false = omega arith
+lead_some (int n) level h = omega arith
+lead_some (ints zs) level h = omega arith
+lead_some (binary bs) level h = omega arith
+lead_some (alias us) level h = omega arith
+lead_some (array ts) level h = omega arith
+lead_some (table es) level h = omega arith
+
 mutual
-  pub body_least : (t : Resource) (level : ℕ) (rest : List Sign) → least level t + length (signs_chars rest) ≤ length (signs_chars (body_signs level t rest))
-  body_least (string us) level rest = omega (arith, length-append (text_chars false us) (0x20 ∷ 0x7D ∷ signs_chars rest), quoted_least us)
-  body_least (int n) level rest = omega (arith, length-append (sign_chars (text true (decimal n))) (0x20 ∷ 0x7D ∷ signs_chars rest))
-  body_least (ints zs) level rest = omega (arith, numbers_least zs (space ∷ right ∷ rest))
+  pub body_least : (t : Resource) (level : ℕ) (rest : List Sign) → least level t + size (signs_chars rest) ≤ size (signs_chars (body_signs level t rest))
+  body_least (string us) level rest = omega (arith, size_append (text_chars false us) (0x20 ∷ 0x7D ∷ signs_chars rest), quoted_least us)
+  body_least (int n) level rest = omega (arith, size_append (sign_chars (text true (decimal n))) (0x20 ∷ 0x7D ∷ signs_chars rest))
+  body_least (ints zs) level rest =
+      let w = wraps (level + 1) zs in
+      omega (arith, numbers_least zs w (level + 1) 0 (pause (not w) level (right ∷ rest)), pause_least (not w) level (right ∷ rest))
   body_least (binary bs) level rest =
-      omega (arith, length-append (text_chars false (hex_units bs)) (0x20 ∷ 0x7D ∷ signs_chars rest), quoted_least (hex_units bs), hex_length bs)
-  body_least (alias us) level rest = omega (arith, length-append (text_chars false us) (0x20 ∷ 0x7D ∷ signs_chars rest), quoted_least us)
+      let end = pause (is_short bs) level (right ∷ rest) in
+      let one = pieces (level + 1) (hex_first bs 32) (hex_later bs 32) in
+      omega (
+        arith,
+        pause_least (is_short bs) (level + 1) (one ∷ end),
+        size_append (sign_chars one) (signs_chars end),
+        pieces_least bs (level + 1),
+        pause_least (is_short bs) level (right ∷ rest),
+      )
+  body_least (alias us) level rest = omega (arith, size_append (text_chars false us) (0x20 ∷ 0x7D ∷ signs_chars rest), quoted_least us)
   body_least (array ts) level rest =
       let end = indent level (right ∷ rest) in
       omega (
         arith,
-        unless_least (has_items ts) array_word (left ∷ feed ∷ items_signs (level + 1) ts end),
-        items_least_of ts (level + 1) end,
+        unless_least (has_items ts) array_word (left ∷ items_signs (level + 1) ts 0 (feed ∷ end)),
+        items_least_of ts (level + 1) 0 (feed ∷ end),
         indent_least level (right ∷ rest),
       )
   body_least (table es) level rest =
@@ -120,20 +245,21 @@ mutual
         indent_least level (right ∷ rest),
       )
 
-  pub items_least_of : (ts : Resources) (level : ℕ) (rest : List Sign)
-      → items_least level ts + length (signs_chars rest) ≤ length (signs_chars (items_signs level ts rest))
-  items_least_of no_trees level rest = omega arith
-  items_least_of (tree_and t ts) level rest =
-      let after = comma ∷ feed ∷ items_signs level ts rest in
+  pub items_least_of : (ts : Resources) (level room : ℕ) (rest : List Sign)
+      → items_least level ts + size (signs_chars rest) ≤ size (signs_chars (items_signs level ts room rest))
+  items_least_of no_trees level room rest = omega arith
+  items_least_of (tree_and t ts) level room rest =
+      let next = item_room level room t in
+      let after = comma ∷ items_signs level ts next rest in
       omega (
         arith,
-        indent_least level (item_signs t (body_signs level t after) after),
+        lead_least t level room (item_signs t (body_signs level t after) after),
         item_least t level (body_signs level t after) after (body_least t level after),
-        items_least_of ts level rest,
+        items_least_of ts level next rest,
       )
 
   pub entries_least_of : (es : Members) (level : ℕ) (rest : List Sign)
-      → entries_least level es + length (signs_chars rest) ≤ length (signs_chars (entries_signs level es rest))
+      → entries_least level es + size (signs_chars rest) ≤ size (signs_chars (entries_signs level es rest))
   entries_least_of no_entries level rest = omega arith
   entries_least_of (entry_and k t es) level rest =
       let after = feed ∷ entries_signs level es rest in
@@ -141,7 +267,7 @@ mutual
       omega (
         arith,
         indent_least level (text (is_name k) k ∷ body),
-        length-append (sign_chars (text (is_name k) k)) (signs_chars body),
+        size_append (sign_chars (text (is_name k) k)) (signs_chars body),
         key_least k,
         gap_least (is_guessed t) (body_signs level t after),
         body_least t level after,
@@ -162,7 +288,7 @@ mutual
 
   items_weight : (ts : Resources) (level : ℕ) → 1 ≤ level → trees_weight ts ≤ 4 * items_least level ts
   items_weight no_trees level h = omega arith
-  items_weight (tree_and t ts) level h = omega (arith, weight_least t level, items_weight ts level h)
+  items_weight (tree_and t ts) level h = omega (arith, lead_some t level h, weight_least t level, items_weight ts level h)
 
   members_weight : (es : Members) (level : ℕ) → 1 ≤ level → entries_weight es ≤ 4 * entries_least level es
   members_weight no_entries level h = omega arith
@@ -175,8 +301,8 @@ page_least name b es =
     let inner = left ∷ feed ∷ entries_signs 1 es (right ∷ feed ∷ []) in
     omega (
       arith,
-      length-le-encodes (signs_chars (page name b es)),
-      length-append (sign_chars (text (is_name name) name)) (signs_chars (head_signs b inner)),
+      size_is (signs_chars (page name b es)),
+      size_append (sign_chars (text (is_name name) name)) (signs_chars (head_signs b inner)),
       head_least b inner,
       entries_least_of es 1 (right ∷ feed ∷ []),
     )

@@ -1,24 +1,27 @@
 -- What is still to be written in each loop.
 use Rattle.std.proofs.Common.{◌≡◌, ℕ, zero, suc, ◌+◌, ◌-◌, ◌/◌, ◌%◌, ◌<◌, ◌≤◌, ℤ, Bool, true, false, cond, List, [], ◌∷◌, ◌++◌, length, get_or, drop, refl, sym, ap, subst, ◌∙◌}
-use Rattle.std.proofs.Common.{arith, append_assoc, add-one, drop-cons, Some, encode_utf8_all}
+use Rattle.std.proofs.Common.{arith, append_assoc, add-one, drop-cons, Option, Some, None, encode_utf8_all}
 use Rattle.std.specs.Prelude.{slice_get}
 use Rattle.std.specs.List.{AllByRecursion}
 use Rattle.std.specs.Char.{digit_char}
+use Rattle.std.specs.Char.Utf16.{is_high_surrogate, is_low_surrogate}
 use Rattle.std.specs.Fmt.{signed_decimal}
 use Rattle.std.proofs.lemmas.List.{drop_all}
-use Rattle.std.proofs.lemmas.Bool.{lt-ltb, le-ltb, ltb-true, ltb-false}
+use Rattle.std.proofs.lemmas.Bool.{lt-ltb, le-ltb, lt-leb, ltb-true, ltb-false}
 use Rattle.std.proofs.Common.{ne_eqb}
-use Rattle.std.specs.Prelude.{nat_lt}
+use Rattle.std.specs.Prelude.{nat_lt, ◌&&◌}
 use Rattle.rb_lexer.specs.Lexeme.{quote}
 use Rattle.rb_tree.specs.Resource.{Resource, string, int, ints, binary, alias, array, table}
 use Rattle.rb_tree.specs.Parts.{kind_of, len_of, HasUnits, units_of, numbers_of, bytes_of}
 use Rattle.rb_tree.specs.declared.kind.Kind.TheVariants as Kinds
-use Rattle.rb_printer.specs.Sign.{unit_chars, units_chars, text_chars, signs_chars}
-use Rattle.rb_printer.specs.Page.{hex_units, indent, comma_if, are_more, numbers_signs}
+use Rattle.rb_printer.specs.Sign.{text, is_shown, is_low, escape_chars, pair_chars, first_unit, unit_chars, units_chars, pieces, spaces, lines_chars, text_chars, sign_chars, signs_chars}
+use Rattle.rb_printer.specs.Page.{hex_first, hex_later, indent, pause, room_after, comma_if, are_more, number_fits, numbers_signs}
 use Rattle.rb_printer.specs.Sound.{AreUnits, AreBytes, IsNumber}
-use Rattle.rb_printer.specs.Growth.{Adds, Owes}
-use Rattle.rb_printer.proofs.Growths.{owes_all, owes_step, owes_end}
-use Rattle.rb_printer.proofs.Splits.{same, comma_splits}
+use Rattle.rb_printer.specs.Growth.{Adds, Owes, break_chars, after_break}
+use Rattle.rb_printer.proofs.Growths.{adds_more, owes_all, owes_step, owes_end}
+use Rattle.rb_printer.proofs.Puts.{adds_as}
+use Rattle.rb_printer.proofs.Splits.{same, pause_splits, comma_splits}
+use Rattle.rb_printer.proofs.Texts.{shown_next}
 use Rattle.rb_printer.proofs.Words.{ascii_shown, number_word}
 
 -- the same, with what is left written otherwise
@@ -30,31 +33,82 @@ owes_as {old} {total} {now} {xs} {ys} o e = record { is = o.is ∙ ap (λ (t : L
 pub dropped : (us : List ℕ) (i : ℕ) → i < length us → drop i us ≡ get_or us i 0 ∷ drop (i + 1) us
 dropped us i h = rw (add-one, drop-cons us i 0) refl
 
-pub units_next : (us : List ℕ) (i : ℕ) → i < length us → units_chars (drop i us) ≡ unit_chars (get_or us i 0) ++ units_chars (drop (i + 1) us)
-units_next us i h = ap units_chars (dropped us i h)
+pub units_next : (us : List ℕ) (i : ℕ) (after : Bool) → i < length us
+    → units_chars (drop i us) after
+    ≡ unit_chars after (get_or us i 0) (first_unit (drop (i + 1) us)) ++ units_chars (drop (i + 1) us) (is_high_surrogate (get_or us i 0))
+units_next us i after h = ap (λ (xs : List ℕ). units_chars xs after) (dropped us i h)
 
-pub units_last : (us : List ℕ) (i : ℕ) → length us ≤ i → units_chars (drop i us) ≡ []
-units_last us i h = ap units_chars (drop_all i us h)
+pub units_last : (us : List ℕ) (i : ℕ) (after : Bool) → length us ≤ i → units_chars (drop i us) after ≡ []
+units_last us i after h = ap (λ (xs : List ℕ). units_chars xs after) (drop_all i us h)
 
--- the units of a text with quotes, of which i are written
-pub record UnitsPut (old now us : List ℕ) (i : ℕ) : Type 0 where
-  pub owes : Owes old (text_chars false us) now (units_chars (drop i us) ++ quote ∷ [])
+pub first_there : (us : List ℕ) (i u : ℕ) → i < length us → u ≡ get_or us i 0 → Some u ≡ first_unit (drop i us)
+first_there us i u h e = ap (λ (x : ℕ). Some x) e ∙ ap first_unit (sym (dropped us i h))
+
+pub first_none : (us : List ℕ) (i : ℕ) → length us ≤ i → ◌≡◌ {A = Option ℕ} None (first_unit (drop i us))
+first_none us i h = ap first_unit (sym (drop_all i us h))
+
+-- a unit of some is written
+pub unit_put : (old total now new us : List ℕ) (i u : ℕ) (next : Option ℕ) (after high : Bool) → Owes old total now (units_chars (drop i us) after) → i < length us
+    → u ≡ get_or us i 0 → next ≡ first_unit (drop (i + 1) us) → high ≡ is_high_surrogate u → Adds now new (unit_chars after u next)
+    → Owes old total new (units_chars (drop (i + 1) us) high)
+unit_put old total now new us i u next after high o h e f g a =
+    let later = units_chars (drop (i + 1) us) high in
+    let left : units_chars (drop i us) after ≡ unit_chars after u next ++ later =
+    units_next us i after h ∙ ap (λ (x : ℕ). unit_chars after x (first_unit (drop (i + 1) us)) ++ units_chars (drop (i + 1) us) (is_high_surrogate x)) (sym e)
+    ∙ ap (λ (b : Bool). unit_chars after u (first_unit (drop (i + 1) us)) ++ units_chars (drop (i + 1) us) b) (sym g)
+    ∙ ap (λ (o : Option ℕ). unit_chars after u o ++ later) (sym f) in
+    owes_step later (owes_as o left) a
+
+-- a byte stands for no surrogate
+byte_high : (u : ℕ) → u < 256 → is_high_surrogate u ≡ false
+byte_high u h = rw (lt-leb 0xD800 u (omega arith)) refl
+
+byte_chars : (after : Bool) (u : ℕ) (next : Option ℕ) → u < 256 → unit_chars after u next ≡ unit_chars false u None
+byte_chars after u next h = by (is_shown u) after (is_high_surrogate u) (is_low_surrogate u) (byte_high u h) (rw (lt-leb 0xDC00 u (omega arith)) refl) where
+  by : (a after high low : Bool) → high ≡ false → low ≡ false
+      → cond a (u ∷ []) (cond (high && is_low next) (pair_chars u next) (cond (after && low) [] (escape_chars u)))
+      ≡ cond a (u ∷ []) (cond (high && false) [] (escape_chars u))
+  by true after high low e f = refl
+  by false after true low e f = cc
+  by false after false true e f = cc
+  by false true false false e f = refl
+  by false false false false e f = refl
+
+-- a byte of a key is written
+pub key_put : (old total now new ks : List ℕ) (i u : ℕ) → Owes old total now (units_chars (drop i ks) false) → i < length ks → u ≡ get_or ks i 0 → u < 256
+    → Adds now new (unit_chars false u None) → Owes old total new (units_chars (drop (i + 1) ks) false)
+key_put old total now new ks i u o h e small a =
+    let next = first_unit (drop (i + 1) ks) in
+    unit_put old total now new ks i u next false false o h e refl (sym (byte_high u small))
+    (subst (λ (cs : List ℕ). Adds now new cs) (sym (byte_chars false u next small)) a)
+
+-- the units of a text with quotes, of which i are written, the last of them a high surrogate or not
+pub record UnitsPut (old now us : List ℕ) (i : ℕ) (after : Bool) : Type 0 where
+  pub owes : Owes old (text_chars false us) now (units_chars (drop i us) after ++ quote ∷ [])
   pub sound : AreUnits (drop i us) → AreUnits us
 
-pub units_begin : (old now us : List ℕ) → Adds old now (quote ∷ []) → UnitsPut old now us 0
-units_begin old now us a = record { owes = owes_step (units_chars us ++ quote ∷ []) (owes_all old (text_chars false us)) a; sound = λ h. h }
+pub units_begin : (old now us : List ℕ) → Adds old now (quote ∷ []) → UnitsPut old now us 0 false
+units_begin old now us a = record { owes = owes_step (units_chars us false ++ quote ∷ []) (owes_all old (text_chars false us)) a; sound = λ h. h }
 
-pub units_put : (old now new us : List ℕ) (i u : ℕ) → UnitsPut old now us i → i < length us → u ≡ get_or us i 0 → u < 65536 → Adds now new (unit_chars u)
-    → UnitsPut old new us (i + 1)
-units_put old now new us i u m h e small a = record {
-  owes = owes_step (units_chars (drop (i + 1) us) ++ quote ∷ []) (owes_as m.owes (ap (λ (cs : List ℕ). cs ++ quote ∷ []) (units_next us i h)
-      ∙ append_assoc (unit_chars (get_or us i 0)) (units_chars (drop (i + 1) us)) (quote ∷ []))) (subst (λ (x : ℕ). Adds now new (unit_chars x)) e a);
-  sound = λ (k : AreUnits (drop (i + 1) us)). m.sound (subst AreUnits (sym (dropped us i h)) (subst (λ (x : ℕ). x < 65536) e small, k));
-}
+pub units_put : (old now new us : List ℕ) (i u : ℕ) (next : Option ℕ) (after high : Bool) → UnitsPut old now us i after → i < length us → u ≡ get_or us i 0
+    → u < 65536 → next ≡ first_unit (drop (i + 1) us) → high ≡ is_high_surrogate u → Adds now new (unit_chars after u next)
+    → UnitsPut old new us (i + 1) high
+units_put old now new us i u next after high m h e small f g a =
+    let later = units_chars (drop (i + 1) us) high in
+    let left : units_chars (drop i us) after ++ quote ∷ [] ≡ unit_chars after u next ++ (later ++ quote ∷ []) =
+    ap (λ (cs : List ℕ). cs ++ quote ∷ []) (units_next us i after h
+    ∙ ap (λ (x : ℕ). unit_chars after x (first_unit (drop (i + 1) us)) ++ units_chars (drop (i + 1) us) (is_high_surrogate x)) (sym e)
+    ∙ ap (λ (b : Bool). unit_chars after u (first_unit (drop (i + 1) us)) ++ units_chars (drop (i + 1) us) b) (sym g)
+    ∙ ap (λ (o : Option ℕ). unit_chars after u o ++ later) (sym f)) ∙ append_assoc (unit_chars after u next) later (quote ∷ []) in
+    record {
+      owes = owes_step (later ++ quote ∷ []) (owes_as m.owes left) a;
+      sound = λ (k : AreUnits (drop (i + 1) us)). m.sound (subst AreUnits (sym (dropped us i h)) (subst (λ (x : ℕ). x < 65536) e small, k));
+    }
 
-pub units_end : (old now new us : List ℕ) (i : ℕ) → UnitsPut old now us i → length us ≤ i → Adds now new (quote ∷ []) → Adds old new (text_chars false us) × AreUnits us
-units_end old now new us i m h a = (
-  owes_end (owes_step [] (owes_as m.owes (ap (λ (cs : List ℕ). cs ++ quote ∷ []) (units_last us i h))) a),
+pub units_end : (old now new us : List ℕ) (i : ℕ) (after : Bool) → UnitsPut old now us i after → length us ≤ i → Adds now new (quote ∷ [])
+    → Adds old new (text_chars false us) × AreUnits us
+units_end old now new us i after m h a = (
+  owes_end (owes_step [] (owes_as m.owes (ap (λ (cs : List ℕ). cs ++ quote ∷ []) (units_last us i after h))) a),
   m.sound (subst AreUnits (sym (drop_all i us h)) tt),
 )
 
@@ -69,51 +123,70 @@ units_len (table es) h = absurd h
 
 -- ---- bytes
 
-hex_next : (bs : List ℕ) (i : ℕ) → i < length bs
-    → hex_units (drop i bs) ≡ digit_char (get_or bs i 0 / 16) ∷ digit_char (get_or bs i 0 % 16) ∷ hex_units (drop (i + 1) bs)
-hex_next bs i h = ap hex_units (dropped bs i h)
+-- what is left of a Binary's text where the present piece has room for so many bytes
+abbrev pub tail : ℕ → List ℕ → ℕ → List ℕ
+tail level bs room = units_chars (hex_first bs room) false ++ quote ∷ lines_chars (hex_later bs room) level
 
--- the bytes of a Binary, of which i are written
-pub record BytesPut (old now bs : List ℕ) (i : ℕ) : Type 0 where
-  pub owes : Owes old (text_chars false (hex_units bs)) now (units_chars (hex_units (drop i bs)) ++ quote ∷ [])
+abbrev pub whole : ℕ → List ℕ → List ℕ
+whole level bs = sign_chars (pieces level (hex_first bs 32) (hex_later bs 32))
+
+-- the bytes of a Binary, of which i are written, and the piece then has room for so many
+pub record BytesPut (old now bs : List ℕ) (level room i : ℕ) : Type 0 where
+  pub owes : Owes old (whole level bs) now (tail level (drop i bs) room)
   pub sound : AreBytes (drop i bs) → AreBytes bs
 
-pub bytes_begin : (old now bs : List ℕ) → Adds old now (quote ∷ []) → BytesPut old now bs 0
-bytes_begin old now bs a = record {
-  owes = owes_step (units_chars (hex_units bs) ++ quote ∷ []) (owes_all old (text_chars false (hex_units bs))) a;
+pub bytes_begin : (old now bs : List ℕ) (level : ℕ) → Adds old now (quote ∷ []) → BytesPut old now bs level 32 0
+bytes_begin old now bs level a = record {
+  owes = owes_step (tail level bs 32) (owes_as (owes_all old (whole level bs))
+      (ap (λ (cs : List ℕ). quote ∷ cs) (append_assoc (units_chars (hex_first bs 32) false) (quote ∷ []) (lines_chars (hex_later bs 32) level)))) a;
   sound = λ h. h;
 }
 
-digit_shown : (d : ℕ) → d < 16 → unit_chars (digit_char d) ≡ digit_char d ∷ []
+digit_shown : (d : ℕ) → d < 16 → is_shown (digit_char d) ≡ true
 digit_shown d h = by (nat_lt d 10) refl where
-  near : (c : ℕ) → 47 < c → c < 103 → (c ≡ 0x5C → ⊥) → unit_chars c ≡ c ∷ []
-  near c low high other = rw (ascii_shown c (omega arith) (omega arith) (ne_eqb c 0x22 (λ e. omega arith)) (ne_eqb c 0x5C other)) refl
+  near : (c : ℕ) → 47 < c → c < 103 → (c ≡ 0x5C → ⊥) → is_shown c ≡ true
+  near c low high other = ascii_shown c (omega arith) (omega arith) (ne_eqb c 0x22 (λ e. omega arith)) (ne_eqb c 0x5C other)
 
-  by : (b : Bool) → nat_lt d 10 ≡ b → unit_chars (cond b (48 + d) (87 + d)) ≡ cond b (48 + d) (87 + d) ∷ []
+  by : (b : Bool) → nat_lt d 10 ≡ b → is_shown (cond b (48 + d) (87 + d)) ≡ true
   by true e = let below : d < 10 = ltb-true d 10 e in near (48 + d) (omega arith) (omega arith) (λ e. omega arith)
   by false e = let above : 10 ≤ d = ltb-false d 10 e in near (87 + d) (omega arith) (omega arith) (λ e. omega arith)
 
 byte_shown : (b : ℕ) (rest : List ℕ) → b < 256
-    → units_chars (digit_char (b / 16) ∷ digit_char (b % 16) ∷ rest) ≡ (digit_char (b / 16) ∷ digit_char (b % 16) ∷ []) ++ units_chars rest
+    → units_chars (digit_char (b / 16) ∷ digit_char (b % 16) ∷ rest) false ≡ (digit_char (b / 16) ∷ digit_char (b % 16) ∷ []) ++ units_chars rest false
 byte_shown b rest h =
-    ap (λ (cs : List ℕ). cs ++ (unit_chars (digit_char (b % 16)) ++ units_chars rest)) (digit_shown (b / 16) (omega arith))
-    ∙ ap (λ (cs : List ℕ). digit_char (b / 16) ∷ (cs ++ units_chars rest)) (digit_shown (b % 16) (omega arith))
+    shown_next (digit_char (b / 16)) (digit_char (b % 16) ∷ rest) false (digit_shown (b / 16) (omega arith))
+    ∙ ap (λ (cs : List ℕ). digit_char (b / 16) ∷ cs) (shown_next (digit_char (b % 16)) rest false (digit_shown (b % 16) (omega arith)))
 
-pub bytes_put : (old now new bs : List ℕ) (i b : ℕ) → BytesPut old now bs i → i < length bs → b ≡ get_or bs i 0 → b < 256
-    → Adds now new (digit_char (b / 16) ∷ digit_char (b % 16) ∷ []) → BytesPut old new bs (i + 1)
-bytes_put old now new bs i b m h e small a =
-    let here : hex_units (drop i bs) ≡ digit_char (b / 16) ∷ digit_char (b % 16) ∷ hex_units (drop (i + 1) bs) =
-    subst (λ (x : ℕ). hex_units (drop i bs) ≡ digit_char (x / 16) ∷ digit_char (x % 16) ∷ hex_units (drop (i + 1) bs)) (sym e) (hex_next bs i h) in
+tail_next : (b : ℕ) (bs : List ℕ) (room level : ℕ) → b < 256
+    → tail level (b ∷ bs) room ≡ break_chars room level ++ (digit_char (b / 16) ∷ digit_char (b % 16) ∷ tail level bs (after_break room))
+tail_next b bs (suc n) level h = ap (λ (cs : List ℕ). cs ++ quote ∷ lines_chars (hex_later bs n) level) (byte_shown b (hex_first bs n) h)
+tail_next b bs zero level h =
+    let units = digit_char (b / 16) ∷ digit_char (b % 16) ∷ hex_first bs 31 in
+    let later = lines_chars (hex_later bs 31) level in
+    let after = digit_char (b / 16) ∷ digit_char (b % 16) ∷ tail level bs 31 in
+    ap (λ (cs : List ℕ). quote ∷ 0x0A ∷ (spaces level ++ quote ∷ cs))
+    (append_assoc (units_chars units false) (quote ∷ []) later ∙ ap (λ (cs : List ℕ). cs ++ quote ∷ later) (byte_shown b (hex_first bs 31) h))
+    ∙ ap (λ (cs : List ℕ). quote ∷ 0x0A ∷ cs) (sym (append_assoc (spaces level) (quote ∷ []) after))
+
+pub bytes_put : (old now a new bs : List ℕ) (level room next i b : ℕ) → BytesPut old now bs level room i → i < length bs → b ≡ get_or bs i 0 → b < 256
+    → next ≡ after_break room → Adds now a (break_chars room level) → Adds a new (digit_char (b / 16) ∷ digit_char (b % 16) ∷ [])
+    → BytesPut old new bs level next (i + 1)
+bytes_put old now a new bs level room next i b m h e small f p q =
+    let later = drop (i + 1) bs in
+    let digits = digit_char (b / 16) ∷ digit_char (b % 16) ∷ [] in
+    let there : drop i bs ≡ b ∷ later = dropped bs i h ∙ ap (λ (x : ℕ). x ∷ later) (sym e) in
+    let left : tail level (drop i bs) room ≡ break_chars room level ++ (digits ++ tail level later next) =
+    ap (λ (xs : List ℕ). tail level xs room) there ∙ tail_next b later room level small
+    ∙ ap (λ (n : ℕ). break_chars room level ++ (digits ++ tail level later n)) (sym f) in
     record {
-      owes = owes_step (units_chars (hex_units (drop (i + 1) bs)) ++ quote ∷ []) (owes_as m.owes (ap (λ (cs : List ℕ). cs ++ quote ∷ [])
-          (ap units_chars here ∙ byte_shown b (hex_units (drop (i + 1) bs)) small))) a;
-      sound = λ (k : AreBytes (drop (i + 1) bs)). m.sound (subst AreBytes (sym (dropped bs i h)) (subst (λ (x : ℕ). x < 256) e small, k));
+      owes = owes_step {xs = digits} (tail level later next) (owes_step (digits ++ tail level later next) (owes_as m.owes left) p) q;
+      sound = λ (k : AreBytes later). m.sound (subst AreBytes (sym there) (small, k));
     }
 
-pub bytes_end : (old now new bs : List ℕ) (i : ℕ) → BytesPut old now bs i → length bs ≤ i → Adds now new (quote ∷ [])
-    → Adds old new (text_chars false (hex_units bs)) × AreBytes bs
-bytes_end old now new bs i m h a = (
-  owes_end (owes_step [] (owes_as m.owes (ap (λ (xs : List ℕ). units_chars (hex_units xs) ++ quote ∷ []) (drop_all i bs h))) a),
+pub bytes_end : (old now new bs : List ℕ) (level room i : ℕ) → BytesPut old now bs level room i → length bs ≤ i → Adds now new (quote ∷ [])
+    → Adds old new (whole level bs) × AreBytes bs
+bytes_end old now new bs level room i m h a = (
+  owes_end (owes_step [] (owes_as m.owes (ap (λ (xs : List ℕ). tail level xs room) (drop_all i bs h))) a),
   m.sound (subst AreBytes (sym (drop_all i bs h)) tt),
 )
 
@@ -131,12 +204,13 @@ bytes_len (table es) h = absurd cc
 abbrev pub AreNumbers : List ℤ → Type 0
 AreNumbers zs = AllByRecursion IsNumber zs
 
-pub record NumbersPut (old now : List ℕ) (zs : List ℤ) (i : ℕ) : Type 0 where
-  pub owes : Owes old (signs_chars (numbers_signs zs [])) now (signs_chars (numbers_signs (drop i zs) []))
+-- of numbers from a line with no columns left on, i are written, after which so many columns are left
+pub record NumbersPut (old now : List ℕ) (zs : List ℤ) (wrapped : Bool) (level room i : ℕ) : Type 0 where
+  pub owes : Owes old (signs_chars (numbers_signs zs wrapped level 0 [])) now (signs_chars (numbers_signs (drop i zs) wrapped level room []))
   pub sound : AreNumbers (drop i zs) → AreNumbers zs
 
-pub numbers_begin : (old : List ℕ) (zs : List ℤ) → NumbersPut old old zs 0
-numbers_begin old zs = record { owes = owes_all old (signs_chars (numbers_signs zs [])); sound = λ h. h }
+pub numbers_begin : (old : List ℕ) (zs : List ℤ) (w : Bool) (level : ℕ) → NumbersPut old old zs w level 0 0
+numbers_begin old zs w level = record { owes = owes_all old (signs_chars (numbers_signs zs w level 0 [])); sound = λ h. h }
 
 number_at : (zs : List ℤ) (i : ℕ) (z : ℤ) → Some z ≡ slice_get zs i → drop i zs ≡ z ∷ drop (suc i) zs
 number_at [] i z e = absurd cc
@@ -155,27 +229,35 @@ more_there (z ∷ zs) (suc i) = more_there zs i ∙ by (nat_lt i (length zs)) re
   by true e = let h : i < length zs = ltb-true i (length zs) e in e ∙ sym (lt-ltb (suc i) (length (z ∷ zs)) (omega arith))
   by false e = let h : length zs ≤ i = ltb-false i (length zs) e in e ∙ sym (le-ltb (suc i) (length (z ∷ zs)) (omega arith))
 
-pub numbers_put : (old now a b new : List ℕ) (zs : List ℤ) (i : ℕ) (z : ℤ) → NumbersPut old now zs i → Some z ≡ slice_get zs i → IsNumber z
-    → Adds now a (0x20 ∷ []) → Adds a b (signed_decimal z) → Adds b new (signs_chars (comma_if (nat_lt (i + 1) (length zs)) []))
-    → NumbersPut old new zs (i + 1)
-numbers_put old now a b new zs i z m e good p q r =
+pub numbers_put : (old now a b new : List ℕ) (zs : List ℤ) (w : Bool) (level room left i : ℕ) (z : ℤ) → NumbersPut old now zs w level room i
+    → Some z ≡ slice_get zs i → IsNumber z → left ≡ room_after (number_fits w room) level room (length (signed_decimal z))
+    → Adds now a (signs_chars (pause (number_fits w room) level [])) → Adds a b (signed_decimal z)
+    → Adds b new (signs_chars (comma_if (nat_lt (i + 1) (length zs)) [])) → NumbersPut old new zs w level left (i + 1)
+numbers_put old now a b new zs w level room left i z m e good f p q r =
     let there = number_there zs i z e in
     let later = drop (i + 1) zs in
-    let after = signs_chars (numbers_signs later []) in
+    let fits = number_fits w room in
+    let next = room_after fits level room (length (signed_decimal z)) in
+    let after = signs_chars (numbers_signs later w level left []) in
+    let front = signs_chars (pause fits level []) in
     let last = signs_chars (comma_if (are_more later) []) in
-    let left : signs_chars (numbers_signs (drop i zs) []) ≡ 0x20 ∷ (signed_decimal z ++ (last ++ after)) =
-    ap (λ (xs : List ℤ). signs_chars (numbers_signs xs [])) there
-    ∙ ap (λ (w : Bool). 0x20 ∷ (text_chars w (signed_decimal z) ++ signs_chars (comma_if (are_more later) (numbers_signs later [])))) (number_word z good)
-    ∙ ap (λ (cs : List ℕ). 0x20 ∷ (signed_decimal z ++ cs)) ((comma_splits (are_more later) same).are (numbers_signs later [])) in
-    let more = subst (λ (w : Bool). Adds b new (signs_chars (comma_if w []))) (sym (more_there zs (i + 1))) r in
+    let rest = numbers_signs later w level next [] in
+    let owed : signs_chars (numbers_signs (drop i zs) w level room []) ≡ front ++ (signed_decimal z ++ (last ++ after)) =
+    ap (λ (xs : List ℤ). signs_chars (numbers_signs xs w level room [])) there
+    ∙ (pause_splits fits level same).are (text true (signed_decimal z) ∷ comma_if (are_more later) rest)
+    ∙ ap (λ (v : Bool). front ++ (text_chars v (signed_decimal z) ++ signs_chars (comma_if (are_more later) rest))) (number_word z good)
+    ∙ ap (λ (cs : List ℕ). front ++ (signed_decimal z ++ cs)) ((comma_splits (are_more later) same).are rest)
+    ∙ ap (λ (n : ℕ). front ++ (signed_decimal z ++ (last ++ signs_chars (numbers_signs later w level n [])))) (sym f) in
+    let more = subst (λ (v : Bool). Adds b new (signs_chars (comma_if v []))) (sym (more_there zs (i + 1))) r in
     record {
-      owes = owes_step after (owes_step (last ++ after) (owes_step {xs = 0x20 ∷ []} (signed_decimal z ++ (last ++ after)) (owes_as m.owes left) p) q) more;
+      owes = owes_step after (owes_step (last ++ after) (owes_step (signed_decimal z ++ (last ++ after)) (owes_as m.owes owed) p) q) more;
       sound = λ (k : AreNumbers (drop (i + 1) zs)). m.sound (subst AreNumbers (sym there) (good, k));
     }
 
-pub numbers_end : (old now : List ℕ) (zs : List ℤ) (i : ℕ) → NumbersPut old now zs i → length zs ≤ i → Adds old now (signs_chars (numbers_signs zs [])) × AreNumbers zs
-numbers_end old now zs i m h = (
-  owes_end (owes_as m.owes (ap (λ (xs : List ℤ). signs_chars (numbers_signs xs [])) (drop_all i zs h))),
+pub numbers_end : (old now : List ℕ) (zs : List ℤ) (w : Bool) (level room i : ℕ) → NumbersPut old now zs w level room i → length zs ≤ i
+    → Adds old now (signs_chars (numbers_signs zs w level 0 [])) × AreNumbers zs
+numbers_end old now zs w level room i m h = (
+  owes_end (owes_as m.owes (ap (λ (xs : List ℤ). signs_chars (numbers_signs xs w level room [])) (drop_all i zs h))),
   m.sound (subst AreNumbers (sym (drop_all i zs h)) tt),
 )
 
@@ -200,3 +282,12 @@ indent_put old now new n i o h a = owes_step (signs_chars (indent (n - (i + 1)) 
 pub indent_end : (old now : List ℕ) (n i : ℕ) → Owes old (signs_chars (indent n [])) now (signs_chars (indent (n - i) [])) → n ≤ i
     → Adds old now (signs_chars (indent n []))
 indent_end old now n i o h = let e : n - i ≡ 0 = omega arith in owes_end (owes_as o (ap (λ (k : ℕ). signs_chars (indent k [])) e))
+
+pub indent_spaces : (n : ℕ) → signs_chars (indent n []) ≡ spaces n
+indent_spaces zero = refl
+indent_spaces (suc n) = ap (λ (cs : List ℕ). 0x20 ∷ 0x20 ∷ 0x20 ∷ 0x20 ∷ cs) (indent_spaces n)
+
+pub break_put : (old a b new : List ℕ) (room level : ℕ) → room ≤ 0 → Adds old a (quote ∷ 0x0A ∷ []) → Adds a b (signs_chars (indent level []))
+    → Adds b new (quote ∷ []) → Adds old new (break_chars room level)
+break_put old a b new zero level h p q r = adds_more p (adds_more (adds_as q (indent_spaces level)) r)
+break_put old a b new (suc n) level h p q r = absurd (omega arith)

@@ -1,19 +1,20 @@
 -- What one text puts.
-use Rattle.std.proofs.Common.{◌≡◌, ℕ, ◌/◌, ◌%◌, ◌<◌, ℤ, Bool, true, false, ◌&&◌, List, [], ◌∷◌, ◌++◌, Result, Ok, Err, OnOk, is_ok, encode_utf8_all, refl, sym, ap, subst, ◌∙◌}
+use Rattle.std.proofs.Common.{◌≡◌, ℕ, ◌/◌, ◌%◌, ◌<◌, ℤ, Bool, true, false, ◌&&◌, List, [], ◌∷◌, ◌++◌, Option, Result, Ok, Err, OnOk, is_ok, encode_utf8_all, refl, sym, ap, subst, ◌∙◌}
 use Rattle.std.specs.Prelude.{if◌then◌else◌}
 use Rattle.std.specs.List.{list_all}
 use Rattle.std.specs.Char.{digit_char}
+use Rattle.std.specs.Char.Utf16.{is_high_surrogate, is_low_surrogate}
 use Rattle.std.specs.Str.{IsAscii}
 use Rattle.std.specs.Fmt.{decimal, signed_decimal}
 use Rattle.std.proofs.lemmas.Fmt.{IsAscii-decimal, IsAscii-signed}
-use Rattle.std.proofs.Common.{arith, ◌^◌, pos, negsuc, w32, to_z, of_z}
+use Rattle.std.proofs.Common.{arith, ◌+◌, ◌-◌, length, length-append, ◌^◌, pos, negsuc, w32, to_z, of_z}
 use Rattle.std.proofs.lemmas.Int.{to_z-of_z}
 use mir.Val.{SFits}
 use Rattle.rb_printer.specs.Sound.{IsNumber}
 use Rattle.std.proofs.lemmas.Bool.{ltb-true}
 use Rattle.std.proofs.lemmas.Str.{encodes-IsAscii, encode_ascii}
 use Rattle.rb_lexer.specs.Lexeme.{quote, backslash}
-use Rattle.rb_printer.specs.Sign.{is_ascii, is_word, is_name, is_shown, unit_chars, units_chars, text, text_chars, sign_chars}
+use Rattle.rb_printer.specs.Sign.{is_ascii, is_word, is_name, is_shown, is_cited, is_low, escape_chars, pair_chars, unit_chars, units_chars, text, text_chars, sign_chars}
 use Rattle.rb_printer.specs.Growth.{Adds}
 use Rattle.rb_printer.proofs.Tests.{and_left, and_right}
 use Rattle.rb_printer.proofs.Growths.{adds_more}
@@ -22,9 +23,25 @@ use Rattle.rb_printer.proofs.Words.{word_chars, name_word}
 pub adds_as : {old now xs ys : List ℕ} → Adds old now xs → xs ≡ ys → Adds old now ys
 adds_as {old} {now} {xs} {ys} a e = record { is = a.is ∙ ap (λ (t : List ℕ). old ++ encode_utf8_all t) e }
 
-pub escape_chars : (u a b c d : ℕ) → is_shown u ≡ false → a ≡ digit_char (u / 4096) → b ≡ digit_char (u / 256 % 16) → c ≡ digit_char (u / 16 % 16)
-    → d ≡ digit_char (u % 16) → (backslash ∷ 0x75 ∷ a ∷ b ∷ c ∷ d ∷ []) ≡ unit_chars u
-escape_chars u a b c d e p q r s = rw (e, p, q, r, s) refl
+pub cited_chars : (u c : ℕ) → is_cited u ≡ true → c ≡ u → (backslash ∷ c ∷ []) ≡ escape_chars u
+cited_chars u c e p = rw (e, p) refl
+
+pub digits_chars : (u a b c d : ℕ) → is_cited u ≡ false → a ≡ digit_char (u / 4096) → b ≡ digit_char (u / 256 % 16) → c ≡ digit_char (u / 16 % 16)
+    → d ≡ digit_char (u % 16) → (backslash ∷ 0x75 ∷ a ∷ b ∷ c ∷ d ∷ []) ≡ escape_chars u
+digits_chars u a b c d e p q r s = rw (e, p, q, r, s) refl
+
+-- what stands for a unit, by what it is
+pub pair_put : (after : Bool) (u : ℕ) (next : Option ℕ) → is_shown u ≡ false → (is_high_surrogate u && is_low next) ≡ true
+    → pair_chars u next ≡ unit_chars after u next
+pair_put after u next e f = rw (e, f) refl
+
+pub none_put : (after : Bool) (u : ℕ) (next : Option ℕ) → is_shown u ≡ false → (is_high_surrogate u && is_low next) ≡ false
+    → (after && is_low_surrogate u) ≡ true → [] ≡ unit_chars after u next
+none_put after u next e f g = rw (e, f, g) refl
+
+pub escape_put : (after : Bool) (u : ℕ) (next : Option ℕ) → is_shown u ≡ false → (is_high_surrogate u && is_low next) ≡ false
+    → (after && is_low_surrogate u) ≡ false → escape_chars u ≡ unit_chars after u next
+escape_put after u next e f g = rw (e, f, g) refl
 
 pub ascii_encoded : (cs : List ℕ) → list_all is_ascii cs ≡ true → encode_utf8_all cs ≡ cs
 ascii_encoded [] e = refl
@@ -37,13 +54,13 @@ pub ascii_put : {E : Type 0} (r : Result (Unit {0}) E) (old new chars : List ℕ
 ascii_put (Ok x) old new chars e is = record { is = is ∙ ap (λ (t : List ℕ). old ++ t) (sym e) }
 ascii_put (Err x) old new chars e is = tt
 
-pub bare_put : (us old new : List ℕ) (b : Bool) → b ≡ is_name us → b ≡ true → Adds old new (units_chars us) → Adds old new (sign_chars (text (is_name us) us))
+pub bare_put : (us old new : List ℕ) (b : Bool) → b ≡ is_name us → b ≡ true → Adds old new (units_chars us false) → Adds old new (sign_chars (text (is_name us) us))
 bare_put us old new b is holds a =
     let name : is_name us ≡ true = sym is ∙ holds in
     let word : is_word us ≡ true = name_word us name in
     subst (λ (w : Bool). Adds old new (text_chars w us)) (sym (ap (λ (w : Bool). w && is_word us) name ∙ word)) (adds_as a (word_chars us word))
 
-pub cited_put : (us old first second new : List ℕ) (b : Bool) → b ≡ is_name us → b ≡ false → Adds old first (quote ∷ []) → Adds first second (units_chars us)
+pub cited_put : (us old first second new : List ℕ) (b : Bool) → b ≡ is_name us → b ≡ false → Adds old first (quote ∷ []) → Adds first second (units_chars us false)
     → Adds second new (quote ∷ []) → Adds old new (sign_chars (text (is_name us) us))
 cited_put us old first second new b is fails p q r =
     let name : is_name us ≡ false = sym is ∙ fails in
@@ -62,6 +79,14 @@ number_ascii (negsuc n) h = IsAscii-signed (negsuc n) (omega arith)
 
 pub number_put : (old new : List ℕ) (z : ℤ) → SFits w32 z → new ≡ old ++ signed_decimal (to_z w32 (of_z w32 z)) → Adds old new (signed_decimal z)
 number_put old new z h e = record { is = e ∙ ap (λ (x : ℤ). old ++ signed_decimal x) (to_z-of_z w32 z h) ∙ ap (λ (t : List ℕ). old ++ t) (sym (encodes-IsAscii (signed_decimal z) (number_ascii z (number_fits z h)))) }
+
+pub number_wide : (old new first last : List ℕ) (z : ℤ) → SFits w32 z → Adds old new (signed_decimal z) → first ≡ old → last ≡ new
+    → length last - length first ≡ length (signed_decimal z)
+number_wide old new first last z h a e f =
+    let same = encodes-IsAscii (signed_decimal z) (number_ascii z (number_fits z h)) in
+    let longer : length new ≡ length old + length (signed_decimal z) =
+    ap length a.is ∙ length-append old (encode_utf8_all (signed_decimal z)) ∙ ap (λ (t : List ℕ). length old + length t) same in
+    omega (arith, ap length e, ap length f, longer)
 
 pub number_read : {old new : List ℕ} (z : ℤ) → SFits w32 z → Adds old new (signed_decimal (to_z w32 (of_z w32 z))) → Adds old new (signed_decimal z)
 number_read {old} {new} z h a = subst (λ (x : ℤ). Adds old new (signed_decimal x)) (to_z-of_z w32 z h) a

@@ -1,14 +1,14 @@
 -- What is left of some room after a part of a tree.
-use Rattle.std.proofs.Common.{◌≡◌, ℕ, zero, suc, ◌+◌, ◌*◌, ◌<◌, ◌≤◌, List, length, Bool, true, not, Option, Some, None, sym, subst, ap, ◌∙◌, arith}
+use Rattle.std.proofs.Common.{◌≡◌, ℕ, ◌+◌, ◌*◌, ◌<◌, ◌≤◌, List, length, Bool, true, not, Option, Some, None, sym, subst, ap}
 use Rattle.std.specs.Prelude.{slice_get, is_some}
 use Rattle.std.specs.Map.{keys_of, values_of}
 use Rattle.rb_tree.specs.Resource.{Resource, Resources, Members}
 use Rattle.rb_tree.specs.Keys.{items, pairs}
-use Rattle.rb_printer.specs.Least.{least, items_least, entries_least, Takes}
+use Rattle.rb_printer.specs.Least.{item_lead, least, items_least, entries_least, Takes}
 use Rattle.rb_printer.proofs.Trees.{drop_trees, drop_members, tree_there, entry_there, trees_out, members_out}
 
 pub items_next : (level : ℕ) (ts : Resources) (i : ℕ) (u : Resource) → Some u ≡ slice_get (items ts) i
-    → items_least level (drop_trees i ts) ≡ 4 * level + least level u + items_least level (drop_trees (i + 1) ts)
+    → items_least level (drop_trees i ts) ≡ item_lead level u + least level u + items_least level (drop_trees (i + 1) ts)
 items_next level ts i u e = ap (items_least level) (tree_there ts i u e)
 
 pub entries_next : (level : ℕ) (es : Members) (i : ℕ) (k : List ℕ) (u : Resource) → Some k ≡ slice_get (keys_of (pairs es)) i

@@ -1,10 +1,11 @@
 -- The characters of signs in front of others.
-use Rattle.std.proofs.Common.{◌≡◌, ℕ, zero, suc, ◌+◌, ℤ, Bool, true, false, List, [], ◌∷◌, ◌++◌, refl, sym, ap, ◌∙◌, append_assoc, append-nil}
+use Rattle.std.proofs.Common.{◌≡◌, ℕ, zero, suc, ◌+◌, ℤ, Bool, true, false, not, List, [], ◌∷◌, ◌++◌, length, refl, sym, ap, ◌∙◌, append_assoc}
 use Rattle.std.specs.Fmt.{decimal, signed_decimal}
 use Rattle.rb_tree.specs.Resource.{Resource, string, int, ints, binary, alias, array, table, Resources, no_trees, tree_and, Members, no_entries, entry_and}
 use Rattle.rb_grammar.specs.Form.{alias_word, binary_word, int_word, ints_word, table_word, array_word, no_fallback_table_word}
-use Rattle.rb_printer.specs.Sign.{Sign, feed, space, left, right, colon, comma, text, is_name, sign_chars, signs_chars}
-use Rattle.rb_printer.specs.Page.{hex_units, indent, comma_if, are_more, has_items, has_entries, is_guessed, numbers_signs, type_unless, gap, item_signs}
+use Rattle.rb_printer.specs.Sign.{Sign, feed, space, left, right, colon, comma, text, pieces, is_name, sign_chars, signs_chars}
+use Rattle.rb_printer.specs.Page.{hex_first, hex_later, is_short, pause, room_after, wraps, number_fits, item_fits, item_room}
+use Rattle.rb_printer.specs.Page.{indent, comma_if, are_more, has_items, has_entries, is_guessed, numbers_signs, type_unless, gap, item_signs}
 use Rattle.rb_printer.specs.Page.{head_signs, body_signs, items_signs, entries_signs}
 
 -- the characters are those in front of nothing, and then those of the rest
@@ -33,13 +34,20 @@ pub indent_splits : (n : ℕ) → Splits (indent n)
 indent_splits zero = same
 indent_splits (suc n) = front space (front space (front space (front space (indent_splits n))))
 
+pub pause_splits : {f : List Sign → List Sign} (b : Bool) (n : ℕ) → Splits f → Splits (λ rest. pause b n (f rest))
+pause_splits true n p = front space p
+pause_splits {f} false n p = front feed (then (indent n) f (indent_splits n) p)
+
 pub comma_splits : {f : List Sign → List Sign} (b : Bool) → Splits f → Splits (λ rest. comma_if b (f rest))
 comma_splits true p = front comma p
 comma_splits false p = p
 
-pub numbers_split : (zs : List ℤ) → Splits (numbers_signs zs)
-numbers_split [] = same
-numbers_split (z ∷ zs) = front space (front (text true (signed_decimal z)) (comma_splits (are_more zs) (numbers_split zs)))
+pub numbers_split : (zs : List ℤ) (w : Bool) (level room : ℕ) → Splits (numbers_signs zs w level room)
+numbers_split [] w level room = same
+numbers_split (z ∷ zs) w level room =
+    let fits = number_fits w room in
+    pause_splits fits level (front (text true (signed_decimal z)) (comma_splits (are_more zs)
+    (numbers_split zs w level (room_after fits level room (length (signed_decimal z))))))
 
 pub unless_splits : {f : List Sign → List Sign} (b : Bool) (word : List ℕ) → Splits f → Splits (λ rest. type_unless b word (f rest))
 unless_splits true word p = p
@@ -72,24 +80,27 @@ mutual
       front colon (front (text true (int_word false)) (front space (front left (front space (front (text true (decimal n)) (front space (front right same)))))))
   body_splits (ints zs) level =
       front colon (front (text true ints_word) (front space (front left
-      (then (numbers_signs zs) (λ rest. space ∷ right ∷ rest) (numbers_split zs) (front space (front right same))))))
+      (then (numbers_signs zs (wraps (level + 1) zs) (level + 1) 0) (λ rest. pause (not (wraps (level + 1) zs)) level (right ∷ rest))
+      (numbers_split zs (wraps (level + 1) zs) (level + 1) 0) (pause_splits (not (wraps (level + 1) zs)) level (front right same))))))
   body_splits (binary bs) level =
-      front colon (front (text true (binary_word false)) (front space (front left (front space (front (text false (hex_units bs)) (front space (front right same)))))))
+      front colon (front (text true (binary_word false)) (front space (front left
+      (pause_splits (is_short bs) (level + 1) (front (pieces (level + 1) (hex_first bs 32) (hex_later bs 32))
+      (pause_splits (is_short bs) level (front right same)))))))
   body_splits (alias us) level =
       front colon (front (text true alias_word) (front space (front left (front space (front (text false us) (front space (front right same)))))))
   body_splits (array ts) level =
-      unless_splits (has_items ts) array_word (front left (front feed
-      (then (items_signs (level + 1) ts) (λ rest. indent level (right ∷ rest)) (items_split ts (level + 1)) (end_splits level))))
+      unless_splits (has_items ts) array_word (front left
+      (then (items_signs (level + 1) ts 0) (λ rest. feed ∷ indent level (right ∷ rest)) (items_split ts (level + 1) 0) (front feed (end_splits level))))
   body_splits (table es) level =
       unless_splits (has_entries es) table_word (front left (front feed
       (then (entries_signs (level + 1) es) (λ rest. indent level (right ∷ rest)) (entries_split es (level + 1)) (end_splits level))))
 
-  pub items_split : (ts : Resources) (level : ℕ) → Splits (items_signs level ts)
-  items_split no_trees level = same
-  items_split (tree_and t ts) level =
-      then (indent level)
-      (λ rest. let after = comma ∷ feed ∷ items_signs level ts rest in item_signs t (body_signs level t after) after) (indent_splits level)
-      (item_splits t (body_signs level t) (λ rest. comma ∷ feed ∷ items_signs level ts rest) (body_splits t level) (front comma (front feed (items_split ts level))))
+  pub items_split : (ts : Resources) (level room : ℕ) → Splits (items_signs level ts room)
+  items_split no_trees level room = same
+  items_split (tree_and t ts) level room =
+      let next = item_room level room t in
+      pause_splits (item_fits level room t) level
+      (item_splits t (body_signs level t) (λ rest. comma ∷ items_signs level ts next rest) (body_splits t level) (front comma (items_split ts level next)))
 
   pub entries_split : (es : Members) (level : ℕ) → Splits (entries_signs level es)
   entries_split no_entries level = same

@@ -1,5 +1,5 @@
 -- What is still to be written of arrays and tables.
-use Rattle.std.proofs.Common.{◌≡◌, ℕ, zero, suc, ◌+◌, ◌<◌, ◌≤◌, Bool, true, false, List, [], ◌∷◌, ◌++◌, length, refl, sym, ap, subst, ◌∙◌, arith, add-one, append-nil, Some}
+use Rattle.std.proofs.Common.{◌≡◌, ℕ, zero, suc, ◌+◌, ◌<◌, ◌≤◌, Bool, true, false, not, List, [], ◌∷◌, ◌++◌, length, refl, sym, ap, subst, ◌∙◌, arith, add-one, append-nil, Some}
 use Rattle.std.specs.Prelude.{slice_get}
 use Rattle.std.specs.Map.{keys_of, values_of}
 use Rattle.std.specs.Fmt.{decimal}
@@ -9,8 +9,9 @@ use Rattle.rb_tree.specs.Keys.{IsTable, items, pairs}
 use Rattle.rb_tree.specs.Parts.{kind_of, len_of, children_of, pairs_of, units_of, numbers_of, bytes_of, int_of}
 use Rattle.rb_tree.specs.declared.kind.Kind.TheVariants as Kinds
 use Rattle.rb_grammar.specs.Form.{array_word, table_word}
-use Rattle.rb_printer.specs.Sign.{Sign, feed, space, left, right, comma, text, is_word, is_name, text_chars, sign_chars, signs_chars}
-use Rattle.rb_printer.specs.Page.{hex_units, indent, has_items, has_entries, is_guessed, numbers_signs, type_unless, gap, item_signs}
+use Rattle.rb_printer.specs.Sign.{Sign, feed, left, right, comma, text, pieces, is_word, is_name, text_chars, sign_chars, signs_chars}
+use Rattle.rb_printer.specs.Page.{hex_first, hex_later, is_short, pause, wraps, item_fits, item_room}
+use Rattle.rb_printer.specs.Page.{indent, has_items, has_entries, is_guessed, numbers_signs, type_unless, gap, item_signs}
 use Rattle.rb_printer.specs.Page.{body_signs, items_signs, entries_signs, items_of, members_of}
 use Rattle.rb_printer.specs.Sound.{AreUnits, IsSound, AreSound, EachSound, IsWell, AreWell, EachWell}
 use Rattle.rb_printer.specs.Growth.{Adds, Owes}
@@ -18,7 +19,7 @@ use Rattle.rb_printer.proofs.Growths.{adds_more, owes_all, owes_step, owes_end}
 use Rattle.rb_printer.proofs.Puts.{adds_as}
 use Rattle.rb_printer.proofs.Words.{decimal_word}
 use Rattle.rb_printer.proofs.Loops.{owes_as}
-use Rattle.rb_printer.proofs.Splits.{same, front, indent_splits, numbers_split, unless_splits, gap_splits, item_splits, body_splits, entries_split}
+use Rattle.rb_printer.proofs.Splits.{same, front, pause_splits, indent_splits, numbers_split, unless_splits, gap_splits, item_splits, body_splits, entries_split}
 
 -- ---- arrays
 
@@ -41,13 +42,14 @@ trees_out no_trees (suc i) h = refl
 trees_out (tree_and t ts) zero h = absurd (omega arith)
 trees_out (tree_and t ts) (suc i) h = trees_out ts i (omega arith)
 
--- of an array at a level, i items are written
-pub record ItemsPut (old now : List ℕ) (level : ℕ) (t : Resource) (i : ℕ) : Type 0 where
-  pub owes : Owes old (signs_chars (body_signs level t [])) now (signs_chars (items_signs (level + 1) (drop_trees i (items_of t)) (indent level (right ∷ []))))
+-- of an array at a level, i items are written, after which so many columns are left
+pub record ItemsPut (old now : List ℕ) (level : ℕ) (t : Resource) (room i : ℕ) : Type 0 where
+  pub owes : Owes old (signs_chars (body_signs level t [])) now
+      (signs_chars (items_signs (level + 1) (drop_trees i (items_of t)) room (feed ∷ indent level (right ∷ []))))
   pub sound : AreSound (drop_trees i (items_of t)) → AreSound (items_of t)
 
 pub items_begin : (old now : List ℕ) (level : ℕ) (t : Resource) → kind_of t ≡ Kinds.Array
-    → Adds old now (signs_chars (type_unless (is_guessed t) array_word (left ∷ feed ∷ []))) → ItemsPut old now level t 0
+    → Adds old now (signs_chars (type_unless (is_guessed t) array_word (left ∷ []))) → ItemsPut old now level t 0 0
 items_begin old now level (string us) k a = absurd cc
 items_begin old now level (int n) k a = absurd cc
 items_begin old now level (ints zs) k a = absurd cc
@@ -55,33 +57,41 @@ items_begin old now level (binary bs) k a = absurd cc
 items_begin old now level (alias us) k a = absurd cc
 items_begin old now level (table es) k a = absurd cc
 items_begin old now level (array ts) k a =
-    let inner = items_signs (level + 1) ts (indent level (right ∷ [])) in
+    let inner = items_signs (level + 1) ts 0 (feed ∷ indent level (right ∷ [])) in
     record {
       owes = owes_step (signs_chars inner) (owes_as (owes_all old (signs_chars (body_signs level (array ts) [])))
-          ((unless_splits (has_items ts) array_word (front left (front feed same))).are inner)) a;
+          ((unless_splits (has_items ts) array_word (front left same)).are inner)) a;
       sound = λ h. h;
     }
 
-item_left : (level : ℕ) (u : Resource) (ts : Resources) (rest : List Sign)
-    → signs_chars (items_signs level (tree_and u ts) rest)
-    ≡ signs_chars (indent level []) ++ (signs_chars (item_signs u (body_signs level u []) []) ++ (0x2C ∷ 0x0A ∷ signs_chars (items_signs level ts rest)))
-item_left level u ts rest =
-    let after = comma ∷ feed ∷ items_signs level ts rest in
-    (indent_splits level).are (item_signs u (body_signs level u after) after)
-    ∙ ap (λ (cs : List ℕ). signs_chars (indent level []) ++ cs) ((item_splits u (body_signs level u) (λ rest. rest) (body_splits u level) same).are after)
+item_left : (level room : ℕ) (u : Resource) (ts : Resources) (rest : List Sign)
+    → signs_chars (items_signs level (tree_and u ts) room rest)
+    ≡ signs_chars (pause (item_fits level room u) level []) ++ (signs_chars (item_signs u (body_signs level u []) [])
+    ++ (0x2C ∷ signs_chars (items_signs level ts (item_room level room u) rest)))
+item_left level room u ts rest =
+    let after = comma ∷ items_signs level ts (item_room level room u) rest in
+    (pause_splits (item_fits level room u) level same).are (item_signs u (body_signs level u after) after)
+    ∙ ap (λ (cs : List ℕ). signs_chars (pause (item_fits level room u) level []) ++ cs)
+    ((item_splits u (body_signs level u) (λ rest. rest) (body_splits u level) same).are after)
 
-pub items_put : (old now a b new : List ℕ) (level : ℕ) (t u : Resource) (i : ℕ) → ItemsPut old now level t i → Some u ≡ slice_get (items (items_of t)) i
-    → Adds now a (signs_chars (indent (level + 1) [])) → Adds a b (signs_chars (item_signs u (body_signs (level + 1) u []) [])) → IsSound u
-    → Adds b new (0x2C ∷ 0x0A ∷ []) → ItemsPut old new level t (i + 1)
-items_put old now a b new level t u i m e p q s r =
+pub items_put : (old now a b new : List ℕ) (level room next : ℕ) (t u : Resource) (i : ℕ) (fits : Bool) → ItemsPut old now level t room i
+    → Some u ≡ slice_get (items (items_of t)) i → fits ≡ item_fits (level + 1) room u → next ≡ item_room (level + 1) room u
+    → Adds now a (signs_chars (pause fits (level + 1) [])) → Adds a b (signs_chars (item_signs u (body_signs (level + 1) u []) [])) → IsSound u
+    → Adds b new (0x2C ∷ []) → ItemsPut old new level t next (i + 1)
+items_put old now a b new level room next t u i fits m e f g p q s r =
     let there = tree_there (items_of t) i u e in
-    let end = indent level (right ∷ []) in
-    let after = signs_chars (items_signs (level + 1) (drop_trees (i + 1) (items_of t)) end) in
-    let left = ap (λ (ts : Resources). signs_chars (items_signs (level + 1) ts end)) there ∙ item_left (level + 1) u (drop_trees (i + 1) (items_of t)) end in
+    let end = feed ∷ indent level (right ∷ []) in
+    let later = drop_trees (i + 1) (items_of t) in
+    let after = signs_chars (items_signs (level + 1) later next end) in
+    let item = signs_chars (item_signs u (body_signs (level + 1) u []) []) in
+    let front = signs_chars (pause fits (level + 1) []) in
+    let owed : signs_chars (items_signs (level + 1) (drop_trees i (items_of t)) room end) ≡ front ++ (item ++ (0x2C ∷ after)) =
+    ap (λ (ts : Resources). signs_chars (items_signs (level + 1) ts room end)) there ∙ item_left (level + 1) room u later end
+    ∙ ap (λ (v : Bool). signs_chars (pause v (level + 1) []) ++ (item ++ (0x2C ∷ signs_chars (items_signs (level + 1) later (item_room (level + 1) room u) end)))) (sym f)
+    ∙ ap (λ (n : ℕ). front ++ (item ++ (0x2C ∷ signs_chars (items_signs (level + 1) later n end)))) (sym g) in
     record {
-      owes = owes_step {xs = 0x2C ∷ 0x0A ∷ []} after (owes_step (0x2C ∷ 0x0A ∷ after)
-          (owes_step (signs_chars (item_signs u (body_signs (level + 1) u []) []) ++ (0x2C ∷ 0x0A ∷ after)) (owes_as m.owes left) p) q) r;
-      sound = λ (k : AreSound (drop_trees (i + 1) (items_of t))). m.sound (subst AreSound (sym there) (s, k));
+      owes = owes_step {xs = 0x2C ∷ []} after (owes_step (0x2C ∷ after) (owes_step (item ++ (0x2C ∷ after)) (owes_as m.owes owed) p) q) r;
+      sound = λ (k : AreSound later). m.sound (subst AreSound (sym there) (s, k));
     }
 
 array_sound : (t : Resource) → kind_of t ≡ Kinds.Array → AreSound (items_of t) → IsSound t
@@ -111,13 +121,13 @@ array_len (alias us) k = absurd cc
 array_len (table es) k = absurd cc
 array_len (array ts) k = refl
 
-pub items_end : (old now new : List ℕ) (level : ℕ) (t : Resource) (i : ℕ) → ItemsPut old now level t i → kind_of t ≡ Kinds.Array → len_of t ≤ i
-    → Adds now new (signs_chars (indent level (right ∷ []))) → Adds old new (signs_chars (body_signs level t [])) × IsSound t
-items_end old now new level t i m k h p =
+pub items_end : (old now new : List ℕ) (level room : ℕ) (t : Resource) (i : ℕ) → ItemsPut old now level t room i → kind_of t ≡ Kinds.Array → len_of t ≤ i
+    → Adds now new (signs_chars (feed ∷ indent level (right ∷ []))) → Adds old new (signs_chars (body_signs level t [])) × IsSound t
+items_end old now new level room t i m k h p =
     let len = array_len t k in
     let out = trees_out (items_of t) i (omega arith) in
-    let end = indent level (right ∷ []) in
-    let left = ap (λ (ts : Resources). signs_chars (items_signs (level + 1) ts end)) out ∙ sym (append-nil (signs_chars end)) in
+    let end = feed ∷ indent level (right ∷ []) in
+    let left = ap (λ (ts : Resources). signs_chars (items_signs (level + 1) ts room end)) out ∙ sym (append-nil (signs_chars end)) in
     (owes_end (owes_step [] (owes_as m.owes left) p), array_sound t k (m.sound (subst AreSound (sym out) tt)))
 
 -- ---- an item
@@ -349,29 +359,44 @@ int_put old a b new level m (int n) k e h p q r =
     adds_as (adds_more p (adds_more digits r)) (ap (λ (w : Bool). 0x3A ∷ 0x69 ∷ 0x6E ∷ 0x74 ∷ 0x20 ∷ 0x7B ∷ 0x20 ∷ (text_chars w (decimal n) ++ 0x20 ∷ 0x7D ∷ [])) (sym word))
 
 -- `:intvector {`
-pub ints_put : (old a b new : List ℕ) (level : ℕ) (t : Resource) → kind_of t ≡ Kinds.Ints
-    → Adds old a (0x3A ∷ 0x69 ∷ 0x6E ∷ 0x74 ∷ 0x76 ∷ 0x65 ∷ 0x63 ∷ 0x74 ∷ 0x6F ∷ 0x72 ∷ 0x20 ∷ 0x7B ∷ []) → Adds a b (signs_chars (numbers_signs (numbers_of t) []))
-    → Adds b new (0x20 ∷ 0x7D ∷ []) → Adds old new (signs_chars (body_signs level t []))
-ints_put old a b new level (string us) k p q r = absurd cc
-ints_put old a b new level (int n) k p q r = absurd cc
-ints_put old a b new level (binary bs) k p q r = absurd cc
-ints_put old a b new level (alias us) k p q r = absurd cc
-ints_put old a b new level (array ts) k p q r = absurd cc
-ints_put old a b new level (table es) k p q r = absurd cc
-ints_put old a b new level (ints zs) k p q r =
-    adds_as (adds_more p (adds_more q r))
-    (ap (λ (cs : List ℕ). (0x3A ∷ 0x69 ∷ 0x6E ∷ 0x74 ∷ 0x76 ∷ 0x65 ∷ 0x63 ∷ 0x74 ∷ 0x6F ∷ 0x72 ∷ 0x20 ∷ 0x7B ∷ []) ++ cs) (sym ((numbers_split zs).are (space ∷ right ∷ []))))
+pub ints_put : (old a b c new : List ℕ) (level : ℕ) (w : Bool) (t : Resource) → kind_of t ≡ Kinds.Ints → w ≡ wraps (level + 1) (numbers_of t)
+    → Adds old a (0x3A ∷ 0x69 ∷ 0x6E ∷ 0x74 ∷ 0x76 ∷ 0x65 ∷ 0x63 ∷ 0x74 ∷ 0x6F ∷ 0x72 ∷ 0x20 ∷ 0x7B ∷ [])
+    → Adds a b (signs_chars (numbers_signs (numbers_of t) w (level + 1) 0 [])) → Adds b c (signs_chars (pause (not w) level []))
+    → Adds c new (0x7D ∷ []) → Adds old new (signs_chars (body_signs level t []))
+ints_put old a b c new level w (string us) k e p q r s = absurd cc
+ints_put old a b c new level w (int n) k e p q r s = absurd cc
+ints_put old a b c new level w (binary bs) k e p q r s = absurd cc
+ints_put old a b c new level w (alias us) k e p q r s = absurd cc
+ints_put old a b c new level w (array ts) k e p q r s = absurd cc
+ints_put old a b c new level w (table es) k e p q r s = absurd cc
+ints_put old a b c new level w (ints zs) k e p q r s =
+    let word = 0x3A ∷ 0x69 ∷ 0x6E ∷ 0x74 ∷ 0x76 ∷ 0x65 ∷ 0x63 ∷ 0x74 ∷ 0x6F ∷ 0x72 ∷ 0x20 ∷ 0x7B ∷ [] in
+    let whole = λ (v : Bool). signs_chars (numbers_signs zs v (level + 1) 0 (pause (not v) level (right ∷ []))) in
+    let numbers = signs_chars (numbers_signs zs w (level + 1) 0 []) in
+    adds_as (adds_more p (adds_more q (adds_more r s)))
+    (ap (λ (cs : List ℕ). word ++ (numbers ++ cs)) (sym ((pause_splits (not w) level same).are (right ∷ [])))
+    ∙ ap (λ (cs : List ℕ). word ++ cs) (sym ((numbers_split zs w (level + 1) 0).are (pause (not w) level (right ∷ []))))
+    ∙ ap (λ (v : Bool). word ++ whole v) e)
 
--- `:bin { `
-pub binary_put : (old a b new : List ℕ) (level : ℕ) (t : Resource) → kind_of t ≡ Kinds.Binary → Adds old a (0x3A ∷ 0x62 ∷ 0x69 ∷ 0x6E ∷ 0x20 ∷ 0x7B ∷ 0x20 ∷ [])
-    → Adds a b (text_chars false (hex_units (bytes_of t))) → Adds b new (0x20 ∷ 0x7D ∷ []) → Adds old new (signs_chars (body_signs level t []))
-binary_put old a b new level (binary bs) k p q r = adds_more p (adds_more q r)
-binary_put old a b new level (string us) k p q r = absurd cc
-binary_put old a b new level (int n) k p q r = absurd cc
-binary_put old a b new level (ints zs) k p q r = absurd cc
-binary_put old a b new level (alias us) k p q r = absurd cc
-binary_put old a b new level (array ts) k p q r = absurd cc
-binary_put old a b new level (table es) k p q r = absurd cc
+-- `:bin {`
+pub binary_put : (old a b c d new : List ℕ) (level : ℕ) (short : Bool) (t : Resource) → kind_of t ≡ Kinds.Binary → short ≡ is_short (bytes_of t)
+    → Adds old a (0x3A ∷ 0x62 ∷ 0x69 ∷ 0x6E ∷ 0x20 ∷ 0x7B ∷ []) → Adds a b (signs_chars (pause short (level + 1) []))
+    → Adds b c (sign_chars (pieces (level + 1) (hex_first (bytes_of t) 32) (hex_later (bytes_of t) 32))) → Adds c d (signs_chars (pause short level []))
+    → Adds d new (0x7D ∷ []) → Adds old new (signs_chars (body_signs level t []))
+binary_put old a b c d new level short (string us) k e p q r s u = absurd cc
+binary_put old a b c d new level short (int n) k e p q r s u = absurd cc
+binary_put old a b c d new level short (ints zs) k e p q r s u = absurd cc
+binary_put old a b c d new level short (alias us) k e p q r s u = absurd cc
+binary_put old a b c d new level short (array ts) k e p q r s u = absurd cc
+binary_put old a b c d new level short (table es) k e p q r s u = absurd cc
+binary_put old a b c d new level short (binary bs) k e p q r s u =
+    let word = 0x3A ∷ 0x62 ∷ 0x69 ∷ 0x6E ∷ 0x20 ∷ 0x7B ∷ [] in
+    let one = pieces (level + 1) (hex_first bs 32) (hex_later bs 32) in
+    let front = signs_chars (pause short (level + 1) []) in
+    adds_as (adds_more p (adds_more q (adds_more r (adds_more s u))))
+    (ap (λ (cs : List ℕ). word ++ (front ++ (sign_chars one ++ cs))) (sym ((pause_splits short level same).are (right ∷ [])))
+    ∙ ap (λ (cs : List ℕ). word ++ cs) (sym ((pause_splits short (level + 1) same).are (one ∷ pause short level (right ∷ []))))
+    ∙ ap (λ (v : Bool). word ++ signs_chars (pause v (level + 1) (one ∷ pause v level (right ∷ [])))) e)
 
 -- `:alias { `
 pub alias_put : (old a b new : List ℕ) (level : ℕ) (t : Resource) → kind_of t ≡ Kinds.Alias

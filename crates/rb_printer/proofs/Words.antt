@@ -1,5 +1,5 @@
 -- Texts that stand without quotes, numbers among them, are written alike as units of a text with quotes.
-use Rattle.std.proofs.Common.{◌≡◌, ℕ, suc, ◌+◌, ◌<◌, ◌≤◌, ◌^◌, ℤ, pos, negsuc, Bool, true, false, not, ◌&&◌, ◌||◌, List, [], ◌∷◌, ◌++◌, length, take, get_or, ne_eqb}
+use Rattle.std.proofs.Common.{◌≡◌, ℕ, suc, ◌+◌, ◌<◌, ◌≤◌, ◌^◌, ℤ, pos, negsuc, Bool, true, false, not, ◌&&◌, ◌||◌, List, [], ◌∷◌, length, take, get_or, ne_eqb}
 use Rattle.std.proofs.Common.{refl, sym, ap, subst, ◌∙◌, arith}
 use Rattle.std.specs.Prelude.{nat_lt, ◌==◌}
 use Rattle.std.specs.List.{list_all}
@@ -13,10 +13,10 @@ use Rattle.std.proofs.lemmas.List.{take_all}
 use Rattle.std.proofs.lemmas.Fmt.{decimal_is_IsNumeral, decimal_nonempty}
 use Rattle.rb_lexer.specs.Lexeme.{is_white, is_punctuation, quote, backslash, slash}
 use Rattle.rb_lexer.specs.Tokens.{is_empty}
-use Rattle.rb_printer.specs.Sign.{is_word_unit, is_word, is_name_unit, is_name, is_shown, unit_chars, units_chars}
+use Rattle.rb_printer.specs.Sign.{is_word_unit, is_word, is_name_unit, is_name, is_shown, units_chars}
 use Rattle.rb_printer.specs.Sound.{IsNumber}
 use Rattle.rb_printer.proofs.Tests.{and_left, and_right, or_left, or_right, not_true}
-use Rattle.rb_printer.proofs.Texts.{word_low}
+use Rattle.rb_printer.proofs.Texts.{word_low, shown_next}
 
 -- ---- digits
 
@@ -92,14 +92,13 @@ word_shown c e =
     (and_right (not (is_white c || (c == quote) || (c == backslash) || is_punctuation c)) (not (c == slash) && (nat_lt 0x20 c && nat_lt c 0x7F)) e))) in
     ascii_shown c (omega arith) high no_quote no_backslash
 
-plain_chars : (us : List ℕ) → list_all is_word_unit us ≡ true → units_chars us ≡ us
+plain_chars : (us : List ℕ) → list_all is_word_unit us ≡ true → units_chars us false ≡ us
 plain_chars [] e = refl
 plain_chars (u ∷ us) e =
-    let one : unit_chars u ≡ u ∷ [] = rw (word_shown u (and_left (is_word_unit u) (list_all is_word_unit us) e)) refl in
-    ap (λ (cs : List ℕ). cs ++ units_chars us) one
+    shown_next u us false (word_shown u (and_left (is_word_unit u) (list_all is_word_unit us) e))
     ∙ ap (λ (cs : List ℕ). u ∷ cs) (plain_chars us (and_right (is_word_unit u) (list_all is_word_unit us) e))
 
-pub word_chars : (us : List ℕ) → is_word us ≡ true → units_chars us ≡ us
+pub word_chars : (us : List ℕ) → is_word us ≡ true → units_chars us false ≡ us
 word_chars us e = plain_chars us (and_right (not (is_empty us)) (list_all is_word_unit us) e)
 
 -- ---- names

@@ -1,7 +1,17 @@
 -- For the contracts of this crate's own functions: characters that the text of a tree has at least. It weighs at most four times as many,
 -- so a text within its limit is one of a tree within its own.
-use Rattle.std.specs.Prelude.{◌≡◌, ◌<◌, ℕ, ◌+◌, ◌*◌, length, MatchOption, Option}
+use Rattle.std.specs.Prelude.{◌≡◌, ◌<◌, ℕ, ◌+◌, ◌*◌, cond, nat_le, length, MatchOption, Option}
 use Rattle.rb_tree.specs.Resource.{Resource, string, int, ints, binary, alias, array, table, Resources, no_trees, tree_and, Members, no_entries, entry_and}
+
+-- what stands in front of an item and after it: spaces or commas alone where it may have company in its line
+abbrev pub item_lead : ℕ → Resource → ℕ
+item_lead level (string us) = cond (nat_le level 12) 2 (4 * level)
+item_lead level (int n) = 4 * level
+item_lead level (ints zs) = 4 * level
+item_lead level (binary bs) = 4 * level
+item_lead level (alias us) = 4 * level
+item_lead level (array ts) = 4 * level
+item_lead level (table es) = 4 * level
 
 abbrev mutual
   pub least : ℕ → Resource → ℕ
@@ -15,7 +25,7 @@ abbrev mutual
 
   pub items_least : ℕ → Resources → ℕ
   items_least level no_trees = 0
-  items_least level (tree_and t ts) = 4 * level + least level t + items_least level ts
+  items_least level (tree_and t ts) = item_lead level t + least level t + items_least level ts
 
   pub entries_least : ℕ → Members → ℕ
   entries_least level no_entries = 0

@@ -1,14 +1,16 @@
 -- What the printer writes: signs, and the characters of each. Which keys and names stand without quotes, and which units stand for
 -- themselves in a quoted text, is a rule of this project; both are read so by ICU's genrb.
-use Rattle.std.specs.Prelude.{ℕ, ◌/◌, ◌%◌, ◌==◌, ◌&&◌, ◌||◌, Bool, true, false, not, cond, nat_lt, nat_le, List, [], ◌∷◌, ◌++◌}
+use Rattle.std.specs.Prelude.{ℕ, zero, suc, ◌/◌, ◌%◌, ◌==◌, ◌&&◌, ◌||◌, Bool, true, false, not, cond, nat_lt, nat_le, List, [], ◌∷◌, ◌++◌, Option, Some, None}
 use Rattle.std.specs.List.{list_all}
 use Rattle.std.specs.Char.{digit_char}
+use Rattle.std.specs.Char.Utf16.{is_high_surrogate, is_low_surrogate, surrogate_pair_char}
 use Rattle.rb_lexer.specs.Lexeme.{is_white, is_punctuation, quote, backslash, slash}
 use Rattle.rb_lexer.specs.Tokens.{is_empty}
 use Rattle.rb_lexer.specs.declared.token.Mark.{Mark}
 use Rattle.rb_lexer.specs.declared.token.Mark.TheVariants.{Text, LeftBrace, RightBrace, Colon, Comma}
 
--- a text is bare where it may stand without quotes, if its units allow that
+-- A text is bare where it may stand without quotes, if its units allow that. A text in quoted pieces has all but the first in new lines
+-- of a level.
 pub data Sign : Type 0 where
   feed : Sign
   space : Sign
@@ -17,6 +19,7 @@ pub data Sign : Type 0 where
   colon : Sign
   comma : Sign
   text : Bool → List ℕ → Sign
+  pieces : ℕ → List ℕ → List (List ℕ) → Sign
 
 -- ---- characters
 
@@ -46,25 +49,61 @@ is_surrogate u = nat_le 0xD800 u && nat_lt u 0xE000
 abbrev pub is_mark : ℕ → Bool
 is_mark u = (u == 0x2028) || (u == 0x2029) || (u == 0xFEFF)
 
+-- a quote or a backslash
+abbrev pub is_cited : ℕ → Bool
+is_cited u = (u == quote) || (u == backslash)
+
 -- a unit that stands for itself between quotes
 abbrev pub is_shown : ℕ → Bool
-is_shown u = not ((u == quote) || (u == backslash)) && not (is_control u || is_surrogate u || is_mark u)
+is_shown u = not (is_cited u) && not (is_control u || is_surrogate u || is_mark u)
 
 -- the four hexadecimal digits of a unit
 abbrev pub four_digits : ℕ → List ℕ
 four_digits u = digit_char (u / 4096) ∷ digit_char (u / 256 % 16) ∷ digit_char (u / 16 % 16) ∷ digit_char (u % 16) ∷ []
 
-abbrev pub unit_chars : ℕ → List ℕ
-unit_chars u = cond (is_shown u) (u ∷ []) (backslash ∷ 0x75 ∷ four_digits u)
+-- a backslash, and a quote or a backslash itself, or the digits of any other unit
+abbrev pub escape_chars : ℕ → List ℕ
+escape_chars u = backslash ∷ cond (is_cited u) (u ∷ []) (0x75 ∷ four_digits u)
 
-abbrev pub units_chars : List ℕ → List ℕ
-units_chars [] = []
-units_chars (u ∷ us) = unit_chars u ++ units_chars us
+-- the first unit, if there is one
+abbrev pub first_unit : List ℕ → Option ℕ
+first_unit [] = None
+first_unit (u ∷ us) = Some u
+
+abbrev pub is_low : Option ℕ → Bool
+is_low None = false
+is_low (Some u) = is_low_surrogate u
+
+-- the character of a surrogate pair
+abbrev pub pair_chars : ℕ → Option ℕ → List ℕ
+pair_chars u None = []
+pair_chars u (Some v) = surrogate_pair_char u v ∷ []
+
+-- A unit between quotes, after a high surrogate or not, and in front of the next unit. The first unit of a surrogate pair is written as
+-- the pair's character, and then the second as nothing. A surrogate without its partner is escaped.
+abbrev pub unit_chars : Bool → ℕ → Option ℕ → List ℕ
+unit_chars after_high u next = cond (is_shown u) (u ∷ [])
+    (cond (is_high_surrogate u && is_low next) (pair_chars u next) (cond (after_high && is_low_surrogate u) [] (escape_chars u)))
+
+-- units between quotes, after a high surrogate or not
+abbrev pub units_chars : List ℕ → Bool → List ℕ
+units_chars [] after_high = []
+units_chars (u ∷ us) after_high = unit_chars after_high u (first_unit us) ++ units_chars us (is_high_surrogate u)
 
 -- without quotes, or with them
 abbrev pub text_chars : Bool → List ℕ → List ℕ
 text_chars true us = us
-text_chars false us = quote ∷ (units_chars us ++ quote ∷ [])
+text_chars false us = quote ∷ (units_chars us false ++ quote ∷ [])
+
+-- four spaces for each level
+abbrev pub spaces : ℕ → List ℕ
+spaces zero = []
+spaces (suc n) = 0x20 ∷ 0x20 ∷ 0x20 ∷ 0x20 ∷ spaces n
+
+-- pieces of a text, each in a new line of a level
+abbrev pub lines_chars : List (List ℕ) → ℕ → List ℕ
+lines_chars [] level = []
+lines_chars (p ∷ ps) level = 0x0A ∷ (spaces level ++ (text_chars false p ++ lines_chars ps level))
 
 abbrev pub sign_chars : Sign → List ℕ
 sign_chars feed = 0x0A ∷ []
@@ -74,12 +113,18 @@ sign_chars right = 0x7D ∷ []
 sign_chars colon = 0x3A ∷ []
 sign_chars comma = 0x2C ∷ []
 sign_chars (text bare us) = text_chars (bare && is_word us) us
+sign_chars (pieces level p ps) = text_chars false p ++ lines_chars ps level
 
 abbrev pub signs_chars : List Sign → List ℕ
 signs_chars [] = []
 signs_chars (s ∷ ss) = sign_chars s ++ signs_chars ss
 
 -- ---- marks
+
+-- pieces as one text
+abbrev pub joined : List (List ℕ) → List ℕ
+joined [] = []
+joined (p ∷ ps) = p ++ joined ps
 
 abbrev pub signs_marks : List Sign → List Mark
 signs_marks [] = []
@@ -90,6 +135,7 @@ signs_marks (right ∷ ss) = RightBrace ∷ signs_marks ss
 signs_marks (colon ∷ ss) = Colon ∷ signs_marks ss
 signs_marks (comma ∷ ss) = Comma ∷ signs_marks ss
 signs_marks (text bare us ∷ ss) = Text us ∷ signs_marks ss
+signs_marks (pieces level p ps ∷ ss) = Text (p ++ joined ps) ∷ signs_marks ss
 
 abbrev pub is_ascii : ℕ → Bool
 is_ascii c = nat_lt c 128

@@ -74,10 +74,11 @@ fn printed<N: Node>(
 
 /// The bundle text of a tree, with its name and its flag: `parse` reads just these back. No byte of it depends on anything else.
 ///
-/// It looks as a person would write it. Each entry of a table and each item of an array stands in lines of its own, with four spaces a
-/// level. A key or a name of letters, digits, `_` and `-` stands bare, any other between quotes. A type is written where a reader wouldn't
-/// guess it: `:int`, `:intvector`, `:bin`, `:alias`, and `:array` and `:table` of empty ones. Texts are UTF-8; escapes of four digits
-/// stand for quotes, backslashes, control characters, surrogates, U+2028, U+2029 and U+FEFF.
+/// It looks as a person would write it. Each entry of a table stands in lines of its own, with four spaces a level; the strings of an
+/// array and the numbers of a vector of more than four stand several to a line, of at most 100 columns, and 32 bytes of a Binary in one.
+/// A key or a name of letters, digits, `_` and `-` stands bare, any other between quotes. A type is written where a reader wouldn't
+/// guess it: `:int`, `:intvector`, `:bin`, `:alias`, and `:array` and `:table` of empty ones. Texts are UTF-8, with a backslash in front
+/// of quotes and backslashes; escapes of four digits stand for control characters, lone surrogates, U+2028, U+2029 and U+FEFF.
 ///
 /// Errors: `TooLarge` where the text would have more than 8,388,608 bytes, as that of each tree above the limit of weight would; where
 /// so many characters are there at the least, before anything is written, in no more steps than that. Else `Memory`, where out of memory.

@@ -1,18 +1,52 @@
 // Trees without children.
-ghost use Rattle.std.specs.Prelude.{◌≡◌, ◌<◌, ◌^◌, ℕ, List, [], ◌∷◌, ◌++◌, true, false, OnOk, string_bytes, ◌/◌, ◌%◌};
+ghost use Rattle.std.specs.Prelude.{◌≡◌, ◌<◌, ◌+◌, ◌^◌, ℕ, List, drop, [], ◌∷◌, ◌++◌, true, false, length, ◌≤◌, OnOk, IfOk, string_bytes, ◌/◌, ◌%◌};
 ghost use Rattle.std.specs.Char.{digit_char};
 ghost use Rattle.std.specs.List.{AllByRecursion};
 ghost use Rattle.std.specs.Fmt.{decimal, signed_decimal};
-ghost use Rattle.rb_tree.specs.Parts.{HasUnits, kind_of, units_of, numbers_of, bytes_of, int_of};
+ghost use Rattle.rb_tree.specs.Parts.{HasUnits, kind_of, len_of, units_of, numbers_of, bytes_of, int_of};
 ghost use Rattle.rb_tree.specs.declared.kind.Kind.TheVariants as Kinds;
-ghost use Rattle.rb_printer.specs.Sign.{signs_chars, text_chars, text, right};
-ghost use Rattle.rb_printer.specs.Page.{hex_units, numbers_signs, comma_if};
+ghost use Rattle.rb_printer.specs.Sign.{first_unit, unit_chars, pieces, sign_chars, signs_chars, text_chars, text, right};
+ghost use Rattle.rb_printer.specs.Page.{hex_first, hex_later, numbers_signs, comma_if};
 ghost use Rattle.rb_printer.specs.Sound.{AreUnits, AreBytes, IsNumber};
-ghost use Rattle.rb_printer.specs.Growth.{Adds};
+ghost use Rattle.rb_printer.specs.Growth.{Adds, after_break, break_chars};
 
-use crate::text::{digit_char, put, put_unit};
+use crate::line::{number_fits, put_indent, put_pause, room_after};
+use crate::text::{digit_char, is_high, put, put_other, put_str, shown};
 use rb_tree::Node;
 use std::alloc::AllocError;
+
+/// The unit after one of a String's or an Alias's.
+pub fn next_of<N: Node>(node: N, i: usize) -> Option<u16>
+    requires units { HasUnits (kind_of (N.tree node)) }
+    requires in_range { i < len_of (N.tree node) }
+    ensures { result ≡ first_unit (drop (i + 1) (units_of (N.tree node))) }
+{
+    let len = node.len();
+    if i + 1 < len {
+        Some(node.unit(i + 1))
+    } else {
+        None
+    }
+}
+
+/// Writes a unit of a String's or an Alias's text.
+#[inline(always)]
+fn put_unit_of<N: Node>(
+    out: &mut String,
+    after_high: bool,
+    unit: u16,
+    node: N,
+    i: usize,
+) -> Result<(), AllocError>
+    requires units { HasUnits (kind_of (N.tree node)) }
+    requires in_range { i < len_of (N.tree node) }
+    ensures { OnOk result (Adds (string_bytes out.old) (string_bytes out.new) (unit_chars after_high unit (first_unit (drop (i + 1) (units_of (N.tree node)))))) }
+{
+    match shown(unit) {
+        Some(c) => put(out, c),
+        None => put_other(out, after_high, unit, next_of(node, i)),
+    }
+}
 
 /// Writes the text of a String or an Alias, with quotes.
 pub fn put_units_of<N: Node>(out: &mut String, node: N) -> Result<(), AllocError>
@@ -21,8 +55,11 @@ pub fn put_units_of<N: Node>(out: &mut String, node: N) -> Result<(), AllocError
     ensures sound { OnOk result (AreUnits (units_of (N.tree node))) }
 {
     put(out, '"')?;
+    let mut after_high = false;
     for i in 0..node.len() {
-        put_unit(out, node.unit(i))?;
+        let unit = node.unit(i);
+        put_unit_of(out, after_high, unit, node, i)?;
+        after_high = is_high(unit);
     }
     put(out, '"')
 }
@@ -35,14 +72,31 @@ fn put_byte(out: &mut String, byte: u8) -> Result<(), AllocError>
     put(out, digit_char(byte as u16 % 16))
 }
 
-/// Writes the bytes of a Binary, with quotes.
-pub fn put_bytes_of<N: Node>(out: &mut String, node: N) -> Result<(), AllocError>
+/// Begins a new piece where the present one, at a level, has no room for another byte. Gives how many more it has room for after that.
+fn put_break(out: &mut String, level: usize, room: usize) -> Result<usize, AllocError>
+    ensures adds { OnOk result (Adds (string_bytes out.old) (string_bytes out.new) (break_chars room level)) }
+    ensures room { IfOk result (λ more. more ≡ after_break room) }
+{
+    if room > 0 {
+        return Ok(room - 1);
+    }
+    put_str(out, "\"\n")?;
+    put_indent(out, level)?;
+    put(out, '"')?;
+    Ok(31)
+}
+
+/// Writes the bytes of a Binary, with quotes: 32 a piece, each but the first in a new line of a level.
+pub fn put_bytes_of<N: Node>(out: &mut String, level: usize, node: N) -> Result<(), AllocError>
     requires { kind_of (N.tree node) ≡ Kinds.Binary }
-    ensures adds { OnOk result (Adds (string_bytes out.old) (string_bytes out.new) (text_chars false (hex_units (bytes_of (N.tree node))))) }
+    ensures adds { OnOk result (Adds (string_bytes out.old) (string_bytes out.new)
+        (sign_chars (pieces level (hex_first (bytes_of (N.tree node)) 32) (hex_later (bytes_of (N.tree node)) 32)))) }
     ensures sound { OnOk result (AreBytes (bytes_of (N.tree node))) }
 {
     put(out, '"')?;
+    let mut room = 32;
     for i in 0..node.len() {
+        room = put_break(out, level, room)?;
         put_byte(out, node.byte(i))?;
     }
     put(out, '"')
@@ -62,6 +116,16 @@ fn put_number(out: &mut String, number: i32) -> Result<(), AllocError>
     write!(out, "{number}")
 }
 
+/// Writes the same, and gives its width.
+fn put_wide(out: &mut String, number: i32) -> Result<usize, AllocError>
+    ensures adds { OnOk result (Adds (string_bytes out.old) (string_bytes out.new) (signed_decimal number)) }
+    ensures width { IfOk result (λ width. width ≡ length (signed_decimal number)) }
+{
+    let start = out.as_bytes().len();
+    put_number(out, number)?;
+    Ok(out.as_bytes().len() - start)
+}
+
 /// Writes a comma where more numbers follow.
 fn put_comma(out: &mut String, more: bool) -> Result<(), AllocError>
     ensures { OnOk result (Adds (string_bytes out.old) (string_bytes out.new) (signs_chars (comma_if more []))) }
@@ -69,16 +133,25 @@ fn put_comma(out: &mut String, more: bool) -> Result<(), AllocError>
     if more { put(out, ',') } else { Ok(()) }
 }
 
-/// Writes the numbers of a vector, each after a space, with commas between them.
-pub fn put_numbers_of<N: Node>(out: &mut String, node: N) -> Result<(), AllocError>
-    requires { kind_of (N.tree node) ≡ Kinds.Ints }
-    ensures adds { OnOk result (Adds (string_bytes out.old) (string_bytes out.new) (signs_chars (numbers_signs (numbers_of (N.tree node)) []))) }
+/// Writes the numbers of a vector, each after a space or in a new line of a level, with commas between them.
+pub fn put_numbers_of<N: Node>(
+    out: &mut String,
+    wrapped: bool,
+    level: usize,
+    node: N,
+) -> Result<(), AllocError>
+    requires ints { kind_of (N.tree node) ≡ Kinds.Ints }
+    requires low { level ≤ 65 }
+    ensures adds { OnOk result (Adds (string_bytes out.old) (string_bytes out.new) (signs_chars (numbers_signs (numbers_of (N.tree node)) wrapped level 0 []))) }
     ensures sound { OnOk result (AllByRecursion IsNumber (numbers_of (N.tree node))) }
 {
+    let mut room = 0;
     for i in 0..node.len() {
-        put(out, ' ')?;
-        put_number(out, node.number(i))?;
+        let fits = number_fits(wrapped, room);
+        put_pause(out, fits, level)?;
+        let width = put_wide(out, node.number(i))?;
         put_comma(out, i + 1 < node.len())?;
+        room = room_after(fits, level, room, width);
     }
     Ok(())
 }

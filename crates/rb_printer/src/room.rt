@@ -4,8 +4,10 @@ ghost use Rattle.rb_tree.specs.Parts.{kind_of, len_of};
 ghost use Rattle.rb_tree.specs.Resource.{height};
 ghost use Rattle.rb_tree.specs.declared.kind.Kind.TheVariants as Kinds;
 ghost use Rattle.rb_printer.specs.Page.{items_of, members_of};
+ghost use Rattle.rb_printer.specs.Least as leasts;
 ghost use Rattle.rb_printer.specs.Least.{least, items_least, entries_least, Takes};
 
+use crate::line::DEEPEST;
 use rb_tree::{Kind, Node};
 
 /// What is left of some room after a text of a length, twice.
@@ -32,6 +34,19 @@ pub fn after_body<N: Node>(room: usize, level: usize, node: N) -> Option<usize>
     }
 }
 
+/// How many characters an item has beside its own at the least: the indentation of its line, or a space and a comma where it may stand
+/// beside another.
+fn item_lead<N: Node>(level: usize, node: N) -> usize
+    requires { level ≤ 65 }
+    ensures { result ≡ leasts.item_lead level (N.tree node) }
+{
+    if node.kind() == Kind::String && level <= DEEPEST {
+        2
+    } else {
+        4 * level
+    }
+}
+
 /// The same of the items of an array.
 #[cycle(room)]
 fn after_items<N: Node>(room: usize, level: usize, node: N) -> Option<usize>
@@ -42,7 +57,7 @@ fn after_items<N: Node>(room: usize, level: usize, node: N) -> Option<usize>
     let mut left = room;
     for i in 0..node.len() {
         let child = node.at(i);
-        left = after_body(left.checked_sub(4 * level)?, level, child)?;
+        left = after_body(left.checked_sub(item_lead(level, child))?, level, child)?;
     }
     Some(left)
 }

@@ -1,9 +1,10 @@
 // Texts, with quotes and without.
-ghost use Rattle.std.specs.Prelude.{◌≡◌, ◌<◌, ℕ, List, [], ◌∷◌, true, false, OnOk, MatchOption, string_bytes, IsTrue};
+ghost use Rattle.std.specs.Prelude.{◌≡◌, ◌<◌, ◌+◌, ◌&&◌, ℕ, List, [], ◌∷◌, true, false, None, length, drop, OnOk, MatchOption, string_bytes, IsTrue};
 ghost use Rattle.std.specs.Char.{digit_char};
+ghost use Rattle.std.specs.Char.Utf16.{is_high_surrogate, is_low_surrogate};
 ghost use Rattle.std.specs.List.{list_all};
 ghost use Rattle.rb_printer.specs.Sign as sign;
-ghost use Rattle.rb_printer.specs.Sign.{text, unit_chars, units_chars, sign_chars, is_ascii};
+ghost use Rattle.rb_printer.specs.Sign.{text, escape_chars, first_unit, pair_chars, unit_chars, units_chars, sign_chars, is_ascii};
 ghost use Rattle.rb_printer.specs.Growth.{Adds};
 
 use std::alloc::AllocError;
@@ -65,16 +66,36 @@ fn is_mark(unit: u16) -> bool
     unit == 0x2028 || unit == 0x2029 || unit == 0xFEFF
 }
 
+pub fn is_cited(unit: u16) -> bool
+    ensures { result ≡ sign.is_cited unit }
+{
+    unit == QUOTE || unit == BACKSLASH
+}
+
 /// Whether a unit stands for itself between quotes.
-fn is_shown(unit: u16) -> bool
+#[inline(always)]
+pub fn is_shown(unit: u16) -> bool
     ensures { result ≡ sign.is_shown unit }
 {
-    !(unit == QUOTE || unit == BACKSLASH)
-        && !(is_control(unit) || is_surrogate(unit) || is_mark(unit))
+    !is_cited(unit) && !(is_control(unit) || is_surrogate(unit) || is_mark(unit))
+}
+
+/// Whether a unit is the first of a surrogate pair, if the second follows.
+pub fn is_high(unit: u16) -> bool
+    ensures { result ≡ is_high_surrogate unit }
+{
+    0xD800 <= unit && unit < 0xDC00
+}
+
+pub fn is_low(unit: u16) -> bool
+    ensures { result ≡ is_low_surrogate unit }
+{
+    0xDC00 <= unit && unit < 0xE000
 }
 
 /// The character of a unit that stands for itself.
-fn shown(unit: u16) -> Option<char>
+#[inline(always)]
+pub fn shown(unit: u16) -> Option<char>
     ensures { MatchOption result (sign.is_shown unit ≡ false) (λ c. (sign.is_shown unit ≡ true) × (c ≡ unit)) }
 {
     if is_shown(unit) {
@@ -98,35 +119,105 @@ pub fn digit_char(digit: u16) -> char
 }
 
 /// Writes a character.
+#[inline(always)]
 pub fn put(out: &mut String, c: char) -> Result<(), AllocError>
     ensures { OnOk result (Adds (string_bytes out.old) (string_bytes out.new) (c ∷ [])) }
 {
     out.push(c)
 }
 
-/// Writes a unit of a text with quotes: itself, or an escape.
-pub fn put_unit(out: &mut String, unit: u16) -> Result<(), AllocError>
-    ensures { OnOk result (Adds (string_bytes out.old) (string_bytes out.new) (unit_chars unit)) }
+/// The character of a surrogate pair, where a unit and the next one are that.
+pub fn paired(unit: u16, next: Option<u16>) -> Option<char>
+    ensures { MatchOption result ((is_high_surrogate unit && sign.is_low next) ≡ false)
+        (λ c. ((is_high_surrogate unit && sign.is_low next) ≡ true) × (c ∷ [] ≡ pair_chars unit next)) }
+{
+    let low = next?;
+    if !is_high(unit) || !is_low(low) {
+        return None;
+    }
+    char::from_u32(0x1_0000 + (unit as u32 - 0xD800) * 0x400 + (low as u32 - 0xDC00))
+}
+
+/// Writes the digits of a unit's escape.
+fn put_digits(out: &mut String, unit: u16) -> Result<(), AllocError>
+    ensures { OnOk result (Adds (string_bytes out.old) (string_bytes out.new) (sign.four_digits unit)) }
+{
+    put(out, digit_char(unit / 4096))?;
+    put(out, digit_char(unit / 256 % 16))?;
+    put(out, digit_char(unit / 16 % 16))?;
+    put(out, digit_char(unit % 16))
+}
+
+/// Writes a unit's escape.
+fn put_escape(out: &mut String, unit: u16) -> Result<(), AllocError>
+    ensures { OnOk result (Adds (string_bytes out.old) (string_bytes out.new) (escape_chars unit)) }
+{
+    if unit == QUOTE {
+        return put_str(out, "\\\"");
+    }
+    if unit == BACKSLASH {
+        return put_str(out, "\\\\");
+    }
+    put_str(out, "\\u")?;
+    put_digits(out, unit)
+}
+
+/// Writes a unit that doesn't stand for itself.
+#[inline(never)]
+pub fn put_other(
+    out: &mut String,
+    after_high: bool,
+    unit: u16,
+    next: Option<u16>,
+) -> Result<(), AllocError>
+    requires { sign.is_shown unit ≡ false }
+    ensures { OnOk result (Adds (string_bytes out.old) (string_bytes out.new) (unit_chars after_high unit next)) }
+{
+    if let Some(c) = paired(unit, next) {
+        return put(out, c);
+    }
+    if after_high && is_low(unit) {
+        return Ok(());
+    }
+    put_escape(out, unit)
+}
+
+/// Writes a unit of a text with quotes, after a high surrogate or not, and in front of the next unit.
+fn put_unit(
+    out: &mut String,
+    after_high: bool,
+    unit: u16,
+    next: Option<u16>,
+) -> Result<(), AllocError>
+    ensures { OnOk result (Adds (string_bytes out.old) (string_bytes out.new) (unit_chars after_high unit next)) }
 {
     match shown(unit) {
         Some(c) => put(out, c),
-        None => {
-            put(out, '\\')?;
-            put(out, 'u')?;
-            put(out, digit_char(unit / 4096))?;
-            put(out, digit_char(unit / 256 % 16))?;
-            put(out, digit_char(unit / 16 % 16))?;
-            put(out, digit_char(unit % 16))
-        }
+        None => put_other(out, after_high, unit, next),
+    }
+}
+
+/// The unit after one of some.
+fn next_unit(units: &[u16], i: usize) -> Option<u16>
+    requires { i < length units.now }
+    ensures { result ≡ first_unit (drop (i + 1) units.now) }
+{
+    if i + 1 < units.len() {
+        Some(units[i + 1])
+    } else {
+        None
     }
 }
 
 /// Writes units of a text with quotes.
 fn put_units(out: &mut String, units: &[u16]) -> Result<(), AllocError>
-    ensures { OnOk result (Adds (string_bytes out.old) (string_bytes out.new) (units_chars units.now)) }
+    ensures { OnOk result (Adds (string_bytes out.old) (string_bytes out.new) (units_chars units.now false)) }
 {
-    for unit in units {
-        put_unit(out, *unit)?;
+    let mut after_high = false;
+    for i in 0..units.len() {
+        let unit = units[i];
+        put_unit(out, after_high, unit, next_unit(units, i))?;
+        after_high = is_high(unit);
     }
     Ok(())
 }
@@ -165,10 +256,10 @@ pub fn put_key(out: &mut String, key: &[u8]) -> Result<(), AllocError>
 
 /// Writes bytes as units of a text with quotes.
 fn put_key_units(out: &mut String, key: &[u8]) -> Result<(), AllocError>
-    ensures { OnOk result (Adds (string_bytes out.old) (string_bytes out.new) (units_chars key.now)) }
+    ensures { OnOk result (Adds (string_bytes out.old) (string_bytes out.new) (units_chars key.now false)) }
 {
     for byte in key {
-        put_unit(out, *byte as u16)?;
+        put_unit(out, false, *byte as u16, None)?;
     }
     Ok(())
 }

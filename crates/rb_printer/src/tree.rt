@@ -11,6 +11,7 @@ ghost use Rattle.rb_printer.specs.Sound.{IsSound, IsWell};
 ghost use Rattle.rb_printer.specs.Growth.{Adds};
 
 use crate::leaf::{put_bytes_of, put_int, put_numbers_of, put_units_of};
+use crate::line::{is_short, place_of, put_indent, put_pause, wraps};
 use crate::text::{put_key, put_str};
 use rb_tree::{Kind, Node};
 use std::alloc::AllocError;
@@ -26,16 +27,6 @@ fn is_guessed<N: Node>(node: N) -> bool
     }
 }
 
-/// Begins a line: writes four spaces for each level.
-fn put_indent(out: &mut String, level: usize) -> Result<(), AllocError>
-    ensures { OnOk result (Adds (string_bytes out.old) (string_bytes out.new) (signs_chars (indent level []))) }
-{
-    for _ in 0..level {
-        put_str(out, "    ")?;
-    }
-    Ok(())
-}
-
 /// Writes what is between a key and its body.
 fn put_gap(out: &mut String, guessed: bool) -> Result<(), AllocError>
     ensures { OnOk result (Adds (string_bytes out.old) (string_bytes out.new) (signs_chars (gap guessed []))) }
@@ -45,12 +36,12 @@ fn put_gap(out: &mut String, guessed: bool) -> Result<(), AllocError>
 
 /// Begins an array, and writes its type if it isn't guessed.
 fn begin_array(out: &mut String, guessed: bool) -> Result<(), AllocError>
-    ensures { OnOk result (Adds (string_bytes out.old) (string_bytes out.new) (signs_chars (type_unless guessed array_word (left ∷ feed ∷ [])))) }
+    ensures { OnOk result (Adds (string_bytes out.old) (string_bytes out.new) (signs_chars (type_unless guessed array_word (left ∷ [])))) }
 {
     if guessed {
-        put_str(out, "{\n")
+        put_str(out, "{")
     } else {
-        put_str(out, ":array {\n")
+        put_str(out, ":array {")
     }
 }
 
@@ -65,12 +56,20 @@ fn begin_table(out: &mut String, guessed: bool) -> Result<(), AllocError>
     }
 }
 
-/// Ends an array or a table of a level.
+/// Ends a table of a level.
 fn end_braces(out: &mut String, level: usize) -> Result<(), AllocError>
     ensures { OnOk result (Adds (string_bytes out.old) (string_bytes out.new) (signs_chars (indent level (right ∷ [])))) }
 {
     put_indent(out, level)?;
     put_str(out, "}")
+}
+
+/// Ends an array of a level.
+fn end_array(out: &mut String, level: usize) -> Result<(), AllocError>
+    ensures { OnOk result (Adds (string_bytes out.old) (string_bytes out.new) (signs_chars (feed ∷ indent level (right ∷ [])))) }
+{
+    put_str(out, "\n")?;
+    end_braces(out, level)
 }
 
 /// Writes a tree as it is after a key: its type, if it isn't guessed, and braces.
@@ -94,13 +93,18 @@ fn put_body<N: Node>(out: &mut String, level: usize, node: N) -> Result<(), Allo
         }
         Kind::Ints => {
             put_str(out, ":intvector {")?;
-            put_numbers_of(out, node)?;
-            put_str(out, " }")?;
+            let wrapped = wraps(level + 1, node);
+            put_numbers_of(out, wrapped, level + 1, node)?;
+            put_pause(out, !wrapped, level)?;
+            put_str(out, "}")?;
         }
         Kind::Binary => {
-            put_str(out, ":bin { ")?;
-            put_bytes_of(out, node)?;
-            put_str(out, " }")?;
+            let short = is_short(node);
+            put_str(out, ":bin {")?;
+            put_pause(out, short, level + 1)?;
+            put_bytes_of(out, level + 1, node)?;
+            put_pause(out, short, level)?;
+            put_str(out, "}")?;
         }
         Kind::Alias => {
             put_str(out, ":alias { ")?;
@@ -109,12 +113,16 @@ fn put_body<N: Node>(out: &mut String, level: usize, node: N) -> Result<(), Allo
         }
         Kind::Array => {
             begin_array(out, is_guessed(node))?;
+            let mut room = 0;
             for i in 0..node.len() {
-                put_indent(out, level + 1)?;
-                put_item(out, level + 1, node.at(i))?;
-                put_str(out, ",\n")?;
+                let child = node.at(i);
+                let place = place_of(level + 1, room, child);
+                put_pause(out, place.fits, level + 1)?;
+                put_item(out, level + 1, child)?;
+                put_str(out, ",")?;
+                room = place.left;
             }
-            end_braces(out, level)?;
+            end_array(out, level)?;
         }
         Kind::Table => {
             begin_table(out, is_guessed(node))?;

@@ -38,8 +38,7 @@ const EACH_KIND: &str =
 const EACH_PRINTED: &str = "\
 root {
     a {
-        \"x\",
-        \"y\",
+        \"x\", \"y\",
         :int { 7 },
     }
     b:bin { \"00ff\" }
@@ -66,7 +65,7 @@ fn prints_each_kind(rt: HostRuntime) -> Result<(), Fail> {
 #[test]
 fn writes_names_and_flags(rt: HostRuntime) -> Result<(), Fail> {
     let alloc = rt.alloc();
-    let rows: [(&str, &str); 4] = [
+    let rows: [(&str, &str); 5] = [
         ("de{hello{\"Hallo\"}}", "de {\n    hello { \"Hallo\" }\n}\n"),
         (
             "de_AT:table(nofallback){}",
@@ -76,6 +75,53 @@ fn writes_names_and_flags(rt: HostRuntime) -> Result<(), Fail> {
         (
             "\"a b\"{\"k:\"{\"é\\u0007\\uD800\u{FEFF}\"}}",
             "\"a b\" {\n    \"k:\" { \"é\\u0007\\ud800\\ufeff\" }\n}\n",
+        ),
+        (
+            "\u{1F600}{a{\"\\uD83D\\uDE00\\uD83D\\uD83D\\uDE00\\uDE00 \\\"q\\\" C:\\\\x\"}}",
+            "\"\u{1F600}\" {\n    a { \"\u{1F600}\\ud83d\u{1F600}\\ude00 \\\"q\\\" C:\\\\x\" }\n}\n",
+        ),
+    ];
+    for (text, want) in rows {
+        assert!(rt; printed(alloc, text.as_bytes())?.as_slice() == want.as_bytes());
+    }
+    Ok(())
+}
+
+#[test]
+fn fills_lines(rt: HostRuntime) -> Result<(), Fail> {
+    let alloc = rt.alloc();
+    let rows: [(&str, &str); 7] = [
+        // seven numbers of ten digits take 91 columns, and the widest has no room then
+        (
+            "x{v:intvector{1000000000,1000000000,1000000000,1000000000,1000000000,1000000000,1000000000,1}}",
+            "x {\n    v:intvector {\n        1000000000, 1000000000, 1000000000, 1000000000, 1000000000, 1000000000, 1000000000,\n        1\n    }\n}\n",
+        ),
+        (
+            "x{v:intvector{-2147483648,-2147483648,-2147483648,-2147483648}}",
+            "x {\n    v:intvector { -2147483648, -2147483648, -2147483648, -2147483648 }\n}\n",
+        ),
+        // 32 bytes, and one more
+        (
+            "x{b:bin{00112233445566778899aabbccddeeff00112233445566778899aabbccddeeff}}",
+            "x {\n    b:bin { \"00112233445566778899aabbccddeeff00112233445566778899aabbccddeeff\" }\n}\n",
+        ),
+        (
+            "x{b:bin{00112233445566778899aabbccddeeff00112233445566778899aabbccddeeff00112233445566778899aabbccddeeff00112233445566778899aabbccddeeff01}}",
+            "x {\n    b:bin {\n        \"00112233445566778899aabbccddeeff00112233445566778899aabbccddeeff\"\n        \"00112233445566778899aabbccddeeff00112233445566778899aabbccddeeff\"\n        \"01\"\n    }\n}\n",
+        ),
+        // two strings of 42 and 47 columns fill a line of 100
+        (
+            "x{a{\"aaaaaaaaaaaaaaaaaaaaaaaaaaaaaaaaaaaaaaaa\",\"bbbbbbbbbbbbbbbbbbbbbbbbbbbbbbbbbbbbbbbbbbbbb\",\"e\"}}",
+            "x {\n    a {\n        \"aaaaaaaaaaaaaaaaaaaaaaaaaaaaaaaaaaaaaaaa\", \"bbbbbbbbbbbbbbbbbbbbbbbbbbbbbbbbbbbbbbbbbbbbb\",\n        \"e\",\n    }\n}\n",
+        ),
+        // one of 42 and one of 48 don't
+        (
+            "x{a{\"aaaaaaaaaaaaaaaaaaaaaaaaaaaaaaaaaaaaaaaa\",\"cccccccccccccccccccccccccccccccccccccccccccccc\",\"e\"}}",
+            "x {\n    a {\n        \"aaaaaaaaaaaaaaaaaaaaaaaaaaaaaaaaaaaaaaaa\",\n        \"cccccccccccccccccccccccccccccccccccccccccccccc\", \"e\",\n    }\n}\n",
+        ),
+        (
+            "x{a{\"f\",{\"g\",\"h\"},\"i\",:array{},\"j\"}}",
+            "x {\n    a {\n        \"f\",\n        {\n            \"g\", \"h\",\n        },\n        \"i\",\n        :array {\n        },\n        \"j\",\n    }\n}\n",
         ),
     ];
     for (text, want) in rows {

@@ -1,5 +1,4 @@
 use Rattle.std.proofs.Common.{subst, sym}
-use Rattle.rb_tree.specs.Resource.{Resource}
 use Rattle.rb_printer.specs.Sound.{IsBundleTree}
 use Rattle.rb_printer.proofs.Filed.{is_bundle_tree}
 use Rattle.rb_printer.proofs.bundle.print_bundle.Goals as goal

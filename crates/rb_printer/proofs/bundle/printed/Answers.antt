@@ -11,7 +11,7 @@ use Rattle.rb_printer.proofs.bundle.printed.Goals as goal
 pub returns-then-is_none-clause-error : goal.returns-then-is_none-clause-error
 returns-then-is_none-clause-error g c = λ _.
     let es = members_of (g.N.Node.tree c.args.root) in
-    let more = too_large 8388608 (entries_least 1 es) c.after_entries.result c.is_none.result c.after_entries.ensures c.is_none.ensures c.if-is_none.true in
+    let more = too_large _ (entries_least 1 es) c.after_entries.result c.is_none.result c.after_entries.ensures c.is_none.ensures c.if-is_none.true in
     omega (arith, page_least c.args.name.now c.args.no_fallback es, more)
 
 pub returns-clause-text : goal.returns-clause-text

@@ -6,14 +6,14 @@ use Rattle.rb_tree.specs.Lower.{child_lower}
 use Rattle.rb_tree.specs.Parts.{kind_of, children_of, pairs_of}
 use Rattle.rb_tree.specs.declared.kind.Kind.TheVariants as Kinds
 use Rattle.rb_printer.specs.Page.{items_of, members_of}
-use Rattle.rb_printer.specs.Least.{least, items_least, entries_least}
+use Rattle.rb_printer.specs.Least.{item_lead, least, items_least, entries_least}
 use Rattle.rb_printer.proofs.Trees.{array_children, array_len, table_children, table_pairs, table_len, drop_trees, drop_members}
 use Rattle.rb_printer.proofs.Rooms.{items_next, entries_next, items_last, entries_last, none_left}
 use Rattle.rb_printer.proofs.room.+room.Goals as goal
 
 -- what the items from the present one on need
 items_need : (level i : ℕ) (t u : Resource) → kind_of t ≡ Kinds.Array → Some u ≡ slice_get (children_of t) i
-    → items_least level (drop_trees i (items_of t)) ≡ 4 * level + least level u + items_least level (drop_trees (i + 1) (items_of t))
+    → items_least level (drop_trees i (items_of t)) ≡ item_lead level u + least level u + items_least level (drop_trees (i + 1) (items_of t))
 items_need level i t u k e = items_next level (items_of t) i u (subst (λ (xs : List Resource). Some u ≡ slice_get xs i) (array_children t k) e)
 
 entries_need : (level i : ℕ) (t u : Resource) (key : List ℕ) → kind_of t ≡ Kinds.Table → Some key ≡ slice_get (keys_of (pairs_of t)) i

@@ -10,15 +10,17 @@ use Rattle.rb_printer.proofs.tree.+tree.Goals as goal
 pub put_body-put_item-requires : goal.put_body-put_item-requires
 put_body-put_item-requires g t c κs within =
     let tree = g.N.Node.tree in
-    let lower : height (tree c.at.result) < height (tree c.args.node) = child_lower (tree c.args.node) (tree c.at.result) c.loop-i.i c.at.ensures in
-    (omega (arith, lower, c.decreases), (within, (omega (arith, lower, c.requires.low), child_well _ _ c.loop-i.i c.requires.well c.at.ensures)))
+    let lower : height (tree c.at-child.result) < height (tree c.args.node) =
+    child_lower (tree c.args.node) (tree c.at-child.result) c.loop-i.i c.at-child.ensures in
+    (omega (arith, lower, c.decreases), (within, (omega (arith, lower, c.requires.low), child_well _ _ c.loop-i.i c.requires.well c.at-child.ensures)))
 
 pub put_body-loop-i-preserved : goal.put_body-loop-i-preserved
 put_body-loop-i-preserved g t c =
     let tree = g.N.Node.tree in
-    items_put _ _ _ _ _ c.args.level (tree c.args.node) (tree c.at.result) c.loop-i.i c.loop-i.invariant
-    (subst (λ (xs : List Resource). Some (tree c.at.result) ≡ slice_get xs c.loop-i.i) (array_children (tree c.args.node) (sym c.in-Array.ensures)) c.at.ensures)
-    c.in_ok-put_indent-in-Array.ensures c.in_ok-put_item-in-Array.ensures.adds c.in_ok-put_item-in-Array.ensures.sound c.in_ok-put_str-in-Array.ensures
+    items_put _ _ _ _ _ c.args.level c.loop-i.room c.place_of-place.result.left (tree c.args.node) (tree c.at-child.result) c.loop-i.i
+    c.place_of-place.result.fits c.loop-i.invariant
+    (subst (λ (xs : List Resource). Some (tree c.at-child.result) ≡ slice_get xs c.loop-i.i) (array_children (tree c.args.node) (sym c.in-Array.ensures))
+    c.at-child.ensures) c.place_of-place.ensures.fits c.place_of-place.ensures.left c.in_ok-put_pause-in-Array.ensures c.in_ok-put_item-in-Array.ensures.adds c.in_ok-put_item-in-Array.ensures.sound c.in_ok-put_str-in-Array.ensures
 
 pub put_body-returns-in_ok-put_str-in-String-2-clause-adds : goal.put_body-returns-in_ok-put_str-in-String-2-clause-adds
 put_body-returns-in_ok-put_str-in-String-2-clause-adds g t c =
@@ -34,28 +36,29 @@ put_body-returns-in_ok-put_str-in-Int-2-clause-adds g t c =
 
 pub put_body-returns-in_ok-put_str-in-Ints-2-clause-adds : goal.put_body-returns-in_ok-put_str-in-Ints-2-clause-adds
 put_body-returns-in_ok-put_str-in-Ints-2-clause-adds g t c =
-    ints_put _ _ _ _ c.args.level (g.N.Node.tree c.args.node) (sym c.in-Ints.ensures) c.in_ok-put_str-in-Ints.ensures
-    c.in_ok-put_numbers_of-in-Ints.ensures.adds c.in_ok-put_str-in-Ints-2.ensures
+    ints_put _ _ _ _ _ c.args.level c.wraps-wrapped.result (g.N.Node.tree c.args.node) (sym c.in-Ints.ensures) c.wraps-wrapped.ensures
+    c.in_ok-put_str-in-Ints.ensures c.in_ok-put_numbers_of-in-Ints.ensures.adds c.in_ok-put_pause-in-Ints.ensures c.in_ok-put_str-in-Ints-2.ensures
 
 pub put_body-returns-in_ok-put_str-in-Binary-2-clause-adds : goal.put_body-returns-in_ok-put_str-in-Binary-2-clause-adds
 put_body-returns-in_ok-put_str-in-Binary-2-clause-adds g t c =
-    binary_put _ _ _ _ c.args.level (g.N.Node.tree c.args.node) (sym c.in-Binary.ensures) c.in_ok-put_str-in-Binary.ensures
-    c.in_ok-put_bytes_of-in-Binary.ensures.adds c.in_ok-put_str-in-Binary-2.ensures
+    binary_put _ _ _ _ _ _ c.args.level c.is_short-short.result (g.N.Node.tree c.args.node) (sym c.in-Binary.ensures) c.is_short-short.ensures
+    c.in_ok-put_str-in-Binary.ensures c.in_ok-put_pause-in-Binary.ensures c.in_ok-put_bytes_of-in-Binary.ensures.adds
+    c.in_ok-put_pause-in-Binary-2.ensures c.in_ok-put_str-in-Binary-2.ensures
 
 pub put_body-returns-in_ok-put_str-in-Alias-2-clause-adds : goal.put_body-returns-in_ok-put_str-in-Alias-2-clause-adds
 put_body-returns-in_ok-put_str-in-Alias-2-clause-adds g t c =
     alias_put _ _ _ _ c.args.level (g.N.Node.tree c.args.node) (sym c.in-Alias.ensures) c.in_ok-put_str-in-Alias.ensures
     c.in_ok-put_units_of-in-Alias.ensures.adds c.in_ok-put_str-in-Alias-2.ensures
 
-pub put_body-returns-in_ok-end_braces-in-Array-clause-adds : goal.put_body-returns-in_ok-end_braces-in-Array-clause-adds
-put_body-returns-in_ok-end_braces-in-Array-clause-adds g t c =
-    (items_end _ _ _ c.args.level (g.N.Node.tree c.args.node) c.loop-i.i c.loop-i.invariant (sym c.in-Array.ensures) (omega arith)
-    c.in_ok-end_braces-in-Array.ensures).0
+pub put_body-returns-in_ok-end_array-in-Array-clause-adds : goal.put_body-returns-in_ok-end_array-in-Array-clause-adds
+put_body-returns-in_ok-end_array-in-Array-clause-adds g t c =
+    (items_end _ _ _ c.args.level c.loop-i.room (g.N.Node.tree c.args.node) c.loop-i.i c.loop-i.invariant (sym c.in-Array.ensures) (omega arith)
+    c.in_ok-end_array-in-Array.ensures).0
 
-pub put_body-returns-in_ok-end_braces-in-Array-clause-sound : goal.put_body-returns-in_ok-end_braces-in-Array-clause-sound
-put_body-returns-in_ok-end_braces-in-Array-clause-sound g t c =
-    (items_end _ _ _ c.args.level (g.N.Node.tree c.args.node) c.loop-i.i c.loop-i.invariant (sym c.in-Array.ensures) (omega arith)
-    c.in_ok-end_braces-in-Array.ensures).1
+pub put_body-returns-in_ok-end_array-in-Array-clause-sound : goal.put_body-returns-in_ok-end_array-in-Array-clause-sound
+put_body-returns-in_ok-end_array-in-Array-clause-sound g t c =
+    (items_end _ _ _ c.args.level c.loop-i.room (g.N.Node.tree c.args.node) c.loop-i.i c.loop-i.invariant (sym c.in-Array.ensures) (omega arith)
+    c.in_ok-end_array-in-Array.ensures).1
 
 pub put_body-returns-in_ok-end_braces-in-Table-clause-adds : goal.put_body-returns-in_ok-end_braces-in-Table-clause-adds
 put_body-returns-in_ok-end_braces-in-Table-clause-adds g t c =
