@@ -97,7 +97,7 @@ fn desk_with_texts(alloc: Global) -> Option<Desk> {
 }
 
 /// Whether a lookup gives this reply, and with a trace also this.
-fn is_traced(desk: &Desk, locale: &str, path: &str, reply: &str, trace: &str) -> bool {
+fn is_traced<'a>(desk: &Desk, locale: &'a str, path: &'a str, reply: &str, trace: &str) -> bool {
     let plain = Lookup {
         parents: Some("parents.txt"),
         locale,
