@@ -2,7 +2,7 @@
 ghost use Rattle.std.specs.Prelude.{◌≤◌, IfErr, IfOk};
 ghost use Rattle.rb_engine.specs.Kept.{state_of};
 ghost use Rattle.rb_requests.specs.Served.{AfterFault, at};
-ghost use Rattle.rb_commands.specs.Limits.{most_lines};
+ghost use Rattle.rb_commands.specs.inner.Limits.{most_lines};
 
 use crate::handing::{NotingFeed, WaitingWriter};
 use crate::start::{not_started_on, start};

@@ -14,7 +14,7 @@ use Rattle.rb_locales.proofs.Parts.{split_append}
 use Rattle.rb_fallback.specs.Alias.{aims, is_plain, aim, target, target_of}
 use Rattle.rb_fallback.specs.AliasPaths.{are_filled, joined_path, segments_from}
 use Rattle.rb_fallback.specs.Search.{Step, follow, goes}
-use Rattle.rb_fallback.specs.Steps.{IsFollowed, place_at}
+use Rattle.rb_fallback.specs.inner.Steps.{IsFollowed, place_at}
 use Rattle.rb_fallback.specs.declared.fault.LookError.{LookError}
 use Rattle.arrayvec.specs.ArrayVec.{ArrayVec}
 use Rattle.rb_fallback.proofs.Paths.{aim_is_filled, aim_is_plain, long_is}

@@ -6,9 +6,9 @@ use Rattle.rb_tree.specs.Resource.{Resource}
 use Rattle.rb_tree.specs.Path.{segments, IsPath}
 use Rattle.rb_parents.specs.Trail.{Bundles, ParentsOf}
 use Rattle.rb_fallback.specs.Answers.{answer_of}
-use Rattle.rb_fallback.specs.LevelResult.{IsLevelResult}
+use Rattle.rb_fallback.specs.inner.LevelResult.{IsLevelResult}
 use Rattle.rb_fallback.specs.Search.{Setting, Step, search, is_long, go_on, step, level, bundles_of, first_stop, look_up, setting, setting_of}
-use Rattle.rb_fallback.specs.Steps.{GoesOn, GoesLong}
+use Rattle.rb_fallback.specs.inner.Steps.{GoesOn, GoesLong}
 use Rattle.rb_fallback.specs.declared.fault.LookError.{LookError}
 use Rattle.rb_fallback.specs.declared.fault.LookError.TheVariants as fault
 use Rattle.rb_fallback.specs.declared.found.Found.{Found}

@@ -12,12 +12,12 @@ use Rattle.rb_tree.specs.declared.ending.Ending.TheVariants.{End, Link, Gone}
 use Rattle.rb_parents.specs.Trail.{Bundles, ParentsOf, Trail, names, trail, stops}
 use Rattle.rb_fallback.specs.Alias.{target}
 use Rattle.rb_fallback.specs.Search.{Decided, walk_of, unless_gone, decide, by_stops, by_trail, level, found, step, step_of, follow}
-use Rattle.rb_fallback.specs.LevelResult.{IsLevelResult}
+use Rattle.rb_fallback.specs.inner.LevelResult.{IsLevelResult}
 use Rattle.rb_fallback.specs.declared.fault.LookError.{LookError}
 use Rattle.rb_fallback.specs.declared.fault.LookError.TheVariants as fault
 use Rattle.rb_fallback.specs.declared.level.LevelResult.{LevelResult}
 use Rattle.rb_fallback.specs.declared.search.Place.{Place}
-use Rattle.rb_fallback.specs.Steps.{IsFollowed}
+use Rattle.rb_fallback.specs.inner.Steps.{IsFollowed}
 use Rattle.rb_fallback.proofs.Paths.{Whole, walk_whole}
 
 -- ---- what was walked and what is left of the deciding walk are the whole path

@@ -10,7 +10,7 @@ use Rattle.rb_tree.specs.declared.ending.Ending.{Ending}
 use Rattle.rb_tree.specs.declared.ending.Ending.TheVariants.{End, Link, Gone}
 use Rattle.rb_parents.specs.Trail.{Bundles, is_stop, stops_at, stop_tree, stops}
 use Rattle.rb_fallback.specs.Search.{Decided, walk_of, unless_gone, decide, first_of}
-use Rattle.rb_fallback.specs.LevelResult.{DecidingWalk, IsEnding}
+use Rattle.rb_fallback.specs.inner.LevelResult.{DecidingWalk, IsEnding}
 
 pub first_on : (o : Option (List ℕ)) (all : List (List ℕ)) (n : List ℕ) → o ≡ first_of all → Some (unwrap_or o n) ≡ first_of (all ++ n ∷ [])
 first_on o [] n e = ap (λ x. Some (unwrap_or x n)) e

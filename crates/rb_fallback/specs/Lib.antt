@@ -3,5 +3,4 @@ pub mod Search
 pub mod Answers
 pub mod Words
 pub mod AliasPaths
-pub mod LevelResult
-pub mod Steps
+pub mod inner

@@ -5,7 +5,7 @@ ghost use Rattle.rb_tree.specs.Path.{IsPath, segments};
 ghost use Rattle.rb_parents.specs.Trail.{Bundles, stop_tree, stops};
 ghost use Rattle.rb_parents.specs.Family.{parent_of};
 ghost use Rattle.rb_fallback.specs.Search.{by_stops, first_of, first_stop, level};
-ghost use Rattle.rb_fallback.specs.LevelResult.{IsLevel, IsLevelState};
+ghost use Rattle.rb_fallback.specs.inner.LevelResult.{IsLevel, IsLevelState};
 
 use crate::fault::LookError;
 use rb_locales::Name;

@@ -7,9 +7,9 @@ ghost use Rattle.rb_tree.specs.Walk.{behind};
 ghost use Rattle.rb_parents.specs.Family.{parent_of};
 ghost use Rattle.rb_fallback.specs.Alias.{target};
 ghost use Rattle.rb_fallback.specs.Answers.{answer_of};
-ghost use Rattle.rb_fallback.specs.LevelResult.{IsLevel};
+ghost use Rattle.rb_fallback.specs.inner.LevelResult.{IsLevel};
 ghost use Rattle.rb_fallback.specs.Search.{bundles_of, first_stop, follow, level, look_up, search, setting_of};
-ghost use Rattle.rb_fallback.specs.Steps.{IsFollowed, place_at};
+ghost use Rattle.rb_fallback.specs.inner.Steps.{IsFollowed, place_at};
 ghost use Rattle.rb_fallback.specs.declared.fault.LookError.TheVariants as Faults;
 
 use crate::alias::read_alias;

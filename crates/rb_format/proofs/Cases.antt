@@ -12,7 +12,7 @@ use Rattle.rb_format.specs.declared.layout.Layout.{Layout}
 use Rattle.rb_format.specs.declared.kind.ItemKind.{ItemKind}
 use Rattle.rb_tree.specs.Resource.{Resource}
 use Rattle.rb_format.specs.Item.{has_data, bare}
-use Rattle.rb_format.specs.FirstFault.{within, contents, value}
+use Rattle.rb_format.specs.inner.FirstFault.{within, contents, value}
 use Rattle.rb_format.proofs.Steps.{bind_ok, ok_is}
 
 -- the value is there, or it is the one without data

@@ -21,8 +21,8 @@ use Rattle.rb_format.specs.Geometry.{key_offset, table_parts, long_table_parts, 
 use Rattle.rb_format.specs.Item.{kind_of, offset_of, is_table, has_data, bare}
 use Rattle.rb_format.specs.Attributes.{attributes_of, has_pool}
 use Rattle.rb_format.specs.File.{has_magic, has_family, has_version, has_sizes, has_header, has_valid_indexes, flagged}
-use Rattle.rb_format.specs.FirstFault.{◌>>=◌, result_map, fault_of, trees, members, keys, next_key, key_or_fault, kind_or_fault, value, contents}
-use Rattle.rb_format.specs.FirstFault.{units, bytes, numbers, array_at, table_of, table16_at, table32_at, node, read, header, read_data, read_file}
+use Rattle.rb_format.specs.inner.FirstFault.{◌>>=◌, result_map, fault_of, trees, members, keys, next_key, key_or_fault, kind_or_fault, value, contents}
+use Rattle.rb_format.specs.inner.FirstFault.{units, bytes, numbers, array_at, table_of, table16_at, table32_at, node, read, header, read_data, read_file}
 use Rattle.rb_format.specs.Checks.{CheckList, first_failed, header_checks, header_unless, header_of, data_checks, key_before, key_checks, table_checks}
 use Rattle.rb_format.specs.Checks.{value_checks, kind_checks, count_of, child_of, all_checks, item_checks, first_fault}
 use Rattle.rb_format.proofs.Steps.{fault_map}

@@ -6,7 +6,7 @@ use Rattle.rb_format.specs.declared.fault.FileFault.TheVariants.{TooDeep, ItemTy
 use Rattle.rb_format.specs.declared.kind.ItemKind.{ItemKind}
 use Rattle.rb_format.specs.declared.layout.Layout.{Layout}
 use Rattle.rb_tree.specs.Resource.{Resource, tree_and, entry_and}
-use Rattle.rb_format.specs.FirstFault.{◌>>=◌, fault_of, next_key, keys, trees, members, read, node, value, kind_or_fault, within, contents}
+use Rattle.rb_format.specs.inner.FirstFault.{◌>>=◌, fault_of, next_key, keys, trees, members, read, node, value, kind_or_fault, within, contents}
 use Rattle.rb_format.specs.Item.{kind_of, offset_of, bare}
 use Rattle.rb_format.proofs.Steps.{bind_ok, then_ok, ok_is, fault_then, fault_first}
 

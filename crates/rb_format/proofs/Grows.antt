@@ -13,8 +13,8 @@ use Rattle.rb_format.specs.declared.layout.Layout.{Layout}
 use Rattle.rb_format.proofs.Growing.{Grows}
 use Rattle.rb_tree.specs.Resource.{Resource, string, binary, table, alias, array, ints, Resources, tree_and, Members, entry_and}
 use Rattle.rb_format.specs.Place.{word_at, half_at, values, key, key_front}
-use Rattle.rb_format.specs.FirstFault.{◌>>=◌, result_map, trees, node, read, within, contents, value, kind_or_fault, units}
-use Rattle.rb_format.specs.FirstFault.{bytes, numbers, array_at, table_of, table16_at, table32_at, next_key, keys, members, key_or_fault}
+use Rattle.rb_format.specs.inner.FirstFault.{◌>>=◌, result_map, trees, node, read, within, contents, value, kind_or_fault, units}
+use Rattle.rb_format.specs.inner.FirstFault.{bytes, numbers, array_at, table_of, table16_at, table32_at, next_key, keys, members, key_or_fault}
 use Rattle.rb_format.specs.Item.{has_data, kind_of, offset_of}
 use Rattle.rb_format.specs.declared.kind.ItemKind.{ItemKind}
 use Rattle.rb_format.specs.declared.kind.ItemKind.TheVariants.{String, Binary, Table, Alias, LongTable, Int, Array, Ints}

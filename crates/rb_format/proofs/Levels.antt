@@ -10,8 +10,8 @@ use Rattle.rb_format.specs.declared.fault.FileFault.TheVariants.{TooDeep}
 use Rattle.rb_format.specs.declared.layout.Layout.{Layout}
 use Rattle.rb_tree.specs.Resource.{Resource, string, binary, table, alias, int, array, ints, Resources}
 use Rattle.rb_tree.specs.Resource.{no_trees, tree_and, Members, no_entries, entry_and, height, trees_height, entries_height}
-use Rattle.rb_format.specs.FirstFault.{◌>>=◌, limited, result_map, trees, members, keys, array_at, table_of, table16_at, table32_at}
-use Rattle.rb_format.specs.FirstFault.{node, read, within, contents, value, kind_or_fault, units, bytes, numbers}
+use Rattle.rb_format.specs.inner.FirstFault.{◌>>=◌, limited, result_map, trees, members, keys, array_at, table_of, table16_at, table32_at}
+use Rattle.rb_format.specs.inner.FirstFault.{node, read, within, contents, value, kind_or_fault, units, bytes, numbers}
 use Rattle.rb_format.specs.Item.{bare, kind_of, offset_of}
 use Rattle.rb_format.specs.Place.{word_at}
 use Rattle.rb_format.proofs.Steps.{bind_ok, map_ok, follow, guarded, then_ok}

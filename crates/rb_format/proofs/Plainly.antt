@@ -13,8 +13,8 @@ use Rattle.rb_format.specs.declared.kind.ItemKind.{ItemKind}
 use Rattle.rb_format.specs.declared.kind.ItemKind.TheVariants.{String, Binary, Table, Alias, LongTable, Int, Array, Ints}
 use Rattle.rb_tree.specs.Resource.{Resource, string, binary, table, alias, array, ints, height}
 use Rattle.rb_format.specs.Place.{word_at, half_at, key}
-use Rattle.rb_format.specs.FirstFault.{◌>>=◌, result_map, trees, node, read, contents, value, kind_or_fault, units, bytes}
-use Rattle.rb_format.specs.FirstFault.{numbers, array_at, table_of, table16_at, table32_at, next_key, keys, members, key_or_fault}
+use Rattle.rb_format.specs.inner.FirstFault.{◌>>=◌, result_map, trees, node, read, contents, value, kind_or_fault, units, bytes}
+use Rattle.rb_format.specs.inner.FirstFault.{numbers, array_at, table_of, table16_at, table32_at, next_key, keys, members, key_or_fault}
 use Rattle.rb_format.specs.Item.{has_data, bare, kind_of, offset_of}
 use Rattle.rb_format.specs.Denotation.{where_holds, ◌>>?◌, trees_at, keys_at, members_at, table_at, units_at, value_at, item_at, tree_at}
 use Rattle.rb_format.proofs.Levels.{read-limited, read_raise}

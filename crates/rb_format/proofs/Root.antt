@@ -14,7 +14,7 @@ use Rattle.rb_format.specs.Denotation.{where_holds, tree_at}
 use Rattle.rb_format.specs.Attributes.{attributes_of, has_pool}
 use Rattle.rb_format.specs.File.{has_magic, has_family, has_version, has_sizes, has_header, has_valid_indexes}
 use Rattle.rb_format.specs.File.{flagged, source_of_data, source_of_file, DenotesWithin, Denotes, source_tree_of}
-use Rattle.rb_format.specs.FirstFault.{◌>>=◌, header, read, read_data, read_file, fault_of}
+use Rattle.rb_format.specs.inner.FirstFault.{◌>>=◌, header, read, read_data, read_file, fault_of}
 use Rattle.rb_format.specs.Checks.{first_failed, item_checks, first_fault}
 use Rattle.rb_format.proofs.Checks.{item_first, file_first}
 use Rattle.rb_format.proofs.Levels.{read-limited}

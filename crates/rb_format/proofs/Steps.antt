@@ -1,7 +1,7 @@
 -- Steps of a reading: what a step that did not fail gave.
 use Rattle.std.proofs.Common.{◌≡◌, Bool, true, false, cond, Result, Ok, Err, Option, Some, None, refl, ap}
 use Rattle.rb_format.specs.declared.fault.FileFault.{FileFault}
-use Rattle.rb_format.specs.FirstFault.{◌>>=◌, result_map, fault_of}
+use Rattle.rb_format.specs.inner.FirstFault.{◌>>=◌, result_map, fault_of}
 
 pub bind_ok : {A B : Type 0} (r : Result A FileFault) (f : A → Result B FileFault) (y : B) → (r >>= f) ≡ Ok y → (x : A) × (r ≡ Ok x) × (f x ≡ Ok y)
 bind_ok (Ok x) f y e = (x, refl, e)

@@ -4,6 +4,6 @@ pub mod Attributes
 pub mod Geometry
 pub mod Denotation
 pub mod File
-pub mod FirstFault
 pub mod Words
 pub mod Checks
+pub mod inner

@@ -3,7 +3,7 @@ ghost use Rattle.std.specs.Prelude.{◌≡◌, ◌+◌, ◌<◌, ◌≤◌};
 ghost use Rattle.rb_tree.specs.Parts.{kind_of};
 ghost use Rattle.rb_tree.specs.declared.kind.Kind.TheVariants as Kinds;
 ghost use Rattle.rb_json.specs.Printed.{is_within};
-ghost use Rattle.rb_json.specs.Room.{IsRoomAfter};
+ghost use Rattle.rb_json.specs.inner.Room.{IsRoomAfter};
 
 use rb_tree::{HEIGHT_LIMIT, Kind, Node, WEIGHT_LIMIT};
 

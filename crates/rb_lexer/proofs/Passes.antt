@@ -3,7 +3,7 @@ use Rattle.std.proofs.Common.{◌≡◌, List, ℕ, [], ◌++◌, sym, ap, ◌�
 use Rattle.rb_lexer.specs.declared.fault.LexError.{LexError}
 use Rattle.rb_lexer.specs.Faults.{broken_chars}
 use Rattle.rb_lexer.specs.Atom.{Atom, atoms_chars, AreAtoms, Stops}
-use Rattle.rb_lexer.specs.Passing.{BreaksSo}
+use Rattle.rb_lexer.specs.inner.Passing.{BreaksSo}
 use Rattle.rb_lexer.proofs.Turns.{chars_front, are_front}
 
 -- Atoms of the text come before the rest.

@@ -14,8 +14,8 @@ use Rattle.rb_lexer.specs.Faults.{Broken}
 use Rattle.rb_lexer.specs.Tokens.{width, HasTokens}
 use Rattle.rb_lexer.specs.Merging.{flushed}
 use Rattle.rb_lexer.specs.Atom.{Atom, atoms_chars, AreAtoms, atoms_tokens, Stops}
-use Rattle.rb_lexer.specs.Passing.{IsUnbroken}
-use Rattle.rb_lexer.specs.Left.{IsAtStart, IsPlaced, Gives, Left}
+use Rattle.rb_lexer.specs.inner.Passing.{IsUnbroken}
+use Rattle.rb_lexer.specs.inner.Left.{IsAtStart, IsPlaced, Gives, Left}
 use Rattle.rb_lexer.specs.Coming.{atoms_at, left}
 use Rattle.rb_lexer.proofs.Coming.{atoms_read}
 use Rattle.rb_lexer.proofs.Decided.{tail, texts_one}

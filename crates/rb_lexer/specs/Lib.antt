@@ -5,6 +5,5 @@ pub mod Faults
 pub mod Words
 pub mod Atom
 pub mod Escapes
-pub mod Passing
-pub mod Left
 pub mod Coming
+pub mod inner

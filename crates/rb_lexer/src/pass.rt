@@ -4,7 +4,7 @@ ghost use Rattle.rb_lexer.specs.declared.fault.SourceKind.TheVariants.{Memory};
 ghost use Rattle.rb_lexer.specs.Tokens.{line_of};
 ghost use Rattle.rb_lexer.specs.Faults.{IsRefusal};
 ghost use Rattle.std.specs.Str.{chars, all_scalars};
-ghost use Rattle.rb_lexer.specs.Passing.{IsUnbroken, BreaksSo};
+ghost use Rattle.rb_lexer.specs.inner.Passing.{IsUnbroken, BreaksSo};
 
 use crate::fault::{LexError, SourceFault, SourceKind};
 use crate::scan::scan_first;

@@ -3,7 +3,7 @@ ghost use Rattle.std.specs.Prelude.{◌≡◌, ◌<◌, ℕ, List, length, OnOk,
 ghost use Rattle.rb_lexer.specs.declared.fault.SourceKind.TheVariants.{Memory};
 ghost use Rattle.rb_lexer.specs.declared.token.Token.{Token};
 ghost use Rattle.rb_lexer.specs.Tokens.{width};
-ghost use Rattle.rb_lexer.specs.Left.{IsAtStart, IsPlaced, Gives, IsDone, Left};
+ghost use Rattle.rb_lexer.specs.inner.Left.{IsAtStart, IsPlaced, Gives, IsDone, Left};
 
 use crate::builder::Builder;
 use crate::fault::LexError;

@@ -27,7 +27,7 @@ impl<'a> Model for Tokens<'a> {
 
     ghost Value = { List Token };
 
-    ghost use Rattle.rb_lexer.specs.Left.{Left};
+    ghost use Rattle.rb_lexer.specs.inner.Left.{Left};
     ghost use Rattle.rb_lexer.specs.Coming.{left};
 
     ghost view = { λ a. left a.reader };

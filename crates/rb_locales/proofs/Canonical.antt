@@ -15,7 +15,7 @@ use Rattle.std.proofs.lemmas.Bool.Decides.{nat_tests}
 use Rattle.std.proofs.lemmas.List.{length-map}
 use Rattle.rb_locales.specs.Locale.{Position, first, second, later, next_position, is_between, is_at, part_at, in_front, parts_from, written, is_language}
 use Rattle.rb_locales.specs.Locale.{is_subtag, is_script, title, subtag, name, named, before_at, is_underscore, without_last, shorter, shorter_of}
-use Rattle.rb_locales.specs.LastUnderscore.{NoneFrom}
+use Rattle.rb_locales.specs.inner.LastUnderscore.{NoneFrom}
 
 -- ---- bytes
 alpha_lower : (b : ℕ) → is_ascii_alphabetic (to_ascii_lowercase b) ≡ is_ascii_alphabetic b

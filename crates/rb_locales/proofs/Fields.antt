@@ -3,9 +3,9 @@ use Rattle.std.proofs.Common.{◌≡◌, ℕ, ◌≤◌, ◌+◌, List, ◌++◌
 use Rattle.std.proofs.lemmas.List.{length-take-le, drop_at, take_at}
 use Rattle.rb_locales.specs.Locale.{written, first, shorter}
 use Rattle.rb_locales.specs.declared.limits.TheConstants.{NAME_LIMIT}
-use Rattle.rb_locales.specs.LastUnderscore.{IsLastIndex}
-use Rattle.rb_locales.specs.NameFields.{IsNameFields}
-use Rattle.rb_locales.specs.Padded.{IsPadded-front}
+use Rattle.rb_locales.specs.inner.LastUnderscore.{IsLastIndex}
+use Rattle.rb_locales.specs.inner.NameFields.{IsNameFields}
+use Rattle.rb_locales.specs.inner.Padded.{IsPadded-front}
 use Rattle.rb_locales.proofs.Canonical.{canonical, at_last, none_behind, shorter_canonical, shorter_some}
 
 pub made : (out zs : List ℕ) (end : ℕ) → written first out ≡ Some out → length out ≡ end → end ≤ NAME_LIMIT → zs ≡ drop end (replicate NAME_LIMIT 0)

@@ -8,7 +8,7 @@ use Rattle.std.specs.List.{slice_split, position_or_len, join_with_byte, onto_fi
 use Rattle.std.specs.Char.{is_ascii_alphabetic, is_ascii_alphanumeric}
 use Rattle.rb_locales.specs.Locale.{Position, first, second, later, next_position, is_at, is_between, subtag, part_at, in_front, parts_from, written, before_at}
 use Rattle.rb_locales.specs.Locale.{named, name}
-use Rattle.rb_locales.specs.Narrow.{narrow}
+use Rattle.rb_locales.specs.inner.Narrow.{narrow}
 use Rattle.rb_locales.proofs.Canonical.{is_clean, all_same, all_weaker, alpha_sign, both_true}
 use Rattle.rb_tree.specs.Resource.{Resource, string, int, ints, binary, alias, array, table}
 use Rattle.rb_tree.specs.Parts.{kind_of, len_of, units_of, HasUnits}

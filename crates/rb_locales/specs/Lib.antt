@@ -1,7 +1,3 @@
 pub mod Locale
-pub mod Positions
-pub mod Padded
-pub mod NameFields
-pub mod LastUnderscore
-pub mod Narrow
 pub mod Words
+pub mod inner

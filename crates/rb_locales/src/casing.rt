@@ -3,7 +3,7 @@ ghost use Rattle.std.specs.Prelude.{◌≡◌, ◌<◌, ◌≤◌, length, if◌
 ghost use Rattle.std.specs.List.{list_all, position_or_len};
 ghost use Rattle.std.specs.Char.{is_ascii_alphabetic, is_ascii_alphanumeric};
 ghost use Rattle.rb_locales.specs.Locale.{is_between, next_position, part_at, written, title, subtag};
-ghost use Rattle.rb_locales.specs.Positions.{position_of};
+ghost use Rattle.rb_locales.specs.inner.Positions.{position_of};
 
 // The position of a part in its name.
 #[derive(Clone, Copy)]

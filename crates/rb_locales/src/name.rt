@@ -3,7 +3,7 @@ ghost use Rattle.std.specs.Prelude.{◌≡◌, ◌≤◌, ◌++◌, ◌↔◌, �
 ghost use Rattle.std.specs.Result.{result_ok};
 ghost use Rattle.std.specs.List.{position_or_len};
 ghost use Rattle.rb_locales.specs.Locale.{name, shorter, is_at};
-ghost use Rattle.rb_locales.specs.LastUnderscore.{IsLastIndex};
+ghost use Rattle.rb_locales.specs.inner.LastUnderscore.{IsLastIndex};
 
 use crate::casing::{Position, write_parts};
 use crate::fault::BadLocale;
@@ -22,7 +22,7 @@ impl Model for Name {
 
     ghost Value = { List ℕ };
 
-    ghost use Rattle.rb_locales.specs.NameFields.{IsNameFields, name_fields, name_fields-view};
+    ghost use Rattle.rb_locales.specs.inner.NameFields.{IsNameFields, name_fields, name_fields-view};
 
     ghost view = { λ n. take n.len n.bytes };
 

@@ -4,7 +4,7 @@ ghost use Rattle.std.specs.Result.{result_ok};
 ghost use Rattle.std.specs.List.{position_or_len};
 ghost use Rattle.rb_tree.specs.Parts.{HasUnits, kind_of, len_of, units_of};
 ghost use Rattle.rb_locales.specs.Locale.{name, is_at};
-ghost use Rattle.rb_locales.specs.Narrow.{narrow};
+ghost use Rattle.rb_locales.specs.inner.Narrow.{narrow};
 
 use crate::fault::BadLocale;
 use crate::limits::NAME_LIMIT;

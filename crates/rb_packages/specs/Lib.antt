@@ -4,4 +4,4 @@ pub mod Shelf
 pub mod Packages
 pub mod Lent
 pub mod Index
-pub mod AppFields
+pub mod inner

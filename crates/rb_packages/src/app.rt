@@ -21,7 +21,7 @@ impl Model for App {
 
     ghost Value = { List ℕ };
 
-    ghost use Rattle.rb_packages.specs.AppFields.{IsAppFields, app_fields, app_fields-view};
+    ghost use Rattle.rb_packages.specs.inner.AppFields.{IsAppFields, app_fields, app_fields-view};
 
     ghost view = { λ n. take n.len n.bytes };
 

@@ -13,7 +13,7 @@ use Rattle.std.specs.Ordering.{is_eq}
 use Rattle.rb_tree.specs.Table.{keys_in}
 use Rattle.rb_tree.specs.declared.tree.Tree.{Tree}
 use Rattle.rb_grammar.specs.Reading.{is_among}
-use Rattle.rb_parser.specs.Seen.{Pair, Seen, keys_after, was_seen, SameKeys, IsAbove, Ascends, Sees}
+use Rattle.rb_parser.specs.inner.Seen.{Pair, Seen, keys_after, was_seen, SameKeys, IsAbove, Ascends, Sees}
 use Rattle.rb_parser.specs.declared.seen.SeenKeys.{SeenKeys}
 use Rattle.rb_parser.proofs.Rows.{key_cmp, same_keys_push}
 

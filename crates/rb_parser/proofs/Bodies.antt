@@ -25,13 +25,13 @@ use Rattle.rb_lexer.specs.declared.fault.SourceKind.TheVariants.{BadInt, BadHex}
 use Rattle.rb_grammar.specs.Tests.{the_tests}
 use Rattle.rb_grammar.proofs.Sound.{AllPassed, entries_take}
 use Rattle.rb_grammar.proofs.SoundBody.{body_takes}
-use Rattle.rb_parser.specs.Reads.{located, Reads, inner_at, made, leaf_at, AreEntries}
-use Rattle.rb_parser.specs.Views.{guessed, word_of}
+use Rattle.rb_parser.specs.inner.Reads.{located, Reads, inner_at, made, leaf_at, AreEntries}
+use Rattle.rb_parser.specs.inner.Views.{guessed, word_of}
 use Rattle.rb_parser.specs.declared.cursor.Guess as program
 use Rattle.rb_parser.specs.declared.cursor.Guess.TheVariants.{Text}
 use Rattle.rb_parser.specs.declared.word.Word.TheVariants as word
 use Rattle.rb_parser.specs.declared.word.Leaf as word_leaf
-use Rattle.rb_parser.specs.Seen.{Pair}
+use Rattle.rb_parser.specs.inner.Seen.{Pair}
 use Rattle.rb_parser.proofs.Steps.{located_bind, fault_is}
 
 -- the same end and the same reading

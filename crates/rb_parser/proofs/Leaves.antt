@@ -16,8 +16,8 @@ use Rattle.rb_grammar.specs.Reading.{Word, anything, stop, Read, ◌>>=◌, tail
 use Rattle.rb_grammar.specs.Reading.{numbers_step}
 use Rattle.rb_grammar.specs.Tests.{the_tests}
 use Rattle.rb_grammar.proofs.Conditions.{are_tests, means_passes, none_fails}
-use Rattle.rb_parser.specs.Reads.{located, Reads, leaf_at, IsLeafTree, AreNumbers}
-use Rattle.rb_parser.specs.Views.{word_of}
+use Rattle.rb_parser.specs.inner.Reads.{located, Reads, leaf_at, IsLeafTree, AreNumbers}
+use Rattle.rb_parser.specs.inner.Views.{word_of}
 use Rattle.rb_parser.specs.declared.word.Word.TheVariants as word
 use Rattle.rb_parser.specs.declared.word.Leaf.TheVariants as leaf
 use Rattle.rb_parser.proofs.Words.{is_string, is_alias, is_binary, is_int, is_ints}

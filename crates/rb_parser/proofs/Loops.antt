@@ -16,11 +16,11 @@ use Rattle.rb_grammar.specs.Form.{Body, Entries, Elements}
 use Rattle.rb_grammar.specs.Good.{EachSpells}
 use Rattle.rb_grammar.specs.Reading.{left, right, colon, begins, tail, first_text, is_among, Read, punctuation_at, after_comma, body, entries, elements}
 use Rattle.rb_grammar.specs.Tests.{the_tests}
-use Rattle.rb_parser.specs.Reads.{located, IsBodyTree, AreEntries}
+use Rattle.rb_parser.specs.inner.Reads.{located, IsBodyTree, AreEntries}
 use Rattle.rb_parser.specs.declared.cursor.Cursor.{Cursor}
 use Rattle.rb_parser.proofs.Bodies.{keys_more, keys_none}
 use Rattle.rb_parser.proofs.Rows as rows
-use Rattle.rb_parser.specs.Seen.{Pair, keys_after, Sees}
+use Rattle.rb_parser.specs.inner.Seen.{Pair, keys_after, Sees}
 use Rattle.rb_parser.specs.declared.seen.SeenKeys.{SeenKeys}
 use Rattle.rb_parser.proofs.Rows.{EntriesSoFar}
 use Rattle.rb_parser.proofs.Parts as parts

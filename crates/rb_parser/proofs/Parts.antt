@@ -13,7 +13,7 @@ use Rattle.rb_grammar.specs.Form.{Body, Elements, no_elements, one_text, one_bod
 use Rattle.rb_grammar.specs.Good.{EachSpells}
 use Rattle.rb_grammar.specs.Reading.{stop, Read, ◌>>=◌, left, right, colon, begins, tail, first_text, punctuation_at, has_comma, after_comma, elements_step}
 use Rattle.rb_grammar.specs.Reading.{elements}
-use Rattle.rb_parser.specs.Reads.{located, IsBodyTree}
+use Rattle.rb_parser.specs.inner.Reads.{located, IsBodyTree}
 use Rattle.rb_parser.proofs.Steps.{located_bind, stops_at}
 
 -- an element that was read, and whether a comma follows

@@ -16,8 +16,8 @@ use Rattle.rb_grammar.specs.Form.{Body, Entries, no_entries, entry}
 use Rattle.rb_grammar.specs.Reading.{stop, Read, ◌>>=◌, right, tail, first_text, punctuation_at, has_comma, after_comma, is_among, entries_step, entries}
 use Rattle.rb_grammar.specs.Tests.{the_tests}
 use Rattle.rb_grammar.proofs.Conditions.{are_tests}
-use Rattle.rb_parser.specs.Reads.{located, IsBodyTree, AreEntries}
-use Rattle.rb_parser.specs.Seen.{Pair, keys_after, Seen, was_seen, SameKeys}
+use Rattle.rb_parser.specs.inner.Reads.{located, IsBodyTree, AreEntries}
+use Rattle.rb_parser.specs.inner.Seen.{Pair, keys_after, Seen, was_seen, SameKeys}
 use Rattle.rb_parser.proofs.Steps.{located_bind, stops_at}
 
 -- an entry that was read: its key, its body, and whether a comma follows

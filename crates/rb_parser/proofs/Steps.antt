@@ -5,8 +5,8 @@ use Rattle.rb_lexer.specs.declared.fault.SourceKind.{SourceKind}
 use Rattle.rb_lexer.specs.declared.fault.SourceFault.{SourceFault}
 use Rattle.rb_grammar.specs.Reading.{Stop, stop, ◌>>=◌, tail, first_text, text_or, text_at, Word, first_word, all_words, word_at}
 use Rattle.rb_grammar.specs.Faults.{line_at}
-use Rattle.rb_parser.specs.Reads.{located}
-use Rattle.rb_parser.specs.Views.{word_of}
+use Rattle.rb_parser.specs.inner.Reads.{located}
+use Rattle.rb_parser.specs.inner.Views.{word_of}
 use Rattle.rb_parser.specs.declared.word.Word as program
 
 pub located_bind : {A B : Type 0} (end : ℕ) (r : Result A Stop) (f : A → Result B Stop) (e : SourceFault) → located end r ≡ Err e

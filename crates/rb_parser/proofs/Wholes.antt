@@ -26,8 +26,8 @@ use Rattle.rb_grammar.proofs.Trees.{tree_one}
 use Rattle.rb_grammar.proofs.Fault.{stop_is_fault}
 use Rattle.rb_grammar.proofs.Faultless.{good_faultless, good_or_faulty}
 use Rattle.rb_grammar.proofs.Meaning.{same_source, spelled_one, read_spelled, spelled_read}
-use Rattle.rb_parser.specs.Reads.{located, inner_at}
-use Rattle.rb_parser.specs.ReadsBundle.{ReadsBundle}
+use Rattle.rb_parser.specs.inner.Reads.{located, inner_at}
+use Rattle.rb_parser.specs.inner.ReadsBundle.{ReadsBundle}
 use Rattle.rb_parser.specs.Source.{source_tree, IsGoodSourceWithin, IsGoodSource, last_line, IsFault, IsRefusal}
 use Rattle.rb_parser.specs.declared.source.Source.{Source}
 use Rattle.rb_parser.proofs.Steps.{located_bind, stops_at}

@@ -1,7 +1,7 @@
 -- Which words of the reading function a type of the program has.
 use Rattle.std.proofs.Common.{◌≡◌, Bool, refl}
 use Rattle.rb_grammar.specs.Reading.{Word, string_type, alias_type, binary_type, int_type, ints_type, table_type, array_type}
-use Rattle.rb_parser.specs.Views.{word_of}
+use Rattle.rb_parser.specs.inner.Views.{word_of}
 use Rattle.rb_parser.specs.declared.word.Word.TheVariants as word
 use Rattle.rb_parser.specs.declared.word.Leaf.TheVariants as leaf
 

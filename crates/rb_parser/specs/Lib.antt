@@ -1,5 +1,2 @@
 pub mod Source
-pub mod Reads
-pub mod ReadsBundle
-pub mod Views
-pub mod Seen
+pub mod inner

@@ -5,8 +5,8 @@ ghost use Rattle.rb_grammar.specs.Faults.{line_at};
 ghost use Rattle.rb_lexer.specs.declared.fault.SourceKind.TheVariants.{TooDeep, Unexpected, Memory};
 ghost use Rattle.rb_grammar.specs.Reading.{left, colon, begins, is_punctuation, tail, first_text, is_no_fallback_text};
 ghost use Rattle.rb_grammar.specs.Reading.{punctuation_at, text_at, word_at, guess, guess_second};
-ghost use Rattle.rb_parser.specs.Reads.{located, Reads};
-ghost use Rattle.rb_parser.specs.Views.{punctuation_of, guessed, word_of};
+ghost use Rattle.rb_parser.specs.inner.Reads.{located, Reads};
+ghost use Rattle.rb_parser.specs.inner.Views.{punctuation_of, guessed, word_of};
 
 use crate::word::{Word, is_no_fallback_table, word_fault};
 use rb_lexer::{Mark, SourceFault, SourceKind, Token, Tokens};

@@ -6,8 +6,8 @@ ghost use Rattle.rb_grammar.specs.Numeral.{IsHexText, IsIntText};
 ghost use Rattle.rb_grammar.specs.Reading as reading;
 ghost use Rattle.rb_grammar.specs.Reading.{anything, maybe_at, checked_at, numbers};
 ghost use Rattle.rb_grammar.specs.Tests.{the_tests};
-ghost use Rattle.rb_parser.specs.Reads.{Reads, leaf_at, IsLeafTree, AreNumbers};
-ghost use Rattle.rb_parser.specs.Views.{word_of};
+ghost use Rattle.rb_parser.specs.inner.Reads.{Reads, leaf_at, IsLeafTree, AreNumbers};
+ghost use Rattle.rb_parser.specs.inner.Views.{word_of};
 ghost use Rattle.rb_parser.specs.declared.word.Word.TheVariants as word;
 
 use crate::cursor::{Cursor, Punctuation};

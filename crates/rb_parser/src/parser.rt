@@ -5,8 +5,8 @@ ghost use Rattle.rb_tree.specs.Table.{keys_in};
 ghost use Rattle.rb_grammar.specs.Reading as reading;
 ghost use Rattle.rb_grammar.specs.Reading.{body, typed_at, untyped_at, guess, table_at, array_at, entries, elements};
 ghost use Rattle.rb_grammar.specs.Tests.{the_tests};
-ghost use Rattle.rb_parser.specs.Reads.{Reads, inner_at, IsBodyTree, IsTableTree, IsArrayTree, AreEntries};
-ghost use Rattle.rb_parser.specs.Views.{word_of};
+ghost use Rattle.rb_parser.specs.inner.Reads.{Reads, inner_at, IsBodyTree, IsTableTree, IsArrayTree, AreEntries};
+ghost use Rattle.rb_parser.specs.inner.Views.{word_of};
 
 use crate::cursor::{Cursor, Guess, Punctuation};
 use crate::key::read_key;

@@ -2,7 +2,7 @@
 ghost use Rattle.std.specs.Prelude.{◌≡◌, ◌∷◌, ◌++◌, [], ◌<◌, ◌-◌, length, true, false, not, IfOk, OnOk, IsTrue};
 ghost use Rattle.rb_tree.specs.declared.tree.Tree.{Tree};
 ghost use Rattle.rb_grammar.specs.Reading.{is_among};
-ghost use Rattle.rb_parser.specs.Seen.{keys_after, Sees, IsAbove, SameKeys};
+ghost use Rattle.rb_parser.specs.inner.Seen.{keys_after, Sees, IsAbove, SameKeys};
 
 use rb_tree::{ByteList, Tree};
 use std::alloc::{AllocError, Global};

@@ -6,8 +6,8 @@ ghost use Rattle.rb_tree.specs.SourceTree.{SourceTree};
 ghost use Rattle.rb_tree.specs.View.{view_of};
 ghost use Rattle.rb_grammar.specs.Reading.{type_at, bundle};
 ghost use Rattle.rb_grammar.specs.Tests.{the_tests};
-ghost use Rattle.rb_parser.specs.Reads.{Reads, IsFlag};
-ghost use Rattle.rb_parser.specs.ReadsBundle.{ReadsBundle};
+ghost use Rattle.rb_parser.specs.inner.Reads.{Reads, IsFlag};
+ghost use Rattle.rb_parser.specs.inner.ReadsBundle.{ReadsBundle};
 ghost use Rattle.rb_parser.specs.Source.{source_tree, IsGoodSource, last_line, IsRefusal};
 
 use crate::cursor::{Cursor, Punctuation};

@@ -1,7 +1,7 @@
 // Type words.
 ghost use Rattle.std.specs.Prelude.{◌≡◌, option_map};
 ghost use Rattle.rb_grammar.specs.Reading.{first_word, all_words, is_no_fallback_word, word_fault};
-ghost use Rattle.rb_parser.specs.Views.{word_of};
+ghost use Rattle.rb_parser.specs.inner.Views.{word_of};
 
 use rb_lexer::SourceKind;
 

@@ -17,8 +17,8 @@ use Rattle.rb_printer.specs.Sign.{Sign, feed, left, right, comma, text, pieces, 
 use Rattle.rb_printer.specs.Page.{hex_first, hex_later, is_short, pause, room_after, wraps, number_fits, item_fits, item_room}
 use Rattle.rb_printer.specs.Page.{hex_units, indent, comma_if, are_more, has_items, has_entries, is_guessed, numbers_signs, type_unless, gap, item_signs}
 use Rattle.rb_printer.specs.Page.{head_signs, body_signs, items_signs, entries_signs, page}
-use Rattle.rb_printer.specs.Lexed.{EachUnits, Apart}
-use Rattle.rb_printer.specs.Formed.{numbers_form, array_form, table_form, item_form, body_form, items_form, entries_form, head_form}
+use Rattle.rb_printer.specs.inner.Lexed.{EachUnits, Apart}
+use Rattle.rb_printer.specs.inner.Formed.{numbers_form, array_form, table_form, item_form, body_form, items_form, entries_form, head_form}
 use Rattle.rb_printer.specs.Sound.{AreUnits, AreBytes, IsNumber, IsSound, AreSound, EachSound}
 use Rattle.rb_printer.proofs.Tests.{and_left, and_right}
 

@@ -19,7 +19,7 @@ use Rattle.rb_printer.proofs.Forming.{hex_joined}
 use Rattle.rb_printer.specs.Page.{hex_first, hex_later, is_short, pause, room_after, wraps, number_fits, text_width, item_fits, item_room}
 use Rattle.rb_printer.specs.Page.{hex_units, indent, comma_if, are_more, has_items, has_entries, is_guessed, numbers_signs, type_unless, gap, item_signs}
 use Rattle.rb_printer.specs.Page.{head_signs, body_signs, items_signs, entries_signs, page}
-use Rattle.rb_printer.specs.Least.{item_lead, least, items_least, entries_least}
+use Rattle.rb_printer.specs.inner.Least.{item_lead, least, items_least, entries_least}
 use Rattle.rb_printer.proofs.Tests.{and_left, and_right}
 use Rattle.rb_printer.proofs.Texts.{shown_high, low_not_high}
 

@@ -17,7 +17,7 @@ use Rattle.rb_tree.specs.declared.kind.Kind.TheVariants as Kinds
 use Rattle.rb_printer.specs.Sign.{text, is_shown, is_low, escape_chars, pair_chars, first_unit, unit_chars, units_chars, pieces, spaces, lines_chars, text_chars, sign_chars, signs_chars}
 use Rattle.rb_printer.specs.Page.{hex_first, hex_later, indent, pause, room_after, comma_if, are_more, number_fits, numbers_signs}
 use Rattle.rb_printer.specs.Sound.{AreUnits, AreBytes, IsNumber}
-use Rattle.rb_printer.specs.Growth.{Adds, Owes, break_chars, after_break}
+use Rattle.rb_printer.specs.inner.Growth.{Adds, Owes, break_chars, after_break}
 use Rattle.rb_printer.proofs.Growths.{adds_more, owes_all, owes_step, owes_end}
 use Rattle.rb_printer.proofs.Puts.{adds_as}
 use Rattle.rb_printer.proofs.Splits.{same, pause_splits, comma_splits}

@@ -11,7 +11,7 @@ use Rattle.rb_grammar.specs.Form.{Body, Entries, Elements, BeginArray, AreSome, 
 use Rattle.rb_grammar.specs.Good.{HasKeys, HaveKeys, EachHasKeys, item_at, HasJust, Spells, EachAtItsKey, EachSpells}
 use Rattle.rb_grammar.proofs.Rows.{same_or_not, here, skips, Ascend, AscendFrom, ascend_of, tail_absent}
 use Rattle.rb_printer.specs.Page.{has_items, has_entries}
-use Rattle.rb_printer.specs.Formed.{array_form, table_form, item_form, body_form, items_form, entries_form}
+use Rattle.rb_printer.specs.inner.Formed.{array_form, table_form, item_form, body_form, items_form, entries_form}
 use Rattle.rb_printer.specs.Sound.{IsSound, AreSound, EachSound}
 use Rattle.rb_printer.proofs.Forming.{KeysAre, keys_are}
 use Rattle.rb_printer.proofs.Numbers.{int_text, element_texts, hex_text}

@@ -3,7 +3,7 @@ use Rattle.std.proofs.Common.{◌≡◌, ℕ, suc, ◌≤◌, ◌<◌, Bool, tru
 use Rattle.rb_tree.specs.Resource.{Resource, string, int, ints, binary, alias, array, table, Members, height}
 use Rattle.rb_tree.specs.Parts.{kind_of}
 use Rattle.rb_tree.specs.declared.kind.Kind.TheVariants as Kinds
-use Rattle.rb_printer.specs.Growth.{Adds}
+use Rattle.rb_printer.specs.inner.Growth.{Adds}
 use Rattle.rb_printer.proofs.Growths.{adds_more}
 use Rattle.rb_printer.proofs.Puts.{adds_as}
 use Rattle.rb_printer.proofs.Splits.{same, front, head_splits, entries_split}
@@ -11,9 +11,9 @@ use Rattle.rb_printer.proofs.Least.{page_light}
 use Rattle.rb_grammar.specs.Form.{has_no_fallback}
 use Rattle.rb_printer.specs.Sign.{feed, left, right, text, is_name, sign_chars, signs_chars}
 use Rattle.rb_printer.specs.Page.{page, head_signs, entries_signs, members_of}
-use Rattle.rb_printer.specs.Formed.{entries_form, head_form}
+use Rattle.rb_printer.specs.inner.Formed.{entries_form, head_form}
 use Rattle.rb_printer.specs.Sound.{AreUnits, IsSound, IsBundleTree}
-use Rattle.rb_printer.specs.Lexed.{lexemes}
+use Rattle.rb_printer.specs.inner.Lexed.{lexemes}
 use Rattle.rb_printer.specs.Whole.{IsBundleText}
 use Rattle.rb_lexer.specs.Tokens.{tokens_of}
 use Rattle.rb_printer.proofs.Cutting.{cuts}

@@ -15,7 +15,7 @@ use Rattle.std.proofs.lemmas.Bool.{ltb-true}
 use Rattle.std.proofs.lemmas.Str.{encodes-IsAscii, encode_ascii}
 use Rattle.rb_lexer.specs.Lexeme.{quote, backslash}
 use Rattle.rb_printer.specs.Sign.{is_ascii, is_word, is_name, is_shown, is_cited, is_low, escape_chars, pair_chars, unit_chars, units_chars, text, text_chars, sign_chars}
-use Rattle.rb_printer.specs.Growth.{Adds}
+use Rattle.rb_printer.specs.inner.Growth.{Adds}
 use Rattle.rb_printer.proofs.Tests.{and_left, and_right}
 use Rattle.rb_printer.proofs.Growths.{adds_more}
 use Rattle.rb_printer.proofs.Words.{word_chars, name_word}

@@ -4,7 +4,7 @@ use Rattle.std.specs.Prelude.{slice_get, is_some}
 use Rattle.std.specs.Map.{keys_of, values_of}
 use Rattle.rb_tree.specs.Resource.{Resource, Resources, Members}
 use Rattle.rb_tree.specs.Keys.{items, pairs}
-use Rattle.rb_printer.specs.Least.{item_lead, least, items_least, entries_least, Takes}
+use Rattle.rb_printer.specs.inner.Least.{item_lead, least, items_least, entries_least, Takes}
 use Rattle.rb_printer.proofs.Trees.{drop_trees, drop_members, tree_there, entry_there, trees_out, members_out}
 
 pub items_next : (level : ℕ) (ts : Resources) (i : ℕ) (u : Resource) → Some u ≡ slice_get (items ts) i

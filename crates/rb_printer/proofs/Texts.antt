@@ -14,7 +14,7 @@ use Rattle.rb_lexer.specs.Lexeme.{is_white, is_punctuation, begins_comment, quot
 use Rattle.rb_lexer.specs.Lexeme.{parts_units, units_of, IsRun, IsEscape, IsQuotedPart, IsUnquotedPart, AreParts, FirstStays, LastStays}
 use Rattle.rb_lexer.specs.Tokens.{is_empty}
 use Rattle.rb_printer.specs.Sign.{is_word_unit, is_shown, is_cited, is_control, is_surrogate, is_mark, is_low, four_digits, escape_chars, pair_chars, first_unit, unit_chars, units_chars}
-use Rattle.rb_printer.specs.Lexed.{escape_of, pair_parts, unit_parts, units_parts}
+use Rattle.rb_printer.specs.inner.Lexed.{escape_of, pair_parts, unit_parts, units_parts}
 use Rattle.rb_printer.proofs.Tests.{and_left, and_right, or_cases, or_left, or_right, not_true}
 
 -- ---- units of a word

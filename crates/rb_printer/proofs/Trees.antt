@@ -14,7 +14,7 @@ use Rattle.rb_printer.specs.Page.{hex_first, hex_later, is_short, pause, wraps, 
 use Rattle.rb_printer.specs.Page.{indent, has_items, has_entries, is_guessed, numbers_signs, type_unless, gap, item_signs}
 use Rattle.rb_printer.specs.Page.{body_signs, items_signs, entries_signs, items_of, members_of}
 use Rattle.rb_printer.specs.Sound.{AreUnits, IsSound, AreSound, EachSound, IsWell, AreWell, EachWell}
-use Rattle.rb_printer.specs.Growth.{Adds, Owes}
+use Rattle.rb_printer.specs.inner.Growth.{Adds, Owes}
 use Rattle.rb_printer.proofs.Growths.{adds_more, owes_all, owes_step, owes_end}
 use Rattle.rb_printer.proofs.Puts.{adds_as}
 use Rattle.rb_printer.proofs.Words.{decimal_word}

@@ -1,9 +1,6 @@
 pub mod Sign
 pub mod Page
-pub mod Lexed
-pub mod Formed
 pub mod Sound
-pub mod Growth
-pub mod Least
 pub mod Whole
 pub mod Words
+pub mod inner

@@ -5,7 +5,7 @@ ghost use Rattle.rb_printer.specs.Sign.{signs_chars, left, feed};
 ghost use Rattle.rb_format.specs.File.{source_tree_of};
 ghost use Rattle.rb_printer.specs.Page.{page, head_signs, members_of, page_bytes};
 ghost use Rattle.rb_printer.specs.Sound.{IsSound, IsBundleTree};
-ghost use Rattle.rb_printer.specs.Growth.{Adds};
+ghost use Rattle.rb_printer.specs.inner.Growth.{Adds};
 ghost use Rattle.rb_printer.specs.Whole.{IsBundleText};
 ghost use Rattle.rb_printer.specs.declared.error.PrintError.TheVariants as errors;
 

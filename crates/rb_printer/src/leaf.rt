@@ -8,7 +8,7 @@ ghost use Rattle.rb_tree.specs.declared.kind.Kind.TheVariants as Kinds;
 ghost use Rattle.rb_printer.specs.Sign.{first_unit, unit_chars, pieces, sign_chars, signs_chars, text_chars, text, right};
 ghost use Rattle.rb_printer.specs.Page.{hex_first, hex_later, numbers_signs, comma_if};
 ghost use Rattle.rb_printer.specs.Sound.{AreUnits, AreBytes, IsNumber};
-ghost use Rattle.rb_printer.specs.Growth.{Adds, after_break, break_chars};
+ghost use Rattle.rb_printer.specs.inner.Growth.{Adds, after_break, break_chars};
 
 use crate::line::{number_fits, put_indent, put_pause, room_after};
 use crate::text::{digit_char, is_high, put, put_other, put_str, shown};

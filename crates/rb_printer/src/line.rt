@@ -6,7 +6,7 @@ ghost use Rattle.rb_printer.specs.Sign.{first_unit, signs_chars, unit_chars};
 ghost use Rattle.rb_printer.specs.Page as page;
 ghost use Rattle.rb_printer.specs.Sign as Signs;
 ghost use Rattle.rb_printer.specs.Page.{indent, pause};
-ghost use Rattle.rb_printer.specs.Growth.{Adds};
+ghost use Rattle.rb_printer.specs.inner.Growth.{Adds};
 
 use crate::leaf::next_of;
 use crate::text::{is_cited, is_high, is_low, is_shown, paired, put, put_str};

@@ -4,8 +4,8 @@ ghost use Rattle.rb_tree.specs.Parts.{kind_of, len_of};
 ghost use Rattle.rb_tree.specs.Resource.{height};
 ghost use Rattle.rb_tree.specs.declared.kind.Kind.TheVariants as Kinds;
 ghost use Rattle.rb_printer.specs.Page.{items_of, members_of};
-ghost use Rattle.rb_printer.specs.Least as leasts;
-ghost use Rattle.rb_printer.specs.Least.{least, items_least, entries_least, Takes};
+ghost use Rattle.rb_printer.specs.inner.Least as leasts;
+ghost use Rattle.rb_printer.specs.inner.Least.{least, items_least, entries_least, Takes};
 
 use crate::line::DEEPEST;
 use rb_tree::{Kind, Node};

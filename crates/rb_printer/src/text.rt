@@ -5,7 +5,7 @@ ghost use Rattle.std.specs.Char.Utf16.{is_high_surrogate, is_low_surrogate};
 ghost use Rattle.std.specs.List.{list_all};
 ghost use Rattle.rb_printer.specs.Sign as sign;
 ghost use Rattle.rb_printer.specs.Sign.{text, escape_chars, first_unit, pair_chars, unit_chars, units_chars, sign_chars, is_ascii};
-ghost use Rattle.rb_printer.specs.Growth.{Adds};
+ghost use Rattle.rb_printer.specs.inner.Growth.{Adds};
 
 use std::alloc::AllocError;
 

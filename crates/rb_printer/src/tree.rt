@@ -8,7 +8,7 @@ ghost use Rattle.rb_printer.specs.Sign.{signs_chars, left, right, feed};
 ghost use Rattle.rb_printer.specs.Page as page;
 ghost use Rattle.rb_printer.specs.Page.{indent, gap, type_unless, item_signs, body_signs, entries_signs, members_of};
 ghost use Rattle.rb_printer.specs.Sound.{IsSound, IsWell};
-ghost use Rattle.rb_printer.specs.Growth.{Adds};
+ghost use Rattle.rb_printer.specs.inner.Growth.{Adds};
 
 use crate::leaf::{put_bytes_of, put_int, put_numbers_of, put_units_of};
 use crate::line::{is_short, place_of, put_indent, put_pause, wraps};

@@ -10,7 +10,7 @@ use Rattle.serde_json.specs.Data.{Data, Members, array, number, put}
 use Rattle.serde_json.specs.Find.{of_integer}
 use Rattle.serde_json.specs.View.{items_of}
 use Rattle.serde_json.specs.Written.{number_text}
-use Rattle.rb_replies.specs.Put.{Puts, data_tokens, rest_tokens, valid_tokens, with_valid}
+use Rattle.rb_replies.specs.inner.Put.{Puts, data_tokens, rest_tokens, valid_tokens, with_valid}
 use Rattle.rb_replies.specs.Item.{of_type, texts_data}
 
 abbrev pub each : List Data → List Token

@@ -6,7 +6,7 @@ use Rattle.json.specs.Written.{Written}
 use Rattle.serde_json.specs.Data.{Data}
 use Rattle.serde_json.specs.Written.{compact_text}
 use Rattle.serde_json.proofs.Texts.{print-outline}
-use Rattle.rb_replies.specs.Put.{data_tokens}
+use Rattle.rb_replies.specs.inner.Put.{data_tokens}
 
 pub text_told : (d : Data) (old new : Written) → old.before ≡ [] → old.tokens ≡ [] → new.tokens ≡ old.tokens ++ data_tokens d
     → new.before ≡ old.before → new.before ++ print new.tokens ≡ compact_text d

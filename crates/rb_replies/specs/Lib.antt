@@ -1,3 +1,3 @@
 pub mod Item
 pub mod Replied
-pub mod Put
+pub mod inner

@@ -10,7 +10,7 @@ ghost use Rattle.rb_tree.specs.Parts.{HasUnits, bytes_of, kind_of, numbers_of, p
 ghost use Rattle.rb_tree.specs.Resource.{binary, int, ints};
 ghost use Rattle.rb_tree.specs.declared.kind.Kind.TheVariants as Kinds;
 ghost use Rattle.rb_replies.specs.Item.{text_data, units_data, numbers_data, texts_data, signed_of, of_type, with_text, item_members, item_data, found_data};
-ghost use Rattle.rb_replies.specs.Put.{Puts, PutsMembers, data_tokens, valid_tokens};
+ghost use Rattle.rb_replies.specs.inner.Put.{Puts, PutsMembers, data_tokens, valid_tokens};
 
 use json::Writer;
 use rb_fallback::Found;

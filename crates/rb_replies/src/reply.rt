@@ -2,7 +2,7 @@
 ghost use Rattle.std.specs.Prelude.{◌≡◌, [], ◌∷◌, ◌++◌, codes};
 ghost use Rattle.json.specs.Token.{key};
 ghost use Rattle.rb_replies.specs.Item.{texts_data};
-ghost use Rattle.rb_replies.specs.Put.{Puts, data_tokens};
+ghost use Rattle.rb_replies.specs.inner.Put.{Puts, data_tokens};
 ghost use Rattle.rb_replies.specs.Replied.{error as error_data, reply_data, response_data};
 ghost use Rattle.rb_engine.specs.declared.request.Reply.TheVariants as replies;
 ghost use Rattle.rb_engine.specs.LookResponse.{look_response};

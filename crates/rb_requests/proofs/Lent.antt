@@ -11,7 +11,7 @@ use Rattle.rb_members.specs.declared.member.Member.{Member}
 use Rattle.rb_members.specs.declared.member.Member.TheVariants as members
 use Rattle.rb_members.specs.declared.texts.Texts.{Texts}
 use Rattle.rb_requests.specs.Asked.{decoded, call_in, call_of, data_of}
-use Rattle.rb_requests.specs.Line.{AreTextsOf, lent, text_in, payload_by}
+use Rattle.rb_requests.specs.inner.Line.{AreTextsOf, lent, text_in, payload_by}
 
 text_of_member : (m : Member) (d : Data) → IsMember m d → as_str d ≡ text_in m
 text_of_member (members.Text s) d e = ap as_str e

@@ -4,7 +4,7 @@ use Rattle.std.proofs.Common.{◌∙◌, ap, subst, arith, append-nil, append_as
 use Rattle.std.specs.Io.KnownBytes.{Consumes, Keeps, IsAtEnd}
 use Rattle.std.proofs.KnownBytes.{Consumes-nil, Consumes-trans, Consumes-kept, Consumes-all}
 use Rattle.std.proofs.lemmas.Bool.Decides.{nat_tests}
-use Rattle.rb_requests.specs.Taken.{ReadsPlain, ReadsPart, ReadsFewer, ReadsLong, ReadsEnded, ReadsLast, ReadsEnd}
+use Rattle.rb_requests.specs.inner.Taken.{ReadsPlain, ReadsPart, ReadsFewer, ReadsLong, ReadsEnded, ReadsLast, ReadsEnd}
 use Rattle.rb_requests.specs.Lines.{onto_first, lines_of, feeds}
 use Rattle.rb_requests.specs.Served.{IsShort}
 use Rattle.rb_requests.specs.Runs.{Moves}

@@ -10,12 +10,12 @@ use Rattle.std.proofs.KnownBytes.{Appends-nil, Appends-trans, Appends-kept}
 use Rattle.rb_requests.specs.Asked.{call_of}
 use Rattle.rb_engine.specs.History.{State}
 use Rattle.rb_requests.specs.Lines.{LineReply, RepliesByLine, lines_of, feeds}
-use Rattle.rb_requests.specs.MayTakeEffect.{AskedMayTakeEffect}
+use Rattle.rb_requests.specs.inner.MayTakeEffect.{AskedMayTakeEffect}
 use Rattle.rb_requests.specs.Device.{risen, risen_by}
 use Rattle.rb_requests.specs.Served.{Moment, at, where_known, IsShort, Answers, AnswersWithin, FirstAnswered, IsNext, TakesEffect, After, AfterRead}
 use Rattle.rb_requests.specs.Served.{AfterLong, AfterLimit, AfterMemory, AfterFaultWithin}
-use Rattle.rb_requests.specs.OneLine.{Wrote, WrotePart, FailsLine}
-use Rattle.rb_requests.specs.Taken.{ReadsPart, ReadsFewer, ReadsLong, ReadsEnded, ReadsLast, ReadsEnd, EndsAfter}
+use Rattle.rb_requests.specs.inner.OneLine.{Wrote, WrotePart, FailsLine}
+use Rattle.rb_requests.specs.inner.Taken.{ReadsPart, ReadsFewer, ReadsLong, ReadsEnded, ReadsLast, ReadsEnd, EndsAfter}
 use Rattle.rb_requests.specs.declared.lines.Served.{Served}
 use Rattle.rb_requests.specs.declared.lines.ServeFault.{ServeFault}
 use Rattle.rb_requests.specs.declared.lines.ServeFault.TheVariants.{Read, Write, LineLimit, LineTooLong, Memory}

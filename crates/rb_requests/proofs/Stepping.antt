@@ -10,10 +10,10 @@ use Rattle.rb_engine.specs.History.{State, Step, Answered, is_memory}
 use Rattle.serde_json.specs.Data.{Data}
 use Rattle.rb_members.specs.declared.texts.Texts.{Texts}
 use Rattle.rb_requests.specs.Asked.{call_in}
-use Rattle.rb_requests.specs.Line.{line_view, AreTextsOf}
+use Rattle.rb_requests.specs.inner.Line.{line_view, AreTextsOf}
 use Rattle.rb_requests.specs.declared.ask.Line.{Line}
 use Rattle.rb_requests.specs.Lines.{AnswersAsked}
-use Rattle.rb_requests.specs.MayTakeEffect.{CallReply, AskedReply, CallMayTakeEffect, AskedMayTakeEffect}
+use Rattle.rb_requests.specs.inner.MayTakeEffect.{CallReply, AskedReply, CallMayTakeEffect, AskedMayTakeEffect}
 use Rattle.rb_engine.specs.declared.request.Request.{Request}
 
 funext : {A : Type 0} {B : Type 0} → (f g : A → B) → ((x : A) → f x ≡ g x) → f ≡ g

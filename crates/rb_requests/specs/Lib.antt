@@ -1,11 +1,8 @@
 pub mod Words
 pub mod Asked
 pub mod Lines
-pub mod MayTakeEffect
 pub mod Served
-pub mod OneLine
 pub mod Device
 pub mod Runs
-pub mod Line
-pub mod Taken
 pub mod Isolation
+pub mod inner

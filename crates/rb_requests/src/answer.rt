@@ -6,9 +6,9 @@ ghost use Rattle.rb_engine.specs.Ask.{Requests, LooksUp};
 ghost use Rattle.rb_engine.specs.History.{is_memory_reply};
 ghost use Rattle.rb_replies.specs.Replied.{reply_line};
 ghost use Rattle.rb_requests.specs.Asked.{call_of, call_in};
-ghost use Rattle.rb_requests.specs.Line.{AreTextsOf};
+ghost use Rattle.rb_requests.specs.inner.Line.{AreTextsOf};
 ghost use Rattle.rb_requests.specs.Lines.{LineReply};
-ghost use Rattle.rb_requests.specs.MayTakeEffect.{CallReply, AskedReply, CallMayTakeEffect, AskedMayTakeEffect};
+ghost use Rattle.rb_requests.specs.inner.MayTakeEffect.{CallReply, AskedReply, CallMayTakeEffect, AskedMayTakeEffect};
 
 use crate::ask::{Line, lent_texts, line_of};
 use json::Scratch;

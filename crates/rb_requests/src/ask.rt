@@ -6,7 +6,7 @@ ghost use Rattle.std.specs.Prelude.{◌≡◌, IfOk, IsTrue, option_map, None, f
 ghost use Rattle.serde_json.specs.Data.{Data};
 ghost use Rattle.hex.specs.Hex.{decode_of};
 ghost use Rattle.rb_requests.specs.Asked.{call_of, call_in, decoded, change_in, remove_in, list_in, look_in};
-ghost use Rattle.rb_requests.specs.Line.{line_view, made, payload_by, AreTextsOf};
+ghost use Rattle.rb_requests.specs.inner.Line.{line_view, made, payload_by, AreTextsOf};
 
 use bstr::ByteSlice;
 use hex::FromHexError;

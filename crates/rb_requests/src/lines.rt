@@ -3,10 +3,10 @@ ghost use Rattle.std.specs.Prelude.{◌≡◌, ◌<◌, ◌≤◌, Ok, IfOk, IfE
 ghost use Rattle.std.specs.Io.KnownBytes.{Appends, IsAtEnd, Keeps};
 ghost use Rattle.rb_engine.specs.Kept.{state_of};
 ghost use Rattle.rb_requests.specs.Lines.{LineReply};
-ghost use Rattle.rb_requests.specs.Taken.{ReadsLine, ReadsPlain, EndsAfter};
+ghost use Rattle.rb_requests.specs.inner.Taken.{ReadsLine, ReadsPlain, EndsAfter};
 ghost use Rattle.rb_requests.specs.Device.{risen_by, counted, settles};
 ghost use Rattle.rb_requests.specs.Served.{AnswersAll, AnswersWithin, AfterFault, AfterFaultWithin, IsShort, at, reads_failed, writes_failed};
-ghost use Rattle.rb_requests.specs.OneLine.{Wrote, WrotePart, FailsLine, line_settled};
+ghost use Rattle.rb_requests.specs.inner.OneLine.{Wrote, WrotePart, FailsLine, line_settled};
 ghost use Rattle.rb_requests.specs.Words.{serve_word};
 
 #[cfg(test)]

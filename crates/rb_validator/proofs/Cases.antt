@@ -13,7 +13,7 @@ use Rattle.rb_format.specs.Place.{word_at, half_at, layout_of}
 use Rattle.rb_format.specs.Item.{kind_of, is_table}
 use Rattle.rb_format.specs.File.{has_valid_indexes, has_magic, has_family, has_version, has_sizes, flagged, tree_of, source_tree_of, Denotes}
 use Rattle.rb_format.specs.Attributes.{attributes_of, no_fallback, has_pool}
-use Rattle.rb_format.specs.FirstFault.{result_map, read, bytes, header, read_data, read_file}
+use Rattle.rb_format.specs.inner.FirstFault.{result_map, read, bytes, header, read_data, read_file}
 use Rattle.rb_format.proofs.Root.{read_denotes}
 use Rattle.rb_format.proofs.Steps.{bind_ok, ok_is, guard, guard_else}
 

@@ -7,7 +7,7 @@ use Rattle.rb_format.specs.declared.kind.ItemKind.{ItemKind}
 use Rattle.rb_format.specs.declared.kind.ItemKind.TheVariants.{String, Binary, Table, Alias, LongTable, Int, Array, Ints}
 use Rattle.rb_format.specs.declared.layout.Layout.{Layout}
 use Rattle.rb_format.specs.Item.{offset_of}
-use Rattle.rb_validator.specs.Marks.{slot, cell, mark_at, IsKnown, IsDone, Keeps, Follows, Leads}
+use Rattle.rb_validator.specs.inner.Marks.{slot, cell, mark_at, IsKnown, IsDone, Keeps, Follows, Leads}
 use Rattle.rb_format.specs.Geometry.{has_children}
 use Rattle.rb_validator.specs.Visits.{kind_at, IsPlace}
 

@@ -9,7 +9,7 @@ use Rattle.std.proofs.lemmas.Bool.Decides.{nat_tests}
 use Rattle.std.proofs.lemmas.List.{length-take, length-drop}
 use Rattle.rb_format.specs.declared.layout.Layout.{Layout}
 use Rattle.rb_format.specs.Place.{key, key_ok, key_before, key_front}
-use Rattle.rb_validator.specs.Compared.{examined}
+use Rattle.rb_validator.specs.inner.Compared.{examined}
 use Rattle.rb_validator.proofs.Ranking.{then_same, cmp_same}
 
 -- ---- a key is no longer than the data

@@ -6,7 +6,7 @@ use Rattle.rb_format.specs.declared.kind.ItemKind.TheVariants.{String, Binary, T
 use Rattle.rb_format.specs.declared.layout.Layout.{Layout}
 use Rattle.rb_format.specs.Place.{word_at}
 use Rattle.rb_format.specs.Item.{offset_of}
-use Rattle.rb_validator.specs.Marks.{cell, mark_at, marked, IsKnown, Keeps}
+use Rattle.rb_validator.specs.inner.Marks.{cell, mark_at, marked, IsKnown, Keeps}
 use Rattle.rb_format.specs.Geometry.{has_children, child_count}
 use Rattle.rb_validator.specs.Visits.{kind_at, IsChild, IsWay, IsPlace, IsPlaceAt, IsCount}
 use Rattle.rb_validator.proofs.Cells.{cell_at, kind_inner}

@@ -11,14 +11,14 @@ use Rattle.rb_format.specs.declared.kind.ItemKind.TheVariants.{String, Binary, T
 use Rattle.rb_format.specs.declared.layout.Layout.{Layout}
 use Rattle.rb_format.specs.Place.{word_at}
 use Rattle.rb_format.specs.Item.{kind_of, offset_of, bare}
-use Rattle.rb_format.specs.FirstFault.{◌>>=◌, result_map, limited, within, value, read, contents, trees}
+use Rattle.rb_format.specs.inner.FirstFault.{◌>>=◌, result_map, limited, within, value, read, contents, trees}
 use Rattle.rb_format.proofs.Steps.{ok_is}
 use Rattle.std.specs.Ordering.{ord_max, nat_cmp}
 use Rattle.rb_format.proofs.Levels.{read_height}
 use Rattle.rb_format.proofs.Faults.{value_there, read_kind}
 use Rattle.rb_validator.specs.declared.children.Children.{Children}
 use Rattle.rb_validator.specs.declared.memo.Mark.TheVariants.{New, Open, Done}
-use Rattle.rb_validator.specs.Marks.{cell, mark_of, mark_at, children_at, IsKnown, IsDone, Keeps, IsMet, After}
+use Rattle.rb_validator.specs.inner.Marks.{cell, mark_of, mark_at, children_at, IsKnown, IsDone, Keeps, IsMet, After}
 use Rattle.rb_format.specs.Geometry.{has_children, first_child}
 use Rattle.rb_validator.proofs.Cells.{follows_entry, keeps_set, known_set}
 use Rattle.rb_validator.proofs.Shapes.{children_ok, children_there, height_ok}

@@ -3,7 +3,7 @@ use Rattle.std.proofs.Common.{◌≡◌, ◌≢◌, ℕ, zero, suc, ◌<◌, ◌
 use Rattle.std.proofs.Common.{subst, inl, inr, get_or-set_other, get_or-set_same}
 use Rattle.std.proofs.Math.Nat.{eq-or-lt_of_le}
 use Rattle.std.proofs.lemmas.Bool.Decides.{nat_tests}
-use Rattle.rb_validator.specs.Marks.{marked}
+use Rattle.rb_validator.specs.inner.Marks.{marked}
 
 pub marked_le : (cells : List ℕ) (n : ℕ) → marked cells n ≤ n
 marked_le cells zero = omega arith

@@ -9,9 +9,9 @@ use Rattle.std.proofs.Math.Seq.{drop-cons}
 use Rattle.rb_tree.specs.Path.{is_plain}
 use Rattle.rb_format.specs.declared.layout.Layout.{Layout}
 use Rattle.rb_format.specs.Place.{key}
-use Rattle.rb_validator.specs.KnownKeys.{key_run}
-use Rattle.rb_validator.specs.Ranks.{rank_at}
-use Rattle.rb_validator.specs.Lengths.{AreCounted}
+use Rattle.rb_validator.specs.inner.KnownKeys.{key_run}
+use Rattle.rb_validator.specs.inner.Ranks.{rank_at}
+use Rattle.rb_validator.specs.inner.Lengths.{AreCounted}
 use Rattle.rb_validator.proofs.Ranking.{front, cons_to, nonempty, run_long, placed}
 
 abbrev pub IsLong : List ℕ → ℕ → Option (List ℕ) → Type 0

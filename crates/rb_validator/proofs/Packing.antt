@@ -6,8 +6,8 @@ use Rattle.std.proofs.lemmas.Bool.{cases_eq, cases_lt, eq-eqb, ne_eqb}
 use Rattle.std.proofs.lemmas.List.{ext_get_or, get_or_default, length-set, length-replicate}
 use Rattle.std.proofs.lemmas.List.FromFn.{get_or-map-range_with_len, length-map-range_with_len}
 use Rattle.rb_format.specs.declared.kind.ItemKind.{ItemKind}
-use Rattle.rb_validator.specs.Marks.{slot, cell}
-use Rattle.rb_validator.specs.Packed.{other, mark_in, cells_of, IsPacked}
+use Rattle.rb_validator.specs.inner.Marks.{slot, cell}
+use Rattle.rb_validator.specs.inner.Packed.{other, mark_in, cells_of, IsPacked}
 use Rattle.rb_validator.proofs.Cells.{slot_low}
 use Rattle.rb_validator.proofs.Marked.{all_zero}
 

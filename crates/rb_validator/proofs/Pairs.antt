@@ -10,10 +10,10 @@ use Rattle.rb_format.specs.declared.fault.FileFault.TheVariants.{Key, KeyOrder}
 use Rattle.rb_format.specs.declared.layout.Layout.{Layout}
 use Rattle.rb_format.specs.Place.{key}
 use Rattle.rb_validator.specs.declared.known_keys.KnownKeys.{KnownKeys}
-use Rattle.rb_format.specs.FirstFault.{◌>>=◌, fault_of, key_or_fault, next_key, keys}
+use Rattle.rb_format.specs.inner.FirstFault.{◌>>=◌, fault_of, key_or_fault, next_key, keys}
 use Rattle.rb_format.proofs.Faults.{keys_on, keys_stop, keys_end}
-use Rattle.rb_validator.specs.KnownKeys.{key_run, key_or_none, previous_key, last_key, IsGood, AreGood, IsPair, IsLinked, IsRedirected, IsSound}
-use Rattle.rb_validator.specs.Ranks.{IsRanked, rank_at, previous_rank}
+use Rattle.rb_validator.specs.inner.KnownKeys.{key_run, key_or_none, previous_key, last_key, IsGood, AreGood, IsPair, IsLinked, IsRedirected, IsSound}
+use Rattle.rb_validator.specs.inner.Ranks.{IsRanked, rank_at, previous_rank}
 use Rattle.rb_validator.proofs.Ranking.{read_all, ranked_nodes, ranked_climbs, rank_none, rank_some, rank_order, placed}
 
 -- ---- a count that was raised

@@ -10,12 +10,12 @@ use Rattle.rb_format.specs.declared.kind.ItemKind.{ItemKind}
 use Rattle.rb_format.specs.declared.kind.ItemKind.TheVariants.{String, Binary, Table, Alias, LongTable, Int, Array, Ints}
 use Rattle.rb_format.specs.declared.layout.Layout.{Layout}
 use Rattle.rb_format.specs.Place.{word_at}
-use Rattle.rb_format.specs.FirstFault.{◌>>=◌, fault_of, units, bytes, numbers, result_map, trees, members, keys, contents, array_at, table_of, table16_at}
-use Rattle.rb_format.specs.FirstFault.{table32_at}
+use Rattle.rb_format.specs.inner.FirstFault.{◌>>=◌, fault_of, units, bytes, numbers, result_map, trees, members, keys, contents, array_at, table_of, table16_at}
+use Rattle.rb_format.specs.inner.FirstFault.{table32_at}
 use Rattle.rb_format.proofs.Steps.{bind_ok, ok_is, guard}
 use Rattle.rb_format.proofs.Faults.{keys_count}
 use Rattle.rb_validator.specs.declared.children.Children.{Children}
-use Rattle.rb_validator.specs.Marks.{children_at, table_children}
+use Rattle.rb_validator.specs.inner.Marks.{children_at, table_children}
 use Rattle.rb_format.specs.Geometry.{has_children, child_count, first_child}
 
 -- the children's heights alone

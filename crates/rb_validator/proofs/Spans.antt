@@ -10,11 +10,11 @@ use Rattle.rb_format.specs.declared.fault.FileFault.{FileFault}
 use Rattle.rb_format.specs.declared.fault.FileFault.TheVariants.{TooDeep}
 use Rattle.rb_format.specs.declared.layout.Layout.{Layout}
 use Rattle.rb_format.specs.Place.{word_at}
-use Rattle.rb_format.specs.FirstFault.{◌>>=◌, result_map, limited, read, trees}
+use Rattle.rb_format.specs.inner.FirstFault.{◌>>=◌, result_map, limited, read, trees}
 use Rattle.rb_format.proofs.Steps.{bind_ok, ok_is}
 use Rattle.rb_format.proofs.Levels.{read-limited, trees-limited}
 use Rattle.rb_validator.specs.declared.runs.Run.{Run}
-use Rattle.rb_validator.specs.Marks.{IsKnown, Leads, run_of, IsRunKnown, IsRun, IsRunOf, AreRuns}
+use Rattle.rb_validator.specs.inner.Marks.{IsKnown, Leads, run_of, IsRunKnown, IsRun, IsRunOf, AreRuns}
 use Rattle.rb_validator.proofs.Cells.{known_set}
 use Rattle.rb_validator.proofs.Ways.{leads_map}
 use Rattle.rb_validator.proofs.Entering.{above, items_none}

@@ -9,12 +9,12 @@ use Rattle.rb_format.specs.declared.kind.ItemKind.{ItemKind}
 use Rattle.rb_format.specs.declared.layout.Layout.{Layout}
 use Rattle.rb_format.specs.Place.{word_at}
 use Rattle.rb_format.specs.Item.{kind_of, offset_of}
-use Rattle.rb_format.specs.FirstFault.{◌>>=◌, result_map, limited, kind_or_fault, within, value, node, read, contents, trees}
+use Rattle.rb_format.specs.inner.FirstFault.{◌>>=◌, result_map, limited, kind_or_fault, within, value, node, read, contents, trees}
 use Rattle.rb_format.proofs.Steps.{then_ok}
 use Rattle.rb_format.proofs.Faults.{value_there}
 use Rattle.rb_format.proofs.Levels.{read-limited}
 use Rattle.rb_validator.specs.declared.children.Children.{Children}
-use Rattle.rb_validator.specs.Marks.{cell, mark_at, children_at, IsDone, Leads, IsMet}
+use Rattle.rb_validator.specs.inner.Marks.{cell, mark_at, children_at, IsDone, Leads, IsMet}
 use Rattle.rb_format.specs.Geometry.{has_children, child_count, first_child}
 use Rattle.rb_validator.specs.Visits.{IsPlace}
 use Rattle.rb_validator.proofs.Cells.{cell_is}

@@ -20,7 +20,7 @@ pub struct Bundle {
 
 impl Model for Bundle {
     ghost use Rattle.std.specs.Prelude.{List, ℕ};
-    ghost use Rattle.rb_validator.specs.Accepted.{IsAccepted};
+    ghost use Rattle.rb_validator.specs.inner.Accepted.{IsAccepted};
 
     ghost Value = { List ℕ };
 

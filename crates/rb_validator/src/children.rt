@@ -1,8 +1,8 @@
 // The items of a table or an array, after the checks of its length and its keys.
 ghost use Rattle.std.specs.Prelude.{◌≡◌, ◌⊎◌, ◌+◌, ◌*◌, ◌≤◌, ◌<◌, ◌^◌, length, true, Err};
-ghost use Rattle.rb_validator.specs.KnownKeys.{IsSound};
-ghost use Rattle.rb_validator.specs.Marks as marks;
-ghost use Rattle.rb_validator.specs.Marks.{children_with};
+ghost use Rattle.rb_validator.specs.inner.KnownKeys.{IsSound};
+ghost use Rattle.rb_validator.specs.inner.Marks as marks;
+ghost use Rattle.rb_validator.specs.inner.Marks.{children_with};
 ghost use Rattle.rb_format.specs.Geometry.{keys_end};
 ghost use Rattle.rb_format.specs.Geometry as geometry;
 

@@ -1,6 +1,6 @@
 // The checks of a whole file.
 ghost use Rattle.std.specs.Prelude.{◌≡◌, ◌⊎◌, ◌+◌, ◌*◌, ◌≤◌, None, Some, length, IfOk, MatchResult};
-ghost use Rattle.rb_format.specs.FirstFault.{fault_of, read_data, read_file};
+ghost use Rattle.rb_format.specs.inner.FirstFault.{fault_of, read_data, read_file};
 ghost use Rattle.rb_format.specs.Place as fields;
 ghost use Rattle.rb_validator.specs.Visits.{IsPlaceAt, IsCount, HasVisits};
 

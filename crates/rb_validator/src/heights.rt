@@ -3,8 +3,8 @@
 // written when one of them is set: no file whose tables and arrays do not overlap gets there, and memory that is not written costs little.
 ghost use Rattle.std.specs.Prelude.{◌≡◌, ◌≢◌, ◌⊎◌, true, false, ℕ, ◌*◌, ◌/◌, ◌<◌, ◌≤◌, ◌==◌, if◌then◌else◌};
 ghost use Rattle.std.specs.Prelude.{length, replicate, slice_index, slice_set, vec_len, vec_capacity, IfOk};
-ghost use Rattle.rb_validator.specs.Marks.{cell, slot};
-ghost use Rattle.rb_validator.specs.Packed.{other};
+ghost use Rattle.rb_validator.specs.inner.Marks.{cell, slot};
+ghost use Rattle.rb_validator.specs.inner.Packed.{other};
 
 use crate::lists::byte_at;
 use rb_format::ItemKind;
@@ -25,7 +25,7 @@ pub struct Heights {
 
 impl Model for Heights {
     ghost use Rattle.std.specs.Prelude.{List, ℕ, vec_capacity};
-    ghost use Rattle.rb_validator.specs.Packed.{cells_of, IsPacked};
+    ghost use Rattle.rb_validator.specs.inner.Packed.{cells_of, IsPacked};
 
     ghost Value = { List ℕ };
 

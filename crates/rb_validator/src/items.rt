@@ -1,11 +1,11 @@
 // The checks of an item and of all below it. Each table and array is entered once.
 ghost use Rattle.std.specs.Prelude.{◌≡◌, ◌≢◌, ◌⊎◌, true, ℕ, ◌+◌, ◌*◌, ◌≤◌, ◌<◌, length, Some, Ok, Err, IfOk};
-ghost use Rattle.rb_format.specs.FirstFault.{result_map, within, contents, read};
+ghost use Rattle.rb_format.specs.inner.FirstFault.{result_map, within, contents, read};
 ghost use Rattle.rb_format.specs.Item.{kind_of, offset_of};
 ghost use Rattle.rb_format.specs.Place as fields;
 ghost use Rattle.rb_tree.specs.Resource.{height, trees_height};
-ghost use Rattle.rb_validator.specs.KnownKeys.{IsSound};
-ghost use Rattle.rb_validator.specs.Marks.{mark_at, IsKnown, IsMet, Keeps, Leads, After, AreRuns, run_of, IsRunKnown};
+ghost use Rattle.rb_validator.specs.inner.KnownKeys.{IsSound};
+ghost use Rattle.rb_validator.specs.inner.Marks.{mark_at, IsKnown, IsMet, Keeps, Leads, After, AreRuns, run_of, IsRunKnown};
 ghost use Rattle.rb_format.specs.Geometry as geometry;
 
 use crate::children::{find_children, has_children};

@@ -2,8 +2,8 @@
 // lengths are known, and only what two keys have in common is read. Where that too has become many times the file, they are compared by
 // their ranks, and what was found is kept.
 ghost use Rattle.std.specs.Prelude.{◌≡◌, ◌⊎◌, ◌*◌, ◌≤◌, [], length, Some, Err, IfOk, IfErr};
-ghost use Rattle.rb_format.specs.FirstFault.{fault_of, keys};
-ghost use Rattle.rb_validator.specs.KnownKeys.{IsSound, AreGood, key_run};
+ghost use Rattle.rb_format.specs.inner.FirstFault.{fault_of, keys};
+ghost use Rattle.rb_validator.specs.inner.KnownKeys.{IsSound, AreGood, key_run};
 ghost use Rattle.rb_format.specs.Geometry.{keys_end, key_offset as offset_in};
 
 use crate::keys::next_key;

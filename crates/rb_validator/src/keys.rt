@@ -1,11 +1,11 @@
 // A key of a table, compared with the one before it byte by byte. What is compared is counted here and nowhere else.
 ghost use Rattle.std.specs.Prelude.{◌≡◌, ℕ, ◌+◌, ◌*◌, ◌≤◌, ◌<◌, ◌==◌, ◌^◌, length, IfSome};
 ghost use Rattle.std.specs.List.{common_prefix_len};
-ghost use Rattle.rb_format.specs.FirstFault.{result_map, next_key};
+ghost use Rattle.rb_format.specs.inner.FirstFault.{result_map, next_key};
 ghost use Rattle.rb_format.specs.Place.{key as key_at};
 ghost use Rattle.std.specs.Ordering.{is_lt, nat_cmp};
 ghost use Rattle.std.specs.Cmp.Lexicographic.{slice_cmp};
-ghost use Rattle.rb_validator.specs.Compared.{examined};
+ghost use Rattle.rb_validator.specs.inner.Compared.{examined};
 
 use rb_format::{FileFault, Layout, key_within};
 

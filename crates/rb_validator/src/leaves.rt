@@ -1,6 +1,6 @@
 // The checks of values without children.
 ghost use Rattle.std.specs.Prelude.{◌≡◌, false, ℕ, ◌+◌, ◌*◌, ◌≤◌, ◌<◌, length, Result};
-ghost use Rattle.rb_format.specs.FirstFault.{fault_of, units, bytes, numbers, within, contents};
+ghost use Rattle.rb_format.specs.inner.FirstFault.{fault_of, units, bytes, numbers, within, contents};
 ghost use Rattle.rb_format.specs.Item as items;
 ghost use Rattle.rb_tree.specs.Resource.{Resource};
 ghost use Rattle.rb_format.specs.Geometry.{has_children};

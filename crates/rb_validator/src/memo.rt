@@ -1,6 +1,6 @@
 // The marks of the tables and arrays that an acceptance has entered.
 ghost use Rattle.std.specs.Prelude.{◌≡◌, ◌≢◌, ℕ, ◌*◌, ◌<◌, ◌≤◌, ◌^◌, List, length, slice_index, slice_set, IfOk};
-ghost use Rattle.rb_validator.specs.Marks.{cell, mark_of, mark_at, marked};
+ghost use Rattle.rb_validator.specs.inner.Marks.{cell, mark_of, mark_at, marked};
 
 use crate::heights::Heights;
 use rb_format::ItemKind;

@@ -10,9 +10,9 @@ use Rattle.rb_tree.specs.Keys.{items, pairs, IsKey}
 use Rattle.rb_tree.specs.View.{view_of}
 use Rattle.rb_tree.specs.declared.tree.Tree.{Tree}
 use Rattle.rb_tree.specs.declared.tree.Tree.TheVariants as trees
-use Rattle.rb_writer.specs.Most.{keys_most, trees_keys, members_keys, data_most, trees_most, members_most}
-use Rattle.rb_writer.specs.Places.{EachKey, EachKeyIn, EachKeyOf}
-use Rattle.rb_writer.specs.Collected.{keys_size, size_of, Has, Gains, Gathers}
+use Rattle.rb_writer.specs.inner.Most.{keys_most, trees_keys, members_keys, data_most, trees_most, members_most}
+use Rattle.rb_writer.specs.inner.Places.{EachKey, EachKeyIn, EachKeyOf}
+use Rattle.rb_writer.specs.inner.Collected.{keys_size, size_of, Has, Gains, Gathers}
 
 -- data and keys together take no more than the weight
 mutual

@@ -12,7 +12,7 @@ use Rattle.std.specs.List.Sorted.{IsStrictlySortedBy}
 use Rattle.std.specs.Map.{keys_of, values_of}
 use Rattle.rb_tree.specs.Resource.{Resource, array, table, Resources, no_trees, tree_and, Members, no_entries, entry_and, height, trees_height, entries_height}
 use Rattle.rb_tree.specs.Keys.{items, pairs, IsKey, IsTable}
-use Rattle.rb_tree.specs.Lower.{item_low, value_low}
+use Rattle.rb_tree.specs.inner.Lower.{item_low, value_low}
 use Rattle.rb_tree.specs.View.{view_of}
 use Rattle.rb_tree.specs.declared.tree.Tree.{Tree}
 use Rattle.rb_tree.specs.declared.tree.Tree.TheVariants as trees
@@ -20,13 +20,13 @@ use Rattle.rb_format.specs.declared.fault.FileFault.{FileFault}
 use Rattle.rb_format.specs.declared.layout.Layout.{Layout}
 use Rattle.rb_format.specs.declared.kind.ItemKind.TheVariants as kinds
 use Rattle.rb_format.specs.Place.{word_at, half_at, key}
-use Rattle.rb_format.specs.FirstFault as reading
-use Rattle.rb_format.specs.FirstFault.{◌>>=◌, result_map, node, contents, read, array_at, table_of, table16_at, table32_at, next_key, keys, members}
+use Rattle.rb_format.specs.inner.FirstFault as reading
+use Rattle.rb_format.specs.inner.FirstFault.{◌>>=◌, result_map, node, contents, read, array_at, table_of, table16_at, table32_at, next_key, keys, members}
 use Rattle.rb_format.specs.Item.{kind_of, offset_of}
 use Rattle.rb_format.proofs.Levels.{read_raise}
-use Rattle.rb_writer.specs.Growth.{Adds, IsDraft, draft, Put}
-use Rattle.rb_writer.specs.Most.{data_most, trees_most, members_most}
-use Rattle.rb_writer.specs.Standing.{Stands, ChildrenStand, KeysStand, PlacesAre, PutsArray, PutsShort, PutsLong, WritesTable}
+use Rattle.rb_writer.specs.inner.Growth.{Adds, IsDraft, draft, Put}
+use Rattle.rb_writer.specs.inner.Most.{data_most, trees_most, members_most}
+use Rattle.rb_writer.specs.inner.Standing.{Stands, ChildrenStand, KeysStand, PlacesAre, PutsArray, PutsShort, PutsLong, WritesTable}
 use Rattle.rb_writer.specs.declared.keys.KeyPlaces.{KeyPlaces}
 use Rattle.rb_writer.proofs.Puts.{adds_trans, word_stays, half_stays}
 use Rattle.rb_writer.proofs.Values.{drafted_on}

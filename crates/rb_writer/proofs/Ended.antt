@@ -11,21 +11,21 @@ use Rattle.rb_format.specs.declared.kind.ItemKind.{ItemKind}
 use Rattle.rb_format.specs.declared.kind.ItemKind.TheVariants as kinds
 use Rattle.rb_format.proofs.Growing.{Grows}
 use Rattle.rb_format.specs.Place.{word_at, half_at, layout_of}
-use Rattle.rb_format.specs.FirstFault.{header, read_data, read_file, result_map, read, node, value, contents, kind_or_fault}
+use Rattle.rb_format.specs.inner.FirstFault.{header, read_data, read_file, result_map, read, node, value, contents, kind_or_fault}
 use Rattle.rb_format.specs.File.{Denotes, has_valid_indexes}
 use Rattle.rb_format.specs.Item.{is_table, bare, kind_of, offset_of}
 use Rattle.rb_format.proofs.Grows.{read_grow}
 use Rattle.rb_format.proofs.Steps.{bind_ok, map_ok, ok_is}
 use Rattle.rb_format.proofs.Cases.{value_cases}
-use Rattle.rb_writer.specs.Growth.{IsDraft, draft}
-use Rattle.rb_writer.specs.Whole.{IsFile, index_count}
+use Rattle.rb_writer.specs.inner.Growth.{IsDraft, draft}
+use Rattle.rb_writer.specs.inner.Whole.{IsFile, index_count}
 use Rattle.rb_writer.specs.Longest.{longest}
 use Rattle.rb_tree.specs.Parts.{Fits}
 use Rattle.rb_tree.specs.Parts as parts
 use Rattle.rb_tree.specs.declared.kind.Kind.TheVariants as tree_kinds
 use Rattle.rb_format.proofs.Levels.{read_raise}
 use Rattle.rb_format.proofs.Root.{denotes_read}
-use Rattle.rb_writer.specs.Header as heads
+use Rattle.rb_writer.specs.inner.Header as heads
 use Rattle.rb_writer.proofs.Patches.{five_or_six}
 use Rattle.rb_writer.specs.declared.area.KeyArea.{KeyArea}
 use Rattle.rb_format.specs.Attributes.{attributes_of}

@@ -9,9 +9,9 @@ use Rattle.std.specs.List.Sorted.{IsPermutation}
 use Rattle.std.specs.Map.{keys_of}
 use Rattle.rb_tree.specs.Resource.{Resource, Members}
 use Rattle.rb_tree.specs.Keys.{IsKey, IsTable, pairs}
-use Rattle.rb_writer.specs.Collected.{keys_size, size_of, Has, Gains, Gathers, GathersKeys}
-use Rattle.rb_writer.specs.Most.{keys_most}
-use Rattle.rb_writer.specs.Places.{EachKey}
+use Rattle.rb_writer.specs.inner.Collected.{keys_size, size_of, Has, Gains, Gathers, GathersKeys}
+use Rattle.rb_writer.specs.inner.Most.{keys_most}
+use Rattle.rb_writer.specs.inner.Places.{EachKey}
 use Rattle.rb_writer.proofs.Collecting.{each_still, size_push}
 
 all_at : {X : Type 0} (P : X → Type 0) (ks : List X) (i : ℕ) (k : X) → All P ks → Some k ≡ slice_get ks i → P k

@@ -6,10 +6,10 @@ use Rattle.std.proofs.lemmas.Bool.{cases_eq}
 use Rattle.std.specs.Prelude.{slice_get, IsSome, All}
 use Rattle.std.specs.BTreeMap as tree_map
 use Rattle.rb_format.specs.Place.{key}
-use Rattle.rb_writer.specs.Collected.{keys_size}
-use Rattle.rb_writer.specs.Growth.{Adds, IsDraft, draft}
-use Rattle.rb_writer.specs.Keyed.{stored}
-use Rattle.rb_writer.specs.Keying.{KeyAt, KeysPut}
+use Rattle.rb_writer.specs.inner.Collected.{keys_size}
+use Rattle.rb_writer.specs.inner.Growth.{Adds, IsDraft, draft}
+use Rattle.rb_writer.specs.inner.Keyed.{stored}
+use Rattle.rb_writer.specs.inner.Keying.{KeyAt, KeysPut}
 use Rattle.rb_writer.proofs.Placing.{key_reads, key_at_stays, key_at_low}
 
 pub size_at : (ks : List (List ℕ)) (i : ℕ) (k : List ℕ) → Some k ≡ slice_get ks i → keys_size (drop i ks) ≡ 1 + length k + keys_size (drop (suc i) ks)

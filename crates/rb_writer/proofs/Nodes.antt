@@ -19,12 +19,12 @@ use Rattle.rb_format.specs.declared.layout.Layout.{Layout}
 use Rattle.rb_format.specs.declared.kind.ItemKind.{ItemKind}
 use Rattle.rb_format.specs.declared.kind.ItemKind.TheVariants as kinds
 use Rattle.rb_format.proofs.Growing.{Grows}
-use Rattle.rb_format.specs.FirstFault.{units, bytes, numbers, result_map, node, value, contents, read, kind_or_fault}
+use Rattle.rb_format.specs.inner.FirstFault.{units, bytes, numbers, result_map, node, value, contents, read, kind_or_fault}
 use Rattle.rb_format.specs.Item.{has_data, bare, kind_of, offset_of}
 use Rattle.rb_format.proofs.Grows.{read_grow, key_same}
-use Rattle.rb_writer.specs.Growth.{Adds, IsDraft, draft, Put, signed_numbers}
-use Rattle.rb_writer.specs.Most.{data_most, trees_most, members_most}
-use Rattle.rb_writer.specs.Standing.{Stands, ChildrenStand, KeysStand, children_most}
+use Rattle.rb_writer.specs.inner.Growth.{Adds, IsDraft, draft, Put, signed_numbers}
+use Rattle.rb_writer.specs.inner.Most.{data_most, trees_most, members_most}
+use Rattle.rb_writer.specs.inner.Standing.{Stands, ChildrenStand, KeysStand, children_most}
 use Rattle.rb_writer.specs.declared.keys.KeyPlaces.{KeyPlaces}
 use Rattle.rb_writer.proofs.Puts.{adds_refl, adds_trans}
 

@@ -6,9 +6,9 @@ use Rattle.std.proofs.lemmas.List.{get_or-take, take-append-le, take_all, drop_a
 use Rattle.byteorder.specs.Endian.{little_bytes}
 use Rattle.byteorder.specs.Numbers.{little_number-reads_back}
 use Rattle.rb_format.specs.Place.{word_at}
-use Rattle.rb_writer.specs.Header.{header}
+use Rattle.rb_writer.specs.inner.Header.{header}
 use Rattle.rb_writer.specs.declared.area.KeyArea.{KeyArea}
-use Rattle.rb_writer.specs.Whole.{SetsWord, IsIndexed, IsFile, index_count}
+use Rattle.rb_writer.specs.inner.Whole.{SetsWord, IsIndexed, IsFile, index_count}
 use Rattle.rb_writer.proofs.Puts.{drop_append}
 
 pub five_or_six : (b : Bool) (n : ℕ) → n ≡ index_count b → (5 ≤ n) × (n ≤ 6)

@@ -19,9 +19,9 @@ use Rattle.rb_format.proofs.Cases.{equal_is}
 use Rattle.rb_format.proofs.Keys.{key_is}
 use Rattle.rb_writer.proofs.Puts.{adds_append}
 use Rattle.rb_writer.proofs.Values.{part_stays}
-use Rattle.rb_writer.specs.Growth.{Adds, draft, PutsBytes}
-use Rattle.rb_writer.specs.Keying.{KeyAt}
-use Rattle.rb_writer.specs.Keyed.{place, stored, AreStored}
+use Rattle.rb_writer.specs.inner.Growth.{Adds, draft, PutsBytes}
+use Rattle.rb_writer.specs.inner.Keying.{KeyAt}
+use Rattle.rb_writer.specs.inner.Keyed.{place, stored, AreStored}
 use Rattle.rb_writer.specs.declared.keys.KeyPlaces.{KeyPlaces}
 
 pub ok_key : (k : List ℕ) → IsKey k → key_ok k ≡ true

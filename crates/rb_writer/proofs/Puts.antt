@@ -8,7 +8,7 @@ use Rattle.std.specs.Int.{cast_signed, w32}
 use Rattle.byteorder.specs.Endian.{little_bytes, little_number}
 use Rattle.byteorder.specs.Numbers.{little_number-reads_back}
 use Rattle.rb_format.specs.Place.{word_at, half_at}
-use Rattle.rb_writer.specs.Growth.{Adds, PutsWord, PutsWords, PutsNumbers, PutsHalf, PutsHalves, PutsBytes}
+use Rattle.rb_writer.specs.inner.Growth.{Adds, PutsWord, PutsWords, PutsNumbers, PutsHalf, PutsHalves, PutsBytes}
 
 pub adds_refl : (a : List ℕ) → Adds a a
 adds_refl a = record { longer = omega arith; same = λ i h. refl }

@@ -6,11 +6,11 @@ use Rattle.rb_tree.specs.Parts as parts
 use Rattle.rb_tree.specs.declared.kind.Kind.TheVariants as kinds
 use Rattle.rb_writer.specs.declared.area.KeyArea.{KeyArea}
 use Rattle.rb_tree.specs.Resource.{weight}
-use Rattle.rb_writer.specs.Collected.{keys_size, GathersKeys}
+use Rattle.rb_writer.specs.inner.Collected.{keys_size, GathersKeys}
 use Rattle.rb_writer.specs.Longest.{longest}
-use Rattle.rb_writer.specs.Most.{data_most, keys_most}
-use Rattle.rb_writer.specs.Standing.{Stands}
-use Rattle.rb_writer.specs.Whole.{IsFile, index_count}
+use Rattle.rb_writer.specs.inner.Most.{data_most, keys_most}
+use Rattle.rb_writer.specs.inner.Standing.{Stands}
+use Rattle.rb_writer.specs.inner.Whole.{IsFile, index_count}
 use Rattle.rb_writer.proofs.Collecting.{table_weight}
 use Rattle.rb_writer.proofs.Ended.{IsWritten, is_written}
 use Rattle.rb_writer.proofs.Patches.{five_or_six}

@@ -7,9 +7,9 @@ use Rattle.std.specs.Map.{keys_of, values_of}
 use Rattle.rb_tree.specs.Resource.{Resource, array, table, Resources, no_trees, tree_and, Members, no_entries, entry_and}
 use Rattle.rb_tree.specs.Keys.{items, pairs}
 use Rattle.rb_tree.specs.Parts.{children_of}
-use Rattle.rb_writer.specs.Places.{EachKey, EachKeyIn, EachKeyOf}
-use Rattle.rb_writer.specs.Standing.{PlacesAre, HasPlaces}
-use Rattle.rb_writer.specs.Keyed.{place}
+use Rattle.rb_writer.specs.inner.Places.{EachKey, EachKeyIn, EachKeyOf}
+use Rattle.rb_writer.specs.inner.Standing.{PlacesAre, HasPlaces}
+use Rattle.rb_writer.specs.inner.Keyed.{place}
 use Rattle.rb_writer.specs.declared.keys.KeyPlaces.{KeyPlaces}
 
 pub places_more : (keys : KeyPlaces) (ks : List (List ℕ)) (offsets : List ℕ) (n o : ℕ) (k : List ℕ) → PlacesAre keys ks offsets n → Some k ≡ slice_get ks n

@@ -8,8 +8,8 @@ use Rattle.std.specs.Int.{cast_signed, w32}
 use Rattle.rb_format.specs.declared.fault.FileFault.{FileFault}
 use Rattle.rb_format.specs.declared.layout.Layout.{Layout}
 use Rattle.rb_format.specs.Place.{word_at, half_at, values}
-use Rattle.rb_format.specs.FirstFault.{units, bytes, numbers}
-use Rattle.rb_writer.specs.Growth.{Adds, PutsWord, PutsNumbers, PutsHalf, PutsHalves, PutsBytes, IsDraft, Put, signed_numbers}
+use Rattle.rb_format.specs.inner.FirstFault.{units, bytes, numbers}
+use Rattle.rb_writer.specs.inner.Growth.{Adds, PutsWord, PutsNumbers, PutsHalf, PutsHalves, PutsBytes, IsDraft, Put, signed_numbers}
 use Rattle.rb_writer.proofs.Puts.{adds_refl, adds_trans, word_stays, half_stays}
 
 pub values_are : (f : ℕ → ℕ) (i : ℕ) (xs : List ℕ) → ((j : ℕ) → j < length xs → f (i + j) ≡ get_or xs j 0) → values f i (length xs) ≡ xs

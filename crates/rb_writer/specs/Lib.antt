@@ -1,10 +1,2 @@
-pub mod Header
-pub mod Growth
-pub mod Most
-pub mod Places
-pub mod Keyed
-pub mod Standing
 pub mod Longest
-pub mod Collected
-pub mod Whole
-pub mod Keying
+pub mod inner

@@ -3,9 +3,9 @@ ghost use Rattle.std.specs.Prelude.{IfOk, OnOk, All, IsTrue, length, ◌≡◌, 
 ghost use Rattle.std.specs.Map.{keys_of};
 ghost use Rattle.rb_tree.specs.Keys.{pairs, IsTable};
 ghost use Rattle.rb_tree.specs.Resource.{table};
-ghost use Rattle.rb_writer.specs.Growth.{PutsHalves};
-ghost use Rattle.rb_writer.specs.Keyed.{AreStored};
-ghost use Rattle.rb_writer.specs.Standing.{PutsArray, PutsShort, PutsLong, HasPlaces, PlacesAre};
+ghost use Rattle.rb_writer.specs.inner.Growth.{PutsHalves};
+ghost use Rattle.rb_writer.specs.inner.Keyed.{AreStored};
+ghost use Rattle.rb_writer.specs.inner.Standing.{PutsArray, PutsShort, PutsLong, HasPlaces, PlacesAre};
 
 use crate::data::Data;
 use crate::keys::KeyPlaces;

@@ -4,9 +4,9 @@ ghost use Rattle.rb_format.specs.File.{Denotes};
 ghost use Rattle.rb_format.specs.Place.{word_at};
 ghost use Rattle.rb_tree.specs.Parts.{Fits};
 ghost use Rattle.rb_tree.specs.View.{view_of};
-ghost use Rattle.rb_writer.specs.Header as specified;
-ghost use Rattle.rb_writer.specs.Whole as whole;
-ghost use Rattle.rb_writer.specs.Whole.{IsFile, IsIndexed, SetsWord};
+ghost use Rattle.rb_writer.specs.inner.Header as specified;
+ghost use Rattle.rb_writer.specs.inner.Whole as whole;
+ghost use Rattle.rb_writer.specs.inner.Whole.{IsFile, IsIndexed, SetsWord};
 ghost use Rattle.rb_writer.specs.Longest.{longest};
 
 use crate::area::KeyArea;

@@ -5,7 +5,7 @@ ghost use Rattle.std.specs.Ordering.{nat_cmp};
 ghost use Rattle.std.specs.Cmp.Lexicographic.{slice_cmp};
 ghost use Rattle.rb_tree.specs.Resource.{Resource};
 ghost use Rattle.rb_tree.specs.View.{view_of};
-ghost use Rattle.rb_writer.specs.Collected.{Has, Gains, Gathers, GathersKeys};
+ghost use Rattle.rb_writer.specs.inner.Collected.{Has, Gains, Gathers, GathersKeys};
 
 use rb_tree::Tree;
 use std::alloc::{AllocError, Global};

@@ -1,11 +1,11 @@
 // The keys and their places.
 ghost use Rattle.std.specs.Prelude.{◌≡◌, ◌⊎◌, ◌≤◌, ◌<◌, ◌+◌, ◌*◌, ◌^◌, ℕ, List, length, IsSome, Some, OnOk, IfOk, IfSome, All, map};
-ghost use Rattle.rb_writer.specs.Keyed.{place, stored, AreStored};
+ghost use Rattle.rb_writer.specs.inner.Keyed.{place, stored, AreStored};
 ghost use Rattle.rb_tree.specs.Keys.{IsKey};
-ghost use Rattle.rb_writer.specs.Growth.{Adds, IsDraft};
-ghost use Rattle.rb_writer.specs.Collected.{keys_size};
-ghost use Rattle.rb_writer.specs.Standing.{KeysStand};
-ghost use Rattle.rb_writer.specs.Keying.{KeyAt};
+ghost use Rattle.rb_writer.specs.inner.Growth.{Adds, IsDraft};
+ghost use Rattle.rb_writer.specs.inner.Collected.{keys_size};
+ghost use Rattle.rb_writer.specs.inner.Standing.{KeysStand};
+ghost use Rattle.rb_writer.specs.inner.Keying.{KeyAt};
 
 use crate::area::KeyArea;
 use crate::data::Data;

@@ -1,8 +1,8 @@
 // Values without children.
 ghost use Rattle.std.specs.Prelude.{IfOk, length, ◌≡◌, ◌⊎◌, ◌+◌, ◌*◌, ◌%◌, ◌^◌, ◌≤◌, ◌<◌, ℕ, [], map};
-ghost use Rattle.rb_format.specs.FirstFault.{units, bytes};
+ghost use Rattle.rb_format.specs.inner.FirstFault.{units, bytes};
 ghost use Rattle.rb_writer.specs.declared.area.KeyArea.{KeyArea};
-ghost use Rattle.rb_writer.specs.Growth.{IsDraft, Put, signed_numbers};
+ghost use Rattle.rb_writer.specs.inner.Growth.{IsDraft, Put, signed_numbers};
 
 use crate::data::Data;
 use crate::put::{PADDING, pad, put_bytes, put_half, put_halves, put_numbers, put_word};

@@ -1,6 +1,6 @@
 // Numbers and bytes after what is there.
 ghost use Rattle.std.specs.Prelude.{OnOk, All, drop, length, ◌≡◌, ◌+◌, ◌<◌, ◌%◌, ◌≤◌, map};
-ghost use Rattle.rb_writer.specs.Growth.{Adds, PutsWord, PutsHalf, PutsBytes, PutsWords, PutsHalves, PutsNumbers};
+ghost use Rattle.rb_writer.specs.inner.Growth.{Adds, PutsWord, PutsHalf, PutsBytes, PutsWords, PutsHalves, PutsNumbers};
 
 use crate::data::Data;
 use std::alloc::AllocError;

@@ -3,8 +3,8 @@ ghost use Rattle.std.specs.Prelude.{MatchResult, IfOk, length, ◌≡◌, ◌⊎
 ghost use Rattle.std.specs.Map.{keys_of};
 ghost use Rattle.rb_tree.specs.Keys.{pairs, IsTable};
 ghost use Rattle.rb_tree.specs.Resource.{table};
-ghost use Rattle.rb_writer.specs.Keyed.{AreStored};
-ghost use Rattle.rb_writer.specs.Standing.{HasPlaces, WritesTable};
+ghost use Rattle.rb_writer.specs.inner.Keyed.{AreStored};
+ghost use Rattle.rb_writer.specs.inner.Standing.{HasPlaces, WritesTable};
 
 use crate::containers::{is_short, key_offsets, write_long_table, write_short_table};
 use crate::data::Data;

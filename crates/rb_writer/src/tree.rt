@@ -2,10 +2,10 @@
 ghost use Rattle.std.specs.Prelude.{IfOk, length, ◌≡◌, ◌+◌, ◌^◌, ◌≤◌};
 ghost use Rattle.rb_tree.specs.Parts.{kind_of, len_of, children_of, HasChildren};
 ghost use Rattle.rb_tree.specs.View.{view_of};
-ghost use Rattle.rb_writer.specs.Growth.{IsDraft};
-ghost use Rattle.rb_writer.specs.Keyed.{AreStored};
-ghost use Rattle.rb_writer.specs.Most.{data_most};
-ghost use Rattle.rb_writer.specs.Standing.{Stands, ChildrenStand, KeysStand, HasPlaces, children_most};
+ghost use Rattle.rb_writer.specs.inner.Growth.{IsDraft};
+ghost use Rattle.rb_writer.specs.inner.Keyed.{AreStored};
+ghost use Rattle.rb_writer.specs.inner.Most.{data_most};
+ghost use Rattle.rb_writer.specs.inner.Standing.{Stands, ChildrenStand, KeysStand, HasPlaces, children_most};
 
 use crate::containers::write_array;
 use crate::data::Data;

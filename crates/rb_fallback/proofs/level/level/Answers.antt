@@ -6,7 +6,7 @@ use Rattle.rb_parents.specs.Trail.{next, goes_to, end, bad, trail, Trail, names,
 use Rattle.rb_parents.specs.declared.limits.TheConstants.{TRAIL_LIMIT}
 use Rattle.rb_parents.proofs.Trails.{trail_goes, trail_end, trail_bad, trail_long}
 use Rattle.rb_fallback.specs.Search.{by_trail, first_in}
-use Rattle.rb_fallback.specs.LevelResult.{IsLevel}
+use Rattle.rb_fallback.specs.inner.LevelResult.{IsLevel}
 use Rattle.rb_fallback.proofs.level.level.Goals as goal
 
 pub loop-preserved : goal.loop-preserved

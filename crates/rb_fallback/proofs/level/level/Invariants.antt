@@ -3,7 +3,7 @@ use Rattle.rb_parents.specs.Family.{parent_of}
 use Rattle.rb_parents.specs.Trail.{trail, trail_within, stops}
 use Rattle.rb_parents.specs.declared.limits.TheConstants.{TRAIL_LIMIT}
 use Rattle.rb_parents.proofs.Trails.{all_begin}
-use Rattle.rb_fallback.specs.LevelResult.{IsLevelState}
+use Rattle.rb_fallback.specs.inner.LevelResult.{IsLevelState}
 use Rattle.rb_fallback.proofs.level.level.Given as goal
 
 abbrev pub invariant-loop : goal.invariant-loop

@@ -1,7 +1,7 @@
 use Rattle.std.proofs.Common.{◌≡◌, Some, None, ap, sym, subst, ◌∙◌}
 use Rattle.std.specs.Option.{option_map}
 use Rattle.rb_parents.specs.Trail.{stop_tree}
-use Rattle.rb_fallback.specs.LevelResult.{IsLevelState}
+use Rattle.rb_fallback.specs.inner.LevelResult.{IsLevelState}
 use Rattle.rb_fallback.proofs.Scans.{stops_with, stops_without}
 use Rattle.rb_fallback.proofs.level.with_name.Goals as goal
 

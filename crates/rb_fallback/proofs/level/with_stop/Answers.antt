@@ -1,5 +1,5 @@
 use Rattle.std.proofs.Common.{subst, rules}
-use Rattle.rb_fallback.specs.LevelResult.{IsEnding}
+use Rattle.rb_fallback.specs.inner.LevelResult.{IsEnding}
 use Rattle.rb_fallback.proofs.Scans.{first_on, ending_first, ending_later}
 use Rattle.rb_fallback.proofs.level.with_stop.Goals as goal
 

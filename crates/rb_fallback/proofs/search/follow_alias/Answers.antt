@@ -6,7 +6,7 @@ use Rattle.rb_fallback.specs.Alias.{aim, aims, target}
 use Rattle.rb_fallback.specs.AliasPaths.{segments_from}
 use Rattle.rb_fallback.specs.Answers.{aim_of}
 use Rattle.rb_fallback.specs.Search.{follow}
-use Rattle.rb_fallback.specs.Steps.{IsFollowed}
+use Rattle.rb_fallback.specs.inner.Steps.{IsFollowed}
 use Rattle.rb_fallback.proofs.Texts.{alias_units}
 use Rattle.rb_fallback.proofs.Paths.{aim_is_filled}
 use Rattle.rb_fallback.proofs.Follows.{filled_some, path_leads, same_leads, place_follows}

@@ -2,7 +2,7 @@ use Rattle.std.proofs.Common.{Ok, Err, ap, sym, ◌∙◌, subst, arith}
 use Rattle.rb_tree.specs.Path.{segments}
 use Rattle.rb_parents.specs.Family.{parent_of}
 use Rattle.rb_fallback.specs.Search.{setting_of, step}
-use Rattle.rb_fallback.specs.Steps.{IsFollowed, GoesOn, GoesLong}
+use Rattle.rb_fallback.specs.inner.Steps.{IsFollowed, GoesOn, GoesLong}
 use Rattle.rb_fallback.proofs.Levels.{answer_err, level_answer, long_answer, next_level, search_end, step_at}
 use Rattle.rb_fallback.proofs.Links.{step_end, step_gone, link_kind, follow_link}
 use Rattle.rb_fallback.proofs.search.search_on.Goals as goal

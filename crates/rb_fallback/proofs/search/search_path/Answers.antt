@@ -2,7 +2,7 @@ use Rattle.std.proofs.Common.{Ok, Err, false, ap, ◌∙◌, subst, refl, arith}
 use Rattle.rb_tree.specs.Path.{segments}
 use Rattle.rb_parents.specs.Family.{parent_of}
 use Rattle.rb_fallback.specs.Search.{first_stop, level, step}
-use Rattle.rb_fallback.specs.Steps.{IsFollowed, GoesOn, GoesLong}
+use Rattle.rb_fallback.specs.inner.Steps.{IsFollowed, GoesOn, GoesLong}
 use Rattle.rb_fallback.proofs.Levels.{answer_err, level_answer, long_answer, next_level, start, start_from, valid_on}
 use Rattle.rb_fallback.proofs.Links.{step_end, step_gone, link_kind, follow_link}
 use Rattle.rb_fallback.proofs.search.search_path.Goals as goal

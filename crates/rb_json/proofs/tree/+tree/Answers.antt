@@ -2,7 +2,7 @@ use Rattle.std.proofs.Common.{◌≤◌, ◌<◌, arith, length}
 use Rattle.json.specs.Token.{begin_array, end_array, begin_object, end_object}
 use Rattle.rb_tree.specs.Resource.{height}
 use Rattle.rb_tree.specs.Parts.{children_of, pairs_of}
-use Rattle.rb_tree.specs.Lower.{child_lower}
+use Rattle.rb_tree.specs.inner.Lower.{child_lower}
 use Rattle.rb_json.specs.Tokens.{data_tokens}
 use Rattle.rb_json.specs.Value.{value_of}
 use Rattle.rb_json.proofs.Growth.{more, wholly, tree_tokens, entry_tokens, items_whole, entries_whole, entry_at, entry_put}

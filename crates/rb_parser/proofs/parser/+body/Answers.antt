@@ -6,7 +6,7 @@ use Rattle.rb_tree.specs.declared.tree.Tree.{Tree}
 use Rattle.rb_grammar.specs.Form.{leaf, plain}
 use Rattle.rb_grammar.specs.Reading.{after_comma, typed_at, untyped_at, guess, body}
 use Rattle.rb_grammar.specs.Tests.{the_tests}
-use Rattle.rb_parser.specs.Reads.{inner_at, IsBodyTree}
+use Rattle.rb_parser.specs.inner.Reads.{inner_at, IsBodyTree}
 use Rattle.rb_parser.specs.declared.cursor.Cursor.{Cursor}
 use Rattle.rb_parser.proofs.Bodies.{reads_same, depth_error, bad_word, no_brace, typed_body, unopened, untyped_body, leaf_stops, leaf_open, leaf_reads}
 use Rattle.rb_parser.proofs.Bodies.{plain_reads}

@@ -1,5 +1,5 @@
 use Rattle.std.proofs.Common.{rules, ◌≡◌, ◌∙◌, ap, sym, get_or}
-use Rattle.rb_parser.specs.Seen.{Pair}
+use Rattle.rb_parser.specs.inner.Seen.{Pair}
 use Rattle.rb_parser.proofs.Ascending.{same_next}
 use Rattle.rb_parser.proofs.seen.set_of.Goals as goal
 

@@ -1,8 +1,8 @@
 use Rattle.std.proofs.Common.{◌≡◌, ℕ, List, [], string_bytes, ap, subst, sym, arith}
 use Rattle.rb_printer.specs.Sign.{signs_chars}
 use Rattle.rb_printer.specs.Page.{page, members_of}
-use Rattle.rb_printer.specs.Least.{entries_least}
-use Rattle.rb_printer.specs.Growth.{Adds}
+use Rattle.rb_printer.specs.inner.Least.{entries_least}
+use Rattle.rb_printer.specs.inner.Growth.{Adds}
 use Rattle.rb_printer.proofs.Least.{page_least}
 use Rattle.rb_printer.proofs.Pages.{page_printed}
 use Rattle.rb_printer.proofs.Rooms.{too_large}

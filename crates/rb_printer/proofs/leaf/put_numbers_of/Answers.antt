@@ -6,7 +6,7 @@ use mir.Val.{SFits}
 use Rattle.rb_tree.specs.Parts.{numbers_of}
 use Rattle.rb_printer.specs.Sign.{signs_chars}
 use Rattle.rb_printer.specs.Page.{comma_if, pause, room_after, number_fits as fits_in}
-use Rattle.rb_printer.specs.Growth.{Adds}
+use Rattle.rb_printer.specs.inner.Growth.{Adds}
 use Rattle.rb_printer.proofs.Loops.{numbers_put, numbers_len}
 use Rattle.rb_printer.proofs.Puts.{number_fits, number_read}
 use Rattle.rb_printer.proofs.leaf.put_numbers_of.Goals as goal

@@ -2,11 +2,11 @@ use Rattle.std.proofs.Common.{◌≡◌, ◌+◌, ◌*◌, ◌<◌, ℕ, List, S
 use Rattle.std.specs.Prelude.{slice_get}
 use Rattle.std.specs.Map.{keys_of}
 use Rattle.rb_tree.specs.Resource.{Resource, height}
-use Rattle.rb_tree.specs.Lower.{child_lower}
+use Rattle.rb_tree.specs.inner.Lower.{child_lower}
 use Rattle.rb_tree.specs.Parts.{kind_of, children_of, pairs_of}
 use Rattle.rb_tree.specs.declared.kind.Kind.TheVariants as Kinds
 use Rattle.rb_printer.specs.Page.{items_of, members_of}
-use Rattle.rb_printer.specs.Least.{item_lead, least, items_least, entries_least}
+use Rattle.rb_printer.specs.inner.Least.{item_lead, least, items_least, entries_least}
 use Rattle.rb_printer.proofs.Trees.{array_children, array_len, table_children, table_pairs, table_len, drop_trees, drop_members}
 use Rattle.rb_printer.proofs.Rooms.{items_next, entries_next, items_last, entries_last, none_left}
 use Rattle.rb_printer.proofs.room.+room.Goals as goal

@@ -1,7 +1,7 @@
 use Rattle.std.proofs.Common.{◌≡◌, ◌+◌, ◌*◌}
 use Rattle.rb_tree.specs.Resource.{height}
 use Rattle.rb_printer.specs.Page.{items_of, members_of}
-use Rattle.rb_printer.specs.Least.{items_least, entries_least}
+use Rattle.rb_printer.specs.inner.Least.{items_least, entries_least}
 use Rattle.rb_printer.proofs.Trees.{drop_trees, drop_members}
 use Rattle.rb_printer.proofs.room.+room.Given as goal
 

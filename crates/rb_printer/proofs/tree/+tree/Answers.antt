@@ -2,7 +2,7 @@ use Rattle.std.proofs.Common.{◌≡◌, ◌<◌, ◌^◌, ℕ, List, Some, sym,
 use Rattle.std.specs.Prelude.{slice_get}
 use Rattle.std.specs.Map.{keys_of}
 use Rattle.rb_tree.specs.Resource.{Resource, height}
-use Rattle.rb_tree.specs.Lower.{child_lower}
+use Rattle.rb_tree.specs.inner.Lower.{child_lower}
 use Rattle.rb_printer.proofs.Trees.{items_put, items_end, entries_put, entries_end, table_put, array_children, table_children, table_pairs}
 use Rattle.rb_printer.proofs.Trees.{string_put, int_put, ints_put, binary_put, alias_put, child_well, int_well}
 use Rattle.rb_printer.proofs.tree.+tree.Goals as goal

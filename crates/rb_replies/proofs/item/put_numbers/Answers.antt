@@ -3,7 +3,7 @@ use Rattle.std.proofs.lemmas.Int.{to_z-of_z}
 use Rattle.serde_json.specs.Data.{Data, number}
 use Rattle.serde_json.specs.Find.{of_integer}
 use Rattle.rb_tree.specs.Parts.{numbers_of}
-use Rattle.rb_replies.specs.Put.{data_tokens}
+use Rattle.rb_replies.specs.inner.Put.{data_tokens}
 use Rattle.rb_json.proofs.OfKinds.{as_many_numbers}
 use Rattle.rb_replies.proofs.Tokens.{put_more, put_all}
 use Rattle.rb_replies.proofs.item.put_numbers.Goals as goal

@@ -2,7 +2,7 @@ use Rattle.std.proofs.Common.{rules, subst, ◌∙◌, FitsSigned, w64, ℤ}
 use Rattle.std.proofs.lemmas.Int.{to_z-of_z}
 use Rattle.serde_json.specs.Data.{number}
 use Rattle.serde_json.specs.Find.{of_integer}
-use Rattle.rb_replies.specs.Put.{Puts, data_tokens}
+use Rattle.rb_replies.specs.inner.Put.{Puts, data_tokens}
 use Rattle.rb_replies.proofs.item.put_signed.Goals as goal
 
 pub returns : goal.returns

@@ -1,5 +1,5 @@
 use Rattle.std.proofs.Common.{◌≡◌, ◌<◌, ◌∙◌, List, ℕ, length, Ok, subst, arith}
-use Rattle.rb_requests.specs.Taken.{ReadsLine}
+use Rattle.rb_requests.specs.inner.Taken.{ReadsLine}
 use Rattle.rb_requests.proofs.Reading.{reader, run_ended, run_more, run_refused}
 use Rattle.rb_requests.proofs.lines.read_line.Goals as goal
 

@@ -2,7 +2,7 @@ use Rattle.std.proofs.Common.{◌≡◌, ◌*◌, ◌≤◌, List, length, ℕ, 
 use Rattle.std.specs.Prelude.{◌⊎◌}
 use Rattle.rb_format.specs.declared.fault.FileFault.{FileFault}
 use Rattle.rb_format.specs.declared.fault.FileFault.TheVariants.{Memory}
-use Rattle.rb_format.specs.FirstFault.{fault_of, read_file}
+use Rattle.rb_format.specs.inner.FirstFault.{fault_of, read_file}
 use Rattle.rb_format.specs.Checks.{first_fault}
 use Rattle.rb_format.proofs.Checks.{file_first}
 use Rattle.rb_format.proofs.Root.{fault_free}

@@ -1,6 +1,6 @@
 use Rattle.std.proofs.Common.{◌≢◌, ℕ, [], get_or}
 use Rattle.rb_format.specs.Place.{word_at, layout_of}
-use Rattle.rb_validator.specs.Marks.{IsKnown, After}
+use Rattle.rb_validator.specs.inner.Marks.{IsKnown, After}
 use Rattle.rb_validator.proofs.Counts.{count_places}
 use Rattle.rb_validator.proofs.Spans.{runs_none}
 use Rattle.rb_validator.proofs.file.check_data.Goals as goal

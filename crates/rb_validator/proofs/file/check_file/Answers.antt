@@ -7,7 +7,7 @@ use Rattle.rb_format.specs.declared.fault.FileFault.{FileFault}
 use Rattle.rb_format.specs.declared.fault.FileFault.TheVariants.{Memory}
 use Rattle.rb_format.specs.declared.header.Header.{Header}
 use Rattle.rb_format.specs.Checks.{header_of}
-use Rattle.rb_format.specs.FirstFault.{fault_of, read_data, read_file}
+use Rattle.rb_format.specs.inner.FirstFault.{fault_of, read_data, read_file}
 use Rattle.rb_validator.specs.declared.file.Counts.{Counts}
 use Rattle.rb_format.specs.Place.{word_at, half_at}
 use Rattle.rb_validator.specs.Visits.{IsCount, IsPlaceAt, HasVisits}

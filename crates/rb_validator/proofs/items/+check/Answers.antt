@@ -4,10 +4,10 @@ use Rattle.rb_tree.specs.Resource.{height}
 use Rattle.rb_format.specs.declared.fault.FileFault.TheVariants.{TooDeep}
 use Rattle.rb_format.specs.Item.{offset_of}
 use Rattle.rb_format.specs.Place as fields
-use Rattle.rb_format.specs.FirstFault.{result_map, read}
+use Rattle.rb_format.specs.inner.FirstFault.{result_map, read}
 use Rattle.rb_format.proofs.Faults.{read_zero, read_no_kind}
 use Rattle.rb_validator.specs.declared.memo.Mark.TheVariants.{Done}
-use Rattle.rb_validator.specs.Marks.{cell, mark_of, mark_at, children_at, IsMet, run_of}
+use Rattle.rb_validator.specs.inner.Marks.{cell, mark_of, mark_at, children_at, IsMet, run_of}
 use Rattle.rb_validator.proofs.Cells.{cell_low, follows_same, follows_then, known_after, leads_after}
 use Rattle.rb_validator.proofs.Shapes.{leaf_height, fault_height, err_height, height_ok, height_err, children_err, children_fault, children_there}
 use Rattle.rb_validator.proofs.Ways.{cycle_deep, leads_children, leads_first, leads_next}

@@ -1,10 +1,10 @@
 use Rattle.std.proofs.Common.{◌≡◌, ℕ, ◌+◌, ◌*◌, ◌-◌, ◌≤◌, ◌<◌, max, Err}
 use Rattle.rb_tree.specs.Resource.{trees_height}
 use Rattle.rb_format.specs.declared.fault.FileFault.TheVariants.{TooDeep}
-use Rattle.rb_format.specs.FirstFault.{result_map}
+use Rattle.rb_format.specs.inner.FirstFault.{result_map}
 use Rattle.rb_format.specs.Place as fields
-use Rattle.rb_validator.specs.KnownKeys.{IsSound}
-use Rattle.rb_validator.specs.Marks.{IsKnown, Leads, After, AreRuns, run_of}
+use Rattle.rb_validator.specs.inner.KnownKeys.{IsSound}
+use Rattle.rb_validator.specs.inner.Marks.{IsKnown, Leads, After, AreRuns, run_of}
 use Rattle.rb_validator.proofs.items.+check.Given as goal
 
 -- 2 ^ 66 for a level, and below it a run's length

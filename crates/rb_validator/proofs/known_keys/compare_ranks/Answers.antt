@@ -1,5 +1,5 @@
 use Rattle.std.proofs.Common.{◌<◌, ◌≤◌, arith}
-use Rattle.rb_validator.specs.Ranks.{rank_at, previous_rank}
+use Rattle.rb_validator.specs.inner.Ranks.{rank_at, previous_rank}
 use Rattle.rb_validator.proofs.Pairs.{ranked_none, ranked_less, ranked_more}
 use Rattle.rb_validator.proofs.known_keys.compare_ranks.Goals as goal
 

@@ -1,5 +1,5 @@
 use Rattle.std.proofs.Common.{◌≡◌, ◌≤◌, ◌*◌, length}
-use Rattle.rb_validator.specs.KnownKeys.{AreGood, last_key}
+use Rattle.rb_validator.specs.inner.KnownKeys.{AreGood, last_key}
 use Rattle.rb_format.specs.Geometry.{key_offset as offset_in}
 use Rattle.rb_validator.proofs.lengths.check_measured.Given as goal
 

@@ -1,5 +1,5 @@
 use Rattle.std.proofs.Common.{◌≡◌, ℕ, ◌<◌, true}
-use Rattle.rb_validator.specs.Lengths as counted
+use Rattle.rb_validator.specs.inner.Lengths as counted
 use Rattle.rb_validator.proofs.lengths.is_each_counted.Given as goal
 
 abbrev pub invariant-loop-place : goal.invariant-loop-place

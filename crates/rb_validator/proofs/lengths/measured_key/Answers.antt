@@ -1,5 +1,5 @@
 use Rattle.std.proofs.Common.{◌≡◌, ℕ, ◌+◌, ◌-◌, ◌≤◌, ◌<◌, Some, sym, ap, ◌∙◌, take, drop, arith}
-use Rattle.rb_validator.specs.Ranks.{rank_at}
+use Rattle.rb_validator.specs.inner.Ranks.{rank_at}
 use Rattle.rb_validator.proofs.Measuring.{measured_none, measured_some}
 use Rattle.rb_validator.proofs.lengths.measured_key.Goals as goal
 

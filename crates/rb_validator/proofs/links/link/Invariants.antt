@@ -1,5 +1,5 @@
 use Rattle.std.proofs.Common.{ℕ, ◌-◌, ◌≤◌}
-use Rattle.rb_validator.specs.KnownKeys.{IsRedirected}
+use Rattle.rb_validator.specs.inner.KnownKeys.{IsRedirected}
 use Rattle.rb_validator.proofs.links.link.Given as goal
 
 abbrev pub invariant-loop-place : goal.invariant-loop-place

@@ -1,5 +1,5 @@
 use Rattle.std.proofs.Common.{◌≡◌, ◌∙◌, ap, refl, false}
-use Rattle.rb_writer.specs.Whole.{index_count, IsIndexed}
+use Rattle.rb_writer.specs.inner.Whole.{index_count, IsIndexed}
 use Rattle.rb_writer.proofs.Patches.{plain_indexed, flagged_indexed, five_or_six}
 use Rattle.rb_writer.proofs.file.set_indexes.Goals as goal
 

@@ -1,9 +1,9 @@
 use Rattle.std.proofs.Common.{◌+◌, ◌*◌, ◌≤◌, ◌<◌, ◌≡◌, ◌∙◌, length, map, arith, Bor, List, ℕ}
 use Rattle.rb_tree.specs.View.{view_of}
-use Rattle.rb_writer.specs.Collected.{keys_size}
-use Rattle.rb_writer.specs.Most.{data_most}
-use Rattle.rb_writer.specs.Keyed.{place}
-use Rattle.rb_writer.specs.Whole.{index_count}
+use Rattle.rb_writer.specs.inner.Collected.{keys_size}
+use Rattle.rb_writer.specs.inner.Most.{data_most}
+use Rattle.rb_writer.specs.inner.Keyed.{place}
+use Rattle.rb_writer.specs.inner.Whole.{index_count}
 use Rattle.std.specs.Prelude.{IsSome}
 use Rattle.rb_writer.proofs.Ended.{IsWritten}
 use Rattle.rb_writer.proofs.Patches.{five_or_six}

@@ -1,5 +1,5 @@
 use Rattle.std.proofs.Common.{rules, ◌≡◌}
-use Rattle.rb_writer.specs.Collected.{GathersKeys}
+use Rattle.rb_writer.specs.inner.Collected.{GathersKeys}
 use Rattle.rb_writer.proofs.Gathered.{sorted}
 use Rattle.rb_writer.proofs.gather.sorted_keys.Goals as goal
 

@@ -1,5 +1,5 @@
 use Rattle.std.proofs.Common.{rules, ◌≡◌, Some}
-use Rattle.rb_writer.specs.Keyed.{stored}
+use Rattle.rb_writer.specs.inner.Keyed.{stored}
 use Rattle.rb_writer.proofs.Placing.{known_push}
 use Rattle.rb_writer.proofs.keys.add_known.Goals as goal
 

@@ -1,6 +1,6 @@
 use Rattle.std.proofs.Common.{◌≡◌, Some}
 use Rattle.std.specs.Prelude.{All}
-use Rattle.rb_writer.specs.Keyed.{stored}
+use Rattle.rb_writer.specs.inner.Keyed.{stored}
 use Rattle.rb_writer.proofs.keys.known_places.Given as goal
 
 abbrev pub invariant-loop-key : goal.invariant-loop-key

@@ -1,4 +1,4 @@
-use Rattle.rb_writer.specs.Growth.{PutsHalves}
+use Rattle.rb_writer.specs.inner.Growth.{PutsHalves}
 use Rattle.rb_writer.proofs.put.put_halves.Given as goal
 
 abbrev pub invariant-loop-half : goal.invariant-loop-half

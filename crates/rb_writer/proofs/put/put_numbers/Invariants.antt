@@ -1,4 +1,4 @@
-use Rattle.rb_writer.specs.Growth.{PutsNumbers}
+use Rattle.rb_writer.specs.inner.Growth.{PutsNumbers}
 use Rattle.rb_writer.proofs.put.put_numbers.Given as goal
 
 abbrev pub invariant-loop-number : goal.invariant-loop-number

@@ -1,4 +1,4 @@
-use Rattle.rb_writer.specs.Growth.{PutsWords}
+use Rattle.rb_writer.specs.inner.Growth.{PutsWords}
 use Rattle.rb_writer.proofs.put.put_words.Given as goal
 
 abbrev pub invariant-loop-word : goal.invariant-loop-word

@@ -2,10 +2,10 @@ use Rattle.std.proofs.Common.{arith, ◌∙◌, refl, ◌≡◌, length, IsSome}
 use Rattle.std.proofs.lemmas.Grind.{common_steps}
 use Rattle.std.proofs.lemmas.Result.{IfOk-weaker}
 use Rattle.rb_tree.specs.Parts.{children_of, len_of}
-use Rattle.rb_tree.specs.Lower.{child_lower}
+use Rattle.rb_tree.specs.inner.Lower.{child_lower}
 use Rattle.rb_tree.specs.View.{view_of}
-use Rattle.rb_writer.specs.Keyed.{place}
-use Rattle.rb_writer.specs.Standing.{ChildrenStand}
+use Rattle.rb_writer.specs.inner.Keyed.{place}
+use Rattle.rb_writer.specs.inner.Standing.{ChildrenStand}
 use Rattle.rb_writer.proofs.Nodes.{child_room, children_more, keys_stay, string_stands, int_stands, ints_stand, binary_stands, alias_stands}
 use Rattle.rb_writer.proofs.Tabled.{child_keys}
 use Rattle.rb_writer.proofs.Containing.{array_stands, empty_array_stands, table_stands, empty_table_stands, array_room, table_room}

@@ -2,7 +2,7 @@ use Rattle.std.proofs.Common.{◌+◌, ◌*◌}
 use Rattle.rb_tree.specs.Resource.{height}
 use Rattle.rb_tree.specs.Parts.{children_of}
 use Rattle.rb_tree.specs.View.{view_of}
-use Rattle.rb_writer.specs.Standing.{ChildrenStand}
+use Rattle.rb_writer.specs.inner.Standing.{ChildrenStand}
 use Rattle.rb_writer.proofs.tree.+write.Given as goal
 
 abbrev pub decreases-write_value : goal.decreases-write_value

@@ -1,6 +1,6 @@
 use Rattle.std.proofs.Common.{drop, sym}
 use Rattle.rb_lexer.specs.Coming.{left}
-use Rattle.rb_lexer.specs.Left.{Left}
+use Rattle.rb_lexer.specs.inner.Left.{Left}
 use Rattle.rb_lexer.proofs.Pulls.{left_one, left_is, first_of, pop_gives, pop_leaves}
 use Rattle.rb_lexer.proofs.stream.Tokens.pop.Goals as goal
 

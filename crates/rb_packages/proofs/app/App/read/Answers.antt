@@ -1,5 +1,5 @@
 use Rattle.std.proofs.Common.{arith, refl}
-use Rattle.rb_locales.specs.Padded.{IsPadded-front}
+use Rattle.rb_locales.specs.inner.Padded.{IsPadded-front}
 use Rattle.rb_packages.proofs.app.App.read.Goals as goal
 
 pub invariant_of-result : goal.invariant_of-result

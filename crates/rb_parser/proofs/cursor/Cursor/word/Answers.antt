@@ -1,6 +1,6 @@
 use Rattle.std.proofs.Common.{sym, ◌∙◌, ap, option_map}
 use Rattle.rb_grammar.specs.Reading.{first_word, all_words}
-use Rattle.rb_parser.specs.Views.{word_of}
+use Rattle.rb_parser.specs.inner.Views.{word_of}
 use Rattle.rb_parser.proofs.Steps.{word_reads}
 use Rattle.rb_parser.proofs.cursor.Cursor.word.Goals as goal
 

@@ -1,6 +1,6 @@
 use Rattle.std.proofs.Common.{◌≡◌, ◌≢◌, ℕ, ◌/◌, ◌%◌, get_or, refl, sym, ap, ◌∙◌, arith}
-use Rattle.rb_validator.specs.Marks.{slot}
-use Rattle.rb_validator.specs.Packed.{other}
+use Rattle.rb_validator.specs.inner.Marks.{slot}
+use Rattle.rb_validator.specs.inner.Packed.{other}
 use Rattle.rb_validator.proofs.Packing.{mark_none, mark_first, mark_other, code_is, read_at, inside_at}
 use Rattle.rb_validator.proofs.heights.Heights.get.Goals as goal
 

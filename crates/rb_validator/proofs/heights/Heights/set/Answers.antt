@@ -1,5 +1,5 @@
 use Rattle.std.proofs.Common.{◌≡◌, ◌⊎◌, ℕ, ◌+◌, ◌*◌, ◌/◌, cond, eqb, List, length, set, replicate, ap, subst, ◌∙◌, arith}
-use Rattle.rb_validator.specs.Marks.{slot}
+use Rattle.rb_validator.specs.inner.Marks.{slot}
 use Rattle.rb_validator.proofs.Cells.{slot_low}
 use Rattle.rb_validator.proofs.Packing.{ready, code_is, inside_at, first_set, set_beside}
 use Rattle.rb_validator.proofs.heights.Heights.set.Goals as goal

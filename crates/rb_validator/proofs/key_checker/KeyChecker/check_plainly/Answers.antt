@@ -1,7 +1,7 @@
 use Rattle.std.proofs.Common.{◌≡◌, ◌+◌, suc, Ok, Err, below_more, sym, ap, ◌∙◌, arith}
 use Rattle.std.proofs.lemmas.Result.{err_from_is_err_and}
-use Rattle.rb_format.specs.FirstFault.{next_key}
-use Rattle.rb_validator.specs.KnownKeys.{last_key, key_or_none}
+use Rattle.rb_format.specs.inner.FirstFault.{next_key}
+use Rattle.rb_validator.specs.inner.KnownKeys.{last_key, key_or_none}
 use Rattle.rb_format.specs.Geometry.{key_offset as offset_in}
 use Rattle.rb_format.specs.Place.{key}
 use Rattle.rb_validator.proofs.Pairs.{good_stop, next_ok, counted_more}

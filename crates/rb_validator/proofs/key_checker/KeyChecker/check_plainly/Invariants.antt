@@ -1,5 +1,5 @@
 use Rattle.std.proofs.Common.{◌≡◌}
-use Rattle.rb_validator.specs.KnownKeys.{AreGood, IsSound, last_key}
+use Rattle.rb_validator.specs.inner.KnownKeys.{AreGood, IsSound, last_key}
 use Rattle.rb_format.specs.Geometry.{key_offset as offset_in}
 use Rattle.rb_validator.proofs.key_checker.KeyChecker.check_plainly.Given as goal
 

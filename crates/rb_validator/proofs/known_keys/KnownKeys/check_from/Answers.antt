@@ -1,7 +1,7 @@
 use Rattle.std.proofs.Common.{◌≡◌, None, below_more, sym, arith}
 use Rattle.std.proofs.lemmas.Result.{err_from_is_err_and}
-use Rattle.rb_format.specs.FirstFault.{fault_of, next_key}
-use Rattle.rb_validator.specs.KnownKeys.{last_key}
+use Rattle.rb_format.specs.inner.FirstFault.{fault_of, next_key}
+use Rattle.rb_validator.specs.inner.KnownKeys.{last_key}
 use Rattle.rb_format.specs.Geometry.{key_offset as offset_in}
 use Rattle.rb_validator.proofs.Pairs.{good_stop, next_err, next_good}
 use Rattle.rb_validator.proofs.Refusals.{agreed, refused}

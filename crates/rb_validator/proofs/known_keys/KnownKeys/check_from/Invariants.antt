@@ -1,5 +1,5 @@
 use Rattle.std.proofs.Common.{◌-◌}
-use Rattle.rb_validator.specs.KnownKeys.{AreGood}
+use Rattle.rb_validator.specs.inner.KnownKeys.{AreGood}
 use Rattle.rb_format.specs.Geometry.{key_offset as offset_in}
 use Rattle.rb_validator.proofs.known_keys.KnownKeys.check_from.Given as goal
 

@@ -1,7 +1,7 @@
 use Rattle.std.proofs.Common.{◌≡◌, ℕ, ◌+◌, ◌-◌, length, refl, sym, ap, ◌∙◌}
 use Rattle.std.proofs.lemmas.List.{with_items_is}
 use Rattle.rb_format.specs.Place.{half_at, word_at}
-use Rattle.rb_validator.specs.KnownKeys.{IsRedirected}
+use Rattle.rb_validator.specs.inner.KnownKeys.{IsRedirected}
 use Rattle.rb_format.specs.Geometry.{key_offset as offset_in}
 use Rattle.rb_validator.proofs.Pairs.{redirected_linked}
 use Rattle.rb_validator.proofs.known_keys.KnownKeys.keep.Goals as goal

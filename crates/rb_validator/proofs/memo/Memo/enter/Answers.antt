@@ -1,6 +1,6 @@
 use Rattle.std.proofs.Common.{◌≡◌, ◌+◌, ◌<◌, suc, length, get_or, set, sym, ◌∙◌, arith}
 use Rattle.std.proofs.lemmas.List.{length-set}
-use Rattle.rb_validator.specs.Marks.{cell, marked}
+use Rattle.rb_validator.specs.inner.Marks.{cell, marked}
 use Rattle.rb_validator.proofs.Marked.{marked_le, marked_more}
 use Rattle.rb_validator.proofs.memo.Memo.enter.Goals as goal
 

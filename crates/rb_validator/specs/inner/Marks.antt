@@ -9,7 +9,7 @@ use Rattle.rb_format.specs.declared.fault.FileFault.{FileFault}
 use Rattle.rb_format.specs.declared.fault.FileFault.TheVariants.{Length, TooDeep}
 use Rattle.rb_format.specs.Place.{word_at}
 use Rattle.rb_format.specs.Item.{kind_of, offset_of}
-use Rattle.rb_format.specs.FirstFault.{◌>>=◌, read, contents, keys, trees}
+use Rattle.rb_format.specs.inner.FirstFault.{◌>>=◌, read, contents, keys, trees}
 use Rattle.rb_validator.specs.declared.children.Children.{Children}
 use Rattle.rb_validator.specs.declared.memo.Mark.{Mark}
 use Rattle.rb_validator.specs.declared.runs.Run.{Run}

@@ -4,7 +4,7 @@ use Rattle.rb_lexer.specs.declared.fault.SourceKind.TheVariants.{Memory}
 use Rattle.rb_lexer.specs.declared.fault.SourceFault.{SourceFault}
 use Rattle.rb_grammar.specs.Form.{Entries, Head}
 use Rattle.rb_grammar.specs.Reading.{Stop}
-use Rattle.rb_parser.specs.Reads.{located, IsTableTree, IsFlag}
+use Rattle.rb_parser.specs.inner.Reads.{located, IsTableTree, IsFlag}
 use Rattle.rb_parser.specs.declared.source.Source.{Source}
 
 abbrev pub ReadsBundle : ℕ → Result Source SourceFault → Result (List ℕ × Head × Entries) Stop → Type 0

@@ -1,7 +1,7 @@
 -- For proofs only: a name and its fields, which follow from it.
 use Rattle.std.specs.Prelude.{◌≡◌, List, ℕ, length, take, Some}
 use Rattle.rb_locales.specs.Locale.{written, first}
-use Rattle.rb_locales.specs.Padded.{IsPadded, padded, padded-take}
+use Rattle.rb_locales.specs.inner.Padded.{IsPadded, padded, padded-take}
 use Rattle.rb_locales.specs.declared.limits.TheConstants.{NAME_LIMIT}
 use Rattle.rb_locales.specs.declared.name.Name.TheInside.{Inside}
 

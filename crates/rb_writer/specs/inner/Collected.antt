@@ -3,8 +3,8 @@ use Rattle.std.specs.Prelude.{◌≡◌, ◌≤◌, ℕ, ◌+◌, List, [], ◌�
 use Rattle.std.proofs.Common.{Bor}
 use Rattle.rb_tree.specs.Keys.{IsKey}
 use Rattle.rb_tree.specs.Resource.{Resource}
-use Rattle.rb_writer.specs.Most.{keys_most}
-use Rattle.rb_writer.specs.Places.{EachKey}
+use Rattle.rb_writer.specs.inner.Most.{keys_most}
+use Rattle.rb_writer.specs.inner.Places.{EachKey}
 
 -- what keys take, each with its NUL
 abbrev pub keys_size : List (List ℕ) → ℕ

@@ -6,12 +6,12 @@ use Rattle.rb_format.specs.Place.{key}
 use Rattle.std.specs.Map.{keys_of}
 use Rattle.rb_tree.specs.Keys.{pairs, IsTable}
 use Rattle.rb_format.specs.declared.kind.ItemKind.TheVariants.{Table, LongTable}
-use Rattle.rb_format.specs.FirstFault.{read}
+use Rattle.rb_format.specs.inner.FirstFault.{read}
 use Rattle.rb_format.specs.Item.{kind_of, offset_of}
-use Rattle.rb_writer.specs.Growth.{Adds, IsDraft, draft, PutsWord, PutsWords, PutsHalf, PutsHalves}
-use Rattle.rb_writer.specs.Most.{data_most}
-use Rattle.rb_writer.specs.Places.{EachKey}
-use Rattle.rb_writer.specs.Keyed.{place}
+use Rattle.rb_writer.specs.inner.Growth.{Adds, IsDraft, draft, PutsWord, PutsWords, PutsHalf, PutsHalves}
+use Rattle.rb_writer.specs.inner.Most.{data_most}
+use Rattle.rb_writer.specs.inner.Places.{EachKey}
+use Rattle.rb_writer.specs.inner.Keyed.{place}
 use Rattle.rb_writer.specs.declared.keys.KeyPlaces.{KeyPlaces}
 
 -- a tree was written, and an item stands for it

@@ -2,9 +2,9 @@
 use Rattle.std.specs.Prelude.{◌≡◌, ℕ, ◌+◌, ◌<◌, ◌≤◌, List, length, get_or, take, drop, IsSome, Some, slice_get}
 use Rattle.std.proofs.Common.{Bor}
 use Rattle.std.specs.BTreeMap as tree_map
-use Rattle.rb_writer.specs.Keyed.{stored}
+use Rattle.rb_writer.specs.inner.Keyed.{stored}
 use Rattle.rb_tree.specs.Keys.{IsKey}
-use Rattle.rb_writer.specs.Collected.{keys_size}
+use Rattle.rb_writer.specs.inner.Collected.{keys_size}
 
 -- a key is at an offset from `start` on, with a NUL after it
 pub record KeyAt (start : ℕ) (body k : List ℕ) (o : ℕ) : Type 0 where

@@ -3,7 +3,7 @@ use Rattle.rb_writer.specs.declared.area.KeyArea.{KeyArea}
 use Rattle.std.specs.Prelude.{◌≡◌, ◌⊎◌, ℕ, ℤ, ◌+◌, ◌*◌, ◌/◌, ◌^◌, ◌<◌, ◌≤◌, List, length, get_or, drop, Result, Ok, map}
 use Rattle.std.specs.Int.{cast_signed, w32}
 use Rattle.rb_format.specs.declared.fault.FileFault.{FileFault}
-use Rattle.rb_format.specs.FirstFault.{result_map, numbers}
+use Rattle.rb_format.specs.inner.FirstFault.{result_map, numbers}
 use Rattle.rb_format.specs.Place.{word_at, half_at}
 use Rattle.rb_format.specs.declared.layout.Layout.{Layout}
 

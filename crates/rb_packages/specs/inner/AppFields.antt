@@ -1,6 +1,6 @@
 -- For proofs only: an application's name and its fields, which follow from it.
 use Rattle.std.specs.Prelude.{◌≡◌, List, ℕ, length, take}
-use Rattle.rb_locales.specs.Padded.{IsPadded, padded, padded-take}
+use Rattle.rb_locales.specs.inner.Padded.{IsPadded, padded, padded-take}
 use Rattle.rb_packages.specs.declared.app.App.TheInside.{Inside}
 
 abbrev pub IsAppFields : Inside → Type 0

@@ -3,10 +3,10 @@ use Rattle.std.specs.Prelude.{◌≡◌, ◌⊎◌, ℕ, zero, suc, ◌+◌, ◌
 use Rattle.std.specs.Prelude.{IfSome}
 use Rattle.rb_format.specs.declared.layout.Layout.{Layout}
 use Rattle.rb_format.specs.Place.{word_at, half_at, key}
-use Rattle.rb_format.specs.FirstFault.{next_key}
+use Rattle.rb_format.specs.inner.FirstFault.{next_key}
 use Rattle.rb_validator.specs.declared.known_keys.KnownKeys.{KnownKeys}
-use Rattle.rb_validator.specs.Ranks.{IsRanked}
-use Rattle.rb_validator.specs.Lengths.{AreCounted}
+use Rattle.rb_validator.specs.inner.Ranks.{IsRanked}
+use Rattle.rb_validator.specs.inner.Lengths.{AreCounted}
 
 -- the bytes of the keys
 abbrev pub key_run : Layout → List ℕ → List ℕ

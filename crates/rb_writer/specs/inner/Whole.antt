@@ -1,7 +1,7 @@
 -- The file of what was written. Only private contracts and proofs read this.
 use Rattle.std.specs.Prelude.{◌≡◌, Bool, true, if◌then◌else◌, ℕ, ◌+◌, ◌*◌, ◌/◌, ◌<◌, ◌≤◌, List, length, get_or, take, drop}
 use Rattle.rb_format.specs.Place.{word_at}
-use Rattle.rb_writer.specs.Header.{header}
+use Rattle.rb_writer.specs.inner.Header.{header}
 use Rattle.rb_writer.specs.declared.area.KeyArea.{KeyArea}
 
 -- the attributes are the sixth index

@@ -1,0 +1,2 @@
+pub mod LevelResult
+pub mod Steps

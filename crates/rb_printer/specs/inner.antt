@@ -1,0 +1,4 @@
+pub mod Formed
+pub mod Growth
+pub mod Least
+pub mod Lexed

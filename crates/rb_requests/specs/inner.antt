@@ -1,0 +1,4 @@
+pub mod Line
+pub mod MayTakeEffect
+pub mod OneLine
+pub mod Taken

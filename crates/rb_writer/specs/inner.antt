@@ -1,0 +1,9 @@
+pub mod Collected
+pub mod Growth
+pub mod Header
+pub mod Keyed
+pub mod Keying
+pub mod Most
+pub mod Places
+pub mod Standing
+pub mod Whole
