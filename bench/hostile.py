@@ -287,14 +287,20 @@ def long_alias(size):
     return install(b"root", b'root{a:alias{"root@' + b"x" * size + b'/a"}}'), look(b"root", b"a")
 
 
+def growing_path(size):
+    """The same, where each alias makes the path longer, so that no level is asked what an earlier one was."""
+    return install(b"root", b'root{a:alias{"root@' + b"x" * size + b'/a/b"}}'), look(b"root", b"a/b")
+
+
 def deep_trail(size):
-    """A trail of 32 names, of which the last has an alias to the whole way again; on the way there are tables 60 deep."""
+    """A trail of 32 names, of which the last has an alias to the whole way again; on the way there are tables 60 deep,
+    each with as many other entries as make so much text."""
     names = [b"root"] + [b"b%c%c" % (97 + i // 26, 97 + i % 26) for i in range(30)]
     path = b"/".join([b"k"] * 60)
-    filler = b"".join(b"%05d{}" % i for i in range(size // 31 // 420))
+    filler = b"".join(b"%05d{}" % i for i in range(size // 30 // 59 // 7))
     lines = []
     for name, parent in zip(names[1:], names[2:] + [b"root"]):
-        deep = b"k{" * 59 + filler + b"}" * 59
+        deep = (b"k{" + filler) * 59 + b"}" * 59
         lines.append(install(name, name + b'{%%Parent{"' + parent + b'"}' + deep + b"}"))
     lines.append(install(b"root", b"root{" + b"k{" * 59 + b'k:alias{"baa/' + path + b'"}' + b"}" * 59 + b"}"))
     return b"".join(lines), look(b"baa", path)
@@ -421,7 +427,8 @@ def main():
     for name, make in TEXTS:
         report.text(name, make, [MB, 4 * MB, 8 * MB])
     report.lookup("an alias with a long text", long_alias, [MB, 4 * MB, 8 * MB], 50)
-    report.lookup("a trail of 32 names, 256 levels", deep_trail, [MB // 100, MB, 7 * MB], 100)
+    report.lookup("an alias with a long text, a longer path each time", growing_path, [MB, 4 * MB, 8 * MB], 50)
+    report.lookup("a trail of 32 names, 256 levels", deep_trail, [MB // 100, MB, 7 * MB, 20 * MB], 100)
     report.reply("a reply whose keys share their bytes", [MB // 20, MB // 10, MB * 3 // 10])
     report.line("members that nobody asked for", [MB, 8 * MB, 48 * MB])
     report.applications("applications of one small bundle", [1_000, 10_000, 100_000])
