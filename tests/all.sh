@@ -1,9 +1,9 @@
 #!/usr/bin/env bash
-# All tests. First what needs no built program: the launcher, the manual page where mandoc is there, where definitions stand, a program that must not compile,
-# and one of whose allocations each is refused in turn. Then the gate, which proves every crate from nothing, tries the wrong bodies,
-# runs each test, and builds the program. Last what runs that program: the examples, the documents, traced lookups, the bench of daily
-# use over small texts, replies through pipes, lines read in two ways, the package, tools/icu2text beside ICU's tools, the shards of
-# deploy/, and its gateway.
+# All tests. First what needs no built program: the launcher, the manual page where mandoc is there, where definitions stand, a program
+# that must not compile, and one of whose allocations each is refused in turn. Then the gate, which proves every crate from nothing,
+# tries the wrong bodies, runs each test, and builds the program. Last what runs that program: the examples, the documents, traced
+# lookups, the bench of daily use over small texts, replies through pipes, lines read in two ways, the package, tools/icu2text beside
+# ICU's tools, the shards of deploy/, and its gateway.
 set -eu
 cd "$(dirname "$0")/.."
 program=crates/rb_tool/out/rb_tool
