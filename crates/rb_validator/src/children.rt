@@ -27,7 +27,7 @@ pub fn has_children(kind: ItemKind) -> bool
 }
 
 /// The items of a table or an array, if its length and its keys are right. `Memory` may come in place of an answer.
-#[tactic(auto, unfolding(crate::specs::Marks::children_at))]
+#[tactic(auto, unfolding(crate::specs::inner::Marks::children_at))]
 pub fn find_children(
     layout: &Layout,
     body: &[u8],

@@ -23,7 +23,7 @@ pub struct Counts {
 }
 
 /// How many places a file has, and how many bytes of its keys were compared, or its first fault; `Memory` may come in place of an answer.
-#[tactic(auto, using(rb_format::proofs::Checks::header_is), unfolding(rb_format::specs::FirstFault::read_file))]
+#[tactic(auto, using(rb_format::proofs::Checks::header_is), unfolding(rb_format::specs::inner::FirstFault::read_file))]
 pub fn check_file(alloc: Global, bytes: &[u8]) -> Result<Counts, FileFault>
     ensures answer { MatchResult result (λ _. fault_of (read_file 64 bytes.now) ≡ None)
         (λ e. (e ≡ FileFault.Memory) ⊎ (fault_of (read_file 64 bytes.now) ≡ Some e)) }
@@ -38,7 +38,7 @@ pub fn check_file(alloc: Global, bytes: &[u8]) -> Result<Counts, FileFault>
 }
 
 /// The same of the data after the header of a file of a minor version.
-#[tactic(auto, unfolding(rb_format::specs::FirstFault::read_data))]
+#[tactic(auto, unfolding(rb_format::specs::inner::FirstFault::read_data))]
 fn check_data(alloc: Global, minor: u8, body: &[u8]) -> Result<Counts, FileFault>
     requires { length body.now ≤ 67108864 }
     ensures answer { MatchResult result (λ _. fault_of (read_data 64 minor body.now) ≡ None)

@@ -49,7 +49,7 @@ pub fn is_closely_below(a: &[u8], b: &[u8], compared: &mut u64) -> bool
 }
 
 /// The key at an offset, if it is above the last one.
-#[tactic(auto, unfolding(rb_format::specs::FirstFault::next_key))]
+#[tactic(auto, unfolding(rb_format::specs::inner::FirstFault::next_key))]
 #[inline(always)]
 pub fn next_key<'a>(
     layout: &Layout,

@@ -32,7 +32,7 @@ pub fn check_offset(layout: &Layout, kind: ItemKind, offset: u32) -> Result<bool
 }
 
 /// The checks of a String or an Alias: its units, and a zero unit after them, end at or below the top.
-#[tactic(auto, unfolding(rb_format::specs::FirstFault::units))]
+#[tactic(auto, unfolding(rb_format::specs::inner::FirstFault::units))]
 #[inline(always)]
 pub fn check_units(layout: &Layout, body: &[u8], offset: u32) -> Result<(), FileFault>
     requires room { 4 * layout.now.top ≤ length body.now }
@@ -52,7 +52,7 @@ pub fn check_units(layout: &Layout, body: &[u8], offset: u32) -> Result<(), File
 }
 
 /// The check of a Binary: its bytes end at or below the top.
-#[tactic(auto, unfolding(rb_format::specs::FirstFault::bytes))]
+#[tactic(auto, unfolding(rb_format::specs::inner::FirstFault::bytes))]
 pub fn check_bytes(layout: &Layout, body: &[u8], offset: u32) -> Result<(), FileFault>
     requires room { 4 * layout.now.top ≤ length body.now }
     requires below { offset < layout.now.top }
@@ -68,7 +68,7 @@ pub fn check_bytes(layout: &Layout, body: &[u8], offset: u32) -> Result<(), File
 }
 
 /// The check of Ints: they end at or below the top.
-#[tactic(auto, unfolding(rb_format::specs::FirstFault::numbers))]
+#[tactic(auto, unfolding(rb_format::specs::inner::FirstFault::numbers))]
 pub fn check_numbers(layout: &Layout, body: &[u8], offset: u32) -> Result<(), FileFault>
     requires room { 4 * layout.now.top ≤ length body.now }
     requires below { offset < layout.now.top }
@@ -84,7 +84,7 @@ pub fn check_numbers(layout: &Layout, body: &[u8], offset: u32) -> Result<(), Fi
 }
 
 /// The checks of a value without children.
-#[tactic(auto, unfolding(rb_format::specs::FirstFault::contents))]
+#[tactic(auto, unfolding(rb_format::specs::inner::FirstFault::contents))]
 #[inline(always)]
 pub fn check_leaf(
     layout: &Layout,

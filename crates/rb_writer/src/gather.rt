@@ -168,7 +168,7 @@ pub fn sorted_keys<'a>(alloc: Global, gathered: &Gathered<'a>) -> Result<Vec<&'a
 }
 
 /// Adds the keys of a tree.
-#[tactic(auto, using(rb_tree::specs::Lower::item_low, rb_tree::specs::Lower::value_low))]
+#[tactic(auto, using(rb_tree::specs::inner::Lower::item_low, rb_tree::specs::inner::Lower::value_low))]
 fn collect_keys<'a>(tree: &'a Tree, gathered: &mut Gathered<'a>) -> Result<(), AllocError>
     ensures { OnOk result (Gathers (view_of tree.now) gathered.old.keys.items gathered.new.keys.items) }
 {

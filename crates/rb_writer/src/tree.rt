@@ -59,7 +59,7 @@ pub fn write_value(
 
 /// Writes the children of an array or a table, and returns the items that stand for them.
 #[cycle(write)]
-#[tactic(auto, using(rb_tree::specs::Lower::child_lower, rb_tree::specs::Lower::children_len, crate::proofs::Nodes::children_none))]
+#[tactic(auto, using(rb_tree::specs::inner::Lower::child_lower, rb_tree::specs::inner::Lower::children_len, crate::proofs::Nodes::children_none))]
 fn write_children(
     alloc: Global,
     out: &mut Data,
