@@ -108,7 +108,7 @@ prove_and_link() {
 }
 
 build() {
-    say 'proving and building; a first build takes a quarter of an hour or more'
+    say 'proving and building; a first build takes twenty minutes or more'
     log=$(mktemp)
     began=$(mktemp)
     trap 'rm -f "$log" "$began"' EXIT
