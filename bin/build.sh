@@ -10,7 +10,7 @@ has_toolchain() {
     command -v rt >/dev/null
 }
 
-# What is done where there is no program of the present sources.
+# What is done if there is no program of the present sources.
 run_or_build() {
     if [ "${1-}" = --unproved ]; then
         shift

@@ -1,14 +1,14 @@
 #!/usr/bin/env bash
-# All tests. First what needs no built program: the launcher, the manual page where mandoc is there, where definitions stand, a program
+# All tests. First what needs no built program: the launcher, the manual page if mandoc is there, where definitions stand, a program
 # that must not compile, and one of whose allocations each is refused in turn. Then the gate, which proves every crate from nothing,
 # tries the wrong bodies, runs each test, and builds the program. Last what runs that program: the examples, the documents, traced
-# lookups, the bench of daily use over small texts, replies through pipes, lines read in two ways, the package, tools/icu2text beside
+# lookups, the bench of daily use over small texts, replies through pipes, lines with a member more, the package, tools/icu2text beside
 # ICU's tools, the shards of deploy/, and its gateway.
 set -eu
 cd "$(dirname "$0")/.."
 program=crates/rb_tool/out/rb_tool
 
-# has COMMAND: whether it is there, said where it isn't
+# has COMMAND: whether it is there, said if it isn't
 has() {
     command -v "$1" >/dev/null || {
         echo "skipped: $1 is not there"
@@ -16,7 +16,7 @@ has() {
     }
 }
 
-# once_more COMMAND..: runs what waits for other processes a second time where it failed, as a machine may have been busy
+# once_more COMMAND..: runs what waits for other processes a second time if it failed, as a machine may have been busy
 once_more() {
     "$@" || {
         echo "failed, and is tried once more: $1"
@@ -31,7 +31,7 @@ fi
 if has python3; then
     tests/trusted.py --inner
 fi
-tests/borrows.sh
+tests/no_change_while_lent.sh
 tests/memory.sh
 rt ci
 tests/examples.sh "$program"
@@ -45,7 +45,7 @@ if has python3; then
     tests/traces.py "$program"
     bench/daily.py --self-test "$program"
     tests/pipe.py "$program"
-    tests/same_readings.py "$program"
+    tests/ignored_members.py "$program"
     tests/icu2text.py "$program"
     tests/icu.sh "$program" brkitr translit
     tests/json_values.py "$program"

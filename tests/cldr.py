@@ -2,13 +2,13 @@
 """Lookups in all of CLDR beside libicu: each bundle of each tree of ICU's data is read by tools/icu2text, compiled by `resb compile` and
 installed in `resb serve` for an application a tree, with ICU's explicit parents. Paths of strings, chosen at random out of all that the
 tree's bundles have, are looked up from locales chosen at random, and the replies compared with libicu's over its own data: value,
-actual and valid locale. What differs is counted by its reason, and printed where there is none.
+actual and valid locale. What differs is counted by its reason, and printed if there is none.
 
 The locales are those of all trees, and each with a region that no bundle has. libicu answers through bench/icu_server.c.
 
 usage: cldr.py [PROGRAM [LOOKUPS]]   (default: crates/rb_tool/out/rb_tool and 20,000 in each tree); by hand, takes some minutes
 ICU_PACKAGE is the package icudt*.dat of the installed libicu (default: cut out of libicudata). Needs cc, pkg-config, icu-uc and, without
-ICU_PACKAGE, objcopy; where one of these is missing, a line says `skipped` and which, and the status is 0.
+ICU_PACKAGE, objcopy; if one of these is missing, a line says `skipped` and which, and the status is 0.
 """
 import collections
 import ctypes.util
@@ -149,7 +149,7 @@ def reason(our, their, begun, ended, alone):
     if their == {"error": "Missing"} and our.get("value", "") == ended.get("value"):
         return "left out: an array of an earlier bundle is too short, and resb reads the index in the later ones too"
     if alone == their:
-        return "left out: a bundle has an explicit parent, for which libicu asks only where there is no bundle"
+        return "left out: a bundle has an explicit parent, for which libicu asks only if there is no bundle"
     return None
 
 

@@ -1,8 +1,8 @@
 #!/usr/bin/env bash
-# Runs the clients of examples/clients/ over the pipe of a built program, each where its language is there.
+# Runs the clients of examples/clients/ over the pipe of a built program, each if its language is there.
 #
 # usage: clients.sh PROGRAM
-# Ends with status 0 where each does what it should, and else with another; says `skipped` where there is no such program.
+# Ends with status 0 if each does what it should, and else with another; says `skipped` if there is no such program.
 set -eu
 program=${1:?usage: clients.sh PROGRAM}
 if [ ! -x "$program" ]; then

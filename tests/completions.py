@@ -4,7 +4,7 @@ flags. Commands that only `resb` has, or only a file of completions, count too. 
 of `resb --version` first.
 
 usage: completions.py PROGRAM
-Ends with status 0 where all agree, with 1 where one differs; says `skipped` where there is no such program.
+Ends with status 0 if all agree, with 1 if one differs; says `skipped` if there is no such program.
 """
 import os
 import re

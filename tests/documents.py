@@ -4,18 +4,19 @@
 A block that begins with ```console has commands, as they are typed: a line that begins with `$ ` is a command, lines after it
 that begin with `> ` are more of it, and all other lines up to the next command are what it prints, on standard output and
 standard error together. The blocks of a page are run in their order, by one shell, in an empty folder; `resb` is the built
-program, `icu2text` the script in tools/, and $EXAMPLES is the folder examples/ of this repository. Where a page begins with a block
+program, `icu2text` the script in tools/, and $EXAMPLES is the folder examples/ of this repository. If a page begins with a block
 of ```console first, each other block is run by a shell of its own, which runs that first block before it, in a folder that has bin/,
 tools/ and examples/ as this repository does. A block of ```console by-hand needs more than a shell (other tools, or files from a
-network), and is run only where --with gives what it needs. All other blocks are left alone.
+network), and is run only if --with gives what it needs. All other blocks are left alone.
 
-It also compares the pages with the code: each relative link leads to a file and to a heading in it; docs/TROUBLESHOOTING.md and
+It also compares the pages with the code: each relative link leads to a file and to a heading in it; files, and items as
+`rb_tree::walk`, that a page names are there; docs/TROUBLESHOOTING.md and
 docs/resb.1 have each error word; docs/ARCHITECTURE.md has each crate of crates.txt with what it uses, and these name what they cite; the
 definitions, laws and clauses that docs/PROOFS.md names are in the crates of its section, and it has the count of tests/trusted.py; `resb explain` says what docs/TROUBLESHOOTING.md does.
 
 usage: documents.py [--with FILE]... [PROGRAM]   (default: crates/rb_tool/out/rb_tool)
   --with FILE  copies FILE into the folder that the blocks are run in, and runs those by hand too
-Ends with status 0 where all agree, with 1 where something differs; says `skipped` of the commands where there is no such program.
+Ends with status 0 if all agree, with 1 if something differs; says `skipped` of the commands if there is no such program.
 """
 import argparse
 import glob
@@ -91,7 +92,7 @@ def answers_in(text):
 
 
 def printed(program, first, groups, given):
-    """What each command of some blocks prints: where there is a first block, each is run by a shell of its own after it, and else all
+    """What each command of some blocks prints: if there is a first block, each is run by a shell of its own after it, and else all
     by one shell."""
     with tempfile.TemporaryDirectory() as folder:
         for name in ("bin", "tools", "run"):
@@ -177,8 +178,34 @@ def bad_links(name):
 
 def pages():
     """The pages whose links are followed."""
-    found = [page for place in ("*.md", "*/*.md", "bench/*/*.md") for page in glob.glob(os.path.join(TOP, place))]
+    found = [page for place in ("*.md", "*/*.md", "*/*/*.md") for page in glob.glob(os.path.join(TOP, place))]
     return sorted(os.path.relpath(page, TOP) for page in found)
+
+
+def named_on(name):
+    """What a page names between backticks, outside its blocks."""
+    return re.findall(r"`([^`\n]+)`", re.sub(r"^```.*?^```", "", text_of(name), flags=re.M | re.S))
+
+
+def missing_files():
+    """The files that a page names and that aren't there: paths from the top or the page's folder, and sources of any crate."""
+    places = "bin|tools|tests|docs|deploy|bench|examples|crates"
+    files = [os.path.relpath(file, TOP) for file in glob.glob(os.path.join(TOP, "crates", "*", "[!o]*", "**"), recursive=True)]
+    for page in pages():
+        for named in named_on(page):
+            if re.fullmatch(rf"({places})/[\w./-]+", named) and not re.search(r"\b(NAME|CRATE)\b|/out\b", named):
+                if not any(os.path.exists(os.path.join(TOP, place, named)) for place in ("", os.path.dirname(page))):
+                    yield f"{page}: there is no {named}"
+            elif re.fullmatch(r"[\w./-]+\.(rt|antt)", named) and not any(f"/{file}".endswith(f"/{named}") for file in files):
+                yield f"{page}: no crate has {named}"
+
+
+def missing_items():
+    """The items of crates that a page names, as `rb_tree::walk`, and that aren't there."""
+    for page in pages():
+        for crate, item in (found for named in named_on(page) for found in re.findall(r"^(rb_\w+)::([\w:]+)$", named)):
+            if crate not in crates() or not is_named(item, [crate]):
+                yield f"{page}: there is no {crate}::{item}"
 
 
 def text_of(*names):
@@ -261,7 +288,7 @@ def wrong_uses():
 
 
 def wrong_count():
-    """The count of definitions, where docs/PROOFS.md doesn't have it."""
+    """The count of definitions, if docs/PROOFS.md doesn't have it."""
     told = subprocess.run([os.path.join(TOP, "tests/trusted.py")], capture_output=True, text=True, check=True).stdout
     calls, laws = (f"{int(count):,}" for count in told.split()[-2:])
     sentence = f"The contracts of calls reach {calls} lines of definitions, and those of laws {laws} more"
@@ -304,7 +331,7 @@ def unknown_names():
 def compare_code():
     """Prints where a page isn't what the code is, and tells how often."""
     wrong = [f"{name}: the link {link} leads nowhere" for name in pages() for link in bad_links(name)]
-    wrong += [*missing_words(), *wrong_rows(), *wrong_uses(), *wrong_count(), *unknown_names()]
+    wrong += [*missing_files(), *missing_items(), *missing_words(), *wrong_rows(), *wrong_uses(), *wrong_count(), *unknown_names()]
     print("".join(f"{line}\n" for line in wrong), end="")
     return len(wrong)
 

@@ -1,23 +1,23 @@
 #!/usr/bin/env python3
 """Tries wrong bodies, many in one check: the prover must refuse each.
 
-An edit is a file `edits/CRATE/NAME.edit` with a line `file: src/x.rt` and then pairs of lines `old: TEXT` and `new: TEXT`; each
+An edit is a file `crates/CRATE/edits/NAME.edit` with a line `file: src/x.rt` and then pairs of lines `old: TEXT` and `new: TEXT`; each
 `old` stands in that file exactly once. The gate tries those of crates/CRATE/must-fail/, one by one; this script tries the
 others, on a copy of the crate over the work that `rt check` kept in out/. The work tree is only read.
 
 Edits of different functions go into one check, since the goals of a function depend on what other functions promise and not on
-their bodies. An edit counts as refused where a goal of a function that it changes isn't proved: `search` found nothing, or a
+their bodies. An edit counts as refused if a goal of a function that it changes isn't proved: `search` found nothing, or a
 proof by hand doesn't show what is left. That a function calls one that isn't proved doesn't count, nor that a proof by hand
 names what the edit took away. An edit that isn't refused so, together with others, is tried alone before it is reported. What
 changes no function (a constant, say) is tried alone from the first, and any function's goal counts.
 
-Prints a line for each edit that isn't refused, and at the end `N refused, M not`; ends with status 1 where one is not.
+Prints a line for each edit that isn't refused, and at the end `N refused, M not`; ends with status 1 if one is not.
 
-usage: edits.py [--gate] [--alone] [--jobs N] [CRATE ..]   (default: all of edits/)
+usage: edits.py [--gate] [--alone] [--jobs N] [CRATE ..]   (default: all crates that have some)
   --gate    tries those of crates/CRATE/must-fail/ too
   --alone   tries each edit in a check of its own
-  --jobs N  so many checks side by side (default: 1; each takes one processor and 1 to 3 GB)
-The variable RT names the command `rt`, where it is another.
+  --jobs N  N checks side by side (default: 1; each takes one processor and 1 to 3 GB)
+The variable RT names the command `rt`, if it is another.
 """
 import argparse
 import os
@@ -159,7 +159,7 @@ class Copy:
         self.folder, self.crate = folder, f"{folder}/crates/{crate}"
 
     def check(self, edits):
-        """Checks the crate with some edits, and returns what was said, or None where they did not reach the prover."""
+        """Checks the crate with some edits, and returns what was said, or None if they did not reach the prover."""
         texts = {}
         for edit in edits:
             for file, old, new in edit.texts:
@@ -238,7 +238,7 @@ def why_not(edit, said, crate):
 
 
 def trial(copy, edits, crate):
-    """Tries edits together, and in halves where together they do not reach the prover; returns those that are refused."""
+    """Tries edits together, and in halves if together they do not reach the prover; returns those that are refused."""
     said = copy.check(edits)
     if reached(said) or len(edits) == 1:
         return [(it, is_refused(it, said, crate) and reached(said), said) for it in edits]
@@ -264,7 +264,7 @@ def copied(room, crate, listed):
     if os.path.isfile(f"{TOP}/HANDLES"):
         shutil.copy(f"{TOP}/HANDLES", base)
     for name in names:
-        ignored = ("must-fail", "*.log") + (() if name == crate else ("incremental",))
+        ignored = ("must-fail", "edits", "*.log") + (() if name == crate else ("incremental",))
         shutil.copytree(f"{TOP}/crates/{name}", f"{base}/crates/{name}", ignore=shutil.ignore_patterns(*ignored))
     said = Copy(base, crate).check([])
     if not re.search(r"^logic=proved", said, re.M):
@@ -326,9 +326,11 @@ def is_single(edit, groups):
     return any(group == [edit] for group in groups)
 
 
-def edits_in(folder, short, crate):
+def edits_in(crate, name):
+    """The edits of a crate that are in one of its folders."""
+    folder = f"{TOP}/crates/{crate}/{name}"
     names = sorted(os.listdir(folder)) if os.path.isdir(folder) else []
-    return [read_edit(f"{short}/{it}", f"{folder}/{it}", f"{TOP}/crates/{crate}") for it in names if it.endswith(".edit")]
+    return [read_edit(f"{crate}/{name}/{it}", f"{folder}/{it}", f"{TOP}/crates/{crate}") for it in names if it.endswith(".edit")]
 
 
 def main():
@@ -346,9 +348,9 @@ def main():
         sys.exit(f"edits: no crate {unknown[0]}")
     refused = others = 0
     for crate in given.crates or listed:
-        edits = edits_in(f"{TOP}/edits/{crate}", f"edits/{crate}", crate)
+        edits = edits_in(crate, "edits")
         if given.gate:
-            edits += edits_in(f"{TOP}/crates/{crate}/must-fail", f"{crate}/must-fail", crate)
+            edits += edits_in(crate, "must-fail")
         if edits:
             well, badly = try_crate(crate, edits, listed, given.alone, max(1, given.jobs))
             refused, others = refused + well, others + badly

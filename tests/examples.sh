@@ -6,7 +6,7 @@
 # as texts and once as files, and compared with replies.jsonl. A file that is none of these counts as a failure.
 #
 # usage: examples.sh PROGRAM
-# Ends with status 0 where all agree, with 1 where one differs; says `skipped` where there is no such program.
+# Ends with status 0 if all agree, with 1 if one differs; says `skipped` if there is no such program.
 set -u
 program=${1:?usage: examples.sh PROGRAM}
 if [ ! -x "$program" ]; then

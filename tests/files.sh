@@ -3,7 +3,7 @@
 # that no text is overwritten, and standard input and output; and the commands on many files, through a built program.
 #
 # usage: files.sh PROGRAM
-# Ends with status 0 where all is as it should be, with 1 where not; says `skipped` where there is no such program.
+# Ends with status 0 if all is as it should be, with 1 if not; says `skipped` if there is no such program.
 set -u
 program=${1:?usage: files.sh PROGRAM}
 if [ ! -x "$program" ]; then
@@ -66,7 +66,7 @@ chmod 640 target.res
 "$program" compile -q fr.txt target.res
 holds 'permissions stay' test "$(stat -c %a target.res)" = 640
 says 'a device is written through' 0 'wrote 76 bytes' "$program" compile de.txt /dev/null
-holds 'standard output has the file alone' cmp -s <("$program" compile fr.txt -) target.res
+holds 'standard output has only the file' cmp -s <("$program" compile fr.txt -) target.res
 holds 'standard input is read' cmp -s <("$program" compile - - <fr.txt) target.res
 says 'an error of standard input' 1 '-:2: BadInt' "$program" compile - - <bad.txt
 

@@ -1,12 +1,12 @@
 #!/usr/bin/env bash
 # Holds tools/icu2text beside ICU's own tools, over ICU's own bundles: each is read out of the package of ICU's data, and its text is
 # compiled by `resb compile` and by genrb to the formats 1, 2 and 3, that of 3 with a pool bundle. What icu2text makes of these must
-# compile to the same bytes, and derb must print ICU's file and ours alike. Then the texts in ICU's source, where it is there: genrb's
+# compile to the same bytes, and derb must print ICU's file and ours alike. Then the texts in ICU's source, if it is there: genrb's
 # files of three formats must compile to the bytes of the text itself. The last line counts the differences; they are listed before it.
 #
 # usage: icu.sh [PROGRAM [TREE..]]   (default: crates/rb_tool/out/rb_tool and all trees, which takes some minutes: by hand)
 # ICU_PACKAGE is the package icudt*.dat (default: cut out of the installed libicudata), ICU_SOURCE the folder icu/source.
-# Where a tool or the data is missing, a line says `skipped` and which, and the status is 0.
+# If a tool or the data is missing, a line says `skipped` and which, and the status is 0.
 set -u
 export PATH="$PATH:/usr/sbin" LC_ALL=C.UTF-8
 cd "$(dirname "$0")/.." || exit 2

@@ -82,7 +82,7 @@ def text_of(tree):
 
 
 def text_value(units):
-    """The text of units, or the units where they are not well-formed UTF-16."""
+    """The text of units, or the units if they are not well-formed UTF-16."""
     data = b"".join(unit.to_bytes(2, "little") for unit in units)
     try:
         return data.decode("utf-16-le")
@@ -159,7 +159,7 @@ def shared_file(levels):
 
 
 def check_shared(program, folder):
-    """Few shared items are printed; where they spell too much, that is said."""
+    """Few shared items are printed; if they spell too much, that is said."""
     file = os.path.join(folder, "shared.res")
     for levels, status in ((3, 0), (20, 0), (21, 0), (22, 1), (62, 1)):
         with open(file, "wb") as it:

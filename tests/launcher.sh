@@ -1,6 +1,6 @@
 #!/usr/bin/env bash
 # Tries the launcher bin/resb in checkouts that are made for it, with a program and a toolchain that only say what they were given.
-# Ends with status 0 where each trial is as it should be, and else with 1.
+# Ends with status 0 if each trial is as it should be, and else with 1.
 set -u
 top=$(cd "$(dirname "$0")/.." && pwd -P)
 made=$(mktemp -d) || exit 2

@@ -1,7 +1,7 @@
 #!/usr/bin/env bash
 # Each allocation refused in turn. The program programs/memory.rt.in starts an engine, makes requests of each kind, and loads, installs
 # and lists bundles; after a call that is answered out of memory it compares all that is kept, and calls once more. The program
-# programs/lines.rt.in serves lines of each kind; where memory runs out, the replies before are whole, and serving goes on with the line.
+# programs/lines.rt.in serves lines of each kind; if memory runs out, the replies before are whole, and serving goes on with the line.
 # The program programs/acceptance.rt.in accepts a file of each kind that is dear to check, which Python writes: out of memory the file is
 # given back, and within three times what its acceptance takes with memory.
 #
@@ -9,10 +9,10 @@
 # a run in which no allocation of the calls is refused and the next ones are given until the number is reached. A last run of the first
 # program makes lookups, replacements and removals besides, and as many more are given: these calls take none.
 #
-# usage: memory.sh      (the variable RT names the command `rt`, where it is another)
+# usage: memory.sh      (the variable RT names the command `rt`, if it is another)
 set -eu
 cd "$(dirname "$0")"
-. ./beside.sh
+. ./scratch_repository.sh
 rt=${RT:-rt}
 tests=$PWD
 made=$(mktemp -d)

@@ -3,7 +3,7 @@
 # manual page and a completion are tried from there.
 #
 # usage: package.sh PROGRAM
-# Ends with status 0 where all is as it should be, and says `skipped` where a tool, the program or the history isn't there.
+# Ends with status 0 if all is as it should be, and says `skipped` if a tool, the program or the history isn't there.
 set -eu
 top=$(cd "$(dirname "$0")/.." && pwd -P)
 program=$(realpath "${1:?usage: package.sh PROGRAM}")

@@ -12,7 +12,7 @@ import threading
 
 SECONDS = 20  # a reply that doesn't come in this time is missing
 AHEAD = 1000
-MOST_WRITES = 60  # for so many lines, of which some 8 KB are held at once
+MOST_WRITES = 60  # for these lines, of which some 8 KB are held at once
 
 BAD_LINE = b'{"error":"BadLine"}\n'
 INSTALL = b'{"op":"install","app":"shop","locale":"de","text":"de{a{\\"b\\"}}"}\n'
@@ -55,7 +55,7 @@ class Server:
         return rest, self.process.wait()
 
     def writes(self):
-        """How many calls have written so far, where the system tells."""
+        """How many calls have written so far, if the system tells."""
         try:
             with open(f"/proc/{self.process.pid}/io", encoding="ascii") as file:
                 counts = dict(line.split(": ") for line in file.read().splitlines())

@@ -2,13 +2,13 @@
 """Serves random histories of many applications, and holds each reply against a small model (tests/model).
 
 Each round makes files for the start, a history, and damaged files and texts, and compares what the program says with what the model
-says: the whole history; each application's lines alone; killed in mid-stream; over outputs and inputs that fail; with little memory;
+says: the whole history; each application's lines by themselves; killed in mid-stream; over outputs and inputs that fail; with little memory;
 and `compile`, `check` and `get` over each file. A finding is printed with its seed; a round is the same for the same seed, but for
 where a kill or a lack of memory comes.
 
 usage: soak.py SECONDS PROGRAM [--seed N]
 Begins with the round of seed N (by default 1) and goes on with N + 1 and so on until SECONDS have passed; `soak.py 0 PROGRAM --seed N`
-runs that round alone. Ends with status 0 where nothing was found.
+runs that round alone. Ends with status 0 if nothing was found.
 """
 import argparse
 import functools
@@ -94,7 +94,7 @@ def limited(size):
 
 
 def short_file(size):
-    """What a process does before it begins, so that its files have so many bytes at most."""
+    """What a process does before it begins, so that its files have at most this many bytes."""
     def limit():
         signal.signal(signal.SIGXFSZ, signal.SIG_IGN)
         resource.setrlimit(resource.RLIMIT_FSIZE, (size, size))
@@ -133,7 +133,7 @@ def serve_whole(soak, arguments, history):
 
 
 def serve_alone(soak, arguments, history):
-    """Each application's lines alone, with the replies that they had among the others'."""
+    """Each application's lines by themselves, with the replies that they had among the others'."""
     for app in history.apps:
         pairs = history.of_app(app)
         ended = soak.run(arguments, b"".join(line + b"\n" for line, _ in pairs))
@@ -251,7 +251,7 @@ def refuse_reads(soak, arguments, _history):
 
 
 def big_text(count):
-    """A text of about so many times 30 bytes."""
+    """A text of about this many times 30 bytes."""
     return "x{" + "".join(f"k{i}{{\"{'v' * 20}\"}}" for i in range(count)) + "}"
 
 

@@ -1,8 +1,8 @@
 #!/usr/bin/env bash
-# What resb says where standard output can't be written: `cannot write stdout` and status 2, or `Write` and status 1 of `serve`.
+# What resb says if standard output can't be written: `cannot write stdout` and status 2, or `Write` and status 1 of `serve`.
 #
 # usage: stdout.sh PROGRAM
-# Ends with status 0 where it is said, with 1 where not; says `skipped` where there is no such program or no /dev/full.
+# Ends with status 0 if it is said, with 1 if not; says `skipped` if there is no such program or no /dev/full.
 set -u
 program=${1:?usage: stdout.sh PROGRAM}
 if [ ! -x "$program" ] || [ ! -c /dev/full ]; then

@@ -3,7 +3,7 @@
 file or the error of the reply, and the first file of its first level that is a stop is that of the reply's valid locale.
 
 usage: traces.py PROGRAM [LOOKUPS [SEED]]   (default: 200 lookups, seed 1)
-Ends with status 0 where all agree, with 1 where one differs; says `skipped` where there is no such program.
+Ends with status 0 if all agree, with 1 if one differs; says `skipped` if there is no such program.
 """
 import json
 import os

@@ -5,7 +5,7 @@ usage: tests/trusted.py [--inner]
 
 Prints for each crate, and at last for all, how many lines the contracts of its calls reach, and how many more those of its laws. With
 --inner it prints the files of specs/ that are in the wrong place, with status 1 if there is any: what no public contract reaches serves
-proofs and private functions alone, and is in specs/inner/.
+only proofs and private functions, and is in specs/inner/.
 
 A line counts if it is not blank, no comment and no `use`. Public are the items that a crate's lib.rt names, with the methods of its types
 and traits. Definitions of the toolchain's library aren't counted.

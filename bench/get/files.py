@@ -11,7 +11,7 @@ import hostile
 
 
 def keys(count):
-    """The file of a table of so many keys, each with a String."""
+    """The file of a table of `count` keys, each with a String."""
     made = hostile.Builder(b"".join(b"key%06d\0" % i for i in range(count)))
     items = [made.add([9] + list(struct.unpack("<5I", "value 042\0".encode("utf-16-le")))) for _ in range(count)]
     offsets = [hostile.FIRST_KEY + 10 * i for i in range(count)]
@@ -19,7 +19,7 @@ def keys(count):
 
 
 def nested(folder, size):
-    """The file that `genrb --formatVersion 1` makes of nested text of so many bytes."""
+    """The file that `genrb --formatVersion 1` makes of nested text of `size` bytes."""
     source = os.path.join(folder, "nested.txt")
     with open(source, "w", encoding="utf-8") as file:
         file.write(compiled.nested(size))

@@ -217,7 +217,7 @@ func TestBodiesAtOnce(t *testing.T) {
 	s.alive()
 }
 
-// held waits until so many bytes of bodies are held.
+// held waits until this number of bytes of bodies is held.
 func (s *site) held(least int64) {
 	s.t.Helper()
 	for end := time.Now().Add(10 * time.Second); ; time.Sleep(5 * time.Millisecond) {

@@ -12,7 +12,7 @@ import (
 	"time"
 )
 
-// How a file of changes is rewritten: where it is twice as long as its bundles alone, and so many bytes longer.
+// How a file of changes is rewritten: when it is twice as long as its bundles, and a number of bytes longer.
 const worthRewriting = 64 << 10
 
 // mostBatch is how many bytes of changes are written at once, if there is more than one.

@@ -8,7 +8,7 @@ import (
 	"time"
 )
 
-// Of the lookups of one request so many are asked together, and more are asked while fewer than `ahead` are on their way.
+// Of the lookups of one request a number are asked together, and more are asked while fewer than `ahead` are on their way.
 const (
 	together = 64
 	ahead    = 128

@@ -57,7 +57,7 @@ class Writer:
         self.data += b"\xaa" * (-len(self.data) % 4)
 
     def put_keys(self, keys):
-        """Writes keys, each once; where keys share their ends, one that ends another isn't written."""
+        """Writes keys, each once; if keys share their ends, one that ends another isn't written."""
         ends = {key for key in keys if any(key != other and other.endswith(key) for other in keys)} if self.layout.shares_keys else set()
         for key in sorted(keys - ends):
             self.places[key] = len(self.data)

@@ -32,7 +32,7 @@ def shorter(name):
 
 
 def string_at(tree, key):
-    """The name at a key of a table, where it has a String; False where it has none."""
+    """The name at a key of a table, if it has a String; False if it has none."""
     kind, content = child(tree, key) or (None, None)
     if kind != "string":
         return False
@@ -100,7 +100,7 @@ def stops_of(bundles, parents, name):
 
 
 def target(units, valid):
-    """Where an alias leads: whether to ICUDATA, the name, and the segments of its path, or None where it has none."""
+    """Where an alias leads: whether to ICUDATA, the name, and the segments of its path, or None if it has none."""
     text = "".join(map(chr, units))
     if text == "" or not is_printable(text):
         raise Refused("AliasText")

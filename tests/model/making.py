@@ -53,7 +53,7 @@ def random_leaf(random):
 
 
 def random_item(random, levels):
-    """An item with so many levels below it at most."""
+    """An item with at most this many levels below it."""
     chosen = random.random()
     if levels == 0 or chosen < 0.5:
         return random_leaf(random)
@@ -72,7 +72,7 @@ def random_table(random, levels):
 
 
 def chain(random, count):
-    """A table over so many arrays, one in the other."""
+    """A table over this many arrays, one in the other."""
     item = random_leaf(random)
     for _ in range(count):
         item = "array", [item]
@@ -117,7 +117,7 @@ class Speller:
         return '"' + "".join(map(self.unit, units)) + '"'
 
     def text(self, units):
-        """A text in one piece or in two, quoted or, where that can be, not."""
+        """A text in one piece or in two, quoted or, if that can be, not."""
         plain = "".join(map(chr, units))
         if plain.isascii() and plain.isalnum() and self.random.random() < 0.5:
             cut = self.random.randrange(len(plain))
@@ -128,7 +128,7 @@ class Speller:
         return self.quoted(units)
 
     def number(self, value, least):
-        """A number; one of so many bits may be written with its sign or without."""
+        """A number; one of this many bits may be written with its sign or without."""
         forms = [str(value), f"0x{value:x}" if value >= 0 else f"-0X{-value:X}", f"0{value:o}" if value >= 0 else f"-0{-value:o}"]
         if value > 0:
             forms += [f"+{value}", f"0x000{value:x}"]

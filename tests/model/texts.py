@@ -1,6 +1,6 @@
 """A reader of bundle texts, after docs/LANGUAGE.md.
 
-`read` answers a bundle, or raises `BadText` with the error's word and line. Where a text has several errors of its grammar the program
+`read` answers a bundle, or raises `BadText` with the error's word and line. If a text has several errors of its grammar the program
 may report another one than this reader; `LEXICAL` has the words of which there is one at most.
 """
 import re
@@ -179,7 +179,7 @@ class Parser:
         return self.tokens[self.at - 1][0]
 
     def type_word(self):
-        """The type that is written here, or None where there is none."""
+        """The type that is written here, or None if there is none."""
         if self.peek() != ":":
             return None
         self.at += 1

@@ -20,7 +20,7 @@ def is_printable(text):
 
 
 def segments(path):
-    """The segments of a path, or None where it is no path."""
+    """The segments of a path, or None if it is no path."""
     if not is_printable(path):
         return None
     parts = path.split("/") if path else []
@@ -38,7 +38,7 @@ def child(item, part):
 
 
 def walk(item, parts):
-    """The item at the end of a walk, or the first alias on it, and how many segments were walked; None where it leads nowhere."""
+    """The item at the end of a walk, or the first alias on it, and how many segments were walked; None if it leads nowhere."""
     for count, part in enumerate(parts):
         if item[0] == "alias":
             return item, count
@@ -56,7 +56,7 @@ def height(item):
 
 
 def text_members(units):
-    """A text by its characters, or by its units where it isn't well-formed UTF-16."""
+    """A text by its characters, or by its units if it isn't well-formed UTF-16."""
     coded = b"".join(unit.to_bytes(2, "little") for unit in units)
     try:
         return {"value": coded.decode("utf-16-le")}

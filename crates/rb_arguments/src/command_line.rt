@@ -14,7 +14,7 @@ fn with_word<'a>(
     command.arg(Arg::new(alloc, name).required(true).help(help))
 }
 
-/// The flag of commands that need say nothing on success.
+/// The flag by which a command says nothing on success.
 fn quiet_argument<'a>(alloc: Global) -> Arg<'a> {
     Arg::new(alloc, "quiet")
         .short('q')

@@ -144,13 +144,20 @@ fn look_at<'a>(
     ensures { look_response tree_seen result ≡ lookup_in (bundle_at (list_of place.now.app packages.now)) (bundle_at (icudata_of packages.now))
         (parent_of parents.now) place.now.name path.now }
 {
-    look_in(
+    match look_in(
         packages.shelf(&place.app),
         packages.icu_shelf(),
         parents,
         &place.name,
         path,
-    )
+    ) {
+        Ok(found) => Ok(Found {
+            node: found.node.item(),
+            actual: found.actual,
+            valid: found.valid,
+        }),
+        Err(fault) => Err(fault),
+    }
 }
 
 /// Looks a path up on two shelves.

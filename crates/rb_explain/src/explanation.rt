@@ -8,7 +8,7 @@ use crate::words::{
 };
 use std::fmt;
 
-/// What an error is of.
+/// What an error word is about: an input, a step or memory.
 #[derive(Clone, Copy, Debug, PartialEq, Eq)]
 pub enum Of {
     /// A bundle text.
@@ -29,7 +29,7 @@ pub enum Of {
     Lookup,
     /// Serving that ends early.
     Serving,
-    /// Memory.
+    /// Running out of memory.
     Memory,
 }
 
@@ -50,7 +50,7 @@ impl Of {
         }
     }
 
-    /// The explanation of a word, where it is an error of this; letters of either case are one.
+    /// The explanation of a word, if it is an error of this; the case of letters doesn't count.
     pub fn explanation(self, word: &str) -> Option<&'static Explanation>
         ensures { IfSome result (λ e. map to_ascii_lowercase e.now.word.now ≡ map to_ascii_lowercase word.now) }
     {

@@ -117,7 +117,7 @@ pub(crate) const OF_FILE: [Explanation; 15] = [
         of: Of::File,
         meaning: "the file has another format than 1.1",
         cause: "a file that genrb wrote by default, of format 2 or 3",
-        remedy: "genrb --formatVersion 1, or resb compile on its text; where there is no text, as of ICU's own files, tools/icu2text writes it (ICU.md), and derb -A a damaged one",
+        remedy: "genrb --formatVersion 1, or resb compile on its text; if there is no text, as of ICU's own files, tools/icu2text writes it (ICU.md), and derb -A a damaged one",
     },
     Explanation {
         word: "BigEndian",
@@ -331,7 +331,7 @@ pub(crate) const OF_REQUEST: [Explanation; 9] = [
         of: Of::Request,
         meaning: "the application's name is that of the common bundles",
         cause: "the name ICUDATA",
-        remedy: "common bundles are given at the start alone",
+        remedy: "common bundles are given only at the start",
     },
     Explanation {
         word: "BadLocale",
@@ -411,7 +411,7 @@ pub(crate) const OF_LOOKUP: [Explanation; 9] = [
         word: "Chain",
         of: Of::Lookup,
         meaning: "the way of locales has no end within 32 names",
-        cause: "%%Parent or %%ALIAS go round in a circle, or there are more than 32 names; a root bundle with a %%Parent. It is reported for every path, also where an early bundle has the item",
+        cause: "%%Parent or %%ALIAS go round in a circle, or there are more than 32 names; a root bundle with a %%Parent. It is reported for every path, also if an early bundle has the item",
         remedy: "look reports it for each locale that leads there",
     },
     Explanation {
@@ -433,7 +433,7 @@ pub(crate) const OF_LOOKUP: [Explanation; 9] = [
         of: Of::Lookup,
         meaning: "an alias leads to a package that there isn't",
         cause: "an alias that begins with a slash and anything but LOCALE or ICUDATA",
-        remedy: "an application can refer to its own bundles and to ICUDATA alone",
+        remedy: "an application can refer only to its own bundles and to ICUDATA",
     },
     Explanation {
         word: "TooManyAliases",

@@ -12,7 +12,7 @@ fn is_gap(unit: u16) -> bool
 }
 
 /// The bytes that a text spells by two hexadecimal digits each; tabs, line feeds, carriage returns and spaces are ignored.
-/// `None` where the text has another unit, or an odd number of digits. The only error is that memory runs out.
+/// `None` if the text has another unit, or an odd number of digits. The only error is that memory runs out.
 ///
 /// ```rust
 /// read_bytes(alloc, &[48, 48, 102, 102])? // Some, of the bytes 0 and 255

@@ -23,7 +23,7 @@ pub(crate) fn digit(unit: u16) -> u64
     }
 }
 
-/// The value of digits, or the ceiling if that is less. `None` where another unit is among them.
+/// The value of digits, or the ceiling if that is less. `None` if another unit is among them.
 fn digits(units: &[u16], radix: u64) -> Option<u64>
     requires least { 1 ≤ radix }
     requires most { radix ≤ 16 }
@@ -90,7 +90,7 @@ fn number(units: &[u16]) -> Option<Signed>
     }
 }
 
-/// The value of an Int, modulo 2^28. `None` where the text is no number, or the number is below -2^27 or above 2^28 - 1.
+/// The value of an Int, modulo 2^28. `None` if the text is no number, or the number is below -2^27 or above 2^28 - 1.
 pub fn read_int(units: &[u16]) -> Option<u32>
     ensures { MatchOption result ((n : ℕ) → IsIntText units.now n → ⊥) (λ n. IsIntText units.now n) }
 {
@@ -111,7 +111,7 @@ pub fn read_int(units: &[u16]) -> Option<u32>
     }
 }
 
-/// The value of an element of a vector, modulo 2^32 as a signed number. `None` where the text is no number, or the number is below -2^31 or above 2^32 - 1.
+/// The value of an element of a vector, modulo 2^32 as a signed number. `None` if the text is no number, or the number is below -2^31 or above 2^32 - 1.
 pub fn read_element(units: &[u16]) -> Option<i32>
     ensures { MatchOption result ((z : ℤ) → IsElementText units.now z → ⊥) (λ z. IsElementText units.now z) }
 {

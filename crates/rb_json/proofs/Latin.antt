@@ -3,7 +3,8 @@ use Rattle.std.proofs.Common.{◌≡◌, ℕ, ◌+◌, ◌<◌, ◌≤◌, List,
 use Rattle.std.proofs.Common.{refl, ap, ◌∙◌, sym, append_assoc}
 use Rattle.std.proofs.lemmas.List.{append-nil, take_all}
 use Rattle.std.specs.Str.{IsAscii}
-use Rattle.std.proofs.lemmas.Str.{encodes-IsAscii}
+use Rattle.std.proofs.lemmas.Str.{encodes-IsAscii, IsUtf8-from_ascii}
+use Rattle.std.specs.Str.{IsUtf8}
 use Rattle.rb_json.proofs.Elements.{element_more, is_at}
 
 encodes-append : (xs : List ℕ) (c : ℕ) → encode_utf8_all (xs ++ c ∷ []) ≡ encode_utf8_all xs ++ encode_utf8 c
@@ -24,3 +25,6 @@ all_characters text bytes i so_far h = so_far ∙ ap encode_utf8_all (take_all i
 
 pub ascii_text : (text bytes : List ℕ) → text ≡ bytes → IsAscii bytes → text ≡ encode_utf8_all bytes
 ascii_text text bytes same h = same ∙ sym (encodes-IsAscii bytes h)
+
+pub is_text : (bytes : List ℕ) → IsAscii bytes → (IsUtf8 bytes → ⊥) → ⊥
+is_text bytes h none = none (IsUtf8-from_ascii bytes h)

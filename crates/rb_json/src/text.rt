@@ -1,6 +1,7 @@
 //! Texts as JSON, made in a buffer that is kept.
-ghost use Rattle.std.specs.Prelude.{◌≡◌, ◌<◌, ◌≤◌, ◌∷◌, IfOk, IfSome, OnOk, true, not, drop, string_bytes, encode_utf8_all};
+ghost use Rattle.std.specs.Prelude.{◌≡◌, ◌<◌, ◌≤◌, ◌∷◌, IfOk, OnOk, MatchOption, true, not, drop, string_bytes, encode_utf8_all};
 ghost use Rattle.std.specs.Char.Utf16.{has_unpaired_surrogate, utf16_chars, utf16_lossy_chars};
+ghost use Rattle.std.specs.Str.{IsNotAscii};
 ghost use Rattle.hex.specs.Hex.{encode_lower, lower_digits};
 ghost use Rattle.rb_tree.specs.Parts.{HasUnits, bytes_of, kind_of, len_of, units_of};
 ghost use Rattle.rb_tree.specs.declared.kind.Kind.TheVariants as Kinds;
@@ -21,13 +22,16 @@ pub fn characters(alloc: Global, bytes: &[u8]) -> Result<String, AllocError>
 }
 
 /// Bytes as a text without a copy, a character each, where they are ASCII; else `None`.
-#[tactic(auto, using(crate::proofs::Latin::ascii_text))]
+#[tactic(auto, using(crate::proofs::Latin::ascii_text, crate::proofs::Latin::is_text))]
 pub fn ascii(bytes: &[u8]) -> Option<&str>
-    ensures { IfSome result (λ text. text.now ≡ encode_utf8_all bytes.now) }
+    ensures { MatchOption result (IsNotAscii bytes.now) (λ text. text.now ≡ encode_utf8_all bytes.now) }
 {
+    if !bytes.is_ascii() {
+        return None;
+    }
     match str::from_utf8(bytes) {
-        Ok(text) if bytes.is_ascii() => Some(text),
-        _ => None,
+        Ok(text) => Some(text),
+        Err(_) => unreachable!(),
     }
 }
 

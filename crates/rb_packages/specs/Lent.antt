@@ -8,7 +8,8 @@ use Rattle.rb_tree.specs.SourceTree.{SourceTree}
 use Rattle.rb_views.specs.Trees.{data_of}
 use Rattle.rb_format.specs.Place.{word_at}
 use Rattle.rb_views.specs.Seen.{item_data, item_word}
-use Rattle.rb_views.specs.declared.item.Item.{Item}
+use Rattle.rb_packages.specs.LentItem.{lent_item}
+use Rattle.rb_packages.specs.declared.lent.LentItem.{LentItem}
 use Rattle.rb_packages.specs.Shelf.{bundle_at}
 use Rattle.rb_packages.specs.Packages.{Files, shelf_of}
 use Rattle.rb_packages.specs.declared.shelf.AppShelf.{AppShelf}
@@ -25,7 +26,7 @@ abbrev pub bundles_lent : AppShelf → List ℕ → Option SourceTree
 bundles_lent shelf = bundle_at (shelf_of (files_in shelf))
 
 -- what is lent at a name is word 0 of the data of the file there
-abbrev pub LendsRoot : Files → List ℕ → Option (Item × Bool) → Type 0
+abbrev pub LendsRoot : Files → List ℕ → Option (LentItem × Bool) → Type 0
 LendsRoot files name None = Unit {0}
-LendsRoot files name (Some lent) = (file : List ℕ) × (lookup (bytes_eq name) files ≡ Some file) × (item_data lent.0 ≡ data_of file)
-    × (item_word lent.0 ≡ word_at (data_of file) 0)
+LendsRoot files name (Some lent) = (file : List ℕ) × (lookup (bytes_eq name) files ≡ Some file) × (item_data (lent_item lent.0) ≡ data_of file)
+    × (item_word (lent_item lent.0) ≡ word_at (data_of file) 0)

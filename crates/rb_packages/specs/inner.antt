@@ -1,1 +1,2 @@
 pub mod AppFields
+pub mod Names

@@ -1,11 +1,12 @@
 //! The bundles of one package, in the order of installing.
-ghost use Rattle.std.specs.Prelude.{◌≡◌, [], ◌∷◌, ◌++◌, Some, None, IfOk, IfErr, OnOk, OnErr};
-ghost use Rattle.std.specs.Map.{lookup, keys_of, set_value};
+ghost use Rattle.std.specs.Prelude.{◌≡◌, [], ◌∷◌, ◌++◌, Some, None, IfOk, IfErr, IfNone, OnOk, OnErr};
+ghost use Rattle.std.specs.Map.{lookup, keys_of, set_value, remove_entry};
 ghost use Rattle.std.specs.Str.{bytes_eq};
 ghost use Rattle.rb_packages.specs.Packages.{shelf_of, install_fault, load_fault, IsJudged};
 ghost use Rattle.rb_packages.specs.declared.fault.PackFault.TheVariants as faults;
 
 use crate::fault::{Absent, PackFault};
+use crate::held::Held;
 use crate::limits::BUNDLE_LIMIT;
 use indexmap::IndexMap;
 use rb_locales::Name;
@@ -14,8 +15,8 @@ use std::alloc::{AllocError, Global};
 use std::hash::RandomState;
 use std::mem;
 
-/// The bundles of one package, in the order of installing.
-pub(crate) type Bundles = IndexMap<Name, Bundle, RandomState>;
+/// The bundles of one package, in the order of installing, each with what lookups ask of it.
+pub(crate) type Bundles = IndexMap<Name, Held, RandomState>;
 
 /// A package of one bundle. Where there is no memory, the bundle comes back.
 pub(crate) fn of_one(
@@ -28,11 +29,11 @@ pub(crate) fn of_one(
     ensures back { IfErr result (λ b. b ≡ bundle) }
 {
     let mut bundles = IndexMap::with_hasher(alloc, state);
-    match bundles.insert(name, bundle) {
+    match bundles.insert(name, Held::of(bundle)) {
         Ok(_) => Ok(bundles),
         Err(error) => {
-            let (_, bundle) = error.value;
-            Err(bundle)
+            let (_, held) = error.value;
+            Err(held.into_bundle())
         }
     }
 }
@@ -44,11 +45,11 @@ fn add(bundles: &mut Bundles, name: Name, bundle: Bundle) -> Result<(), (PackFau
     ensures error { IfErr result (λ e. e ≡ (faults.Memory, bundle)) }
     ensures stays { OnErr result (bundles.new.entries ≡ bundles.old.entries) }
 {
-    match bundles.insert(name, bundle) {
+    match bundles.insert(name, Held::of(bundle)) {
         Ok(_) => Ok(()),
         Err(error) => {
-            let (_, bundle) = error.value;
-            Err((PackFault::Memory, bundle))
+            let (_, held) = error.value;
+            Err((PackFault::Memory, held.into_bundle()))
         }
     }
 }
@@ -103,8 +104,20 @@ pub(crate) fn replace(
     ensures stays { OnErr result (bundles.new.entries ≡ bundles.old.entries) }
 {
     match bundles.get_mut(name) {
-        Some(held) => Ok(mem::replace(held, bundle)),
+        Some(held) => Ok(mem::replace(held, Held::of(bundle)).into_bundle()),
         None => Err((Absent, bundle)),
+    }
+}
+
+/// Takes the bundle of a name out; the others keep their order.
+pub(crate) fn remove(bundles: &mut Bundles, name: &Name) -> Option<Bundle>
+    ensures found { result ≡ lookup (bytes_eq name.now) bundles.old.entries }
+    ensures left { bundles.new.entries ≡ remove_entry (bytes_eq name.now) bundles.old.entries }
+    ensures stays { IfNone result (bundles.new.entries ≡ bundles.old.entries) }
+{
+    match bundles.shift_remove(name) {
+        Some(held) => Some(held.into_bundle()),
+        None => None,
     }
 }
 

@@ -4,6 +4,8 @@
 mod app;
 mod bundles;
 mod fault;
+mod held;
+mod lent;
 mod limits;
 mod owned;
 mod packages;
@@ -13,6 +15,7 @@ mod tests;
 
 pub use app::{App, AppFault};
 pub use fault::{Absent, PackFault};
+pub use lent::LentItem;
 pub use limits::BUNDLE_LIMIT;
 pub use packages::Packages;
 pub use shelf::AppShelf;

@@ -82,7 +82,7 @@ fn remove_bundle(owned: &mut Owned, app: &App, name: &Name) -> Option<Bundle>
     ensures stays { IfNone result (files_by_app owned.new.entries ≡ files_by_app owned.old.entries) }
 {
     match owned.get_mut(app) {
-        Some(bundles) => bundles.shift_remove(name),
+        Some(bundles) => bundles::remove(bundles, name),
         None => None,
     }
 }

@@ -4,12 +4,12 @@ ghost use Rattle.rb_parents.specs.Shelf.{bundle_of};
 ghost use Rattle.rb_packages.specs.Shelf.{bundle_at};
 ghost use Rattle.rb_packages.specs.Packages.{shelf_of};
 ghost use Rattle.rb_packages.specs.Lent.{files_in, bundles_lent, LendsRoot};
-ghost use Rattle.rb_views.specs.Seen.{tree_seen};
+ghost use Rattle.rb_packages.specs.LentItem.{lent_tree};
 
 use crate::bundles::Bundles;
+use crate::lent::LentItem;
 use rb_locales::Name;
 use rb_parents::Shelf;
-use rb_views::{Item, root};
 
 /// The bundles of ICUDATA or of one application, by their names. It lends the roots of their files.
 #[derive(Clone, Copy)]
@@ -18,12 +18,12 @@ pub struct AppShelf<'a> {
 }
 
 impl<'a> Shelf<'a> for AppShelf<'a> {
-    type N = Item<'a>;
+    type N = LentItem<'a>;
 
     ghost bundles = { bundles_lent };
 
-    fn bundle(self, name: &Name) -> Option<(Item<'a>, bool)>
-        ensures value { option_map (bundle_of tree_seen) result ≡ bundles_lent self.entry name.now }
+    fn bundle(self, name: &Name) -> Option<(LentItem<'a>, bool)>
+        ensures value { option_map (bundle_of lent_tree) result ≡ bundles_lent self.entry name.now }
         ensures place { LendsRoot (files_in self.entry) name.now result }
     {
         match self.bundles {
@@ -34,12 +34,12 @@ impl<'a> Shelf<'a> for AppShelf<'a> {
 }
 
 /// The root of a name's bundle, and whether the bundle has no fallback.
-fn bundle_in<'a>(bundles: &'a Bundles, name: &Name) -> Option<(Item<'a>, bool)>
-    ensures value { option_map (bundle_of tree_seen) result ≡ bundle_at (shelf_of bundles.now.entries) name.now }
+fn bundle_in<'a>(bundles: &'a Bundles, name: &Name) -> Option<(LentItem<'a>, bool)>
+    ensures value { option_map (bundle_of lent_tree) result ≡ bundle_at (shelf_of bundles.now.entries) name.now }
     ensures place { LendsRoot bundles.now.entries name.now result }
 {
     match bundles.get(name) {
-        Some(bundle) => Some((root(bundle), bundle.no_fallback())),
+        Some(held) => Some((held.root(), held.no_fallback())),
         None => None,
     }
 }

@@ -1,5 +1,5 @@
 -- What one text puts.
-use Rattle.std.proofs.Common.{◌≡◌, ℕ, ◌/◌, ◌%◌, ◌<◌, ℤ, Bool, true, false, ◌&&◌, List, [], ◌∷◌, ◌++◌, Option, Result, Ok, Err, OnOk, is_ok, encode_utf8_all, refl, sym, ap, subst, ◌∙◌}
+use Rattle.std.proofs.Common.{◌≡◌, ℕ, ◌/◌, ◌%◌, ◌<◌, ℤ, Bool, true, false, ◌&&◌, List, [], ◌∷◌, ◌++◌, Option, Result, Ok, Err, OnOk, is_ok, encode_utf8, encode_utf8_all, append-nil, refl, sym, ap, subst, ◌∙◌}
 use Rattle.std.specs.Prelude.{if◌then◌else◌}
 use Rattle.std.specs.List.{list_all}
 use Rattle.std.specs.Char.{digit_char}
@@ -11,14 +11,14 @@ use Rattle.std.proofs.Common.{arith, ◌+◌, ◌-◌, length, length-append, �
 use Rattle.std.proofs.lemmas.Int.{to_z-of_z}
 use mir.Val.{SFits}
 use Rattle.rb_printer.specs.Sound.{IsNumber}
-use Rattle.std.proofs.lemmas.Bool.{ltb-true}
+use Rattle.std.proofs.lemmas.Bool.{ltb-true, lt-ltb}
 use Rattle.std.proofs.lemmas.Str.{encodes-IsAscii, encode_ascii}
 use Rattle.rb_lexer.specs.Lexeme.{quote, backslash}
 use Rattle.rb_printer.specs.Sign.{is_ascii, is_word, is_name, is_shown, is_cited, is_low, escape_chars, pair_chars, unit_chars, units_chars, text, text_chars, sign_chars}
 use Rattle.rb_printer.specs.inner.Growth.{Adds}
 use Rattle.rb_printer.proofs.Tests.{and_left, and_right}
 use Rattle.rb_printer.proofs.Growths.{adds_more}
-use Rattle.rb_printer.proofs.Words.{word_chars, name_word}
+use Rattle.rb_printer.proofs.Words.{word_chars, name_word, name_ascii}
 
 pub adds_as : {old now xs ys : List ℕ} → Adds old now xs → xs ≡ ys → Adds old now ys
 adds_as {old} {now} {xs} {ys} a e = record { is = a.is ∙ ap (λ (t : List ℕ). old ++ encode_utf8_all t) e }
@@ -60,14 +60,35 @@ bare_put us old new b is holds a =
     let word : is_word us ≡ true = name_word us name in
     subst (λ (w : Bool). Adds old new (text_chars w us)) (sym (ap (λ (w : Bool). w && is_word us) name ∙ word)) (adds_as a (word_chars us word))
 
+-- a name is written as it is
+pub name_put : {E : Type 0} (r : Result (Unit {0}) E) (us old new : List ℕ) (b : Bool) → b ≡ is_name us → b ≡ true
+    → new ≡ (if is_ok r then old ++ us else old) → OnOk r (Adds old new (sign_chars (text (is_name us) us)))
+name_put r us old new b is holds put =
+    let name : is_name us ≡ true = sym is ∙ holds in
+    let bare : (is_name us && is_word us) ≡ true = ap (λ (w : Bool). w && is_word us) name ∙ name_word us name in
+    subst (λ (w : Bool). OnOk r (Adds old new (text_chars w us))) (sym bare) (ascii_put r old new us (ascii_encoded us (name_ascii us name)) put)
+
+-- an ASCII character is its own byte
+pub byte_put : (old new : List ℕ) (c : ℕ) → c < 128 → new ≡ old ++ c ∷ [] → Adds old new (c ∷ [])
+byte_put old new c low put = record { is = put ∙ ap (λ (t : List ℕ). old ++ t) (sym (ascii_encoded (c ∷ []) (rw (lt-ltb c 128 low) refl))) }
+
+-- the bytes of a character
+pub encoded_put : {E : Type 0} (r : Result (Unit {0}) E) (old new bytes : List ℕ) (c : ℕ) → bytes ≡ encode_utf8 c
+    → new ≡ (if is_ok r then old ++ bytes else old) → OnOk r (Adds old new (c ∷ []))
+encoded_put (Ok x) old new bytes c e put = record { is = put ∙ ap (λ (t : List ℕ). old ++ t) (e ∙ sym (append-nil (encode_utf8 c))) }
+encoded_put (Err x) old new bytes c e put = tt
+
 pub cited_put : (us old first second new : List ℕ) (b : Bool) → b ≡ is_name us → b ≡ false → Adds old first (quote ∷ []) → Adds first second (units_chars us false)
     → Adds second new (quote ∷ []) → Adds old new (sign_chars (text (is_name us) us))
 cited_put us old first second new b is fails p q r =
     let name : is_name us ≡ false = sym is ∙ fails in
     subst (λ (w : Bool). Adds old new (text_chars (w && is_word us) us)) (sym name) (adds_more p (adds_more q r))
 
-pub decimal_put : (old new : List ℕ) (n : ℕ) → n < 2 ^ 32 → new ≡ old ++ decimal n → Adds old new (decimal n)
-decimal_put old new n h e = record { is = e ∙ ap (λ (t : List ℕ). old ++ t) (sym (encodes-IsAscii (decimal n) (IsAscii-decimal n (omega arith)))) }
+pub decimal_put : {E : Type 0} (r : Result (Unit {0}) E) (old new digits : List ℕ) (n : ℕ) → n < 2 ^ 32 → digits ≡ decimal n
+    → new ≡ (if is_ok r then old ++ digits else old) → OnOk r (Adds old new (decimal n))
+decimal_put r old new digits n h e put =
+    ascii_put r old new (decimal n) (encodes-IsAscii (decimal n) (IsAscii-decimal n (omega arith)))
+    (put ∙ ap (λ (t : List ℕ). if is_ok r then old ++ t else old) e)
 
 pub number_fits : (z : ℤ) → SFits w32 z → IsNumber z
 number_fits (pos n) h = omega arith
@@ -77,8 +98,11 @@ number_ascii : (z : ℤ) → IsNumber z → IsAscii (signed_decimal z)
 number_ascii (pos n) h = IsAscii-signed (pos n) (omega arith)
 number_ascii (negsuc n) h = IsAscii-signed (negsuc n) (omega arith)
 
-pub number_put : (old new : List ℕ) (z : ℤ) → SFits w32 z → new ≡ old ++ signed_decimal (to_z w32 (of_z w32 z)) → Adds old new (signed_decimal z)
-number_put old new z h e = record { is = e ∙ ap (λ (x : ℤ). old ++ signed_decimal x) (to_z-of_z w32 z h) ∙ ap (λ (t : List ℕ). old ++ t) (sym (encodes-IsAscii (signed_decimal z) (number_ascii z (number_fits z h)))) }
+pub number_put : {E : Type 0} (r : Result (Unit {0}) E) (old new digits : List ℕ) (z : ℤ) → SFits w32 z → digits ≡ signed_decimal (to_z w32 (of_z w32 z))
+    → new ≡ (if is_ok r then old ++ digits else old) → OnOk r (Adds old new (signed_decimal z))
+number_put r old new digits z h e put =
+    ascii_put r old new (signed_decimal z) (encodes-IsAscii (signed_decimal z) (number_ascii z (number_fits z h)))
+    (put ∙ ap (λ (t : List ℕ). if is_ok r then old ++ t else old) (e ∙ ap signed_decimal (to_z-of_z w32 z h)))
 
 pub number_wide : (old new first last : List ℕ) (z : ℤ) → SFits w32 z → Adds old new (signed_decimal z) → first ≡ old → last ≡ new
     → length last - length first ≡ length (signed_decimal z)

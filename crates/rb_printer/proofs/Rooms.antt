@@ -1,6 +1,6 @@
 -- What is left of some room after a part of a tree.
-use Rattle.std.proofs.Common.{◌≡◌, ℕ, ◌+◌, ◌*◌, ◌<◌, ◌≤◌, List, length, Bool, true, not, Option, Some, None, sym, subst, ap}
-use Rattle.std.specs.Prelude.{slice_get, is_some}
+use Rattle.std.proofs.Common.{◌≡◌, ℕ, ◌+◌, ◌*◌, ◌<◌, ◌≤◌, List, length, Option, Some, None, sym, subst, ap}
+use Rattle.std.specs.Prelude.{slice_get}
 use Rattle.std.specs.Map.{keys_of, values_of}
 use Rattle.rb_tree.specs.Resource.{Resource, Resources, Members}
 use Rattle.rb_tree.specs.Keys.{items, pairs}
@@ -25,7 +25,3 @@ entries_last level es i h = ap (entries_least level) (members_out es i h)
 -- too little is left
 pub none_left : (room n : ℕ) (r : Option ℕ) → r ≡ None → room < n → Takes room n r
 none_left room n r e h = subst (Takes room n) (sym e) h
-
-pub too_large : (room n : ℕ) (r : Option ℕ) (b : Bool) → Takes room n r → is_some r ≡ not b → b ≡ true → room < n
-too_large room n None b h e f = h
-too_large room n (Some x) b h e f = absurd cc

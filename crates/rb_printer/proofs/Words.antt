@@ -13,7 +13,7 @@ use Rattle.std.proofs.lemmas.List.{take_all}
 use Rattle.std.proofs.lemmas.Fmt.{decimal_is_IsNumeral, decimal_nonempty}
 use Rattle.rb_lexer.specs.Lexeme.{is_white, is_punctuation, quote, backslash, slash}
 use Rattle.rb_lexer.specs.Tokens.{is_empty}
-use Rattle.rb_printer.specs.Sign.{is_word_unit, is_word, is_name_unit, is_name, is_shown, units_chars}
+use Rattle.rb_printer.specs.Sign.{is_word_unit, is_word, is_name_unit, is_name, is_shown, is_ascii, units_chars}
 use Rattle.rb_printer.specs.Sound.{IsNumber}
 use Rattle.rb_printer.proofs.Tests.{and_left, and_right, or_left, or_right, not_true}
 use Rattle.rb_printer.proofs.Texts.{word_low, shown_next}
@@ -139,6 +139,15 @@ names_plain : (us : List ℕ) → list_all is_name_unit us ≡ true → list_all
 names_plain [] e = refl
 names_plain (u ∷ us) e =
     rw (name_word_unit u (and_left (is_name_unit u) (list_all is_name_unit us) e)) (names_plain us (and_right (is_name_unit u) (list_all is_name_unit us) e))
+
+names_ascii : (us : List ℕ) → list_all is_name_unit us ≡ true → list_all is_ascii us ≡ true
+names_ascii [] e = refl
+names_ascii (u ∷ us) e =
+    let high : u ≤ 0x7A = name_high u (and_left (is_name_unit u) (list_all is_name_unit us) e) in
+    rw (lt-ltb u 128 (omega arith)) (names_ascii us (and_right (is_name_unit u) (list_all is_name_unit us) e))
+
+pub name_ascii : (us : List ℕ) → is_name us ≡ true → list_all is_ascii us ≡ true
+name_ascii us e = names_ascii us (and_right (not (is_empty us)) (list_all is_name_unit us) e)
 
 pub name_word : (us : List ℕ) → is_name us ≡ true → is_word us ≡ true
 name_word us e =

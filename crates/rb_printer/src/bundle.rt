@@ -1,5 +1,5 @@
 // Whole bundles.
-ghost use Rattle.std.specs.Prelude.{◌≡◌, ◌<◌, [], ◌∷◌, length, IfOk, IfErr, OnOk, string_bytes};
+ghost use Rattle.std.specs.Prelude.{◌≡◌, ◌<◌, [], ◌∷◌, length, IfOk, IfErr, OnOk};
 ghost use Rattle.rb_tree.specs.Parts.{kind_of};
 ghost use Rattle.rb_printer.specs.Sign.{signs_chars, left, feed};
 ghost use Rattle.rb_format.specs.File.{source_tree_of};
@@ -22,8 +22,8 @@ use std::alloc::{AllocError, Global};
 const LENGTH_LIMIT: usize = 8_388_608;
 
 /// Writes what is between a bundle's name and its first entry.
-fn begin_bundle(out: &mut String, no_fallback: bool) -> Result<(), AllocError>
-    ensures { OnOk result (Adds (string_bytes out.old) (string_bytes out.new) (signs_chars (head_signs no_fallback (left ∷ feed ∷ [])))) }
+fn begin_bundle(out: &mut Vec<u8>, no_fallback: bool) -> Result<(), AllocError>
+    ensures { OnOk result (Adds out.old.items out.new.items (signs_chars (head_signs no_fallback (left ∷ feed ∷ [])))) }
 {
     if no_fallback {
         put_str(out, ":table(nofallback) {\n")
@@ -34,13 +34,13 @@ fn begin_bundle(out: &mut String, no_fallback: bool) -> Result<(), AllocError>
 
 /// Writes the lines of a bundle.
 fn put_page<N: Node>(
-    out: &mut String,
+    out: &mut Vec<u8>,
     name: &[u16],
     root: N,
     no_fallback: bool,
 ) -> Result<(), AllocError>
     requires { IsBundleTree (N.tree root) }
-    ensures adds { OnOk result (Adds (string_bytes out.old) (string_bytes out.new) (signs_chars (page name.now no_fallback (members_of (N.tree root))))) }
+    ensures adds { OnOk result (Adds out.old.items out.new.items (signs_chars (page name.now no_fallback (members_of (N.tree root))))) }
     ensures sound { OnOk result (IsSound (N.tree root)) }
 {
     put_name(out, name)?;
@@ -60,12 +60,11 @@ fn printed<N: Node>(
     ensures text { IfOk result (λ bytes. IsBundleText bytes.items name.now (record { tree = N.tree root; no_fallback = no_fallback })) }
     ensures error { IfErr result (λ e. e ≡ errors.TooLarge → 8388608 < length (page_bytes name.now (record { tree = N.tree root; no_fallback = no_fallback }))) }
 {
-    if after_entries(LENGTH_LIMIT, 1, root).is_none() {
+    let Some(left) = after_entries(LENGTH_LIMIT, 1, root) else {
         return Err(PrintError::TooLarge);
-    }
-    let mut out = String::new(alloc);
-    put_page(&mut out, name, root, no_fallback)?;
-    let bytes = out.into_bytes();
+    };
+    let mut bytes = Vec::with_capacity(alloc, LENGTH_LIMIT - left)?;
+    put_page(&mut bytes, name, root, no_fallback)?;
     if bytes.len() > LENGTH_LIMIT {
         return Err(PrintError::TooLarge);
     }

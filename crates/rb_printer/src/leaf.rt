@@ -1,5 +1,5 @@
 // Trees without children.
-ghost use Rattle.std.specs.Prelude.{◌≡◌, ◌<◌, ◌+◌, ◌^◌, ℕ, List, drop, [], ◌∷◌, ◌++◌, true, false, length, ◌≤◌, OnOk, IfOk, string_bytes, ◌/◌, ◌%◌};
+ghost use Rattle.std.specs.Prelude.{◌≡◌, ◌<◌, ◌+◌, ◌^◌, ℕ, List, drop, [], ◌∷◌, ◌++◌, true, false, length, ◌≤◌, OnOk, IfOk, ◌/◌, ◌%◌};
 ghost use Rattle.std.specs.Char.{digit_char};
 ghost use Rattle.std.specs.List.{AllByRecursion};
 ghost use Rattle.std.specs.Fmt.{decimal, signed_decimal};
@@ -32,7 +32,7 @@ pub fn next_of<N: Node>(node: N, i: usize) -> Option<u16>
 /// Writes a unit of a String's or an Alias's text.
 #[inline(always)]
 fn put_unit_of<N: Node>(
-    out: &mut String,
+    out: &mut Vec<u8>,
     after_high: bool,
     unit: u16,
     node: N,
@@ -40,7 +40,7 @@ fn put_unit_of<N: Node>(
 ) -> Result<(), AllocError>
     requires units { HasUnits (kind_of (N.tree node)) }
     requires in_range { i < len_of (N.tree node) }
-    ensures { OnOk result (Adds (string_bytes out.old) (string_bytes out.new) (unit_chars after_high unit (first_unit (drop (i + 1) (units_of (N.tree node)))))) }
+    ensures { OnOk result (Adds out.old.items out.new.items (unit_chars after_high unit (first_unit (drop (i + 1) (units_of (N.tree node)))))) }
 {
     match shown(unit) {
         Some(c) => put(out, c),
@@ -49,9 +49,9 @@ fn put_unit_of<N: Node>(
 }
 
 /// Writes the text of a String or an Alias, with quotes.
-pub fn put_units_of<N: Node>(out: &mut String, node: N) -> Result<(), AllocError>
+pub fn put_units_of<N: Node>(out: &mut Vec<u8>, node: N) -> Result<(), AllocError>
     requires { HasUnits (kind_of (N.tree node)) }
-    ensures adds { OnOk result (Adds (string_bytes out.old) (string_bytes out.new) (text_chars false (units_of (N.tree node)))) }
+    ensures adds { OnOk result (Adds out.old.items out.new.items (text_chars false (units_of (N.tree node)))) }
     ensures sound { OnOk result (AreUnits (units_of (N.tree node))) }
 {
     put(out, '"')?;
@@ -65,16 +65,16 @@ pub fn put_units_of<N: Node>(out: &mut String, node: N) -> Result<(), AllocError
 }
 
 /// Writes two hexadecimal digits.
-fn put_byte(out: &mut String, byte: u8) -> Result<(), AllocError>
-    ensures { OnOk result (Adds (string_bytes out.old) (string_bytes out.new) (digit_char (byte / 16) ∷ digit_char (byte % 16) ∷ [])) }
+fn put_byte(out: &mut Vec<u8>, byte: u8) -> Result<(), AllocError>
+    ensures { OnOk result (Adds out.old.items out.new.items (digit_char (byte / 16) ∷ digit_char (byte % 16) ∷ [])) }
 {
     put(out, digit_char(byte as u16 / 16))?;
     put(out, digit_char(byte as u16 % 16))
 }
 
 /// Begins a new piece where the present one, at a level, has no room for another byte. Gives how many more it has room for after that.
-fn put_break(out: &mut String, level: usize, room: usize) -> Result<usize, AllocError>
-    ensures adds { OnOk result (Adds (string_bytes out.old) (string_bytes out.new) (break_chars room level)) }
+fn put_break(out: &mut Vec<u8>, level: usize, room: usize) -> Result<usize, AllocError>
+    ensures adds { OnOk result (Adds out.old.items out.new.items (break_chars room level)) }
     ensures room { IfOk result (λ more. more ≡ after_break room) }
 {
     if room > 0 {
@@ -87,9 +87,9 @@ fn put_break(out: &mut String, level: usize, room: usize) -> Result<usize, Alloc
 }
 
 /// Writes the bytes of a Binary, with quotes: 32 a piece, each but the first in a new line of a level.
-pub fn put_bytes_of<N: Node>(out: &mut String, level: usize, node: N) -> Result<(), AllocError>
+pub fn put_bytes_of<N: Node>(out: &mut Vec<u8>, level: usize, node: N) -> Result<(), AllocError>
     requires { kind_of (N.tree node) ≡ Kinds.Binary }
-    ensures adds { OnOk result (Adds (string_bytes out.old) (string_bytes out.new)
+    ensures adds { OnOk result (Adds out.old.items out.new.items
         (sign_chars (pieces level (hex_first (bytes_of (N.tree node)) 32) (hex_later (bytes_of (N.tree node)) 32)))) }
     ensures sound { OnOk result (AreBytes (bytes_of (N.tree node))) }
 {
@@ -103,46 +103,48 @@ pub fn put_bytes_of<N: Node>(out: &mut String, level: usize, node: N) -> Result<
 }
 
 /// Writes a number in decimal.
-pub fn put_int(out: &mut String, number: u32) -> Result<(), AllocError>
-    ensures { OnOk result (Adds (string_bytes out.old) (string_bytes out.new) (decimal number)) }
+pub fn put_int(out: &mut Vec<u8>, number: u32) -> Result<(), AllocError>
+    ensures { OnOk result (Adds out.old.items out.new.items (decimal number)) }
 {
-    write!(out, "{number}")
+    let mut buffer = itoa::Buffer::new();
+    out.extend_from_slice(buffer.format(number).as_bytes())
 }
 
 /// Writes a number with a sign where it is below 0, in decimal.
-fn put_number(out: &mut String, number: i32) -> Result<(), AllocError>
-    ensures { OnOk result (Adds (string_bytes out.old) (string_bytes out.new) (signed_decimal number)) }
+fn put_number(out: &mut Vec<u8>, number: i32) -> Result<(), AllocError>
+    ensures { OnOk result (Adds out.old.items out.new.items (signed_decimal number)) }
 {
-    write!(out, "{number}")
+    let mut buffer = itoa::Buffer::new();
+    out.extend_from_slice(buffer.format(number).as_bytes())
 }
 
 /// Writes the same, and gives its width.
-fn put_wide(out: &mut String, number: i32) -> Result<usize, AllocError>
-    ensures adds { OnOk result (Adds (string_bytes out.old) (string_bytes out.new) (signed_decimal number)) }
+fn put_wide(out: &mut Vec<u8>, number: i32) -> Result<usize, AllocError>
+    ensures adds { OnOk result (Adds out.old.items out.new.items (signed_decimal number)) }
     ensures width { IfOk result (λ width. width ≡ length (signed_decimal number)) }
 {
-    let start = out.as_bytes().len();
+    let start = out.as_slice().len();
     put_number(out, number)?;
-    Ok(out.as_bytes().len() - start)
+    Ok(out.as_slice().len() - start)
 }
 
 /// Writes a comma where more numbers follow.
-fn put_comma(out: &mut String, more: bool) -> Result<(), AllocError>
-    ensures { OnOk result (Adds (string_bytes out.old) (string_bytes out.new) (signs_chars (comma_if more []))) }
+fn put_comma(out: &mut Vec<u8>, more: bool) -> Result<(), AllocError>
+    ensures { OnOk result (Adds out.old.items out.new.items (signs_chars (comma_if more []))) }
 {
     if more { put(out, ',') } else { Ok(()) }
 }
 
 /// Writes the numbers of a vector, each after a space or in a new line of a level, with commas between them.
 pub fn put_numbers_of<N: Node>(
-    out: &mut String,
+    out: &mut Vec<u8>,
     wrapped: bool,
     level: usize,
     node: N,
 ) -> Result<(), AllocError>
     requires ints { kind_of (N.tree node) ≡ Kinds.Ints }
     requires low { level ≤ 65 }
-    ensures adds { OnOk result (Adds (string_bytes out.old) (string_bytes out.new) (signs_chars (numbers_signs (numbers_of (N.tree node)) wrapped level 0 []))) }
+    ensures adds { OnOk result (Adds out.old.items out.new.items (signs_chars (numbers_signs (numbers_of (N.tree node)) wrapped level 0 []))) }
     ensures sound { OnOk result (AllByRecursion IsNumber (numbers_of (N.tree node))) }
 {
     let mut room = 0;

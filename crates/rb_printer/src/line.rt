@@ -1,5 +1,5 @@
 // Lines: their indentation, and what has room in them.
-ghost use Rattle.std.specs.Prelude.{◌≡◌, ◌≤◌, ◌<◌, ◌+◌, false, [], length, drop, OnOk, string_bytes};
+ghost use Rattle.std.specs.Prelude.{◌≡◌, ◌≤◌, ◌<◌, ◌+◌, false, [], length, drop, OnOk};
 ghost use Rattle.rb_tree.specs.Parts.{HasUnits, kind_of, len_of, units_of, numbers_of, bytes_of};
 ghost use Rattle.rb_tree.specs.declared.kind.Kind.TheVariants as Kinds;
 ghost use Rattle.rb_printer.specs.Sign.{first_unit, signs_chars, unit_chars};
@@ -9,7 +9,7 @@ ghost use Rattle.rb_printer.specs.Page.{indent, pause};
 ghost use Rattle.rb_printer.specs.inner.Growth.{Adds};
 
 use crate::leaf::next_of;
-use crate::text::{is_cited, is_high, is_low, is_shown, paired, put, put_str};
+use crate::text::{is_cited, is_high, is_low, is_plain, is_shown, paired, put, put_str};
 use rb_tree::{Kind, Node};
 use std::alloc::AllocError;
 
@@ -20,8 +20,8 @@ const LINE: usize = 100;
 pub const DEEPEST: usize = 12;
 
 /// Begins a line: writes four spaces for each level.
-pub fn put_indent(out: &mut String, level: usize) -> Result<(), AllocError>
-    ensures { OnOk result (Adds (string_bytes out.old) (string_bytes out.new) (signs_chars (indent level []))) }
+pub fn put_indent(out: &mut Vec<u8>, level: usize) -> Result<(), AllocError>
+    ensures { OnOk result (Adds out.old.items out.new.items (signs_chars (indent level []))) }
 {
     for _ in 0..level {
         put_str(out, "    ")?;
@@ -30,8 +30,8 @@ pub fn put_indent(out: &mut String, level: usize) -> Result<(), AllocError>
 }
 
 /// Writes what stands in front of something: a space, or a line feed and the next line's indentation.
-pub fn put_pause(out: &mut String, fits: bool, level: usize) -> Result<(), AllocError>
-    ensures { OnOk result (Adds (string_bytes out.old) (string_bytes out.new) (signs_chars (pause fits level []))) }
+pub fn put_pause(out: &mut Vec<u8>, fits: bool, level: usize) -> Result<(), AllocError>
+    ensures { OnOk result (Adds out.old.items out.new.items (signs_chars (pause fits level []))) }
 {
     if fits {
         return put(out, ' ');
@@ -101,7 +101,7 @@ fn width_of<N: Node>(after_high: bool, unit: u16, node: N, i: usize) -> usize
     ensures width { result ≡ length (unit_chars after_high unit (first_unit (drop (i + 1) (units_of (N.tree node))))) }
     ensures bound { result ≤ 6 }
 {
-    if is_shown(unit) {
+    if is_plain(unit) || is_shown(unit) {
         1
     } else {
         other_width(after_high, unit, next_of(node, i))

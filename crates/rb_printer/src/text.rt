@@ -1,5 +1,5 @@
 // Texts, with quotes and without.
-ghost use Rattle.std.specs.Prelude.{◌≡◌, ◌<◌, ◌+◌, ◌&&◌, ℕ, List, [], ◌∷◌, true, false, None, length, drop, OnOk, MatchOption, string_bytes, IsTrue};
+ghost use Rattle.std.specs.Prelude.{◌≡◌, ◌<◌, ◌+◌, ◌&&◌, ℕ, List, [], ◌∷◌, true, false, None, length, drop, OnOk, MatchOption, IsTrue};
 ghost use Rattle.std.specs.Char.{digit_char};
 ghost use Rattle.std.specs.Char.Utf16.{is_high_surrogate, is_low_surrogate};
 ghost use Rattle.std.specs.List.{list_all};
@@ -72,6 +72,15 @@ pub fn is_cited(unit: u16) -> bool
     unit == QUOTE || unit == BACKSLASH
 }
 
+/// Whether a unit is an ASCII character that stands for itself between quotes, as most are.
+#[inline(always)]
+pub fn is_plain(unit: u16) -> bool
+    ensures shown { result ≡ true → sign.is_shown unit ≡ true }
+    ensures ascii { result ≡ true → unit < 128 }
+{
+    0x20 <= unit && unit < 0x7F && !is_cited(unit)
+}
+
 /// Whether a unit stands for itself between quotes.
 #[inline(always)]
 pub fn is_shown(unit: u16) -> bool
@@ -98,6 +107,9 @@ pub fn is_low(unit: u16) -> bool
 pub fn shown(unit: u16) -> Option<char>
     ensures { MatchOption result (sign.is_shown unit ≡ false) (λ c. (sign.is_shown unit ≡ true) × (c ≡ unit)) }
 {
+    if is_plain(unit) {
+        return Some(char::from(unit as u8));
+    }
     if is_shown(unit) {
         char::from_u32(unit as u32)
     } else {
@@ -120,10 +132,23 @@ pub fn digit_char(digit: u16) -> char
 
 /// Writes a character.
 #[inline(always)]
-pub fn put(out: &mut String, c: char) -> Result<(), AllocError>
-    ensures { OnOk result (Adds (string_bytes out.old) (string_bytes out.new) (c ∷ [])) }
+pub fn put(out: &mut Vec<u8>, c: char) -> Result<(), AllocError>
+    ensures { OnOk result (Adds out.old.items out.new.items (c ∷ [])) }
 {
-    out.push(c)
+    if (c as u32) < 0x80 {
+        out.push(c as u8)?;
+        return Ok(());
+    }
+    put_encoded(out, c)
+}
+
+/// Writes a character in UTF-8.
+#[inline(never)]
+fn put_encoded(out: &mut Vec<u8>, c: char) -> Result<(), AllocError>
+    ensures { OnOk result (Adds out.old.items out.new.items (c ∷ [])) }
+{
+    let mut buffer = [0; 4];
+    out.extend_from_slice(c.encode_utf8(&mut buffer).as_bytes())
 }
 
 /// The character of a surrogate pair, where a unit and the next one are that.
@@ -139,8 +164,8 @@ pub fn paired(unit: u16, next: Option<u16>) -> Option<char>
 }
 
 /// Writes the digits of a unit's escape.
-fn put_digits(out: &mut String, unit: u16) -> Result<(), AllocError>
-    ensures { OnOk result (Adds (string_bytes out.old) (string_bytes out.new) (sign.four_digits unit)) }
+fn put_digits(out: &mut Vec<u8>, unit: u16) -> Result<(), AllocError>
+    ensures { OnOk result (Adds out.old.items out.new.items (sign.four_digits unit)) }
 {
     put(out, digit_char(unit / 4096))?;
     put(out, digit_char(unit / 256 % 16))?;
@@ -149,8 +174,8 @@ fn put_digits(out: &mut String, unit: u16) -> Result<(), AllocError>
 }
 
 /// Writes a unit's escape.
-fn put_escape(out: &mut String, unit: u16) -> Result<(), AllocError>
-    ensures { OnOk result (Adds (string_bytes out.old) (string_bytes out.new) (escape_chars unit)) }
+fn put_escape(out: &mut Vec<u8>, unit: u16) -> Result<(), AllocError>
+    ensures { OnOk result (Adds out.old.items out.new.items (escape_chars unit)) }
 {
     if unit == QUOTE {
         return put_str(out, "\\\"");
@@ -165,13 +190,13 @@ fn put_escape(out: &mut String, unit: u16) -> Result<(), AllocError>
 /// Writes a unit that doesn't stand for itself.
 #[inline(never)]
 pub fn put_other(
-    out: &mut String,
+    out: &mut Vec<u8>,
     after_high: bool,
     unit: u16,
     next: Option<u16>,
 ) -> Result<(), AllocError>
     requires { sign.is_shown unit ≡ false }
-    ensures { OnOk result (Adds (string_bytes out.old) (string_bytes out.new) (unit_chars after_high unit next)) }
+    ensures { OnOk result (Adds out.old.items out.new.items (unit_chars after_high unit next)) }
 {
     if let Some(c) = paired(unit, next) {
         return put(out, c);
@@ -184,12 +209,12 @@ pub fn put_other(
 
 /// Writes a unit of a text with quotes, after a high surrogate or not, and in front of the next unit.
 fn put_unit(
-    out: &mut String,
+    out: &mut Vec<u8>,
     after_high: bool,
     unit: u16,
     next: Option<u16>,
 ) -> Result<(), AllocError>
-    ensures { OnOk result (Adds (string_bytes out.old) (string_bytes out.new) (unit_chars after_high unit next)) }
+    ensures { OnOk result (Adds out.old.items out.new.items (unit_chars after_high unit next)) }
 {
     match shown(unit) {
         Some(c) => put(out, c),
@@ -210,8 +235,8 @@ fn next_unit(units: &[u16], i: usize) -> Option<u16>
 }
 
 /// Writes units of a text with quotes.
-fn put_units(out: &mut String, units: &[u16]) -> Result<(), AllocError>
-    ensures { OnOk result (Adds (string_bytes out.old) (string_bytes out.new) (units_chars units.now false)) }
+fn put_units(out: &mut Vec<u8>, units: &[u16]) -> Result<(), AllocError>
+    ensures { OnOk result (Adds out.old.items out.new.items (units_chars units.now false)) }
 {
     let mut after_high = false;
     for i in 0..units.len() {
@@ -223,16 +248,16 @@ fn put_units(out: &mut String, units: &[u16]) -> Result<(), AllocError>
 }
 
 /// Writes ASCII text as it is.
-pub fn put_str(out: &mut String, text: &str) -> Result<(), AllocError>
+pub fn put_str(out: &mut Vec<u8>, text: &str) -> Result<(), AllocError>
     requires { IsTrue (list_all is_ascii text.now) }
-    ensures { OnOk result (Adds (string_bytes out.old) (string_bytes out.new) text.now) }
+    ensures { OnOk result (Adds out.old.items out.new.items text.now) }
 {
-    out.push_str(text)
+    out.extend_from_slice(text.as_bytes())
 }
 
 /// Writes the name of a bundle, without quotes where they may be left out.
-pub fn put_name(out: &mut String, units: &[u16]) -> Result<(), AllocError>
-    ensures { OnOk result (Adds (string_bytes out.old) (string_bytes out.new) (sign_chars (text (sign.is_name units.now) units.now))) }
+pub fn put_name(out: &mut Vec<u8>, units: &[u16]) -> Result<(), AllocError>
+    ensures { OnOk result (Adds out.old.items out.new.items (sign_chars (text (sign.is_name units.now) units.now))) }
 {
     if is_name(units) {
         return put_units(out, units);
@@ -243,11 +268,11 @@ pub fn put_name(out: &mut String, units: &[u16]) -> Result<(), AllocError>
 }
 
 /// Writes a key, likewise.
-pub fn put_key(out: &mut String, key: &[u8]) -> Result<(), AllocError>
-    ensures { OnOk result (Adds (string_bytes out.old) (string_bytes out.new) (sign_chars (text (sign.is_name key.now) key.now))) }
+pub fn put_key(out: &mut Vec<u8>, key: &[u8]) -> Result<(), AllocError>
+    ensures { OnOk result (Adds out.old.items out.new.items (sign_chars (text (sign.is_name key.now) key.now))) }
 {
     if is_name_key(key) {
-        return put_key_units(out, key);
+        return out.extend_from_slice(key);
     }
     put(out, '"')?;
     put_key_units(out, key)?;
@@ -255,8 +280,8 @@ pub fn put_key(out: &mut String, key: &[u8]) -> Result<(), AllocError>
 }
 
 /// Writes bytes as units of a text with quotes.
-fn put_key_units(out: &mut String, key: &[u8]) -> Result<(), AllocError>
-    ensures { OnOk result (Adds (string_bytes out.old) (string_bytes out.new) (units_chars key.now false)) }
+fn put_key_units(out: &mut Vec<u8>, key: &[u8]) -> Result<(), AllocError>
+    ensures { OnOk result (Adds out.old.items out.new.items (units_chars key.now false)) }
 {
     for byte in key {
         put_unit(out, false, *byte as u16, None)?;

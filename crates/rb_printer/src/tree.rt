@@ -1,5 +1,5 @@
 // Trees, each level indented by four spaces more.
-ghost use Rattle.std.specs.Prelude.{◌≡◌, ◌+◌, ◌≤◌, [], ◌∷◌, OnOk, string_bytes};
+ghost use Rattle.std.specs.Prelude.{◌≡◌, ◌+◌, ◌≤◌, [], ◌∷◌, OnOk};
 ghost use Rattle.rb_grammar.specs.Form.{array_word, table_word};
 ghost use Rattle.rb_tree.specs.Resource.{height};
 ghost use Rattle.rb_tree.specs.Parts.{kind_of};
@@ -28,15 +28,15 @@ fn is_guessed<N: Node>(node: N) -> bool
 }
 
 /// Writes what is between a key and its body.
-fn put_gap(out: &mut String, guessed: bool) -> Result<(), AllocError>
-    ensures { OnOk result (Adds (string_bytes out.old) (string_bytes out.new) (signs_chars (gap guessed []))) }
+fn put_gap(out: &mut Vec<u8>, guessed: bool) -> Result<(), AllocError>
+    ensures { OnOk result (Adds out.old.items out.new.items (signs_chars (gap guessed []))) }
 {
     if guessed { put_str(out, " ") } else { Ok(()) }
 }
 
 /// Begins an array, and writes its type if it isn't guessed.
-fn begin_array(out: &mut String, guessed: bool) -> Result<(), AllocError>
-    ensures { OnOk result (Adds (string_bytes out.old) (string_bytes out.new) (signs_chars (type_unless guessed array_word (left ∷ [])))) }
+fn begin_array(out: &mut Vec<u8>, guessed: bool) -> Result<(), AllocError>
+    ensures { OnOk result (Adds out.old.items out.new.items (signs_chars (type_unless guessed array_word (left ∷ [])))) }
 {
     if guessed {
         put_str(out, "{")
@@ -46,8 +46,8 @@ fn begin_array(out: &mut String, guessed: bool) -> Result<(), AllocError>
 }
 
 /// Begins a table, likewise.
-fn begin_table(out: &mut String, guessed: bool) -> Result<(), AllocError>
-    ensures { OnOk result (Adds (string_bytes out.old) (string_bytes out.new) (signs_chars (type_unless guessed table_word (left ∷ feed ∷ [])))) }
+fn begin_table(out: &mut Vec<u8>, guessed: bool) -> Result<(), AllocError>
+    ensures { OnOk result (Adds out.old.items out.new.items (signs_chars (type_unless guessed table_word (left ∷ feed ∷ [])))) }
 {
     if guessed {
         put_str(out, "{\n")
@@ -57,16 +57,16 @@ fn begin_table(out: &mut String, guessed: bool) -> Result<(), AllocError>
 }
 
 /// Ends a table of a level.
-fn end_braces(out: &mut String, level: usize) -> Result<(), AllocError>
-    ensures { OnOk result (Adds (string_bytes out.old) (string_bytes out.new) (signs_chars (indent level (right ∷ [])))) }
+fn end_braces(out: &mut Vec<u8>, level: usize) -> Result<(), AllocError>
+    ensures { OnOk result (Adds out.old.items out.new.items (signs_chars (indent level (right ∷ [])))) }
 {
     put_indent(out, level)?;
     put_str(out, "}")
 }
 
 /// Ends an array of a level.
-fn end_array(out: &mut String, level: usize) -> Result<(), AllocError>
-    ensures { OnOk result (Adds (string_bytes out.old) (string_bytes out.new) (signs_chars (feed ∷ indent level (right ∷ [])))) }
+fn end_array(out: &mut Vec<u8>, level: usize) -> Result<(), AllocError>
+    ensures { OnOk result (Adds out.old.items out.new.items (signs_chars (feed ∷ indent level (right ∷ [])))) }
 {
     put_str(out, "\n")?;
     end_braces(out, level)
@@ -74,10 +74,10 @@ fn end_array(out: &mut String, level: usize) -> Result<(), AllocError>
 
 /// Writes a tree as it is after a key: its type, if it isn't guessed, and braces.
 #[cycle(tree)]
-fn put_body<N: Node>(out: &mut String, level: usize, node: N) -> Result<(), AllocError>
+fn put_body<N: Node>(out: &mut Vec<u8>, level: usize, node: N) -> Result<(), AllocError>
     requires low { level + height (N.tree node) ≤ 64 }
     requires well { IsWell (N.tree node) }
-    ensures adds { OnOk result (Adds (string_bytes out.old) (string_bytes out.new) (signs_chars (body_signs level (N.tree node) []))) }
+    ensures adds { OnOk result (Adds out.old.items out.new.items (signs_chars (body_signs level (N.tree node) []))) }
     ensures sound { OnOk result (IsSound (N.tree node)) }
 {
     match node.kind() {
@@ -135,10 +135,10 @@ fn put_body<N: Node>(out: &mut String, level: usize, node: N) -> Result<(), Allo
 
 /// Writes an item of an array: a string without braces.
 #[cycle(tree)]
-fn put_item<N: Node>(out: &mut String, level: usize, node: N) -> Result<(), AllocError>
+fn put_item<N: Node>(out: &mut Vec<u8>, level: usize, node: N) -> Result<(), AllocError>
     requires low { level + height (N.tree node) ≤ 64 }
     requires well { IsWell (N.tree node) }
-    ensures adds { OnOk result (Adds (string_bytes out.old) (string_bytes out.new) (signs_chars (item_signs (N.tree node) (body_signs level (N.tree node) []) []))) }
+    ensures adds { OnOk result (Adds out.old.items out.new.items (signs_chars (item_signs (N.tree node) (body_signs level (N.tree node) []) []))) }
     ensures sound { OnOk result (IsSound (N.tree node)) }
 {
     match node.kind() {
@@ -149,11 +149,11 @@ fn put_item<N: Node>(out: &mut String, level: usize, node: N) -> Result<(), Allo
 
 /// Writes the entries of a table, each in lines of its own.
 #[cycle(tree)]
-pub fn put_entries<N: Node>(out: &mut String, level: usize, node: N) -> Result<(), AllocError>
+pub fn put_entries<N: Node>(out: &mut Vec<u8>, level: usize, node: N) -> Result<(), AllocError>
     requires table { kind_of (N.tree node) ≡ Kinds.Table }
     requires low { level + height (N.tree node) ≤ 65 }
     requires well { IsWell (N.tree node) }
-    ensures adds { OnOk result (Adds (string_bytes out.old) (string_bytes out.new) (signs_chars (entries_signs level (members_of (N.tree node)) []))) }
+    ensures adds { OnOk result (Adds out.old.items out.new.items (signs_chars (entries_signs level (members_of (N.tree node)) []))) }
     ensures sound { OnOk result (IsSound (N.tree node)) }
 {
     for i in 0..node.len() {

@@ -8,7 +8,7 @@ use std::process::ExitCode;
 use std::random::RandomSource;
 use std::rt::{Clock, Files};
 
-/// A console that says nothing on success where `--quiet` was given.
+/// A console that says nothing on success if `--quiet` was given.
 fn quieted(console: Console, inner: &ArgMatches<'_>) -> Console {
     Console {
         is_quiet: inner.get_flag("quiet"),
@@ -62,7 +62,7 @@ pub fn chosen_check<R: Files + Clock + AllocGlobal + Print + Eprint>(
     }
 }
 
-/// What `--op` says: `install` where it isn't given.
+/// What `--op` says: `install` if it isn't given.
 fn change_of(op: Option<&str>) -> Option<Change> {
     match op {
         None => Some(Change::Install),

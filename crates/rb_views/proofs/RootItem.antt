@@ -56,3 +56,7 @@ root_is bytes e =
     let b = read_data 64 (slice_index bytes 17) body (source_tree_of bytes) a.1 in
     let s = stands_from body (word_at body 0) (tree_of bytes) b.1 in
     record { long = header_long bytes a.0; inside = header_inside bytes a.0; laid = b.0; stands = s.0; tree = s.1 }
+
+-- the same, of bytes that are those of the file
+pub root_of : (file bytes body : List ℕ) → bytes ≡ file → body ≡ drop (half_at bytes 0) bytes → Denotes file (source_tree_of file) → IsRoot bytes body
+root_of file bytes body e f d = rw (f, e) (root_is file d)

@@ -6,10 +6,12 @@ mod bundle;
 mod item;
 mod leaves;
 mod node;
+mod place;
 mod table;
 
 pub use array::Array;
-pub use bundle::root;
+pub use bundle::{root, root_at, root_place};
 pub use item::Item;
 pub use leaves::{Ints, Units};
+pub use place::RootPlace;
 pub use table::{Pairs, Table};

@@ -46,7 +46,7 @@ func follow(ctx context.Context, nc *nats.Conn, js nats.JetStreamContext, from p
 
 func (p part) done() bool { return p.last != 0 && p.first > p.last }
 
-// fetch hands over messages until the part's end or until something fails. Its consumer wants no acknowledgements, so none can
+// fetch hands over messages until the part's end or until something fails. Its consumer needs no acknowledgements, so none can
 // be lost, and is made anew after each loss of the connection.
 func fetch(ctx context.Context, nc *nats.Conn, js nats.JetStreamContext, from *part, each func(n uint64, m *nats.Msg) error) error {
 	reconnects := nc.Stats().Reconnects

@@ -5,7 +5,7 @@ import (
 	"sync"
 )
 
-// A gate lets so many changes and bytes in at once; one change goes in where none is, whatever its length.
+// A gate limits how many changes and bytes are in at once; one change goes in if none is, whatever its length.
 type gate struct {
 	mu    sync.Mutex
 	left  *sync.Cond

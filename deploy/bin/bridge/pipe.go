@@ -85,7 +85,7 @@ func (p *pipe) narrow() {
 	p.queues[changes].most = inside
 }
 
-// accepts tells whether lines of so many bytes in all may wait for an application.
+// accepts tells whether these lines, with this sum of bytes, may wait for an application.
 func (p *pipe) accepts(caller string, lines, bytes int) bool {
 	p.mu.Lock()
 	defer p.mu.Unlock()

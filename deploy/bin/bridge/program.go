@@ -18,10 +18,10 @@ type program struct {
 	word    string
 }
 
-// limited runs a command with at most so many kilobytes of memory: sh -c limited KILOBYTES COMMAND..
+// limited runs a command with a limit of memory: sh -c limited KILOBYTES COMMAND..
 const limited = `ulimit -v "$0" && exec "$@"`
 
-// launch starts `PATH serve ARGUMENTS` with at most so many bytes of memory, where that isn't 0, and notes its process in the
+// launch starts `PATH serve ARGUMENTS` with a limit of memory in bytes, if that isn't 0, and notes its process in the
 // file. Of a reply no more than the limit is kept.
 func launch(path string, arguments []string, memory int64, limit int, note func(pid int)) (*program, error) {
 	words := append([]string{path, "serve"}, arguments...)

@@ -29,7 +29,7 @@ func read() settings {
 	s := settings{}
 	flag.IntVar(&s.shard, "shard", 0, "the shard to serve")
 	flag.IntVar(&s.shards, "shards", 0, "how many shards there are, to be told with the metrics")
-	flag.IntVar(&s.setup, "setup", 0, "make the streams of so many shards, and end")
+	flag.IntVar(&s.setup, "setup", 0, "make the streams of this number of shards, and end")
 	flag.Int64Var(&s.bytes, "bytes", -1, "with -setup: the most bytes of a shard's stream of changes")
 	flag.IntVar(&s.replicas, "replicas", 1, "with -setup: how many nats-servers keep each stream")
 	flag.StringVar(&s.url, "nats", "nats://127.0.0.1:4422", "where nats-server is")

@@ -12,7 +12,7 @@ import (
 	"luvdregan.example/resb/deploy/internal/subjects"
 )
 
-// makeStreams makes the streams of the shards 0 to n-1 where they aren't there, with so many replicas. A full stream refuses what
+// makeStreams makes the streams of the shards 0 to n-1 if they aren't there, with this number of replicas. A full stream refuses what
 // is published; the compactor alone takes out what a generation of bundles has.
 func makeStreams(js nats.JetStreamContext, n int, bytes int64, replicas int) error {
 	for shard := 0; shard < n; shard++ {

@@ -11,7 +11,7 @@ returns-in-Some-clause-stays c =
     let app = c.args.app.now in
     let rows = c.args.owned.now.entries in
     let old = c.in-Some.bundles.now in
-    let new = c.shift_remove.new.self in
+    let new = c.remove.new.bundles in
     let there : lookup (bytes_eq app) rows ≡ Some old = sym c.get_mut.ensures.value ∙ ap option_copied_mut c.in-Some.is in
     let written = c.get_mut.follows.holds new in
-    if_none c.shift_remove.result (λ same. ap files_by_app written.0 ∙ files_by_app-set_value app rows old new there same) c.shift_remove.ensures.unchanged
+    if_none c.remove.result (λ same. ap files_by_app written.0 ∙ files_by_app-set_value app rows old new there same) c.remove.ensures.stays

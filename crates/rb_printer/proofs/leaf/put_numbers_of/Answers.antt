@@ -1,4 +1,4 @@
-use Rattle.std.proofs.Common.{w32, ℕ, ℤ, ◌+◌, Bool, [], ap, subst, ◌∙◌, length, string_bytes}
+use Rattle.std.proofs.Common.{w32, ℕ, ℤ, ◌+◌, Bool, [], ap, subst, ◌∙◌, length}
 use Rattle.std.proofs.lemmas.Int.{to_z-of_z}
 use Rattle.std.specs.Prelude.{nat_lt}
 use Rattle.std.specs.Fmt.{signed_decimal}
@@ -19,12 +19,12 @@ loop-i-preserved g c =
     let room = c.loop-i.room in
     let z = c.number.result in
     let fits : SFits w32 z = record { sfits = c.number.type_inv } in
-    let more = subst (λ (n : ℕ). Adds (string_bytes c.put_wide.new.out) (string_bytes c.put_comma.new.out) (signs_chars (comma_if (nat_lt (c.loop-i.i + 1) n) [])))
+    let more = subst (λ (n : ℕ). Adds c.put_wide.new.out.items c.put_comma.new.out.items (signs_chars (comma_if (nat_lt (c.loop-i.i + 1) n) [])))
     (c.len.ensures ∙ numbers_len tree c.requires.ints) c.in_ok-put_comma.ensures in
     let width = c.in_ok-width.ensures.width ∙ ap (λ (x : ℤ). length (signed_decimal x)) (to_z-of_z w32 z fits) in
     let left = c.room_after-room.ensures ∙ ap (λ (b : Bool). room_after b level room c.in_ok-width.width) c.number_fits-fits.ensures
     ∙ ap (λ (n : ℕ). room_after (fits_in w room) level room n) width in
-    let front = subst (λ (b : Bool). Adds (string_bytes c.loop-i.out) (string_bytes c.put_pause.new.out) (signs_chars (pause b level []))) c.number_fits-fits.ensures
+    let front = subst (λ (b : Bool). Adds c.loop-i.out.items c.put_pause.new.out.items (signs_chars (pause b level []))) c.number_fits-fits.ensures
     c.in_ok-put_pause.ensures in
     numbers_put _ _ _ _ _ (numbers_of tree) w level room c.room_after-room.result c.loop-i.i z c.loop-i.invariant c.number.ensures
     (number_fits z fits) left front (number_read z fits c.in_ok-width.ensures.adds) more

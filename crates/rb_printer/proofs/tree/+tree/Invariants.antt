@@ -1,4 +1,4 @@
-use Rattle.std.proofs.Common.{◌+◌, ◌*◌, string_bytes}
+use Rattle.std.proofs.Common.{◌+◌, ◌*◌}
 use Rattle.rb_tree.specs.Resource.{height}
 use Rattle.rb_printer.proofs.Trees.{ItemsPut, EntriesPut}
 use Rattle.rb_printer.proofs.tree.+tree.Given as goal
@@ -13,7 +13,7 @@ abbrev pub decreases-put_entries : goal.decreases-put_entries
 decreases-put_entries g l = 3 * height (g.N.Node.tree l.node)
 
 abbrev pub invariant-put_body-loop-i : goal.invariant-put_body-loop-i
-invariant-put_body-loop-i g l = ItemsPut (string_bytes l.fn.out) (string_bytes l.out) l.level (g.N.Node.tree l.node) l.room l.i
+invariant-put_body-loop-i g l = ItemsPut l.fn.out.items l.out.items l.level (g.N.Node.tree l.node) l.room l.i
 
 abbrev pub invariant-put_entries-loop-i : goal.invariant-put_entries-loop-i
-invariant-put_entries-loop-i g l = EntriesPut (string_bytes l.fn.out) (string_bytes l.out) l.level (g.N.Node.tree l.node) l.i
+invariant-put_entries-loop-i g l = EntriesPut l.fn.out.items l.out.items l.level (g.N.Node.tree l.node) l.i

@@ -1,7 +1,7 @@
 #!/usr/bin/env python3
 """Whether two builds of `resb` answer the same: 100,000 made lines, the same to both, and their replies compared byte for byte.
 
-usage: same_replies.py OLD NEW [SEED]
+usage: compare_builds.py OLD NEW [SEED]
 
 The lines have members twice, escapes, lone surrogates, numbers out of range, nesting of 126 to 129 levels, trailing bytes, white
 space, members that aren't strings, and bytes that aren't UTF-8, beside requests and lookups that are answered.

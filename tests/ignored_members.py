@@ -2,15 +2,15 @@
 """Whether `resb serve` answers a line the same with a member that counts for nothing: 100,000 made lines, served as they are and with
 such a member more, and their replies compared byte for byte.
 
-usage: same_readings.py PROGRAM [SEED]
+usage: ignored_members.py PROGRAM [SEED]
 
 Members that count for nothing are passed over, whatever they hold: numbers, words, lists and objects. The lines are those of
-same_replies.py.
+compare_builds.py.
 """
 import os
 import sys
 
-from same_replies import lines, replies
+from compare_builds import lines, replies
 
 MEMBERS = [
     b'"x":1',

@@ -1,4 +1,4 @@
-// The trial loads bundles of many applications over shards, kills shards while lookups and changes run, and compares every
+// Demo loads bundles of many applications over shards, kills shards while lookups and changes run, and compares every
 // reply with that of a `resb serve` alone. deploy/demo runs it.
 package main
 
@@ -221,7 +221,7 @@ func names() []string {
 	return list
 }
 
-// freePorts gives the first of so many ports on loopback in a row that nothing listens to, below those that callers are given.
+// freePorts gives the first of a number of ports on loopback in a row that nothing listens to, below those that callers are given.
 func freePorts(n int) (int, error) {
 	for try := 0; try < 1000; try++ {
 		first, free := 10000+rand.Intn(20000), true

@@ -1,4 +1,4 @@
-// The caller sends each line of its input for one application and prints the replies: what `resb serve` would print, by way of
+// Call sends each line of its input for one application and prints the replies: what `resb serve` would print, by way of
 // the application's shard.
 package main
 

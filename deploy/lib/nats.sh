@@ -1,4 +1,4 @@
-# What start, add and drop say to nats-server: its users and its files. Sourced after lib.sh.
+# What start, add and drop say to nats-server: its users and its files. Sourced after lib/common.sh.
 # shellcheck shell=sh disable=SC2154
 
 # the token of an application's name: internal/subjects has the same rule
@@ -121,7 +121,7 @@ configure() {
     done
 }
 
-# reads what the state says of its servers, where it was started once
+# reads what the state says of its servers, if it was started once
 need_state() {
     [ -f "$state/shards" ] || {
         echo "$0: $state has no shards; deploy/start makes them" >&2

@@ -80,7 +80,7 @@ func (a *application) verify() {
 	}
 }
 
-// work mixes lookups and changes until the end; at most so many changes are published together.
+// work mixes lookups and changes until the end; the number of changes that are published together is limited.
 func (a *application) work(end time.Time, together int) {
 	for time.Now().Before(end) {
 		if a.random.Intn(20) == 0 {

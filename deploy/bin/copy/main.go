@@ -1,4 +1,4 @@
-// The copier publishes the changes that one set of shards has to another set, whose number may differ: those that were done,
+// Copy publishes the changes that one set of shards has to another set, whose number may differ: those that were done,
 // each application's in their order. It is run while no caller is there.
 package main
 
@@ -78,7 +78,7 @@ func dial(url, file string) (*nats.Conn, error) {
 	return nats.Connect(url, nats.UserInfo("operator", password))
 }
 
-// await waits until so many changes are answered, each as done.
+// await waits until this number of changes is answered, each as done.
 func await(answers *nats.Subscription, n int) error {
 	for k := 0; k < n; k++ {
 		m, err := answers.NextMsg(time.Minute)

@@ -1,4 +1,4 @@
-// The loader asks a gateway over so many connections at once, as fast as it answers, and prints how many requests a second that
+// Load asks a gateway over a number of connections at once, as fast as it answers, and prints how many requests a second that
 // were, and the times that they took.
 package main
 
@@ -16,13 +16,13 @@ func main() {
 	address := flag.String("address", "127.0.0.1:6422", "where the gateway is")
 	token := flag.String("token", "", "the token")
 	path := flag.String("path", "/v1/shop/de/a", "what is asked")
-	lines := flag.Int("lines", 0, "ask so many lookups in each request, by POST, with -locale and -item")
+	lines := flag.Int("lines", 0, "ask this number of lookups in each request, by POST, with -locale and -item")
 	locale := flag.String("locale", "de", "with -lines: the locale")
 	item := flag.String("item", "a", "with -lines: the path")
 	connections := flag.String("connections", "1,50,500", "how many connections, one number after the other")
 	length := flag.Duration("time", 5*time.Second, "how long for each number")
 	ids := flag.String("processes", "", "processes of which the processor time is told: NAME=ID,..")
-	bundles := flag.Int("fill", 0, "install so many bundles of the application shop, and end")
+	bundles := flag.Int("fill", 0, "install this number of bundles of the application shop, and end")
 	flag.Parse()
 	if *bundles > 0 {
 		end(fill(*address, *token, *bundles))

@@ -2,10 +2,10 @@
 # A replacement while a lookup's item is held doesn't compile: the item is lent out of the engine. The program programs/held.rt.in does
 # so, and is refused for this borrow; without the two lines that hold the item, marked `held`, it compiles and runs.
 #
-# usage: borrows.sh      (the variable RT names the command `rt`, where it is another)
+# usage: no_change_while_lent.sh      (the variable RT names the command `rt`, if it is another)
 set -eu
 cd "$(dirname "$0")"
-. ./beside.sh
+. ./scratch_repository.sh
 rt=${RT:-rt}
 made=$(mktemp -d)
 trap 'rm -rf "$made"' EXIT

@@ -18,7 +18,7 @@ import (
 // churned is how many bundles are replaced, and left how many messages may be left for them.
 const churned, left = 100, 300
 
-// churn replaces 100 bundles so many times while compactors are killed, has the streams shortened, and looks everything up
+// churn replaces 100 bundles a number of times while compactors are killed, has the streams shortened, and looks everything up
 // before and after, also in a shard that begins anew.
 func churn(t *tally, scripts, state, program string, replacements, servers int) error {
 	port, err := freePorts(2*servers + 1)
@@ -142,7 +142,7 @@ func locale(k, way int) string {
 	return name
 }
 
-// churn installs so many bundles, or replaces them so often; now and then one is removed and installed again.
+// churn installs a number of bundles, or replaces them a number of times; now and then one is removed and installed again.
 func (a *application) churn(times, bundles int) {
 	const together = 8
 	if times == 0 {

@@ -1,4 +1,4 @@
-# What the scripts of this folder share. Sourced with `here` set to the folder. A name that a function here sets is set in the script.
+# What the commands of deploy/ have in common. Sourced with `here` set to that folder. A name that a function here sets is set in the script.
 # shellcheck shell=sh disable=SC2034
 
 top=$(CDPATH='' cd -- "$here/.." && pwd)
@@ -47,7 +47,7 @@ debian_module() {
     echo ')'
 }
 
-# runs Go in the folder over Debian's libraries alone: in_go FOLDER ARGUMENTS..
+# runs Go in the folder, only over Debian's libraries: in_go FOLDER ARGUMENTS..
 in_go() {
     go_folder=$1
     shift
@@ -70,7 +70,7 @@ build() {
     done
 }
 
-# the process of a keeper, where it is one of this state
+# the process of a keeper, if it is one of this state
 keeper() {
     [ -f "$1" ] || return 1
     pid=$(cat "$1")

@@ -1,0 +1,84 @@
+//! A bundle with what each lookup asks of it.
+ghost use Rattle.std.specs.Prelude.{◌≡◌, IsTrue};
+ghost use Rattle.rb_format.specs.File.{source_tree_of, tree_of};
+ghost use Rattle.rb_format.specs.Place.{word_at};
+ghost use Rattle.rb_views.specs.Seen.{tree_seen, item_data, item_word};
+ghost use Rattle.rb_views.specs.Trees.{data_of};
+ghost use Rattle.rb_packages.specs.LentItem.{lent_item, lent_tree};
+ghost use Rattle.rb_packages.specs.inner.Names.{names_nothing};
+
+use crate::lent::LentItem;
+use rb_validator::Bundle;
+use rb_views::{Item, RootPlace, root, root_at, root_place};
+use std::marker::Model;
+
+/// A bundle, and what each lookup asks of it: where its root is, whether it has no fallback, and whether its root names another
+/// bundle. These are read off the file once, since whoever reads them there waits for memory each time.
+#[derive(Drop)]
+pub(crate) struct Held {
+    bundle: Bundle,
+    root: RootPlace,
+    no_fallback: bool,
+    lacks_names: bool,
+}
+
+impl Model for Held {
+    ghost use Rattle.std.specs.Prelude.{List, ℕ};
+    ghost use Rattle.rb_packages.specs.inner.Names.{IsHeld};
+
+    ghost Value = { List ℕ };
+
+    ghost view = { λ h. h.bundle };
+
+    ghost invariant = { λ h. IsHeld h.bundle h.root h.no_fallback h.lacks_names };
+}
+
+/// Whether a table has neither `%%ALIAS` nor `%%Parent`.
+fn lacks_names(root: Item<'_>) -> bool
+    ensures { IsTrue result → IsTrue (names_nothing (tree_seen root.entry)) }
+{
+    match root.table() {
+        Some(table) => table.get(b"%%ALIAS").is_none() && table.get(b"%%Parent").is_none(),
+        None => false,
+    }
+}
+
+impl Held {
+    /// A bundle with what its file says.
+    pub(crate) fn of(bundle: Bundle) -> Held
+        ensures { result ≡ bundle }
+    {
+        Held {
+            root: root_place(&bundle),
+            no_fallback: bundle.no_fallback(),
+            lacks_names: lacks_names(root(&bundle)),
+            bundle,
+        }
+    }
+
+    /// The bundle alone.
+    pub(crate) fn into_bundle(self) -> Bundle
+        ensures { result ≡ self }
+    {
+        self.bundle
+    }
+
+    /// The root of the bundle, without a look at its file.
+    pub(crate) fn root(&self) -> LentItem<'_>
+        ensures tree { lent_tree result ≡ tree_of self.now }
+        ensures data { item_data (lent_item result) ≡ data_of self.now }
+        ensures word { item_word (lent_item result) ≡ word_at (data_of self.now) 0 }
+    {
+        LentItem {
+            item: root_at(&self.bundle, self.root),
+            lacks_names: self.lacks_names,
+        }
+    }
+
+    /// Whether a lookup stops at the bundle.
+    pub(crate) fn no_fallback(&self) -> bool
+        ensures { result ≡ (source_tree_of self.now).no_fallback }
+    {
+        self.no_fallback
+    }
+}

@@ -1,0 +1,94 @@
+//! The items of the bundles that packages lend.
+ghost use Rattle.std.specs.Prelude.{◌≡◌, ◌⊎◌, IsTrue};
+ghost use Rattle.rb_parents.specs.Trail.{alias_key, parent_key};
+ghost use Rattle.rb_views.specs.Seen.{tree_seen};
+ghost use Rattle.rb_packages.specs.inner.Names.{names_nothing};
+
+use rb_tree::{Kind, Node};
+use rb_views::Item;
+
+/// An item of a bundle that packages lend. It is what its `item` is, but that the root of a bundle whose table has neither `%%ALIAS`
+/// nor `%%Parent` answers so without a look at the file.
+#[derive(Clone, Copy)]
+pub struct LentItem<'a> {
+    pub(crate) item: Item<'a>,
+    pub(crate) lacks_names: bool,
+    ghost noted: { IsTrue lacks_names → IsTrue (names_nothing (tree_seen item)) },
+}
+
+/// Whether a key is one of the two at which a bundle's root names another bundle.
+fn names_bundle(key: &[u8]) -> bool
+    ensures { IsTrue result → (key.now ≡ alias_key) ⊎ (key.now ≡ parent_key) }
+{
+    key == b"%%ALIAS".as_slice() || key == b"%%Parent".as_slice()
+}
+
+/// An item of which nothing is known beside.
+fn below<'a>(item: Item<'a>) -> LentItem<'a>
+    ensures { result.item ≡ item.entry }
+{
+    LentItem {
+        item,
+        lacks_names: false,
+    }
+}
+
+impl<'a> LentItem<'a> {
+    ghost use Rattle.rb_packages.specs.LentItem.{lent_item};
+
+    /// The item, without what is known beside it.
+    pub fn item(self) -> Item<'a>
+        ensures { result ≡ lent_item self.entry }
+    {
+        self.item
+    }
+}
+
+impl<'a> Node for LentItem<'a> {
+    ghost use Rattle.rb_packages.specs.LentItem.{lent_tree};
+
+    ghost tree = { lent_tree };
+
+    fn kind(self) -> Kind {
+        self.item.kind()
+    }
+
+    fn len(self) -> usize {
+        self.item.len()
+    }
+
+    #[tactic(auto, using(crate::proofs::Names::no_name))]
+    fn child(self, key: &[u8]) -> Option<LentItem<'a>> {
+        if self.lacks_names && names_bundle(key) {
+            return None;
+        }
+        match self.item.child(key) {
+            Some(item) => Some(below(item)),
+            None => None,
+        }
+    }
+
+    fn key_at(&self, i: usize) -> &[u8] {
+        self.item.key_at(i)
+    }
+
+    fn unit(self, i: usize) -> u16 {
+        self.item.unit(i)
+    }
+
+    fn number(self, i: usize) -> i32 {
+        self.item.number(i)
+    }
+
+    fn byte(self, i: usize) -> u8 {
+        self.item.byte(i)
+    }
+
+    fn int(self) -> u32 {
+        Node::int(self.item)
+    }
+
+    fn at(self, i: usize) -> LentItem<'a> {
+        below(self.item.at(i))
+    }
+}
