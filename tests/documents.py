@@ -232,8 +232,10 @@ def crates():
 def error_words():
     """The words that the calls `word` of the crates give for errors."""
     code = "".join(sources(crate) for crate in crates())
-    bodies = re.findall(r"fn word\(.*?\n    }\n", code, flags=re.S)
-    return set(re.findall(r'"([A-Z]\w*)"', "".join(bodies))) - {"Done", "Names"} | {"BadLine"}
+    bodies = "".join(re.findall(r"fn word\(&?self\).*?\n    }\n", code, flags=re.S))
+    variants = "".join(re.findall(r"variant_name!\(self: \w+ \{(.*?)\}\)", bodies, flags=re.S))
+    words = re.findall(r'"([A-Z]\w*)"', bodies) + re.findall(r"\b([A-Z]\w*)", variants)
+    return set(words) - {"Done", "Names"} | {"BadLine"}
 
 
 def missing_words():

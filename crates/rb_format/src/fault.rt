@@ -1,6 +1,4 @@
-// Why a file is refused.
-ghost use Rattle.std.specs.Prelude.{◌≡◌};
-ghost use Rattle.rb_format.specs.Words.{word_of};
+//! Why a file is refused.
 
 /// Why a file is refused.
 #[derive(Clone, Copy, Debug, PartialEq, Eq)]
@@ -37,30 +35,4 @@ pub enum FileFault {
     TooDeep,
     /// Out of memory.
     Memory,
-}
-
-impl FileFault {
-    /// The variant's name.
-    pub fn word(self) -> &'static str
-        ensures { result.now ≡ word_of self }
-    {
-        match self {
-            FileFault::TooLong => "TooLong",
-            FileFault::Header => "Header",
-            FileFault::BigEndian => "BigEndian",
-            FileFault::Family => "Family",
-            FileFault::FormatVersion => "FormatVersion",
-            FileFault::Indexes => "Indexes",
-            FileFault::Attributes => "Attributes",
-            FileFault::Root => "Root",
-            FileFault::ItemType => "ItemType",
-            FileFault::Offset => "Offset",
-            FileFault::Length => "Length",
-            FileFault::NotTerminated => "NotTerminated",
-            FileFault::Key => "Key",
-            FileFault::KeyOrder => "KeyOrder",
-            FileFault::TooDeep => "TooDeep",
-            FileFault::Memory => "Memory",
-        }
-    }
 }

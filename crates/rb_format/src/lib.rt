@@ -11,6 +11,7 @@ mod kind;
 pub mod laws;
 mod layout;
 mod place;
+mod words;
 
 pub use attributes::Attributes;
 pub use constants::{

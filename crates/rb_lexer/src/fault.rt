@@ -1,6 +1,4 @@
-// Why a text is refused.
-ghost use Rattle.std.specs.Prelude.{◌≡◌};
-ghost use Rattle.rb_lexer.specs.Words.{kind_word};
+//! Why a text is refused.
 
 use std::alloc::{AllocError, AllocFailed};
 
@@ -38,31 +36,6 @@ pub enum SourceKind {
     TooLarge,
     /// An allocation was refused.
     Memory,
-}
-
-impl SourceKind {
-    /// The name of the variant.
-    pub fn word(self) -> &'static str
-        ensures { result.now ≡ kind_word self }
-    {
-        match self {
-            SourceKind::TooLong => "TooLong",
-            SourceKind::NotUtf8 => "NotUtf8",
-            SourceKind::BadEscape => "BadEscape",
-            SourceKind::OpenQuote => "OpenQuote",
-            SourceKind::OpenComment => "OpenComment",
-            SourceKind::Unexpected => "Unexpected",
-            SourceKind::UnknownType => "UnknownType",
-            SourceKind::BadKey => "BadKey",
-            SourceKind::DuplicateKey => "DuplicateKey",
-            SourceKind::BadInt => "BadInt",
-            SourceKind::BadHex => "BadHex",
-            SourceKind::TooDeep => "TooDeep",
-            SourceKind::TrailingText => "TrailingText",
-            SourceKind::TooLarge => "TooLarge",
-            SourceKind::Memory => "Memory",
-        }
-    }
 }
 
 /// Why a text is refused, and in which line. Out of memory has line 0.

@@ -19,6 +19,7 @@ mod text;
 mod token;
 mod units;
 mod unquoted;
+mod words;
 
 pub use fault::{SourceFault, SourceKind};
 pub use lexer::lex;

@@ -7,6 +7,7 @@ mod limits;
 mod name;
 mod order;
 mod units;
+mod words;
 
 pub use fault::BadLocale;
 pub use limits::NAME_LIMIT;

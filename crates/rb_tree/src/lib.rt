@@ -12,6 +12,7 @@ mod order;
 mod path;
 mod table;
 mod tree;
+mod words;
 
 pub use ending::{Ending, walk};
 pub use kind::Kind;
