@@ -1,5 +1,4 @@
-// Why a lookup or the text of an alias is refused.
-ghost use Rattle.std.specs.Prelude.{◌≡◌};
+//! Why a lookup or the text of an alias is refused.
 
 /// Why the text of an alias leads nowhere.
 #[derive(Clone, Copy, Debug, PartialEq, Eq)]
@@ -8,20 +7,6 @@ pub enum AliasFault {
     AliasText,
     /// A package after the first slash that is neither `LOCALE` nor `ICUDATA`.
     AliasPackage,
-}
-
-impl AliasFault {
-    ghost use Rattle.rb_fallback.specs.Words.{alias_word};
-
-    /// The error's name.
-    pub fn word(self) -> &'static str
-        ensures { result.now ≡ alias_word self }
-    {
-        match self {
-            AliasFault::AliasText => "AliasText",
-            AliasFault::AliasPackage => "AliasPackage",
-        }
-    }
 }
 
 /// Why a lookup finds nothing.
@@ -45,25 +30,4 @@ pub enum LookError {
     AliasPackage,
     /// The path leads from alias to alias, more than 255 times.
     TooManyAliases,
-}
-
-impl LookError {
-    ghost use Rattle.rb_fallback.specs.Words.{look_word};
-
-    /// The error's name.
-    pub fn word(self) -> &'static str
-        ensures { result.now ≡ look_word self }
-    {
-        match self {
-            LookError::BadPath => "BadPath",
-            LookError::PathTooLong => "PathTooLong",
-            LookError::Chain => "Chain",
-            LookError::BadParent => "BadParent",
-            LookError::NoBundle => "NoBundle",
-            LookError::Missing => "Missing",
-            LookError::AliasText => "AliasText",
-            LookError::AliasPackage => "AliasPackage",
-            LookError::TooManyAliases => "TooManyAliases",
-        }
-    }
 }

@@ -8,6 +8,7 @@ mod level;
 mod limits;
 mod path;
 mod search;
+mod words;
 
 pub use alias::{Target, read_alias};
 pub use fault::{AliasFault, LookError};

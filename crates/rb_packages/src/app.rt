@@ -78,20 +78,6 @@ pub enum AppFault {
     Reserved,
 }
 
-impl AppFault {
-    ghost use Rattle.rb_packages.specs.Words.{app_word};
-
-    /// The variant's name.
-    pub fn word(self) -> &'static str
-        ensures { result.now ≡ app_word self }
-    {
-        match self {
-            AppFault::BadApp => "BadApp",
-            AppFault::Reserved => "Reserved",
-        }
-    }
-}
-
 impl App {
     /// Reads an application's name. It takes no memory.
     pub fn read(bytes: &[u8]) -> Result<App, AppFault>

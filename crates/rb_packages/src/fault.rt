@@ -1,6 +1,4 @@
 //! Why a bundle isn't taken in, replaced or removed.
-ghost use Rattle.std.specs.Prelude.{◌≡◌};
-ghost use Rattle.rb_packages.specs.Words.{absent_word, pack_word};
 
 /// Why a bundle isn't taken in.
 #[derive(Clone, Copy, Debug, PartialEq, Eq)]
@@ -15,29 +13,6 @@ pub enum PackFault {
     Memory,
 }
 
-impl PackFault {
-    /// The variant's name.
-    pub fn word(self) -> &'static str
-        ensures { result.now ≡ pack_word self }
-    {
-        match self {
-            PackFault::Twice => "Twice",
-            PackFault::Exists => "Exists",
-            PackFault::Full => "Full",
-            PackFault::Memory => "Memory",
-        }
-    }
-}
-
 /// The application has no bundle of that name.
 #[derive(Clone, Copy, Debug, PartialEq, Eq)]
 pub struct Absent;
-
-impl Absent {
-    /// The error's name, `Absent`.
-    pub fn word(self) -> &'static str
-        ensures { result.now ≡ absent_word }
-    {
-        "Absent"
-    }
-}

@@ -12,6 +12,7 @@ mod packages;
 mod shelf;
 #[cfg(test)]
 mod tests;
+mod words;
 
 pub use app::{App, AppFault};
 pub use fault::{Absent, PackFault};

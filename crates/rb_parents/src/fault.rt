@@ -1,5 +1,4 @@
-// The errors of explicit parents and of trails.
-ghost use Rattle.std.specs.Prelude.{◌≡◌};
+//! The errors of explicit parents and of trails.
 
 /// Why a tree gives no explicit parents.
 #[derive(Clone, Copy, Debug, PartialEq, Eq)]
@@ -15,22 +14,6 @@ pub enum ParentsFault {
     Memory,
 }
 
-impl ParentsFault {
-    ghost use Rattle.rb_parents.specs.Words.{parents_word};
-
-    /// The error's name.
-    pub fn word(self) -> &'static str
-        ensures { result.now ≡ parents_word self }
-    {
-        match self {
-            ParentsFault::Shape => "Shape",
-            ParentsFault::BadLocale => "BadLocale",
-            ParentsFault::TwoParents => "TwoParents",
-            ParentsFault::Memory => "Memory",
-        }
-    }
-}
-
 /// Why a name has no trail.
 #[derive(Clone, Copy, Debug, PartialEq, Eq)]
 pub enum TrailFault {
@@ -38,18 +21,4 @@ pub enum TrailFault {
     Chain,
     /// A `%%ALIAS` or `%%Parent` that is no locale name.
     BadParent,
-}
-
-impl TrailFault {
-    ghost use Rattle.rb_parents.specs.Words.{trail_word};
-
-    /// The error's name.
-    pub fn word(self) -> &'static str
-        ensures { result.now ≡ trail_word self }
-    {
-        match self {
-            TrailFault::Chain => "Chain",
-            TrailFault::BadParent => "BadParent",
-        }
-    }
 }

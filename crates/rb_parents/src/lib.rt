@@ -7,6 +7,7 @@ mod limits;
 mod parents;
 mod route;
 mod shelf;
+mod words;
 
 pub use fault::{ParentsFault, TrailFault};
 pub use limits::TRAIL_LIMIT;
