@@ -1,24 +1,26 @@
 -- Warnings in order, with one more at the end.
 use Rattle.std.proofs.Common.{◌≡◌, ℕ, ◌≤◌, List, [], ◌∷◌, ◌++◌, All, arith}
 use Rattle.std.proofs.lemmas.List.Elements.{All-nil, All-cons, All-append, All-head, All-tail, All-push, All-weaker}
-use Rattle.rb_lint.specs.declared.warning.Warning.{Warning}
 use Rattle.rb_lint.specs.Warnings.{AreInOrder, AreWithin}
 
-pub order_more : (ws : List Warning) (w : Warning) → AreInOrder ws → All (λ v. v.line ≤ w.line) ws → AreInOrder (ws ++ w ∷ [])
-order_more [] w o a = (All-nil (λ v. w.line ≤ v.line), tt)
-order_more (x ∷ xs) w o a =
-    let P : Warning → Type 0 = λ v. x.line ≤ v.line in
-    let Q : Warning → Type 0 = λ v. v.line ≤ w.line in
-    (All-append P xs (w ∷ []) o.0 (All-cons P w [] (All-head Q x xs a) (All-nil P)), order_more xs w o.1 (All-tail Q x xs a))
+pub order_more : {A : Type 0} (line : A → ℕ) (ws : List A) (w : A) → AreInOrder line ws → All (λ v. line v ≤ line w) ws → AreInOrder line (ws ++ w ∷ [])
+order_more line [] w o a = (All-nil (λ v. line w ≤ line v), tt)
+order_more {A} line (x ∷ xs) w o a =
+    let P : A → Type 0 = λ v. line x ≤ line v in
+    let Q : A → Type 0 = λ v. line v ≤ line w in
+    (All-append P xs (w ∷ []) o.0 (All-cons P w [] (All-head Q x xs a) (All-nil P)), order_more line xs w o.1 (All-tail Q x xs a))
 
--- what the loop that puts warnings in order keeps, with one more at the end
-pub one_more : (lines last : ℕ) (ws us : List Warning) (w : Warning) → us ≡ ws ++ w ∷ [] → AreInOrder ws → AreWithin lines ws
-    → All (λ v. v.line ≤ last) ws → 1 ≤ last → last ≤ w.line → w.line ≤ lines
-    → AreInOrder us × AreWithin lines us × All (λ v. v.line ≤ w.line) us
-one_more lines last ws us w e o a b first after inside =
-    let Q : Warning → Type 0 = λ v. v.line ≤ w.line in
-    let P : Warning → Type 0 = λ v. (1 ≤ v.line) × (v.line ≤ lines) in
-    let b' : All Q ws = All-weaker (λ v. v.line ≤ last) Q (λ v h. omega arith) ws b in
-    let one : 1 ≤ w.line = omega arith in
-    let self : w.line ≤ w.line = omega arith in
-    rw e (order_more ws w o b', All-push P ws w a (one, inside), All-push Q ws w b' self)
+-- what the loop that puts warnings in order keeps, with one more at the end, at a line n
+pub one_more : {A : Type 0} (line : A → ℕ) (lines last n : ℕ) (ws us : List A) (w : A) → us ≡ ws ++ w ∷ [] → n ≡ line w → AreInOrder line ws → AreWithin lines line ws
+    → All (λ v. line v ≤ last) ws → 1 ≤ last → last ≤ n → n ≤ lines
+    → AreInOrder line us × AreWithin lines line us × All (λ v. line v ≤ n) us
+one_more {A} line lines last n ws us w e at o a b first after inside =
+    let Q : A → Type 0 = λ v. line v ≤ line w in
+    let P : A → Type 0 = λ v. (1 ≤ line v) × (line v ≤ lines) in
+    let R : A → Type 0 = λ v. line v ≤ n in
+    let b' : All Q ws = All-weaker (λ v. line v ≤ last) Q (λ v h. omega arith) ws b in
+    let r : All R ws = All-weaker (λ v. line v ≤ last) R (λ v h. omega arith) ws b in
+    let one : 1 ≤ line w = omega arith in
+    let inner : line w ≤ lines = omega arith in
+    let self : line w ≤ n = omega arith in
+    rw e (order_more line ws w o b', All-push P ws w a (one, inner), All-push R ws w r self)

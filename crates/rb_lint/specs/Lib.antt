@@ -1,2 +1,1 @@
 pub mod Warnings
-pub mod Beside

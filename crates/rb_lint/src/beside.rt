@@ -1,10 +1,10 @@
 //! A text beside that of the root locale.
 ghost use Rattle.std.specs.Prelude.{◌≤◌, IfOk, vec_len};
-ghost use Rattle.rb_lint.specs.Beside.{AreInOrder, AreWithin};
-ghost use Rattle.rb_lint.specs.Warnings.{line_count};
+ghost use Rattle.rb_lint.specs.Warnings.{AreInOrder, AreWithin, line_count};
 
 use crate::difference::{Difference, RootWarning};
-use crate::findings::{Findings, WARNING_LIMIT};
+use crate::findings::Findings;
+use crate::order::in_order;
 use crate::outline::{Outline, place_of};
 use crate::placeholders::placeholders;
 use crate::scan::{Quoting, cut};
@@ -22,14 +22,17 @@ struct Pair<'a> {
     tree: &'a Tree,
 }
 
+/// One of the two texts.
+#[derive(Clone, Copy)]
+enum Side {
+    Root,
+    Text,
+}
+
 /// A path with one segment more.
 fn below(alloc: Global, path: &[u8], segment: &[u8]) -> Result<Vec<u8>, AllocError> {
-    let mut below = path.to_vec(alloc)?;
-    if !below.is_empty() {
-        below.push(b'/')?;
-    }
-    below.extend_from_slice(segment)?;
-    Ok(below)
+    let slash: &[u8] = if path.is_empty() { b"" } else { b"/" };
+    [path, slash, segment].concat(alloc)
 }
 
 /// The units of a String as bytes, where those that aren't plain ASCII are `?`.
@@ -202,13 +205,19 @@ impl<'a> Comparison<'a> {
             plain(alloc, tree.as_slice())?,
         );
         let (asked, given) = (placeholders(alloc, &root)?, placeholders(alloc, &tree)?);
-        for name in &others(alloc, &asked, &given)? {
-            let difference = Difference::Lacks(name.to_vec(alloc)?);
-            self.add(pair.place, pair.path.to_vec(alloc)?, difference)?;
-        }
-        for name in &others(alloc, &given, &asked)? {
-            let difference = Difference::Adds(name.to_vec(alloc)?);
-            self.add(pair.place, pair.path.to_vec(alloc)?, difference)?;
+        self.names(pair, &others(alloc, &asked, &given)?, Side::Root)?;
+        self.names(pair, &others(alloc, &given, &asked)?, Side::Text)
+    }
+
+    /// The placeholders that only one of two Strings has.
+    fn names(&mut self, pair: &Pair<'a>, names: &[&[u8]], side: Side) -> Result<(), AllocError> {
+        for name in names {
+            let name = name.to_vec(self.alloc)?;
+            let difference = match side {
+                Side::Root => Difference::Lacks(name),
+                Side::Text => Difference::Adds(name),
+            };
+            self.add(pair.place, pair.path.to_vec(self.alloc)?, difference)?;
         }
         Ok(())
     }
@@ -244,29 +253,6 @@ impl<'a> Comparison<'a> {
     }
 }
 
-/// The first of some warnings, in the order of their lines.
-fn in_order(
-    alloc: Global,
-    mut found: Vec<RootWarning>,
-    lines: u64,
-) -> Result<Vec<RootWarning>, AllocError>
-    ensures order { IfOk result (λ ws. AreInOrder ws.items) }
-    ensures within { IfOk result (λ ws. AreWithin lines ws.items) }
-    ensures few { IfOk result (λ ws. vec_len ws ≤ 100) }
-{
-    found.sort_by_key(|warning| warning.line)?;
-    let mut settled = Vec::new(alloc);
-    let mut last = 1;
-    for warning in found {
-        if warning.line < last || lines < warning.line || settled.len() >= WARNING_LIMIT {
-            continue;
-        }
-        last = warning.line;
-        settled.push(warning)?;
-    }
-    Ok(settled)
-}
-
 /// How a bundle text differs from that of the root locale: keys that only one of them has, items of another kind, and placeholders of
 /// messages, as `{0}` and `{name}`, that only one of two Strings has; at most 100 warnings, in the order of their lines. `tree` is the
 /// bundle that the text spells. The rules are this project's own.
@@ -285,8 +271,8 @@ pub fn beside_root(
     root: &Tree,
 ) -> Result<Vec<RootWarning>, AllocError>
     // Each is at a line of the text, and none before the one that it follows.
-    ensures order { IfOk result (λ ws. AreInOrder ws.items) }
-    ensures within { IfOk result (λ ws. AreWithin (line_count text.now) ws.items) }
+    ensures order { IfOk result (λ ws. AreInOrder (λ w. w.line) ws.items) }
+    ensures within { IfOk result (λ ws. AreWithin (line_count text.now) (λ w. w.line) ws.items) }
     ensures few { IfOk result (λ ws. vec_len ws ≤ 100) }
 {
     let (pieces, _) = cut(alloc, text, Quoting::OverLines, &mut Findings::new(alloc))?;

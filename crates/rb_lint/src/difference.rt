@@ -1,4 +1,5 @@
 //! How an item of a text differs from the root's.
+use crate::order::AtLine;
 use rb_tree::Kind;
 use std::fmt;
 
@@ -25,6 +26,14 @@ pub struct RootWarning {
     /// The keys and indexes of the item, with slashes between them.
     pub path: Vec<u8>,
     pub difference: Difference,
+}
+
+impl AtLine for RootWarning {
+    ghost line_of = { λ w. w.line };
+
+    fn line(&self) -> u64 {
+        self.line
+    }
 }
 
 /// Bytes of plain ASCII as a text.

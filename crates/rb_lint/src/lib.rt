@@ -6,6 +6,7 @@ mod braces;
 mod difference;
 mod findings;
 mod name;
+mod order;
 mod outline;
 mod piece;
 mod placeholders;
@@ -19,6 +20,6 @@ mod warning;
 
 pub use beside::beside_root;
 pub use difference::{Difference, RootWarning};
-pub use findings::WARNING_LIMIT;
+pub use order::WARNING_LIMIT;
 pub use search::lint;
 pub use warning::{Doubt, Warning};

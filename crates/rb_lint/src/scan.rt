@@ -4,6 +4,15 @@ use crate::piece::{Piece, What};
 use crate::warning::Doubt;
 use std::alloc::{AllocError, Global};
 
+/// A byte of the text, and where it is.
+#[derive(Clone, Copy)]
+struct Here<'a> {
+    at: usize,
+    byte: u8,
+    /// The text from the byte on.
+    window: &'a [u8],
+}
+
 /// What ends a quoted piece besides a quote.
 #[derive(Clone, Copy, Debug, PartialEq, Eq)]
 pub(crate) enum Quoting {
@@ -153,14 +162,9 @@ impl Scan {
         }
     }
 
-    /// A byte between pieces, the first of the window.
-    fn between(
-        &mut self,
-        at: usize,
-        window: &[u8],
-        byte: u8,
-        findings: &mut Findings,
-    ) -> Result<(), AllocError> {
+    /// A byte between pieces.
+    fn between(&mut self, here: Here, findings: &mut Findings) -> Result<(), AllocError> {
+        let Here { at, byte, window } = here;
         match byte {
             b'\n' => self.next_line(),
             b' ' | b'\t' | b'\r' => self.indent(byte),
@@ -182,17 +186,12 @@ impl Scan {
     }
 
     /// A byte of an unquoted piece, or the first after it.
-    fn unquoted(
-        &mut self,
-        at: usize,
-        window: &[u8],
-        byte: u8,
-        findings: &mut Findings,
-    ) -> Result<(), AllocError> {
+    fn unquoted(&mut self, here: Here, findings: &mut Findings) -> Result<(), AllocError> {
+        let Here { at, byte, window } = here;
         let is_comment = window.starts_with(b"//") || window.starts_with(b"/*");
         if b" \t\r\n\"{}:,".contains(&byte) || is_comment || is_wide_white(window) {
             self.end(at)?;
-            return self.between(at, window, byte, findings);
+            return self.between(here, findings);
         }
         if byte == b'\\' {
             self.note_escape(window, findings)?;
@@ -215,65 +214,53 @@ impl Scan {
     }
 
     /// A byte of a quoted piece.
-    fn quoted(
-        &mut self,
-        at: usize,
-        window: &[u8],
-        byte: u8,
-        findings: &mut Findings,
-    ) -> Result<(), AllocError> {
-        match byte {
-            b'\n' => self.run_on(at),
-            b'"' => self.end(at.saturating_add(1)),
+    fn quoted(&mut self, here: Here, findings: &mut Findings) -> Result<(), AllocError> {
+        match here.byte {
+            b'\n' => self.run_on(here.at),
+            b'"' => self.end(here.at.saturating_add(1)),
             b'\\' => {
                 self.state = State::QuotedEscape;
-                self.note_escape(window, findings)
+                self.note_escape(here.window, findings)
             }
             _ => Ok(()),
         }
     }
 
     /// A byte after a backslash.
-    fn escaped(&mut self, at: usize, byte: u8, after: State) -> Result<(), AllocError> {
+    fn escaped(&mut self, here: Here, after: State) -> Result<(), AllocError> {
         self.state = after;
-        if byte != b'\n' {
+        if here.byte != b'\n' {
             return Ok(());
         }
         if after == State::Quoted {
-            return self.run_on(at);
+            return self.run_on(here.at);
         }
         self.next_line();
         Ok(())
     }
 
     /// A byte of a comment.
-    fn comment(&mut self, window: &[u8], byte: u8) {
-        if byte == b'\n' {
+    fn comment(&mut self, here: Here) {
+        if here.byte == b'\n' {
             self.next_line();
         }
         match self.state {
-            State::LineComment if byte == b'\n' || byte == b'\r' => self.state = State::Between,
+            State::LineComment if matches!(here.byte, b'\n' | b'\r') => self.state = State::Between,
             State::BlockStart => self.state = State::Block,
-            State::Block if window.starts_with(b"*/") => self.state = State::BlockEnd,
+            State::Block if here.window.starts_with(b"*/") => self.state = State::BlockEnd,
             State::BlockEnd => self.state = State::Between,
             _ => {}
         }
     }
 
-    /// The byte at a place, the first of the window.
-    fn step(
-        &mut self,
-        at: usize,
-        window: &[u8],
-        byte: u8,
-        findings: &mut Findings,
-    ) -> Result<(), AllocError> {
+    /// The next byte.
+    fn step(&mut self, here: Here, findings: &mut Findings) -> Result<(), AllocError> {
         match self.state {
-            State::Between => self.between(at, window, byte, findings),
-            State::Quoted => self.quoted(at, window, byte, findings),
-            State::Unquoted => self.unquoted(at, window, byte, findings),
-            State::QuotedEscape => self.escaped(at, byte, State::Quoted),
-            State::UnquotedEscape => self.escaped(at, byte, State::Unquoted),
+            State::Between => self.between(here, findings),
+            State::Quoted => self.quoted(here, findings),
+            State::Unquoted => self.unquoted(here, findings),
+            State::QuotedEscape => self.escaped(here, State::Quoted),
+            State::UnquotedEscape => self.escaped(here, State::Unquoted),
             State::Skip(more) if more > 1 => {
                 self.state = State::Skip(more - 1);
                 Ok(())
@@ -283,7 +270,7 @@ impl Scan {
                 Ok(())
             }
             _ => {
-                self.comment(window, byte);
+                self.comment(here);
                 Ok(())
             }
         }
@@ -299,7 +286,15 @@ pub(crate) fn cut(
 ) -> Result<(Vec<Piece>, bool), AllocError> {
     let mut scan = Scan::new(alloc, quoting);
     for (at, byte) in text.iter().enumerate() {
-        scan.step(at, &text[at..], *byte, findings)?;
+        let window = &text[at..];
+        scan.step(
+            Here {
+                at,
+                byte: *byte,
+                window,
+            },
+            findings,
+        )?;
     }
     let is_open = scan.is_open();
     scan.end(text.len())?;

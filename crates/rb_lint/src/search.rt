@@ -30,8 +30,8 @@ pub(crate) fn line_count(text: &[u8]) -> u64
 /// ```
 pub fn lint(alloc: Global, text: &[u8], stem: Option<&[u8]>) -> Result<Vec<Warning>, AllocError>
     // Each is at a line of the text, and none before the one that it follows.
-    ensures order { IfOk result (λ ws. AreInOrder ws.items) }
-    ensures within { IfOk result (λ ws. AreWithin (line_count text.now) ws.items) }
+    ensures order { IfOk result (λ ws. AreInOrder (λ w. w.line) ws.items) }
+    ensures within { IfOk result (λ ws. AreWithin (line_count text.now) (λ w. w.line) ws.items) }
     ensures few { IfOk result (λ ws. vec_len ws ≤ 100) }
 {
     let mut findings = Findings::new(alloc);

@@ -1,4 +1,5 @@
 //! Warnings.
+use crate::order::AtLine;
 use std::fmt;
 
 /// What is doubtful.
@@ -26,35 +27,37 @@ pub enum Doubt {
 
 impl fmt::Display for Doubt {
     fn fmt<W: fmt::Write>(&self, f: &mut fmt::Formatter<W>) -> fmt::Result {
-        match self {
-            Doubt::RunsOn => f.write_str(
-                "a quoted text goes on over the end of this line; is its closing quote missing?",
-            ),
-            Doubt::Mixed => f.write_str(
-                "a quoted and an unquoted text side by side are joined with a space; is a quote missing?",
-            ),
-            Doubt::Joined => f.write_str(
-                "two texts side by side are joined into one; is a comma missing?",
-            ),
-            Doubt::NotClosed(line) => write!(
-                f,
-                "the brace that opens in line {line} isn't closed before this line; is a closing brace missing?"
-            ),
-            Doubt::NotOpened => f.write_str(
-                "this brace closes none that is opened as far left; is an opening brace missing?",
-            ),
-            Doubt::FurtherRight => f.write_str(
-                "this line is further right than the entry before it; is an opening brace missing?",
-            ),
-            Doubt::Escape(letter) => write!(
-                f,
-                "\\{letter} is the letter {letter} alone; is another escape meant, or \\\\{letter}?"
-            ),
-            Doubt::TwoBackslashes => f.write_str(
-                "two backslashes are one backslash, and what follows is no escape",
-            ),
-            Doubt::OtherName => f.write_str("the bundle's name isn't the file's"),
-        }
+        f.write_str(match self {
+            Doubt::RunsOn => {
+                "a quoted text goes on over the end of this line; is its closing quote missing?"
+            }
+            Doubt::Mixed => {
+                "a quoted and an unquoted text side by side are joined with a space; is a quote missing?"
+            }
+            Doubt::Joined => "two texts side by side are joined into one; is a comma missing?",
+            Doubt::NotClosed(line) => {
+                return write!(
+                    f,
+                    "the brace that opens in line {line} isn't closed before this line; is a closing brace missing?"
+                );
+            }
+            Doubt::NotOpened => {
+                "this brace closes none that is opened as far left; is an opening brace missing?"
+            }
+            Doubt::FurtherRight => {
+                "this line is further right than the entry before it; is an opening brace missing?"
+            }
+            Doubt::Escape(letter) => {
+                return write!(
+                    f,
+                    "\\{letter} is the letter {letter} alone; is another escape meant, or \\\\{letter}?"
+                );
+            }
+            Doubt::TwoBackslashes => {
+                "two backslashes are one backslash, and what follows is no escape"
+            }
+            Doubt::OtherName => "the bundle's name isn't the file's",
+        })
     }
 }
 
@@ -64,4 +67,12 @@ pub struct Warning {
     /// The line, which line feeds end; the first is 1.
     pub line: u64,
     pub doubt: Doubt,
+}
+
+impl AtLine for Warning {
+    ghost line_of = { λ w. w.line };
+
+    fn line(&self) -> u64 {
+        self.line
+    }
 }
