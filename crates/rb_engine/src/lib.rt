@@ -8,6 +8,7 @@ mod payload;
 mod place;
 mod request;
 mod start;
+mod words;
 
 pub use engine::Engine;
 pub use rb_packages::{App, AppFault, BUNDLE_LIMIT};

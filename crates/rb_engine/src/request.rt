@@ -5,7 +5,7 @@ use crate::payload::PayloadFault;
 use crate::place::PlaceFault;
 use rb_fallback::LookError;
 use rb_locales::Name;
-use rb_packages::{AppFault, PackFault};
+use rb_packages::PackFault;
 use rb_tree::ByteList;
 use std::marker::Model;
 
@@ -101,29 +101,6 @@ pub enum Reply {
     Memory,
 }
 
-impl Reply {
-    ghost use Rattle.rb_engine.specs.Words.{reply_word};
-
-    /// The variant's name.
-    pub fn word(&self) -> &'static str
-        ensures { result.now ≡ reply_word self.now }
-    {
-        match self {
-            Reply::Done => "Done",
-            Reply::Names(_) => "Names",
-            Reply::BadApp => "BadApp",
-            Reply::Reserved => "Reserved",
-            Reply::BadLocale => "BadLocale",
-            Reply::BadText => "BadText",
-            Reply::BadFile => "BadFile",
-            Reply::Exists => "Exists",
-            Reply::Absent => "Absent",
-            Reply::Full => "Full",
-            Reply::Memory => "Memory",
-        }
-    }
-}
-
 impl From<PlaceFault> for Reply {
     ghost use Rattle.rb_engine.specs.Answer.{refusal};
 
@@ -193,30 +170,6 @@ pub enum LookFault {
     AliasPackage,
     /// Too many aliases lead to one another.
     TooManyAliases,
-}
-
-impl LookFault {
-    ghost use Rattle.rb_engine.specs.Words.{look_word};
-
-    /// The variant's name.
-    pub fn word(self) -> &'static str
-        ensures { result.now ≡ look_word self }
-    {
-        match self {
-            LookFault::BadApp => AppFault::BadApp.word(),
-            LookFault::Reserved => AppFault::Reserved.word(),
-            LookFault::BadLocale => "BadLocale",
-            LookFault::BadPath => LookError::BadPath.word(),
-            LookFault::PathTooLong => LookError::PathTooLong.word(),
-            LookFault::Chain => LookError::Chain.word(),
-            LookFault::BadParent => LookError::BadParent.word(),
-            LookFault::NoBundle => LookError::NoBundle.word(),
-            LookFault::Missing => LookError::Missing.word(),
-            LookFault::AliasText => LookError::AliasText.word(),
-            LookFault::AliasPackage => LookError::AliasPackage.word(),
-            LookFault::TooManyAliases => LookError::TooManyAliases.word(),
-        }
-    }
 }
 
 impl From<PlaceFault> for LookFault {

@@ -3,7 +3,6 @@ ghost use Rattle.std.specs.Prelude.{◌≡◌, [], List, ℕ, IfErr, OnOk};
 ghost use Rattle.rb_packages.specs.Packages.{icudata_of, list_of};
 ghost use Rattle.rb_engine.specs.Start.{Loads, IsRefused};
 ghost use Rattle.rb_engine.specs.Source.{Adds};
-ghost use Rattle.rb_engine.specs.Words.{start_word};
 
 use crate::payload::{PayloadFault, bundle_of};
 use crate::request::Payload;
@@ -28,20 +27,6 @@ pub enum StartFault {
     /// Out of memory.
     #[error("out of memory")]
     Memory,
-}
-
-impl StartFault {
-    /// The variant's name.
-    pub fn word(self) -> &'static str
-        ensures { result.now ≡ start_word self }
-    {
-        match self {
-            StartFault::BadText(_) => "BadText",
-            StartFault::BadFile(_) => "BadFile",
-            StartFault::Twice(_) => "Twice",
-            StartFault::Memory => "Memory",
-        }
-    }
 }
 
 /// Adds an entry of ICUDATA, the one at an index.
