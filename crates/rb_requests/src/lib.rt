@@ -9,6 +9,7 @@ mod device;
 pub mod laws;
 mod limits;
 mod lines;
+mod words;
 
 pub use device::{Failed, Feed, ReadFeed, Run, Sink, WriteSink};
 pub use limits::LINE_LIMIT;

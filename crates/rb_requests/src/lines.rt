@@ -7,7 +7,6 @@ ghost use Rattle.rb_requests.specs.inner.Taken.{ReadsLine, ReadsPlain, EndsAfter
 ghost use Rattle.rb_requests.specs.Device.{risen_by, counted, settles};
 ghost use Rattle.rb_requests.specs.Served.{AnswersAll, AnswersWithin, AfterFault, AfterFaultWithin, IsShort, at, reads_failed, writes_failed};
 ghost use Rattle.rb_requests.specs.inner.OneLine.{Wrote, WrotePart, FailsLine, line_settled};
-ghost use Rattle.rb_requests.specs.Words.{serve_word};
 
 #[cfg(test)]
 mod tests;
@@ -39,21 +38,6 @@ pub enum ServeFault {
     /// Out of memory for a line.
     #[error("out of memory")]
     Memory,
-}
-
-impl ServeFault {
-    /// The variant's name.
-    pub fn word(self) -> &'static str
-        ensures { result.now ≡ serve_word self }
-    {
-        match self {
-            ServeFault::Read => "Read",
-            ServeFault::Write => "Write",
-            ServeFault::LineLimit => "LineLimit",
-            ServeFault::LineTooLong => "LineTooLong",
-            ServeFault::Memory => "Memory",
-        }
-    }
 }
 
 /// How many lines were served.
