@@ -1,5 +1,5 @@
 -- What one tree has at a path, a rule of this project: the item as JSON; an alias on the way is given itself, with the rest of the path.
-use Rattle.std.specs.Prelude.{ℕ, List, [], length, nat_lt, codes, if◌then◌else◌, Result, Ok, Err}
+use Rattle.std.specs.Prelude.{ℕ, List, [], length, nat_lt, if◌then◌else◌, Result, Ok, Err}
 use Rattle.std.specs.List.{join_with_byte}
 use Rattle.serde_json.specs.Data.{Data}
 use Rattle.rb_tree.specs.Resource.{Resource, alias}
@@ -7,7 +7,7 @@ use Rattle.rb_tree.specs.Path.{is_path, segments}
 use Rattle.rb_tree.specs.Walk.{Walked, ends, links, gone, walk}
 use Rattle.rb_replies.specs.Item.{item_data}
 use Rattle.rb_file_commands.specs.declared.item.ItemError.{ItemError}
-use Rattle.rb_file_commands.specs.declared.item.ItemError.TheVariants.{BadPath, PathTooLong, Missing, Memory}
+use Rattle.rb_file_commands.specs.declared.item.ItemError.TheVariants.{BadPath, PathTooLong, Missing}
 
 abbrev pub shown : Walked → Result Data ItemError
 shown (ends t) = Ok (item_data t [])
@@ -17,10 +17,3 @@ shown gone = Err Missing
 -- a path has at most 1,024 bytes
 abbrev pub got : Resource → List ℕ → Result Data ItemError
 got t path = if is_path path then (if nat_lt 1024 (length path) then Err PathTooLong else shown (walk t (segments path))) else Err BadPath
-
--- how an error is called
-abbrev pub item_word : ItemError → List ℕ
-item_word BadPath = codes "BadPath"
-item_word PathTooLong = codes "PathTooLong"
-item_word Missing = codes "Missing"
-item_word Memory = codes "Memory"

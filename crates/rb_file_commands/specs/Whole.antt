@@ -1,6 +1,6 @@
 -- Which item of one tree is printed whole at a path, a rule of this project: an alias at its end is itself, and a path that leads on from an
 -- alias leads nowhere.
-use Rattle.std.specs.Prelude.{ℕ, List, [], ◌∷◌, length, nat_lt, codes, if◌then◌else◌, Option, Some, None, Result, Ok, Err}
+use Rattle.std.specs.Prelude.{ℕ, List, [], ◌∷◌, length, nat_lt, if◌then◌else◌, Option, Some, None, Result, Ok, Err}
 use Rattle.rb_tree.specs.Resource.{Resource, alias}
 use Rattle.rb_tree.specs.Path.{is_path, segments}
 use Rattle.rb_tree.specs.Walk.{Walked, ends, links, gone, walk}
@@ -8,7 +8,7 @@ use Rattle.rb_json.specs.Printed.{is_within, laid_out}
 use Rattle.rb_json.specs.Value.{value_of}
 use Rattle.rb_json.specs.declared.layout.Layout.{Layout}
 use Rattle.rb_file_commands.specs.declared.value.ValueError.{ValueError}
-use Rattle.rb_file_commands.specs.declared.value.ValueError.TheVariants.{BadPath, PathTooLong, Missing, TooLarge, Memory}
+use Rattle.rb_file_commands.specs.declared.value.ValueError.TheVariants.{BadPath, PathTooLong, Missing, TooLarge}
 
 abbrev pub reached : Walked → Option Resource
 reached (ends t) = Some t
@@ -25,11 +25,3 @@ text_of layout None = Err Missing
 abbrev pub valued : Layout → Resource → List ℕ → Result (List ℕ) ValueError
 valued layout t path =
     if is_path path then (if nat_lt 1024 (length path) then Err PathTooLong else text_of layout (reached (walk t (segments path)))) else Err BadPath
-
--- how an error is called
-abbrev pub value_word : ValueError → List ℕ
-value_word BadPath = codes "BadPath"
-value_word PathTooLong = codes "PathTooLong"
-value_word Missing = codes "Missing"
-value_word TooLarge = codes "TooLarge"
-value_word Memory = codes "Memory"

@@ -5,7 +5,7 @@ ghost use Rattle.serde_json.specs.Written.{compact_text};
 ghost use Rattle.rb_tree.specs.Path.{IsPath, segments};
 ghost use Rattle.rb_tree.specs.Walk.{walk};
 ghost use Rattle.rb_file_commands.specs.declared.item.ItemError.TheVariants as errors;
-ghost use Rattle.rb_file_commands.specs.Got.{got, item_word, shown};
+ghost use Rattle.rb_file_commands.specs.Got.{got, shown};
 
 use rb_fallback::{PATH_LIMIT, rest_behind};
 use rb_replies::item_text;
@@ -23,20 +23,6 @@ pub enum ItemError {
     Missing,
     /// Out of memory.
     Memory,
-}
-
-impl ItemError {
-    /// The variant's name.
-    pub fn word(self) -> &'static str
-        ensures { result.now ≡ item_word self }
-    {
-        match self {
-            ItemError::BadPath => "BadPath",
-            ItemError::PathTooLong => "PathTooLong",
-            ItemError::Missing => "Missing",
-            ItemError::Memory => "Memory",
-        }
-    }
 }
 
 impl From<AllocError> for ItemError {

@@ -11,6 +11,7 @@ mod linting;
 mod progress;
 mod texts;
 mod value;
+mod words;
 
 pub use batch::{check_all, compile_all, stem};
 pub use commands::{check, check_on, compile, compile_on, get, get_on};

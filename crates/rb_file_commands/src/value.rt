@@ -3,7 +3,7 @@ ghost use Rattle.std.specs.Prelude.{◌≡◌, ◌⊎◌, Ok, Err, IfOk, IfErr, 
 ghost use Rattle.rb_tree.specs.Path.{IsPath, segments};
 ghost use Rattle.rb_tree.specs.Walk.{walk};
 ghost use Rattle.rb_file_commands.specs.declared.value.ValueError.TheVariants as errors;
-ghost use Rattle.rb_file_commands.specs.Whole.{reached, text_of, valued, value_word};
+ghost use Rattle.rb_file_commands.specs.Whole.{reached, text_of, valued};
 
 use crate::commands::accepted;
 use crate::console::Console;
@@ -29,21 +29,6 @@ pub enum ValueError {
     TooLarge,
     /// Out of memory.
     Memory,
-}
-
-impl ValueError {
-    /// The variant's name.
-    pub fn word(self) -> &'static str
-        ensures { result.now ≡ value_word self }
-    {
-        match self {
-            ValueError::BadPath => "BadPath",
-            ValueError::PathTooLong => "PathTooLong",
-            ValueError::Missing => "Missing",
-            ValueError::TooLarge => "TooLarge",
-            ValueError::Memory => "Memory",
-        }
-    }
 }
 
 /// The item to which a path leads; none where it leads nowhere, or on from an alias.
