@@ -13,11 +13,7 @@ use rb_tree::key_ok;
 pub fn word(body: &[u8], i: usize) -> Option<u32>
     ensures { result ≡ word body.now i }
 {
-    if i < body.len() / 4 {
-        Some(LittleEndian::read_u32(&body[4 * i..]))
-    } else {
-        None
-    }
+    (i < body.len() / 4).then(|| word_at(body, i))
 }
 
 /// Half word i of the data: the number in the 2 bytes from byte 2i. None where they aren't both there.
@@ -25,11 +21,7 @@ pub fn word(body: &[u8], i: usize) -> Option<u32>
 pub fn half(body: &[u8], i: usize) -> Option<u16>
     ensures { result ≡ half body.now i }
 {
-    if i < body.len() / 2 {
-        Some(LittleEndian::read_u16(&body[2 * i..]))
-    } else {
-        None
-    }
+    (i < body.len() / 2).then(|| half_at(body, i))
 }
 
 /// The key from byte k of the data: the bytes up to the next NUL, which lie after the indexes and below the top of the

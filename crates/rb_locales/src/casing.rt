@@ -13,28 +13,16 @@ pub(crate) enum Position {
     Later,
 }
 
-#[tactic(auto, using(std::proofs::lemmas::List::Folds::list_all_more, std::proofs::lemmas::List::Folds::list_all_at))]
 fn are_letters(part: &[u8]) -> bool
     ensures { result ≡ list_all is_ascii_alphabetic part.now }
 {
-    for b in part {
-        if !b.is_ascii_alphabetic() {
-            return false;
-        }
-    }
-    true
+    part.iter().all(|b| b.is_ascii_alphabetic())
 }
 
-#[tactic(auto, using(std::proofs::lemmas::List::Folds::list_all_more, std::proofs::lemmas::List::Folds::list_all_at))]
 fn are_alphanumeric(part: &[u8]) -> bool
     ensures { result ≡ list_all is_ascii_alphanumeric part.now }
 {
-    for b in part {
-        if !b.is_ascii_alphanumeric() {
-            return false;
-        }
-    }
-    true
+    part.iter().all(|b| b.is_ascii_alphanumeric())
 }
 
 fn write_title(part: &mut [u8])

@@ -122,12 +122,12 @@ impl KeyChecker {
         requires sound { IsSound layout.now body.now self.old.known }
         ensures { IsSound layout.now body.now self.new.known }
     {
-        if self.is_measured {
-            return Ok(());
+        if !self.is_measured {
+            let compared = self.known.compared;
+            let lengths = measure_keys(self.alloc, key_bytes(layout, body))?;
+            self.known = KnownKeys::measured(self.alloc, layout, body, lengths, compared);
+            self.is_measured = true;
         }
-        let lengths = measure_keys(self.alloc, key_bytes(layout, body))?;
-        self.known = KnownKeys::measured(self.alloc, layout, body, lengths, self.known.compared);
-        self.is_measured = true;
         Ok(())
     }
 

@@ -65,13 +65,8 @@ pub fn next_key<'a>(
     ensures most { compared.new ≤ compared.old + length body.now }
 {
     match key_within(layout, body, offset) {
-        Some(key) => {
-            if is_below(last, key, compared) {
-                Ok(key)
-            } else {
-                Err(FileFault::KeyOrder)
-            }
-        }
+        Some(key) if is_below(last, key, compared) => Ok(key),
+        Some(_) => Err(FileFault::KeyOrder),
         None => Err(FileFault::Key),
     }
 }

@@ -7,6 +7,9 @@ ghost use Rattle.rb_format.specs.Geometry.{has_children};
 
 use rb_format::{FileFault, ItemKind, Layout, half_at, word_at};
 
+/// What a check finds: nothing, or a fault.
+type Checked = Result<(), FileFault>;
+
 /// Whether an item has data: an Int and an offset of 0 have none.
 fn has_data(kind: ItemKind, offset: u32) -> bool
     ensures { result ≡ items.has_data kind offset }
@@ -34,12 +37,11 @@ pub fn check_offset(layout: &Layout, kind: ItemKind, offset: u32) -> Result<bool
 /// The checks of a String or an Alias: its units, and a zero unit after them, end at or below the top.
 #[tactic(auto, unfolding(rb_format::specs::inner::FirstFault::units))]
 #[inline(always)]
-pub fn check_units(layout: &Layout, body: &[u8], offset: u32) -> Result<(), FileFault>
+fn check_units(layout: &Layout, body: &[u8], offset: usize) -> Checked
     requires room { 4 * layout.now.top ≤ length body.now }
     requires below { offset < layout.now.top }
     ensures { fault_of result ≡ fault_of (units layout.now body.now offset) }
 {
-    let offset = offset as usize;
     let count = word_at(body, offset) as usize;
     if 4 * (layout.top as usize) < 4 * offset + 6 + 2 * count {
         return Err(FileFault::Length);
@@ -53,14 +55,12 @@ pub fn check_units(layout: &Layout, body: &[u8], offset: u32) -> Result<(), File
 
 /// The check of a Binary: its bytes end at or below the top.
 #[tactic(auto, unfolding(rb_format::specs::inner::FirstFault::bytes))]
-pub fn check_bytes(layout: &Layout, body: &[u8], offset: u32) -> Result<(), FileFault>
+fn check_bytes(layout: &Layout, body: &[u8], offset: usize) -> Checked
     requires room { 4 * layout.now.top ≤ length body.now }
     requires below { offset < layout.now.top }
     ensures { fault_of result ≡ fault_of (bytes layout.now body.now offset) }
 {
-    let offset = offset as usize;
-    let count = word_at(body, offset) as usize;
-    if 4 * (layout.top as usize) < 4 * offset + 4 + count {
+    if 4 * (layout.top as usize) < 4 * offset + 4 + word_at(body, offset) as usize {
         Err(FileFault::Length)
     } else {
         Ok(())
@@ -69,14 +69,12 @@ pub fn check_bytes(layout: &Layout, body: &[u8], offset: u32) -> Result<(), File
 
 /// The check of Ints: they end at or below the top.
 #[tactic(auto, unfolding(rb_format::specs::inner::FirstFault::numbers))]
-pub fn check_numbers(layout: &Layout, body: &[u8], offset: u32) -> Result<(), FileFault>
+fn check_numbers(layout: &Layout, body: &[u8], offset: usize) -> Checked
     requires room { 4 * layout.now.top ≤ length body.now }
     requires below { offset < layout.now.top }
     ensures { fault_of result ≡ fault_of (numbers layout.now body.now offset) }
 {
-    let offset = offset as usize;
-    let count = word_at(body, offset) as usize;
-    if (layout.top as usize) < offset + 1 + count {
+    if (layout.top as usize) < offset + 1 + word_at(body, offset) as usize {
         Err(FileFault::Length)
     } else {
         Ok(())
@@ -86,17 +84,13 @@ pub fn check_numbers(layout: &Layout, body: &[u8], offset: u32) -> Result<(), Fi
 /// The checks of a value without children.
 #[tactic(auto, unfolding(rb_format::specs::inner::FirstFault::contents))]
 #[inline(always)]
-pub fn check_leaf(
-    layout: &Layout,
-    body: &[u8],
-    kind: ItemKind,
-    offset: u32,
-) -> Result<(), FileFault>
+pub fn check_leaf(layout: &Layout, body: &[u8], kind: ItemKind, offset: u32) -> Checked
     requires room { 4 * layout.now.top ≤ length body.now }
     requires below { offset < layout.now.top }
     requires bare { has_children kind ≡ false }
     ensures { (child : ℕ → Result Resource FileFault) → fault_of result ≡ fault_of (contents layout.now body.now child offset kind) }
 {
+    let offset = offset as usize;
     match kind {
         ItemKind::String => check_units(layout, body, offset),
         ItemKind::Binary => check_bytes(layout, body, offset),
