@@ -3,10 +3,9 @@ use Rattle.std.proofs.Common.{◌≡◌, ℕ, inl, inr, Bool, true, false, cond,
 use Rattle.std.specs.Str.{bytes_eq}
 use Rattle.std.proofs.lemmas.Slice.Eq.{bytes_eq-Decides}
 use Rattle.std.proofs.lemmas.Bool.{false≢true}
-use Rattle.rb_tree.specs.Resource.{Resource}
 use Rattle.rb_tree.specs.SourceTree.{SourceTree}
 use Rattle.rb_tree.specs.Path.{is_path, segments}
-use Rattle.rb_fallback.specs.Search.{look_up, first_stop}
+use Rattle.rb_fallback.specs.Search.{Hit, look_up, first_stop}
 use Rattle.rb_fallback.specs.declared.fault.LookError.{LookError}
 use Rattle.rb_parser.specs.Source.{IsGoodSource}
 use Rattle.rb_packages.specs.App.{app_of}
@@ -111,13 +110,13 @@ list_not_memory (Err app.Reserved) shelf = refl
 list_not_memory (Ok a) shelf = refl
 
 -- a lookup finds or refuses
-search_not_memory : (valid : Option (List ℕ)) (r : Result (Resource × List ℕ) LookError) → is_memory (search_response valid r) ≡ false
+search_not_memory : (valid : Option (List ℕ)) (r : Result Hit LookError) → is_memory (search_response valid r) ≡ false
 search_not_memory None (Err e) = refl
 search_not_memory None (Ok r) = refl
 search_not_memory (Some valid) (Err e) = refl
 search_not_memory (Some valid) (Ok r) = refl
 
-valid_path_not_memory : (valid : Option (List ℕ)) (r : Result (Resource × List ℕ) LookError) (b : Bool)
+valid_path_not_memory : (valid : Option (List ℕ)) (r : Result Hit LookError) (b : Bool)
     → is_memory (cond b (search_response valid r) (Refuses fault.BadPath)) ≡ false
 valid_path_not_memory valid r true = search_not_memory valid r
 valid_path_not_memory valid r false = refl

@@ -1,11 +1,10 @@
 -- What an application is answered over its bundles, and what its bundles are then. A lookup is the search of rb_fallback, after ICU's
 -- `ures_getByKeyWithFallback`; the requests are this project's own.
 use Rattle.std.specs.Prelude.{ℕ, List, [], ◌∷◌, ◌++◌, ◌||◌, map, if◌then◌else◌, Option, Some, None, Result, Ok, Err}
-use Rattle.rb_tree.specs.Resource.{Resource}
 use Rattle.rb_tree.specs.SourceTree.{SourceTree}
 use Rattle.rb_tree.specs.Path.{is_path, segments}
 use Rattle.rb_parents.specs.Trail.{Bundles, ParentsOf}
-use Rattle.rb_fallback.specs.Search.{look_up, first_stop}
+use Rattle.rb_fallback.specs.Search.{Hit, look_up, first_stop}
 use Rattle.rb_fallback.specs.declared.fault.LookError.{LookError}
 use Rattle.rb_packages.specs.App.{app_of}
 use Rattle.rb_engine.specs.Place.{place_of, app_refusal}
@@ -26,10 +25,10 @@ pub record Start : Type 0 where
   pub icudata : Shelf
   pub parents : ParentsOf
 
--- what an application is answered: a reply, an item with the names of its bundle and of the first bundle asked, or why there is none
+-- what an application is answered: a reply, an item with the name of the first bundle asked, or why there is none
 pub data Response : Type 0 where
   Replies : Reply → Response
-  Finds : Resource → (actual valid : List ℕ) → Response
+  Finds : Hit → (valid : List ℕ) → Response
   Refuses : LookFault → Response
 
 -- ---- its bundles after what it asks
@@ -107,10 +106,10 @@ look_refusal place.Reserved = fault.Reserved
 look_refusal place.BadLocale = fault.BadLocale
 
 -- the valid locale is the first stop of the trail; where the trail has none there is nothing to find
-abbrev pub search_response : Option (List ℕ) → Result (Resource × List ℕ) LookError → Response
+abbrev pub search_response : Option (List ℕ) → Result Hit LookError → Response
 search_response valid (Err e) = Refuses (look_fault_of e)
-search_response None (Ok r) = Refuses fault.NoBundle
-search_response (Some valid) (Ok r) = Finds r.0 r.1 valid
+search_response None (Ok hit) = Refuses fault.NoBundle
+search_response (Some valid) (Ok hit) = Finds hit valid
 
 -- a path that is invalid is refused before anything is looked for
 abbrev pub lookup_in : Bundles → Bundles → ParentsOf → List ℕ → List ℕ → Response

@@ -28,7 +28,7 @@ is_memory_reply other = false
 
 abbrev pub is_memory : Response → Bool
 is_memory (Replies reply) = is_memory_reply reply
-is_memory (Finds tree actual valid) = false
+is_memory (Finds hit valid) = false
 is_memory (Refuses e) = false
 
 -- which calls may run out of memory: a removal and a lookup never do

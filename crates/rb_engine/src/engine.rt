@@ -18,7 +18,7 @@ use crate::start::{StartFault, load_all};
 use rb_fallback::Found;
 use rb_locales::Name;
 use rb_packages::Packages;
-use rb_parents::{Parents, Shelf};
+use rb_parents::Parents;
 use rb_views::Item;
 use std::alloc::Global;
 use std::hash::RandomState;
@@ -144,31 +144,9 @@ fn look_at<'a>(
     ensures { look_response tree_seen result ≡ lookup_in (bundle_at (list_of place.now.app packages.now)) (bundle_at (icudata_of packages.now))
         (parent_of parents.now) place.now.name path.now }
 {
-    match look_in(
-        packages.shelf(&place.app),
-        packages.icu_shelf(),
-        parents,
-        &place.name,
-        path,
-    ) {
-        Ok(found) => Ok(Found {
-            node: found.node.item(),
-            actual: found.actual,
-            valid: found.valid,
-        }),
-        Err(fault) => Err(fault),
+    let own = packages.shelf(&place.app);
+    match rb_fallback::look(own, packages.icu_shelf(), parents, &place.name, path) {
+        Ok(found) => Ok(found.with_node(found.node.item())),
+        Err(error) => Err(LookFault::from(error)),
     }
-}
-
-/// Looks a path up on two shelves.
-fn look_in<'a, S: Shelf<'a>, I: Shelf<'a, N = S::N>>(
-    own: S,
-    icudata: I,
-    parents: &Parents,
-    name: &Name,
-    path: &[u8],
-) -> Result<Found<S::N>, LookFault>
-    ensures { look_response S.N.tree result ≡ lookup_in (S.bundles own) (I.bundles icudata) (parent_of parents.now) name.now path.now }
-{
-    Ok(rb_fallback::look(own, icudata, parents, name, path)?)
 }

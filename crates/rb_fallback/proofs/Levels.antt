@@ -7,7 +7,7 @@ use Rattle.rb_tree.specs.Path.{segments, IsPath}
 use Rattle.rb_parents.specs.Trail.{Bundles, ParentsOf}
 use Rattle.rb_fallback.specs.Answers.{answer_of}
 use Rattle.rb_fallback.specs.inner.LevelResult.{IsLevelResult}
-use Rattle.rb_fallback.specs.Search.{Setting, Step, search, is_long, go_on, step, level, bundles_of, first_stop, look_up, setting, setting_of}
+use Rattle.rb_fallback.specs.Search.{Hit, Setting, Step, search, is_long, go_on, step, level, bundles_of, first_stop, look_up, setting, setting_of}
 use Rattle.rb_fallback.specs.inner.Steps.{GoesOn, GoesLong}
 use Rattle.rb_fallback.specs.declared.fault.LookError.{LookError}
 use Rattle.rb_fallback.specs.declared.fault.LookError.TheVariants as fault
@@ -44,7 +44,7 @@ short_is : (p : List ℕ) → length p ≤ 1024 → is_long (segments p) ≡ fal
 short_is p h = long_is p ∙ le-ltb 1024 (length p) h
 
 -- a search that has come to a level has this answer
-pub record ComesTo (most i : ℕ) (s : Setting) (in_icu : Bool) (n p : List ℕ) (answer : Result (Resource × List ℕ) LookError) : Type 0 where
+pub record ComesTo (most i : ℕ) (s : Setting) (in_icu : Bool) (n p : List ℕ) (answer : Result Hit LookError) : Type 0 where
   pub path : IsPath p
   pub same : search (most - i) s in_icu n (segments p) ≡ answer
 
@@ -79,7 +79,7 @@ long_end most i s in_icu n rest f h l e = by (i + 1 == most) refl
         search_long (most - (i + 1)) (most - (i + 2)) s in_icu n rest (omega arith) l ∙ ap Err (fault_at false t)
 
 -- a level on
-module _ {most i : ℕ} {s : Setting} {in_icu : Bool} {n p : List ℕ} {answer : Result (Resource × List ℕ) LookError}
+module _ {most i : ℕ} {s : Setting} {in_icu : Bool} {n p : List ℕ} {answer : Result Hit LookError}
     (at : ComesTo most i s in_icu n p answer) (more : i < most) (short : length p ≤ 1024) where
   pub level_answer : {r : Result Step LookError} → step_at s in_icu n (segments p) ≡ r → go_on (λ q m ts. search (most - (i + 1)) s q m ts) r ≡ answer
   level_answer e =

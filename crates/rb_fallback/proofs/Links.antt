@@ -11,7 +11,7 @@ use Rattle.rb_tree.specs.Ending.{stop_at, RestIs}
 use Rattle.rb_tree.specs.declared.ending.Ending.TheVariants.{End, Link, Gone}
 use Rattle.rb_parents.specs.Trail.{Bundles, ParentsOf, Trail, names, trail, stops}
 use Rattle.rb_fallback.specs.Alias.{target}
-use Rattle.rb_fallback.specs.Search.{Decided, walk_of, unless_gone, decide, by_stops, by_trail, level, found, step, step_of, follow}
+use Rattle.rb_fallback.specs.Search.{Decided, walk_of, unless_gone, decide, by_stops, by_trail, level, step, step_of, follow}
 use Rattle.rb_fallback.specs.inner.LevelResult.{IsLevelResult}
 use Rattle.rb_fallback.specs.declared.fault.LookError.{LookError}
 use Rattle.rb_fallback.specs.declared.fault.LookError.TheVariants as fault
@@ -87,7 +87,7 @@ link_of t path cut (links us walked rest) e r h = record {
 
 module _ {N : Type 0} {tree : N → Resource} {h : LevelResult N} {path : List ℕ} {r : Result Decided LookError} {head : Option (List ℕ)}
     (in_icu : Bool) (valid : List ℕ) (decided : IsLevelResult tree h path r head) where
-  pub step_end : {node : N} → h.ending ≡ End node → step in_icu valid r ≡ Ok (found (tree node) h.actual)
+  pub step_end : {node : N} → h.ending ≡ End node → step in_icu valid r ≡ step_of in_icu valid h.actual (ends (tree node))
   step_end {node = node} e =
       ap (step in_icu valid) decided.decides
       ∙ ap (step_of in_icu valid h.actual) (ends_at decided.walked (tree node) (sym (ap (stop_at tree) e) ∙ decided.stop))

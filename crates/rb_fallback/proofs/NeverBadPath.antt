@@ -7,7 +7,7 @@ use Rattle.rb_parents.specs.Trail.{Bundles, Trail, names, trail, stops}
 use Rattle.rb_fallback.specs.Alias.{Target, leads, bad_text, bad_package, target}
 use Rattle.rb_fallback.specs.Answers.{answer_of}
 use Rattle.rb_fallback.specs.Search.{Decided, decide, by_stops, by_trail, level, Step, found, goes, follow, step, step_of}
-use Rattle.rb_fallback.specs.Search.{Setting, bundles_of, go_on, is_long, search}
+use Rattle.rb_fallback.specs.Search.{Hit, Setting, bundles_of, go_on, is_long, search}
 use Rattle.rb_fallback.specs.declared.found.Found.{Found}
 use Rattle.rb_fallback.specs.declared.fault.LookError.{LookError}
 use Rattle.rb_fallback.specs.declared.fault.LookError.TheVariants as fault
@@ -43,10 +43,10 @@ step_never : (in_icu : Bool) (valid : List ℕ) (r : Result Decided LookError) �
 step_never in_icu valid (Err f) h e = h (ap Err (ap fault_in e))
 step_never in_icu valid (Ok d) h e = walked_never in_icu valid d.stop d.walked e
 
-go_never : (go : Bool → List ℕ → List (List ℕ) → Result (Resource × List ℕ) LookError) (r : Result Step LookError)
+go_never : (go : Bool → List ℕ → List (List ℕ) → Result Hit LookError) (r : Result Step LookError)
     → ((p : Bool) (m : List ℕ) (ts : List (List ℕ)) → go p m ts ≡ Err fault.BadPath → ⊥) → (r ≡ Err fault.BadPath → ⊥) → go_on go r ≡ Err fault.BadPath → ⊥
 go_never go (Err f) g h e = h (ap Err (ap fault_in e))
-go_never go (Ok (found t n)) g h e = cc
+go_never go (Ok (found hit)) g h e = cc
 go_never go (Ok (goes p m ts)) g h e = g p m ts e
 
 pub search_never : (k : ℕ) (s : Setting) (in_icu : Bool) (n : List ℕ) (ss : List (List ℕ)) → search k s in_icu n ss ≡ Err fault.BadPath → ⊥

@@ -4,6 +4,7 @@ use Rattle.std.specs.List.{slice_split}
 use Rattle.rb_tree.specs.Path.{is_slash}
 use Rattle.rb_tree.specs.Resource.{Resource}
 use Rattle.rb_fallback.specs.Alias.{Aim, aims, no_text, no_package}
+use Rattle.rb_fallback.specs.Search.{Hit}
 use Rattle.rb_fallback.specs.declared.alias.Target.{Target}
 use Rattle.rb_fallback.specs.declared.fault.AliasFault.{AliasFault}
 use Rattle.rb_fallback.specs.declared.fault.AliasFault.TheVariants as fault
@@ -16,7 +17,10 @@ aim_of us (Ok t) = aims t.icudata t.name (option_map (λ i. slice_split is_slash
 aim_of us (Err fault.AliasText) = no_text
 aim_of us (Err fault.AliasPackage) = no_package
 
--- the tree of the node that was found, and the name of its bundle
-abbrev pub answer_of : {N : Type 0} → (N → Resource) → Result (Found N) LookError → Result (Resource × List ℕ) LookError
-answer_of tree (Ok f) = Ok (tree f.node, f.actual)
+-- what was found, with the tree of its node
+abbrev pub hit_of : {N : Type 0} → (N → Resource) → Found N → Hit
+hit_of tree f = record { tree = tree f.node; actual = f.actual }
+
+abbrev pub answer_of : {N : Type 0} → (N → Resource) → Result (Found N) LookError → Result Hit LookError
+answer_of tree (Ok f) = Ok (hit_of tree f)
 answer_of tree (Err e) = Err e

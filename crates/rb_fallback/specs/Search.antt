@@ -61,9 +61,14 @@ abbrev pub first_stop : Bundles → ParentsOf → List ℕ → Option (List ℕ)
 first_stop bundles parents n = first_in bundles (trail bundles parents n)
 
 -- ---- one level
--- the tree that was found with the name of its stop, or where the search goes on: whether in ICUDATA, the name, the path
+-- an item that is found: its tree, and the name of the bundle that has it
+pub record Hit : Type 0 where
+  pub tree : Resource
+  pub actual : List ℕ
+
+-- an item is found, or the search goes on: whether in ICUDATA, the name, the path
 pub data Step : Type 0 where
-  found : Resource → List ℕ → Step
+  found : Hit → Step
   goes : Bool → List ℕ → List (List ℕ) → Step
 
 -- after an alias come its target's segments and those that were not walked
@@ -73,7 +78,7 @@ follow rest bad_text = Err fault.AliasText
 follow rest bad_package = Err fault.AliasPackage
 
 abbrev pub step_of : Bool → List ℕ → List ℕ → Walked → Result Step LookError
-step_of in_icu valid n (ends t) = Ok (found t n)
+step_of in_icu valid n (ends t) = Ok (found (record { tree = t; actual = n }))
 step_of in_icu valid n (links us walked rest) = follow rest (target us in_icu valid walked)
 step_of in_icu valid n gone = Err fault.Missing
 
@@ -95,17 +100,17 @@ bundles_of own icu true = icu
 bundles_of own icu false = own
 
 -- what follows a level, where `go` searches from a place on
-abbrev pub go_on : (Bool → List ℕ → List (List ℕ) → Result (Resource × List ℕ) LookError) → Result Step LookError → Result (Resource × List ℕ) LookError
+abbrev pub go_on : (Bool → List ℕ → List (List ℕ) → Result Hit LookError) → Result Step LookError → Result Hit LookError
 go_on go (Err e) = Err e
-go_on go (Ok (found t n)) = Ok (t, n)
+go_on go (Ok (found hit)) = Ok hit
 go_on go (Ok (goes in_icu n ss)) = go in_icu n ss
 
 -- more than 1,024 bytes, with slashes between the segments
 abbrev pub is_long : List (List ℕ) → Bool
 is_long ss = nat_lt 1024 (length (join_with_byte 47 ss))
 
--- the tree to which a path leads and the name of its stop, with so many levels left
-unfoldable pub search : ℕ → Setting → Bool → List ℕ → List (List ℕ) → Result (Resource × List ℕ) LookError
+-- the item to which a path leads, with so many levels left
+unfoldable pub search : ℕ → Setting → Bool → List ℕ → List (List ℕ) → Result Hit LookError
 search zero s in_icu n ss = Err fault.TooManyAliases
 search (suc k) s in_icu n ss =
     if is_long ss then Err fault.PathTooLong
@@ -119,5 +124,5 @@ abbrev pub setting : Bundles → Bundles → ParentsOf → List ℕ → Setting
 setting own icu parents n = setting_of own icu parents (unwrap_or (first_stop own parents n) n)
 
 -- what a lookup of a path from a name gives
-abbrev pub look_up : Bundles → Bundles → ParentsOf → List ℕ → List (List ℕ) → Result (Resource × List ℕ) LookError
+abbrev pub look_up : Bundles → Bundles → ParentsOf → List ℕ → List (List ℕ) → Result Hit LookError
 look_up own icu parents n ss = search 256 (setting own icu parents n) false n ss

@@ -1,4 +1,6 @@
 // What a lookup finds.
+ghost use Rattle.std.specs.Prelude.{◌≡◌};
+
 use rb_locales::Name;
 
 /// What was found: the node, the name of the bundle that has it, and the first bundle of the trail.
@@ -10,4 +12,19 @@ pub struct Found<N> {
     pub actual: Name,
     /// The first name of the requested name's trail that has a bundle of its own.
     pub valid: Name,
+}
+
+impl<N> Found<N> {
+    /// The same with another node, as the view of the one that was found.
+    pub fn with_node<M>(&self, node: M) -> Found<M>
+        ensures node { result.node ≡ node }
+        ensures actual { result.actual ≡ self.now.actual }
+        ensures valid { result.valid ≡ self.now.valid }
+    {
+        Found {
+            node,
+            actual: self.actual,
+            valid: self.valid,
+        }
+    }
 }

@@ -10,6 +10,7 @@ pub use Rattle.rb_json.specs.Leaf.{text_data, signed_of, units_data, numbers_dat
 use Rattle.rb_tree.specs.Resource.{Resource, int, ints, binary, alias, table}
 use Rattle.rb_tree.specs.Resource as tree
 use Rattle.rb_tree.specs.Keys.{items, pairs}
+use Rattle.rb_fallback.specs.Search.{Hit}
 
 abbrev pub texts_data : List (List ℕ) → Data
 texts_data texts = array (items_of (map text_data texts))
@@ -33,8 +34,9 @@ item_members (tree.array ts) = put (codes "len") (number (unsigned (length (item
 item_members (table es) = put (codes "keys") (texts_data (keys_of (pairs es))) (of_type (codes "table"))
 
 -- the reply for an item that was found
-abbrev pub found_data : Resource → (actual valid : List ℕ) → Data
-found_data t actual valid = object (put (codes "actual") (text_data actual) (put (codes "valid") (text_data valid) (item_members t)))
+abbrev pub found_data : Hit → (valid : List ℕ) → Data
+found_data hit valid =
+    object (put (codes "actual") (text_data hit.actual) (put (codes "valid") (text_data valid) (item_members hit.tree)))
 
 -- an item by itself; of an alias also the path that is still to be walked
 abbrev pub item_data : Resource → List ℕ → Data

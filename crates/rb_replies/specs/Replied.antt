@@ -26,7 +26,7 @@ reply_data Memory = error (reply_word Memory)
 
 abbrev pub response_data : Response → Data
 response_data (Replies reply) = reply_data reply
-response_data (Finds t actual valid) = found_data t actual valid
+response_data (Finds hit valid) = found_data hit valid
 response_data (Refuses e) = error (look_word e)
 
 -- a line that asks nothing is response so

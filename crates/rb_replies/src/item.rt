@@ -9,6 +9,7 @@ ghost use Rattle.rb_tree.specs.Path.{IsPath};
 ghost use Rattle.rb_tree.specs.Parts.{HasUnits, bytes_of, kind_of, numbers_of, pairs_of, units_of};
 ghost use Rattle.rb_tree.specs.Resource.{binary, int, ints};
 ghost use Rattle.rb_tree.specs.declared.kind.Kind.TheVariants as Kinds;
+ghost use Rattle.rb_fallback.specs.Answers.{hit_of};
 ghost use Rattle.rb_replies.specs.Item.{text_data, units_data, numbers_data, texts_data, signed_of, of_type, with_text, item_members, item_data, found_data};
 ghost use Rattle.rb_replies.specs.inner.Put.{Puts, PutsMembers, data_tokens, valid_tokens};
 
@@ -228,7 +229,7 @@ pub(crate) fn put_found<N: Node>(
     alloc: Global,
     found: &Found<N>,
 ) -> PutResult
-    ensures { Puts result out.old out.new (data_tokens (found_data (N.tree found.now.node) found.now.actual found.now.valid)) }
+    ensures { Puts result out.old out.new (data_tokens (found_data (hit_of N.tree found.now) found.now.valid)) }
 {
     out.begin_object()?;
     out.key("actual")?;
