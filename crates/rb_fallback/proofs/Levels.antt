@@ -1,19 +1,18 @@
 -- A search, level by level.
 use Rattle.std.proofs.Common.{◌≡◌, ◌≢◌, ◌+◌, ◌-◌, ◌<◌, ◌≤◌, ◌==◌, ℕ, zero, suc, List, length, Bool, true, false, cond, Option, Some, Result, Ok, Err, IfOk}
-use Rattle.std.proofs.Common.{IsErrAnd, unwrap_or, refl, ap, sym, ◌∙◌, arith}
+use Rattle.std.proofs.Common.{IsErrAnd, refl, ap, sym, ◌∙◌, arith}
 use Rattle.std.proofs.lemmas.Bool.{le-ltb, eqb-true, eqb-false}
 use Rattle.rb_tree.specs.Resource.{Resource}
 use Rattle.rb_tree.specs.Path.{segments, IsPath}
 use Rattle.rb_parents.specs.Trail.{Bundles, ParentsOf}
 use Rattle.rb_fallback.specs.Answers.{answer_of}
-use Rattle.rb_fallback.specs.inner.LevelResult.{IsLevelResult}
-use Rattle.rb_fallback.specs.Search.{Hit, Setting, Step, search, is_long, go_on, step, level, bundles_of, first_stop, look_up, setting, setting_of}
-use Rattle.rb_fallback.specs.inner.Steps.{GoesOn, GoesLong}
+use Rattle.rb_fallback.specs.Search.{Hit, Setting, Step, search, is_long, go_on, step, level, bundles_of, look_up, setting}
+use Rattle.rb_fallback.specs.inner.Steps.{GoesOn, GoesLong, IsOutcome}
 use Rattle.rb_fallback.specs.declared.fault.LookError.{LookError}
 use Rattle.rb_fallback.specs.declared.fault.LookError.TheVariants as fault
 use Rattle.rb_fallback.specs.declared.found.Found.{Found}
-use Rattle.rb_fallback.specs.declared.level.LevelResult.{LevelResult}
 use Rattle.rb_fallback.specs.declared.search.Place.{Place}
+use Rattle.rb_fallback.specs.declared.search.Outcome.{Outcome}
 use Rattle.rb_fallback.proofs.Paths.{long_is}
 
 -- the step of a level
@@ -52,15 +51,6 @@ pub record ComesTo (most i : ℕ) (s : Setting) (in_icu : Bool) (n p : List ℕ)
 pub start : (own icu : Bundles) (parents : ParentsOf) (n p : List ℕ) → IsPath p
     → ComesTo 256 0 (setting own icu parents n) false n p (look_up own icu parents n (segments p))
 start own icu parents n p path = record { path = path; same = refl }
-
--- the same, where the first stop is known
-pub start_from : {N : Type 0} {tree : N → Resource} {h : LevelResult N} {own : Bundles} {parents : ParentsOf} {n p : List ℕ} (icu : Bundles) → IsPath p
-    → IsLevelResult tree h p (level own parents n (segments p)) (first_stop own parents n)
-    → ComesTo 256 0 (setting_of own icu parents h.first) false n p (look_up own icu parents n (segments p))
-start_from {own = own} {parents = parents} {n = n} {p = p} icu path decided = record {
-  path = path;
-  same = ap (λ (x : Setting). search 256 x false n (segments p)) (ap (λ o. setting_of own icu parents (unwrap_or o n)) (sym decided.first));
-}
 
 -- where the next path is too long, the search ends
 long_end : (most i : ℕ) (s : Setting) (in_icu : Bool) (n : List ℕ) (rest : List (List ℕ)) (f : LookError) → i < most → is_long rest ≡ true
@@ -106,3 +96,9 @@ pub valid_on : {N : Type 0} (x : Result (Found N) LookError) (first : Option (Li
     → IfOk x (λ f. first ≡ Some f.valid)
 valid_on (Ok f) first v e h = e ∙ ap Some (sym h)
 valid_on (Err e) first v f h = tt
+
+-- an error of a level that a `?` hands on
+pub outcome_err : {N : Type 0} (tree : N → Resource) (x : Result (Outcome N) LookError) (f : LookError) (valid : List ℕ)
+    (step : List ℕ → Result Step LookError) → IsErrAnd x (λ e. e ≡ f) → step valid ≡ Err f → IsOutcome tree x valid step
+outcome_err tree (Ok y) f valid step h k = absurd h
+outcome_err tree (Err e) f valid step h k = k ∙ ap Err (sym h)

@@ -21,6 +21,10 @@ aim_of us (Err fault.AliasPackage) = no_package
 abbrev pub hit_of : {N : Type 0} → (N → Resource) → Found N → Hit
 hit_of tree f = record { tree = tree f.node; actual = f.actual }
 
+-- the same at another node
+abbrev pub with_node : {N M : Type 0} → Found N → M → Found M
+with_node f node = record { node = node; actual = f.actual; valid = f.valid }
+
 abbrev pub answer_of : {N : Type 0} → (N → Resource) → Result (Found N) LookError → Result Hit LookError
 answer_of tree (Ok f) = Ok (hit_of tree f)
 answer_of tree (Err e) = Err e

@@ -15,11 +15,11 @@ pub struct Found<N> {
 }
 
 impl<N> Found<N> {
+    ghost use Rattle.rb_fallback.specs.Answers.{with_node};
+
     /// The same with another node, as the view of the one that was found.
     pub fn with_node<M>(&self, node: M) -> Found<M>
-        ensures node { result.node ≡ node }
-        ensures actual { result.actual ≡ self.now.actual }
-        ensures valid { result.valid ≡ self.now.valid }
+        ensures { result ≡ with_node self.now node }
     {
         Found {
             node,

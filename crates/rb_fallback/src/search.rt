@@ -1,5 +1,5 @@
 // The search of a path from a name, level by level.
-ghost use Rattle.std.specs.Prelude.{◌≡◌, ◌↔◌, ◌≤◌, ◌==◌, option_map, length, ◌+◌, ◌++◌, ℕ, List, Err, IfOk, Some, drop, if◌then◌else◌};
+ghost use Rattle.std.specs.Prelude.{◌≡◌, ◌↔◌, ◌≤◌, ◌==◌, option_map, length, ◌+◌, ◌++◌, ℕ, List, Err, IfOk, IsSome, Some, drop, if◌then◌else◌};
 ghost use Rattle.rb_tree.specs.Parts.{kind_of, units_of};
 ghost use Rattle.rb_tree.specs.declared.kind.Kind.TheVariants as Kinds;
 ghost use Rattle.rb_tree.specs.Path.{IsPath, segments};
@@ -7,15 +7,14 @@ ghost use Rattle.rb_tree.specs.Walk.{behind};
 ghost use Rattle.rb_parents.specs.Family.{parent_of};
 ghost use Rattle.rb_fallback.specs.Alias.{target};
 ghost use Rattle.rb_fallback.specs.Answers.{answer_of};
-ghost use Rattle.rb_fallback.specs.inner.LevelResult.{IsLevel};
-ghost use Rattle.rb_fallback.specs.Search.{bundles_of, first_stop, follow, level, look_up, search, setting_of};
-ghost use Rattle.rb_fallback.specs.inner.Steps.{IsFollowed, place_at};
+ghost use Rattle.rb_fallback.specs.Search.{bundles_of, first_stop, follow, level, look_up, search, setting_of, step};
+ghost use Rattle.rb_fallback.specs.inner.Steps.{IsFollowed, IsOutcome, place_at, valid_of};
 ghost use Rattle.rb_fallback.specs.declared.fault.LookError.TheVariants as Faults;
 
 use crate::alias::read_alias;
 use crate::fault::{AliasFault, LookError};
 use crate::found::Found;
-use crate::level::{LevelResult, level};
+use crate::level::level;
 use crate::limits::{LEVEL_LIMIT, PATH_LIMIT};
 use crate::path::{replaced, rest_behind, short_path};
 use arrayvec::ArrayVec;
@@ -75,23 +74,63 @@ fn follow_alias<N: Node>(
     ))
 }
 
-// The deciding walk of a level, in the package of a place.
-fn level_at<'a, S: Shelf<'a>, I: Shelf<'a, N = S::N>>(
+// What a level of a search gives: an item, or where the search goes on, if the path there isn't too long.
+#[derive(Drop)]
+pub(crate) enum Outcome<N> {
+    Found(Found<N>),
+    Next { valid: Name, place: Place },
+    TooLong,
+}
+
+// One level of a search. The first has no valid name yet, as its first stop is it.
+fn step<'a, S: Shelf<'a>>(
+    shelf: S,
+    parents: &Parents,
+    icudata: bool,
+    name: &Name,
+    path: &[u8],
+    valid: Option<Name>,
+) -> Result<Outcome<S::N>, LookError>
+    requires { IsPath path.now }
+    ensures outcome { IsOutcome S.N.tree result (valid_of valid (first_stop (S.bundles shelf) (parent_of parents.now) name.now) name.now)
+        (λ v. step icudata v (level (S.bundles shelf) (parent_of parents.now) name.now (segments path.now))) }
+    ensures first { IfOk result (λ o. IsSome (first_stop (S.bundles shelf) (parent_of parents.now) name.now)) }
+{
+    let decided = level(shelf, parents, name, path)?;
+    let valid = valid.unwrap_or(decided.first);
+    match decided.ending {
+        Ending::End(node) => Ok(Outcome::Found(Found {
+            node,
+            actual: decided.actual,
+            valid,
+        })),
+        Ending::Link(node, cut) => match follow_alias(node, cut, &valid, icudata, path)? {
+            Some(place) => Ok(Outcome::Next { valid, place }),
+            None => Ok(Outcome::TooLong),
+        },
+        Ending::Gone => Err(LookError::Missing),
+    }
+}
+
+// One level of a search, at a place.
+fn step_at<'a, S: Shelf<'a>, I: Shelf<'a, N = S::N>>(
     own: S,
     icu: I,
     parents: &Parents,
+    valid: Name,
     place: &Place,
-) -> Result<LevelResult<S::N>, LookError>
+) -> Result<Outcome<S::N>, LookError>
     requires { IsPath place.now.path.items }
-    ensures level { IsLevel S.N.tree result place.now.path.items
-        (level (bundles_of (S.bundles own) (I.bundles icu) place.now.icudata) (parent_of parents.now) place.now.name (segments place.now.path.items))
-        (first_stop (bundles_of (S.bundles own) (I.bundles icu) place.now.icudata) (parent_of parents.now) place.now.name) }
+    ensures outcome { IsOutcome S.N.tree result valid
+        (λ v. step place.now.icudata v (level (bundles_of (S.bundles own) (I.bundles icu) place.now.icudata)
+        (parent_of parents.now) place.now.name (segments place.now.path.items))) }
     ensures short { length place.now.path.items ≤ 1024 }
 {
+    let path = place.path.as_slice();
     if place.icudata {
-        level(icu, parents, &place.name, place.path.as_slice())
+        step(icu, parents, true, &place.name, path, Some(valid))
     } else {
-        level(own, parents, &place.name, place.path.as_slice())
+        step(own, parents, false, &place.name, path, Some(valid))
     }
 }
 
@@ -121,24 +160,10 @@ fn search_on<'a, S: Shelf<'a>, I: Shelf<'a, N = S::N>>(
 {
     let mut here = place;
     for level in 1..LEVEL_LIMIT {
-        let decided = level_at(own, icu, parents, &here)?;
-        match decided.ending {
-            Ending::End(node) => return Ok(Found {
-                node,
-                actual: decided.actual,
-                valid,
-            }),
-            Ending::Link(node, cut) => match follow_alias(
-                node,
-                cut,
-                &valid,
-                here.icudata,
-                here.path.as_slice(),
-            )? {
-                Some(next) => here = next,
-                None => return Err(next_fault(level)),
-            },
-            Ending::Gone => return Err(LookError::Missing),
+        match step_at(own, icu, parents, valid, &here)? {
+            Outcome::Found(found) => return Ok(found),
+            Outcome::Next { place, .. } => here = place,
+            Outcome::TooLong => return Err(next_fault(level)),
         }
     }
     Err(LookError::TooManyAliases)
@@ -157,18 +182,10 @@ fn search_path<'a, S: Shelf<'a>, I: Shelf<'a, N = S::N>>(
     ensures answer { answer_of S.N.tree result ≡ look_up (S.bundles own) (I.bundles icu) (parent_of parents.now) name.now (segments path.now) }
     ensures valid { IfOk result (λ f. first_stop (S.bundles own) (parent_of parents.now) name.now ≡ Some f.valid) }
 {
-    let decided = level(own, parents, name, path)?;
-    match decided.ending {
-        Ending::End(node) => Ok(Found {
-            node,
-            actual: decided.actual,
-            valid: decided.first,
-        }),
-        Ending::Link(node, cut) => match follow_alias(node, cut, &decided.first, false, path)? {
-            Some(place) => search_on(own, icu, parents, decided.first, place),
-            None => Err(LookError::PathTooLong),
-        },
-        Ending::Gone => Err(LookError::Missing),
+    match step(own, parents, false, name, path, None)? {
+        Outcome::Found(found) => Ok(found),
+        Outcome::Next { valid, place } => search_on(own, icu, parents, valid, place),
+        Outcome::TooLong => Err(LookError::PathTooLong),
     }
 }
 

@@ -108,8 +108,8 @@ pub(crate) fn put_alias<O: Out, N: Node>(out: &mut O, text: &mut String, node: N
     out.token(Token::EndObject)
 }
 
-/// A number of 28 bits with its sign.
-fn signed(bits: u32) -> i64
+/// A number of 28 bits with its sign, as `ures_getInt` of ICU has it.
+pub fn signed(bits: u32) -> i64
     ensures { result ≡ signed_of bits }
 {
     let number = i64::from(bits);

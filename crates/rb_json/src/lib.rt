@@ -13,5 +13,6 @@ mod whole;
 
 pub use error::JsonError;
 pub use layout::Layout;
+pub use leaf::signed;
 pub use text::{ascii, characters, read_hex, read_units};
 pub use whole::json_text;

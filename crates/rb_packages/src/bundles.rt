@@ -18,24 +18,19 @@ use std::mem;
 /// The bundles of one package, in the order of installing, each with what lookups ask of it.
 pub(crate) type Bundles = IndexMap<Name, Held, RandomState>;
 
-/// A package of one bundle. Where there is no memory, the bundle comes back.
+/// A package of one bundle. If out of memory, the bundle comes back.
 pub(crate) fn of_one(
     alloc: Global,
     state: RandomState,
     name: Name,
     bundle: Bundle,
-) -> Result<Bundles, Bundle>
+) -> Result<Bundles, (PackFault, Bundle)>
     ensures made { IfOk result (λ bundles. bundles.entries ≡ (name, bundle) ∷ []) }
-    ensures back { IfErr result (λ b. b ≡ bundle) }
+    ensures error { IfErr result (λ e. e ≡ (faults.Memory, bundle)) }
 {
     let mut bundles = IndexMap::with_hasher(alloc, state);
-    match bundles.insert(name, Held::of(bundle)) {
-        Ok(_) => Ok(bundles),
-        Err(error) => {
-            let (_, held) = error.value;
-            Err(held.into_bundle())
-        }
-    }
+    add(&mut bundles, name, bundle)?;
+    Ok(bundles)
 }
 
 /// Adds a bundle at the end, under a name that isn't there.

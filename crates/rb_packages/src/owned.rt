@@ -4,6 +4,7 @@ ghost use Rattle.std.specs.Map.{lookup, set_value, remove_entry};
 ghost use Rattle.std.specs.Str.{bytes_eq};
 ghost use Rattle.rb_packages.specs.Packages.{shelf_of, install_fault, IsJudged};
 ghost use Rattle.rb_packages.specs.Index.{files_at, files_by_app, KeepsOthers};
+ghost use Rattle.rb_packages.specs.declared.fault.PackFault.TheVariants as faults;
 
 use crate::app::App;
 use crate::bundles;
@@ -17,15 +18,20 @@ use std::hash::RandomState;
 /// The bundles of all applications. An application without bundles isn't there.
 pub(crate) type Owned = IndexMap<App, Bundles, RandomState>;
 
-/// Installs the first bundle of an application that isn't there. Where there is no memory, the bundle comes back.
-fn install_first(owned: &mut Owned, app: &App, name: Name, bundle: Bundle) -> Result<(), Bundle>
+/// Installs the first bundle of an application that isn't there. If out of memory, the bundle comes back.
+fn install_first(
+    owned: &mut Owned,
+    app: &App,
+    name: Name,
+    bundle: Bundle,
+) -> Result<(), (PackFault, Bundle)>
     ensures own { OnOk result (files_at app.now owned.new.entries ≡ (name, bundle) ∷ []) }
     ensures others { KeepsOthers app.now owned.old.entries owned.new.entries }
-    ensures back { IfErr result (λ b. b ≡ bundle) }
+    ensures error { IfErr result (λ e. e ≡ (faults.Memory, bundle)) }
     ensures stays { OnErr result (owned.new.entries ≡ owned.old.entries) }
 {
     if owned.reserve(1).is_err() {
-        return Err(bundle);
+        return Err((PackFault::Memory, bundle));
     }
     let bundles = bundles::of_one(*owned.allocator(), *owned.hasher(), name, bundle)?;
     owned.insert(*app, bundles).unwrap();
@@ -48,10 +54,7 @@ pub(crate) fn install(
     if let Some(bundles) = owned.get_mut(app) {
         return bundles::install(bundles, name, bundle);
     }
-    match install_first(owned, app, name, bundle) {
-        Ok(()) => Ok(()),
-        Err(bundle) => Err((PackFault::Memory, bundle)),
-    }
+    install_first(owned, app, name, bundle)
 }
 
 /// Puts a bundle in the place of the application's bundle of that name, and gives that one.

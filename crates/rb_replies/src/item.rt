@@ -15,7 +15,7 @@ ghost use Rattle.rb_replies.specs.inner.Put.{Puts, PutsMembers, data_tokens, val
 
 use json::Writer;
 use rb_fallback::Found;
-use rb_json::{ascii, characters, read_hex, read_units};
+use rb_json::{ascii, characters, read_hex, read_units, signed};
 use rb_tree::{Kind, Node};
 use std::alloc::{AllocError, Global};
 
@@ -80,18 +80,6 @@ fn put_keys<N: Node>(out: &mut Writer, alloc: Global, node: N) -> PutResult
         put_text(out, alloc, node.key_at(i))?;
     }
     out.end_array()
-}
-
-/// A number of 28 bits with its sign.
-fn signed(number: u32) -> i64
-    ensures { result ≡ signed_of number }
-{
-    let bits = i64::from(number);
-    if bits < 1 << 27 {
-        bits
-    } else {
-        bits - (1 << 28)
-    }
 }
 
 fn put_signed(out: &mut Writer, bits: u32) -> PutResult

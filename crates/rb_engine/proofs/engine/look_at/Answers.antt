@@ -1,14 +1,13 @@
-use Rattle.std.proofs.Common.{◌≡◌, ℕ, List, Result, Ok, Err, ap, sym, ◌∙◌, subst}
+use Rattle.std.proofs.Common.{Result, Ok, Err, ap, sym, ◌∙◌, subst}
 use Rattle.rb_parents.specs.Family.{parent_of}
 use Rattle.rb_views.specs.Seen.{tree_seen}
 use Rattle.rb_views.specs.declared.item.Item.{Item}
 use Rattle.rb_packages.specs.LentItem.{lent_tree}
-use Rattle.rb_packages.specs.declared.lent.LentItem.{LentItem}
 use Rattle.rb_packages.specs.Lent.{bundles_lent}
-use Rattle.rb_fallback.specs.Answers.{hit_of}
-use Rattle.rb_fallback.specs.declared.fault.LookError.{LookError}
+use Rattle.rb_fallback.specs.Answers.{with_node}
 use Rattle.rb_fallback.specs.declared.found.Found.{Found}
-use Rattle.rb_engine.specs.Answer.{Response, Finds}
+use Rattle.rb_engine.specs.Answer.{Response}
+use Rattle.rb_engine.specs.LookResponse.{look_response}
 use Rattle.rb_engine.specs.declared.request.LookFault.{LookFault}
 use Rattle.rb_engine.proofs.Lookups.{IsTold, lookup_is}
 use Rattle.rb_engine.proofs.engine.look_at.Goals as goal
@@ -18,11 +17,8 @@ returns-in-Ok c =
     let f = c.in-Ok.found in
     let w = c.with_node.result in
     let m : Result (Found Item) LookFault = Ok w in
-    let item : Item → Response = λ x. Finds (record { tree = tree_seen x; actual = w.actual }) w.valid in
-    let name : List ℕ → Response = λ n. Finds (record { tree = lent_tree f.node; actual = n }) w.valid in
-    let told : IsTold lent_tree tree_seen (Ok f) m =
-    ap item (c.with_node.ensures.node ∙ c.item.ensures) ∙ ap name c.with_node.ensures.actual
-    ∙ ap (λ n. Finds (hit_of lent_tree f) n) c.with_node.ensures.valid in
+    let answer : Found Item → Response = λ x. look_response tree_seen (Ok x) in
+    let told : IsTold lent_tree tree_seen (Ok f) m = ap answer (c.with_node.ensures ∙ ap (with_node f) c.item.ensures) in
     rw (← c.shelf-own.ensures.bundles, ← c.icu_shelf.ensures.bundles)
     (lookup_is lent_tree tree_seen c.look.result m (bundles_lent c.shelf-own.result) (bundles_lent c.icu_shelf.result) (parent_of c.args.parents.now)
     c.args.place.now.name c.args.path.now (subst (λ r. IsTold lent_tree tree_seen r m) (sym c.in-Ok.is) told)
