@@ -1,15 +1,15 @@
 -- The keys of a tree stay what they are when they are sorted.
-use Rattle.std.proofs.Common.{◌≡◌, ℕ, zero, suc, ◌+◌, ◌<◌, ◌≤◌, List, [], ◌∷◌, ◌++◌, length, get_or, map, Some, refl, sym, ap, ◌∙◌, arith, Bor, subst}
-use Rattle.std.proofs.lemmas.List.{map-append, get_or_push, get_or_append_left, length_push}
+use Rattle.std.proofs.Common.{◌≡◌, ℕ, zero, suc, ◌+◌, ◌<◌, ◌≤◌, List, [], ◌∷◌, ◌++◌, length, get_or, map, take, Some, refl, sym, ap, ◌∙◌, arith, Bor, subst}
+use Rattle.std.proofs.lemmas.List.{map-append, get_or_push, get_or_append_left, length_push, take_more}
 use Rattle.std.proofs.lemmas.List.Elements.{All-append, All-contains}
 use Rattle.std.proofs.lemmas.List.Sums.{sum_by-cons}
-use Rattle.std.proofs.lemmas.List.Sorted.{All-permutation, Contains-permutation, sum_by-IsPermutation}
+use Rattle.std.proofs.lemmas.List.Sorted.{All-permutation, Contains-permutation, sum_by-IsPermutation, IsPermutation-map}
 use Rattle.std.specs.Prelude.{All, Contains, slice_get, sum_by}
 use Rattle.std.specs.List.Sorted.{IsPermutation}
 use Rattle.std.specs.Map.{keys_of}
 use Rattle.rb_tree.specs.Resource.{Resource, Members}
 use Rattle.rb_tree.specs.Keys.{IsKey, IsTable, pairs}
-use Rattle.rb_writer.specs.inner.Collected.{keys_size, size_of, Has, Gains, Gathers, GathersKeys}
+use Rattle.rb_writer.specs.inner.Collected.{keys_size, size_of, Has, Gains, Gathers, GathersKeys, names}
 use Rattle.rb_writer.specs.inner.Most.{keys_most}
 use Rattle.rb_writer.specs.inner.Places.{EachKey}
 use Rattle.rb_writer.proofs.Collecting.{each_still, size_push}
@@ -51,6 +51,13 @@ gains_new old new r e = rw e (record {
   is_key = λ k a. keys_push old r a k;
 })
 
+-- one more key with its number
+pub named_more : (ks : List (Bor (List ℕ))) (ps : List (Bor (List ℕ) × ℕ)) (i n : ℕ) (d : Bor (List ℕ)) → names ps ≡ take i ks → i < length ks
+    → names (ps ++ (get_or ks i d, n) ∷ []) ≡ take (i + 1) ks
+named_more ks ps i n d e h =
+    map-append (λ (p : Bor (List ℕ) × ℕ). p.0) ps ((get_or ks i d, n) ∷ []) ∙ ap (λ (xs : List (Bor (List ℕ))). xs ++ get_or ks i d ∷ []) e
+    ∙ sym (take_more ks i d h)
+
 pub gathered : (t : Resource) (old keys : List (Bor (List ℕ))) → old ≡ [] → Gathers t old keys → GathersKeys t keys
 gathered t old keys e g =
     let f : Gathers t [] keys = subst (λ (o : List (Bor (List ℕ))). Gathers t o keys) e g in
@@ -65,14 +72,19 @@ size_sum (k ∷ ks) = ap (λ n. 1 + length k.now + n) (size_sum ks) ∙ sym (sum
 size_same : (found keys : List (Bor (List ℕ))) → IsPermutation found keys → size_of keys ≡ size_of found
 size_same found keys p = size_sum keys ∙ sum_by-IsPermutation (λ (r : Bor (List ℕ)). 1 + length r.now) found keys p ∙ sym (size_sum found)
 
-pub sorted : (t : Resource) (found keys : List (Bor (List ℕ))) → GathersKeys t found → IsPermutation found keys → GathersKeys t keys
-sorted t found keys g p =
+sorted_names : (t : Resource) (found keys : List (Bor (List ℕ))) → GathersKeys t found → IsPermutation found keys → GathersKeys t keys
+sorted_names t found keys g p =
     let l = g.little in
     record {
       covered = each_still (λ k. Has found k) (λ k. Has keys k) (λ k h. (h.0, Contains-permutation found keys h.0 p h.1, h.2)) t g.covered;
       little = omega (arith, size_same found keys p);
       is_key = All-permutation (λ (r : Bor (List ℕ)). IsKey r.now) found keys p g.is_key;
     }
+
+pub sorted : (t : Resource) (found : List (Bor (List ℕ))) (numbered keys : List (Bor (List ℕ) × ℕ)) → GathersKeys t found → names numbered ≡ found
+    → IsPermutation numbered keys → GathersKeys t (names keys)
+sorted t found numbered keys g e p = sorted_names t (names numbered) (names keys) (subst (GathersKeys t) (sym e) g)
+    (IsPermutation-map (λ (x : Bor (List ℕ) × ℕ). x.0) numbered keys p)
 
 -- what holds of all the keys holds of each in the tree
 pub each_key : (P : List ℕ → Type 0) (t : Resource) (keys : List (Bor (List ℕ))) → GathersKeys t keys → All (λ r. P r.now) keys → EachKey P t

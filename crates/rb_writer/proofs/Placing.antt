@@ -3,26 +3,19 @@ use Rattle.rb_writer.specs.declared.area.KeyArea.{KeyArea}
 use Rattle.std.proofs.Common.{◌≡◌, ℕ, zero, suc, ◌+◌, ◌-◌, ◌*◌, ◌<◌, ◌≤◌, Bool, true, false, cond, ltb, List, [], ◌∷◌, ◌++◌}
 use Rattle.std.proofs.Common.{length, get_or, take, drop, Option, Some, refl, sym, ap, ◌∙◌, arith, position, subst, inl, inr, ◌⊎◌, Bor}
 use Rattle.std.proofs.lemmas.Bool.Decides.{nat_tests}
-use Rattle.std.proofs.lemmas.Bool.{le-ltb, lt-ltb}
-use Rattle.std.proofs.lemmas.List.{get_or-drop, get_or-take, length-drop, length-take, ext_get_or, length_push, get_or_push}
-use Rattle.std.proofs.lemmas.List.Elements.{All-append}
-use Rattle.std.specs.Prelude.{All, ◌==◌, IsSome}
-use Rattle.std.specs.BTreeMap as tree_map
+use Rattle.std.proofs.lemmas.Bool.{le-ltb, lt-ltb, cases_eq}
+use Rattle.std.proofs.lemmas.List.{get_or-drop, get_or-take, length-drop, length-take, ext_get_or, length_push, get_or_push, get_or_default}
+use Rattle.std.proofs.lemmas.List.Elements.{Contains-get_or, Contains-append_left, Contains-push, Contains-push_cases}
+use Rattle.std.specs.Prelude.{All, ◌==◌}
 use Rattle.std.specs.List.{position_or_len}
 use Rattle.rb_tree.specs.Keys.{IsKey, IsPlain}
 use Rattle.rb_format.specs.Place.{key, key_front, key_ok}
-use Rattle.std.specs.Ordering.{is_eq, nat_cmp}
-use Rattle.std.specs.declared.cmp.Ordering.{Ordering}
-use Rattle.std.specs.declared.cmp.Ordering.TheVariants.{Less, Equal, Greater}
-use Rattle.std.specs.Cmp.Lexicographic.{slice_cmp}
-use Rattle.rb_format.proofs.Cases.{equal_is}
 use Rattle.rb_format.proofs.Keys.{key_is}
 use Rattle.rb_writer.proofs.Puts.{adds_append}
 use Rattle.rb_writer.proofs.Values.{part_stays}
 use Rattle.rb_writer.specs.inner.Growth.{Adds, draft, PutsBytes}
 use Rattle.rb_writer.specs.inner.Keying.{KeyAt}
-use Rattle.rb_writer.specs.inner.Keyed.{place, stored, AreStored}
-use Rattle.rb_writer.specs.declared.keys.KeyPlaces.{KeyPlaces}
+use Rattle.rb_writer.specs.inner.Keyed.{IsStored, IsStoredAt}
 
 pub ok_key : (k : List ℕ) → IsKey k → key_ok k ≡ true
 ok_key k h = (key_is k).1 h
@@ -96,47 +89,44 @@ key_put start a b c k o p e at low h =
       is_key = h;
     })
 
--- ---- what an insert changes
-
-equal_order : (o : Ordering) → is_eq o ≡ true → o ≡ Equal
-equal_order Less e = absurd cc
-equal_order Equal e = refl
-equal_order Greater e = absurd cc
-
-pub stay_from : (b : Bool) (w : ℕ) (old new : Option ℕ) → new ≡ cond b (Some w) old → IsSome old → IsSome new
-stay_from true w old new e h = rw e refl
-stay_from false w old new e h = rw e h
-
-pub stand_by : (b : Bool) (k q : List ℕ) (w o : ℕ) (old new : Option ℕ) → (b ≡ true → k ≡ q) → new ≡ cond b (Some w) old → new ≡ Some o
-    → (old ≡ Some o) ⊎ ((k ≡ q) × (w ≡ o))
-stand_by true k q w o old new same e f = inr (same refl, some_is w o (sym e ∙ f))
-  where
-    some_is : (a b : ℕ) → Some a ≡ Some b → a ≡ b
-    some_is a b e = cc
-stand_by false k q w o old new same e f = inl (sym e ∙ f)
-
-pub stand_from : (k q : List ℕ) (w o : ℕ) (old new : Option ℕ) → new ≡ cond (is_eq (slice_cmp nat_cmp k q)) (Some w) old → new ≡ Some o
-    → (old ≡ Some o) ⊎ ((k ≡ q) × (w ≡ o))
-stand_from k q w o old new e f = stand_by (is_eq (slice_cmp nat_cmp k q)) k q w o old new (λ t. equal_is k q (equal_order _ t)) e f
-
-pub stands_or : (start : ℕ) (c k q : List ℕ) (w o : ℕ) (old : Option ℕ) → KeyAt start c k w → (old ≡ Some o) ⊎ ((k ≡ q) × (w ≡ o))
-    → (old ≡ Some o) ⊎ KeyAt start c q o
-stands_or start c k q w o old h s = elim s [
-  | inl p ↦ inl p
-  | inr p ↦ inr (subst (λ (x : List ℕ). KeyAt start c x o) p.0 (subst (KeyAt start c k) p.1 h))
-]
-
 -- ---- the keys that are known
 
-pub known_at : (keys : KeyPlaces) (i : ℕ) (p : Bor (List ℕ) × ℕ) (k : List ℕ) → AreStored keys → i < length keys.known.items
-    → p ≡ get_or keys.known.items i p → p.0.now ≡ k → place keys k ≡ Some p.1
-known_at keys i p k a h e f = subst (λ (q : List ℕ). stored keys.offsets q ≡ Some p.1) f
-    (subst (λ (x : Bor (List ℕ) × ℕ). stored keys.offsets x.0.now ≡ Some x.1) (sym e) (a i p h))
+pub known_at : (known : List (Bor (List ℕ) × ℕ)) (i : ℕ) (p : Bor (List ℕ) × ℕ) (k : List ℕ) → i < length known → p ≡ get_or known i p
+    → p.0.now ≡ k → IsStoredAt known k p.1
+known_at known i p k h e f = (p, (i, h, sym e), f, refl)
 
-pub known_push : (m : tree_map.BTreeMap (Bor (List ℕ)) ℕ) (ps : List (Bor (List ℕ) × ℕ)) (p : Bor (List ℕ) × ℕ)
-    → All (λ q. stored m q.0.now ≡ Some q.1) ps → stored m p.0.now ≡ Some p.1 → All (λ q. stored m q.0.now ≡ Some q.1) (ps ++ p ∷ [])
-known_push m ps p a e = All-append (λ (q : Bor (List ℕ) × ℕ). stored m q.0.now ≡ Some q.1) ps (p ∷ []) a one
-  where
-    one : All (λ (q : Bor (List ℕ) × ℕ). stored m q.0.now ≡ Some q.1) (p ∷ [])
-    one zero d h = e
-    one (suc i) d h = absurd (omega arith)
+pub stored_at : (known : List (Bor (List ℕ) × ℕ)) (i : ℕ) (k : List ℕ) (d : Bor (List ℕ) × ℕ) → i < length known → (get_or known i d).0.now ≡ k
+    → IsStored known k
+stored_at known i k d h e = ((get_or known i d).1, (get_or known i d, Contains-get_or known i d h, e, refl))
+
+pub stays_stored : (known : List (Bor (List ℕ) × ℕ)) (p : Bor (List ℕ) × ℕ) (q : List ℕ) → IsStored known q → IsStored (known ++ p ∷ []) q
+stays_stored known p q h = (h.0, (h.1.0, Contains-append_left known (p ∷ []) h.1.0 h.1.1, h.1.2, h.1.3))
+
+pub stored_push : (known : List (Bor (List ℕ) × ℕ)) (p : Bor (List ℕ) × ℕ) → IsStored (known ++ p ∷ []) p.0.now
+stored_push known p = (p.1, (p, Contains-push known p, refl, refl))
+
+-- where the last of these keys is at its offset
+pub stands_or : (known : List (Bor (List ℕ) × ℕ)) (p : Bor (List ℕ) × ℕ) (start : ℕ) (body q : List ℕ) (o : ℕ) → KeyAt start body p.0.now p.1
+    → IsStoredAt (known ++ p ∷ []) q o → IsStoredAt known q o ⊎ KeyAt start body q o
+stands_or known p start body q o at h = elim (Contains-push_cases known p h.0 h.1) [
+  | inl old ↦ inl (h.0, old, h.2, h.3)
+  | inr new ↦ inr (subst (λ (k : List ℕ). KeyAt start body k o) (ap (λ (x : Bor (List ℕ) × ℕ). x.0.now) new ∙ h.2)
+      (subst (KeyAt start body p.0.now) (ap (λ (x : Bor (List ℕ) × ℕ). x.1) new ∙ h.3) at))
+]
+
+-- the first i of these keys aren't this one
+abbrev pub NotAmong : List (Bor (List ℕ) × ℕ) → ℕ → List ℕ → Type 0
+NotAmong known i k = (j : ℕ) (d : Bor (List ℕ) × ℕ) → j < i → (get_or known j d).0.now ≡ k → ⊥
+
+pub not_more : (known : List (Bor (List ℕ) × ℕ)) (i : ℕ) (k : List ℕ) (e : Bor (List ℕ) × ℕ) → NotAmong known i k → i < length known
+    → ((get_or known i e).0.now ≡ k → ⊥) → NotAmong known (i + 1) k
+not_more known i k e none h other_key j d l f = elim (cases_eq j i) [
+  | inl same ↦
+      other_key (ap (λ (x : Bor (List ℕ) × ℕ). x.0.now) (get_or_default known i e d h ∙ ap (λ (n : ℕ). get_or known n d) (sym same)) ∙ f)
+  | inr other ↦ none j d (omega arith) f
+]
+
+pub not_stored : (known : List (Bor (List ℕ) × ℕ)) (i : ℕ) (k : List ℕ) → NotAmong known i k → length known ≤ i → IsStored known k → ⊥
+not_stored known i k none h s =
+    let at = s.1.1 in let below = at.1 in
+    none at.0 s.1.0 (omega arith) (ap (λ (x : Bor (List ℕ) × ℕ). x.0.now) at.2 ∙ s.1.2)

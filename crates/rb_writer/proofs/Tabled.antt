@@ -2,18 +2,18 @@
 use Rattle.std.proofs.Common.{◌≡◌, ℕ, zero, suc, ◌+◌, List, [], ◌∷◌, ◌++◌, get_or, Some, sym, ap, ◌∙◌, arith, subst, inl, inr}
 use Rattle.std.proofs.lemmas.List.{get_or_push, get_or_append_left, length_push}
 use Rattle.std.proofs.lemmas.Bool.{cases_eq}
-use Rattle.std.specs.Prelude.{slice_get, IsSome}
+use Rattle.std.specs.Prelude.{slice_get}
 use Rattle.std.specs.Map.{keys_of, values_of}
 use Rattle.rb_tree.specs.Resource.{Resource, array, table, Resources, no_trees, tree_and, Members, no_entries, entry_and}
 use Rattle.rb_tree.specs.Keys.{items, pairs}
 use Rattle.rb_tree.specs.Parts.{children_of}
 use Rattle.rb_writer.specs.inner.Places.{EachKey, EachKeyIn, EachKeyOf}
 use Rattle.rb_writer.specs.inner.Standing.{PlacesAre, HasPlaces}
-use Rattle.rb_writer.specs.inner.Keyed.{place}
+use Rattle.rb_writer.specs.inner.Keyed.{IsPlace, HasPlace}
 use Rattle.rb_writer.specs.declared.keys.KeyPlaces.{KeyPlaces}
 
 pub places_more : (keys : KeyPlaces) (ks : List (List ℕ)) (offsets : List ℕ) (n o : ℕ) (k : List ℕ) → PlacesAre keys ks offsets n → Some k ≡ slice_get ks n
-    → place keys k ≡ Some o → PlacesAre keys ks (offsets ++ o ∷ []) (n + 1)
+    → IsPlace keys k o → PlacesAre keys ks (offsets ++ o ∷ []) (n + 1)
 places_more keys ks offsets n o k p e f =
     let c = p.count in
     record {
@@ -35,8 +35,8 @@ key_in P (entry_and q t es) zero k h e = let s : q ≡ k = cc in subst P s h.0
 key_in P (entry_and q t es) (suc i) k h e = key_in P es i k h.2 e
 
 pub has_place : (keys : KeyPlaces) (es : Members) (i : ℕ) (k : List ℕ) → HasPlaces keys (table es) → Some k ≡ slice_get (keys_of (pairs es)) i
-    → IsSome (place keys k)
-has_place keys es i k h e = key_in (λ k. IsSome (place keys k)) es i k h e
+    → HasPlace keys k
+has_place keys es i k h e = key_in (λ k. HasPlace keys k) es i k h e
 
 item_in : (P : List ℕ → Type 0) (ts : Resources) (i : ℕ) (u : Resource) → EachKeyIn P ts → Some u ≡ slice_get (items ts) i → EachKey P u
 item_in P no_trees i u h e = cc

@@ -4,7 +4,6 @@ ghost use Rattle.std.specs.Map.{keys_of};
 ghost use Rattle.rb_tree.specs.Keys.{pairs, IsTable};
 ghost use Rattle.rb_tree.specs.Resource.{table};
 ghost use Rattle.rb_writer.specs.inner.Growth.{PutsHalves};
-ghost use Rattle.rb_writer.specs.inner.Keyed.{AreStored};
 ghost use Rattle.rb_writer.specs.inner.Standing.{PutsArray, PutsShort, PutsLong, HasPlaces, PlacesAre};
 
 use crate::data::Data;
@@ -85,7 +84,6 @@ pub fn key_offsets(
     entry: &mut usize,
     entries: &Entries,
 ) -> Result<Vec<u32>, AllocError>
-    requires known { AreStored keys.now }
     requires each { HasPlaces keys.now (table entries.now) }
     ensures places { IfOk result (λ offsets. PlacesAre keys.now (keys_of (pairs entries.now)) offsets.items (length (pairs entries.now))) }
     ensures ordered { IsTable entries.now }

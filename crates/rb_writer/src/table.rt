@@ -3,7 +3,6 @@ ghost use Rattle.std.specs.Prelude.{MatchResult, IfOk, length, ◌≡◌, ◌⊎
 ghost use Rattle.std.specs.Map.{keys_of};
 ghost use Rattle.rb_tree.specs.Keys.{pairs, IsTable};
 ghost use Rattle.rb_tree.specs.Resource.{table};
-ghost use Rattle.rb_writer.specs.inner.Keyed.{AreStored};
 ghost use Rattle.rb_writer.specs.inner.Standing.{HasPlaces, WritesTable};
 
 use crate::containers::{is_short, key_offsets, write_long_table, write_short_table};
@@ -26,7 +25,6 @@ pub fn write_table(
     requires whole { length out.old % 4 ≡ 0 }
     requires room { length out.old + (4 + 8 * length items.now) ≤ 2 ^ 28 }
     requires items { length items.now ≡ length (pairs entries.now) }
-    requires known { AreStored keys.now }
     requires each { HasPlaces keys.now (table entries.now) }
     ensures { IfOk result (WritesTable keys.now entries.now out.old out.new items.now) }
 {

@@ -3,7 +3,6 @@ ghost use Rattle.std.specs.Prelude.{IfOk, length, ◌≡◌, ◌+◌, ◌^◌, �
 ghost use Rattle.rb_tree.specs.Parts.{kind_of, len_of, children_of, HasChildren};
 ghost use Rattle.rb_tree.specs.View.{view_of};
 ghost use Rattle.rb_writer.specs.inner.Growth.{IsDraft};
-ghost use Rattle.rb_writer.specs.inner.Keyed.{AreStored};
 ghost use Rattle.rb_writer.specs.inner.Most.{data_most};
 ghost use Rattle.rb_writer.specs.inner.Standing.{Stands, ChildrenStand, KeysStand, HasPlaces, children_most};
 
@@ -30,7 +29,6 @@ pub fn write_value(
     requires drafted { IsDraft keys.now.area out.old }
     requires room { length out.old + data_most (view_of tree.now) ≤ 2 ^ 28 }
     requires keys { KeysStand keys.now.area out.old keys.now }
-    requires known { AreStored keys.now }
     requires each { HasPlaces keys.now (view_of tree.now) }
     ensures { IfOk result (Stands keys.now.area out.old out.new (view_of tree.now)) }
 {
@@ -71,7 +69,6 @@ fn write_children(
     requires drafted { IsDraft keys.now.area out.old }
     requires room { length out.old + children_most (children_of (view_of tree.now)) ≤ 2 ^ 28 }
     requires keys { KeysStand keys.now.area out.old keys.now }
-    requires known { AreStored keys.now }
     requires each { HasPlaces keys.now (view_of tree.now) }
     ensures { IfOk result (λ items. ChildrenStand keys.now.area out.old out.new (children_of (view_of tree.now)) items.items (len_of (view_of tree.now))) }
 {

@@ -15,6 +15,10 @@ keys_size (k ∷ ks) = 1 + length k + keys_size ks
 abbrev pub size_of : List (Bor (List ℕ)) → ℕ
 size_of keys = keys_size (map (λ r. r.now) keys)
 
+-- the keys of pairs with numbers
+abbrev pub names : List (Bor (List ℕ) × ℕ) → List (Bor (List ℕ))
+names pairs = map (λ p. p.0) pairs
+
 -- a key is one of those
 abbrev pub Has : List (Bor (List ℕ)) → List ℕ → Type 0
 Has keys k = (r : Bor (List ℕ)) × Contains keys r × (r.now ≡ k)

@@ -1,6 +1,6 @@
 -- Trees that were written, and the items that stand for them. Only private contracts and proofs read this.
 use Rattle.rb_writer.specs.declared.area.KeyArea.{KeyArea}
-use Rattle.std.specs.Prelude.{◌≡◌, ◌⊎◌, ℕ, ◌+◌, ◌/◌, ◌%◌, ◌^◌, ◌<◌, ◌≤◌, List, [], ◌∷◌, length, get_or, drop, Some, Ok, IsSome, slice_get}
+use Rattle.std.specs.Prelude.{◌≡◌, ◌⊎◌, ℕ, ◌+◌, ◌/◌, ◌%◌, ◌^◌, ◌<◌, ◌≤◌, List, [], ◌∷◌, length, get_or, drop, Some, Ok, slice_get}
 use Rattle.rb_tree.specs.Resource.{Resource, Members, height}
 use Rattle.rb_format.specs.Place.{key}
 use Rattle.std.specs.Map.{keys_of}
@@ -11,7 +11,7 @@ use Rattle.rb_format.specs.Item.{kind_of, offset_of}
 use Rattle.rb_writer.specs.inner.Growth.{Adds, IsDraft, draft, PutsWord, PutsWords, PutsHalf, PutsHalves}
 use Rattle.rb_writer.specs.inner.Most.{data_most}
 use Rattle.rb_writer.specs.inner.Places.{EachKey}
-use Rattle.rb_writer.specs.inner.Keyed.{place}
+use Rattle.rb_writer.specs.inner.Keyed.{IsPlace, HasPlace}
 use Rattle.rb_writer.specs.declared.keys.KeyPlaces.{KeyPlaces}
 
 -- a tree was written, and an item stands for it
@@ -35,16 +35,16 @@ pub record ChildrenStand (area : KeyArea) (old new : List ℕ) (cs : List Resour
 
 -- each key that has a place is there
 abbrev pub KeysStand : KeyArea → List ℕ → KeyPlaces → Type 0
-KeysStand area body keys = (k : List ℕ) (o : ℕ) → place keys k ≡ Some o → key (draft area body) body o ≡ Some k
+KeysStand area body keys = (k : List ℕ) (o : ℕ) → IsPlace keys k o → key (draft area body) body o ≡ Some k
 
 -- each key of the tree has a place
 abbrev pub HasPlaces : KeyPlaces → Resource → Type 0
-HasPlaces keys t = EachKey (λ k. IsSome (place keys k)) t
+HasPlaces keys t = EachKey (λ k. HasPlace keys k) t
 
 -- the places of the first n of these keys
 pub record PlacesAre (keys : KeyPlaces) (ks : List (List ℕ)) (offsets : List ℕ) (n : ℕ) : Type 0 where
   pub count : length offsets ≡ n
-  pub are : (j : ℕ) (k : List ℕ) → j < n → Some k ≡ slice_get ks j → place keys k ≡ Some (get_or offsets j 0)
+  pub are : (j : ℕ) (k : List ℕ) → j < n → Some k ≡ slice_get ks j → IsPlace keys k (get_or offsets j 0)
 
 -- ---- what is written after the children
 

@@ -1,10 +1,9 @@
 use Rattle.std.proofs.Common.{◌+◌, ◌*◌, ◌≤◌, ◌<◌, ◌≡◌, ◌∙◌, length, map, arith, Bor, List, ℕ}
 use Rattle.rb_tree.specs.View.{view_of}
-use Rattle.rb_writer.specs.inner.Collected.{keys_size}
+use Rattle.rb_writer.specs.inner.Collected.{keys_size, names}
 use Rattle.rb_writer.specs.inner.Most.{data_most}
-use Rattle.rb_writer.specs.inner.Keyed.{place}
+use Rattle.rb_writer.specs.inner.Keyed.{HasPlace}
 use Rattle.rb_writer.specs.inner.Whole.{index_count}
-use Rattle.std.specs.Prelude.{IsSome}
 use Rattle.rb_writer.proofs.Ended.{IsWritten}
 use Rattle.rb_writer.proofs.Patches.{five_or_six}
 use Rattle.rb_writer.proofs.Gathered.{each_key}
@@ -14,14 +13,14 @@ use Rattle.rb_writer.proofs.file.write.Goals as goal
 pub write_keys-requires-clause-room : goal.write_keys-requires-clause-room
 write_keys-requires-clause-room c =
     let t = view_of c.args.tree.now in
-    let f : keys_size (map {A = Bor (List ℕ)} (λ r. r.now) c.in_ok-keys.keys.items) + data_most t + 4 ≤ 33554432 = keys_fit t c.in_ok-keys.keys.items
+    let f : keys_size (map {A = Bor (List ℕ)} (λ r. r.now) (names c.in_ok-keys.keys.items)) + data_most t + 4 ≤ 33554432 = keys_fit t (names c.in_ok-keys.keys.items)
     c.requires (c.in_ok-keys.ensures.keys t c.in_ok-gathered.ensures) in
     rw c.deref.ensures.value (omega (arith, f))
 
 pub write_value-requires-clause-room : goal.write_value-requires-clause-room
 write_value-requires-clause-room c =
     let t = view_of c.args.tree.now in
-    let f : keys_size (map {A = Bor (List ℕ)} (λ r. r.now) c.in_ok-keys.keys.items) + data_most t + 4 ≤ 33554432 = keys_fit t c.in_ok-keys.keys.items
+    let f : keys_size (map {A = Bor (List ℕ)} (λ r. r.now) (names c.in_ok-keys.keys.items)) + data_most t + 4 ≤ 33554432 = keys_fit t (names c.in_ok-keys.keys.items)
     c.requires (c.in_ok-keys.ensures.keys t c.in_ok-gathered.ensures) in
     let short = rw c.deref.ensures.value at c.in_ok-places.ensures.little in
     let five = five_or_six c.args.no_fallback c.index_count-indexes.result c.index_count-indexes.ensures in
@@ -29,7 +28,7 @@ write_value-requires-clause-room c =
 
 pub write_value-requires-clause-each : goal.write_value-requires-clause-each
 write_value-requires-clause-each c =
-    each_key (λ k. IsSome (place c.in_ok-places.places k)) (view_of c.args.tree.now) c.in_ok-keys.keys.items
+    each_key (λ k. HasPlace c.in_ok-places.places k) (view_of c.args.tree.now) (names c.in_ok-keys.keys.items)
     (c.in_ok-keys.ensures.keys (view_of c.args.tree.now) c.in_ok-gathered.ensures)
     (rw c.deref.ensures.value at c.in_ok-places.ensures.each)
 
@@ -41,7 +40,7 @@ overflow_cast-longest_table c =
 pub finish-requires-clause-room : goal.finish-requires-clause-room
 finish-requires-clause-room c =
     let t = view_of c.args.tree.now in
-    let f : keys_size (map {A = Bor (List ℕ)} (λ r. r.now) c.in_ok-keys.keys.items) + data_most t + 4 ≤ 33554432 = keys_fit t c.in_ok-keys.keys.items
+    let f : keys_size (map {A = Bor (List ℕ)} (λ r. r.now) (names c.in_ok-keys.keys.items)) + data_most t + 4 ≤ 33554432 = keys_fit t (names c.in_ok-keys.keys.items)
     c.requires (c.in_ok-keys.ensures.keys t c.in_ok-gathered.ensures) in
     let short = rw c.deref.ensures.value at c.in_ok-places.ensures.little in
     let l = c.in_ok-root.ensures.little in
@@ -54,8 +53,8 @@ returns c =
     let short = rw c.deref.ensures.value at c.in_ok-places.ensures.little in
     let count : c.in_ok-places.places.area.indexes ≡ index_count c.args.no_fallback = c.in_ok-places.ensures.area ∙ c.index_count-indexes.ensures in
     let few : length c.write_keys.new.out < 4 * (2 + c.in_ok-places.places.area.indexes) + keys_size
-    (map {A = Bor (List ℕ)} (λ r. r.now) c.in_ok-keys.keys.items) = rw c.in_ok-places.ensures.area short in
-    let h : IsWritten c.args.no_fallback t c.finish.result.items = written_by c.args.no_fallback t c.in_ok-keys.keys.items c.write_keys.new.out
+    (map {A = Bor (List ℕ)} (λ r. r.now) (names c.in_ok-keys.keys.items)) = rw c.in_ok-places.ensures.area short in
+    let h : IsWritten c.args.no_fallback t c.finish.result.items = written_by c.args.no_fallback t (names c.in_ok-keys.keys.items) c.write_keys.new.out
     c.write_value.new.out c.in_ok-root.root c.in_ok-places.places.area c.longest_table.result c.finish.result.items c.requires
     (c.in_ok-keys.ensures.keys t c.in_ok-gathered.ensures) count
     few c.in_ok-root.ensures c.longest_table.ensures c.finish.ensures in

@@ -1,24 +1,29 @@
 use Rattle.std.proofs.Common.{rules, ◌≡◌, length, [], arith}
-use Rattle.rb_writer.proofs.Keyloop.{at_map, keys_room, keys_more, keys_drafted, keys_read, keys_each}
+use Rattle.rb_tree.specs.Keys.{IsKey}
+use Rattle.rb_writer.proofs.Keyloop.{at_name, named_all, keys_room, keys_more, keys_drafted, keys_read, keys_each}
 use Rattle.rb_writer.proofs.keys.write_keys.Goals as goal
+
+pub place_key-requires-clause-key : goal.place_key-requires-clause-key
+place_key-requires-clause-key c =
+    named_all IsKey c.args.keys.now c.loop-key.key-index (record { ref_ptr = (0, 0); now = [] }, 0) c.requires.keys c.loop-key-test.true
 
 pub place_key-requires-clause-room : goal.place_key-requires-clause-room
 place_key-requires-clause-room c =
-    let at = at_map c.args.keys.now c.loop-key.key-index (record { ref_ptr = (0, 0); now = [] }) c.loop-key-test.true in
+    let at = at_name c.args.keys.now c.loop-key.key-index (record { ref_ptr = (0, 0); now = [] }, 0) c.loop-key-test.true in
     let r = keys_room _ _ _ _ _ _ _ c.loop-key.invariant at c.requires.room in omega (arith, r)
 
 pub loop-key-preserved : goal.loop-key-preserved
 loop-key-preserved c =
-    let at = at_map c.args.keys.now c.loop-key.key-index (record { ref_ptr = (0, 0); now = [] }) c.loop-key-test.true in
+    let at = at_name c.args.keys.now c.loop-key.key-index (record { ref_ptr = (0, 0); now = [] }, 0) c.loop-key-test.true in
     keys_more _ _ _ _ c.loop-key.out _ c.loop-key.key-index _ c.loop-key.invariant at c.in_ok-place_key.ensures.adds c.in_ok-place_key.ensures.little
     c.in_ok-place_key.ensures.here c.in_ok-place_key.ensures.stay c.in_ok-place_key.ensures.stand
 
 pub returns-clause-drafted : goal.returns-clause-drafted
-returns-clause-drafted c = let e : c.len.result ≡ length c.pad.new.out = search rules in rw e
+returns-clause-drafted c = let e : c.len-2.result ≡ length c.pad.new.out = search rules in rw e
     (keys_drafted c.args.indexes _ _ _ _ _ c.loop-key.invariant c.in_ok-pad.ensures.adds c.in_ok-pad.ensures.whole)
 
 pub returns-clause-stand : goal.returns-clause-stand
-returns-clause-stand c = let e : c.len.result ≡ length c.pad.new.out = search rules in rw e
+returns-clause-stand c = let e : c.len-2.result ≡ length c.pad.new.out = search rules in rw e
     (keys_read c.args.indexes _ _ _ _ _ c.loop-key.invariant c.in_ok-pad.ensures.adds c.in_ok-pad.ensures.whole)
 
 pub returns-clause-each : goal.returns-clause-each

@@ -1,10 +1,10 @@
-use Rattle.std.proofs.Common.{arith, ◌∙◌, refl, ◌≡◌, length, IsSome}
+use Rattle.std.proofs.Common.{arith, ◌∙◌, refl, ◌≡◌, length}
 use Rattle.std.proofs.lemmas.Grind.{common_steps}
 use Rattle.std.proofs.lemmas.Result.{IfOk-weaker}
 use Rattle.rb_tree.specs.Parts.{children_of, len_of}
 use Rattle.rb_tree.specs.inner.Lower.{child_lower}
 use Rattle.rb_tree.specs.View.{view_of}
-use Rattle.rb_writer.specs.inner.Keyed.{place}
+use Rattle.rb_writer.specs.inner.Keyed.{HasPlace}
 use Rattle.rb_writer.specs.inner.Standing.{ChildrenStand}
 use Rattle.rb_writer.proofs.Nodes.{child_room, children_more, keys_stay, string_stands, int_stands, ints_stand, binary_stands, alias_stands}
 use Rattle.rb_writer.proofs.Tabled.{child_keys}
@@ -21,10 +21,7 @@ write_children-write_value-requires t c =
           child_room _ _ _ _ _ _ _ (view_of c.at.result.now) c.loop-i.invariant c.at.ensures c.requires.room,
           (
             keys_stay c.args.keys.now.area c.args.out.now c.loop-i.out c.args.keys.now c.requires.drafted c.loop-i.invariant.adds c.requires.keys,
-            (
-              c.requires.known,
-              (child_keys (λ k. IsSome (place c.args.keys.now k)) (view_of c.args.tree.now) (view_of c.at.result.now) c.loop-i.i c.requires.each c.at.ensures),
-            ),
+            child_keys (λ k. HasPlace c.args.keys.now k) (view_of c.args.tree.now) (view_of c.at.result.now) c.loop-i.i c.requires.each c.at.ensures,
           ),
         ),
       ),
