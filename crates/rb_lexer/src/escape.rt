@@ -9,7 +9,8 @@ use crate::front::split_first;
 use crate::units::UnitSink;
 use std::alloc::AllocError;
 
-/// Adds the units of a code point.
+/// Adds the units of a code point. It is asked of each character of a piece.
+#[inline(always)]
 pub fn push_code<U: UnitSink>(units: &mut U, code: u32) -> Result<(), AllocError>
     requires { code ≤ 0x10FFFF }
     ensures { (us : List ℕ) → U.has units.old us → OnOk result (U.has units.new (us ++ units_of code)) }

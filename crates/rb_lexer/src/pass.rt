@@ -1,15 +1,32 @@
 // A text that is read to its end for its errors. Nothing is kept, and no memory is taken.
-ghost use Rattle.std.specs.Prelude.{◌≡◌, ◌≤◌, ◌-◌, length, OnOk, IfOk, IfErr, MatchResult, IsTrue, encode_utf8_all};
+ghost use Rattle.std.specs.Prelude.{◌≡◌, ◌≤◌, ◌-◌, List, length, OnOk, IfOk, IfErr, MatchResult, IsTrue, encode_utf8_all};
 ghost use Rattle.rb_lexer.specs.declared.fault.SourceKind.TheVariants.{Memory};
 ghost use Rattle.rb_lexer.specs.Tokens.{line_of};
 ghost use Rattle.rb_lexer.specs.Faults.{IsRefusal};
 ghost use Rattle.std.specs.Str.{chars, all_scalars};
+ghost use Rattle.rb_lexer.specs.Atom.{Atom, atoms_chars, AreAtoms};
 ghost use Rattle.rb_lexer.specs.inner.Passing.{IsUnbroken, BreaksSo};
 
 use crate::fault::{LexError, SourceFault, SourceKind};
+use crate::front::split_first;
 use crate::scan::scan_first;
 use crate::text::{line_at, text_of};
 use crate::units::NoUnits;
+
+/// What follows the characters at which no error begins: all before a quote, a backslash or a slash.
+fn past_plain(text: &str) -> &str
+    ensures taken { (xs : List Atom) × (chars text.now ≡ atoms_chars xs (chars result.now)) × AreAtoms xs (chars result.now) }
+    ensures no_longer { length result.now ≤ length text.now }
+{
+    let mut rest = text;
+    'plain: while let Some((c, after)) = split_first(rest) {
+        if c == '"' || c == '\\' || c == '/' {
+            return rest;
+        }
+        rest = after;
+    }
+    rest
+}
 
 /// Whether a text has no error.
 fn pass_over(text: &str) -> Result<(), LexError>
@@ -17,9 +34,9 @@ fn pass_over(text: &str) -> Result<(), LexError>
     ensures scalars { IsTrue (all_scalars (chars text.now)) }
     ensures bytes { encode_utf8_all (chars text.now) ≡ text.now }
 {
-    let mut rest = text;
+    let mut rest = past_plain(text);
     'items: while let Some((_, after)) = scan_first(&mut NoUnits, rest)? {
-        rest = after;
+        rest = past_plain(after);
     }
     Ok(())
 }

@@ -16,20 +16,32 @@ returns-in_err-after-clause-scalars c = scalars-chars c.args.text.now c.utf8.tex
 pub returns-in_err-after-clause-bytes : goal.returns-in_err-after-clause-bytes
 returns-in_err-after-clause-bytes c = encodes-chars c.args.text.now c.utf8.text
 
+pub items-init : goal.items-init
+items-init c = let p = c.past_plain-rest.ensures.taken in record {
+  text = search rules;
+  so_far = follows_more (chars c.args.text.now) (chars c.args.text.now) (λ xs end e good. (xs, e, good)) p.0 _ p.1 p.2;
+}
+
 pub items-preserved-in-Some-2 : goal.items-preserved-in-Some-2
 items-preserved-in-Some-2 c =
     let w = (rw c.in-Some.is at c.in_ok-after.ensures.taken).2 in
+    let p = c.past_plain-rest-in-Some.ensures.taken in
     record {
       text = search rules;
-      so_far = follows_more (chars c.args.text.now) (chars c.items.rest.now) c.items.invariant.so_far w.0 (chars c.in-Some.after.now) w.1 w.2;
+      so_far = follows_more (chars c.args.text.now) (chars c.in-Some.after.now)
+          (follows_more (chars c.args.text.now) (chars c.items.rest.now) c.items.invariant.so_far w.0 (chars c.in-Some.after.now) w.1 w.2)
+          p.0 _ p.1 p.2;
     }
 
 pub items-preserved-in-Some-3 : goal.items-preserved-in-Some-3
 items-preserved-in-Some-3 c =
     let w = (rw c.in-Some.is at c.in_ok-after.ensures.taken).2 in
+    let p = c.past_plain-rest-in-Some.ensures.taken in
     record {
       text = search rules;
-      so_far = follows_more (chars c.args.text.now) (chars c.items.rest.now) c.items.invariant.so_far w.0 (chars c.in-Some.after.now) w.1 w.2;
+      so_far = follows_more (chars c.args.text.now) (chars c.in-Some.after.now)
+          (follows_more (chars c.args.text.now) (chars c.items.rest.now) c.items.invariant.so_far w.0 (chars c.in-Some.after.now) w.1 w.2)
+          p.0 _ p.1 p.2;
     }
 
 pub returns-clause-ends : goal.returns-clause-ends
