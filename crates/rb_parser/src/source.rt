@@ -65,10 +65,17 @@ fn read_bundle(alloc: Global, cursor: &mut Cursor) -> Result<Source, SourceFault
 }
 
 /// The line in which a text ends.
+#[tactic(auto, using(std::proofs::lemmas::List::Sums::count_by_more_yes, std::proofs::lemmas::List::Sums::count_by_more_no))]
 fn last_line(bytes: &[u8]) -> u64
     ensures { result ≡ last_line bytes.now }
 {
-    bytes.iter().filter(|b| **b == b'\n').count() as u64 + 1
+    let mut feeds = 0;
+    for byte in bytes {
+        if *byte == b'\n' {
+            feeds += 1;
+        }
+    }
+    feeds + 1
 }
 
 /// The bundle that a text spells, after the bundle syntax of ICU's genrb: its name, its tree, which is a table of height at most 64
