@@ -26,5 +26,5 @@ all_characters text bytes i so_far h = so_far ∙ ap encode_utf8_all (take_all i
 pub ascii_text : (text bytes : List ℕ) → text ≡ bytes → IsAscii bytes → text ≡ encode_utf8_all bytes
 ascii_text text bytes same h = same ∙ sym (encodes-IsAscii bytes h)
 
-pub is_text : (bytes : List ℕ) → IsAscii bytes → (IsUtf8 bytes → ⊥) → ⊥
-is_text bytes h none = none (IsUtf8-from_ascii bytes h)
+pub is_utf8 : (bytes : List ℕ) → IsAscii bytes → IsUtf8 bytes
+is_utf8 bytes h = IsUtf8-from_ascii bytes h

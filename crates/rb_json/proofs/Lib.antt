@@ -4,6 +4,7 @@ pub mod OfKinds
 pub mod Growth
 pub mod Hex
 pub mod Surrogates
+pub mod Runs
 pub mod Rooms
 pub mod Tagged
 pub mod SameValues

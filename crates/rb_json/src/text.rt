@@ -1,10 +1,11 @@
 //! Texts as JSON, made in a buffer that is kept.
-ghost use Rattle.std.specs.Prelude.{◌≡◌, ◌<◌, ◌≤◌, ◌∷◌, IfOk, OnOk, MatchOption, true, not, drop, string_bytes, encode_utf8_all};
+ghost use Rattle.std.specs.Prelude.{◌≡◌, ◌+◌, ◌<◌, ◌≤◌, ◌∷◌, IfOk, OnOk, MatchOption, true, not, drop, take, string_bytes, encode_utf8_all};
 ghost use Rattle.std.specs.Char.Utf16.{has_unpaired_surrogate, utf16_chars, utf16_lossy_chars};
-ghost use Rattle.std.specs.Str.{IsNotAscii};
+ghost use Rattle.std.specs.Str.{IsAscii, IsNotAscii};
 ghost use Rattle.hex.specs.Hex.{encode_lower, lower_digits};
 ghost use Rattle.rb_tree.specs.Parts.{HasUnits, bytes_of, kind_of, len_of, units_of};
 ghost use Rattle.rb_tree.specs.declared.kind.Kind.TheVariants as Kinds;
+ghost use Rattle.rb_json.specs.inner.Run.{IsRun};
 ghost use Rattle.std.specs.Prelude.{slice_index};
 
 use rb_tree::Node;
@@ -21,17 +22,25 @@ pub fn characters(alloc: Global, bytes: &[u8]) -> Result<String, AllocError>
     Ok(text)
 }
 
+/// ASCII bytes as a text.
+#[tactic(auto, using(crate::proofs::Latin::is_utf8))]
+fn ascii_text(bytes: &[u8]) -> &str
+    requires { IsAscii bytes.now }
+    ensures { result.now ≡ bytes.now }
+{
+    // SAFETY: ASCII is UTF-8
+    unsafe { str::from_utf8_unchecked(bytes) }
+}
+
 /// Bytes as a text without a copy, a character each, where they are ASCII; else `None`.
-#[tactic(auto, using(crate::proofs::Latin::ascii_text, crate::proofs::Latin::is_text))]
+#[tactic(auto, using(crate::proofs::Latin::ascii_text))]
 pub fn ascii(bytes: &[u8]) -> Option<&str>
     ensures { MatchOption result (IsNotAscii bytes.now) (λ text. text.now ≡ encode_utf8_all bytes.now) }
 {
-    if !bytes.is_ascii() {
-        return None;
-    }
-    match str::from_utf8(bytes) {
-        Ok(text) => Some(text),
-        Err(_) => unreachable!(),
+    if bytes.is_ascii() {
+        Some(ascii_text(bytes))
+    } else {
+        None
     }
 }
 
@@ -59,13 +68,13 @@ pub fn read_hex<N: Node>(text: &mut String, node: N) -> Result<(), AllocError>
 }
 
 /// The character whose units begin at an index, unless that unit is a surrogate without a partner, and where the next one begins.
-fn character_at<N: Node>(node: N, at: usize) -> (Option<char>, usize)
+fn character_at<N: Node>(node: N, at: usize, len: usize) -> (Option<char>, usize)
     requires units { HasUnits (kind_of (N.tree node)) }
-    requires in_range { at < len_of (N.tree node) }
+    requires len { len ≡ len_of (N.tree node) }
+    requires in_range { at < len }
     ensures bound { (at < result.1) × (result.1 ≤ len_of (N.tree node)) }
     ensures first { utf16_chars (drop at (units_of (N.tree node))) ≡ result.0 ∷ utf16_chars (drop result.1 (units_of (N.tree node))) }
 {
-    let len = node.len();
     let high = node.unit(at) as u32;
     if high < 0xD800 || 0xE000 <= high {
         return (char::from_u32(high), at + 1);
@@ -81,6 +90,29 @@ fn character_at<N: Node>(node: N, at: usize) -> (Option<char>, usize)
     (char::from_u32(code), at + 2)
 }
 
+/// How many ASCII units are put at a time at the most.
+const RUN: usize = 64;
+
+/// Puts the ASCII units from an index on at the front of a block, a byte each, and says how many they are.
+#[inline(always)]
+fn ascii_run<N: Node>(block: &mut [u8; RUN], node: N, at: usize, len: usize) -> usize
+    requires units { HasUnits (kind_of (N.tree node)) }
+    requires len { len ≡ len_of (N.tree node) }
+    requires in_range { at ≤ len }
+    ensures bound { (result ≤ 64) × (at + result ≤ len) }
+    ensures run { IsRun block.new (units_of (N.tree node)) at result }
+{
+    let most = RUN.min(len - at);
+    for i in 0..most {
+        let unit = node.unit(at + i);
+        if 0x80 <= unit {
+            return i;
+        }
+        block[i] = unit as u8;
+    }
+    most
+}
+
 /// Makes a text the characters of a String or an Alias, and says whether its units are well-formed UTF-16; where they aren't, nothing
 /// is known of the text, nor after an error, which comes only where out of memory.
 pub fn read_units<N: Node>(text: &mut String, node: N) -> Result<bool, AllocError>
@@ -90,9 +122,16 @@ pub fn read_units<N: Node>(text: &mut String, node: N) -> Result<bool, AllocErro
 {
     text.clear();
     let len = node.len();
+    let mut block = [0; RUN];
     let mut at = 0;
     while at < len {
-        let (character, next) = character_at(node, at);
+        let run = ascii_run(&mut block, node, at, len);
+        if run > 0 {
+            text.push_str(ascii_text(&block[..run]))?;
+            at += run;
+            continue;
+        }
+        let (character, next) = character_at(node, at, len);
         let Some(character) = character else {
             return Ok(false);
         };

@@ -61,8 +61,6 @@ pub fn json_text<N: Node>(alloc: Global, node: N, layout: Layout) -> Result<Stri
         Layout::Compact => compact_bytes(alloc, node)?,
         Layout::Pretty => pretty_bytes(alloc, node)?,
     };
-    match String::from_utf8(bytes) {
-        Ok(text) => Ok(text),
-        Err(_) => unreachable!(),
-    }
+    // SAFETY: what is written of tokens is UTF-8
+    Ok(unsafe { String::from_utf8_unchecked(bytes) })
 }

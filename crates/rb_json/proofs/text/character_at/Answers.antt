@@ -22,7 +22,7 @@ returns-then-high-lt55296-clause-first g c =
       | goal.then-high-lt55296-via-then-high-lt55296 w ↦ omega (arith, pair.0, w.if-high-lt55296.true)
       | goal.then-high-lt55296-via-else-high-lt55296+then-high-ge57344 w ↦ omega (arith, pair.1, w.if-high-ge57344.true)
     ] in
-    lone (units_of t) c.args.at u c.from_u32.result c.unit-high.ensures (omega (arith, units_len t c.requires.units, c.requires.in_range)) apart alone
+    lone (units_of t) c.args.at u c.from_u32.result c.unit-high.ensures (omega (arith, units_len t c.requires.units, c.requires.len, c.requires.in_range)) apart alone
 
 pub returns-then-high-ge56320-clause-first : goal.returns-then-high-ge56320-clause-first
 returns-then-high-ge56320-clause-first g c =
@@ -33,10 +33,10 @@ returns-then-high-ge56320-clause-first g c =
     let apart = λ (pair : IsPair u (get_or us (c.args.at + 1) 0)). elim c.then-high-ge56320.branch as (λ _. ⊥) [
       | goal.then-high-ge56320-via-then-high-ge56320 w ↦ omega arith
       | goal.then-high-ge56320-via-else-high-ge56320+then-len-at-lt2 w ↦
-          let none = get_or-eq_default us 0 {n = c.args.at + 1} (omega (arith, long, c.len-len.ensures)) in omega (arith, none)
+          let none = get_or-eq_default us 0 {n = c.args.at + 1} (omega (arith, long, c.requires.len)) in omega (arith, none)
     ] in
     let surrogate = lone_unit_char_surrogate u c.if-high-lt55296.false c.if-high-ge57344.false in
-    lone us c.args.at u None c.unit-high.ensures (omega (arith, long, c.requires.in_range)) apart surrogate
+    lone us c.args.at u None c.unit-high.ensures (omega (arith, long, c.requires.len, c.requires.in_range)) apart surrogate
 
 pub returns-then-low-lt56320-clause-first : goal.returns-then-low-lt56320-clause-first
 returns-then-low-lt56320-clause-first g c =
@@ -51,7 +51,7 @@ returns-then-low-lt56320-clause-first g c =
       | goal.then-low-lt56320-via-else-low-lt56320+then-low-ge57344 w ↦ omega (arith, at_low, pair.3, w.if-low-ge57344.true)
     ] in
     let surrogate = lone_unit_char_surrogate u c.if-high-lt55296.false c.if-high-ge57344.false in
-    lone us c.args.at u None c.unit-high.ensures (omega (arith, long, c.requires.in_range)) apart surrogate
+    lone us c.args.at u None c.unit-high.ensures (omega (arith, long, c.requires.len, c.requires.in_range)) apart surrogate
 
 pub returns-clause-first : goal.returns-clause-first
 returns-clause-first g c =
@@ -59,6 +59,6 @@ returns-clause-first g c =
     let made = is_value _ _ _ c.from_u32-2.ensures.value (c.from_u32-2.ensures.succeeds (inr (omega arith, omega arith))) in
     let u = c.unit-high.result in
     let v = c.unit-low.result in
-    let inside : c.args.at + 1 < length (units_of t) = omega (arith, units_len t c.requires.units, c.len-len.ensures) in
+    let inside : c.args.at + 1 < length (units_of t) = omega (arith, units_len t c.requires.units, c.requires.len) in
     let pair : IsPair u v = (omega arith, omega arith, omega arith, omega arith) in
     paired (units_of t) c.args.at u v c.from_u32-2.result c.unit-high.ensures c.unit-low.ensures inside pair made
