@@ -11,6 +11,7 @@ pub mod Words
 pub mod Puts
 pub mod Splits
 pub mod Loops
+pub mod Runs
 pub mod Widths
 pub mod Trees
 pub mod Least

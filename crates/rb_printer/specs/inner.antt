@@ -1,4 +1,5 @@
 pub mod Formed
 pub mod Growth
+pub mod Run
 pub mod Least
 pub mod Lexed

@@ -9,9 +9,10 @@ ghost use Rattle.rb_printer.specs.Sign.{first_unit, unit_chars, pieces, sign_cha
 ghost use Rattle.rb_printer.specs.Page.{hex_first, hex_later, numbers_signs, comma_if};
 ghost use Rattle.rb_printer.specs.Sound.{AreUnits, AreBytes, IsNumber};
 ghost use Rattle.rb_printer.specs.inner.Growth.{Adds, after_break, break_chars};
+ghost use Rattle.rb_printer.specs.inner.Run.{IsRun};
 
 use crate::line::{number_fits, put_indent, put_pause, room_after};
-use crate::text::{digit_char, is_high, put, put_other, put_str, shown};
+use crate::text::{digit_char, is_high, is_plain, put, put_other, put_str, shown};
 use rb_tree::Node;
 use std::alloc::AllocError;
 
@@ -48,6 +49,29 @@ fn put_unit_of<N: Node>(
     }
 }
 
+/// How many plain units are put at a time at the most.
+const RUN: usize = 64;
+
+/// Puts the plain units from an index on at the front of a block, a byte each, and says how many they are.
+#[inline(always)]
+fn plain_run<N: Node>(block: &mut [u8; RUN], node: N, at: usize, len: usize) -> usize
+    requires units { HasUnits (kind_of (N.tree node)) }
+    requires len { len ≡ len_of (N.tree node) }
+    requires in_range { at ≤ len }
+    ensures bound { (result ≤ 64) × (at + result ≤ len) }
+    ensures run { IsRun block.new (units_of (N.tree node)) at result }
+{
+    let most = RUN.min(len - at);
+    for i in 0..most {
+        let unit = node.unit(at + i);
+        if !is_plain(unit) {
+            return i;
+        }
+        block[i] = unit as u8;
+    }
+    most
+}
+
 /// Writes the text of a String or an Alias, with quotes.
 pub fn put_units_of<N: Node>(out: &mut Vec<u8>, node: N) -> Result<(), AllocError>
     requires { HasUnits (kind_of (N.tree node)) }
@@ -55,11 +79,22 @@ pub fn put_units_of<N: Node>(out: &mut Vec<u8>, node: N) -> Result<(), AllocErro
     ensures sound { OnOk result (AreUnits (units_of (N.tree node))) }
 {
     put(out, '"')?;
+    let len = node.len();
+    let mut block = [0; RUN];
     let mut after_high = false;
-    for i in 0..node.len() {
-        let unit = node.unit(i);
-        put_unit_of(out, after_high, unit, node, i)?;
+    let mut at = 0;
+    while at < len {
+        let run = plain_run(&mut block, node, at, len);
+        if run > 0 {
+            out.extend_from_slice(&block[..run])?;
+            after_high = false;
+            at += run;
+            continue;
+        }
+        let unit = node.unit(at);
+        put_unit_of(out, after_high, unit, node, at)?;
         after_high = is_high(unit);
+        at += 1;
     }
     put(out, '"')
 }

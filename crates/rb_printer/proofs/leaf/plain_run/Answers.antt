@@ -1,0 +1,14 @@
+use Rattle.std.proofs.Common.{arith}
+use Rattle.rb_tree.specs.Parts.{units_of}
+use Rattle.rb_printer.proofs.Loops.{units_len}
+use Rattle.rb_printer.proofs.Runs.{no_run, run_more}
+use Rattle.rb_printer.proofs.leaf.plain_run.Goals as goal
+
+pub loop-i-init : goal.loop-i-init
+loop-i-init g c = no_run _ _ _
+
+pub loop-i-preserved : goal.loop-i-preserved
+loop-i-preserved g c =
+    let t = g.N.Node.tree c.args.node in
+    run_more _ (units_of t) c.args.at c.loop-i.i c.unit-unit.result c.loop-i.invariant (omega arith) (omega (arith, units_len t c.requires.units))
+    c.unit-unit.ensures (c.is_plain.ensures.shown c.if-not-is_plain.false) (c.is_plain.ensures.ascii c.if-not-is_plain.false)
