@@ -13,6 +13,7 @@ use rb_json::{JsonError, Layout, json_text};
 use rb_tree::{Ending, Node, path_ok, walk};
 use rb_views::root;
 use std::alloc::Global;
+use std::io;
 use std::process::ExitCode;
 use std::rt::Files;
 
@@ -97,6 +98,12 @@ pub fn value_at<N: Node>(
     whole_text(alloc, root, path, layout)
 }
 
+/// Prints a text and a line feed.
+fn print_line<R: Print>(rt: &R, text: &str) -> io::Result<()> {
+    rt.write_all(text.as_bytes())?;
+    rt.write_all(b"\n")
+}
+
 /// Prints the whole item of the file `name` at a path as one JSON value and a line feed, in a layout. Aliases are printed and not
 /// followed. The status is 0; 1 where the file is refused or has no such item, or one that is too large, with the file or the path and
 /// the error's name on standard error; 2 where the file can't be read or standard output can't be written.
@@ -112,7 +119,7 @@ pub fn json<R: Files + AllocGlobal + Print + Eprint>(
         Err(status) => return status,
     };
     match value_at(rt.alloc(), root(&bundle), path.as_bytes(), layout) {
-        Ok(text) => printed(rt, println!(rt; "{text}")),
+        Ok(text) => printed(rt, print_line(rt, &text)),
         Err(ValueError::Memory) => refused_on(rt, console, name, "Memory"),
         Err(ValueError::TooLarge) => refused_on(rt, console, name, "TooLarge"),
         Err(error) => refused_on(rt, console, path, error.word()),
