@@ -8,12 +8,15 @@ use std::process::ExitCode;
 use std::rt::Files;
 use std::{fs, io};
 
+/// How many bytes are read of a file: no more than one past the largest.
+const MOST_READ: u64 = FILE_LIMIT as u64 + 1;
+
 /// Reads a file, but no more than one byte past the largest.
 pub fn read_file<R: Files + AllocGlobal>(rt: &R, name: &str) -> io::Result<Vec<u8>> {
-    let mut bytes = Vec::new(rt.alloc());
-    fs::open(rt, name)?
-        .take(FILE_LIMIT as u64 + 1)
-        .read_to_end(&mut bytes)?;
+    let file = fs::open(rt, name)?;
+    let room = file.metadata().map_or(0, |told| told.len());
+    let mut bytes = Vec::with_capacity(rt.alloc(), room.saturating_add(1).min(MOST_READ) as usize)?;
+    file.take(MOST_READ).read_to_end(&mut bytes)?;
     Ok(bytes)
 }
 
