@@ -1,60 +1,197 @@
 #!/usr/bin/env python3
-"""Speed and memory of `resb text`, beside `derb` where it is installed (Debian's icu-devtools), over made bundles and over the files
-of format 1 that are given.
+"""Speed and memory of `resb text` and `resb json`, beside `derb` (Debian's icu-devtools), over made bundles and over those of CLDR.
 
-usage: text.py [PROGRAM [FILE ..]]   (default: crates/rb_tool/out/rb_tool, and no files)
+usage: text.py [--package DATA] [PROGRAM], or text.py --self-test [PROGRAM]   (PROGRAM is by default crates/rb_tool/out/rb_tool)
+
+Each family is a text that is made here and compiled by PROGRAM, as large as the limit of a printed text allows. DATA is the package
+icudt*l.dat of ICU's data (docs/ICU.md says where it is): tools/icu2text makes texts of it, and PROGRAM files of format 1. A time is the
+processor time of whole processes, the middle of RUNS runs, of the three programs by turns, whose output goes to /dev/null; of CLDR it
+is the sum over its files, a process a file for each program. Memory is the most that a process held; as measured.py shows no less
+than FLOOR, less isn't asked about. Each row ends with the goals that it misses, and the status is 1 where one is missed. Without derb
+its columns are left out.
+
+--self-test runs the same over small texts, and ends with status 1 where something printed is not as it must be; it asks for no goal.
 """
+import argparse
+import glob
+import json
 import os
 import shutil
+import statistics
 import subprocess
 import sys
 import tempfile
 
-from compile import PROGRAM, keys, measured, nested
+from measured import measured_all
 
+HERE = os.path.dirname(os.path.abspath(__file__))
+TOP = os.path.dirname(HERE)
+PROGRAM = os.path.join(TOP, "crates", "rb_tool", "out", "rb_tool")
 MB = 1e6
+RUNS, SPEED, TIMES, FLOOR = 5, 60, 5, 10
+WORDS = "Grüße aus München, Öl und Äpfel für 12 Straßen; heute ist es schön, und morgen wird es regnen.".split()
 
 
-def strings(count):
-    return "root{\n" + "".join(f'k{number:06}{{"Grüße, {number} Äpfel und Öl"}}\n' for number in range(count)) + "}\n"
+def strings(size):
+    lines = (f'k{number:06}{{"{" ".join(WORDS[(number + i) % len(WORDS)] for i in range(14))}"}}\n' for number in range(size // 112))
+    return "root{\n" + "".join(lines) + "}\n"
 
 
-TEXTS = (
-    ("nested", lambda: nested(4_000_000)),
-    ("40,000 keys", lambda: keys(40_000)),
-    ("100,000 strings of German", lambda: strings(100_000)),
-    ("a million numbers", lambda: "root{\nv:intvector{" + "1234567," * 700_000 + "}\n}\n"),
-    ("a binary of 3 MB", lambda: "root{\nb:bin{" + "00ff7f" * 1_000_000 + "}\n}\n"),
-)
+def keys(size):
+    count = size // 33
+    return "root{\n" + "".join(f'key{number * 7919 % count:06}{{"value {number}"}}\n' for number in range(count)) + "}\n"
 
 
-def printed(file, derb):
-    """A line on `resb text` of a file, and on derb's time."""
-    folder, name = os.path.split(file)
-    size = os.path.getsize(file) / MB
-    seconds, memory, status = min(measured([PROGRAM, "text", file]) for _ in range(3))
-    text = len(subprocess.run([PROGRAM, "text", file], capture_output=True, check=False).stdout) / MB
-    line = f"{size:.2f} MB to {text:.2f} MB: {text / max(seconds, 1e-3):.0f} MB/s, peak {memory:.0f} MB, status {status}"
+def numbers(size):
+    return "root{\nv:intvector{" + "".join(f"{number * 7919 % 9_000_000},-{number}," for number in range(size // 20)) + "}\n}\n"
+
+
+def binaries(size):
+    binary = "".join(f"{number * 7919 % 256:02x}" for number in range(4096))
+    return "root{\n" + "".join(f"b{number:03}:bin{{{binary}}}\n" for number in range(max(size // 9_600, 1))) + "}\n"
+
+
+def nested(size):
+    with open(os.path.join(TOP, "examples", "nested.txt"), encoding="utf-8") as file:
+        body = file.read()
+    inner = body[body.index("{") + 1:body.rindex("}")]
+    return "root{\n" + "".join(f"part{number:05}{{{inner}}}\n" for number in range(size // (len(inner) * 8 // 3) + 1)) + "}\n"
+
+
+FAMILIES = (("strings", strings), ("keys", keys), ("numbers", numbers), ("binaries", binaries), ("nested", nested))
+
+
+class Set:
+    """Files of one family."""
+
+    def __init__(self, name, files):
+        self.name, self.files = name, files
+        self.file_bytes = max(map(os.path.getsize, files))
+
+
+def family(name, text, folder, program):
+    """A set of one file, compiled from a text."""
+    source, made = os.path.join(folder, f"{name}.txt"), os.path.join(folder, name, "root.res")
+    os.mkdir(os.path.dirname(made))
+    with open(source, "w", encoding="utf-8") as file:
+        file.write(text)
+    subprocess.run([program, "compile", "-q", source, made], check=True)
+    return Set(name, [made])
+
+
+def cldr(package, folder, program):
+    """The set of all bundles at the top of a package of ICU's data."""
+    texts, made = os.path.join(folder, "texts"), os.path.join(folder, "cldr")
+    subprocess.run([os.path.join(TOP, "tools", "icu2text"), "--package", package, "--to", texts], check=True)
+    os.mkdir(made)
+    subprocess.run([program, "compile", "-q", "--to", made, *sorted(glob.glob(os.path.join(texts, "*.txt")))], check=True)
+    return Set("CLDR", sorted(glob.glob(os.path.join(made, "*.res"))))
+
+
+def commands(files, program, derb):
+    """The commands of each program over files."""
+    made = {command: [[program, command, file] for file in files] for command in ("text", "json")}
     if derb:
-        theirs, _, _ = min(measured([derb, "-A", "-c", "-s", folder, os.path.splitext(name)[0]]) for _ in range(3))
-        line += f"; derb {theirs:.3f} s, {theirs / max(seconds, 1e-3):.1f} times ours"
-    return line
+        made["derb"] = [[derb, "-A", "-c", "-s", os.path.dirname(file), os.path.basename(file)[:-len(".res")]] for file in files]
+    return made
+
+
+def output_of(words):
+    return subprocess.run(words, check=True, stdout=subprocess.PIPE).stdout
+
+
+def by_turns(made, runs):
+    """Of each program the middle of its processor times in seconds, and the most memory in MB."""
+    times = {name: [] for name in made}
+    memory = dict.fromkeys(made, 0.0)
+    for _ in range(runs):
+        for name, words in made.items():
+            seconds, most = measured_all(words)
+            times[name].append(seconds)
+            memory[name] = max(memory[name], most)
+    return {name: statistics.median(times[name]) for name in made}, memory
+
+
+def row(name, seconds, printed, longest, memory, file_bytes, theirs):
+    """A row's text, and the goals that it misses."""
+    speed, allowed = printed / MB / seconds, max((file_bytes + 2 * longest) / MB, FLOOR)
+    missed = [f"under {SPEED} MB/s"] * (speed < SPEED)
+    text = f"{name}: {printed / MB:.2f} MB in {seconds:.3f} s, {speed:.0f} MB/s"
+    if theirs:
+        text += f"; derb {theirs:.3f} s, {theirs / seconds:.1f} times"
+        missed += [f"under {TIMES} times derb's speed"] * (theirs / seconds < TIMES)
+    missed += ["too much memory"] * (memory > allowed)
+    return f"{text}; {memory:.0f} MB of memory, allowed {allowed:.0f}", missed
+
+
+def report(files, program, derb, runs, asks=True):
+    """Prints the rows of a set, and with `asks` which goals they miss. Gives how many miss one."""
+    made = commands(files.files, program, derb)
+    seconds, memory = by_turns(made, runs)
+    misses = 0
+    print(f"{files.name}: {len(files.files)} files, {sum(map(os.path.getsize, files.files)) / MB:.2f} MB, the largest {files.file_bytes / MB:.2f} MB")
+    for command in ("text", "json"):
+        lengths = [len(output_of(words)) for words in made[command]]
+        line, missed = row(f"  {command}", seconds[command], sum(lengths), max(lengths), memory[command], files.file_bytes, seconds.get("derb"))
+        said = "missed: " + ", ".join(missed) if missed else "holds"
+        print(f"{line}: {said}" if asks else line, flush=True)
+        misses += bool(missed)
+    return misses
+
+
+def wrong_of(files, program):
+    """What is wrong of a set's printed texts and values."""
+    for file in files.files:
+        text, again = os.path.join(os.path.dirname(file), "printed.txt"), os.path.join(os.path.dirname(file), "again.res")
+        with open(text, "wb") as printed:
+            printed.write(output_of([program, "text", "--name", "root", file]))
+        subprocess.run([program, "compile", "-q", text, again], check=True)
+        with open(file, "rb") as first, open(again, "rb") as second:
+            if first.read() != second.read():
+                yield f"{files.name}: the text of {os.path.basename(file)} compiles to another file"
+        if not json.loads(output_of([program, "json", file])):
+            yield f"{files.name}: the value of {os.path.basename(file)} is empty"
+
+
+def self_test(program, derb):
+    """Whether small texts give what they must."""
+    wrong = []
+    with tempfile.TemporaryDirectory() as folder:
+        for name, text in FAMILIES:
+            files = family(name, text(20_000), folder, program)
+            report(files, program, derb, 1, asks=False)
+            wrong += wrong_of(files, program)
+    if row("r", 1.0, 60_000_000, 60_000_000, 121.0, 1_000_000, 5.0)[1]:
+        wrong.append("a row that holds")
+    if len(row("r", 1.0, 59_000_000, 59_000_000, 121.0, 1_000_000, 4.9)[1]) != 3:
+        wrong.append("a row that misses each goal")
+    print("".join(f"wrong: {line}\n" for line in wrong) or "ok: text.py\n", end="")
+    return 1 if wrong else 0
 
 
 def main():
-    derb = shutil.which("derb")
+    parser = argparse.ArgumentParser(usage=__doc__.split("usage: ")[1].split("\n", maxsplit=1)[0], add_help=True)
+    parser.add_argument("--package")
+    parser.add_argument("--self-test", action="store_true")
+    parser.add_argument("program", nargs="?", default=PROGRAM)
+    options = parser.parse_args()
+    program, derb = os.path.abspath(options.program), shutil.which("derb")
+    if not os.access(program, os.X_OK):
+        print(f"skipped: {program} is not there")
+        return 0
     if derb is None:
-        print("derb: skipped, it isn't installed")
+        print("skipped: derb")
+    if options.self_test:
+        return self_test(program, derb)
+    misses = 0
     with tempfile.TemporaryDirectory() as folder:
-        source, made = (os.path.join(folder, name) for name in ("root.txt", "root.res"))
-        for name, text in TEXTS:
-            with open(source, "w", encoding="utf-8") as file:
-                file.write(text())
-            subprocess.run([PROGRAM, "compile", source, made], check=True, capture_output=True)
-            print(f"{name}, {printed(made, derb)}")
-    for file in sys.argv[2:]:
-        print(f"{os.path.basename(file)}, {printed(os.path.abspath(file), derb)}")
+        for name, text in FAMILIES:
+            misses += report(family(name, text(8_000_000), folder, program), program, derb, RUNS)
+        if options.package:
+            misses += report(cldr(options.package, folder, program), program, derb, RUNS)
+    print(f"{misses} rows miss a goal" if misses else "each goal holds")
+    return 1 if misses else 0
 
 
 if __name__ == "__main__":
-    main()
+    sys.exit(main())

@@ -2,8 +2,8 @@
 # All tests. First what needs no built program: the launcher, the manual page if mandoc is there, where definitions stand, a program
 # that must not compile, and one of whose allocations each is refused in turn. Then the gate, which proves every crate from nothing,
 # tries the wrong bodies, runs each test, and builds the program. Last what runs that program: the examples, the documents, traced
-# lookups, the bench of daily use over small texts, replies through pipes, lines with a member more, the package, tools/icu2text beside
-# ICU's tools, the shards of deploy/, and its gateway.
+# lookups, the benches of daily use and of printed texts over small inputs, replies through pipes, lines with a member more, the
+# package, tools/icu2text beside ICU's tools, the shards of deploy/, and its gateway.
 set -eu
 cd "$(dirname "$0")/.."
 program=crates/rb_tool/out/rb_tool
@@ -44,6 +44,7 @@ if has python3; then
     tests/completions.py "$program"
     tests/traces.py "$program"
     bench/daily.py --self-test "$program"
+    bench/text.py --self-test "$program"
     tests/pipe.py "$program"
     tests/ignored_members.py "$program"
     tests/icu2text.py "$program"
