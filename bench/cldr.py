@@ -1,65 +1,39 @@
 #!/usr/bin/env python3
-"""`resb serve` beside a line server over libicu (icu_server.c), over the bundles of CLDR in ICU's data: the ratios of five runs.
+"""Lookups by `resb serve` beside a line server over libicu (icu_server.c), over the bundles of CLDR in ICU's data.
 
-usage: cldr.py DATA [PROGRAM], or serve.py PROGRAM DATA
+usage: cldr.py [--store FILE] [--package DATA] [PROGRAM]   (default: crates/rb_tool/out/rb_tool)
 
-DATA is the package icudt*l.dat of ICU's data (docs/ICU.md says where it is). Its bundles of locales are turned into text with
-tools/icu2text, and compiled with genrb --formatVersion 1 (Debian's icu-devtools), so that both servers have the same files. The C server is built where pkg-config knows icu-uc (Debian's libicu-dev). Where one of these is missing, a line says
-`skipped` and which.
+DATA is the package icudt*l.dat of ICU's data; without it that of the installed libicudata is taken
+(docs/ICU.md). Its bundles of locales are turned into text with tools/icu2text, and compiled with genrb
+--formatVersion 1 (Debian's icu-devtools), so that both servers have the same files: `resb serve` is sent them
+as installs, and the C server, built where pkg-config knows icu-uc (Debian's libicu-dev), opens them from their
+folder and keeps them open. Where one of these is missing, a line says `skipped` and which.
 
-Looked up are the paths of the strings of LOCALES from all locales, in random order, where they find something. A lookup that the two
-servers answer differently is left out, and counted: no part of a locale's name has more than 8 characters in resb, and libicu reads an
-index of an array in the bundles after the first alone (docs/LOOKUP.md).
+Looked up are the paths of the strings of LOCALES from the installed locales, in random order, where they find
+something. A lookup that the two servers answer differently is left out, and counted: no part of a locale's name
+has more than 8 characters in resb, and libicu reads an index of an array in the bundles after the first alone
+(docs/LOOKUP.md). Each of COUNTS bundles has servers of its own. Cold are all these lookups one after the other,
+hot is a set of HOT of them again and again, both written ahead; one by one, each line is written when the one
+before is answered. The two servers answer by turns, RUNS times; times are processor time, a speed is the C
+server's time over ours: that of the medians, and the least and the greatest of a turn. At the end comes each
+goal, and whether it holds; --store FILE keeps the figures as JSON.
 """
 import glob
 import json
 import os
 import random
-import shutil
+import statistics
 import subprocess
-import sys
 import tempfile
 
-HERE = os.path.dirname(os.path.abspath(__file__))
+import icu
+from figures import store
+from turns import Goal, by_turns, command_line, ratio
+
 LOCALES = ("root", "en", "de", "zh_Hant", "sr_Latn")
-RUNS = 5
-AHEAD, ONE_BY_ONE, TRIED = 200000, 40000, 50000
-
-
-class Skipped(Exception):
-    pass
-
-
-def have(*tools):
-    for tool in tools:
-        if not shutil.which(tool):
-            raise Skipped(tool)
-
-
-def bundles(data, folder):
-    """The .res files of the locales in ICU's data, in version 1 of the format."""
-    have("genrb")
-    if not os.path.exists(data):
-        raise Skipped(data)
-    texts, files = (os.path.join(folder, name) for name in ("texts", "files"))
-    os.mkdir(files)
-    # those at the top of the package; the bundles of curr/, lang/ and so on are other ones
-    subprocess.run([os.path.join(os.path.dirname(HERE), "tools", "icu2text"), "--package", data, "--to", texts], check=True)
-    names = sorted(os.path.basename(path)[:-4] for path in glob.glob(f"{texts}/*.txt"))
-    locales = [name for name in names if name != "res_index" and (name == "root" or 2 <= len(name.split("_")[0]) <= 3)]
-    subprocess.run(["genrb", "-q", "-e", "UTF-8", "--formatVersion", "1", "-s", texts, "-d", files, *[f"{name}.txt" for name in locales]], check=True, stdout=subprocess.DEVNULL, stderr=subprocess.DEVNULL)
-    return files
-
-
-def icu_server(folder):
-    """The C server, built."""
-    have("cc", "pkg-config")
-    flags = subprocess.run(["pkg-config", "--cflags", "--libs", "icu-uc"], capture_output=True, text=True)
-    if flags.returncode:
-        raise Skipped("icu-uc")
-    program = os.path.join(folder, "icu_server")
-    subprocess.run(["cc", "-O2", "-o", program, os.path.join(HERE, "icu_server.c"), *flags.stdout.split()], check=True)
-    return program
+COUNTS = (10, 30, 100, 300, None)  # None: all
+AHEAD, ONE_BY_ONE, TRIED, HOT = 100_000, 40_000, 50_000, 500
+GOALS = (("cold", 1.3), ("one by one", 1.0))
 
 
 def line(request):
@@ -70,10 +44,13 @@ def look(locale, path):
     return line({"op": "look", "app": "cldr", "locale": locale, "path": path})
 
 
-def setup(files):
-    for path in sorted(glob.glob(f"{files}/*.res")):
-        with open(path, "rb") as file:
-            yield line({"op": "install", "app": "cldr", "locale": os.path.basename(path)[:-4], "file": file.read().hex()})
+def locale_of(path):
+    return os.path.basename(path)[:-len(".res")]
+
+
+def install(path):
+    with open(path, "rb") as file:
+        return line({"op": "install", "app": "cldr", "locale": locale_of(path), "file": file.read().hex()})
 
 
 class Server:
@@ -89,14 +66,14 @@ class Server:
         return self.process.stdout.readline()
 
     def one_by_one(self, wanted):
-        """Seconds of processor time a line."""
+        """Microseconds of processor time a line."""
         before = self.used()
         for text in wanted:
             self.ask(text)
         return (self.used() - before) / len(wanted)
 
     def ahead(self, wanted):
-        """Seconds of processor time a line, where all lines are written before the first reply is read."""
+        """Microseconds of processor time a line, where all lines are written before the first reply is read."""
         before = self.used()
         pid = os.fork()
         if pid == 0:
@@ -111,7 +88,7 @@ class Server:
 
     def used(self):
         with open(f"/proc/{self.process.pid}/schedstat") as file:
-            return int(file.read().split()[0]) / 1e9
+            return int(file.read().split()[0]) / 1e3
 
     def end(self):
         self.process.stdin.close()
@@ -128,12 +105,12 @@ def strings(server, locale):
         if kind == "string":
             yield path
         parts = item["keys"] if kind == "table" else range(item["len"]) if kind == "array" else ()
-        left.extend(f"{path}/{part}" if path else str(part) for part in parts if "/" not in str(part) and str(part).isascii())
+        names = [str(part) for part in parts if "/" not in str(part) and str(part).isascii()]
+        left.extend(f"{path}/{name}" if path else name for name in names)
 
 
-def lookups(server, other, locales):
-    """Lookups that find a string, and the share of those that the two servers answer differently, which are left out."""
-    paths = sorted({path for locale in LOCALES for path in strings(server, locale)})
+def lookups(server, other, locales, paths):
+    """Lookups that find a string, and the share of those that are left out, as the two servers answer differently."""
     chosen = random.Random(1)
     alike, differ = [], 0
     for _ in range(TRIED):
@@ -148,37 +125,90 @@ def lookups(server, other, locales):
     return alike, differ / (differ + len(alike))
 
 
-def compare(data, program):
-    with tempfile.TemporaryDirectory() as folder:
-        theirs = icu_server(folder)
-        files = bundles(data, folder)
-        first = list(setup(files))
-        locales = [json.loads(text)["locale"] for text in first]
-        server, other = Server([program, "serve"], first), Server([theirs, files], [])
-        asked, differ = lookups(server, other, locales)
-        installed = server.replies.count(b'{"ok":true}\n')
-        print(f"CLDR: {installed} bundles of {len(first)}, {len(asked)} lookups, {differ:.1%} left out as answered differently")
-        for name, count in (("ahead", AHEAD), ("one_by_one", ONE_BY_ONE)):
-            wanted = (asked * (count // len(asked) + 1))[:count]
-            times = []
-            for _ in range(RUNS):
-                times.append((getattr(server, name)(wanted), getattr(other, name)(wanted)))
-            ratios = " ".join(f"{c / resb:.2f}" for resb, c in times)
-            best = [min(column) * 1e6 for column in zip(*times)]
-            print(f"CLDR, {name.replace('_', ' ')}: {best[0]:.2f} microseconds of processor time a lookup, the C server {best[1]:.2f}; the C server's time over ours in {RUNS} runs: {ratios}")
+def chosen(files, count):
+    """So many files, each after those that its name says to be its parents: languages in random order."""
+    languages = {}
+    for path in sorted(files, key=lambda path: (locale_of(path) != "root", len(path), path)):
+        languages.setdefault(locale_of(path).split("_")[0], []).append(path)
+    first, *rest = languages.values()
+    random.Random(2).shuffle(rest)
+    return [path for group in (first, *rest) for path in group][:count]
+
+
+def repeated(lines, count):
+    return (lines * (count // len(lines) + 1))[:count]
+
+
+def row(kind, bundles, way, wanted, servers):
+    """The microseconds of each server's turns for some lookups, written ahead or one by one."""
+    ours, theirs = by_turns(*(lambda server=server: getattr(server, way)(wanted) for server in servers))
+    print(f"CLDR, {bundles} bundles, {kind}: {statistics.median(ours):.2f} microseconds of processor time a lookup,"
+          f" the C server {statistics.median(theirs):.2f}; speed {ratio(theirs, ours)}", flush=True)
+    return {"kind": kind, "bundles": bundles, "resb": ours, "C": theirs}
+
+
+def rows(program, other, files, folder, paths, is_whole):
+    """The rows of two servers with these files, which the other one opens from a folder."""
+    os.mkdir(folder)
+    for path in files:
+        os.link(path, os.path.join(folder, os.path.basename(path)))
+    servers = Server([program, "serve"], map(install, files)), Server([other, folder], [])
+    asked, differ = lookups(*servers, [locale_of(path) for path in files], paths)
+    installed = servers[0].replies.count(b'{"ok":true}\n')
+    print(f"CLDR: {installed} bundles of {len(files)}, {len(asked):,} lookups,"
+          f" {differ:.1%} left out as answered differently", flush=True)
+    yield row("cold", installed, "ahead", repeated(asked, AHEAD), servers)
+    yield row("hot", installed, "ahead", repeated(asked[:HOT], AHEAD), servers)
+    if is_whole:
+        yield row("one by one", installed, "one_by_one", repeated(asked, ONE_BY_ONE), servers)
+    for server in servers:
         server.end()
-        other.end()
 
 
-def report(data, program):
+def paths_of(files, program):
+    """The paths of the strings of LOCALES."""
+    server = Server([program, "serve"], map(install, files))
+    paths = sorted({path for locale in LOCALES for path in strings(server, locale)})
+    server.end()
+    return paths
+
+
+def goals(told):
+    """The goals, each of the most bundles that were measured."""
+    for kind, bound in GOALS:
+        row = [row for row in told if row["kind"] == kind][-1]
+        name = f"speed of {kind} lookups in {row['bundles']} bundles beside the C server"
+        yield Goal(name, ratio(row["C"], row["resb"]), bound, True)
+
+
+def compare(data, program, path):
+    with tempfile.TemporaryDirectory() as folder:
+        other = icu.server(folder)
+        files = sorted(glob.glob(os.path.join(icu.files(icu.package(data, folder), folder), "*.res")))
+        paths, told = paths_of(files, program), []
+        for count in COUNTS:
+            some, place = chosen(files, count), os.path.join(folder, str(count))
+            told += rows(program, other, some, place, paths, count is None)
+    reached = list(goals(told))
+    print("".join(f"{goal}\n" for goal in reached), end="")
+    if path:
+        store(path, program, told, reached)
+
+
+def report(data, program, path=None):
     """The comparison, or a line that says why there is none."""
     try:
-        if not data:
-            raise Skipped("a file icudt*l.dat")
-        compare(data, program)
-    except Skipped as missing:
+        compare(data, program, path)
+    except icu.Skipped as missing:
         print(f"CLDR: skipped, without {missing}")
 
 
+def main():
+    parser = command_line(__doc__)
+    parser.add_argument("--package", metavar="DATA")
+    options = parser.parse_args()
+    report(options.package, os.path.abspath(options.program), options.store)
+
+
 if __name__ == "__main__":
-    report(sys.argv[1] if len(sys.argv) > 1 else None, sys.argv[2] if len(sys.argv) > 2 else os.path.join(os.path.dirname(HERE), "crates/rb_tool/out/rb_tool"))
+    main()

@@ -1,19 +1,23 @@
 #!/usr/bin/env python3
-"""Speed of `resb compile` and `resb check`, beside `genrb --formatVersion 1` where it is installed (Debian's icu-devtools), and
-of `resb check` over files that are made to be dear (hostile.py), each beside a plain table of its size.
+"""Time and memory of `resb compile` beside `genrb --formatVersion 1` (Debian's icu-devtools), and the speed of
+`resb check`.
 
-usage: compile.py [PROGRAM]   (default: crates/rb_tool/out/rb_tool)
+usage: compile.py [--store FILE] [PROGRAM]   (default: crates/rb_tool/out/rb_tool)
+
+Each text is compiled by both by turns, RUNS times. A ratio is that of the medians of processor time, and behind
+it the least and the greatest of a turn. Memory is the most that a process holds, of one run. `check` is the
+median over the file that was compiled. Nested text and tables of keys have five sizes each, other texts one. At
+the end comes each goal, and whether it holds; --store FILE keeps the figures as JSON. Without genrb only our
+own figures are printed.
 """
 import os
-import shutil
-import sys
+import statistics
 import tempfile
 
-import hostile
-from measured import measured
+from figures import store
+from turns import RUNS, TOP, Goal, Spread, by_turns, command_line, peak, ratio, seconds, tool
 
-TOP = os.path.dirname(os.path.dirname(os.path.abspath(__file__)))
-PROGRAM = sys.argv[1] if len(sys.argv) > 1 else os.path.join(TOP, "crates/rb_tool/out/rb_tool")
+MB = 1e6
 
 
 def nested(size):
@@ -25,72 +29,90 @@ def nested(size):
 
 
 def keys(count):
-    return "root{\n" + "".join(f'key{number * 7919 % count:06}{{"value {number}"}}\n' for number in range(count)) + "}\n"
+    entries = (f'key{number * 7919 % count:06}{{"value {number}"}}\n' for number in range(count))
+    return "root{\n" + "".join(entries) + "}\n"
 
 
-def checked(folder, data):
-    """The least of three runs of `resb check`: its seconds, peak memory in MB and status."""
-    name = os.path.join(folder, "made.res")
-    with open(name, "wb") as file:
-        file.write(data)
-    return min(measured([PROGRAM, "check", name]) for _ in range(3))
-
-
-def check_hostile(folder):
-    for name, make in hostile.FORMS:
-        data = make()
-        plain, plain_memory, _ = checked(folder, hostile.plain_table(len(data)))
-        seconds, memory, status = checked(folder, data)
-        print(
-            f"{name}, {len(data) / 1e6:.2f} MB: check {seconds:.3f} s, {memory:.0f} MB, status {status};"
-            f" a plain table {plain:.3f} s, {plain_memory:.0f} MB; {seconds / max(plain, 1e-3):.1f} times"
-        )
-
-
-def ratio(ours, theirs):
-    return ours / max(theirs, 1e-3)
-
-
-def compiled(source, output, folder, genrb):
-    """Lines on `resb compile` of a text, beside genrb where it is there, and on `resb check` of the file."""
-    size = os.path.getsize(source) / 1e6
-    if os.path.exists(output):
-        os.remove(output)
-    seconds, memory, status = measured([PROGRAM, "compile", source, output])
-    yield f"resb {seconds / size:.3f} s/MB, peak {memory:.0f} MB ({memory / size:.1f} times the text), status {status}"
-    if genrb:
-        theirs, their_memory, their_status = measured([genrb, "--formatVersion", "1", "-q", "-d", folder, source])
-        yield f"genrb {theirs / size:.3f} s/MB, peak {their_memory:.0f} MB ({their_memory / size:.1f} times the text), status {their_status}"
-        yield f"resb takes {ratio(seconds, theirs):.2f} of genrb's time and {ratio(memory, their_memory):.2f} of its memory"
-    if status == 0:
-        length = os.path.getsize(output) / 1e6
-        seconds, memory, status = measured([PROGRAM, "check", output])
-        yield f"check {length / max(seconds, 1e-6):.0f} MB/s of {length:.2f} MB, peak {memory:.0f} MB, status {status}"
-
-
+# of each text its kind, its name and how it is made
 TEXTS = (
-    ("nested text", lambda: nested(8_000_000)),
-    ("10,000 keys", lambda: keys(10_000)),
-    ("40,000 keys", lambda: keys(40_000)),
-    ("a million numbers", lambda: "root{\nv:intvector{" + "1," * 1_000_000 + "}\n}\n"),
-    ("a million empty arrays", lambda: "root{\na:array{" + ":array{}" * 1_000_000 + "}\n}\n"),
-    ("a million empty strings", lambda: "root{\na:array{" + '""' + ',""' * 999_999 + "}\n}\n"),
-    ("two million pairs of braces", lambda: "root{\na:array{" + "{}" * 2_000_000 + "}\n}\n"),
+    *(("nested", f"nested text of {size / MB:g} MB", lambda size=size: nested(size))
+      for size in (500_000, 1_000_000, 2_000_000, 4_000_000, 8_000_000)),
+    *(("flat", f"a table of {count:,} keys", lambda count=count: keys(count))
+      for count in (2_500, 5_000, 10_000, 20_000, 40_000)),
+    ("other", "a million numbers", lambda: "root{\nv:intvector{" + "1," * 1_000_000 + "}\n}\n"),
+    ("other", "a million empty arrays", lambda: "root{\na:array{" + ":array{}" * 1_000_000 + "}\n}\n"),
+    ("other", "a million empty strings", lambda: 'root{\na:array{""' + ',""' * 999_999 + "}\n}\n"),
+    ("other", "a million strings of a letter", lambda: "root{\na:array{b" + ",b" * 999_999 + "}\n}\n"),
+    ("other", "two million pairs of braces", lambda: "root{\na:array{" + "{}" * 2_000_000 + "}\n}\n"),
+)
+
+# of each goal the text, the figure, and the most that ours may be of genrb's
+GOALS = (
+    ("nested text of 8 MB", "time", 0.3),
+    ("nested text of 8 MB", "memory", 0.6),
+    ("a table of 40,000 keys", "time", 0.01),
+    ("a table of 40,000 keys", "memory", 1.0),
 )
 
 
+class Bench:
+    """What compiles and checks a text in a folder."""
+
+    def __init__(self, program, genrb, folder):
+        self.source, self.output = (os.path.join(folder, name) for name in ("root.txt", "out.res"))
+        self.ours = [program, "compile", self.source, self.output]
+        self.theirs = genrb and [genrb, "--formatVersion", "1", "-q", "-d", folder, self.source]
+        self.check = [program, "check", self.output]
+
+    def compiled(self):
+        if os.path.exists(self.output):
+            os.remove(self.output)
+        return seconds(self.ours)
+
+    def row(self, kind, name, text):
+        """The figures of a text."""
+        with open(self.source, "w", encoding="utf-8") as file:
+            file.write(text)
+        ours, theirs = by_turns(self.compiled, lambda: seconds(self.theirs) if self.theirs else 0.0)
+        size = os.path.getsize(self.source)
+        row = {"kind": kind, "text": name, "bytes": size, "resb": ours, "resb MB": peak(self.ours)}
+        if self.theirs:
+            row |= {"genrb": theirs, "genrb MB": peak(self.theirs)}
+        row["file"] = os.path.getsize(self.output)
+        row["check"] = [seconds(self.check) for _ in range(RUNS)]
+        return row
+
+
+def line(row):
+    size = row["bytes"] / MB
+    speed = row["file"] / MB / max(statistics.median(row["check"]), 1e-3)
+    text = f"{row['text']}, {size:.2f} MB: resb {statistics.median(row['resb']):.3f} s, {row['resb MB']:.1f} MB"
+    if "genrb" in row:
+        text += f"; genrb {statistics.median(row['genrb']):.3f} s, {row['genrb MB']:.1f} MB"
+        text += f"; ratio {ratio(row['resb'], row['genrb'])}, of memory {row['resb MB'] / row['genrb MB']:.2f}"
+    return f"{text}; {row['resb MB'] / size:.1f} times the text in memory; check {speed:.0f} MB/s"
+
+
+def goals(rows):
+    found = {row["text"]: row for row in rows if "genrb" in row}
+    for text, figure, bound in GOALS:
+        row = found[text]
+        memory = row["resb MB"] / row["genrb MB"]
+        spread = ratio(row["resb"], row["genrb"]) if figure == "time" else Spread(memory, memory, memory)
+        yield Goal(f"{figure} of {text} beside genrb", spread, bound)
+
+
 def main():
-    genrb = shutil.which("genrb")
-    if genrb is None:
-        print("genrb: skipped, it isn't installed")
-    with tempfile.TemporaryDirectory() as folder:
-        source, output = (os.path.join(folder, name) for name in ("root.txt", "out.res"))
-        for name, text in TEXTS:
-            with open(source, "w", encoding="utf-8") as file:
-                file.write(text())
-            for line in compiled(source, output, folder, genrb):
-                print(f"{name}, {os.path.getsize(source) / 1e6:.2f} MB: {line}")
-        check_hostile(folder)
+    options = command_line(__doc__).parse_args()
+    program, genrb, rows = os.path.abspath(options.program), tool("genrb"), []
+    for kind, name, text in TEXTS:
+        with tempfile.TemporaryDirectory() as folder:
+            rows.append(Bench(program, genrb, folder).row(kind, name, text()))
+        print(line(rows[-1]), flush=True)
+    told = list(goals(rows)) if genrb else []
+    print("".join(f"{goal}\n" for goal in told), end="")
+    if options.store:
+        store(options.store, program, rows, told)
 
 
 if __name__ == "__main__":

@@ -1,33 +1,35 @@
 #!/usr/bin/env python3
-"""Many texts at once, mistakes in a text, and request lines: `resb compile --to` beside one genrb process, what `resb lint` finds of
-mistakes, and the time of `resb lines`, over the bundles of CLDR in ICU's data.
+"""Many texts at once, mistakes in a text, and request lines: `resb compile --to` beside one genrb process, what
+`resb lint` finds of mistakes, and the time of `resb lines`, over the bundles of CLDR in ICU's data.
 
-usage: daily.py DATA [PROGRAM], or daily.py --self-test [PROGRAM]   (PROGRAM is by default crates/rb_tool/out/rb_tool)
+usage: daily.py [--store FILE] [--package DATA] [PROGRAM], or daily.py --self-test [PROGRAM]
+    (PROGRAM is by default crates/rb_tool/out/rb_tool)
 
-DATA is the package icudt*l.dat of ICU's data (docs/ICU.md says where it is); tools/icu2text makes texts of it. A mistake is one
-character taken out of de.txt, of MISTAKES for each of `"`, `{` and `}`, chosen by a fixed seed; it is found where a line that lint
-names is within NEAR lines of it. Times are of one process, processor time and time on the clock, the middle of RUNS runs, those of
-genrb (Debian's icu-devtools) in turn with those of resb; without genrb its columns are left out. Each row ends with its goal.
+DATA is the package icudt*l.dat of ICU's data; without it that of the installed libicudata is taken
+(docs/ICU.md), and tools/icu2text makes texts of it. A mistake is one character taken out of de.txt, of MISTAKES
+for each of `"`, `{` and `}`, chosen by a fixed seed; it is found where a line that lint names is within NEAR
+lines of it. Times are of one process, processor time and time on the clock, the middle of RUNS runs, and behind
+it the least and the greatest, those of genrb (Debian's icu-devtools) in turn with those of resb; without genrb
+its goal is left out. At the end comes each goal, and whether it holds; --store FILE keeps the figures as JSON.
 
---self-test runs all of it over a few small texts of its own, and ends with status 1 where something is not as it must be.
+--self-test runs all of it over a few small texts of its own, and ends with status 1 where something is not as
+it must be.
 """
 import glob
 import os
 import random
 import re
 import shutil
-import statistics
 import subprocess
 import sys
 import tempfile
 import time
 
-from measured import measured
+import icu
+from figures import store
+from turns import RUNS, Goal, Spread, by_turns, command_line, ratio, seconds, spread, tool
 
-HERE = os.path.dirname(os.path.abspath(__file__))
-TOP = os.path.dirname(HERE)
-PROGRAM = os.path.join(TOP, "crates", "rb_tool", "out", "rb_tool")
-RUNS, MISTAKES, NEAR, SEED = 5, 60, 2, 27
+MISTAKES, NEAR, SEED = 60, 2, 27
 SHARE, LINES_SECONDS = 0.6, 1.0
 FOUND = {'"': 55, "{": 30, "}": 30}
 SMALL = """de {
@@ -44,16 +46,8 @@ SMALL = """de {
 def timed(words):
     """Seconds of processor time and on the clock of a command that must succeed."""
     began = time.monotonic()
-    used, _, status = measured(words)
-    seconds = time.monotonic() - began
-    if status:
-        raise SystemExit(f"{' '.join(words[:3])} ..: status {status}")
-    return used, seconds
-
-
-def middle(runs):
-    """The middle of the processor times and of the times on the clock."""
-    return tuple(statistics.median(times) for times in zip(*runs))
+    used = seconds(words)
+    return used, time.monotonic() - began
 
 
 def fresh(folder, name):
@@ -64,17 +58,23 @@ def fresh(folder, name):
     return path
 
 
+def columns(runs):
+    """The processor times and the times on the clock of some runs."""
+    return [list(column) for column in zip(*runs)]
+
+
 def compile_runs(program, texts, folder, runs):
-    """The times of `compile --to` and of one genrb process over the same texts, in turn, each into a new folder; none of genrb where
-    there is none."""
-    genrb = shutil.which("genrb")
+    """The times of `compile --to` and of one genrb process over the same texts, in turn, each into a new folder; none
+    of genrb where there is none."""
+    genrb = tool("genrb")
     names, source = [os.path.basename(text) for text in texts], os.path.dirname(texts[0])
-    ours, theirs = [], []
-    for _ in range(runs):
-        ours.append(timed([program, "compile", "-q", "--to", fresh(folder, "ours"), *texts]))
-        if genrb:
-            theirs.append(timed([genrb, "-q", "-e", "UTF-8", "--formatVersion", "1", "-s", source, "-d", fresh(folder, "theirs"), *names]))
-    return middle(ours), middle(theirs) if theirs else None
+    words = [genrb, "-q", "-e", "UTF-8", "--formatVersion", "1", "-s", source]
+    ours, theirs = by_turns(
+        lambda: timed([program, "compile", "-q", "--to", fresh(folder, "ours"), *texts]),
+        lambda: timed([*words, "-d", fresh(folder, "theirs"), *names]) if genrb else None,
+        runs,
+    )
+    return columns(ours), columns(theirs) if genrb else None
 
 
 def mistakes(text, character, count):
@@ -104,7 +104,7 @@ def found(program, text, name, folder, character, count):
 
 def lines_runs(program, files, runs):
     """The times of `lines` over files."""
-    return middle([timed([program, "lines", "cldr", *files]) for _ in range(runs)])
+    return columns(timed([program, "lines", "cldr", *files]) for _ in range(runs))
 
 
 def named(files):
@@ -115,29 +115,57 @@ def named(files):
 def report(program, texts, text, folder, runs, count):
     """Prints the rows, and gives what they say."""
     ours, theirs = compile_runs(program, texts, folder, runs)
-    print(f"compile --to, {len(texts)} texts: {ours[0]:.3f} s of processor time, {ours[1]:.3f} s on the clock", end="")
+    print(f"compile --to, {len(texts)} texts: {spread(ours[0])} s of processor time, {spread(ours[1])} s on the clock")
     if theirs:
-        print(f"; one genrb {theirs[0]:.3f} s and {theirs[1]:.3f} s; share {ours[0] / theirs[0]:.2f} and {ours[1] / theirs[1]:.2f} (goal: at most {SHARE})")
-    else:
-        print("; skipped: genrb")
-    hits = {}
-    for character, goal in FOUND.items():
-        hits[character] = found(program, text, "de.txt", folder, character, count)
-        print(f"lint, one {character} taken out: {hits[character][0]} of {hits[character][1]} found within {NEAR} lines (goal: at least {goal} of {MISTAKES})")
+        print(f"one genrb: {spread(theirs[0])} s of processor time, {spread(theirs[1])} s on the clock")
+    hits = {character: found(program, text, "de.txt", folder, character, count) for character in FOUND}
+    for character, (hit, tried) in hits.items():
+        print(f"lint, one {character} taken out: {hit} of {tried} found within {NEAR} lines")
     files = sorted(glob.glob(os.path.join(folder, "ours", "*.res")))
     lines = lines_runs(program, named(files), runs)
-    print(f"lines, {len(files)} files: {lines[0]:.3f} s of processor time, {lines[1]:.3f} s on the clock (goal: at most {LINES_SECONDS} s)")
+    print(f"lines, {len(files)} files: {spread(lines[0])} s of processor time, {spread(lines[1])} s on the clock")
     return ours, theirs, hits, lines
 
 
-def cldr(data, program):
+def goals(ours, theirs, hits, lines):
+    if theirs:
+        yield Goal("time of `compile --to` beside one genrb", ratio(ours[0], theirs[0]), SHARE)
+    for character, bound in FOUND.items():
+        hit = hits[character][0]
+        yield Goal(f"mistakes found of {MISTAKES} `{character}` taken out", Spread(hit, hit, hit), bound, True)
+    yield Goal("seconds of `lines` on the clock", spread(lines[1]), LINES_SECONDS)
+
+
+def rows(count, ours, theirs, hits, lines):
+    kinds = {"compile --to": ours, "genrb": theirs, "lines": lines}
+    times = {name: {"processor": found[0], "clock": found[1]} for name, found in kinds.items() if found}
+    return {"texts": count, **times, "mistakes": {character: list(pair) for character, pair in hits.items()}}
+
+
+def cldr(data, program, path):
     """The figures over the texts of CLDR."""
     with tempfile.TemporaryDirectory() as folder:
-        source = os.path.join(folder, "texts")
-        subprocess.run([os.path.join(TOP, "tools", "icu2text"), "--package", data, "--to", source], check=True)
-        with open(os.path.join(source, "de.txt"), encoding="utf-8") as file:
+        texts = icu.texts(icu.package(data, folder), folder)
+        with open(os.path.join(os.path.dirname(texts[0]), "de.txt"), encoding="utf-8") as file:
             text = file.read()
-        report(program, sorted(glob.glob(os.path.join(source, "*.txt"))), text, folder, RUNS, MISTAKES)
+        told = report(program, texts, text, folder, RUNS, MISTAKES)
+    reached = list(goals(*told))
+    print("".join(f"{goal}\n" for goal in reached), end="")
+    if path:
+        store(path, program, rows(len(texts), *told), reached)
+
+
+def wrong_of(told, files):
+    """What of the figures over small texts isn't as it must be."""
+    ours, theirs, hits, lines = told
+    if mistakes('a\n"b\n"c"', '"', 9) != [(2, 2), (5, 3), (7, 3)]:
+        yield "the lines of mistakes"
+    if len(files) != 3:
+        yield f"{len(files)} files of 3 texts"
+    if any(tried != 4 or hit < 3 for hit, tried in hits.values()):
+        yield f"mistakes found: {hits}"
+    if not all(used >= 0 for times in (*ours, *(theirs or ()), *lines) for used in times):
+        yield "times"
 
 
 def self_test(program):
@@ -149,33 +177,28 @@ def self_test(program):
             with open(os.path.join(source, f"{name}.txt"), "w", encoding="utf-8") as file:
                 file.write(SMALL.replace("de {", f"{name} {{"))
         texts = sorted(glob.glob(os.path.join(source, "*.txt")))
-        ours, theirs, hits, lines = report(program, texts, SMALL, folder, 2, 4)
+        told = report(program, texts, SMALL, folder, 2, 4)
         files = glob.glob(os.path.join(folder, "ours", "*.res"))
-    wrong = []
-    if mistakes('a\n"b\n"c"', '"', 9) != [(2, 2), (5, 3), (7, 3)]:
-        wrong.append("the lines of mistakes")
-    if len(files) != 3:
-        wrong.append(f"{len(files)} files of 3 texts")
-    if any(tried != 4 or hit < 3 for hit, tried in hits.values()):
-        wrong.append(f"mistakes found: {hits}")
-    if not all(seconds >= 0 for times in (ours, theirs or (), lines) for seconds in times):
-        wrong.append("times")
+    wrong = list(wrong_of(told, files))
     print("".join(f"wrong: {line}\n" for line in wrong) or "ok: daily.py\n", end="")
     return 1 if wrong else 0
 
 
 def main():
-    arguments = sys.argv[1:]
-    if not arguments or arguments[0] in ("-h", "--help"):
-        print(__doc__.strip())
-        return 0
-    program = os.path.abspath(arguments[1]) if len(arguments) > 1 else PROGRAM
+    parser = command_line(__doc__)
+    parser.add_argument("--self-test", action="store_true")
+    parser.add_argument("--package", metavar="DATA")
+    options = parser.parse_args()
+    program = os.path.abspath(options.program)
     if not os.access(program, os.X_OK):
         print(f"skipped: {program} is not there")
         return 0
-    if arguments[0] == "--self-test":
+    if options.self_test:
         return self_test(program)
-    cldr(arguments[0], program)
+    try:
+        cldr(options.package, program, options.store)
+    except icu.Skipped as missing:
+        print(f"skipped, without {missing}")
     return 0
 
 

@@ -1,11 +1,14 @@
 #!/usr/bin/env python3
-"""Inputs that are made to be dear. Each is valid unless its docstring says otherwise, and is measured beside plain input of its size in
-the same run: files by `resb check`, texts by `resb compile`, requests by `resb serve`. Prints the times, the ratio and what is allowed.
-The status is 1 where a ratio or an amount of memory is over what is allowed.
+"""Inputs that are made to be dear. Each is valid unless its docstring says otherwise, and is measured beside plain
+input of its size in the same run: files by `resb check`, texts by `resb compile`, requests by `resb serve`.
+Prints the times, the ratio and what is allowed. The status is 1 where a ratio or an amount of memory is over
+what is allowed.
 
-usage: hostile.py [--large] [PROGRAM] [NAME..]     (default: crates/rb_tool/out/rb_tool; NAME: those whose name contains one of these)
+usage: hostile.py [--large] [--store FILE] [PROGRAM] [NAME..]
+    (PROGRAM is by default crates/rb_tool/out/rb_tool; NAME: those whose name contains one of these)
 
-Files have 1, 4 and 16 MB, those that overlap 4, 16 and 62; with --large all have 62 MB besides.
+Files have 1, 4 and 16 MB, those that overlap 4, 16 and 62, those of FORMS one size; with --large those of 16 MB
+have 62 besides. --store FILE keeps the figures as JSON.
 """
 import os
 import random
@@ -14,9 +17,9 @@ import sys
 import tempfile
 from array import array
 
+from figures import store
 from measured import measured
-
-TOP = os.path.dirname(os.path.dirname(os.path.abspath(__file__)))
+from turns import PROGRAM, command_line
 
 TABLE, ARRAY, LONG_TABLE, INT = 2, 8, 4, 7
 HEADER = bytes.fromhex("2000da27140000000000020052657342010100000000000000000000" "00000000")
@@ -67,7 +70,6 @@ class Builder:
         return self.file(item(TABLE, at))
 
 
-
 def shared_arrays(levels):
     """Each array has the next one twice: 2 to the power of `levels` Ints, were they counted one by one."""
     made = Builder(b"a\0")
@@ -115,18 +117,21 @@ def overlapping_arrays(count, is_mixed=False):
     # odd, or a multiple of 2 to the 16th, so that the String at this word ends in a zero unit
     length = count + 1 - count % 2 if count < 1 << 16 else count + -count % (1 << 16)
     first = made.add([length] * (count + length + 1))
-    return made.file_of_one(item(ARRAY, made.add([count] + [item(ARRAY, first + i) for i in mixed(count, is_mixed)])))
+    items = [item(ARRAY, first + i) for i in mixed(count, is_mixed)]
+    return made.file_of_one(item(ARRAY, made.add([count] + items)))
 
 
 def overlapping_tables(count, is_mixed=False):
-    """Each word of a long run is the length of one long table, a key offset of others, and an item of others, an empty String."""
+    """Each word of a long run is the length of one long table, a key offset of others, and an item of others, an empty
+    String."""
     base = 3 * count + 16
     longest = 3 * count + 2 * base
     key = b"a" * (base + longest) + b"b\0"  # each suffix is below the next
     made = Builder(key)
     made.add([0] * (base + longest + 4 - made.here()))  # a String at each of these words
     first = made.add([base + i for i in range(longest)])
-    return made.file_of_one(item(ARRAY, made.add([count] + [item(LONG_TABLE, first + i) for i in mixed(count, is_mixed)])))
+    items = [item(LONG_TABLE, first + i) for i in mixed(count, is_mixed)]
+    return made.file_of_one(item(ARRAY, made.add([count] + items)))
 
 
 def plain_table(size):
@@ -218,19 +223,20 @@ def mixed_tables(size):
     return overlapping_tables(size // 88, True)
 
 
+# files of one size: what they are, how they are made, and the status of their check
 FORMS = [
-    ("62 shared arrays", lambda: shared_arrays(62)),
-    ("90 levels of 1,000 shared items", lambda: shared_items(90, 1000)),
-    ("61 levels of 1,000 shared items", lambda: shared_items(61, 1000)),
-    ("400,000 suffixes of one key", lambda: suffixes(400_000)),
-    ("20,000 overlapping arrays", lambda: overlapping_arrays(20_000)),
-    ("20,000 overlapping tables", lambda: overlapping_tables(20_000)),
-    ("16 MB of one periodic key", lambda: periodic_key(16_000_000, 1_000)),
+    ("62 shared arrays", lambda: shared_arrays(62), 0),
+    ("90 levels of 1,000 shared items", lambda: shared_items(90, 1000), 1),
+    ("61 levels of 1,000 shared items", lambda: shared_items(61, 1000), 0),
+    ("400,000 suffixes of one key", lambda: suffixes(400_000), 0),
+    ("20,000 overlapping arrays", lambda: overlapping_arrays(20_000), 0),
+    ("20,000 overlapping tables", lambda: overlapping_tables(20_000), 0),
+    ("16 MB of one periodic key", lambda: periodic_key(16_000_000, 1_000), 0),
 ]
+FORMS_ALLOWED = 25
 
-
-# files that are made to be dear to check: what they are, how one of about so many bytes is made, and how many times the time of a plain
-# table is allowed. The last ones are made by someone who knows how keys are compared.
+# files that are made to be dear to check: what they are, how one of about so many bytes is made, and how many times the
+# time of a plain table is allowed. The last ones are made by someone who knows how keys are compared.
 CHECKED = [
     ("one key of random letters in 12 tables", one_key(random_letters), 20),
     ("one key of Thue and Morse in 12 tables", one_key(thue_morse), 20),
@@ -327,7 +333,7 @@ class Report:
     def __init__(self, program, words):
         self.program, self.words, self.failed = program, words, False
         self.folder = tempfile.TemporaryDirectory()
-        self.plain = {}
+        self.plain, self.rows = {}, []
 
     def file(self, name, data):
         path = os.path.join(self.folder.name, name)
@@ -338,8 +344,9 @@ class Report:
     def is_asked(self, name):
         return not self.words or any(word in name for word in self.words)
 
-    def say(self, name, size, text, over):
+    def say(self, kind, name, size, text, over, **told):
         self.failed = self.failed or over
+        self.rows.append({"kind": kind, "name": name, "bytes": size, "over": over, **told})
         print(f"{name}, {size / MB:.2f} MB: {text}{': OVER' if over else ''}", flush=True)
 
     def best(self, words, runs=3, source=os.devnull):
@@ -349,13 +356,22 @@ class Report:
         if not self.is_asked(name):
             return
         for size in sizes:
-            data = make(size)
-            seconds, memory, status = self.best(["check", self.file("made.res", data)], 2)
-            plain = self.plain_check(size)
-            ratio, times = seconds / plain, memory * MB / len(data)
-            over = ratio > allowed or status != 0 or size >= 16 * MB and times > 8
-            self.say(name, len(data), f"{seconds:.3f} s, a plain table {plain:.3f} s, {ratio:.1f} times of {allowed};"
-                     f" {memory:.0f} MB, {times:.1f} times the file of 8; status {status}", over)
+            self.checked("file", name, make(size), self.plain_check(size), allowed, 0)
+
+    def form(self, name, make, status):
+        """A file of a fixed size; as small ones take as long as a program's start, that is in both times."""
+        if self.is_asked(name):
+            data = make()
+            path = self.file("plain.res", plain_table(len(data)))
+            self.checked("form", name, data, self.best(["check", path])[0], FORMS_ALLOWED, status)
+
+    def checked(self, kind, name, data, plain, allowed, wanted):
+        seconds, memory, status = self.best(["check", self.file("made.res", data)], 2)
+        ratio, times = seconds / plain, memory * MB / len(data)
+        over = ratio > allowed or status != wanted or len(data) >= 15 * MB and kind == "file" and times > 8
+        text = (f"{seconds:.3f} s, a plain table {plain:.3f} s, {ratio:.1f} times of {allowed};"
+                f" {memory:.0f} MB, {times:.1f} times the file of 8; status {status}")
+        self.say(kind, name, len(data), text, over, seconds=seconds, plain=plain, allowed=allowed, MB=memory)
 
     def plain_check(self, size):
         if size not in self.plain:
@@ -373,8 +389,9 @@ class Report:
             plain = self.best(["compile", self.file("plain.txt", plain_text(size)), out])[0]
             seconds, memory, status = self.best(["compile", self.file("made.txt", make(size)), out])
             over = seconds > 5 * plain or status != 0 or size >= 4 * MB and memory * MB > 40 * size
-            self.say(name, size, f"{seconds:.3f} s, plain text {plain:.3f} s, {seconds / plain:.1f} times of 5;"
-                     f" {memory:.0f} MB, {memory * MB / size:.1f} times the text of 40; status {status}", over)
+            text = (f"{seconds:.3f} s, plain text {plain:.3f} s, {seconds / plain:.1f} times of 5;"
+                    f" {memory:.0f} MB, {memory * MB / size:.1f} times the text of 40; status {status}")
+            self.say("text", name, size, text, over, seconds=seconds, plain=plain, allowed=5, MB=memory)
 
     def serve(self, prepared, line, count):
         """Seconds for one more line, and the memory that it takes besides, in MB."""
@@ -387,14 +404,17 @@ class Report:
             return
         for size in sizes:
             seconds, _ = self.serve(*make(size), 3)
-            self.say(name, size, f"a lookup takes {1e3 * seconds:.1f} ms of {allowed}", 1e3 * seconds > allowed)
+            over = 1e3 * seconds > allowed
+            text = f"a lookup takes {1e3 * seconds:.1f} ms of {allowed}"
+            self.say("lookup", name, size, text, over, seconds=seconds, allowed=allowed / 1e3)
 
     def reply(self, name, sizes):
         if not self.is_asked(name):
             return
         for size in sizes:
             seconds, memory = self.serve(*shared_keys(size), 1)
-            self.say(name, size, f"{seconds:.3f} s, {memory:.0f} MB besides of 4", memory > 4)
+            text = f"{seconds:.3f} s, {memory:.0f} MB besides of 4"
+            self.say("reply", name, size, text, memory > 4, seconds=seconds, MB=memory)
 
     def line(self, name, sizes):
         if not self.is_asked(name):
@@ -402,24 +422,24 @@ class Report:
         for size in sizes:
             seconds, memory = self.serve(*other_members(size), 1)
             over = memory * MB > 3 * size + 4 * MB or seconds > 1e-8 * size + 0.01
-            self.say(name, size, f"{1e9 * seconds / size:.1f} ns a byte of 10; {memory * MB / size:.1f} times the line of 3", over)
+            text = f"{1e9 * seconds / size:.1f} ns a byte of 10; {memory * MB / size:.1f} times the line of 3"
+            self.say("line", name, size, text, over, seconds=seconds, MB=memory)
 
     def applications(self, name, counts):
         if not self.is_asked(name):
             return
         for count in counts:
-            lines = b"".join(b'{"op":"install","app":"app%d","locale":"de","text":"de{a{\\"b\\"}}"}\n' % i for i in range(count))
+            install = b'{"op":"install","app":"app%d","locale":"de","text":"de{a{\\"b\\"}}"}\n'
+            lines = b"".join(install % i for i in range(count))
             memory = self.serve(b"", lines, 1)[1]
             each = memory * MB / count / 1000
-            self.say(name, len(lines), f"{each:.2f} KB for each of {count} of 0.70", each > 0.7)
+            text = f"{each:.2f} KB for each of {count} of 0.70"
+            self.say("applications", name, len(lines), text, each > 0.7, count=count, MB=memory)
 
 
-def main():
-    words = sys.argv[1:]
-    is_large = "--large" in words
-    words = [word for word in words if word != "--large"]
-    program = words.pop(0) if words and os.path.exists(words[0]) else os.path.join(TOP, "crates/rb_tool/out/rb_tool")
-    report = Report(os.path.abspath(program), words)
+def measure(report, is_large):
+    for name, make, status in FORMS:
+        report.form(name, make, status)
     for name, make, allowed in CHECKED:
         report.check(name, make, allowed, [MB, 4 * MB, 16 * MB] + [62 * MB] * is_large)
     for name, make, allowed in OVERLAPPING:
@@ -427,11 +447,26 @@ def main():
     for name, make in TEXTS:
         report.text(name, make, [MB, 4 * MB, 8 * MB])
     report.lookup("an alias with a long text", long_alias, [MB, 4 * MB, 8 * MB], 50)
-    report.lookup("an alias with a long text, a longer path each time", growing_path, [MB, 4 * MB, 8 * MB], 50)
-    report.lookup("a trail of 32 names, 256 levels", deep_trail, [MB // 100, MB, 7 * MB, 20 * MB], 100)
+    longer = "an alias with a long text, a longer path each time"
+    report.lookup(longer, growing_path, [MB, 4 * MB, 8 * MB], 50)
+    sizes = [MB // 100, MB, 7 * MB, 20 * MB]
+    report.lookup("a trail of 32 names, 256 levels", deep_trail, sizes, 100)
     report.reply("a reply whose keys share their bytes", [MB // 20, MB // 10, MB * 3 // 10])
     report.line("members that nobody asked for", [MB, 8 * MB, 48 * MB])
     report.applications("applications of one small bundle", [1_000, 10_000, 100_000])
+
+
+def main():
+    parser = command_line(__doc__)
+    parser.add_argument("--large", action="store_true")
+    parser.add_argument("words", nargs="*")
+    options = parser.parse_args()
+    is_program = options.program == PROGRAM or os.path.exists(options.program)
+    program = os.path.abspath(options.program if is_program else PROGRAM)
+    report = Report(program, options.words if is_program else [options.program, *options.words])
+    measure(report, options.large)
+    if options.store:
+        store(options.store, program, report.rows, [])
     sys.exit(report.failed)
 
 

@@ -1,5 +1,6 @@
 #!/usr/bin/env bash
-# All tests. First what needs no built program: the launcher, the manual page if mandoc is there, where definitions stand, a program
+# All tests. First what needs no built program: the launcher, the manual page if mandoc is there, where definitions stand, the
+# bench's pictures, a program
 # that must not compile, and one of whose allocations each is refused in turn. Then the gate, which proves every crate from nothing,
 # tries the wrong bodies, runs each test, and builds the program. Last what runs that program: the examples, the documents, traced
 # lookups, the benches of daily use and of printed texts over small inputs, replies through pipes, lines with a member more, the
@@ -30,6 +31,7 @@ if has mandoc; then
 fi
 if has python3; then
     tests/trusted.py --inner
+    bench/draw.py --check
 fi
 tests/no_change_while_lent.sh
 tests/memory.sh
