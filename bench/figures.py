@@ -51,7 +51,11 @@ def store(path, program, rows, goals):
     }
     os.makedirs(os.path.dirname(os.path.abspath(path)), exist_ok=True)
     with open(path, "w", encoding="utf-8") as file:
-        file.write(json.dumps(rounded(told), indent=1, ensure_ascii=False) + "\n")
+        file.write(re.sub(r"\[[-+.\de,\s]*\]", one_line, json.dumps(rounded(told), indent=1)) + "\n")
+
+
+def one_line(numbers):
+    return " ".join(numbers[0].split()).replace("[ ", "[").replace(" ]", "]")
 
 
 def rounded(value):
