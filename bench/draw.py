@@ -90,9 +90,9 @@ def lookups(told):
         axes.set_xscale("log")
         axes.set_xticks(bundles)
         plain(axes, "x")
-        axes.set_ylim(bottom=0)
         axes.yaxis.set_tick_params(labelleft=True)
-    places[0].legend(frameon=False, fontsize=9)
+    places[0].set_ylim(bottom=0)
+    places[0].legend(frameon=False, fontsize=9, loc="lower left")
     return picture
 
 

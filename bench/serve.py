@@ -174,7 +174,7 @@ def measure(bench):
     found["install, nested"] = bench.installs("nested texts", "text", tree, len(tree.encode()))
     found["install, files"] = bench.installs("files", "file", data.hex(), len(data))
     found["memory"] = [bench.memory(table(9_000))]
-    found["memory, small"] = [bench.memory(table(20), 2_000)]
+    found["memory, small"] = [bench.memory(table(20), 20_000)]
     for bundles, strings in ((100, 200), (1_000, 200), (10_000, 20), (100_000, 20)):
         setup, asked = lines(installs(bundles, strings)), lines(looks(bundles, strings))
         name = f"{bundles:,} bundles of {strings} strings, written ahead"

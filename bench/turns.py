@@ -51,6 +51,8 @@ class Goal:
 
 def figure(number):
     """A figure with two or three digits that count."""
+    if number == int(number):
+        return f"{number:.0f}"
     return f"{number:.{0 if number >= 100 else 1 if number >= 10 else 2 if number >= 0.1 else 4}f}"
 
 
