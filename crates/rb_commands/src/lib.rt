@@ -1,20 +1,16 @@
-//! The commands of `resb`, over any runtime: serving and looking items up; those over files are rb_file_commands', and are here too.
+//! The commands of `resb`, over any runtime: serving; those over files and those of lookups are rb_file_commands' and
+//! rb_lookup_commands', and are here too.
 #![tactic(auto)]
 
 mod handing;
-mod lookup;
-mod request_lines;
 mod serve;
-mod start;
-mod steps;
 #[cfg(test)]
 mod tests;
-mod trace;
 
-pub use lookup::{Lookup, look_up};
+pub use rb_console::{Console, Hint};
 pub use rb_file_commands::{
-    Console, Hint, ItemError, Layout, ValueError, check, check_all, check_on, compile, compile_all,
-    compile_on, explain, get, get_on, json, lint_all, text, text_at, value_at,
+    ItemError, Layout, ValueError, check, check_all, check_on, compile, compile_all, compile_on,
+    explain, get, get_on, json, lint_all, text, text_at, value_at,
 };
-pub use request_lines::{Change, lines};
+pub use rb_lookup_commands::{Change, Lookup, lines, look_up};
 pub use serve::{serve_input, serve_on};

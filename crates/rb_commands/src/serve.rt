@@ -5,8 +5,8 @@ ghost use Rattle.rb_requests.specs.Served.{AfterFault, at};
 ghost use Rattle.rb_commands.specs.inner.Limits.{most_lines};
 
 use crate::handing::{NotingFeed, WaitingWriter};
-use crate::start::{not_started_on, start};
-use rb_file_commands::Console;
+use rb_console::{Console, not_started_on};
+use rb_lookup_commands::start_engine;
 use rb_requests::{Engine, Feed, ServeFault, Served, Sink, WriteSink, serve};
 use std::alloc::Global;
 use std::cell::Cell;
@@ -101,7 +101,7 @@ pub fn serve_on<R: Files + RandomSource + Input + Print + Eprint + AllocGlobal>(
     parents: Option<&str>,
     bundles: &[&str],
 ) -> ExitCode {
-    match start(rt, parents, bundles) {
+    match start_engine(rt, parents, bundles) {
         Ok(mut engine) => serve_lines(rt, console, &mut engine),
         Err(error) => not_started_on(rt, console, error),
     }

@@ -8,9 +8,10 @@ mod texts;
 mod traces;
 mod values;
 
-use crate::start::{StartError, not_started_on, start};
 use desk::Desk;
-use rb_file_commands::{Console, Layout, check, compile, get, json};
+use rb_console::{Console, StartError, not_started_on};
+use rb_file_commands::{Layout, check, compile, get, json};
+use rb_lookup_commands::start_engine;
 use std::alloc::Global;
 use std::process::ExitCode;
 
@@ -282,7 +283,7 @@ fn desk_with_files(alloc: Global) -> Option<Desk> {
 
 /// The status of a start that is refused, or none.
 fn refusal(desk: &Desk, parents: Option<&str>, arguments: &[&str]) -> Option<ExitCode> {
-    match start(desk, parents, arguments) {
+    match start_engine(desk, parents, arguments) {
         Ok(_) => None,
         Err(error) => Some(not_started_on(desk, Console::plain(), error)),
     }

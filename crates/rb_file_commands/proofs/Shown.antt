@@ -7,7 +7,7 @@ use Rattle.rb_tree.specs.Resource.{Resource, alias}
 use Rattle.rb_tree.specs.Path.{IsPath, segments}
 use Rattle.rb_tree.specs.Walk.{Walked, ends, links, gone, walk, behind, stop_of, rest_of, end, link, nowhere}
 use Rattle.rb_fallback.proofs.Paths.{Whole, walk_whole, segments_joined}
-use Rattle.rb_replies.specs.Item.{item_data}
+use Rattle.rb_items.specs.Item.{item_data}
 use Rattle.rb_file_commands.specs.Got.{shown}
 use Rattle.std.specs.Prelude.{IsTrue, Result}
 use Rattle.rb_json.specs.Printed.{is_within, laid_out, refusal}

@@ -5,7 +5,7 @@ use Rattle.serde_json.specs.Data.{Data}
 use Rattle.rb_tree.specs.Resource.{Resource, alias}
 use Rattle.rb_tree.specs.Path.{is_path, segments}
 use Rattle.rb_tree.specs.Walk.{Walked, ends, links, gone, walk}
-use Rattle.rb_replies.specs.Item.{item_data}
+use Rattle.rb_items.specs.Item.{item_data}
 use Rattle.rb_file_commands.specs.declared.item.ItemError.{ItemError}
 use Rattle.rb_file_commands.specs.declared.item.ItemError.TheVariants.{BadPath, PathTooLong, Missing}
 

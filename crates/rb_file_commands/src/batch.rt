@@ -1,24 +1,11 @@
 //! `resb compile --to` and `resb check` of many files.
 use crate::commands::{accepted, compile_file};
-use crate::console::Console;
-use crate::files::{printed, refused_on};
 use crate::progress::Progress;
+use rb_console::{Console, printed, refused_on, stem};
 use std::alloc::{AllocError, Global};
 use std::collections::BTreeMap;
 use std::process::ExitCode;
 use std::rt::{Clock, Files};
-
-/// The name of a file without its folder and without its last ending: `de` of `texts/de.txt`.
-pub fn stem(file: &str) -> &str {
-    let name = match file.rsplit_once('/') {
-        Some((_, name)) => name,
-        None => file,
-    };
-    match name.rsplit_once('.') {
-        Some((stem, _)) if !stem.is_empty() => stem,
-        _ => name,
-    }
-}
 
 /// The first text whose stem an earlier one has, and that one.
 fn same_stems<'a>(

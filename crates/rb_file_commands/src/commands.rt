@@ -1,7 +1,8 @@
 //! `resb compile`, `resb check` and `resb get`.
-use crate::console::Console;
-use crate::files::{are_same_file, cannot_read_on, printed, read_file, refused_on, write_file};
 use crate::item::{ItemError, text_at};
+use rb_console::{
+    Console, are_same_file, cannot_read_on, printed, read_file, refused_on, write_file,
+};
 use rb_format::FILE_LIMIT;
 use rb_validator::{Bundle, accept};
 use rb_views::root;

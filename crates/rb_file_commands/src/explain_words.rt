@@ -1,5 +1,5 @@
 //! `resb explain`.
-use crate::files::printed;
+use rb_console::printed;
 use rb_explain::Of;
 use std::io;
 use std::process::ExitCode;

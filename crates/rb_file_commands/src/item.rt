@@ -8,7 +8,7 @@ ghost use Rattle.rb_file_commands.specs.declared.item.ItemError.TheVariants as e
 ghost use Rattle.rb_file_commands.specs.Got.{got, shown};
 
 use rb_fallback::{PATH_LIMIT, rest_behind};
-use rb_replies::item_text;
+use rb_items::item_text;
 use rb_tree::{Ending, Node, path_ok, walk};
 use std::alloc::{AllocError, Global};
 

@@ -3,9 +3,7 @@
 
 mod batch;
 mod commands;
-mod console;
 mod explain_words;
-mod files;
 mod item;
 mod linting;
 mod progress;
@@ -13,13 +11,12 @@ mod texts;
 mod value;
 mod words;
 
-pub use batch::{check_all, compile_all, stem};
+pub use batch::{check_all, compile_all};
 pub use commands::{check, check_on, compile, compile_on, get, get_on};
-pub use console::{Console, Hint};
 pub use explain_words::explain;
-pub use files::{cannot_read_on, printed, read_file, refused_on};
 pub use item::{ItemError, text_at};
 pub use linting::lint_all;
+pub use rb_console::{Console, Hint, cannot_read_on, printed, read_file, refused_on, stem};
 pub use rb_json::Layout;
 pub use texts::{name_of, text};
 pub use value::{ValueError, json, value_at};

@@ -1,8 +1,6 @@
 //! `resb lint`.
-use crate::batch::stem;
-use crate::console::Console;
-use crate::files::{cannot_read_on, printed, read_file, refused_on};
 use rb_compiler::compile;
+use rb_console::{Console, cannot_read_on, printed, read_file, refused_on, stem};
 use rb_lint::{beside_root, lint};
 use rb_parser::parse;
 use rb_tree::Tree;

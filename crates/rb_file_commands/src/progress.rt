@@ -1,5 +1,5 @@
 //! How far a command is that has many files.
-use crate::console::Console;
+use rb_console::Console;
 use std::rt::Clock;
 use std::time::Duration;
 

@@ -1,7 +1,6 @@
 //! `resb text`.
 use crate::commands::accepted;
-use crate::console::Console;
-use crate::files::{printed, refused_on};
+use rb_console::{Console, printed, refused_on};
 use rb_printer::{PrintError, print_bundle};
 use rb_tree::UnitList;
 use rb_validator::Bundle;

@@ -6,8 +6,7 @@ ghost use Rattle.rb_file_commands.specs.declared.value.ValueError.TheVariants as
 ghost use Rattle.rb_file_commands.specs.Whole.{reached, text_of, valued};
 
 use crate::commands::accepted;
-use crate::console::Console;
-use crate::files::{printed, refused_on};
+use rb_console::{Console, printed, refused_on};
 use rb_fallback::{PATH_LIMIT, rest_behind};
 use rb_json::{JsonError, Layout, json_text};
 use rb_tree::{Ending, Node, path_ok, walk};

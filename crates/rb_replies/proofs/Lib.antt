@@ -1,3 +1,1 @@
-pub mod OfKinds
-pub mod Tokens
 pub mod Written

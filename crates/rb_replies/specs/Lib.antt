@@ -1,3 +1,1 @@
-pub mod Item
 pub mod Replied
-pub mod inner

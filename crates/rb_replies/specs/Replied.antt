@@ -3,7 +3,7 @@ use Rattle.std.specs.Prelude.{ℕ, true, List, [], ◌∷◌, ◌++◌, Option, 
 use Rattle.serde_json.specs.Data.{Data, boolean, string, object, no_members, member}
 use Rattle.serde_json.specs.Written.{compact_text}
 use Rattle.rb_engine.specs.Answer.{Response, Replies, Finds, Refuses}
-use Rattle.rb_replies.specs.Item.{texts_data, found_data}
+use Rattle.rb_items.specs.Item.{texts_data, found_data}
 use Rattle.rb_engine.specs.Words.{reply_word, look_word}
 use Rattle.rb_engine.specs.declared.request.Reply.{Reply}
 use Rattle.rb_engine.specs.declared.request.Reply.TheVariants.{Done, Names, BadApp, Reserved, BadLocale, BadText, BadFile, Exists, Absent, Full, Memory}

@@ -1,9 +1,8 @@
-//! Replies as lines of JSON: what an engine answers, and items by themselves.
+//! Replies as lines of JSON: what an engine answers; and items by themselves, which are rb_items'.
 #![tactic(auto)]
 
-mod item;
 mod line;
 mod reply;
 
-pub use item::item_text;
 pub use line::ReplyLine;
+pub use rb_items::item_text;

@@ -1,17 +1,18 @@
 //! What an engine answers as JSON.
 ghost use Rattle.std.specs.Prelude.{◌≡◌, [], ◌∷◌, ◌++◌, codes};
 ghost use Rattle.json.specs.Token.{key};
-ghost use Rattle.rb_replies.specs.Item.{texts_data};
-ghost use Rattle.rb_replies.specs.inner.Put.{Puts, data_tokens};
+ghost use Rattle.rb_items.specs.Item.{texts_data};
+ghost use Rattle.rb_items.specs.Put.{Puts};
+ghost use Rattle.rb_json.specs.Tokens.{data_tokens};
 ghost use Rattle.rb_replies.specs.Replied.{error as error_data, reply_data, response_data};
 ghost use Rattle.rb_engine.specs.declared.request.Reply.TheVariants as replies;
 ghost use Rattle.rb_engine.specs.LookResponse.{look_response};
 ghost use Rattle.rb_views.specs.Seen.{tree_seen};
 
-use crate::item::{put_found, put_text, put_word};
 use json::Writer;
 use rb_engine::{LookFault, Reply};
 use rb_fallback::Found;
+use rb_items::{put_found, put_text, put_word};
 use rb_locales::Name;
 use rb_views::Item;
 use std::alloc::{AllocError, Global};

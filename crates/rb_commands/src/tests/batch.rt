@@ -1,7 +1,8 @@
 //! Many texts and files at once.
 use super::desk::Desk;
 use super::{EMPTY, HOLDS_ITSELF, ONE_STRING, ROOM, ended};
-use rb_file_commands::{Console, check_all, check_on, compile_all, stem};
+use rb_console::{Console, stem};
+use rb_file_commands::{check_all, check_on, compile_all};
 use std::alloc::Global;
 
 const PLAIN: Console = Console {

@@ -1,9 +1,9 @@
 //! Warnings, explanations, request lines and lookups over files in memory.
 use super::desk::Desk;
 use super::{ROOM, ended};
-use crate::lookup::{Lookup, look_up};
-use crate::request_lines::{Change, lines};
-use rb_file_commands::{Console, explain, lint_all};
+use rb_console::Console;
+use rb_file_commands::{explain, lint_all};
+use rb_lookup_commands::{Change, Lookup, lines, look_up};
 use std::alloc::Global;
 
 /// A desk with texts, a file that isn't UTF-8, and random bytes.

@@ -1,7 +1,8 @@
 //! Texts in memory beside that of the root locale.
 use super::desk::Desk;
 use super::{ROOM, ended};
-use rb_file_commands::{Console, lint_all};
+use rb_console::Console;
+use rb_file_commands::lint_all;
 use std::alloc::Global;
 
 const ROOT: &[u8] =

@@ -1,8 +1,8 @@
 //! Lookups over files in memory, traced.
 use super::ROOM;
 use super::desk::Desk;
-use crate::lookup::{Lookup, look_up};
-use rb_file_commands::Console;
+use rb_console::Console;
+use rb_lookup_commands::{Lookup, look_up};
 use std::alloc::Global;
 use std::process::ExitCode;
 

@@ -1,6 +1,6 @@
 use Rattle.std.proofs.Common.{◌≡◌, ◌∙◌, take, arith}
 use Rattle.std.proofs.lemmas.List.{take_all}
-use Rattle.rb_replies.proofs.Tokens.{puts_texts}
+use Rattle.rb_items.proofs.Tokens.{puts_texts}
 use Rattle.rb_replies.proofs.reply.put_names.Goals as goal
 
 pub returns : goal.returns

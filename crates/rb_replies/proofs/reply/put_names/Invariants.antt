@@ -1,6 +1,6 @@
 use Rattle.std.proofs.Common.{◌≡◌, ◌∷◌, ◌++◌, map, take}
 use Rattle.json.specs.Token.{begin_array}
-use Rattle.rb_replies.proofs.Tokens.{text_token}
+use Rattle.rb_items.proofs.Tokens.{text_token}
 use Rattle.rb_replies.proofs.reply.put_names.Given as goal
 
 abbrev pub invariant-loop-name : goal.invariant-loop-name

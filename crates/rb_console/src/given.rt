@@ -1,0 +1,86 @@
+//! Bundles as the arguments of a command name them.
+use crate::console::Console;
+use crate::error::StartError;
+use crate::files::{cannot_read_on, read_file};
+use rb_locales::Name;
+use std::alloc::Global;
+use std::process::ExitCode;
+use std::rt::Files;
+
+/// How an argument names a bundle.
+#[derive(Clone, Copy, Debug)]
+pub enum Form {
+    /// `LOCALE=FILE`.
+    Located,
+    /// `LOCALE=FILE`, or `FILE`, whose stem is the locale.
+    ByStem,
+}
+
+/// A file, and the locale of its bundle as it was given.
+#[derive(Clone, Copy, Debug)]
+pub struct Given<'a> {
+    pub locale: &'a str,
+    pub name: Name,
+    pub file: &'a str,
+}
+
+/// The name of a file without its folder and without its last ending: `de` of `texts/de.txt`.
+pub fn stem(file: &str) -> &str {
+    let name = match file.rsplit_once('/') {
+        Some((_, name)) => name,
+        None => file,
+    };
+    match name.rsplit_once('.') {
+        Some((stem, _)) if !stem.is_empty() => stem,
+        _ => name,
+    }
+}
+
+/// An argument, split at its first `=`.
+fn split(form: Form, argument: &str) -> Option<Given<'_>> {
+    let (locale, file) = match (argument.split_once('='), form) {
+        (Some(parts), _) => parts,
+        (None, Form::ByStem) => (stem(argument), argument),
+        (None, Form::Located) => return None,
+    };
+    let name = Name::read(locale.as_bytes()).ok()?;
+    Some(Given { locale, name, file })
+}
+
+/// The arguments, each split at its first `=`. Errors: `BadArgument` with the first that isn't of the form, or whose locale is no
+/// locale's name; `Memory` where out of memory.
+pub fn all_given<'a>(
+    alloc: Global,
+    form: Form,
+    arguments: &[&'a str],
+) -> Result<Vec<Given<'a>>, StartError<'a>> {
+    let mut bundles = Vec::new(alloc);
+    for argument in arguments {
+        let Some(bundle) = split(form, argument) else {
+            return Err(StartError::BadArgument(argument));
+        };
+        if bundles.push(bundle).is_err() {
+            return Err(StartError::Memory);
+        }
+    }
+    Ok(bundles)
+}
+
+/// Whether a file is a bundle text by its name.
+pub fn is_text(file: &str) -> bool {
+    file.ends_with(".txt")
+}
+
+/// The bytes of a file, as `read_file`. Where they can't be read, that is said, out of memory at line 0 of a text, and the status is
+/// given.
+pub fn read_given<R: Files + AllocGlobal + Eprint>(
+    rt: &R,
+    console: Console,
+    file: &str,
+) -> Result<Vec<u8>, ExitCode> {
+    let line = if is_text(file) { ":0" } else { "" };
+    match read_file(rt, file) {
+        Ok(bytes) => Ok(bytes),
+        Err(error) => Err(cannot_read_on(rt, console, file, line, error)),
+    }
+}
