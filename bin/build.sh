@@ -55,11 +55,12 @@ run_unproved() {
     exec rt try --seconds 600 "$@"
 }
 
-# How many crates are proved at a time: the processors, and 3 GB of free memory for each.
+# How many crates are begun at a time: one more than the processors, as one of them often waits for those below it, and 3 GB of
+# free memory for each.
 jobs() {
     free=$(sed -n 's/^MemAvailable: *\([0-9]*\) kB/\1/p' /proc/meminfo 2>/dev/null || :)
     room=$((${free:-0} / 3000000))
-    many=$(nproc 2>/dev/null || echo 1)
+    many=$(($(nproc 2>/dev/null || echo 1) + 1))
     [ "$room" -ge "$many" ] || many=$room
     [ "$many" -gt 0 ] || many=1
     echo "${RESB_JOBS:-$many}"
@@ -108,7 +109,7 @@ prove_and_link() {
 }
 
 build() {
-    say 'proving and building; a first build takes twenty minutes or more'
+    say 'proving and building; a first build takes about a quarter of an hour'
     log=$(mktemp)
     began=$(mktemp)
     trap 'rm -f "$log" "$began"' EXIT

@@ -1,10 +1,12 @@
-//! The command line of `resb`: its commands, their arguments and their help.
+//! The command line of `resb`: its commands, their arguments and their help, and what a command line asks for.
 #![tactic(auto)]
 
+mod asking;
 mod bundle_commands;
 mod command_line;
 #[cfg(test)]
 mod tests;
 mod text_commands;
 
+pub use asking::{Asked, AskedLookup, asked_by};
 pub use command_line::commands;

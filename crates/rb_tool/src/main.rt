@@ -1,73 +1,18 @@
 //! `resb`: compiles bundle texts, checks files, prints their items, and serves lookups.
 #![tactic(auto)]
 
-mod given;
+mod running;
 
-use crate::given::{chosen_check, chosen_compile, chosen_lines, chosen_look};
-use clap::ArgMatches;
-use rb_arguments::commands;
-use rb_commands::{Console, Layout, explain, get_on, json, lint_all, serve_on, text};
+use crate::running::run_asked;
+use rb_arguments::{asked_by, commands};
+use rb_commands::Console;
 use std::io::{ErrorKind, IsTerminal};
 use std::process::ExitCode;
 use std::random::RandomSource;
 use std::rt::{Clock, Env, Files};
 use std::{env, io};
 
-fn layout_of(pretty: bool) -> Layout {
-    if pretty {
-        Layout::Pretty
-    } else {
-        Layout::Compact
-    }
-}
-
-/// Runs the command that was chosen.
-fn chosen<R: Files + RandomSource + Clock + AllocGlobal + Input + Print + Eprint>(
-    rt: &R,
-    console: Console,
-    matches: &ArgMatches<'_>,
-) -> ExitCode {
-    match matches.subcommand() {
-        Some(("compile", inner)) => chosen_compile(rt, console, inner),
-        Some(("check", inner)) => chosen_check(rt, console, inner),
-        Some(("get", inner)) => get_on(
-            rt,
-            console,
-            inner.get_str("FILE").unwrap_or(""),
-            inner.get_str("PATH").unwrap_or(""),
-        ),
-        Some(("json", inner)) => json(
-            rt,
-            console,
-            inner.get_str("FILE").unwrap_or(""),
-            inner.get_str("PATH").unwrap_or(""),
-            layout_of(inner.get_flag("pretty")),
-        ),
-        Some(("text", inner)) => text(
-            rt,
-            console,
-            inner.get_str("FILE").unwrap_or(""),
-            inner.get_str("name"),
-        ),
-        Some(("lint", inner)) => lint_all(
-            rt,
-            console,
-            inner.get_str("root"),
-            inner.get_strs("TEXT").unwrap_or(&[]),
-        ),
-        Some(("explain", inner)) => explain(rt, inner.get_str("WORD")),
-        Some(("lines", inner)) => chosen_lines(rt, console, inner),
-        Some(("look", inner)) => chosen_look(rt, console, inner),
-        Some(("serve", inner)) => serve_on(
-            rt,
-            console,
-            inner.get_str("parents"),
-            inner.get_strs("bundles").unwrap_or(&[]),
-        ),
-        _ => ExitCode::from(2),
-    }
-}
-
+/// Reads the command line, and runs the command that it asks for.
 fn run<R: Files + RandomSource + Clock + AllocGlobal + Input + Print + Eprint + Env>(
     rt: &R,
     console: Console,
@@ -75,13 +20,17 @@ fn run<R: Files + RandomSource + Clock + AllocGlobal + Input + Print + Eprint + 
     let alloc = rt.alloc();
     let words: Vec<String> = env::args(rt)?.collect(alloc)?;
     let command = commands(alloc)?;
-    match command.try_get_matches_from(words.as_slice()) {
-        Ok(matches) => Ok(chosen(rt, console, &matches)),
+    let matches = match command.try_get_matches_from(words.as_slice()) {
+        Ok(matches) => matches,
         Err(error) => {
             error.print(rt)?;
-            Ok(ExitCode::from(error.exit_code() as u8))
+            return Ok(ExitCode::from(error.exit_code() as u8));
         }
-    }
+    };
+    Ok(match asked_by(alloc, &matches)? {
+        Some(asked) => run_asked(rt, console, asked),
+        None => ExitCode::from(2),
+    })
 }
 
 /// Says on a line of standard error why no command was run: out of memory, an argument that isn't UTF-8, or a help that can't be

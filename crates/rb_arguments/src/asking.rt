@@ -1,0 +1,197 @@
+//! What a command line asks for.
+use clap::ArgMatches;
+use std::alloc::{AllocError, Global};
+
+/// A command with its arguments, as they were given.
+#[derive(Debug, Drop)]
+pub enum Asked<'a> {
+    /// `compile IN OUT`
+    Compile {
+        input: &'a str,
+        output: &'a str,
+        is_quiet: bool,
+    },
+    /// `compile --to DIR TEXT..`
+    CompileAll {
+        folder: &'a str,
+        texts: Vec<&'a str>,
+        is_quiet: bool,
+    },
+    /// `check FILE..`
+    Check {
+        files: &'a [&'a str],
+        is_quiet: bool,
+    },
+    /// `get FILE PATH`
+    Get {
+        file: &'a str,
+        path: &'a str,
+    },
+    /// `json FILE [PATH]`
+    Json {
+        file: &'a str,
+        path: &'a str,
+        is_pretty: bool,
+    },
+    /// `text FILE`
+    Text {
+        file: &'a str,
+        name: Option<&'a str>,
+    },
+    /// `lint TEXT..`
+    Lint {
+        root: Option<&'a str>,
+        texts: &'a [&'a str],
+    },
+    /// `explain [WORD]`
+    Explain {
+        word: Option<&'a str>,
+    },
+    /// `lines APP [LOCALE=]FILE..`
+    Lines {
+        op: Option<&'a str>,
+        app: &'a str,
+        files: &'a [&'a str],
+    },
+    /// `look LOCALE PATH [LOCALE=]FILE..`
+    Look(AskedLookup<'a>),
+    /// `serve [LOCALE=FILE ..]`
+    Serve {
+        parents: Option<&'a str>,
+        bundles: &'a [&'a str],
+    },
+}
+
+/// The arguments of `look`.
+#[derive(Clone, Copy, Debug)]
+pub struct AskedLookup<'a> {
+    pub parents: Option<&'a str>,
+    pub locale: &'a str,
+    pub path: &'a str,
+    pub is_traced: bool,
+    pub files: &'a [&'a str],
+}
+
+/// One word of a command, empty where it wasn't given.
+fn word_of<'a>(given: &ArgMatches<'a>, id: &str) -> &'a str {
+    given.get_str(id).unwrap_or("")
+}
+
+/// Any number of words of a command.
+fn words_of<'a>(given: &'a ArgMatches<'a>, id: &str) -> &'a [&'a str] {
+    given.get_strs(id).unwrap_or(&[])
+}
+
+/// The texts of `compile --to`, in their order.
+fn texts_of<'a>(alloc: Global, given: &'a ArgMatches<'a>) -> Result<Vec<&'a str>, AllocError> {
+    let mut texts = Vec::new(alloc);
+    for id in ["IN", "OUT"] {
+        if let Some(text) = given.get_str(id) {
+            texts.push(text)?;
+        }
+    }
+    texts.extend_from_slice(words_of(given, "TEXT"))?;
+    Ok(texts)
+}
+
+fn compile_asked<'a>(alloc: Global, given: &'a ArgMatches<'a>) -> Result<Asked<'a>, AllocError> {
+    let is_quiet = given.get_flag("quiet");
+    Ok(match given.get_str("to") {
+        Some(folder) => Asked::CompileAll {
+            folder,
+            texts: texts_of(alloc, given)?,
+            is_quiet,
+        },
+        None => Asked::Compile {
+            input: word_of(given, "IN"),
+            output: word_of(given, "OUT"),
+            is_quiet,
+        },
+    })
+}
+
+fn check_asked<'a>(given: &'a ArgMatches<'a>) -> Asked<'a> {
+    Asked::Check {
+        files: words_of(given, "FILE"),
+        is_quiet: given.get_flag("quiet"),
+    }
+}
+
+fn get_asked<'a>(given: &ArgMatches<'a>) -> Asked<'a> {
+    Asked::Get {
+        file: word_of(given, "FILE"),
+        path: word_of(given, "PATH"),
+    }
+}
+
+fn json_asked<'a>(given: &ArgMatches<'a>) -> Asked<'a> {
+    Asked::Json {
+        file: word_of(given, "FILE"),
+        path: word_of(given, "PATH"),
+        is_pretty: given.get_flag("pretty"),
+    }
+}
+
+fn text_asked<'a>(given: &ArgMatches<'a>) -> Asked<'a> {
+    Asked::Text {
+        file: word_of(given, "FILE"),
+        name: given.get_str("name"),
+    }
+}
+
+fn lint_asked<'a>(given: &'a ArgMatches<'a>) -> Asked<'a> {
+    Asked::Lint {
+        root: given.get_str("root"),
+        texts: words_of(given, "TEXT"),
+    }
+}
+
+fn lines_asked<'a>(given: &'a ArgMatches<'a>) -> Asked<'a> {
+    Asked::Lines {
+        op: given.get_str("op"),
+        app: word_of(given, "APP"),
+        files: words_of(given, "FILE"),
+    }
+}
+
+fn look_asked<'a>(given: &'a ArgMatches<'a>) -> Asked<'a> {
+    Asked::Look(AskedLookup {
+        parents: given.get_str("parents"),
+        locale: word_of(given, "LOCALE"),
+        path: word_of(given, "PATH"),
+        is_traced: given.get_flag("trace"),
+        files: words_of(given, "FILE"),
+    })
+}
+
+fn serve_asked<'a>(given: &'a ArgMatches<'a>) -> Asked<'a> {
+    Asked::Serve {
+        parents: given.get_str("parents"),
+        bundles: words_of(given, "bundles"),
+    }
+}
+
+/// What a command line asks for, by what `clap` took of it; none where it names no command. An error only where out of memory.
+pub fn asked_by<'a>(
+    alloc: Global,
+    matches: &'a ArgMatches<'a>,
+) -> Result<Option<Asked<'a>>, AllocError> {
+    let Some((command, given)) = matches.subcommand() else {
+        return Ok(None);
+    };
+    Ok(Some(match command {
+        "compile" => compile_asked(alloc, given)?,
+        "check" => check_asked(given),
+        "get" => get_asked(given),
+        "json" => json_asked(given),
+        "text" => text_asked(given),
+        "lint" => lint_asked(given),
+        "explain" => Asked::Explain {
+            word: given.get_str("WORD"),
+        },
+        "lines" => lines_asked(given),
+        "look" => look_asked(given),
+        "serve" => serve_asked(given),
+        _ => return Ok(None),
+    }))
+}

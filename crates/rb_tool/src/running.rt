@@ -1,0 +1,110 @@
+//! Running what a command line asks for.
+use rb_arguments::{Asked, AskedLookup};
+use rb_commands::{
+    Change, Console, Layout, Lookup, check_all, check_on, compile_all, compile_on, explain, get_on,
+    json, lines, lint_all, look_up, serve_on, text,
+};
+use std::process::ExitCode;
+use std::random::RandomSource;
+use std::rt::{Clock, Files};
+
+/// A console that says nothing on success if `--quiet` was given.
+fn quieted(console: Console, is_quiet: bool) -> Console {
+    Console {
+        is_quiet,
+        is_terminal: console.is_terminal,
+    }
+}
+
+fn layout_of(is_pretty: bool) -> Layout {
+    if is_pretty {
+        Layout::Pretty
+    } else {
+        Layout::Compact
+    }
+}
+
+/// What `--op` says: `install` if it isn't given.
+fn change_of(op: Option<&str>) -> Option<Change> {
+    match op {
+        None => Some(Change::Install),
+        Some("install") => Some(Change::Install),
+        Some("replace") => Some(Change::Replace),
+        Some(_) => None,
+    }
+}
+
+/// `lines APP [LOCALE=]FILE..`
+fn run_lines<R: Files + AllocGlobal + Print + Eprint>(
+    rt: &R,
+    console: Console,
+    op: Option<&str>,
+    app: &str,
+    files: &[&str],
+) -> ExitCode {
+    let Some(change) = change_of(op) else {
+        let _ = eprintln!(rt; "resb: --op is install or replace");
+        return ExitCode::from(2);
+    };
+    lines(rt, console, change, app, files)
+}
+
+/// `check FILE`, or `check FILE..`, where each line names its file.
+fn run_check<R: Files + Clock + AllocGlobal + Print + Eprint>(
+    rt: &R,
+    console: Console,
+    files: &[&str],
+) -> ExitCode {
+    match files {
+        [name] => check_on(rt, console, name),
+        names => check_all(rt, console, names),
+    }
+}
+
+/// Looks an item up over files.
+fn run_look<R: Files + RandomSource + AllocGlobal + Print + Eprint>(
+    rt: &R,
+    console: Console,
+    asked: AskedLookup<'_>,
+) -> ExitCode {
+    let lookup = Lookup {
+        parents: asked.parents,
+        locale: asked.locale,
+        path: asked.path,
+        is_traced: asked.is_traced,
+    };
+    look_up(rt, console, lookup, asked.files)
+}
+
+/// Runs a command.
+pub fn run_asked<R: Files + RandomSource + Clock + AllocGlobal + Input + Print + Eprint>(
+    rt: &R,
+    console: Console,
+    asked: Asked<'_>,
+) -> ExitCode {
+    match asked {
+        Asked::Compile {
+            input,
+            output,
+            is_quiet,
+        } => { compile_on(rt, quieted(console, is_quiet), input, output) }
+        Asked::CompileAll {
+            folder,
+            texts,
+            is_quiet,
+        } => { compile_all(rt, quieted(console, is_quiet), folder, &texts) }
+        Asked::Check { files, is_quiet } => run_check(rt, quieted(console, is_quiet), files),
+        Asked::Get { file, path } => get_on(rt, console, file, path),
+        Asked::Json {
+            file,
+            path,
+            is_pretty,
+        } => { json(rt, console, file, path, layout_of(is_pretty)) }
+        Asked::Text { file, name } => text(rt, console, file, name),
+        Asked::Lint { root, texts } => lint_all(rt, console, root, texts),
+        Asked::Explain { word } => explain(rt, word),
+        Asked::Lines { op, app, files } => run_lines(rt, console, op, app, files),
+        Asked::Look(lookup) => run_look(rt, console, lookup),
+        Asked::Serve { parents, bundles } => serve_on(rt, console, parents, bundles),
+    }
+}
