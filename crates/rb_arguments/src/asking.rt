@@ -19,7 +19,7 @@ pub enum Asked<'a> {
     },
     /// `check FILE..`
     Check {
-        files: &'a [&'a str],
+        files: Vec<&'a str>,
         is_quiet: bool,
     },
     /// `get FILE PATH`
@@ -41,7 +41,7 @@ pub enum Asked<'a> {
     /// `lint TEXT..`
     Lint {
         root: Option<&'a str>,
-        texts: &'a [&'a str],
+        texts: Vec<&'a str>,
     },
     /// `explain [WORD]`
     Explain {
@@ -51,25 +51,25 @@ pub enum Asked<'a> {
     Lines {
         op: Option<&'a str>,
         app: &'a str,
-        files: &'a [&'a str],
+        files: Vec<&'a str>,
     },
     /// `look LOCALE PATH [LOCALE=]FILE..`
     Look(AskedLookup<'a>),
     /// `serve [LOCALE=FILE ..]`
     Serve {
         parents: Option<&'a str>,
-        bundles: &'a [&'a str],
+        bundles: Vec<&'a str>,
     },
 }
 
 /// The arguments of `look`.
-#[derive(Clone, Copy, Debug)]
+#[derive(Debug, Drop)]
 pub struct AskedLookup<'a> {
     pub parents: Option<&'a str>,
     pub locale: &'a str,
     pub path: &'a str,
     pub is_traced: bool,
-    pub files: &'a [&'a str],
+    pub files: Vec<&'a str>,
 }
 
 /// One word of a command, empty where it wasn't given.
@@ -77,24 +77,28 @@ fn word_of<'a>(given: &ArgMatches<'a>, id: &str) -> &'a str {
     given.get_str(id).unwrap_or("")
 }
 
-/// Any number of words of a command.
-fn words_of<'a>(given: &'a ArgMatches<'a>, id: &str) -> &'a [&'a str] {
-    given.get_strs(id).unwrap_or(&[])
+/// Any number of words of a command, in their order.
+fn words_of<'a>(
+    alloc: Global,
+    given: &ArgMatches<'a>,
+    id: &str,
+) -> Result<Vec<&'a str>, AllocError> {
+    given.get_strs(id).unwrap_or(&[]).to_vec(alloc)
 }
 
 /// The texts of `compile --to`, in their order.
-fn texts_of<'a>(alloc: Global, given: &'a ArgMatches<'a>) -> Result<Vec<&'a str>, AllocError> {
+fn texts_of<'a>(alloc: Global, given: &ArgMatches<'a>) -> Result<Vec<&'a str>, AllocError> {
     let mut texts = Vec::new(alloc);
     for id in ["IN", "OUT"] {
         if let Some(text) = given.get_str(id) {
             texts.push(text)?;
         }
     }
-    texts.extend_from_slice(words_of(given, "TEXT"))?;
+    texts.extend_from_slice(given.get_strs("TEXT").unwrap_or(&[]))?;
     Ok(texts)
 }
 
-fn compile_asked<'a>(alloc: Global, given: &'a ArgMatches<'a>) -> Result<Asked<'a>, AllocError> {
+fn compile_asked<'a>(alloc: Global, given: &ArgMatches<'a>) -> Result<Asked<'a>, AllocError> {
     let is_quiet = given.get_flag("quiet");
     Ok(match given.get_str("to") {
         Some(folder) => Asked::CompileAll {
@@ -110,11 +114,11 @@ fn compile_asked<'a>(alloc: Global, given: &'a ArgMatches<'a>) -> Result<Asked<'
     })
 }
 
-fn check_asked<'a>(given: &'a ArgMatches<'a>) -> Asked<'a> {
-    Asked::Check {
-        files: words_of(given, "FILE"),
+fn check_asked<'a>(alloc: Global, given: &ArgMatches<'a>) -> Result<Asked<'a>, AllocError> {
+    Ok(Asked::Check {
+        files: words_of(alloc, given, "FILE")?,
         is_quiet: given.get_flag("quiet"),
-    }
+    })
 }
 
 fn get_asked<'a>(given: &ArgMatches<'a>) -> Asked<'a> {
@@ -139,59 +143,59 @@ fn text_asked<'a>(given: &ArgMatches<'a>) -> Asked<'a> {
     }
 }
 
-fn lint_asked<'a>(given: &'a ArgMatches<'a>) -> Asked<'a> {
-    Asked::Lint {
+fn lint_asked<'a>(alloc: Global, given: &ArgMatches<'a>) -> Result<Asked<'a>, AllocError> {
+    Ok(Asked::Lint {
         root: given.get_str("root"),
-        texts: words_of(given, "TEXT"),
-    }
+        texts: words_of(alloc, given, "TEXT")?,
+    })
 }
 
-fn lines_asked<'a>(given: &'a ArgMatches<'a>) -> Asked<'a> {
-    Asked::Lines {
+fn lines_asked<'a>(alloc: Global, given: &ArgMatches<'a>) -> Result<Asked<'a>, AllocError> {
+    Ok(Asked::Lines {
         op: given.get_str("op"),
         app: word_of(given, "APP"),
-        files: words_of(given, "FILE"),
-    }
+        files: words_of(alloc, given, "FILE")?,
+    })
 }
 
-fn look_asked<'a>(given: &'a ArgMatches<'a>) -> Asked<'a> {
-    Asked::Look(AskedLookup {
+fn look_asked<'a>(alloc: Global, given: &ArgMatches<'a>) -> Result<Asked<'a>, AllocError> {
+    Ok(Asked::Look(AskedLookup {
         parents: given.get_str("parents"),
         locale: word_of(given, "LOCALE"),
         path: word_of(given, "PATH"),
         is_traced: given.get_flag("trace"),
-        files: words_of(given, "FILE"),
-    })
+        files: words_of(alloc, given, "FILE")?,
+    }))
 }
 
-fn serve_asked<'a>(given: &'a ArgMatches<'a>) -> Asked<'a> {
-    Asked::Serve {
+fn serve_asked<'a>(alloc: Global, given: &ArgMatches<'a>) -> Result<Asked<'a>, AllocError> {
+    Ok(Asked::Serve {
         parents: given.get_str("parents"),
-        bundles: words_of(given, "bundles"),
-    }
+        bundles: words_of(alloc, given, "bundles")?,
+    })
 }
 
 /// What a command line asks for, by what `clap` took of it; none where it names no command. An error only where out of memory.
 pub fn asked_by<'a>(
     alloc: Global,
-    matches: &'a ArgMatches<'a>,
+    matches: &ArgMatches<'a>,
 ) -> Result<Option<Asked<'a>>, AllocError> {
     let Some((command, given)) = matches.subcommand() else {
         return Ok(None);
     };
     Ok(Some(match command {
         "compile" => compile_asked(alloc, given)?,
-        "check" => check_asked(given),
+        "check" => check_asked(alloc, given)?,
         "get" => get_asked(given),
         "json" => json_asked(given),
         "text" => text_asked(given),
-        "lint" => lint_asked(given),
+        "lint" => lint_asked(alloc, given)?,
         "explain" => Asked::Explain {
             word: given.get_str("WORD"),
         },
-        "lines" => lines_asked(given),
-        "look" => look_asked(given),
-        "serve" => serve_asked(given),
+        "lines" => lines_asked(alloc, given)?,
+        "look" => look_asked(alloc, given)?,
+        "serve" => serve_asked(alloc, given)?,
         _ => return Ok(None),
     }))
 }

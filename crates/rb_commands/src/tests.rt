@@ -120,6 +120,15 @@ pub(crate) fn all_steps(desk: &Desk, steps: &[Step<'_>]) -> bool {
     true
 }
 
+/// A desk with files. If memory runs out some aren't there, and the test fails by that.
+pub(crate) fn desk_of(alloc: Global, files: &[(&str, &[u8])]) -> Desk {
+    let desk = Desk::new(alloc, ROOM);
+    for (name, bytes) in files {
+        let _ = desk.put(name, bytes);
+    }
+    desk
+}
+
 /// Whether each step on a new desk is as it says.
 pub(crate) fn are_steps(alloc: Global, room: usize, steps: &[Step<'_>]) -> bool {
     all_steps(&Desk::new(alloc, room), steps)
@@ -270,17 +279,6 @@ const REFUSED: [(Option<&str>, &[&str], &str, u8); 15] = [
     ),
 ];
 
-/// A desk with the files that starts are given; none where memory runs out.
-fn desk_with_files(alloc: Global) -> Option<Desk> {
-    let desk = Desk::new(alloc, ROOM);
-    for (name, bytes) in GIVEN {
-        if !desk.put(name, bytes) {
-            return None;
-        }
-    }
-    Some(desk)
-}
-
 /// The status of a start that is refused, or none.
 fn refusal(desk: &Desk, parents: Option<&str>, arguments: &[&str]) -> Option<ExitCode> {
     match start_engine(desk, parents, arguments) {
@@ -290,15 +288,12 @@ fn refusal(desk: &Desk, parents: Option<&str>, arguments: &[&str]) -> Option<Exi
 }
 
 /// Whether each start with random bytes is refused so.
-fn are_refused(desk: Option<Desk>) -> bool {
-    let Some(desk) = desk else {
-        return false;
-    };
+fn are_refused(desk: &Desk) -> bool {
     if !desk.put("/dev/random", b"") {
         return false;
     }
     for (parents, arguments, said, status) in REFUSED {
-        let found = refusal(&desk, parents, arguments);
+        let found = refusal(desk, parents, arguments);
         if found != Some(ExitCode::from(status)) || !desk.said("", said) {
             return false;
         }
@@ -308,26 +303,23 @@ fn are_refused(desk: Option<Desk>) -> bool {
 
 #[test]
 fn refuses_to_start(rt: HostRuntime) {
-    assert!(rt; are_refused(desk_with_files(rt.alloc())));
+    assert!(rt; are_refused(&desk_of(rt.alloc(), &GIVEN)));
 }
 
 /// Whether there is no start without random bytes, and one with them.
-fn wants_random_bytes(desk: Option<Desk>) -> bool {
-    let Some(desk) = desk else {
-        return false;
-    };
+fn wants_random_bytes(desk: &Desk) -> bool {
     let arguments = ["root=good.res", "de-at=a.txt"];
     let (parents, status) = (Some("good.txt"), ExitCode::from(2));
-    refusal(&desk, parents, &arguments) == Some(status)
+    refusal(desk, parents, &arguments) == Some(status)
         && desk.said("", "no random state\n")
         && desk.put("/dev/random", b"")
-        && refusal(&desk, parents, &arguments).is_none()
+        && refusal(desk, parents, &arguments).is_none()
         && desk.said("", "")
 }
 
 #[test]
 fn starts_with_a_random_state(rt: HostRuntime) {
-    assert!(rt; wants_random_bytes(desk_with_files(rt.alloc())));
+    assert!(rt; wants_random_bytes(&desk_of(rt.alloc(), &GIVEN)));
 }
 
 /// Whether a start for which there is no memory is answered so.

@@ -73,7 +73,7 @@ fn run_look<R: Files + RandomSource + AllocGlobal + Print + Eprint>(
         path: asked.path,
         is_traced: asked.is_traced,
     };
-    look_up(rt, console, lookup, asked.files)
+    look_up(rt, console, lookup, &asked.files)
 }
 
 /// Runs a command.
@@ -93,7 +93,7 @@ pub fn run_asked<R: Files + RandomSource + Clock + AllocGlobal + Input + Print +
             texts,
             is_quiet,
         } => { compile_all(rt, quieted(console, is_quiet), folder, &texts) }
-        Asked::Check { files, is_quiet } => run_check(rt, quieted(console, is_quiet), files),
+        Asked::Check { files, is_quiet } => run_check(rt, quieted(console, is_quiet), &files),
         Asked::Get { file, path } => get_on(rt, console, file, path),
         Asked::Json {
             file,
@@ -101,10 +101,10 @@ pub fn run_asked<R: Files + RandomSource + Clock + AllocGlobal + Input + Print +
             is_pretty,
         } => { json(rt, console, file, path, layout_of(is_pretty)) }
         Asked::Text { file, name } => text(rt, console, file, name),
-        Asked::Lint { root, texts } => lint_all(rt, console, root, texts),
+        Asked::Lint { root, texts } => lint_all(rt, console, root, &texts),
         Asked::Explain { word } => explain(rt, word),
-        Asked::Lines { op, app, files } => run_lines(rt, console, op, app, files),
+        Asked::Lines { op, app, files } => run_lines(rt, console, op, app, &files),
         Asked::Look(lookup) => run_look(rt, console, lookup),
-        Asked::Serve { parents, bundles } => serve_on(rt, console, parents, bundles),
+        Asked::Serve { parents, bundles } => serve_on(rt, console, parents, &bundles),
     }
 }

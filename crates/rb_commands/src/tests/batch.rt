@@ -1,9 +1,8 @@
 //! Many texts and files at once.
 use super::desk::Desk;
-use super::{EMPTY, HOLDS_ITSELF, ONE_STRING, ROOM, ended};
+use super::{EMPTY, HOLDS_ITSELF, ONE_STRING, desk_of, ended};
 use rb_console::{Console, stem};
 use rb_file_commands::{check_all, check_on, compile_all};
-use std::alloc::Global;
 
 const PLAIN: Console = Console {
     is_quiet: false,
@@ -20,16 +19,14 @@ const TERMINAL: Console = Console {
     is_terminal: true,
 };
 
-/// A desk with two texts, one that is refused, and two files, of which one is refused.
-fn desk_with_files(alloc: Global) -> Option<Desk> {
-    let desk = Desk::new(alloc, ROOM);
-    let is_set = desk.put("a/de.txt", b"root{}")
-        && desk.put("fr.txt", b"root{a{\"b\"}}")
-        && desk.put("bad.txt", b"root{\na:int{x}}")
-        && desk.put("good.res", &ONE_STRING)
-        && desk.put("bad.res", &HOLDS_ITSELF);
-    if is_set { Some(desk) } else { None }
-}
+/// Two texts, one that is refused, and two files, of which one is refused.
+const FILES: [(&str, &[u8]); 5] = [
+    ("a/de.txt", b"root{}"),
+    ("fr.txt", b"root{a{\"b\"}}"),
+    ("bad.txt", b"root{\na:int{x}}"),
+    ("good.res", &ONE_STRING),
+    ("bad.res", &HOLDS_ITSELF),
+];
 
 /// Whether texts compiled to a folder end with this status, and print this.
 fn compiles(
@@ -44,19 +41,16 @@ fn compiles(
     ended(desk, found, status, output, errors)
 }
 
-fn go_on_after_errors(desk: Option<Desk>) -> bool {
-    let Some(desk) = desk else {
-        return false;
-    };
+fn go_on_after_errors(desk: &Desk) -> bool {
     let texts = ["a/de.txt", "bad.txt", "none.txt", "fr.txt"];
     let output = "out/de.res: wrote 56 bytes\nout/fr.res: wrote 76 bytes\n";
     let errors = "bad.txt:2: BadInt\ncannot read none.txt\n";
-    compiles(&desk, PLAIN, &texts, 1, output, errors)
+    compiles(desk, PLAIN, &texts, 1, output, errors)
         && desk.has("out/de.res", &EMPTY)
         && desk.has("out/fr.res", &ONE_STRING)
         && !desk.keeps("out/bad.res")
         && compiles(
-            &desk,
+            desk,
             PLAIN,
             &["fr.txt", "a/de.txt"],
             0,
@@ -64,7 +58,7 @@ fn go_on_after_errors(desk: Option<Desk>) -> bool {
             "",
         )
         && compiles(
-            &desk,
+            desk,
             QUIET,
             &["fr.txt", "bad.txt"],
             1,
@@ -75,55 +69,46 @@ fn go_on_after_errors(desk: Option<Desk>) -> bool {
 
 #[test]
 fn texts_go_on_after_errors(rt: HostRuntime) {
-    assert!(rt; go_on_after_errors(desk_with_files(rt.alloc())));
+    assert!(rt; go_on_after_errors(&desk_of(rt.alloc(), &FILES)));
 }
 
-fn refuses_one_stem_twice(desk: Option<Desk>) -> bool {
-    let Some(desk) = desk else {
-        return false;
-    };
+fn refuses_one_stem_twice(desk: &Desk) -> bool {
     let texts = ["a/de.txt", "fr.txt", "b/de.txt"];
     let errors = "resb: two texts are named de: a/de.txt and b/de.txt\n";
-    compiles(&desk, PLAIN, &texts, 2, "", errors) && !desk.keeps("out/fr.res")
+    compiles(desk, PLAIN, &texts, 2, "", errors) && !desk.keeps("out/fr.res")
 }
 
 #[test]
 fn one_stem_is_given_once(rt: HostRuntime) {
-    assert!(rt; refuses_one_stem_twice(desk_with_files(rt.alloc())));
+    assert!(rt; refuses_one_stem_twice(&desk_of(rt.alloc(), &FILES)));
 }
 
-fn names_each_file(desk: Option<Desk>) -> bool {
-    let Some(desk) = desk else {
-        return false;
-    };
+fn names_each_file(desk: &Desk) -> bool {
     let names = ["good.res", "bad.res", "none.res"];
     let errors = "bad.res: TooDeep\ncannot read none.res\n";
-    let all = check_all(&desk, PLAIN, &names);
-    ended(&desk, all, 1, "good.res: ok, 1 visits\n", errors)
-        && ended(&desk, check_all(&desk, QUIET, &["good.res"]), 0, "", "")
-        && ended(&desk, check_on(&desk, QUIET, "good.res"), 0, "", "")
+    let all = check_all(desk, PLAIN, &names);
+    ended(desk, all, 1, "good.res: ok, 1 visits\n", errors)
+        && ended(desk, check_all(desk, QUIET, &["good.res"]), 0, "", "")
+        && ended(desk, check_on(desk, QUIET, "good.res"), 0, "", "")
 }
 
 #[test]
 fn files_are_checked_by_name(rt: HostRuntime) {
-    assert!(rt; names_each_file(desk_with_files(rt.alloc())));
+    assert!(rt; names_each_file(&desk_of(rt.alloc(), &FILES)));
 }
 
 /// On a terminal it is said how far a command is, once a second has gone by, and an error names the command that explains it.
-fn tells_a_terminal(desk: Option<Desk>) -> bool {
-    let Some(desk) = desk else {
-        return false;
-    };
+fn tells_a_terminal(desk: &Desk) -> bool {
     let output = "good.res: ok, 1 visits\n";
     let errors =
         "\r1 of 2\u{1b}[K\r\u{1b}[Kbad.res: TooDeep (resb explain TooDeep)\n\r2 of 2\u{1b}[K\r\u{1b}[K";
-    let all = check_all(&desk, TERMINAL, &["good.res", "bad.res"]);
-    ended(&desk, all, 1, output, errors)
+    let all = check_all(desk, TERMINAL, &["good.res", "bad.res"]);
+    ended(desk, all, 1, output, errors)
 }
 
 #[test]
 fn terminals_are_told_more(rt: HostRuntime) {
-    assert!(rt; tells_a_terminal(desk_with_files(rt.alloc())));
+    assert!(rt; tells_a_terminal(&desk_of(rt.alloc(), &FILES)));
 }
 
 /// Files and their stems.

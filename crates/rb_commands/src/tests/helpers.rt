@@ -1,36 +1,30 @@
 //! Warnings, explanations, request lines and lookups over files in memory.
 use super::desk::Desk;
-use super::{ROOM, ended};
+use super::{desk_of, ended};
 use rb_console::Console;
 use rb_file_commands::{explain, lint_all};
 use rb_lookup_commands::{Change, Lookup, lines, look_up};
-use std::alloc::Global;
 
-/// A desk with texts, a file that isn't UTF-8, and random bytes.
-fn desk_with_texts(alloc: Global) -> Option<Desk> {
-    let desk = Desk::new(alloc, ROOM);
-    let is_set = desk.put("de.txt", b"de{a{\"A\"}}")
-        && desk.put("b/de_AT.txt", b"de_AT{\nb{\"B\" \"C\", \"D\"}}")
-        && desk.put("latin.txt", b"de{\n\xE9}")
-        && desk.put("x.res", b"\x00\xFF")
-        && desk.put("/dev/random", b"");
-    if is_set { Some(desk) } else { None }
-}
+/// Texts, one that isn't UTF-8, a file, and random bytes.
+const FILES: [(&str, &[u8]); 5] = [
+    ("de.txt", b"de{a{\"A\"}}"),
+    ("b/de_AT.txt", b"de_AT{\nb{\"B\" \"C\", \"D\"}}"),
+    ("latin.txt", b"de{\n\xE9}"),
+    ("x.res", b"\x00\xFF"),
+    ("/dev/random", b""),
+];
 
-fn lints(desk: Option<Desk>) -> bool {
-    let Some(desk) = desk else {
-        return false;
-    };
+fn lints(desk: &Desk) -> bool {
     let warning =
         "b/de_AT.txt:2: warning: two texts side by side are joined into one; is a comma missing?\n";
-    let all = lint_all(&desk, Console::plain(), None, &["de.txt", "b/de_AT.txt"]);
-    let is_warned = ended(&desk, all, 1, warning, "");
-    let refused = lint_all(&desk, Console::plain(), None, &["none.txt", "de.txt"]);
+    let all = lint_all(desk, Console::plain(), None, &["de.txt", "b/de_AT.txt"]);
+    let is_warned = ended(desk, all, 1, warning, "");
+    let refused = lint_all(desk, Console::plain(), None, &["none.txt", "de.txt"]);
     is_warned
-        && ended(&desk, refused, 1, "", "cannot read none.txt\n")
+        && ended(desk, refused, 1, "", "cannot read none.txt\n")
         && ended(
-            &desk,
-            lint_all(&desk, Console::plain(), None, &["de.txt"]),
+            desk,
+            lint_all(desk, Console::plain(), None, &["de.txt"]),
             0,
             "",
             "",
@@ -39,50 +33,44 @@ fn lints(desk: Option<Desk>) -> bool {
 
 #[test]
 fn warns_of_texts(rt: HostRuntime) {
-    assert!(rt; lints(desk_with_texts(rt.alloc())));
+    assert!(rt; lints(&desk_of(rt.alloc(), &FILES)));
 }
 
-fn prints_lines(desk: Option<Desk>) -> bool {
-    let Some(desk) = desk else {
-        return false;
-    };
+fn prints_lines(desk: &Desk) -> bool {
     let printed =
         "{\"op\":\"replace\",\"app\":\"shop\",\"locale\":\"de\",\"text\":\"de{a{\\\"A\\\"}}\"}\n{\"op\":\"replace\",\"app\":\"shop\",\"locale\":\"fr\",\"file\":\"00ff\"}\n";
     let all = lines(
-        &desk,
+        desk,
         Console::plain(),
         Change::Replace,
         "shop",
         &["de.txt", "fr=x.res"],
     );
-    let is_printed = ended(&desk, all, 0, printed, "");
+    let is_printed = ended(desk, all, 0, printed, "");
     let other = lines(
-        &desk,
+        desk,
         Console::plain(),
         Change::Install,
         "my shop",
         &["de.txt"],
     );
-    let is_refused = ended(&desk, other, 1, "", "my shop: BadApp\n");
+    let is_refused = ended(desk, other, 1, "", "my shop: BadApp\n");
     let latin = lines(
-        &desk,
+        desk,
         Console::plain(),
         Change::Install,
         "shop",
         &["de.txt", "fr=latin.txt"],
     );
-    is_printed && is_refused && ended(&desk, latin, 1, "", "latin.txt:2: NotUtf8\n")
+    is_printed && is_refused && ended(desk, latin, 1, "", "latin.txt:2: NotUtf8\n")
 }
 
 #[test]
 fn prints_request_lines(rt: HostRuntime) {
-    assert!(rt; prints_lines(desk_with_texts(rt.alloc())));
+    assert!(rt; prints_lines(&desk_of(rt.alloc(), &FILES)));
 }
 
-fn looks_up(desk: Option<Desk>) -> bool {
-    let Some(desk) = desk else {
-        return false;
-    };
+fn looks_up(desk: &Desk) -> bool {
     let lookup = Lookup {
         parents: None,
         locale: "de_AT",
@@ -90,23 +78,23 @@ fn looks_up(desk: Option<Desk>) -> bool {
         is_traced: false,
     };
     let files = ["de.txt", "b/de_AT.txt"];
-    let found = look_up(&desk, Console::plain(), lookup, &files);
+    let found = look_up(desk, Console::plain(), lookup, &files);
     let reply = "{\"actual\":\"de\",\"type\":\"string\",\"valid\":\"de_AT\",\"value\":\"A\"}\n";
-    let is_found = ended(&desk, found, 0, reply, "");
+    let is_found = ended(desk, found, 0, reply, "");
     let twice = look_up(
-        &desk,
+        desk,
         Console::plain(),
         lookup,
         &["de.txt", "DE=b/de_AT.txt"],
     );
-    let is_twice = ended(&desk, twice, 1, "", "b/de_AT.txt: Twice\n");
-    let none = look_up(&desk, Console::plain(), lookup, &["it=de.txt"]);
-    is_found && is_twice && ended(&desk, none, 1, "{\"error\":\"NoBundle\"}\n", "")
+    let is_twice = ended(desk, twice, 1, "", "b/de_AT.txt: Twice\n");
+    let none = look_up(desk, Console::plain(), lookup, &["it=de.txt"]);
+    is_found && is_twice && ended(desk, none, 1, "{\"error\":\"NoBundle\"}\n", "")
 }
 
 #[test]
 fn looks_over_files(rt: HostRuntime) {
-    assert!(rt; looks_up(desk_with_texts(rt.alloc())));
+    assert!(rt; looks_up(&desk_of(rt.alloc(), &FILES)));
 }
 
 fn explains(desk: &Desk) -> bool {
@@ -119,5 +107,5 @@ fn explains(desk: &Desk) -> bool {
 
 #[test]
 fn explains_words(rt: HostRuntime) {
-    assert!(rt; explains(&Desk::new(rt.alloc(), ROOM)));
+    assert!(rt; explains(&desk_of(rt.alloc(), &[])));
 }

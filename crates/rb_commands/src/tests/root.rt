@@ -1,9 +1,8 @@
 //! Texts in memory beside that of the root locale.
 use super::desk::Desk;
-use super::{ROOM, ended};
+use super::{desk_of, ended};
 use rb_console::Console;
 use rb_file_commands::lint_all;
-use std::alloc::Global;
 
 const ROOT: &[u8] =
     b"root{\n a{\"Hello {name}\"}\n b{\"B\"}\n c{x{\"X\"} y{\"Y\"}}\n d{\n  \"1\",\n  \"2 {n}\"\n }\n f{\"F\"}\n}\n";
@@ -15,17 +14,16 @@ const TEXT: &[u8] =
 const DIFFERENCES: &str =
     "de.txt:1: warning: the root has 'b', and this text doesn't\nde.txt:2: warning: 'a' has no {name}, which it has in the root\nde.txt:2: warning: 'a' has {nmae}, which it hasn't in the root\nde.txt:3: warning: the root has 'c/y', and this text doesn't\nde.txt:6: warning: 'd/1' has no {n}, which it has in the root\nde.txt:8: warning: 'e' isn't in the root\nde.txt:9: warning: 'f' is an array, and a string in the root\n";
 
-fn desk_with_texts(alloc: Global) -> Option<Desk> {
-    let desk = Desk::new(alloc, ROOM);
-    let is_set = desk.put("root.txt", ROOT)
-        && desk.put("de.txt", TEXT)
-        && desk.put(
-            "alias.txt",
-            b"alias{a:alias{\"/LOCALE/b\"} b{\"B\"} c{} d{} f{\"F\"}}",
-        )
-        && desk.put("bad.txt", b"bad{\n a:int{x}\n}");
-    if is_set { Some(desk) } else { None }
-}
+/// The root's text, one beside it, one with an alias, and one that is refused.
+const TEXTS: [(&str, &[u8]); 4] = [
+    ("root.txt", ROOT),
+    ("de.txt", TEXT),
+    (
+        "alias.txt",
+        b"alias{a:alias{\"/LOCALE/b\"} b{\"B\"} c{} d{} f{\"F\"}}",
+    ),
+    ("bad.txt", b"bad{\n a:int{x}\n}"),
+];
 
 /// Whether texts beside a root end with this status, and print this.
 fn lints(
@@ -40,17 +38,14 @@ fn lints(
     ended(desk, found, status, output, errors)
 }
 
-fn finds_differences(desk: Option<Desk>) -> bool {
-    let Some(desk) = desk else {
-        return false;
-    };
+fn finds_differences(desk: &Desk) -> bool {
     let root = Some("root.txt");
-    lints(&desk, None, &["de.txt", "root.txt"], 0, "", "")
-        && lints(&desk, root, &["root.txt"], 0, "", "")
-        && lints(&desk, root, &["root.txt", "de.txt"], 1, DIFFERENCES, "")
-        && lints(&desk, root, &["bad.txt"], 1, "", "bad.txt:2: BadInt\n")
+    lints(desk, None, &["de.txt", "root.txt"], 0, "", "")
+        && lints(desk, root, &["root.txt"], 0, "", "")
+        && lints(desk, root, &["root.txt", "de.txt"], 1, DIFFERENCES, "")
+        && lints(desk, root, &["bad.txt"], 1, "", "bad.txt:2: BadInt\n")
         && lints(
-            &desk,
+            desk,
             root,
             &["alias.txt"],
             1,
@@ -61,22 +56,19 @@ fn finds_differences(desk: Option<Desk>) -> bool {
 
 #[test]
 fn differences_from_the_root_are_found(rt: HostRuntime) {
-    assert!(rt; finds_differences(desk_with_texts(rt.alloc())));
+    assert!(rt; finds_differences(&desk_of(rt.alloc(), &TEXTS)));
 }
 
-fn wants_a_root(desk: Option<Desk>) -> bool {
-    let Some(desk) = desk else {
-        return false;
-    };
+fn wants_a_root(desk: &Desk) -> bool {
     lints(
-        &desk,
+        desk,
         Some("bad.txt"),
         &["de.txt"],
         1,
         "",
         "bad.txt:2: BadInt\n",
     ) && lints(
-        &desk,
+        desk,
         Some("no.txt"),
         &["de.txt"],
         1,
@@ -87,5 +79,5 @@ fn wants_a_root(desk: Option<Desk>) -> bool {
 
 #[test]
 fn a_root_that_is_refused_is_said(rt: HostRuntime) {
-    assert!(rt; wants_a_root(desk_with_texts(rt.alloc())));
+    assert!(rt; wants_a_root(&desk_of(rt.alloc(), &TEXTS)));
 }

@@ -1,13 +1,12 @@
 //! Lookups over files in memory, traced.
-use super::ROOM;
 use super::desk::Desk;
+use super::desk_of;
 use rb_console::Console;
 use rb_lookup_commands::{Lookup, look_up};
-use std::alloc::Global;
 use std::process::ExitCode;
 
-/// The texts that lookups are over.
-const TEXTS: [(&str, &[u8]); 7] = [
+/// The texts that lookups are over, and random bytes.
+const TEXTS: [(&str, &[u8]); 8] = [
     (
         "root.txt",
         b"root{menu{open{\"O\"} old:alias{\"/LOCALE/menu/open\"}} bad:alias{\"!\"}}",
@@ -18,6 +17,7 @@ const TEXTS: [(&str, &[u8]); 7] = [
     ("sr_ME.txt", b"sr_ME{%%Parent{\"sr_Latn\"}}"),
     ("xx.txt", b"xx{%%Parent{\"!\"}}"),
     ("parents.txt", b"x{parentLocales{root{\"zh_Hant\"}}}"),
+    ("/dev/random", b""),
 ];
 
 /// Lookups over all texts but the parents: the locale, the path, the reply, and the trace.
@@ -82,20 +82,6 @@ const FILES: [&str; 6] = [
     "xx.txt",
 ];
 
-fn desk_with_texts(alloc: Global) -> Option<Desk> {
-    let desk = Desk::new(alloc, ROOM);
-    for (name, text) in TEXTS {
-        if !desk.put(name, text) {
-            return None;
-        }
-    }
-    if desk.put("/dev/random", b"") {
-        Some(desk)
-    } else {
-        None
-    }
-}
-
 /// Whether a lookup gives this reply, and with a trace also this.
 fn is_traced<'a>(desk: &Desk, locale: &'a str, path: &'a str, reply: &str, trace: &str) -> bool {
     let plain = Lookup {
@@ -114,12 +100,9 @@ fn is_traced<'a>(desk: &Desk, locale: &'a str, path: &'a str, reply: &str, trace
         && desk.said(reply, trace)
 }
 
-fn are_traced(desk: Option<Desk>) -> bool {
-    let Some(desk) = desk else {
-        return false;
-    };
+fn are_traced(desk: &Desk) -> bool {
     for (locale, path, reply, trace) in TRACES {
-        if !is_traced(&desk, locale, path, reply, trace) {
+        if !is_traced(desk, locale, path, reply, trace) {
             return false;
         }
     }
@@ -128,25 +111,22 @@ fn are_traced(desk: Option<Desk>) -> bool {
 
 #[test]
 fn lookups_are_traced(rt: HostRuntime) {
-    assert!(rt; are_traced(desk_with_texts(rt.alloc())));
+    assert!(rt; are_traced(&desk_of(rt.alloc(), &TEXTS)));
 }
 
 /// Where a file is refused nothing is traced.
-fn says_refusals_alone(desk: Option<Desk>) -> bool {
-    let Some(desk) = desk else {
-        return false;
-    };
+fn says_refusals_alone(desk: &Desk) -> bool {
     let lookup = Lookup {
         parents: None,
         locale: "de",
         path: "a",
         is_traced: true,
     };
-    let twice = look_up(&desk, Console::plain(), lookup, &["de.txt", "DE=iw.txt"]);
+    let twice = look_up(desk, Console::plain(), lookup, &["de.txt", "DE=iw.txt"]);
     twice == ExitCode::from(1) && desk.said("", "iw.txt: Twice\n")
 }
 
 #[test]
 fn refused_files_are_not_traced(rt: HostRuntime) {
-    assert!(rt; says_refusals_alone(desk_with_texts(rt.alloc())));
+    assert!(rt; says_refusals_alone(&desk_of(rt.alloc(), &TEXTS)));
 }
