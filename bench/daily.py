@@ -19,7 +19,6 @@ import glob
 import os
 import random
 import re
-import shutil
 import subprocess
 import sys
 import tempfile
@@ -51,11 +50,13 @@ def timed(words):
 
 
 def fresh(folder, name):
-    """A folder without files."""
-    path = os.path.join(folder, name)
-    shutil.rmtree(path, ignore_errors=True)
-    os.mkdir(path)
-    return path
+    """A new folder. Those of earlier runs stay, since ext4 is slow to make files soon after many were deleted."""
+    return tempfile.mkdtemp(prefix=name, dir=folder)
+
+
+def made_by(folder):
+    """The files of one run of `compile --to`."""
+    return sorted(glob.glob(os.path.join(glob.glob(os.path.join(folder, "ours*"))[0], "*.res")))
 
 
 def columns(runs):
@@ -121,7 +122,7 @@ def report(program, texts, text, folder, runs, count):
     hits = {character: found(program, text, "de.txt", folder, character, count) for character in FOUND}
     for character, (hit, tried) in hits.items():
         print(f"lint, one {character} taken out: {hit} of {tried} found within {NEAR} lines")
-    files = sorted(glob.glob(os.path.join(folder, "ours", "*.res")))
+    files = made_by(folder)
     lines = lines_runs(program, named(files), runs)
     print(f"lines, {len(files)} files: {spread(lines[0])} s of processor time, {spread(lines[1])} s on the clock")
     return ours, theirs, hits, lines
@@ -178,7 +179,7 @@ def self_test(program):
                 file.write(SMALL.replace("de {", f"{name} {{"))
         texts = sorted(glob.glob(os.path.join(source, "*.txt")))
         told = report(program, texts, SMALL, folder, 2, 4)
-        files = glob.glob(os.path.join(folder, "ours", "*.res"))
+        files = made_by(folder)
     wrong = list(wrong_of(told, files))
     print("".join(f"wrong: {line}\n" for line in wrong) or "ok: daily.py\n", end="")
     return 1 if wrong else 0
