@@ -10,10 +10,17 @@ use crate::limits::SOURCE_LIMIT;
 use bstr::ByteSlice;
 
 /// How many line feeds there are.
+#[tactic(auto, using(std::proofs::lemmas::List::Sums::count_by_more_yes, std::proofs::lemmas::List::Sums::count_by_more_no))]
 fn count_line_feeds(bytes: &[u8]) -> u64
     ensures { result ≡ count_by (λ b. b == 0x0A) bytes.now }
 {
-    bytes.iter().filter(|b| **b == b'\n').count() as u64
+    let mut feeds = 0;
+    for byte in bytes {
+        if *byte == b'\n' {
+            feeds += 1;
+        }
+    }
+    feeds
 }
 
 /// How many line feeds there are from one byte to another.
