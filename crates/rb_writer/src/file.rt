@@ -100,8 +100,10 @@ pub fn write(alloc: Global, tree: &Tree, no_fallback: bool) -> Result<Vec<u8>, A
     let indexes = index_count(no_fallback);
     let gathered = gather(alloc, tree)?;
     let keys = sorted_keys(alloc, &gathered)?;
+    drop(gathered.keys);
     let mut out = Data::new(alloc, indexes)?;
     let places = write_keys(alloc, &mut out, &keys, gathered.order, indexes)?;
+    drop(keys);
     let mut entry = 0;
     let root = write_value(alloc, &mut out, &places, &mut entry, tree)?;
     Ok(finish(
