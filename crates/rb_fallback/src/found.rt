@@ -1,4 +1,4 @@
-// What a lookup finds.
+//! What a lookup finds.
 ghost use Rattle.std.specs.Prelude.{◌≡◌};
 
 use rb_locales::Name;

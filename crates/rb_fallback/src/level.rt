@@ -1,4 +1,4 @@
-// One level of a search: one pass over a trail, which asks for each name's bundle once and keeps no name.
+//! One level of a search: one pass over a trail, which asks for each name's bundle once and keeps no name.
 ghost use Rattle.std.specs.Prelude.{◌≡◌, ◌++◌, ◌∷◌, [], List, ℕ, Some, option_map};
 ghost use Rattle.rb_tree.specs.SourceTree.{SourceTree};
 ghost use Rattle.rb_tree.specs.Path.{IsPath, segments};

@@ -1,4 +1,4 @@
-// Paths of a bounded length, and the path after an alias.
+//! Paths of a bounded length, and the path after an alias.
 ghost use Rattle.std.specs.Prelude.{◌≡◌, ◌<◌, ◌≤◌, ◌+◌, ◌++◌, ◌↔◌, IfNone, IfSome, IsTrue, length, drop, true};
 ghost use Rattle.std.specs.Bool.{OnTrue};
 ghost use Rattle.std.specs.List.{list_all};

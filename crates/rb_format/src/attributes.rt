@@ -1,4 +1,4 @@
-// The attributes of a bundle.
+//! The attributes of a bundle.
 ghost use Rattle.std.specs.Prelude.{◌≡◌, ◌<◌, IsTrue};
 ghost use Rattle.rb_format.specs.Attributes as specified;
 ghost use Rattle.rb_format.specs.Attributes.{attributes_of, bit};

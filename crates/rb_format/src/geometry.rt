@@ -1,4 +1,4 @@
-// Where the parts of tables are.
+//! Where the parts of tables are.
 ghost use Rattle.std.specs.Prelude.{◌≡◌, ◌+◌, ◌*◌, ◌≤◌, ◌<◌, ◌^◌, length};
 ghost use Rattle.rb_format.specs.Geometry as parts;
 ghost use Rattle.rb_format.specs.Geometry.{key_offset, keys_end};

@@ -1,4 +1,4 @@
-// The header of a file.
+//! The header of a file.
 ghost use Rattle.std.specs.Prelude.{◌≡◌, ◌+◌, ◌≤◌, length, drop, IfOk, IsTrue};
 ghost use Rattle.rb_format.specs.Place.{half_at};
 ghost use Rattle.rb_format.specs.File as files;

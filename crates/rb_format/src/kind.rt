@@ -1,4 +1,4 @@
-// Item words: a type and an offset.
+//! Item words: a type and an offset.
 ghost use Rattle.std.specs.Prelude.{◌≡◌};
 ghost use Rattle.rb_format.specs.Item as items;
 ghost use Rattle.rb_format.specs.Item.{kind_of, type_of, offset_of};

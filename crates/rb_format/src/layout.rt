@@ -1,4 +1,4 @@
-// The bounds in a file's data.
+//! The bounds in a file's data.
 ghost use Rattle.std.specs.Prelude.{◌≡◌, ◌≤◌, length};
 ghost use Rattle.rb_format.specs.File as files;
 ghost use Rattle.rb_format.specs.Place.{layout_of};

@@ -1,4 +1,4 @@
-// What is at a place of the data.
+//! What is at a place of the data.
 ghost use Rattle.std.specs.Prelude.{◌≡◌, ◌+◌, ◌*◌, ◌≤◌, ◌<◌, ◌==◌, length, position, IfSome};
 ghost use Rattle.std.specs.Option.{option_copied};
 ghost use Rattle.rb_format.specs.Place as places;

@@ -1,4 +1,4 @@
-// Bytes that a text spells.
+//! Bytes that a text spells.
 ghost use Rattle.std.specs.Prelude.{◌≡◌, ℕ, List, IfOk, MatchOption};
 ghost use Rattle.rb_grammar.specs.Numeral.{is_gap, IsHexText};
 

@@ -1,4 +1,4 @@
-// Tokens as they come.
+//! Tokens as they come.
 ghost use Rattle.std.specs.Prelude.{◌≡◌, ◌++◌, ◌≤◌, ℕ, List, [], ◌+◌, ◌&&◌, is_some, None, Some, false, ◌∷◌, drop, length, MatchOption, OnOk, IfOk, IfErr};
 ghost use Rattle.rb_lexer.specs.declared.fault.SourceKind.TheVariants.{Memory};
 ghost use Rattle.rb_lexer.specs.Tokens.{line_of, width};

@@ -1,4 +1,4 @@
-// The first character of a text.
+//! The first character of a text.
 ghost use Rattle.std.specs.Prelude.{◌≡◌, ◌<◌, ◌≤◌, ◌∷◌, [], ℕ, List, length, MatchOption, IfSome};
 ghost use Rattle.std.specs.Str.{chars};
 ghost use Rattle.rb_lexer.specs.Tokens.{width};

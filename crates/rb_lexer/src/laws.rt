@@ -1,4 +1,4 @@
-// What the definitions decide.
+//! What the definitions decide.
 ghost use Rattle.std.specs.Prelude.{◌≡◌, ◌⊎◌, ℕ, List};
 ghost use Rattle.rb_lexer.specs.declared.token.Token.{Token};
 ghost use Rattle.rb_lexer.specs.declared.fault.SourceKind.{SourceKind};

@@ -1,4 +1,4 @@
-// A text that is read to its end for its errors. Nothing is kept, and no memory is taken.
+//! A text that is read to its end for its errors. Nothing is kept, and no memory is taken.
 ghost use Rattle.std.specs.Prelude.{◌≡◌, ◌≤◌, ◌-◌, List, length, OnOk, IfOk, IfErr, MatchResult, IsTrue, encode_utf8_all};
 ghost use Rattle.rb_lexer.specs.declared.fault.SourceKind.TheVariants.{Memory};
 ghost use Rattle.rb_lexer.specs.Tokens.{line_of};

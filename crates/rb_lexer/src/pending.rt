@@ -1,4 +1,4 @@
-// Pending text.
+//! Pending text.
 ghost use Rattle.std.specs.Prelude.{◌≡◌, OnOk};
 ghost use Rattle.rb_lexer.specs.Merging.{joined};
 

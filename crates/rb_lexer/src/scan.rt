@@ -1,4 +1,4 @@
-// The front of a text.
+//! The front of a text.
 ghost use Rattle.rb_lexer.specs.declared.scan.Scanned.TheVariants.{Run};
 ghost use Rattle.std.specs.Prelude.{◌≡◌, ◌<◌, ◌≤◌, ◌∷◌, [], ℕ, List, true, false, MatchOption, MatchResult, IfOk, IfSome, OnSome, length};
 ghost use Rattle.std.specs.Str.{chars};

@@ -1,4 +1,4 @@
-// Tokens as they are taken.
+//! Tokens as they are taken.
 ghost use Rattle.std.specs.Prelude.{◌≡◌, ◌∷◌, [], List, IfOk, IfErr, MatchOption, MatchResult, drop};
 ghost use Rattle.rb_lexer.specs.declared.fault.SourceKind.TheVariants.{Memory};
 ghost use Rattle.rb_lexer.specs.declared.token.Token.{Token};

@@ -1,4 +1,4 @@
-// A source as text.
+//! A source as text.
 ghost use Rattle.std.specs.Prelude.{◌≡◌, ◌<◌, ◌≤◌, ◌+◌, ◌==◌, ◌^◌, length, take, count_by, IsUtf8, MatchResult};
 ghost use Rattle.std.specs.Str.{IsValidUpTo};
 ghost use Rattle.rb_lexer.specs.declared.fault.SourceKind.TheVariants.{NotUtf8, TooLong};

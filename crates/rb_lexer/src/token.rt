@@ -1,4 +1,4 @@
-// Tokens.
+//! Tokens.
 use rb_tree::UnitList;
 
 /// A text or a punctuation mark.

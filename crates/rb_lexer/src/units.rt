@@ -1,4 +1,4 @@
-// Units as they are read.
+//! Units as they are read.
 ghost use Rattle.std.specs.Prelude.{◌≡◌, ◌++◌, ◌∷◌, [], IsTrue, OnOk, ◌↔◌};
 
 use rb_tree::UnitList;

@@ -1,4 +1,4 @@
-// Unquoted pieces.
+//! Unquoted pieces.
 ghost use Rattle.std.specs.Prelude.{◌≡◌, ◌≤◌, ◌∷◌, [], ◌||◌, ◌==◌, ℕ, List, length, IfOk};
 ghost use Rattle.std.specs.Str.{chars};
 ghost use Rattle.rb_lexer.specs.Lexeme.{quote, is_white, is_punctuation, begins_comment, units_of};

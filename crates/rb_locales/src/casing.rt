@@ -1,4 +1,4 @@
-// The parts of a name, written in the case of their position.
+//! The parts of a name, written in the case of their position.
 ghost use Rattle.std.specs.Prelude.{◌≡◌, ◌<◌, ◌≤◌, length, if◌then◌else◌, Some, None, List, ℕ, Option};
 ghost use Rattle.std.specs.List.{list_all, position_or_len};
 ghost use Rattle.std.specs.Char.{is_ascii_alphabetic, is_ascii_alphanumeric};

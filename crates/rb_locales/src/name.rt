@@ -1,4 +1,4 @@
-// The type of names, and how a text is read as one.
+//! The type of names, and how a text is read as one.
 ghost use Rattle.std.specs.Prelude.{◌≡◌, ◌≤◌, ◌++◌, ◌↔◌, ◌-◌, Some, length, drop, take, codes, IfOk};
 ghost use Rattle.std.specs.Result.{result_ok};
 ghost use Rattle.std.specs.List.{position_or_len};

@@ -1,4 +1,4 @@
-// The order of names, by bytes, what of them is hashed, and the default name.
+//! The order of names, by bytes, what of them is hashed, and the default name.
 ghost use Rattle.std.specs.Prelude.{◌≡◌, ◌∷◌, [], codes, nat_eq};
 ghost use Rattle.std.proofs.Common.{rules};
 ghost use Rattle.std.specs.Cmp.{partial_order_from_own_ties};

@@ -1,4 +1,4 @@
-// Explicit parents.
+//! Explicit parents.
 ghost use Rattle.std.specs.Prelude.{◌≡◌, ◌⊎◌, List, ℕ, Ok, Err, None, IfOk, IfErr, IfSome, IfNone, OnOk, Some, map, if◌then◌else◌};
 ghost use Rattle.rb_tree.specs.Parts.{children_of, kind_of, pairs_of, units_of};
 ghost use Rattle.rb_tree.specs.View.{view_of};

@@ -1,4 +1,4 @@
-// The trail of a name, found before any path is walked.
+//! The trail of a name, found before any path is walked.
 ghost use Rattle.std.specs.Prelude.{◌≡◌, ◌++◌, ◌∷◌, [], ◌<◌, if◌then◌else◌, IfOk, IfSome, option_map, Some, None, map, slice_get};
 ghost use Rattle.rb_tree.specs.Parts.{kind_of, units_of};
 ghost use Rattle.rb_tree.specs.declared.kind.Kind.TheVariants as Kinds;

@@ -1,4 +1,4 @@
-// Bundles by their names.
+//! Bundles by their names.
 ghost use Rattle.std.specs.Prelude.{◌≡◌, ℕ, List, Option, option_map, nat_eq};
 ghost use Rattle.std.specs.Map.{lookup};
 ghost use Rattle.std.specs.Cmp.Lexicographic.{pointwise};

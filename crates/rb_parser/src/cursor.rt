@@ -1,4 +1,4 @@
-// A place in the tokens of a text.
+//! A place in the tokens of a text.
 ghost use Rattle.std.specs.Prelude.{◌≡◌, ◌≢◌, ◌||◌, ◌∷◌, [], ◌<◌, ◌≤◌, length, if◌then◌else◌, IsTrue, ◌↔◌, is_some};
 ghost use Rattle.std.specs.Prelude.{MatchOption, MatchResult, Some, None, Ok, Err, OnOk, IfOk};
 ghost use Rattle.rb_grammar.specs.Faults.{line_at};

@@ -1,4 +1,4 @@
-// Keys of tables.
+//! Keys of tables.
 ghost use Rattle.std.specs.Prelude.{◌≡◌, IfOk, MatchOption};
 ghost use Rattle.rb_tree.specs.Keys.{IsKey};
 

@@ -1,4 +1,4 @@
-// Bodies of the types without others inside, between their braces.
+//! Bodies of the types without others inside, between their braces.
 ghost use Rattle.std.specs.Prelude.{◌≡◌, ℕ, List, ◌<◌, ◌≤◌, length, Ok, OnOk, IfOk};
 ghost use Rattle.rb_lexer.specs.declared.fault.SourceKind.TheVariants.{BadInt, BadHex};
 ghost use Rattle.rb_grammar.specs.Good.{text_or_none};

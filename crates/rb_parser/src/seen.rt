@@ -1,4 +1,4 @@
-// The keys of a table that were read.
+//! The keys of a table that were read.
 ghost use Rattle.std.specs.Prelude.{◌≡◌, ◌∷◌, ◌++◌, [], ◌<◌, ◌-◌, length, true, false, not, IfOk, OnOk, IsTrue};
 ghost use Rattle.rb_tree.specs.declared.tree.Tree.{Tree};
 ghost use Rattle.rb_grammar.specs.Reading.{is_among};

@@ -1,4 +1,4 @@
-// Whole bundle texts.
+//! Whole bundle texts.
 ghost use Rattle.std.specs.Prelude.{◌≡◌, ◌==◌, ℕ, List, suc, count_by, IfOk, IfErr, MatchResult};
 ghost use Rattle.rb_lexer.specs.declared.fault.SourceKind.TheVariants.{Memory};
 ghost use Rattle.rb_tree.specs.Parts.{Fits};

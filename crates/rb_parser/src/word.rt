@@ -1,4 +1,4 @@
-// Type words.
+//! Type words.
 ghost use Rattle.std.specs.Prelude.{◌≡◌, option_map};
 ghost use Rattle.rb_grammar.specs.Reading.{first_word, all_words, is_no_fallback_word, word_fault};
 ghost use Rattle.rb_parser.specs.inner.Views.{word_of};

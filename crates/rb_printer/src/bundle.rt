@@ -1,4 +1,4 @@
-// Whole bundles.
+//! Whole bundles.
 ghost use Rattle.std.specs.Prelude.{◌≡◌, ◌<◌, [], ◌∷◌, length, IfOk, IfErr, OnOk};
 ghost use Rattle.rb_tree.specs.Parts.{kind_of};
 ghost use Rattle.rb_printer.specs.Sign.{signs_chars, left, feed};

@@ -1,4 +1,4 @@
-// Why a tree is not printed.
+//! Why a tree is not printed.
 ghost use Rattle.std.specs.Prelude.{◌≡◌};
 ghost use Rattle.rb_printer.specs.Words.{print_word};
 ghost use Rattle.rb_printer.specs.declared.error.PrintError.TheVariants as errors;

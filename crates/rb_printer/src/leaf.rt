@@ -1,4 +1,4 @@
-// Trees without children.
+//! Trees without children.
 ghost use Rattle.std.specs.Prelude.{◌≡◌, ◌<◌, ◌+◌, ◌^◌, ℕ, List, drop, [], ◌∷◌, ◌++◌, true, false, length, ◌≤◌, OnOk, IfOk, ◌/◌, ◌%◌};
 ghost use Rattle.std.specs.Char.{digit_char};
 ghost use Rattle.std.specs.List.{AllByRecursion};

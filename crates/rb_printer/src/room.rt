@@ -1,4 +1,4 @@
-// Whether a text would be too long, known before it is written.
+//! Whether a text would be too long, known before it is written.
 ghost use Rattle.std.specs.Prelude.{◌≡◌, ◌+◌, ◌*◌, ◌≤◌, ℕ, length, Option};
 ghost use Rattle.rb_tree.specs.Parts.{kind_of, len_of};
 ghost use Rattle.rb_tree.specs.Resource.{height};

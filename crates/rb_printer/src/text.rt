@@ -1,4 +1,4 @@
-// Texts, with quotes and without.
+//! Texts, with quotes and without.
 ghost use Rattle.std.specs.Prelude.{◌≡◌, ◌<◌, ◌+◌, ◌&&◌, ℕ, List, [], ◌∷◌, true, false, None, length, drop, OnOk, MatchOption, IsTrue};
 ghost use Rattle.std.specs.Char.{digit_char};
 ghost use Rattle.std.specs.Char.Utf16.{is_high_surrogate, is_low_surrogate};

@@ -1,4 +1,4 @@
-// Trees, each level indented by four spaces more.
+//! Trees, each level indented by four spaces more.
 ghost use Rattle.std.specs.Prelude.{◌≡◌, ◌+◌, ◌≤◌, [], ◌∷◌, OnOk};
 ghost use Rattle.rb_grammar.specs.Form.{array_word, table_word};
 ghost use Rattle.rb_tree.specs.Resource.{height};

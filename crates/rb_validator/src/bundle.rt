@@ -1,4 +1,4 @@
-// Files that denote a bundle.
+//! Files that denote a bundle.
 ghost use Rattle.std.specs.Prelude.{◌≡◌, ◌⊎◌, ◌*◌, ◌≤◌, Some, IfOk, IfErr, drop, length};
 ghost use Rattle.rb_format.specs.Place.{half_at, layout_of};
 ghost use Rattle.rb_validator.specs.Visits.{HasVisits};

@@ -1,4 +1,4 @@
-// The items of a table or an array, after the checks of its length and its keys.
+//! The items of a table or an array, after the checks of its length and its keys.
 ghost use Rattle.std.specs.Prelude.{◌≡◌, ◌⊎◌, ◌+◌, ◌*◌, ◌≤◌, ◌<◌, ◌^◌, length, true, Err};
 ghost use Rattle.rb_validator.specs.inner.KnownKeys.{IsSound};
 ghost use Rattle.rb_validator.specs.inner.Marks as marks;

@@ -1,6 +1,6 @@
-// A small number for each offset and each kind with children. Nearly every offset has such a number for one kind at most, so one byte
-// for each offset has the kind and its number. The numbers of its other two kinds have bytes that are reserved from the start, and first
-// written when one of them is set: no file whose tables and arrays do not overlap gets there, and memory that is not written costs little.
+//! A small number for each offset and each kind with children. Nearly every offset has such a number for one kind at most, so one byte
+//! for each offset has the kind and its number. The numbers of its other two kinds have bytes that are reserved from the start, and first
+//! written when one of them is set: no file whose tables and arrays do not overlap gets there, and memory that is not written costs little.
 ghost use Rattle.std.specs.Prelude.{◌≡◌, ◌≢◌, ◌⊎◌, true, false, ℕ, ◌*◌, ◌/◌, ◌<◌, ◌≤◌, ◌==◌, if◌then◌else◌};
 ghost use Rattle.std.specs.Prelude.{length, replicate, slice_index, slice_set, vec_len, vec_capacity, IfOk};
 ghost use Rattle.rb_validator.specs.inner.Marks.{cell, slot};

@@ -1,4 +1,4 @@
-// The checks of an item and of all below it. Each table and array is entered once.
+//! The checks of an item and of all below it. Each table and array is entered once.
 ghost use Rattle.std.specs.Prelude.{◌≡◌, ◌≢◌, ◌⊎◌, true, ℕ, ◌+◌, ◌*◌, ◌≤◌, ◌<◌, length, Some, Ok, Err, IfOk};
 ghost use Rattle.rb_format.specs.inner.FirstFault.{result_map, within, contents, read};
 ghost use Rattle.rb_format.specs.Item.{kind_of, offset_of};

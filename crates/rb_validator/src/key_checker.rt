@@ -1,6 +1,6 @@
-// The keys of tables. They are compared byte by byte, until that has read many times as many bytes as the file has. From then on their
-// lengths are known, and only what two keys have in common is read. Where that too has become many times the file, they are compared by
-// their ranks, and what was found is kept.
+//! The keys of tables. They are compared byte by byte, until that has read many times as many bytes as the file has. From then on their
+//! lengths are known, and only what two keys have in common is read. Where that too has become many times the file, they are compared by
+//! their ranks, and what was found is kept.
 ghost use Rattle.std.specs.Prelude.{◌≡◌, ◌⊎◌, ◌*◌, ◌≤◌, [], length, Some, Err, IfOk, IfErr};
 ghost use Rattle.rb_format.specs.inner.FirstFault.{fault_of, keys};
 ghost use Rattle.rb_validator.specs.inner.KnownKeys.{IsSound, AreGood, key_run};

@@ -1,4 +1,4 @@
-// A key of a table, compared with the one before it byte by byte. What is compared is counted here and nowhere else.
+//! A key of a table, compared with the one before it byte by byte. What is compared is counted here and nowhere else.
 ghost use Rattle.std.specs.Prelude.{◌≡◌, ℕ, ◌+◌, ◌*◌, ◌≤◌, ◌<◌, ◌==◌, ◌^◌, length, IfSome};
 ghost use Rattle.std.specs.List.{common_prefix_len};
 ghost use Rattle.rb_format.specs.inner.FirstFault.{result_map, next_key};

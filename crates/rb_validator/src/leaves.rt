@@ -1,4 +1,4 @@
-// The checks of values without children.
+//! The checks of values without children.
 ghost use Rattle.std.specs.Prelude.{◌≡◌, false, ℕ, ◌+◌, ◌*◌, ◌≤◌, ◌<◌, length, Result};
 ghost use Rattle.rb_format.specs.inner.FirstFault.{fault_of, units, bytes, numbers, within, contents};
 ghost use Rattle.rb_format.specs.Item as items;

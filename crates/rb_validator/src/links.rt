@@ -1,5 +1,5 @@
-// Links over a list of key offsets: the link of place p is a place q, so that the offsets from p to q are those of ascending keys. A
-// link that is 0 says nothing.
+//! Links over a list of key offsets: the link of place p is a place q, so that the offsets from p to q are those of ascending keys. A
+//! link that is 0 says nothing.
 ghost use Rattle.std.specs.Prelude.{◌≡◌, ℕ, ◌+◌, ◌-◌, slice_index, IfOk};
 ghost use Rattle.rb_validator.specs.inner.KnownKeys.{IsRedirected};
 

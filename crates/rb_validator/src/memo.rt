@@ -1,4 +1,4 @@
-// The marks of the tables and arrays that an acceptance has entered.
+//! The marks of the tables and arrays that an acceptance has entered.
 ghost use Rattle.std.specs.Prelude.{◌≡◌, ◌≢◌, ℕ, ◌*◌, ◌<◌, ◌≤◌, ◌^◌, List, length, slice_index, slice_set, IfOk};
 ghost use Rattle.rb_validator.specs.inner.Marks.{cell, mark_of, mark_at, marked};
 

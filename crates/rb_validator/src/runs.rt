@@ -1,7 +1,7 @@
-// The runs of items of which the greatest height is known. Tables and arrays may overlap, so that a file's words are the items of very
-// many of them: a run is split at the middle of its block, the smallest one that holds it. A block is a power of two of words, at a
-// multiple of their number. What is found from a block's first word up to the end of a unit is kept, and what is found from a unit's
-// first word up to the end of a block, so that it is found once.
+//! The runs of items of which the greatest height is known. Tables and arrays may overlap, so that a file's words are the items of very
+//! many of them: a run is split at the middle of its block, the smallest one that holds it. A block is a power of two of words, at a
+//! multiple of their number. What is found from a block's first word up to the end of a unit is kept, and what is found from a unit's
+//! first word up to the end of a block, so that it is found once.
 ghost use Rattle.std.specs.Prelude.{◌≡◌, ◌⊎◌, true, ◌+◌, ◌*◌, ◌≤◌, ◌<◌, ◌/◌, ◌^◌, List, All, Contains, slice_set, IfOk, IfSome};
 ghost use Rattle.rb_validator.specs.declared.runs.Run.{Run};
 

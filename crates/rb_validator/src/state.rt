@@ -1,4 +1,4 @@
-// What an acceptance knows of its file so far.
+//! What an acceptance knows of its file so far.
 use crate::key_checker::KeyChecker;
 use crate::memo::Memo;
 use crate::runs::Runs;

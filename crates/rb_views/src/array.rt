@@ -1,4 +1,4 @@
-// Views of arrays.
+//! Views of arrays.
 ghost use Rattle.std.specs.Prelude.{◌≡◌, ◌<◌, IsTrue, Some, length, slice_get};
 ghost use Rattle.rb_format.specs.File.{has_valid_indexes};
 ghost use Rattle.rb_views.specs.Stands.{AllStand};

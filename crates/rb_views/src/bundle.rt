@@ -1,4 +1,4 @@
-// The root item of a bundle.
+//! The root item of a bundle.
 ghost use Rattle.std.specs.Prelude.{◌≡◌, ◌≤◌, length, drop};
 ghost use Rattle.rb_format.specs.File.{tree_of};
 ghost use Rattle.rb_format.specs.Place.{word_at as word_of};

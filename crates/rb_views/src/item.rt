@@ -1,4 +1,4 @@
-// Items of a bundle.
+//! Items of a bundle.
 ghost use Rattle.std.specs.Prelude.{◌≡◌, ◌+◌, ◌*◌, ◌<◌, ◌≤◌, IsTrue, Some, IfSome, option_map, length, take, drop};
 ghost use Rattle.std.specs.Option.{option_copied};
 ghost use Rattle.rb_tree.specs.Parts.{HasUnits, kind_of, units_of, numbers_of, bytes_of, children_of, pairs_of};

@@ -1,4 +1,4 @@
-// Views of texts and of vectors of numbers.
+//! Views of texts and of vectors of numbers.
 ghost use Rattle.std.specs.Prelude.{◌≡◌, ◌+◌, ◌*◌, ◌<◌, ◌≤◌, Some, length, slice_index, slice_get};
 
 use rb_format::{half_at, word_at};

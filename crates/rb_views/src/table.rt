@@ -1,4 +1,4 @@
-// Views of tables.
+//! Views of tables.
 ghost use Rattle.std.specs.Prelude.{◌≡◌, ◌<◌, ◌≤◌, ◌+◌, ◌-◌, ◌/◌, ◌⊎◌, IsTrue, Some, length, slice_get, option_map, nat_eq, IfSome};
 ghost use Rattle.std.specs.Map.{lookup, keys_of, values_of};
 ghost use Rattle.std.specs.Ordering.{nat_cmp};

@@ -1,4 +1,4 @@
-// Where the keys are.
+//! Where the keys are.
 
 /// The words in which the keys are: after the root item and so many indexes, below the word `top`.
 #[derive(Clone, Copy)]

@@ -1,4 +1,4 @@
-// The data of a file that is being written.
+//! The data of a file that is being written.
 ghost use Rattle.std.specs.Prelude.{◌≡◌, ◌+◌, ◌*◌, ◌++◌, ◌≤◌, drop, length, OnOk, IfOk};
 
 use rb_format::HEADER_SIZE;

@@ -1,4 +1,4 @@
-// A tree as a file.
+//! A tree as a file.
 ghost use Rattle.std.specs.Prelude.{IfOk, length, take, drop, ◌≡◌, ◌+◌, ◌*◌, ◌≤◌, ◌<◌, ◌^◌};
 ghost use Rattle.rb_format.specs.File.{Denotes};
 ghost use Rattle.rb_format.specs.Place.{word_at};

@@ -1,4 +1,4 @@
-// The keys of a tree, each once.
+//! The keys of a tree, each once.
 ghost use Rattle.std.specs.Prelude.{◌≡◌, OnOk, IfOk, IsTrue, []};
 ghost use Rattle.std.specs.List.Sorted.{IsSorted};
 ghost use Rattle.std.specs.Ordering.{nat_cmp, ordering_then};

@@ -1,4 +1,4 @@
-// The header of the file.
+//! The header of the file.
 ghost use Rattle.std.specs.Prelude.{◌≡◌};
 ghost use Rattle.rb_writer.specs.inner.Header as specified;
 

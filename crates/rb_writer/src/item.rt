@@ -1,4 +1,4 @@
-// Item words.
+//! Item words.
 ghost use Rattle.std.specs.Prelude.{◌≡◌, ◌<◌, ◌^◌, Some};
 ghost use Rattle.rb_format.specs.Item as items;
 

@@ -1,4 +1,4 @@
-// The keys and their places.
+//! The keys and their places.
 ghost use Rattle.std.specs.Prelude.{◌≡◌, ◌⊎◌, ◌≤◌, ◌<◌, ◌+◌, ◌*◌, ◌^◌, ℕ, List, length, OnOk, IfOk, IfSome, IsTrue, All};
 ghost use Rattle.rb_writer.specs.inner.Keyed.{IsStored, IsStoredAt, IsPlace, HasPlace};
 ghost use Rattle.rb_tree.specs.Keys.{IsKey};

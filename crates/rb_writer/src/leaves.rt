@@ -1,4 +1,4 @@
-// Values without children.
+//! Values without children.
 ghost use Rattle.std.specs.Prelude.{IfOk, length, ◌≡◌, ◌⊎◌, ◌+◌, ◌*◌, ◌%◌, ◌^◌, ◌≤◌, ◌<◌, ℕ, [], map};
 ghost use Rattle.rb_format.specs.inner.FirstFault.{units, bytes};
 ghost use Rattle.rb_writer.specs.declared.area.KeyArea.{KeyArea};

@@ -1,4 +1,4 @@
-// The length of a tree's longest table.
+//! The length of a tree's longest table.
 ghost use Rattle.std.specs.Prelude.{◌≡◌};
 ghost use Rattle.rb_tree.specs.View.{view_of};
 ghost use Rattle.rb_writer.specs.Longest.{longest};

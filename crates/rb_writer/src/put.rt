@@ -1,4 +1,4 @@
-// Numbers and bytes after what is there.
+//! Numbers and bytes after what is there.
 ghost use Rattle.std.specs.Prelude.{OnOk, All, drop, length, ◌≡◌, ◌+◌, ◌<◌, ◌%◌, ◌≤◌, map};
 ghost use Rattle.rb_writer.specs.inner.Growth.{Adds, PutsWord, PutsHalf, PutsBytes, PutsWords, PutsHalves, PutsNumbers};
 

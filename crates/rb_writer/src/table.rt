@@ -1,4 +1,4 @@
-// A table after its children.
+//! A table after its children.
 ghost use Rattle.std.specs.Prelude.{MatchResult, IfOk, length, ◌≡◌, ◌⊎◌, ◌+◌, ◌*◌, ◌%◌, ◌<◌, ◌^◌, ◌≤◌, ℕ, List, Some};
 ghost use Rattle.std.specs.Map.{keys_of};
 ghost use Rattle.rb_tree.specs.Keys.{pairs, IsTable};

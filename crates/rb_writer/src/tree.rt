@@ -1,4 +1,4 @@
-// The values of a tree, each after its children.
+//! The values of a tree, each after its children.
 ghost use Rattle.std.specs.Prelude.{IfOk, length, ◌≡◌, ◌+◌, ◌^◌, ◌≤◌};
 ghost use Rattle.rb_tree.specs.Parts.{kind_of, len_of, children_of, HasChildren};
 ghost use Rattle.rb_tree.specs.View.{view_of};

@@ -1,4 +1,4 @@
-// The fields of sample files.
+//! The fields of sample files.
 use crate::samples::{ONE_STRING, ONE_STRING_WITHOUT_FALLBACK, Sample, bytes_of};
 use rb_format::{
     Attributes, FileFault, Header, ItemKind, half, has_valid_indexes, item_kind, item_offset,

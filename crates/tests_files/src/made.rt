@@ -1,4 +1,4 @@
-// Large files and files that share items, made word by word.
+//! Large files and files that share items, made word by word.
 ghost use Rattle.std.specs.Prelude.{◌<◌, ◌^◌};
 
 use crate::samples::Draft;

@@ -1,4 +1,4 @@
-// Sample files, word by word.
+//! Sample files, word by word.
 use std::alloc::Global;
 
 /// A file by its minor version and the words of its data, which comes after the header.

@@ -1,4 +1,4 @@
-// The sample files, damaged ones, and files that a plain checker judges beside the code.
+//! The sample files, damaged ones, and files that a plain checker judges beside the code.
 mod plain;
 mod seen;
 

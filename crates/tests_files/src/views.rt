@@ -1,4 +1,4 @@
-// The views of sample files and of made ones.
+//! The views of sample files and of made ones.
 ghost use Rattle.std.specs.Prelude.{◌≤◌};
 
 use crate::made::chain;

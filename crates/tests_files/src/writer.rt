@@ -1,4 +1,4 @@
-// The sample files, and the tables in both their forms.
+//! The sample files, and the tables in both their forms.
 ghost use Rattle.std.specs.Prelude.{All};
 ghost use Rattle.rb_tree.specs.Keys.{IsKey};
 ghost use Rattle.rb_tree.specs.Table.{keys_in};

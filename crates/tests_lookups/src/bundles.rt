@@ -1,4 +1,4 @@
-// Bundles of strings and aliases, and explicit parents, made from rows.
+//! Bundles of strings and aliases, and explicit parents, made from rows.
 ghost use Rattle.std.specs.Prelude.{All, IfSome};
 ghost use Rattle.rb_tree.specs.Keys.{IsKey};
 ghost use Rattle.rb_tree.specs.Parts.{HasUnits, kind_of};

@@ -1,4 +1,4 @@
-// Lookups over lists of bundles.
+//! Lookups over lists of bundles.
 ghost use Rattle.std.specs.Prelude.{All};
 ghost use Rattle.rb_tree.specs.Keys.{IsKey};
 ghost use Rattle.rb_tree.specs.Table.{keys_in};

@@ -1,4 +1,4 @@
-// Names of locales as texts and units give them.
+//! Names of locales as texts and units give them.
 ghost use Rattle.rb_tree.specs.Parts.{HasUnits, kind_of};
 ghost use Rattle.rb_tree.specs.View.{view_of};
 

@@ -1,4 +1,4 @@
-// Explicit parents that trees give, and trails over a list of bundles.
+//! Explicit parents that trees give, and trails over a list of bundles.
 use crate::bundles::{Bundle, Row, bundles, leaves, long_row, one, parents, string};
 use rb_locales::Name;
 use rb_parents::{ListShelf, Parents, ParentsFault, Route, Shelf, TrailFault, trail};

@@ -1,4 +1,4 @@
-// Bundles that are printed, and what the parser reads.
+//! Bundles that are printed, and what the parser reads.
 use crate::laws::again;
 use rb_parser::parse;
 use rb_printer::{PrintError, print_bundle};

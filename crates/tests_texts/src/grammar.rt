@@ -1,4 +1,4 @@
-// Numbers, bytes and keys of worked examples.
+//! Numbers, bytes and keys of worked examples.
 use rb_grammar::{read_bytes, read_element, read_int};
 use rb_tree::key_ok;
 use std::alloc::Global;

@@ -1,4 +1,4 @@
-// Worked sources, with what they must give.
+//! Worked sources, with what they must give.
 use rb_lexer::{Mark, SourceFault, SourceKind, Token, lex};
 use std::alloc::Global;
 use std::test::Fail;

@@ -1,4 +1,4 @@
-// Worked bundle texts, with what they must give.
+//! Worked bundle texts, with what they must give.
 use rb_lexer::{SourceFault, SourceKind};
 use rb_parser::{Source, parse};
 use rb_tree::{Ending, Kind, Node, Tree, path_ok, walk};

@@ -1,4 +1,4 @@
-// A checker of files, written from the format's description alone and apart from the code that it judges.
+//! A checker of files, written from the format's description alone and apart from the code that it judges.
 ghost use Rattle.std.specs.Prelude.{◌+◌, ◌<◌, ◌^◌};
 
 use rb_format::FileFault;
