@@ -109,7 +109,7 @@ prove_and_link() {
 }
 
 build() {
-    say 'proving and building; a first build takes about a quarter of an hour'
+    say 'proving and building; a first build takes a quarter to half an hour'
     log=$(mktemp)
     began=$(mktemp)
     trap 'rm -f "$log" "$began"' EXIT

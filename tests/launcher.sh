@@ -81,7 +81,7 @@ rt() {
     printf '%s\n' '#!/bin/sh' 'echo "of rt: $*"' "$@" >"$tools/rt"
     chmod +x "$tools/rt"
 }
-building='resb: proving and building; a first build takes about a quarter of an hour'
+building='resb: proving and building; a first build takes a quarter to half an hour'
 
 rt 'exit 1'
 trial 'a build that fails' "$building
