@@ -103,9 +103,28 @@ progress() {
     [ ! -t 2 ] || printf '\r\033[K' >&2
 }
 
-# Proves the crates below the program, those that don't need each other at the same time, and then builds it.
+# Proves a crate and those below it, those that don't need each other at the same time: CRATE JOBS.
+prove() {
+    cd "$top/crates/$1" && rt all check --jobs "$2"
+}
+
+# Proves a crate as `prove` does, and says only then what was said.
+prove_quietly() {
+    status=0
+    said=$(prove "$@" 2>&1) || status=$?
+    printf '%s\n' "$said"
+    return "$status"
+}
+
+# Proves the two crates that the program uses, with all below them, side by side; then proves and builds the program. Its own
+# check is a part of its build, since most of it is the reading of what all its crates state.
 prove_and_link() {
-    cd "$top/crates/rb_tool" && rt all check --jobs "$(jobs)" && RT_BACKEND=llvm rt run -- --version
+    failed=0
+    prove_quietly rb_arguments 1 &
+    prove rb_commands "$(jobs)" || failed=1
+    wait "$!" || failed=1
+    [ "$failed" = 0 ] || return 1
+    cd "$top/crates/rb_tool" && RT_BACKEND=llvm rt run -- --version && echo '== rb_tool'
 }
 
 build() {

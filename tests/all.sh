@@ -1,10 +1,10 @@
 #!/usr/bin/env bash
 # All tests. First what needs no built program: the launcher, the manual page if mandoc is there, where definitions stand, the
-# bench's pictures, a program
-# that must not compile, and one of whose allocations each is refused in turn. Then the gate, which proves every crate from nothing,
-# tries the wrong bodies, runs each test, and builds the program. Last what runs that program: the examples, the documents, traced
-# lookups, the benches of daily use and of printed texts over small inputs, replies through pipes, lines with a member more, the
-# package, tools/icu2text beside ICU's tools, the shards of deploy/, and its gateway.
+# bench's pictures and its table of a first build, a program that must not compile, and one of whose allocations each is refused in
+# turn. Then the gate, which proves every crate from nothing, tries the wrong bodies, runs each test, and builds the program. Last
+# what runs that program: the examples, the documents, traced lookups, the benches of daily use and of printed texts over small
+# inputs, replies through pipes, lines with a member more, the package, tools/icu2text beside ICU's tools, the shards of deploy/,
+# and its gateway.
 set -eu
 cd "$(dirname "$0")/.."
 program=crates/rb_tool/out/rb_tool
@@ -32,6 +32,7 @@ fi
 if has python3; then
     tests/trusted.py --inner
     bench/draw.py --check
+    bench/first_build.py --self-test
 fi
 tests/no_change_while_lent.sh
 tests/memory.sh
