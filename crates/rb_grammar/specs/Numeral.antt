@@ -55,10 +55,14 @@ pub record Writes (units : List ℕ) (negative : Bool) (size : ℕ) : Type 0 whe
   pub negative_is : negative ≡ is_minus sign
   pub size_is : size ≡ numeral_value numeral
 
+-- a number is from -least on and below a modulus
+abbrev pub IsWithin : ℕ → ℕ → Bool → ℕ → Type 0
+IsWithin least modulus false size = size < modulus
+IsWithin least modulus true size = size ≤ least
+
 -- ---- an Int, kept modulo 2^28
 abbrev pub IsIntSize : Bool → ℕ → Type 0
-IsIntSize false size = size < 2 ^ 28
-IsIntSize true size = size ≤ 2 ^ 27
+IsIntSize = IsWithin (2 ^ 27) (2 ^ 28)
 
 abbrev pub int_kept : Bool → ℕ → ℕ
 int_kept false size = size
@@ -69,8 +73,7 @@ IsIntText units n = (negative : Bool) × (size : ℕ) × Writes units negative s
 
 -- ---- an element of a vector, kept modulo 2^32 as a signed number
 abbrev pub IsElementSize : Bool → ℕ → Type 0
-IsElementSize false size = size < 2 ^ 32
-IsElementSize true size = size ≤ 2 ^ 31
+IsElementSize = IsWithin (2 ^ 31) (2 ^ 32)
 
 abbrev pub element_kept : Bool → ℕ → ℤ
 element_kept false size = if nat_lt size (2 ^ 31) then pos size else neg_ℤ (pos (2 ^ 32 - size))

@@ -2,7 +2,7 @@
 ghost use Rattle.std.specs.Prelude.{◌≡◌, ◌≤◌, ◌<◌, ℕ, ℤ, min, Bool, MatchOption};
 ghost use Rattle.std.specs.Char.{digit_value};
 ghost use Rattle.std.specs.Str.Parse.{digits_value, AllDigits};
-ghost use Rattle.rb_grammar.specs.Numeral.{IsNumeral, numeral_value, is_minus, IsIntText, IsElementText};
+ghost use Rattle.rb_grammar.specs.Numeral.{IsNumeral, numeral_value, is_minus, Writes, IsWithin, IsIntText, IsElementText};
 ghost use Rattle.rb_grammar.specs.Shape.{shape, after_0, sign_of, unsigned_of};
 
 use crate::limits::{ELEMENT_MODULUS, INT_MODULUS, LEAST_ELEMENT_MAGNITUDE, LEAST_INT_MAGNITUDE};
@@ -90,23 +90,31 @@ fn number(units: &[u16]) -> Option<Signed>
     }
 }
 
+/// The number that a text spells, if it is from `-least` on and below `modulus`.
+fn number_within(units: &[u16], least: u64, modulus: u64) -> Option<Signed>
+    requires least { least < CEILING }
+    requires modulus { modulus ≤ CEILING }
+    ensures { MatchOption result
+        ((negative : Bool) (size : ℕ) → Writes units.now negative size → IsWithin least modulus negative size → ⊥)
+        (λ n. Writes units.now n.negative n.size × IsWithin least modulus n.negative n.size) }
+{
+    let found = number(units)?;
+    let is_within = if found.negative {
+        found.size <= least
+    } else {
+        found.size < modulus
+    };
+    is_within.then_some(found)
+}
+
 /// The value of an Int, modulo 2^28. `None` if the text is no number, or the number is below -2^27 or above 2^28 - 1.
 pub fn read_int(units: &[u16]) -> Option<u32>
     ensures { MatchOption result ((n : ℕ) → IsIntText units.now n → ⊥) (λ n. IsIntText units.now n) }
 {
-    let Signed { negative, size } = number(units)?;
-    if negative {
-        if size > LEAST_INT_MAGNITUDE {
-            return None;
-        }
-        if size == 0 {
-            return Some(0);
-        }
+    let Signed { negative, size } = number_within(units, LEAST_INT_MAGNITUDE, INT_MODULUS)?;
+    if negative && size > 0 {
         Some((INT_MODULUS - size) as u32)
     } else {
-        if size >= INT_MODULUS {
-            return None;
-        }
         Some(size as u32)
     }
 }
@@ -115,20 +123,13 @@ pub fn read_int(units: &[u16]) -> Option<u32>
 pub fn read_element(units: &[u16]) -> Option<i32>
     ensures { MatchOption result ((z : ℤ) → IsElementText units.now z → ⊥) (λ z. IsElementText units.now z) }
 {
-    let Signed { negative, size } = number(units)?;
-    if negative {
-        if size > LEAST_ELEMENT_MAGNITUDE {
-            return None;
-        }
-        Some((-(size as i64)) as i32)
+    let found = number_within(units, LEAST_ELEMENT_MAGNITUDE, ELEMENT_MODULUS)?;
+    let size = found.size as i64;
+    if found.negative {
+        Some((-size) as i32)
+    } else if found.size < LEAST_ELEMENT_MAGNITUDE {
+        Some(size as i32)
     } else {
-        if size >= ELEMENT_MODULUS {
-            return None;
-        }
-        if size < LEAST_ELEMENT_MAGNITUDE {
-            Some(size as i32)
-        } else {
-            Some((size as i64 - ELEMENT_MODULUS as i64) as i32)
-        }
+        Some((size - ELEMENT_MODULUS as i64) as i32)
     }
 }
