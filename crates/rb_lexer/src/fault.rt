@@ -79,11 +79,6 @@ pub struct LexError {
     pub left: usize,
 }
 
-const NO_MEMORY: LexError = LexError {
-    kind: SourceKind::Memory,
-    left: 0,
-};
-
 impl From<AllocError> for LexError {
     ghost use Rattle.std.specs.Prelude.{◌≡◌};
     ghost use Rattle.rb_lexer.specs.declared.fault.SourceKind.TheVariants.{Memory};
@@ -91,7 +86,10 @@ impl From<AllocError> for LexError {
     ghost from_gives = { λ _ e. e.kind ≡ Memory };
 
     fn from(_: AllocError) -> Self {
-        NO_MEMORY
+        LexError {
+            kind: SourceKind::Memory,
+            left: 0,
+        }
     }
 }
 
@@ -101,7 +99,7 @@ impl<T: Drop> From<AllocFailed<T>> for LexError {
 
     ghost from_gives = { λ _ e. e.kind ≡ Memory };
 
-    fn from(_: AllocFailed<T>) -> Self {
-        NO_MEMORY
+    fn from(refused: AllocFailed<T>) -> Self {
+        AllocError::from(refused).into()
     }
 }
