@@ -9,7 +9,7 @@ use crate::fault::LexError;
 use crate::pending::PendingText;
 use crate::scan::Scanned;
 use crate::token::{Mark, Token};
-use crate::units::UnitBuffer;
+use rb_tree::UnitList;
 use std::alloc::Global;
 use std::collections::VecDeque;
 
@@ -42,7 +42,7 @@ impl Builder {
     {
         if let Some(pending) = self.pending.take() {
             self.tokens.push_back(Token {
-                what: Mark::Text(pending.units.into_list()),
+                what: Mark::Text(pending.units),
                 first: pending.first,
                 past: pending.past,
                 line: pending.line,
@@ -74,7 +74,7 @@ impl Builder {
     }
 
     /// Extends the pending text by units of its last piece.
-    fn extend(&mut self, units: &UnitBuffer, past: usize) -> Result<(), LexError>
+    fn extend(&mut self, units: &UnitList, past: usize) -> Result<(), LexError>
         ensures memory { IfErr result (λ e. e.kind ≡ Memory) }
         ensures longer { OnOk result ((self.new.tokens.items ≡ self.old.tokens.items) ×
             (self.new.pending ≡ extended self.old.pending units.now past) × (self.new.is_open ≡ self.old.is_open)) }
@@ -91,7 +91,7 @@ impl Builder {
     pub fn add(
         &mut self,
         item: Scanned,
-        units: UnitBuffer,
+        units: UnitList,
         first: usize,
         past: usize,
         line: u64,

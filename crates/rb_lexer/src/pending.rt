@@ -2,13 +2,13 @@
 ghost use Rattle.std.specs.Prelude.{◌≡◌, OnOk};
 ghost use Rattle.rb_lexer.specs.Merging.{joined};
 
-use crate::units::UnitBuffer;
+use rb_tree::UnitList;
 use std::alloc::AllocError;
 
 /// A text that the next piece may still join: its units, whether its last piece is quoted, its span and its line.
 #[derive(Drop)]
 pub struct PendingText {
-    pub units: UnitBuffer,
+    pub units: UnitList,
     pub is_quoted: bool,
     pub first: usize,
     pub past: usize,

@@ -10,7 +10,7 @@ use crate::fault::LexError;
 use crate::front::width;
 use crate::scan::scan_first;
 use crate::text::line_feeds;
-use crate::units::UnitBuffer;
+use rb_tree::UnitList;
 use std::alloc::Global;
 
 /// A source without lexical errors: what of it is not read, the byte and the line where that
@@ -48,7 +48,7 @@ impl<'a> Reader<'a> {
         ensures shorter { IfOk result (λ more. IsTrue more → length self.new.rest.now < length self.old.rest.now) }
         ensures done { IfOk result (λ more. more ≡ false → IsDone self.new) }
     {
-        let mut units = UnitBuffer::new(self.alloc);
+        let mut units = UnitList::new(self.alloc);
         let Some((item, after)) = scan_first(&mut units, self.rest)? else {
             self.builder.flush()?;
             return Ok(false);

@@ -17,7 +17,7 @@ mod words;
 pub use ending::{Ending, walk};
 pub use kind::Kind;
 pub use limits::{HEIGHT_LIMIT, WEIGHT_LIMIT};
-pub use lists::{ByteList, Int28, NumberList, UnitList};
+pub use lists::{ByteList, Int28, NumberList, OwnedList, UnitList};
 pub use node::Node;
 pub use path::{key_ok, path_ok};
 pub use table::TableFault;
