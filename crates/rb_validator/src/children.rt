@@ -6,8 +6,9 @@ ghost use Rattle.rb_validator.specs.inner.Marks.{children_with};
 ghost use Rattle.rb_format.specs.Geometry.{keys_end};
 ghost use Rattle.rb_format.specs.Geometry as geometry;
 
+use crate::body::{Body, Checked};
 use crate::key_checker::KeyChecker;
-use rb_format::{FileFault, ItemKind, Layout, TableParts, long_table_parts, table_parts, word_at};
+use rb_format::{FileFault, ItemKind, TableParts, long_table_parts, table_parts, word_at};
 
 /// The items of a table or an array: the first word, and how many there are.
 #[derive(Clone, Copy)]
@@ -29,27 +30,26 @@ pub fn has_children(kind: ItemKind) -> bool
 /// The items of a table or an array, if its length and its keys are right. `Memory` may come in place of an answer.
 #[tactic(auto, unfolding(crate::specs::inner::Marks::children_at))]
 pub fn find_children(
-    layout: &Layout,
-    body: &[u8],
+    body: Body<'_>,
     keys: &mut KeyChecker,
     kind: ItemKind,
     offset: u32,
-) -> Result<Children, FileFault>
-    requires room { 4 * layout.now.top ≤ length body.now }
-    requires tops { layout.now.keys_top ≤ layout.now.top }
-    requires sound { IsSound layout.now body.now keys.old.known }
-    requires below { offset < layout.now.top }
+) -> Checked<Children>
+    requires room { 4 * body.layout.now.top ≤ length body.bytes.now }
+    requires tops { body.layout.now.keys_top ≤ body.layout.now.top }
+    requires sound { IsSound body.layout.now body.bytes.now keys.old.known }
+    requires below { offset < body.layout.now.top }
     requires inner { geometry.has_children kind ≡ true }
-    ensures value { (result ≡ Err FileFault.Memory) ⊎ (result ≡ marks.children_at layout.now body.now kind offset) }
-    ensures sound { IsSound layout.now body.now keys.new.known }
+    ensures value { (result ≡ Err FileFault.Memory) ⊎ (result ≡ marks.children_at body.entry.layout.now body.entry.bytes.now kind offset) }
+    ensures sound { IsSound body.entry.layout.now body.entry.bytes.now keys.new.known }
 {
     match kind {
-        ItemKind::Table => table_children(layout, body, keys, table_parts(body, offset)),
-        ItemKind::LongTable => table_children(layout, body, keys, long_table_parts(body, offset)),
+        ItemKind::Table => table_children(body, keys, table_parts(body.bytes, offset)),
+        ItemKind::LongTable => table_children(body, keys, long_table_parts(body.bytes, offset)),
         ItemKind::Array => {
             let first = offset as usize + 1;
-            let count = word_at(body, offset as usize) as usize;
-            if (layout.top as usize) < first + count {
+            let count = word_at(body.bytes, offset as usize) as usize;
+            if (body.layout.top as usize) < first + count {
                 return Err(FileFault::Length);
             }
             Ok(Children { first, count })
@@ -59,24 +59,19 @@ pub fn find_children(
 }
 
 /// The items of a table, if its length and its keys are right.
-fn table_children(
-    layout: &Layout,
-    body: &[u8],
-    keys: &mut KeyChecker,
-    parts: TableParts,
-) -> Result<Children, FileFault>
-    requires room { 4 * layout.now.top ≤ length body.now }
-    requires tops { layout.now.keys_top ≤ layout.now.top }
-    requires sound { IsSound layout.now body.now keys.old.known }
+fn table_children(body: Body<'_>, keys: &mut KeyChecker, parts: TableParts) -> Checked<Children>
+    requires room { 4 * body.layout.now.top ≤ length body.bytes.now }
+    requires tops { body.layout.now.keys_top ≤ body.layout.now.top }
+    requires sound { IsSound body.layout.now body.bytes.now keys.old.known }
     requires small { parts.first + parts.count < 2 ^ 40 }
-    requires places { parts.first + parts.count ≤ layout.now.top → keys_end parts.keys parts.count ≤ length body.now }
-    ensures value { (result ≡ Err FileFault.Memory) ⊎ (result ≡ children_with layout.now body.now parts) }
-    ensures sound { IsSound layout.now body.now keys.new.known }
+    requires places { parts.first + parts.count ≤ body.layout.now.top → keys_end parts.keys parts.count ≤ length body.bytes.now }
+    ensures value { (result ≡ Err FileFault.Memory) ⊎ (result ≡ children_with body.entry.layout.now body.entry.bytes.now parts) }
+    ensures sound { IsSound body.entry.layout.now body.entry.bytes.now keys.new.known }
 {
-    if (layout.top as usize) < parts.first + parts.count {
+    if (body.layout.top as usize) < parts.first + parts.count {
         return Err(FileFault::Length);
     }
-    keys.check_keys(layout, body, parts.keys, parts.count)?;
+    keys.check_keys(body, parts.keys, parts.count)?;
     Ok(Children {
         first: parts.first,
         count: parts.count,

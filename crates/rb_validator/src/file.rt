@@ -4,6 +4,7 @@ ghost use Rattle.rb_format.specs.inner.FirstFault.{fault_of, read_data, read_fil
 ghost use Rattle.rb_format.specs.Place as fields;
 ghost use Rattle.rb_validator.specs.Visits.{IsPlaceAt, IsCount, HasVisits};
 
+use crate::body::{Body, Checked};
 use crate::items::check_item;
 use crate::key_checker::KeyChecker;
 use crate::memo::Memo;
@@ -24,7 +25,7 @@ pub struct Counts {
 
 /// How many places a file has, and how many bytes of its keys were compared, or its first fault; `Memory` may come in place of an answer.
 #[tactic(auto, using(rb_format::proofs::Checks::header_is), unfolding(rb_format::specs::inner::FirstFault::read_file))]
-pub fn check_file(alloc: Global, bytes: &[u8]) -> Result<Counts, FileFault>
+pub fn check_file(alloc: Global, bytes: &[u8]) -> Checked<Counts>
     ensures answer { MatchResult result (λ _. fault_of (read_file 64 bytes.now) ≡ None)
         (λ e. (e ≡ FileFault.Memory) ⊎ (fault_of (read_file 64 bytes.now) ≡ Some e)) }
     ensures visits { IfOk result (λ n. HasVisits bytes.now n.visits) }
@@ -39,7 +40,7 @@ pub fn check_file(alloc: Global, bytes: &[u8]) -> Result<Counts, FileFault>
 
 /// The same of the data after the header of a file of a minor version.
 #[tactic(auto, unfolding(rb_format::specs::inner::FirstFault::read_data))]
-fn check_data(alloc: Global, minor: u8, body: &[u8]) -> Result<Counts, FileFault>
+fn check_data(alloc: Global, minor: u8, body: &[u8]) -> Checked<Counts>
     requires { length body.now ≤ 67108864 }
     ensures answer { MatchResult result (λ _. fault_of (read_data 64 minor body.now) ≡ None)
         (λ e. (e ≡ FileFault.Memory) ⊎ (fault_of (read_data 64 minor body.now) ≡ Some e)) }
@@ -61,9 +62,13 @@ fn check_data(alloc: Global, minor: u8, body: &[u8]) -> Result<Counts, FileFault
         return Err(FileFault::Memory);
     };
     let runs = Runs::new(alloc, layout.top);
-    let keys = KeyChecker::new(alloc, &layout, body);
+    let body = Body {
+        layout: &layout,
+        bytes: body,
+    };
+    let keys = KeyChecker::new(alloc, body);
     let mut state = CheckState { memo, runs, keys };
-    check_item(&layout, body, &mut state, root, HEIGHT_LIMIT as u8)?;
+    check_item(body, &mut state, root, HEIGHT_LIMIT as u8)?;
     Ok(Counts {
         visits: state.memo.visits(),
         compared: state.keys.known.compared,

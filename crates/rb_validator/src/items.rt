@@ -8,37 +8,32 @@ ghost use Rattle.rb_validator.specs.inner.KnownKeys.{IsSound};
 ghost use Rattle.rb_validator.specs.inner.Marks.{mark_at, IsKnown, IsMet, Keeps, Leads, After, AreRuns, run_of, IsRunKnown};
 ghost use Rattle.rb_format.specs.Geometry as geometry;
 
-use crate::children::{find_children, has_children};
+use crate::body::{Body, Checked};
+use crate::children::{Children, find_children, has_children};
 use crate::leaves::{check_leaf, check_offset};
 use crate::memo::Mark;
 use crate::runs::split;
 use crate::state::CheckState;
-use rb_format::{FileFault, ItemKind, Layout, item_kind, item_offset, word_at};
+use rb_format::{FileFault, ItemKind, item_kind, item_offset, word_at};
 
 /// The height of the tree that an item denotes, where that is at most `left`, or its first fault. `Memory` may come in place
 /// of an answer. Most items have no children, so that it is inlined where items are checked one by one, and the recursion goes
 /// through `check_inner`.
 #[cycle(check)]
 #[inline(always)]
-pub fn check_item(
-    layout: &Layout,
-    body: &[u8],
-    state: &mut CheckState,
-    item: u32,
-    left: u8,
-) -> Result<u8, FileFault>
-    requires room { 4 * layout.now.top ≤ length body.now }
-    requires tops { layout.now.keys_top ≤ layout.now.top }
+pub fn check_item(body: Body<'_>, state: &mut CheckState, item: u32, left: u8) -> Checked<u8>
+    requires room { 4 * body.layout.now.top ≤ length body.bytes.now }
+    requires tops { body.layout.now.keys_top ≤ body.layout.now.top }
     requires small { left < 65 }
-    requires met { IsMet body.now item }
-    requires sound { IsSound layout.now body.now state.old.keys.known }
-    requires keeps { Keeps layout.now body.now state.old.memo }
-    requires holds { AreRuns layout.now body.now state.old.memo state.old.runs }
-    requires leads { Leads layout.now body.now state.old.memo (λ e. read layout.now body.now e item ≡ Err FileFault.TooDeep) }
-    ensures value { (result ≡ Err FileFault.Memory) ⊎ (result ≡ result_map height (read layout.now body.now left item)) }
-    ensures sound { IsSound layout.now body.now state.new.keys.known }
-    ensures after { IfOk result (λ _. After layout.now body.now state.old.memo state.new.memo) }
-    ensures holds { IfOk result (λ _. AreRuns layout.now body.now state.new.memo state.new.runs) }
+    requires met { IsMet body.bytes.now item }
+    requires sound { IsSound body.layout.now body.bytes.now state.old.keys.known }
+    requires keeps { Keeps body.layout.now body.bytes.now state.old.memo }
+    requires holds { AreRuns body.layout.now body.bytes.now state.old.memo state.old.runs }
+    requires leads { Leads body.layout.now body.bytes.now state.old.memo (λ e. read body.layout.now body.bytes.now e item ≡ Err FileFault.TooDeep) }
+    ensures value { (result ≡ Err FileFault.Memory) ⊎ (result ≡ result_map height (read body.entry.layout.now body.entry.bytes.now left item)) }
+    ensures sound { IsSound body.entry.layout.now body.entry.bytes.now state.new.keys.known }
+    ensures after { IfOk result (λ _. After body.entry.layout.now body.entry.bytes.now state.old.memo state.new.memo) }
+    ensures holds { IfOk result (λ _. AreRuns body.entry.layout.now body.entry.bytes.now state.new.memo state.new.runs) }
     ensures known { IfOk result (λ _. IsKnown state.new.memo item) }
 {
     if left == 0 {
@@ -47,13 +42,13 @@ pub fn check_item(
     match item_kind(item) {
         Some(kind) => {
             let offset = item_offset(item);
-            if !check_offset(layout, kind, offset)? {
+            if !check_offset(body.layout, kind, offset)? {
                 return Ok(1);
             }
             if has_children(kind) {
-                check_inner(layout, body, state, item, kind, left - 1)
+                check_inner(body, state, item, kind, left - 1)
             } else {
-                check_leaf(layout, body, kind, offset)?;
+                check_leaf(body, kind, offset)?;
                 Ok(1)
             }
         }
@@ -65,38 +60,37 @@ pub fn check_item(
 #[cycle(check)]
 #[inline(never)]
 fn check_inner(
-    layout: &Layout,
-    body: &[u8],
+    body: Body<'_>,
     state: &mut CheckState,
     item: u32,
     kind: ItemKind,
     left: u8,
-) -> Result<u8, FileFault>
-    requires room { 4 * layout.now.top ≤ length body.now }
-    requires tops { layout.now.keys_top ≤ layout.now.top }
+) -> Checked<u8>
+    requires room { 4 * body.layout.now.top ≤ length body.bytes.now }
+    requires tops { body.layout.now.keys_top ≤ body.layout.now.top }
     requires small { left < 64 }
-    requires met { IsMet body.now item }
+    requires met { IsMet body.bytes.now item }
     requires is_kind { kind_of item ≡ Some kind }
     requires inner { geometry.has_children kind ≡ true }
     requires full { 0 < offset_of item }
-    requires there { within layout.now kind (offset_of item) ≡ Ok true }
-    requires below { offset_of item < layout.now.top }
-    requires sound { IsSound layout.now body.now state.old.keys.known }
-    requires keeps { Keeps layout.now body.now state.old.memo }
-    requires holds { AreRuns layout.now body.now state.old.memo state.old.runs }
-    requires leads { Leads layout.now body.now state.old.memo (λ e. read layout.now body.now e item ≡ Err FileFault.TooDeep) }
-    ensures value { (result ≡ Err FileFault.Memory) ⊎ (result ≡ result_map height (contents layout.now body.now (λ w. read layout.now body.now left w) (offset_of item) kind)) }
-    ensures sound { IsSound layout.now body.now state.new.keys.known }
-    ensures after { IfOk result (λ _. After layout.now body.now state.old.memo state.new.memo) }
-    ensures holds { IfOk result (λ _. AreRuns layout.now body.now state.new.memo state.new.runs) }
+    requires there { within body.layout.now kind (offset_of item) ≡ Ok true }
+    requires below { offset_of item < body.layout.now.top }
+    requires sound { IsSound body.layout.now body.bytes.now state.old.keys.known }
+    requires keeps { Keeps body.layout.now body.bytes.now state.old.memo }
+    requires holds { AreRuns body.layout.now body.bytes.now state.old.memo state.old.runs }
+    requires leads { Leads body.layout.now body.bytes.now state.old.memo (λ e. read body.layout.now body.bytes.now e item ≡ Err FileFault.TooDeep) }
+    ensures value { (result ≡ Err FileFault.Memory) ⊎ (result ≡ result_map height (contents body.entry.layout.now body.entry.bytes.now (λ w. read body.entry.layout.now body.entry.bytes.now left w) (offset_of item) kind)) }
+    ensures sound { IsSound body.entry.layout.now body.entry.bytes.now state.new.keys.known }
+    ensures after { IfOk result (λ _. After body.entry.layout.now body.entry.bytes.now state.old.memo state.new.memo) }
+    ensures holds { IfOk result (λ _. AreRuns body.entry.layout.now body.entry.bytes.now state.new.memo state.new.runs) }
     ensures known { IfOk result (λ _. mark_at state.new.memo kind (offset_of item) ≢ 0) }
 {
     let offset = item_offset(item);
     match state.memo.mark(kind, offset) {
         Mark::New => {
             state.memo.enter(kind, offset);
-            let found = find_children(layout, body, &mut state.keys, kind, offset)?;
-            let below = check_items(layout, body, state, found.first, found.count, left)?;
+            let found = find_children(body, &mut state.keys, kind, offset)?;
+            let below = check_items(body, state, found, left)?;
             state.memo.finish(kind, offset, below + 1);
             Ok(below + 1)
         }
@@ -114,37 +108,31 @@ fn check_inner(
 /// The greatest height of so many items from a word on: they are checked one by one, or in two parts. What is found of a block of
 /// them is kept.
 #[cycle(check)]
-fn check_items(
-    layout: &Layout,
-    body: &[u8],
-    state: &mut CheckState,
-    first: usize,
-    count: usize,
-    left: u8,
-) -> Result<u8, FileFault>
-    requires room { 4 * layout.now.top ≤ length body.now }
-    requires tops { layout.now.keys_top ≤ layout.now.top }
+fn check_items(body: Body<'_>, state: &mut CheckState, items: Children, left: u8) -> Checked<u8>
+    requires room { 4 * body.layout.now.top ≤ length body.bytes.now }
+    requires tops { body.layout.now.keys_top ≤ body.layout.now.top }
     requires small { left < 64 }
-    requires items { first + count ≤ layout.now.top }
-    requires met { (i : ℕ) → i < count → IsMet body.now (fields.word_at body.now (first + i)) }
-    requires sound { IsSound layout.now body.now state.old.keys.known }
-    requires keeps { Keeps layout.now body.now state.old.memo }
-    requires holds { AreRuns layout.now body.now state.old.memo state.old.runs }
-    requires leads { Leads layout.now body.now state.old.memo (λ e. run_of layout.now body.now e first count ≡ Err FileFault.TooDeep) }
-    ensures value { (result ≡ Err FileFault.Memory) ⊎ (result ≡ result_map trees_height (run_of layout.now body.now left first count)) }
+    requires items { items.first + items.count ≤ body.layout.now.top }
+    requires met { (i : ℕ) → i < items.count → IsMet body.bytes.now (fields.word_at body.bytes.now (items.first + i)) }
+    requires sound { IsSound body.layout.now body.bytes.now state.old.keys.known }
+    requires keeps { Keeps body.layout.now body.bytes.now state.old.memo }
+    requires holds { AreRuns body.layout.now body.bytes.now state.old.memo state.old.runs }
+    requires leads { Leads body.layout.now body.bytes.now state.old.memo (λ e. run_of body.layout.now body.bytes.now e items.first items.count ≡ Err FileFault.TooDeep) }
+    ensures value { (result ≡ Err FileFault.Memory) ⊎ (result ≡ result_map trees_height (run_of body.entry.layout.now body.entry.bytes.now left items.first items.count)) }
     ensures low { IfOk result (λ h. h ≤ left) }
-    ensures sound { IsSound layout.now body.now state.new.keys.known }
-    ensures after { IfOk result (λ _. After layout.now body.now state.old.memo state.new.memo) }
-    ensures holds { IfOk result (λ _. AreRuns layout.now body.now state.new.memo state.new.runs) }
-    ensures known { IfOk result (λ _. IsRunKnown body.now state.new.memo first count) }
+    ensures sound { IsSound body.entry.layout.now body.entry.bytes.now state.new.keys.known }
+    ensures after { IfOk result (λ _. After body.entry.layout.now body.entry.bytes.now state.old.memo state.new.memo) }
+    ensures holds { IfOk result (λ _. AreRuns body.entry.layout.now body.entry.bytes.now state.new.memo state.new.runs) }
+    ensures known { IfOk result (λ _. IsRunKnown body.entry.bytes.now state.new.memo items.first items.count) }
 {
+    let Children { first, count } = items;
     let Ok(is_plain) = state.runs.is_plain(count) else {
         return Err(FileFault::Memory);
     };
     if is_plain {
         let mut height = 0;
         for i in first..first + count {
-            let child = check_item(layout, body, state, word_at(body, i), left)?;
+            let child = check_item(body, state, word_at(body.bytes, i), left)?;
             height = height.max(child);
         }
         return Ok(height);
@@ -156,9 +144,16 @@ fn check_items(
         }
         return Err(FileFault::TooDeep);
     }
-    let before = parts.middle - first;
-    let low = check_items(layout, body, state, first, before, left)?;
-    let high = check_items(layout, body, state, parts.middle, count - before, left)?;
+    let before = Children {
+        first,
+        count: parts.middle - first,
+    };
+    let after = Children {
+        first: parts.middle,
+        count: count - before.count,
+    };
+    let low = check_items(body, state, before, left)?;
+    let high = check_items(body, state, after, left)?;
     let height = low.max(high);
     state.runs.keep(parts, first, count, height);
     Ok(height)

@@ -6,11 +6,12 @@ ghost use Rattle.rb_format.specs.inner.FirstFault.{fault_of, keys};
 ghost use Rattle.rb_validator.specs.inner.KnownKeys.{IsSound, AreGood, key_run};
 ghost use Rattle.rb_format.specs.Geometry.{keys_end, key_offset as offset_in};
 
+use crate::body::{Body, Checked};
 use crate::keys::next_key;
 use crate::known_keys::KnownKeys;
 use crate::lengths::measure_keys;
 use crate::ranks::rank_keys;
-use rb_format::{FileFault, KeyPlaces, Layout};
+use rb_format::{FileFault, KeyPlaces};
 use std::alloc::{AllocError, Global};
 
 /// Up to how many bytes of keys are compared byte by byte, for each byte of the data.
@@ -31,119 +32,111 @@ pub struct KeyChecker {
 }
 
 /// The bytes of all keys, those between the indexes and the top of the keys.
-fn key_bytes<'a>(layout: &Layout, body: &'a [u8]) -> &'a [u8]
-    requires { 4 * layout.now.keys_top ≤ length body.now }
-    ensures { result.now ≡ key_run layout.now body.now }
+fn key_bytes<'a>(body: Body<'a>) -> &'a [u8]
+    requires { 4 * body.layout.now.keys_top ≤ length body.bytes.now }
+    ensures { result.now ≡ key_run body.entry.layout.now body.entry.bytes.now }
 {
-    let first = 4 * (1 + layout.indexes as usize);
-    let top = 4 * layout.keys_top as usize;
-    if first < top { &body[first..top] } else { &[] }
+    let first = 4 * (1 + body.layout.indexes as usize);
+    let top = 4 * body.layout.keys_top as usize;
+    if first < top {
+        &body.bytes[first..top]
+    } else {
+        &[]
+    }
 }
 
 impl KeyChecker {
     /// Nothing was found so far.
-    pub fn new(alloc: Global, layout: &Layout, body: &[u8]) -> KeyChecker
-        requires { length body.now ≤ 67108864 }
-        ensures { IsSound layout.now body.now result.known }
+    pub fn new(alloc: Global, body: Body<'_>) -> KeyChecker
+        requires { length body.bytes.now ≤ 67108864 }
+        ensures { IsSound body.entry.layout.now body.entry.bytes.now result.known }
     {
         KeyChecker {
             alloc,
-            pairs: body.len() / 2,
+            pairs: body.bytes.len() / 2,
             is_measured: false,
             is_prepared: false,
-            known: KnownKeys::new(alloc, layout, body, 0),
+            known: KnownKeys::new(alloc, body, 0),
         }
     }
 
     /// Whether the keys of a table are keys, each above the one before. `Memory` may come in place of an answer.
-    pub fn check_keys(
-        &mut self,
-        layout: &Layout,
-        body: &[u8],
-        places: KeyPlaces,
-        count: usize,
-    ) -> Result<(), FileFault>
-        requires keys { 4 * layout.now.keys_top ≤ length body.now }
-        requires places { keys_end places count ≤ length body.now }
-        requires sound { IsSound layout.now body.now self.old.known }
-        ensures fault { (result ≡ Err FileFault.Memory) ⊎ (fault_of result ≡ fault_of (keys layout.now body.now (offset_in body.now places) [] 0 count)) }
-        ensures sound { IsSound layout.now body.now self.new.known }
+    pub fn check_keys(&mut self, body: Body<'_>, places: KeyPlaces, count: usize) -> Checked<()>
+        requires keys { 4 * body.layout.now.keys_top ≤ length body.bytes.now }
+        requires places { keys_end places count ≤ length body.bytes.now }
+        requires sound { IsSound body.layout.now body.bytes.now self.old.known }
+        ensures fault { (result ≡ Err FileFault.Memory) ⊎ (fault_of result ≡ fault_of (keys body.entry.layout.now body.entry.bytes.now (offset_in body.entry.bytes.now places) [] 0 count)) }
+        ensures sound { IsSound body.entry.layout.now body.entry.bytes.now self.new.known }
     {
-        let reached = self.check_plainly(layout, body, places, count)?;
+        let reached = self.check_plainly(body, places, count)?;
         if reached == count {
             return Ok(());
         }
-        if self.measure(layout, body).is_err() {
+        if self.measure(body).is_err() {
             return Err(FileFault::Memory);
         }
         let reached = self
             .known
-            .check_closely(layout, body, places, count, &mut self.pairs)?;
+            .check_closely(body, places, count, &mut self.pairs)?;
         if reached == count {
             return Ok(());
         }
-        if self.prepare(layout, body).is_err() {
+        if self.prepare(body).is_err() {
             return Err(FileFault::Memory);
         }
-        self.known.check_rest(layout, body, places, reached, count)
+        self.known.check_rest(body, places, reached, count)
     }
 
     /// Checks keys byte by byte within the budget, and gives how many are good.
-    fn check_plainly(
-        &mut self,
-        layout: &Layout,
-        body: &[u8],
-        places: KeyPlaces,
-        count: usize,
-    ) -> Result<usize, FileFault>
-        requires keys { 4 * layout.now.keys_top ≤ length body.now }
-        requires places { keys_end places count ≤ length body.now }
-        requires sound { IsSound layout.now body.now self.old.known }
-        ensures good { IfOk result (λ n. AreGood layout.now body.now (offset_in body.now places) n) }
+    fn check_plainly(&mut self, body: Body<'_>, places: KeyPlaces, count: usize) -> Checked<usize>
+        requires keys { 4 * body.layout.now.keys_top ≤ length body.bytes.now }
+        requires places { keys_end places count ≤ length body.bytes.now }
+        requires sound { IsSound body.layout.now body.bytes.now self.old.known }
+        ensures good { IfOk result (λ n. AreGood body.entry.layout.now body.entry.bytes.now (offset_in body.entry.bytes.now places) n) }
         ensures low { IfOk result (λ n. n ≤ count) }
-        ensures fault { IfErr result (λ e. fault_of (keys layout.now body.now (offset_in body.now places) [] 0 count) ≡ Some e) }
-        ensures sound { IsSound layout.now body.now self.new.known }
+        ensures fault { IfErr result (λ e. fault_of (keys body.entry.layout.now body.entry.bytes.now (offset_in body.entry.bytes.now places) [] 0 count) ≡ Some e) }
+        ensures sound { IsSound body.entry.layout.now body.entry.bytes.now self.new.known }
     {
-        let limit = PLAIN_SHARE * body.len() as u64;
+        let limit = PLAIN_SHARE * body.bytes.len() as u64;
         let mut last: &[u8] = &[];
         for i in 0..count {
             if limit <= self.known.compared {
                 return Ok(i);
             }
-            let offset = places.offset(body, i);
-            last = next_key(layout, body, last, offset, &mut self.known.compared)?;
+            let offset = places.offset(body.bytes, i);
+            last = next_key(body, last, offset, &mut self.known.compared)?;
         }
         Ok(count)
     }
 
     /// Measures the keys, once.
-    fn measure(&mut self, layout: &Layout, body: &[u8]) -> Result<(), AllocError>
-        requires keys { 4 * layout.now.keys_top ≤ length body.now }
-        requires sound { IsSound layout.now body.now self.old.known }
-        ensures { IsSound layout.now body.now self.new.known }
+    fn measure(&mut self, body: Body<'_>) -> Result<(), AllocError>
+        requires keys { 4 * body.layout.now.keys_top ≤ length body.bytes.now }
+        requires sound { IsSound body.layout.now body.bytes.now self.old.known }
+        ensures { IsSound body.entry.layout.now body.entry.bytes.now self.new.known }
     {
         if !self.is_measured {
             let compared = self.known.compared;
-            let lengths = measure_keys(self.alloc, key_bytes(layout, body))?;
-            self.known = KnownKeys::measured(self.alloc, layout, body, lengths, compared);
+            let lengths = measure_keys(self.alloc, key_bytes(body))?;
+            self.known = KnownKeys::measured(self.alloc, body, lengths, compared);
             self.is_measured = true;
         }
         Ok(())
     }
 
     /// Ranks the keys, once.
-    fn prepare(&mut self, layout: &Layout, body: &[u8]) -> Result<(), AllocError>
-        requires keys { 4 * layout.now.keys_top ≤ length body.now }
-        requires sound { IsSound layout.now body.now self.old.known }
-        ensures { IsSound layout.now body.now self.new.known }
+    fn prepare(&mut self, body: Body<'_>) -> Result<(), AllocError>
+        requires keys { 4 * body.layout.now.keys_top ≤ length body.bytes.now }
+        requires sound { IsSound body.layout.now body.bytes.now self.old.known }
+        ensures { IsSound body.entry.layout.now body.entry.bytes.now self.new.known }
     {
         if self.is_prepared {
             return Ok(());
         }
         let compared = self.known.compared;
-        self.known = KnownKeys::new(self.alloc, layout, body, compared); // no memory for lengths and ranks at one time
-        let ranks = rank_keys(self.alloc, key_bytes(layout, body))?;
-        self.known = KnownKeys::with(self.alloc, layout, body, ranks, compared)?;
+        self.known = KnownKeys::new(self.alloc, body, compared); // no memory for lengths and ranks at one time
+        let ranks = rank_keys(self.alloc, key_bytes(body))?;
+        self.known = KnownKeys::with(self.alloc, body, ranks, compared)?;
         self.is_prepared = true;
         Ok(())
     }

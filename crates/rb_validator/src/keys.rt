@@ -7,7 +7,8 @@ ghost use Rattle.std.specs.Ordering.{is_lt, nat_cmp};
 ghost use Rattle.std.specs.Cmp.Lexicographic.{slice_cmp};
 ghost use Rattle.rb_validator.specs.inner.Compared.{examined};
 
-use rb_format::{FileFault, Layout, key_within};
+use crate::body::{Body, Checked};
+use rb_format::{FileFault, key_within};
 
 /// Whether bytes are below others. All of the others are counted, since they were read to find their end.
 #[inline(always)]
@@ -52,19 +53,18 @@ pub fn is_closely_below(a: &[u8], b: &[u8], compared: &mut u64) -> bool
 #[tactic(auto, unfolding(rb_format::specs::inner::FirstFault::next_key))]
 #[inline(always)]
 pub fn next_key<'a>(
-    layout: &Layout,
-    body: &'a [u8],
+    body: Body<'a>,
     last: &[u8],
     offset: u32,
     compared: &mut u64,
-) -> Result<&'a [u8], FileFault>
-    requires keys { 4 * layout.now.keys_top ≤ length body.now }
-    requires room { compared.old + length body.now < 2 ^ 64 }
-    ensures value { result_map (λ k. k.now) result ≡ next_key layout.now body.now last.now offset }
-    ensures counted { IfSome (key_at layout.now body.now offset) (λ k. compared.old + examined last.now k ≤ compared.new) }
-    ensures most { compared.new ≤ compared.old + length body.now }
+) -> Checked<&'a [u8]>
+    requires keys { 4 * body.layout.now.keys_top ≤ length body.bytes.now }
+    requires room { compared.old + length body.bytes.now < 2 ^ 64 }
+    ensures value { result_map (λ k. k.now) result ≡ next_key body.entry.layout.now body.entry.bytes.now last.now offset }
+    ensures counted { IfSome (key_at body.entry.layout.now body.entry.bytes.now offset) (λ k. compared.old + examined last.now k ≤ compared.new) }
+    ensures most { compared.new ≤ compared.old + length body.entry.bytes.now }
 {
-    match key_within(layout, body, offset) {
+    match key_within(body.layout, body.bytes, offset) {
         Some(key) if is_below(last, key, compared) => Ok(key),
         Some(_) => Err(FileFault::KeyOrder),
         None => Err(FileFault::Key),

@@ -5,10 +5,8 @@ ghost use Rattle.rb_format.specs.Item as items;
 ghost use Rattle.rb_tree.specs.Resource.{Resource};
 ghost use Rattle.rb_format.specs.Geometry.{has_children};
 
+use crate::body::{Body, Checked};
 use rb_format::{FileFault, ItemKind, Layout, half_at, word_at};
-
-/// What a check finds: nothing, or a fault.
-type Checked = Result<(), FileFault>;
 
 /// Whether an item has data: an Int and an offset of 0 have none.
 fn has_data(kind: ItemKind, offset: u32) -> bool
@@ -18,7 +16,7 @@ fn has_data(kind: ItemKind, offset: u32) -> bool
 }
 
 /// Whether an item has data, which then begin between the keys and the top.
-pub fn check_offset(layout: &Layout, kind: ItemKind, offset: u32) -> Result<bool, FileFault>
+pub fn check_offset(layout: &Layout, kind: ItemKind, offset: u32) -> Checked<bool>
     ensures { result ≡ within layout.now kind offset }
 {
     if !has_data(kind, offset) {
@@ -37,16 +35,16 @@ pub fn check_offset(layout: &Layout, kind: ItemKind, offset: u32) -> Result<bool
 /// The checks of a String or an Alias: its units, and a zero unit after them, end at or below the top.
 #[tactic(auto, unfolding(rb_format::specs::inner::FirstFault::units))]
 #[inline(always)]
-fn check_units(layout: &Layout, body: &[u8], offset: usize) -> Checked
-    requires room { 4 * layout.now.top ≤ length body.now }
-    requires below { offset < layout.now.top }
-    ensures { fault_of result ≡ fault_of (units layout.now body.now offset) }
+fn check_units(body: Body<'_>, offset: usize) -> Checked<()>
+    requires room { 4 * body.layout.now.top ≤ length body.bytes.now }
+    requires below { offset < body.layout.now.top }
+    ensures { fault_of result ≡ fault_of (units body.entry.layout.now body.entry.bytes.now offset) }
 {
-    let count = word_at(body, offset) as usize;
-    if 4 * (layout.top as usize) < 4 * offset + 6 + 2 * count {
+    let count = word_at(body.bytes, offset) as usize;
+    if 4 * (body.layout.top as usize) < 4 * offset + 6 + 2 * count {
         return Err(FileFault::Length);
     }
-    if half_at(body, 2 * offset + 2 + count) == 0 {
+    if half_at(body.bytes, 2 * offset + 2 + count) == 0 {
         Ok(())
     } else {
         Err(FileFault::NotTerminated)
@@ -55,12 +53,12 @@ fn check_units(layout: &Layout, body: &[u8], offset: usize) -> Checked
 
 /// The check of a Binary: its bytes end at or below the top.
 #[tactic(auto, unfolding(rb_format::specs::inner::FirstFault::bytes))]
-fn check_bytes(layout: &Layout, body: &[u8], offset: usize) -> Checked
-    requires room { 4 * layout.now.top ≤ length body.now }
-    requires below { offset < layout.now.top }
-    ensures { fault_of result ≡ fault_of (bytes layout.now body.now offset) }
+fn check_bytes(body: Body<'_>, offset: usize) -> Checked<()>
+    requires room { 4 * body.layout.now.top ≤ length body.bytes.now }
+    requires below { offset < body.layout.now.top }
+    ensures { fault_of result ≡ fault_of (bytes body.entry.layout.now body.entry.bytes.now offset) }
 {
-    if 4 * (layout.top as usize) < 4 * offset + 4 + word_at(body, offset) as usize {
+    if 4 * (body.layout.top as usize) < 4 * offset + 4 + word_at(body.bytes, offset) as usize {
         Err(FileFault::Length)
     } else {
         Ok(())
@@ -69,12 +67,12 @@ fn check_bytes(layout: &Layout, body: &[u8], offset: usize) -> Checked
 
 /// The check of Ints: they end at or below the top.
 #[tactic(auto, unfolding(rb_format::specs::inner::FirstFault::numbers))]
-fn check_numbers(layout: &Layout, body: &[u8], offset: usize) -> Checked
-    requires room { 4 * layout.now.top ≤ length body.now }
-    requires below { offset < layout.now.top }
-    ensures { fault_of result ≡ fault_of (numbers layout.now body.now offset) }
+fn check_numbers(body: Body<'_>, offset: usize) -> Checked<()>
+    requires room { 4 * body.layout.now.top ≤ length body.bytes.now }
+    requires below { offset < body.layout.now.top }
+    ensures { fault_of result ≡ fault_of (numbers body.entry.layout.now body.entry.bytes.now offset) }
 {
-    if (layout.top as usize) < offset + 1 + word_at(body, offset) as usize {
+    if (body.layout.top as usize) < offset + 1 + word_at(body.bytes, offset) as usize {
         Err(FileFault::Length)
     } else {
         Ok(())
@@ -84,18 +82,18 @@ fn check_numbers(layout: &Layout, body: &[u8], offset: usize) -> Checked
 /// The checks of a value without children.
 #[tactic(auto, unfolding(rb_format::specs::inner::FirstFault::contents))]
 #[inline(always)]
-pub fn check_leaf(layout: &Layout, body: &[u8], kind: ItemKind, offset: u32) -> Checked
-    requires room { 4 * layout.now.top ≤ length body.now }
-    requires below { offset < layout.now.top }
+pub fn check_leaf(body: Body<'_>, kind: ItemKind, offset: u32) -> Checked<()>
+    requires room { 4 * body.layout.now.top ≤ length body.bytes.now }
+    requires below { offset < body.layout.now.top }
     requires bare { has_children kind ≡ false }
-    ensures { (child : ℕ → Result Resource FileFault) → fault_of result ≡ fault_of (contents layout.now body.now child offset kind) }
+    ensures { (child : ℕ → Result Resource FileFault) → fault_of result ≡ fault_of (contents body.entry.layout.now body.entry.bytes.now child offset kind) }
 {
     let offset = offset as usize;
     match kind {
-        ItemKind::String => check_units(layout, body, offset),
-        ItemKind::Binary => check_bytes(layout, body, offset),
-        ItemKind::Alias => check_units(layout, body, offset),
-        ItemKind::Ints => check_numbers(layout, body, offset),
+        ItemKind::String => check_units(body, offset),
+        ItemKind::Binary => check_bytes(body, offset),
+        ItemKind::Alias => check_units(body, offset),
+        ItemKind::Ints => check_numbers(body, offset),
         ItemKind::Int => Ok(()),
         ItemKind::Table | ItemKind::LongTable | ItemKind::Array => unreachable!(),
     }

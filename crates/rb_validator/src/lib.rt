@@ -1,6 +1,7 @@
 //! Whether a file denotes a tree, and bundles: files that do.
 #![tactic(auto)]
 
+mod body;
 mod bundle;
 mod children;
 mod file;

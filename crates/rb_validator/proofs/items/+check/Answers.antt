@@ -24,14 +24,14 @@ pub check_inner-returns-in-Open-clause-value : goal.check_inner-returns-in-Open-
 check_inner-returns-in-Open-clause-value t c =
     let cells = c.args.state.now.memo in
     let is : mark_at cells c.args.kind (offset_of c.args.item) ≡ 65 = open_is _ (rw c.item_offset-offset.ensures at c.in-Open.ensures) in
-    inr (sym (err_height _ TooDeep (cycle_deep c.args.layout.now c.args.body.now cells c.args.left c.args.item c.args.kind c.requires.leads c.requires.is_kind
+    inr (sym (err_height _ TooDeep (cycle_deep c.args.body.layout.now c.args.body.bytes.now cells c.args.left c.args.item c.args.kind c.requires.leads c.requires.is_kind
     c.requires.there c.requires.inner is)))
 
 pub check_inner-returns-then-height-left-clause-value : goal.check_inner-returns-then-height-left-clause-value
 check_inner-returns-then-height-left-clause-value t c =
     let done : Done c.in-Done.height ≡ mark_of (mark_at c.args.state.now.memo c.args.kind (offset_of c.args.item)) =
     rw c.item_offset-offset.ensures at c.in-Done.ensures in
-    let is = met_done c.args.layout.now c.args.body.now c.args.state.now.memo c.args.left c.args.item c.in-Done.height c.args.kind c.requires.keeps
+    let is = met_done c.args.body.layout.now c.args.body.bytes.now c.args.state.now.memo c.args.left c.args.item c.in-Done.height c.args.kind c.requires.keeps
     c.requires.is_kind c.requires.there c.requires.inner done in
     inr (sym (is ∙ limit_fits c.args.left c.in-Done.height (omega arith)))
 
@@ -39,7 +39,7 @@ pub check_inner-returns-else-height-left-clause-value : goal.check_inner-returns
 check_inner-returns-else-height-left-clause-value t c =
     let done : Done c.in-Done.height ≡ mark_of (mark_at c.args.state.now.memo c.args.kind (offset_of c.args.item)) =
     rw c.item_offset-offset.ensures at c.in-Done.ensures in
-    let is = met_done c.args.layout.now c.args.body.now c.args.state.now.memo c.args.left c.args.item c.in-Done.height c.args.kind c.requires.keeps
+    let is = met_done c.args.body.layout.now c.args.body.bytes.now c.args.state.now.memo c.args.left c.args.item c.in-Done.height c.args.kind c.requires.keeps
     c.requires.is_kind c.requires.there c.requires.inner done in
     inr (sym (is ∙ limit_passed c.args.left c.in-Done.height (omega arith)))
 
@@ -47,22 +47,22 @@ check_inner-returns-else-height-left-clause-value t c =
 
 pub check_item-returns-then-left-eq0-clause-value : goal.check_item-returns-then-left-eq0-clause-value
 check_item-returns-then-left-eq0-clause-value t c = inr (sym (ap (result_map height)
-    (read_zero c.args.layout.now c.args.body.now c.args.left c.args.item c.if-left-eq0.true)))
+    (read_zero c.args.body.layout.now c.args.body.bytes.now c.args.left c.args.item c.if-left-eq0.true)))
 
 pub check_item-returns-in_err-check_offset-in-Some-clause-value : goal.check_item-returns-in_err-check_offset-in-Some-clause-value
 check_item-returns-in_err-check_offset-in-Some-clause-value t c =
     let p = err_from_is_err_and c.from_residual.result c.from_residual.ensures.1 in
     let w = rw c.item_offset-offset.ensures at c.in_err-check_offset-in-Some.ensures in
-    rw (p.1, p.2) (inr (sym (item_refused c.args.layout.now c.args.body.now c.args.left c.args.item c.in-Some.kind _ (omega arith) (sym c.in-Some.ensures) w)))
+    rw (p.1, p.2) (inr (sym (item_refused c.args.body.layout.now c.args.body.bytes.now c.args.left c.args.item c.in-Some.kind _ (omega arith) (sym c.in-Some.ensures) w)))
 
 pub check_item-returns-then-not-branch-clause-value : goal.check_item-returns-then-not-branch-clause-value
 check_item-returns-then-not-branch-clause-value t c =
     let w = rw (c.item_offset-offset.ensures, c.if-not-branch.true) at c.in_ok-check_offset-in-Some.ensures in
-    inr (sym (item_bare c.args.layout.now c.args.body.now c.args.left c.args.item c.in-Some.kind (omega arith) (sym c.in-Some.ensures) w))
+    inr (sym (item_bare c.args.body.layout.now c.args.body.bytes.now c.args.left c.args.item c.in-Some.kind (omega arith) (sym c.in-Some.ensures) w))
 
 pub check_item-returns-in_err-check_leaf-in-Some-clause-value : goal.check_item-returns-in_err-check_leaf-in-Some-clause-value
 check_item-returns-in_err-check_leaf-in-Some-clause-value t c =
-    let y = c.args.layout.now in let body = c.args.body.now in
+    let y = c.args.body.layout.now in let body = c.args.body.bytes.now in
     let p = err_from_is_err_and c.from_residual-in_err-check_leaf-in-Some.result c.from_residual-in_err-check_leaf-in-Some.ensures.1 in
     let w = rw (c.item_offset-offset.ensures, c.if-not-branch.false) at c.in_ok-check_offset-in-Some.ensures in
     let f = rw c.item_offset-offset.ensures at (c.in_err-check_leaf-in-Some.ensures (λ w. read y body (c.args.left - 1) w)) in
@@ -71,14 +71,14 @@ check_item-returns-in_err-check_leaf-in-Some-clause-value t c =
 
 pub check_item-returns-then-has_children-clause-value : goal.check_item-returns-then-has_children-clause-value
 check_item-returns-then-has_children-clause-value t c =
-    let y = c.args.layout.now in let body = c.args.body.now in
+    let y = c.args.body.layout.now in let body = c.args.body.bytes.now in
     let w = rw (c.item_offset-offset.ensures, c.if-not-branch.false) at c.in_ok-check_offset-in-Some.ensures in
     onward _ _ _ c.check_inner.ensures.value (sym (ap (result_map height)
     (item_inner y body c.args.left c.args.item c.in-Some.kind (omega arith) (sym c.in-Some.ensures) (sym w))))
 
 pub check_item-returns-in_ok-check_leaf-in-Some-clause-value : goal.check_item-returns-in_ok-check_leaf-in-Some-clause-value
 check_item-returns-in_ok-check_leaf-in-Some-clause-value t c =
-    let y = c.args.layout.now in let body = c.args.body.now in
+    let y = c.args.body.layout.now in let body = c.args.body.bytes.now in
     let w = rw (c.item_offset-offset.ensures, c.if-not-branch.false) at c.in_ok-check_offset-in-Some.ensures in
     let f = rw c.item_offset-offset.ensures at (c.in_ok-check_leaf-in-Some.ensures (λ w. read y body (c.args.left - 1) w)) in
     let leaf = sym c.has_children.ensures ∙ c.if-has_children.false in
@@ -87,16 +87,16 @@ check_item-returns-in_ok-check_leaf-in-Some-clause-value t c =
 
 pub check_item-returns-in-None-clause-value : goal.check_item-returns-in-None-clause-value
 check_item-returns-in-None-clause-value t c = inr (sym (ap (result_map height)
-    (read_no_kind c.args.layout.now c.args.body.now c.args.left c.args.item (omega arith) (sym c.in-None.ensures))))
+    (read_no_kind c.args.body.layout.now c.args.body.bytes.now c.args.left c.args.item (omega arith) (sym c.in-None.ensures))))
 
 -- ---- several items, one by one
 
 pub check_items-loop-i-init : goal.check_items-loop-i-init
 check_items-loop-i-init t c =
-    let y = c.args.layout.now in let body = c.args.body.now in
-    let all : c.args.first + c.args.count - c.args.first ≡ c.args.count = omega arith in
+    let y = c.args.body.layout.now in let body = c.args.body.bytes.now in
+    let all : c.args.items.first + c.args.items.count - c.args.items.first ≡ c.args.items.count = omega arith in
     record {
-      value = rw all (items_none (run_of y body c.args.left c.args.first c.args.count));
+      value = rw all (items_none (run_of y body c.args.left c.args.items.first c.args.items.count));
       low = omega arith;
       sound = c.requires.sound;
       after = record { keeps = c.requires.keeps; follows = follows_same c.args.state.now.memo };
@@ -107,11 +107,11 @@ check_items-loop-i-init t c =
 
 pub check_items-check_item-requires : goal.check_items-check_item-requires
 check_items-check_item-requires t c =
-    let y = c.args.layout.now in let body = c.args.body.now in let i = c.loop-i.i in
+    let y = c.args.body.layout.now in let body = c.args.body.bytes.now in let i = c.loop-i.i in
     let item = fields.word_at body in
-    let end = c.args.first + c.args.count in
-    let here : c.args.first + (i - c.args.first) ≡ i = omega arith in
-    let met = subst (λ (x : ℕ). IsMet body (item x)) here (c.requires.met (i - c.args.first) (omega arith)) in
+    let end = c.args.items.first + c.args.items.count in
+    let here : c.args.items.first + (i - c.args.items.first) ≡ i = omega arith in
+    let met = subst (λ (x : ℕ). IsMet body (item x)) here (c.requires.met (i - c.args.items.first) (omega arith)) in
     let step : end - i ≡ suc (end - (i + 1)) = omega arith in (
       omega arith,
       (
@@ -140,8 +140,8 @@ check_items-check_item-requires t c =
 
 pub check_items-returns-in_err-child-clause-value : goal.check_items-returns-in_err-child-clause-value
 check_items-returns-in_err-child-clause-value t c =
-    let y = c.args.layout.now in let body = c.args.body.now in let i = c.loop-i.i in
-    let end = c.args.first + c.args.count in
+    let y = c.args.body.layout.now in let body = c.args.body.bytes.now in let i = c.loop-i.i in
+    let end = c.args.items.first + c.args.items.count in
     let p = err_from_is_err_and c.from_residual.result c.from_residual.ensures.1 in
     let step : end - i ≡ suc (end - (i + 1)) = omega arith in
     let v = rw c.word_at.ensures at c.in_err-child.ensures.value in
@@ -150,9 +150,9 @@ check_items-returns-in_err-child-clause-value t c =
 
 pub check_items-loop-i-preserved : goal.check_items-loop-i-preserved
 check_items-loop-i-preserved t c =
-    let y = c.args.layout.now in let body = c.args.body.now in let i = c.loop-i.i in
+    let y = c.args.body.layout.now in let body = c.args.body.bytes.now in let i = c.loop-i.i in
     let item = fields.word_at body in
-    let end = c.args.first + c.args.count in
+    let end = c.args.items.first + c.args.items.count in
     let step : end - i ≡ suc (end - (i + 1)) = omega arith in
     let next : i + 1 ≡ suc i = omega arith in
     let v = told _ _ (rw c.word_at.ensures at c.in_ok-child.ensures.value) in
@@ -175,29 +175,29 @@ check_items-loop-i-preserved t c =
 
 pub check_items-returns-then-is_plain-clause-value : goal.check_items-returns-then-is_plain-clause-value
 check_items-returns-then-is_plain-clause-value t c =
-    let y = c.args.layout.now in let body = c.args.body.now in let i = c.loop-i.i in
-    let none : c.args.first + c.args.count - i ≡ 0 = omega arith in
-    inr (items_end (λ w. read y body c.args.left w) (fields.word_at body) i (c.args.first + c.args.count - i) c.loop-i.height _ none c.loop-i.invariant.value)
+    let y = c.args.body.layout.now in let body = c.args.body.bytes.now in let i = c.loop-i.i in
+    let none : c.args.items.first + c.args.items.count - i ≡ 0 = omega arith in
+    inr (items_end (λ w. read y body c.args.left w) (fields.word_at body) i (c.args.items.first + c.args.items.count - i) c.loop-i.height _ none c.loop-i.invariant.value)
 
 -- ---- several items, in two parts
 
 pub check_items-returns-then-height-left-clause-value : goal.check_items-returns-then-height-left-clause-value
 check_items-returns-then-height-left-clause-value t c =
-    let y = c.args.layout.now in let body = c.args.body.now in let from = c.args.first in let n = c.args.count in
+    let y = c.args.body.layout.now in let body = c.args.body.bytes.now in let from = c.args.items.first in let n = c.args.items.count in
     let ready = runs_ready y body c.args.state.now.memo c.args.state.now.runs c.is_plain.new.self c.requires.holds c.is_plain.ensures.runs in
     inr (run_fits y body c.args.state.now.memo c.args.left from n c.in-Some.height
     (kept_run y body c.args.state.now.memo c.is_plain.new.self from n c.in-Some.height ready c.in-Some.ensures) (omega arith))
 
 pub check_items-returns-in-Some-clause-value : goal.check_items-returns-in-Some-clause-value
 check_items-returns-in-Some-clause-value t c =
-    let y = c.args.layout.now in let body = c.args.body.now in let from = c.args.first in let n = c.args.count in
+    let y = c.args.body.layout.now in let body = c.args.body.bytes.now in let from = c.args.items.first in let n = c.args.items.count in
     let ready = runs_ready y body c.args.state.now.memo c.args.state.now.runs c.is_plain.new.self c.requires.holds c.is_plain.ensures.runs in
     inr (run_passed y body c.args.state.now.memo c.args.left from n c.in-Some.height
     (kept_run y body c.args.state.now.memo c.is_plain.new.self from n c.in-Some.height ready c.in-Some.ensures) (omega arith))
 
 pub check_items-check_items-requires : goal.check_items-check_items-requires
 check_items-check_items-requires t c =
-    let y = c.args.layout.now in let body = c.args.body.now in let from = c.args.first in let n = c.args.count in
+    let y = c.args.body.layout.now in let body = c.args.body.bytes.now in let from = c.args.items.first in let n = c.args.items.count in
     let mid = c.split-parts.result.middle in let m = mid - from in
     let part : m ≤ n = omega arith in
     let q : mid ≡ from + m = omega arith in
@@ -232,7 +232,7 @@ check_items-check_items-requires t c =
 
 pub check_items-returns-in_err-low-clause-value : goal.check_items-returns-in_err-low-clause-value
 check_items-returns-in_err-low-clause-value t c =
-    let y = c.args.layout.now in let body = c.args.body.now in let from = c.args.first in let n = c.args.count in
+    let y = c.args.body.layout.now in let body = c.args.body.bytes.now in let from = c.args.items.first in let n = c.args.items.count in
     let mid = c.split-parts.result.middle in let m = mid - from in
     let part : m ≤ n = omega arith in
     let q : mid ≡ from + m = omega arith in
@@ -241,7 +241,7 @@ check_items-returns-in_err-low-clause-value t c =
 
 pub check_items-check_items-requires-2 : goal.check_items-check_items-requires-2
 check_items-check_items-requires-2 t c =
-    let y = c.args.layout.now in let body = c.args.body.now in let from = c.args.first in let n = c.args.count in
+    let y = c.args.body.layout.now in let body = c.args.body.bytes.now in let from = c.args.items.first in let n = c.args.items.count in
     let mid = c.split-parts.result.middle in let m = mid - from in
     let part : m ≤ n = omega arith in
     let q : mid ≡ from + m = omega arith in
@@ -279,7 +279,7 @@ check_items-check_items-requires-2 t c =
 
 pub check_items-returns-in_err-high-clause-value : goal.check_items-returns-in_err-high-clause-value
 check_items-returns-in_err-high-clause-value t c =
-    let y = c.args.layout.now in let body = c.args.body.now in let from = c.args.first in let n = c.args.count in
+    let y = c.args.body.layout.now in let body = c.args.body.bytes.now in let from = c.args.items.first in let n = c.args.items.count in
     let mid = c.split-parts.result.middle in let m = mid - from in
     let part : m ≤ n = omega arith in
     let q : mid ≡ from + m = omega arith in
@@ -289,7 +289,7 @@ check_items-returns-in_err-high-clause-value t c =
 
 pub check_items-returns-clause-value : goal.check_items-returns-clause-value
 check_items-returns-clause-value t c =
-    let y = c.args.layout.now in let body = c.args.body.now in let from = c.args.first in let n = c.args.count in
+    let y = c.args.body.layout.now in let body = c.args.body.bytes.now in let from = c.args.items.first in let n = c.args.items.count in
     let mid = c.split-parts.result.middle in let m = mid - from in
     let part : m ≤ n = omega arith in
     let q : mid ≡ from + m = omega arith in
@@ -299,7 +299,7 @@ check_items-returns-clause-value t c =
 
 pub check_items-returns-clause-known : goal.check_items-returns-clause-known
 check_items-returns-clause-known t c =
-    let y = c.args.layout.now in let body = c.args.body.now in let from = c.args.first in let n = c.args.count in
+    let y = c.args.body.layout.now in let body = c.args.body.bytes.now in let from = c.args.items.first in let n = c.args.items.count in
     let mid = c.split-parts.result.middle in let m = mid - from in
     let part : m ≤ n = omega arith in
     let q : mid ≡ from + m = omega arith in
@@ -308,7 +308,7 @@ check_items-returns-clause-known t c =
 
 pub check_items-returns-clause-holds : goal.check_items-returns-clause-holds
 check_items-returns-clause-holds t c =
-    let y = c.args.layout.now in let body = c.args.body.now in let from = c.args.first in let n = c.args.count in
+    let y = c.args.body.layout.now in let body = c.args.body.bytes.now in let from = c.args.items.first in let n = c.args.items.count in
     let cells = c.check_items-2.new.state.memo in
     let run = made_run y body cells c.args.left from n c.max-height-2.result (told _ _ (check_items-returns-clause-value t c)) (check_items-returns-clause-known t c) in
     runs_kept y body cells c.check_items-2.new.state.runs c.keep.new.self _ from n c.max-height-2.result c.in_ok-high.ensures.holds run c.keep.ensures
@@ -317,7 +317,7 @@ check_items-returns-clause-holds t c =
 
 pub check_inner-returns-in_err-found-in-New-clause-value : goal.check_inner-returns-in_err-found-in-New-clause-value
 check_inner-returns-in_err-found-in-New-clause-value t c =
-    let y = c.args.layout.now in let body = c.args.body.now in
+    let y = c.args.body.layout.now in let body = c.args.body.bytes.now in
     let p = err_from_is_err_and c.from_residual.result c.from_residual.ensures.1 in
     let v = rw c.item_offset-offset.ensures at c.in_err-found-in-New.ensures.value in
     rw (p.1, p.2) (passed _ _ _ (λ e. sym (err_height _ _ (children_err y body (λ w. read y body c.args.left w) c.args.kind (offset_of c.args.item) _
@@ -325,7 +325,7 @@ check_inner-returns-in_err-found-in-New-clause-value t c =
 
 pub check_inner-check_items-requires : goal.check_inner-check_items-requires
 check_inner-check_items-requires t c =
-    let y = c.args.layout.now in let body = c.args.body.now in let o = offset_of c.args.item in let k = c.args.kind in
+    let y = c.args.body.layout.now in let body = c.args.body.bytes.now in let o = offset_of c.args.item in let k = c.args.kind in
     let cells = c.args.state.now.memo in
     let inside : cell k o < length cells = rw c.requires.keeps.long (cell_low k o y.top c.requires.below) in
     let there : Ok c.in_ok-found-in-New.found ≡ children_at y body k o =
@@ -364,7 +364,7 @@ check_inner-check_items-requires t c =
 
 pub check_inner-returns-in_err-below-in-New-clause-value : goal.check_inner-returns-in_err-below-in-New-clause-value
 check_inner-returns-in_err-below-in-New-clause-value t c =
-    let y = c.args.layout.now in let body = c.args.body.now in let o = offset_of c.args.item in let k = c.args.kind in
+    let y = c.args.body.layout.now in let body = c.args.body.bytes.now in let o = offset_of c.args.item in let k = c.args.kind in
     let p = err_from_is_err_and c.from_residual-in_err-below-in-New.result c.from_residual-in_err-below-in-New.ensures.1 in
     let there : Ok c.in_ok-found-in-New.found ≡ children_at y body k o =
     told _ _ (rw c.item_offset-offset.ensures at c.in_ok-found-in-New.ensures.value) in
@@ -374,7 +374,7 @@ check_inner-returns-in_err-below-in-New-clause-value t c =
 
 pub check_inner-returns-in_ok-below-in-New-clause-value : goal.check_inner-returns-in_ok-below-in-New-clause-value
 check_inner-returns-in_ok-below-in-New-clause-value t c =
-    let y = c.args.layout.now in let body = c.args.body.now in let o = offset_of c.args.item in let k = c.args.kind in
+    let y = c.args.body.layout.now in let body = c.args.body.bytes.now in let o = offset_of c.args.item in let k = c.args.kind in
     let there : Ok c.in_ok-found-in-New.found ≡ children_at y body k o =
     told _ _ (rw c.item_offset-offset.ensures at c.in_ok-found-in-New.ensures.value) in
     inr (sym (entered_height y body (λ w. read y body c.args.left w) k o c.in_ok-below-in-New.below c.in_ok-found-in-New.found c.requires.inner there
@@ -382,7 +382,7 @@ check_inner-returns-in_ok-below-in-New-clause-value t c =
 
 pub check_inner-returns-in_ok-below-in-New-clause-after : goal.check_inner-returns-in_ok-below-in-New-clause-after
 check_inner-returns-in_ok-below-in-New-clause-after t c =
-    let y = c.args.layout.now in let body = c.args.body.now in let o = offset_of c.args.item in let k = c.args.kind in
+    let y = c.args.body.layout.now in let body = c.args.body.bytes.now in let o = offset_of c.args.item in let k = c.args.kind in
     let cells = c.args.state.now.memo in
     let inside : cell k o < length cells = rw c.requires.keeps.long (cell_low k o y.top c.requires.below) in
     let there : Ok c.in_ok-found-in-New.found ≡ children_at y body k o =
@@ -398,7 +398,7 @@ check_inner-returns-in_ok-below-in-New-clause-after t c =
 
 pub check_inner-returns-in_ok-below-in-New-clause-holds : goal.check_inner-returns-in_ok-below-in-New-clause-holds
 check_inner-returns-in_ok-below-in-New-clause-holds t c =
-    let y = c.args.layout.now in let body = c.args.body.now in let o = offset_of c.args.item in let k = c.args.kind in
+    let y = c.args.body.layout.now in let body = c.args.body.bytes.now in let o = offset_of c.args.item in let k = c.args.kind in
     let a = c.in_ok-below-in-New.ensures.after in
     let inside : cell k o < length c.check_items.new.state.memo = rw a.keeps.long (cell_low k o y.top c.requires.below) in
     rw (c.finish.ensures, c.item_offset-offset.ensures) (runs_set y body c.check_items.new.state.memo (cell k o)

@@ -15,17 +15,17 @@ abbrev pub decreases-check_inner : goal.decreases-check_inner
 decreases-check_inner l = 73786976294838206464 * l.left + 73786976294838206463
 
 abbrev pub decreases-check_items : goal.decreases-check_items
-decreases-check_items l = 73786976294838206464 * l.left + l.count + 1
+decreases-check_items l = 73786976294838206464 * l.left + l.items.count + 1
 
 abbrev pub invariant-check_items-loop-i : goal.invariant-check_items-loop-i
 invariant-check_items-loop-i l =
     record {
-      value : result_map (λ ts. max l.height (trees_height ts)) (run_of l.layout l.body l.left l.i (l.first + l.count - l.i)) ≡ result_map trees_height
-          (run_of l.layout l.body l.left l.first l.count);
+      value : result_map (λ ts. max l.height (trees_height ts)) (run_of l.body.layout.now l.body.bytes.now l.left l.i (l.first + l.count - l.i)) ≡ result_map trees_height
+          (run_of l.body.layout.now l.body.bytes.now l.left l.first l.count);
       low : l.height ≤ l.left;
-      sound : IsSound l.layout l.body l.state.keys.known;
-      after : After l.layout l.body l.initial.state.memo l.state.memo;
-      holds : AreRuns l.layout l.body l.state.memo l.state.runs;
-      known : (j : ℕ) → j < l.i → l.first ≤ j → IsKnown l.state.memo (fields.word_at l.body j);
-      leads : Leads l.layout l.body l.state.memo (λ e. run_of l.layout l.body e l.i (l.first + l.count - l.i) ≡ Err TooDeep);
+      sound : IsSound l.body.layout.now l.body.bytes.now l.state.keys.known;
+      after : After l.body.layout.now l.body.bytes.now l.initial.state.memo l.state.memo;
+      holds : AreRuns l.body.layout.now l.body.bytes.now l.state.memo l.state.runs;
+      known : (j : ℕ) → j < l.i → l.first ≤ j → IsKnown l.state.memo (fields.word_at l.body.bytes.now j);
+      leads : Leads l.body.layout.now l.body.bytes.now l.state.memo (λ e. run_of l.body.layout.now l.body.bytes.now e l.i (l.first + l.count - l.i) ≡ Err TooDeep);
     }

@@ -9,7 +9,7 @@ use Rattle.rb_validator.proofs.key_checker.KeyChecker.check_plainly.Goals as goa
 
 pub returns-in_err-last-clause-fault : goal.returns-in_err-last-clause-fault
 returns-in_err-last-clause-fault c =
-    let y = c.args.layout.now in let body = c.args.body.now in let i = c.loop-i.i in
+    let y = c.args.body.layout.now in let body = c.args.body.bytes.now in let i = c.loop-i.i in
     let place = offset_in body c.args.places in
     let p = err_from_is_err_and c.from_residual.result c.from_residual.ensures.1 in
     let read : next_key y body (last_key y body place i) (place i) ≡ Err c.in_err-last.field-0.0 =
@@ -18,7 +18,7 @@ returns-in_err-last-clause-fault c =
 
 pub loop-i-preserved : goal.loop-i-preserved
 loop-i-preserved c =
-    let y = c.args.layout.now in let body = c.args.body.now in let i = c.loop-i.i in
+    let y = c.args.body.layout.now in let body = c.args.body.bytes.now in let i = c.loop-i.i in
     let place = offset_in body c.args.places in
     let next : i + 1 ≡ suc i = omega arith in
     let read : next_key y body (last_key y body place i) (place i) ≡ Ok c.in_ok-last.last.now =

@@ -6,7 +6,7 @@ use Rattle.rb_validator.proofs.key_checker.KeyChecker.check_plainly.Given as goa
 abbrev pub invariant-loop-i : goal.invariant-loop-i
 invariant-loop-i l =
     record {
-      good : AreGood l.layout l.body (offset_in l.body l.places) l.i;
-      last : l.last ≡ last_key l.layout l.body (offset_in l.body l.places) l.i;
-      sound : IsSound l.layout l.body l.self.known;
+      good : AreGood l.body.layout.now l.body.bytes.now (offset_in l.body.bytes.now l.places) l.i;
+      last : l.last ≡ last_key l.body.layout.now l.body.bytes.now (offset_in l.body.bytes.now l.places) l.i;
+      sound : IsSound l.body.layout.now l.body.bytes.now l.self.known;
     }
