@@ -4,6 +4,7 @@ pub mod Counts
 pub mod Entering
 pub mod Marked
 pub mod Packing
+pub mod Upwards
 pub mod Spans
 pub mod Shapes
 pub mod Ways

@@ -3,7 +3,7 @@ use Rattle.std.proofs.Common.{◌≡◌, ◌≢◌, ◌⊎◌, ℕ, ◌+◌, ◌
 use Rattle.std.proofs.Common.{replicate, refl, sym, ap, subst, ◌∙◌, arith, inl, inr, get_or-set_other, get_or-set_same}
 use Rattle.std.proofs.Math.ListN.{get_or-eq_default}
 use Rattle.std.proofs.lemmas.Bool.{cases_eq, cases_lt, eq-eqb, ne_eqb}
-use Rattle.std.proofs.lemmas.List.{ext_get_or, get_or_default, length-set, length-replicate}
+use Rattle.std.proofs.lemmas.List.{ext_get_or, length-set, length-replicate}
 use Rattle.std.proofs.lemmas.List.FromFn.{get_or-map-range_with_len, length-map-range_with_len}
 use Rattle.rb_format.specs.declared.kind.ItemKind.{ItemKind}
 use Rattle.rb_validator.specs.inner.Marks.{slot, cell}
@@ -219,9 +219,6 @@ fresh_packed first rest room l z e r = record {
 
 -- ---- as the code reads and writes
 
-pub code_is : (first : List ℕ) (o code : ℕ) → o < length first → code ≡ get_or first o code → code ≡ get_or first o 0
-code_is first o code i e = e ∙ get_or_default first o code 0 i
-
 pub read_at : (first rest cells : List ℕ) (k : ItemKind) (o : ℕ) → cells_of first rest ≡ cells → cell k o < length cells
     → mark_in first rest o (slot k) ≡ get_or cells (cell k o) 0
 read_at first rest cells k o e = subst (λ (x : List ℕ). cell k o < length x → mark_in first rest o (slot k) ≡ get_or x (cell k o) 0) e
@@ -232,12 +229,12 @@ inside_at first rest cells k o e = subst (λ (x : List ℕ). cell k o < length x
 
 -- a mark is set beside the one that its offset has
 pub set_beside : (first rest later cells : List ℕ) (room after o s v place n code : ℕ) (k : ItemKind) → IsPacked first rest room → cells_of first rest ≡ cells
-    → cell k o < length cells → s ≡ slot k → code ≡ get_or first o code → (code ≢ 0) × (code / 66 ≢ s) → n ≡ length first
+    → cell k o < length cells → s ≡ slot k → code ≡ get_or first o 0 → (code ≢ 0) × (code / 66 ≢ s) → n ≡ length first
     → later ≡ cond (eqb (length rest) 0) (replicate (2 * n) 0) rest → place ≡ other o s (code / 66)
     → IsPacked first (set later place v) after × (cells_of first (set later place v) ≡ set cells (cell k o) v)
 set_beside first rest later cells room after o s v place n code k packed view inside is read apart len filled at =
     let i = inside_at first rest cells k o view inside in
-    let same = code_is first o code i read in
+    let same = read in
     let l = slot_low k in
     let r = ready first rest later room after packed (filled ∙ ap (λ (x : ℕ). cond (eqb (length rest) 0) (replicate (2 * x) 0) rest) len) in
     let full : get_or first o 0 ≢ 0 = λ z. apart.0 (same ∙ z) in

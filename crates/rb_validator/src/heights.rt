@@ -6,6 +6,7 @@ ghost use Rattle.std.specs.Prelude.{length, replicate, slice_index, slice_set, v
 ghost use Rattle.rb_validator.specs.inner.Marks.{cell, slot};
 ghost use Rattle.rb_validator.specs.inner.Packed.{other};
 
+use crate::late_bytes::LateBytes;
 use crate::lists::byte_at;
 use rb_format::ItemKind;
 use std::alloc::{AllocError, Global};
@@ -18,7 +19,7 @@ const SPAN: u8 = 66;
 #[derive(Drop)]
 pub struct Heights {
     /// For each offset 66 times the slot of the kind that was set first, and its number; 0 where none was set.
-    first: Vec<u8>,
+    first: LateBytes,
     /// For each offset the numbers of the other two kinds; empty, with room for them, until one of them is set.
     rest: Vec<u8>,
 }
@@ -29,9 +30,9 @@ impl Model for Heights {
 
     ghost Value = { List ℕ };
 
-    ghost view = { λ h. cells_of h.first.items h.rest.items };
+    ghost view = { λ h. cells_of h.first h.rest.items };
 
-    ghost invariant = { λ h. IsPacked h.first.items h.rest.items (vec_capacity h.rest) };
+    ghost invariant = { λ h. IsPacked h.first h.rest.items (vec_capacity h.rest) };
 }
 
 /// The slot of a kind with children among those of an offset.
@@ -80,7 +81,7 @@ impl Heights {
         ensures long { IfOk result (λ h. length h ≡ 3 * top) }
         ensures fresh { IfOk result (λ h. (n : ℕ) → slice_index h n ≡ 0) }
     {
-        let first = vec![in alloc; 0u8; top as usize]?;
+        let first = LateBytes::new(alloc, top as usize)?;
         let rest = Vec::with_capacity(alloc, 2 * top as usize)?;
         Ok(Heights { first, rest })
     }
@@ -91,7 +92,7 @@ impl Heights {
         ensures { result ≡ slice_index self.now (cell kind offset) }
     {
         let slot = slot_of(kind);
-        let code = self.first[offset as usize];
+        let code = self.first.get(offset as usize);
         if code == 0 {
             0
         } else if code / SPAN == slot {
@@ -109,9 +110,9 @@ impl Heights {
         ensures { self.new ≡ slice_set self.old (cell kind offset) number }
     {
         let slot = slot_of(kind);
-        let code = self.first[offset as usize];
+        let code = self.first.get(offset as usize);
         if is_for(code, slot) {
-            self.first[offset as usize] = SPAN * slot + number;
+            self.first.set(offset as usize, SPAN * slot + number);
         } else {
             fill(&mut self.rest, 2 * self.first.len());
             self.rest[place_of(offset, slot, code / SPAN)] = number;

@@ -10,6 +10,7 @@ mod items;
 mod key_checker;
 mod keys;
 mod known_keys;
+mod late_bytes;
 mod leaves;
 mod lengths;
 mod links;

@@ -21,3 +21,7 @@ pub record IsPacked (first rest : List ℕ) (room : ℕ) : Type 0 where
   pub low : (o : ℕ) → slice_index first o < 198
   pub none : (o i : ℕ) → slice_index first o ≡ 0 → i < 2 → slice_index rest (2 * o + i) ≡ 0
   pub long : (length rest ≡ 2 * length first) ⊎ ((length rest ≡ 0) × (2 * length first ≤ room))
+
+-- n bytes of which those above are kept, from the last one down
+abbrev pub upwards : List ℕ → ℕ → List ℕ
+upwards kept n = map (λ i. slice_index kept (n - 1 - i)) (range_with_len 0 n)

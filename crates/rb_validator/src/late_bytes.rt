@@ -1,0 +1,75 @@
+//! Bytes that are written only as far as one was set. They are kept from the last one down: a file has its root at its end, and if it
+//! has few tables, then mostly beside the root. Memory that is not written costs little.
+ghost use Rattle.std.specs.Prelude.{◌≡◌, ℕ, ◌<◌, ◌≤◌, length, replicate, slice_index, slice_set, vec_capacity, IfOk};
+
+use crate::lists::byte_at;
+use std::alloc::{AllocError, Global};
+use std::marker::Model;
+
+/// So many bytes, each 0 until another is set.
+#[derive(Drop)]
+pub struct LateBytes {
+    len: usize,
+    /// The bytes from the last one down, as far as one was set, with room for all.
+    kept: Vec<u8>,
+}
+
+impl Model for LateBytes {
+    ghost use Rattle.std.specs.Prelude.{List, ℕ, ◌≤◌, vec_capacity};
+    ghost use Rattle.rb_validator.specs.inner.Packed.{upwards};
+
+    ghost Value = { List ℕ };
+
+    ghost view = { λ b. upwards b.kept.items b.len };
+
+    ghost invariant = { λ b. b.len ≤ vec_capacity b.kept };
+}
+
+/// Adds zeros to a list, which has room for them, up to so many bytes.
+fn extend(list: &mut Vec<u8>, count: usize)
+    requires { count ≤ vec_capacity list.old }
+    ensures same { (n : ℕ) → slice_index list.new.items n ≡ slice_index list.old.items n }
+    ensures long { count ≤ length list.new.items }
+    ensures room { vec_capacity list.old ≤ vec_capacity list.new }
+{
+    if list.len() < count {
+        let Ok(()) = list.resize(count, 0) else {
+            unreachable!()
+        };
+    }
+}
+
+impl LateBytes {
+    /// So many bytes, all 0.
+    pub fn new(alloc: Global, len: usize) -> Result<LateBytes, AllocError>
+        ensures { IfOk result (λ b. b ≡ replicate len 0) }
+    {
+        let kept = Vec::with_capacity(alloc, len)?;
+        Ok(LateBytes { len, kept })
+    }
+
+    /// How many there are.
+    pub fn len(&self) -> usize
+        ensures { result ≡ length self.now }
+    {
+        self.len
+    }
+
+    /// A byte.
+    pub fn get(&self, i: usize) -> u8
+        requires { i < length self.now }
+        ensures { result ≡ slice_index self.now i }
+    {
+        byte_at(&self.kept, self.len - 1 - i)
+    }
+
+    /// Sets a byte.
+    pub fn set(&mut self, i: usize, byte: u8)
+        requires { i < length self.old }
+        ensures { self.new ≡ slice_set self.old i byte }
+    {
+        let place = self.len - 1 - i;
+        extend(&mut self.kept, place + 1);
+        self.kept[place] = byte;
+    }
+}
