@@ -24,23 +24,15 @@ fn room_after<N: Node>(node: N, levels: u64, room: u64) -> Option<u64>
         Kind::Int => Some(room),
         Kind::Ints => room.checked_sub(len.saturating_mul(4).saturating_add(4)),
         Kind::Binary => room.checked_sub(len.saturating_add(20)),
-        Kind::Array => room_after_items(node, levels - 1, room),
+        Kind::Array => {
+            let mut left = room.checked_sub(4)?;
+            for i in 0..node.len() {
+                left = room_after(node.at(i), levels - 1, left.checked_sub(4)?)?;
+            }
+            Some(left)
+        }
         Kind::Table => room_after_entries(node, levels - 1, room),
     }
-}
-
-#[cycle(room)]
-fn room_after_items<N: Node>(node: N, levels: u64, room: u64) -> Option<u64>
-    requires array { kind_of (N.tree node) ≡ Kinds.Array }
-    requires levels { levels < 64 }
-    requires room { room ≤ 33554432 }
-    ensures { IsRoomAfter (N.tree node) (levels + 1) room result }
-{
-    let mut left = room.checked_sub(4)?;
-    for i in 0..node.len() {
-        left = room_after(node.at(i), levels, left.checked_sub(4)?)?;
-    }
-    Some(left)
 }
 
 #[cycle(room)]

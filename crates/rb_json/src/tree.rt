@@ -27,22 +27,15 @@ pub(crate) fn put_tree<O: Out, N: Node>(
         Kind::Ints => put_ints(out, node),
         Kind::Binary => put_binary(out, text, node),
         Kind::Alias => put_alias(out, text, node),
-        Kind::Array => put_items(out, text, alloc, node),
+        Kind::Array => {
+            out.token(Token::BeginArray)?;
+            for i in 0..node.len() {
+                put_tree(out, text, alloc, node.at(i))?;
+            }
+            out.token(Token::EndArray)
+        }
         Kind::Table => put_entries(out, text, alloc, node),
     }
-}
-
-/// An array.
-#[cycle(tree)]
-fn put_items<O: Out, N: Node>(out: &mut O, text: &mut String, alloc: Global, node: N) -> PutResult
-    requires { kind_of (N.tree node) ≡ Kinds.Array }
-    ensures { Adds result (O.tokens out.old) (O.tokens out.new) (data_tokens (value_of (N.tree node))) }
-{
-    out.token(Token::BeginArray)?;
-    for i in 0..node.len() {
-        put_tree(out, text, alloc, node.at(i))?;
-    }
-    out.token(Token::EndArray)
 }
 
 /// A table, its entries in their order.

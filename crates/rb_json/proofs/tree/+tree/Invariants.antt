@@ -8,14 +8,11 @@ use Rattle.rb_json.proofs.tree.+tree.Given as goal
 abbrev pub decreases-put_tree : goal.decreases-put_tree
 decreases-put_tree g l = 2 * height (g.N.Node.tree l.node) + 1
 
-abbrev pub decreases-put_items : goal.decreases-put_items
-decreases-put_items g l = 2 * height (g.N.Node.tree l.node)
-
 abbrev pub decreases-put_entries : goal.decreases-put_entries
 decreases-put_entries g l = 2 * height (g.N.Node.tree l.node)
 
-abbrev pub invariant-put_items-loop-i : goal.invariant-put_items-loop-i
-invariant-put_items-loop-i g l = SoFar tree_tokens (children_of (g.N.Node.tree l.node)) l.i begin_array (g.O.Out.tokens l.fn.out) (g.O.Out.tokens l.out)
+abbrev pub invariant-put_tree-loop-i : goal.invariant-put_tree-loop-i
+invariant-put_tree-loop-i g l = SoFar tree_tokens (children_of (g.N.Node.tree l.node)) l.i begin_array (g.O.Out.tokens l.fn.out) (g.O.Out.tokens l.out)
 
 abbrev pub invariant-put_entries-loop-i : goal.invariant-put_entries-loop-i
 invariant-put_entries-loop-i g l = SoFar entry_tokens (pairs_of (g.N.Node.tree l.node)) l.i begin_object (g.O.Out.tokens l.fn.out) (g.O.Out.tokens l.out)
