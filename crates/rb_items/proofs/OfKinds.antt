@@ -5,7 +5,8 @@ use Rattle.std.specs.Map.{keys_of}
 use Rattle.rb_tree.specs.Resource.{Resource, string, ints, binary, alias, table}
 use Rattle.rb_tree.specs.Keys.{pairs}
 use Rattle.rb_tree.specs.Parts.{bytes_of, kind_of, len_of, numbers_of, pairs_of, units_of}
-use Rattle.serde_json.specs.Data.{put}
+use Rattle.hex.specs.Hex.{encode_lower}
+use Rattle.serde_json.specs.Data.{put, string as string_data}
 use Rattle.rb_items.specs.Item.{item_members, numbers_data, of_type, texts_data, with_text}
 use Rattle.rb_tree.specs.declared.kind.Kind.TheVariants as Kinds
 
@@ -25,6 +26,11 @@ pub ints_members : (t : Resource) → kind_of t ≡ Kinds.Ints
     → item_members t ≡ put (codes "values") (numbers_data (numbers_of t)) (of_type (codes "intvector"))
 ints_members (ints zs) h = refl
 ints_members _ h = absurd cc
+
+pub binary_members : (t : Resource) → kind_of t ≡ Kinds.Binary
+    → item_members t ≡ put (codes "hex") (string_data (encode_lower (bytes_of t))) (of_type (codes "bin"))
+binary_members (binary bs) h = refl
+binary_members _ h = absurd cc
 
 pub table_members : (t : Resource) → kind_of t ≡ Kinds.Table
     → item_members t ≡ put (codes "keys") (texts_data (keys_of (pairs_of t))) (of_type (codes "table"))

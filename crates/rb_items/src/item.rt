@@ -2,12 +2,13 @@
 ghost use Rattle.std.specs.Prelude.{◌≡◌, [], ◌∷◌, ◌++◌, codes, option_map, string_bytes, IfOk};
 ghost use Rattle.std.specs.Map.{keys_of};
 ghost use Rattle.json.specs.Token.{key, string};
+ghost use Rattle.serde_json.specs.Data as values;
 ghost use Rattle.serde_json.specs.Data.{number, put, unsigned};
 ghost use Rattle.serde_json.specs.Find.{of_integer};
 ghost use Rattle.serde_json.specs.Written.{compact_text};
 ghost use Rattle.rb_tree.specs.Path.{IsPath};
-ghost use Rattle.rb_tree.specs.Parts.{HasUnits, bytes_of, kind_of, numbers_of, pairs_of, units_of};
-ghost use Rattle.rb_tree.specs.Resource.{binary, int, ints};
+ghost use Rattle.rb_tree.specs.Parts.{HasUnits, kind_of, numbers_of, pairs_of, units_of};
+ghost use Rattle.rb_tree.specs.Resource.{int, ints};
 ghost use Rattle.rb_tree.specs.declared.kind.Kind.TheVariants as Kinds;
 ghost use Rattle.rb_fallback.specs.Answers.{hit_of};
 ghost use Rattle.rb_items.specs.Item.{text_data, units_data, numbers_data, texts_data, signed_of, of_type, with_text, item_members, item_data, found_data};
@@ -159,18 +160,10 @@ fn put_ints<N: Node>(out: &mut Writer, alloc: Global, node: N, valid: Option<&[u
     out.end_object()
 }
 
-fn put_binary<N: Node>(
-    out: &mut Writer,
-    text: &mut String,
-    alloc: Global,
-    node: N,
-    valid: Option<&[u8]>,
-) -> PutResult
-    requires { kind_of (N.tree node) ≡ Kinds.Binary }
-    ensures { PutsMembers result out.old out.new valid.entry (item_members (binary (bytes_of (N.tree node)))) }
+fn put_binary(out: &mut Writer, alloc: Global, hex: &str, valid: Option<&[u8]>) -> PutResult
+    ensures { PutsMembers result out.old out.new valid.entry (put (codes "hex") (values.string hex.now) (of_type (codes "bin"))) }
 {
-    read_hex(text, node)?;
-    put_word(out, "hex", text)?;
+    put_word(out, "hex", hex)?;
     put_end(out, alloc, "bin", valid)
 }
 
@@ -205,7 +198,10 @@ fn put_members<N: Node>(
         Kind::String => put_string(out, text, alloc, node, "string", valid),
         Kind::Int => put_int(out, alloc, node.int(), valid),
         Kind::Ints => put_ints(out, alloc, node, valid),
-        Kind::Binary => put_binary(out, text, alloc, node, valid),
+        Kind::Binary => {
+            read_hex(text, node)?;
+            put_binary(out, alloc, text, valid)
+        }
         Kind::Alias => put_string(out, text, alloc, node, "alias", valid),
         Kind::Array => put_array(out, alloc, node.len(), valid),
         Kind::Table => put_table(out, alloc, node, valid),
