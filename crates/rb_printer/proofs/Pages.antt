@@ -69,15 +69,14 @@ table_is (alias us) k = absurd cc
 table_is (array ts) k = absurd cc
 table_is (table es) k = refl
 
-units_are : (us : List ℕ) → ((i : ℕ) → get_or us i 0 < 65536) → AreUnits us
+pub units_are : (us : List ℕ) → ((i : ℕ) → get_or us i 0 < 65536) → AreUnits us
 units_are [] h = tt
 units_are (u ∷ us) h = (h 0, units_are us (λ i. h (suc i)))
 
-pub page_printed : (bytes name : List ℕ) (no_fallback : Bool) (t : Resource) → IsBundleTree t → IsSound t → ((i : ℕ) → get_or name i 0 < 65536)
-    → Adds [] bytes (signs_chars (page name no_fallback (members_of t))) → length bytes ≤ 8388608
+pub page_printed : (bytes name : List ℕ) (no_fallback : Bool) (t : Resource) → IsBundleTree t → IsSound t → AreUnits name → Adds [] bytes (signs_chars (page name no_fallback (members_of t))) → length bytes ≤ 8388608
     → IsBundleText bytes name (record { tree = t; no_fallback = no_fallback })
 page_printed bytes name no_fallback t whole sound units a short =
     let is = table_is t whole.is_table in
     subst (λ (u : Resource). IsBundleText bytes name (record { tree = u; no_fallback = no_fallback })) is
-    (page_spells bytes name no_fallback (members_of t) (units_are name units) (subst IsSound (sym is) sound)
+    (page_spells bytes name no_fallback (members_of t) units (subst IsSound (sym is) sound)
     (subst (λ (u : Resource). height u ≤ 64) (sym is) whole.low) a.is short)

@@ -4,7 +4,7 @@ ghost use Rattle.rb_tree.specs.Parts.{kind_of};
 ghost use Rattle.rb_printer.specs.Sign.{signs_chars, left, feed};
 ghost use Rattle.rb_format.specs.File.{source_tree_of};
 ghost use Rattle.rb_printer.specs.Page.{page, head_signs, members_of, page_bytes};
-ghost use Rattle.rb_printer.specs.Sound.{IsSound, IsBundleTree};
+ghost use Rattle.rb_printer.specs.Sound.{AreUnits, IsSound, IsBundleTree};
 ghost use Rattle.rb_printer.specs.inner.Growth.{Adds};
 ghost use Rattle.rb_printer.specs.Whole.{IsBundleText};
 ghost use Rattle.rb_printer.specs.declared.error.PrintError.TheVariants as errors;
@@ -42,33 +42,12 @@ fn put_page<N: Node>(
     requires { IsBundleTree (N.tree root) }
     ensures adds { OnOk result (Adds out.old.items out.new.items (signs_chars (page name.now no_fallback (members_of (N.tree root))))) }
     ensures sound { OnOk result (IsSound (N.tree root)) }
+    ensures units { OnOk result (AreUnits name.now) }
 {
     put_name(out, name)?;
     begin_bundle(out, no_fallback)?;
     put_entries(out, 1, root)?;
     put_str(out, "}\n")
-}
-
-/// The bundle text of a tree with its flag, and with a name of these units.
-fn printed<N: Node>(
-    alloc: Global,
-    name: &[u16],
-    root: N,
-    no_fallback: bool,
-) -> Result<Vec<u8>, PrintError>
-    requires { IsBundleTree (N.tree root) }
-    ensures text { IfOk result (λ bytes. IsBundleText bytes.items name.now (record { tree = N.tree root; no_fallback = no_fallback })) }
-    ensures error { IfErr result (λ e. e ≡ errors.TooLarge → 8388608 < length (page_bytes name.now (record { tree = N.tree root; no_fallback = no_fallback }))) }
-{
-    let Some(left) = after_entries(LENGTH_LIMIT, 1, root) else {
-        return Err(PrintError::TooLarge);
-    };
-    let mut bytes = Vec::with_capacity(alloc, LENGTH_LIMIT - left)?;
-    put_page(&mut bytes, name, root, no_fallback)?;
-    if bytes.len() > LENGTH_LIMIT {
-        return Err(PrintError::TooLarge);
-    }
-    Ok(bytes)
 }
 
 /// The bundle text of a tree, with its name and its flag: `parse` reads just these back. No byte of it depends on anything else.
@@ -95,7 +74,15 @@ pub fn print<N: Node>(
     ensures text { IfOk result (λ bytes. IsBundleText bytes.items name.now (record { tree = N.tree root; no_fallback = no_fallback })) }
     ensures error { IfErr result (λ e. e ≡ errors.TooLarge → 8388608 < length (page_bytes name.now (record { tree = N.tree root; no_fallback = no_fallback }))) }
 {
-    printed(alloc, name.as_slice(), root, no_fallback)
+    let Some(left) = after_entries(LENGTH_LIMIT, 1, root) else {
+        return Err(PrintError::TooLarge);
+    };
+    let mut bytes = Vec::with_capacity(alloc, LENGTH_LIMIT - left)?;
+    put_page(&mut bytes, name.as_slice(), root, no_fallback)?;
+    if bytes.len() > LENGTH_LIMIT {
+        return Err(PrintError::TooLarge);
+    }
+    Ok(bytes)
 }
 
 /// The bundle text of a file, with a name, which a file doesn't have. It looks as that of `print`, and the errors are the same.

@@ -29,7 +29,15 @@ pub fn after_body<N: Node>(room: usize, level: usize, node: N) -> Option<usize>
         Kind::Int => room.checked_sub(1),
         Kind::Ints => after_twice(room.checked_sub(1)?, node.len()),
         Kind::Binary => after_twice(room.checked_sub(5)?, node.len()),
-        Kind::Array => after_items(room.checked_sub(2)?, level + 1, node),
+        Kind::Array => {
+            let mut left = room.checked_sub(2)?;
+            for i in 0..node.len() {
+                let child = node.at(i);
+                let room = left.checked_sub(item_lead(level + 1, child))?;
+                left = after_body(room, level + 1, child)?;
+            }
+            Some(left)
+        }
         Kind::Table => after_entries(room.checked_sub(2)?, level + 1, node),
     }
 }
@@ -47,22 +55,7 @@ fn item_lead<N: Node>(level: usize, node: N) -> usize
     }
 }
 
-/// The same of the items of an array.
-#[cycle(room)]
-fn after_items<N: Node>(room: usize, level: usize, node: N) -> Option<usize>
-    requires array { kind_of (N.tree node) ≡ Kinds.Array }
-    requires low { level + height (N.tree node) ≤ 65 }
-    ensures { Takes room (items_least level (items_of (N.tree node))) result }
-{
-    let mut left = room;
-    for i in 0..node.len() {
-        let child = node.at(i);
-        left = after_body(left.checked_sub(item_lead(level, child))?, level, child)?;
-    }
-    Some(left)
-}
-
-/// The same of the entries of a table.
+/// What is left of some room after the fewest characters that the entries of a table have.
 #[cycle(room)]
 pub fn after_entries<N: Node>(room: usize, level: usize, node: N) -> Option<usize>
     requires table { kind_of (N.tree node) ≡ Kinds.Table }

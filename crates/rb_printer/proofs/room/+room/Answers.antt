@@ -1,4 +1,4 @@
-use Rattle.std.proofs.Common.{◌≡◌, ◌+◌, ◌*◌, ◌<◌, ℕ, List, Some, length, subst, arith}
+use Rattle.std.proofs.Common.{◌≡◌, ◌+◌, ◌*◌, ◌<◌, ℕ, List, Some, length, subst, sym, arith}
 use Rattle.std.specs.Prelude.{slice_get}
 use Rattle.std.specs.Map.{keys_of}
 use Rattle.rb_tree.specs.Resource.{Resource, height}
@@ -8,7 +8,7 @@ use Rattle.rb_tree.specs.declared.kind.Kind.TheVariants as Kinds
 use Rattle.rb_printer.specs.Page.{items_of, members_of}
 use Rattle.rb_printer.specs.inner.Least.{item_lead, least, items_least, entries_least}
 use Rattle.rb_printer.proofs.Trees.{array_children, array_len, table_children, table_pairs, table_len, drop_trees, drop_members}
-use Rattle.rb_printer.proofs.Rooms.{items_next, entries_next, items_last, entries_last, none_left}
+use Rattle.rb_printer.proofs.Rooms.{array_least, items_next, entries_next, items_last, entries_last, none_left}
 use Rattle.rb_printer.proofs.room.+room.Goals as goal
 
 -- what the items from the present one on need
@@ -23,47 +23,41 @@ entries_need level i t u key k e f =
     entries_next level (members_of t) i key u (subst (λ (ps : List (List ℕ × Resource)). Some key ≡ slice_get (keys_of ps) i) (table_pairs t) e)
     (subst (λ (xs : List Resource). Some u ≡ slice_get xs i) (table_children t k) f)
 
-pub after_items-returns-in_err-checked_sub : goal.after_items-returns-in_err-checked_sub
-after_items-returns-in_err-checked_sub g t c =
-    let tree = g.N.Node.tree in
-    none_left _ _ c.from_residual.result c.from_residual.ensures
-    (omega (arith, items_need c.args.level c.loop-i.i (tree c.args.node) (tree c.at-child.result) c.requires.array c.at-child.ensures, c.in_err-checked_sub.ensures, c.loop-i.invariant))
+pub after_body-returns-in_err-room-in-Array : goal.after_body-returns-in_err-room-in-Array
+after_body-returns-in_err-room-in-Array g t c =
+    let tree = g.N.Node.tree c.args.node in
+    let array : kind_of tree ≡ Kinds.Array = sym c.in-Array.ensures in
+    let need = items_need (c.args.level + 1) c.loop-i.i tree (g.N.Node.tree c.at-child.result) array c.at-child.ensures in
+    none_left _ _ c.from_residual-in_err-room-in-Array.result c.from_residual-in_err-room-in-Array.ensures
+    (omega (arith, array_least c.args.level tree array, need, c.in_err-room-in-Array.ensures, c.loop-i.invariant))
 
-pub after_items-after_body-requires : goal.after_items-after_body-requires
-after_items-after_body-requires g t c κs within =
+pub after_body-after_body-requires : goal.after_body-after_body-requires
+after_body-after_body-requires g t c κs within =
     let tree = g.N.Node.tree in
     let lower : height (tree c.at-child.result) < height (tree c.args.node) =
     child_lower (tree c.args.node) (tree c.at-child.result) c.loop-i.i c.at-child.ensures in
-    (omega (arith, lower, c.decreases), (within, omega (arith, lower, c.requires.low)))
+    (omega (arith, lower, c.decreases), (within, omega (arith, lower, c.requires)))
 
-pub after_items-returns-in_err-left : goal.after_items-returns-in_err-left
-after_items-returns-in_err-left g t c =
-    let tree = g.N.Node.tree in
-    none_left _ _ c.from_residual-in_err-left.result c.from_residual-in_err-left.ensures
-    (omega (
-      arith,
-      items_need c.args.level c.loop-i.i (tree c.args.node) (tree c.at-child.result) c.requires.array c.at-child.ensures,
-      c.in_ok-checked_sub.ensures,
-      c.in_err-left.ensures,
-      c.loop-i.invariant,
-    ))
+pub after_body-returns-in_err-left-in-Array-2 : goal.after_body-returns-in_err-left-in-Array-2
+after_body-returns-in_err-left-in-Array-2 g t c =
+    let tree = g.N.Node.tree c.args.node in
+    let array : kind_of tree ≡ Kinds.Array = sym c.in-Array.ensures in
+    let need = items_need (c.args.level + 1) c.loop-i.i tree (g.N.Node.tree c.at-child.result) array c.at-child.ensures in
+    none_left _ _ c.from_residual-in_err-left-in-Array-2.result c.from_residual-in_err-left-in-Array-2.ensures
+    (omega (arith, array_least c.args.level tree array, need, c.in_ok-room-in-Array.ensures, c.in_err-left-in-Array-2.ensures, c.loop-i.invariant))
 
-pub after_items-loop-i-preserved : goal.after_items-loop-i-preserved
-after_items-loop-i-preserved g t c =
-    let tree = g.N.Node.tree in
-    omega (
-      arith,
-      items_need c.args.level c.loop-i.i (tree c.args.node) (tree c.at-child.result) c.requires.array c.at-child.ensures,
-      c.in_ok-checked_sub.ensures,
-      c.in_ok-left.ensures,
-      c.loop-i.invariant,
-    )
+pub after_body-loop-i-preserved : goal.after_body-loop-i-preserved
+after_body-loop-i-preserved g t c =
+    let tree = g.N.Node.tree c.args.node in
+    let array : kind_of tree ≡ Kinds.Array = sym c.in-Array.ensures in
+    omega (arith, items_need (c.args.level + 1) c.loop-i.i tree (g.N.Node.tree c.at-child.result) array c.at-child.ensures, c.in_ok-room-in-Array.ensures, c.in_ok-left-in-Array-2.ensures, c.loop-i.invariant)
 
-pub after_items-returns : goal.after_items-returns
-after_items-returns g t c =
-    let tree = g.N.Node.tree in
-    let len = array_len (tree c.args.node) c.requires.array in
-    omega (arith, items_last c.args.level (items_of (tree c.args.node)) c.loop-i.i (omega (arith, len, c.len-i-end.ensures)), c.loop-i.invariant)
+pub after_body-returns-after-loop-i : goal.after_body-returns-after-loop-i
+after_body-returns-after-loop-i g t c =
+    let tree = g.N.Node.tree c.args.node in
+    let array : kind_of tree ≡ Kinds.Array = sym c.in-Array.ensures in
+    let last = items_last (c.args.level + 1) (items_of tree) c.loop-i.i (omega (arith, array_len tree array, c.len-i-end.ensures)) in
+    omega (arith, array_least c.args.level tree array, last, c.loop-i.invariant)
 
 pub after_entries-returns-in_err-checked_sub : goal.after_entries-returns-in_err-checked_sub
 after_entries-returns-in_err-checked_sub g t c =

@@ -8,14 +8,13 @@ use Rattle.rb_printer.proofs.room.+room.Given as goal
 abbrev pub decreases-after_body : goal.decreases-after_body
 decreases-after_body g l = 2 * height (g.N.Node.tree l.node) + 1
 
-abbrev pub decreases-after_items : goal.decreases-after_items
-decreases-after_items g l = 2 * height (g.N.Node.tree l.node)
-
 abbrev pub decreases-after_entries : goal.decreases-after_entries
 decreases-after_entries g l = 2 * height (g.N.Node.tree l.node)
 
-abbrev pub invariant-after_items-loop-i : goal.invariant-after_items-loop-i
-invariant-after_items-loop-i g l = let ts = items_of (g.N.Node.tree l.node) in l.left + items_least l.level ts ≡ l.fn.room + items_least l.level (drop_trees l.i ts)
+abbrev pub invariant-after_body-loop-i : goal.invariant-after_body-loop-i
+invariant-after_body-loop-i g l =
+    let ts = items_of (g.N.Node.tree l.node) in
+    l.left + (2 + items_least (l.level + 1) ts) ≡ l.fn.room + items_least (l.level + 1) (drop_trees l.i ts)
 
 abbrev pub invariant-after_entries-loop-i : goal.invariant-after_entries-loop-i
 invariant-after_entries-loop-i g l =
