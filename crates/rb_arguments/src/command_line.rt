@@ -1,26 +1,18 @@
 //! The command line.
+use crate::argument::{described, flag, option, parents_option, path_word, word, words};
 use crate::bundle_commands::{lines_command, look_command};
 use crate::text_commands::{explain_command, lint_command};
-use clap::{Arg, ArgAction, Command};
+use clap::{Arg, Command};
 use std::alloc::{AllocError, Global};
 
-/// The command with one more word that must be given.
-fn with_word<'a>(
-    alloc: Global,
-    command: Command<'a>,
-    name: &'a str,
-    help: &'a str,
-) -> Result<Command<'a>, AllocError> {
-    command.arg(Arg::new(alloc, name).required(true).help(help))
+/// The flag by which a command says nothing on success.
+fn quiet_flag<'a>(alloc: Global) -> Arg<'a> {
+    flag(alloc, "quiet", "no line on success").short('q')
 }
 
-/// The flag by which a command says nothing on success.
-fn quiet_argument<'a>(alloc: Global) -> Arg<'a> {
-    Arg::new(alloc, "quiet")
-        .short('q')
-        .long("quiet")
-        .action(ArgAction::SetTrue)
-        .help("no line on success")
+/// The one file of a command.
+fn file_word<'a>(alloc: Global) -> Arg<'a> {
+    word(alloc, "FILE", "a .res file")
 }
 
 /// The end of the help of `compile`.
@@ -47,22 +39,21 @@ fn with_texts<'a>(alloc: Global, command: Command<'a>) -> Result<Command<'a>, Al
         .num_args(0..)
         .requires_arg("to")?
         .help("with --to, further texts");
-    with_word(alloc, command, "IN", "a bundle text, in UTF-8")?
+    command
+        .arg(word(alloc, "IN", "a bundle text, in UTF-8"))?
         .arg(output)?
         .arg(more)
 }
 
 fn compile_command<'a>(alloc: Global) -> Result<Command<'a>, AllocError> {
-    let folder = Arg::new(alloc, "to")
-        .long("to")
-        .value_name("DIR")
-        .help("compile many texts into this folder");
-    let command = Command::new(alloc, "compile")
-        .about("Compiles bundle texts to .res files")
-        .after_help(COMPILE_HELP)
-        .arg(folder)?
-        .arg(quiet_argument(alloc))?;
-    with_texts(alloc, command)
+    let command = described(
+        alloc,
+        "compile",
+        "Compiles bundle texts to .res files",
+        COMPILE_HELP,
+    );
+    let folder = option(alloc, "to", "DIR", "compile many texts into this folder");
+    with_texts(alloc, command.arg(folder)?.arg(quiet_flag(alloc))?)
 }
 
 /// The end of the help of `check`.
@@ -79,15 +70,9 @@ Status:
   2  the command line is invalid, the file can't be read, or standard output can't be written";
 
 fn check_command<'a>(alloc: Global) -> Result<Command<'a>, AllocError> {
-    let files = Arg::new(alloc, "FILE")
-        .required(true)
-        .num_args(1..)
-        .help("a .res file");
-    Command::new(alloc, "check")
-        .about("Checks .res files")
-        .after_help(CHECK_HELP)
-        .arg(quiet_argument(alloc))?
-        .arg(files)
+    described(alloc, "check", "Checks .res files", CHECK_HELP)
+        .arg(quiet_flag(alloc))?
+        .arg(words(alloc, "FILE", "a .res file"))
 }
 
 /// The end of the help of `get`.
@@ -103,16 +88,14 @@ Status:
   2  the command line is invalid, the file can't be read, or standard output can't be written";
 
 fn get_command<'a>(alloc: Global) -> Result<Command<'a>, AllocError> {
-    let command = Command::new(alloc, "get")
-        .about("Prints the item at a path of a .res file")
-        .after_help(GET_HELP);
-    let command = with_word(alloc, command, "FILE", "a .res file")?;
-    with_word(
+    described(
         alloc,
-        command,
-        "PATH",
-        "keys and indexes, with slashes between them",
+        "get",
+        "Prints the item at a path of a .res file",
+        GET_HELP,
     )
+    .arg(file_word(alloc))?
+    .arg(path_word(alloc))
 }
 
 /// The end of the help of `text`.
@@ -127,18 +110,21 @@ Status:
   1  the file is refused, as de.res: KeyOrder, or its text would be too large, or out of memory
   2  the command line is invalid, the file can't be read, or standard output can't be written";
 
-fn name_argument<'a>(alloc: Global) -> Arg<'a> {
-    Arg::new(alloc, "name").long("name").value_name("NAME").help(
-        "the bundle's name; by default the file's, up to its first full stop",
-    )
-}
-
 fn text_command<'a>(alloc: Global) -> Result<Command<'a>, AllocError> {
-    let command = Command::new(alloc, "text")
-        .about("Prints a .res file as a bundle text")
-        .after_help(TEXT_HELP);
-    let command = with_word(alloc, command, "FILE", "a .res file")?;
-    command.arg(name_argument(alloc))
+    let name = option(
+        alloc,
+        "name",
+        "NAME",
+        "the bundle's name; by default the file's, up to its first full stop",
+    );
+    described(
+        alloc,
+        "text",
+        "Prints a .res file as a bundle text",
+        TEXT_HELP,
+    )
+    .arg(file_word(alloc))?
+    .arg(name)
 }
 
 /// The end of the help of `json`.
@@ -154,27 +140,16 @@ Status:
   1  the file is refused, has no such item, as menu/shut: Missing, or the item is too large, or out of memory
   2  the command line is invalid, the file can't be read, or standard output can't be written";
 
-fn pretty_argument<'a>(alloc: Global) -> Arg<'a> {
-    Arg::new(alloc, "pretty")
-        .long("pretty")
-        .action(ArgAction::SetTrue)
-        .help("a line for each item and member, indented")
-}
-
-fn path_argument<'a>(alloc: Global) -> Arg<'a> {
-    Arg::new(alloc, "PATH").help(
-        "keys and indexes, with slashes between them; the whole bundle without it",
-    )
-}
-
 fn json_command<'a>(alloc: Global) -> Result<Command<'a>, AllocError> {
-    let command = Command::new(alloc, "json")
-        .about("Prints a whole .res file, or the item at a path, as one JSON value")
-        .after_help(JSON_HELP);
-    let command = with_word(alloc, command, "FILE", "a .res file")?;
-    command
-        .arg(path_argument(alloc))?
-        .arg(pretty_argument(alloc))
+    let path = Arg::new(alloc, "PATH").help(
+        "keys and indexes, with slashes between them; the whole bundle without it",
+    );
+    let about = "Prints a whole .res file, or the item at a path, as one JSON value";
+    let pretty = flag(alloc, "pretty", "a line for each item and member, indented");
+    described(alloc, "json", about, JSON_HELP)
+        .arg(file_word(alloc))?
+        .arg(path)?
+        .arg(pretty)
 }
 
 /// The end of the help of `serve`.
@@ -187,13 +162,6 @@ Status:
   1  a file is refused, as root.txt: BadText, serving ended early, as LineTooLong, or out of memory
   2  the command line is invalid, a file can't be read, or there is no random state";
 
-fn parents_argument<'a>(alloc: Global) -> Arg<'a> {
-    Arg::new(alloc, "parents")
-        .long("parents")
-        .value_name("FILE")
-        .help("a bundle text with the explicit parents, at parentLocales")
-}
-
 fn bundles_argument<'a>(alloc: Global) -> Arg<'a> {
     Arg::new(alloc, "bundles")
         .value_name("LOCALE=FILE")
@@ -202,10 +170,9 @@ fn bundles_argument<'a>(alloc: Global) -> Arg<'a> {
 }
 
 fn serve_command<'a>(alloc: Global) -> Result<Command<'a>, AllocError> {
-    Command::new(alloc, "serve")
-        .about("Answers requests, a line each, from standard input")
-        .after_help(SERVE_HELP)
-        .arg(parents_argument(alloc))?
+    let about = "Answers requests, a line each, from standard input";
+    described(alloc, "serve", about, SERVE_HELP)
+        .arg(parents_option(alloc))?
         .arg(bundles_argument(alloc))
 }
 

@@ -1,6 +1,7 @@
 //! The command line of `resb`: its commands, their arguments and their help, and what a command line asks for.
 #![tactic(auto)]
 
+mod argument;
 mod asking;
 mod bundle_commands;
 mod command_line;

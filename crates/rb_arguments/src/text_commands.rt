@@ -1,4 +1,5 @@
 //! The commands that help with bundle texts: `lint` and `explain`.
+use crate::argument::{described, option, words};
 use clap::{Arg, Command};
 use std::alloc::{AllocError, Global};
 
@@ -18,19 +19,20 @@ Status:
 
 /// `lint [--root ROOT] TEXT..`
 pub fn lint_command<'a>(alloc: Global) -> Result<Command<'a>, AllocError> {
-    let root = Arg::new(alloc, "root")
-        .long("root")
-        .value_name("ROOT")
-        .help("the bundle text of the root locale, to compare with");
-    let texts = Arg::new(alloc, "TEXT")
-        .required(true)
-        .num_args(1..)
-        .help("a bundle text, in UTF-8");
-    Command::new(alloc, "lint")
-        .about("Says what is doubtful in bundle texts, and where an error really began")
-        .after_help(LINT_HELP)
-        .arg(root)?
-        .arg(texts)
+    let root = option(
+        alloc,
+        "root",
+        "ROOT",
+        "the bundle text of the root locale, to compare with",
+    );
+    described(
+        alloc,
+        "lint",
+        "Says what is doubtful in bundle texts, and where an error really began",
+        LINT_HELP,
+    )
+    .arg(root)?
+    .arg(words(alloc, "TEXT", "a bundle text, in UTF-8"))
 }
 
 /// The end of the help of `explain`.
@@ -47,8 +49,11 @@ Status:
 /// `explain [WORD]`
 pub fn explain_command<'a>(alloc: Global) -> Result<Command<'a>, AllocError> {
     let word = Arg::new(alloc, "WORD").help("an error word, as BadInt; none lists all");
-    Command::new(alloc, "explain")
-        .about("Says what an error word means, its likely causes and what to do")
-        .after_help(EXPLAIN_HELP)
-        .arg(word)
+    described(
+        alloc,
+        "explain",
+        "Says what an error word means, its likely causes and what to do",
+        EXPLAIN_HELP,
+    )
+    .arg(word)
 }
