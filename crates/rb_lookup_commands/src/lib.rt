@@ -1,6 +1,7 @@
 //! What an engine is started from, and the commands that make requests of files: `look` and `lines`, over any runtime.
 #![tactic(auto)]
 
+mod contents;
 mod lookup;
 mod request_lines;
 mod start;

@@ -1,9 +1,9 @@
 //! `resb look`: one lookup over files.
+use crate::contents::{made_of_each, text_refused};
 use crate::start::parents_of;
 use rb_compiler::compile;
 use rb_console::{
-    Console, Form, Given, StartError, all_given, is_text, not_started_on, printed, read_given,
-    refused_on,
+    Console, Form, Given, StartError, all_given, is_text, not_started_on, printed, refused_on,
 };
 use rb_engine::{App, Engine, Payload, Reply, Request};
 use rb_explain::Of;
@@ -34,39 +34,19 @@ pub struct Lookup<'a> {
     pub is_traced: bool,
 }
 
-/// The files of bundles, each with its name: a text is compiled.
-fn files_of<R: Files + AllocGlobal + Eprint>(
-    rt: &R,
-    console: Console,
-    bundles: &[Given<'_>],
-) -> Result<Vec<Vec<u8>>, ExitCode> {
-    let mut files = Vec::new(rt.alloc());
-    for bundle in bundles {
-        let file = file_of(rt, console, bundle.file)?;
-        if files.push(file).is_err() {
-            return Err(not_started_on(rt, console, StartError::Memory));
-        }
-    }
-    Ok(files)
-}
-
-/// The file of one bundle.
-fn file_of<R: Files + AllocGlobal + Eprint>(
+/// The file of a bundle: a text is compiled.
+fn file_of<R: AllocGlobal + Eprint>(
     rt: &R,
     console: Console,
     name: &str,
+    bytes: Vec<u8>,
 ) -> Result<Vec<u8>, ExitCode> {
-    let bytes = read_given(rt, console, name)?;
     if !is_text(name) {
         return Ok(bytes);
     }
     match compile(rt.alloc(), &bytes) {
         Ok(file) => Ok(file),
-        Err(fault) => {
-            let word = fault.kind.word();
-            let _ = eprintln!(rt; "{name}:{}: {word}{}", fault.line, console.hint(word));
-            Err(ExitCode::from(1))
-        }
+        Err(fault) => Err(text_refused(rt, console, name, fault)),
     }
 }
 
@@ -207,7 +187,12 @@ fn look_over<R: Files + RandomSource + AllocGlobal + Print + Eprint>(
     let Ok(state) = RandomState::new(rt) else {
         return Err(not_started_on(rt, console, StartError::NoRandomState));
     };
-    let files = files_of(rt, console, bundles)?;
+    let files = made_of_each(
+        rt,
+        console,
+        bundles,
+        |name, bytes| file_of(rt, console, name, bytes),
+    )?;
     if lookup.is_traced {
         say_trace(rt, console, lookup, &parents, bundles, &files);
     }

@@ -1,8 +1,8 @@
 //! `resb lines`: request lines that install files.
+use crate::contents::{made_of_each, text_refused};
 use json::Writer;
 use rb_console::{
-    Console, Form, Given, StartError, all_given, is_text, not_started_on, printed, read_given,
-    refused_on,
+    Console, Form, Given, StartError, all_given, is_text, not_started_on, printed, refused_on,
 };
 use rb_engine::App;
 use rb_format::FILE_LIMIT;
@@ -51,11 +51,7 @@ fn refuse_content<R: AllocGlobal + Eprint>(
     }
     match Tokens::of(rt.alloc(), bytes) {
         Ok(_) => Ok(()),
-        Err(fault) => {
-            let word = fault.kind.word();
-            let _ = eprintln!(rt; "{file}:{}: {word}{}", fault.line, console.hint(word));
-            Err(ExitCode::from(1))
-        }
+        Err(fault) => Err(text_refused(rt, console, file, fault)),
     }
 }
 
@@ -65,15 +61,10 @@ fn contents<R: Files + AllocGlobal + Eprint>(
     console: Console,
     bundles: &[Given<'_>],
 ) -> Result<Vec<Vec<u8>>, ExitCode> {
-    let mut contents = Vec::new(rt.alloc());
-    for bundle in bundles {
-        let bytes = read_given(rt, console, bundle.file)?;
-        refuse_content(rt, console, bundle.file, &bytes)?;
-        if contents.push(bytes).is_err() {
-            return Err(not_started_on(rt, console, StartError::Memory));
-        }
-    }
-    Ok(contents)
+    made_of_each(rt, console, bundles, |file, bytes| {
+        refuse_content(rt, console, file, &bytes)?;
+        Ok(bytes)
+    })
 }
 
 /// The member of a line that has a bundle: `text`, or `file` in hexadecimal.
