@@ -2,6 +2,7 @@
 
 ghost use Rattle.std.specs.Prelude.{◌≡◌, ◌<◌, ◌≤◌, ℕ, List, Option, length, IfOk};
 ghost use Rattle.std.specs.Io.KnownBytes.{Keeps, WriteAppends};
+ghost use Rattle.rb_requests.specs.Device.{risen};
 
 use memchr::memchr;
 use std::io::{BufRead, Write};
@@ -90,11 +91,34 @@ pub trait Sink {
         ensures settled { settled self.new ≡ settles (settled self.old) result };
 }
 
+/// A reader or a writer, with the count of its failed calls.
+#[derive(Drop)]
+struct Device<D> {
+    inner: D,
+    failed: u64,
+}
+
+impl<D> Device<D> {
+    /// No call has failed.
+    fn new(inner: D) -> Self
+        ensures { result ≡ record { inner = inner; failed = 0 } }
+    {
+        Device { inner, failed: 0 }
+    }
+
+    /// Counts a failed call.
+    fn fail(&mut self) -> Failed
+        ensures { self.new ≡ record self.old { failed = risen self.old.failed } }
+    {
+        self.failed = self.failed.saturating_add(1);
+        Failed
+    }
+}
+
 /// A reader as a feed.
 #[derive(Drop)]
 pub struct ReadFeed<R: BufRead> {
-    inner: R,
-    failed: u64,
+    device: Device<R>,
 }
 
 impl<R: BufRead> ReadFeed<R> {
@@ -103,41 +127,37 @@ impl<R: BufRead> ReadFeed<R> {
         ensures left { ⟦<ReadFeed<R> as Feed>⟧.left result ≡ R.remaining inner }
         ensures faults { ⟦<ReadFeed<R> as Feed>⟧.faults result ≡ 0 }
     {
-        ReadFeed { inner, failed: 0 }
+        ReadFeed {
+            device: Device::new(inner),
+        }
     }
 
     /// The reader.
     pub fn get_ref(&self) -> &R
         ensures { ⟦<ReadFeed<R> as Feed>⟧.left self.now ≡ R.remaining result.now }
     {
-        &self.inner
+        &self.device.inner
     }
 }
 
 impl<R: BufRead> Feed for ReadFeed<R> {
-    ghost left = { λ f. R.remaining f.inner };
+    ghost left = { λ f. R.remaining f.device.inner };
 
-    ghost faults = { λ f. f.failed };
+    ghost faults = { λ f. f.device.failed };
 
     fn pull(&mut self) -> Result<Option<u8>, Failed> {
         let mut byte = [0u8; 1];
-        match self.inner.read(&mut byte) {
+        match self.device.inner.read(&mut byte) {
             Ok(0) => Ok(None),
             Ok(_) => Ok(Some(byte[0])),
-            Err(_) => {
-                self.failed = self.failed.saturating_add(1);
-                Err(Failed)
-            }
+            Err(_) => Err(self.device.fail()),
         }
     }
 
     fn pull_run(&mut self, line: &mut Vec<u8>, most: usize) -> Result<Run, Failed> {
-        let held = match self.inner.fill_buf() {
+        let held = match self.device.inner.fill_buf() {
             Ok(held) => held,
-            Err(_) => {
-                self.failed = self.failed.saturating_add(1);
-                return Err(Failed);
-            }
+            Err(_) => return Err(self.device.fail()),
         };
         if held.is_empty() {
             return Ok(Run::End);
@@ -148,7 +168,7 @@ impl<R: BufRead> Feed for ReadFeed<R> {
                 if line.extend_from_slice(&front[..end]).is_err() {
                     return Ok(Run::Memory);
                 }
-                self.inner.consume(end + 1);
+                self.device.inner.consume(end + 1);
                 Ok(Run::Feed)
             }
             None => {
@@ -156,7 +176,7 @@ impl<R: BufRead> Feed for ReadFeed<R> {
                 if line.extend_from_slice(front).is_err() {
                     return Ok(Run::Memory);
                 }
-                self.inner.consume(len);
+                self.device.inner.consume(len);
                 Ok(Run::Part)
             }
         }
@@ -166,8 +186,7 @@ impl<R: BufRead> Feed for ReadFeed<R> {
 /// A writer as a sink.
 #[derive(Drop)]
 pub struct WriteSink<W: Write> {
-    inner: W,
-    failed: u64,
+    device: Device<W>,
     settled: u64,
 }
 
@@ -179,44 +198,34 @@ impl<W: Write> WriteSink<W> {
         ensures settled { ⟦<WriteSink<W> as Sink>⟧.settled result ≡ 0 }
     {
         WriteSink {
-            inner,
-            failed: 0,
+            device: Device::new(inner),
             settled: 0,
         }
     }
 }
 
 impl<W: Write> Sink for WriteSink<W> {
-    ghost written = { λ s. W.contents s.inner };
+    ghost written = { λ s. W.contents s.device.inner };
 
-    ghost faults = { λ s. s.failed };
+    ghost faults = { λ s. s.device.failed };
 
     ghost settled = { λ s. s.settled };
 
     fn put(&mut self, bytes: &[u8]) -> Result<usize, Failed> {
-        match self.inner.write(bytes) {
-            Ok(0) if !bytes.is_empty() => {
-                self.failed = self.failed.saturating_add(1);
-                Err(Failed)
-            }
+        match self.device.inner.write(bytes) {
+            Ok(0) if !bytes.is_empty() => Err(self.device.fail()),
             Ok(n) => Ok(n),
-            Err(_) => {
-                self.failed = self.failed.saturating_add(1);
-                Err(Failed)
-            }
+            Err(_) => Err(self.device.fail()),
         }
     }
 
     fn settle(&mut self) -> Result<(), Failed> {
-        match self.inner.flush() {
+        match self.device.inner.flush() {
             Ok(()) => {
                 self.settled = self.settled.saturating_add(1);
                 Ok(())
             }
-            Err(_) => {
-                self.failed = self.failed.saturating_add(1);
-                Err(Failed)
-            }
+            Err(_) => Err(self.device.fail()),
         }
     }
 }
