@@ -1,21 +1,23 @@
 //! The engine of many applications.
 ghost use Rattle.std.specs.Prelude.{◌≡◌, [], ℕ, List, length, IfOk, IfErr};
-ghost use Rattle.rb_parents.specs.Family.{parent_of, parent_in};
+ghost use Rattle.std.specs.Coded.{codes};
+ghost use Rattle.rb_parents.specs.Family.{family_pairs, parent_of, parent_in};
 ghost use Rattle.rb_views.specs.Seen.{tree_seen};
 ghost use Rattle.rb_packages.specs.Shelf.{bundle_at};
 ghost use Rattle.rb_packages.specs.Packages.{icudata_of, list_of};
 ghost use Rattle.rb_engine.specs.Ask.{Requests, Looks};
 ghost use Rattle.rb_engine.specs.Answer.{Replies, answer_over, lookup_in};
 ghost use Rattle.rb_engine.specs.History.{Step};
-ghost use Rattle.rb_engine.specs.Kept.{state_of};
+ghost use Rattle.rb_engine.specs.Kept.{Kept, state_of};
 ghost use Rattle.rb_engine.specs.LookResponse.{look_response};
 ghost use Rattle.rb_engine.specs.Start.{Loads, IsRefused, IsIndexed};
 
 use crate::handle::{self, Change};
 use crate::place::{Place, place_of};
 use crate::request::{LookFault, Payload, Reply, Request};
+use crate::same_name::same_name;
 use crate::start::{StartFault, load_all};
-use rb_fallback::Found;
+use rb_fallback::{Found, LookError};
 use rb_locales::Name;
 use rb_packages::Packages;
 use rb_parents::Parents;
@@ -35,12 +37,7 @@ pub struct Engine {
 }
 
 impl Model for Engine {
-    ghost use Rattle.rb_engine.specs.Kept.{Kept};
-    ghost use Rattle.rb_parents.specs.Family.{family_pairs};
-
     ghost Value = { Kept };
-
-    ghost use Rattle.std.specs.Coded.{codes};
 
     ghost coded = { Prim.hlevel codes };
 
@@ -85,33 +82,20 @@ impl Engine {
     pub fn handle(&mut self, alloc: Global, request: Request) -> Reply
         ensures { Step (state_of self.old) (Requests request) (Replies result) (state_of self.new) }
     {
+        let packages = &mut self.packages;
         match request {
             Request::Install {
                 app,
                 locale,
                 payload,
-            } => handle::put(
-                &mut self.packages,
-                alloc,
-                Change::Install,
-                &app,
-                &locale,
-                payload,
-            ),
+            } => handle::put(packages, alloc, Change::Install, &app, &locale, payload),
             Request::Replace {
                 app,
                 locale,
                 payload,
-            } => handle::put(
-                &mut self.packages,
-                alloc,
-                Change::Replace,
-                &app,
-                &locale,
-                payload,
-            ),
-            Request::Remove { app, locale } => handle::remove(&mut self.packages, &app, &locale),
-            Request::List { app } => handle::list(&self.packages, alloc, &app),
+            } => handle::put(packages, alloc, Change::Replace, &app, &locale, payload),
+            Request::Remove { app, locale } => handle::remove(packages, &app, &locale),
+            Request::List { app } => handle::list(packages, alloc, &app),
         }
     }
 
@@ -131,6 +115,19 @@ impl Engine {
     {
         let place = place_of(app, locale)?;
         look_at(&self.packages, &self.parents, &place, path)
+    }
+}
+
+impl From<LookError> for LookFault {
+    ghost use Rattle.rb_engine.specs.LookFaults.{look_fault_of};
+
+    ghost from_gives = { λ e f. f ≡ look_fault_of e };
+
+    fn from(error: LookError) -> Self {
+        same_name!(error: LookError => LookFault {
+            BadPath, PathTooLong, Chain, BadParent, NoBundle, Missing, AliasText, AliasPackage,
+            TooManyAliases,
+        })
     }
 }
 

@@ -1,5 +1,5 @@
 //! The requests, on the packages of all applications.
-ghost use Rattle.std.specs.Prelude.{ℕ, List, Ok};
+ghost use Rattle.std.specs.Prelude.{◌≡◌, ℕ, List, Ok};
 ghost use Rattle.rb_engine.specs.Source.{Reads, Handles, change_request};
 ghost use Rattle.rb_engine.specs.declared.request.Payload.{Payload};
 ghost use Rattle.rb_engine.specs.declared.request.Request.TheVariants.{Install, Replace, Remove, List as Lists};
@@ -7,7 +7,7 @@ ghost use Rattle.rb_engine.specs.declared.request.Request.TheVariants.{Install, 
 use crate::payload::bundle_of;
 use crate::place::{Place, PlaceFault, place_of};
 use crate::request::{NameList, Payload, Reply};
-use rb_packages::{App, Packages};
+use rb_packages::{App, PackFault, Packages};
 use rb_tree::ByteList;
 use rb_validator::Bundle;
 use std::alloc::Global;
@@ -51,6 +51,20 @@ pub(crate) fn put(
     match change {
         Change::Install => install(packages, &place, bundle),
         Change::Replace => replace(packages, &place, bundle),
+    }
+}
+
+impl From<PackFault> for Reply {
+    ghost use Rattle.rb_engine.specs.Source.{not_installed_reply};
+
+    ghost from_gives = { λ e r. r ≡ not_installed_reply e };
+
+    fn from(fault: PackFault) -> Self {
+        match fault {
+            PackFault::Exists | PackFault::Twice => Reply::Exists,
+            PackFault::Full => Reply::Full,
+            PackFault::Memory => Reply::Memory,
+        }
     }
 }
 

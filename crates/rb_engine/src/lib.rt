@@ -7,6 +7,7 @@ pub mod laws;
 mod payload;
 mod place;
 mod request;
+mod same_name;
 mod start;
 mod words;
 

@@ -3,7 +3,8 @@ ghost use Rattle.std.specs.Prelude.{◌≡◌};
 ghost use Rattle.rb_engine.specs.Source.{BundleOrFault};
 ghost use Rattle.rb_engine.specs.declared.request.Payload.TheVariants.{Text, File};
 
-use crate::request::Payload;
+use crate::request::{Payload, Reply};
+use crate::same_name::same_name;
 use rb_compiler::compile;
 use rb_format::FileFault;
 use rb_lexer::{SourceFault, SourceKind};
@@ -52,6 +53,16 @@ impl From<FileFault> for PayloadFault {
             FileFault::Memory => PayloadFault::Memory,
             _ => PayloadFault::BadFile,
         }
+    }
+}
+
+impl From<PayloadFault> for Reply {
+    ghost use Rattle.rb_engine.specs.Source.{unread_reply};
+
+    ghost from_gives = { λ e r. r ≡ unread_reply e };
+
+    fn from(fault: PayloadFault) -> Self {
+        same_name!(fault: PayloadFault => Reply { BadText, BadFile, Memory })
     }
 }
 

@@ -2,7 +2,9 @@
 ghost use Rattle.std.specs.Prelude.{◌≡◌};
 ghost use Rattle.rb_engine.specs.Place.{place_of as placed};
 
-use rb_locales::{BadLocale, Name};
+use crate::request::{LookFault, Reply};
+use crate::same_name::same_name;
+use rb_locales::Name;
 use rb_packages::{App, AppFault};
 
 /// Where a bundle is.
@@ -26,20 +28,7 @@ impl From<AppFault> for PlaceFault {
     ghost from_gives = { λ e f. f ≡ app_refusal e };
 
     fn from(fault: AppFault) -> Self {
-        match fault {
-            AppFault::BadApp => PlaceFault::BadApp,
-            AppFault::Reserved => PlaceFault::Reserved,
-        }
-    }
-}
-
-impl From<BadLocale> for PlaceFault {
-    ghost use Rattle.rb_engine.specs.declared.place.PlaceFault.TheVariants as faults;
-
-    ghost from_gives = { λ _ f. f ≡ faults.BadLocale };
-
-    fn from(_: BadLocale) -> Self {
-        PlaceFault::BadLocale
+        same_name!(fault: AppFault => PlaceFault { BadApp, Reserved })
     }
 }
 
@@ -48,6 +37,28 @@ pub(crate) fn place_of(app: &[u8], locale: &[u8]) -> Result<Place, PlaceFault>
     ensures { result ≡ placed app.now locale.now }
 {
     let app = App::read(app)?;
-    let name = Name::read(locale)?;
-    Ok(Place { app, name })
+    match Name::read(locale) {
+        Ok(name) => Ok(Place { app, name }),
+        Err(_) => Err(PlaceFault::BadLocale),
+    }
+}
+
+impl From<PlaceFault> for Reply {
+    ghost use Rattle.rb_engine.specs.Answer.{refusal};
+
+    ghost from_gives = { λ e r. r ≡ refusal e };
+
+    fn from(fault: PlaceFault) -> Self {
+        same_name!(fault: PlaceFault => Reply { BadApp, Reserved, BadLocale })
+    }
+}
+
+impl From<PlaceFault> for LookFault {
+    ghost use Rattle.rb_engine.specs.Answer.{look_refusal};
+
+    ghost from_gives = { λ e f. f ≡ look_refusal e };
+
+    fn from(fault: PlaceFault) -> Self {
+        same_name!(fault: PlaceFault => LookFault { BadApp, Reserved, BadLocale })
+    }
 }

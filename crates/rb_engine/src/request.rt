@@ -1,11 +1,7 @@
 //! What is asked of an engine, and what it answers.
 ghost use Rattle.std.specs.Prelude.{◌≡◌};
 
-use crate::payload::PayloadFault;
-use crate::place::PlaceFault;
-use rb_fallback::LookError;
 use rb_locales::Name;
-use rb_packages::PackFault;
 use rb_tree::ByteList;
 use std::marker::Model;
 
@@ -101,48 +97,6 @@ pub enum Reply {
     Memory,
 }
 
-impl From<PlaceFault> for Reply {
-    ghost use Rattle.rb_engine.specs.Answer.{refusal};
-
-    ghost from_gives = { λ e r. r ≡ refusal e };
-
-    fn from(fault: PlaceFault) -> Self {
-        match fault {
-            PlaceFault::BadApp => Reply::BadApp,
-            PlaceFault::Reserved => Reply::Reserved,
-            PlaceFault::BadLocale => Reply::BadLocale,
-        }
-    }
-}
-
-impl From<PayloadFault> for Reply {
-    ghost use Rattle.rb_engine.specs.Source.{unread_reply};
-
-    ghost from_gives = { λ e r. r ≡ unread_reply e };
-
-    fn from(fault: PayloadFault) -> Self {
-        match fault {
-            PayloadFault::BadText => Reply::BadText,
-            PayloadFault::BadFile => Reply::BadFile,
-            PayloadFault::Memory => Reply::Memory,
-        }
-    }
-}
-
-impl From<PackFault> for Reply {
-    ghost use Rattle.rb_engine.specs.Source.{not_installed_reply};
-
-    ghost from_gives = { λ e r. r ≡ not_installed_reply e };
-
-    fn from(fault: PackFault) -> Self {
-        match fault {
-            PackFault::Exists | PackFault::Twice => Reply::Exists,
-            PackFault::Full => Reply::Full,
-            PackFault::Memory => Reply::Memory,
-        }
-    }
-}
-
 /// Why a lookup found nothing.
 #[derive(Clone, Copy, Debug, PartialEq, Eq)]
 pub enum LookFault {
@@ -170,38 +124,4 @@ pub enum LookFault {
     AliasPackage,
     /// Too many aliases lead to one another.
     TooManyAliases,
-}
-
-impl From<PlaceFault> for LookFault {
-    ghost use Rattle.rb_engine.specs.Answer.{look_refusal};
-
-    ghost from_gives = { λ e f. f ≡ look_refusal e };
-
-    fn from(fault: PlaceFault) -> Self {
-        match fault {
-            PlaceFault::BadApp => LookFault::BadApp,
-            PlaceFault::Reserved => LookFault::Reserved,
-            PlaceFault::BadLocale => LookFault::BadLocale,
-        }
-    }
-}
-
-impl From<LookError> for LookFault {
-    ghost use Rattle.rb_engine.specs.LookFaults.{look_fault_of};
-
-    ghost from_gives = { λ e f. f ≡ look_fault_of e };
-
-    fn from(error: LookError) -> Self {
-        match error {
-            LookError::BadPath => LookFault::BadPath,
-            LookError::PathTooLong => LookFault::PathTooLong,
-            LookError::Chain => LookFault::Chain,
-            LookError::BadParent => LookFault::BadParent,
-            LookError::NoBundle => LookFault::NoBundle,
-            LookError::Missing => LookFault::Missing,
-            LookError::AliasText => LookFault::AliasText,
-            LookError::AliasPackage => LookFault::AliasPackage,
-            LookError::TooManyAliases => LookFault::TooManyAliases,
-        }
-    }
 }
