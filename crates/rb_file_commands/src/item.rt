@@ -4,13 +4,14 @@ ghost use Rattle.serde_json.specs.Data.{Data};
 ghost use Rattle.serde_json.specs.Written.{compact_text};
 ghost use Rattle.rb_tree.specs.Path.{IsPath, segments};
 ghost use Rattle.rb_tree.specs.Walk.{walk};
+ghost use Rattle.rb_items.specs.Item.{item_data};
 ghost use Rattle.rb_file_commands.specs.declared.item.ItemError.TheVariants as errors;
 ghost use Rattle.rb_file_commands.specs.Got.{got, shown};
 
 use rb_fallback::{PATH_LIMIT, rest_behind};
 use rb_items::item_text;
 use rb_tree::{Ending, Node, path_ok, walk};
-use std::alloc::{AllocError, Global};
+use std::alloc::Global;
 
 /// Why there is no item to print.
 #[derive(Clone, Copy, Debug, PartialEq, Eq)]
@@ -25,11 +26,15 @@ pub enum ItemError {
     Memory,
 }
 
-impl From<AllocError> for ItemError {
-    ghost from_gives = { λ x e. e ≡ errors.Memory };
-
-    fn from(_: AllocError) -> ItemError {
-        ItemError::Memory
+/// The text of an item, with the rest of a path behind it.
+fn text_of<N: Node>(alloc: Global, node: N, rest: &[u8]) -> Result<String, ItemError>
+    requires { IsPath rest.now }
+    ensures text { IfOk result (λ text. string_bytes text ≡ compact_text (item_data (N.tree node) rest.now)) }
+    ensures error { IfErr result (λ e. e ≡ errors.Memory) }
+{
+    match item_text(alloc, node, rest) {
+        Ok(text) => Ok(text),
+        Err(_) => Err(ItemError::Memory),
     }
 }
 
@@ -40,8 +45,8 @@ fn shown_text<N: Node>(alloc: Global, root: N, path: &[u8]) -> Result<String, It
     ensures error { IfErr result (λ e. (e ≡ errors.Memory) ⊎ (shown (walk (N.tree root) (segments path.now)) ≡ Err e)) }
 {
     match walk(root, path) {
-        Ending::End(node) => Ok(item_text(alloc, node, b"")?),
-        Ending::Link(node, cut) => Ok(item_text(alloc, node, rest_behind(path, cut))?),
+        Ending::End(node) => Ok(text_of(alloc, node, b"")?),
+        Ending::Link(node, cut) => Ok(text_of(alloc, node, rest_behind(path, cut))?),
         Ending::Gone => Err(ItemError::Missing),
     }
 }
