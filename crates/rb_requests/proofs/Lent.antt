@@ -1,9 +1,8 @@
 -- What was lent out of a line, beside the object that the line is.
-use Rattle.std.proofs.Common.{◌≡◌, ℕ, List, Option, Some, None, is_some, true, false, if◌then◌else◌, option_map, option_and_then, codes, refl, ap, ◌∙◌}
+use Rattle.std.proofs.Common.{◌≡◌, ℕ, List, Option, Some, None, is_some, if◌then◌else◌, option_map, option_and_then, codes, refl, ap, ◌∙◌}
 use Rattle.serde_json.specs.Data.{Data, null, boolean, number, string, array, Members, object}
 use Rattle.serde_json.specs.Find.{get_member, as_str}
 use Rattle.hex.specs.Hex.{decode_of}
-use Rattle.rb_engine.specs.Ask.{Call}
 use Rattle.rb_engine.specs.declared.request.Payload.{Payload}
 use Rattle.rb_engine.specs.declared.request.Payload.TheVariants.{Text}
 use Rattle.rb_members.specs.Texts.{Holds, IsAt, IsMember}

@@ -1,5 +1,5 @@
 -- Serving line by line, and the lines of the whole input.
-use Rattle.std.proofs.Common.{◌≡◌, ◌<◌, ◌≤◌, ℕ, ◌+◌, inl, inr, ◌⊎◌, List, [], ◌∷◌, ◌++◌, length, Option, Some, None, refl, sym, ◌∙◌, ap, subst, arith}
+use Rattle.std.proofs.Common.{◌≡◌, ◌<◌, ◌≤◌, ℕ, ◌+◌, inl, inr, List, [], ◌∷◌, ◌++◌, length, Option, Some, None, refl, sym, ◌∙◌, ap, subst, arith}
 use Rattle.std.proofs.Common.{add-one, append_assoc, append-nil, length-append}
 use Rattle.std.specs.Prelude.{All, Result, Ok, Err, IfOk, IfErr}
 use Rattle.std.specs.List.{concat}
@@ -12,7 +12,7 @@ use Rattle.rb_engine.specs.History.{State}
 use Rattle.rb_requests.specs.Lines.{LineReply, RepliesByLine, lines_of, feeds}
 use Rattle.rb_requests.specs.inner.MayTakeEffect.{AskedMayTakeEffect}
 use Rattle.rb_requests.specs.Device.{risen, risen_by}
-use Rattle.rb_requests.specs.Served.{Moment, at, where_known, IsShort, Answers, AnswersWithin, FirstAnswered, IsNext, TakesEffect, After, AfterRead}
+use Rattle.rb_requests.specs.Served.{Moment, at, where_known, IsShort, Answers, AnswersWithin, FirstAnswered, IsNext, After, AfterRead}
 use Rattle.rb_requests.specs.Served.{AfterLong, AfterLimit, AfterMemory, AfterFaultWithin}
 use Rattle.rb_requests.specs.inner.OneLine.{Wrote, WrotePart, FailsLine}
 use Rattle.rb_requests.specs.inner.Taken.{ReadsPart, ReadsFewer, ReadsLong, ReadsEnded, ReadsLast, ReadsEnd, EndsAfter}

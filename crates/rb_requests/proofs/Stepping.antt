@@ -1,11 +1,9 @@
 -- A step of the engine, as an equation of states.
-use Rattle.std.proofs.Common.{◌≡◌, ℕ, inl, inr, Bool, true, false, cond, List, Option, Some, Result, Ok, Err, IfErr, option_map, refl, sym, ◌∙◌, ap, subst}
-use Rattle.std.specs.Str.{bytes_eq}
-use Rattle.std.proofs.lemmas.Slice.Eq.{bytes_eq-Decides}
+use Rattle.std.proofs.Common.{◌≡◌, ℕ, inl, inr, true, false, List, Option, Some, Result, Ok, Err, IfErr, option_map, refl, sym, ◌∙◌, ap, subst}
 use Rattle.std.proofs.lemmas.Bool.{false≢true}
 use Rattle.rb_packages.specs.Shelf.{Shelf}
-use Rattle.rb_engine.specs.Ask.{Call, Requests, LooksUp, Looks, requester}
-use Rattle.rb_engine.specs.Answer.{Start, Response, bundles_after, answer_over}
+use Rattle.rb_engine.specs.Ask.{Call, Requests, LooksUp, Looks}
+use Rattle.rb_engine.specs.Answer.{Start, Response, answer_over}
 use Rattle.rb_engine.specs.History.{State, Step, Answered, is_memory}
 use Rattle.serde_json.specs.Data.{Data}
 use Rattle.rb_members.specs.declared.texts.Texts.{Texts}

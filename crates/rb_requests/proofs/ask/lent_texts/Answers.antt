@@ -1,8 +1,8 @@
-use Rattle.std.proofs.Common.{◌≡◌, Some, None, true, false, option_and_then, ap, sym, ◌∙◌, true≢false, refl}
+use Rattle.std.proofs.Common.{Some, option_and_then, ap, sym, ◌∙◌, true≢false, refl}
 use Rattle.std.proofs.lemmas.Result.{IfOk-weaker}
 use Rattle.serde_json.specs.Data.{object}
 use Rattle.serde_json.specs.Read.{read}
-use Rattle.rb_requests.specs.Asked.{call_in, data_of}
+use Rattle.rb_requests.specs.Asked.{call_in}
 use Rattle.rb_requests.proofs.Texts.{data_of-text, data_of-no_text}
 use Rattle.rb_requests.proofs.Lent.{texts_of_object, calls_nothing}
 use Rattle.rb_requests.proofs.ask.lent_texts.Goals as goal
