@@ -12,14 +12,20 @@ use crate::search::line_count;
 use rb_tree::{Entries, Kind, Node, Tree, TreeList, UnitList};
 use std::alloc::{AllocError, Global};
 
+/// The root's value and the text's.
+#[derive(Drop)]
+struct Both<'a, T> {
+    root: &'a T,
+    tree: &'a T,
+}
+
 /// An item that the root and the text both have.
 #[derive(Drop)]
 struct Pair<'a> {
     path: Vec<u8>,
     /// Where the text has it, if that is known.
     place: Option<usize>,
-    root: &'a Tree,
-    tree: &'a Tree,
+    both: Both<'a, Tree>,
 }
 
 /// One of the two texts.
@@ -118,8 +124,7 @@ impl<'a> Comparison<'a> {
                 self.pairs.push(Pair {
                     path,
                     place,
-                    root,
-                    tree,
+                    both: Both { root, tree },
                 })?;
                 Ok(())
             }
@@ -160,49 +165,33 @@ impl<'a> Comparison<'a> {
     }
 
     /// The keys of two tables.
-    fn tables(
-        &mut self,
-        pair: &Pair<'a>,
-        root: &'a Entries,
-        tree: &'a Entries,
-    ) -> Result<(), AllocError> {
+    fn tables(&mut self, pair: &Pair<'a>, both: &Both<'a, Entries>) -> Result<(), AllocError> {
         let text = self.text;
         let places = self.outline.keys(self.alloc, text, pair.place)?;
-        self.entries(pair, &places, root, tree)?;
-        self.additions(pair, &places, root, tree)
+        self.entries(pair, &places, both.root, both.tree)?;
+        self.additions(pair, &places, both.root, both.tree)
     }
 
     /// The items of two arrays, as far as both have them.
-    fn items(
-        &mut self,
-        pair: &Pair<'a>,
-        root: &'a TreeList,
-        tree: &'a TreeList,
-    ) -> Result<(), AllocError> {
-        let both = root.as_slice().iter().zip(tree.as_slice());
-        for (i, (root, tree)) in both.enumerate() {
+    fn items(&mut self, pair: &Pair<'a>, both: &Both<'a, TreeList>) -> Result<(), AllocError> {
+        let items = both.root.as_slice().iter().zip(both.tree.as_slice());
+        for (i, (root, tree)) in items.enumerate() {
             let index = format!(in self.alloc; "{i}")?;
             self.pairs.push(Pair {
                 path: below(self.alloc, &pair.path, index.as_bytes())?,
                 place: self.outline.item(pair.place, i),
-                root,
-                tree,
+                both: Both { root, tree },
             })?;
         }
         Ok(())
     }
 
     /// The placeholders of two Strings.
-    fn strings(
-        &mut self,
-        pair: &Pair<'a>,
-        root: &UnitList,
-        tree: &UnitList,
-    ) -> Result<(), AllocError> {
+    fn strings(&mut self, pair: &Pair<'a>, both: &Both<'a, UnitList>) -> Result<(), AllocError> {
         let alloc = self.alloc;
         let (root, tree) = (
-            plain(alloc, root.as_slice())?,
-            plain(alloc, tree.as_slice())?,
+            plain(alloc, both.root.as_slice())?,
+            plain(alloc, both.tree.as_slice())?,
         );
         let (asked, given) = (placeholders(alloc, &root)?, placeholders(alloc, &tree)?);
         self.names(pair, &others(alloc, &asked, &given)?, Side::Root)?;
@@ -224,7 +213,7 @@ impl<'a> Comparison<'a> {
 
     /// Another kind of items than the root's; an alias may stand for any.
     fn kinds(&mut self, pair: &Pair<'a>) -> Result<(), AllocError> {
-        let (root, here) = (pair.root.kind(), pair.tree.kind());
+        let (root, here) = (pair.both.root.kind(), pair.both.tree.kind());
         if root == here || root == Kind::Alias || here == Kind::Alias {
             return Ok(());
         }
@@ -233,10 +222,10 @@ impl<'a> Comparison<'a> {
     }
 
     fn step(&mut self, pair: &Pair<'a>) -> Result<(), AllocError> {
-        match (pair.root, pair.tree) {
-            (Tree::Table(root), Tree::Table(tree)) => self.tables(pair, root, tree),
-            (Tree::Array(root), Tree::Array(tree)) => self.items(pair, root, tree),
-            (Tree::String(root), Tree::String(tree)) => self.strings(pair, root, tree),
+        match (pair.both.root, pair.both.tree) {
+            (Tree::Table(root), Tree::Table(tree)) => self.tables(pair, &Both { root, tree }),
+            (Tree::Array(root), Tree::Array(tree)) => self.items(pair, &Both { root, tree }),
+            (Tree::String(root), Tree::String(tree)) => self.strings(pair, &Both { root, tree }),
             _ => self.kinds(pair),
         }
     }
@@ -286,8 +275,7 @@ pub fn beside_root(
     comparison.pairs.push(Pair {
         path: Vec::new(alloc),
         place: Some(0),
-        root,
-        tree,
+        both: Both { root, tree },
     })?;
     in_order(alloc, comparison.compared()?, line_count(text))
 }

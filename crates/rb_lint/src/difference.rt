@@ -41,8 +41,8 @@ fn shown(bytes: &[u8]) -> &str {
     str::from_utf8(bytes).unwrap_or("?")
 }
 
-/// A kind of items, in words.
-fn kind_word(kind: Kind) -> &'static str {
+/// A kind of items, in words, as warnings and traces say it.
+pub fn kind_word(kind: Kind) -> &'static str {
     match kind {
         Kind::String => "a string",
         Kind::Int => "an int",

@@ -19,7 +19,7 @@ mod tests;
 mod warning;
 
 pub use beside::beside_root;
-pub use difference::{Difference, RootWarning};
+pub use difference::{Difference, RootWarning, kind_word};
 pub use order::WARNING_LIMIT;
 pub use search::lint;
 pub use warning::{Doubt, Warning};

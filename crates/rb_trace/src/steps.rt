@@ -1,5 +1,6 @@
 //! The steps of a traced lookup, in words.
 use rb_fallback::rest_behind;
+use rb_lint::kind_word;
 use rb_locales::Name;
 use rb_parents::{Next, Parents};
 use rb_tree::{Ending, Kind, Node, path_ok, walk};
@@ -154,19 +155,6 @@ fn first_segment(path: &[u8]) -> &str {
     match path.split_once('/') {
         Some((first, _)) => first,
         None => path,
-    }
-}
-
-/// A kind of items, in words.
-fn kind_word(kind: Kind) -> &'static str {
-    match kind {
-        Kind::String => "a string",
-        Kind::Int => "an int",
-        Kind::Ints => "an intvector",
-        Kind::Binary => "a bin",
-        Kind::Alias => "an alias",
-        Kind::Array => "an array",
-        Kind::Table => "a table",
     }
 }
 
