@@ -20,11 +20,11 @@ use Rattle.rb_parents.specs.declared.fault.ParentsFault.{ParentsFault}
 use Rattle.rb_parents.specs.declared.fault.ParentsFault.TheVariants as fault
 
 -- ---- the texts of an array's items
-text_some : (t : Resource) → kind_of t ≡ Kinds.String → text_of t ≡ Some (units_of t)
+pub text_some : (t : Resource) → kind_of t ≡ Kinds.String → text_of t ≡ Some (units_of t)
 text_some (string us) k = refl
 text_some t k = cc
 
-text_none : (t : Resource) → (kind_of t ≡ Kinds.String → ⊥) → text_of t ≡ None
+pub text_none : (t : Resource) → (kind_of t ≡ Kinds.String → ⊥) → text_of t ≡ None
 text_none (string us) k = absurd (k refl)
 text_none t k = refl
 

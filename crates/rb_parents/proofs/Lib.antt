@@ -4,3 +4,4 @@ pub mod Explicits
 pub mod ParentMaps
 pub mod FirstErrors
 pub mod OneReading
+pub mod Children

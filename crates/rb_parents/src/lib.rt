@@ -1,6 +1,7 @@
 //! Explicit parents, shelves of bundles, and the trail of a name.
 #![tactic(auto)]
 
+mod child;
 mod fault;
 pub mod laws;
 mod limits;

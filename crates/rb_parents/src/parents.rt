@@ -9,6 +9,7 @@ ghost use Rattle.rb_parents.specs.Explicit.{GivesParents, RefusesParents};
 ghost use Rattle.rb_parents.specs.ParentMap.{texts_in};
 ghost use Rattle.rb_parents.specs.declared.fault.ParentsFault.TheVariants as Faults;
 
+use crate::child::child_of_kind;
 use crate::fault::ParentsFault;
 use rb_locales::Name;
 use rb_tree::{Kind, Node, Tree};
@@ -77,18 +78,7 @@ fn locales_table(tree: &Tree) -> Option<&Tree>
     ensures entries { IfSome result (λ t. read_tree (view_of tree.now) ≡ put_entries (pairs_of (view_of t.now)) no_parents) }
     ensures none { IfNone result (read_tree (view_of tree.now) ≡ Err Faults.Shape) }
 {
-    if tree.kind() != Kind::Table {
-        return None;
-    }
-    let child = match tree.child(b"parentLocales") {
-        Some(child) => child,
-        None => return None,
-    };
-    if child.kind() == Kind::Table {
-        Some(child)
-    } else {
-        None
-    }
+    child_of_kind(tree, b"parentLocales", Kind::Table)
 }
 
 // Whether all items of an array are strings.

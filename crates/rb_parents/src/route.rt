@@ -9,6 +9,7 @@ ghost use Rattle.arrayvec.specs.ArrayVec.{array_vec_len};
 ghost use Rattle.rb_parents.specs.Answers.{trail_of};
 ghost use Rattle.rb_parents.specs.Steps.{next_of};
 
+use crate::child::child_of_kind;
 use crate::fault::TrailFault;
 use crate::limits::TRAIL_LIMIT;
 use crate::parents::Parents;
@@ -40,18 +41,7 @@ fn text_node<N: Node>(node: N, key: &[u8]) -> Option<N>
     ensures text { option_map (λ m. units_of (N.tree m)) result ≡ text_at key.now (N.tree node) }
     ensures kind { IfSome result (λ m. kind_of (N.tree m) ≡ Kinds.String) }
 {
-    if node.kind() != Kind::Table {
-        return None;
-    }
-    let child = match node.child(key) {
-        Some(child) => child,
-        None => return None,
-    };
-    if child.kind() == Kind::String {
-        Some(child)
-    } else {
-        None
-    }
+    child_of_kind(node, key, Kind::String)
 }
 
 // The name that a string gives.
