@@ -2,7 +2,7 @@
 ghost use Rattle.std.specs.Prelude.{◌≡◌, [], ◌∷◌, ◌++◌, Some, None, IfOk, IfErr, IfNone, OnOk, OnErr};
 ghost use Rattle.std.specs.Map.{lookup, keys_of, set_value, remove_entry};
 ghost use Rattle.std.specs.Str.{bytes_eq};
-ghost use Rattle.rb_packages.specs.Packages.{shelf_of, install_fault, load_fault, IsJudged};
+ghost use Rattle.rb_packages.specs.Packages.{shelf_of, install_fault, IsJudged};
 ghost use Rattle.rb_packages.specs.declared.fault.PackFault.TheVariants as faults;
 
 use crate::fault::{Absent, PackFault};
@@ -34,7 +34,11 @@ pub(crate) fn of_one(
 }
 
 /// Adds a bundle at the end, under a name that isn't there.
-fn add(bundles: &mut Bundles, name: Name, bundle: Bundle) -> Result<(), (PackFault, Bundle)>
+pub(crate) fn add(
+    bundles: &mut Bundles,
+    name: Name,
+    bundle: Bundle,
+) -> Result<(), (PackFault, Bundle)>
     requires { lookup (bytes_eq name) bundles.old.entries ≡ None }
     ensures added { OnOk result (bundles.new.entries ≡ bundles.old.entries ++ (name, bundle) ∷ []) }
     ensures error { IfErr result (λ e. e ≡ (faults.Memory, bundle)) }
@@ -65,23 +69,6 @@ pub(crate) fn install(
     }
     if bundles.len() >= BUNDLE_LIMIT {
         return Err((PackFault::Full, bundle));
-    }
-    add(bundles, name, bundle)
-}
-
-/// Adds a bundle at the end.
-pub(crate) fn load(
-    bundles: &mut Bundles,
-    name: Name,
-    bundle: Bundle,
-) -> Result<(), (PackFault, Bundle)>
-    ensures judged { IsJudged (load_fault name (shelf_of bundles.old.entries)) result }
-    ensures added { OnOk result (bundles.new.entries ≡ bundles.old.entries ++ (name, bundle) ∷ []) }
-    ensures back { IfErr result (λ e. e.1 ≡ bundle) }
-    ensures stays { OnErr result (bundles.new.entries ≡ bundles.old.entries) }
-{
-    if bundles.contains_key(&name) {
-        return Err((PackFault::Twice, bundle));
     }
     add(bundles, name, bundle)
 }

@@ -1,4 +1,6 @@
 //! Why a bundle isn't taken in, replaced or removed.
+ghost use Rattle.std.specs.Prelude.{◌≡◌};
+ghost use Rattle.rb_packages.specs.Words.{absent_word};
 
 /// Why a bundle isn't taken in.
 #[derive(Clone, Copy, Debug, PartialEq, Eq)]
@@ -16,3 +18,12 @@ pub enum PackFault {
 /// The application has no bundle of that name.
 #[derive(Clone, Copy, Debug, PartialEq, Eq)]
 pub struct Absent;
+
+impl Absent {
+    /// The error's name, `Absent`.
+    pub fn word(self) -> &'static str
+        ensures { result.now ≡ absent_word }
+    {
+        "Absent"
+    }
+}

@@ -68,7 +68,10 @@ impl Packages {
         ensures unchanged { OnErr result (self.new ≡ self.old) }
         ensures back { IfErr result (λ e. e.1 ≡ bundle) }
     {
-        bundles::load(&mut self.icudata, name, bundle)
+        if self.icudata.contains_key(&name) {
+            return Err((PackFault::Twice, bundle));
+        }
+        bundles::add(&mut self.icudata, name, bundle)
     }
 
     /// Adds a bundle of an application, last in its order. `Exists`: the application has one of that name. `Full`: it has 4,096

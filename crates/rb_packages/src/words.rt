@@ -1,9 +1,9 @@
 //! The words of refusals.
 ghost use Rattle.std.specs.Prelude.{◌≡◌};
-ghost use Rattle.rb_packages.specs.Words.{absent_word, app_word, pack_word};
+ghost use Rattle.rb_packages.specs.Words.{app_word, pack_word};
 
 use crate::app::AppFault;
-use crate::fault::{Absent, PackFault};
+use crate::fault::PackFault;
 use rb_tree::variant_name;
 
 impl AppFault {
@@ -21,14 +21,5 @@ impl PackFault {
         ensures { result.now ≡ pack_word self }
     {
         variant_name!(self: PackFault { Twice, Exists, Full, Memory })
-    }
-}
-
-impl Absent {
-    /// The error's name, `Absent`.
-    pub fn word(self) -> &'static str
-        ensures { result.now ≡ absent_word }
-    {
-        "Absent"
     }
 }
