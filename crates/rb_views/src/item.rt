@@ -63,6 +63,25 @@ fn signed(number: u32) -> i32
     }
 }
 
+// The values that follow their count, from an item's offset on; none at offset 0. `$first` says where they begin.
+macro_rules! counted {
+    ($item:ident, $view:ident, $offset:ident => $first:expr) => {{
+        let $offset = item_offset($item.word);
+        if $offset == 0 {
+            return $view {
+                body: $item.body,
+                first: 0,
+                count: 0,
+            };
+        }
+        $view {
+            body: $item.body,
+            first: $first,
+            count: word_at($item.body, $offset as usize),
+        }
+    }};
+}
+
 impl<'a> Item<'a> {
     ghost use Rattle.rb_views.specs.Seen.{tree_seen, units_seen, numbers_seen, trees_seen, entries_seen};
     ghost use Rattle.rb_views.specs.Seen.{item_data, item_word, array_data, first_item, table_data, parts_seen};
@@ -174,19 +193,7 @@ impl<'a> Item<'a> {
         requires { HasUnits (kind_of (tree_seen self)) }
         ensures { units_seen result ≡ units_of (tree_seen self.entry) }
     {
-        let offset = item_offset(self.word);
-        if offset == 0 {
-            return Units {
-                body: self.body,
-                first: 0,
-                count: 0,
-            };
-        }
-        Units {
-            body: self.body,
-            first: 2 * offset + 2,
-            count: word_at(self.body, offset as usize),
-        }
+        counted!(self, Units, offset => 2 * offset + 2)
     }
 
     #[tactic(auto, using(crate::proofs::Contents::numbers_there, crate::proofs::Contents::numbers_none))]
@@ -194,19 +201,7 @@ impl<'a> Item<'a> {
         requires { kind_of (tree_seen self) ≡ Kinds.Ints }
         ensures { numbers_seen result ≡ numbers_of (tree_seen self.entry) }
     {
-        let offset = item_offset(self.word);
-        if offset == 0 {
-            return Ints {
-                body: self.body,
-                first: 0,
-                count: 0,
-            };
-        }
-        Ints {
-            body: self.body,
-            first: offset + 1,
-            count: word_at(self.body, offset as usize),
-        }
+        counted!(self, Ints, offset => offset + 1)
     }
 
     pub(crate) fn bytes(self) -> &'a [u8]
@@ -232,19 +227,7 @@ impl<'a> Item<'a> {
         ensures data { array_data result ≡ item_data self.entry }
         ensures place { let o = offset_of (item_word self.entry) in 0 < o → first_item result ≡ array_first o }
     {
-        let offset = item_offset(self.word);
-        if offset == 0 {
-            return Array {
-                body: self.body,
-                first: 0,
-                count: 0,
-            };
-        }
-        Array {
-            body: self.body,
-            first: offset + 1,
-            count: word_at(self.body, offset as usize),
-        }
+        counted!(self, Array, offset => offset + 1)
     }
 
     pub(crate) fn entries(self) -> Table<'a>
