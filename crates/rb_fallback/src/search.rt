@@ -169,26 +169,6 @@ fn search_on<'a, S: Shelf<'a>, I: Shelf<'a, N = S::N>>(
     Err(LookError::TooManyAliases)
 }
 
-// The search of a path that is short enough, from a name. The path is read where it is; only an alias makes another.
-fn search_path<'a, S: Shelf<'a>, I: Shelf<'a, N = S::N>>(
-    own: S,
-    icu: I,
-    parents: &Parents,
-    name: &Name,
-    path: &[u8],
-) -> Result<Found<S::N>, LookError>
-    requires path { IsPath path.now }
-    requires short { length path.now ≤ 1024 }
-    ensures answer { answer_of S.N.tree result ≡ look_up (S.bundles own) (I.bundles icu) (parent_of parents.now) name.now (segments path.now) }
-    ensures valid { IfOk result (λ f. first_stop (S.bundles own) (parent_of parents.now) name.now ≡ Some f.valid) }
-{
-    match step(own, parents, false, name, path, None)? {
-        Outcome::Found(found) => Ok(found),
-        Outcome::Next { valid, place } => search_on(own, icu, parents, valid, place),
-        Outcome::TooLong => Err(LookError::PathTooLong),
-    }
-}
-
 /// Looks a path up from a name, in the bundles `own` and, where an alias leads there, in `icu` (the lookup with fallback of ICU's
 /// `ures_*` calls). A path is segments of printable ASCII with slashes between them; the empty path is the root.
 ///
@@ -221,5 +201,9 @@ pub fn look<'a, S: Shelf<'a>, I: Shelf<'a, N = S::N>>(
     if path.len() > PATH_LIMIT {
         return Err(LookError::PathTooLong);
     }
-    search_path(own, icu, parents, name, path)
+    match step(own, parents, false, name, path, None)? {
+        Outcome::Found(found) => Ok(found),
+        Outcome::Next { valid, place } => search_on(own, icu, parents, valid, place),
+        Outcome::TooLong => Err(LookError::PathTooLong),
+    }
 }
