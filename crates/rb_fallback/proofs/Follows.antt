@@ -28,7 +28,7 @@ filled_some [] e = cc
 filled_some (x ∷ xs) e = omega arith
 
 -- ---- two paths in a row
-segments-joined_path : (a b : List ℕ) → 0 < length a → segments (joined_path a b) ≡ segments a ++ segments b
+pub segments-joined_path : (a b : List ℕ) → 0 < length a → segments (joined_path a b) ≡ segments a ++ segments b
 segments-joined_path [] b h = absurd (omega arith)
 segments-joined_path (x ∷ a) [] h = sym (append-nil (segments (x ∷ a)))
 segments-joined_path (x ∷ a) (y ∷ b) h = split_append is_slash 47 (x ∷ a) (y ∷ b) refl

@@ -6,3 +6,5 @@ pub mod Follows
 pub mod Links
 pub mod Levels
 pub mod NeverBadPath
+mod Fronts
+mod Judging

@@ -1,5 +1,6 @@
 -- A level that ends at an item or at an alias.
-use Rattle.std.proofs.Common.{◌≡◌, ℕ, List, [], ◌∷◌, ◌++◌, drop, Bool, Option, Some, None, Result, Ok, Err, refl, ap, sym, ◌∙◌, subst}
+use Rattle.std.proofs.Common.{◌≡◌, ◌≤◌, ℕ, List, [], ◌∷◌, ◌++◌, length, take, drop, Bool, Option, Some, None, Result, Ok, Err, refl, ap, sym, ◌∙◌, subst}
+use Rattle.std.specs.List.{join_with_byte}
 use Rattle.std.specs.Option.{ok_or}
 use Rattle.rb_tree.specs.Resource.{Resource, alias}
 use Rattle.rb_tree.specs.SourceTree.{SourceTree}
@@ -12,44 +13,59 @@ use Rattle.rb_tree.specs.declared.ending.Ending.TheVariants.{End, Link, Gone}
 use Rattle.rb_parents.specs.Trail.{Bundles, ParentsOf, Trail, names, trail, stops}
 use Rattle.rb_fallback.specs.Alias.{target}
 use Rattle.rb_fallback.specs.Search.{Decided, walk_of, unless_gone, decide, by_stops, by_trail, level, step, step_of, follow}
+use Rattle.rb_fallback.specs.inner.Judgements.{TextAt}
 use Rattle.rb_fallback.specs.inner.LevelResult.{IsLevelResult}
 use Rattle.rb_fallback.specs.declared.fault.LookError.{LookError}
 use Rattle.rb_fallback.specs.declared.fault.LookError.TheVariants as fault
 use Rattle.rb_fallback.specs.declared.level.LevelResult.{LevelResult}
 use Rattle.rb_fallback.specs.declared.search.Place.{Place}
 use Rattle.rb_fallback.specs.inner.Steps.{IsFollowed}
+use Rattle.rb_fallback.proofs.Fronts.{IsFront, IsFrontOf, front_is, walk_front}
 use Rattle.rb_fallback.proofs.Paths.{Whole, walk_whole}
 
--- ---- what was walked and what is left of the deciding walk are the whole path
+-- ---- the deciding walk is that of its stop
 abbrev walk_in : Option Decided → Walked
 walk_in (Some d) = d.walked
 walk_in None = gone
 
-unless_whole : (n : List ℕ) (v : Walked) (later : Option Decided) (d : Decided) (ss : List (List ℕ)) → Whole v ss → (later ≡ Some d → Whole d.walked ss)
-    → unless_gone n v later ≡ Some d → Whole d.walked ss
-unless_whole n gone later d ss h k e = k e
-unless_whole n v later d ss h k e = let same : v ≡ d.walked = ap walk_in e in subst (λ x. Whole x ss) same h
+abbrev stop_in : Option Decided → List ℕ
+stop_in (Some d) = d.stop
+stop_in None = []
 
-walk_of_whole : (o : Option SourceTree) (ss : List (List ℕ)) → Whole (walk_of o ss) ss
-walk_of_whole None ss = tt
-walk_of_whole (Some b) ss = walk_whole b.tree ss
+unless_is : (bundles : Bundles) (n : List ℕ) (v : Walked) (later : Option Decided) (d : Decided) (ss : List (List ℕ)) → walk_of (bundles n) ss ≡ v
+    → (later ≡ Some d → walk_of (bundles d.stop) ss ≡ d.walked) → unless_gone n v later ≡ Some d → walk_of (bundles d.stop) ss ≡ d.walked
+unless_is bundles n gone later d ss h k e = k e
+unless_is bundles n v later d ss h k e =
+    let stop : n ≡ d.stop = ap stop_in e in
+    let same : v ≡ d.walked = ap walk_in e in
+    ap (λ m. walk_of (bundles m) ss) (sym stop) ∙ h ∙ same
 
-decide_whole : (bundles : Bundles) (ns ss : List (List ℕ)) (d : Decided) → decide bundles ns ss ≡ Some d → Whole d.walked ss
-decide_whole bundles [] ss d e = cc
-decide_whole bundles (n ∷ ns) ss d e =
-    unless_whole n (walk_of (bundles n) ss) (decide bundles ns ss) d ss (walk_of_whole (bundles n) ss) (λ k. decide_whole bundles ns ss d k) e
+decide_is : (bundles : Bundles) (ns ss : List (List ℕ)) (d : Decided) → decide bundles ns ss ≡ Some d → walk_of (bundles d.stop) ss ≡ d.walked
+decide_is bundles [] ss d e = cc
+decide_is bundles (n ∷ ns) ss d e =
+    unless_is bundles n (walk_of (bundles n) ss) (decide bundles ns ss) d ss refl (λ k. decide_is bundles ns ss d k) e
 
 ok_some : (o : Option Decided) (d : Decided) → ok_or o fault.Missing ≡ Ok d → o ≡ Some d
 ok_some None d e = cc
 ok_some (Some c) d e = cc
 
-stops_whole : (bundles : Bundles) (ns ss : List (List ℕ)) (d : Decided) → by_stops bundles ns ss ≡ Ok d → Whole d.walked ss
-stops_whole bundles [] ss d e = cc
-stops_whole bundles (n ∷ ns) ss d e = decide_whole bundles (n ∷ ns) ss d (ok_some (decide bundles (n ∷ ns) ss) d e)
+stops_is : (bundles : Bundles) (ns ss : List (List ℕ)) (d : Decided) → by_stops bundles ns ss ≡ Ok d → walk_of (bundles d.stop) ss ≡ d.walked
+stops_is bundles [] ss d e = cc
+stops_is bundles (n ∷ ns) ss d e = decide_is bundles (n ∷ ns) ss d (ok_some (decide bundles (n ∷ ns) ss) d e)
 
-level_whole : (bundles : Bundles) (t : Trail) (ss : List (List ℕ)) (d : Decided) → by_trail bundles t ss ≡ Ok d → Whole d.walked ss
-level_whole bundles (names ns) ss d e = stops_whole bundles (stops bundles ns) ss d e
-level_whole bundles t ss d e = cc
+level_is : (bundles : Bundles) (t : Trail) (ss : List (List ℕ)) (d : Decided) → by_trail bundles t ss ≡ Ok d → walk_of (bundles d.stop) ss ≡ d.walked
+level_is bundles (names ns) ss d e = stops_is bundles (stops bundles ns) ss d e
+level_is bundles t ss d e = cc
+
+walk_of_whole : (o : Option SourceTree) (ss : List (List ℕ)) → Whole (walk_of o ss) ss
+walk_of_whole None ss = tt
+walk_of_whole (Some b) ss = walk_whole b.tree ss
+
+-- to the alias leads what was walked alone
+walk_of_front : (o : Option SourceTree) (ss : List (List ℕ)) (us : List ℕ) (walked rest : List (List ℕ)) → walk_of o ss ≡ links us walked rest
+    → walk_of o walked ≡ links us walked []
+walk_of_front None ss us walked rest e = cc
+walk_of_front (Some b) ss us walked rest e = subst (IsFrontOf b.tree) e (walk_front b.tree ss)
 
 -- ---- a deciding walk that ends at an item
 ends_at : (w : Walked) (t : Resource) → end t ≡ stop_of w → w ≡ ends t
@@ -70,6 +86,7 @@ record IsLink (t : Resource) (path : List ℕ) (cut : ℕ) (w : Walked) : Type 0
   same : t ≡ alias us
   left : rest ≡ segments (drop (behind cut) path)
   whole : walked ++ rest ≡ segments path
+  front : IsFront walked path cut
 
 link_of : (t : Resource) (path : List ℕ) (cut : ℕ) (w : Walked) → link t cut ≡ stop_of w → rest_of w ≡ segments (drop (behind cut) path)
     → Whole w (segments path) → IsLink t path cut w
@@ -83,6 +100,7 @@ link_of t path cut (links us walked rest) e r h = record {
   same = cc;
   left = r;
   whole = h;
+  front = let c : cut ≡ length (join_with_byte 47 walked) = cc in front_is walked rest path cut h c r;
 }
 
 module _ {N : Type 0} {tree : N → Resource} {h : LevelResult N} {path : List ℕ} {r : Result Decided LookError} {head : Option (List ℕ)}
@@ -101,11 +119,25 @@ module _ {N : Type 0} {tree : N → Resource} {h : LevelResult N} {path : List �
 module _ (bundles : Bundles) (parents : ParentsOf) (n : List ℕ) {N : Type 0} {tree : N → Resource} {h : LevelResult N} {path : List ℕ}
     {head : Option (List ℕ)} {node : N} {cut : ℕ} (decided : IsLevelResult tree h path (level bundles parents n (segments path)) head)
     (ending : h.ending ≡ Link node cut) where
+  level_walk : walk_of (bundles h.actual) (segments path) ≡ decided.walked
+  level_walk = level_is bundles (trail bundles parents n) (segments path) (record { stop = h.actual; walked = decided.walked }) decided.decides
+
   level_link : IsLink (tree node) path cut decided.walked
   level_link =
       link_of (tree node) path cut decided.walked (sym (ap (stop_at tree) ending) ∙ decided.stop)
       (subst (λ x. RestIs x path (rest_of decided.walked)) ending decided.rest)
-      (level_whole bundles (trail bundles parents n) (segments path) (record { stop = h.actual; walked = decided.walked }) decided.decides)
+      (subst (λ w. Whole w (segments path)) level_walk (walk_of_whole (bundles h.actual) (segments path)))
+
+  -- the alias is where the path up to the cut leads
+  pub link_text : TextAt bundles h.actual (take cut path) (units_of (tree node))
+  link_text =
+      let l = level_link in
+      let front = walk_of_front (bundles h.actual) (segments path) l.us l.walked l.rest (level_walk ∙ l.is) in
+      let text : l.us ≡ units_of (tree node) = sym (ap units_of l.same) in
+      subst (λ ss. walk_of (bundles h.actual) ss ≡ links (units_of (tree node)) ss []) l.front.is (front ∙ ap (λ us. links us l.walked []) text)
+
+  pub link_within : cut ≤ length path
+  link_within = level_link.front.within
 
   pub link_kind : kind_of (tree node) ≡ Kinds.Alias
   link_kind = ap kind_of level_link.same

@@ -1,2 +1,3 @@
 pub mod LevelResult
 pub mod Steps
+pub mod Judgements

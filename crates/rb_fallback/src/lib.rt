@@ -4,6 +4,7 @@
 mod alias;
 mod fault;
 mod found;
+mod judged;
 mod level;
 mod limits;
 mod path;

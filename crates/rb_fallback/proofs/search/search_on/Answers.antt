@@ -10,7 +10,7 @@ use Rattle.rb_fallback.proofs.search.search_on.Goals as goal
 pub returns-in_err-found-clause-answer : goal.returns-in_err-found-clause-answer
 returns-in_err-found-clause-answer g c =
     answer_err g.S.N.Node.tree c.from_residual.result c.in_err-found.field-0.0 c.from_residual.ensures.1
-    ∙ level_answer c.loop-level.invariant (omega arith) c.step_at.ensures.short c.in_err-found.ensures.outcome
+    ∙ level_answer c.loop-level.invariant.0 (omega arith) c.step_at.ensures.short c.in_err-found.ensures.outcome
 
 pub returns-in-Found-clause-answer : goal.returns-in-Found-clause-answer
 returns-in-Found-clause-answer g c =
@@ -18,7 +18,7 @@ returns-in-Found-clause-answer g c =
     let s = λ (v : List ℕ). setting_of (g.S.Shelf.bundles c.args.own) (g.I.Shelf.bundles c.args.icu) (parent_of c.args.parents.now) v in
     let r : List ℕ → Result Step LookError = λ v. step_at (s v) p.icudata p.name (segments p.path.items) in
     let met = subst (λ o. IsOutcome g.S.N.Node.tree (Ok o) c.args.valid r) c.in-Found.is c.in_ok-found.ensures.outcome in
-    level_answer c.loop-level.invariant (omega arith) c.step_at.ensures.short met.0
+    level_answer c.loop-level.invariant.0 (omega arith) c.step_at.ensures.short met.0
 
 pub returns-in-TooLong-clause-answer : goal.returns-in-TooLong-clause-answer
 returns-in-TooLong-clause-answer g c =
@@ -27,7 +27,7 @@ returns-in-TooLong-clause-answer g c =
     let r : List ℕ → Result Step LookError = λ v. step_at (s v) p.icudata p.name (segments p.path.items) in
     let met : GoesLong (r c.args.valid) =
     subst (λ o. IsOutcome g.S.N.Node.tree (Ok o) c.args.valid r) c.in-TooLong.is c.in_ok-found.ensures.outcome in
-    long_answer c.loop-level.invariant (omega arith) c.step_at.ensures.short met c.next_fault.ensures
+    long_answer c.loop-level.invariant.0 (omega arith) c.step_at.ensures.short met c.next_fault.ensures
 
 pub loop-level-preserved : goal.loop-level-preserved
 loop-level-preserved g c =
@@ -36,10 +36,10 @@ loop-level-preserved g c =
     let r : List ℕ → Result Step LookError = λ v. step_at (s v) p.icudata p.name (segments p.path.items) in
     let met : GoesOn c.in-Next.place (r c.args.valid) × (c.in-Next.valid ≡ c.args.valid) =
     subst (λ o. IsOutcome g.S.N.Node.tree (Ok o) c.args.valid r) c.in-Next.is c.in_ok-found.ensures.outcome in
-    next_level c.loop-level.invariant (omega arith) c.step_at.ensures.short c.in-Next.place met.0
+    (next_level c.loop-level.invariant.0 (omega arith) c.step_at.ensures.short c.in-Next.place met.0, c.step_at.ensures.known)
 
 pub returns-clause-answer : goal.returns-clause-answer
 returns-clause-answer g c =
     let s = setting_of (g.S.Shelf.bundles c.args.own) (g.I.Shelf.bundles c.args.icu) (parent_of c.args.parents.now) c.args.valid in
     let p = c.loop-level.here in
-    sym (search_end _ s p.icudata p.name (segments p.path.items) (omega arith)) ∙ c.loop-level.invariant.same
+    sym (search_end _ s p.icudata p.name (segments p.path.items) (omega arith)) ∙ c.loop-level.invariant.0.same
