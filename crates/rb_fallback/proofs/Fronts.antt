@@ -1,11 +1,11 @@
 -- The front of a path: what was walked to an alias.
-use Rattle.std.proofs.Common.{◌≡◌, ◌≤◌, ◌<◌, ◌+◌, ℕ, zero, suc, List, [], ◌∷◌, ◌++◌, length, take, drop, Option, Some, None, refl, ap, sym, ◌∙◌, arith}
+use Rattle.std.proofs.Common.{◌≡◌, ◌≤◌, ◌<◌, ℕ, zero, suc, List, [], ◌∷◌, ◌++◌, length, take, drop, Option, Some, None, refl, ap, sym, ◌∙◌, arith}
 use Rattle.std.proofs.Common.{append-nil}
 use Rattle.std.proofs.lemmas.List.{append_assoc, append_cancel_right, drop_at, length-append, take_all, take_at}
 use Rattle.std.specs.List.{join_with_byte}
 use Rattle.rb_tree.specs.Resource.{Resource, alias}
 use Rattle.rb_tree.specs.Path.{segments}
-use Rattle.rb_tree.specs.Walk.{Walked, ends, links, gone, walk, after, onward, enter, behind}
+use Rattle.rb_tree.specs.Walk.{Walked, links, walk, after, onward, enter, behind}
 use Rattle.rb_fallback.specs.AliasPaths.{joined_path}
 use Rattle.rb_fallback.proofs.Follows.{segments-joined_path}
 use Rattle.rb_fallback.proofs.Paths.{segments_joined}

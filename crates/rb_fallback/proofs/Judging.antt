@@ -1,6 +1,5 @@
 -- What a search knows of the alias that it judged last.
 use Rattle.std.proofs.Common.{◌≡◌, ℕ, List, [], Bool, true, false, Option, Some, None, Ok, ap, sym, ◌∙◌, subst}
-use Rattle.rb_tree.specs.Path.{segments}
 use Rattle.rb_tree.specs.Walk.{Walked, links}
 use Rattle.rb_parents.specs.Trail.{Bundles}
 use Rattle.rb_fallback.specs.Alias.{aim}
