@@ -103,6 +103,18 @@ fn answer<R: AllocGlobal + Print + Eprint>(
     status
 }
 
+/// Accepts a file and installs it for `APP`; `None` if it is refused or there is no memory.
+fn install_file(
+    alloc: Global,
+    packages: &mut Packages,
+    app: &App,
+    name: Name,
+    file: &[u8],
+) -> Option<()> {
+    let bundle = accept(alloc, file.to_vec(alloc).ok()?).ok()?;
+    packages.install(app, name, bundle).ok()
+}
+
 /// The bundles of files, for `APP`; none where one of them is refused.
 fn packages_of<R: RandomSource + AllocGlobal>(
     rt: &R,
@@ -113,12 +125,7 @@ fn packages_of<R: RandomSource + AllocGlobal>(
     let alloc = rt.alloc();
     let mut packages = Packages::new(alloc, RandomState::new(rt).ok()?);
     for (bundle, file) in bundles.iter().zip(files) {
-        let Ok(accepted) = accept(alloc, file.to_vec(alloc).ok()?) else {
-            return None;
-        };
-        if packages.install(app, bundle.name, accepted).is_err() {
-            return None;
-        }
+        install_file(alloc, &mut packages, app, bundle.name, file)?;
     }
     Some(packages)
 }
@@ -139,7 +146,25 @@ fn say_fault<R: Eprint>(rt: &R, console: Console, word: &str) {
     let _ = eprintln!(rt; "{word}: {meaning}{hint}");
 }
 
-/// Says on standard error, step by step, why a lookup over files finds what it finds; nothing where one of them is refused.
+/// Says on standard error, step by step, why a lookup over an application's bundles finds what it finds.
+fn say_search<R: AllocGlobal + Eprint>(
+    rt: &R,
+    console: Console,
+    trace: &Trace<'_, R>,
+    (packages, app): (&Packages, &App),
+    name: &Name,
+    path: &[u8],
+) {
+    match trace.look(packages.shelf(app), packages.icu_shelf(), name, path) {
+        Ok(actual) => {
+            let _ = eprintln!(rt; "found in {}", trace.file(&actual));
+        }
+        Err(Untraced::Fault(fault)) => say_fault(rt, console, fault.word()),
+        Err(Untraced::Memory) => say_fault(rt, console, "Memory"),
+    }
+}
+
+/// The same as `say_search` of a lookup over files; nothing where one of them is refused.
 fn say_trace<R: RandomSource + AllocGlobal + Eprint>(
     rt: &R,
     console: Console,
@@ -162,14 +187,8 @@ fn say_trace<R: RandomSource + AllocGlobal + Eprint>(
         bundles,
         parents,
     };
-    let (own, icudata) = (packages.shelf(&app), packages.icu_shelf());
-    match trace.look(own, icudata, &name, lookup.path.as_bytes()) {
-        Ok(actual) => {
-            let _ = eprintln!(rt; "found in {}", trace.file(&actual));
-        }
-        Err(Untraced::Fault(fault)) => say_fault(rt, console, fault.word()),
-        Err(Untraced::Memory) => say_fault(rt, console, "Memory"),
-    }
+    let path = lookup.path.as_bytes();
+    say_search(rt, console, &trace, (&packages, &app), &name, path);
 }
 
 /// The same lookup as `look_up`, over arguments that are split.
