@@ -38,7 +38,7 @@ plain_all us p k d h =
     let b = both_true _ _ (AllPass-from_list_all is_plain us p k d h) in
     (leb-true 32 (slice_index_or us k d) b.0, leb-true (slice_index_or us k d) 126 b.1)
 
-filled_all : (ss : List (List ℕ)) → are_filled ss ≡ true → All (λ s. 0 < length s) ss
+pub filled_all : (ss : List (List ℕ)) → are_filled ss ≡ true → All (λ s. 0 < length s) ss
 filled_all ss p k d h = ltb-true _ _ (AllPass-from_list_all (λ s. nat_lt 0 (length s)) ss p k d h)
 
 plain-joined_path : (a b : List ℕ) → All IsPlain a → All IsPlain b → All IsPlain (joined_path a b)

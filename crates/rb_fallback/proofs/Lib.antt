@@ -7,4 +7,6 @@ pub mod Links
 pub mod Levels
 pub mod NeverBadPath
 mod Fronts
+mod Budgets
+mod FewSteps
 mod Judging

@@ -53,11 +53,11 @@ stops_is : (bundles : Bundles) (ns ss : List (List ℕ)) (d : Decided) → by_st
 stops_is bundles [] ss d e = cc
 stops_is bundles (n ∷ ns) ss d e = decide_is bundles (n ∷ ns) ss d (ok_some (decide bundles (n ∷ ns) ss) d e)
 
-level_is : (bundles : Bundles) (t : Trail) (ss : List (List ℕ)) (d : Decided) → by_trail bundles t ss ≡ Ok d → walk_of (bundles d.stop) ss ≡ d.walked
+pub level_is : (bundles : Bundles) (t : Trail) (ss : List (List ℕ)) (d : Decided) → by_trail bundles t ss ≡ Ok d → walk_of (bundles d.stop) ss ≡ d.walked
 level_is bundles (names ns) ss d e = stops_is bundles (stops bundles ns) ss d e
 level_is bundles t ss d e = cc
 
-walk_of_whole : (o : Option SourceTree) (ss : List (List ℕ)) → Whole (walk_of o ss) ss
+pub walk_of_whole : (o : Option SourceTree) (ss : List (List ℕ)) → Whole (walk_of o ss) ss
 walk_of_whole None ss = tt
 walk_of_whole (Some b) ss = walk_whole b.tree ss
 

@@ -1,17 +1,21 @@
 -- A search never answers that its path has no form of one.
-use Rattle.std.proofs.Common.{◌≡◌, ℕ, zero, suc, List, [], ◌∷◌, Bool, true, false, cond, Option, Some, None, Result, Ok, Err, ap, sym, ◌∙◌}
+use Rattle.std.proofs.Common.{◌≡◌, ℕ, zero, suc, List, [], ◌∷◌, Bool, true, false, cond, nat_lt, Option, Some, None, Result, Ok, Err, ap, sym, ◌∙◌}
 use Rattle.std.specs.Option.{ok_or}
 use Rattle.rb_tree.specs.Resource.{Resource}
 use Rattle.rb_tree.specs.Walk.{Walked, ends, links, gone}
 use Rattle.rb_parents.specs.Trail.{Bundles, Trail, names, trail, stops}
 use Rattle.rb_fallback.specs.Alias.{Target, leads, bad_text, bad_package, target}
-use Rattle.rb_fallback.specs.Answers.{answer_of}
+use Rattle.rb_fallback.specs.Answers.{bounded_answer_of}
 use Rattle.rb_fallback.specs.Search.{Decided, decide, by_stops, by_trail, level, Step, found, goes, follow, step, step_of}
 use Rattle.rb_fallback.specs.Search.{Hit, Setting, bundles_of, go_on, is_long, search}
+use Rattle.rb_fallback.specs.Steps.{search_steps, searched}
+use Rattle.rb_fallback.specs.inner.Budget.{search_within, within}
+use Rattle.rb_fallback.specs.declared.fault.BoundedError.{BoundedError}
+use Rattle.rb_fallback.specs.declared.fault.BoundedError.TheVariants as bounded
 use Rattle.rb_fallback.specs.declared.found.Found.{Found}
 use Rattle.rb_fallback.specs.declared.fault.LookError.{LookError}
 use Rattle.rb_fallback.specs.declared.fault.LookError.TheVariants as fault
-use Rattle.rb_fallback.proofs.Levels.{step_at}
+use Rattle.rb_fallback.proofs.Budgets.{step_at}
 
 abbrev fault_in : {A : Type 0} → Result A LookError → LookError
 fault_in (Ok x) = fault.BadPath
@@ -62,7 +66,22 @@ search_never (suc k) s in_icu n ss e = by (λ p m ts f. search_never k s p m ts 
         let no_level = trail_never bundles (trail bundles s.parents n) ss in
         go_never (λ p m ts. search k s p m ts) (step_at s in_icu n ss) g (step_never in_icu s.valid (level bundles s.parents n ss) no_level) f
 
--- an answer that a search gives is no such error
-pub answer_never : {N : Type 0} (tree : N → Resource) (x : Result (Found N) LookError) (k : ℕ) (s : Setting) (in_icu : Bool) (n : List ℕ) (ss : List (List ℕ))
-    → answer_of tree x ≡ search k s in_icu n ss → x ≡ Err fault.BadPath → ⊥
-answer_never tree x k s in_icu n ss e f = search_never k s in_icu n ss (sym e ∙ ap (answer_of tree) f)
+-- nor does one with so many steps
+pub answer_never : {N : Type 0} (tree : N → Resource) (x : Result (Found N) BoundedError) (left : Option ℕ) (k : ℕ) (s : Setting) (in_icu : Bool)
+    (n : List ℕ) (ss : List (List ℕ)) → bounded_answer_of tree x ≡ search_within left k s in_icu n ss → x ≡ Err (bounded.Search fault.BadPath) → ⊥
+answer_never tree x left k s in_icu n ss e f =
+    within_never left (search_steps k s in_icu n ss) (search k s in_icu n ss) (search_never k s in_icu n ss) (sym e ∙ ap (bounded_answer_of tree) f)
+  where
+    searched_never : (r : Result Hit LookError) → (r ≡ Err fault.BadPath → ⊥) → searched r ≡ Err (bounded.Search fault.BadPath) → ⊥
+    searched_never (Ok hit) h g = cc
+    searched_never (Err f) h g = let same : f ≡ fault.BadPath = cc in h (ap Err same)
+
+    if_never : (b : Bool) (r : Result Hit LookError) → (r ≡ Err fault.BadPath → ⊥)
+        → cond b (Err bounded.TooManySteps) (searched r) ≡ Err (bounded.Search fault.BadPath) → ⊥
+    if_never true r h g = cc
+    if_never false r h g = searched_never r h g
+
+    within_never : (left : Option ℕ) (taken : ℕ) (r : Result Hit LookError) → (r ≡ Err fault.BadPath → ⊥)
+        → within left taken r ≡ Err (bounded.Search fault.BadPath) → ⊥
+    within_never None taken r h g = searched_never r h g
+    within_never (Some left) taken r h g = if_never (nat_lt left taken) r h g

@@ -8,6 +8,7 @@ use Rattle.rb_fallback.specs.Search.{Hit}
 use Rattle.rb_fallback.specs.declared.alias.Target.{Target}
 use Rattle.rb_fallback.specs.declared.fault.AliasFault.{AliasFault}
 use Rattle.rb_fallback.specs.declared.fault.AliasFault.TheVariants as fault
+use Rattle.rb_fallback.specs.declared.fault.BoundedError.{BoundedError}
 use Rattle.rb_fallback.specs.declared.fault.LookError.{LookError}
 use Rattle.rb_fallback.specs.declared.found.Found.{Found}
 
@@ -28,3 +29,7 @@ with_node f node = record { node = node; actual = f.actual; valid = f.valid }
 abbrev pub answer_of : {N : Type 0} → (N → Resource) → Result (Found N) LookError → Result Hit LookError
 answer_of tree (Ok f) = Ok (hit_of tree f)
 answer_of tree (Err e) = Err e
+
+abbrev pub bounded_answer_of : {N : Type 0} → (N → Resource) → Result (Found N) BoundedError → Result Hit BoundedError
+bounded_answer_of tree (Ok f) = Ok (hit_of tree f)
+bounded_answer_of tree (Err e) = Err e

@@ -1,5 +1,6 @@
 pub mod Alias
 pub mod Search
+pub mod Steps
 pub mod Answers
 pub mod Words
 pub mod AliasPaths

@@ -1,4 +1,6 @@
 //! Why a lookup or the text of an alias is refused.
+ghost use Rattle.std.specs.Prelude.{◌≡◌};
+ghost use Rattle.rb_fallback.specs.declared.fault.BoundedError.TheVariants as bounded;
 
 /// Why the text of an alias leads nowhere.
 #[derive(Clone, Copy, Debug, PartialEq, Eq)]
@@ -30,4 +32,21 @@ pub enum LookError {
     AliasPackage,
     /// The path leads from alias to alias, more than 255 times.
     TooManyAliases,
+}
+
+/// Why a lookup that may take only so many steps finds nothing.
+#[derive(Clone, Copy, Debug, PartialEq, Eq)]
+pub enum BoundedError {
+    /// The lookup takes more steps.
+    TooManySteps,
+    /// The steps are enough, and the lookup finds nothing for this reason.
+    Search(LookError),
+}
+
+impl From<LookError> for BoundedError {
+    ghost from_gives = { λ e b. b ≡ bounded.Search e };
+
+    fn from(fault: LookError) -> Self {
+        BoundedError::Search(fault)
+    }
 }

@@ -2,9 +2,10 @@
 ghost use Rattle.std.specs.Prelude.{◌≡◌, ◌++◌, ◌∷◌, [], List, ℕ, Some, option_map};
 ghost use Rattle.rb_tree.specs.SourceTree.{SourceTree};
 ghost use Rattle.rb_tree.specs.Path.{IsPath, segments};
-ghost use Rattle.rb_parents.specs.Trail.{Bundles, stop_tree, stops};
+ghost use Rattle.rb_parents.specs.Trail.{Bundles, stop_tree, stops, trail};
 ghost use Rattle.rb_parents.specs.Family.{parent_of};
 ghost use Rattle.rb_fallback.specs.Search.{by_stops, first_of, first_stop, level};
+ghost use Rattle.rb_fallback.specs.Steps.{trail_length};
 ghost use Rattle.rb_fallback.specs.inner.LevelResult.{IsLevel, IsLevelState};
 
 use crate::fault::LookError;
@@ -85,29 +86,36 @@ fn decided<N: Node>(state: LevelState<N>, path: &[u8]) -> Result<LevelResult<N>,
     }
 }
 
-// One level: the trail, and the first walk that does not end nowhere. What the walks gave counts only once the whole trail is found.
+// One level: the trail, and the first walk that does not end nowhere. What the walks gave counts only once the whole trail is found,
+// and so do its names, of which there are none before.
 pub(crate) fn level<'a, S: Shelf<'a>>(
     shelf: S,
     parents: &Parents,
     name: &Name,
     path: &[u8],
+    names: &mut u8,
 ) -> Result<LevelResult<S::N>, LookError>
     requires { IsPath path.now }
-    ensures { IsLevel S.N.tree result path.now (level (S.bundles shelf) (parent_of parents.now) name.now (segments path.now))
+    ensures level { IsLevel S.N.tree result path.now (level (S.bundles shelf) (parent_of parents.now) name.now (segments path.now))
         (first_stop (S.bundles shelf) (parent_of parents.now) name.now) }
+    ensures names { names.new ≡ trail_length (trail (S.bundles shelf) (parent_of parents.now) name.now) }
 {
+    *names = 0;
     let mut here = *name;
     let mut state = LevelState {
         first: None,
         actual: *name,
         ending: Ending::Gone,
     };
-    for _ in 0..TRAIL_LIMIT {
+    for i in 0..TRAIL_LIMIT {
         let (next, stop) = visit(shelf, parents, &here);
         state = with_name(state, &here, stop, path);
         match next {
             Next::Name(name) => here = name,
-            Next::End => return decided(state, path),
+            Next::End => {
+                *names = i as u8 + 1;
+                return decided(state, path);
+            }
             Next::Bad => return Err(LookError::BadParent),
         }
     }

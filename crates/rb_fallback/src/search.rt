@@ -1,25 +1,29 @@
 //! The search of a path from a name, level by level.
-ghost use Rattle.std.specs.Prelude.{◌≡◌, ◌↔◌, ◌≤◌, ◌==◌, option_map, length, ◌+◌, ◌++◌, ℕ, List, Err, IfOk, IsSome, Ok, Some, take, drop, if◌then◌else◌};
+ghost use Rattle.std.specs.Prelude.{◌≡◌, ◌↔◌, ◌≤◌, ◌==◌, option_map, length, ◌+◌, ◌++◌, ℕ, List, Err, IfOk, IsSome, Ok, Some, take, drop, false, if◌then◌else◌};
 ghost use Rattle.rb_tree.specs.Parts.{kind_of, units_of};
 ghost use Rattle.rb_tree.specs.declared.kind.Kind.TheVariants as Kinds;
 ghost use Rattle.rb_tree.specs.Path.{IsPath, segments};
 ghost use Rattle.rb_tree.specs.Walk.{behind};
 ghost use Rattle.rb_parents.specs.Family.{parent_of};
-ghost use Rattle.rb_parents.specs.Trail.{Bundles};
+ghost use Rattle.rb_parents.specs.Trail.{Bundles, trail};
 ghost use Rattle.rb_fallback.specs.Alias.{aim, target};
-ghost use Rattle.rb_fallback.specs.Answers.{aim_of, answer_of};
-ghost use Rattle.rb_fallback.specs.Search.{bundles_of, first_stop, follow, level, look_up, search, setting_of, step};
+ghost use Rattle.rb_fallback.specs.Answers.{aim_of, answer_of, bounded_answer_of};
+ghost use Rattle.rb_fallback.specs.Search.{bundles_of, first_stop, follow, level, look_up, setting, setting_of, step};
+ghost use Rattle.rb_fallback.specs.Steps.{look_up_within, trail_length};
+ghost use Rattle.rb_fallback.specs.inner.Budget.{search_within};
 ghost use Rattle.rb_fallback.specs.inner.Judgements.{AreJudged, AreJudgedIn, IsTargetAt, TextAt};
 ghost use Rattle.rb_fallback.specs.inner.Steps.{IsFollowed, IsOutcome, place_at, valid_of};
 ghost use Rattle.rb_fallback.specs.declared.alias.Target.{Target as Aimed};
+ghost use Rattle.rb_fallback.specs.declared.fault.BoundedError.TheVariants as Bounded;
 ghost use Rattle.rb_fallback.specs.declared.fault.LookError.TheVariants as Faults;
 
-use crate::fault::{AliasFault, LookError};
+use crate::fault::{AliasFault, BoundedError, LookError};
 use crate::found::Found;
 use crate::judged::{Judged, judge};
 use crate::level::level;
 use crate::limits::{LEVEL_LIMIT, PATH_LIMIT};
 use crate::path::{replaced, rest_behind, short_path};
+use crate::steps::left_after;
 use arrayvec::ArrayVec;
 use rb_locales::Name;
 use rb_parents::{Parents, Shelf};
@@ -93,7 +97,7 @@ pub(crate) enum Outcome<N> {
     TooLong,
 }
 
-// One level of a search. The first has no valid name yet, as its first stop is it.
+// One level of a search, and how many names its trail has. The first has no valid name yet, as its first stop is it.
 fn step<'a, S: Shelf<'a>>(
     shelf: S,
     parents: &Parents,
@@ -102,17 +106,19 @@ fn step<'a, S: Shelf<'a>>(
     path: &[u8],
     valid: Option<Name>,
     known: &mut Option<Judged>,
+    names: &mut u8,
 ) -> Result<Outcome<S::N>, LookError>
     requires path { IsPath path.now }
     requires known { AreJudgedIn icudata (S.bundles shelf) (valid_of valid (first_stop (S.bundles shelf) (parent_of parents.now) name.now) name.now) known.old }
     ensures outcome { IsOutcome S.N.tree result (valid_of valid (first_stop (S.bundles shelf) (parent_of parents.now) name.now) name.now)
         (λ v. step icudata v (level (S.bundles shelf) (parent_of parents.now) name.now (segments path.now))) }
     ensures first { IfOk result (λ o. IsSome (first_stop (S.bundles shelf) (parent_of parents.now) name.now)) }
+    ensures names { names.new ≡ trail_length (trail (S.bundles shelf) (parent_of parents.now) name.now) }
     ensures known { (own icu : Bundles) → bundles_of own icu icudata ≡ S.bundles shelf
         → AreJudged own icu (valid_of valid (first_stop (S.bundles shelf) (parent_of parents.now) name.now) name.now) known.old
         → AreJudged own icu (valid_of valid (first_stop (S.bundles shelf) (parent_of parents.now) name.now) name.now) known.new }
 {
-    let decided = level(shelf, parents, name, path)?;
+    let decided = level(shelf, parents, name, path, names)?;
     let valid = valid.unwrap_or(decided.first);
     match decided.ending {
         Ending::End(node) => Ok(Outcome::Found(Found {
@@ -140,20 +146,25 @@ fn step_at<'a, S: Shelf<'a>, I: Shelf<'a, N = S::N>>(
     valid: Name,
     place: &Place,
     known: &mut Option<Judged>,
+    names: &mut u8,
 ) -> Result<Outcome<S::N>, LookError>
     requires path { IsPath place.now.path.items }
     requires known { AreJudged (S.bundles own) (I.bundles icu) valid known.old }
     ensures outcome { IsOutcome S.N.tree result valid
         (λ v. step place.now.icudata v (level (bundles_of (S.bundles own) (I.bundles icu) place.now.icudata)
         (parent_of parents.now) place.now.name (segments place.now.path.items))) }
+    ensures names { names.new ≡ trail_length (trail (bundles_of (S.bundles own) (I.bundles icu) place.now.icudata)
+        (parent_of parents.now) place.now.name) }
     ensures short { length place.now.path.items ≤ 1024 }
     ensures known { AreJudged (S.bundles own) (I.bundles icu) valid known.new }
 {
+    let name = &place.name;
     let path = place.path.as_slice();
+    let valid = Some(valid);
     if place.icudata {
-        step(icu, parents, true, &place.name, path, Some(valid), known)
+        step(icu, parents, true, name, path, valid, known, names)
     } else {
-        step(own, parents, false, &place.name, path, Some(valid), known)
+        step(own, parents, false, name, path, valid, known, names)
     }
 }
 
@@ -168,29 +179,66 @@ fn next_fault(level: u16) -> LookError
     }
 }
 
-// The search from a place to which the first alias led.
+// The search from a place to which the first alias led, with so many steps left; `None` is no limit.
 fn search_on<'a, S: Shelf<'a>, I: Shelf<'a, N = S::N>>(
     own: S,
     icu: I,
     parents: &Parents,
     valid: Name,
     place: Place,
-) -> Result<Found<S::N>, LookError>
+    mut left: Option<u64>,
+) -> Result<Found<S::N>, BoundedError>
     requires { IsPath place.path.items }
-    ensures answer { answer_of S.N.tree result
-        ≡ search 255 (setting_of (S.bundles own) (I.bundles icu) (parent_of parents.now) valid) place.icudata place.name (segments place.path.items) }
+    ensures answer { bounded_answer_of S.N.tree result ≡ search_within left 255
+        (setting_of (S.bundles own) (I.bundles icu) (parent_of parents.now) valid) place.icudata place.name (segments place.path.items) }
     ensures valid { IfOk result (λ f. f.valid ≡ valid) }
 {
     let mut here = place;
     let mut known = None;
     for level in 1..LEVEL_LIMIT {
-        match step_at(own, icu, parents, valid, &here, &mut known)? {
+        let mut names = 0;
+        let outcome = step_at(own, icu, parents, valid, &here, &mut known, &mut names);
+        left = left_after(left, names, here.path.as_slice())?;
+        match outcome? {
             Outcome::Found(found) => return Ok(found),
             Outcome::Next { place, .. } => here = place,
-            Outcome::TooLong => return Err(next_fault(level)),
+            Outcome::TooLong => return Err(BoundedError::Search(next_fault(level))),
         }
     }
-    Err(LookError::TooManyAliases)
+    Err(BoundedError::Search(LookError::TooManyAliases))
+}
+
+// A lookup with so many steps; `None` is no limit. A level's steps are taken off once it has been asked.
+fn search_from<'a, S: Shelf<'a>, I: Shelf<'a, N = S::N>>(
+    own: S,
+    icu: I,
+    parents: &Parents,
+    name: &Name,
+    path: &[u8],
+    left: Option<u64>,
+) -> Result<Found<S::N>, BoundedError>
+    ensures bad_path { (result ≡ Err (Bounded.Search Faults.BadPath)) ↔ (IsPath path.now → ⊥) }
+    ensures answer { IsPath path.now → bounded_answer_of S.N.tree result ≡ search_within left 256
+        (setting (S.bundles own) (I.bundles icu) (parent_of parents.now) name.now) false name.now (segments path.now) }
+    ensures valid { IfOk result (λ f. first_stop (S.bundles own) (parent_of parents.now) name.now ≡ Some f.valid) }
+{
+    if !path_ok(path) {
+        return Err(BoundedError::Search(LookError::BadPath));
+    }
+    if path.len() > PATH_LIMIT {
+        return Err(BoundedError::Search(LookError::PathTooLong));
+    }
+    let mut known = None;
+    let mut names = 0;
+    let outcome = step(
+        own, parents, false, name, path, None, &mut known, &mut names,
+    );
+    let left = left_after(left, names, path)?;
+    match outcome? {
+        Outcome::Found(found) => Ok(found),
+        Outcome::Next { valid, place } => search_on(own, icu, parents, valid, place, left),
+        Outcome::TooLong => Err(BoundedError::Search(LookError::PathTooLong)),
+    }
 }
 
 /// Looks a path up from a name, in the bundles `own` and, where an alias leads there, in `icu` (the lookup with fallback of ICU's
@@ -219,16 +267,37 @@ pub fn look<'a, S: Shelf<'a>, I: Shelf<'a, N = S::N>>(
         ≡ look_up (S.bundles own) (I.bundles icu) (parent_of parents.now) name.now (segments path.now) }
     ensures valid { IfOk result (λ f. first_stop (S.bundles own) (parent_of parents.now) name.now ≡ Some f.valid) }
 {
-    if !path_ok(path) {
-        return Err(LookError::BadPath);
+    match search_from(own, icu, parents, name, path, None) {
+        Ok(found) => Ok(found),
+        Err(BoundedError::Search(fault)) => Err(fault),
+        Err(BoundedError::TooManySteps) => unreachable!(),
     }
-    if path.len() > PATH_LIMIT {
-        return Err(LookError::PathTooLong);
-    }
-    let mut known = None;
-    match step(own, parents, false, name, path, None, &mut known)? {
-        Outcome::Found(found) => Ok(found),
-        Outcome::Next { valid, place } => search_on(own, icu, parents, valid, place),
-        Outcome::TooLong => Err(LookError::PathTooLong),
-    }
+}
+
+/// Looks a path up as `look` does, in at most so many steps. At each level each name of the trail takes one step for its bundle and
+/// one for each segment of the path; a level whose trail is refused takes none. A lookup takes at most 4,202,496 steps
+/// (`laws::a_lookup_takes_few_steps`).
+///
+/// The errors: `Search(BadPath)` as `look` has it, whatever the steps are. `TooManySteps`: the whole lookup takes more steps. Else
+/// `Search` with the error of `look`. The steps of a level are counted once it has been asked, so that at most one level is asked in
+/// vain. No memory is taken.
+///
+/// ```rust
+/// let found = look_within(shelf, shelf, &parents, &de_at, b"menu/open", 10_000)?;
+/// // The same as `look` finds, unless that takes more than 10,000 steps.
+/// ```
+pub fn look_within<'a, S: Shelf<'a>, I: Shelf<'a, N = S::N>>(
+    own: S,
+    icu: I,
+    parents: &Parents,
+    name: &Name,
+    path: &[u8],
+    steps: u64,
+) -> Result<Found<S::N>, BoundedError>
+    ensures bad_path { (result ≡ Err (Bounded.Search Faults.BadPath)) ↔ (IsPath path.now → ⊥) }
+    ensures answer { IsPath path.now → bounded_answer_of S.N.tree result
+        ≡ look_up_within steps (S.bundles own) (I.bundles icu) (parent_of parents.now) name.now (segments path.now) }
+    ensures valid { IfOk result (λ f. first_stop (S.bundles own) (parent_of parents.now) name.now ≡ Some f.valid) }
+{
+    search_from(own, icu, parents, name, path, Some(steps))
 }

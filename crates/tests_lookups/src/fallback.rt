@@ -4,7 +4,7 @@ ghost use Rattle.rb_tree.specs.Keys.{IsKey};
 ghost use Rattle.rb_tree.specs.Table.{keys_in};
 
 use crate::bundles::{Bundle, Bundles, Row, add, bundles, leaf, leaves, long_row, parents, put};
-use rb_fallback::{AliasFault, Found, LookError, look};
+use rb_fallback::{AliasFault, BoundedError, Found, LookError, look, look_within};
 use rb_locales::Name;
 use rb_parents::{ListShelf, Parents};
 use rb_tree::{ByteList, Tree};
@@ -330,4 +330,40 @@ fn trails_have_32_names(rt: HostRuntime) {
         (b"qq_0", b"x", Error("Chain")),
     ];
     assert!(rt; are_answered(alloc, long_row_and_root(alloc), &answers));
+}
+
+const CHAIN: [Bundle<'static>; 5] = [
+    (b"de_AT", &[(b"x", b"1")], false),
+    (b"de", &[(b"a", b">fr/b")], false),
+    (b"fr", &[(b"b", b">es_MX/c/d")], false),
+    (b"es", &[(b"c/d/k", b"V")], false),
+    (b"root", &[(b"x", b"R")], false),
+];
+
+/// What a lookup from `de_AT` along the chain gives that may take so many steps: whether it is the item at the chain's end, or an
+/// error.
+fn along_chain(alloc: Global, path: &[u8], steps: u64) -> Option<Result<bool, BoundedError>> {
+    let own = bundles(alloc, &CHAIN)?;
+    let shelf = ListShelf {
+        entries: own.as_slice(),
+    };
+    let from = Name::read(b"de_AT").ok()?;
+    match look_within(shelf, shelf, &Parents::none(alloc), &from, path, steps) {
+        Ok(found) => Some(Ok(is_item(&found, Item(b"V", b"es", b"de_AT")))),
+        Err(fault) => Some(Err(fault)),
+    }
+}
+
+#[test]
+fn steps_are_counted(rt: HostRuntime) {
+    let alloc = rt.alloc();
+    let too_many = Some(Err(BoundedError::TooManySteps));
+    // `de_AT`, `de` and `root` with two segments are 9, `fr` and `root` with two are 6, `es_MX`, `es` and `root` with three are 12.
+    assert!(rt; along_chain(alloc, b"a/k", 27) == Some(Ok(true)));
+    assert!(rt; along_chain(alloc, b"a/k", 26) == too_many);
+    let missing = BoundedError::Search(LookError::Missing);
+    assert!(rt; along_chain(alloc, b"y", 6) == Some(Err(missing)));
+    assert!(rt; along_chain(alloc, b"y", 5) == too_many);
+    let bad_path = BoundedError::Search(LookError::BadPath);
+    assert!(rt; along_chain(alloc, b"a//k", 0) == Some(Err(bad_path)));
 }

@@ -1,6 +1,7 @@
 use Rattle.rb_tree.specs.Path.{segments}
 use Rattle.rb_parents.specs.Family.{parent_of}
-use Rattle.rb_fallback.specs.Search.{search, setting_of}
+use Rattle.rb_fallback.specs.Search.{setting_of}
+use Rattle.rb_fallback.specs.inner.Budget.{search_within}
 use Rattle.rb_fallback.specs.inner.Judgements.{AreJudged}
 use Rattle.rb_fallback.specs.declared.limits.TheConstants.{LEVEL_LIMIT}
 use Rattle.rb_fallback.proofs.Levels.{ComesTo}
@@ -12,4 +13,6 @@ invariant-loop-level g l =
     let from = l.fn.place in
     let own = g.S.Shelf.bundles l.own in
     let icu = g.I.Shelf.bundles l.icu in
-    ComesTo LEVEL_LIMIT l.level s l.here.icudata l.here.name l.here.path.items (search 255 s from.icudata from.name (segments from.path.items)) × AreJudged own icu l.valid l.known
+    ComesTo l.left LEVEL_LIMIT l.level s l.here.icudata l.here.name l.here.path.items
+    (search_within l.fn.left 255 s from.icudata from.name (segments from.path.items))
+    × AreJudged own icu l.valid l.known

@@ -1,0 +1,19 @@
+-- For proofs only: a search with so many steps left, or, at None, without a limit.
+use Rattle.std.specs.Prelude.{◌-◌, ℕ, List, Bool, nat_lt, Option, Some, None, Result, Ok, Err, if◌then◌else◌}
+use Rattle.rb_fallback.specs.Search.{Hit, Setting, search}
+use Rattle.rb_fallback.specs.Steps.{if_within, search_steps, searched}
+use Rattle.rb_fallback.specs.declared.fault.BoundedError.{BoundedError}
+use Rattle.rb_fallback.specs.declared.fault.BoundedError.TheVariants as bounded
+use Rattle.rb_fallback.specs.declared.fault.LookError.{LookError}
+
+-- what is left after so many steps
+abbrev pub spend : Option ℕ → ℕ → Result (Option ℕ) BoundedError
+spend None steps = Ok None
+spend (Some left) steps = if nat_lt left steps then Err bounded.TooManySteps else Ok (Some (left - steps))
+
+abbrev pub within : Option ℕ → ℕ → Result Hit LookError → Result Hit BoundedError
+within None taken answer = searched answer
+within (Some left) taken answer = if_within left taken answer
+
+abbrev pub search_within : Option ℕ → ℕ → Setting → Bool → List ℕ → List (List ℕ) → Result Hit BoundedError
+search_within left k s in_icu n ss = within left (search_steps k s in_icu n ss) (search k s in_icu n ss)

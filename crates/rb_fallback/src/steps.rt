@@ -1,0 +1,44 @@
+//! How many steps a search may still take.
+ghost use Rattle.std.specs.Prelude.{◌≡◌, ◌≤◌, ◌+◌, ◌*◌, count_by, length};
+ghost use Rattle.rb_tree.specs.Path.{is_slash, segments};
+ghost use Rattle.rb_fallback.specs.inner.Budget.{spend};
+
+use crate::fault::BoundedError;
+
+// How many slashes a path has.
+fn slash_count(path: &[u8]) -> usize
+    ensures { result ≡ count_by is_slash path.now }
+{
+    path.iter().filter(|b| **b == b'/').count()
+}
+
+// How many segments a path has.
+fn segment_count(path: &[u8]) -> usize
+    ensures count { result ≡ length (segments path.now) }
+    ensures within { result ≤ length path.now + 1 }
+{
+    if path.is_empty() {
+        return 0;
+    }
+    slash_count(path) + 1
+}
+
+// What is left after a level with so many names, if it was enough; `None` is no limit.
+pub(crate) fn left_after(
+    left: Option<u64>,
+    names: u8,
+    path: &[u8],
+) -> Result<Option<u64>, BoundedError>
+    requires { length path.now ≤ 1024 }
+    ensures { result ≡ spend left (names * (1 + length (segments path.now))) }
+{
+    let left = match left {
+        Some(left) => left,
+        None => return Ok(None),
+    };
+    let steps = names as u64 * (1 + segment_count(path) as u64);
+    if left < steps {
+        return Err(BoundedError::TooManySteps);
+    }
+    Ok(Some(left - steps))
+}
