@@ -3,3 +3,5 @@ pub mod StepLemmas
 pub mod Lookups
 pub mod Starting
 pub mod Keeping
+pub mod Bounded
+pub mod Unread

@@ -5,6 +5,8 @@ pub mod History
 pub mod Kept
 pub mod Start
 pub mod Source
+pub mod Change
+pub mod Steps
 pub mod Words
 pub mod LookFaults
 pub mod LookResponse

@@ -1,4 +1,4 @@
--- For what is private: a payload's bundle, or why there is none.
+-- A payload's bundle, or why there is none, and what a request that brings one asks.
 use Rattle.std.specs.Prelude.{◌≡◌, ◌⊎◌, ℕ, true, false, List, [], ◌∷◌, ◌++◌, None, Result, Ok, Err}
 use Rattle.rb_tree.specs.SourceTree.{SourceTree}
 use Rattle.rb_lexer.specs.declared.fault.SourceKind.{SourceKind}

@@ -1,57 +1,29 @@
 //! The requests, on the packages of all applications.
-ghost use Rattle.std.specs.Prelude.{◌≡◌, ℕ, List, Ok};
-ghost use Rattle.rb_engine.specs.Source.{Reads, Handles, change_request};
+ghost use Rattle.std.specs.Prelude.{◌≡◌, ◌≢◌, ◌+◌, ℕ, List, Ok, [], ◌∷◌, ◌++◌};
+ghost use Rattle.std.specs.Map.{set_value};
+ghost use Rattle.std.specs.Str.{bytes_eq};
+ghost use Rattle.rb_packages.specs.Packages.{files_of, OthersStay};
+ghost use Rattle.rb_packages.specs.Usage.{apps_of, more_apps};
+ghost use Rattle.rb_engine.specs.Change.{Removes};
+ghost use Rattle.rb_engine.specs.Place.{place_of as place_at};
+ghost use Rattle.rb_engine.specs.Source.{Reads, Handles};
 ghost use Rattle.rb_engine.specs.declared.request.Payload.{Payload};
 ghost use Rattle.rb_engine.specs.declared.request.Request.TheVariants.{Install, Replace, Remove, List as Lists};
 
-use crate::payload::bundle_of;
 use crate::place::{Place, PlaceFault, place_of};
-use crate::request::{NameList, Payload, Reply};
+use crate::request::{NameList, Reply};
 use rb_packages::{App, PackFault, Packages};
 use rb_tree::ByteList;
 use rb_validator::Bundle;
 use std::alloc::Global;
 
-/// Where a bundle is to be, and the bundle of a payload; or the reply where there is none.
-fn read(
-    alloc: Global,
-    app: &ByteList,
-    locale: &ByteList,
-    payload: Payload,
-) -> Result<(Place, Bundle), Reply>
-    ensures { Reads app.now locale.now payload result }
-{
-    let place = place_of(app.as_slice(), locale.as_slice())?;
-    let bundle = bundle_of(alloc, payload)?;
-    Ok((place, bundle))
-}
-
-/// A request that brings a bundle.
-#[derive(Clone, Copy)]
-pub(crate) enum Change {
+/// What a bundle that is brought is for.
+#[derive(Clone, Copy, Debug, PartialEq, Eq)]
+pub enum Change {
+    /// It is put after the others, if there is none of its name.
     Install,
+    /// It is put in the place of the one of its name.
     Replace,
-}
-
-/// Handles a request that brings a bundle.
-pub(crate) fn put(
-    packages: &mut Packages,
-    alloc: Global,
-    change: Change,
-    app: &ByteList,
-    locale: &ByteList,
-    payload: Payload,
-) -> Reply
-    ensures { Handles (change_request change app.now locale.now payload) result packages.old packages.new }
-{
-    let (place, bundle) = match read(alloc, app, locale, payload) {
-        Ok(read) => read,
-        Err(reply) => return reply,
-    };
-    match change {
-        Change::Install => install(packages, &place, bundle),
-        Change::Replace => replace(packages, &place, bundle),
-    }
 }
 
 impl From<PackFault> for Reply {
@@ -69,9 +41,15 @@ impl From<PackFault> for Reply {
 }
 
 /// Installs the bundle that a request brings.
-fn install(packages: &mut Packages, place: &Place, bundle: Bundle) -> Reply
-    ensures { (app locale : List ℕ) → (payload : Payload) → Reads app locale payload (Ok (place.now, bundle))
+pub(crate) fn install(packages: &mut Packages, place: &Place, bundle: Bundle) -> Reply
+    ensures step { (app locale : List ℕ) → (payload : Payload) → Reads app locale payload (Ok (place.now, bundle))
         → Handles (Install app locale payload) result packages.old packages.new }
+    ensures files { result ≡ Reply.Done
+        → files_of place.now.app packages.new ≡ files_of place.now.app packages.old ++ (place.now.name, bundle) ∷ [] }
+    ensures apps { result ≡ Reply.Done
+        → apps_of packages.new ≡ apps_of packages.old + more_apps (files_of place.now.app packages.old) }
+    ensures others { OthersStay place.now.app packages.old packages.new }
+    ensures unchanged { result ≢ Reply.Done → packages.new ≡ packages.old }
 {
     match packages.install(&place.app, place.name, bundle) {
         Ok(()) => Reply::Done,
@@ -79,10 +57,17 @@ fn install(packages: &mut Packages, place: &Place, bundle: Bundle) -> Reply
     }
 }
 
-/// Puts the bundle that a request brings in the place of the one that is there.
-fn replace(packages: &mut Packages, place: &Place, bundle: Bundle) -> Reply
-    ensures { (app locale : List ℕ) → (payload : Payload) → Reads app locale payload (Ok (place.now, bundle))
+/// Puts the bundle that a request brings in the place of the one that is there. It takes no memory.
+pub(crate) fn replace(packages: &mut Packages, place: &Place, bundle: Bundle) -> Reply
+    ensures step { (app locale : List ℕ) → (payload : Payload) → Reads app locale payload (Ok (place.now, bundle))
         → Handles (Replace app locale payload) result packages.old packages.new }
+    ensures files { result ≡ Reply.Done
+        → files_of place.now.app packages.new ≡ set_value (bytes_eq place.now.name) (files_of place.now.app packages.old) bundle }
+    ensures apps { result ≡ Reply.Done
+        → apps_of packages.new ≡ apps_of packages.old + more_apps (files_of place.now.app packages.old) }
+    ensures others { OthersStay place.now.app packages.old packages.new }
+    ensures unchanged { result ≢ Reply.Done → packages.new ≡ packages.old }
+    ensures memory { result ≢ Reply.Memory }
 {
     match packages.replace(&place.app, &place.name, bundle) {
         Ok(_) => Reply::Done,
@@ -91,7 +76,10 @@ fn replace(packages: &mut Packages, place: &Place, bundle: Bundle) -> Reply
 }
 
 pub(crate) fn remove(packages: &mut Packages, app: &ByteList, locale: &ByteList) -> Reply
-    ensures { Handles (Remove app.now locale.now) result packages.old packages.new }
+    ensures step { Handles (Remove app.now locale.now) result packages.old packages.new }
+    ensures removed { Removes (place_at app.now locale.now) result packages.old packages.new }
+    ensures unchanged { result ≢ Reply.Done → packages.new ≡ packages.old }
+    ensures memory { result ≢ Reply.Memory }
 {
     let place = match place_of(app.as_slice(), locale.as_slice()) {
         Ok(place) => place,

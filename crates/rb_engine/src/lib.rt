@@ -1,6 +1,7 @@
 //! The bundles of many applications, and requests and lookups on them.
 #![tactic(auto)]
 
+mod brought;
 mod engine;
 mod handle;
 pub mod laws;
@@ -11,7 +12,9 @@ mod same_name;
 mod start;
 mod words;
 
+pub use brought::Brought;
 pub use engine::Engine;
-pub use rb_packages::{App, AppFault, BUNDLE_LIMIT};
-pub use request::{LookFault, NameList, Payload, Reply, Request};
+pub use handle::Change;
+pub use rb_packages::{App, AppFault, BUNDLE_LIMIT, Usage};
+pub use request::{LookFault, NameList, Payload, Reply, Request, TooManySteps};
 pub use start::StartFault;

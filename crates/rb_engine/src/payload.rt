@@ -1,6 +1,8 @@
 //! The bundle of a payload.
-ghost use Rattle.std.specs.Prelude.{◌≡◌};
+ghost use Rattle.std.specs.Prelude.{◌≡◌, IfOk};
+ghost use Rattle.rb_compiler.specs.Compiled.{IsCompiled};
 ghost use Rattle.rb_engine.specs.Source.{BundleOrFault};
+ghost use Rattle.rb_engine.specs.Change.{IsFileOf};
 ghost use Rattle.rb_engine.specs.declared.request.Payload.TheVariants.{Text, File};
 
 use crate::request::{Payload, Reply};
@@ -68,7 +70,8 @@ impl From<PayloadFault> for Reply {
 
 /// The bundle that a text spells, if it spells one.
 fn text_bundle(alloc: Global, text: ByteList) -> Result<Bundle, PayloadFault>
-    ensures { BundleOrFault (Text text) result }
+    ensures bundle { BundleOrFault (Text text) result }
+    ensures file { IfOk result (λ file. IsCompiled text file) }
 {
     rb_format::laws::a_tree_or_a_fault();
     let file = compile(alloc, text.as_slice())?;
@@ -84,7 +87,8 @@ fn text_bundle(alloc: Global, text: ByteList) -> Result<Bundle, PayloadFault>
 
 /// The bundle that a file denotes, if it denotes one.
 fn file_bundle(alloc: Global, file: ByteList) -> Result<Bundle, PayloadFault>
-    ensures { BundleOrFault (File file) result }
+    ensures bundle { BundleOrFault (File file) result }
+    ensures file { IfOk result (λ bundle. bundle ≡ file) }
 {
     rb_format::laws::a_tree_or_a_fault();
     match accept(alloc, file.into_vec()) {
@@ -95,7 +99,8 @@ fn file_bundle(alloc: Global, file: ByteList) -> Result<Bundle, PayloadFault>
 
 /// The bundle of a payload. `BadText` and `BadFile`: it has none.
 pub(crate) fn bundle_of(alloc: Global, payload: Payload) -> Result<Bundle, PayloadFault>
-    ensures { BundleOrFault payload result }
+    ensures bundle { BundleOrFault payload result }
+    ensures file { IfOk result (IsFileOf payload) }
 {
     match payload {
         Payload::Text(text) => text_bundle(alloc, text),

@@ -125,3 +125,7 @@ pub enum LookFault {
     /// Too many aliases lead to one another.
     TooManyAliases,
 }
+
+/// A lookup takes more steps than it may.
+#[derive(Clone, Copy, Debug, PartialEq, Eq)]
+pub struct TooManySteps;

@@ -1,2 +1,4 @@
+pub mod Filled
 pub mod Lists
 pub mod Names
+pub mod Sums

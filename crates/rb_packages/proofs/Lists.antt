@@ -1,6 +1,6 @@
 -- The files of a package as its bundles, and the index of all applications as the files of each.
 use Rattle.std.proofs.Common.{◌≡◌, ◌≢◌, ℕ, Bool, true, false, List, [], ◌∷◌, ◌++◌, length, Option, Some, None, Result, Ok, Err, is_some, option_map}
-use Rattle.std.proofs.Common.{option_copied, map, nat_le, ◌≤◌, ◌<◌, IfErr, IfNone, Bor, refl, sym, ◌∙◌, ap, arith}
+use Rattle.std.proofs.Common.{option_copied, map, nat_le, ◌+◌, ◌≤◌, ◌<◌, cond, IfErr, IfNone, Bor, refl, sym, ◌∙◌, ap, arith}
 use Rattle.std.specs.Option.{unwrap_or}
 use Rattle.std.specs.Map.{lookup, set_value, remove_entry, keys_of}
 use Rattle.std.specs.Str.{bytes_eq}
@@ -15,9 +15,10 @@ use Rattle.rb_packages.specs.Shelf.{bundle_at, holds, is_full, replaced, removed
 use Rattle.rb_packages.specs.Packages.{Files, Stored, shelf_of, files_of, list_of, file_at, icudata_files, icudata_of}
 use Rattle.rb_packages.specs.Packages.{install_fault, load_fault, IsJudged, OthersStay}
 use Rattle.rb_packages.specs.Lent.{files_lent}
+use Rattle.rb_packages.specs.Usage.{apps_of, more_apps}
 use Rattle.rb_packages.specs.declared.fault.PackFault.{PackFault}
 use Rattle.rb_packages.specs.declared.fault.PackFault.TheVariants.{Twice, Exists, Full, Memory}
-use Rattle.rb_packages.specs.Index.{Rows, entries_of, files_at, files_by_app, KeepsOthers}
+use Rattle.rb_packages.specs.Index.{Rows, entries_of, files_at, files_by_app, KeepsOthers, IsBare}
 
 other_bytes : (a b : List ℕ) → b ≢ a → bytes_eq a b ≡ false
 other_bytes a b n = false_from_ne_true (bytes_eq a b) (λ h. n (sym ((bytes_eq-Decides a b).0 h)))
@@ -86,7 +87,7 @@ module _ {S : Type 0} where
   -- where one application's package is put, changed or taken out, every other's files stay
   pub other_files : (app : List ℕ) (old new : IndexMap (List ℕ) (IndexMap (List ℕ) (List ℕ) S) S) (bundles : Option (IndexMap (List ℕ) (List ℕ) S))
       → UpdatesBy bytes_eq (bytes_eq app) old new bundles → KeepsOthers app old.entries new.entries
-  other_files app old new bundles h other n = ap entries_of (h.2 other (other_bytes app other n))
+  other_files app old new bundles h other n = h.2 other (other_bytes app other n)
 
 -- ---- faults
 
@@ -115,6 +116,15 @@ pub judged_add : (r : Result (Unit {0}) (PackFault × List ℕ)) (bundle : List 
 judged_add (Ok u) bundle fault f h = f
 judged_add (Err e) bundle fault f h = rw f (ap (λ (p : PackFault × List ℕ). p.0) h)
 
+-- one more application where it has no files
+pub more_apps_by : {S : Type 0} (o : Option (IndexMap (List ℕ) (List ℕ) S)) → ¬ IsBare o → more_apps (entries_of o) ≡ cond (is_some o) 0 1
+more_apps_by None filled = refl
+more_apps_by (Some bundles) filled = by bundles.entries refl
+  where
+    by : (files : Files) → bundles.entries ≡ files → more_apps files ≡ 0
+    by [] e = absurd (filled (ap Some e))
+    by (f ∷ fs) e = refl
+
 -- ---- what packages are seen as
 
 module _ {S : Type 0} {stored : Stored} {icudata : Files} (rows : Rows S) (e : record { icudata = icudata; owned = files_by_app rows } ≡ stored) where
@@ -139,6 +149,9 @@ module _ {S : Type 0} {stored : Stored} {icudata : Files} (rows : Rows S) (e : r
   pub absent_seen : (app name : List ℕ) → lookup (bytes_eq name) (files_at app rows) ≡ None → bundle_at (list_of app stored) name ≡ None
   absent_seen app name h = bundle_seen app name None h
 
+  pub apps_seen : apps_of stored ≡ length rows
+  apps_seen = ap apps_of (sym e) ∙ length-map rows _
+
   pub icudata_seen : icudata_of stored ≡ shelf_of icudata
   icudata_seen = ap icudata_of (sym e)
 
@@ -159,9 +172,19 @@ module _ {S : Type 0} {stored : Stored} {icudata : Files} (rows : Rows S) (e : r
     others_seen stays = record {
       icudata = ap icudata_of e;
       icudata_bytes = ap icudata_files e;
-      others = λ other n. ap shelf_of (lookup-files_by_app other new ∙ stays other n) ∙ sym (list_seen other);
-      files = λ other n. lookup-files_by_app other new ∙ stays other n ∙ sym (files_seen other);
+      others = λ other n. ap shelf_of (lookup-files_by_app other new ∙ ap entries_of (stays other n)) ∙ sym (list_seen other);
+      files = λ other n. lookup-files_by_app other new ∙ ap entries_of (stays other n) ∙ sym (files_seen other);
     }
+
+    pub apps_kept : length new ≡ length rows → apps_of changed ≡ apps_of stored
+    apps_kept h = length-map new _ ∙ h ∙ sym apps_seen
+
+    pub apps_left : length rows ≡ length new + more_apps (files_at app new) → apps_of stored ≡ apps_of changed + more_apps (files_of app changed)
+    apps_left h = rw (apps_seen, length-map new _, lookup-files_by_app app new) h
+
+    pub apps_added : ¬ IsBare (lookup (bytes_eq app) rows) → length new ≡ length rows + cond (is_some (lookup (bytes_eq app) rows)) 0 1
+        → apps_of changed ≡ apps_of stored + more_apps (files_of app stored)
+    apps_added filled h = rw (length-map new _, apps_seen, files_seen app, more_apps_by (lookup (bytes_eq app) rows) filled) h
 
     pub files_changed : (change : Files → Files) → files_at app new ≡ change (files_at app rows) → files_of app changed ≡ change (files_of app stored)
     files_changed change h = lookup-files_by_app app new ∙ h ∙ ap change (sym (files_seen app))

@@ -1,5 +1,5 @@
 -- For proofs only: the program's index of all applications, read as the files of each.
-use Rattle.std.specs.Prelude.{◌≡◌, ◌≢◌, ℕ, List, [], Option, Some, None, map}
+use Rattle.std.specs.Prelude.{◌≡◌, ◌≢◌, ℕ, List, [], Option, Some, None, map, option_map}
 use Rattle.std.specs.Map.{lookup}
 use Rattle.std.specs.Str.{bytes_eq}
 use Rattle.indexmap.specs.IndexMap.{IndexMap}
@@ -23,6 +23,10 @@ module _ {S : Type 0} where
   abbrev pub files_by_app : Rows S → List (List ℕ × Files)
   files_by_app rows = map (λ e. (e.0, e.1.entries)) rows
 
-  -- the files of all other applications stay
+  -- the packages of all other applications stay
   abbrev pub KeepsOthers : List ℕ → Rows S → Rows S → Type 0
-  KeepsOthers app old new = (other : List ℕ) → other ≢ app → files_at other new ≡ files_at other old
+  KeepsOthers app old new = (other : List ℕ) → other ≢ app → lookup (bytes_eq other) new ≡ lookup (bytes_eq other) old
+
+  -- a package without files
+  abbrev pub IsBare : Option (IndexMap (List ℕ) (List ℕ) S) → Type 0
+  IsBare o = option_map (λ m. m.entries) o ≡ Some []

@@ -5,4 +5,5 @@ pub mod Packages
 pub mod LentItem
 pub mod Lent
 pub mod Index
+pub mod Usage
 pub mod inner

@@ -1,13 +1,15 @@
 //! The bundles of one package, in the order of installing.
-ghost use Rattle.std.specs.Prelude.{◌≡◌, [], ◌∷◌, ◌++◌, Some, None, IfOk, IfErr, IfNone, OnOk, OnErr};
-ghost use Rattle.std.specs.Map.{lookup, keys_of, set_value, remove_entry};
+ghost use Rattle.std.specs.Prelude.{◌≡◌, ◌-◌, ◌^◌, [], ◌∷◌, ◌++◌, Some, None, IfOk, IfErr, IfNone, OnOk, OnErr, ◌+◌, length, min, fold, map, option_map};
+ghost use Rattle.std.specs.Map.{lookup, keys_of, values_of, set_value, remove_entry};
 ghost use Rattle.std.specs.Str.{bytes_eq};
 ghost use Rattle.rb_packages.specs.Packages.{shelf_of, install_fault, IsJudged};
+ghost use Rattle.rb_packages.specs.Usage.{bytes_of};
 ghost use Rattle.rb_packages.specs.declared.fault.PackFault.TheVariants as faults;
 
 use crate::fault::{Absent, PackFault};
 use crate::held::Held;
 use crate::limits::BUNDLE_LIMIT;
+use crate::usage::Usage;
 use indexmap::IndexMap;
 use rb_locales::Name;
 use rb_validator::Bundle;
@@ -108,4 +110,35 @@ pub(crate) fn names(alloc: Global, bundles: &Bundles) -> Result<Vec<Name>, Alloc
     ensures { IfOk result (λ names. names.items ≡ keys_of bundles.now.entries) }
 {
     bundles.keys().map(|name| *name).collect(alloc)
+}
+
+/// The bytes of all files, `u64::MAX` at the most.
+fn bytes(bundles: &Bundles) -> u64
+    ensures { result ≡ fold (λ sum len. min (sum + len) (2 ^ 64 - 1)) 0 (map length (values_of bundles.now.entries)) }
+{
+    bundles
+        .values()
+        .map(|held| held.len())
+        .fold(0, |sum: u64, len| sum.saturating_add(len))
+}
+
+/// How much a package holds.
+pub(crate) fn usage(bundles: &Bundles) -> Usage
+    ensures bytes { result.bytes ≡ min (bytes_of bundles.now.entries) (2 ^ 64 - 1) }
+    ensures count { result.bundles ≡ length bundles.now.entries }
+{
+    Usage {
+        bytes: bytes(bundles),
+        bundles: bundles.len() as u64,
+    }
+}
+
+/// The length of the file of a name's bundle.
+pub(crate) fn file_len(bundles: &Bundles, name: &Name) -> Option<u64>
+    ensures { result ≡ option_map length (lookup (bytes_eq name.now) bundles.now.entries) }
+{
+    match bundles.get(name) {
+        Some(held) => Some(held.len()),
+        None => None,
+    }
 }

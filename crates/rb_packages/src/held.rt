@@ -1,5 +1,5 @@
 //! A bundle with what each lookup asks of it.
-ghost use Rattle.std.specs.Prelude.{◌≡◌, IsTrue};
+ghost use Rattle.std.specs.Prelude.{◌≡◌, IsTrue, length};
 ghost use Rattle.rb_format.specs.File.{source_tree_of, tree_of};
 ghost use Rattle.rb_format.specs.Place.{word_at};
 ghost use Rattle.rb_views.specs.Seen.{tree_seen, item_data, item_word};
@@ -61,6 +61,13 @@ impl Held {
         ensures { result ≡ self }
     {
         self.bundle
+    }
+
+    /// The length of the bundle's file.
+    pub(crate) fn len(&self) -> u64
+        ensures { result ≡ length self.now }
+    {
+        self.bundle.bytes().len() as u64
     }
 
     /// The root of the bundle, without a look at its file.

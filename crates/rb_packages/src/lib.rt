@@ -12,6 +12,7 @@ mod packages;
 mod shelf;
 #[cfg(test)]
 mod tests;
+mod usage;
 mod words;
 
 pub use app::{App, AppFault};
@@ -20,3 +21,4 @@ pub use lent::LentItem;
 pub use limits::BUNDLE_LIMIT;
 pub use packages::Packages;
 pub use shelf::AppShelf;
+pub use usage::Usage;

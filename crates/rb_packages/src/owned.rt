@@ -1,15 +1,17 @@
 //! The bundles of all applications, each application's in a list of its own.
-ghost use Rattle.std.specs.Prelude.{◌≡◌, [], ◌∷◌, ◌++◌, Some, None, IfOk, IfErr, IfNone, OnOk, OnErr};
+ghost use Rattle.std.specs.Prelude.{◌≡◌, ◌-◌, ◌^◌, ◌+◌, [], ◌∷◌, ◌++◌, Some, None, IfOk, IfErr, IfNone, OnOk, OnErr, IsTrue, true, false, length, min, is_some, option_map, if◌then◌else◌};
 ghost use Rattle.std.specs.Map.{lookup, set_value, remove_entry};
 ghost use Rattle.std.specs.Str.{bytes_eq};
 ghost use Rattle.rb_packages.specs.Packages.{shelf_of, install_fault, IsJudged};
-ghost use Rattle.rb_packages.specs.Index.{files_at, files_by_app, KeepsOthers};
+ghost use Rattle.rb_packages.specs.Index.{files_at, files_by_app, KeepsOthers, IsBare};
+ghost use Rattle.rb_packages.specs.Usage.{bytes_of, more_apps};
 ghost use Rattle.rb_packages.specs.declared.fault.PackFault.TheVariants as faults;
 
 use crate::app::App;
 use crate::bundles;
 use crate::bundles::Bundles;
 use crate::fault::{Absent, PackFault};
+use crate::usage::Usage;
 use indexmap::IndexMap;
 use rb_locales::Name;
 use rb_validator::Bundle;
@@ -27,6 +29,8 @@ fn install_first(
 ) -> Result<(), (PackFault, Bundle)>
     ensures own { OnOk result (files_at app.now owned.new.entries ≡ (name, bundle) ∷ []) }
     ensures others { KeepsOthers app.now owned.old.entries owned.new.entries }
+    ensures count { OnOk result (length owned.new.entries
+        ≡ length owned.old.entries + (if is_some (lookup (bytes_eq app.now) owned.old.entries) then 0 else 1)) }
     ensures error { IfErr result (λ e. e ≡ (faults.Memory, bundle)) }
     ensures stays { OnErr result (owned.new.entries ≡ owned.old.entries) }
 {
@@ -48,6 +52,8 @@ pub(crate) fn install(
     ensures judged { IsJudged (install_fault name (shelf_of (files_at app.now owned.old.entries))) result }
     ensures own { OnOk result (files_at app.now owned.new.entries ≡ files_at app.now owned.old.entries ++ (name, bundle) ∷ []) }
     ensures others { KeepsOthers app.now owned.old.entries owned.new.entries }
+    ensures count { OnOk result (length owned.new.entries
+        ≡ length owned.old.entries + (if is_some (lookup (bytes_eq app.now) owned.old.entries) then 0 else 1)) }
     ensures back { IfErr result (λ e. e.1 ≡ bundle) }
     ensures stays { OnErr result (files_by_app owned.new.entries ≡ files_by_app owned.old.entries) }
 {
@@ -68,6 +74,7 @@ pub(crate) fn replace(
     ensures absent { OnErr result (lookup (bytes_eq name.now) (files_at app.now owned.old.entries) ≡ None) }
     ensures own { OnOk result (files_at app.now owned.new.entries ≡ set_value (bytes_eq name.now) (files_at app.now owned.old.entries) bundle) }
     ensures others { KeepsOthers app.now owned.old.entries owned.new.entries }
+    ensures count { length owned.new.entries ≡ length owned.old.entries }
     ensures back { IfErr result (λ e. e.1 ≡ bundle) }
     ensures stays { OnErr result (files_by_app owned.new.entries ≡ files_by_app owned.old.entries) }
 {
@@ -82,6 +89,8 @@ fn remove_bundle(owned: &mut Owned, app: &App, name: &Name) -> Option<Bundle>
     ensures found { result ≡ lookup (bytes_eq name.now) (files_at app.now owned.old.entries) }
     ensures own { files_at app.now owned.new.entries ≡ remove_entry (bytes_eq name.now) (files_at app.now owned.old.entries) }
     ensures others { KeepsOthers app.now owned.old.entries owned.new.entries }
+    ensures count { length owned.new.entries ≡ length owned.old.entries }
+    ensures there { is_some result ≡ true → is_some (lookup (bytes_eq app.now) owned.new.entries) ≡ true }
     ensures stays { IfNone result (files_by_app owned.new.entries ≡ files_by_app owned.old.entries) }
 {
     match owned.get_mut(app) {
@@ -90,18 +99,29 @@ fn remove_bundle(owned: &mut Owned, app: &App, name: &Name) -> Option<Bundle>
     }
 }
 
+/// Whether an application is there without bundles.
+fn is_bare(owned: &Owned, app: &App) -> bool
+    ensures bare { IsTrue result → IsBare (lookup (bytes_eq app.now) owned.now.entries) }
+    ensures filled { result ≡ false → ¬ IsBare (lookup (bytes_eq app.now) owned.now.entries) }
+{
+    match owned.get(app) {
+        Some(bundles) => bundles.is_empty(),
+        None => false,
+    }
+}
+
 /// Takes an application without bundles out.
 fn remove_if_empty(owned: &mut Owned, app: &App)
     ensures own { files_at app.now owned.new.entries ≡ files_at app.now owned.old.entries }
     ensures others { KeepsOthers app.now owned.old.entries owned.new.entries }
+    ensures filled { ¬ IsBare (lookup (bytes_eq app.now) owned.new.entries) }
+    ensures count { is_some (lookup (bytes_eq app.now) owned.old.entries) ≡ true
+        → length owned.old.entries ≡ length owned.new.entries + more_apps (files_at app.now owned.old.entries) }
 {
-    let is_empty = match owned.get(app) {
-        Some(bundles) => bundles.is_empty(),
-        None => false,
-    };
-    if is_empty {
-        owned.swap_remove(app);
+    if !is_bare(owned, app) {
+        return;
     }
+    owned.swap_remove(app);
 }
 
 /// Takes a bundle out of the application's, and the application with its last one.
@@ -110,6 +130,8 @@ pub(crate) fn remove(owned: &mut Owned, app: &App, name: &Name) -> Result<Bundle
     ensures absent { OnErr result (lookup (bytes_eq name.now) (files_at app.now owned.old.entries) ≡ None) }
     ensures own { OnOk result (files_at app.now owned.new.entries ≡ remove_entry (bytes_eq name.now) (files_at app.now owned.old.entries)) }
     ensures others { KeepsOthers app.now owned.old.entries owned.new.entries }
+    ensures filled { OnOk result (¬ IsBare (lookup (bytes_eq app.now) owned.new.entries)) }
+    ensures count { OnOk result (length owned.old.entries ≡ length owned.new.entries + more_apps (files_at app.now owned.new.entries)) }
     ensures stays { OnErr result (files_by_app owned.new.entries ≡ files_by_app owned.old.entries) }
 {
     match remove_bundle(owned, app, name) {
@@ -119,4 +141,26 @@ pub(crate) fn remove(owned: &mut Owned, app: &App, name: &Name) -> Result<Bundle
         }
         None => Err(Absent),
     }
+}
+
+/// How much an application holds.
+pub(crate) fn usage(owned: &Owned, app: &App) -> Usage
+    ensures bytes { result.bytes ≡ min (bytes_of (files_at app.now owned.now.entries)) (2 ^ 64 - 1) }
+    ensures count { result.bundles ≡ length (files_at app.now owned.now.entries) }
+{
+    match owned.get(app) {
+        Some(bundles) => bundles::usage(bundles),
+        None => Usage {
+            bytes: 0,
+            bundles: 0,
+        },
+    }
+}
+
+/// The length of the file of an application's bundle.
+pub(crate) fn file_len(owned: &Owned, app: &App, name: &Name) -> Option<u64>
+    ensures { result ≡ option_map length (lookup (bytes_eq name.now) (files_at app.now owned.now.entries)) }
+{
+    let bundles = owned.get(app)?;
+    bundles::file_len(bundles, name)
 }

@@ -1,17 +1,19 @@
 //! The bundles of ICUDATA and of all applications.
-ghost use Rattle.std.specs.Prelude.{◌≡◌, ℕ, [], ◌∷◌, ◌++◌, List, Some, None, IfOk, IfErr, OnOk, OnErr, map};
+ghost use Rattle.std.specs.Prelude.{◌≡◌, ◌+◌, ◌-◌, ◌^◌, ℕ, [], ◌∷◌, ◌++◌, List, Some, None, IfOk, IfErr, OnOk, OnErr, map, length, min, option_map};
 ghost use Rattle.std.specs.Map.{set_value, remove_entry};
 ghost use Rattle.std.specs.Str.{bytes_eq};
 ghost use Rattle.rb_format.specs.File.{source_tree_of};
 ghost use Rattle.rb_packages.specs.Shelf.{bundle_at, replaced, removed};
 ghost use Rattle.rb_packages.specs.Packages.{icudata_files, icudata_of, files_of, list_of, file_at, install_fault, load_fault, IsJudged, OthersStay};
 ghost use Rattle.rb_packages.specs.Lent.{files_in, bundles_lent};
+ghost use Rattle.rb_packages.specs.Usage.{bytes_of, apps_of, more_apps, AreThereOnce};
 
 use crate::app::App;
 use crate::bundles::Bundles;
 use crate::fault::{Absent, PackFault};
 use crate::owned::Owned;
 use crate::shelf::AppShelf;
+use crate::usage::Usage;
 use crate::{bundles, owned};
 use indexmap::IndexMap;
 use rb_locales::Name;
@@ -33,6 +35,7 @@ pub struct Packages {
 impl Model for Packages {
     ghost use Rattle.rb_packages.specs.Packages.{Stored};
     ghost use Rattle.rb_packages.specs.Index.{files_by_app};
+    ghost use Rattle.rb_packages.specs.Usage.{AllHaveBundles};
 
     ghost Value = { Stored };
 
@@ -41,6 +44,8 @@ impl Model for Packages {
     ghost coded = { Prim.hlevel codes };
 
     ghost view = { λ p. record { icudata = p.icudata.entries; owned = files_by_app p.owned.entries } };
+
+    ghost invariant = { λ p. AllHaveBundles (files_by_app p.owned.entries) };
 }
 
 impl Packages {
@@ -50,6 +55,7 @@ impl Packages {
         ensures lists { (app : List ℕ) → list_of app result ≡ [] }
         ensures icudata_files { icudata_files result ≡ [] }
         ensures files { (app : List ℕ) → files_of app result ≡ [] }
+        ensures apps { apps_of result ≡ 0 }
     {
         Packages {
             icudata: IndexMap::with_hasher(alloc, state),
@@ -64,6 +70,7 @@ impl Packages {
         ensures file { OnOk result (icudata_files self.new ≡ icudata_files self.old ++ (name, bundle) ∷ []) }
         ensures loaded { OnOk result (icudata_of self.new ≡ icudata_of self.old ++ (name, source_tree_of bundle) ∷ []) }
         ensures others { (app : List ℕ) → list_of app self.new ≡ list_of app self.old }
+        ensures apps { apps_of self.new ≡ apps_of self.old }
         ensures files { (app : List ℕ) → files_of app self.new ≡ files_of app self.old }
         ensures unchanged { OnErr result (self.new ≡ self.old) }
         ensures back { IfErr result (λ e. e.1 ≡ bundle) }
@@ -91,6 +98,7 @@ impl Packages {
         ensures files { OnOk result (files_of app.now self.new ≡ files_of app.now self.old ++ (name, bundle) ∷ []) }
         ensures installed { OnOk result (list_of app.now self.new ≡ list_of app.now self.old ++ (name, source_tree_of bundle) ∷ []) }
         ensures others { OthersStay app.now self.old self.new }
+        ensures apps { OnOk result (apps_of self.new ≡ apps_of self.old + more_apps (files_of app.now self.old)) }
         ensures unchanged { OnErr result (self.new ≡ self.old) }
         ensures back { IfErr result (λ e. e.1 ≡ bundle) }
     {
@@ -111,6 +119,7 @@ impl Packages {
         ensures files { OnOk result (files_of app.now self.new ≡ set_value (bytes_eq name.now) (files_of app.now self.old) bundle) }
         ensures replaced { OnOk result (list_of app.now self.new ≡ replaced name.now (source_tree_of bundle) (list_of app.now self.old)) }
         ensures others { OthersStay app.now self.old self.new }
+        ensures apps { apps_of self.new ≡ apps_of self.old }
         ensures unchanged { OnErr result (self.new ≡ self.old) }
         ensures back { IfErr result (λ e. e.1 ≡ bundle) }
     {
@@ -125,6 +134,7 @@ impl Packages {
         ensures files { OnOk result (files_of app.now self.new ≡ remove_entry (bytes_eq name.now) (files_of app.now self.old)) }
         ensures removed { OnOk result (list_of app.now self.new ≡ removed name.now (list_of app.now self.old)) }
         ensures others { OthersStay app.now self.old self.new }
+        ensures apps { OnOk result (apps_of self.old ≡ apps_of self.new + more_apps (files_of app.now self.new)) }
         ensures unchanged { OnErr result (self.new ≡ self.old) }
     {
         owned::remove(&mut self.owned, app, name)
@@ -138,6 +148,31 @@ impl Packages {
             Some(bundles) => bundles::names(alloc, bundles),
             None => Ok(Vec::new(alloc)),
         }
+    }
+
+    /// How much an application holds: nothing if it has no bundles. It takes no memory, and goes once through the
+    /// application's own bundles.
+    pub fn usage(&self, app: &App) -> Usage
+        ensures bytes { result.bytes ≡ min (bytes_of (files_of app.now self.now)) (2 ^ 64 - 1) }
+        ensures bundles { result.bundles ≡ length (files_of app.now self.now) }
+    {
+        owned::usage(&self.owned, app)
+    }
+
+    /// The length of the file of the application's bundle of that name, if there is one. It takes no memory.
+    pub fn file_len(&self, app: &App, name: &Name) -> Option<u64>
+        ensures { result ≡ option_map length (file_at app.now name.now self.now) }
+    {
+        owned::file_len(&self.owned, app, name)
+    }
+
+    /// How many applications have bundles. It takes no memory.
+    pub fn apps(&self) -> u64
+        ensures count { result ≡ apps_of self.now }
+        // Each of them counts once, and has bundles.
+        ensures once { AreThereOnce self.now }
+    {
+        self.owned.len() as u64
     }
 
     /// The bundles of an application, lent. It takes no memory.

@@ -5,6 +5,7 @@ use crate::fault::PackFault;
 use crate::owned;
 use crate::owned::Owned;
 use crate::packages::Packages;
+use crate::usage::Usage;
 use indexmap::IndexMap;
 use rb_locales::Name;
 use rb_parents::Shelf;
@@ -134,5 +135,45 @@ fn forgets_an_application_without_bundles(rt: HostRuntime) -> Result<(), Fail> {
     assert_eq!(rt; owned.len(), 1);
     assert!(rt; owned::remove(&mut owned, &shop, &root).is_ok());
     assert_eq!(rt; owned.len(), 0);
+    Ok(())
+}
+
+#[test]
+fn says_what_an_application_holds(rt: HostRuntime) -> Result<(), Fail> {
+    let alloc = rt.alloc();
+    let shop = App::read(b"shop")?;
+    let bank = App::read(b"bank")?;
+    let de = Name::read(b"de")?;
+    let root = Name::root();
+    let mut packages = Packages::new(alloc, RandomState::new(&rt)?);
+    assert_eq!(rt; refusal(alloc, &mut packages, &shop, de)?, None);
+    assert_eq!(rt; refusal(alloc, &mut packages, &shop, root)?, None);
+    assert_eq!(rt; refusal(alloc, &mut packages, &bank, de)?, None);
+    assert_eq!(rt;
+        packages.usage(&shop),
+        Usage {
+            bytes: 152,
+            bundles: 2
+        }
+    );
+    assert_eq!(rt;
+        packages.usage(&bank),
+        Usage {
+            bytes: 76,
+            bundles: 1
+        }
+    );
+    assert_eq!(rt; packages.file_len(&shop, &root), Some(76));
+    assert_eq!(rt; packages.file_len(&bank, &root), None);
+    assert_eq!(rt; packages.apps(), 2);
+    assert!(rt; packages.remove(&bank, &de).is_ok());
+    assert_eq!(rt;
+        packages.usage(&bank),
+        Usage {
+            bytes: 0,
+            bundles: 0
+        }
+    );
+    assert_eq!(rt; packages.apps(), 1);
     Ok(())
 }

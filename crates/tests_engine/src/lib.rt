@@ -6,6 +6,8 @@ mod applications;
 #[cfg(test)]
 mod engine;
 #[cfg(test)]
+mod held;
+#[cfg(test)]
 mod hostile;
 #[cfg(test)]
 mod payloads;

@@ -1,7 +1,8 @@
 use Rattle.std.proofs.lemmas.Result.{IfOk-weaker, on_ok_weaker, on_err_weaker}
 use Rattle.std.specs.Map.{set_value}
 use Rattle.std.specs.Str.{bytes_eq}
-use Rattle.rb_packages.proofs.Lists.{files_changed, file_seen, found_seen, absent_seen, replaced_seen, others_seen}
+use Rattle.rb_packages.proofs.Lists.{files_changed, file_seen, found_seen, absent_seen, replaced_seen, others_seen, apps_kept}
+use Rattle.rb_packages.proofs.Filled.{all_after_replace}
 use Rattle.rb_packages.proofs.packages.Packages.replace.Goals as goal
 
 pub returns-clause-file : goal.returns-clause-file
@@ -29,3 +30,12 @@ returns-clause-replaced c =
 pub returns-clause-others : goal.returns-clause-others
 returns-clause-others c =
     others_seen c.self.inside.owned.entries c.self.view_is c.args.app.now c.replace.new.owned.entries c.replace.ensures.others
+
+pub returns-clause-apps : goal.returns-clause-apps
+returns-clause-apps c =
+    apps_kept c.self.inside.owned.entries c.self.view_is c.args.app.now c.replace.new.owned.entries c.replace.ensures.count
+
+pub invariant_of-self : goal.invariant_of-self
+invariant_of-self c =
+    all_after_replace c.args.app.now c.self.inside.owned.entries c.replace.new.owned.entries c.self.invariant c.replace.ensures.others
+    c.replace.result c.args.name.now c.args.bundle c.replace.ensures.found c.replace.ensures.own c.replace.ensures.stays

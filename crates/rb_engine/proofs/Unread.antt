@@ -1,0 +1,20 @@
+-- A payload that gives no bundle.
+use Rattle.std.proofs.Common.{◌≡◌, ◌⊎◌, inl, inr, refl}
+use Rattle.rb_tree.specs.SourceTree.{SourceTree}
+use Rattle.rb_engine.specs.Source.{HasNone, unread_reply}
+use Rattle.rb_engine.specs.Start.{HasBundle}
+use Rattle.rb_engine.specs.declared.payload.PayloadFault.{PayloadFault}
+use Rattle.rb_engine.specs.declared.payload.PayloadFault.TheVariants as fault
+use Rattle.rb_engine.specs.declared.request.Payload.{Payload}
+use Rattle.rb_engine.specs.declared.request.Payload.TheVariants.{Text, File}
+use Rattle.rb_engine.specs.declared.request.Reply.TheVariants.{Memory}
+
+-- memory ran out for it, or it has none
+pub none_brought : (payload : Payload) (e : PayloadFault) → HasNone payload e
+    → (unread_reply e ≡ Memory) ⊎ ((source : SourceTree) → HasBundle payload source → ⊥)
+none_brought (Text bytes) fault.BadText h = inr (λ source has. h has.0 source has.1)
+none_brought (File bytes) fault.BadFile h = inr (λ source has. h source has)
+none_brought (Text bytes) fault.BadFile h = absurd h
+none_brought (File bytes) fault.BadText h = absurd h
+none_brought (Text bytes) fault.Memory h = inl refl
+none_brought (File bytes) fault.Memory h = inl refl
