@@ -1,3 +1,6 @@
+pub mod AtLeast
+pub mod Lengths
 pub mod OfKinds
 pub mod Tokens
+pub mod Walks
 pub mod Written

@@ -1,3 +1,4 @@
 pub mod Item
+pub mod Least
 pub mod Put
 pub mod inner

@@ -2,5 +2,7 @@
 #![tactic(auto)]
 
 mod item;
+mod least;
 
 pub use item::{item_text, put_found, put_text, put_word};
+pub use least::{found_exceeds, room_after};

@@ -1,1 +1,2 @@
+pub mod Limited
 pub mod Written

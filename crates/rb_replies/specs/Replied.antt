@@ -1,6 +1,6 @@
 -- The line that answers a line, a form of this project: a compact object with its members in ascending order, as serde_json writes it, and a line feed.
 use Rattle.std.specs.Prelude.{ℕ, true, List, [], ◌∷◌, ◌++◌, Option, Some, None, codes}
-use Rattle.serde_json.specs.Data.{Data, boolean, string, object, no_members, member}
+use Rattle.serde_json.specs.Data.{Data, boolean, number, string, unsigned, object, no_members, member}
 use Rattle.serde_json.specs.Written.{compact_text}
 use Rattle.rb_engine.specs.Answer.{Response, Replies, Finds, Refuses}
 use Rattle.rb_items.specs.Item.{texts_data, found_data}
@@ -23,6 +23,12 @@ reply_data Exists = error (reply_word Exists)
 reply_data Absent = error (reply_word Absent)
 reply_data Full = error (reply_word Full)
 reply_data Memory = error (reply_word Memory)
+
+-- how many bytes an application's bundles have, and how many bundles there are
+abbrev pub usage_data : (bytes bundles : ℕ) → Data
+usage_data bytes bundles =
+    object (member (codes "app_bytes") (number (unsigned bytes))
+    (member (codes "bundles") (number (unsigned bundles)) no_members))
 
 abbrev pub response_data : Response → Data
 response_data (Replies reply) = reply_data reply

@@ -3,6 +3,8 @@
 
 mod line;
 mod reply;
+mod within;
 
 pub use line::ReplyLine;
 pub use rb_items::item_text;
+pub use within::Told;

@@ -2,11 +2,14 @@
 ghost use Rattle.std.specs.Prelude.{◌≡◌, [], ◌∷◌, ◌++◌, OnOk};
 ghost use Rattle.json.specs.Print.{print};
 ghost use Rattle.serde_json.specs.Written.{compact_text};
-ghost use Rattle.rb_replies.specs.Replied.{error as error_data, reply_data, response_data};
+ghost use Rattle.rb_replies.specs.Replied.{error as error_data, reply_data, response_data, usage_data};
+ghost use Rattle.rb_replies.specs.Within.{SparesLine, TellsWithin};
+ghost use Rattle.rb_engine.specs.Answer.{Replies};
 ghost use Rattle.rb_engine.specs.LookResponse.{look_response};
 ghost use Rattle.rb_views.specs.Seen.{tree_seen};
 
-use crate::reply::{put_error, put_look, put_reply};
+use crate::reply::{put_error, put_look, put_reply, put_usage};
+use crate::within::{Told, look_exceeds, look_limit, reply_exceeds, reply_limit, told_by};
 use json::Writer;
 use rb_engine::{LookFault, Reply};
 use rb_fallback::Found;
@@ -108,5 +111,57 @@ impl ReplyLine {
         let mut out = self.begin(alloc);
         put_look(&mut out, &mut self.text, alloc, found)?;
         self.end(out)
+    }
+
+    /// Makes the line the reply of an application's usage: how many bytes its bundles have, and how many bundles there
+    /// are. After an error, which comes only if memory runs out, nothing is known of the line.
+    pub fn tell_usage(&mut self, alloc: Global, bytes: u64, bundles: u64) -> Result<(), AllocError>
+        ensures { OnOk result (self.new ≡ compact_text (usage_data bytes bundles) ++ 10 ∷ []) }
+    {
+        let mut out = self.begin(alloc);
+        put_usage(&mut out, bytes, bundles)?;
+        self.end(out)
+    }
+
+    /// Makes the line the reply to a request. A reply of names that is longer than `most`, its line feed counted, is
+    /// too long; any other is told whole. Of the line of a reply that is too long nothing is known, nor after an error,
+    /// which comes only if memory runs out. If the lengths of the names alone are above the limit, the reply isn't
+    /// made, and the line stays as it was.
+    pub fn tell_reply_within(
+        &mut self,
+        alloc: Global,
+        reply: &Reply,
+        most: Option<u64>,
+    ) -> Result<Told, AllocError>
+        ensures told { TellsWithin result self.new (Replies reply.now) most }
+        ensures spared { SparesLine result self.old self.new (Replies reply.now) most }
+    {
+        let limit = reply_limit(reply, most);
+        if reply_exceeds(reply, limit) {
+            return Ok(Told::TooLong);
+        }
+        self.tell_reply(alloc, reply)?;
+        Ok(told_by(self.bytes.len() as u64, limit))
+    }
+
+    /// Makes the line the reply to a lookup. A reply of an item that was found is too long if it is longer than `most`,
+    /// its line feed counted; why there is none is told whole. Of the line of a reply that is too long nothing is
+    /// known, nor after an error, which comes only if memory runs out. If the lengths of the item's parts alone are
+    /// above the limit, the reply isn't made, and the line stays as it was.
+    pub fn tell_look_within(
+        &mut self,
+        alloc: Global,
+        found: &Result<Found<Item<'_>>, LookFault>,
+        most: Option<u64>,
+    ) -> Result<Told, AllocError>
+        ensures told { TellsWithin result self.new (look_response tree_seen found.now) most }
+        ensures spared { SparesLine result self.old self.new (look_response tree_seen found.now) most }
+    {
+        let limit = look_limit(found, most);
+        if look_exceeds(found, limit) {
+            return Ok(Told::TooLong);
+        }
+        self.tell_look(alloc, found)?;
+        Ok(told_by(self.bytes.len() as u64, limit))
     }
 }

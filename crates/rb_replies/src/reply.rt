@@ -1,10 +1,10 @@
 //! What an engine answers as JSON.
-ghost use Rattle.std.specs.Prelude.{◌≡◌, [], ◌∷◌, ◌++◌, codes};
-ghost use Rattle.json.specs.Token.{key};
+ghost use Rattle.std.specs.Prelude.{◌≡◌, [], ◌∷◌, ◌++◌, codes, decimal};
+ghost use Rattle.json.specs.Token.{key, number as number_token};
 ghost use Rattle.rb_items.specs.Item.{texts_data};
 ghost use Rattle.rb_items.specs.Put.{Puts};
 ghost use Rattle.rb_json.specs.Tokens.{data_tokens};
-ghost use Rattle.rb_replies.specs.Replied.{error as error_data, reply_data, response_data};
+ghost use Rattle.rb_replies.specs.Replied.{error as error_data, reply_data, response_data, usage_data};
 ghost use Rattle.rb_engine.specs.declared.request.Reply.TheVariants as replies;
 ghost use Rattle.rb_engine.specs.LookResponse.{look_response};
 ghost use Rattle.rb_views.specs.Seen.{tree_seen};
@@ -57,6 +57,23 @@ pub(crate) fn put_reply(out: &mut Writer, alloc: Global, reply: &Reply) -> Resul
         }
         refusal => put_error(out, refusal.word()),
     }
+}
+
+/// A member that is a number.
+fn put_number(out: &mut Writer, name: &str, number: u64) -> Result<(), AllocError>
+    ensures { Puts result out.old out.new (key name.now ∷ number_token (decimal number) ∷ []) }
+{
+    out.key(name)?;
+    out.u64(number)
+}
+
+pub(crate) fn put_usage(out: &mut Writer, bytes: u64, bundles: u64) -> Result<(), AllocError>
+    ensures { Puts result out.old out.new (data_tokens (usage_data bytes bundles)) }
+{
+    out.begin_object()?;
+    put_number(out, "app_bytes", bytes)?;
+    put_number(out, "bundles", bundles)?;
+    out.end_object()
 }
 
 pub(crate) fn put_look(
