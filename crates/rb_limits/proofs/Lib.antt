@@ -1,0 +1,4 @@
+pub mod Histories
+pub mod Quota
+pub mod Stepping
+pub mod Judging

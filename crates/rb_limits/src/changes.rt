@@ -1,0 +1,180 @@
+//! Requests under limits.
+ghost use Rattle.std.specs.Prelude.{◌≡◌, ◌≤◌, ◌+◌, ◌-◌, ◌^◌, ℕ, List, Option, Some, None};
+ghost use Rattle.std.specs.Prelude.{length, IsTrue, if◌then◌else◌, unwrap_or};
+ghost use Rattle.rb_packages.specs.Packages.{files_of};
+ghost use Rattle.rb_packages.specs.Usage.{apps_of};
+ghost use Rattle.rb_engine.specs.Ask.{Requests};
+ghost use Rattle.rb_engine.specs.Place.{place_of};
+ghost use Rattle.rb_engine.specs.Source.{change_request};
+ghost use Rattle.rb_limits.specs.Limits.{is_over as over, payload_len as payload_length};
+ghost use Rattle.rb_limits.specs.Limits.{takes_place as is_made, file_refusal};
+ghost use Rattle.rb_limits.specs.Steps.{CallComesTo};
+ghost use Rattle.rb_limits.specs.Outcomes.{reply_outcome};
+ghost use Rattle.rb_limits.specs.inner.LongPayload.{long_payload};
+
+use crate::limits::{Limited, Limits, Refusal};
+use rb_engine::{App, Brought, Change, Engine, Payload, Reply, Request};
+use rb_locales::Name;
+use rb_packages::BUNDLE_LIMIT;
+use rb_tree::ByteList;
+use std::alloc::Global;
+
+/// Whether a number is above a limit.
+pub(crate) fn is_over(limit: Option<u64>, number: u64) -> bool
+    ensures { result ≡ over limit number }
+{
+    match limit {
+        Some(most) => most < number,
+        None => false,
+    }
+}
+
+/// Whether the sum of two numbers is above a limit.
+fn is_sum_over(limit: Option<u64>, a: u64, b: u64) -> bool
+    ensures { result ≡ over limit (a + b) }
+{
+    match limit {
+        Some(most) => most < a || most - a < b,
+        None => false,
+    }
+}
+
+fn payload_len(payload: &Payload) -> u64
+    ensures { result ≡ payload_length payload.now }
+{
+    match payload {
+        Payload::Text(bytes) | Payload::File(bytes) => bytes.as_slice().len() as u64,
+    }
+}
+
+/// Whether a request names a place, and its payload is too long to be read.
+fn is_too_long(limits: &Limits, app: &ByteList, locale: &ByteList, payload: &Payload) -> bool
+    ensures { result ≡ long_payload limits.now (place_of app.now locale.now) payload.now }
+{
+    is_over(limits.bundle_bytes, payload_len(payload))
+        && App::read(app.as_slice()).is_ok()
+        && Name::read(locale.as_slice()).is_ok()
+}
+
+/// Whether the engine makes a change: where so long a file is at its place, if one is, and there
+/// are so many bundles.
+fn takes_place(change: Change, held: Option<u64>, bundles: u64) -> bool
+    ensures { result ≡ is_made change held bundles }
+{
+    match change {
+        Change::Install => held.is_none() && bundles < BUNDLE_LIMIT as u64,
+        Change::Replace => held.is_some(),
+    }
+}
+
+/// Whether nothing limits what is kept.
+fn keeps_all(limits: &Limits) -> bool
+    ensures { IsTrue result
+        → (limits.now.bundle_bytes ≡ None) × (limits.now.app_bytes ≡ None) × (limits.now.apps ≡ None) }
+{
+    limits.bundle_bytes.is_none() && limits.app_bytes.is_none() && limits.apps.is_none()
+}
+
+/// Why limits refuse to put a bundle that was brought.
+fn refused(engine: &Engine, limits: &Limits, change: Change, brought: &Brought) -> Option<Refusal>
+    ensures { result ≡ file_refusal limits.now change brought.now.0.name
+        (files_of brought.now.0.app engine.now.packages) (apps_of engine.now.packages) brought.now.1 }
+{
+    if keeps_all(limits) {
+        return None;
+    }
+    let held = engine.file_len(brought);
+    let usage = engine.usage(brought.app());
+    if !takes_place(change, held, usage.bundles) {
+        return None;
+    }
+    if is_over(limits.bundle_bytes, brought.len()) {
+        return Some(Refusal::BundleTooLong);
+    }
+    let others = usage.bytes.saturating_sub(held.unwrap_or(0));
+    if is_sum_over(limits.app_bytes, others, brought.len()) {
+        return Some(Refusal::OverQuota);
+    }
+    if usage.bundles == 0 && is_sum_over(limits.apps, engine.apps(), 1) {
+        return Some(Refusal::TooManyApps);
+    }
+    None
+}
+
+/// A request that brings a bundle.
+fn change(
+    engine: &mut Engine,
+    alloc: Global,
+    limits: &Limits,
+    change: Change,
+    app: &ByteList,
+    locale: &ByteList,
+    payload: Payload,
+) -> Limited<Reply>
+    ensures { CallComesTo limits.now engine.old (Requests (change_request change app.now locale.now payload))
+        (reply_outcome result) engine.new }
+{
+    if is_too_long(limits, app, locale, &payload) {
+        return Limited::Refused(Refusal::BundleTooLong);
+    }
+    let brought = match Brought::read(alloc, app, locale, payload) {
+        Ok(brought) => brought,
+        Err(reply) => return Limited::Answer(reply),
+    };
+    match refused(engine, limits, change, &brought) {
+        Some(refusal) => Limited::Refused(refusal),
+        None => Limited::Answer(engine.put(change, brought)),
+    }
+}
+
+/// Answers one request under limits.
+///
+/// A text or a file that is longer than a bundle may be is refused before it is read, unless its
+/// application's name or its locale is invalid. What the engine refuses by itself is its own
+/// refusal. A change that it would make is refused by the first of these: `BundleTooLong`, if the
+/// bundle's file is too long, `OverQuota`, if the application's files would have too many bytes
+/// together, and `TooManyApps`, if it has no bundles yet and there are as many applications with
+/// bundles as there may be. A refused request changes nothing. `Memory` comes as from the engine.
+///
+/// ```rust
+/// handle(&mut engine, alloc, &limits, Request::Install { app, locale, payload }) // Limited::Refused(Refusal::OverQuota)
+/// ```
+pub fn handle(
+    engine: &mut Engine,
+    alloc: Global,
+    limits: &Limits,
+    request: Request,
+) -> Limited<Reply>
+    ensures { CallComesTo limits.now engine.old (Requests request) (reply_outcome result) engine.new }
+{
+    match request {
+        Request::Install {
+            app,
+            locale,
+            payload,
+        } => change(
+            engine,
+            alloc,
+            limits,
+            Change::Install,
+            &app,
+            &locale,
+            payload,
+        ),
+        Request::Replace {
+            app,
+            locale,
+            payload,
+        } => change(
+            engine,
+            alloc,
+            limits,
+            Change::Replace,
+            &app,
+            &locale,
+            payload,
+        ),
+        Request::Remove { app, locale } => Limited::Answer(engine.remove(&app, &locale)),
+        Request::List { app } => Limited::Answer(engine.list(alloc, &app)),
+    }
+}
