@@ -13,4 +13,5 @@ pub use rb_file_commands::{
     explain, get, get_on, json, lint_all, text, text_at, value_at,
 };
 pub use rb_lookup_commands::{Change, Lookup, lines, look_up};
-pub use serve::{serve_input, serve_on};
+pub use rb_requests::{Limits, LineLimits};
+pub use serve::{serve_input, serve_limited_on, serve_on};

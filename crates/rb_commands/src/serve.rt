@@ -1,13 +1,16 @@
 //! `resb serve`.
 ghost use Rattle.std.specs.Prelude.{◌≤◌, IfErr, IfOk};
 ghost use Rattle.rb_engine.specs.Kept.{state_of};
-ghost use Rattle.rb_requests.specs.Served.{AfterFault, at};
+ghost use Rattle.rb_requests.specs.Served.{AfterFault, AfterFaultWithin, at};
+ghost use Rattle.rb_requests.specs.Within.{LineReplyWithin, longest_read};
 ghost use Rattle.rb_commands.specs.inner.Limits.{most_lines};
 
 use crate::handing::{NotingFeed, WaitingWriter};
 use rb_console::{Console, not_started_on};
 use rb_lookup_commands::start_engine;
-use rb_requests::{Engine, Feed, ServeFault, Served, Sink, WriteSink, serve};
+use rb_requests::{
+    Engine, Feed, LineLimits, ServeFault, Served, Sink, WriteSink, serve, serve_limited,
+};
 use std::alloc::Global;
 use std::cell::Cell;
 use std::io;
@@ -34,7 +37,25 @@ fn serve_run<F: Feed, S: Sink>(
     serve(alloc, engine, feed, sink, MAX_LINES)
 }
 
-/// Hands on the replies that are still held where serving ended early. Where that fails, the error is `Write`.
+/// The same under limits.
+fn limited_run<F: Feed, S: Sink>(
+    alloc: Global,
+    engine: &mut Engine,
+    limits: &LineLimits,
+    feed: &mut F,
+    sink: &mut S,
+) -> Result<Served, ServeFault>
+    ensures most { IfOk result (λ served. served.lines ≤ most_lines) }
+    ensures fault { IfErr result (λ fault. AfterFaultWithin
+        (LineReplyWithin limits.now) (longest_read limits.now) fault
+        (at engine.old (F.left feed.old) (S.written sink.old) (S.settled sink.old))
+        (at engine.new (F.left feed.new) (S.written sink.new) (S.settled sink.new)) most_lines) }
+{
+    serve_limited(alloc, engine, limits, feed, sink, MAX_LINES)
+}
+
+/// Hands on the replies that are still held where serving ended early. Where that fails, the error
+/// is `Write`.
 fn handed_on<W: Write + Drop>(writer: &mut WaitingWriter<'_, W>, fault: ServeFault) -> ServeFault {
     if fault == ServeFault::Write || writer.hand_on().is_ok() {
         fault
@@ -43,10 +64,12 @@ fn handed_on<W: Write + Drop>(writer: &mut WaitingWriter<'_, W>, fault: ServeFau
     }
 }
 
-/// Serves standard input, each side behind a buffer. The writer's is flushed once the reader's holds no further whole line.
+/// Serves standard input, each side behind a buffer. The writer's is flushed once the reader's
+/// holds no further whole line.
 fn serve_buffered<R: Input + Print + AllocGlobal>(
     rt: &R,
     engine: &mut Engine,
+    limits: Option<&LineLimits>,
 ) -> io::Result<Result<(), ServeFault>> {
     let alloc = rt.alloc();
     let holds_line = Cell::new(false);
@@ -54,20 +77,25 @@ fn serve_buffered<R: Input + Print + AllocGlobal>(
     let mut feed = NotingFeed::new(reader, &holds_line);
     let mut writer = WaitingWriter::new(BufWriter::new(alloc, io::writer(rt))?, &holds_line);
     let mut sink = WriteSink::new(&mut writer);
-    match serve_run(alloc, engine, &mut feed, &mut sink) {
+    let served = match limits {
+        None => serve_run(alloc, engine, &mut feed, &mut sink),
+        Some(limits) => limited_run(alloc, engine, limits, &mut feed, &mut sink),
+    };
+    match served {
         Ok(_) => Ok(Ok(())),
         Err(fault) => Ok(Err(handed_on(&mut writer, fault))),
     }
 }
 
-/// Answers the lines of standard input. The status is 0 once the input is read, and else 1, with the fault's name on standard error;
-/// `Memory` also where there is none for the buffers.
+/// Answers the lines of standard input. The status is 0 once the input is read, and else 1, with
+/// the fault's name on standard error; `Memory` also where there is none for the buffers.
 fn serve_lines<R: Input + Print + Eprint + AllocGlobal>(
     rt: &R,
     console: Console,
     engine: &mut Engine,
+    limits: Option<&LineLimits>,
 ) -> ExitCode {
-    let fault = match serve_buffered(rt, engine) {
+    let fault = match serve_buffered(rt, engine, limits) {
         Ok(Ok(())) => return ExitCode::SUCCESS,
         Ok(Err(fault)) => fault,
         Err(_) => ServeFault::Memory,
@@ -78,14 +106,15 @@ fn serve_lines<R: Input + Print + Eprint + AllocGlobal>(
     ExitCode::from(1)
 }
 
-/// Answers the lines of standard input on standard output, with the explicit parents of the file `parents`, a bundle text, and with
-/// `bundles` as ICUDATA, each a `LOCALE=FILE` that is split at its first `=`. A file whose name ends in `.txt` is bundle text, any
-/// other a `.res` file.
+/// Answers the lines of standard input on standard output, with the explicit parents of the file
+/// `parents`, a bundle text, and with `bundles` as ICUDATA, each a `LOCALE=FILE` that is split at
+/// its first `=`. A file whose name ends in `.txt` is bundle text, any other a `.res` file.
 ///
-/// The status is 0 once the input is read. It is 2 for an argument that isn't `LOCALE=FILE`, a file that can't be read, and a runtime
-/// without random numbers; 1 where a file is refused, with its error's name, out of memory, and where serving ends early, with the
-/// name of the error. Each is a line on standard error. All arguments are split before a file is read, and the parents are judged
-/// before another file is read.
+/// The status is 0 once the input is read. It is 2 for an argument that isn't `LOCALE=FILE`, a file
+/// that can't be read, and a runtime without random numbers; 1 where a file is refused, with its
+/// error's name, out of memory, and where serving ends early, with the name of the error. Each is a
+/// line on standard error. All arguments are split before a file is read, and the parents are
+/// judged before another file is read.
 pub fn serve_input<R: Files + RandomSource + Input + Print + Eprint + AllocGlobal>(
     rt: &R,
     parents: Option<&str>,
@@ -101,8 +130,20 @@ pub fn serve_on<R: Files + RandomSource + Input + Print + Eprint + AllocGlobal>(
     parents: Option<&str>,
     bundles: &[&str],
 ) -> ExitCode {
+    serve_limited_on(rt, console, parents, bundles, None)
+}
+
+/// Answers as `serve_on`, under limits if there are any: then a question for an application's usage
+/// is answered too.
+pub fn serve_limited_on<R: Files + RandomSource + Input + Print + Eprint + AllocGlobal>(
+    rt: &R,
+    console: Console,
+    parents: Option<&str>,
+    bundles: &[&str],
+    limits: Option<&LineLimits>,
+) -> ExitCode {
     match start_engine(rt, parents, bundles) {
-        Ok(mut engine) => serve_lines(rt, console, &mut engine),
+        Ok(mut engine) => serve_lines(rt, console, &mut engine, limits),
         Err(error) => not_started_on(rt, console, error),
     }
 }

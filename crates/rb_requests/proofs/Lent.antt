@@ -9,8 +9,8 @@ use Rattle.rb_members.specs.Texts.{Holds, IsAt, IsMember}
 use Rattle.rb_members.specs.declared.member.Member.{Member}
 use Rattle.rb_members.specs.declared.member.Member.TheVariants as members
 use Rattle.rb_members.specs.declared.texts.Texts.{Texts}
-use Rattle.rb_requests.specs.Asked.{decoded, call_in, call_of, data_of}
-use Rattle.rb_requests.specs.inner.Line.{AreTextsOf, lent, text_in, payload_by}
+use Rattle.rb_requests.specs.Asked.{decoded, data_of}
+use Rattle.rb_requests.specs.inner.Line.{AreTextsOf, AsksNothing, lent, text_in, payload_by}
 
 text_of_member : (m : Member) (d : Data) → IsMember m d → as_str d ≡ text_in m
 text_of_member (members.Text s) d e = ap as_str e
@@ -41,15 +41,15 @@ texts_of_object texts found h = record {
   payload = held_payload texts.text texts.file (get_member (codes "text") found) (get_member (codes "file") found) h.text h.file;
 }
 
--- only an object calls
-called_by : (o : Option Data) → ((found : Members) → o ≡ Some (object found) → ⊥) → option_and_then call_in o ≡ None
-called_by None h = refl
-called_by (Some null) h = refl
-called_by (Some (boolean b)) h = refl
-called_by (Some (number n)) h = refl
-called_by (Some (string s)) h = refl
-called_by (Some (array ds)) h = refl
-called_by (Some (object found)) h = absurd (h found refl)
+-- only an object asks anything
+asked_by : (o : Option Data) → ((found : Members) → o ≡ Some (object found) → ⊥) → AsksNothing o
+asked_by None h = (refl, refl)
+asked_by (Some null) h = (refl, refl)
+asked_by (Some (boolean b)) h = (refl, refl)
+asked_by (Some (number n)) h = (refl, refl)
+asked_by (Some (string s)) h = (refl, refl)
+asked_by (Some (array ds)) h = (refl, refl)
+asked_by (Some (object found)) h = absurd (h found refl)
 
-pub calls_nothing : (line : List ℕ) → ((found : Members) → data_of line ≡ Some (object found) → ⊥) → call_of line ≡ None
-calls_nothing line h = called_by (data_of line) h
+pub asks_nothing : (line : List ℕ) → ((found : Members) → data_of line ≡ Some (object found) → ⊥) → AsksNothing (data_of line)
+asks_nothing line h = asked_by (data_of line) h

@@ -1,8 +1,10 @@
 pub mod Texts
 pub mod Lent
 pub mod Stepping
+pub mod NoLimits
 pub mod Putting
 pub mod Moving
-pub mod Reading
+pub mod LinesRead
+pub mod Unlimited
 pub mod Serving
 pub mod LineIsolation

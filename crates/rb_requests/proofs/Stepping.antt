@@ -1,37 +1,28 @@
--- A step of the engine, as an equation of states.
-use Rattle.std.proofs.Common.{◌≡◌, ℕ, inl, inr, true, false, List, Option, Some, Result, Ok, Err, IfErr, option_map, refl, sym, ◌∙◌, ap, subst}
+-- What a line asks, by what was read of it, and what is answered.
+use Rattle.std.proofs.Common.{◌≡◌, ◌≤◌, ◌<◌, ◌⊎◌, ℕ, inl, inr, Bool, true, false, ◌&&◌, List, length, Option, Some, None, option_map, refl, sym, ◌∙◌, ap, arith, nat_lt, codes}
 use Rattle.std.proofs.lemmas.Bool.{false≢true}
-use Rattle.rb_packages.specs.Shelf.{Shelf}
-use Rattle.rb_engine.specs.Ask.{Call, Requests, LooksUp, Looks}
-use Rattle.rb_engine.specs.Answer.{Start, Response, answer_over}
-use Rattle.rb_engine.specs.History.{State, Step, Answered, is_memory}
+use Rattle.std.proofs.lemmas.Bool.Decides.{nat_tests}
 use Rattle.serde_json.specs.Data.{Data}
+use Rattle.rb_engine.specs.Ask.{Call}
+use Rattle.rb_engine.specs.Answer.{Response, Replies, Finds}
+use Rattle.rb_engine.specs.History.{is_memory, may_run_out_of_memory}
+use Rattle.rb_engine.specs.Kept.{Kept}
+use Rattle.rb_engine.specs.declared.request.Reply.{Reply}
+use Rattle.rb_engine.specs.declared.request.Reply.TheVariants.{Names, Done}
 use Rattle.rb_members.specs.declared.texts.Texts.{Texts}
+use Rattle.rb_limits.specs.Limits.{is_over}
+use Rattle.rb_limits.specs.Steps.{Outcome, Answers, Refuses, CallIsJudged, CallComesTo}
+use Rattle.rb_limits.specs.declared.limits.Limits.{Limits}
+use Rattle.rb_replies.specs.Replied.{reply_line}
+use Rattle.rb_replies.specs.Within.{limit_of, IsAtMost, IsAbove}
 use Rattle.rb_requests.specs.Asked.{call_in}
-use Rattle.rb_requests.specs.inner.Line.{line_view, AreTextsOf}
+use Rattle.rb_requests.specs.Within.{AnswersRead, outcome_line, may_be_long, error_line}
+use Rattle.rb_requests.specs.declared.answer.Starved.{Starved}
+use Rattle.rb_requests.specs.declared.answer.Starved.TheVariants.{Before, After}
 use Rattle.rb_requests.specs.declared.ask.Line.{Line}
-use Rattle.rb_requests.specs.Lines.{AnswersAsked}
-use Rattle.rb_requests.specs.inner.MayTakeEffect.{CallReply, AskedReply, CallMayTakeEffect, AskedMayTakeEffect}
-use Rattle.rb_engine.specs.declared.request.Request.{Request}
-
-funext : {A : Type 0} {B : Type 0} → (f g : A → B) → ((x : A) → f x ≡ g x) → f ≡ g
-funext f g h = λ i x. h x i
-
-abbrev state_with : Start → (List ℕ → Shelf) → State
-state_with start lists = record { start = start; lists = lists }
-
-same_state : (s x : Start) (f g : List ℕ → Shelf) → x ≡ s → ((app : List ℕ) → f app ≡ g app) → state_with x f ≡ state_with s g
-same_state s x f g e h = ap (λ y. state_with y f) e ∙ ap (state_with s) (funext f g h)
-
-pub call_answered : (old new : State) (r : Request) (response : Response) → Step old (Requests r) response new → is_memory response ≡ false
-    → Answered old (Requests r) response new
-call_answered old new r response (inl s) m = let e : is_memory response ≡ true = rw s.memory refl in absurd (false≢true (sym m ∙ e))
-call_answered old new r response (inr s) m = s
-
--- a request for which memory runs out changes nothing
-pub may_take_effect : (old new : State) (r : Request) (response : Response) → Step old (Requests r) response new → CallMayTakeEffect old (Requests r) new
-may_take_effect old new r response (inl s) = inl (same_state old.start new.start new.lists old.lists s.start s.lists)
-may_take_effect old new r response (inr s) = inr (response, s)
+use Rattle.rb_requests.specs.declared.limits.LineLimits.{LineLimits}
+use Rattle.rb_requests.specs.inner.Line.{line_view, AreTextsOf}
+use Rattle.rb_requests.specs.inner.Starving.{CallReply, LeavesOf, untold_reply}
 
 -- what a line calls, by what it was read as
 pub call_read : {o : Option Line} (texts : Texts) (line : Line) → ((d : Data) → AreTextsOf texts d → option_map line_view o ≡ call_in d)
@@ -39,31 +30,104 @@ pub call_read : {o : Option Line} (texts : Texts) (line : Line) → ((d : Data) 
 call_read texts line h e d t = sym (h d t) ∙ ap (option_map line_view) e
 
 -- a line that calls is answered as its call is
-pub asked_reply : (s : State) (call : Option Call) (k : Call) (text : List ℕ) (new : State) → call ≡ Some k → CallReply s k text new
-    → AskedReply s call text new
-asked_reply s call k text new e t = subst (λ (o : Option Call). AskedReply s o text new) (sym e) (Some t.0, t.1, t.2)
+pub asked_reply : (limits : LineLimits) (s : Kept) (call : Option Call) (usage : Option (List ℕ)) (k : Call) (text : List ℕ) (new : Kept)
+    → call ≡ Some k → CallReply limits s k text new → AnswersRead limits s call usage text new
+asked_reply limits s call usage k text new e t = rw e t
 
-pub asked_may_take_effect : (s : State) (call : Option Call) (k : Call) (new : State) → call ≡ Some k → CallMayTakeEffect s k new
-    → AskedMayTakeEffect s call new
-asked_may_take_effect s call k new e (inl same) = inl same
-asked_may_take_effect s call k new e (inr t) = inr (Some t.0, subst (λ (o : Option Call). AnswersAsked s o (Some t.0) new) (sym e) t.1)
+-- a line that calls nothing
+pub asked_none : {o : Option Line} (texts : Texts) → ((d : Data) → AreTextsOf texts d → option_map line_view o ≡ call_in d)
+    → o ≡ None → (d : Data) → AreTextsOf texts d → call_in d ≡ None
+asked_none texts h e d t = sym (h d t) ∙ ap (option_map line_view) e
 
--- what holds in any case, where there is an error
-pub at_an_error : {T E P : Type 0} (r : Result T E) → P → IfErr r (λ e. P)
-at_an_error (Ok x) p = tt
-at_an_error (Err e) p = p
+-- what is left where memory runs out, of what says more
+pub leaves_more : (P Q : List ℕ → Kept → Type 0) (s : Starved) (old new : Kept) → ((text : List ℕ) → P text new → Q text new)
+    → LeavesOf P s old new → LeavesOf Q s old new
+leaves_more P Q Before old new f same = same
+leaves_more P Q After old new f left = elim left [
+  | inl same ↦ inl same
+  | inr (text, told) ↦ inr (text, f text told)
+]
 
--- a lookup of texts is answered as one of their bytes
-pub look_answered : (s : State) (response : Response) (a app l locale p path : List ℕ) → a ≡ app → l ≡ locale → p ≡ path
-    → response ≡ answer_over s.start (s.lists a) (Looks a l p) → Answered s (LooksUp app locale path) response s
-look_answered s response a app l locale p path same_app same_locale same_path e =
-    let by_path = subst (λ (x : List ℕ). response ≡ answer_over s.start (s.lists a) (Looks a l x)) same_path e in
-    let by_locale = subst (λ (x : List ℕ). response ≡ answer_over s.start (s.lists a) (Looks a x path)) same_locale by_path in
-    record {
-      ask = Looks app locale path;
-      means = refl;
-      right = subst (λ (x : List ℕ). response ≡ answer_over s.start (s.lists x) (Looks x locale path)) same_app by_locale;
-      start = refl;
-      own = refl;
-      others = λ other differs. refl;
-    }
+-- ---- what a call comes to
+
+-- memory ran out for the call
+abbrev starved_by : Outcome → Bool
+starved_by (Answers response) = is_memory response
+starved_by (Refuses refusal) = false
+
+pub nothing_changed : (limits : Limits) (old : Kept) (call : Call) (reply : Reply) (new : Kept) → is_memory (Replies reply) ≡ true
+    → CallComesTo limits old call (Answers (Replies reply)) new → new ≡ old
+nothing_changed limits old call reply new e h = elim h [
+  | inl starved ↦ starved.same
+  | inr (brought, brings, judged) ↦ elim judged [
+    | inl refused ↦ refused.same
+    | inr answered ↦ absurd (false≢true (sym answered.told ∙ (sym (ap starved_by answered.answer) ∙ e)))
+  ]
+]
+
+pub judged : (limits : Limits) (old : Kept) (call : Call) (outcome : Outcome) (new : Kept) → starved_by outcome ≡ false
+    → CallComesTo limits old call outcome new → CallIsJudged limits old call outcome new
+judged limits old call outcome new e h = elim h [
+  | inl starved ↦ absurd (false≢true (sym e ∙ ap starved_by starved.memory))
+  | inr j ↦ j
+]
+
+-- a call for which memory can't run out
+pub judged_always : (limits : Limits) (old : Kept) (call : Call) (outcome : Outcome) (new : Kept) → may_run_out_of_memory call ≡ false
+    → CallComesTo limits old call outcome new → CallIsJudged limits old call outcome new
+judged_always limits old call outcome new e h = elim h [
+  | inl starved ↦ absurd (false≢true (sym e ∙ starved.may))
+  | inr j ↦ j
+]
+
+abbrev done_by : Outcome → Bool
+done_by (Answers (Replies Done)) = true
+done_by other = false
+
+unchanged : (limits : Limits) (old : Kept) (call : Call) (outcome : Outcome) (new : Kept) → done_by outcome ≡ false
+    → CallIsJudged limits old call outcome new → new ≡ old
+unchanged limits old call outcome new e (brought, brings, judged) = elim judged [
+  | inl refused ↦ refused.same
+  | inr answered ↦ answered.kept (λ d. false≢true (sym e ∙ ap done_by (answered.answer ∙ ap (λ (r : Response). Answers r) d)))
+]
+
+-- what is left of a call whose reply could not be made
+pub left_by : (limits : LineLimits) (old : Kept) (call : Call) (reply : Reply) (new : Kept) → is_memory (Replies reply) ≡ false
+    → CallComesTo limits.calls old call (Answers (Replies reply)) new → LeavesOf (CallReply limits old call) (untold_reply reply) old new
+left_by limits old call Done new e h =
+    let outcome = Answers (Replies Done) in
+    inr (outcome_line limits outcome, (outcome, judged limits.calls old call outcome new refl h, refl))
+left_by limits old call other new e h =
+    unchanged limits.calls old call (Answers (Replies other)) new refl (judged limits.calls old call (Answers (Replies other)) new e h)
+
+-- ---- the line of an answer
+
+pub at_most_over : (most n : ℕ) → n ≤ most → nat_lt most n ≡ false
+at_most_over most n h = grind (arith, nat_tests)
+
+pub above_over : (most n : ℕ) → most < n → nat_lt most n ≡ true
+above_over most n h = grind (arith, nat_tests)
+
+fits : (response : Response) (most : Option ℕ) (n : ℕ) → IsAtMost n (limit_of response most) → (may_be_long response && is_over most n) ≡ false
+fits (Finds hit valid) None n h = refl
+fits (Finds hit valid) (Some most) n h = at_most_over most n h
+fits (Replies (Names names)) None n h = refl
+fits (Replies (Names names)) (Some most) n h = at_most_over most n h
+fits other most n h = refl
+
+exceeds : (response : Response) (most : Option ℕ) (n : ℕ) → IsAbove n (limit_of response most) → (may_be_long response && is_over most n) ≡ true
+exceeds (Finds hit valid) None n h = absurd h
+exceeds (Finds hit valid) (Some most) n h = above_over most n h
+exceeds (Replies (Names names)) None n h = absurd h
+exceeds (Replies (Names names)) (Some most) n h = above_over most n h
+exceeds other most n h = absurd h
+
+pub told_whole : (limits : LineLimits) (response : Response) (line : List ℕ)
+    → (line ≡ reply_line (Some response)) × IsAtMost (length (reply_line (Some response))) (limit_of response limits.reply_bytes)
+    → line ≡ outcome_line limits (Answers response)
+told_whole limits response line (same, short) = rw (fits response limits.reply_bytes _ short) same
+
+pub told_long : (limits : LineLimits) (response : Response) (line : List ℕ)
+    → IsAbove (length (reply_line (Some response))) (limit_of response limits.reply_bytes) → line ≡ error_line (codes "ReplyTooLong")
+    → line ≡ outcome_line limits (Answers response)
+told_long limits response line long told = rw (exceeds response limits.reply_bytes _ long) told

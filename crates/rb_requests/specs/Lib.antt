@@ -2,6 +2,7 @@ pub mod Words
 pub mod Asked
 pub mod Lines
 pub mod Served
+pub mod Within
 pub mod Device
 pub mod Runs
 pub mod Isolation

@@ -32,9 +32,16 @@ AnswersAsked s (Some call) (Some response) new = Answered s call response new
 abbrev pub LineReply : State → List ℕ → List ℕ → State → Type 0
 LineReply s line text new = (response : Option Response) × AnswersAsked s (call_of line) response new × (text ≡ reply_line response)
 
--- the replies to lines, one for each, each line having taken effect before the next
+-- the replies to lines, one for each, each line having taken effect before the next; `Reply` says what the reply to one
+-- line is
+abbrev pub RepliesBy : {S : Type 0} → (S → List ℕ → List ℕ → S → Type 0) → S → List (List ℕ) → List (List ℕ) → S
+    → Type 0
+RepliesBy Reply s [] [] end = end ≡ s
+RepliesBy Reply s [] (reply ∷ more) end = ⊥
+RepliesBy Reply s (line ∷ rest) [] end = ⊥
+RepliesBy {S} Reply s (line ∷ rest) (reply ∷ more) end =
+    (mid : S) × Reply s line reply mid × RepliesBy Reply mid rest more end
+
+-- the same where each line is answered as its call is
 abbrev pub RepliesByLine : State → List (List ℕ) → List (List ℕ) → State → Type 0
-RepliesByLine s [] [] end = end ≡ s
-RepliesByLine s [] (reply ∷ more) end = ⊥
-RepliesByLine s (line ∷ rest) [] end = ⊥
-RepliesByLine s (line ∷ rest) (reply ∷ more) end = (mid : State) × LineReply s line reply mid × RepliesByLine mid rest more end
+RepliesByLine s lines replies end = RepliesBy LineReply s lines replies end

@@ -1,4 +1,5 @@
 pub mod Line
-pub mod MayTakeEffect
+pub mod Longest
 pub mod OneLine
+pub mod Starving
 pub mod Taken

@@ -1,12 +1,13 @@
 //! What a line asks.
 //!
-//! The texts at the names that count are lent out of the line, or out of a scratch where they have escapes. Of the line's other values
-//! nothing is kept.
-ghost use Rattle.std.specs.Prelude.{◌≡◌, IfOk, IsTrue, option_map, None, false};
+//! The texts at the names that count are lent out of the line, or out of a scratch where they have
+//! escapes. Of the line's other values nothing is kept.
+ghost use Rattle.std.specs.Prelude.{◌≡◌, IfOk, IsTrue, option_map, Some, false};
 ghost use Rattle.serde_json.specs.Data.{Data};
 ghost use Rattle.hex.specs.Hex.{decode_of};
-ghost use Rattle.rb_requests.specs.Asked.{call_of, call_in, decoded, change_in, remove_in, list_in, look_in};
-ghost use Rattle.rb_requests.specs.inner.Line.{line_view, made, payload_by, AreTextsOf};
+ghost use Rattle.rb_requests.specs.Asked.{call_in, data_of, decoded, change_in, remove_in, list_in, look_in};
+ghost use Rattle.rb_requests.specs.Within.{usage_in};
+ghost use Rattle.rb_requests.specs.inner.Line.{line_view, made, payload_by, AreTextsOf, AsksNothing};
 
 use bstr::ByteSlice;
 use hex::FromHexError;
@@ -159,14 +160,26 @@ pub(crate) fn line_of<'a>(alloc: Global, texts: &Texts<'a>) -> Result<Option<Lin
     }
 }
 
-/// Whether a line is an object; if so, what it has at the names that count is in `texts`. Any other line is no request.
+/// The application whose usage a line with these texts asks for, if it asks for that.
+pub(crate) fn usage_app<'a>(texts: &Texts<'a>) -> Option<&'a str>
+    ensures { (d : Data) → AreTextsOf texts.now d → option_map (λ s. s.now) result ≡ usage_in d }
+{
+    match (texts.op, texts.app) {
+        (Some(Member::Text(op)), Some(Member::Text(app))) if op == "usage" => Some(app),
+        _ => None,
+    }
+}
+
+/// Whether a line is an object; if so, what it has at the names that count is in `texts`. Any other
+/// line is no request.
 pub(crate) fn lent_texts<'a>(
     line: &'a [u8],
     scratch: &'a mut Scratch,
     texts: &mut Texts<'a>,
 ) -> Result<bool, AllocError>
-    ensures object { IfOk result (λ all. IsTrue all → (d : Data) × AreTextsOf texts.new d × (call_of line.now ≡ call_in d)) }
-    ensures other { IfOk result (λ all. all ≡ false → call_of line.now ≡ None) }
+    ensures object { IfOk result (λ all. IsTrue all
+        → (d : Data) × AreTextsOf texts.new d × (data_of line.now ≡ Some d)) }
+    ensures other { IfOk result (λ all. all ≡ false → AsksNothing (data_of line.now)) }
 {
     match line.to_str() {
         Ok(text) => read_texts(text, scratch, texts),

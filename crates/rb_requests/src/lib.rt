@@ -9,12 +9,14 @@ mod device;
 pub mod laws;
 mod limits;
 mod lines;
+mod reading;
 mod words;
 
 pub use device::{Failed, Feed, ReadFeed, Run, Sink, WriteSink};
-pub use limits::LINE_LIMIT;
-pub use lines::{ServeFault, Served, serve};
+pub use limits::{LINE_LIMIT, LineLimits};
+pub use lines::{ServeFault, Served, serve, serve_limited};
 pub use rb_engine::{
     App, AppFault, BUNDLE_LIMIT, Engine, LookFault, NameList, Payload, Reply, Request, StartFault,
 };
+pub use rb_limits::{Limits, Refusal};
 pub use rb_replies::item_text;

@@ -1,23 +1,27 @@
 //! Requests and replies by the line.
-ghost use Rattle.std.specs.Prelude.{◌≡◌, ◌<◌, ◌≤◌, Ok, IfOk, IfErr, OnOk, OnErr, Option, List, [], ℕ, length, drop};
-ghost use Rattle.std.specs.Io.KnownBytes.{Appends, IsAtEnd, Keeps};
+ghost use Rattle.std.specs.Prelude.{◌≡◌, ◌<◌, ◌≤◌, true, OnOk, OnErr, IfOk, IfErr, List, [], ℕ, length, drop};
+ghost use Rattle.std.specs.Io.KnownBytes.{Appends};
 ghost use Rattle.rb_engine.specs.Kept.{state_of};
-ghost use Rattle.rb_requests.specs.Lines.{LineReply};
-ghost use Rattle.rb_requests.specs.inner.Taken.{ReadsLine, ReadsPlain, EndsAfter};
+ghost use Rattle.rb_requests.specs.inner.Taken.{EndsAfter, IsHeldUnder};
 ghost use Rattle.rb_requests.specs.Device.{risen_by, counted, settles};
-ghost use Rattle.rb_requests.specs.Served.{AnswersAll, AnswersWithin, AfterFault, AfterFaultWithin, IsShort, at, reads_failed, writes_failed};
-ghost use Rattle.rb_requests.specs.inner.OneLine.{Wrote, WrotePart, FailsLine, line_settled};
+ghost use Rattle.rb_requests.specs.Served.{AnswersAll, AnswersWithin, AfterFault, AfterFaultWithin, at};
+ghost use Rattle.rb_requests.specs.Served.{reads_failed, writes_failed};
+ghost use Rattle.rb_requests.specs.Within.{LineReplyUpTo, LineReplyWithin, longest_read};
+ghost use Rattle.rb_requests.specs.inner.Longest.{longest};
+ghost use Rattle.rb_requests.specs.declared.reading.Longest.{Longest};
+ghost use Rattle.rb_requests.specs.inner.OneLine.{Wrote, WrotePart, MayTakeEffect, FailsLine, line_settled};
 
 #[cfg(test)]
 mod tests;
 
-use crate::answer::reply_of;
-use crate::device::{Failed, Feed, Run, Sink};
-use crate::limits::LINE_LIMIT;
+use crate::answer::{Starved, reply_of};
+use crate::device::{Failed, Feed, Sink};
+use crate::limits::{LINE_LIMIT, LineLimits};
+use crate::reading::{Held, Longest, NextLine, read_line};
 use json::Scratch;
 use rb_engine::Engine;
 use rb_replies::ReplyLine;
-use std::alloc::Global;
+use std::alloc::{AllocError, Global};
 use thiserror::Error;
 
 /// Why serving ended before the end of the input.
@@ -46,25 +50,11 @@ pub struct Served {
     pub lines: u64,
 }
 
-/// What is read of an input for a line.
-#[derive(Clone, Copy, Debug, PartialEq, Eq)]
-pub(crate) enum NextLine {
-    /// A line; its line feed is read too.
-    Ended,
-    /// The rest of the input, which ends in no line feed.
-    Last,
-    /// Nothing was left.
-    End,
-    /// A part, one byte longer than a line may be.
-    TooLong,
-    /// A part. Memory ran out.
-    Memory,
-}
-
 /// A buffer above so many bytes isn't kept for the next line.
 const KEPT: usize = 65_536;
 
-/// Empties a buffer, and keeps its memory unless that is large. The scratch, which grows with the lines in the buffer, is kept as long.
+/// Empties a buffer, and keeps its memory unless that is large. The scratch, which grows with the
+/// lines in the buffer, is kept as long.
 fn empty(alloc: Global, buffer: &mut Vec<u8>, scratch: &mut Scratch)
     ensures { buffer.new.items ≡ [] }
 {
@@ -73,53 +63,6 @@ fn empty(alloc: Global, buffer: &mut Vec<u8>, scratch: &mut Scratch)
         *scratch = Scratch::new(alloc);
     } else {
         buffer.clear();
-    }
-}
-
-/// Reads the next line, without its line feed, onto an empty one. The byte past the limit is read, and no more.
-#[tactic(auto, using(crate::proofs::Reading::read_none))]
-fn read_line<F: Feed>(feed: &mut F, line: &mut Vec<u8>, limit: usize) -> Result<NextLine, Failed>
-    requires room { 0 < limit }
-    requires empty { line.old.items ≡ [] }
-    ensures line { ReadsLine limit line.new.items (F.left feed.old) (F.left feed.new) result }
-    ensures count { F.faults feed.new ≡ counted (F.faults feed.old) result }
-{
-    'runs: while line.len() < limit {
-        match feed.pull_run(line, limit - line.len())? {
-            Run::Feed => return Ok(NextLine::Ended),
-            Run::Part => {}
-            Run::End => return Ok(last_line(line)),
-            Run::Memory => return Ok(NextLine::Memory),
-        }
-    }
-    after_longest(feed)
-}
-
-/// Reads what follows the most bytes that a line may have.
-#[tactic(auto, using(crate::proofs::Reading::after_longest))]
-fn after_longest<F: Feed>(feed: &mut F) -> Result<NextLine, Failed>
-    ensures line { (limit : ℕ) → (first : Option (List ℕ)) → (line : List ℕ) → ReadsPlain first (F.left feed.old) line → length line ≡ limit → 0 < limit
-        → ReadsLine limit line first (F.left feed.new) result }
-    ensures count { F.faults feed.new ≡ counted (F.faults feed.old) result }
-{
-    match feed.pull() {
-        Ok(Some(b'\n')) => Ok(NextLine::Ended),
-        Ok(Some(_)) => Ok(NextLine::TooLong),
-        Ok(None) => Ok(NextLine::Last),
-        Err(failed) => Err(failed),
-    }
-}
-
-/// A rest with no line feed is a line, if it isn't empty.
-#[tactic(auto, using(crate::proofs::Reading::last_of, crate::proofs::Reading::end_of))]
-fn last_line(line: &[u8]) -> NextLine
-    ensures { (limit : ℕ) → (old left new : Option (List ℕ)) → ReadsPlain old left line.now → IsAtEnd left → Keeps left new → IsShort limit line.now
-        → ReadsLine limit line.now old new (Ok result) }
-{
-    if line.is_empty() {
-        NextLine::End
-    } else {
-        NextLine::Last
     }
 }
 
@@ -160,22 +103,75 @@ fn put_reply<S: Sink>(sink: &mut S, reply: &[u8]) -> Result<(), Failed>
     sink.settle()
 }
 
-/// Answers a line.
-#[tactic(auto, using(crate::proofs::Serving::wrote, crate::proofs::Serving::not_written, crate::proofs::Serving::not_replied))]
+/// How long lines may be under limits, and how much of them is kept.
+fn longest_of(limits: &LineLimits) -> Longest
+    ensures { result ≡ longest limits.now }
+{
+    let most = LINE_LIMIT as u64;
+    Longest {
+        kept: limits.line_bytes.unwrap_or(most).min(most) as usize,
+        limit: if limits.line_bytes.is_some() {
+            usize::MAX
+        } else {
+            LINE_LIMIT
+        },
+        passes_starved: limits.keep_serving,
+    }
+}
+
+/// Makes the reply to a line of which so much is held. `AllocError`: memory ran out, and serving
+/// doesn't go on.
+fn tell_line(
+    alloc: Global,
+    engine: &mut Engine,
+    limits: &LineLimits,
+    scratch: &mut Scratch,
+    line: &[u8],
+    held: Held,
+    reply: &mut ReplyLine,
+) -> Result<(), AllocError>
+    ensures reply { OnOk result ((longest : Longest) → (whole : List ℕ)
+        → IsHeldUnder limits.now longest whole line.now held
+        → LineReplyUpTo longest.kept limits.now engine.old whole reply.new engine.new) }
+    ensures fault { IfErr result (λ e. (longest : Longest) → (whole : List ℕ)
+        → IsHeldUnder limits.now longest whole line.now held
+        → MayTakeEffect (LineReplyUpTo longest.kept limits.now) engine.old whole engine.new) }
+{
+    match held {
+        Held::Front => return reply.tell_error(alloc, "LineTooLong"),
+        Held::Starved => return reply.tell_error(alloc, "Memory"),
+        Held::Whole => {}
+    }
+    match reply_of(alloc, engine, limits, scratch, line, reply) {
+        Ok(()) => Ok(()),
+        Err(Starved::Before) if limits.keep_serving => reply.tell_error(alloc, "Memory"),
+        Err(_) => Err(AllocError),
+    }
+}
+
+/// Answers a line of which so much is held.
 fn serve_line<S: Sink>(
     alloc: Global,
     engine: &mut Engine,
+    limits: &LineLimits,
     scratch: &mut Scratch,
     sink: &mut S,
     line: &[u8],
+    held: Held,
     reply: &mut ReplyLine,
 ) -> Result<(), ServeFault>
-    ensures line { OnOk result (Wrote (state_of engine.old) line.now (S.written sink.old) (S.written sink.new) (state_of engine.new)) }
-    ensures fault { IfErr result (λ fault. FailsLine fault (state_of engine.old) line.now (S.written sink.old) (S.written sink.new) (state_of engine.new)) }
+    ensures line { OnOk result ((longest : Longest) → (whole : List ℕ)
+        → IsHeldUnder limits.now longest whole line.now held
+        → Wrote (LineReplyUpTo longest.kept limits.now) engine.old whole
+        (S.written sink.old) (S.written sink.new) engine.new) }
+    ensures fault { IfErr result (λ fault. (longest : Longest) → (whole : List ℕ)
+        → IsHeldUnder limits.now longest whole line.now held
+        → FailsLine (LineReplyUpTo longest.kept limits.now) fault engine.old whole
+        (S.written sink.old) (S.written sink.new) engine.new) }
     ensures count { S.faults sink.new ≡ writes_failed (S.faults sink.old) result }
     ensures settled { S.settled sink.new ≡ line_settled (S.settled sink.old) result }
 {
-    match reply_of(alloc, engine, scratch, line, reply) {
+    match tell_line(alloc, engine, limits, scratch, line, held, reply) {
         Ok(()) => (),
         Err(_) => return Err(ServeFault::Memory),
     }
@@ -185,7 +181,8 @@ fn serve_line<S: Sink>(
     }
 }
 
-/// The end of the input, where as many lines were served as may be. A byte more is read, if there is one.
+/// The end of the input, where as many lines were served as may be. A byte more is read, if there
+/// is one.
 fn end_after<F: Feed>(feed: &mut F, lines: u64) -> Result<Served, ServeFault>
     ensures end { EndsAfter (F.left feed.old) (F.left feed.new) lines result }
     ensures reads { F.faults feed.new ≡ reads_failed (F.faults feed.old) result }
@@ -197,25 +194,29 @@ fn end_after<F: Feed>(feed: &mut F, lines: u64) -> Result<Served, ServeFault>
     }
 }
 
-/// `serve`, with so many bytes for a line at most.
+/// `serve_limited`, with lines of so many bytes.
 #[tactic(auto, using(crate::proofs::Serving::at_first))]
 fn serve_within<F: Feed, S: Sink>(
     alloc: Global,
     engine: &mut Engine,
+    limits: &LineLimits,
+    longest: Longest,
     feed: &mut F,
     sink: &mut S,
     max_lines: u64,
-    limit: usize,
 ) -> Result<Served, ServeFault>
-    requires { 0 < limit }
-    ensures all { IfOk result (λ served. AnswersWithin limit
-        (at (state_of engine.old) (F.left feed.old) (S.written sink.old) (S.settled sink.old))
-        (at (state_of engine.new) (F.left feed.new) (S.written sink.new) (S.settled sink.new)) served.lines) }
+    requires room { 0 < longest.limit }
+    requires passes { longest.passes_starved ≡ true → limits.now.keep_serving ≡ true }
+    ensures all { IfOk result (λ served. AnswersWithin
+        (LineReplyUpTo longest.kept limits.now) longest.limit
+        (at engine.old (F.left feed.old) (S.written sink.old) (S.settled sink.old))
+        (at engine.new (F.left feed.new) (S.written sink.new) (S.settled sink.new)) served.lines) }
     ensures most { IfOk result (λ served. served.lines ≤ max_lines) }
     ensures settled { IfOk result (λ served. S.settled sink.new ≡ risen_by (S.settled sink.old) served.lines) }
-    ensures fault { IfErr result (λ fault. AfterFaultWithin limit fault
-        (at (state_of engine.old) (F.left feed.old) (S.written sink.old) (S.settled sink.old))
-        (at (state_of engine.new) (F.left feed.new) (S.written sink.new) (S.settled sink.new)) max_lines) }
+    ensures fault { IfErr result (λ fault. AfterFaultWithin
+        (LineReplyUpTo longest.kept limits.now) longest.limit fault
+        (at engine.old (F.left feed.old) (S.written sink.old) (S.settled sink.old))
+        (at engine.new (F.left feed.new) (S.written sink.new) (S.settled sink.new)) max_lines) }
     ensures reads { F.faults feed.new ≡ reads_failed (F.faults feed.old) result }
     ensures writes { S.faults sink.new ≡ writes_failed (S.faults sink.old) result }
 {
@@ -224,17 +225,28 @@ fn serve_within<F: Feed, S: Sink>(
     let mut reply = ReplyLine::new(alloc);
     'lines: for lines in 0..max_lines {
         empty(alloc, &mut line, &mut scratch);
-        match read_line(feed, &mut line, limit) {
-            Ok(NextLine::Ended) => serve_line(
+        match read_line(alloc, feed, &mut line, longest) {
+            Ok(NextLine::Ended(held)) => serve_line(
                 alloc,
                 engine,
+                limits,
                 &mut scratch,
                 sink,
                 &line,
+                held,
                 &mut reply,
             )?,
-            Ok(NextLine::Last) => {
-                serve_line(alloc, engine, &mut scratch, sink, &line, &mut reply)?;
+            Ok(NextLine::Last(held)) => {
+                serve_line(
+                    alloc,
+                    engine,
+                    limits,
+                    &mut scratch,
+                    sink,
+                    &line,
+                    held,
+                    &mut reply,
+                )?;
                 return Ok(Served { lines: lines + 1 });
             }
             Ok(NextLine::End) => return Ok(Served { lines }),
@@ -246,13 +258,70 @@ fn serve_within<F: Feed, S: Sink>(
     end_after(feed, max_lines)
 }
 
-/// Answers the lines of an input, each with one line: a line is read, answered and settled before the next one is read.
+/// Answers the lines of an input under limits, each with one line: a line is read, answered and
+/// settled before the next one is read.
 ///
-/// At `Ok` all the input is read, and what is written is the replies to its lines. After an error the replies to the first
-/// lines are written, and these have taken effect. `Read` comes where a call of the reader failed: the lines are answered whose line
-/// feeds were read. `LineTooLong` comes at the byte past a line's limit, and `LineLimit` at a byte after `max_lines` lines;
-/// all lines before it are answered. `Write` comes where a call of the writer failed: the next line has taken effect too, and
-/// a part of its reply is written. `Memory` comes where memory runs out for the next line, which may have taken effect.
+/// A line that is longer than it may be is passed over and answered `LineTooLong`, and if serving
+/// is to go on without memory, a line for which memory ran out before it changed anything is
+/// answered `Memory`. A call that a limit refuses is answered its word, and a found item or names
+/// whose line would be too long are answered `ReplyTooLong`, before anything of it is written. If
+/// any limit is on, `{"op":"usage","app":..}` is answered with the bytes of the application's files
+/// and their number.
+///
+/// What stands after an error is as for `serve`; without a limit on lines `LineTooLong` comes as
+/// there.
+///
+/// ```rust
+/// let limits = LineLimits { line_bytes: Some(1000), ..LineLimits::NONE };
+/// serve_limited(alloc, &mut engine, &limits, &mut feed, &mut sink, 10) // Ok(Served { lines: 1 })
+/// ```
+pub fn serve_limited<F: Feed, S: Sink>(
+    alloc: Global,
+    engine: &mut Engine,
+    limits: &LineLimits,
+    feed: &mut F,
+    sink: &mut S,
+    max_lines: u64,
+) -> Result<Served, ServeFault>
+    // All the input is read, what is written is the replies to its lines under limits and nothing
+    // else, and they have taken effect.
+    ensures all { IfOk result (λ served. AnswersWithin
+        (LineReplyWithin limits.now) (longest_read limits.now)
+        (at engine.old (F.left feed.old) (S.written sink.old) (S.settled sink.old))
+        (at engine.new (F.left feed.new) (S.written sink.new) (S.settled sink.new)) served.lines) }
+    ensures most { IfOk result (λ served. served.lines ≤ max_lines) }
+    // Each reply is settled.
+    ensures settled { IfOk result (λ served. S.settled sink.new ≡ risen_by (S.settled sink.old) served.lines) }
+    // The first lines are answered, and their replies settled; this is how far the next one came.
+    ensures fault { IfErr result (λ fault. AfterFaultWithin
+        (LineReplyWithin limits.now) (longest_read limits.now) fault
+        (at engine.old (F.left feed.old) (S.written sink.old) (S.settled sink.old))
+        (at engine.new (F.left feed.new) (S.written sink.new) (S.settled sink.new)) max_lines) }
+    // A count of failed calls rises by one at its device's fault, and else stays.
+    ensures reads { F.faults feed.new ≡ reads_failed (F.faults feed.old) result }
+    ensures writes { S.faults sink.new ≡ writes_failed (S.faults sink.old) result }
+{
+    serve_within(
+        alloc,
+        engine,
+        limits,
+        longest_of(limits),
+        feed,
+        sink,
+        max_lines,
+    )
+}
+
+/// Answers the lines of an input, each with one line: a line is read, answered and settled before
+/// the next one is read.
+///
+/// At `Ok` all the input is read, and what is written is the replies to its lines. After an error
+/// the replies to the first lines are written, and these have taken effect. `Read` comes where a
+/// call of the reader failed: the lines are answered whose line feeds were read. `LineTooLong`
+/// comes at the byte past a line's limit, and `LineLimit` at a byte after `max_lines` lines; all
+/// lines before it are answered. `Write` comes where a call of the writer failed: the next line has
+/// taken effect too, and a part of its reply is written. `Memory` comes where memory runs out for
+/// the next line, which may have taken effect.
 ///
 /// ```rust
 /// let lines: &[u8] = b"{\"op\":\"list\",\"app\":\"shop\"}\n";
@@ -267,7 +336,8 @@ pub fn serve<F: Feed, S: Sink>(
     sink: &mut S,
     max_lines: u64,
 ) -> Result<Served, ServeFault>
-    // All the input is read, what is written is the replies to its lines and nothing else, and they have taken effect.
+    // All the input is read, what is written is the replies to its lines and nothing else, and they
+    // have taken effect.
     ensures all { IfOk result (λ served. AnswersAll
         (at (state_of engine.old) (F.left feed.old) (S.written sink.old) (S.settled sink.old))
         (at (state_of engine.new) (F.left feed.new) (S.written sink.new) (S.settled sink.new)) served.lines) }
@@ -282,5 +352,5 @@ pub fn serve<F: Feed, S: Sink>(
     ensures reads { F.faults feed.new ≡ reads_failed (F.faults feed.old) result }
     ensures writes { S.faults sink.new ≡ writes_failed (S.faults sink.old) result }
 {
-    serve_within(alloc, engine, feed, sink, max_lines, LINE_LIMIT)
+    serve_limited(alloc, engine, &LineLimits::NONE, feed, sink, max_lines)
 }

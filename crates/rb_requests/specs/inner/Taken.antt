@@ -1,14 +1,20 @@
 -- For what is private. What is read of an input where a line is taken from it, which has so many bytes at most.
-use Rattle.std.specs.Prelude.{◌≡◌, ◌<◌, ◌+◌, length, ℕ, List, ◌∷◌, ◌++◌, [], Option, IfSome, Result, Ok, Err}
+use Rattle.std.specs.Prelude.{◌≡◌, ◌<◌, ◌≤◌, ◌+◌, ℕ, true, false, List, length, ◌∷◌, ◌++◌, []}
+use Rattle.std.specs.Prelude.{Option, IfSome, Result, Ok, Err}
 use Rattle.std.specs.Io.KnownBytes.{Consumes, Keeps, IsAtEnd}
 use Rattle.rb_requests.specs.Lines.{feeds}
 use Rattle.rb_requests.specs.Served.{IsShort}
 use Rattle.rb_requests.specs.declared.device.Failed.{Failed}
+use Rattle.rb_requests.specs.declared.limits.LineLimits.{LineLimits}
 use Rattle.rb_requests.specs.declared.lines.Served.{Served}
 use Rattle.rb_requests.specs.declared.lines.ServeFault.{ServeFault}
 use Rattle.rb_requests.specs.declared.lines.ServeFault.TheVariants as fault
-use Rattle.rb_requests.specs.declared.lines.NextLine.{NextLine}
-use Rattle.rb_requests.specs.declared.lines.NextLine.TheVariants.{Ended, Last, End, TooLong, Memory}
+use Rattle.rb_requests.specs.declared.reading.Held.{Held}
+use Rattle.rb_requests.specs.declared.reading.Held.TheVariants.{Whole, Front, Starved}
+use Rattle.rb_requests.specs.declared.reading.NextLine.{NextLine}
+use Rattle.rb_requests.specs.declared.reading.NextLine.TheVariants.{Ended, Last, End, TooLong, Memory}
+use Rattle.rb_requests.specs.declared.reading.Longest.{Longest}
+use Rattle.rb_requests.specs.declared.reading.Progress.{Progress}
 
 -- bytes without a line feed are read
 pub record ReadsPlain (old new : Option (List ℕ)) (bytes : List ℕ) : Type 0 where
@@ -50,14 +56,43 @@ pub record ReadsLast (limit : ℕ) (line : List ℕ) (old new : Option (List ℕ
 abbrev pub ReadsEnd : Option (List ℕ) → Option (List ℕ) → Type 0
 ReadsEnd old new = IsAtEnd old × Keeps old new
 
--- what is read, with the line that it gives
-abbrev pub ReadsLine : ℕ → List ℕ → Option (List ℕ) → Option (List ℕ) → Result NextLine Failed → Type 0
-ReadsLine limit line old new (Ok Ended) = ReadsEnded limit line old new
-ReadsLine limit line old new (Ok Last) = ReadsLast limit line old new
-ReadsLine limit line old new (Ok End) = ReadsEnd old new
-ReadsLine limit line old new (Ok TooLong) = ReadsLong limit old new
-ReadsLine limit line old new (Ok Memory) = ReadsFewer limit old new
-ReadsLine limit line old new (Err e) = ReadsPart limit old new
+-- of a line so much is read, no more than a line may have, and all of it is held, unless memory ran out or it is more
+-- than is kept
+pub record IsSoFar (longest : Longest) (progress : Progress) (line held : List ℕ) : Type 0 where
+  pub many : length line ≡ progress.count
+  pub short : progress.count ≤ longest.limit
+  pub whole : progress.starved ≡ false → progress.count ≤ longest.kept → held ≡ line
+  pub passed : progress.starved ≡ true → longest.passes_starved ≡ true
+
+-- what is held of a line: no more than its front, if it has more bytes than are kept, else all of it; or a part, where
+-- memory ran out
+abbrev pub IsHeld : Longest → List ℕ → List ℕ → Held → Type 0
+IsHeld longest line held Whole = (held ≡ line) × IsShort longest.kept line
+IsHeld longest line held Front = longest.kept < length line
+IsHeld longest line held Starved = (longest.passes_starved ≡ true) × IsShort longest.kept line
+
+-- the same, where serving goes on if a line may be passed over for which memory runs out
+abbrev pub IsHeldUnder : LineLimits → Longest → List ℕ → List ℕ → Held → Type 0
+IsHeldUnder limits longest line held what =
+    IsHeld longest line held what × (longest.passes_starved ≡ true → limits.keep_serving ≡ true)
+
+abbrev pub Holds : Longest → Progress → Held → Type 0
+Holds longest progress what = (line held : List ℕ) → IsSoFar longest progress line held → IsHeld longest line held what
+
+-- a line is read, with what is held of it
+abbrev pub ReadsHeld : (ℕ → List ℕ → Option (List ℕ) → Option (List ℕ) → Type 0) → Longest → List ℕ → Held
+    → Option (List ℕ) → Option (List ℕ) → Type 0
+ReadsHeld Reads longest held what old new =
+    (line : List ℕ) × Reads longest.limit line old new × IsHeld longest line held what
+
+-- what is read, with what is held of the line
+abbrev pub ReadsLine : Longest → List ℕ → Option (List ℕ) → Option (List ℕ) → Result NextLine Failed → Type 0
+ReadsLine longest held old new (Ok (Ended what)) = ReadsHeld ReadsEnded longest held what old new
+ReadsLine longest held old new (Ok (Last what)) = ReadsHeld ReadsLast longest held what old new
+ReadsLine longest held old new (Ok End) = ReadsEnd old new
+ReadsLine longest held old new (Ok TooLong) = ReadsLong longest.limit old new
+ReadsLine longest held old new (Ok Memory) = ReadsFewer longest.limit old new
+ReadsLine longest held old new (Err e) = ReadsPart longest.limit old new
 
 -- after as many lines as may be served: nothing is left, or one byte is read, or a call failed
 abbrev pub EndsAfter : Option (List ℕ) → Option (List ℕ) → ℕ → Result Served ServeFault → Type 0

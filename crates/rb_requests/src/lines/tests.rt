@@ -3,6 +3,8 @@ ghost use Rattle.std.specs.Prelude.{None};
 
 use super::{ServeFault, serve_within};
 use crate::device::{Failed, Feed, ReadFeed, WriteSink};
+use crate::limits::LineLimits;
+use crate::reading::Longest;
 use rb_engine::Engine;
 use rb_parents::Parents;
 use std::hash::RandomState;
@@ -71,7 +73,21 @@ fn ends<F: Feed>(
     let alloc = rt.alloc();
     let mut written: Vec<u8> = Vec::new(alloc);
     let mut sink = WriteSink::new(&mut written);
-    let served = serve_within(alloc, &mut engine(rt)?, feed, &mut sink, max_lines, 10);
+    let longest = Longest {
+        kept: 10,
+        limit: 10,
+        passes_starved: false,
+    };
+    let mut engine = engine(rt)?;
+    let served = serve_within(
+        alloc,
+        &mut engine,
+        &LineLimits::NONE,
+        longest,
+        feed,
+        &mut sink,
+        max_lines,
+    );
     let wanted = "{\"error\":\"BadLine\"}\n".repeat(alloc, replies)?;
     Ok(served.map(|served| served.lines) == ended && written.as_slice() == wanted.as_bytes())
 }

@@ -1,10 +1,10 @@
-use Rattle.std.proofs.Common.{Some, option_and_then, ap, sym, ◌∙◌, true≢false, refl}
+use Rattle.std.proofs.Common.{Some, sym, ap, ◌∙◌, true≢false, refl}
 use Rattle.std.proofs.lemmas.Result.{IfOk-weaker}
 use Rattle.serde_json.specs.Data.{object}
 use Rattle.serde_json.specs.Read.{read}
-use Rattle.rb_requests.specs.Asked.{call_in}
+use Rattle.rb_requests.specs.inner.Line.{AsksNothing}
 use Rattle.rb_requests.proofs.Texts.{data_of-text, data_of-no_text}
-use Rattle.rb_requests.proofs.Lent.{texts_of_object, calls_nothing}
+use Rattle.rb_requests.proofs.Lent.{texts_of_object, asks_nothing}
 use Rattle.rb_requests.proofs.ask.lent_texts.Goals as goal
 
 pub returns-in-Ok-clause-object : goal.returns-in-Ok-clause-object
@@ -15,8 +15,8 @@ returns-in-Ok-clause-object c =
     IfOk-weaker c.read_texts.result _ _
     (λ all h yes.
     let o = h yes in
-    let asked = ap (option_and_then call_in) (data_of-text line text (Some (object o.0)) is.0 is.1 o.2) in
-    (object o.0, texts_of_object c.read_texts.new.texts o.0 o.1, asked))
+    let read_as = data_of-text line text (Some (object o.0)) is.0 is.1 o.2 in
+    (object o.0, texts_of_object c.read_texts.new.texts o.0 o.1, read_as))
     c.read_texts.ensures.read
 
 pub returns-in-Ok-clause-other : goal.returns-in-Ok-clause-other
@@ -25,8 +25,8 @@ returns-in-Ok-clause-other c =
     let text = c.in-Ok.text.now in
     let is = c.in-Ok.ensures.cases in
     IfOk-weaker c.read_texts.result _ _
-    (λ all h no. calls_nothing line (λ found e. true≢false (sym (h found (sym (data_of-text line text (read text) is.0 is.1 refl) ∙ e)) ∙ no)))
+    (λ all h no. asks_nothing line (λ found e. true≢false (sym (h found (sym (data_of-text line text (read text) is.0 is.1 refl) ∙ e)) ∙ no)))
     c.read_texts.ensures.all
 
 pub returns-in-Err-clause-other : goal.returns-in-Err-clause-other
-returns-in-Err-clause-other c all = ap (option_and_then call_in) (data_of-no_text c.args.line.now c.in-Err.ensures.cases.0)
+returns-in-Err-clause-other c all = let none = data_of-no_text c.args.line.now c.in-Err.ensures.cases.0 in rw none (refl, refl)

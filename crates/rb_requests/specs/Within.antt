@@ -1,0 +1,107 @@
+-- The reply to a line under limits, this project's own rule.
+use Rattle.std.specs.Prelude.{◌≡◌, ◌⊎◌, ◌^◌, ◌-◌, ◌++◌, ◌∷◌, [], ℕ, List, length, min, nat_lt, Bool, true, false}
+use Rattle.std.specs.Prelude.{◌&&◌, ◌||◌, if◌then◌else◌, codes, Result, Ok, Err}
+use Rattle.std.specs.Prelude.{Option, Some, None, is_some, option_and_then, option_map, unwrap_or}
+use Rattle.std.specs.Str.{bytes_eq}
+use Rattle.serde_json.specs.Data.{Data}
+use Rattle.serde_json.specs.Written.{compact_text}
+use Rattle.rb_packages.specs.App.{app_of}
+use Rattle.rb_packages.specs.Packages.{Files, files_of}
+use Rattle.rb_packages.specs.declared.app.AppFault.{AppFault}
+use Rattle.rb_engine.specs.Ask.{Call}
+use Rattle.rb_engine.specs.Answer.{Response, Replies, Finds, Refuses as NotFound}
+use Rattle.rb_engine.specs.Kept.{Kept}
+use Rattle.rb_engine.specs.Place.{app_refusal}
+use Rattle.rb_engine.specs.Answer.{refusal}
+use Rattle.rb_engine.specs.declared.request.Reply.{Reply}
+use Rattle.rb_engine.specs.declared.request.Reply.TheVariants.{Names}
+use Rattle.rb_limits.specs.Limits.{is_over, used}
+use Rattle.rb_limits.specs.Steps.{Outcome, Answers, Refuses, CallIsJudged}
+use Rattle.rb_limits.specs.Words.{refusal_word}
+use Rattle.rb_replies.specs.Replied.{error, reply_line, usage_data}
+use Rattle.rb_requests.specs.Asked.{call_of, data_of, text_at}
+use Rattle.rb_requests.specs.declared.limits.LineLimits.{LineLimits}
+
+abbrev pub line_of : Data → List ℕ
+line_of d = compact_text d ++ 10 ∷ []
+
+abbrev pub error_line : List ℕ → List ℕ
+error_line word = line_of (error word)
+
+-- ---- how long a line may be
+
+-- a line with at most so many bytes is read as what it asks
+abbrev pub longest_kept : LineLimits → ℕ
+longest_kept limits = min (unwrap_or limits.line_bytes 268435456) 268435456
+
+-- a line with more bytes than this ends serving: without a limit of its own 268,435,456, and with one as many as 64
+-- bits can tell
+abbrev pub longest_read : LineLimits → ℕ
+longest_read limits = if is_some limits.line_bytes then 2 ^ 64 - 1 else 268435456
+
+-- ---- what a line asks
+
+-- any limit is on
+abbrev pub is_limited : LineLimits → Bool
+is_limited limits =
+    (is_some limits.calls.bundle_bytes || (is_some limits.calls.app_bytes
+    || (is_some limits.calls.apps || is_some limits.calls.steps)))
+    || (is_some limits.line_bytes || (is_some limits.reply_bytes || limits.keep_serving))
+
+-- the application whose usage a line asks for: an object with `op` "usage" and `app`
+abbrev pub usage_in : Data → Option (List ℕ)
+usage_in d =
+    option_and_then (λ op. if bytes_eq op (codes "usage") then text_at (codes "app") d else None) (text_at (codes "op") d)
+
+-- it is asked only where any limit is on
+abbrev pub asked_usage : LineLimits → Option (List ℕ) → Option (List ℕ)
+asked_usage limits app = if is_limited limits then app else None
+
+-- ---- replies
+
+-- a reply that may be long: an item, or names
+abbrev pub may_be_long : Response → Bool
+may_be_long (Finds hit valid) = true
+may_be_long (Replies (Names names)) = true
+may_be_long other = false
+
+abbrev pub is_too_long : LineLimits → Response → Bool
+is_too_long limits response = may_be_long response && is_over limits.reply_bytes (length (reply_line (Some response)))
+
+abbrev pub outcome_line : LineLimits → Outcome → List ℕ
+outcome_line limits (Answers response) =
+    if is_too_long limits response then error_line (codes "ReplyTooLong") else reply_line (Some response)
+outcome_line limits (Refuses refusal) = error_line (refusal_word refusal)
+
+-- an application's usage: the bytes of its files, and how many they are
+abbrev pub usage_line : Files → List ℕ
+usage_line files = line_of (usage_data (used files) (length files))
+
+abbrev pub usage_reply : Kept → Result (List ℕ) AppFault → List ℕ
+usage_reply kept (Err e) = reply_line (Some (Replies (refusal (app_refusal e))))
+usage_reply kept (Ok app) = usage_line (files_of app kept.packages)
+
+-- ---- the reply to a line
+
+-- a line that is read: a call is refused by a limit or answered by the engine; a question for usage is answered; any
+-- other line is none
+abbrev pub AnswersRead : LineLimits → Kept → Option Call → Option (List ℕ) → List ℕ → Kept → Type 0
+AnswersRead limits old (Some call) usage text new =
+    (outcome : Outcome) × CallIsJudged limits.calls old call outcome new × (text ≡ outcome_line limits outcome)
+AnswersRead limits old None (Some app) text new = (text ≡ usage_reply old (app_of app)) × (new ≡ old)
+AnswersRead limits old None None text new = (text ≡ error_line (codes "BadLine")) × (new ≡ old)
+
+abbrev pub ReadReply : LineLimits → Kept → List ℕ → List ℕ → Kept → Type 0
+ReadReply limits old line text new =
+    AnswersRead limits old (call_of line) (asked_usage limits (option_and_then usage_in (data_of line))) text new
+
+-- A line with more than so many bytes is not read. Where serving goes on without memory, any other may be answered
+-- `Memory`, and has changed nothing.
+abbrev pub LineReplyUpTo : ℕ → LineLimits → Kept → List ℕ → List ℕ → Kept → Type 0
+LineReplyUpTo most limits old line text new =
+    ((nat_lt most (length line) ≡ true) × (text ≡ error_line (codes "LineTooLong")) × (new ≡ old))
+    ⊎ ((nat_lt most (length line) ≡ false) × (ReadReply limits old line text new
+    ⊎ ((limits.keep_serving ≡ true) × (text ≡ error_line (codes "Memory")) × (new ≡ old))))
+
+abbrev pub LineReplyWithin : LineLimits → Kept → List ℕ → List ℕ → Kept → Type 0
+LineReplyWithin limits old line text new = LineReplyUpTo (longest_kept limits) limits old line text new

@@ -1,0 +1,8 @@
+-- For what is private. How long lines may be under limits, as the program has it.
+use Rattle.rb_requests.specs.Within.{longest_kept, longest_read}
+use Rattle.rb_requests.specs.declared.limits.LineLimits.{LineLimits}
+use Rattle.rb_requests.specs.declared.reading.Longest.{Longest}
+
+abbrev pub longest : LineLimits → Longest
+longest limits =
+    record { kept = longest_kept limits; limit = longest_read limits; passes_starved = limits.keep_serving }

@@ -1,0 +1,33 @@
+-- For what is private. The text of the reply to what a line calls or asks, under limits, and what is left where memory
+-- runs out.
+use Rattle.std.specs.Prelude.{◌≡◌, ◌⊎◌, ℕ, List, Option, Result, Ok, Err}
+use Rattle.rb_engine.specs.Ask.{Call}
+use Rattle.rb_engine.specs.Kept.{Kept}
+use Rattle.rb_engine.specs.declared.request.Reply.{Reply}
+use Rattle.rb_engine.specs.declared.request.Reply.TheVariants.{Done}
+use Rattle.rb_limits.specs.Steps.{Outcome, CallIsJudged}
+use Rattle.serde_json.specs.Data.{Data}
+use Rattle.rb_requests.specs.Asked.{call_in}
+use Rattle.rb_requests.specs.Within.{AnswersRead, asked_usage, usage_in, outcome_line}
+use Rattle.rb_requests.specs.declared.answer.Starved.{Starved}
+use Rattle.rb_requests.specs.declared.answer.Starved.TheVariants.{Before, After}
+use Rattle.rb_requests.specs.declared.limits.LineLimits.{LineLimits}
+
+-- a call is judged, and this is its reply
+abbrev pub CallReply : LineLimits → Kept → Call → List ℕ → Kept → Type 0
+CallReply limits old call text new =
+    (outcome : Outcome) × CallIsJudged limits.calls old call outcome new × (text ≡ outcome_line limits outcome)
+
+-- the reply to a line that is this value
+abbrev pub DataReply : LineLimits → Kept → Data → List ℕ → Kept → Type 0
+DataReply limits old d text new = AnswersRead limits old (call_in d) (asked_usage limits (usage_in d)) text new
+
+-- what is left where memory runs out: what there was; or that, or what a reply that wasn't made would have told
+abbrev pub LeavesOf : (List ℕ → Kept → Type 0) → Starved → Kept → Kept → Type 0
+LeavesOf Replies Before old new = new ≡ old
+LeavesOf Replies After old new = (new ≡ old) ⊎ ((text : List ℕ) × Replies text new)
+
+-- what is known of what is left where a reply could not be made: only what is done has changed anything
+abbrev pub untold_reply : Reply → Starved
+untold_reply Done = After
+untold_reply other = Before

@@ -1,0 +1,177 @@
+//! Reading line by line.
+ghost use Rattle.std.specs.Prelude.{◌≡◌, ◌<◌, ◌≤◌, ◌-◌, ◌+◌, ◌^◌, min, false, Ok, Option, List, [], ℕ};
+ghost use Rattle.std.specs.Io.KnownBytes.{IsAtEnd, Keeps};
+ghost use Rattle.rb_requests.specs.Device.{counted};
+ghost use Rattle.rb_requests.specs.inner.Taken.{Holds, IsSoFar, ReadsLine, ReadsPlain};
+
+use crate::device::{Failed, Feed, Run};
+use std::alloc::Global;
+
+/// How long a line may be, and how much of it is kept.
+#[derive(Clone, Copy, Debug, PartialEq, Eq)]
+pub(crate) struct Longest {
+    /// The most bytes of a line that is kept whole. What a line has beyond is passed over.
+    pub(crate) kept: usize,
+    /// The most bytes of a line.
+    pub(crate) limit: usize,
+    /// Whether a line for which memory runs out is passed over.
+    pub(crate) passes_starved: bool,
+}
+
+/// What is held of a line that was read.
+#[derive(Clone, Copy, Debug, PartialEq, Eq)]
+pub(crate) enum Held {
+    /// All of it.
+    Whole,
+    /// No more than its front: it has more bytes than are kept.
+    Front,
+    /// A part: memory ran out for it, though it has no more bytes than are kept.
+    Starved,
+}
+
+/// How much of a line was read, and whether memory ran out for it.
+#[derive(Clone, Copy, Debug, PartialEq, Eq)]
+pub(crate) struct Progress {
+    pub(crate) count: usize,
+    pub(crate) starved: bool,
+}
+
+/// What is read of an input for a line.
+#[derive(Clone, Copy, Debug, PartialEq, Eq)]
+pub(crate) enum NextLine {
+    /// A line; its line feed is read too.
+    Ended(Held),
+    /// The rest of the input, which ends in no line feed.
+    Last(Held),
+    /// Nothing was left.
+    End,
+    /// A part, one byte longer than a line may be.
+    TooLong,
+    /// A part. Memory ran out.
+    Memory,
+}
+
+/// What is held of a line that was read to its end.
+fn held_of(longest: Longest, progress: Progress) -> Held
+    ensures { Holds longest progress result }
+{
+    if progress.count > longest.kept {
+        Held::Front
+    } else if progress.starved {
+        Held::Starved
+    } else {
+        Held::Whole
+    }
+}
+
+/// Empties what is held of a line of which not all will be held.
+fn let_go(line: &mut Vec<u8>, longest: Longest, progress: Progress)
+    ensures { progress.starved ≡ false → progress.count ≤ longest.kept
+        → line.new.items ≡ line.old.items }
+{
+    if progress.starved || progress.count > longest.kept {
+        line.clear();
+    }
+}
+
+/// The most bytes of the next run of a line of which so many were read: up to one byte more than is
+/// kept, and from there what the buffer has room for.
+fn run_len(longest: Longest, count: usize, room: usize) -> usize
+    requires { count < longest.limit }
+    ensures some { 0 < result }
+    ensures few { result ≤ longest.limit - count }
+{
+    let most = if count <= longest.kept {
+        (longest.kept - count).saturating_add(1)
+    } else {
+        room.max(1)
+    };
+    most.min(longest.limit - count)
+}
+
+/// Reads the next line, without its line feed, onto an empty one. Of a line with more bytes than
+/// are kept the others are passed over, and so is, if it may be, a line for which memory runs out,
+/// whose buffer is given back first. The byte past the limit is read, and no more.
+pub(crate) fn read_line<F: Feed>(
+    alloc: Global,
+    feed: &mut F,
+    line: &mut Vec<u8>,
+    longest: Longest,
+) -> Result<NextLine, Failed>
+    requires room { 0 < longest.limit }
+    requires empty { line.old.items ≡ [] }
+    ensures line { ReadsLine longest line.new.items (F.left feed.old) (F.left feed.new) result }
+    ensures count { F.faults feed.new ≡ counted (F.faults feed.old) result }
+{
+    let mut progress = Progress {
+        count: 0,
+        starved: false,
+    };
+    'runs: while progress.count < longest.limit {
+        let_go(line, longest, progress);
+        let before = line.len();
+        let most = run_len(longest, progress.count, line.capacity());
+        let run = feed.pull_run(line, most)?;
+        let read = after_run(progress, line.len().saturating_sub(before));
+        match run {
+            Run::Feed => return Ok(NextLine::Ended(held_of(longest, read))),
+            Run::Part => progress = read,
+            Run::End => return Ok(last_line(longest, progress)),
+            Run::Memory => {
+                if progress.starved || !longest.passes_starved {
+                    return Ok(NextLine::Memory);
+                }
+                *line = Vec::new(alloc);
+                progress.starved = true;
+            }
+        }
+    }
+    after_longest(feed, longest, progress.starved)
+}
+
+/// How far a line is read after a run of so many bytes.
+fn after_run(progress: Progress, bytes: usize) -> Progress
+    ensures { result ≡ record {
+      count = min (progress.count + bytes) (2 ^ 64 - 1);
+      starved = progress.starved;
+    } }
+{
+    Progress {
+        count: progress.count.saturating_add(bytes),
+        starved: progress.starved,
+    }
+}
+
+/// Reads what follows the most bytes that a line may have.
+#[tactic(auto, using(crate::proofs::LinesRead::after_longest))]
+fn after_longest<F: Feed>(feed: &mut F, longest: Longest, starved: bool) -> Result<NextLine, Failed>
+    ensures line { (first : Option (List ℕ)) → (line held : List ℕ) → ReadsPlain first (F.left feed.old) line
+        → IsSoFar longest (record { count = longest.limit; starved = starved }) line held → 0 < longest.limit
+        → ReadsLine longest held first (F.left feed.new) result }
+    ensures count { F.faults feed.new ≡ counted (F.faults feed.old) result }
+{
+    let progress = Progress {
+        count: longest.limit,
+        starved,
+    };
+    match feed.pull() {
+        Ok(Some(b'\n')) => Ok(NextLine::Ended(held_of(longest, progress))),
+        Ok(Some(_)) => Ok(NextLine::TooLong),
+        Ok(None) => Ok(last_line(longest, progress)),
+        Err(failed) => Err(failed),
+    }
+}
+
+/// A rest with no line feed is a line, if it isn't empty.
+#[tactic(auto, using(crate::proofs::LinesRead::last_of, crate::proofs::LinesRead::end_of))]
+fn last_line(longest: Longest, progress: Progress) -> NextLine
+    ensures { (old left new : Option (List ℕ)) → (line held : List ℕ)
+        → ReadsPlain old left line → IsSoFar longest progress line held
+        → IsAtEnd left → Keeps left new → ReadsLine longest held old new (Ok result) }
+{
+    if progress.count == 0 {
+        NextLine::End
+    } else {
+        NextLine::Last(held_of(longest, progress))
+    }
+}
