@@ -27,6 +27,13 @@ fails() {
 left() {
     grep -A 2 "^== $1\$" "$said" | sed -n 's/^\([0-9]*\) left$/\1/p'
 }
+# The first case of a run without the line `kept`, and what it printed.
+first_not_kept() {
+    awk '/^== / { if (begun && !kept) exit; begun = 1; kept = 0; text = "" }
+        /^kept$/ { kept = 1 }
+        begun { text = text $0 "\n" }
+        END { if (!kept) printf "%s", text }' "$said"
+}
 # try_cases NAME REFUSED: runs a program with the allocation REFUSED refused, once for each of its cases, all of which must be kept.
 try_cases() {
     local name=$1 refused=$2 runs
@@ -35,7 +42,7 @@ try_cases() {
     "$rt" try --fail-alloc "$refused" --steps 1 --cases "$made/$name/cases" >"$said" 2>&1 || true
     runs=$(find "$made/$name/cases" -type f | wc -l)
     grep -q "^cases=$runs ended=$runs fault=0 differs=0 no-answer=0" "$said" || fails 'a run stopped'
-    [ "$(grep -c '^kept$' "$said")" = "$runs" ] || fails "$(grep -m 1 -A 1 '^== ' <(grep -v '^kept$' "$said"))"
+    [ "$(grep -c '^kept$' "$said")" = "$runs" ] || fails "not kept: $(first_not_kept)"
 }
 # refuse PROGRAM REFUSED FEWEST FURTHER LIBRARY..: runs a program with the allocation REFUSED refused, behind REFUSED - 1 down to FEWEST
 # blocks, and once more with the input FURTHER if it isn't empty.
