@@ -3,7 +3,7 @@
 # bench's pictures and its table of a first build, a program that must not compile, and one of whose allocations each is refused in
 # turn. Then the gate, which proves every crate from nothing, tries the wrong bodies, runs each test, and builds the program. Last
 # what runs that program: the examples, the documents, traced lookups, the benches of daily use and of printed texts over small
-# inputs, replies through pipes, lines with a member more, the package, tools/icu2text beside ICU's tools, the shards of deploy/,
+# inputs, replies through pipes, lines with a member more, limits, the package, tools/icu2text beside ICU's tools, the shards of deploy/,
 # and its gateway.
 set -eu
 cd "$(dirname "$0")/.."
@@ -50,6 +50,7 @@ if has python3; then
     bench/text.py --self-test "$program"
     tests/pipe.py "$program"
     tests/ignored_members.py "$program"
+    tests/limits.py "$program"
     tests/icu2text.py "$program"
     tests/icu.sh "$program" brkitr translit
     tests/json_values.py "$program"

@@ -3,12 +3,13 @@
 
 Each round makes files for the start, a history, and damaged files and texts, and compares what the program says with what the model
 says: the whole history; each application's lines by themselves; killed in mid-stream; over outputs and inputs that fail; with little memory;
-and `compile`, `check` and `get` over each file. A finding is printed with its seed; a round is the same for the same seed, but for
-where a kill or a lack of memory comes.
+and `compile`, `check` and `get` over each file. A second history of each round is served under random limits. A finding is printed
+with its seed; a round is the same for the same seed, but for where a kill or a lack of memory comes.
 
-usage: soak.py SECONDS PROGRAM [--seed N]
+usage: soak.py SECONDS PROGRAM [--seed N] [--no-limits]
 Begins with the round of seed N (by default 1) and goes on with N + 1 and so on until SECONDS have passed; `soak.py 0 PROGRAM --seed N`
-runs that round alone. Ends with status 0 if nothing was found.
+runs that round alone; `--no-limits` leaves the histories under limits out, for a program that has none. Ends with status 0 if nothing
+was found.
 """
 import argparse
 import functools
@@ -25,11 +26,16 @@ import time
 from collections import Counter
 
 from model import files, histories, lookups, making, texts
+from model.server import Limits
 from model.trees import gotten, is_printable, walk
 
 WAIT = 120
 FULL = "/dev/full"
 MEGABYTE = 1 << 20
+MEMORY = b'{"error":"Memory"}\n'
+TOO_MANY_APPS = b'{"error":"TooManyApps"}\n'
+REFUSALS = {b'{"error":"%s"}\n' % word
+            for word in (b"OverQuota", b"BundleTooLong", b"ReplyTooLong", b"LineTooLong", b"TooManyApps", b"TooManySteps")}
 
 
 class Ended:
@@ -139,6 +145,18 @@ def serve_alone(soak, arguments, history):
         ended = soak.run(arguments, b"".join(line + b"\n" for line, _ in pairs))
         soak.expect("isolation", ended.output == b"".join(reply for _, reply in pairs), app)
         soak.counts["requests alone"] += len(pairs)
+
+
+def serve_alone_with_limits(soak, start_words, history):
+    """Each application's lines by themselves, under the same limits with room for all applications: but for lines that were refused
+    for others' bundles, and changed nothing, the replies are those that they had among the others'."""
+    arguments = start_words + history.limits.without_apps().arguments()
+    for app in history.apps:
+        pairs = [pair for pair in history.of_app(app) if pair[1] != TOO_MANY_APPS]
+        ended = soak.run(arguments, b"".join(line + b"\n" for line, _ in pairs))
+        soak.ended("serving alone under limits", ended, 0, "")
+        soak.expect("isolation under limits", ended.output == b"".join(reply for _, reply in pairs), app, arguments)
+        soak.counts["requests alone under limits"] += len(pairs)
 
 
 def random_of(soak):
@@ -270,6 +288,29 @@ def lack_memory(soak, arguments, history):
     count = ended.output.count(b"\n")
     soak.expect("little memory", (ended.status, ended.errors) == (1, "Memory\n"), size, ended.status, ended.errors)
     soak.expect("little memory", ended.output == b"".join(replies[:count]), size, count)
+
+
+def answered_with_memory(start, limits, lines, given):
+    """The replies of the model to lines, of which some ran out of memory and changed nothing, with `Memory` where that was given."""
+    server = start.server(limits)
+    return [MEMORY if reply == MEMORY else server.reply(line) for line, reply in zip(lines, given)]
+
+
+def lack_memory_and_serve(soak, start, start_words, history):
+    """Serves on with little memory, by `--keep-serving`: each line is answered as by the model, or by `Memory` and changed nothing.
+    If memory is out otherwise, `Memory` is said after whole replies to the first lines."""
+    limits = Limits(True, reply_bytes=history.limits.reply_bytes, steps=history.limits.steps)
+    request = {"op": "install", "app": "big", "text": big_text(1500)}
+    lines = [json.dumps({**request, "locale": f"xy_{i}"}).encode() for i in range(20)] + history.lines
+    size = soak.least + random_of(soak).randrange(4 * MEGABYTE)
+    ended = soak.run(start_words + limits.arguments(), b"\n".join(lines) + b"\n", preexec_fn=limited(size))
+    given = ended.output.splitlines(keepends=True)
+    wanted = answered_with_memory(start, limits, lines, given)
+    soak.expect("serving on", given == wanted, size, *first_difference(wanted, ended.output))
+    is_whole = len(given) == len(lines)
+    soak.expect("serving on", (ended.status, ended.errors) in (((0, ""),) if is_whole else ((1, "Memory\n"),)), size, ended.status, ended.errors)
+    soak.counts["lines without memory"] += sum(reply == MEMORY for reply in given)
+    soak.counts["served on with little memory"] += 1
 
 
 @functools.lru_cache
@@ -425,6 +466,7 @@ def damage_parents(soak, generator):
 
 TRIALS = [serve_alone, kill_after_bytes, kill_after_replies, refuse_writes, close_output, cut_file, cut_pipe, refuse_reads, lack_memory,
           lack_memory_to_compile]
+LIMITED_TRIALS = [kill_after_bytes, kill_after_replies, refuse_writes, close_output, cut_file, cut_pipe]
 
 
 def one_round(soak, seed):
@@ -446,13 +488,33 @@ def one_round(soak, seed):
     damage_parents(soak, generator)
 
 
-def rounds(soak, seconds, seed):
+def limited_round(soak, seed):
+    """All trials of one seed under limits."""
+    soak.seed = seed
+    generator = random.Random(f"limits {seed}")
+    start = histories.Start(generator)
+    limits = histories.random_limits(generator)
+    history = histories.limited_history(generator, start, limits)
+    soak.counts["histories under limits"] += 1
+    soak.counts["refusals of limits"] += sum(reply in REFUSALS for reply in history.replies)
+    start_words = start_arguments(soak, start)
+    arguments = start_words + limits.arguments()
+    serve_whole(soak, arguments, history)
+    serve_alone_with_limits(soak, start_words, history)
+    generator.choice(LIMITED_TRIALS)(soak, arguments, history)
+    if seed % 3 == 0:
+        lack_memory_and_serve(soak, start, start_words, history)
+
+
+def rounds(soak, seconds, seed, has_limits):
     """Runs rounds until the time is over, and counts them."""
     begin = time.monotonic()
     with tempfile.TemporaryDirectory() as folder:
         soak.folder = folder
         while True:
             one_round(soak, seed)
+            if has_limits:
+                limited_round(soak, seed)
             seed += 1
             if time.monotonic() - begin >= seconds:
                 break
@@ -464,9 +526,10 @@ def main():
     parser.add_argument("seconds", type=float)
     parser.add_argument("program")
     parser.add_argument("--seed", type=int, default=1)
+    parser.add_argument("--no-limits", action="store_true")
     given = parser.parse_args()
     soak = Soak(os.path.realpath(given.program))
-    rounds(soak, given.seconds, given.seed)
+    rounds(soak, given.seconds, given.seed, not given.no_limits)
     print(", ".join(f"{count} {name}" for name, count in soak.counts.most_common()))
     print(f"{soak.findings} findings")
     return 1 if soak.findings else 0

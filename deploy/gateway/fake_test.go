@@ -15,7 +15,8 @@ import (
 )
 
 // This test, run as a program, is a gateway where the variable is set, and with the argument `serve` a server for bundles whose
-// texts are as `de{a{"A"} b{"B"}}`: enough to try the gateway where the real program isn't built. It ends at a text with `end`.
+// texts are as `de{a{"A"} b{"B"}}`: enough to try the gateway where the real program isn't built. It ends at a text with `end`, and with the
+// argument `short` it has no memory for one with `much`.
 const asGateway = "GATEWAY_TEST"
 
 func TestMain(m *testing.M) {
@@ -90,6 +91,8 @@ func (a *fakeApp) answer(r fakeRequest) string {
 	case strings.Contains(r.Text, "end"):
 		fmt.Fprintln(os.Stderr, "Memory")
 		os.Exit(1)
+	case strings.Contains(r.Text, "much") && os.Args[len(os.Args)-1] == "short":
+		return string(outOfMemory)
 	case strings.Contains(r.Text, "bad"):
 		return `{"error":"BadText"}`
 	case r.Op == "install" && there:

@@ -118,3 +118,55 @@ func TestCompiledFiles(t *testing.T) {
 		})
 	}
 }
+
+// TestAServerWithoutMemoryForItsBundles doesn't serve with a part of what stands, and does so again with memory for all. Only the
+// fake server lacks memory when it is told to.
+func TestAServerWithoutMemoryForItsBundles(t *testing.T) {
+	if os.Getenv("RESB") != "" {
+		t.Skip("the real server has the memory")
+	}
+	arguments := []string{"-serve", "-program", os.Args[0], "-state", t.TempDir(), "-tokens", tokenFile(t)}
+	rich, err := readSettings(arguments)
+	if err != nil {
+		t.Fatal(err)
+	}
+	poor, err := readSettings(append(arguments, "--", "short"))
+	if err != nil {
+		t.Fatal(err)
+	}
+	t.Run("with memory", func(t *testing.T) {
+		s := openWith(t, rich)
+		for name, text := range map[string]string{"de": `de{a{"much"}}`, "fr": `fr{a{"F"}}`} {
+			if got := s.ask("PUT", "/v1/shop/"+name+".txt", shopWrites, text); got.StatusCode != 201 {
+				t.Fatalf("%d %s", got.StatusCode, got.body)
+			}
+		}
+	})
+	t.Run("without", func(t *testing.T) {
+		s := openUnreached(t, poor)
+		for end := time.Now().Add(time.Second); time.Now().Before(end); time.Sleep(20 * time.Millisecond) {
+			if got := s.ask("GET", "/v1/shop/fr/a", shopReads, ""); got.StatusCode != 503 {
+				t.Fatalf("%d %s", got.StatusCode, got.body)
+			}
+		}
+	})
+	t.Run("with memory again", func(t *testing.T) {
+		if got := openWith(t, rich).ask("GET", "/v1/shop/de/a", shopReads, ""); got.StatusCode != 200 {
+			t.Errorf("%d %s", got.StatusCode, got.body)
+		}
+	})
+}
+
+// TestAChangeWithoutMemory is 503, and serving goes on.
+func TestAChangeWithoutMemory(t *testing.T) {
+	if os.Getenv("RESB") != "" {
+		t.Skip("the real server has the memory")
+	}
+	s := open(t, "--", "short")
+	if got := s.ask("PUT", "/v1/shop/de.txt", shopWrites, `de{a{"much"}}`); got.StatusCode != 503 || got.body != "{\"error\":\"Memory\"}\n" {
+		t.Errorf("%d %s", got.StatusCode, got.body)
+	}
+	if got := s.ask("PUT", "/v1/shop/fr.txt", shopWrites, `fr{a{"F"}}`); got.StatusCode != 201 {
+		t.Errorf("%d %s", got.StatusCode, got.body)
+	}
+}

@@ -15,8 +15,11 @@ import (
 // patience is how long the server may be at one line; then it is ended.
 const patience = 2 * time.Minute
 
-// done is the reply to a change that was done.
-var done = []byte(`{"ok":true}`)
+// done is the reply to a change that was done, and outOfMemory the one for which there was no memory.
+var (
+	done        = []byte(`{"ok":true}`)
+	outOfMemory = []byte(`{"error":"Memory"}`)
+)
 
 // Single is the backend over one `resb serve` of its own, with its changes in a file.
 type single struct {
@@ -146,7 +149,7 @@ func (l *life) watch(ctx context.Context) {
 // and stays in the file; out of memory the server can't serve.
 func (s *single) replay(ctx context.Context, l *life) error {
 	last := make(chan []byte, 1)
-	differ := 0
+	differ, lacked := 0, 0
 	for _, b := range s.journal.inOrder() {
 		b := b
 		c, err := b.read(s.journal.file)
@@ -154,7 +157,11 @@ func (s *single) replay(ctx context.Context, l *life) error {
 			return err
 		}
 		err = l.askLater(c.line(), func(reply []byte) {
-			if reply != nil && !bytes.Equal(reply, done) {
+			switch {
+			case reply == nil, bytes.Equal(reply, done):
+			case bytes.Equal(reply, outOfMemory):
+				lacked++
+			default:
 				differ++
 				log.Printf("server: the bundle of %s, %s is refused now: %.100s", b.app, b.name, reply)
 			}
@@ -174,6 +181,9 @@ func (s *single) replay(ctx context.Context, l *life) error {
 		}
 		if string(reply) != badLine {
 			return errors.New("it answers an empty line otherwise than a server")
+		}
+		if lacked > 0 {
+			return fmt.Errorf("out of memory for %d bundles that stand", lacked)
 		}
 	case <-ctx.Done():
 		return errEnded

@@ -68,8 +68,10 @@ var statuses = map[string]int{
 	"NoBundle": http.StatusNotFound, "Missing": http.StatusNotFound, "Absent": http.StatusNotFound,
 	"Exists": http.StatusConflict, "Full": http.StatusConflict,
 	"OtherApp":      http.StatusForbidden,
-	"ReplyTooLarge": http.StatusRequestEntityTooLarge,
-	"ShardEnded":    http.StatusServiceUnavailable, "Memory": http.StatusServiceUnavailable,
+	"ReplyTooLarge": http.StatusRequestEntityTooLarge, "ReplyTooLong": http.StatusRequestEntityTooLarge,
+	"BundleTooLong": http.StatusRequestEntityTooLarge, "LineTooLong": http.StatusRequestEntityTooLarge,
+	"OverQuota": http.StatusInsufficientStorage, "TooManyApps": http.StatusInsufficientStorage,
+	"ShardEnded": http.StatusServiceUnavailable, "Memory": http.StatusServiceUnavailable,
 }
 
 // refusal gives the word of a reply, where it is a refusal.

@@ -70,6 +70,18 @@ build() {
     done
 }
 
+# prints the limits of a `resb serve` that may take so many bytes of memory, for so many applications: limits_of BYTES APPS.
+# README.md has the formula.
+limits_of() {
+    awk -v memory="$1" -v apps="$2" '
+        function part(of, most) { of = int(memory / of); return of < 1 ? 1 : of > most ? most : of }
+        BEGIN {
+            longest = 8388608
+            printf "--app-bytes %.0f --bundle-bytes %.0f --reply-bytes %.0f --line-bytes %.0f --apps %.0f --steps 100000 --keep-serving\n",
+                part(4 * apps, memory), part(4 * apps, longest), part(32, longest), part(32, longest) + 4096, apps
+        }'
+}
+
 # the process of a keeper, if it is one of this state
 keeper() {
     [ -f "$1" ] || return 1

@@ -15,10 +15,11 @@ _resb() {
         explain) flags='--help' ;;
         lines) flags='--op --help' ;;
         look) flags='--parents --trace --help' ;;
-        serve) flags='--parents --help' ;;
+        serve) flags='--parents --app-bytes --bundle-bytes --reply-bytes --line-bytes --apps --steps --keep-serving --help' ;;
     esac
     case $before in
         --to) COMPREPLY=($(compgen -d -- "$word")) && return ;;
+        --app-bytes | --bundle-bytes | --reply-bytes | --line-bytes | --apps | --steps) COMPREPLY=() && return ;;
         --op) COMPREPLY=($(compgen -W 'install replace' -- "$word")) && return ;;
     esac
     case $word in

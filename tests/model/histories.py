@@ -1,6 +1,6 @@
 """Random histories of several applications, each line with the reply that the model gives."""
 from model import files, lookups, making, texts
-from model.server import Server, caller_of
+from model.server import Limits, Server, caller_of
 from model.trees import height
 
 
@@ -30,8 +30,8 @@ class Start:
                    for name, part in ((first, children[:cut]), (second, children[cut:]))}
         return spelled(random, (("table", {"parentLocales": ("table", entries)}), False))
 
-    def server(self):
-        return Server(self.common, self.by_child)
+    def server(self, limits=None):
+        return Server(self.common, self.by_child, limits)
 
 
 def good_bundle(random):
@@ -64,9 +64,10 @@ def written(random, bundle):
 class History:
     """Lines with their replies."""
 
-    def __init__(self, random, start):
+    def __init__(self, random, start, limits=None):
         self.random = random
-        self.server = start.server()
+        self.limits = limits or Limits()
+        self.server = start.server(self.limits)
         self.apps = random.sample(making.APPS, random.choice((2, 3, 5)))
         self.lines = []
         self.replies = []
@@ -114,6 +115,8 @@ class History:
         return {"file": making.hexadecimal(self.random, making.damage_file(self.random, file) if is_damaged else file)}
 
     def request(self):
+        if self.limits.is_any() and self.random.random() < 0.1:
+            return {"op": "usage", "app": self.app()}
         app, chosen = self.app(), self.random.random()
         request = {"app": app, "locale": self.locale()}
         if chosen < 0.35:
@@ -132,6 +135,12 @@ class History:
         line = making.dumped(self.random, self.request())
         self.add(making.damage_line(self.random, line) if chosen < 0.06 else line)
 
+    def add_long(self):
+        """Adds a request with blanks at its end, so that its line is as long as may be, or longer."""
+        line = making.dumped(self.random, self.request())
+        room = self.limits.line_bytes - len(line)
+        self.add(line + b" " * max(0, room + self.random.choice((-1, 0, 0, 1, 1, 2, 9000))))
+
     def input(self):
         return b"".join(line + b"\n" for line in self.lines)
 
@@ -147,6 +156,31 @@ def random_history(random, start):
     history = History(random, start)
     for _ in range(random.choice((3, 20, 60, 150))):
         history.add_random()
+    return history
+
+
+def random_limits(random):
+    """Limits, often so small that much is refused."""
+    choices = {
+        "app_bytes": (1, 76, 200, 400, 800, 1500, 4000, 1 << 63), "bundle_bytes": (1, 60, 80, 120, 200, 400, 1000, 1 << 63),
+        "reply_bytes": (1, 20, 30, 60, 75, 100, 200, 1 << 63), "line_bytes": (1, 40, 80, 120, 200, 400, 2000, 268435456),
+        "apps": (1, 1, 2, 3, 1 << 63), "steps": (1, 2, 3, 4, 6, 9, 12, 20, 60, 1 << 63),
+    }
+    names = [name for name in choices if random.random() < 0.4] or [random.choice(list(choices))]
+    given = {name: max(1, random.choice(choices[name]) + random.choice((0, 0, -1, 1, 7))) for name in names}
+    if "line_bytes" in given:
+        given["line_bytes"] = min(given["line_bytes"], 268435456)
+    return Limits(random.random() < 0.5, **{name: min(most, 1 << 63) for name, most in given.items()})
+
+
+def limited_history(random, start, limits):
+    """A history under limits."""
+    history = History(random, start, limits)
+    for _ in range(random.choice((20, 60, 150))):
+        if limits.line_bytes is not None and limits.line_bytes < 10000 and random.random() < 0.1:
+            history.add_long()
+        else:
+            history.add_random()
     return history
 
 

@@ -87,14 +87,14 @@ def next_name(bundle, parents, name):
     return True, string_at(tree, "%%Parent") or after(parents, name)
 
 
-def stops_of(bundles, parents, name):
-    """The stops of a trail."""
+def trail_of(bundles, parents, name):
+    """How many names a trail has, and its stops."""
     stops = []
-    for _ in range(32):
+    for count in range(1, 33):
         is_stop, following = next_name(bundles.get(name), parents, name)
         stops += [name] if is_stop else []
         if following is None:
-            return stops
+            return count, stops
         name = following
     raise Refused("Chain")
 
@@ -126,15 +126,18 @@ def decide(bundles, stops, parts):
     raise Refused("Missing")
 
 
-def look(own, common, parents, name, path):
-    """The item that a lookup finds, with its actual and its valid locale."""
-    parts, valid = segments(path), None
+def look(own, common, parents, name, path, most_steps=None):
+    """The item that a lookup finds, with its actual and its valid locale; it may take only so many steps."""
+    parts, valid, steps = segments(path), None, 0
     if parts is None:
         raise Refused("BadPath")
     for _ in range(256):
         if len("/".join(parts)) > 1024:
             raise Refused("PathTooLong")
-        stops = stops_of(own, parents, name)
+        names, stops = trail_of(own, parents, name)
+        steps += names * (1 + len(parts))
+        if most_steps is not None and steps > most_steps:
+            raise Refused("TooManySteps")
         if not stops:
             raise Refused("NoBundle")
         valid = valid or stops[0]

@@ -11,6 +11,9 @@ HEX = re.compile("(?:[0-9a-fA-F]{2})*")
 SURROGATE = re.compile("[\ud800-\udfff]")
 BUNDLE_LIMIT = 4096
 OPERATIONS = ("install", "replace", "remove", "list", "look")
+MOST = 1 << 63
+LINE_LIMIT = 268435456
+SIZES = ("app_bytes", "bundle_bytes", "reply_bytes", "line_bytes", "apps", "steps")
 
 
 class NotRequest(Exception):
@@ -19,6 +22,42 @@ class NotRequest(Exception):
 
 class Refused(Exception):
     """A request that is refused, with the error's word."""
+
+
+class Limits:
+    """The limits of a server, each a number or None."""
+
+    def __init__(self, keep_serving=False, **given):
+        self.keep_serving = keep_serving
+        for name in SIZES:
+            setattr(self, name, given.pop(name, None))
+        if given:
+            raise ValueError(f"no limits: {given}")
+
+    def is_any(self):
+        return self.keep_serving or any(getattr(self, name) is not None for name in SIZES)
+
+    def refuse(self, name, number, word):
+        """Refuses a number that is above a limit."""
+        most = getattr(self, name)
+        if most is not None and number > most:
+            raise Refused(word)
+
+    def refuse_line(self, length):
+        """Refuses a line that is longer than this limit, which is no more than that of all lines."""
+        if self.line_bytes is not None and length > min(self.line_bytes, LINE_LIMIT):
+            raise Refused("LineTooLong")
+
+    def without_apps(self):
+        """The limits of an application by itself, with room for all applications: it stays a limit, as without any there is no `usage`."""
+        given = {name: getattr(self, name) for name in SIZES}
+        return Limits(self.keep_serving, **{**given, "apps": self.apps and MOST})
+
+    def arguments(self):
+        """The arguments of `serve` for these limits."""
+        given = [(name, getattr(self, name)) for name in SIZES]
+        found = [word for name, most in given if most is not None for word in (f"--{name.replace('_', '-')}", str(most))]
+        return found + ["--keep-serving"] * self.keep_serving
 
 
 def no_constant(_word):
@@ -107,6 +146,11 @@ def read_file(source):
         raise Refused("BadFile") from None
 
 
+def length_of(read, source, bundle):
+    """The length of the file that is kept: of a text what it compiles to, and else the file as it came."""
+    return len(files.write(bundle)) if read is read_text else len(source)
+
+
 def app_of(name):
     """The name of an application."""
     if not APP.fullmatch(name):
@@ -124,21 +168,35 @@ def locale_of(text):
 
 
 class Server:
-    """The bundles of all applications, of ICUDATA, and the explicit parents."""
+    """The bundles of all applications with the lengths of their files, those of ICUDATA, the explicit parents, and limits."""
 
-    def __init__(self, common, parents):
+    def __init__(self, common, parents, limits=None):
         self.common = common
         self.parents = parents
+        self.limits = limits or Limits()
         self.apps = {}
+        self.lengths = {}
 
     def bundles(self, app):
         return self.apps.setdefault(app, {})
+
+    def lengths_of(self, app):
+        return self.lengths.setdefault(app, {})
+
+    def refuse_file(self, app, name, length):
+        """Refuses a file of this length at a name, if it is past a limit."""
+        lengths = self.lengths_of(app)
+        self.limits.refuse("bundle_bytes", length, "BundleTooLong")
+        self.limits.refuse("app_bytes", sum(lengths.values()) - lengths.get(name, 0) + length, "OverQuota")
+        if not lengths:
+            self.limits.refuse("apps", 1 + sum(1 for others in self.lengths.values() if others), "TooManyApps")
 
     def put(self, data, may_be_there):
         """An install or a replacement."""
         app, locale = text_at(data, "app"), text_at(data, "locale")
         read, source = payload_of(data)
         bundles, name = self.bundles(app_of(app)), locale_of(locale)
+        self.limits.refuse("bundle_bytes", len(source), "BundleTooLong")
         bundle = read(source)
         if not may_be_there and name in bundles:
             raise Refused("Exists")
@@ -146,7 +204,10 @@ class Server:
             raise Refused("Absent")
         if not may_be_there and len(bundles) == BUNDLE_LIMIT:
             raise Refused("Full")
+        length = length_of(read, source, bundle) if self.limits.is_any() else 0
+        self.refuse_file(app, name, length)
         bundles[name] = bundle
+        self.lengths_of(app)[name] = length
         return {"ok": True}
 
     def install(self, data):
@@ -160,16 +221,21 @@ class Server:
         bundles, name = self.bundles(app_of(app)), locale_of(locale)
         if bundles.pop(name, None) is None:
             raise Refused("Absent")
+        self.lengths_of(app).pop(name)
         return {"ok": True}
 
     def list(self, data):
         return {"names": list(self.bundles(app_of(text_at(data, "app"))))}
 
+    def usage(self, data):
+        lengths = self.lengths_of(app_of(text_at(data, "app")))
+        return {"app_bytes": sum(lengths.values()), "bundles": len(lengths)}
+
     def look(self, data):
         app, locale, path = (text_at(data, name) for name in ("app", "locale", "path"))
         bundles, name = self.bundles(app_of(app)), locale_of(locale)
         try:
-            item, actual, valid = lookups.look(bundles, self.common, self.parents, name, path)
+            item, actual, valid = lookups.look(bundles, self.common, self.parents, name, path, self.limits.steps)
         except lookups.Refused as refused:
             raise Refused(*refused.args) from None
         told = members(item)
@@ -178,18 +244,30 @@ class Server:
     def answered(self, line):
         """The data of a line's reply."""
         try:
+            self.limits.refuse_line(len(line))
             data = data_of(line)
-            if data.get("op") not in OPERATIONS:
+            if data.get("op") not in OPERATIONS + ("usage",) * self.limits.is_any():
                 raise NotRequest
-            return getattr(self, data["op"])(data)
+            return self.short(getattr(self, data["op"])(data))
         except NotRequest:
             return {"error": "BadLine"}
         except Refused as refused:
             return {"error": refused.args[0]}
 
+    def short(self, answer):
+        """An answer whose line isn't too long. Only that of an item or of names may be."""
+        if "actual" in answer or "names" in answer:
+            self.limits.refuse("reply_bytes", len(spelled(answer)), "ReplyTooLong")
+        return answer
+
     def reply(self, line):
         """The line that answers a line, with its line feed."""
-        return (compact(self.answered(line)) + "\n").encode("utf-8")
+        return spelled(self.answered(line))
+
+
+def spelled(answer):
+    """The line of a reply's data."""
+    return (compact(answer) + "\n").encode("utf-8")
 
 
 def caller_of(line):

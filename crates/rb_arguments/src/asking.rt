@@ -59,6 +59,7 @@ pub enum Asked<'a> {
     Serve {
         parents: Option<&'a str>,
         bundles: Vec<&'a str>,
+        limits: AskedLimits,
     },
 }
 
@@ -70,6 +71,41 @@ pub struct AskedLookup<'a> {
     pub path: &'a str,
     pub is_traced: bool,
     pub files: Vec<&'a str>,
+}
+
+/// The limits of `serve`: of each application, but for those of lines and of the number of
+/// applications. One that wasn't given is none.
+#[derive(Clone, Copy, Debug, PartialEq, Eq)]
+pub struct AskedLimits {
+    /// `--app-bytes N`
+    pub app_bytes: Option<u64>,
+    /// `--bundle-bytes N`
+    pub bundle_bytes: Option<u64>,
+    /// `--reply-bytes N`
+    pub reply_bytes: Option<u64>,
+    /// `--line-bytes N`
+    pub line_bytes: Option<u64>,
+    /// `--apps N`
+    pub apps: Option<u64>,
+    /// `--steps N`
+    pub steps: Option<u64>,
+    /// `--keep-serving`
+    pub keep_serving: bool,
+}
+
+impl AskedLimits {
+    /// No limits, as without arguments.
+    pub fn none() -> AskedLimits {
+        AskedLimits {
+            app_bytes: None,
+            bundle_bytes: None,
+            reply_bytes: None,
+            line_bytes: None,
+            apps: None,
+            steps: None,
+            keep_serving: false,
+        }
+    }
 }
 
 /// One word of a command, empty where it wasn't given.
@@ -168,14 +204,29 @@ fn look_asked<'a>(alloc: Global, given: &ArgMatches<'a>) -> Result<Asked<'a>, Al
     }))
 }
 
+/// The limits of `serve`. Each is from 1 to 9,223,372,036,854,775,808: `clap` takes no other.
+fn limits_asked(given: &ArgMatches<'_>) -> AskedLimits {
+    AskedLimits {
+        app_bytes: given.get_one::<u64>("app-bytes"),
+        bundle_bytes: given.get_one::<u64>("bundle-bytes"),
+        reply_bytes: given.get_one::<u64>("reply-bytes"),
+        line_bytes: given.get_one::<u64>("line-bytes"),
+        apps: given.get_one::<u64>("apps"),
+        steps: given.get_one::<u64>("steps"),
+        keep_serving: given.get_flag("keep-serving"),
+    }
+}
+
 fn serve_asked<'a>(alloc: Global, given: &ArgMatches<'a>) -> Result<Asked<'a>, AllocError> {
     Ok(Asked::Serve {
         parents: given.get_str("parents"),
         bundles: words_of(alloc, given, "bundles")?,
+        limits: limits_asked(given),
     })
 }
 
-/// What a command line asks for, by what `clap` took of it; none where it names no command. An error only where out of memory.
+/// What a command line asks for, by what `clap` took of it; none where it names no command. An
+/// error only where out of memory.
 pub fn asked_by<'a>(
     alloc: Global,
     matches: &ArgMatches<'a>,

@@ -1,6 +1,7 @@
 //! The command line.
-use crate::argument::{described, flag, option, parents_option, path_word, word, words};
+use crate::argument::{described, flag, option, path_word, word, words};
 use crate::bundle_commands::{lines_command, look_command};
+use crate::serving::serve_command;
 use crate::text_commands::{explain_command, lint_command};
 use clap::{Arg, Command};
 use std::alloc::{AllocError, Global};
@@ -150,30 +151,6 @@ fn json_command<'a>(alloc: Global) -> Result<Command<'a>, AllocError> {
         .arg(file_word(alloc))?
         .arg(path)?
         .arg(pretty)
-}
-
-/// The end of the help of `serve`.
-const SERVE_HELP: &str = "\
-Example:
-  resb serve --parents parents.txt root=root.txt de=de.res < requests.jsonl
-
-Status:
-  0  the input is read, and each line is answered
-  1  a file is refused, as root.txt: BadText, serving ended early, as LineTooLong, or out of memory
-  2  the command line is invalid, a file can't be read, or there is no random state";
-
-fn bundles_argument<'a>(alloc: Global) -> Arg<'a> {
-    Arg::new(alloc, "bundles")
-        .value_name("LOCALE=FILE")
-        .num_args(0..)
-        .help("a bundle of ICUDATA: bundle text where FILE ends in .txt, else a .res file")
-}
-
-fn serve_command<'a>(alloc: Global) -> Result<Command<'a>, AllocError> {
-    let about = "Answers requests, a line each, from standard input";
-    described(alloc, "serve", about, SERVE_HELP)
-        .arg(parents_option(alloc))?
-        .arg(bundles_argument(alloc))
 }
 
 /// The end of the help of the whole command.

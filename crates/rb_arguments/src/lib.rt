@@ -5,9 +5,10 @@ mod argument;
 mod asking;
 mod bundle_commands;
 mod command_line;
+mod serving;
 #[cfg(test)]
 mod tests;
 mod text_commands;
 
-pub use asking::{Asked, AskedLookup, asked_by};
+pub use asking::{Asked, AskedLimits, AskedLookup, asked_by};
 pub use command_line::commands;

@@ -1,11 +1,11 @@
 //! Command lines that are taken, what they ask for, and those that are refused.
-use crate::asking::asked_by;
+use crate::asking::{Asked, AskedLimits, asked_by};
 use crate::command_line::commands;
 use std::alloc::Global;
 use std::test::Fail;
 
 /// Command lines, with the status of those that are refused.
-const LINES: [(&[&str], i32); 40] = [
+const LINES: [(&[&str], i32); 53] = [
     (&["resb"], 2),
     (&["resb", "get", "a.res"], 2),
     (&["resb", "get", "a.res", "a/b"], 0),
@@ -30,6 +30,22 @@ const LINES: [(&[&str], i32); 40] = [
     (&["resb", "serve", "de=a.txt", "--parents", "p.txt"], 0),
     (&["resb", "serve", "--parents"], 2),
     (&["resb", "serve", "--locale", "de"], 2),
+    (&["resb", "serve", "--app-bytes", "1", "de=a.txt"], 0),
+    (&["resb", "serve", "--bundle-bytes=9223372036854775808"], 0),
+    (&["resb", "serve", "--bundle-bytes=9223372036854775809"], 2),
+    (
+        &["resb", "serve", "--line-bytes", "18446744073709551616"],
+        2,
+    ),
+    (&["resb", "serve", "--apps", "0"], 2),
+    (&["resb", "serve", "--apps", "-1"], 2),
+    (&["resb", "serve", "--apps=-1"], 2),
+    (&["resb", "serve", "--apps", ""], 2),
+    (&["resb", "serve", "--apps", "1.0"], 2),
+    (&["resb", "serve", "--apps", "10k"], 2),
+    (&["resb", "serve", "--steps", "0x10"], 2),
+    (&["resb", "serve", "--steps", "1", "--steps", "2"], 2),
+    (&["resb", "serve", "--keep-serving", "--reply-bytes"], 2),
     (&["resb", "check"], 2),
     (&["resb", "check", "a.res"], 0),
     (&["resb", "text"], 2),
@@ -74,7 +90,7 @@ fn reads_command_lines(rt: HostRuntime) -> Result<(), Fail> {
 }
 
 /// Command lines, with what they ask for.
-const ASKED: [(&[&str], &str); 13] = [
+const ASKED: [(&[&str], &str); 11] = [
     (
         &["resb", "compile", "-", "a.res"],
         "Compile { input: \"-\", output: \"a.res\", is_quiet: false }",
@@ -125,11 +141,6 @@ const ASKED: [(&[&str], &str); 13] = [
         ],
         "Look(AskedLookup { parents: Some(\"p\"), locale: \"de\", path: \"x/y\", is_traced: true, files: [\"a\"] })",
     ),
-    (
-        &["resb", "serve", "de=a", "--parents", "p", "fr=b"],
-        "Serve { parents: Some(\"p\"), bundles: [\"de=a\", \"fr=b\"] }",
-    ),
-    (&["resb", "serve"], "Serve { parents: None, bundles: [] }"),
 ];
 
 /// What a command line asks for, as a text; empty where it asks for nothing.
@@ -149,4 +160,101 @@ fn says_what_is_asked_for(rt: HostRuntime) -> Result<(), Fail> {
         assert_eq!(rt; asked_text(rt.alloc(), words)?.as_str(), text);
     }
     Ok(())
+}
+
+/// Command lines of `serve`, with their parents, their bundles and their limits.
+const SERVED: [(&[&str], Option<&str>, &[&str], AskedLimits); 3] = [
+    (
+        &["resb", "serve"],
+        None,
+        &[],
+        AskedLimits {
+            app_bytes: None,
+            bundle_bytes: None,
+            reply_bytes: None,
+            line_bytes: None,
+            apps: None,
+            steps: None,
+            keep_serving: false,
+        },
+    ),
+    (
+        &[
+            "resb",
+            "serve",
+            "de=a",
+            "--parents",
+            "p",
+            "--apps",
+            "12",
+            "fr=b",
+        ],
+        Some("p"),
+        &["de=a", "fr=b"],
+        AskedLimits {
+            app_bytes: None,
+            bundle_bytes: None,
+            reply_bytes: None,
+            line_bytes: None,
+            apps: Some(12),
+            steps: None,
+            keep_serving: false,
+        },
+    ),
+    (
+        &[
+            "resb",
+            "serve",
+            "--app-bytes",
+            "1",
+            "--bundle-bytes",
+            "2",
+            "--reply-bytes",
+            "3",
+            "--line-bytes",
+            "4",
+            "--apps",
+            "5",
+            "--steps",
+            "9223372036854775808",
+            "--keep-serving",
+        ],
+        None,
+        &[],
+        AskedLimits {
+            app_bytes: Some(1),
+            bundle_bytes: Some(2),
+            reply_bytes: Some(3),
+            line_bytes: Some(4),
+            apps: Some(5),
+            steps: Some(9_223_372_036_854_775_808),
+            keep_serving: true,
+        },
+    ),
+];
+
+#[test]
+fn says_what_is_served(rt: HostRuntime) -> Result<(), Fail> {
+    for (words, parents, bundles, limits) in SERVED {
+        let matches = commands(rt.alloc())?.try_get_matches_from(words)?;
+        let Some(
+            Asked::Serve {
+                parents: parents_asked,
+                bundles: bundles_asked,
+                limits: limits_asked,
+            },
+        ) = asked_by(rt.alloc(), &matches)?
+        else {
+            panic!(rt; "it asks for something else");
+        };
+        assert!(rt; parents_asked == parents);
+        assert!(rt; bundles_asked.as_slice() == bundles);
+        assert_eq!(rt; limits_asked, limits);
+    }
+    Ok(())
+}
+
+#[test]
+fn has_no_limits_without_arguments(rt: HostRuntime) {
+    assert_eq!(rt; AskedLimits::none(), SERVED[0].3);
 }

@@ -311,7 +311,7 @@ pub(crate) const OF_START: [Explanation; 6] = [
 ];
 
 /// The words of requests.
-pub(crate) const OF_REQUEST: [Explanation; 9] = [
+pub(crate) const OF_REQUEST: [Explanation; 15] = [
     Explanation {
         word: "BadLine",
         of: Of::Request,
@@ -375,10 +375,52 @@ pub(crate) const OF_REQUEST: [Explanation; 9] = [
         cause: "it has 4,096 bundles",
         remedy: "remove one",
     },
+    Explanation {
+        word: "LineTooLong",
+        of: Of::Request,
+        meaning: "the line has more bytes than --line-bytes allows",
+        cause: "a line above the limit of this server, often a text or a file within it; it was passed over to its end, and nothing was done",
+        remedy: "split the bundle, or serve with a larger --line-bytes",
+    },
+    Explanation {
+        word: "BundleTooLong",
+        of: Of::Request,
+        meaning: "the text, the file or what the text compiles to has more bytes than --bundle-bytes allows",
+        cause: "a text or a file above the limit of this server, or a text whose compiled file is",
+        remedy: "split the bundle; resb compile prints the length of a text's file",
+    },
+    Explanation {
+        word: "OverQuota",
+        of: Of::Request,
+        meaning: "the application's files would have more bytes than --app-bytes allows",
+        cause: "the files of the application's other bundles leave too little room for this one",
+        remedy: "remove bundles, or install a smaller one; usage says what the files have",
+    },
+    Explanation {
+        word: "TooManyApps",
+        of: Of::Request,
+        meaning: "as many applications have bundles as --apps allows",
+        cause: "it would be the first bundle of one application more",
+        remedy: "another application has to remove all its bundles, or serve with a larger --apps",
+    },
+    Explanation {
+        word: "ReplyTooLong",
+        of: Of::Request,
+        meaning: "the line of the names would have more bytes than --reply-bytes allows",
+        cause: "a list of more names than the limit of this server has room for; of an item see the lookups",
+        remedy: "serve with a larger --reply-bytes",
+    },
+    Explanation {
+        word: "Memory",
+        of: Of::Request,
+        meaning: "the server was out of memory for this request, and the bundles are as before (--keep-serving)",
+        cause: "memory that other bundles fill, or a text, a file or an item that is large for it",
+        remedy: "ask again later, or ask for less; if it stays so, the server needs more memory",
+    },
 ];
 
 /// The words of lookups.
-pub(crate) const OF_LOOKUP: [Explanation; 9] = [
+pub(crate) const OF_LOOKUP: [Explanation; 11] = [
     Explanation {
         word: "BadPath",
         of: Of::Lookup,
@@ -442,6 +484,20 @@ pub(crate) const OF_LOOKUP: [Explanation; 9] = [
         cause: "aliases that lead to each other in a circle, or more than 255 in a row",
         remedy: "follow them one by one with resb get",
     },
+    Explanation {
+        word: "TooManySteps",
+        of: Of::Lookup,
+        meaning: "the lookup takes more steps than --steps allows",
+        cause: "many aliases on the way, each with a long trail, or a long path; a step is a name of the trail times one more than the segments of the path",
+        remedy: "resb look --trace counts the levels; use fewer aliases, or shorter paths",
+    },
+    Explanation {
+        word: "ReplyTooLong",
+        of: Of::Lookup,
+        meaning: "the line of the item would have more bytes than --reply-bytes allows",
+        cause: "an item that is long: a String, a vector, a binary, or a table of many keys",
+        remedy: "look further down, or serve with a larger --reply-bytes",
+    },
 ];
 
 /// The words of what ends serving early.
@@ -465,7 +521,7 @@ pub(crate) const OF_SERVING: [Explanation; 4] = [
         of: Of::Serving,
         meaning: "a line has more than 268,435,456 bytes",
         cause: "a line has more than 268,435,456 bytes; often a missing line feed",
-        remedy: "it ends serving for all applications, so cut such lines off in front of the server",
+        remedy: "it ends serving for all applications; with --line-bytes such a line is passed over, and serving goes on",
     },
     Explanation {
         word: "LineLimit",

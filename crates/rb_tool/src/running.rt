@@ -1,8 +1,8 @@
 //! Running what a command line asks for.
-use rb_arguments::{Asked, AskedLookup};
+use rb_arguments::{Asked, AskedLimits, AskedLookup};
 use rb_commands::{
-    Change, Console, Layout, Lookup, check_all, check_on, compile_all, compile_on, explain, get_on,
-    json, lines, lint_all, look_up, serve_on, text,
+    Change, Console, Layout, Limits, LineLimits, Lookup, check_all, check_on, compile_all,
+    compile_on, explain, get_on, json, lines, lint_all, look_up, serve_limited_on, text,
 };
 use std::process::ExitCode;
 use std::random::RandomSource;
@@ -76,6 +76,36 @@ fn run_look<R: Files + RandomSource + AllocGlobal + Print + Eprint>(
     look_up(rt, console, lookup, &asked.files)
 }
 
+/// The limits that were asked for, if any were.
+fn limits_of(asked: AskedLimits) -> Option<LineLimits> {
+    if asked == AskedLimits::none() {
+        return None;
+    }
+    Some(LineLimits {
+        calls: Limits {
+            bundle_bytes: asked.bundle_bytes,
+            app_bytes: asked.app_bytes,
+            apps: asked.apps,
+            steps: asked.steps,
+        },
+        line_bytes: asked.line_bytes,
+        reply_bytes: asked.reply_bytes,
+        keep_serving: asked.keep_serving,
+    })
+}
+
+/// `serve [LOCALE=FILE ..]`
+fn run_serve<R: Files + RandomSource + AllocGlobal + Input + Print + Eprint>(
+    rt: &R,
+    console: Console,
+    parents: Option<&str>,
+    bundles: &[&str],
+    asked: AskedLimits,
+) -> ExitCode {
+    let limits = limits_of(asked);
+    serve_limited_on(rt, console, parents, bundles, limits.as_ref())
+}
+
 /// Runs a command.
 pub fn run_asked<R: Files + RandomSource + Clock + AllocGlobal + Input + Print + Eprint>(
     rt: &R,
@@ -105,6 +135,10 @@ pub fn run_asked<R: Files + RandomSource + Clock + AllocGlobal + Input + Print +
         Asked::Explain { word } => explain(rt, word),
         Asked::Lines { op, app, files } => run_lines(rt, console, op, app, &files),
         Asked::Look(lookup) => run_look(rt, console, lookup),
-        Asked::Serve { parents, bundles } => serve_on(rt, console, parents, &bundles),
+        Asked::Serve {
+            parents,
+            bundles,
+            limits,
+        } => { run_serve(rt, console, parents, &bundles, limits) }
     }
 }

@@ -167,6 +167,27 @@ func TestAReplayWithoutMemoryDoesNotServe(t *testing.T) {
 	}
 }
 
+func TestARefusalByALimitIsLeftOutOfTheReplay(t *testing.T) {
+	nc, js := serve(t)
+	publish(t, js, "short", "de")
+	expect(t, bridgeOf(t, nc, js, "limit"), overQuota, lines.Done)
+	b := bridgeOf(t, nc, js, "plain")
+	for k := 0; k < patience; k++ {
+		b.run(context.Background())
+	}
+	expect(t, b, overQuota, lines.Done, lines.ShardEnded)
+}
+
+func TestAReplayUnderALimitThatRefusesDoesNotServe(t *testing.T) {
+	nc, js := serve(t)
+	publish(t, js, "short", "de")
+	expect(t, bridgeOf(t, nc, js, "plain"), lines.Done, lines.Done)
+	want := "change 1 was done, and a limit refuses it in the replay: " + overQuota
+	if served, end := bridgeOf(t, nc, js, "limit").run(context.Background()); served || end != want {
+		t.Errorf("%v, %s", served, end)
+	}
+}
+
 func TestAReplayThatDiffersIsLogged(t *testing.T) {
 	nc, js := serve(t)
 	publish(t, js, "de", "fr")

@@ -18,8 +18,15 @@ import (
 // patience is how often the program may end at a change that has no answer yet; then the change is left out.
 const patience = 3
 
-// outOfMemory is the shard's refusal that doesn't depend on the application's requests alone.
+// outOfMemory is the shard's refusal for lack of memory.
 const outOfMemory = `{"error":"Memory"}`
+
+// leftOut are the shard's refusals that don't depend on the application's requests alone, but on memory, on the limits with which
+// the shard is started, or on how many applications have bundles. They changed nothing, and a replay leaves them out.
+var leftOut = map[string]bool{
+	outOfMemory: true, `{"error":"OverQuota"}`: true, `{"error":"BundleTooLong"}`: true, `{"error":"TooManyApps"}`: true,
+	`{"error":"LineTooLong"}`: true,
+}
 
 // A bridge is what stays from one life of the program to the next.
 type bridge struct {
@@ -138,8 +145,8 @@ func (l *life) followAll(ctx context.Context) error {
 	})
 }
 
-// feed gives a line to the program. What the bridge answers itself, and what was refused for memory, so that it changed
-// nothing, has the empty line in its place.
+// feed gives a line to the program. What the bridge answers itself, and what was refused for memory or by a limit, so that it
+// changed nothing, has the empty line in its place.
 func (l *life) feed(ctx context.Context, n uint64, m *nats.Msg, line []byte, answer string) error {
 	if !l.gate.enter(ctx, len(m.Data)) {
 		return errEnded
@@ -160,7 +167,7 @@ func (l *life) feed(ctx context.Context, n uint64, m *nats.Msg, line []byte, ans
 func (l *life) read(n uint64, m *nats.Msg) (line []byte, answer string) {
 	given, isGiven := l.answers.to(n)
 	switch {
-	case given == outOfMemory, given == lines.ShardEnded:
+	case leftOut[given], given == lines.ShardEnded:
 		return nil, given
 	case !isGiven && l.bridge.ends[n] >= patience:
 		log.Printf("change %d: the program ended %d times at it; it is left out", n, patience)

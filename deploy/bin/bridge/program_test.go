@@ -9,8 +9,12 @@ import (
 )
 
 // fake is the variable by which this test, run as a program, is a `serve` that ends at a line with "end". It refuses a line with
-// "short" for memory where the variable is "short", and every line where it is "refuse"; to all others it says yes.
+// "short" for memory where the variable is "short", by a limit where it is "limit", and every line where it is "refuse"; to all
+// others it says yes.
 const fake = "BRIDGE_TEST_FAKE"
+
+// overQuota is a refusal by a limit.
+const overQuota = `{"error":"OverQuota"}`
 
 func TestMain(m *testing.M) {
 	if os.Getenv(fake) == "" {
@@ -23,6 +27,8 @@ func TestMain(m *testing.M) {
 			os.Exit(1)
 		case strings.Contains(lines.Text(), "short") && os.Getenv(fake) == "short":
 			fmt.Println(outOfMemory)
+		case strings.Contains(lines.Text(), "short") && os.Getenv(fake) == "limit":
+			fmt.Println(overQuota)
 		case os.Getenv(fake) == "refuse":
 			fmt.Println(`{"error":"Exists"}`)
 		case lines.Text() == "":

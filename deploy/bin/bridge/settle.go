@@ -60,6 +60,9 @@ func (l *life) settle(ctx context.Context, r reply) string {
 	if r.text == outOfMemory && given != outOfMemory {
 		return fmt.Sprintf("out of memory at change %d in the replay", r.n)
 	}
+	if leftOut[r.text] && given == lines.Done {
+		return fmt.Sprintf("change %d was done, and a limit refuses it in the replay: %s", r.n, r.text)
+	}
 	return ""
 }
 

@@ -29,7 +29,7 @@ const (
 	NoAnswer     = `{"error":"NoAnswer"}`
 )
 
-var kinds = map[string]Kind{"install": Change, "replace": Change, "remove": Change, "list": Ask, "look": Ask}
+var kinds = map[string]Kind{"install": Change, "replace": Change, "remove": Change, "list": Ask, "look": Ask, "usage": Ask}
 
 // Judge gives the line that the shard is to read for a message of the application, or the bridge's own answer. What can't be
 // a request becomes the empty line, which the shard answers as it answers every line that is no request.
