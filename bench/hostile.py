@@ -1,6 +1,7 @@
 #!/usr/bin/env python3
 """Inputs that are made to be dear. Each is valid unless its docstring says otherwise, and is measured beside plain
-input of its size in the same run: files by `resb check`, texts by `resb compile`, requests by `resb serve`.
+input of its size in the same run: files by `resb check`, texts by `resb compile` and `resb lint --root`, requests by
+`resb serve`.
 Prints the times, the ratio and what is allowed. The status is 1 where a ratio or an amount of memory is over
 what is allowed.
 
@@ -21,7 +22,7 @@ from figures import store
 from measured import measured
 from turns import PROGRAM, command_line
 
-TABLE, ARRAY, LONG_TABLE, INT = 2, 8, 4, 7
+STRING, TABLE, ALIAS, LONG_TABLE, INT, ARRAY = 0, 2, 3, 4, 7, 8
 HEADER = bytes.fromhex("2000da27140000000000020052657342010100000000000000000000" "00000000")
 FIRST_KEY = 24
 
@@ -47,6 +48,13 @@ class Builder:
     def add(self, numbers):
         at = self.here()
         self.data += words(numbers)
+        return at
+
+    def text(self, text):
+        """A String or an Alias."""
+        at = self.here()
+        self.data += struct.pack("<I", len(text)) + text.decode().encode("utf-16-le") + b"\0\0"
+        self.data += b"\xaa" * (-len(self.data) % 4)
         return at
 
     def file(self, root):
@@ -168,6 +176,15 @@ def periodic(count):
     return (period * (count // len(period) + 1))[:count]
 
 
+def by_turns(count):
+    """Low and high letters in turn, so that half of the places are sorted again, and not a third."""
+    dice, half = random.Random(1), count // 2 + 1
+    text = bytearray(2 * half)
+    text[0::2] = dice.randbytes(half).translate(bytes(33 + i % 47 for i in range(256)))
+    text[1::2] = dice.randbytes(half).translate(bytes(126 - i % 47 for i in range(256)))
+    return bytes(text[:count])
+
+
 def repeated(text):
     return lambda count: (text * (count // len(text) + 1))[:count]
 
@@ -252,6 +269,7 @@ CHECKED = [
     ("2 copies of Thue and Morse, 100 tables", copies(thue_morse, 2, 100), 60),
     ("2 copies of random letters, 1,000 tables", copies(random_letters, 2, 1_000), 60),
     ("64 copies of random letters, 300 tables", copies(random_letters, 64, 300), 60),
+    ("2 copies of low and high letters by turns, 100 tables", copies(by_turns, 2, 100), 60),
 ]
 OVERLAPPING = [
     ("arrays that overlap, in random order", mixed_arrays, 30),
@@ -275,7 +293,67 @@ def nested_arrays(size):
     return b"root{a{" + (b"{" * 59 + b"}" * 59) * (size // 118) + b"}}"
 
 
-TEXTS = [("texts `k{a{}}..`", small_tables), ("texts `{{{}}}` of 59 levels", nested_arrays)]
+KEY_BYTES = bytes(byte for byte in range(0x21, 0x7F) if byte not in b'"{}:,/\\*%')
+
+
+def random_keys(size):
+    """One table of keys of four letters in random order, each with an empty array."""
+    kinds = len(KEY_BYTES)
+    numbers = random.Random(5).sample(range(kinds ** 4), size // 6)
+    keys = (bytes(KEY_BYTES[i // kinds ** j % kinds] for j in range(4)) for i in numbers)
+    return b"root{" + b"".join(key + b"{}" for key in keys) + b"}"
+
+
+def falling_keys(size):
+    """Tables of 57 levels, each with an entry and then one with a lower key."""
+    one = b"b{}a{" * 57 + b"a{}" + b"}" * 57
+    return b"root{" + b"".join(b"%x{" % i + one + b"}" for i in range(size // (len(one) + 8))) + b"}"
+
+
+def keys_of_one_slot(size):
+    """Tables of 64 keys in random order that the writer's table of keys puts into one place."""
+    letters = b"0123456789ABCDEFGHIJKLMNOPQRSTUVWXYZabcdefghijklmnopqrstuvwxyz"
+    alike = [bytes((a, b, c)) for a in letters for b in letters for c in letters
+             if ((a * 31 + b) * 31 + c) % 1024 == 7][:64]
+    dice, tables = random.Random(1), []
+    for _ in range(size // (5 * len(alike) + 2)):
+        dice.shuffle(alike)
+        tables.append(b"{" + b"".join(key + b"{}" for key in alike) + b"}")
+    return b"root{a{" + b"".join(tables) + b"}}"
+
+
+TEXTS = [
+    ("texts `k{a{}}..`", small_tables),
+    ("texts `{{{}}}` of 59 levels", nested_arrays),
+    ("texts of short keys in random order", random_keys),
+    ("texts of 57 levels with a lower key last", falling_keys),
+    ("texts of keys that share a place", keys_of_one_slot),
+]
+
+# ---- texts that are compared with the root's, here with themselves
+
+
+def placeholders(size):
+    """A string of placeholders, each with a name of its own."""
+    return b'root{a{"' + b"".join(b"{%07d}" % i for i in range(size // 9)) + b'"}}'
+
+
+def one_array(size):
+    """An array of short strings."""
+    return b"root{a{" + b'"x",' * (size // 4) + b"}}"
+
+
+def long_key(size):
+    """Entries under a key of half the text, which is in the path of each."""
+    entries = b"".join(b'a%06d{"b"}' % i for i in range(size // 24))
+    return b"root{" + b"k" * (size // 2) + b"{" + entries + b"}}"
+
+
+COMPARED = [
+    ("`lint --root` of a string of placeholders", placeholders),
+    ("`lint --root` of one array", one_array),
+    ("`lint --root` under a long key", long_key),
+]
 
 # ---- requests: the lines that prepare, and the line that is dear
 
@@ -298,6 +376,31 @@ def growing_path(size):
     return install(b"root", b'root{a:alias{"root@' + b"x" * size + b'/a/b"}}'), look(b"root", b"a/b")
 
 
+def install_file(locale, data):
+    return b'{"op":"install","app":"a","locale":"%s","file":"%s"}\n' % (locale, data.hex().encode())
+
+
+def aliases_by_turns(size):
+    """Two bundles, each with an alias to the other that has a long keyword: a search remembers only the last one."""
+    def bundle(other):
+        made = Builder(b"a\0")
+        return made.file_of_one(item(ALIAS, made.text(other + b"@" + b"x" * (size // 4) + b"/a")))
+    return install_file(b"aa", bundle(b"bb")) + install_file(b"bb", bundle(b"aa")), look(b"aa", b"a")
+
+
+def long_parent(size):
+    """A `%%Parent` that is no name and has no `@`, which is looked for."""
+    made = Builder(b"%%Parent\0")
+    return install_file(b"de", made.file_of_one(item(STRING, made.text(b"x" * (size // 2))))), look(b"de", b"k")
+
+
+def long_key_reply(size):
+    """A table with one long key, for which the reply is longer than 1,000 bytes."""
+    made = Builder(b"k" * size + b"\0")
+    data = made.file(item(LONG_TABLE, made.add([1, FIRST_KEY, item(INT, 0)])))
+    return install_file(b"root", data), look(b"root", b"")
+
+
 def deep_trail(size):
     """A trail of 32 names, of which the last has an alias to the whole way again; on the way there are tables 60 deep,
     each with as many other entries as make so much text."""
@@ -316,7 +419,7 @@ def shared_keys(size):
     """A table whose keys are the ends of one key, so that they are far longer together than the file."""
     count = size // 9
     data = suffixes(count)
-    return b'{"op":"install","app":"a","locale":"root","file":"%s"}\n' % data.hex().encode(), look(b"root", b"")
+    return install_file(b"root", data), look(b"root", b"")
 
 
 def other_members(size):
@@ -396,17 +499,32 @@ class Report:
                     f" {memory:.0f} MB, {memory * MB / size:.1f} times the text of 40; status {status}")
             self.say("text", name, size, text, over, seconds=seconds, plain=plain, allowed=5, MB=memory)
 
-    def serve(self, prepared, line, count):
-        """Seconds for one more line, and the memory that it takes besides, in MB."""
-        before = self.best(["serve"], 2, self.file("before.jsonl", prepared))
-        after = self.best(["serve"], 2, self.file("after.jsonl", prepared + line * count))
-        return max(0.0, after[0] - before[0]) / count, after[1] - before[1]
-
-    def lookup(self, name, make, sizes, allowed):
+    def compared(self, name, make, sizes):
         if not self.is_asked(name):
             return
         for size in sizes:
-            seconds, _ = self.serve(*make(size), 3)
+            seconds, memory, status = self.beside_itself(make(size))
+            plain = self.beside_itself(plain_text(size))[0]
+            over = seconds > 5 * plain or status != 0 or size >= 4 * MB and memory * MB > 80 * size
+            text = (f"{seconds:.3f} s, plain text {plain:.3f} s, {seconds / plain:.1f} times of 5;"
+                    f" {memory:.0f} MB, {memory * MB / size:.1f} times the text of 80; status {status}")
+            self.say("text", name, size, text, over, seconds=seconds, plain=plain, allowed=5, MB=memory)
+
+    def beside_itself(self, text):
+        path = self.file("made.txt", text)
+        return self.best(["lint", "--root", path, path])
+
+    def serve(self, prepared, line, count, limits=()):
+        """Seconds for one more line, and the memory that it takes besides, in MB."""
+        before = self.best(["serve", *limits], 2, self.file("before.jsonl", prepared))
+        after = self.best(["serve", *limits], 2, self.file("after.jsonl", prepared + line * count))
+        return max(0.0, after[0] - before[0]) / count, after[1] - before[1]
+
+    def lookup(self, name, make, sizes, allowed, count=3, limits=()):
+        if not self.is_asked(name):
+            return
+        for size in sizes:
+            seconds, _ = self.serve(*make(size), count, limits)
             over = 1e3 * seconds > allowed
             text = f"a lookup takes {1e3 * seconds:.1f} ms of {allowed}"
             self.say("lookup", name, size, text, over, seconds=seconds, allowed=allowed / 1e3)
@@ -449,9 +567,15 @@ def measure(report, is_large):
         report.check(name, make, allowed, [4 * MB, 16 * MB, 62 * MB])
     for name, make in TEXTS:
         report.text(name, make, [MB, 4 * MB, 8 * MB])
+    for name, make in COMPARED:
+        report.compared(name, make, [MB, 4 * MB, 8 * MB])
     report.lookup("an alias with a long text", long_alias, [MB, 4 * MB, 8 * MB], 50)
     longer = "an alias with a long text, a longer path each time"
     report.lookup(longer, growing_path, [MB, 4 * MB, 8 * MB], 50)
+    report.lookup("two aliases with long texts by turns", aliases_by_turns, [MB, 4 * MB, 8 * MB], 50)
+    report.lookup("a `%%Parent` with a long text", long_parent, [MB, 8 * MB, 32 * MB], 50, 50)
+    report.lookup("a long key whose reply is refused", long_key_reply, [MB, 8 * MB, 32 * MB], 50, 50,
+                  ["--reply-bytes", "1000"])
     sizes = [MB // 100, MB, 7 * MB, 20 * MB]
     report.lookup("a trail of 32 names, 256 levels", deep_trail, sizes, 100)
     report.reply("a reply whose keys share their bytes", [MB // 20, MB // 10, MB * 3 // 10])

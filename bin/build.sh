@@ -41,15 +41,10 @@ run_unproved() {
         exit 2
     fi
     say 'nothing is proved in this run; it begins in a minute or two'
-    count=$#
-    set -- "$@" --
-    while [ "$count" -gt 0 ]; do
-        word=$1
-        shift
-        set -- "$@" "$word"
+    set -- -- "$@"
+    for word in "$@"; do
         file=${word#*=}
         [ ! -f "$file" ] || set -- --data "$file=$(realpath -- "$file")" "$@"
-        count=$((count - 1))
     done
     cd "$top/crates/rb_tool"
     exec rt try --seconds 600 "$@"

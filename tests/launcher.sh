@@ -137,4 +137,8 @@ cd "$made" || exit 2
 trial 'nothing proved, with a file' "resb: nothing is proved in this run; it begins in a minute or two
 of rt: try --seconds 600 --data de.txt=$made/de.txt -- check de.txt; 0" \
     env PATH="$tools" "$second/bin/resb" --unproved check de.txt
+echo 'at {}' >"$made/at.txt"
+trial 'nothing proved, with files in the middle' "resb: nothing is proved in this run; it begins in a minute or two
+of rt: try --seconds 600 --data at.txt=$made/at.txt --data de.txt=$made/de.txt -- look de=de.txt at=at.txt -q; 0" \
+    env PATH="$tools" "$second/bin/resb" --unproved look de=de.txt at=at.txt -q
 exit "$failed"

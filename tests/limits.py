@@ -301,6 +301,13 @@ def long_line(program):
     assert peak is None or peak < 32 * MEGABYTE, f"a line of 300 MB takes {peak} bytes of memory"
 
 
+def longest_line(program):
+    """Without limits a line of 268,435,456 bytes is answered, and one of a byte more ends serving."""
+    longest = b" " * 268_435_456
+    status, replies, errors = run(program, [], [longest, longest + b" ", b"{}"])
+    expect("a line past the longest", (1, [reply_of(refused("BadLine"))], "LineTooLong\n"), (status, replies, errors))
+
+
 def many_apps(program):
     """A hundred thousand applications, of which a thousand may have bundles."""
     pairs = [(install(f"app{number}", "de", SMALL), OK if number < 1000 else refused("TooManyApps")) for number in range(100000)]
@@ -422,7 +429,7 @@ def main():
         print(f"limits: skipped, as {given.program} isn't built")
         return
     program = os.path.realpath(given.program)
-    for check in (bad_command_lines, at_values, not_refused, at_the_quota, beside_another, long_line, many_apps, without_memory):
+    for check in (bad_command_lines, at_values, not_refused, at_the_quota, beside_another, long_line, longest_line, many_apps, without_memory):
         check(program)
     peak, most, sent = under_attack(program, given.seconds)
     if peak is None:

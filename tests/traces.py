@@ -1,6 +1,7 @@
 #!/usr/bin/env python3
 """Compares `resb look --trace` with `resb look` over random bundles: the reply and the status are the same, the trace ends with the
-file or the error of the reply, and the first file of its first level that is a stop is that of the reply's valid locale.
+file or the error of the reply, and the first file of its first level that is a stop is that of the reply's valid locale. Of an alias with a long text only the
+front is shown.
 
 usage: traces.py PROGRAM [LOOKUPS [SEED]]   (default: 200 lookups, seed 1)
 Ends with status 0 if all agree, with 1 if one differs; says `skipped` if there is no such program.
@@ -74,6 +75,17 @@ def differs(plain, traced, locale_of):
     return None if stops[:1] == [answer["valid"]] else f"its first stop is {stops[:1]}"
 
 
+def long_alias(program, folder):
+    """What is wrong with the trace of an alias with a long text that leads to itself, or nothing: of the text 1,000 characters
+    are shown, at each of 255 levels and more."""
+    file = os.path.join(folder, "long.txt")
+    with open(file, "w", encoding="utf-8") as text:
+        text.write('de{a:alias{"de@' + "x" * 100_000 + '/a"}}')
+    reply, trace, _ = looked(program, ["--trace", "de", "a", f"de={file}"])
+    shown = [line for line in trace.splitlines() if line == '  the alias of de: "de@' + "x" * 997 + '"..']
+    return None if json.loads(reply) == {"error": "TooManyAliases"} and len(shown) > 250 else f"{len(shown)} fronts, {len(trace)} bytes"
+
+
 def main():
     program = sys.argv[1]
     count, seed = (int(word) for word in (*sys.argv[2:], *("200", "1")[len(sys.argv) - 2:]))
@@ -96,6 +108,10 @@ def main():
                 wrong += 1
                 print(f"{' '.join(words[:2])}: {fault}")
                 print("".join(open(file, encoding="utf-8").read() + "\n" for file in locale_of))
+        fault = long_alias(program, folder)
+        if fault:
+            wrong += 1
+            print(f"an alias with a long text: {fault}")
     print(f"{count - wrong} lookups are traced as they end, {wrong} aren't; {found} found something")
     return 1 if wrong else 0
 

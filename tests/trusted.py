@@ -122,16 +122,18 @@ def contracts(crate, of_laws):
         text = file.read_text()
         scope = Scope(text)
         owner = None
+        is_inherent = False
         function = None
         for line in clauses_joined(text):
-            block = re.match(r"(?:pub )?(?:unsafe )?(impl|trait)\b(?:<[^>]*>)? *(?:.* for )?&?(\w+)", line)
+            block = re.match(r"(?:pub )?(?:unsafe )?(impl|trait)\b(?:<[^>]*>)? *(.* for )?&?(\w+)", line)
             if block:
-                owner = block[2]
+                owner = block[3]
+                is_inherent = block[1] == "impl" and not block[2]
             elif line.startswith("}"):
                 owner = None
             signature = re.match(r"\s*(pub |)(?:const |unsafe )*fn (\w+)", line)
             if signature:
-                function = is_public(signature, owner, file.stem, names, modules)
+                function = is_public(signature, owner, is_inherent, file.stem, names, modules)
             clause = re.match(r"\s*(ensures|requires)\b(.*)", line)
             shown = re.match(r"\s*ghost (?!use|invariant|inverse|coded)(\w+)(.*)", line)
             if clause and function:
@@ -151,9 +153,10 @@ def clauses_joined(text):
         held = ""
 
 
-def is_public(signature, owner, module, names, modules):
+def is_public(signature, owner, is_inherent, module, names, modules):
+    """Whether a function can be called from outside: one of a trait without a word, any other only if it is `pub`."""
     if owner:
-        return owner in names
+        return owner in names and (bool(signature[1]) or not is_inherent)
     return bool(signature[1]) and (signature[2] in names or module in modules)
 
 

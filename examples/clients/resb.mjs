@@ -88,7 +88,7 @@ export class Resb {
     return (await this.#ask({ op: "list", app })).names;
   }
 
-  // The reply to a lookup: its `type`, its value, and the locales `actual` and `valid`.
+  // The reply to a lookup: its `type`, its value, and the members that docs/SERVER.md has beside them.
   look(app, locale, path) {
     return this.#ask({ op: "look", app, locale, path });
   }

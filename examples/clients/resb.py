@@ -78,7 +78,7 @@ class Resb:
         return self._ask({"op": "list", "app": app})["names"]
 
     def look(self, app, locale, path):
-        """The reply to a lookup: its `type`, its value, and the locales `actual` and `valid`."""
+        """The reply to a lookup: its `type`, its value, and the members that docs/SERVER.md has beside them."""
         return self._ask({"op": "look", "app": app, "locale": locale, "path": path})
 
     def _send_looks(self, app, asked):

@@ -26,8 +26,10 @@ fn install(alloc: Global, app: &str, locale: &str, text: &str) -> anyhow::Result
 fn answer(engine: &mut Engine, alloc: Global, request: Request) -> Reply
     ensures others { (app locale path : List ℕ)
         → app ≢ caller (Requests request)
-        → answer_over (state_of engine.new).start ((state_of engine.new).lists app) (Looks app locale path)
-        ≡ answer_over (state_of engine.old).start ((state_of engine.old).lists app) (Looks app locale path) }
+        → answer_over (state_of engine.new).start ((state_of engine.new).lists app)
+        (Looks app locale path)
+        ≡ answer_over (state_of engine.old).start ((state_of engine.old).lists app)
+        (Looks app locale path) }
 {
     engine.handle(alloc, request)
 }

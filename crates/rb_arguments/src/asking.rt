@@ -1,4 +1,12 @@
 //! What a command line asks for.
+ghost use Rattle.std.specs.Prelude.{◌≡◌, ◌++◌, [], IfOk, IfSome, OnOk, is_some, option_map, codes};
+ghost use Rattle.clap.specs.Walk.{texts};
+ghost use Rattle.clap.specs.Words.{first_of, found_of, rows_of, subcommand_rows_of};
+ghost use Rattle.rb_arguments.specs.Rows.{IsFlagIn, IsNumberIn, alone, word_in, words_in};
+ghost use Rattle.rb_arguments.specs.Limits.{AreGiven};
+ghost use Rattle.rb_arguments.specs.Asking.{AsksFor, EntersFor, enters_command, is_command};
+ghost use Rattle.rb_arguments.specs.Asking.{texts_in};
+
 use clap::ArgMatches;
 use std::alloc::{AllocError, Global};
 
@@ -73,8 +81,9 @@ pub struct AskedLookup<'a> {
     pub files: Vec<&'a str>,
 }
 
-/// The limits of `serve`: of each application, but for those of lines and of the number of
-/// applications. One that wasn't given is none.
+/// What `serve` is limited by: the files of an application, one bundle, a reply, a line, the number
+/// of applications and the steps of a lookup; and whether it serves on after memory ran out. A
+/// limit that wasn't given is none.
 #[derive(Clone, Copy, Debug, PartialEq, Eq)]
 pub struct AskedLimits {
     /// `--app-bytes N`
@@ -95,7 +104,9 @@ pub struct AskedLimits {
 
 impl AskedLimits {
     /// No limits, as without arguments.
-    pub fn none() -> AskedLimits {
+    pub fn none() -> AskedLimits
+        ensures { AreGiven [] result }
+    {
         AskedLimits {
             app_bytes: None,
             bundle_bytes: None,
@@ -108,35 +119,73 @@ impl AskedLimits {
     }
 }
 
-/// One word of a command, empty where it wasn't given.
-fn word_of<'a>(given: &ArgMatches<'a>, id: &str) -> &'a str {
-    given.get_str(id).unwrap_or("")
+/// One word of a command, if it was given.
+fn optional_of<'a>(given: &ArgMatches<'a>, id: &str) -> Option<&'a str>
+    ensures { option_map (λ s. s.now) result ≡ first_of id.now (rows_of (found_of given.now)) }
+{
+    given.get_str(id)
+}
+
+/// One word of a command, empty if it wasn't given.
+fn word_of<'a>(given: &ArgMatches<'a>, id: &str) -> &'a str
+    ensures { result.now ≡ word_in (rows_of (found_of given.now)) id.now }
+{
+    optional_of(given, id).unwrap_or("")
 }
 
 /// Any number of words of a command, in their order.
-fn words_of<'a>(
-    alloc: Global,
-    given: &ArgMatches<'a>,
-    id: &str,
-) -> Result<Vec<&'a str>, AllocError> {
+fn words_of<'a>(alloc: Global, given: &ArgMatches<'a>, id: &str) -> Result<Vec<&'a str>, AllocError>
+    ensures { IfOk result (λ words. texts words.items
+        ≡ words_in (rows_of (found_of given.now)) id.now) }
+{
     given.get_strs(id).unwrap_or(&[]).to_vec(alloc)
 }
 
-/// The texts of `compile --to`, in their order.
-fn texts_of<'a>(alloc: Global, given: &ArgMatches<'a>) -> Result<Vec<&'a str>, AllocError> {
-    let mut texts = Vec::new(alloc);
-    for id in ["IN", "OUT"] {
-        if let Some(text) = given.get_str(id) {
-            texts.push(text)?;
-        }
+/// Whether a flag of a command is set.
+fn flag_of(given: &ArgMatches<'_>, id: &str) -> bool
+    ensures { IsFlagIn (rows_of (found_of given.now)) id.now result }
+{
+    given.get_flag(id)
+}
+
+/// The number of an option, if it was given.
+fn number_of(given: &ArgMatches<'_>, id: &str) -> Option<u64>
+    ensures { IsNumberIn (rows_of (found_of given.now)) id.now result }
+{
+    given.get_one::<u64>(id)
+}
+
+/// One more text, if it was given.
+fn push_given<'a>(
+    gathered: &mut Vec<&'a str>,
+    given: &ArgMatches<'a>,
+    id: &str,
+) -> Result<(), AllocError>
+    ensures { OnOk result (texts gathered.new.items
+        ≡ texts gathered.old.items ++ alone (first_of id.now (rows_of (found_of given.now)))) }
+{
+    if let Some(text) = optional_of(given, id) {
+        gathered.push(text)?;
     }
+    Ok(())
+}
+
+/// The texts of `compile --to`, in their order.
+fn texts_of<'a>(alloc: Global, given: &ArgMatches<'a>) -> Result<Vec<&'a str>, AllocError>
+    ensures { IfOk result (λ files. texts files.items ≡ texts_in (rows_of (found_of given.now))) }
+{
+    let mut texts = Vec::new(alloc);
+    push_given(&mut texts, given, "IN")?;
+    push_given(&mut texts, given, "OUT")?;
     texts.extend_from_slice(given.get_strs("TEXT").unwrap_or(&[]))?;
     Ok(texts)
 }
 
-fn compile_asked<'a>(alloc: Global, given: &ArgMatches<'a>) -> Result<Asked<'a>, AllocError> {
-    let is_quiet = given.get_flag("quiet");
-    Ok(match given.get_str("to") {
+fn compile_asked<'a>(alloc: Global, given: &ArgMatches<'a>) -> Result<Asked<'a>, AllocError>
+    ensures { IfOk result (AsksFor (codes "compile") (rows_of (found_of given.now))) }
+{
+    let is_quiet = flag_of(given, "quiet");
+    Ok(match optional_of(given, "to") {
         Some(folder) => Asked::CompileAll {
             folder,
             texts: texts_of(alloc, given)?,
@@ -150,90 +199,109 @@ fn compile_asked<'a>(alloc: Global, given: &ArgMatches<'a>) -> Result<Asked<'a>,
     })
 }
 
-fn check_asked<'a>(alloc: Global, given: &ArgMatches<'a>) -> Result<Asked<'a>, AllocError> {
+fn check_asked<'a>(alloc: Global, given: &ArgMatches<'a>) -> Result<Asked<'a>, AllocError>
+    ensures { IfOk result (AsksFor (codes "check") (rows_of (found_of given.now))) }
+{
     Ok(Asked::Check {
         files: words_of(alloc, given, "FILE")?,
-        is_quiet: given.get_flag("quiet"),
+        is_quiet: flag_of(given, "quiet"),
     })
 }
 
-fn get_asked<'a>(given: &ArgMatches<'a>) -> Asked<'a> {
+fn get_asked<'a>(given: &ArgMatches<'a>) -> Asked<'a>
+    ensures { AsksFor (codes "get") (rows_of (found_of given.now)) result }
+{
     Asked::Get {
         file: word_of(given, "FILE"),
         path: word_of(given, "PATH"),
     }
 }
 
-fn json_asked<'a>(given: &ArgMatches<'a>) -> Asked<'a> {
+fn json_asked<'a>(given: &ArgMatches<'a>) -> Asked<'a>
+    ensures { AsksFor (codes "json") (rows_of (found_of given.now)) result }
+{
     Asked::Json {
         file: word_of(given, "FILE"),
         path: word_of(given, "PATH"),
-        is_pretty: given.get_flag("pretty"),
+        is_pretty: flag_of(given, "pretty"),
     }
 }
 
-fn text_asked<'a>(given: &ArgMatches<'a>) -> Asked<'a> {
+fn text_asked<'a>(given: &ArgMatches<'a>) -> Asked<'a>
+    ensures { AsksFor (codes "text") (rows_of (found_of given.now)) result }
+{
     Asked::Text {
         file: word_of(given, "FILE"),
-        name: given.get_str("name"),
+        name: optional_of(given, "name"),
     }
 }
 
-fn lint_asked<'a>(alloc: Global, given: &ArgMatches<'a>) -> Result<Asked<'a>, AllocError> {
+fn lint_asked<'a>(alloc: Global, given: &ArgMatches<'a>) -> Result<Asked<'a>, AllocError>
+    ensures { IfOk result (AsksFor (codes "lint") (rows_of (found_of given.now))) }
+{
     Ok(Asked::Lint {
-        root: given.get_str("root"),
+        root: optional_of(given, "root"),
         texts: words_of(alloc, given, "TEXT")?,
     })
 }
 
-fn lines_asked<'a>(alloc: Global, given: &ArgMatches<'a>) -> Result<Asked<'a>, AllocError> {
+fn lines_asked<'a>(alloc: Global, given: &ArgMatches<'a>) -> Result<Asked<'a>, AllocError>
+    ensures { IfOk result (AsksFor (codes "lines") (rows_of (found_of given.now))) }
+{
     Ok(Asked::Lines {
-        op: given.get_str("op"),
+        op: optional_of(given, "op"),
         app: word_of(given, "APP"),
         files: words_of(alloc, given, "FILE")?,
     })
 }
 
-fn look_asked<'a>(alloc: Global, given: &ArgMatches<'a>) -> Result<Asked<'a>, AllocError> {
+fn look_asked<'a>(alloc: Global, given: &ArgMatches<'a>) -> Result<Asked<'a>, AllocError>
+    ensures { IfOk result (AsksFor (codes "look") (rows_of (found_of given.now))) }
+{
     Ok(Asked::Look(AskedLookup {
-        parents: given.get_str("parents"),
+        parents: optional_of(given, "parents"),
         locale: word_of(given, "LOCALE"),
         path: word_of(given, "PATH"),
-        is_traced: given.get_flag("trace"),
+        is_traced: flag_of(given, "trace"),
         files: words_of(alloc, given, "FILE")?,
     }))
 }
 
-/// The limits of `serve`. Each is from 1 to 9,223,372,036,854,775,808: `clap` takes no other.
-fn limits_asked(given: &ArgMatches<'_>) -> AskedLimits {
+/// The limits of `serve`. Which numbers an option takes is `clap`'s to check.
+fn limits_asked(given: &ArgMatches<'_>) -> AskedLimits
+    ensures { AreGiven (rows_of (found_of given.now)) result }
+{
     AskedLimits {
-        app_bytes: given.get_one::<u64>("app-bytes"),
-        bundle_bytes: given.get_one::<u64>("bundle-bytes"),
-        reply_bytes: given.get_one::<u64>("reply-bytes"),
-        line_bytes: given.get_one::<u64>("line-bytes"),
-        apps: given.get_one::<u64>("apps"),
-        steps: given.get_one::<u64>("steps"),
-        keep_serving: given.get_flag("keep-serving"),
+        app_bytes: number_of(given, "app-bytes"),
+        bundle_bytes: number_of(given, "bundle-bytes"),
+        reply_bytes: number_of(given, "reply-bytes"),
+        line_bytes: number_of(given, "line-bytes"),
+        apps: number_of(given, "apps"),
+        steps: number_of(given, "steps"),
+        keep_serving: flag_of(given, "keep-serving"),
     }
 }
 
-fn serve_asked<'a>(alloc: Global, given: &ArgMatches<'a>) -> Result<Asked<'a>, AllocError> {
+fn serve_asked<'a>(alloc: Global, given: &ArgMatches<'a>) -> Result<Asked<'a>, AllocError>
+    ensures { IfOk result (AsksFor (codes "serve") (rows_of (found_of given.now))) }
+{
     Ok(Asked::Serve {
-        parents: given.get_str("parents"),
+        parents: optional_of(given, "parents"),
         bundles: words_of(alloc, given, "bundles")?,
         limits: limits_asked(given),
     })
 }
 
-/// What a command line asks for, by what `clap` took of it; none where it names no command. An
-/// error only where out of memory.
-pub fn asked_by<'a>(
+/// What a command asks for; none if there is no such command.
+fn command_asked<'a>(
     alloc: Global,
-    matches: &ArgMatches<'a>,
-) -> Result<Option<Asked<'a>>, AllocError> {
-    let Some((command, given)) = matches.subcommand() else {
-        return Ok(None);
-    };
+    command: &str,
+    given: &ArgMatches<'a>,
+) -> Result<Option<Asked<'a>>, AllocError>
+    ensures variant { IfOk result (λ asked. is_some asked ≡ is_command command.now) }
+    ensures asked { IfOk result (λ asked.
+        IfSome asked (AsksFor command.now (rows_of (found_of given.now)))) }
+{
     Ok(Some(match command {
         "compile" => compile_asked(alloc, given)?,
         "check" => check_asked(alloc, given)?,
@@ -242,11 +310,28 @@ pub fn asked_by<'a>(
         "text" => text_asked(given),
         "lint" => lint_asked(alloc, given)?,
         "explain" => Asked::Explain {
-            word: given.get_str("WORD"),
+            word: optional_of(given, "WORD"),
         },
         "lines" => lines_asked(alloc, given)?,
         "look" => look_asked(alloc, given)?,
         "serve" => serve_asked(alloc, given)?,
         _ => return Ok(None),
     }))
+}
+
+/// What a command line asks for, by what `clap` took of it; none if it names no command. An
+/// error only if memory runs out.
+pub fn asked_by<'a>(
+    alloc: Global,
+    matches: &ArgMatches<'a>,
+) -> Result<Option<Asked<'a>>, AllocError>
+    ensures variant { IfOk result (λ asked.
+        is_some asked ≡ enters_command (subcommand_rows_of matches.now)) }
+    ensures asked { IfOk result (λ asked.
+        IfSome asked (EntersFor (subcommand_rows_of matches.now))) }
+{
+    match matches.subcommand() {
+        Some((command, given)) => command_asked(alloc, command, given),
+        None => Ok(None),
+    }
 }

@@ -1,4 +1,5 @@
-//! The command line of `resb`: its commands, their arguments and their help, and what a command line asks for.
+//! The command line of `resb`: its commands, their arguments and their help, and what a command
+//! line asks for.
 #![tactic(auto)]
 
 mod argument;
@@ -6,8 +7,6 @@ mod asking;
 mod bundle_commands;
 mod command_line;
 mod serving;
-#[cfg(test)]
-mod tests;
 mod text_commands;
 
 pub use asking::{Asked, AskedLimits, AskedLookup, asked_by};

@@ -1,12 +1,13 @@
-//! Replies that are handed on together: a feed that notes whether its buffer holds a further whole line, and a writer that flushes only
-//! where it doesn't.
+//! Replies that are handed on together: a feed that notes whether its buffer holds a further whole
+//! line, and a writer that flushes only if it doesn't.
 use memchr::memchr;
 use rb_requests::{Failed, Feed, ReadFeed, Run};
 use std::cell::Cell;
 use std::io;
 use std::io::{BufReader, Read, Write};
 
-/// A feed over a reader's buffer. After each line feed that it gives, it notes whether the buffer holds another.
+/// A feed over a reader's buffer. After each line feed that it gives, it notes whether the buffer
+/// holds another.
 #[derive(Drop)]
 pub struct NotingFeed<'a, R: Read> {
     inner: ReadFeed<BufReader<R>>,
@@ -50,7 +51,8 @@ impl<'a, R: Read> Feed for NotingFeed<'a, R> {
     }
 }
 
-/// A writer that is flushed only where no further whole line is held. What it takes is held in its buffer until then.
+/// A writer that is flushed only if no further whole line is held. What it takes is held in its
+/// buffer until then.
 #[derive(Drop)]
 pub struct WaitingWriter<'a, W: Write + Drop> {
     inner: W,

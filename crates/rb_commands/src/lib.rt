@@ -1,11 +1,9 @@
-//! The commands of `resb`, over any runtime: serving; those over files and those of lookups are rb_file_commands' and
-//! rb_lookup_commands', and are here too.
+//! The commands of `resb`, over any runtime: serving; those over files and those of lookups are
+//! rb_file_commands' and rb_lookup_commands', and are here too.
 #![tactic(auto)]
 
 mod handing;
 mod serve;
-#[cfg(test)]
-mod tests;
 
 pub use rb_console::{Console, Hint};
 pub use rb_file_commands::{

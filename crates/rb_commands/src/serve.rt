@@ -1,7 +1,10 @@
 //! `resb serve`.
-ghost use Rattle.std.specs.Prelude.{◌≤◌, IfErr, IfOk};
+ghost use Rattle.std.specs.Prelude.{◌≡◌, ◌≤◌, IfErr, IfOk};
 ghost use Rattle.rb_engine.specs.Kept.{state_of};
-ghost use Rattle.rb_requests.specs.Served.{AfterFault, AfterFaultWithin, at};
+ghost use Rattle.rb_requests.specs.Device.{risen_by};
+ghost use Rattle.rb_requests.specs.Served.{AfterFault, AfterFaultWithin, AnswersAll, AnswersWithin};
+ghost use Rattle.rb_requests.specs.Served.{at};
+ghost use Rattle.rb_requests.specs.Served.{reads_failed, writes_failed};
 ghost use Rattle.rb_requests.specs.Within.{LineReplyWithin, longest_read};
 ghost use Rattle.rb_commands.specs.inner.Limits.{most_lines};
 
@@ -22,17 +25,27 @@ use std::rt::Files;
 /// The most lines of one run.
 const MAX_LINES: u64 = 1_099_511_627_776;
 
-/// Serves no more lines than one run may have.
+/// Serves at most `MAX_LINES` lines. It is a function of its own, so that a contract has the
+/// number.
 fn serve_run<F: Feed, S: Sink>(
     alloc: Global,
     engine: &mut Engine,
     feed: &mut F,
     sink: &mut S,
 ) -> Result<Served, ServeFault>
+    ensures all { IfOk result (λ served. AnswersAll
+        (at (state_of engine.old) (F.left feed.old) (S.written sink.old) (S.settled sink.old))
+        (at (state_of engine.new) (F.left feed.new) (S.written sink.new)
+        (S.settled sink.new)) served.lines) }
     ensures most { IfOk result (λ served. served.lines ≤ most_lines) }
+    ensures settled { IfOk result
+        (λ served. S.settled sink.new ≡ risen_by (S.settled sink.old) served.lines) }
     ensures fault { IfErr result (λ fault. AfterFault fault
         (at (state_of engine.old) (F.left feed.old) (S.written sink.old) (S.settled sink.old))
-        (at (state_of engine.new) (F.left feed.new) (S.written sink.new) (S.settled sink.new)) most_lines) }
+        (at (state_of engine.new) (F.left feed.new) (S.written sink.new)
+        (S.settled sink.new)) most_lines) }
+    ensures reads { F.faults feed.new ≡ reads_failed (F.faults feed.old) result }
+    ensures writes { S.faults sink.new ≡ writes_failed (S.faults sink.old) result }
 {
     serve(alloc, engine, feed, sink, MAX_LINES)
 }
@@ -45,16 +58,24 @@ fn limited_run<F: Feed, S: Sink>(
     feed: &mut F,
     sink: &mut S,
 ) -> Result<Served, ServeFault>
+    ensures all { IfOk result (λ served. AnswersWithin
+        (LineReplyWithin limits.now) (longest_read limits.now)
+        (at engine.old (F.left feed.old) (S.written sink.old) (S.settled sink.old))
+        (at engine.new (F.left feed.new) (S.written sink.new) (S.settled sink.new)) served.lines) }
     ensures most { IfOk result (λ served. served.lines ≤ most_lines) }
+    ensures settled { IfOk result
+        (λ served. S.settled sink.new ≡ risen_by (S.settled sink.old) served.lines) }
     ensures fault { IfErr result (λ fault. AfterFaultWithin
         (LineReplyWithin limits.now) (longest_read limits.now) fault
         (at engine.old (F.left feed.old) (S.written sink.old) (S.settled sink.old))
         (at engine.new (F.left feed.new) (S.written sink.new) (S.settled sink.new)) most_lines) }
+    ensures reads { F.faults feed.new ≡ reads_failed (F.faults feed.old) result }
+    ensures writes { S.faults sink.new ≡ writes_failed (S.faults sink.old) result }
 {
     serve_limited(alloc, engine, limits, feed, sink, MAX_LINES)
 }
 
-/// Hands on the replies that are still held where serving ended early. Where that fails, the error
+/// Hands on the replies that are still held if serving ended early. If that fails, the error
 /// is `Write`.
 fn handed_on<W: Write + Drop>(writer: &mut WaitingWriter<'_, W>, fault: ServeFault) -> ServeFault {
     if fault == ServeFault::Write || writer.hand_on().is_ok() {
@@ -88,7 +109,7 @@ fn serve_buffered<R: Input + Print + AllocGlobal>(
 }
 
 /// Answers the lines of standard input. The status is 0 once the input is read, and else 1, with
-/// the fault's name on standard error; `Memory` also where there is none for the buffers.
+/// the fault's name on standard error; `Memory` also if there is none for the buffers.
 fn serve_lines<R: Input + Print + Eprint + AllocGlobal>(
     rt: &R,
     console: Console,
@@ -111,8 +132,8 @@ fn serve_lines<R: Input + Print + Eprint + AllocGlobal>(
 /// its first `=`. A file whose name ends in `.txt` is bundle text, any other a `.res` file.
 ///
 /// The status is 0 once the input is read. It is 2 for an argument that isn't `LOCALE=FILE`, a file
-/// that can't be read, and a runtime without random numbers; 1 where a file is refused, with its
-/// error's name, out of memory, and where serving ends early, with the name of the error. Each is a
+/// that can't be read, and a runtime without random numbers; 1 if a file is refused, with its
+/// error's name, out of memory, and if serving ends early, with the name of the error. Each is a
 /// line on standard error. All arguments are split before a file is read, and the parents are
 /// judged before another file is read.
 pub fn serve_input<R: Files + RandomSource + Input + Print + Eprint + AllocGlobal>(

@@ -11,10 +11,11 @@ use rb_parser::parse;
 use rb_writer::write;
 use std::alloc::Global;
 
-/// The file of the bundle that a text spells, in ResB format 1, as ICU's `genrb --formatVersion 1` writes it but for what it
-/// shares. Its buffer holds the file and nothing else.
+/// The file of the bundle that a text spells, in ResB format 1, as ICU's `genrb --formatVersion 1`
+/// writes it but for what it shares. Its buffer holds the file and nothing else.
 ///
-/// The errors and their lines are those of `parse`; `Memory` has line 0. No memory is kept after an error.
+/// The errors and their lines are those of `parse`; `Memory` has line 0. No memory is kept after an
+/// error.
 ///
 /// ```rust
 /// let file = compile(alloc, b"root{a{\"b\"}}")?; // 76 bytes
@@ -24,7 +25,8 @@ pub fn compile(alloc: Global, text: &[u8]) -> Result<Vec<u8>, SourceFault>
     // What is given is a file of the bundle that the text spells.
     ensures compiled { IfOk result (λ file. IsCompiled text.now file.items) }
     // It ends with its bundle.
-    ensures end { IfOk result (λ file. length file.items ≡ 32 + 4 * word_at (drop 32 file.items) 4) }
+    ensures end { IfOk result
+        (λ file. length file.items ≡ 32 + 4 * word_at (drop 32 file.items) 4) }
     // A good source is compiled, unless memory runs out.
     ensures only { (name : List ℕ) (source : SourceTree) → IsGoodSource text.now name source
         → IfErr result (λ e. e.kind ≡ Memory) }

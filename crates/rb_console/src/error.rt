@@ -1,4 +1,8 @@
 //! Why a command doesn't start.
+ghost use Rattle.std.specs.Prelude.{◌≡◌};
+ghost use Rattle.std.specs.Process.{exit_status};
+ghost use Rattle.rb_console.specs.Status.{start_status};
+
 use crate::console::Console;
 use std::process::ExitCode;
 
@@ -17,9 +21,11 @@ pub enum StartError<'a> {
     Memory,
 }
 
-/// Says why a command doesn't start, on a line of standard error. The status is 1 where a file is refused and out of memory, and
-/// else 2.
-pub fn not_started_on<R: Eprint>(rt: &R, console: Console, error: StartError<'_>) -> ExitCode {
+/// Says why a command doesn't start, on a line of standard error. The status is 1 if a file is
+/// refused or memory runs out, and else 2.
+pub fn not_started_on<R: Eprint>(rt: &R, console: Console, error: StartError<'_>) -> ExitCode
+    ensures status { exit_status result ≡ start_status error.entry }
+{
     let (_, status) = match error {
         StartError::BadArgument(argument) => (eprintln!(rt; "bad bundle argument: {argument}"), 2),
         StartError::Unreadable(file) => (eprintln!(rt; "cannot read {file}"), 2),

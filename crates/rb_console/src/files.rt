@@ -1,4 +1,9 @@
 //! Files, read and written whole.
+ghost use Rattle.std.specs.Prelude.{◌≡◌};
+ghost use Rattle.std.specs.IoError.{error_kind};
+ghost use Rattle.std.specs.Process.{exit_status};
+ghost use Rattle.rb_console.specs.Status.{printed_status, unread_status};
+
 use crate::console::Console;
 use rb_format::FILE_LIMIT;
 use std::fs::{File, OpenFile, OpenOptions, Permissions};
@@ -20,13 +25,13 @@ pub fn read_file<R: Files + AllocGlobal>(rt: &R, name: &str) -> io::Result<Vec<u
     Ok(bytes)
 }
 
-/// Writes a file where it stands: a link leads to what is written. Where that fails once the file is there, the half of it is taken
-/// away again; a device stays.
+/// Writes a file where it stands: a link leads to what is written. If that fails once the file is
+/// there, the half of it is taken away again; a device stays.
 fn write_through<R: Files>(rt: &R, name: &str, bytes: &[u8]) -> io::Result<()> {
     let mut file = fs::create(rt, name)?;
     let written = file.write_all(bytes);
     if written.is_err() && file.metadata().is_ok_and(|told| told.is_file()) {
-        // where the name is a link, what it leads to is emptied
+        // if the name is a link, what it leads to is emptied
         let _ = file.set_len(0);
         let _ = fs::remove_file(rt, name);
     }
@@ -46,8 +51,9 @@ fn write_new<R: Files>(
     file.write_all(bytes)
 }
 
-/// Writes a file beside its place, and renames it over what is there. An older file stays whole until then, and where it may not be
-/// written it stays. In a folder that takes no new file an older one is written through.
+/// Writes a file beside its place, and renames it over what is there. An older file stays whole
+/// until then, and if it may not be written it stays. In a folder that takes no new file an older
+/// one is written through.
 fn write_beside<R: Files + AllocGlobal>(
     rt: &R,
     name: &str,
@@ -78,8 +84,8 @@ fn write_beside<R: Files + AllocGlobal>(
     written
 }
 
-/// Writes a file: beside its place and renamed over it, where an ordinary file is or none, so that no half file is ever there; a link
-/// and a device are written through.
+/// Writes a file: beside its place and renamed over it, if an ordinary file or none is there, so
+/// that no half file is ever there; a link and a device are written through.
 pub fn write_file<R: Files + AllocGlobal>(rt: &R, name: &str, bytes: &[u8]) -> io::Result<()> {
     match rt.symlink_metadata(name) {
         Ok(older) if older.is_file() => write_beside(rt, name, Some(older.permissions()), bytes),
@@ -99,15 +105,17 @@ pub fn are_same_file<R: Files>(rt: &R, a: &str, b: &str) -> bool {
     first.is_file() && (is_same || a == b)
 }
 
-/// Says that a file could not be read: out of memory, which is reported after the name and `line`, or for another cause. `line` is
-/// `:0` for a text, whose errors have a line, and else empty.
+/// Says that a file could not be read: out of memory, which is reported after the name and `line`,
+/// or for another cause. `line` is `:0` for a text, whose errors have a line, and else empty.
 pub fn cannot_read_on<R: Eprint>(
     rt: &R,
     console: Console,
     name: &str,
     line: &str,
     error: io::Error,
-) -> ExitCode {
+) -> ExitCode
+    ensures status { exit_status result ≡ unread_status (error_kind error) }
+{
     if error.kind() == ErrorKind::OutOfMemory {
         let hint = console.hint("Memory");
         let _ = eprintln!(rt; "{name}{line}: Memory{hint}");
@@ -118,14 +126,18 @@ pub fn cannot_read_on<R: Eprint>(
 }
 
 /// Says that a file or a path is refused, by the error's name.
-pub fn refused_on<R: Eprint>(rt: &R, console: Console, place: &str, word: &str) -> ExitCode {
+pub fn refused_on<R: Eprint>(rt: &R, console: Console, place: &str, word: &str) -> ExitCode
+    ensures status { exit_status result ≡ 1 }
+{
     let hint = console.hint(word);
     let _ = eprintln!(rt; "{place}: {word}{hint}");
     ExitCode::from(1)
 }
 
 /// Ends a command whose output was written, or not.
-pub fn printed<R: Eprint>(rt: &R, written: io::Result<()>) -> ExitCode {
+pub fn printed<R: Eprint>(rt: &R, written: io::Result<()>) -> ExitCode
+    ensures status { exit_status result ≡ printed_status written }
+{
     if written.is_err() {
         let _ = eprintln!(rt; "cannot write stdout");
         return ExitCode::from(2);

@@ -47,8 +47,8 @@ fn split(form: Form, argument: &str) -> Option<Given<'_>> {
     Some(Given { locale, name, file })
 }
 
-/// The arguments, each split at its first `=`. Errors: `BadArgument` with the first that isn't of the form, or whose locale is no
-/// locale's name; `Memory` where out of memory.
+/// The arguments, each split at its first `=`. Errors: `BadArgument` with the first that isn't of
+/// the form, or whose locale is no locale's name; `Memory` if memory runs out.
 pub fn all_given<'a>(
     alloc: Global,
     form: Form,
@@ -71,8 +71,8 @@ pub fn is_text(file: &str) -> bool {
     file.ends_with(".txt")
 }
 
-/// The bytes of a file, as `read_file`. Where they can't be read, that is said, out of memory at line 0 of a text, and the status is
-/// given.
+/// The bytes of a file, as `read_file`. Where they can't be read, that is said, out of memory at
+/// line 0 of a text, and the status is given.
 pub fn read_given<R: Files + AllocGlobal + Eprint>(
     rt: &R,
     console: Console,

@@ -1,5 +1,5 @@
-//! What the commands of `resb` share, over any runtime: how they speak, the files that they read and write, and the bundles that
-//! their arguments name.
+//! What the commands of `resb` share, over any runtime: how they speak, the files that they read
+//! and write, and the bundles that their arguments name.
 #![tactic(auto)]
 
 mod console;

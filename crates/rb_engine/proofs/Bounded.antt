@@ -1,5 +1,5 @@
 -- A lookup that may take only so many steps, as an answer.
-use Rattle.std.proofs.Common.{◌≡◌, ℕ, Bool, true, false, cond, List, Option, Some, Result, Ok, Err, IfOk, refl, sym, ◌∙◌, ap}
+use Rattle.std.proofs.Common.{◌≡◌, ℕ, Bool, true, false, cond, List, Some, Result, Ok, Err, refl, sym, ◌∙◌, ap}
 use Rattle.std.specs.Prelude.{nat_lt}
 use Rattle.std.proofs.lemmas.Bool.{false≢true}
 use Rattle.rb_tree.specs.Resource.{Resource}
@@ -8,7 +8,7 @@ use Rattle.rb_tree.proofs.Paths.{path_test}
 use Rattle.rb_parents.specs.Trail.{Bundles, ParentsOf}
 use Rattle.rb_fallback.specs.Answers.{hit_of, bounded_answer_of}
 use Rattle.rb_fallback.specs.Search.{Hit, look_up, first_stop}
-use Rattle.rb_fallback.specs.Steps.{look_steps, look_up_within, if_within, searched}
+use Rattle.rb_fallback.specs.Steps.{look_steps, look_up_within, searched}
 use Rattle.rb_fallback.specs.declared.fault.BoundedError.{BoundedError}
 use Rattle.rb_fallback.specs.declared.fault.BoundedError.TheVariants.{TooManySteps, Search}
 use Rattle.rb_fallback.specs.declared.fault.LookError.{LookError}
@@ -20,7 +20,7 @@ use Rattle.rb_engine.specs.Steps.{takes_more_from}
 use Rattle.rb_engine.specs.declared.request.LookFault.{LookFault}
 use Rattle.rb_engine.proofs.Lookups.{IsTold, lookup_is}
 
--- what the search gives, where the steps are enough
+-- what the search gives, if the steps are enough
 searched_ok : (steps taken : ℕ) (b : Bool) (answer : Result Hit LookError) (hit : Hit) → nat_lt steps taken ≡ b
     → Ok hit ≡ cond b (Err TooManySteps) (searched answer) → (b ≡ false) × (answer ≡ Ok hit)
 searched_ok steps taken true answer hit e h = cc

@@ -102,7 +102,7 @@ out_of_memory r s may parents = inl (record { memory = refl; may = may; start = 
 
 -- ---- a request that brings no bundle
 
--- what an install and a replacement come to where there is no bundle
+-- what an install and a replacement come to if there is no bundle
 record BringsNone (r : Result Place PlaceFault) (content : Content) (reply : Reply) : Type 0 where
   install : (shelf : Shelf) → Replies reply ≡ Replies (install_reply r content shelf)
   replace : (shelf : Shelf) → Replies reply ≡ Replies (replace_reply r content shelf)

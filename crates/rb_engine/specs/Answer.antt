@@ -1,5 +1,5 @@
--- What an application is answered over its bundles, and what its bundles are then. A lookup is the search of rb_fallback, after ICU's
--- `ures_getByKeyWithFallback`; the requests are this project's own.
+-- What an application is answered over its bundles, and what its bundles are then. A lookup is the search of
+-- rb_fallback, after ICU's `ures_getByKeyWithFallback`; the requests are this project's own.
 use Rattle.std.specs.Prelude.{ℕ, List, [], ◌∷◌, ◌++◌, ◌||◌, map, if◌then◌else◌, Option, Some, None, Result, Ok, Err}
 use Rattle.rb_tree.specs.SourceTree.{SourceTree}
 use Rattle.rb_tree.specs.Path.{is_path, segments}
@@ -16,7 +16,8 @@ use Rattle.rb_engine.specs.declared.place.Place.{Place}
 use Rattle.rb_engine.specs.declared.place.PlaceFault.{PlaceFault}
 use Rattle.rb_engine.specs.declared.place.PlaceFault.TheVariants as place
 use Rattle.rb_engine.specs.declared.request.Reply.{Reply}
-use Rattle.rb_engine.specs.declared.request.Reply.TheVariants.{Done, Names, BadApp, Reserved, BadLocale, BadText, BadFile, Exists, Absent, Full}
+use Rattle.rb_engine.specs.declared.request.Reply.TheVariants.{Done, Names, BadApp, Reserved, BadLocale, BadText}
+use Rattle.rb_engine.specs.declared.request.Reply.TheVariants.{BadFile, Exists, Absent, Full}
 use Rattle.rb_engine.specs.declared.request.LookFault.{LookFault}
 use Rattle.rb_engine.specs.declared.request.LookFault.TheVariants as fault
 
@@ -33,7 +34,7 @@ pub data Response : Type 0 where
 
 -- ---- its bundles after what it asks
 
--- a bundle goes after the others where its name is new and fewer than the most are there
+-- a bundle goes after the others if its name is new and fewer than the most are there
 abbrev pub added : Place → SourceTree → Shelf → Shelf
 added p source shelf = if holds p.name shelf || is_full shelf then shelf else shelf ++ (p.name, source) ∷ []
 
@@ -105,7 +106,7 @@ look_refusal place.BadApp = fault.BadApp
 look_refusal place.Reserved = fault.Reserved
 look_refusal place.BadLocale = fault.BadLocale
 
--- the valid locale is the first stop of the trail; where the trail has none there is nothing to find
+-- the valid locale is the first stop of the trail; if the trail has none there is nothing to find
 abbrev pub search_response : Option (List ℕ) → Result Hit LookError → Response
 search_response valid (Err e) = Refuses (look_fault_of e)
 search_response None (Ok hit) = Refuses fault.NoBundle

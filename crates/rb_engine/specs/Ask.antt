@@ -1,4 +1,5 @@
--- What an application calls, and what it asks by that: a payload counts by the bundle that it is. The requests are this project's own.
+-- What an application calls, and what it asks by that: a payload counts by the bundle that it is. The requests are this
+-- project's own.
 use Rattle.std.specs.Prelude.{◌≡◌, ℕ, List, Option, Some, None, Result, Ok, Err}
 use Rattle.rb_tree.specs.SourceTree.{SourceTree}
 use Rattle.rb_parser.specs.Source.{IsGoodSource}
@@ -27,7 +28,8 @@ abbrev pub caller : Call → List ℕ
 caller (Requests r) = requester r
 caller (LooksUp app locale path) = app
 
--- the bundle that a text spells, or nothing where it is not a good text; the bundle that a file denotes, or nothing; and a payload that is not looked at
+-- the bundle that a text spells, or nothing if it is not a good text; the bundle that a file denotes, or nothing;
+-- and a payload that is not looked at
 pub data Content : Type 0 where
   spelled : Option SourceTree → Content
   denoted : Option SourceTree → Content
@@ -43,7 +45,7 @@ IsContent (File bytes) (denoted None) = (source : SourceTree) → Denotes bytes 
 IsContent (File bytes) (spelled source) = ⊥
 IsContent (File bytes) unread = ⊥
 
--- a payload is looked at only where the request names a place
+-- a payload is looked at only if the request names a place
 abbrev pub IsRead : Result Place PlaceFault → Payload → Content → Type 0
 IsRead (Err e) payload content = content ≡ unread
 IsRead (Ok p) payload content = IsContent payload content
@@ -57,8 +59,10 @@ pub data Ask : Type 0 where
   Looks : (app locale path : List ℕ) → Ask
 
 abbrev pub RequestMeans : Request → Ask → Type 0
-RequestMeans (request.Install app locale payload) ask = (content : Content) × IsRead (place_of app locale) payload content × (ask ≡ Installs app locale content)
-RequestMeans (request.Replace app locale payload) ask = (content : Content) × IsRead (place_of app locale) payload content × (ask ≡ Replaces app locale content)
+RequestMeans (request.Install app locale payload) ask = (content : Content)
+    × IsRead (place_of app locale) payload content × (ask ≡ Installs app locale content)
+RequestMeans (request.Replace app locale payload) ask = (content : Content)
+    × IsRead (place_of app locale) payload content × (ask ≡ Replaces app locale content)
 RequestMeans (request.Remove app locale) ask = ask ≡ Removes app locale
 RequestMeans (request.List app) ask = ask ≡ Lists app
 

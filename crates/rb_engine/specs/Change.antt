@@ -23,7 +23,8 @@ abbrev pub files_after : Change → List ℕ → List ℕ → Files → Files
 files_after changes.Install name file files = files ++ (name, file) ∷ []
 files_after changes.Replace name file files = set_value (bytes_eq name) files file
 
--- a removal at a place, if it is done, takes out the application's file of that name; it changes no other application's files
+-- a removal at a place, if it is done, takes out the application's file of that name; it changes no other application's
+-- files
 pub record RemovesAt (p : Place) (reply : Reply) (old new : Stored) : Type 0 where
   pub own : reply ≡ Done → files_of p.app new ≡ remove_entry (bytes_eq p.name) (files_of p.app old)
   pub others : OthersStay p.app old new

@@ -1,4 +1,5 @@
--- Histories of many applications on one engine, and what holds of them all: this project's own rule that none sees another's bundles.
+-- Histories of many applications on one engine, and what holds of them all: this project's own rule that none sees
+-- another's bundles.
 use Rattle.std.specs.Prelude.{◌≡◌, ◌≢◌, ℕ, Bool, true, false, List, [], ◌∷◌, ◌++◌, not, map, filter, ◌⊎◌}
 use Rattle.std.specs.Str.{bytes_eq}
 use Rattle.rb_packages.specs.Shelf.{Shelf}
@@ -98,9 +99,11 @@ AnswersOwn =
     (start : Start) (before after : List Turn) (turn : Turn) (end : State)
     → Run (new_state start) (before ++ turn ∷ after) end
     → is_memory turn.response ≡ false
-    → (asked : List Ask) × (ask : Ask) × EachMeans (own_calls (caller turn.call) before) asked × Means turn.call ask × (turn.response ≡ answer start asked ask)
+    → (asked : List Ask) × (ask : Ask) × EachMeans (own_calls (caller turn.call) before) asked × Means turn.call ask
+    × (turn.response ≡ answer start asked ask)
 
--- two histories with the same start, and with the same calls of one application, the same ones of which ran out of memory, answer it the same
+-- two histories with the same start, and with the same calls of one application, the same ones of which ran out of
+-- memory, answer it the same
 abbrev pub IsIsolated : Type 0
 IsIsolated =
     (start : Start) (app : List ℕ) (first second : List Turn) (end end' : State)

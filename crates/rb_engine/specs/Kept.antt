@@ -31,15 +31,18 @@ KeepsTexts =
     → (from path : List ℕ) → lookup_from start (shelf_of (before ++ (locale, file) ∷ after)) from path
     ≡ lookup_from start (shelf_of before ++ (locale, source) ∷ shelf_of after) from path
 
--- the same where ICUDATA has such a file
+-- the same if ICUDATA has such a file
 abbrev pub KeepsCommonTexts : Type 0
 KeepsCommonTexts =
     (parents : ParentsOf) (own : Shelf) (before after : Files) (locale text name file : List ℕ) (source : SourceTree)
     → IsGoodSource text name source
     → Denotes file source
-    → (from path : List ℕ) → lookup_from (record { icudata = shelf_of (before ++ (locale, file) ∷ after); parents = parents }) own from path
-    ≡ lookup_from (record { icudata = shelf_of before ++ (locale, source) ∷ shelf_of after; parents = parents }) own from path
+    → (from path : List ℕ)
+    → lookup_from (record { icudata = shelf_of (before ++ (locale, file) ∷ after); parents = parents }) own from path
+    ≡ lookup_from
+    (record { icudata = shelf_of before ++ (locale, source) ∷ shelf_of after; parents = parents }) own from path
 
 -- the root of the file is the tree of the text
 abbrev pub KeepsTrees : Type 0
-KeepsTrees = (text name file : List ℕ) (source : SourceTree) → IsGoodSource text name source → Denotes file source → tree_of file ≡ source.tree
+KeepsTrees = (text name file : List ℕ) (source : SourceTree) → IsGoodSource text name source → Denotes file source
+    → tree_of file ≡ source.tree

@@ -56,21 +56,24 @@ IsFileFault e f = ((e ≡ file.Memory) × (f ≡ fault.Memory)) ⊎ ((e ≡ file
 
 -- an entry at an index is added last to a shelf, or is refused
 abbrev pub Adds : ℕ → List ℕ → Payload → Shelf → Result (Unit {0}) StartFault → Shelf → Type 0
-Adds index name payload old (Ok done) new = (source : SourceTree) × HasBundle payload source × (holds name old ≡ false) × (new ≡ old ++ (name, source) ∷ [])
+Adds index name payload old (Ok done) new = (source : SourceTree) × HasBundle payload source × (holds name old ≡ false)
+    × (new ≡ old ++ (name, source) ∷ [])
 Adds index name (Text text) old (Err (start.BadText i)) new = (i ≡ index) × IsContent (Text text) (spelled None)
 Adds index name (File file) old (Err (start.BadText i)) new = ⊥
 Adds index name (Text text) old (Err (start.BadFile i)) new = ⊥
 Adds index name (File file) old (Err (start.BadFile i)) new = (i ≡ index) × IsContent (File file) (denoted None)
-Adds index name payload old (Err (start.Twice i)) new = (i ≡ index) × (source : SourceTree) × HasBundle payload source × (holds name old ≡ true)
+Adds index name payload old (Err (start.Twice i)) new = (i ≡ index) × (source : SourceTree) × HasBundle payload source
+    × (holds name old ≡ true)
 Adds index name payload old (Err start.Memory) new = Unit {0}
 
--- the reply where a payload gives no bundle
+-- the reply if a payload gives no bundle
 abbrev pub unread_reply : PayloadFault → Reply
 unread_reply fault.BadText = reply.BadText
 unread_reply fault.BadFile = reply.BadFile
 unread_reply fault.Memory = reply.Memory
 
--- a request's place with the file of its payload's bundle; or the reply where it names no place, or where its payload has no bundle
+-- a request's place with the file of its payload's bundle; or the reply if it names no place, or if its payload
+-- has no bundle
 abbrev pub Reads : List ℕ → List ℕ → Payload → Result (Place × List ℕ) Reply → Type 0
 Reads app locale payload (Ok r) = (place_of app locale ≡ Ok r.0) × HasBundle payload (source_tree_of r.1)
 Reads app locale payload (Err reply) =
@@ -84,9 +87,10 @@ change_request changes.Replace = request.Replace
 
 -- a request is answered with a reply over what packages have, and changes it, whatever the explicit parents are
 abbrev pub Handles : Request → Reply → Stored → Stored → Type 0
-Handles r reply old new = (parents : ParentsOf) → Step (state_over parents old) (Requests r) (Replies reply) (state_over parents new)
+Handles r reply old new = (parents : ParentsOf)
+    → Step (state_over parents old) (Requests r) (Replies reply) (state_over parents new)
 
--- the reply where a bundle isn't installed
+-- the reply if a bundle isn't installed
 abbrev pub not_installed_reply : PackFault → Reply
 not_installed_reply pack.Twice = reply.Exists
 not_installed_reply pack.Exists = reply.Exists

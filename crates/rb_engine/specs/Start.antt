@@ -1,5 +1,5 @@
--- What an engine starts with, this project's own rule: the bundles of ICUDATA, each a name and a payload, or the first entry that is
--- refused. The payload is judged before the name.
+-- What an engine starts with, this project's own rule: the bundles of ICUDATA, each a name and a payload, or the first
+-- entry that is refused. The payload is judged before the name.
 use Rattle.std.specs.Prelude.{◌≡◌, ◌<◌, ℕ, true, false, List, [], ◌∷◌, ◌++◌, length, Some, None}
 use Rattle.rb_tree.specs.SourceTree.{SourceTree}
 use Rattle.rb_packages.specs.Shelf.{Shelf, holds}
@@ -21,7 +21,8 @@ HasBundle (File bytes) source = IsContent (File bytes) (denoted (Some source))
 -- the bundles after entries, each of which has a bundle and a name that isn't there yet
 abbrev pub Loads : Shelf → Entries → Shelf → Type 0
 Loads old [] new = new ≡ old
-Loads old (e ∷ es) new = (source : SourceTree) × HasBundle e.1 source × (holds e.0 old ≡ false) × Loads (old ++ (e.0, source) ∷ []) es new
+Loads old (e ∷ es) new = (source : SourceTree) × HasBundle e.1 source × (holds e.0 old ≡ false)
+    × Loads (old ++ (e.0, source) ∷ []) es new
 
 -- the entry at an index, before which all entries load
 pub record IsReached (entries : Entries) (at : ℕ) (name : List ℕ) (payload : Payload) (shelf : Shelf) : Type 0 where
@@ -33,9 +34,12 @@ pub record IsReached (entries : Entries) (at : ℕ) (name : List ℕ) (payload :
 
 -- the first entry whose payload has no bundle, or whose payload has one and whose name is there
 abbrev pub IsRefused : Entries → StartFault → Type 0
-IsRefused entries (BadText i) = (name text : List ℕ) × (shelf : Shelf) × IsReached entries i name (Text text) shelf × IsContent (Text text) (spelled None)
-IsRefused entries (BadFile i) = (name file : List ℕ) × (shelf : Shelf) × IsReached entries i name (File file) shelf × IsContent (File file) (denoted None)
-IsRefused entries (Twice i) = (name : List ℕ) × (payload : Payload) × (source : SourceTree) × (shelf : Shelf) × IsReached entries i name payload shelf
+IsRefused entries (BadText i) = (name text : List ℕ) × (shelf : Shelf) × IsReached entries i name (Text text) shelf
+    × IsContent (Text text) (spelled None)
+IsRefused entries (BadFile i) = (name file : List ℕ) × (shelf : Shelf) × IsReached entries i name (File file) shelf
+    × IsContent (File file) (denoted None)
+IsRefused entries (Twice i) = (name : List ℕ) × (payload : Payload) × (source : SourceTree) × (shelf : Shelf)
+    × IsReached entries i name payload shelf
     × HasBundle payload source × (holds name shelf ≡ true)
 IsRefused entries Memory = Unit {0}
 

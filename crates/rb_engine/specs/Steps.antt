@@ -10,9 +10,11 @@ use Rattle.rb_engine.specs.declared.place.PlaceFault.{PlaceFault}
 
 -- a path that is invalid is refused before a step is taken
 abbrev pub takes_more_from : ℕ → Bundles → Bundles → ParentsOf → List ℕ → List ℕ → Bool
-takes_more_from steps own icu parents name path = is_path path && nat_lt steps (look_steps own icu parents name (segments path))
+takes_more_from steps own icu parents name path = is_path path
+    && nat_lt steps (look_steps own icu parents name (segments path))
 
 -- so is a lookup from no place
 abbrev pub takes_more : ℕ → Start → Shelf → Result Place PlaceFault → List ℕ → Bool
 takes_more steps start shelf (Err e) path = false
-takes_more steps start shelf (Ok p) path = takes_more_from steps (bundle_at shelf) (bundle_at start.icudata) start.parents p.name path
+takes_more steps start shelf (Ok p) path = takes_more_from steps (bundle_at shelf)
+    (bundle_at start.icudata) start.parents p.name path

@@ -12,8 +12,8 @@ use rb_validator::Bundle;
 use std::alloc::Global;
 use std::marker::Model;
 
-/// A bundle that a request brings, and where it is to be. Contracts see it as its place, an application with a locale's
-/// name, and the bytes of its file.
+/// A bundle that a request brings, and where it is to be. Contracts see it as its place, an
+/// application with a locale's name, and the bytes of its file.
 #[derive(Drop)]
 pub struct Brought {
     place: Place,
@@ -33,11 +33,12 @@ impl Model for Brought {
 }
 
 impl Brought {
-    /// Reads what a request brings: where a bundle is to be, and the bundle of a payload. A text is parsed, written as a
-    /// file and accepted; a file is accepted.
+    /// Reads what a request brings: where a bundle is to be, and the bundle of a payload. A text is
+    /// parsed, written as a file and accepted; a file is accepted.
     ///
-    /// It is judged in this order, and the error is the reply: `BadApp`, `Reserved`, `BadLocale`, `BadText`, `BadFile`.
-    /// `Memory`: out of memory, which may come before `BadText` and `BadFile`. After an error nothing is kept of the payload.
+    /// It is judged in this order, and the error is the reply: `BadApp`, `Reserved`, `BadLocale`,
+    /// `BadText`, `BadFile`. `Memory`: out of memory, which may come before `BadText` and
+    /// `BadFile`. After an error nothing is kept of the payload.
     ///
     /// ```rust
     /// let brought = Brought::read(alloc, &app, &locale, payload)?;

@@ -6,12 +6,13 @@ ghost use Rattle.rb_packages.specs.Packages.{files_of, OthersStay};
 ghost use Rattle.rb_packages.specs.Usage.{apps_of, more_apps};
 ghost use Rattle.rb_engine.specs.Change.{Removes};
 ghost use Rattle.rb_engine.specs.Place.{place_of as place_at};
-ghost use Rattle.rb_engine.specs.Source.{Reads, Handles};
+ghost use Rattle.rb_engine.specs.Source.{Reads, Handles, change_request};
 ghost use Rattle.rb_engine.specs.declared.request.Payload.{Payload};
-ghost use Rattle.rb_engine.specs.declared.request.Request.TheVariants.{Install, Replace, Remove, List as Lists};
+ghost use Rattle.rb_engine.specs.declared.request.Request.TheVariants.{Install, Replace, Remove};
+ghost use Rattle.rb_engine.specs.declared.request.Request.TheVariants.{List as Lists};
 
 use crate::place::{Place, PlaceFault, place_of};
-use crate::request::{NameList, Reply};
+use crate::request::{NameList, Payload, Reply, Request};
 use rb_packages::{App, PackFault, Packages};
 use rb_tree::ByteList;
 use rb_validator::Bundle;
@@ -24,6 +25,26 @@ pub enum Change {
     Install,
     /// It is put in the place of the one of its name.
     Replace,
+}
+
+impl Change {
+    /// The request of an application that brings a bundle for this change.
+    pub fn request(self, app: ByteList, locale: ByteList, payload: Payload) -> Request
+        ensures { result ≡ change_request self app locale payload }
+    {
+        match self {
+            Change::Install => Request::Install {
+                app,
+                locale,
+                payload,
+            },
+            Change::Replace => Request::Replace {
+                app,
+                locale,
+                payload,
+            },
+        }
+    }
 }
 
 impl From<PackFault> for Reply {
@@ -42,12 +63,15 @@ impl From<PackFault> for Reply {
 
 /// Installs the bundle that a request brings.
 pub(crate) fn install(packages: &mut Packages, place: &Place, bundle: Bundle) -> Reply
-    ensures step { (app locale : List ℕ) → (payload : Payload) → Reads app locale payload (Ok (place.now, bundle))
+    ensures step { (app locale : List ℕ) → (payload : Payload)
+        → Reads app locale payload (Ok (place.now, bundle))
         → Handles (Install app locale payload) result packages.old packages.new }
     ensures files { result ≡ Reply.Done
-        → files_of place.now.app packages.new ≡ files_of place.now.app packages.old ++ (place.now.name, bundle) ∷ [] }
+        → files_of place.now.app packages.new
+        ≡ files_of place.now.app packages.old ++ (place.now.name, bundle) ∷ [] }
     ensures apps { result ≡ Reply.Done
-        → apps_of packages.new ≡ apps_of packages.old + more_apps (files_of place.now.app packages.old) }
+        → apps_of packages.new
+        ≡ apps_of packages.old + more_apps (files_of place.now.app packages.old) }
     ensures others { OthersStay place.now.app packages.old packages.new }
     ensures unchanged { result ≢ Reply.Done → packages.new ≡ packages.old }
 {
@@ -59,12 +83,15 @@ pub(crate) fn install(packages: &mut Packages, place: &Place, bundle: Bundle) ->
 
 /// Puts the bundle that a request brings in the place of the one that is there. It takes no memory.
 pub(crate) fn replace(packages: &mut Packages, place: &Place, bundle: Bundle) -> Reply
-    ensures step { (app locale : List ℕ) → (payload : Payload) → Reads app locale payload (Ok (place.now, bundle))
+    ensures step { (app locale : List ℕ) → (payload : Payload)
+        → Reads app locale payload (Ok (place.now, bundle))
         → Handles (Replace app locale payload) result packages.old packages.new }
     ensures files { result ≡ Reply.Done
-        → files_of place.now.app packages.new ≡ set_value (bytes_eq place.now.name) (files_of place.now.app packages.old) bundle }
+        → files_of place.now.app packages.new
+        ≡ set_value (bytes_eq place.now.name) (files_of place.now.app packages.old) bundle }
     ensures apps { result ≡ Reply.Done
-        → apps_of packages.new ≡ apps_of packages.old + more_apps (files_of place.now.app packages.old) }
+        → apps_of packages.new
+        ≡ apps_of packages.old + more_apps (files_of place.now.app packages.old) }
     ensures others { OthersStay place.now.app packages.old packages.new }
     ensures unchanged { result ≢ Reply.Done → packages.new ≡ packages.old }
     ensures memory { result ≢ Reply.Memory }

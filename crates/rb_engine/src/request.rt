@@ -17,7 +17,7 @@ pub enum Payload {
 /// A request of an application. Its name and the locale are as they came.
 #[derive(Debug, Drop)]
 pub enum Request {
-    /// Puts a bundle where there is none.
+    /// Puts a bundle if there is none.
     Install {
         app: ByteList,
         locale: ByteList,

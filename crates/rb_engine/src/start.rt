@@ -11,8 +11,8 @@ use rb_packages::{PackFault, Packages};
 use std::alloc::Global;
 use thiserror::Error;
 
-/// Why an engine doesn't start. Each but `Memory` has the index of the first entry of ICUDATA that is refused; its payload is judged
-/// before its name.
+/// Why an engine doesn't start. Each but `Memory` has the index of the first entry of ICUDATA that
+/// is refused; its payload is judged before its name.
 #[derive(Clone, Copy, Debug, PartialEq, Eq, Error)]
 pub enum StartFault {
     /// The entry's text is no good bundle text.
@@ -37,7 +37,8 @@ fn load(
     name: Name,
     payload: Payload,
 ) -> Result<(), StartFault>
-    ensures entry { Adds index name payload (icudata_of packages.old) result (icudata_of packages.new) }
+    ensures entry { Adds index name payload (icudata_of packages.old) result
+        (icudata_of packages.new) }
     ensures lists { (app : List ℕ) → list_of app packages.new ≡ list_of app packages.old }
 {
     let bundle = match bundle_of(alloc, payload) {

@@ -52,7 +52,8 @@ impl Of {
 
     /// The explanation of a word, if it is an error of this; the case of letters doesn't count.
     pub fn explanation(self, word: &str) -> Option<&'static Explanation>
-        ensures { IfSome result (λ e. map to_ascii_lowercase e.now.word.now ≡ map to_ascii_lowercase word.now) }
+        ensures { IfSome result
+            (λ e. map to_ascii_lowercase e.now.word.now ≡ map to_ascii_lowercase word.now) }
     {
         for explanation in self.explanations() {
             if explanation.word.eq_ignore_ascii_case(word) {

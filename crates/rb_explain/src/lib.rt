@@ -2,8 +2,6 @@
 #![tactic(auto)]
 
 mod explanation;
-#[cfg(test)]
-mod tests;
 mod words;
 
 pub use explanation::{Explanation, Of};

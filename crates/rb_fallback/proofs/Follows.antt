@@ -59,7 +59,7 @@ pub record LeadsTo (r : Result Step LookError) (in_icu : Bool) (n q : List ℕ) 
   pub path : IsPath q
 
 module _ (us valid n : List ℕ) (icu in_icu : Bool) (p : List ℕ) (walked rest : List (List ℕ)) (path : IsPath p) (whole : walked ++ rest ≡ segments p) where
-  -- where the text has a path, what is left of the other path follows it
+  -- if the text has a path, what is left of the other path follows it
   pub path_leads : (at cut : ℕ) (left : List ℕ) → aim us valid ≡ aims icu n (Some (segments_from us at)) → left ≡ drop (behind cut) p
       → rest ≡ segments (drop (behind cut) p) → LeadsTo (follow rest (target us in_icu valid walked)) (icu || in_icu) n (joined_path (drop at us) left)
   path_leads at cut left aimed is rest_is =
@@ -84,14 +84,14 @@ module _ (us valid n : List ℕ) (icu in_icu : Bool) (p : List ℕ) (walked rest
         };
       })
 
-  -- where it has none, the path stays
+  -- if it has none, the path stays
   pub same_leads : aim us valid ≡ aims icu n None → LeadsTo (follow rest (target us in_icu valid walked)) (icu || in_icu) n p
   same_leads aimed = record {
     onto = ap (λ x. follow rest (target_of x in_icu walked)) aimed ∙ ap (λ ss. Ok (goes (icu || in_icu) n ss)) whole;
     path = path;
   }
 
--- the place of that step, where the path is short enough
+-- the place of that step, if the path is short enough
 pub place_follows : {r : Result Step LookError} {in_icu : Bool} {n q : List ℕ} (o : Option (ArrayVec ℕ)) → LeadsTo r in_icu n q
     → IfSome o (λ short. short.items ≡ q) → IfNone o (1024 < length q) → IsFollowed (Ok (option_map (place_at in_icu n) o)) r
 place_follows {in_icu = in_icu} {n = n} (Some short) leads some none = record {

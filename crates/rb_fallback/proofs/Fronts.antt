@@ -10,7 +10,7 @@ use Rattle.rb_fallback.specs.AliasPaths.{joined_path}
 use Rattle.rb_fallback.proofs.Follows.{segments-joined_path}
 use Rattle.rb_fallback.proofs.Paths.{segments_joined}
 
--- ---- a walk that meets an alias ends there too where nothing is left
+-- ---- a walk that meets an alias ends there too if nothing is left
 abbrev pub IsFrontOf : Resource → Walked → Type 0
 IsFrontOf t (links us walked rest) = walk t walked ≡ links us walked []
 IsFrontOf t w = Unit {0}
@@ -50,7 +50,7 @@ joined_some : (a b : List ℕ) → 0 < length b → joined_path a b ≡ a ++ 47 
 joined_some a [] h = absurd (omega arith)
 joined_some a (x ∷ b) h = refl
 
--- where bytes stand before the cut and segments are left
+-- if bytes stand before the cut and segments are left
 cut_front : (walked rest : List (List ℕ)) (a b p : List ℕ) (k : ℕ) → walked ++ rest ≡ segments p → suc k ≡ length a → p ≡ a ++ 47 ∷ b
     → (drop (suc (suc k)) p ≡ b → (rest ≡ segments b) × (0 < length b)) → IsFront walked p (suc k)
 cut_front walked rest a b p k whole c joined left =

@@ -53,7 +53,7 @@ pub start : (left : Option ℕ) (own icu : Bundles) (parents : ParentsOf) (n p :
     → ComesTo left 256 0 (setting own icu parents n) false n p (search_within left 256 (setting own icu parents n) false n (segments p))
 start left own icu parents n p path = record { path = path; same = refl }
 
--- where the next path is too long, the search ends
+-- if the next path is too long, the search ends
 long_end : (most i : ℕ) (s : Setting) (in_icu : Bool) (n : List ℕ) (rest : List (List ℕ)) (f : LookError) → i < most → is_long rest ≡ true
     → f ≡ cond (i + 1 == most) fault.TooManyAliases fault.PathTooLong → search (most - (i + 1)) s in_icu n rest ≡ Err f
 long_end most i s in_icu n rest f h l e = by (i + 1 == most) refl
@@ -81,12 +81,12 @@ module _ {left : Option ℕ} {most i : ℕ} {s : Setting} {in_icu : Bool} {n p :
       (sym (search_on (most - i) (most - (i + 1)) s in_icu n (segments p) (omega arith) (short_is p short)))
       ∙ at.same
 
-  -- where the steps don't suffice
+  -- if the steps don't suffice
   pub level_less : {f : BoundedError} {names : ℕ} {q : List ℕ} → names ≡ trail_length (trail (bundles_of s.own s.icu in_icu) s.parents n) → q ≡ p
       → Err f ≡ spend left (names * (1 + length (segments q))) → Err f ≡ answer
   level_less {f = f} counted same less = sym (within_less left _ _ _ f (spent_at left (trail (bundles_of s.own s.icu in_icu) s.parents n) counted same less)) ∙ level_within
 
-  -- and where they do
+  -- and if they do
   module _ {later : Option ℕ} {names : ℕ} {q : List ℕ} (counted : names ≡ trail_length (trail (bundles_of s.own s.icu in_icu) s.parents n)) (same : q ≡ p)
       (spent : Ok later ≡ spend left (names * (1 + length (segments q)))) where
     level_answer : {r : Result Step LookError} → step_at s in_icu n (segments p) ≡ r

@@ -72,7 +72,7 @@ ends_at : (w : Walked) (t : Resource) → end t ≡ stop_of w → w ≡ ends t
 ends_at (ends u) t e = cc
 ends_at w t e = cc
 
--- a deciding walk does not end nowhere, and where one did, the step would be an error
+-- a deciding walk does not end nowhere, and if one did, the step would be an error
 gone_at : (w : Walked) → nowhere ≡ stop_of w → w ≡ gone
 gone_at gone e = refl
 gone_at w e = cc

@@ -77,7 +77,7 @@ module _ {N : Type 0} (tree : N → Resource) (b : Bundles) (path : List ℕ) (a
       ∙ ap (λ o. or_later o (unless_gone n (walk_of (b n) (segments path)) None)) none
       ∙ ap (λ w. unless_gone n w None) (stop_walk (b n) t (segments path) (stop_some (b n) t is).1)
 
-  -- a walk decides where none did before
+  -- a walk decides if none did before
   pub ending_first : (x : Ending N) (t : Resource) → decide b all (segments path) ≡ None → stop_tree (b n) ≡ Some t
       → stop_at tree x ≡ stop_of (walk t (segments path)) → RestIs x path (rest_of (walk t (segments path))) → IsEnding tree b path x n (all ++ n ∷ [])
   ending_first Gone t none is stop rest = one_on t none is ∙ is_gone (walk t (segments path)) n None stop

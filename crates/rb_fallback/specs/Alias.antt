@@ -1,6 +1,7 @@
 -- What the text of an alias means, after the aliases of ICU's bundle syntax (`genrb`): a package, a
 -- locale and a path between slashes, with `/LOCALE` and `/ICUDATA` as ICU's `uresdata.h` reads them.
-use Rattle.std.specs.Prelude.{◌&&◌, ◌||◌, ℕ, List, [], ◌∷◌, length, Bool, true, false, Option, Some, None, codes, cond, nat_le, nat_lt}
+use Rattle.std.specs.Prelude.{◌&&◌, ◌||◌, ℕ, List, [], ◌∷◌, length, Bool, true, false, Option, Some, None, codes, cond}
+use Rattle.std.specs.Prelude.{nat_le, nat_lt}
 use Rattle.std.specs.List.{slice_split, list_all}
 use Rattle.std.specs.Str.{bytes_eq}
 use Rattle.rb_tree.specs.Path.{is_slash}
@@ -35,11 +36,13 @@ located icu ((u ∷ us) ∷ ss) = named icu (name (u ∷ us)) ss
 -- after a slash comes a package
 abbrev pub packaged : List ℕ → List (List ℕ) → Aim
 packaged valid [] = no_package
-packaged valid (s ∷ ss) = cond (bytes_eq s (codes "LOCALE")) (with_path false valid ss) (cond (bytes_eq s (codes "ICUDATA")) (located true ss) no_package)
+packaged valid (s ∷ ss) = cond (bytes_eq s (codes "LOCALE")) (with_path false valid ss)
+    (cond (bytes_eq s (codes "ICUDATA")) (located true ss) no_package)
 
 abbrev pub plain_aim : List ℕ → List ℕ → Aim
 plain_aim valid [] = no_text
-plain_aim valid (u ∷ us) = cond (is_slash u) (packaged valid (slice_split is_slash us)) (located false (slice_split is_slash (u ∷ us)))
+plain_aim valid (u ∷ us) = cond (is_slash u) (packaged valid (slice_split is_slash us))
+    (located false (slice_split is_slash (u ∷ us)))
 
 abbrev pub aim : List ℕ → List ℕ → Aim
 aim us valid = cond (list_all is_plain us) (plain_aim valid us) no_text

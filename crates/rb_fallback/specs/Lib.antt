@@ -1,3 +1,4 @@
+pub mod Limits
 pub mod Alias
 pub mod Search
 pub mod Steps

@@ -1,7 +1,7 @@
--- The search of a path from a name: the trail of the name is found, the path is walked through the trees of its stops, and an
--- alias that is met goes on in another place. It is the lookup with fallback of ICU's `ures_*` calls over the locale inheritance of
--- UTS #35 (LDML). This project's own rules: an alias is final, so that no later stop is asked; a search has at most 256 levels; a
--- path has at most 1,024 bytes.
+-- The search of a path from a name: the trail of the name is found, the path is walked through the trees of its stops,
+-- and an alias that is met goes on in another place. It is the lookup with fallback of ICU's `ures_*` calls over the
+-- locale inheritance of UTS #35 (LDML). This project's own rules: an alias is final, so that no later stop is asked; a
+-- search has at most 256 levels; a path has at most 1,024 bytes.
 use Rattle.std.specs.Prelude.{ℕ, zero, suc, List, [], ◌∷◌, ◌++◌, length, Bool, true, false, nat_lt, if◌then◌else◌}
 use Rattle.std.specs.Prelude.{Option, Some, None, unwrap_or, Result, Ok, Err}
 use Rattle.std.specs.List.{join_with_byte}
@@ -13,6 +13,7 @@ use Rattle.rb_parents.specs.Trail.{Bundles, ParentsOf, Trail, names, chain, bad_
 use Rattle.rb_fallback.specs.Alias.{Target, leads, bad_text, bad_package, target}
 use Rattle.rb_fallback.specs.declared.fault.LookError.{LookError}
 use Rattle.rb_fallback.specs.declared.fault.LookError.TheVariants as fault
+use Rattle.rb_fallback.specs.Limits.{path_limit, level_limit}
 
 -- ---- the stops of one level
 abbrev pub walk_of : Option SourceTree → List (List ℕ) → Walked
@@ -107,22 +108,24 @@ go_on go (Ok (goes in_icu n ss)) = go in_icu n ss
 
 -- more than 1,024 bytes, with slashes between the segments
 abbrev pub is_long : List (List ℕ) → Bool
-is_long ss = nat_lt 1024 (length (join_with_byte 47 ss))
+is_long ss = nat_lt path_limit (length (join_with_byte 47 ss))
 
--- the item to which a path leads, with so many levels left
+-- the item to which a path leads, with this many levels left
 unfoldable pub search : ℕ → Setting → Bool → List ℕ → List (List ℕ) → Result Hit LookError
 search zero s in_icu n ss = Err fault.TooManyAliases
 search (suc k) s in_icu n ss =
     if is_long ss then Err fault.PathTooLong
-    else go_on (λ p m ts. search k s p m ts) (step in_icu s.valid (level (bundles_of s.own s.icu in_icu) s.parents n ss))
+    else go_on (λ p m ts. search k s p m ts)
+    (step in_icu s.valid (level (bundles_of s.own s.icu in_icu) s.parents n ss))
 
 abbrev pub setting_of : Bundles → Bundles → ParentsOf → List ℕ → Setting
 setting_of own icu parents valid = record { own = own; icu = icu; parents = parents; valid = valid }
 
--- the valid name of a lookup is the first stop; of a name without one it is the name, which nothing reads, since no walk decides
+-- the valid name of a lookup is the first stop; of a name without one it is the name, which nothing reads, since no
+-- walk decides
 abbrev pub setting : Bundles → Bundles → ParentsOf → List ℕ → Setting
 setting own icu parents n = setting_of own icu parents (unwrap_or (first_stop own parents n) n)
 
 -- what a lookup of a path from a name gives
 abbrev pub look_up : Bundles → Bundles → ParentsOf → List ℕ → List (List ℕ) → Result Hit LookError
-look_up own icu parents n ss = search 256 (setting own icu parents n) false n ss
+look_up own icu parents n ss = search level_limit (setting own icu parents n) false n ss

@@ -1,9 +1,11 @@
--- How many steps a search takes, and what a lookup gives that may take only so many.
+-- How many steps a search takes, and what a lookup gives that may take only this many.
 use Rattle.std.specs.Prelude.{◌+◌, ◌*◌, ◌≤◌, ℕ, zero, suc, List, length, Bool, false, nat_lt}
 use Rattle.std.specs.Prelude.{Result, Ok, Err, if◌then◌else◌}
 use Rattle.rb_tree.specs.Path.{IsPath, segments}
 use Rattle.rb_parents.specs.Trail.{Bundles, ParentsOf, Trail, names, chain, bad_parent, trail}
-use Rattle.rb_fallback.specs.Search.{Hit, Setting, Step, found, goes, bundles_of, is_long, level, look_up, setting, step}
+use Rattle.rb_fallback.specs.Limits.{level_limit}
+use Rattle.rb_fallback.specs.Search.{Hit, Setting, Step, found, goes, bundles_of, is_long, level, look_up, setting}
+use Rattle.rb_fallback.specs.Search.{step}
 use Rattle.rb_fallback.specs.declared.fault.BoundedError.{BoundedError}
 use Rattle.rb_fallback.specs.declared.fault.BoundedError.TheVariants as bounded
 use Rattle.rb_fallback.specs.declared.fault.LookError.{LookError}
@@ -24,7 +26,7 @@ go_steps go (Err e) = 0
 go_steps go (Ok (found hit)) = 0
 go_steps go (Ok (goes in_icu n ss)) = go in_icu n ss
 
--- the steps of a search of a path, with so many levels left
+-- the steps of a search of a path, with this many levels left
 unfoldable pub search_steps : ℕ → Setting → Bool → List ℕ → List (List ℕ) → ℕ
 search_steps zero s in_icu n ss = 0
 search_steps (suc k) s in_icu n ss =
@@ -34,14 +36,15 @@ search_steps (suc k) s in_icu n ss =
 
 -- the steps of a lookup of a path from a name
 abbrev pub look_steps : Bundles → Bundles → ParentsOf → List ℕ → List (List ℕ) → ℕ
-look_steps own icu parents n ss = search_steps 256 (setting own icu parents n) false n ss
+look_steps own icu parents n ss = search_steps level_limit (setting own icu parents n) false n ss
 
 -- a lookup of a path takes at most 256 levels × 32 names × (1 + 512) steps: 1,024 bytes have at most 512 segments
 abbrev pub HasFewSteps : Type 0
 HasFewSteps =
-    (own icu : Bundles) (parents : ParentsOf) (n p : List ℕ) → IsPath p → look_steps own icu parents n (segments p) ≤ 4202496
+    (own icu : Bundles) (parents : ParentsOf) (n p : List ℕ) → IsPath p
+    → look_steps own icu parents n (segments p) ≤ 4202496
 
--- ---- lookups that may take only so many steps
+-- ---- lookups that may take only this many steps
 abbrev pub searched : Result Hit LookError → Result Hit BoundedError
 searched (Ok hit) = Ok hit
 searched (Err e) = Err (bounded.Search e)
@@ -51,4 +54,5 @@ abbrev pub if_within : ℕ → ℕ → Result Hit LookError → Result Hit Bound
 if_within steps taken answer = if nat_lt steps taken then Err bounded.TooManySteps else searched answer
 
 abbrev pub look_up_within : ℕ → Bundles → Bundles → ParentsOf → List ℕ → List (List ℕ) → Result Hit BoundedError
-look_up_within steps own icu parents n ss = if_within steps (look_steps own icu parents n ss) (look_up own icu parents n ss)
+look_up_within steps own icu parents n ss = if_within steps (look_steps own icu parents n ss)
+    (look_up own icu parents n ss)

@@ -6,7 +6,8 @@ ghost use Rattle.rb_tree.specs.Parts.{HasUnits, kind_of, len_of, units_of};
 ghost use Rattle.rb_tree.specs.declared.kind.Kind.TheVariants as Kinds;
 ghost use Rattle.rb_fallback.specs.Alias.{is_plain, aim, with_path, located, packaged};
 ghost use Rattle.rb_fallback.specs.Answers.{aim_of};
-ghost use Rattle.rb_fallback.specs.AliasPaths.{are_filled, segment_end, segments_after, segments_from};
+ghost use Rattle.rb_fallback.specs.AliasPaths.{are_filled, segment_end, segments_after};
+ghost use Rattle.rb_fallback.specs.AliasPaths.{segments_from};
 
 use crate::fault::AliasFault;
 use rb_locales::Name;
@@ -99,7 +100,8 @@ fn filled_from<N: Node>(node: N, from: usize) -> bool
 fn with_path<N: Node>(icudata: bool, name: Name, node: N, past: usize) -> Result<Target, AliasFault>
     requires units { HasUnits (kind_of (N.tree node)) }
     requires within { past ≤ len_of (N.tree node) }
-    ensures { aim_of (units_of (N.tree node)) result ≡ with_path icudata name (segments_after (units_of (N.tree node)) past) }
+    ensures { aim_of (units_of (N.tree node)) result
+        ≡ with_path icudata name (segments_after (units_of (N.tree node)) past) }
 {
     let len = node.len();
     if past == len || past + 1 == len {
@@ -124,7 +126,8 @@ fn with_path<N: Node>(icudata: bool, name: Name, node: N, past: usize) -> Result
 fn located<N: Node>(icudata: bool, node: N, from: usize) -> Result<Target, AliasFault>
     requires units { HasUnits (kind_of (N.tree node)) }
     requires within { from ≤ len_of (N.tree node) }
-    ensures { aim_of (units_of (N.tree node)) result ≡ located icudata (segments_from (units_of (N.tree node)) from) }
+    ensures { aim_of (units_of (N.tree node)) result
+        ≡ located icudata (segments_from (units_of (N.tree node)) from) }
 {
     let past = segment_end(node, from);
     if past == from {
@@ -140,7 +143,8 @@ fn located<N: Node>(icudata: bool, node: N, from: usize) -> Result<Target, Alias
 fn packaged<N: Node>(node: N, valid: &Name) -> Result<Target, AliasFault>
     requires units { HasUnits (kind_of (N.tree node)) }
     requires slash { 1 ≤ len_of (N.tree node) }
-    ensures { aim_of (units_of (N.tree node)) result ≡ packaged valid.now (segments_from (units_of (N.tree node)) 1) }
+    ensures { aim_of (units_of (N.tree node)) result
+        ≡ packaged valid.now (segments_from (units_of (N.tree node)) 1) }
 {
     let past = segment_end(node, 1);
     if is_word(node, 1, past, b"LOCALE") {

@@ -34,7 +34,7 @@ pub enum LookError {
     TooManyAliases,
 }
 
-/// Why a lookup that may take only so many steps finds nothing.
+/// Why a lookup that may take only this many steps finds nothing.
 #[derive(Clone, Copy, Debug, PartialEq, Eq)]
 pub enum BoundedError {
     /// The lookup takes more steps.

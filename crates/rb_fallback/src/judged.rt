@@ -1,5 +1,5 @@
-//! The alias with a long text that a search judged last. A search may come to one alias at each of its levels, and its text, which
-//! may be as long as a file, is read only at the first.
+//! The alias with a long text that a search judged last. A search may come to one alias at each of
+//! its levels, and its text, which may be as long as a file, is read only at the first.
 ghost use Rattle.std.specs.Prelude.{◌≡◌, ◌≤◌, IfSome, Ok, length};
 ghost use Rattle.rb_tree.specs.Parts.{kind_of, units_of};
 ghost use Rattle.rb_tree.specs.declared.kind.Kind.TheVariants as Kinds;
@@ -18,10 +18,11 @@ use arrayvec::ArrayVec;
 use rb_locales::Name;
 use rb_tree::Node;
 
-// Texts of up to so many units are read each time, which is cheaper than to keep where they lead.
+// Texts of up to this many units are read each time, which is cheaper than to keep where they lead.
 const SHORT_TEXT: usize = 1024;
 
-// An alias that was met: its package, its bundle, the path that leads to it there, and where it leads.
+// An alias that was met: its package, its bundle, the path that leads to it there, and where it
+// leads.
 #[derive(Drop)]
 pub(crate) struct Judged {
     pub(crate) icudata: bool,
@@ -62,7 +63,8 @@ pub(crate) fn judge<N: Node>(
         → aim_of (units_of (N.tree node)) (Ok t) ≡ aim (units_of (N.tree node)) valid.now }
     ensures aim { aim_of (units_of (N.tree node)) result ≡ aim (units_of (N.tree node)) valid.now }
     ensures known { (own icu : Bundles) → AreJudged own icu valid.now known.old
-        → TextAt (bundles_of own icu icudata) actual.now walked.now (units_of (N.tree node)) → AreJudged own icu valid.now known.new }
+        → TextAt (bundles_of own icu icudata) actual.now walked.now (units_of (N.tree node))
+        → AreJudged own icu valid.now known.new }
 {
     if node.len() <= SHORT_TEXT {
         return read_alias(node, valid);

@@ -1,4 +1,5 @@
-//! One level of a search: one pass over a trail, which asks for each name's bundle once and keeps no name.
+//! One level of a search: one pass over a trail, which asks for each name's bundle once and keeps
+//! no name.
 ghost use Rattle.std.specs.Prelude.{◌≡◌, ◌++◌, ◌∷◌, [], List, ℕ, Some, option_map};
 ghost use Rattle.rb_tree.specs.SourceTree.{SourceTree};
 ghost use Rattle.rb_tree.specs.Path.{IsPath, segments};
@@ -29,10 +30,11 @@ pub(crate) struct LevelResult<N> {
     pub(crate) ending: Ending<N>,
 }
 
-// The state after one stop more. It is walked only where no earlier one decides.
+// The state after one stop more. It is walked only if no earlier one decides.
 fn with_stop<N: Node>(state: LevelState<N>, name: &Name, root: N, path: &[u8]) -> LevelState<N>
     requires { IsPath path.now }
-    ensures { (b : Bundles) → (all : List (List ℕ)) → stop_tree (b name.now) ≡ Some (N.tree root) → IsLevelState N.tree b path.now state all
+    ensures { (b : Bundles) → (all : List (List ℕ)) → stop_tree (b name.now) ≡ Some (N.tree root)
+        → IsLevelState N.tree b path.now state all
         → IsLevelState N.tree b path.now result (all ++ name.now ∷ []) }
 {
     let first = Some(state.first.unwrap_or(*name));
@@ -58,7 +60,8 @@ fn with_name<N: Node>(
     path: &[u8],
 ) -> LevelState<N>
     requires { IsPath path.now }
-    ensures { (b : Bundles) → (ns : List (List ℕ)) → option_map N.tree stop ≡ stop_tree (b name.now) → IsLevelState N.tree b path.now state (stops b ns)
+    ensures { (b : Bundles) → (ns : List (List ℕ)) → option_map N.tree stop
+        ≡ stop_tree (b name.now) → IsLevelState N.tree b path.now state (stops b ns)
         → IsLevelState N.tree b path.now result (stops b (ns ++ name.now ∷ [])) }
 {
     match stop {
@@ -86,8 +89,8 @@ fn decided<N: Node>(state: LevelState<N>, path: &[u8]) -> Result<LevelResult<N>,
     }
 }
 
-// One level: the trail, and the first walk that does not end nowhere. What the walks gave counts only once the whole trail is found,
-// and so do its names, of which there are none before.
+// One level: the trail, and the first walk that does not end nowhere. What the walks gave counts
+// only once the whole trail is found, and so do its names, of which there are none before.
 pub(crate) fn level<'a, S: Shelf<'a>>(
     shelf: S,
     parents: &Parents,
@@ -96,9 +99,11 @@ pub(crate) fn level<'a, S: Shelf<'a>>(
     names: &mut u8,
 ) -> Result<LevelResult<S::N>, LookError>
     requires { IsPath path.now }
-    ensures level { IsLevel S.N.tree result path.now (level (S.bundles shelf) (parent_of parents.now) name.now (segments path.now))
+    ensures level { IsLevel S.N.tree result path.now
+        (level (S.bundles shelf) (parent_of parents.now) name.now (segments path.now))
         (first_stop (S.bundles shelf) (parent_of parents.now) name.now) }
-    ensures names { names.new ≡ trail_length (trail (S.bundles shelf) (parent_of parents.now) name.now) }
+    ensures names { names.new
+        ≡ trail_length (trail (S.bundles shelf) (parent_of parents.now) name.now) }
 {
     *names = 0;
     let mut here = *name;

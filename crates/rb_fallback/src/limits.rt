@@ -1,4 +1,5 @@
-//! The limits of a lookup. The definitions in specs/ have the same numbers written out, so that a proof compares the two.
+//! The limits of a lookup. The definitions in specs/ have the same numbers written out, so that a
+//! proof compares the two.
 
 /// The greatest number of levels of a lookup.
 pub const LEVEL_LIMIT: u16 = 256;

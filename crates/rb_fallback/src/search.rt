@@ -1,5 +1,6 @@
 //! The search of a path from a name, level by level.
-ghost use Rattle.std.specs.Prelude.{◌≡◌, ◌↔◌, ◌≤◌, ◌==◌, option_map, length, ◌+◌, ◌++◌, ℕ, List, Err, IfOk, IsSome, Ok, Some, take, drop, false, if◌then◌else◌};
+ghost use Rattle.std.specs.Prelude.{◌≡◌, ◌↔◌, ◌≤◌, ◌==◌, option_map, length, ◌+◌, ◌++◌, ℕ, List};
+ghost use Rattle.std.specs.Prelude.{Err, IfOk, IsSome, Ok, Some, take, drop, false, if◌then◌else◌};
 ghost use Rattle.rb_tree.specs.Parts.{kind_of, units_of};
 ghost use Rattle.rb_tree.specs.declared.kind.Kind.TheVariants as Kinds;
 ghost use Rattle.rb_tree.specs.Path.{IsPath, segments};
@@ -8,7 +9,8 @@ ghost use Rattle.rb_parents.specs.Family.{parent_of};
 ghost use Rattle.rb_parents.specs.Trail.{Bundles, trail};
 ghost use Rattle.rb_fallback.specs.Alias.{aim, target};
 ghost use Rattle.rb_fallback.specs.Answers.{aim_of, answer_of, bounded_answer_of};
-ghost use Rattle.rb_fallback.specs.Search.{bundles_of, first_stop, follow, level, look_up, setting, setting_of, step};
+ghost use Rattle.rb_fallback.specs.Search.{bundles_of, first_stop, follow, level, look_up, setting};
+ghost use Rattle.rb_fallback.specs.Search.{setting_of, step};
 ghost use Rattle.rb_fallback.specs.Steps.{look_up_within, trail_length};
 ghost use Rattle.rb_fallback.specs.inner.Budget.{search_within};
 ghost use Rattle.rb_fallback.specs.inner.Judgements.{AreJudged, AreJudgedIn, IsTargetAt, TextAt};
@@ -16,6 +18,7 @@ ghost use Rattle.rb_fallback.specs.inner.Steps.{IsFollowed, IsOutcome, place_at,
 ghost use Rattle.rb_fallback.specs.declared.alias.Target.{Target as Aimed};
 ghost use Rattle.rb_fallback.specs.declared.fault.BoundedError.TheVariants as Bounded;
 ghost use Rattle.rb_fallback.specs.declared.fault.LookError.TheVariants as Faults;
+ghost use Rattle.rb_fallback.specs.Limits.{path_limit};
 
 use crate::fault::{AliasFault, BoundedError, LookError};
 use crate::found::Found;
@@ -51,8 +54,8 @@ fn place_of(icudata: bool, name: Name, path: Option<ArrayVec<u8, PATH_LIMIT>>) -
     }
 }
 
-// Where an alias leads that was met in the bundle `actual` after the first `cut` bytes of a path; `None` where the next path is too
-// long.
+// Where an alias leads that was met in the bundle `actual` after the first `cut` bytes of a path;
+// `None` if the next path is too long.
 fn follow_alias<N: Node>(
     node: N,
     cut: usize,
@@ -67,10 +70,13 @@ fn follow_alias<N: Node>(
     requires within { cut ≤ length path.now }
     requires known { (t : Aimed) → IsTargetAt known.old icudata actual.now (take cut path.now) t
         → aim_of (units_of (N.tree node)) (Ok t) ≡ aim (units_of (N.tree node)) valid.now }
-    ensures place { (walked rest : List (List ℕ)) → walked ++ rest ≡ segments path.now → rest ≡ segments (drop (behind cut) path.now)
-        → IsFollowed result (follow rest (target (units_of (N.tree node)) icudata valid.now walked)) }
+    ensures place { (walked rest : List (List ℕ)) → walked ++ rest ≡ segments path.now
+        → rest ≡ segments (drop (behind cut) path.now)
+        → IsFollowed result
+        (follow rest (target (units_of (N.tree node)) icudata valid.now walked)) }
     ensures known { (own icu : Bundles) → AreJudged own icu valid.now known.old
-        → TextAt (bundles_of own icu icudata) actual.now (take cut path.now) (units_of (N.tree node)) → AreJudged own icu valid.now known.new }
+        → TextAt (bundles_of own icu icudata) actual.now (take cut path.now)
+        (units_of (N.tree node)) → AreJudged own icu valid.now known.new }
 {
     let target = match judge(node, valid, icudata, actual, &path[..cut], known) {
         Ok(target) => target,
@@ -89,7 +95,8 @@ fn follow_alias<N: Node>(
     ))
 }
 
-// What a level of a search gives: an item, or where the search goes on, if the path there isn't too long.
+// What a level of a search gives: an item, or where the search goes on, if the path there isn't too
+// long.
 #[derive(Drop)]
 pub(crate) enum Outcome<N> {
     Found(Found<N>),
@@ -97,7 +104,8 @@ pub(crate) enum Outcome<N> {
     TooLong,
 }
 
-// One level of a search, and how many names its trail has. The first has no valid name yet, as its first stop is it.
+// One level of a search, and how many names its trail has. The first has no valid name yet, as its
+// first stop is it.
 fn step<'a, S: Shelf<'a>>(
     shelf: S,
     parents: &Parents,
@@ -109,14 +117,21 @@ fn step<'a, S: Shelf<'a>>(
     names: &mut u8,
 ) -> Result<Outcome<S::N>, LookError>
     requires path { IsPath path.now }
-    requires known { AreJudgedIn icudata (S.bundles shelf) (valid_of valid (first_stop (S.bundles shelf) (parent_of parents.now) name.now) name.now) known.old }
-    ensures outcome { IsOutcome S.N.tree result (valid_of valid (first_stop (S.bundles shelf) (parent_of parents.now) name.now) name.now)
-        (λ v. step icudata v (level (S.bundles shelf) (parent_of parents.now) name.now (segments path.now))) }
-    ensures first { IfOk result (λ o. IsSome (first_stop (S.bundles shelf) (parent_of parents.now) name.now)) }
-    ensures names { names.new ≡ trail_length (trail (S.bundles shelf) (parent_of parents.now) name.now) }
+    requires known { AreJudgedIn icudata (S.bundles shelf) (valid_of valid
+        (first_stop (S.bundles shelf) (parent_of parents.now) name.now) name.now) known.old }
+    ensures outcome { IsOutcome S.N.tree result
+        (valid_of valid (first_stop (S.bundles shelf) (parent_of parents.now) name.now) name.now)
+        (λ v. step icudata v
+        (level (S.bundles shelf) (parent_of parents.now) name.now (segments path.now))) }
+    ensures first { IfOk result
+        (λ o. IsSome (first_stop (S.bundles shelf) (parent_of parents.now) name.now)) }
+    ensures names { names.new
+        ≡ trail_length (trail (S.bundles shelf) (parent_of parents.now) name.now) }
     ensures known { (own icu : Bundles) → bundles_of own icu icudata ≡ S.bundles shelf
-        → AreJudged own icu (valid_of valid (first_stop (S.bundles shelf) (parent_of parents.now) name.now) name.now) known.old
-        → AreJudged own icu (valid_of valid (first_stop (S.bundles shelf) (parent_of parents.now) name.now) name.now) known.new }
+        → AreJudged own icu (valid_of valid
+        (first_stop (S.bundles shelf) (parent_of parents.now) name.now) name.now) known.old
+        → AreJudged own icu (valid_of valid
+        (first_stop (S.bundles shelf) (parent_of parents.now) name.now) name.now) known.new }
 {
     let decided = level(shelf, parents, name, path, names)?;
     let valid = valid.unwrap_or(decided.first);
@@ -151,11 +166,13 @@ fn step_at<'a, S: Shelf<'a>, I: Shelf<'a, N = S::N>>(
     requires path { IsPath place.now.path.items }
     requires known { AreJudged (S.bundles own) (I.bundles icu) valid known.old }
     ensures outcome { IsOutcome S.N.tree result valid
-        (λ v. step place.now.icudata v (level (bundles_of (S.bundles own) (I.bundles icu) place.now.icudata)
+        (λ v. step place.now.icudata v
+        (level (bundles_of (S.bundles own) (I.bundles icu) place.now.icudata)
         (parent_of parents.now) place.now.name (segments place.now.path.items))) }
-    ensures names { names.new ≡ trail_length (trail (bundles_of (S.bundles own) (I.bundles icu) place.now.icudata)
+    ensures names { names.new
+        ≡ trail_length (trail (bundles_of (S.bundles own) (I.bundles icu) place.now.icudata)
         (parent_of parents.now) place.now.name) }
-    ensures short { length place.now.path.items ≤ 1024 }
+    ensures short { length place.now.path.items ≤ path_limit }
     ensures known { AreJudged (S.bundles own) (I.bundles icu) valid known.new }
 {
     let name = &place.name;
@@ -179,7 +196,8 @@ fn next_fault(level: u16) -> LookError
     }
 }
 
-// The search from a place to which the first alias led, with so many steps left; `None` is no limit.
+// The search from a place to which the first alias led, with this many steps left; `None` is no
+// limit.
 fn search_on<'a, S: Shelf<'a>, I: Shelf<'a, N = S::N>>(
     own: S,
     icu: I,
@@ -190,7 +208,8 @@ fn search_on<'a, S: Shelf<'a>, I: Shelf<'a, N = S::N>>(
 ) -> Result<Found<S::N>, BoundedError>
     requires { IsPath place.path.items }
     ensures answer { bounded_answer_of S.N.tree result ≡ search_within left 255
-        (setting_of (S.bundles own) (I.bundles icu) (parent_of parents.now) valid) place.icudata place.name (segments place.path.items) }
+        (setting_of (S.bundles own) (I.bundles icu)
+        (parent_of parents.now) valid) place.icudata place.name (segments place.path.items) }
     ensures valid { IfOk result (λ f. f.valid ≡ valid) }
 {
     let mut here = place;
@@ -208,7 +227,8 @@ fn search_on<'a, S: Shelf<'a>, I: Shelf<'a, N = S::N>>(
     Err(BoundedError::Search(LookError::TooManyAliases))
 }
 
-// A lookup with so many steps; `None` is no limit. A level's steps are taken off once it has been asked.
+// A lookup with this many steps; `None` is no limit. A level's steps are taken off once it has been
+// asked.
 fn search_from<'a, S: Shelf<'a>, I: Shelf<'a, N = S::N>>(
     own: S,
     icu: I,
@@ -219,8 +239,10 @@ fn search_from<'a, S: Shelf<'a>, I: Shelf<'a, N = S::N>>(
 ) -> Result<Found<S::N>, BoundedError>
     ensures bad_path { (result ≡ Err (Bounded.Search Faults.BadPath)) ↔ (IsPath path.now → ⊥) }
     ensures answer { IsPath path.now → bounded_answer_of S.N.tree result ≡ search_within left 256
-        (setting (S.bundles own) (I.bundles icu) (parent_of parents.now) name.now) false name.now (segments path.now) }
-    ensures valid { IfOk result (λ f. first_stop (S.bundles own) (parent_of parents.now) name.now ≡ Some f.valid) }
+        (setting (S.bundles own) (I.bundles icu) (parent_of parents.now) name.now) false name.now
+        (segments path.now) }
+    ensures valid { IfOk result
+        (λ f. first_stop (S.bundles own) (parent_of parents.now) name.now ≡ Some f.valid) }
 {
     if !path_ok(path) {
         return Err(BoundedError::Search(LookError::BadPath));
@@ -241,15 +263,17 @@ fn search_from<'a, S: Shelf<'a>, I: Shelf<'a, N = S::N>>(
     }
 }
 
-/// Looks a path up from a name, in the bundles `own` and, where an alias leads there, in `icu` (the lookup with fallback of ICU's
-/// `ures_*` calls). A path is segments of printable ASCII with slashes between them; the empty path is the root.
+/// Looks a path up from a name, in the bundles `own` and, where an alias leads there, in `icu` (the
+/// lookup with fallback of ICU's `ures_*` calls). A path is segments of printable ASCII with
+/// slashes between them; the empty path is the root.
 ///
-/// The bundles of the name's trail are asked in order; the first in which the path leads somewhere decides. An alias goes on from
-/// there with its own locale and path, and its answer is final.
+/// The bundles of the name's trail are asked in order; the first in which the path leads somewhere
+/// decides. An alias goes on from there with its own locale and path, and its answer is final.
 ///
-/// The errors come in this order. `BadPath`: a byte that isn't printable ASCII, or an empty segment. Then at each level:
-/// `TooManyAliases` at the 257th, `PathTooLong` for more than 1,024 bytes, `Chain` or `BadParent` as `trail` has them, `NoBundle`
-/// where the trail has no stop, `Missing`, `AliasText` or `AliasPackage` as `read_alias` has them. No memory is taken.
+/// The errors come in this order. `BadPath`: a byte that isn't printable ASCII, or an empty
+/// segment. Then at each level: `TooManyAliases` at the 257th, `PathTooLong` for more than 1,024
+/// bytes, `Chain` or `BadParent` as `trail` has them, `NoBundle` if the trail has no stop,
+/// `Missing`, `AliasText` or `AliasPackage` as `read_alias` has them. No memory is taken.
 ///
 /// ```rust
 /// let found = look(shelf, shelf, &parents, &de_at, b"menu/open")?;
@@ -264,8 +288,10 @@ pub fn look<'a, S: Shelf<'a>, I: Shelf<'a, N = S::N>>(
 ) -> Result<Found<S::N>, LookError>
     ensures bad_path { (result ≡ Err Faults.BadPath) ↔ (IsPath path.now → ⊥) }
     ensures answer { IsPath path.now → answer_of S.N.tree result
-        ≡ look_up (S.bundles own) (I.bundles icu) (parent_of parents.now) name.now (segments path.now) }
-    ensures valid { IfOk result (λ f. first_stop (S.bundles own) (parent_of parents.now) name.now ≡ Some f.valid) }
+        ≡ look_up (S.bundles own) (I.bundles icu) (parent_of parents.now) name.now
+        (segments path.now) }
+    ensures valid { IfOk result
+        (λ f. first_stop (S.bundles own) (parent_of parents.now) name.now ≡ Some f.valid) }
 {
     match search_from(own, icu, parents, name, path, None) {
         Ok(found) => Ok(found),
@@ -274,13 +300,13 @@ pub fn look<'a, S: Shelf<'a>, I: Shelf<'a, N = S::N>>(
     }
 }
 
-/// Looks a path up as `look` does, in at most so many steps. At each level each name of the trail takes one step for its bundle and
-/// one for each segment of the path; a level whose trail is refused takes none. A lookup takes at most 4,202,496 steps
-/// (`laws::a_lookup_takes_few_steps`).
+/// Looks a path up as `look` does, in at most this many steps. At each level each name of the trail
+/// takes one step for its bundle and one for each segment of the path; a level whose trail is
+/// refused takes none. A lookup takes at most 4,202,496 steps (`laws::a_lookup_takes_few_steps`).
 ///
-/// The errors: `Search(BadPath)` as `look` has it, whatever the steps are. `TooManySteps`: the whole lookup takes more steps. Else
-/// `Search` with the error of `look`. The steps of a level are counted once it has been asked, so that at most one level is asked in
-/// vain. No memory is taken.
+/// The errors: `Search(BadPath)` as `look` has it, whatever the steps are. `TooManySteps`: the
+/// whole lookup takes more steps. Else `Search` with the error of `look`. The steps of a level are
+/// counted once it has been asked, so that at most one level is asked in vain. No memory is taken.
 ///
 /// ```rust
 /// let found = look_within(shelf, shelf, &parents, &de_at, b"menu/open", 10_000)?;
@@ -296,8 +322,10 @@ pub fn look_within<'a, S: Shelf<'a>, I: Shelf<'a, N = S::N>>(
 ) -> Result<Found<S::N>, BoundedError>
     ensures bad_path { (result ≡ Err (Bounded.Search Faults.BadPath)) ↔ (IsPath path.now → ⊥) }
     ensures answer { IsPath path.now → bounded_answer_of S.N.tree result
-        ≡ look_up_within steps (S.bundles own) (I.bundles icu) (parent_of parents.now) name.now (segments path.now) }
-    ensures valid { IfOk result (λ f. first_stop (S.bundles own) (parent_of parents.now) name.now ≡ Some f.valid) }
+        ≡ look_up_within steps (S.bundles own) (I.bundles icu) (parent_of parents.now) name.now
+        (segments path.now) }
+    ensures valid { IfOk result
+        (λ f. first_stop (S.bundles own) (parent_of parents.now) name.now ≡ Some f.valid) }
 {
     search_from(own, icu, parents, name, path, Some(steps))
 }

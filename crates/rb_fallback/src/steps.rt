@@ -2,6 +2,7 @@
 ghost use Rattle.std.specs.Prelude.{◌≡◌, ◌≤◌, ◌+◌, ◌*◌, count_by, length};
 ghost use Rattle.rb_tree.specs.Path.{is_slash, segments};
 ghost use Rattle.rb_fallback.specs.inner.Budget.{spend};
+ghost use Rattle.rb_fallback.specs.Limits.{path_limit};
 
 use crate::fault::BoundedError;
 
@@ -23,13 +24,13 @@ fn segment_count(path: &[u8]) -> usize
     slash_count(path) + 1
 }
 
-// What is left after a level with so many names, if it was enough; `None` is no limit.
+// What is left after a level with this many names, if it was enough; `None` is no limit.
 pub(crate) fn left_after(
     left: Option<u64>,
     names: u8,
     path: &[u8],
 ) -> Result<Option<u64>, BoundedError>
-    requires { length path.now ≤ 1024 }
+    requires { length path.now ≤ path_limit }
     ensures { result ≡ spend left (names * (1 + length (segments path.now))) }
 {
     let left = match left {

@@ -1,5 +1,5 @@
--- Which item of one tree is printed whole at a path, a rule of this project: an alias at its end is itself, and a path that leads on from an
--- alias leads nowhere.
+-- Which item of one tree is printed whole at a path, a rule of this project: an alias at its end is itself, and a path
+-- that leads on from an alias leads nowhere.
 use Rattle.std.specs.Prelude.{ℕ, List, [], ◌∷◌, length, nat_lt, if◌then◌else◌, Option, Some, None, Result, Ok, Err}
 use Rattle.rb_tree.specs.Resource.{Resource, alias}
 use Rattle.rb_tree.specs.Path.{is_path, segments}
@@ -9,6 +9,7 @@ use Rattle.rb_json.specs.Value.{value_of}
 use Rattle.rb_json.specs.declared.layout.Layout.{Layout}
 use Rattle.rb_file_commands.specs.declared.value.ValueError.{ValueError}
 use Rattle.rb_file_commands.specs.declared.value.ValueError.TheVariants.{BadPath, PathTooLong, Missing, TooLarge}
+use Rattle.rb_fallback.specs.Limits.{path_limit}
 
 abbrev pub reached : Walked → Option Resource
 reached (ends t) = Some t
@@ -24,4 +25,7 @@ text_of layout None = Err Missing
 -- a path has at most 1,024 bytes
 abbrev pub valued : Layout → Resource → List ℕ → Result (List ℕ) ValueError
 valued layout t path =
-    if is_path path then (if nat_lt 1024 (length path) then Err PathTooLong else text_of layout (reached (walk t (segments path)))) else Err BadPath
+    if is_path path
+    then (if nat_lt path_limit (length path) then Err PathTooLong
+    else text_of layout (reached (walk t (segments path))))
+    else Err BadPath

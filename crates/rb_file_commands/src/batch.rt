@@ -59,11 +59,12 @@ fn after(status: ExitCode, one: ExitCode) -> ExitCode {
     }
 }
 
-/// Compiles each of many bundle texts to the file in `folder` that has its stem and ends in `.res`, and says so, a line each. An error
-/// is a line, as of `compile`, and the other texts go on. Where two texts have one stem nothing is compiled.
+/// Compiles each of many bundle texts to the file in `folder` that has its stem and ends in `.res`,
+/// and says so, a line each. An error is a line, as of `compile`, and the other texts go on. If two
+/// texts have one stem nothing is compiled.
 ///
-/// The status is 0; 1 where a text is refused or can't be read, or its file can't be written; 2 where two texts have one stem, and as
-/// soon as standard output can't be written.
+/// The status is 0; 1 if a text is refused or can't be read, or its file can't be written; 2 if two
+/// texts have one stem, and as soon as standard output can't be written.
 pub fn compile_all<R: Files + Clock + AllocGlobal + Print + Eprint>(
     rt: &R,
     console: Console,
@@ -109,8 +110,8 @@ fn check_one<R: Files + AllocGlobal + Print + Eprint>(
     }
 }
 
-/// Checks many files, each as `check` does; each line begins with the file's name. The status is 0; 1 where a file is refused or
-/// can't be read; 2 as soon as standard output can't be written.
+/// Checks many files, each as `check` does; each line begins with the file's name. The status is 0;
+/// 1 if a file is refused or can't be read; 2 as soon as standard output can't be written.
 pub fn check_all<R: Files + Clock + AllocGlobal + Print + Eprint>(
     rt: &R,
     console: Console,

@@ -11,7 +11,8 @@ use std::io::Read;
 use std::process::ExitCode;
 use std::rt::Files;
 
-/// The file of a text that was read from `input`. Where there is none, that is said, and the status is given.
+/// The file of a text that was read from `input`. Where there is none, that is said, and the status
+/// is given.
 fn file_of<R: AllocGlobal + Eprint>(
     rt: &R,
     console: Console,
@@ -45,8 +46,8 @@ fn refuse_output<R: Files + Eprint>(rt: &R, input: &str, output: &str) -> Result
     Ok(())
 }
 
-/// Compiles the bundle text `input`, which was read, to the file `output`. The answer is how many bytes the file has; else that there
-/// is none is said, and the status is given.
+/// Compiles the bundle text `input`, which was read, to the file `output`. The answer is how many
+/// bytes the file has; else that there is none is said, and the status is given.
 fn compile_read<R: Files + AllocGlobal + Eprint>(
     rt: &R,
     console: Console,
@@ -86,10 +87,12 @@ fn told<R: Print + Eprint>(
     }
 }
 
-/// Compiles the bundle text `input` to the file `output`, and says how many bytes it has. The text is compiled before anything is
-/// written. The status is 0; 1 where the text is refused, with its line and the fault's name on standard error, or out of memory;
-/// 2 where `output` is a bundle text by its name (`.txt`) or the text itself, and where a file or standard output can't be read or
-/// written. No half file is left: an ordinary file is whole or not there, and an older one stays until the new one is whole.
+/// Compiles the bundle text `input` to the file `output`, and says how many bytes it has. The text
+/// is compiled before anything is written. The status is 0; 1 if the text is refused, with its line
+/// and the fault's name on standard error, or out of memory; 2 if `output` is a bundle text by its
+/// name (`.txt`) or the text itself, and if a file or standard output can't be read or written. No
+/// half file is left: an ordinary file is whole or not there, and an older one stays until the new
+/// one is whole.
 pub fn compile<R: Files + AllocGlobal + Print + Eprint>(
     rt: &R,
     input: &str,
@@ -108,7 +111,7 @@ fn read_input<R: Input + AllocGlobal>(rt: &R) -> io::Result<Vec<u8>> {
     Ok(bytes)
 }
 
-/// A bundle text: of standard input where its name is `-`.
+/// A bundle text: of standard input if its name is `-`.
 fn read_text<R: Files + Input + AllocGlobal>(rt: &R, input: &str) -> io::Result<Vec<u8>> {
     if input == "-" {
         read_input(rt)
@@ -117,8 +120,8 @@ fn read_text<R: Files + Input + AllocGlobal>(rt: &R, input: &str) -> io::Result<
     }
 }
 
-/// Compiles as `compile`, on a console, where `input` may be `-` for standard input and `output` `-` for standard output. Nothing but
-/// the file is printed to standard output then.
+/// Compiles as `compile`, on a console, where `input` may be `-` for standard input and `output`
+/// `-` for standard output. Nothing but the file is printed to standard output then.
 pub fn compile_on<R: Files + Input + AllocGlobal + Print + Eprint>(
     rt: &R,
     console: Console,
@@ -157,8 +160,9 @@ pub(crate) fn accepted<R: Files + AllocGlobal + Eprint>(
     }
 }
 
-/// Checks the file `name`, and prints `ok` and how many of its tables and arrays were entered where it is accepted. The status is 0; 1
-/// where the file is refused, with the error's name on standard error; 2 where it can't be read or standard output can't be written.
+/// Checks the file `name`, and prints `ok` and how many of its tables and arrays were entered if it
+/// is accepted. The status is 0; 1 if the file is refused, with the error's name on standard error;
+/// 2 if it can't be read or standard output can't be written.
 pub fn check<R: Files + AllocGlobal + Print + Eprint>(rt: &R, name: &str) -> ExitCode {
     check_on(rt, Console::plain(), name)
 }
@@ -179,9 +183,10 @@ pub fn check_on<R: Files + AllocGlobal + Print + Eprint>(
     }
 }
 
-/// Prints the item of the file `name` at a path as JSON, without fallback; of an alias on the way what it is, with the rest of the path.
-/// The status is 0; 1 where the file is refused or has no such item, with the file or the path and the error's name on standard error;
-/// 2 where the file can't be read or standard output can't be written.
+/// Prints the item of the file `name` at a path as JSON, without fallback; of an alias on the way
+/// what it is, with the rest of the path. The status is 0; 1 if the file is refused or has no such
+/// item, with the file or the path and the error's name on standard error; 2 if the file can't be
+/// read or standard output can't be written.
 pub fn get<R: Files + AllocGlobal + Print + Eprint>(rt: &R, name: &str, path: &str) -> ExitCode {
     get_on(rt, Console::plain(), name, path)
 }

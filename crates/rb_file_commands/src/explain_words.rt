@@ -47,9 +47,10 @@ fn explain_word<R: Print>(rt: &R, word: &str) -> io::Result<bool> {
     Ok(is_known)
 }
 
-/// Prints what an error word means, its likely causes and what to do, or without a word the list of all words. Where a word means
-/// one thing in a command and another in the next, each meaning is printed, with the commands that have it. The status is 0; 1
-/// where there is no such word; 2 where standard output can't be written.
+/// Prints what an error word means, its likely causes and what to do, or without a word the list of
+/// all words. If a word means one thing in a command and another in the next, each meaning is
+/// printed, with the commands that have it. The status is 0; 1 if there is no such word; 2 if
+/// standard output can't be written.
 pub fn explain<R: Print + Eprint>(rt: &R, word: Option<&str>) -> ExitCode {
     let Some(word) = word else {
         return printed(rt, list(rt));

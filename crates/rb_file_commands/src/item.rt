@@ -29,7 +29,8 @@ pub enum ItemError {
 /// The text of an item, with the rest of a path behind it.
 fn text_of<N: Node>(alloc: Global, node: N, rest: &[u8]) -> Result<String, ItemError>
     requires { IsPath rest.now }
-    ensures text { IfOk result (λ text. string_bytes text ≡ compact_text (item_data (N.tree node) rest.now)) }
+    ensures text { IfOk result
+        (λ text. string_bytes text ≡ compact_text (item_data (N.tree node) rest.now)) }
     ensures error { IfErr result (λ e. e ≡ errors.Memory) }
 {
     match item_text(alloc, node, rest) {
@@ -41,8 +42,10 @@ fn text_of<N: Node>(alloc: Global, node: N, rest: &[u8]) -> Result<String, ItemE
 /// The item to which a path leads.
 fn shown_text<N: Node>(alloc: Global, root: N, path: &[u8]) -> Result<String, ItemError>
     requires { IsPath path.now }
-    ensures text { IfOk result (λ text. (d : Data) × (shown (walk (N.tree root) (segments path.now)) ≡ Ok d) × (string_bytes text ≡ compact_text d)) }
-    ensures error { IfErr result (λ e. (e ≡ errors.Memory) ⊎ (shown (walk (N.tree root) (segments path.now)) ≡ Err e)) }
+    ensures text { IfOk result (λ text. (d : Data) × (shown
+        (walk (N.tree root) (segments path.now)) ≡ Ok d) × (string_bytes text ≡ compact_text d)) }
+    ensures error { IfErr result
+        (λ e. (e ≡ errors.Memory) ⊎ (shown (walk (N.tree root) (segments path.now)) ≡ Err e)) }
 {
     match walk(root, path) {
         Ending::End(node) => Ok(text_of(alloc, node, b"")?),
@@ -51,14 +54,16 @@ fn shown_text<N: Node>(alloc: Global, root: N, path: &[u8]) -> Result<String, It
     }
 }
 
-/// The item at a path within one tree as JSON, without fallback. An alias on the way is not followed: it is the item, with the rest
-/// of the path. Errors: `BadPath`, then `PathTooLong`, then `Missing` where the path leads nowhere; `Memory` where out of memory.
+/// The item at a path within one tree as JSON, without fallback. An alias on the way is not
+/// followed: it is the item, with the rest of the path. Errors: `BadPath`, then `PathTooLong`, then
+/// `Missing` if the path leads nowhere; `Memory` if memory runs out.
 ///
 /// ```rust
 /// text_at(alloc, &tree, b"a/1")? // {"type":"string","value":"y"}
 /// ```
 pub fn text_at<N: Node>(alloc: Global, root: N, path: &[u8]) -> Result<String, ItemError>
-    ensures text { IfOk result (λ text. (d : Data) × (got (N.tree root) path.now ≡ Ok d) × (string_bytes text ≡ compact_text d)) }
+    ensures text { IfOk result (λ text. (d : Data) × (got (N.tree root) path.now ≡ Ok d)
+        × (string_bytes text ≡ compact_text d)) }
     ensures error { IfErr result (λ e. (e ≡ errors.Memory) ⊎ (got (N.tree root) path.now ≡ Err e)) }
 {
     if !path_ok(path) {

@@ -1,4 +1,5 @@
-//! The commands of `resb` over files, over any runtime: compiling, checking, linting, explaining, and printing items, texts and JSON.
+//! The commands of `resb` over files, over any runtime: compiling, checking, linting, explaining,
+//! and printing items, texts and JSON.
 #![tactic(auto)]
 
 mod batch;

@@ -141,10 +141,12 @@ fn root_tree<R: Files + AllocGlobal + Eprint>(
     }
 }
 
-/// Prints what is doubtful in bundle texts, a line each, as `TEXT:LINE: warning: ..`, and to standard error the error of each text
-/// that isn't compiled, as `compile` does. Where `root` names the root locale's text, it is also printed how each text that is
-/// compiled differs from it. The status is 0; 1 where there is a warning or an error of a text, where one can't be read, and where
-/// the root's text is refused or can't be read, before anything is printed; 2 as soon as standard output can't be written.
+/// Prints what is doubtful in bundle texts, a line each, as `TEXT:LINE: warning: ..`, and to
+/// standard error the error of each text that isn't compiled, as `compile` does. If `root` names
+/// the root locale's text, it is also printed how each text that is compiled differs from it. The
+/// status is 0; 1 if there is a warning or an error of a text, if one can't be read, and if the
+/// root's text is refused or can't be read, before anything is printed; 2 as soon as standard
+/// output can't be written.
 pub fn lint_all<R: Files + AllocGlobal + Print + Eprint>(
     rt: &R,
     console: Console,

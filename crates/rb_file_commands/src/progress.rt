@@ -6,7 +6,8 @@ use std::time::Duration;
 /// After this many seconds it is said how far a command is.
 const PATIENCE: u64 = 1;
 
-/// How far a command is: `412 of 879` on a line of standard error, where that is a terminal and a second has gone by.
+/// How far a command is: `412 of 879` on a line of standard error, if that is a terminal and a
+/// second has gone by.
 #[derive(Drop)]
 pub struct Progress<'a, R: Clock + Eprint> {
     rt: &'a R,
@@ -17,7 +18,7 @@ pub struct Progress<'a, R: Clock + Eprint> {
 }
 
 impl<'a, R: Clock + Eprint> Progress<'a, R> {
-    /// Nothing is done of `total` files. Nothing will be said where there is no terminal or no clock.
+    /// Nothing is done of `total` files. Nothing will be said if there is no terminal or no clock.
     pub fn new(rt: &'a R, console: Console, total: usize) -> Self {
         let began = if console.is_terminal {
             rt.monotonic().ok()

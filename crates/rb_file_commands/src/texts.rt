@@ -8,7 +8,8 @@ use std::alloc::Global;
 use std::process::ExitCode;
 use std::rt::Files;
 
-/// The name of a bundle where none is given: that of its file, without the folders, up to the first full stop.
+/// The name of a bundle if none is given: that of its file, without the folders, up to the first
+/// full stop.
 pub fn name_of(file: &str) -> &str {
     let last = match file.rsplit_once('/') {
         Some((_, last)) => last,
@@ -26,9 +27,10 @@ fn bundle_text(alloc: Global, name: &str, bundle: &Bundle) -> Result<Vec<u8>, Pr
     print_bundle(alloc, &UnitList::from_vec(units), bundle)
 }
 
-/// Prints the file `file` as a bundle text, whose name is `name`, and where none is given that of the file up to its first full stop.
-/// The status is 0; 1 where the file is refused or its text would be too large, with the error's name on standard error, and then
-/// nothing is printed; 2 where the file can't be read or standard output can't be written.
+/// Prints the file `file` as a bundle text, whose name is `name`, and if none is given that of the
+/// file up to its first full stop. The status is 0; 1 if the file is refused or its text would be
+/// too large, with the error's name on standard error, and then nothing is printed; 2 if the file
+/// can't be read or standard output can't be written.
 pub fn text<R: Files + AllocGlobal + Print + Eprint>(
     rt: &R,
     console: Console,

@@ -31,7 +31,7 @@ pub enum ValueError {
     Memory,
 }
 
-/// The item to which a path leads; none where it leads nowhere, or on from an alias.
+/// The item to which a path leads; none if it leads nowhere, or on from an alias.
 #[tactic(auto, using(crate::proofs::Shown::reached_end, crate::proofs::Shown::reached_link, crate::proofs::Shown::led_on, crate::proofs::Shown::reached_gone))]
 fn item_at<N: Node>(root: N, path: &[u8]) -> Option<N>
     requires { IsPath path.now }
@@ -59,8 +59,10 @@ fn whole_text<N: Node>(
     layout: Layout,
 ) -> Result<String, ValueError>
     requires { IsPath path.now }
-    ensures text { IfOk result (λ text. text_of layout (reached (walk (N.tree root) (segments path.now))) ≡ Ok (string_bytes text)) }
-    ensures error { IfErr result (λ e. (e ≡ errors.Memory) ⊎ (text_of layout (reached (walk (N.tree root) (segments path.now))) ≡ Err e)) }
+    ensures text { IfOk result (λ text. text_of layout
+        (reached (walk (N.tree root) (segments path.now))) ≡ Ok (string_bytes text)) }
+    ensures error { IfErr result (λ e. (e ≡ errors.Memory)
+        ⊎ (text_of layout (reached (walk (N.tree root) (segments path.now))) ≡ Err e)) }
 {
     let Some(node) = item_at(root, path) else {
         return Err(ValueError::Missing);
@@ -72,9 +74,10 @@ fn whole_text<N: Node>(
     }
 }
 
-/// The whole item at a path within one tree as one JSON value, without fallback. An alias that the path leads to is printed, and none is
-/// followed: the path must not lead on from one. Errors: `BadPath`, then `PathTooLong`, then `Missing` where the path leads nowhere, then
-/// `TooLarge` where the item has more than 64 levels or a weight above 33,554,432; `Memory` where out of memory.
+/// The whole item at a path within one tree as one JSON value, without fallback. An alias that the
+/// path leads to is printed, and none is followed: the path must not lead on from one. Errors:
+/// `BadPath`, then `PathTooLong`, then `Missing` if the path leads nowhere, then `TooLarge` if the
+/// item has more than 64 levels or a weight above 33,554,432; `Memory` if memory runs out.
 ///
 /// ```rust
 /// value_at(alloc, &tree, b"a", Layout::Compact)? // ["x","y"]
@@ -85,8 +88,10 @@ pub fn value_at<N: Node>(
     path: &[u8],
     layout: Layout,
 ) -> Result<String, ValueError>
-    ensures text { IfOk result (λ text. valued layout (N.tree root) path.now ≡ Ok (string_bytes text)) }
-    ensures error { IfErr result (λ e. (e ≡ errors.Memory) ⊎ (valued layout (N.tree root) path.now ≡ Err e)) }
+    ensures text { IfOk result
+        (λ text. valued layout (N.tree root) path.now ≡ Ok (string_bytes text)) }
+    ensures error { IfErr result
+        (λ e. (e ≡ errors.Memory) ⊎ (valued layout (N.tree root) path.now ≡ Err e)) }
 {
     if !path_ok(path) {
         return Err(ValueError::BadPath);
@@ -103,9 +108,10 @@ fn print_line<R: Print>(rt: &R, text: &str) -> io::Result<()> {
     rt.write_all(b"\n")
 }
 
-/// Prints the whole item of the file `name` at a path as one JSON value and a line feed, in a layout. Aliases are printed and not
-/// followed. The status is 0; 1 where the file is refused or has no such item, or one that is too large, with the file or the path and
-/// the error's name on standard error; 2 where the file can't be read or standard output can't be written.
+/// Prints the whole item of the file `name` at a path as one JSON value and a line feed, in a
+/// layout. Aliases are printed and not followed. The status is 0; 1 if the file is refused or has
+/// no such item, or one that is too large, with the file or the path and the error's name on
+/// standard error; 2 if the file can't be read or standard output can't be written.
 pub fn json<R: Files + AllocGlobal + Print + Eprint>(
     rt: &R,
     console: Console,

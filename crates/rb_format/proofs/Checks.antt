@@ -258,7 +258,7 @@ file_first list =
     by false None e = data_first 64 (slice_index list 17) body ∙ sym (first_append (header_checks list) rest ∙ ap (λ (x : Option FileFault). or_else x (first_failed rest)) e)
     by false (Some d) e = sym (first_append (header_checks list) rest ∙ ap (λ (x : Option FileFault). or_else x (first_failed rest)) e)
 
--- a header is refused exactly where it isn't one
+-- a header is refused exactly if it isn't one
 pub header_checked : (list : List ℕ) → is_none (first_failed (header_checks list)) ≡ has_header list
 header_checked list = by (leb 24 (length list)) (has_magic list) (slice_index list 8 == 0) (has_family list) (has_version list) (has_sizes list)
   where

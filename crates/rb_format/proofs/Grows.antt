@@ -242,7 +242,7 @@ node_grow y y' body body' g child child' keep item t e =
     then_ok (kind_or_fault (kind_of item)) a.0 (λ k. value y' body' child' (offset_of item) k) a.1
     ∙ value_grow y y' body body' g child child' keep (offset_of item) a.0 t a.2
 
--- where an item stands for a tree, it stands for it in all data that grow from these
+-- if an item stands for a tree, it stands for it in all data that grow from these
 pub read_grow : (y y' : Layout) (body body' : List ℕ) (g : Grows y body y' body') (d item : ℕ) (t : Resource) → read y body d item ≡ Ok t
     → read y' body' d item ≡ Ok t
 unfolding read

@@ -154,7 +154,7 @@ within_bounds true high k h = absurd cc
 within_bounds false true k h = (h, refl)
 within_bounds false false k h = absurd cc
 
--- where there is a key it is the bytes before the first NUL
+-- if there is a key it is the bytes before the first NUL
 pub key_there : (body : List ℕ) (k : ℕ) → IsTrue (is_some (places.key (layout_of body) body k))
     → (k ≤ length body) × (HasNul (drop k body)) × (places.key (layout_of body) body k ≡ Some (front (drop k body)))
 unfolding places.key

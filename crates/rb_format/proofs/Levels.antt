@@ -1,4 +1,4 @@
--- A tree is read at every level where its height fits, and is too deep at every other.
+-- A tree is read at every level that its height fits, and is too deep at every other.
 use Rattle.std.proofs.Common.{◌≡◌, ℕ, zero, suc, ◌+◌, ◌<◌, ◌≤◌, max, Bool, true, false, cond, leb}
 use Rattle.std.proofs.Common.{map, List, [], ◌∷◌, Result, Ok, Err, refl, sym, subst, ◌∙◌, arith}
 use Rattle.std.proofs.lemmas.Bool.Decides.{nat_tests}
@@ -180,7 +180,7 @@ height-pos (ints x) = omega arith
 none_left : (t : Resource) → leb (height t) 0 ≡ false
 none_left t = let p = height-pos t in grind (arith, nat_tests)
 
--- where an item stands for a tree, it stands for it at every level where the tree fits, and at the
+-- if an item stands for a tree, it stands for it at every level that the tree fits, and at the
 -- others it is too deep
 pub read-limited : (y : Layout) (body : List ℕ) (d e item : ℕ) (t : Resource) → read y body d item ≡ Ok t → read y body e item ≡ limited e (height t) t
 unfolding read

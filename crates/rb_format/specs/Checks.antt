@@ -1,21 +1,27 @@
--- The checks of a file as one list in their order, each with the error that it names and whether the file fails it: those of the file
--- itself, then those of its items, depth first, an item before its children and these in their order. Which checks there are, and their
--- order, are rules of this project; what they look at is `uresdata.h`, format version 1.
+-- The checks of a file as one list in their order, each with the error that it names and whether the file fails it:
+-- those of the file itself, then those of its items, depth first, an item before its children and these in their order.
+-- Which checks there are, and their order, are rules of this project; what they look at is `uresdata.h`, format version
+-- 1.
 use Rattle.std.specs.Prelude.{Bool, true, ℕ, zero, suc, ◌+◌, ◌*◌, ◌==◌, ◌&&◌, ◌||◌, not, nat_lt, nat_le, if◌then◌else◌}
-use Rattle.std.specs.Prelude.{List, [], ◌∷◌, ◌++◌, length, drop, slice_index, Option, Some, None, is_none, unwrap_or, Result, Ok, Err}
+use Rattle.std.specs.Prelude.{List, [], ◌∷◌, ◌++◌, length, drop, slice_index, Option, Some, None, is_none, unwrap_or}
+use Rattle.std.specs.Prelude.{Result, Ok, Err}
 use Rattle.std.specs.Ordering.{is_lt, nat_cmp}
 use Rattle.std.specs.Cmp.Lexicographic.{slice_cmp}
+use Rattle.rb_tree.specs.Limits.{height_limit}
 use Rattle.rb_format.specs.declared.layout.Layout.{Layout}
 use Rattle.rb_format.specs.declared.header.Header.{Header}
 use Rattle.rb_format.specs.declared.geometry.TableParts.{TableParts}
 use Rattle.rb_format.specs.declared.kind.ItemKind.{ItemKind}
-use Rattle.rb_format.specs.declared.kind.ItemKind.TheVariants.{String, Binary, Table, Alias, LongTable, Int, Array, Ints}
+use Rattle.rb_format.specs.declared.kind.ItemKind.TheVariants.{String, Binary, Table, Alias, LongTable, Int, Array}
+use Rattle.rb_format.specs.declared.kind.ItemKind.TheVariants.{Ints}
 use Rattle.rb_format.specs.declared.fault.FileFault.{FileFault}
 use Rattle.rb_format.specs.declared.fault.FileFault.TheVariants as faults
-use Rattle.rb_format.specs.declared.fault.FileFault.TheVariants.{TooLong, BigEndian, Family, FormatVersion, Indexes, Root, ItemType}
+use Rattle.rb_format.specs.declared.fault.FileFault.TheVariants.{TooLong, BigEndian, Family, FormatVersion, Indexes}
+use Rattle.rb_format.specs.declared.fault.FileFault.TheVariants.{Root, ItemType}
 use Rattle.rb_format.specs.declared.fault.FileFault.TheVariants.{Offset, Length, NotTerminated, Key, KeyOrder, TooDeep}
 use Rattle.rb_format.specs.Place.{word_at, half_at, key, layout_of}
-use Rattle.rb_format.specs.Geometry.{key_offset, table_parts, long_table_parts, array_first, array_count, child_count, first_child}
+use Rattle.rb_format.specs.Geometry.{key_offset, table_parts, long_table_parts, array_first, array_count, child_count}
+use Rattle.rb_format.specs.Geometry.{first_child}
 use Rattle.rb_format.specs.Item.{kind_of, offset_of, is_table, has_data}
 use Rattle.rb_format.specs.Attributes.{attributes_of, has_pool}
 use Rattle.rb_format.specs.File.{is_short_enough, has_magic, has_family, has_version, has_sizes, has_valid_indexes}
@@ -73,7 +79,8 @@ key_checks y body place i (suc n) =
 
 -- of a table with these parts: whether its items end below the top, and the checks of its keys
 abbrev pub table_checks : Layout → List ℕ → TableParts → CheckList
-table_checks y body p = (Length, nat_lt y.top (p.first + p.count)) ∷ key_checks y body (key_offset body p.keys) 0 p.count
+table_checks y body p = (Length, nat_lt y.top (p.first + p.count))
+    ∷ key_checks y body (key_offset body p.keys) 0 p.count
 
 -- of a text: whether it ends below the top, with a zero unit
 abbrev pub text_checks : Layout → List ℕ → ℕ → CheckList
@@ -128,7 +135,8 @@ abbrev pub file_checks : List ℕ → CheckList
 file_checks bytes =
     let body = drop (half_at bytes 0) bytes in
     (TooLong, not (is_short_enough bytes))
-    ∷ (header_checks bytes ++ (data_checks (slice_index bytes 17) body ++ item_checks (layout_of body) body 64 (word_at body 0)))
+    ∷ (header_checks bytes
+    ++ (data_checks (slice_index bytes 17) body ++ item_checks (layout_of body) body height_limit (word_at body 0)))
 
 unfoldable pub first_fault : List ℕ → Option FileFault
 first_fault bytes = first_failed (file_checks bytes)

@@ -1,4 +1,4 @@
--- The tree that an item denotes, by cases on its type, and nothing where something doesn't hold (`uresdata.h`, the
+-- The tree that an item denotes, by cases on its type, and nothing if something doesn't hold (`uresdata.h`, the
 -- resource types of format version 1). No order of checks and no fault occurs here.
 use Rattle.std.specs.Prelude.{Bool, true, false, ℕ, zero, suc, ◌+◌, ◌*◌, ◌==◌, ◌&&◌, nat_lt}
 use Rattle.std.specs.Prelude.{nat_le, if◌then◌else◌, List, [], ◌∷◌, take, drop, map, Option, Some, None, option_map}
@@ -7,14 +7,16 @@ use Rattle.std.specs.Cmp.Lexicographic.{slice_cmp}
 use Rattle.std.specs.Int.{cast_signed, w32}
 use Rattle.rb_format.specs.declared.layout.Layout.{Layout}
 use Rattle.rb_format.specs.declared.kind.ItemKind.{ItemKind}
-use Rattle.rb_format.specs.declared.kind.ItemKind.TheVariants.{String, Binary, Table, Alias, LongTable, Int, Array, Ints}
-use Rattle.rb_tree.specs.Resource.{Resource, string, binary, table, alias, int, array, ints, Resources, no_trees, tree_and, Members, no_entries, entry_and}
+use Rattle.rb_format.specs.declared.kind.ItemKind.TheVariants.{String, Binary, Table, Alias, LongTable, Int, Array}
+use Rattle.rb_format.specs.declared.kind.ItemKind.TheVariants.{Ints}
+use Rattle.rb_tree.specs.Resource.{Resource, string, binary, table, alias, int, array, ints, Resources, no_trees}
+use Rattle.rb_tree.specs.Resource.{tree_and, Members, no_entries, entry_and}
 use Rattle.rb_format.specs.declared.geometry.TableParts.{TableParts}
 use Rattle.rb_format.specs.Place.{word_at, half_at, key, values}
 use Rattle.rb_format.specs.Geometry.{key_offset, table_parts, long_table_parts, array_first, array_count}
 use Rattle.rb_format.specs.Item.{kind_of, offset_of, has_data, bare}
 
--- x, where a condition holds
+-- x, if a condition holds
 abbrev pub where_holds : {A : Type 0} → Bool → Option A → Option A
 where_holds true x = x
 where_holds false x = None
@@ -38,7 +40,8 @@ keys_at y body place last i (suc n) = key y body (place i) >>? λ k. where_holds
 -- the entries of these keys, whose items begin at place i
 abbrev pub members_at : (ℕ → Option Resource) → (ℕ → ℕ) → ℕ → List (List ℕ) → Option Members
 members_at child item i [] = Some no_entries
-members_at child item i (k ∷ ks) = child (item i) >>? λ t. members_at child item (suc i) ks >>? λ es. Some (entry_and k t es)
+members_at child item i (k ∷ ks) = child (item i) >>? λ t. members_at child item (suc i) ks >>? λ es. Some
+    (entry_and k t es)
 
 -- a table of n entries, whose items begin at word `from`
 abbrev pub table_at : Layout → List ℕ → (ℕ → Option Resource) → (ℕ → ℕ) → ℕ → ℕ → Option Members
@@ -52,25 +55,29 @@ table_with y body child p = table_at y body child (key_offset body p.keys) p.fir
 -- the units at an offset, with a zero unit after them
 abbrev pub units_at : Layout → List ℕ → ℕ → Option (List ℕ)
 units_at y body o = where_holds (nat_le (4 * o + 6 + 2 * word_at body o) (4 * y.top))
-    (where_holds (half_at body (2 * o + 2 + word_at body o) == 0) (Some (values (half_at body) (2 * o + 2) (word_at body o))))
+    (where_holds (half_at body (2 * o + 2 + word_at body o) == 0)
+    (Some (values (half_at body) (2 * o + 2) (word_at body o))))
 
 -- the value of the data at an offset, where child gives what an item in them denotes
 abbrev pub value_at : Layout → List ℕ → (ℕ → Option Resource) → ℕ → ItemKind → Option Resource
 value_at y body child o String = option_map string (units_at y body o)
-value_at y body child o Binary = where_holds (nat_le (4 * o + 4 + word_at body o) (4 * y.top)) (Some (binary (take (word_at body o) (drop (4 * o + 4) body))))
+value_at y body child o Binary = where_holds (nat_le (4 * o + 4 + word_at body o) (4 * y.top))
+    (Some (binary (take (word_at body o) (drop (4 * o + 4) body))))
 value_at y body child o Table = option_map table (table_with y body child (table_parts body o))
 value_at y body child o Alias = option_map alias (units_at y body o)
 value_at y body child o LongTable = option_map table (table_with y body child (long_table_parts body o))
 value_at y body child o Int = Some (int o)
 value_at y body child o Array =
     let n = array_count body o in
-    where_holds (nat_le (array_first o + n) y.top) (option_map array (trees_at child (λ i. word_at body (array_first o + i)) 0 n))
+    where_holds (nat_le (array_first o + n) y.top)
+    (option_map array (trees_at child (λ i. word_at body (array_first o + i)) 0 n))
 value_at y body child o Ints = where_holds (nat_le (o + 1 + word_at body o) y.top)
     (Some (ints (map (cast_signed w32) (values (word_at body) (o + 1) (word_at body o)))))
 
 -- an item without data has its bare value, any other the value of its data, which begin between the keys and the top
 abbrev pub item_at : Layout → List ℕ → (ℕ → Option Resource) → ℕ → ItemKind → Option Resource
-item_at y body child o k = if has_data k o then where_holds (nat_le y.keys_top o && nat_lt o y.top) (value_at y body child o k) else Some (bare k o)
+item_at y body child o k = if has_data k o
+    then where_holds (nat_le y.keys_top o && nat_lt o y.top) (value_at y body child o k) else Some (bare k o)
 
 -- the tree of height at most d that an item denotes
 unfoldable pub tree_at : Layout → List ℕ → ℕ → ℕ → Option Resource

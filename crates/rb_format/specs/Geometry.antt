@@ -1,6 +1,6 @@
--- Where the parts of tables and arrays are: a table has a half word that counts its entries, then half words that are the offsets of
--- its keys, a half word of padding where the count is even, and its items; a long table has words alone, and an array has a word that
--- counts its items, and the items (`uresdata.h`, URES_TABLE, URES_TABLE32 and URES_ARRAY).
+-- Where the parts of tables and arrays are: a table has a half word that counts its entries, then half words that are
+-- the offsets of its keys, a half word of padding if the count is even, and its items; a long table has words alone,
+-- and an array has a word that counts its items, and the items (`uresdata.h`, URES_TABLE, URES_TABLE32 and URES_ARRAY).
 use Rattle.std.specs.Prelude.{Bool, true, false, ℕ, ◌+◌, ◌*◌, ◌/◌, List}
 use Rattle.rb_format.specs.declared.geometry.KeyPlaces.{KeyPlaces}
 use Rattle.rb_format.specs.declared.geometry.KeyPlaces.TheVariants.{Halves, Words}
@@ -21,7 +21,12 @@ keys_end (Words first) n = 4 * (first + n)
 
 -- the parts of the table at word o
 abbrev pub table_parts : List ℕ → ℕ → TableParts
-table_parts body o = record { keys = Halves (2 * o + 1); first = o + (half_at body (2 * o) + 2) / 2; count = half_at body (2 * o) }
+table_parts body o = record {
+  keys = Halves (2 * o + 1);
+  first = o
+      + (half_at body (2 * o) + 2) / 2;
+  count = half_at body (2 * o);
+}
 
 -- the parts of the long table at word o
 abbrev pub long_table_parts : List ℕ → ℕ → TableParts

@@ -1,7 +1,8 @@
 -- Items: a type and an offset in words from the root item, or a value (`uresdata.h`, RES_GET_TYPE and RES_GET_OFFSET).
 use Rattle.std.specs.Prelude.{Bool, true, false, ℕ, ◌^◌, ◌/◌, ◌%◌, ◌==◌, nat_lt, if◌then◌else◌, [], Option, Some, None}
 use Rattle.rb_format.specs.declared.kind.ItemKind.{ItemKind}
-use Rattle.rb_format.specs.declared.kind.ItemKind.TheVariants.{String, Binary, Table, Alias, LongTable, Int, Array, Ints}
+use Rattle.rb_format.specs.declared.kind.ItemKind.TheVariants.{String, Binary, Table, Alias, LongTable, Int, Array}
+use Rattle.rb_format.specs.declared.kind.ItemKind.TheVariants.{Ints}
 use Rattle.rb_tree.specs.Resource.{Resource, string, binary, table, alias, int, array, ints, no_trees, no_entries}
 
 -- bits 31 to 28

@@ -1,3 +1,4 @@
+pub mod Limits
 pub mod Place
 pub mod Item
 pub mod Attributes

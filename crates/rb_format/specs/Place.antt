@@ -15,11 +15,11 @@ word_at body i = little_number 4 (drop (4 * i) body)
 unfoldable pub half_at : List ℕ → ℕ → ℕ
 half_at body i = little_number 2 (drop (2 * i) body)
 
--- word i, where its 4 bytes are there
+-- word i, if its 4 bytes are there
 abbrev pub word : List ℕ → ℕ → Option ℕ
 word body i = if nat_lt (4 * i + 3) (length body) then Some (word_at body i) else None
 
--- half word i, where its 2 bytes are there
+-- half word i, if its 2 bytes are there
 abbrev pub half : List ℕ → ℕ → Option ℕ
 half body i = if nat_lt (2 * i + 1) (length body) then Some (half_at body i) else None
 
@@ -27,7 +27,7 @@ half body i = if nat_lt (2 * i + 1) (length body) then Some (half_at body i) els
 abbrev pub key_ok : List ℕ → Bool
 key_ok bytes = is_filled bytes && list_all is_plain bytes
 
--- the bytes up to the first NUL, where there is one and they are a key
+-- the bytes up to the first NUL, if there is one and they are a key
 abbrev pub key_before : List ℕ → Option ℕ → Option (List ℕ)
 key_before run None = None
 key_before run (Some n) = if key_ok (take n run) then Some (take n run) else None
@@ -45,7 +45,7 @@ key y body k =
 abbrev pub layout_of : List ℕ → Layout
 layout_of body = record { indexes = word_at body 1; keys_top = word_at body 2; top = word_at body 4 }
 
--- the same, where words 1 and 2 are there
+-- the same, if words 1 and 2 are there
 abbrev pub key_at : List ℕ → ℕ → Option (List ℕ)
 key_at body k = if nat_lt (length body) 12 then None else key (layout_of body) body k
 

@@ -14,8 +14,8 @@ pub struct Attributes {
 }
 
 impl Attributes {
-    /// The attributes of the data of a file with this minor format version; none before version 1.2, or where fewer than six
-    /// indexes are there.
+    /// The attributes of the data of a file with this minor format version; none before version
+    /// 1.2, or if fewer than six indexes are there.
     pub fn of(minor: u8, body: &[u8]) -> Attributes
         requires { IsTrue (files.has_valid_indexes body.now) }
         ensures { result.bits ≡ attributes_of minor body.now }
@@ -33,7 +33,8 @@ impl Attributes {
         self.has(0)
     }
 
-    /// Whether the bundle is a pool bundle, or uses the keys of one (`URES_ATT_IS_POOL_BUNDLE`, `URES_ATT_USES_POOL_BUNDLE`).
+    /// Whether the bundle is a pool bundle, or uses the keys of one (`URES_ATT_IS_POOL_BUNDLE`,
+    /// `URES_ATT_USES_POOL_BUNDLE`).
     pub fn has_pool(self) -> bool
         ensures { result ≡ specified.has_pool self.bits }
     {

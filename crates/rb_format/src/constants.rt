@@ -1,27 +1,49 @@
-//! The numbers of the layout. The definitions in specs/ have the same numbers written out, so that a proof compares the two.
+//! The numbers of the layout. The definitions in specs/ have the same numbers written out, so that
+//! a proof compares the two.
 
 /// The greatest length of a file that is read, in bytes.
 pub const FILE_LIMIT: usize = 67_108_864;
 
-/// The bytes 2 and 3 of each file of ICU's data.
+/// Where the magic bytes are in a file.
+pub const MAGIC_AT: usize = 2;
+
+/// The magic bytes of each file of ICU's data.
 pub const MAGIC: [u8; 2] = [0xDA, 0x27];
 
-/// The bytes 12 to 15 of a resource bundle.
+/// Where the byte is that is 0 if numbers are little-endian.
+pub const IS_BIG_ENDIAN_AT: usize = 8;
+
+/// Where the data format is, of four bytes.
+pub const DATA_FORMAT_AT: usize = 12;
+
+/// The data format of a resource bundle.
 pub const DATA_FORMAT: [u8; 4] = [b'R', b'e', b's', b'B'];
 
-/// The byte 16, the major format version.
+/// Where the major format version is.
+pub const MAJOR_VERSION_AT: usize = 16;
+
+/// The major format version.
 pub const MAJOR_VERSION: u8 = 1;
 
-/// The least byte 17, the minor format version.
+/// Where the minor format version is.
+pub const MINOR_VERSION_AT: usize = 17;
+
+/// The least minor format version.
 pub const MINOR_VERSION: u8 = 1;
 
 /// The least minor format version whose files have attributes.
 pub const ATTRIBUTES_VERSION: u8 = 2;
 
-/// The byte 9 where keys are ASCII.
+/// Where the charset family is.
+pub const CHARSET_FAMILY_AT: usize = 9;
+
+/// The charset family of keys in ASCII.
 pub const CHARSET_FAMILY: u8 = 0;
 
-/// The byte 10, the size of a unit of text.
+/// Where the size of a unit of text is.
+pub const UNIT_SIZE_AT: usize = 10;
+
+/// The size of a unit of text, in bytes.
 pub const UNIT_SIZE: u8 = 2;
 
 /// The least size of the info block, which begins at byte 4.

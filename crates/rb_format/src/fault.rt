@@ -27,7 +27,8 @@ pub enum FileFault {
     Length,
     /// A text without a zero unit after it.
     NotTerminated,
-    /// A key that is empty, has other bytes than 0x20 to 0x7E, or does not lie among the keys with its NUL.
+    /// A key that is empty, has other bytes than 0x20 to 0x7E, or does not lie among the keys with
+    /// its NUL.
     Key,
     /// A key that isn't above the one before it.
     KeyOrder,

@@ -5,8 +5,9 @@ ghost use Rattle.rb_format.specs.File as files;
 ghost use Rattle.rb_format.specs.Checks.{header_of};
 
 use crate::constants::{
-    CHARSET_FAMILY, DATA_FORMAT, FILE_LIMIT, HEADER_SIZE, INFO_SIZE, MAGIC, MAJOR_VERSION,
-    MINOR_VERSION, UNIT_SIZE,
+    CHARSET_FAMILY, CHARSET_FAMILY_AT, DATA_FORMAT, DATA_FORMAT_AT, FILE_LIMIT, HEADER_SIZE,
+    INFO_SIZE, IS_BIG_ENDIAN_AT, MAGIC, MAGIC_AT, MAJOR_VERSION, MAJOR_VERSION_AT, MINOR_VERSION,
+    MINOR_VERSION_AT, UNIT_SIZE, UNIT_SIZE_AT,
 };
 use crate::fault::FileFault;
 use crate::place::half_at;
@@ -19,9 +20,10 @@ pub struct Header {
 }
 
 impl Header {
-    /// The header at the front of a file. It is refused for the first of these: fewer than 24 bytes or other magic bytes
-    /// (`Header`), big-endian numbers (`BigEndian`), another charset family or size of units (`Family`), a format
-    /// version other than 1.1 and 1 with a later minor version (`FormatVersion`), and sizes that can't be (`Header`).
+    /// The header at the front of a file. It is refused for the first of these: fewer than 24 bytes
+    /// or other magic bytes (`Header`), big-endian numbers (`BigEndian`), another charset family or
+    /// size of units (`Family`), a format version other than 1.1 and 1 with a later minor version
+    /// (`FormatVersion`), and sizes that can't be (`Header`).
     ///
     /// ```rust
     /// let header = Header::read(&file)?;
@@ -35,13 +37,13 @@ impl Header {
         if bytes.len() < 24 || !has_magic(bytes) {
             return Err(FileFault::Header);
         }
-        if bytes[8] != 0 {
+        if bytes[IS_BIG_ENDIAN_AT] != 0 {
             return Err(FileFault::BigEndian);
         }
-        if bytes[9] != CHARSET_FAMILY || bytes[10] != UNIT_SIZE {
+        if bytes[CHARSET_FAMILY_AT] != CHARSET_FAMILY || bytes[UNIT_SIZE_AT] != UNIT_SIZE {
             return Err(FileFault::Family);
         }
-        if bytes[16] != MAJOR_VERSION || bytes[17] < MINOR_VERSION {
+        if bytes[MAJOR_VERSION_AT] != MAJOR_VERSION || bytes[MINOR_VERSION_AT] < MINOR_VERSION {
             return Err(FileFault::FormatVersion);
         }
         if !has_sizes(bytes) {
@@ -49,7 +51,7 @@ impl Header {
         }
         Ok(Header {
             size: half_at(bytes, 0),
-            minor: bytes[17],
+            minor: bytes[MINOR_VERSION_AT],
         })
     }
 }
@@ -59,12 +61,12 @@ fn has_magic(bytes: &[u8]) -> bool
     requires { 24 ≤ length bytes.now }
     ensures { result ≡ files.has_magic bytes.now }
 {
-    bytes[2] == MAGIC[0]
-        && bytes[3] == MAGIC[1]
-        && bytes[12] == DATA_FORMAT[0]
-        && bytes[13] == DATA_FORMAT[1]
-        && bytes[14] == DATA_FORMAT[2]
-        && bytes[15] == DATA_FORMAT[3]
+    bytes[MAGIC_AT] == MAGIC[0]
+        && bytes[MAGIC_AT + 1] == MAGIC[1]
+        && bytes[DATA_FORMAT_AT] == DATA_FORMAT[0]
+        && bytes[DATA_FORMAT_AT + 1] == DATA_FORMAT[1]
+        && bytes[DATA_FORMAT_AT + 2] == DATA_FORMAT[2]
+        && bytes[DATA_FORMAT_AT + 3] == DATA_FORMAT[3]
 }
 
 /// Whether the header's size and that of its info block can be.

@@ -7,10 +7,12 @@ ghost use Rattle.rb_format.specs.Place.{key as stored_key, layout_of};
 
 use std::cmp::Ordering;
 
-/// How a key compares, byte by byte, with the key from byte k of the data, which is one. It reads no further than they agree.
+/// How a key compares, byte by byte, with the key from byte k of the data, which is one. It reads
+/// no further than they agree.
 pub fn compare_key(key: &[u8], body: &[u8], k: u32) -> Ordering
     requires { IsTrue (is_some (stored_key (layout_of body.now) body.now k)) }
-    ensures { IfSome (stored_key (layout_of body.now) body.now k) (λ stored. result ≡ slice_cmp nat_cmp key.now stored) }
+    ensures { IfSome (stored_key (layout_of body.now) body.now k)
+        (λ stored. result ≡ slice_cmp nat_cmp key.now stored) }
 {
     compare_before_nul(key, &body[k as usize..])
 }

@@ -30,7 +30,7 @@ pub fn item_offset(item: u32) -> u32
     item & 0x0FFF_FFFF
 }
 
-/// The kind of an item; None where its type is none of the layout's.
+/// The kind of an item; None if its type is none of the layout's.
 pub fn item_kind(item: u32) -> Option<ItemKind>
     ensures { result ≡ kind_of item }
 {

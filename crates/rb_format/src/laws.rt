@@ -1,5 +1,6 @@
 //! What holds of the definitions, as contracts of functions that do nothing.
-ghost use Rattle.std.specs.Prelude.{◌≡◌, ◌≤◌, ℕ, List, Some, None, MatchOption, is_none, nat_le, if◌then◌else◌};
+ghost use Rattle.std.specs.Prelude.{◌≡◌, ◌≤◌, ℕ, List, Some, None, MatchOption, is_none, nat_le};
+ghost use Rattle.std.specs.Prelude.{if◌then◌else◌};
 ghost use Rattle.rb_format.specs.declared.layout.Layout.{Layout};
 ghost use Rattle.rb_tree.specs.Resource.{Resource, height};
 ghost use Rattle.rb_tree.specs.SourceTree.{SourceTree};
@@ -10,10 +11,11 @@ ghost use Rattle.rb_format.specs.Checks.{first_failed, first_fault, header_check
 
 /// A file denotes a bundle or has a first fault, and never both.
 pub fn a_tree_or_a_fault()
-    ensures { (bytes : List ℕ) → MatchOption (first_fault bytes) ((s : SourceTree) × Denotes bytes s) (λ e. (s : SourceTree) → ¬ (Denotes bytes s)) }
+    ensures { (bytes : List ℕ) → MatchOption (first_fault bytes)
+        ((s : SourceTree) × Denotes bytes s) (λ e. (s : SourceTree) → ¬ (Denotes bytes s)) }
 {}
 
-/// A header fails none of its checks exactly where it is the header of a resource bundle.
+/// A header fails none of its checks exactly if it is the header of a resource bundle.
 pub fn a_header_or_a_fault()
     ensures { (bytes : List ℕ) → is_none (first_failed (header_checks bytes)) ≡ has_header bytes }
 {}
@@ -23,18 +25,23 @@ pub fn at_most_one_tree()
     ensures { (bytes : List ℕ) (s r : SourceTree) → Denotes bytes s → Denotes bytes r → s ≡ r }
 {}
 
-/// An item that denotes a tree at one level denotes it at every level that is at least the tree's height, and for none at
-/// a smaller one; there it is too deep.
+/// An item that denotes a tree at one level denotes it at every level that is at least the tree's
+/// height, and for none at a smaller one; there it is too deep.
 pub fn same_at_every_level()
-    ensures tree { (y : Layout) (body : List ℕ) (d e item : ℕ) (t : Resource) → tree_at y body d item ≡ Some t
+    ensures tree { (y : Layout) (body : List ℕ) (d e item : ℕ) (t : Resource)
+        → tree_at y body d item ≡ Some t
         → tree_at y body e item ≡ (if nat_le (height t) e then Some t else None) }
-    ensures fault { (y : Layout) (body : List ℕ) (d e item : ℕ) (t : Resource) → tree_at y body d item ≡ Some t
-        → first_failed (item_checks y body e item) ≡ (if nat_le (height t) e then None else Some TooDeep) }
+    ensures fault { (y : Layout) (body : List ℕ) (d e item : ℕ) (t : Resource)
+        → tree_at y body d item ≡ Some t
+        → first_failed (item_checks y body e item)
+        ≡ (if nat_le (height t) e then None else Some TooDeep) }
 {}
 
-/// A file that denotes a bundle under one limit of heights denotes the same one under every greater limit. So each file that was
-/// accepted while a tree had at most 32 levels still is, and with the same answers.
+/// A file that denotes a bundle under one limit of heights denotes the same one under every greater
+/// limit. So each file that was accepted while a tree had at most 32 levels still is, and with the
+/// same answers.
 pub fn old_files_keep_their_meaning()
-    ensures all { (h k : ℕ) (bytes : List ℕ) (s : SourceTree) → h ≤ k → DenotesWithin h bytes s → DenotesWithin k bytes s }
+    ensures all { (h k : ℕ) (bytes : List ℕ) (s : SourceTree) → h ≤ k → DenotesWithin h bytes s
+        → DenotesWithin k bytes s }
     ensures old { (bytes : List ℕ) (s : SourceTree) → DenotesWithin 32 bytes s → Denotes bytes s }
 {}

@@ -31,7 +31,8 @@ impl Layout {
     }
 }
 
-/// Whether the indexes are there, and the keys, the resources and the bundle end in this order, within the data.
+/// Whether the indexes are there, and the keys, the resources and the bundle end in this order,
+/// within the data.
 pub fn has_valid_indexes(body: &[u8]) -> bool
     ensures { result ≡ files.has_valid_indexes body.now }
 {

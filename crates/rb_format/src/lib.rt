@@ -1,4 +1,5 @@
-//! The layout of a resource bundle's file, ResB format 1.1 and later minor versions, and what a file denotes.
+//! The layout of a resource bundle's file, ResB format 1.1 and later minor versions, and what a
+//! file denotes.
 #![tactic(auto)]
 
 mod attributes;
@@ -16,7 +17,8 @@ mod words;
 pub use attributes::Attributes;
 pub use constants::{
     ATTRIBUTES_INDEX_COUNT, ATTRIBUTES_VERSION, CHARSET_FAMILY, DATA_FORMAT, FILE_LIMIT,
-    HEADER_SIZE, INDEX_COUNT, INFO_SIZE, MAGIC, MAJOR_VERSION, MINOR_VERSION, UNIT_SIZE,
+    HEADER_SIZE, INDEX_COUNT, INFO_SIZE, MAGIC, MAJOR_VERSION, MINOR_VERSION, MINOR_VERSION_AT,
+    UNIT_SIZE,
 };
 pub use fault::FileFault;
 pub use geometry::{KeyPlaces, TableParts, long_table_parts, table_parts};

@@ -8,7 +8,7 @@ use crate::layout::Layout;
 use byteorder::{ByteOrder, LittleEndian};
 use rb_tree::key_ok;
 
-/// Word i of the data: the number in the 4 bytes from byte 4i. None where they aren't all there.
+/// Word i of the data: the number in the 4 bytes from byte 4i. None if they aren't all there.
 #[tactic(auto, unfolding(crate::specs::Place::word_at))]
 pub fn word(body: &[u8], i: usize) -> Option<u32>
     ensures { result ≡ word body.now i }
@@ -16,7 +16,7 @@ pub fn word(body: &[u8], i: usize) -> Option<u32>
     (i < body.len() / 4).then(|| word_at(body, i))
 }
 
-/// Half word i of the data: the number in the 2 bytes from byte 2i. None where they aren't both there.
+/// Half word i of the data: the number in the 2 bytes from byte 2i. None if they aren't both there.
 #[tactic(auto, unfolding(crate::specs::Place::half_at))]
 pub fn half(body: &[u8], i: usize) -> Option<u16>
     ensures { result ≡ half body.now i }
@@ -24,8 +24,8 @@ pub fn half(body: &[u8], i: usize) -> Option<u16>
     (i < body.len() / 2).then(|| half_at(body, i))
 }
 
-/// The key from byte k of the data: the bytes up to the next NUL, which lie after the indexes and below the top of the
-/// keys. None where there is no key.
+/// The key from byte k of the data: the bytes up to the next NUL, which lie after the indexes and
+/// below the top of the keys. None if there is no key.
 pub fn key_at(body: &[u8], k: u32) -> Option<&[u8]>
     ensures { option_copied result ≡ key_at body.now k }
 {

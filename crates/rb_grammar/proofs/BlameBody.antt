@@ -246,7 +246,7 @@ none_second level ts after r there no_left no_colon no_right no_comma =
     (plain r) RightBrace [] tt tt refl
     (λ f rest ms good t e. unguessed_second after r no_left no_colon no_right no_comma f rest ms good t.alike e) (λ ms t. tt)
 
--- where the guess finds none
+-- if the guess finds none
 pub data NoGuess (ts rest : List Token) : Type 0 where
   first_mark : first_text ts ≡ None → begins left ts ≡ false → begins colon ts ≡ false → begins right ts ≡ false → ts ≡ rest → NoGuess ts rest
   second_mark : (r : List ℕ) → first_text ts ≡ Some r → begins left rest ≡ false → begins colon rest ≡ false → begins right rest ≡ false

@@ -50,7 +50,7 @@ pub neither_mark : (a b : Bool) → (a || b) ≡ false → (a ≡ false) × (b �
 neither_mark true b e = absurd cc
 neither_mark false b e = (refl, e)
 
--- it still does where the tokens go on otherwise after a stop
+-- it still does if the tokens go on otherwise after a stop
 pub opened_still : (ts : List Token) (front rest ms : List Mark) → (begins colon ts || begins left ts) ≡ true → marks ts ≡ front ++ rest → Alike rest ms
     → Opened (front ++ ms)
 opened_still ts front rest ms opens parts a = elim (either_mark (begins colon ts) (begins left ts) opens) [
@@ -211,7 +211,7 @@ body_ended x false = let h = closes x in record {
 pub ended_opens : (x : Body) (c : Bool) (h : Ended x c) (ms : List Mark) → Opened (h.pre ++ h.last ∷ ms)
 ended_opens x c h ms = let o = body_opens x (comma_marks c ms) in (o.first, o.others, o.opening, sym (h.is ms) ∙ o.is)
 
--- the tokens after a whole body and its comma begin with none where there was none
+-- the tokens after a whole body and its comma begin with none if there was none
 pub no_other_comma : (mid : List Token) (front ms : List Mark) (rest : List Token) → marks (after_comma mid) ≡ front ++ marks rest → Alike (marks rest) ms
     → has_comma mid ≡ false → starts_comma (front ++ ms) ≡ false
 no_other_comma mid front ms rest parts a none =

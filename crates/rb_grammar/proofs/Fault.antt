@@ -441,7 +441,7 @@ type_blame ts rest name s named e = elim (chosen (begins colon rest) (head_word_
       (λ q ms r head a e. unknown_head (tail rest) u q ms r comes differs none head a e))
   at_head there (other_comes w after word e) = other there w after word e
 
--- where no type is written, no colon comes
+-- if no type is written, no colon comes
 no_colon_after : (ts : List Token) (x : Head × List Token) → type_at ts ≡ Ok x → x.0 ≡ untyped → begins colon x.1 ≡ false
 no_colon_after ts x e none = elim (chosen (begins colon ts) (head_word_at (tail ts)) (Ok (untyped, ts)) (Ok x) e) [
   | inl h ↦ absurd (by_head (head_read (tail ts) x h.1))

@@ -112,7 +112,7 @@ mutual
   array_height (one_body b c xs) ts p =
       ap trees_height p.2 ∙ ap (λ n. max n (trees_height p.1)) (tree_height b p.0 p.3) ∙ ap (max (body_height b)) (array_height xs p.1 p.4)
 
--- ---- there is one, where the tests have passed
+-- ---- there is one, if the tests have passed
 
 each_still : (es : Entries) (rows : Members) (k : List ℕ) (d : Resource) → (IsKeyOf es k → ⊥) → EachAtItsKey es rows → EachAtItsKey es (put k d rows)
 each_still no_entries rows k d other p = tt

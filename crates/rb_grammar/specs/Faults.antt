@@ -1,25 +1,30 @@
--- Which errors a list of marks has, and in which line. The syntax is that of ICU's genrb; the errors and their lines are this project's own rule.
--- An error at a mark is given by `front`, the marks before it, and `rest`, the marks from it on; at the end of the text rest is empty.
--- What a mark is there for follows from the forms that begin with the marks so far: a text after `{` may be a key, a string or
--- an element, until what follows decides.
+-- Which errors a list of marks has, and in which line. The syntax is that of ICU's genrb; the errors and their lines
+-- are this project's own rule. An error at a mark is given by `front`, the marks before it, and `rest`, the marks from
+-- it on; at the end of the text rest is empty. What a mark is there for follows from the forms that begin with the
+-- marks so far: a text after `{` may be a key, a string or an element, until what follows decides.
 use Rattle.std.specs.Prelude.{◌≡◌, ◌<◌, ◌≤◌, ℕ, ℤ, suc, Bool, List, [], ◌∷◌, ◌++◌, Option, Some, None, ◌⊎◌}
 use Rattle.rb_lexer.specs.declared.token.Mark.{Mark}
 use Rattle.rb_lexer.specs.declared.token.Mark.TheVariants.{Text, RightBrace, Colon}
 use Rattle.rb_lexer.specs.declared.token.Token.{Token}
 use Rattle.rb_lexer.specs.declared.fault.SourceKind.{SourceKind}
-use Rattle.rb_lexer.specs.declared.fault.SourceKind.TheVariants.{Unexpected, UnknownType, BadKey, DuplicateKey, BadInt, BadHex, TooDeep, TrailingText, TooLarge}
+use Rattle.rb_lexer.specs.declared.fault.SourceKind.TheVariants.{Unexpected, UnknownType, BadKey, DuplicateKey, BadInt}
+use Rattle.rb_lexer.specs.declared.fault.SourceKind.TheVariants.{BadHex, TooDeep, TrailingText, TooLarge}
 use Rattle.rb_tree.specs.Keys.{IsKey}
 use Rattle.rb_tree.specs.Resource.{height, weight}
 use Rattle.rb_tree.specs.SourceTree.{SourceTree}
 use Rattle.rb_grammar.specs.Numeral.{IsIntText, IsElementText, IsHexText}
-use Rattle.rb_grammar.specs.Form.{marks, Leaf, string, alias, binary, int, ints, Body, plain, group, listed, leaf, table, array, Entries, no_entries, entry}
-use Rattle.rb_grammar.specs.Form.{Elements, no_elements, one_text, one_body, string_word, alias_word, binary_word, int_word, ints_word, table_word}
-use Rattle.rb_grammar.specs.Form.{no_fallback_table_word, array_word, Head, comma_marks, numbers_marks, body_marks, entries_marks, elements_marks, bundle_marks}
+use Rattle.rb_grammar.specs.Form.{marks, Leaf, string, alias, binary, int, ints, Body, plain, group, listed, leaf}
+use Rattle.rb_grammar.specs.Form.{table, array, Entries, no_entries, entry}
+use Rattle.rb_grammar.specs.Form.{Elements, no_elements, one_text, one_body, string_word, alias_word, binary_word}
+use Rattle.rb_grammar.specs.Form.{int_word, ints_word, table_word}
+use Rattle.rb_grammar.specs.Form.{no_fallback_table_word, array_word, Head, comma_marks, numbers_marks, body_marks}
+use Rattle.rb_grammar.specs.Form.{entries_marks, elements_marks, bundle_marks}
 use Rattle.rb_grammar.specs.Form.{AreForms}
 use Rattle.rb_grammar.specs.Good.{IsSpelled}
+use Rattle.rb_tree.specs.Limits.{height_limit, weight_limit}
 
--- What a mark is in a form: a key, with the earlier keys of its table; the first mark of a value, at a level; the text of an
--- Int, of an element of a vector, of bytes.
+-- What a mark is in a form: a key, with the earlier keys of its table; the first mark of a value, at a level; the text
+-- of an Int, of an element of a vector, of bytes.
 pub data Role : Type 0 where
   key : List (List ℕ) → List ℕ → Role
   value : ℕ → Role
@@ -35,7 +40,8 @@ IsAmong (l ∷ ls) k = (k ≡ l) ⊎ IsAmong ls k
 
 abbrev pub NumbersHave : (Role → Type 0) → List (List ℕ × Bool) → List Mark → List Mark → Type 0
 NumbersHave P [] after from = ⊥
-NumbersHave P (n ∷ ns) after from = ((from ≡ numbers_marks (n ∷ ns) after) × P (element_text n.0)) ⊎ NumbersHave P ns after from
+NumbersHave P (n ∷ ns) after from = ((from ≡ numbers_marks (n ∷ ns) after) × P (element_text n.0))
+    ⊎ NumbersHave P ns after from
 
 abbrev pub BytesHave : (Role → Type 0) → Option (List ℕ) → List Mark → List Mark → Type 0
 BytesHave P None after from = ⊥
@@ -52,22 +58,30 @@ LeafHas P (ints ns) after from = NumbersHave P ns after from
 abbrev mutual
   pub BodyHas : (Role → Type 0) → Body → ℕ → List Mark → List Mark → Type 0
   BodyHas P (plain s) level after from = (from ≡ body_marks (plain s) after) × P (value level)
-  BodyHas P (group es) level after from = ((from ≡ body_marks (group es) after) × P (value level)) ⊎ EntriesHas P es (suc level) [] (RightBrace ∷ after) from
-  BodyHas P (listed xs) level after from = ((from ≡ body_marks (listed xs) after) × P (value level)) ⊎ ElementsHave P xs (suc level) (RightBrace ∷ after) from
-  BodyHas P (leaf l) level after from = ((from ≡ body_marks (leaf l) after) × P (value level)) ⊎ LeafHas P l (RightBrace ∷ after) from
-  BodyHas P (table es) level after from = ((from ≡ body_marks (table es) after) × P (value level)) ⊎ EntriesHas P es (suc level) [] (RightBrace ∷ after) from
-  BodyHas P (array xs) level after from = ((from ≡ body_marks (array xs) after) × P (value level)) ⊎ ElementsHave P xs (suc level) (RightBrace ∷ after) from
+  BodyHas P (group es) level after from = ((from ≡ body_marks (group es) after) × P (value level))
+      ⊎ EntriesHas P es (suc level) [] (RightBrace ∷ after) from
+  BodyHas P (listed xs) level after from = ((from ≡ body_marks (listed xs) after) × P (value level))
+      ⊎ ElementsHave P xs (suc level) (RightBrace ∷ after) from
+  BodyHas P (leaf l) level after from = ((from ≡ body_marks (leaf l) after) × P (value level))
+      ⊎ LeafHas P l (RightBrace ∷ after) from
+  BodyHas P (table es) level after from = ((from ≡ body_marks (table es) after) × P (value level))
+      ⊎ EntriesHas P es (suc level) [] (RightBrace ∷ after) from
+  BodyHas P (array xs) level after from = ((from ≡ body_marks (array xs) after) × P (value level))
+      ⊎ ElementsHave P xs (suc level) (RightBrace ∷ after) from
 
   pub EntriesHas : (Role → Type 0) → Entries → ℕ → List (List ℕ) → List Mark → List Mark → Type 0
   EntriesHas P no_entries level earlier after from = ⊥
   EntriesHas P (entry k b c es) level earlier after from =
       ((from ≡ entries_marks (entry k b c es) after) × P (key earlier k))
-      ⊎ (BodyHas P b level (comma_marks c (entries_marks es after)) from ⊎ EntriesHas P es level (k ∷ earlier) after from)
+      ⊎ (BodyHas P b level (comma_marks c (entries_marks es after)) from
+      ⊎ EntriesHas P es level (k ∷ earlier) after from)
 
   pub ElementsHave : (Role → Type 0) → Elements → ℕ → List Mark → List Mark → Type 0
   ElementsHave P no_elements level after from = ⊥
-  ElementsHave P (one_text s c xs) level after from = ((from ≡ elements_marks (one_text s c xs) after) × P (value level)) ⊎ ElementsHave P xs level after from
-  ElementsHave P (one_body b c xs) level after from = BodyHas P b level (comma_marks c (elements_marks xs after)) from ⊎ ElementsHave P xs level after from
+  ElementsHave P (one_text s c xs) level after from =
+      ((from ≡ elements_marks (one_text s c xs) after) × P (value level)) ⊎ ElementsHave P xs level after from
+  ElementsHave P (one_body b c xs) level after from = BodyHas P b level (comma_marks c (elements_marks xs after)) from
+      ⊎ ElementsHave P xs level after from
 
 -- which roles break a condition
 abbrev pub IsBad : SourceKind → Role → Type 0
@@ -118,7 +132,8 @@ pub record NoWord (front rest : List Mark) : Type 0 where
   pub text : rest ≡ Text word ∷ after
   pub unknown : IsWord word → ⊥
 
--- The first mark of rest is one of the longest front, and breaks the condition in each bundle that begins with that front.
+-- The first mark of rest is one of the longest front, and breaks the condition in each bundle that begins with that
+-- front.
 pub record Breaks (kind : SourceKind) (front rest : List Mark) : Type 0 where
   pub at : Mark
   pub others : List Mark
@@ -146,8 +161,8 @@ pub record IsTooLarge (ms : List Mark) : Type 0 where
   pub name : List ℕ
   pub source : SourceTree
   pub whole : IsSpelled ms name source
-  pub low : height source.tree ≤ 64
-  pub heavy : 33554432 < weight source.tree
+  pub low : height source.tree ≤ height_limit
+  pub heavy : weight_limit < weight source.tree
 
 -- the line of the first token, or that of the end of the text
 abbrev pub line_at : ℕ → List Token → ℕ
@@ -157,5 +172,6 @@ line_at end (t ∷ ts) = t.line
 -- The tokens, where the text ends in line `end`, have this error in this line.
 abbrev pub IsFault : List Token → ℕ → SourceKind → ℕ → Type 0
 IsFault ts end kind line =
-    ((front rest : List Token) × (ts ≡ front ++ rest) × HasFault kind (marks front) (marks rest) × (line ≡ line_at end rest))
+    ((front rest : List Token) × (ts ≡ front ++ rest) × HasFault kind (marks front) (marks rest)
+    × (line ≡ line_at end rest))
     ⊎ ((kind ≡ TooLarge) × IsTooLarge (marks ts) × (line ≡ 1))

@@ -1,5 +1,6 @@
--- The written form of a bundle text, after the bundle syntax of ICU's genrb, and the marks (texts and punctuation) that spell it.
--- A list of marks is in the grammar where some form is spelled so. Each spelling is in front of what follows it.
+-- The written form of a bundle text, after the bundle syntax of ICU's genrb, and the marks (texts and punctuation) that
+-- spell it. A list of marks is in the grammar if some form is spelled so. Each spelling is in front of what follows
+-- it.
 use Rattle.std.specs.Prelude.{◌≡◌, ℕ, Bool, true, false, List, [], ◌∷◌, map, Option, Some, None, ◌⊎◌}
 use Rattle.rb_lexer.specs.declared.token.Mark.{Mark}
 use Rattle.rb_lexer.specs.declared.token.Mark.TheVariants.{Text, LeftBrace, RightBrace, Colon, Comma}
@@ -65,7 +66,8 @@ table_word = 0x74 ∷ 0x61 ∷ 0x62 ∷ 0x6C ∷ 0x65 ∷ []
 
 -- `table(nofallback)`, which only a bundle's own table may have
 abbrev pub no_fallback_table_word : List ℕ
-no_fallback_table_word = 0x74 ∷ 0x61 ∷ 0x62 ∷ 0x6C ∷ 0x65 ∷ 0x28 ∷ 0x6E ∷ 0x6F ∷ 0x66 ∷ 0x61 ∷ 0x6C ∷ 0x6C ∷ 0x62 ∷ 0x61 ∷ 0x63 ∷ 0x6B ∷ 0x29 ∷ []
+no_fallback_table_word = 0x74 ∷ 0x61 ∷ 0x62 ∷ 0x6C ∷ 0x65 ∷ 0x28 ∷ 0x6E ∷ 0x6F ∷ 0x66 ∷ 0x61 ∷ 0x6C ∷ 0x6C ∷ 0x62
+    ∷ 0x61 ∷ 0x63 ∷ 0x6B ∷ 0x29 ∷ []
 
 abbrev pub array_word : List ℕ
 array_word = 0x61 ∷ 0x72 ∷ 0x72 ∷ 0x61 ∷ 0x79 ∷ []
@@ -137,7 +139,7 @@ has_no_fallback no_fallback_table = true
 abbrev pub bundle_marks : List ℕ → Head → Entries → List Mark
 bundle_marks name head es = Text name ∷ head_marks head (LeftBrace ∷ entries_marks es (RightBrace ∷ []))
 
--- ---- the guess where no type is written
+-- ---- the guess if no type is written
 
 -- entries are there: a text, and then a brace or a colon
 abbrev pub AreSome : Entries → Type 0

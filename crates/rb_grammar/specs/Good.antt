@@ -8,8 +8,11 @@ use Rattle.rb_tree.specs.Resource as resource
 use Rattle.rb_tree.specs.Keys.{IsKey, IsTable, pairs}
 use Rattle.rb_tree.specs.SourceTree.{SourceTree}
 use Rattle.rb_grammar.specs.Numeral.{IsIntText, IsElementText, IsHexText}
-use Rattle.rb_grammar.specs.Form.{Leaf, string, alias, binary, int, ints, Body, plain, group, listed, leaf, table, array, Entries, no_entries, entry, Elements}
-use Rattle.rb_grammar.specs.Form.{no_elements, one_text, one_body, Head, bundle_marks, has_no_fallback, AreForms, IsKeyOf}
+use Rattle.rb_grammar.specs.Form.{Leaf, string, alias, binary, int, ints, Body, plain, group, listed, leaf, table}
+use Rattle.rb_grammar.specs.Form.{array, Entries, no_entries, entry, Elements}
+use Rattle.rb_grammar.specs.Form.{no_elements, one_text, one_body, Head, bundle_marks, has_no_fallback, AreForms}
+use Rattle.rb_grammar.specs.Form.{IsKeyOf}
+use Rattle.rb_tree.specs.Limits.{height_limit, weight_limit}
 
 -- Each key is one, and none comes twice in one table.
 abbrev mutual
@@ -57,14 +60,17 @@ item_at k rows = lookup (pointwise nat_eq k) (pairs rows)
 abbrev pub HasJust : Entries → Members → Type 0
 HasJust es rows = (k : List ℕ) (d : Resource) → item_at k rows ≡ Some d → IsKeyOf es k
 
--- The tree is what is written: a table has the written item at each written key, and nothing else; an array has the elements in their order.
+-- The tree is what is written: a table has the written item at each written key, and nothing else; an array has the
+-- elements in their order.
 abbrev mutual
   pub Spells : Body → Resource → Type 0
   Spells (plain t) d = d ≡ resource.string t
-  Spells (group es) d = (rows : Members) × (d ≡ resource.table rows) × IsTable rows × HasJust es rows × EachAtItsKey es rows
+  Spells (group es) d = (rows : Members) × (d ≡ resource.table rows) × IsTable rows × HasJust es rows
+      × EachAtItsKey es rows
   Spells (listed xs) d = (ts : Resources) × (d ≡ resource.array ts) × EachSpells xs ts
   Spells (leaf l) d = LeafSpells l d
-  Spells (table es) d = (rows : Members) × (d ≡ resource.table rows) × IsTable rows × HasJust es rows × EachAtItsKey es rows
+  Spells (table es) d = (rows : Members) × (d ≡ resource.table rows) × IsTable rows × HasJust es rows
+      × EachAtItsKey es rows
   Spells (array xs) d = (ts : Resources) × (d ≡ resource.array ts) × EachSpells xs ts
 
   pub EachAtItsKey : Entries → Members → Type 0
@@ -74,7 +80,8 @@ abbrev mutual
   pub EachSpells : Elements → Resources → Type 0
   EachSpells no_elements ts = ts ≡ no_trees
   EachSpells (one_text t c xs) ts = (us : Resources) × (ts ≡ tree_and (resource.string t) us) × EachSpells xs us
-  EachSpells (one_body b c xs) ts = (d : Resource) × (us : Resources) × (ts ≡ tree_and d us) × Spells b d × EachSpells xs us
+  EachSpells (one_body b c xs) ts = (d : Resource) × (us : Resources) × (ts ≡ tree_and d us) × Spells b d
+      × EachSpells xs us
 
 -- The marks spell a bundle of this name, tree and flag.
 pub record IsSpelled (marks : List Mark) (name : List ℕ) (source : SourceTree) : Type 0 where
@@ -86,12 +93,12 @@ pub record IsSpelled (marks : List Mark) (name : List ℕ) (source : SourceTree)
   pub means : Spells (table form) source.tree
   pub flag : source.no_fallback ≡ has_no_fallback head
 
--- They spell it, and its table has at most so many levels, and the weight that a bundle may have.
+-- They spell it, and its table has at most this many levels, and the weight that a bundle may have.
 pub record IsGoodWithin (levels : ℕ) (marks : List Mark) (name : List ℕ) (source : SourceTree) : Type 0 where
   pub whole : IsSpelled marks name source
   pub low : height source.tree ≤ levels
-  pub light : weight source.tree ≤ 33554432
+  pub light : weight source.tree ≤ weight_limit
 
 -- a good bundle: within 64 levels
 abbrev pub IsGood : List Mark → List ℕ → SourceTree → Type 0
-IsGood marks name source = IsGoodWithin 64 marks name source
+IsGood marks name source = IsGoodWithin height_limit marks name source

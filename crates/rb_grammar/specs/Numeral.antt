@@ -1,5 +1,6 @@
 -- Numbers and bytes that a text spells, after genrb's `int`, `intvector` and `bin`.
-use Rattle.std.specs.Prelude.{◌≡◌, ◌<◌, ◌≤◌, ◌+◌, ◌-◌, ◌*◌, ◌%◌, ◌^◌, ℕ, ℤ, pos, neg_ℤ, Bool, true, false, List, [], ◌∷◌, length, filter, not, ◌||◌, ◌==◌}
+use Rattle.std.specs.Prelude.{◌≡◌, ◌<◌, ◌≤◌, ◌+◌, ◌-◌, ◌*◌, ◌%◌, ◌^◌, ℕ, ℤ, pos, neg_ℤ, Bool, true, false, List, []}
+use Rattle.std.specs.Prelude.{◌∷◌, length, filter, not, ◌||◌, ◌==◌}
 use Rattle.std.specs.Prelude.{if◌then◌else◌, nat_lt}
 use Rattle.std.specs.Char.{digit_value}
 use Rattle.std.specs.Str.Parse.{digits_value, AllDigits}
@@ -69,7 +70,8 @@ int_kept false size = size
 int_kept true size = (2 ^ 28 - size) % 2 ^ 28
 
 abbrev pub IsIntText : List ℕ → ℕ → Type 0
-IsIntText units n = (negative : Bool) × (size : ℕ) × Writes units negative size × IsIntSize negative size × (n ≡ int_kept negative size)
+IsIntText units n = (negative : Bool) × (size : ℕ) × Writes units negative size × IsIntSize negative size
+    × (n ≡ int_kept negative size)
 
 -- ---- an element of a vector, kept modulo 2^32 as a signed number
 abbrev pub IsElementSize : Bool → ℕ → Type 0
@@ -80,7 +82,8 @@ element_kept false size = if nat_lt size (2 ^ 31) then pos size else neg_ℤ (po
 element_kept true size = neg_ℤ (pos size)
 
 abbrev pub IsElementText : List ℕ → ℤ → Type 0
-IsElementText units z = (negative : Bool) × (size : ℕ) × Writes units negative size × IsElementSize negative size × (z ≡ element_kept negative size)
+IsElementText units z = (negative : Bool) × (size : ℕ) × Writes units negative size × IsElementSize negative size
+    × (z ≡ element_kept negative size)
 
 -- ---- bytes: two hexadecimal digits each; four kinds of space are ignored
 abbrev pub is_gap : ℕ → Bool
@@ -99,4 +102,5 @@ ArePairs [] = Unit {0}
 ArePairs (p ∷ ps) = (digit_value p.0 < 16) × (digit_value p.1 < 16) × ArePairs ps
 
 abbrev pub IsHexText : List ℕ → List ℕ → Type 0
-IsHexText units bytes = (ps : List (ℕ × ℕ)) × ArePairs ps × (filter (λ u. not (is_gap u)) units ≡ pairs_digits ps) × (bytes ≡ pairs_bytes ps)
+IsHexText units bytes = (ps : List (ℕ × ℕ)) × ArePairs ps × (filter (λ u. not (is_gap u)) units ≡ pairs_digits ps)
+    × (bytes ≡ pairs_bytes ps)

@@ -1,15 +1,19 @@
--- For proofs, and the contracts of a parser's own functions: the grammar as a function that reads tokens from left to right and
--- stops at the first error that it meets.
--- What a bundle text is, Form and Good define, and Faults which errors it has; laws say that this function meets them.
-use Rattle.std.specs.Prelude.{ℕ, zero, suc, ◌||◌, Bool, true, false, List, [], ◌∷◌, length, Option, Some, None, Result, Ok, Err, nat_lt, nat_eq, if◌then◌else◌}
+-- For proofs, and the contracts of a parser's own functions: the grammar as a function that reads tokens from left to
+-- right and stops at the first error that it meets. What a bundle text is, Form and Good define, and Faults which
+-- errors it has; laws say that this function meets them.
+use Rattle.std.specs.Prelude.{ℕ, zero, suc, ◌||◌, Bool, true, false, List, [], ◌∷◌, length, Option, Some, None, Result}
+use Rattle.std.specs.Prelude.{Ok, Err, nat_lt, nat_eq, if◌then◌else◌}
 use Rattle.std.specs.Cmp.Lexicographic.{pointwise}
 use Rattle.rb_lexer.specs.declared.token.Mark.{Mark}
 use Rattle.rb_lexer.specs.declared.token.Mark.TheVariants.{Text, LeftBrace, RightBrace, Colon, Comma}
 use Rattle.rb_lexer.specs.declared.token.Token.{Token}
 use Rattle.rb_lexer.specs.declared.fault.SourceKind.{SourceKind}
-use Rattle.rb_lexer.specs.declared.fault.SourceKind.TheVariants.{Unexpected, UnknownType, BadKey, DuplicateKey, BadInt, BadHex, TooDeep, TrailingText}
-use Rattle.rb_grammar.specs.Form.{string, alias, binary, int, ints, Body, plain, group, listed, leaf, table, array, Entries, no_entries, entry, Elements}
-use Rattle.rb_grammar.specs.Form.{no_elements, one_text, one_body, string_word, alias_word, binary_word, int_word, ints_word, table_word}
+use Rattle.rb_lexer.specs.declared.fault.SourceKind.TheVariants.{Unexpected, UnknownType, BadKey, DuplicateKey, BadInt}
+use Rattle.rb_lexer.specs.declared.fault.SourceKind.TheVariants.{BadHex, TooDeep, TrailingText}
+use Rattle.rb_grammar.specs.Form.{string, alias, binary, int, ints, Body, plain, group, listed, leaf, table, array}
+use Rattle.rb_grammar.specs.Form.{Entries, no_entries, entry, Elements}
+use Rattle.rb_grammar.specs.Form.{no_elements, one_text, one_body, string_word, alias_word, binary_word, int_word}
+use Rattle.rb_grammar.specs.Form.{ints_word, table_word}
 use Rattle.rb_grammar.specs.Form.{no_fallback_table_word, array_word, Head, untyped, plain_table, no_fallback_table}
 
 -- why reading stops, and the tokens from the invalid one on
@@ -77,7 +81,7 @@ text_or ts (Some s) = Ok (s, tail ts)
 abbrev pub text_at : List Token → Read (List ℕ)
 text_at ts = text_or ts (first_text ts)
 
--- a comma, where one comes
+-- a comma, if one comes
 abbrev pub has_comma : List Token → Bool
 has_comma ts = begins comma ts
 
@@ -116,7 +120,8 @@ first_word s [] = None
 first_word s (w ∷ ws) = if pointwise nat_eq s (word_units w) then Some w else first_word s ws
 
 abbrev pub all_words : List Word
-all_words = string_type ∷ alias_type ∷ binary_type true ∷ binary_type false ∷ int_type true ∷ int_type false ∷ ints_type ∷ table_type ∷ array_type ∷ []
+all_words = string_type ∷ alias_type ∷ binary_type true ∷ binary_type false ∷ int_type true ∷ int_type false
+    ∷ ints_type ∷ table_type ∷ array_type ∷ []
 
 -- the type word that only a bundle's own table may have
 abbrev pub is_no_fallback_word : List ℕ → Bool
@@ -152,10 +157,12 @@ maybe_or kind passes ts (Some s) = if passes s then Ok (Some s, tail ts) else Er
 abbrev pub maybe_at : SourceKind → (List ℕ → Bool) → List Token → Read (Option (List ℕ))
 maybe_at kind passes ts = maybe_or kind passes ts (first_text ts)
 
-abbrev pub numbers_step : (List ℕ → Bool) → (List Token → Read (List (List ℕ × Bool))) → List Token → Option (List ℕ) → Read (List (List ℕ × Bool))
+abbrev pub numbers_step : (List ℕ → Bool) → (List Token → Read (List (List ℕ × Bool))) → List Token → Option (List ℕ)
+    → Read (List (List ℕ × Bool))
 numbers_step passes more ts None = Ok ([], ts)
 numbers_step passes more ts (Some s) =
-    if passes s then (more (after_comma (tail ts)) >>= λ ns. Ok ((s, has_comma (tail ts)) ∷ ns.0, ns.1)) else Err (stop BadInt ts)
+    if passes s then (more (after_comma (tail ts)) >>= λ ns. Ok ((s, has_comma (tail ts)) ∷ ns.0, ns.1))
+    else Err (stop BadInt ts)
 
 unfoldable pub numbers : (List ℕ → Bool) → ℕ → List Token → Read (List (List ℕ × Bool))
 numbers passes zero ts = Err (stop Unexpected ts)
@@ -171,9 +178,11 @@ is_among [] k = false
 is_among (l ∷ ls) k = pointwise nat_eq k l || is_among ls k
 
 abbrev pub entry_at : Tests → (List Token → Read Body) → List (List ℕ) → List ℕ → List Token → Read Body
-entry_at tests body earlier k ts = if tests.is_key k then (if is_among earlier k then Err (stop DuplicateKey ts) else body (tail ts)) else Err (stop BadKey ts)
+entry_at tests body earlier k ts = if tests.is_key k
+    then (if is_among earlier k then Err (stop DuplicateKey ts) else body (tail ts)) else Err (stop BadKey ts)
 
-abbrev pub entries_step : Tests → (List Token → Read Body) → (List (List ℕ) → List Token → Read Entries) → List (List ℕ) → List Token → Option (List ℕ)
+abbrev pub entries_step : Tests → (List Token → Read Body) → (List (List ℕ) → List Token → Read Entries)
+    → List (List ℕ) → List Token → Option (List ℕ)
     → Read Entries
 entries_step tests body more earlier ts None = punctuation_at right ts >>= λ after. Ok (no_entries, after)
 entries_step tests body more earlier ts (Some k) = do
@@ -186,12 +195,15 @@ entries tests body zero earlier ts = Err (stop Unexpected ts)
 entries tests body (suc n) earlier ts = entries_step tests body (entries tests body n) earlier ts (first_text ts)
 
 -- room: an element may be one level deeper
-abbrev pub elements_step : Bool → (List Token → Read Body) → (List Token → Read Elements) → List Token → Option (List ℕ) → Read Elements
+abbrev pub elements_step : Bool → (List Token → Read Body) → (List Token → Read Elements) → List Token
+    → Option (List ℕ) → Read Elements
 elements_step room body more ts None =
-    if begins colon ts || begins left ts then (body ts >>= λ b. more (after_comma b.1) >>= λ xs. Ok (one_body b.0 (has_comma b.1) xs.0, xs.1)) else
+    if begins colon ts || begins left ts
+    then (body ts >>= λ b. more (after_comma b.1) >>= λ xs. Ok (one_body b.0 (has_comma b.1) xs.0, xs.1)) else
     (punctuation_at right ts >>= λ after. Ok (no_elements, after))
 elements_step room body more ts (Some s) =
-    if room then (more (after_comma (tail ts)) >>= λ xs. Ok (one_text s (has_comma (tail ts)) xs.0, xs.1)) else Err (stop TooDeep ts)
+    if room then (more (after_comma (tail ts)) >>= λ xs. Ok (one_text s (has_comma (tail ts)) xs.0, xs.1))
+    else Err (stop TooDeep ts)
 
 unfoldable pub elements : Bool → (List Token → Read Body) → ℕ → List Token → Read Elements
 elements room body zero ts = Err (stop Unexpected ts)
@@ -232,7 +244,8 @@ pub data Guess : Type 0 where
 
 abbrev pub guess_second : List Token → Guess
 guess_second ts =
-    if begins comma ts then as_array else (if begins right ts then as_text else (if begins left ts || begins colon ts then as_table else none_at ts))
+    if begins comma ts then as_array
+    else (if begins right ts then as_text else (if begins left ts || begins colon ts then as_table else none_at ts))
 
 abbrev pub guess_or : List Token → Option (List ℕ) → Guess
 guess_or ts None = if begins left ts || begins colon ts || begins right ts then as_array else none_at ts
@@ -272,7 +285,8 @@ table_word_or ts other rest = Err (stop Unexpected ts)
 
 -- after the colon of a bundle
 abbrev pub head_word_at : List Token → Read Head
-head_word_at ts = if is_no_fallback_text (first_text ts) then Ok (no_fallback_table, tail ts) else (word_at ts >>= λ w. table_word_or ts w.0 w.1)
+head_word_at ts = if is_no_fallback_text (first_text ts) then Ok (no_fallback_table, tail ts)
+    else (word_at ts >>= λ w. table_word_or ts w.0 w.1)
 
 -- the type of the bundle, if one is written
 abbrev pub type_at : List Token → Read Head

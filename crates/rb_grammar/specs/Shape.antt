@@ -4,7 +4,8 @@ use Rattle.rb_grammar.specs.Numeral.{Sign, bare, plus, minus, Numeral, hexadecim
 
 abbrev pub after_0 : List ℕ → Numeral
 after_0 [] = octal []
-after_0 (u ∷ us) = if u == 0x58 then hexadecimal true us else (if u == 0x78 then hexadecimal false us else octal (u ∷ us))
+after_0 (u ∷ us) = if u == 0x58 then hexadecimal true us
+    else (if u == 0x78 then hexadecimal false us else octal (u ∷ us))
 
 abbrev pub shape : List ℕ → Numeral
 shape [] = decimal []

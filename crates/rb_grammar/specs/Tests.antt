@@ -1,16 +1,19 @@
--- For proofs, and the contracts of a parser's own functions: the tests that reading makes of keys, numbers and bytes, and that they are the conditions.
+-- For proofs, and the contracts of a parser's own functions: the tests that reading makes of keys, numbers and bytes,
+-- and that they are the conditions.
 use Rattle.std.specs.Prelude.{◌≡◌, ◌&&◌, ◌^◌, ℕ, Bool, true, false, List, [], ◌∷◌, length, filter, not, nat_lt, nat_le}
 use Rattle.std.specs.List.{list_all}
 use Rattle.std.specs.Char.{digit_value}
 use Rattle.rb_tree.specs.Keys.{IsKey}
 use Rattle.rb_tree.specs.Path.{is_plain}
-use Rattle.rb_grammar.specs.Numeral.{Numeral, hexadecimal, octal, decimal, numeral_value, is_minus, is_gap, IsIntText, IsElementText, IsHexText}
+use Rattle.rb_grammar.specs.Numeral.{Numeral, hexadecimal, octal, decimal, numeral_value, is_minus, is_gap, IsIntText}
+use Rattle.rb_grammar.specs.Numeral.{IsElementText, IsHexText}
 use Rattle.rb_grammar.specs.Reading.{Tests}
 use Rattle.rb_grammar.specs.Shape.{shape, sign_of, unsigned_of}
 
--- a test passes where there is a value, and fails where there is none
+-- a test passes if there is a value, and fails if there is none
 abbrev pub IsTestOf : {A : Type 0} → (List ℕ → Bool) → (List ℕ → A → Type 0) → Type 0
-IsTestOf {A} test means = ((s : List ℕ) → test s ≡ true → (x : A) × means s x) × ((s : List ℕ) → test s ≡ false → (x : A) → means s x → ⊥)
+IsTestOf {A} test means = ((s : List ℕ) → test s ≡ true → (x : A) × means s x)
+    × ((s : List ℕ) → test s ≡ false → (x : A) → means s x → ⊥)
 
 pub record AreTests (tests : Tests) : Type 0 where
   pub keys : ((k : List ℕ) → tests.is_key k ≡ true → IsKey k) × ((k : List ℕ) → tests.is_key k ≡ false → IsKey k → ⊥)

@@ -11,14 +11,16 @@ fn is_gap(unit: u16) -> bool
     unit == 0x09 || unit == 0x0A || unit == 0x0D || unit == 0x20
 }
 
-/// The bytes that a text spells by two hexadecimal digits each; tabs, line feeds, carriage returns and spaces are ignored.
-/// `None` if the text has another unit, or an odd number of digits. The only error is that memory runs out.
+/// The bytes that a text spells by two hexadecimal digits each; tabs, line feeds, carriage returns
+/// and spaces are ignored. `None` if the text has another unit, or an odd number of digits. The
+/// only error is that memory runs out.
 ///
 /// ```rust
 /// read_bytes(alloc, &[48, 48, 102, 102])? // Some, of the bytes 0 and 255
 /// ```
 pub fn read_bytes(alloc: Global, units: &[u16]) -> Result<Option<Vec<u8>>, AllocError>
-    ensures { IfOk result (λ read. MatchOption read ((bytes : List ℕ) → IsHexText units.now bytes → ⊥) (λ bytes. IsHexText units.now bytes.items)) }
+    ensures { IfOk result (λ read. MatchOption read ((bytes : List ℕ) → IsHexText units.now bytes
+        → ⊥) (λ bytes. IsHexText units.now bytes.items)) }
 {
     let mut bytes = Vec::new(alloc);
     let mut first_digit = None;

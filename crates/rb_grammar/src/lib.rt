@@ -1,5 +1,5 @@
-//! The grammar of bundle texts: their written forms, what these mean, which errors a text has, and the
-//! numbers and bytes that texts spell.
+//! The grammar of bundle texts: their written forms, what these mean, which errors a text has, and
+//! the numbers and bytes that texts spell.
 #![tactic(auto)]
 
 mod bytes;

@@ -2,7 +2,8 @@
 ghost use Rattle.std.specs.Prelude.{◌≡◌, ◌≤◌, ◌<◌, ℕ, ℤ, min, Bool, MatchOption};
 ghost use Rattle.std.specs.Char.{digit_value};
 ghost use Rattle.std.specs.Str.Parse.{digits_value, AllDigits};
-ghost use Rattle.rb_grammar.specs.Numeral.{IsNumeral, numeral_value, is_minus, Writes, IsWithin, IsIntText, IsElementText};
+ghost use Rattle.rb_grammar.specs.Numeral.{IsNumeral, numeral_value, is_minus, Writes, IsWithin};
+ghost use Rattle.rb_grammar.specs.Numeral.{IsIntText, IsElementText};
 ghost use Rattle.rb_grammar.specs.Shape.{shape, after_0, sign_of, unsigned_of};
 
 use crate::limits::{ELEMENT_MODULUS, INT_MODULUS, LEAST_ELEMENT_MAGNITUDE, LEAST_INT_MAGNITUDE};
@@ -27,7 +28,8 @@ pub(crate) fn digit(unit: u16) -> u64
 fn digits(units: &[u16], radix: u64) -> Option<u64>
     requires least { 1 ≤ radix }
     requires most { radix ≤ 16 }
-    ensures { MatchOption result (AllDigits radix units.now → ⊥) (λ v. AllDigits radix units.now × (v ≡ min (digits_value radix units.now) CEILING)) }
+    ensures { MatchOption result (AllDigits radix units.now → ⊥)
+        (λ v. AllDigits radix units.now × (v ≡ min (digits_value radix units.now) CEILING)) }
 {
     let mut value = 0;
     for unit in units {
@@ -42,7 +44,8 @@ fn digits(units: &[u16], radix: u64) -> Option<u64>
 
 /// How large a number without a sign is, up to the ceiling.
 fn unsigned(units: &[u16]) -> Option<u64>
-    ensures { MatchOption result (IsNumeral (shape units.now) → ⊥) (λ v. IsNumeral (shape units.now) × (v ≡ min (numeral_value (shape units.now)) CEILING)) }
+    ensures { MatchOption result (IsNumeral (shape units.now) → ⊥)
+        (λ v. IsNumeral (shape units.now) × (v ≡ min (numeral_value (shape units.now)) CEILING)) }
 {
     let [first, rest @ ..] = units else {
         return None;
@@ -95,7 +98,8 @@ fn number_within(units: &[u16], least: u64, modulus: u64) -> Option<Signed>
     requires least { least < CEILING }
     requires modulus { modulus ≤ CEILING }
     ensures { MatchOption result
-        ((negative : Bool) (size : ℕ) → Writes units.now negative size → IsWithin least modulus negative size → ⊥)
+        ((negative : Bool) (size : ℕ) → Writes units.now negative size
+        → IsWithin least modulus negative size → ⊥)
         (λ n. Writes units.now n.negative n.size × IsWithin least modulus n.negative n.size) }
 {
     let found = number(units)?;
@@ -107,9 +111,11 @@ fn number_within(units: &[u16], least: u64, modulus: u64) -> Option<Signed>
     is_within.then_some(found)
 }
 
-/// The value of an Int, modulo 2^28. `None` if the text is no number, or the number is below -2^27 or above 2^28 - 1.
+/// The value of an Int, modulo 2^28. `None` if the text is no number, or the number is below -2^27
+/// or above 2^28 - 1.
 pub fn read_int(units: &[u16]) -> Option<u32>
-    ensures { MatchOption result ((n : ℕ) → IsIntText units.now n → ⊥) (λ n. IsIntText units.now n) }
+    ensures { MatchOption result ((n : ℕ) → IsIntText units.now n → ⊥)
+        (λ n. IsIntText units.now n) }
 {
     let Signed { negative, size } = number_within(units, LEAST_INT_MAGNITUDE, INT_MODULUS)?;
     if negative && size > 0 {
@@ -119,9 +125,11 @@ pub fn read_int(units: &[u16]) -> Option<u32>
     }
 }
 
-/// The value of an element of a vector, modulo 2^32 as a signed number. `None` if the text is no number, or the number is below -2^31 or above 2^32 - 1.
+/// The value of an element of a vector, modulo 2^32 as a signed number. `None` if the text is no
+/// number, or the number is below -2^31 or above 2^32 - 1.
 pub fn read_element(units: &[u16]) -> Option<i32>
-    ensures { MatchOption result ((z : ℤ) → IsElementText units.now z → ⊥) (λ z. IsElementText units.now z) }
+    ensures { MatchOption result ((z : ℤ) → IsElementText units.now z → ⊥)
+        (λ z. IsElementText units.now z) }
 {
     let found = number_within(units, LEAST_ELEMENT_MAGNITUDE, ELEMENT_MODULUS)?;
     let size = found.size as i64;

@@ -26,7 +26,8 @@ with_text us members =
 
 abbrev pub item_members : Resource → Members
 item_members (tree.string us) = with_text us (of_type (codes "string"))
-item_members (int n) = put (codes "signed") (number (of_integer (signed_of n))) (put (codes "unsigned") (number (unsigned n)) (of_type (codes "int")))
+item_members (int n) = put (codes "signed") (number (of_integer (signed_of n)))
+    (put (codes "unsigned") (number (unsigned n)) (of_type (codes "int")))
 item_members (ints zs) = put (codes "values") (numbers_data zs) (of_type (codes "intvector"))
 item_members (binary bs) = put (codes "hex") (string (encode_lower bs)) (of_type (codes "bin"))
 item_members (alias us) = with_text us (of_type (codes "alias"))

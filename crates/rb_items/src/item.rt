@@ -11,7 +11,8 @@ ghost use Rattle.rb_tree.specs.Parts.{HasUnits, kind_of, numbers_of, pairs_of, u
 ghost use Rattle.rb_tree.specs.Resource.{int, ints};
 ghost use Rattle.rb_tree.specs.declared.kind.Kind.TheVariants as Kinds;
 ghost use Rattle.rb_fallback.specs.Answers.{hit_of};
-ghost use Rattle.rb_items.specs.Item.{text_data, units_data, numbers_data, texts_data, signed_of, of_type, with_text, item_members, item_data, found_data};
+ghost use Rattle.rb_items.specs.Item.{text_data, units_data, numbers_data, texts_data, signed_of};
+ghost use Rattle.rb_items.specs.Item.{of_type, with_text, item_members, item_data, found_data};
 ghost use Rattle.rb_items.specs.Put.{Puts};
 ghost use Rattle.rb_items.specs.inner.Members.{PutsMembers, valid_tokens};
 ghost use Rattle.rb_json.specs.Tokens.{data_tokens};
@@ -22,7 +23,7 @@ use rb_json::{ascii, characters, read_hex, read_units, signed};
 use rb_tree::{Kind, Node};
 use std::alloc::{AllocError, Global};
 
-/// An error comes only where out of memory.
+/// An error comes only if memory runs out.
 type PutResult = Result<(), AllocError>;
 
 /// A member that is a word.
@@ -75,7 +76,8 @@ fn put_numbers<N: Node>(out: &mut Writer, node: N) -> PutResult
 
 fn put_keys<N: Node>(out: &mut Writer, alloc: Global, node: N) -> PutResult
     requires { kind_of (N.tree node) ≡ Kinds.Table }
-    ensures { Puts result out.old out.new (data_tokens (texts_data (keys_of (pairs_of (N.tree node))))) }
+    ensures { Puts result out.old out.new
+        (data_tokens (texts_data (keys_of (pairs_of (N.tree node))))) }
 {
     out.begin_array()?;
     let len = node.len();
@@ -91,7 +93,7 @@ fn put_signed(out: &mut Writer, bits: u32) -> PutResult
     put_integer(out, signed(bits))
 }
 
-/// The member `valid`, where there is one.
+/// The member `valid`, if there is one.
 fn put_valid(out: &mut Writer, alloc: Global, valid: Option<&[u8]>) -> PutResult
     ensures { Puts result out.old out.new (valid_tokens (option_map (λ v. v.now) valid.entry)) }
 {
@@ -104,7 +106,8 @@ fn put_valid(out: &mut Writer, alloc: Global, valid: Option<&[u8]>) -> PutResult
     }
 }
 
-/// The type of an item, and what is written after it: `valid`, where it is given, and the closing brace.
+/// The type of an item, and what is written after it: `valid`, if it is given, and the closing
+/// brace.
 fn put_end(out: &mut Writer, alloc: Global, word: &str, valid: Option<&[u8]>) -> PutResult
     ensures { PutsMembers result out.old out.new valid.entry (of_type word.now) }
 {
@@ -113,7 +116,7 @@ fn put_end(out: &mut Writer, alloc: Global, word: &str, valid: Option<&[u8]>) ->
     out.end_object()
 }
 
-/// The members of a text, by its units where it isn't well-formed UTF-16.
+/// The members of a text, by its units if it isn't well-formed UTF-16.
 fn put_string<N: Node>(
     out: &mut Writer,
     text: &mut String,
@@ -123,7 +126,8 @@ fn put_string<N: Node>(
     valid: Option<&[u8]>,
 ) -> PutResult
     requires { HasUnits (kind_of (N.tree node)) }
-    ensures { PutsMembers result out.old out.new valid.entry (with_text (units_of (N.tree node)) (of_type word.now)) }
+    ensures { PutsMembers result out.old out.new valid.entry
+        (with_text (units_of (N.tree node)) (of_type word.now)) }
 {
     put_word(out, "type", word)?;
     if read_units(text, node)? {
@@ -151,7 +155,8 @@ fn put_int(out: &mut Writer, alloc: Global, bits: u32, valid: Option<&[u8]>) -> 
 
 fn put_ints<N: Node>(out: &mut Writer, alloc: Global, node: N, valid: Option<&[u8]>) -> PutResult
     requires { kind_of (N.tree node) ≡ Kinds.Ints }
-    ensures { PutsMembers result out.old out.new valid.entry (item_members (ints (numbers_of (N.tree node)))) }
+    ensures { PutsMembers result out.old out.new valid.entry
+        (item_members (ints (numbers_of (N.tree node)))) }
 {
     put_word(out, "type", "intvector")?;
     put_valid(out, alloc, valid)?;
@@ -161,14 +166,16 @@ fn put_ints<N: Node>(out: &mut Writer, alloc: Global, node: N, valid: Option<&[u
 }
 
 fn put_binary(out: &mut Writer, alloc: Global, hex: &str, valid: Option<&[u8]>) -> PutResult
-    ensures { PutsMembers result out.old out.new valid.entry (put (codes "hex") (values.string hex.now) (of_type (codes "bin"))) }
+    ensures { PutsMembers result out.old out.new valid.entry
+        (put (codes "hex") (values.string hex.now) (of_type (codes "bin"))) }
 {
     put_word(out, "hex", hex)?;
     put_end(out, alloc, "bin", valid)
 }
 
 fn put_array(out: &mut Writer, alloc: Global, len: usize, valid: Option<&[u8]>) -> PutResult
-    ensures { PutsMembers result out.old out.new valid.entry (put (codes "len") (number (unsigned len)) (of_type (codes "array"))) }
+    ensures { PutsMembers result out.old out.new valid.entry
+        (put (codes "len") (number (unsigned len)) (of_type (codes "array"))) }
 {
     out.key("len")?;
     out.u64(len as u64)?;
@@ -177,14 +184,15 @@ fn put_array(out: &mut Writer, alloc: Global, len: usize, valid: Option<&[u8]>) 
 
 fn put_table<N: Node>(out: &mut Writer, alloc: Global, node: N, valid: Option<&[u8]>) -> PutResult
     requires { kind_of (N.tree node) ≡ Kinds.Table }
-    ensures { PutsMembers result out.old out.new valid.entry (put (codes "keys") (texts_data (keys_of (pairs_of (N.tree node)))) (of_type (codes "table"))) }
+    ensures { PutsMembers result out.old out.new valid.entry (put (codes "keys")
+        (texts_data (keys_of (pairs_of (N.tree node)))) (of_type (codes "table"))) }
 {
     out.key("keys")?;
     put_keys(out, alloc, node)?;
     put_end(out, alloc, "table", valid)
 }
 
-/// What an item is, its members by their keys, with `valid` where it is given, and the closing brace.
+/// What an item is, its members by their keys, with `valid` if it is given, and the closing brace.
 fn put_members<N: Node>(
     out: &mut Writer,
     text: &mut String,
@@ -215,7 +223,8 @@ pub fn put_found<N: Node>(
     alloc: Global,
     found: &Found<N>,
 ) -> PutResult
-    ensures { Puts result out.old out.new (data_tokens (found_data (hit_of N.tree found.now) found.now.valid)) }
+    ensures { Puts result out.old out.new
+        (data_tokens (found_data (hit_of N.tree found.now) found.now.valid)) }
 {
     out.begin_object()?;
     out.key("actual")?;
@@ -241,18 +250,20 @@ fn put_item<N: Node>(
     put_members(out, text, alloc, node, None)
 }
 
-/// An item as the compact text of a JSON object with its members in ascending order: `type`, and by its kind `value` (or `units`,
-/// where a text isn't well-formed UTF-16), `signed` and `unsigned`, `values`, `hex`, `len` or `keys`. An alias has also `rest`,
-/// what is left of a path that leads over it. A form of this project.
+/// An item as the compact text of a JSON object with its members in ascending order: `type`, and by
+/// its kind `value` (or `units`, if a text isn't well-formed UTF-16), `signed` and `unsigned`,
+/// `values`, `hex`, `len` or `keys`. An alias has also `rest`, what is left of a path that leads
+/// over it. A form of this project.
 ///
-/// An error only where out of memory.
+/// An error only if memory runs out.
 ///
 /// ```rust
 /// item_text(alloc, &tree, b"")? // {"keys":["a"],"type":"table"}
 /// ```
 pub fn item_text<N: Node>(alloc: Global, node: N, rest: &[u8]) -> Result<String, AllocError>
     requires { IsPath rest.now }
-    ensures { IfOk result (λ text. string_bytes text ≡ compact_text (item_data (N.tree node) rest.now)) }
+    ensures { IfOk result
+        (λ text. string_bytes text ≡ compact_text (item_data (N.tree node) rest.now)) }
 {
     let mut out = Writer::new(Vec::new(alloc));
     let mut text = String::new(alloc);

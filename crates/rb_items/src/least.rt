@@ -12,8 +12,8 @@ ghost use Rattle.rb_items.specs.Least.{least_of, least_of_texts};
 use rb_fallback::Found;
 use rb_tree::{Kind, Node};
 
-/// The room that is left at the most after a text of an array, which takes its bytes, two quotation marks, and a comma
-/// or a bracket; `None` if it takes more than there is.
+/// The room that is left at the most after a text of an array, which takes its bytes, two quotation
+/// marks, and a comma or a bracket; `None` if it takes more than there is.
 pub fn room_after(room: u64, text: &[u8]) -> Option<u64>
     ensures { SomeIff result (length text.now + 3 ≤ room) (room - (length text.now + 3)) }
 {
@@ -47,10 +47,11 @@ fn item_exceeds<N: Node>(node: N, most: u64) -> bool
     }
 }
 
-/// Whether an item that was found has more than so many bytes of text by the lengths of its parts alone: one for each
-/// unit of a String or an Alias, two for each number of a vector and for each byte of a Binary, and of a Table each
-/// key's bytes and three more. If so, the text is longer; it may be longer even if not. It takes no memory, and reads
-/// no key after the sum is above the limit.
+/// Whether an item that was found has more than this many bytes of text by the lengths of its parts
+/// alone: one for each unit of a String or an Alias, two for each number of a vector and for each
+/// byte of a Binary, and of a Table each key's bytes and three more. If so, the text is longer; it
+/// may be longer even if not. It takes no memory, and reads no key after the sum is above the
+/// limit.
 pub fn found_exceeds<N: Node>(found: &Found<N>, most: u64) -> bool
     ensures told { IsTrue result ↔ (most < least_of (N.tree found.now.node)) }
     ensures sound { IsTrue result

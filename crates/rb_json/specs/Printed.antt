@@ -9,10 +9,11 @@ use Rattle.rb_json.specs.declared.layout.Layout.{Layout}
 use Rattle.rb_json.specs.declared.layout.Layout.TheVariants.{Compact, Pretty}
 use Rattle.rb_json.specs.declared.error.JsonError.{JsonError}
 use Rattle.rb_json.specs.declared.error.JsonError.TheVariants.{TooLarge, Memory}
+use Rattle.rb_tree.specs.Limits.{height_limit, weight_limit}
 
 -- at most 64 levels, and a weight of at most 33,554,432
 abbrev pub is_within : Resource → Bool
-is_within t = nat_le (height t) 64 && nat_le (weight t) 33554432
+is_within t = nat_le (height t) height_limit && nat_le (weight t) weight_limit
 
 -- why an item isn't printed
 abbrev pub refusal : Resource → JsonError

@@ -1,7 +1,8 @@
 -- A tree as a text or a file can have it: its numbers are those of their types (`uresdata.h`: units of 16 bits,
 -- bytes, Ints of 28 bits), and its keys are ASCII.
 use Rattle.std.specs.Prelude.{ℕ, ◌<◌, ◌^◌, List, [], ◌∷◌}
-use Rattle.rb_tree.specs.Resource.{Resource, string, int, ints, binary, alias, array, table, Resources, no_trees, tree_and, Members, no_entries, entry_and}
+use Rattle.rb_tree.specs.Resource.{Resource, string, int, ints, binary, alias, array, table, Resources, no_trees}
+use Rattle.rb_tree.specs.Resource.{tree_and, Members, no_entries, entry_and}
 
 -- each number is below a limit
 abbrev pub AreBelow : ℕ → List ℕ → Type 0

@@ -1,10 +1,12 @@
 -- A tree of a bundle as one JSON value, a form of this project; the kinds are those of ICU's `uresdata.h`.
 use Rattle.std.specs.Prelude.{ℕ, List, [], ◌∷◌, ◌==◌, codes, encode_utf8_all, if◌then◌else◌}
 use Rattle.std.specs.Char.Utf16.{has_unpaired_surrogate, utf16_lossy_chars}
-use Rattle.serde_json.specs.Data.{Data, number, string, array, object, Items, no_items, item, Members, no_members, member}
+use Rattle.serde_json.specs.Data.{Data, number, string, array, object, Items, no_items, item, Members, no_members}
+use Rattle.serde_json.specs.Data.{member}
 use Rattle.serde_json.specs.Find.{of_integer}
 use Rattle.hex.specs.Hex.{encode_lower}
-use Rattle.rb_tree.specs.Resource.{Resource, int, ints, binary, alias, table, Resources, no_trees, tree_and, no_entries, entry_and}
+use Rattle.rb_tree.specs.Resource.{Resource, int, ints, binary, alias, table, Resources, no_trees, tree_and, no_entries}
+use Rattle.rb_tree.specs.Resource.{entry_and}
 use Rattle.rb_tree.specs.Resource as tree
 use Rattle.rb_json.specs.Leaf.{signed_of, units_data, numbers_data}
 

@@ -18,10 +18,10 @@ use json::Token;
 use rb_tree::Node;
 use std::alloc::{AllocError, Global};
 
-/// An error comes only where out of memory.
+/// An error comes only if memory runs out.
 pub(crate) type PutResult = Result<(), AllocError>;
 
-/// A key as a text, with one colon more where it begins with one.
+/// A key as a text, with one colon more if it begins with one.
 pub(crate) fn put_key<O: Out>(out: &mut O, alloc: Global, name: &[u8]) -> PutResult
     ensures { Adds result (O.tokens out.old) (O.tokens out.new) (key (key_text name.now) ∷ []) }
 {
@@ -38,7 +38,8 @@ pub(crate) fn put_key<O: Out>(out: &mut O, alloc: Global, name: &[u8]) -> PutRes
 }
 
 pub(crate) fn put_integer<O: Out>(out: &mut O, integer: i64) -> PutResult
-    ensures { Adds result (O.tokens out.old) (O.tokens out.new) (data_tokens (number (of_integer integer))) }
+    ensures { Adds result (O.tokens out.old) (O.tokens out.new)
+        (data_tokens (number (of_integer integer))) }
 {
     let mut buffer = itoa::Buffer::new();
     out.token(Token::Number(buffer.format(integer)))
@@ -46,7 +47,8 @@ pub(crate) fn put_integer<O: Out>(out: &mut O, integer: i64) -> PutResult
 
 fn put_units<O: Out, N: Node>(out: &mut O, node: N) -> PutResult
     requires { HasUnits (kind_of (N.tree node)) }
-    ensures { Adds result (O.tokens out.old) (O.tokens out.new) (data_tokens (units_data (units_of (N.tree node)))) }
+    ensures { Adds result (O.tokens out.old) (O.tokens out.new)
+        (data_tokens (units_data (units_of (N.tree node)))) }
 {
     out.token(Token::BeginArray)?;
     for i in 0..node.len() {
@@ -57,7 +59,8 @@ fn put_units<O: Out, N: Node>(out: &mut O, node: N) -> PutResult
 
 fn put_numbers<O: Out, N: Node>(out: &mut O, node: N) -> PutResult
     requires { kind_of (N.tree node) ≡ Kinds.Ints }
-    ensures { Adds result (O.tokens out.old) (O.tokens out.new) (data_tokens (numbers_data (numbers_of (N.tree node)))) }
+    ensures { Adds result (O.tokens out.old) (O.tokens out.new)
+        (data_tokens (numbers_data (numbers_of (N.tree node)))) }
 {
     out.token(Token::BeginArray)?;
     for i in 0..node.len() {
@@ -68,16 +71,18 @@ fn put_numbers<O: Out, N: Node>(out: &mut O, node: N) -> PutResult
 
 /// Begins an object of one member with a name that no table's key has.
 fn begin_tagged<O: Out>(out: &mut O, name: &str) -> PutResult
-    ensures { Adds result (O.tokens out.old) (O.tokens out.new) (SpecToken.begin_object ∷ key name.now ∷ []) }
+    ensures { Adds result (O.tokens out.old) (O.tokens out.new)
+        (SpecToken.begin_object ∷ key name.now ∷ []) }
 {
     out.token(Token::BeginObject)?;
     out.token(Token::Key(name))
 }
 
-/// A String, by its units where it isn't well-formed UTF-16.
+/// A String, by its units if it isn't well-formed UTF-16.
 pub(crate) fn put_string<O: Out, N: Node>(out: &mut O, text: &mut String, node: N) -> PutResult
     requires { kind_of (N.tree node) ≡ Kinds.String }
-    ensures { Adds result (O.tokens out.old) (O.tokens out.new) (data_tokens (value_of (N.tree node))) }
+    ensures { Adds result (O.tokens out.old) (O.tokens out.new)
+        (data_tokens (value_of (N.tree node))) }
 {
     if read_units(text, node)? {
         return out.token(Token::String(text));
@@ -87,10 +92,11 @@ pub(crate) fn put_string<O: Out, N: Node>(out: &mut O, text: &mut String, node: 
     out.token(Token::EndObject)
 }
 
-/// A text as a string, or its units where it isn't well-formed UTF-16.
+/// A text as a string, or its units if it isn't well-formed UTF-16.
 fn put_text_or_units<O: Out, N: Node>(out: &mut O, text: &mut String, node: N) -> PutResult
     requires { HasUnits (kind_of (N.tree node)) }
-    ensures { Adds result (O.tokens out.old) (O.tokens out.new) (data_tokens (text_or_units (units_of (N.tree node)))) }
+    ensures { Adds result (O.tokens out.old) (O.tokens out.new)
+        (data_tokens (text_or_units (units_of (N.tree node)))) }
 {
     if read_units(text, node)? {
         return out.token(Token::String(text));
@@ -101,7 +107,8 @@ fn put_text_or_units<O: Out, N: Node>(out: &mut O, text: &mut String, node: N) -
 /// An Alias.
 pub(crate) fn put_alias<O: Out, N: Node>(out: &mut O, text: &mut String, node: N) -> PutResult
     requires { kind_of (N.tree node) ≡ Kinds.Alias }
-    ensures { Adds result (O.tokens out.old) (O.tokens out.new) (data_tokens (value_of (N.tree node))) }
+    ensures { Adds result (O.tokens out.old) (O.tokens out.new)
+        (data_tokens (value_of (N.tree node))) }
 {
     begin_tagged(out, ":alias")?;
     put_text_or_units(out, text, node)?;
@@ -122,7 +129,8 @@ pub fn signed(bits: u32) -> i64
 
 /// An Int with its sign.
 pub(crate) fn put_int<O: Out>(out: &mut O, bits: u32) -> PutResult
-    ensures { Adds result (O.tokens out.old) (O.tokens out.new) (data_tokens (value_of (int bits))) }
+    ensures { Adds result (O.tokens out.old) (O.tokens out.new)
+        (data_tokens (value_of (int bits))) }
 {
     put_integer(out, signed(bits))
 }
@@ -130,7 +138,8 @@ pub(crate) fn put_int<O: Out>(out: &mut O, bits: u32) -> PutResult
 /// A vector of numbers.
 pub(crate) fn put_ints<O: Out, N: Node>(out: &mut O, node: N) -> PutResult
     requires { kind_of (N.tree node) ≡ Kinds.Ints }
-    ensures { Adds result (O.tokens out.old) (O.tokens out.new) (data_tokens (value_of (N.tree node))) }
+    ensures { Adds result (O.tokens out.old) (O.tokens out.new)
+        (data_tokens (value_of (N.tree node))) }
 {
     begin_tagged(out, ":intvector")?;
     put_numbers(out, node)?;
@@ -140,7 +149,8 @@ pub(crate) fn put_ints<O: Out, N: Node>(out: &mut O, node: N) -> PutResult
 /// A Binary, in hexadecimal.
 pub(crate) fn put_binary<O: Out, N: Node>(out: &mut O, text: &mut String, node: N) -> PutResult
     requires { kind_of (N.tree node) ≡ Kinds.Binary }
-    ensures { Adds result (O.tokens out.old) (O.tokens out.new) (data_tokens (value_of (N.tree node))) }
+    ensures { Adds result (O.tokens out.old) (O.tokens out.new)
+        (data_tokens (value_of (N.tree node))) }
 {
     read_hex(text, node)?;
     begin_tagged(out, ":bin")?;

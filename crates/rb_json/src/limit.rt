@@ -4,14 +4,15 @@ ghost use Rattle.rb_tree.specs.Parts.{kind_of};
 ghost use Rattle.rb_tree.specs.declared.kind.Kind.TheVariants as Kinds;
 ghost use Rattle.rb_json.specs.Printed.{is_within};
 ghost use Rattle.rb_json.specs.inner.Room.{IsRoomAfter};
+ghost use Rattle.rb_tree.specs.Limits.{weight_limit};
 
 use rb_tree::{HEIGHT_LIMIT, Kind, Node, WEIGHT_LIMIT};
 
-/// The room that a tree of at most so many levels leaves, where it has as many and its weight fits.
+/// The room that a tree of at most this many levels leaves, if it has as many and its weight fits.
 #[cycle(room)]
 fn room_after<N: Node>(node: N, levels: u64, room: u64) -> Option<u64>
     requires levels { levels ≤ 64 }
-    requires room { room ≤ 33554432 }
+    requires room { room ≤ weight_limit }
     ensures { IsRoomAfter (N.tree node) levels room result }
 {
     if levels == 0 {
@@ -39,7 +40,7 @@ fn room_after<N: Node>(node: N, levels: u64, room: u64) -> Option<u64>
 fn room_after_entries<N: Node>(node: N, levels: u64, room: u64) -> Option<u64>
     requires table { kind_of (N.tree node) ≡ Kinds.Table }
     requires levels { levels < 64 }
-    requires room { room ≤ 33554432 }
+    requires room { room ≤ weight_limit }
     ensures { IsRoomAfter (N.tree node) (levels + 1) room result }
 {
     let mut left = room.checked_sub(8)?;
@@ -50,8 +51,8 @@ fn room_after_entries<N: Node>(node: N, levels: u64, room: u64) -> Option<u64>
     Some(left)
 }
 
-/// Whether an item has at most 64 levels and a weight of at most 33,554,432. It takes no memory, and reads of an item that is
-/// heavier no more than such a weight has.
+/// Whether an item has at most 64 levels and a weight of at most 33,554,432. It takes no memory,
+/// and reads of an item that is heavier no more than such a weight has.
 pub(crate) fn is_within<N: Node>(node: N) -> bool
     ensures { result ≡ is_within (N.tree node) }
 {

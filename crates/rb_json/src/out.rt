@@ -13,7 +13,7 @@ use std::marker::Model;
 pub(crate) trait Out {
     ghost tokens: { Self → List SpecToken };
 
-    /// Writes a token. An error only where out of memory.
+    /// Writes a token. An error only if memory runs out.
     fn token(&mut self, token: Token<'_>) -> Result<(), AllocError>
         requires { IsPrintable (token_of token) }
         ensures { OnOk result (tokens self.new ≡ tokens self.old ++ token_of token.entry ∷ []) };

@@ -1,5 +1,6 @@
 //! Texts as JSON, made in a buffer that is kept.
-ghost use Rattle.std.specs.Prelude.{◌≡◌, ◌+◌, ◌<◌, ◌≤◌, ◌∷◌, IfOk, OnOk, MatchOption, true, not, drop, take, string_bytes, encode_utf8_all};
+ghost use Rattle.std.specs.Prelude.{◌≡◌, ◌+◌, ◌<◌, ◌≤◌, ◌∷◌, IfOk, OnOk, MatchOption, true, not};
+ghost use Rattle.std.specs.Prelude.{drop, take, string_bytes, encode_utf8_all};
 ghost use Rattle.std.specs.Char.Utf16.{has_unpaired_surrogate, utf16_chars, utf16_lossy_chars};
 ghost use Rattle.std.specs.Str.{IsAscii, IsNotAscii};
 ghost use Rattle.hex.specs.Hex.{encode_lower, lower_digits};
@@ -11,7 +12,8 @@ ghost use Rattle.std.specs.Prelude.{slice_index};
 use rb_tree::Node;
 use std::alloc::{AllocError, Global};
 
-/// Bytes as a text, a character each: byte b is the character U+00b. An error comes only where out of memory.
+/// Bytes as a text, a character each: byte b is the character U+00b. An error comes only if memory
+/// runs out.
 pub fn characters(alloc: Global, bytes: &[u8]) -> Result<String, AllocError>
     ensures { IfOk result (λ text. string_bytes text ≡ encode_utf8_all bytes.now) }
 {
@@ -32,10 +34,11 @@ fn ascii_text(bytes: &[u8]) -> &str
     unsafe { str::from_utf8_unchecked(bytes) }
 }
 
-/// Bytes as a text without a copy, a character each, where they are ASCII; else `None`.
+/// Bytes as a text without a copy, a character each, if they are ASCII; else `None`.
 #[tactic(auto, using(crate::proofs::Latin::ascii_text))]
 pub fn ascii(bytes: &[u8]) -> Option<&str>
-    ensures { MatchOption result (IsNotAscii bytes.now) (λ text. text.now ≡ encode_utf8_all bytes.now) }
+    ensures { MatchOption result (IsNotAscii bytes.now)
+        (λ text. text.now ≡ encode_utf8_all bytes.now) }
 {
     if bytes.is_ascii() {
         Some(ascii_text(bytes))
@@ -52,8 +55,8 @@ fn digit(n: u8) -> char
     char::from(b"0123456789abcdef"[n as usize])
 }
 
-/// Makes a text the bytes of a Binary as lower-case hexadecimal digits, two a byte. After an error, which comes only where out of
-/// memory, nothing is known of the text.
+/// Makes a text the bytes of a Binary as lower-case hexadecimal digits, two a byte. After an error,
+/// which comes only if out of memory, nothing is known of the text.
 pub fn read_hex<N: Node>(text: &mut String, node: N) -> Result<(), AllocError>
     requires { kind_of (N.tree node) ≡ Kinds.Binary }
     ensures { OnOk result (string_bytes text.new ≡ encode_lower (bytes_of (N.tree node))) }
@@ -67,13 +70,15 @@ pub fn read_hex<N: Node>(text: &mut String, node: N) -> Result<(), AllocError>
     Ok(())
 }
 
-/// The character whose units begin at an index, unless that unit is a surrogate without a partner, and where the next one begins.
+/// The character whose units begin at an index, unless that unit is a surrogate without a partner,
+/// and where the next one begins.
 fn character_at<N: Node>(node: N, at: usize, len: usize) -> (Option<char>, usize)
     requires units { HasUnits (kind_of (N.tree node)) }
     requires len { len ≡ len_of (N.tree node) }
     requires in_range { at < len }
     ensures bound { (at < result.1) × (result.1 ≤ len_of (N.tree node)) }
-    ensures first { utf16_chars (drop at (units_of (N.tree node))) ≡ result.0 ∷ utf16_chars (drop result.1 (units_of (N.tree node))) }
+    ensures first { utf16_chars (drop at (units_of (N.tree node)))
+        ≡ result.0 ∷ utf16_chars (drop result.1 (units_of (N.tree node))) }
 {
     let high = node.unit(at) as u32;
     if high < 0xD800 || 0xE000 <= high {
@@ -93,7 +98,8 @@ fn character_at<N: Node>(node: N, at: usize, len: usize) -> (Option<char>, usize
 /// How many ASCII units are put at a time at the most.
 const RUN: usize = 64;
 
-/// Puts the ASCII units from an index on at the front of a block, a byte each, and says how many they are.
+/// Puts the ASCII units from an index on at the front of a block, a byte each, and says how many
+/// they are.
 #[inline(always)]
 fn ascii_run<N: Node>(block: &mut [u8; RUN], node: N, at: usize, len: usize) -> usize
     requires units { HasUnits (kind_of (N.tree node)) }
@@ -113,12 +119,15 @@ fn ascii_run<N: Node>(block: &mut [u8; RUN], node: N, at: usize, len: usize) -> 
     most
 }
 
-/// Makes a text the characters of a String or an Alias, and says whether its units are well-formed UTF-16; where they aren't, nothing
-/// is known of the text, nor after an error, which comes only where out of memory.
+/// Makes a text the characters of a String or an Alias, and says whether its units are well-formed
+/// UTF-16; if they aren't, nothing is known of the text, nor after an error, which comes only if
+/// memory runs out.
 pub fn read_units<N: Node>(text: &mut String, node: N) -> Result<bool, AllocError>
     requires { HasUnits (kind_of (N.tree node)) }
-    ensures whole { IfOk result (λ whole. whole ≡ not (has_unpaired_surrogate (units_of (N.tree node)))) }
-    ensures text { IfOk result (λ whole. whole ≡ true → string_bytes text.new ≡ encode_utf8_all (utf16_lossy_chars (units_of (N.tree node)))) }
+    ensures whole { IfOk result
+        (λ whole. whole ≡ not (has_unpaired_surrogate (units_of (N.tree node)))) }
+    ensures text { IfOk result (λ whole. whole ≡ true
+        → string_bytes text.new ≡ encode_utf8_all (utf16_lossy_chars (units_of (N.tree node)))) }
 {
     text.clear();
     let len = node.len();

@@ -19,7 +19,8 @@ pub(crate) fn put_tree<O: Out, N: Node>(
     alloc: Global,
     node: N,
 ) -> PutResult
-    ensures { Adds result (O.tokens out.old) (O.tokens out.new) (data_tokens (value_of (N.tree node))) }
+    ensures { Adds result (O.tokens out.old) (O.tokens out.new)
+        (data_tokens (value_of (N.tree node))) }
 {
     match node.kind() {
         Kind::String => put_string(out, text, node),
@@ -42,7 +43,8 @@ pub(crate) fn put_tree<O: Out, N: Node>(
 #[cycle(tree)]
 fn put_entries<O: Out, N: Node>(out: &mut O, text: &mut String, alloc: Global, node: N) -> PutResult
     requires { kind_of (N.tree node) ≡ Kinds.Table }
-    ensures { Adds result (O.tokens out.old) (O.tokens out.new) (data_tokens (value_of (N.tree node))) }
+    ensures { Adds result (O.tokens out.old) (O.tokens out.new)
+        (data_tokens (value_of (N.tree node))) }
 {
     out.token(Token::BeginObject)?;
     for i in 0..node.len() {

@@ -29,7 +29,8 @@ fn compact_bytes<N: Node>(alloc: Global, node: N) -> Result<Vec<u8>, AllocError>
 
 /// The text of an item, with a line for each item and member.
 fn pretty_bytes<N: Node>(alloc: Global, node: N) -> Result<Vec<u8>, AllocError>
-    ensures text { IfOk result (λ bytes. bytes.items ≡ pretty (data_tokens (value_of (N.tree node)))) }
+    ensures text { IfOk result
+        (λ bytes. bytes.items ≡ pretty (data_tokens (value_of (N.tree node)))) }
     ensures utf8 { IfOk result (λ bytes. IsUtf8 bytes.items) }
 {
     let mut out = Pretty::new(alloc);
@@ -38,19 +39,21 @@ fn pretty_bytes<N: Node>(alloc: Global, node: N) -> Result<Vec<u8>, AllocError>
     Ok(out.into_inner())
 }
 
-/// A whole item as one JSON value: a table as an object with its keys ascending, an array as an array, a String as a string, an Int
-/// as its signed number; an Alias as `{":alias":".."}`, a Binary as `{":bin":"00ff"}`, a vector as `{":intvector":[..]}`, and a
-/// String that isn't well-formed UTF-16 as `{":units":[..]}`. A key that begins with a colon has one colon more. Aliases are not
-/// followed. A form of this project.
+/// A whole item as one JSON value: a table as an object with its keys ascending, an array as an
+/// array, a String as a string, an Int as its signed number; an Alias as `{":alias":".."}`, a
+/// Binary as `{":bin":"00ff"}`, a vector as `{":intvector":[..]}`, and a String that isn't
+/// well-formed UTF-16 as `{":units":[..]}`. A key that begins with a colon has one colon more.
+/// Aliases are not followed. A form of this project.
 ///
-/// Errors: `TooLarge` where the item has more than 64 levels or a weight above 33,554,432, which is found out before anything is
-/// built and without memory; else `Memory` where out of memory.
+/// Errors: `TooLarge` if the item has more than 64 levels or a weight above 33,554,432, which is
+/// found out before anything is built and without memory; else `Memory` if memory runs out.
 ///
 /// ```rust
 /// json_text(alloc, &tree, Layout::Compact)? // {"a":"x","b":5,"c":{":alias":"/LOCALE/a"}}
 /// ```
 pub fn json_text<N: Node>(alloc: Global, node: N, layout: Layout) -> Result<String, JsonError>
-    ensures text { IfOk result (λ text. string_bytes text ≡ laid_out layout (value_of (N.tree node))) }
+    ensures text { IfOk result
+        (λ text. string_bytes text ≡ laid_out layout (value_of (N.tree node))) }
     ensures within { IfOk result (λ text. IsTrue (is_within (N.tree node))) }
     ensures error { IfErr result (λ e. e ≡ refusal (N.tree node)) }
 {

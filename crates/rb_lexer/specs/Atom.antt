@@ -1,6 +1,7 @@
 -- For proofs only: a second reading, which follows the code. In it an unquoted piece is read part by part.
 use Rattle.std.specs.Prelude.{◌≡◌, ℕ, ◌+◌, Bool, true, false, cond, List, [], ◌∷◌, ◌++◌, Option, Some, None, IsTrue}
-use Rattle.rb_lexer.specs.Lexeme.{is_white, is_punctuation, quote, Comment, comment_chars, IsComment, Part, part_chars, part_units, parts_chars, parts_units}
+use Rattle.rb_lexer.specs.Lexeme.{is_white, is_punctuation, quote, Comment, comment_chars, IsComment, Part, part_chars}
+use Rattle.rb_lexer.specs.Lexeme.{part_units, parts_chars, parts_units}
 use Rattle.rb_lexer.specs.Lexeme.{AreParts, IsQuotedPart, IsUnquotedPart, Stays}
 use Rattle.rb_lexer.specs.Faults.{Broken, broken_chars, IsBroken, broken_kind, from_fault}
 use Rattle.rb_lexer.specs.Tokens.{width, punctuation_mark}
@@ -55,11 +56,14 @@ blanks (c ∷ cs) = blank c ∷ blanks cs
 
 -- the characters after a quote go on with a quoted piece of these units, its last quote, and the rest
 abbrev pub IsPastQuote : List ℕ → List ℕ → List ℕ → Type 0
-IsPastQuote text units rest = (ps : List Part) × (text ≡ parts_chars ps (quote ∷ rest)) × AreParts IsQuotedPart ps (quote ∷ rest) × (units ≡ parts_units ps)
+IsPastQuote text units rest = (ps : List Part) × (text ≡ parts_chars ps (quote ∷ rest))
+    × AreParts IsQuotedPart ps (quote ∷ rest) × (units ≡ parts_units ps)
 
--- The characters go on with parts of a run of an unquoted piece, and the rest; the units are those before and those of the parts.
+-- The characters go on with parts of a run of an unquoted piece, and the rest; the units are those before and those of
+-- the parts.
 abbrev pub IsPastRun : List ℕ → List ℕ → List ℕ → List ℕ → Type 0
-IsPastRun before text units rest = (ps : List Part) × (text ≡ parts_chars ps rest) × AreParts IsSingle ps rest × (units ≡ before ++ parts_units ps)
+IsPastRun before text units rest = (ps : List Part) × (text ≡ parts_chars ps rest) × AreParts IsSingle ps rest
+    × (units ≡ before ++ parts_units ps)
 
 -- What the code has for atoms.
 abbrev pub Shows : Scanned → List ℕ → List Atom → Type 0
@@ -75,17 +79,26 @@ Begins text item us rest = (xs : List Atom) × (text ≡ atoms_chars xs rest) ×
 
 -- These characters are broken in this way, unless memory ran out.
 abbrev pub Stops : LexError → List ℕ → Type 0
-Stops stop cs = (stop.kind ≡ Memory → ⊥) → (b : Broken) × (cs ≡ broken_chars b) × IsBroken b × (stop.kind ≡ broken_kind b) × (stop.left ≡ width (from_fault b))
+Stops stop cs = (stop.kind ≡ Memory → ⊥) → (b : Broken) × (cs ≡ broken_chars b) × IsBroken b
+    × (stop.kind ≡ broken_kind b) × (stop.left ≡ width (from_fault b))
 
 -- a piece that goes on
 abbrev pub longer : Option PendingText → PendingText → PendingText
 longer None b = b
-longer (Some a) b = record { units = a.units ++ b.units; is_quoted = a.is_quoted; first = a.first; past = b.past; line = a.line }
+longer (Some a) b = record {
+  units = a.units
+      ++ b.units;
+  is_quoted = a.is_quoted;
+  first = a.first;
+  past = b.past;
+  line = a.line;
+}
 
--- the same where there is one, with more units
+-- the same if there is one, with more units
 abbrev pub extended : Option PendingText → List ℕ → ℕ → Option PendingText
 extended None us past = None
-extended (Some a) us past = Some (record { units = a.units ++ us; is_quoted = a.is_quoted; first = a.first; past = past; line = a.line })
+extended (Some a) us past = Some
+    (record { units = a.units ++ us; is_quoted = a.is_quoted; first = a.first; past = past; line = a.line })
 
 -- with one more unquoted character
 abbrev pub with_character : Bool → Option PendingText → PendingText → PendingText
@@ -94,14 +107,17 @@ with_character is_open pending b = cond is_open (longer pending b) (grown pendin
 abbrev pub past_atom : ℕ → Atom → ℕ
 past_atom at a = at + width (atom_chars a [])
 
--- The tokens of atoms that begin at a byte, after a pending text that is open where an unquoted piece may go on.
+-- The tokens of atoms that begin at a byte, after a pending text that is open if an unquoted piece may go on.
 abbrev pub atoms_tokens : List ℕ → ℕ → Option PendingText → Bool → List Atom → List Token
 atoms_tokens bytes at pending is_open [] = flushed pending []
 atoms_tokens bytes at pending is_open (blank c ∷ xs) = atoms_tokens bytes (past_atom at (blank c)) pending false xs
 atoms_tokens bytes at pending is_open (remark c ∷ xs) = atoms_tokens bytes (past_atom at (remark c)) pending is_open xs
 atoms_tokens bytes at pending is_open (punct c ∷ xs) =
-    flushed pending (punctuation_token bytes c at (past_atom at (punct c)) ∷ atoms_tokens bytes (past_atom at (punct c)) None false xs)
+    flushed pending (punctuation_token bytes c at (past_atom at (punct c))
+    ∷ atoms_tokens bytes (past_atom at (punct c)) None false xs)
 atoms_tokens bytes at pending is_open (cited ps ∷ xs) =
-    atoms_tokens bytes (past_atom at (cited ps)) (Some (grown pending (piece bytes (parts_units ps) true at (past_atom at (cited ps))))) false xs
+    atoms_tokens bytes (past_atom at (cited ps))
+    (Some (grown pending (piece bytes (parts_units ps) true at (past_atom at (cited ps))))) false xs
 atoms_tokens bytes at pending is_open (single p ∷ xs) =
-    atoms_tokens bytes (past_atom at (single p)) (Some (with_character is_open pending (piece bytes (part_units p) false at (past_atom at (single p))))) true xs
+    atoms_tokens bytes (past_atom at (single p))
+    (Some (with_character is_open pending (piece bytes (part_units p) false at (past_atom at (single p))))) true xs

@@ -1,5 +1,5 @@
--- For what `Tokens` is seen as: the tokens that are still to come, as a function. It is the second reading of characters
--- that have no error; what it gives of others is of no account.
+-- For what `Tokens` is seen as: the tokens that are still to come, as a function. It is the second reading of
+-- characters that have no error; what it gives of others is of no account.
 use Rattle.std.specs.Prelude.{ℕ, zero, suc, ◌==◌, ◌&&◌, cond, List, [], ◌∷◌, ◌++◌, Option, Some, None, length, drop}
 use Rattle.std.specs.Str.{chars}
 use Rattle.rb_lexer.specs.declared.reader.Reader.{Reader}
@@ -50,7 +50,7 @@ atom_at c cs =
     (cond (c == quote) (cited (quoted_at (length cs) cs).0, (quoted_at (length cs) cs).1)
     (cond (begins_comment (c ∷ cs)) (comment_at cs) (single (part_at c cs).0, (part_at c cs).1))))
 
--- the atoms of at most so many characters
+-- the atoms of at most this many characters
 unfoldable pub atoms_at : ℕ → List ℕ → List Atom
 atoms_at zero cs = []
 atoms_at (suc n) [] = []

@@ -4,17 +4,19 @@ use Rattle.std.specs.Char.{is_digit}
 use Rattle.std.specs.Str.Parse.{digits_value}
 use Rattle.rb_lexer.specs.Lexeme.{Escape, four, eight, hex, octal, letter}
 
--- up to so many digits, as many as there are, and what follows them
+-- up to this many digits, as many as there are, and what follows them
 unfoldable pub digits_at : ℕ → ℕ → List ℕ → List ℕ × List ℕ
 digits_at radix zero cs = ([], cs)
 digits_at radix (suc n) [] = ([], [])
-digits_at radix (suc n) (c ∷ cs) = cond (is_digit c radix) (c ∷ (digits_at radix n cs).0, (digits_at radix n cs).1) ([], c ∷ cs)
+digits_at radix (suc n) (c ∷ cs) = cond (is_digit c radix) (c ∷ (digits_at radix n cs).0, (digits_at radix n cs).1)
+    ([], c ∷ cs)
 
 abbrev pub at_least : ℕ → (List ℕ → Escape) → List ℕ × List ℕ → Option (Escape × List ℕ)
 at_least least kind x = cond (nat_lt (length x.0) least) None (Some (kind x.0, x.1))
 
 abbrev pub code_point : List ℕ × List ℕ → Option (Escape × List ℕ)
-code_point x = cond (nat_lt (length x.0) 8) None (cond (nat_lt 0x10FFFF (digits_value 16 x.0)) None (Some (eight x.0, x.1)))
+code_point x = cond (nat_lt (length x.0) 8) None
+    (cond (nat_lt 0x10FFFF (digits_value 16 x.0)) None (Some (eight x.0, x.1)))
 
 unfoldable pub escape_at : List ℕ → Option (Escape × List ℕ)
 escape_at [] = None

@@ -1,16 +1,21 @@
--- The lexical errors of a source, and which one it has. The syntax is that of ICU's genrb; what is an error, and in which
--- line, is this project's own rule: too many bytes before all else, then bytes that are not UTF-8, then what comes first in
--- the text of an escape that is none, a quoted piece that is never closed and a comment that is never closed.
+-- The lexical errors of a source, and which one it has. The syntax is that of ICU's genrb; what is an error, and in
+-- which line, is this project's own rule: too many bytes before all else, then bytes that are not UTF-8, then what
+-- comes first in the text of an escape that is none, a quoted piece that is never closed and a comment that is never
+-- closed.
 use Rattle.std.specs.Prelude.{◌≡◌, ℕ, ◌+◌, ◌<◌, ◌≤◌, ◌⊎◌, List, [], ◌∷◌, length, encode_utf8_all, IsTrue}
 use Rattle.std.specs.Str.{all_scalars, IsValidUpTo}
 use Rattle.rb_lexer.specs.declared.fault.SourceKind.{SourceKind}
-use Rattle.rb_lexer.specs.declared.fault.SourceKind.TheVariants.{TooLong, NotUtf8, BadEscape, OpenQuote, OpenComment, Memory}
+use Rattle.rb_lexer.specs.declared.fault.SourceKind.TheVariants.{TooLong, NotUtf8, BadEscape, OpenQuote, OpenComment}
+use Rattle.rb_lexer.specs.declared.fault.SourceKind.TheVariants.{Memory}
 use Rattle.rb_lexer.specs.declared.fault.SourceFault.{SourceFault}
-use Rattle.rb_lexer.specs.Lexeme.{quote, backslash, slash, star, Escape, escape_chars, IsEscape, HasNoEnd, Part, parts_chars, AreParts, IsQuotedPart, Lexeme}
+use Rattle.rb_lexer.specs.Lexeme.{quote, backslash, slash, star, Escape, escape_chars, IsEscape, HasNoEnd, Part}
+use Rattle.rb_lexer.specs.Lexeme.{parts_chars, AreParts, IsQuotedPart, Lexeme}
 use Rattle.rb_lexer.specs.Lexeme.{chars_of, AreLexemes}
 use Rattle.rb_lexer.specs.Tokens.{width, line_of}
+use Rattle.rb_lexer.specs.Limits.{source_limit}
 
--- A quoted piece or a comment that is never closed, or a backslash that begins no escape, outside a quoted piece or in one.
+-- A quoted piece or a comment that is never closed, or a backslash that begins no escape, outside a quoted piece or in
+-- one.
 pub data Broken : Type 0 where
   open_quote : List Part → Broken
   open_comment : List ℕ → Broken
@@ -62,11 +67,11 @@ pub record HasFault (bytes : List ℕ) (kind : SourceKind) (line : ℕ) : Type 0
 
 -- too many bytes
 abbrev pub IsLong : List ℕ → ℕ → Type 0
-IsLong bytes line = (8388608 < length bytes) × (line ≡ 1)
+IsLong bytes line = (source_limit < length bytes) × (line ≡ 1)
 
 -- a first byte from which no character reads
 abbrev pub IsGarbled : List ℕ → ℕ → Type 0
-IsGarbled bytes line = (length bytes ≤ 8388608) × ((at : ℕ) × IsValidUpTo bytes at × (line ≡ line_of bytes at))
+IsGarbled bytes line = (length bytes ≤ source_limit) × ((at : ℕ) × IsValidUpTo bytes at × (line ≡ line_of bytes at))
 
 -- what keeps a source from being a text
 abbrev pub IsTextFault : List ℕ → SourceKind → ℕ → Type 0
@@ -74,7 +79,7 @@ IsTextFault bytes kind line = ((kind ≡ TooLong) × IsLong bytes line) ⊎ ((ki
 
 -- The source is no text, or it is one with a lexical error.
 abbrev pub IsSourceFault : List ℕ → SourceKind → ℕ → Type 0
-IsSourceFault bytes kind line = IsTextFault bytes kind line ⊎ ((length bytes ≤ 8388608) × HasFault bytes kind line)
+IsSourceFault bytes kind line = IsTextFault bytes kind line ⊎ ((length bytes ≤ source_limit) × HasFault bytes kind line)
 
 -- Why a source is refused: out of memory, or for an error that it has.
 abbrev pub IsRefusal : List ℕ → SourceFault → Type 0

@@ -1,7 +1,8 @@
--- How a bundle text is written, in the syntax of ICU's genrb: its lexemes, and the characters that spell them in front of
--- what follows. This project's own are the comment that owns its line break, a comment inside an unquoted piece, and in
--- an unquoted piece an escape of any other character.
-use Rattle.std.specs.Prelude.{◌≡◌, ℕ, ◌+◌, ◌-◌, ◌/◌, ◌%◌, ◌<◌, ◌≤◌, ◌==◌, ◌||◌, ◌&&◌, Bool, false, not, nat_lt, if◌then◌else◌, List, [], ◌∷◌, ◌++◌, length}
+-- How a bundle text is written, in the syntax of ICU's genrb: its lexemes, and the characters that spell them in front
+-- of what follows. This project's own are the comment that owns its line break, a comment inside an unquoted piece, and
+-- in an unquoted piece an escape of any other character.
+use Rattle.std.specs.Prelude.{◌≡◌, ℕ, ◌+◌, ◌-◌, ◌/◌, ◌%◌, ◌<◌, ◌≤◌, ◌==◌, ◌||◌, ◌&&◌, Bool, false, not, nat_lt}
+use Rattle.std.specs.Prelude.{if◌then◌else◌, List, [], ◌∷◌, ◌++◌, length}
 use Rattle.std.specs.Prelude.{IsTrue, Option, Some, None}
 use Rattle.std.specs.List.{AllByRecursion}
 use Rattle.std.specs.Char.{is_digit}
@@ -75,7 +76,8 @@ IsEscape (letter c) rest = IsTrue (not (is_digit c 8 || (c == 0x75) || (c == 0x5
 abbrev pub letter_value : ℕ → ℕ
 letter_value c =
     if c == 0x61 then 0x07 else (if c == 0x62 then 0x08 else (if c == 0x65 then 0x1B else (if c == 0x66 then 0x0C else
-    (if c == 0x6E then 0x0A else (if c == 0x72 then 0x0D else (if c == 0x74 then 0x09 else (if c == 0x76 then 0x0B else c)))))))
+    (if c == 0x6E then 0x0A
+    else (if c == 0x72 then 0x0D else (if c == 0x74 then 0x09 else (if c == 0x76 then 0x0B else c)))))))
 
 abbrev pub escape_value : Escape → ℕ
 escape_value (four ds) = digits_value 16 ds
@@ -86,7 +88,8 @@ escape_value (letter c) = letter_value c
 
 -- the units of a code point, those of a surrogate's number among them
 abbrev pub units_of : ℕ → List ℕ
-units_of c = if nat_lt c 0x10000 then c ∷ [] else (0xD800 + (c - 0x10000) / 0x400) ∷ (0xDC00 + (c - 0x10000) % 0x400) ∷ []
+units_of c = if nat_lt c 0x10000 then c ∷ []
+    else (0xD800 + (c - 0x10000) / 0x400) ∷ (0xDC00 + (c - 0x10000) % 0x400) ∷ []
 
 -- ---- lexemes
 
@@ -102,7 +105,7 @@ abbrev pub comment_chars : Comment → List ℕ → List ℕ
 comment_chars (line_comment cs end) rest = slash ∷ slash ∷ (cs ++ option_chars end rest)
 comment_chars (block_comment cs) rest = slash ∷ star ∷ (cs ++ star ∷ slash ∷ rest)
 
--- no star and slash side by side, also where a star follows the last
+-- no star and slash side by side, also if a star follows the last
 abbrev pub HasNoEnd : List ℕ → Type 0
 HasNoEnd [] = Unit {0}
 HasNoEnd (c ∷ cs) = (IsTrue (c == star) → IsTrue (not (begins (λ d. d == slash) cs))) × HasNoEnd cs
@@ -142,7 +145,8 @@ IsQuotedPart (escaped e) rest = IsEscape e rest
 IsQuotedPart (dropped c) rest = ⊥
 
 abbrev pub IsUnquotedPart : Part → List ℕ → Type 0
-IsUnquotedPart (plain c) rest = IsTrue (not (is_white c || (c == quote) || (c == backslash) || is_punctuation c)) × IsTrue (not (begins_comment (c ∷ rest)))
+IsUnquotedPart (plain c) rest = IsTrue (not (is_white c || (c == quote) || (c == backslash) || is_punctuation c))
+    × IsTrue (not (begins_comment (c ∷ rest)))
 IsUnquotedPart (escaped e) rest = IsEscape e rest
 IsUnquotedPart (dropped c) rest = IsComment c rest
 
@@ -200,4 +204,5 @@ AreLexemes (white c ∷ ls) rest = IsTrue (is_white c) × AreLexemes ls rest
 AreLexemes (comment c ∷ ls) rest = IsComment c (chars_of ls rest) × AreLexemes ls rest
 AreLexemes (punctuation c ∷ ls) rest = IsTrue (is_punctuation c) × AreLexemes ls rest
 AreLexemes (quoted ps ∷ ls) rest = AreParts IsQuotedPart ps (quote ∷ chars_of ls rest) × AreLexemes ls rest
-AreLexemes (unquoted ps ∷ ls) rest = AreParts IsUnquotedPart ps (chars_of ls rest) × FirstStays ps × LastStays ps × EndsUnquoted ls × AreLexemes ls rest
+AreLexemes (unquoted ps ∷ ls) rest = AreParts IsUnquotedPart ps (chars_of ls rest) × FirstStays ps × LastStays ps
+    × EndsUnquoted ls × AreLexemes ls rest

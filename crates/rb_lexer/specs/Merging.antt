@@ -10,7 +10,14 @@ abbrev pub between : PendingText → PendingText → List ℕ
 between a b = separator a.units a.is_quoted b.is_quoted
 
 abbrev pub joined : PendingText → PendingText → PendingText
-joined a b = record { units = (a.units ++ between a b) ++ b.units; is_quoted = b.is_quoted; first = a.first; past = b.past; line = a.line }
+joined a b = record {
+  units = (a.units ++ between a b)
+      ++ b.units;
+  is_quoted = b.is_quoted;
+  first = a.first;
+  past = b.past;
+  line = a.line;
+}
 
 abbrev pub grown : Option PendingText → PendingText → PendingText
 grown None b = b
@@ -35,8 +42,11 @@ tokens_from bytes at pending [] = flushed pending []
 tokens_from bytes at pending (white c ∷ ls) = tokens_from bytes (past_lexeme at (white c)) pending ls
 tokens_from bytes at pending (comment c ∷ ls) = tokens_from bytes (past_lexeme at (comment c)) pending ls
 tokens_from bytes at pending (punctuation c ∷ ls) =
-    flushed pending (punctuation_token bytes c at (past_lexeme at (punctuation c)) ∷ tokens_from bytes (past_lexeme at (punctuation c)) None ls)
+    flushed pending (punctuation_token bytes c at (past_lexeme at (punctuation c))
+    ∷ tokens_from bytes (past_lexeme at (punctuation c)) None ls)
 tokens_from bytes at pending (quoted ps ∷ ls) =
-    tokens_from bytes (past_lexeme at (quoted ps)) (Some (grown pending (piece bytes (parts_units ps) true at (past_lexeme at (quoted ps))))) ls
+    tokens_from bytes (past_lexeme at (quoted ps))
+    (Some (grown pending (piece bytes (parts_units ps) true at (past_lexeme at (quoted ps))))) ls
 tokens_from bytes at pending (unquoted ps ∷ ls) =
-    tokens_from bytes (past_lexeme at (unquoted ps)) (Some (grown pending (piece bytes (parts_units ps) false at (past_lexeme at (unquoted ps))))) ls
+    tokens_from bytes (past_lexeme at (unquoted ps))
+    (Some (grown pending (piece bytes (parts_units ps) false at (past_lexeme at (unquoted ps))))) ls

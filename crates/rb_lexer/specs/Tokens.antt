@@ -1,12 +1,15 @@
--- The tokens of a source: its texts and punctuation in the syntax of ICU's genrb, each with its span and its line. That pieces
--- side by side are one text, and when a space goes between them, is this project's own rule.
-use Rattle.std.specs.Prelude.{◌≡◌, ◌<◌, ◌≤◌, ℕ, suc, ◌+◌, ◌==◌, Bool, true, false, ◌&&◌, ◌||◌, if◌then◌else◌, List, [], ◌∷◌, ◌++◌, length, map, take, count_by}
+-- The tokens of a source: its texts and punctuation in the syntax of ICU's genrb, each with its span and its line. That
+-- pieces side by side are one text, and when a space goes between them, is this project's own rule.
+use Rattle.std.specs.Prelude.{◌≡◌, ◌<◌, ◌≤◌, ℕ, suc, ◌+◌, ◌==◌, Bool, true, false, ◌&&◌, ◌||◌, if◌then◌else◌, List, []}
+use Rattle.std.specs.Prelude.{◌∷◌, ◌++◌, length, map, take, count_by}
 use Rattle.std.specs.Prelude.{encode_utf8_all, IsTrue}
 use Rattle.std.specs.Str.{all_scalars}
-use Rattle.rb_lexer.specs.Lexeme.{Lexeme, white, comment, punctuation, quoted, unquoted, lexeme_chars, chars_of, parts_units, AreLexemes}
+use Rattle.rb_lexer.specs.Lexeme.{Lexeme, white, comment, punctuation, quoted, unquoted, lexeme_chars, chars_of}
+use Rattle.rb_lexer.specs.Lexeme.{parts_units, AreLexemes}
 use Rattle.rb_lexer.specs.declared.token.Mark.{Mark}
 use Rattle.rb_lexer.specs.declared.token.Mark.TheVariants.{Text, LeftBrace, RightBrace, Colon, Comma}
 use Rattle.rb_lexer.specs.declared.token.Token.{Token}
+use Rattle.rb_lexer.specs.Limits.{source_limit}
 
 -- how many bytes the characters take
 abbrev pub width : List ℕ → ℕ
@@ -17,7 +20,8 @@ abbrev pub line_of : List ℕ → ℕ → ℕ
 line_of bytes at = suc (count_by (λ b. b == 0x0A) (take at bytes))
 
 abbrev pub punctuation_mark : ℕ → Mark
-punctuation_mark c = if c == 0x7B then LeftBrace else (if c == 0x7D then RightBrace else (if c == 0x3A then Colon else Comma))
+punctuation_mark c = if c == 0x7B then LeftBrace
+    else (if c == 0x7D then RightBrace else (if c == 0x3A then Colon else Comma))
 
 -- ---- pieces
 
@@ -43,11 +47,14 @@ pieces_from at [] = []
 pieces_from at (white c ∷ ls) = pieces_from (past_lexeme at (white c)) ls
 pieces_from at (comment c ∷ ls) = pieces_from (past_lexeme at (comment c)) ls
 pieces_from at (punctuation c ∷ ls) =
-    punctuation_piece (punctuation_mark c) at (past_lexeme at (punctuation c)) ∷ pieces_from (past_lexeme at (punctuation c)) ls
+    punctuation_piece (punctuation_mark c) at (past_lexeme at (punctuation c))
+    ∷ pieces_from (past_lexeme at (punctuation c)) ls
 pieces_from at (quoted ps ∷ ls) =
-    text (record { units = parts_units ps; is_quoted = true; first = at; past = past_lexeme at (quoted ps) }) ∷ pieces_from (past_lexeme at (quoted ps)) ls
+    text (record { units = parts_units ps; is_quoted = true; first = at; past = past_lexeme at (quoted ps) })
+    ∷ pieces_from (past_lexeme at (quoted ps)) ls
 pieces_from at (unquoted ps ∷ ls) =
-    text (record { units = parts_units ps; is_quoted = false; first = at; past = past_lexeme at (unquoted ps) }) ∷ pieces_from (past_lexeme at (unquoted ps)) ls
+    text (record { units = parts_units ps; is_quoted = false; first = at; past = past_lexeme at (unquoted ps) })
+    ∷ pieces_from (past_lexeme at (unquoted ps)) ls
 
 -- ---- merging
 
@@ -76,10 +83,12 @@ is_empty (u ∷ us) = false
 abbrev pub separator : List ℕ → Bool → Bool → List ℕ
 separator units is_quoted next_is_quoted = if (is_empty units || (is_quoted && next_is_quoted)) then [] else 0x20 ∷ []
 
--- The units of a run: those of its first pieces, the last of them quoted or not, joined with each of its other pieces in turn.
+-- The units of a run: those of its first pieces, the last of them quoted or not, joined with each of its other pieces
+-- in turn.
 abbrev pub joined_units : List ℕ → Bool → List TextPiece → List ℕ
 joined_units units is_quoted [] = units
-joined_units units is_quoted (p ∷ ps) = joined_units ((units ++ separator units is_quoted p.is_quoted) ++ p.units) p.is_quoted ps
+joined_units units is_quoted (p ∷ ps) = joined_units
+    ((units ++ separator units is_quoted p.is_quoted) ++ p.units) p.is_quoted ps
 
 -- the byte after the last piece of a run
 abbrev pub past_last : ℕ → List TextPiece → ℕ
@@ -87,7 +96,13 @@ past_last past [] = past
 past_last past (p ∷ ps) = past_last p.past ps
 
 abbrev pub token : List ℕ → Group → Token
-token bytes (run p ps) = record { what = Text (joined_units p.units p.is_quoted ps); first = p.first; past = past_last p.past ps; line = line_of bytes p.first }
+token bytes (run p ps) = record {
+  what = Text
+      (joined_units p.units p.is_quoted ps);
+  first = p.first;
+  past = past_last p.past ps;
+  line = line_of bytes p.first;
+}
 token bytes (alone m first past) = record { what = m; first = first; past = past; line = line_of bytes first }
 
 -- The tokens of lexemes: one of each run of text pieces and one of each punctuation mark.
@@ -104,9 +119,10 @@ pub record HasTokens (bytes : List ℕ) (ts : List Token) : Type 0 where
 
 -- The source is within the limit of 8,388,608 bytes and has these tokens.
 abbrev pub LexesTo : List ℕ → List Token → Type 0
-LexesTo bytes ts = (length bytes ≤ 8388608) × HasTokens bytes ts
+LexesTo bytes ts = (length bytes ≤ source_limit) × HasTokens bytes ts
 
--- From `at` on, each token takes a byte at least and begins where the one before ends or after it; none goes past `end`.
+-- From `at` on, each token takes a byte at least and begins where the one before ends or after it; none goes past
+-- `end`.
 abbrev pub AreInOrder : ℕ → List Token → ℕ → Type 0
 AreInOrder at [] end = at ≤ end
 AreInOrder at (t ∷ ts) end = (at ≤ t.first) × (t.first < t.past) × AreInOrder t.past ts end

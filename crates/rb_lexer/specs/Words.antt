@@ -1,8 +1,10 @@
 -- The word of each kind of error: the name of its variant.
 use Rattle.std.specs.Prelude.{ℕ, List, codes}
 use Rattle.rb_lexer.specs.declared.fault.SourceKind.{SourceKind}
-use Rattle.rb_lexer.specs.declared.fault.SourceKind.TheVariants.{TooLong, NotUtf8, BadEscape, OpenQuote, OpenComment, Unexpected, UnknownType, BadKey}
-use Rattle.rb_lexer.specs.declared.fault.SourceKind.TheVariants.{DuplicateKey, BadInt, BadHex, TooDeep, TrailingText, TooLarge, Memory}
+use Rattle.rb_lexer.specs.declared.fault.SourceKind.TheVariants.{TooLong, NotUtf8, BadEscape, OpenQuote, OpenComment}
+use Rattle.rb_lexer.specs.declared.fault.SourceKind.TheVariants.{Unexpected, UnknownType, BadKey}
+use Rattle.rb_lexer.specs.declared.fault.SourceKind.TheVariants.{DuplicateKey, BadInt, BadHex, TooDeep, TrailingText}
+use Rattle.rb_lexer.specs.declared.fault.SourceKind.TheVariants.{TooLarge, Memory}
 
 abbrev pub kind_word : SourceKind → List ℕ
 kind_word TooLong = codes "TooLong"

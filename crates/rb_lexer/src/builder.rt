@@ -1,5 +1,6 @@
 //! Tokens as they come.
-ghost use Rattle.std.specs.Prelude.{◌≡◌, ◌++◌, ◌≤◌, ℕ, List, [], ◌+◌, ◌&&◌, is_some, None, Some, false, ◌∷◌, drop, length, MatchOption, OnOk, IfOk, IfErr};
+ghost use Rattle.std.specs.Prelude.{◌≡◌, ◌++◌, ◌≤◌, ℕ, List, [], ◌+◌, ◌&&◌, is_some, None, Some};
+ghost use Rattle.std.specs.Prelude.{false, ◌∷◌, drop, length, MatchOption, OnOk, IfOk, IfErr};
 ghost use Rattle.rb_lexer.specs.declared.fault.SourceKind.TheVariants.{Memory};
 ghost use Rattle.rb_lexer.specs.Tokens.{line_of, width};
 ghost use Rattle.rb_lexer.specs.Merging.{flushed, grown};
@@ -13,7 +14,7 @@ use rb_tree::UnitList;
 use std::alloc::Global;
 use std::collections::VecDeque;
 
-/// The tokens so far, and the pending text after them. It is open where an unquoted piece may go on.
+/// The tokens so far, and the pending text after them. It is open if an unquoted piece may go on.
 #[derive(Drop)]
 pub struct Builder {
     pub tokens: VecDeque<Token>,
@@ -38,7 +39,8 @@ impl Builder {
     /// Adds the pending text as a token.
     pub fn flush(&mut self) -> Result<(), LexError>
         ensures memory { IfErr result (λ e. e.kind ≡ Memory) }
-        ensures flushed { OnOk result ((self.new.tokens.items ≡ self.old.tokens.items ++ flushed self.old.pending []) × (self.new.pending ≡ None)) }
+        ensures flushed { OnOk result ((self.new.tokens.items
+            ≡ self.old.tokens.items ++ flushed self.old.pending []) × (self.new.pending ≡ None)) }
     {
         if let Some(pending) = self.pending.take() {
             self.tokens.push_back(Token {
@@ -54,7 +56,8 @@ impl Builder {
     /// Joins a piece to the pending text.
     fn join(&mut self, piece: PendingText) -> Result<(), LexError>
         ensures memory { IfErr result (λ e. e.kind ≡ Memory) }
-        ensures joined { OnOk result ((self.new.tokens.items ≡ self.old.tokens.items) × (self.new.pending ≡ Some (grown self.old.pending piece))) }
+        ensures joined { OnOk result ((self.new.tokens.items ≡ self.old.tokens.items)
+            × (self.new.pending ≡ Some (grown self.old.pending piece))) }
     {
         match self.pending.take() {
             None => self.pending = Some(piece),
@@ -77,7 +80,8 @@ impl Builder {
     fn extend(&mut self, units: &UnitList, past: usize) -> Result<(), LexError>
         ensures memory { IfErr result (λ e. e.kind ≡ Memory) }
         ensures longer { OnOk result ((self.new.tokens.items ≡ self.old.tokens.items) ×
-            (self.new.pending ≡ extended self.old.pending units.now past) × (self.new.is_open ≡ self.old.is_open)) }
+            (self.new.pending ≡ extended self.old.pending units.now past)
+            × (self.new.is_open ≡ self.old.is_open)) }
     {
         if let Some(mut pending) = self.pending.take() {
             pending.units.extend(units)?;
@@ -99,8 +103,10 @@ impl Builder {
         ensures memory { IfErr result (λ e. e.kind ≡ Memory) }
         ensures added { OnOk result ((bytes : List ℕ) (xs rest : List Atom) → Shows item units xs
             → line ≡ line_of bytes first → past ≡ first + width (atoms_chars xs [])
-            → self.old.tokens.items ++ atoms_tokens bytes first self.old.pending self.old.is_open (xs ++ rest)
-            ≡ self.new.tokens.items ++ atoms_tokens bytes past self.new.pending self.new.is_open rest) }
+            → self.old.tokens.items
+            ++ atoms_tokens bytes first self.old.pending self.old.is_open (xs ++ rest)
+            ≡ self.new.tokens.items
+            ++ atoms_tokens bytes past self.new.pending self.new.is_open rest) }
     {
         match item {
             Scanned::White => self.is_open = false,
@@ -145,7 +151,8 @@ impl Builder {
 
     /// The first token.
     pub fn first(&self) -> Option<&Token>
-        ensures { MatchOption result (self.now.tokens.items ≡ []) (λ t. self.now.tokens.items ≡ t.now ∷ drop 1 self.now.tokens.items) }
+        ensures { MatchOption result (self.now.tokens.items ≡ [])
+            (λ t. self.now.tokens.items ≡ t.now ∷ drop 1 self.now.tokens.items) }
     {
         self.tokens.front()
     }
@@ -160,7 +167,8 @@ impl Builder {
 
     /// Takes the first token.
     pub fn pop(&mut self) -> Option<Token>
-        ensures token { MatchOption result (self.old.tokens.items ≡ []) (λ t. self.old.tokens.items ≡ t ∷ self.new.tokens.items) }
+        ensures token { MatchOption result (self.old.tokens.items ≡ [])
+            (λ t. self.old.tokens.items ≡ t ∷ self.new.tokens.items) }
         ensures rest { self.new.tokens.items ≡ drop 1 self.old.tokens.items }
         ensures pending { self.new.pending ≡ self.old.pending }
         ensures same_open { self.new.is_open ≡ self.old.is_open }

@@ -1,5 +1,6 @@
 //! Escapes.
-ghost use Rattle.std.specs.Prelude.{◌≡◌, ◌≤◌, ◌<◌, ◌++◌, ◌^◌, ℕ, List, length, MatchOption, IfSome, OnOk};
+ghost use Rattle.std.specs.Prelude.{◌≡◌, ◌≤◌, ◌<◌, ◌++◌, ◌^◌, ℕ, List, length, MatchOption, IfSome};
+ghost use Rattle.std.specs.Prelude.{OnOk};
 ghost use Rattle.std.specs.Str.{chars};
 ghost use Rattle.std.specs.Str.Parse.{digits_value};
 ghost use Rattle.rb_lexer.specs.Lexeme.{Escape, escape_value, letter_value, units_of};
@@ -13,7 +14,8 @@ use std::alloc::AllocError;
 #[inline(always)]
 pub fn push_code<U: UnitSink>(units: &mut U, code: u32) -> Result<(), AllocError>
     requires { code ≤ 0x10FFFF }
-    ensures { (us : List ℕ) → U.has units.old us → OnOk result (U.has units.new (us ++ units_of code)) }
+    ensures { (us : List ℕ) → U.has units.old us
+        → OnOk result (U.has units.new (us ++ units_of code)) }
 {
     if code < 0x10000 {
         units.push(code as u16)?;
@@ -74,7 +76,8 @@ fn letter(c: char) -> u32
 /// The value of the escape after a backslash, and what follows it.
 pub fn escape(text: &str) -> Option<(u32, &str)>
     ensures taken { MatchOption result (escape_at (chars text.now) ≡ None)
-        (λ x. (x.0 ≤ 0x10FFFF) × ((e : Escape) × (escape_at (chars text.now) ≡ Some (e, chars x.1.now)) × (x.0 ≡ escape_value e))) }
+        (λ x. (x.0 ≤ 0x10FFFF) × ((e : Escape)
+        × (escape_at (chars text.now) ≡ Some (e, chars x.1.now)) × (x.0 ≡ escape_value e))) }
     ensures no_longer { IfSome result (λ x. length x.1.now ≤ length text.now) }
 {
     let (c, after) = split_first(text)?;

@@ -2,8 +2,9 @@
 
 use std::alloc::{AllocError, AllocFailed};
 
-/// Why a text is refused, one type for the lexer and the parser above it. `lex` answers `TooLong`, `NotUtf8`, `BadEscape`,
-/// `OpenQuote`, `OpenComment` and `Memory`; the others are the parser's alone.
+/// Why a text is refused, one type for the lexer and the parser above it. `lex` answers `TooLong`,
+/// `NotUtf8`, `BadEscape`, `OpenQuote`, `OpenComment` and `Memory`; the others are only the
+/// parser's.
 #[derive(Clone, Copy, Debug, PartialEq, Eq)]
 pub enum SourceKind {
     /// The source has more than 8,388,608 bytes.

@@ -5,7 +5,8 @@ ghost use Rattle.rb_lexer.specs.Tokens.{width};
 
 /// The first character of a text, and what follows it.
 pub fn split_first(text: &str) -> Option<(char, &str)>
-    ensures taken { MatchOption result (chars text.now ≡ []) (λ x. chars text.now ≡ x.0 ∷ chars x.1.now) }
+    ensures taken { MatchOption result (chars text.now ≡ [])
+        (λ x. chars text.now ≡ x.0 ∷ chars x.1.now) }
     ensures scalar { IfSome result (λ x. x.0 ≤ 0x10FFFF) }
     ensures shorter { IfSome result (λ x. length x.1.now < length text.now) }
 {
@@ -14,9 +15,10 @@ pub fn split_first(text: &str) -> Option<(char, &str)>
     Some((first, chars.as_str()))
 }
 
-/// What follows this character, where a text begins with it.
+/// What follows this character, if a text begins with it.
 pub fn strip(text: &str, first: char) -> Option<&str>
-    ensures taken { MatchOption result ((cs : List ℕ) → chars text.now ≡ first ∷ cs → ⊥) (λ rest. chars text.now ≡ first ∷ chars rest.now) }
+    ensures taken { MatchOption result ((cs : List ℕ) → chars text.now ≡ first ∷ cs → ⊥)
+        (λ rest. chars text.now ≡ first ∷ chars rest.now) }
     ensures shorter { IfSome result (λ rest. length rest.now < length text.now) }
 {
     let (c, rest) = split_first(text)?;

@@ -11,14 +11,15 @@ use crate::stream::Tokens;
 use crate::token::Token;
 use std::alloc::Global;
 
-/// The tokens of a source in the syntax of ICU's `genrb`, with their spans in bytes and their lines. A text token has the
-/// units of UTF-16 of all pieces that only white space and comments separate.
+/// The tokens of a source in the syntax of ICU's `genrb`, with their spans in bytes and their
+/// lines. A text token has the units of UTF-16 of all pieces that only white space and comments
+/// separate.
 ///
 /// # Errors
 ///
-/// `TooLong` (line 1) where the source has more than 8,388,608 bytes, else `NotUtf8` at the first byte from which no
-/// character reads, else what comes first in the text of `BadEscape`, `OpenQuote` and `OpenComment`. `Memory` (line 0)
-/// where an allocation was refused.
+/// `TooLong` (line 1) if the source has more than 8,388,608 bytes, else `NotUtf8` at the first byte
+/// from which no character reads, else what comes first in the text of `BadEscape`, `OpenQuote` and
+/// `OpenComment`. `Memory` (line 0) if an allocation was refused.
 ///
 /// ```rust
 /// let tokens = lex(alloc, b"a{\"b\" c}")?;
@@ -36,7 +37,8 @@ pub fn lex(alloc: Global, bytes: &[u8]) -> Result<Vec<Token>, SourceFault>
         → MatchResult result (λ found. found.items ≡ tokens) (λ e. e.kind ≡ Memory) }
     // A source that has an error is refused for it, unless memory runs out.
     ensures refused { (kind : SourceKind) (line : ℕ) → IsSourceFault bytes.now kind line
-        → MatchResult result (λ _. ⊥) (λ e. (e.kind ≡ Memory) ⊎ ((e.kind ≡ kind) × (e.line ≡ line))) }
+        → MatchResult result (λ _. ⊥)
+        (λ e. (e.kind ≡ Memory) ⊎ ((e.kind ≡ kind) × (e.line ≡ line))) }
 {
     let mut rest = Tokens::of(alloc, bytes)?;
     let mut tokens = Vec::new(alloc);

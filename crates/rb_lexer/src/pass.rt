@@ -1,11 +1,13 @@
 //! A text that is read to its end for its errors. Nothing is kept, and no memory is taken.
-ghost use Rattle.std.specs.Prelude.{◌≡◌, ◌≤◌, ◌-◌, List, length, OnOk, IfOk, IfErr, MatchResult, IsTrue, encode_utf8_all};
+ghost use Rattle.std.specs.Prelude.{◌≡◌, ◌≤◌, ◌-◌, List, length, OnOk, IfOk, IfErr, MatchResult};
+ghost use Rattle.std.specs.Prelude.{IsTrue, encode_utf8_all};
 ghost use Rattle.rb_lexer.specs.declared.fault.SourceKind.TheVariants.{Memory};
 ghost use Rattle.rb_lexer.specs.Tokens.{line_of};
 ghost use Rattle.rb_lexer.specs.Faults.{IsRefusal};
 ghost use Rattle.std.specs.Str.{chars, all_scalars};
 ghost use Rattle.rb_lexer.specs.Atom.{Atom, atoms_chars, AreAtoms};
 ghost use Rattle.rb_lexer.specs.inner.Passing.{IsUnbroken, BreaksSo};
+ghost use Rattle.rb_lexer.specs.Limits.{source_limit};
 
 use crate::fault::{LexError, SourceFault, SourceKind};
 use crate::front::split_first;
@@ -13,9 +15,11 @@ use crate::scan::scan_first;
 use crate::text::{line_at, text_of};
 use crate::units::NoUnits;
 
-/// What follows the characters at which no error begins: all before a quote, a backslash or a slash.
+/// What follows the characters at which no error begins: all before a quote, a backslash or a
+/// slash.
 fn past_plain(text: &str) -> &str
-    ensures taken { (xs : List Atom) × (chars text.now ≡ atoms_chars xs (chars result.now)) × AreAtoms xs (chars result.now) }
+    ensures taken { (xs : List Atom) × (chars text.now ≡ atoms_chars xs (chars result.now))
+        × AreAtoms xs (chars result.now) }
     ensures no_longer { length result.now ≤ length text.now }
 {
     let mut rest = text;
@@ -30,7 +34,8 @@ fn past_plain(text: &str) -> &str
 
 /// Whether a text has no error.
 fn pass_over(text: &str) -> Result<(), LexError>
-    ensures ends { MatchResult result (λ _. IsUnbroken (chars text.now)) (λ stop. BreaksSo stop (chars text.now)) }
+    ensures ends { MatchResult result (λ _. IsUnbroken (chars text.now))
+        (λ stop. BreaksSo stop (chars text.now)) }
     ensures scalars { IsTrue (all_scalars (chars text.now)) }
     ensures bytes { encode_utf8_all (chars text.now) ≡ text.now }
 {
@@ -45,7 +50,8 @@ fn pass_over(text: &str) -> Result<(), LexError>
 pub fn located(bytes: &[u8], error: LexError) -> SourceFault
     requires { (error.kind ≡ Memory → ⊥) → error.left ≤ length bytes.now }
     ensures kind { result.kind ≡ error.kind }
-    ensures line { (error.kind ≡ Memory → ⊥) → result.line ≡ line_of bytes.now (length bytes.now - error.left) }
+    ensures line { (error.kind ≡ Memory → ⊥)
+        → result.line ≡ line_of bytes.now (length bytes.now - error.left) }
     ensures no_line { error.kind ≡ Memory → result.line ≡ 0 }
 {
     let line = match error.kind {
@@ -60,7 +66,7 @@ pub fn located(bytes: &[u8], error: LexError) -> SourceFault
 
 /// The source as text without errors.
 pub fn good_text(bytes: &[u8]) -> Result<&str, SourceFault>
-    ensures short { OnOk result (length bytes.now ≤ 8388608) }
+    ensures short { OnOk result (length bytes.now ≤ source_limit) }
     ensures same { IfOk result (λ text. text.now ≡ bytes.now) }
     ensures unbroken { IfOk result (λ text. IsUnbroken (chars text.now)) }
     ensures scalars { IfOk result (λ text. IsTrue (all_scalars (chars text.now))) }

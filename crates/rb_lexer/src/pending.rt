@@ -5,7 +5,8 @@ ghost use Rattle.rb_lexer.specs.Merging.{joined};
 use rb_tree::UnitList;
 use std::alloc::AllocError;
 
-/// A text that the next piece may still join: its units, whether its last piece is quoted, its span and its line.
+/// A text that the next piece may still join: its units, whether its last piece is quoted, its span
+/// and its line.
 #[derive(Drop)]
 pub struct PendingText {
     pub units: UnitList,

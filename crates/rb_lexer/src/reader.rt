@@ -1,5 +1,6 @@
 //! A source that is read item by item.
-ghost use Rattle.std.specs.Prelude.{◌≡◌, ◌<◌, ℕ, List, length, OnOk, IfOk, MatchResult, IsTrue, false};
+ghost use Rattle.std.specs.Prelude.{◌≡◌, ◌<◌, ℕ, List, length, OnOk, IfOk, MatchResult, IsTrue};
+ghost use Rattle.std.specs.Prelude.{false};
 ghost use Rattle.rb_lexer.specs.declared.fault.SourceKind.TheVariants.{Memory};
 ghost use Rattle.rb_lexer.specs.declared.token.Token.{Token};
 ghost use Rattle.rb_lexer.specs.Tokens.{width};
@@ -44,8 +45,10 @@ impl<'a> Reader<'a> {
     fn step(&mut self) -> Result<bool, LexError>
         requires { IsPlaced self.old }
         ensures placed { OnOk result (IsPlaced self.new) }
-        ensures same { (ts : List Token) → Gives self.old ts → MatchResult result (λ _. Gives self.new ts) (λ e. e.kind ≡ Memory) }
-        ensures shorter { IfOk result (λ more. IsTrue more → length self.new.rest.now < length self.old.rest.now) }
+        ensures same { (ts : List Token) → Gives self.old ts
+            → MatchResult result (λ _. Gives self.new ts) (λ e. e.kind ≡ Memory) }
+        ensures shorter { IfOk result
+            (λ more. IsTrue more → length self.new.rest.now < length self.old.rest.now) }
         ensures done { IfOk result (λ more. more ≡ false → IsDone self.new) }
     {
         let mut units = UnitList::new(self.alloc);
@@ -64,7 +67,8 @@ impl<'a> Reader<'a> {
     /// Reads on until two tokens wait, or all that are left.
     pub fn fill(&mut self) -> Result<(), LexError>
         requires { IsPlaced self.old }
-        ensures same { (ts : List Token) → Gives self.old ts → MatchResult result (λ _. Left self.new ts) (λ e. e.kind ≡ Memory) }
+        ensures same { (ts : List Token) → Gives self.old ts
+            → MatchResult result (λ _. Left self.new ts) (λ e. e.kind ≡ Memory) }
     {
         'items: while self.builder.count() < 2 {
             if !self.step()? {

@@ -1,6 +1,7 @@
 //! The front of a text.
 ghost use Rattle.rb_lexer.specs.declared.scan.Scanned.TheVariants.{Run};
-ghost use Rattle.std.specs.Prelude.{◌≡◌, ◌<◌, ◌≤◌, ◌∷◌, [], ℕ, List, true, false, MatchOption, MatchResult, IfOk, IfSome, OnSome, length};
+ghost use Rattle.std.specs.Prelude.{◌≡◌, ◌<◌, ◌≤◌, ◌∷◌, [], ℕ, List, true, false, MatchOption};
+ghost use Rattle.std.specs.Prelude.{MatchResult, IfOk, IfSome, OnSome, length};
 ghost use Rattle.std.specs.Str.{chars};
 ghost use Rattle.rb_lexer.specs.Lexeme.{is_punctuation, slash, backslash};
 ghost use Rattle.rb_lexer.specs.Tokens.{punctuation_mark};
@@ -27,7 +28,8 @@ pub enum Scanned {
 
 /// The mark of a punctuation character.
 fn punctuation(c: char) -> Option<Mark>
-    ensures { MatchOption result (is_punctuation c ≡ false) (λ mark. (is_punctuation c ≡ true) × (mark ≡ punctuation_mark c)) }
+    ensures { MatchOption result (is_punctuation c ≡ false)
+        (λ mark. (is_punctuation c ≡ true) × (mark ≡ punctuation_mark c)) }
 {
     match c {
         '{' => Some(Mark::LeftBrace),
@@ -42,7 +44,8 @@ fn punctuation(c: char) -> Option<Mark>
 fn escaped<'a, U: UnitSink>(units: &mut U, after: &'a str) -> Result<&'a str, LexError>
     requires { U.has units.old [] }
     ensures taken { MatchResult result
-        (λ rest. (us : List ℕ) × U.has units.new us × Begins (backslash ∷ chars after.now) Run us (chars rest.now))
+        (λ rest. (us : List ℕ) × U.has units.new us
+        × Begins (backslash ∷ chars after.now) Run us (chars rest.now))
         (λ stop. Stops stop (backslash ∷ chars after.now)) }
     ensures no_longer { IfOk result (λ rest. length rest.now ≤ length after.now) }
 {
@@ -60,7 +63,8 @@ fn escaped<'a, U: UnitSink>(units: &mut U, after: &'a str) -> Result<&'a str, Le
 fn slashed<'a, U: UnitSink>(units: &mut U, after: &'a str) -> Result<(Scanned, &'a str), LexError>
     requires { U.has units.old [] }
     ensures taken { MatchResult result
-        (λ x. (us : List ℕ) × U.has units.new us × Begins (slash ∷ chars after.now) x.0 us (chars x.1.now))
+        (λ x. (us : List ℕ) × U.has units.new us
+        × Begins (slash ∷ chars after.now) x.0 us (chars x.1.now))
         (λ stop. Stops stop (slash ∷ chars after.now)) }
     ensures no_longer { IfOk result (λ x. length x.1.now ≤ length after.now) }
 {
@@ -80,7 +84,8 @@ fn slashed<'a, U: UnitSink>(units: &mut U, after: &'a str) -> Result<(Scanned, &
     Ok((Scanned::Run, rest))
 }
 
-/// What a text begins with, and what follows it. The sink, in which nothing is, takes the units of a piece.
+/// What a text begins with, and what follows it. The sink, in which nothing is, takes the units of
+/// a piece.
 pub fn scan_first<'a, U: UnitSink>(
     units: &mut U,
     text: &'a str,

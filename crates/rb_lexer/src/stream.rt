@@ -1,5 +1,6 @@
 //! Tokens as they are taken.
-ghost use Rattle.std.specs.Prelude.{◌≡◌, ◌∷◌, [], List, IfOk, IfErr, MatchOption, MatchResult, drop};
+ghost use Rattle.std.specs.Prelude.{◌≡◌, ◌∷◌, [], List, IfOk, IfErr, MatchOption, MatchResult};
+ghost use Rattle.std.specs.Prelude.{drop};
 ghost use Rattle.rb_lexer.specs.declared.fault.SourceKind.TheVariants.{Memory};
 ghost use Rattle.rb_lexer.specs.declared.token.Token.{Token};
 ghost use Rattle.rb_lexer.specs.Tokens.{LexesTo};
@@ -35,7 +36,7 @@ impl<'a> Model for Tokens<'a> {
     ghost invariant = { λ a. Left a.reader (left a.reader) };
 }
 
-/// Out of memory, where this is why reading stopped.
+/// Out of memory, if this is why reading stopped.
 fn memory_error(_error: LexError) -> AllocError
     requires { _error.kind ≡ Memory }
 {
@@ -54,7 +55,8 @@ impl<'a> Tokens<'a> {
         // What is reported is an error of the source, with its line, unless memory ran out.
         ensures fault { IfErr result (λ e. IsRefusal bytes.now e) }
         // A source that has tokens is read, unless memory runs out.
-        ensures only { (ts : List Token) → LexesTo bytes.now ts → MatchResult result (λ tokens. tokens ≡ ts) (λ e. e.kind ≡ Memory) }
+        ensures only { (ts : List Token) → LexesTo bytes.now ts
+            → MatchResult result (λ tokens. tokens ≡ ts) (λ e. e.kind ≡ Memory) }
     {
         let text = good_text(bytes)?;
         let mut reader = Reader::new(alloc, text);
@@ -73,28 +75,30 @@ impl<'a> Tokens<'a> {
         }
     }
 
-    /// The next token, or `None` where all are taken.
+    /// The next token, or `None` if all are taken.
     pub fn first(&self) -> Option<&Token>
         ensures { MatchOption result (self.now ≡ []) (λ t. self.now ≡ t.now ∷ drop 1 self.now) }
     {
         self.reader.builder.first()
     }
 
-    /// The token after the next, or `None` where there is none.
+    /// The token after the next, or `None` if there is none.
     pub fn second(&self) -> Option<&Token>
-        ensures { MatchOption result (drop 1 self.now ≡ []) (λ t. drop 1 self.now ≡ t.now ∷ drop 1 (drop 1 self.now)) }
+        ensures { MatchOption result (drop 1 self.now ≡ [])
+            (λ t. drop 1 self.now ≡ t.now ∷ drop 1 (drop 1 self.now)) }
     {
         self.reader.builder.second()
     }
 
-    /// Takes the next token; `None` where all are taken.
+    /// Takes the next token; `None` if all are taken.
     ///
     /// # Errors
     ///
-    /// `AllocError` where an allocation was refused, as what comes after was read. None are left
+    /// `AllocError` if an allocation was refused, as what comes after was read. None are left
     /// then, and the token is lost.
     pub fn pop(&mut self) -> Result<Option<Token>, AllocError>
-        ensures token { IfOk result (λ found. MatchOption found (self.old ≡ []) (λ t. self.old ≡ t ∷ self.new)) }
+        ensures token { IfOk result
+            (λ found. MatchOption found (self.old ≡ []) (λ t. self.old ≡ t ∷ self.new)) }
         ensures left { MatchResult result (λ _. self.new ≡ drop 1 self.old) (λ _. self.new ≡ []) }
     {
         let token = self.reader.builder.pop();

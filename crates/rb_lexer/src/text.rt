@@ -1,9 +1,11 @@
 //! A source as text.
-ghost use Rattle.std.specs.Prelude.{◌≡◌, ◌<◌, ◌≤◌, ◌+◌, ◌==◌, ◌^◌, length, take, count_by, IsUtf8, MatchResult};
+ghost use Rattle.std.specs.Prelude.{◌≡◌, ◌<◌, ◌≤◌, ◌+◌, ◌==◌, ◌^◌, length, take, count_by, IsUtf8};
+ghost use Rattle.std.specs.Prelude.{MatchResult};
 ghost use Rattle.std.specs.Str.{IsValidUpTo};
 ghost use Rattle.rb_lexer.specs.declared.fault.SourceKind.TheVariants.{NotUtf8, TooLong};
 ghost use Rattle.rb_lexer.specs.Tokens.{line_of};
 ghost use Rattle.rb_lexer.specs.Faults.{IsTextFault};
+ghost use Rattle.rb_lexer.specs.Limits.{source_limit};
 
 use crate::fault::{SourceFault, SourceKind};
 use crate::limits::SOURCE_LIMIT;
@@ -40,10 +42,10 @@ pub fn line_at(bytes: &[u8], at: usize) -> u64
     line_feeds(bytes, 0, at) + 1
 }
 
-/// The source as text. Where it is none, the error is at the first byte from which no character reads.
+/// The source as text. If it is none, the error is at the first byte from which no character reads.
 pub fn text_of(bytes: &[u8]) -> Result<&str, SourceFault>
     ensures { MatchResult result
-        (λ text. (length bytes.now ≤ 8388608) × (text.now ≡ bytes.now) × IsUtf8 bytes.now)
+        (λ text. (length bytes.now ≤ source_limit) × (text.now ≡ bytes.now) × IsUtf8 bytes.now)
         (λ e. IsTextFault bytes.now e.kind e.line) }
 {
     if bytes.len() > SOURCE_LIMIT {

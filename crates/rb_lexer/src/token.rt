@@ -11,7 +11,8 @@ pub enum Mark {
     Comma,
 }
 
-/// A mark, from its first byte in the source to the byte past its last, and the line in which it begins.
+/// A mark, from its first byte in the source to the byte past its last, and the line in which it
+/// begins.
 #[derive(Debug, Drop)]
 pub struct Token {
     pub what: Mark,

@@ -17,7 +17,8 @@ pub fn is_white(c: char) -> bool
 
 /// What follows the white space that a text begins with.
 pub fn past_white(text: &str) -> &str
-    ensures taken { (cs : List ℕ) × (chars text.now ≡ atoms_chars (blanks cs) (chars result.now)) × AreAtoms (blanks cs) (chars result.now) }
+    ensures taken { (cs : List ℕ) × (chars text.now ≡ atoms_chars (blanks cs) (chars result.now))
+        × AreAtoms (blanks cs) (chars result.now) }
     ensures no_longer { length result.now ≤ length text.now }
 {
     let mut rest = text;
@@ -47,7 +48,8 @@ fn begins_comment(c: char, after: &str) -> bool
 /// character of such a piece.
 #[inline(always)]
 fn ends_run(c: char, after: &str) -> bool
-    ensures { result ≡ (is_white c || (c == quote) || is_punctuation c || begins_comment (c ∷ chars after.now)) }
+    ensures { result
+        ≡ (is_white c || (c == quote) || is_punctuation c || begins_comment (c ∷ chars after.now)) }
 {
     match c {
         '/' => begins_comment(c, after),
@@ -55,12 +57,14 @@ fn ends_run(c: char, after: &str) -> bool
     }
 }
 
-/// What follows a run of an unquoted piece, given its first code point and what is after that. The sink, in which nothing
-/// is, takes its units. A run ends where the piece does, before a comment, and before a backslash that begins no escape.
+/// What follows a run of an unquoted piece, given its first code point and what is after that. The
+/// sink, in which nothing is, takes its units. A run ends if the piece does, before a comment, and
+/// before a backslash that begins no escape.
 pub fn run<'a, U: UnitSink>(units: &mut U, first: u32, text: &'a str) -> Result<&'a str, AllocError>
     requires first { first ≤ 0x10FFFF }
     requires empty { U.has units.old [] }
-    ensures taken { IfOk result (λ rest. (us : List ℕ) × U.has units.new us × IsPastRun (units_of first) (chars text.now) us (chars rest.now)) }
+    ensures taken { IfOk result (λ rest. (us : List ℕ) × U.has units.new us
+        × IsPastRun (units_of first) (chars text.now) us (chars rest.now)) }
     ensures no_longer { IfOk result (λ rest. length rest.now ≤ length text.now) }
 {
     push_code(units, first)?;

@@ -85,7 +85,7 @@ bytes-remove (e ∷ es) name = by (bytes-remove es name) (bytes_eq name e.0) ref
 not_over : (most n : ℕ) → nat_lt most n ≡ false → n ≤ most
 not_over most n h = grind (arith, nat_tests, h)
 
--- what is known where no limit refuses a file that the engine puts
+-- what is known if no limit refuses a file that the engine puts
 record IsFree (limits : Limits) (name : List ℕ) (files : Files) (file : List ℕ) : Type 0 where
   bytes : is_over limits.app_bytes (used_with name files (length file)) ≡ false
 

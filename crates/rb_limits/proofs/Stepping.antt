@@ -156,7 +156,7 @@ put_nothing : {E : Type 0} (made : Change) (r : Result Place E) (files : Files) 
 put_nothing made (Err e) files = refl
 put_nothing made (Ok p) files = refl
 
--- what is brought where nothing is read, or memory ran out for it
+-- what is brought if nothing is read, or memory ran out for it
 read_nothing : (limits : Limits) (app locale : List ℕ) (payload : Payload) (r : Reply) → long_payload limits (place_of app locale) payload ≡ false
     → Reads app locale payload (Err r) → (r ≡ reply.Memory) ⊎ BringsAt limits (place_of app locale) payload None
 read_nothing limits app locale payload r long (inl (e, is, x)) = inr (rw is refl)

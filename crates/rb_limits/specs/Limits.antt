@@ -21,6 +21,7 @@ use Rattle.rb_engine.specs.declared.request.Request.TheVariants as request
 use Rattle.rb_limits.specs.declared.limits.Limits.{Limits}
 use Rattle.rb_limits.specs.declared.limits.Refusal.{Refusal}
 use Rattle.rb_limits.specs.declared.limits.Refusal.TheVariants.{BundleTooLong, OverQuota, TooManyApps, TooManySteps}
+use Rattle.rb_packages.specs.Limits.{bundle_limit}
 
 -- a number above a limit, if there is one
 abbrev pub is_over : Option ℕ → ℕ → Bool
@@ -40,17 +41,17 @@ used files = min (bytes_of files) (2 ^ 64 - 1)
 abbrev pub len_at : List ℕ → Files → Option ℕ
 len_at name files = option_map length (lookup (bytes_eq name) files)
 
--- whether the engine makes a change: an install where there is no bundle and fewer than 4,096 are, a replacement where
+-- whether the engine makes a change: an install if there is no bundle and fewer than 4,096 are, a replacement if
 -- there is one
 abbrev pub takes_place : Change → Option ℕ → ℕ → Bool
-takes_place change.Install held bundles = is_none held && nat_lt bundles 4096
+takes_place change.Install held bundles = is_none held && nat_lt bundles bundle_limit
 takes_place change.Replace held bundles = is_some held
 
 -- the bytes of an application's files with a file of this length in the place of the one at a name
 abbrev pub used_with : List ℕ → Files → ℕ → ℕ
 used_with name files len = (used files - unwrap_or (len_at name files) 0) + len
 
--- Why limits refuse to put a file at a name, where the application has these files and so many applications have
+-- Why limits refuse to put a file at a name, if the application has these files and this many applications have
 -- bundles: the file is too long, or the application's files would be, or it would be one application more than there
 -- may be. What the engine refuses by itself is left to it.
 abbrev pub file_refusal : Limits → Change → List ℕ → Files → ℕ → List ℕ → Option Refusal
@@ -66,7 +67,7 @@ brought_refusal limits kept change p None = None
 brought_refusal limits kept change p (Some file) =
     file_refusal limits change p.name (files_of p.app kept.packages) (apps_of kept.packages) file
 
--- a payload that is too long is refused before it is read; where it has a bundle's file, that is judged. A bad place is
+-- a payload that is too long is refused before it is read; if it has a bundle's file, that is judged. A bad place is
 -- left to the engine
 abbrev pub change_refusal : {E : Type 0} → Limits → Kept → Change → Result Place E → Payload → Option (List ℕ)
     → Option Refusal

@@ -32,7 +32,7 @@ abbrev pub Brings : Payload → Option (List ℕ) → Type 0
 Brings payload None = (source : SourceTree) → HasBundle payload source → ⊥
 Brings payload (Some file) = HasBundle payload (source_tree_of file) × IsFileOf payload file
 
--- a payload is read only where its request names a place, and where it is not too long
+-- a payload is read only if its request names a place, and if it is not too long
 abbrev pub BringsAt : {E : Type 0} → Limits → Result Place E → Payload → Option (List ℕ) → Type 0
 BringsAt limits (Err e) payload brought = brought ≡ None
 BringsAt limits (Ok p) payload brought =

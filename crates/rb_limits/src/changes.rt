@@ -57,7 +57,7 @@ fn is_too_long(limits: &Limits, app: &ByteList, locale: &ByteList, payload: &Pay
 }
 
 /// Whether the engine makes a change: where so long a file is at its place, if one is, and there
-/// are so many bundles.
+/// are this many bundles.
 fn takes_place(change: Change, held: Option<u64>, bundles: u64) -> bool
     ensures { result ≡ is_made change held bundles }
 {
@@ -70,7 +70,8 @@ fn takes_place(change: Change, held: Option<u64>, bundles: u64) -> bool
 /// Whether nothing limits what is kept.
 fn keeps_all(limits: &Limits) -> bool
     ensures { IsTrue result
-        → (limits.now.bundle_bytes ≡ None) × (limits.now.app_bytes ≡ None) × (limits.now.apps ≡ None) }
+        → (limits.now.bundle_bytes ≡ None) × (limits.now.app_bytes ≡ None)
+        × (limits.now.apps ≡ None) }
 {
     limits.bundle_bytes.is_none() && limits.app_bytes.is_none() && limits.apps.is_none()
 }
@@ -78,7 +79,8 @@ fn keeps_all(limits: &Limits) -> bool
 /// Why limits refuse to put a bundle that was brought.
 fn refused(engine: &Engine, limits: &Limits, change: Change, brought: &Brought) -> Option<Refusal>
     ensures { result ≡ file_refusal limits.now change brought.now.0.name
-        (files_of brought.now.0.app engine.now.packages) (apps_of engine.now.packages) brought.now.1 }
+        (files_of brought.now.0.app engine.now.packages)
+        (apps_of engine.now.packages) brought.now.1 }
 {
     if keeps_all(limits) {
         return None;
@@ -111,7 +113,8 @@ fn change(
     locale: &ByteList,
     payload: Payload,
 ) -> Limited<Reply>
-    ensures { CallComesTo limits.now engine.old (Requests (change_request change app.now locale.now payload))
+    ensures { CallComesTo limits.now engine.old
+        (Requests (change_request change app.now locale.now payload))
         (reply_outcome result) engine.new }
 {
     if is_too_long(limits, app, locale, &payload) {
@@ -145,7 +148,8 @@ pub fn handle(
     limits: &Limits,
     request: Request,
 ) -> Limited<Reply>
-    ensures { CallComesTo limits.now engine.old (Requests request) (reply_outcome result) engine.new }
+    ensures { CallComesTo limits.now engine.old (Requests request)
+        (reply_outcome result) engine.new }
 {
     match request {
         Request::Install {

@@ -4,7 +4,7 @@ ghost use Rattle.rb_limits.specs.Words.{refusal_word};
 
 use rb_tree::variant_name;
 
-/// What each application may keep, and what one lookup may take. There is no limit where there is
+/// What each application may keep, and what one lookup may take. There is no limit if there is
 /// `None`.
 #[derive(Clone, Copy, Debug, PartialEq, Eq)]
 pub struct Limits {

@@ -10,6 +10,6 @@ abbrev pub AreInOrder : {A : Type 0} → (A → ℕ) → List A → Type 0
 AreInOrder line [] = Unit {0}
 AreInOrder line (w ∷ ws) = All (λ v. line w ≤ line v) ws × AreInOrder line ws
 
--- Each warning is at one of so many lines.
+-- Each warning is at one of this many lines.
 abbrev pub AreWithin : {A : Type 0} → ℕ → (A → ℕ) → List A → Type 0
 AreWithin lines line ws = All (λ w. (1 ≤ line w) × (line w ≤ lines)) ws

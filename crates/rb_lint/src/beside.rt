@@ -4,11 +4,12 @@ ghost use Rattle.rb_lint.specs.Warnings.{AreInOrder, AreWithin, line_count};
 
 use crate::difference::{Difference, RootWarning};
 use crate::findings::Findings;
-use crate::order::in_order;
+use crate::order::{AtLine, in_order};
 use crate::outline::{Outline, place_of};
 use crate::placeholders::placeholders;
 use crate::scan::{Quoting, cut};
 use crate::search::line_count;
+use crate::steps::{Segment, Steps};
 use rb_tree::{Entries, Kind, Node, Tree, TreeList, UnitList};
 use std::alloc::{AllocError, Global};
 
@@ -22,10 +23,27 @@ struct Both<'a, T> {
 /// An item that the root and the text both have.
 #[derive(Drop)]
 struct Pair<'a> {
-    path: Vec<u8>,
+    /// The last step to it; none leads to the bundle.
+    at: Option<usize>,
     /// Where the text has it, if that is known.
     place: Option<usize>,
     both: Both<'a, Tree>,
+}
+
+/// A difference at the item to which some steps lead.
+#[derive(Drop)]
+struct Finding {
+    line: u64,
+    at: Option<usize>,
+    difference: Difference,
+}
+
+impl AtLine for Finding {
+    ghost line_of = { λ f. f.line };
+
+    fn line(&self) -> u64 {
+        self.line
+    }
 }
 
 /// One of the two texts.
@@ -35,12 +53,6 @@ enum Side {
     Text,
 }
 
-/// A path with one segment more.
-fn below(alloc: Global, path: &[u8], segment: &[u8]) -> Result<Vec<u8>, AllocError> {
-    let slash: &[u8] = if path.is_empty() { b"" } else { b"/" };
-    [path, slash, segment].concat(alloc)
-}
-
 /// The units of a String as bytes, where those that aren't plain ASCII are `?`.
 fn plain(alloc: Global, units: &[u16]) -> Result<Vec<u8>, AllocError> {
     let mut bytes = Vec::new(alloc);
@@ -48,31 +60,6 @@ fn plain(alloc: Global, units: &[u16]) -> Result<Vec<u8>, AllocError> {
         bytes.push(u8::try_from(*unit).unwrap_or(b'?'))?;
     }
     Ok(bytes)
-}
-
-/// Whether a name is among others.
-fn is_among(name: &[u8], others: &[&[u8]]) -> bool {
-    for other in others {
-        if *other == name {
-            return true;
-        }
-    }
-    false
-}
-
-/// The names that aren't among others.
-fn others<'a>(
-    alloc: Global,
-    names: &[&'a [u8]],
-    others: &[&[u8]],
-) -> Result<Vec<&'a [u8]>, AllocError> {
-    let mut found = Vec::new(alloc);
-    for name in names {
-        if !is_among(name, others) {
-            found.push(*name)?;
-        }
-    }
-    Ok(found)
 }
 
 /// Whether a key is one of ICU's own, which a bundle has for itself alone: `%%ALIAS`, `%%Parent`.
@@ -86,22 +73,24 @@ struct Comparison<'a> {
     alloc: Global,
     text: &'a [u8],
     outline: Outline,
+    steps: Steps<'a>,
     /// The items that are still to be compared.
     pairs: Vec<Pair<'a>>,
-    found: Vec<RootWarning>,
+    found: Vec<Finding>,
 }
 
 impl<'a> Comparison<'a> {
+    /// A difference at a place of the text, at the item to which steps lead.
     fn add(
         &mut self,
         place: Option<usize>,
-        path: Vec<u8>,
+        at: Option<usize>,
         difference: Difference,
     ) -> Result<(), AllocError> {
         let line = self.outline.line(place);
-        self.found.push(RootWarning {
+        self.found.push(Finding {
             line,
-            path,
+            at,
             difference,
         })?;
         Ok(())
@@ -111,18 +100,20 @@ impl<'a> Comparison<'a> {
     fn entry(
         &mut self,
         pair: &Pair<'a>,
-        key: &[u8],
+        key: &'a [u8],
         place: Option<usize>,
-        root: &'a Tree,
-        tree: Option<&'a Tree>,
+        both: (&'a Tree, Option<&'a Tree>),
     ) -> Result<(), AllocError> {
-        let path = below(self.alloc, &pair.path, key)?;
+        let (root, tree) = both;
+        if tree.is_none() && is_own(key) {
+            return Ok(());
+        }
+        let at = Some(self.steps.add(pair.at, Segment::Key(key))?);
         match tree {
-            None if is_own(key) => Ok(()),
-            None => self.add(pair.place, path, Difference::Absent),
+            None => self.add(pair.place, at, Difference::Absent),
             Some(tree) => {
                 self.pairs.push(Pair {
-                    path,
+                    at,
                     place,
                     both: Both { root, tree },
                 })?;
@@ -141,7 +132,12 @@ impl<'a> Comparison<'a> {
     ) -> Result<(), AllocError> {
         for i in 0..root.len() {
             let key = root.key_at(i);
-            self.entry(pair, key, place_of(places, key), root.at(i), tree.get(key))?;
+            self.entry(
+                pair,
+                key,
+                place_of(places, key),
+                (root.at(i), tree.get(key)),
+            )?;
         }
         Ok(())
     }
@@ -152,13 +148,13 @@ impl<'a> Comparison<'a> {
         pair: &Pair<'a>,
         places: &[(&[u8], usize)],
         root: &Entries,
-        tree: &Entries,
+        tree: &'a Entries,
     ) -> Result<(), AllocError> {
         for i in 0..tree.len() {
             let key = tree.key_at(i);
             if root.get(key).is_none() && !is_own(key) {
-                let path = below(self.alloc, &pair.path, key)?;
-                self.add(place_of(places, key), path, Difference::Additional)?;
+                let at = self.steps.add(pair.at, Segment::Key(key))?;
+                self.add(place_of(places, key), Some(at), Difference::Additional)?;
             }
         }
         Ok(())
@@ -175,13 +171,15 @@ impl<'a> Comparison<'a> {
     /// The items of two arrays, as far as both have them.
     fn items(&mut self, pair: &Pair<'a>, both: &Both<'a, TreeList>) -> Result<(), AllocError> {
         let items = both.root.as_slice().iter().zip(both.tree.as_slice());
+        let mut place = self.outline.first_item(pair.place);
         for (i, (root, tree)) in items.enumerate() {
-            let index = format!(in self.alloc; "{i}")?;
+            let at = self.steps.add(pair.at, Segment::Index(i))?;
             self.pairs.push(Pair {
-                path: below(self.alloc, &pair.path, index.as_bytes())?,
-                place: self.outline.item(pair.place, i),
+                at: Some(at),
+                place,
                 both: Both { root, tree },
             })?;
+            place = self.outline.next_item(pair.place, place);
         }
         Ok(())
     }
@@ -194,8 +192,8 @@ impl<'a> Comparison<'a> {
             plain(alloc, both.tree.as_slice())?,
         );
         let (asked, given) = (placeholders(alloc, &root)?, placeholders(alloc, &tree)?);
-        self.names(pair, &others(alloc, &asked, &given)?, Side::Root)?;
-        self.names(pair, &others(alloc, &given, &asked)?, Side::Text)
+        self.names(pair, &asked.without(alloc, &given)?, Side::Root)?;
+        self.names(pair, &given.without(alloc, &asked)?, Side::Text)
     }
 
     /// The placeholders that only one of two Strings has.
@@ -206,7 +204,7 @@ impl<'a> Comparison<'a> {
                 Side::Root => Difference::Lacks(name),
                 Side::Text => Difference::Adds(name),
             };
-            self.add(pair.place, pair.path.to_vec(self.alloc)?, difference)?;
+            self.add(pair.place, pair.at, difference)?;
         }
         Ok(())
     }
@@ -217,8 +215,7 @@ impl<'a> Comparison<'a> {
         if root == here || root == Kind::Alias || here == Kind::Alias {
             return Ok(());
         }
-        let path = pair.path.to_vec(self.alloc)?;
-        self.add(pair.place, path, Difference::OtherKind { here, root })
+        self.add(pair.place, pair.at, Difference::OtherKind { here, root })
     }
 
     fn step(&mut self, pair: &Pair<'a>) -> Result<(), AllocError> {
@@ -230,24 +227,38 @@ impl<'a> Comparison<'a> {
         }
     }
 
-    /// Compares all items, and gives what was found.
-    fn compared(mut self) -> Result<Vec<RootWarning>, AllocError> {
+    /// Compares all items.
+    fn compare(&mut self) -> Result<(), AllocError> {
         for _ in 0..u64::MAX {
             let Some(pair) = self.pairs.pop() else {
-                return Ok(self.found);
+                return Ok(());
             };
             self.step(&pair)?;
         }
-        Ok(self.found)
+        Ok(())
+    }
+
+    /// The first of what was found, as warnings at this many lines.
+    fn warnings(self, lines: u64) -> Result<Vec<RootWarning>, AllocError> {
+        let mut warnings = Vec::new(self.alloc);
+        for finding in in_order(self.alloc, self.found, lines)? {
+            warnings.push(RootWarning {
+                line: finding.line,
+                path: self.steps.path(finding.at)?,
+                difference: finding.difference,
+            })?;
+        }
+        Ok(warnings)
     }
 }
 
-/// How a bundle text differs from that of the root locale: keys that only one of them has, items of another kind, and placeholders of
-/// messages, as `{0}` and `{name}`, that only one of two Strings has; at most 100 warnings, in the order of their lines. `tree` is the
-/// bundle that the text spells. The rules are this project's own.
+/// How a bundle text differs from that of the root locale: keys that only one of them has, items of
+/// another kind, and placeholders of messages, as `{0}` and `{name}`, that only one of two Strings
+/// has; at most 100 warnings, in the order of their lines. `tree` is the bundle that the text
+/// spells. The rules are this project's own.
 ///
-/// A key that the text doesn't have is found at the line of its table. Keys that begin with `%%` and aliases are passed over, and of
-/// arrays the items that both have are compared.
+/// A key that the text doesn't have is found at the line of its table. Keys that begin with `%%`
+/// and aliases are passed over, and of arrays the items that both have are compared.
 ///
 /// ```rust
 /// // Of the text `de{a{"Hallo {nmae}"}}` beside `root{a{"Hello {name}"} b{"B"}}`:
@@ -269,13 +280,16 @@ pub fn beside_root(
         alloc,
         text,
         outline: Outline::of(alloc, &pieces)?,
+        steps: Steps::new(alloc),
         pairs: Vec::new(alloc),
         found: Vec::new(alloc),
     };
     comparison.pairs.push(Pair {
-        path: Vec::new(alloc),
+        at: None,
         place: Some(0),
         both: Both { root, tree },
     })?;
-    in_order(alloc, comparison.compared()?, line_count(text))
+    comparison.compare()?;
+    let lines = line_count(text);
+    in_order(alloc, comparison.warnings(lines)?, lines)
 }

@@ -4,7 +4,7 @@ use crate::piece::{Piece, What};
 use crate::warning::Doubt;
 use std::alloc::{AllocError, Global};
 
-/// Of so many braces at the end of a line one may be followed by a line that is no further right.
+/// Of this many braces at the end of a line one may be followed by a line that is no further right.
 const INDENTED: usize = 9;
 
 /// Whether a text is indented: lines after a brace begin further right than its line.
@@ -42,12 +42,14 @@ struct Open {
 #[derive(Drop)]
 struct Braces {
     open: Vec<Open>,
-    /// The line in which the last quoted piece begins that runs on, and the one in which it ends: braces may be lost in it.
+    /// The line in which the last quoted piece begins that runs on, and the one in which it ends:
+    /// braces may be lost in it.
     runs_on: (u64, u64),
 }
 
 impl Braces {
-    /// Takes the braces off that were opened in an earlier line, no further left than a column: they should have been closed.
+    /// Takes the braces off that were opened in an earlier line, no further left than a column:
+    /// they should have been closed.
     fn close_before(
         &mut self,
         line: u64,
@@ -137,7 +139,8 @@ impl Braces {
     }
 }
 
-/// A warning where a text that is indented has a brace that closes further left or right than the line that opened it.
+/// A warning if a text that is indented has a brace that closes further left or right than the line
+/// that opened it.
 pub(crate) fn find_braces(
     alloc: Global,
     pieces: &[Piece],

@@ -6,7 +6,7 @@ use crate::order::{WARNING_LIMIT, in_order};
 use crate::warning::{Doubt, Warning};
 use std::alloc::{AllocError, Global};
 
-/// What was found, by one search after the other. Each keeps its first warnings alone.
+/// What was found, by one search after the other. Each keeps only its first warnings.
 #[derive(Drop)]
 pub(crate) struct Findings {
     found: Vec<Warning>,
@@ -26,7 +26,7 @@ impl Findings {
         self.room = WARNING_LIMIT;
     }
 
-    /// Adds a warning, where the search may have another.
+    /// Adds a warning, if the search may have another.
     pub(crate) fn add(&mut self, line: u64, doubt: Doubt) -> Result<(), AllocError> {
         if self.room > 0 {
             self.room -= 1;
@@ -35,7 +35,7 @@ impl Findings {
         Ok(())
     }
 
-    /// The first warnings of a text with so many lines, in the order of their lines.
+    /// The first warnings of a text with this many lines, in the order of their lines.
     pub(crate) fn settled(self, alloc: Global, lines: u64) -> Result<Vec<Warning>, AllocError>
         ensures order { IfOk result (λ ws. AreInOrder (λ w. w.line) ws.items) }
         ensures within { IfOk result (λ ws. AreWithin lines (λ w. w.line) ws.items) }

@@ -1,4 +1,5 @@
-//! What is valid in a bundle text and most likely not meant, and where an error of a text really began.
+//! What is valid in a bundle text and most likely not meant, and where an error of a text really
+//! began.
 #![tactic(auto)]
 
 mod beside;
@@ -14,8 +15,7 @@ mod quotes;
 mod scan;
 mod search;
 mod sides;
-#[cfg(test)]
-mod tests;
+mod steps;
 mod warning;
 
 pub use beside::beside_root;

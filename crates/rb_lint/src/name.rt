@@ -4,7 +4,7 @@ use crate::piece::{Piece, What};
 use crate::warning::Doubt;
 use std::alloc::AllocError;
 
-/// The characters of a piece, where no escape is among them.
+/// The characters of a piece, if no escape is among them.
 pub(crate) fn characters<'a>(text: &'a [u8], piece: &Piece) -> Option<&'a [u8]> {
     let bytes = text.get(piece.first..piece.past)?;
     if bytes.contains(&b'\\') {
@@ -17,7 +17,7 @@ pub(crate) fn characters<'a>(text: &'a [u8], piece: &Piece) -> Option<&'a [u8]> 
     }
 }
 
-/// A warning where the bundle's name, a single piece, isn't that of its file.
+/// A warning if the bundle's name, a single piece, isn't that of its file.
 pub(crate) fn find_name(
     text: &[u8],
     pieces: &[Piece],

@@ -6,7 +6,7 @@ use std::alloc::{AllocError, Global};
 /// An entry of a table or an item of an array. Those within it follow it.
 #[derive(Clone, Copy, Debug)]
 pub(crate) struct Place {
-    /// Its key, where that is a single piece.
+    /// Its key, if that is a single piece.
     key: Option<Piece>,
     /// The line in which it begins.
     pub(crate) line: u64,
@@ -125,7 +125,7 @@ impl Outline {
         }
     }
 
-    /// The line of a place; the first of the text where it isn't known.
+    /// The line of a place; the first of the text if it isn't known.
     pub(crate) fn line(&self, at: Option<usize>) -> u64 {
         match at.and_then(|at| self.places.get(at)) {
             Some(place) => place.line,
@@ -159,14 +159,22 @@ impl Outline {
         Ok(keys)
     }
 
-    /// The place of an item of an array.
-    pub(crate) fn item(&self, array: Option<usize>, index: usize) -> Option<usize> {
-        let mut at = array?.saturating_add(1);
-        let end = self.past(array);
-        for _ in 0..index {
-            at = self.places.get(at)?.past;
+    /// The place of an array's first item.
+    pub(crate) fn first_item(&self, array: Option<usize>) -> Option<usize> {
+        self.within(array, array?.saturating_add(1))
+    }
+
+    /// The place of an array's item after another one.
+    pub(crate) fn next_item(&self, array: Option<usize>, item: Option<usize>) -> Option<usize> {
+        self.within(array, self.places.get(item?)?.past)
+    }
+
+    fn within(&self, array: Option<usize>, at: usize) -> Option<usize> {
+        if at < self.past(array) {
+            Some(at)
+        } else {
+            None
         }
-        if at < end { Some(at) } else { None }
     }
 
     /// The place after the last within a place.
@@ -178,7 +186,7 @@ impl Outline {
     }
 }
 
-/// The key of a place, where it is a single piece without escapes.
+/// The key of a place, if it is a single piece without escapes.
 fn key_of<'a>(text: &'a [u8], place: &Place) -> Option<&'a [u8]> {
     match &place.key {
         Some(piece) => characters(text, piece),

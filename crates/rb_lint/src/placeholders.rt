@@ -1,12 +1,55 @@
-//! Placeholders of messages: `{0}`, `{name}`, also with a format, as `{0,number}` (MessageFormat of ICU).
+//! Placeholders of messages: `{0}`, `{name}`, also with a format, as `{0,number}` (MessageFormat of
+//! ICU).
 use std::alloc::{AllocError, Global};
+use std::collections::BTreeSet;
 
-/// The search for placeholders in a text. Within a placeholder's format a brace opens a message again, in which there may be more.
+/// Names of placeholders, each once, in the order of the text.
+#[derive(Drop)]
+pub(crate) struct Names<'a> {
+    names: Vec<&'a [u8]>,
+    known: BTreeSet<Vec<u8>>,
+}
+
+impl<'a> Names<'a> {
+    fn new(alloc: Global) -> Self {
+        Names {
+            names: Vec::new(alloc),
+            known: BTreeSet::new(alloc),
+        }
+    }
+
+    /// Adds a name, unless it is there.
+    fn add(&mut self, alloc: Global, name: &'a [u8]) -> Result<(), AllocError> {
+        if self.known.insert(name.to_vec(alloc)?)? {
+            self.names.push(name)?;
+        }
+        Ok(())
+    }
+
+    /// The names that aren't among others.
+    pub(crate) fn without(
+        &self,
+        alloc: Global,
+        others: &Names<'_>,
+    ) -> Result<Vec<&'a [u8]>, AllocError> {
+        let mut found = Vec::new(alloc);
+        for name in &self.names {
+            if !others.known.contains(*name) {
+                found.push(*name)?;
+            }
+        }
+        Ok(found)
+    }
+}
+
+/// The search for placeholders in a text. Within a placeholder's format a brace opens a message
+/// again, in which there may be more.
 #[derive(Drop)]
 struct Search<'a> {
+    alloc: Global,
     text: &'a [u8],
-    /// The names so far, each once.
-    names: Vec<&'a [u8]>,
+    /// The names so far.
+    names: Names<'a>,
     /// How many braces are open; of the odd ones each opened a placeholder.
     open: usize,
     /// Where a placeholder's name begins, while it isn't ended.
@@ -15,7 +58,7 @@ struct Search<'a> {
     is_quoted: bool,
 }
 
-/// A name without spaces around it; none where it is no name.
+/// A name without spaces around it; none if it is no name.
 fn name_of(bytes: &[u8]) -> Option<&[u8]> {
     let name = str::from_utf8(bytes).ok()?.trim().as_bytes();
     let is_name = name.iter().all(|byte| byte.is_ascii_alphanumeric()
@@ -38,10 +81,7 @@ impl<'a> Search<'a> {
         let Some(name) = name_of(self.text.get(first..at).unwrap_or(&[])) else {
             return Ok(());
         };
-        if !self.names.contains(&name) {
-            self.names.push(name)?;
-        }
-        Ok(())
+        self.names.add(self.alloc, name)
     }
 
     /// The byte at a place, and the one after it.
@@ -68,11 +108,12 @@ impl<'a> Search<'a> {
     }
 }
 
-/// The names of the placeholders in a text, each once.
-pub(crate) fn placeholders(alloc: Global, text: &[u8]) -> Result<Vec<&[u8]>, AllocError> {
+/// The names of the placeholders in a text.
+pub(crate) fn placeholders(alloc: Global, text: &[u8]) -> Result<Names<'_>, AllocError> {
     let mut search = Search {
+        alloc,
         text,
-        names: Vec::new(alloc),
+        names: Names::new(alloc),
         open: 0,
         name_at: None,
         is_quoted: false,

@@ -18,7 +18,7 @@ struct Here<'a> {
 pub(crate) enum Quoting {
     /// Nothing else, as in bundle texts.
     OverLines,
-    /// The end of the line, so that a missing quote is felt in its line alone.
+    /// The end of the line, so that a missing quote is felt only in its line.
     WithinLine,
 }
 
@@ -34,7 +34,7 @@ enum State {
     BlockStart,
     Block,
     BlockEnd,
-    /// So many bytes of a character more.
+    /// This many bytes of a character more.
     Skip(u8),
 }
 
@@ -48,7 +48,7 @@ fn is_escape_letter(letter: u8) -> bool {
     b"abefnrtvuUxc".contains(&letter)
 }
 
-/// Whether so many hexadecimal digits follow.
+/// Whether this many hexadecimal digits follow.
 fn has_digits(window: &[u8], count: usize) -> bool {
     match window.get(..count) {
         Some(digits) => digits.iter().all(|digit| digit.is_ascii_hexdigit()),
@@ -56,7 +56,8 @@ fn has_digits(window: &[u8], count: usize) -> bool {
     }
 }
 
-/// Whether two backslashes are followed by what would be an escape of a character's number after one.
+/// Whether two backslashes are followed by what would be an escape of a character's number after
+/// one.
 fn is_doubled(window: &[u8]) -> bool {
     match window {
         [b'\\', b'\\', b'u', digits @ ..] => has_digits(digits, 4),
@@ -136,7 +137,8 @@ impl Scan {
         self.leads = true;
     }
 
-    /// White space before a line's first piece moves it to the right; a tab to the next column after a multiple of 8.
+    /// White space before a line's first piece moves it to the right; a tab to the next column
+    /// after a multiple of 8.
     fn indent(&mut self, byte: u8) {
         if self.leads && byte == b' ' {
             self.column = self.column.saturating_add(1);
@@ -277,7 +279,8 @@ impl Scan {
     }
 }
 
-/// The pieces of a text, and whether it ends within a quoted one. What is doubtful of its escapes is found on the way.
+/// The pieces of a text, and whether it ends within a quoted one. What is doubtful of its escapes
+/// is found on the way.
 pub(crate) fn cut(
     alloc: Global,
     text: &[u8],

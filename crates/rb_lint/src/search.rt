@@ -19,11 +19,13 @@ pub(crate) fn line_count(text: &[u8]) -> u64
     feeds as u64 + 1
 }
 
-/// What is doubtful in a bundle text, which may have any errors: at most 100 warnings, in the order of their lines. `stem` is the
-/// name that the bundle should have, if one is known. The rules are this project's own.
+/// What is doubtful in a bundle text, which may have any errors: at most 100 warnings, in the order
+/// of their lines. `stem` is the name that the bundle should have, if one is known. The rules are
+/// this project's own.
 ///
-/// Where the text ends within a quoted piece, each quoted piece is taken to end with its line, so that a missing quote is found
-/// where it is missing. Braces are judged by how far right their lines begin, in texts that are indented.
+/// If the text ends within a quoted piece, each quoted piece is taken to end with its line, so that
+/// a missing quote is found where it is missing. Braces are judged by how far right their lines
+/// begin, in texts that are indented.
 ///
 /// ```rust
 /// lint(alloc, b"de{a{\"b\" \"c\", \"d\"}}", Some(b"de"))? // one warning at line 1: `Doubt::Joined`

@@ -99,7 +99,8 @@ impl Sides {
     }
 }
 
-/// A warning for each quoted piece beside an unquoted one, and for two texts side by side in an array or a vector.
+/// A warning for each quoted piece beside an unquoted one, and for two texts side by side in an
+/// array or a vector.
 pub(crate) fn find_sides(
     alloc: Global,
     text: &[u8],

@@ -62,7 +62,7 @@ written_more position bs k e f =
     ap (λ ss. option_map (join_with_byte 95) (parts_from position ss)) first
     ∙ more position (next_position position) (take k bs) (slice_split is_between (drop (k + 1) bs)) refl (some_parts is_between (drop (k + 1) bs))
 
--- the same where the part may not be there, and where the rest may not
+-- the same if the part may not be there, and if the rest may not
 pub written_bad : (position : Position) (bs : List ℕ) (k : ℕ) → k ≡ position_or_len is_between bs → k ≤ length bs → part_at position (take k bs) ≡ None
     → written position bs ≡ None
 written_bad position bs k e f none = by (nat_lt k (length bs)) refl

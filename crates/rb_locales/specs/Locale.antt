@@ -1,8 +1,9 @@
 -- The canonical names of locales, in this profile of the identifiers of UTS #35 (LDML) and of ICU's
--- `uloc_canonicalize`: parts between underscores, the first a language in lower case, a second part of
--- four letters a script in title case, every other part in upper case; what follows an `@` is no
--- part of the name. That a name has at most 64 bytes is this project's own rule. It speaks of parts, never of indexes in a text.
-use Rattle.std.specs.Prelude.{◌==◌, ◌&&◌, ◌||◌, ℕ, List, [], ◌∷◌, length, Bool, Option, Some, None, option_map, take, map, if◌then◌else◌, nat_le, codes}
+-- `uloc_canonicalize`: parts between underscores, the first a language in lower case, a second part of four letters a
+-- script in title case, every other part in upper case; what follows an `@` is no part of the name. That a name has at
+-- most 64 bytes is this project's own rule. It speaks of parts, never of indexes in a text.
+use Rattle.std.specs.Prelude.{◌==◌, ◌&&◌, ◌||◌, ℕ, List, [], ◌∷◌, length, Bool, Option, Some, None, option_map, take}
+use Rattle.std.specs.Prelude.{map, if◌then◌else◌, nat_le, codes}
 use Rattle.std.specs.Option.{option_zip}
 use Rattle.std.specs.List.{slice_split, list_all, join_with_byte, position_or_len}
 use Rattle.std.specs.Char.{is_ascii_alphabetic, is_ascii_alphanumeric, to_ascii_lowercase, to_ascii_uppercase}

@@ -1,8 +1,10 @@
 //! The parts of a name, written in the case of their position.
-ghost use Rattle.std.specs.Prelude.{◌≡◌, ◌<◌, ◌≤◌, length, if◌then◌else◌, Some, None, List, ℕ, Option};
+ghost use Rattle.std.specs.Prelude.{◌≡◌, ◌<◌, ◌≤◌, length, if◌then◌else◌, Some, None, List, ℕ};
+ghost use Rattle.std.specs.Prelude.{Option};
 ghost use Rattle.std.specs.List.{list_all, position_or_len};
 ghost use Rattle.std.specs.Char.{is_ascii_alphabetic, is_ascii_alphanumeric};
-ghost use Rattle.rb_locales.specs.Locale.{is_between, next_position, part_at, written, title, subtag};
+ghost use Rattle.rb_locales.specs.Locale.{is_between, next_position, part_at, written, title};
+ghost use Rattle.rb_locales.specs.Locale.{subtag};
 ghost use Rattle.rb_locales.specs.inner.Positions.{position_of};
 
 // The position of a part in its name.

@@ -1,5 +1,6 @@
 //! The type of names, and how a text is read as one.
-ghost use Rattle.std.specs.Prelude.{◌≡◌, ◌≤◌, ◌++◌, ◌↔◌, ◌-◌, Some, length, drop, take, codes, IfOk};
+ghost use Rattle.std.specs.Prelude.{◌≡◌, ◌≤◌, ◌++◌, ◌↔◌, ◌-◌, Some, length, drop, take, codes};
+ghost use Rattle.std.specs.Prelude.{IfOk};
 ghost use Rattle.std.specs.Result.{result_ok};
 ghost use Rattle.std.specs.List.{position_or_len};
 ghost use Rattle.rb_locales.specs.Locale.{name, shorter, is_at};
@@ -22,7 +23,8 @@ impl Model for Name {
 
     ghost Value = { List ℕ };
 
-    ghost use Rattle.rb_locales.specs.inner.NameFields.{IsNameFields, name_fields, name_fields-view};
+    ghost use Rattle.rb_locales.specs.inner.NameFields.{IsNameFields, name_fields};
+    ghost use Rattle.rb_locales.specs.inner.NameFields.{name_fields-view};
 
     ghost view = { λ n. take n.len n.bytes };
 
@@ -68,10 +70,11 @@ impl Name {
         }
     }
 
-    /// The canonical name of a locale identifier (UTS #35, in this project's profile): `de-at@x=y` is `de_AT`.
+    /// The canonical name of a locale identifier (UTS #35, in this project's profile): `de-at@x=y`
+    /// is `de_AT`.
     ///
-    /// What follows the first `@` is left out, and the empty name is `root`. `BadLocale`: the text is no name, or has more than 64
-    /// bytes before the `@`.
+    /// What follows the first `@` is left out, and the empty name is `root`. `BadLocale`: the text
+    /// is no name, or has more than 64 bytes before the `@`.
     ///
     /// ```rust
     /// let name = Name::read(b"ZH-hant-tw@x=y")?; // zh_Hant_TW

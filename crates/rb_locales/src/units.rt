@@ -17,7 +17,8 @@ fn units_before_at<N: Node>(node: N, from: usize, past: usize) -> usize
     requires units { HasUnits (kind_of (N.tree node)) }
     requires order { from ≤ past }
     requires within { past ≤ len_of (N.tree node) }
-    ensures first { result ≡ position_or_len is_at (slice_range (units_of (N.tree node)) from past) }
+    ensures first { result
+        ≡ position_or_len is_at (slice_range (units_of (N.tree node)) from past) }
     ensures within { result ≤ past - from }
 {
     for i in from..past {
@@ -34,7 +35,8 @@ fn fill_units<N: Node>(node: N, from: usize, past: usize, field: &mut [u8])
     requires units { HasUnits (kind_of (N.tree node)) }
     requires inside { from + length field.old ≤ past }
     requires within { past ≤ len_of (N.tree node) }
-    ensures { field.new ≡ map narrow (take (length field.old) (drop from (units_of (N.tree node)))) }
+    ensures { field.new
+        ≡ map narrow (take (length field.old) (drop from (units_of (N.tree node)))) }
 {
     for i in 0..field.len() {
         let unit = node.unit(from + i);
@@ -48,7 +50,8 @@ fn fill_front<N: Node>(node: N, from: usize, past: usize, len: usize, field: &mu
     requires fits { len ≤ length field.old }
     requires inside { from + len ≤ past }
     requires within { past ≤ len_of (N.tree node) }
-    ensures front { take len field.new ≡ map narrow (take len (drop from (units_of (N.tree node)))) }
+    ensures front { take len field.new
+        ≡ map narrow (take len (drop from (units_of (N.tree node)))) }
     ensures room { length field.new ≡ length field.old }
 {
     fill_units(node, from, past, &mut field[..len]);

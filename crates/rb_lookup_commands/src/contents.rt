@@ -4,7 +4,8 @@ use rb_lexer::SourceFault;
 use std::process::ExitCode;
 use std::rt::Files;
 
-/// What is made of each bundle's file, by its name and its bytes, in order. A file is read when those before it are done.
+/// What is made of each bundle's file, by its name and its bytes, in order. A file is read when
+/// those before it are done.
 pub(crate) fn made_of_each<R: Files + AllocGlobal + Eprint, F>(
     rt: &R,
     console: Console,

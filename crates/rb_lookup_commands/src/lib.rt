@@ -1,4 +1,5 @@
-//! What an engine is started from, and the commands that make requests of files: `look` and `lines`, over any runtime.
+//! What an engine is started from, and the commands that make requests of files: `look` and
+//! `lines`, over any runtime.
 #![tactic(auto)]
 
 mod contents;
@@ -7,5 +8,6 @@ mod request_lines;
 mod start;
 
 pub use lookup::{Lookup, look_up};
-pub use request_lines::{Change, lines};
+pub use rb_engine::Change;
+pub use request_lines::lines;
 pub use start::start_engine;

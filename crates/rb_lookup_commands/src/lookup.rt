@@ -59,7 +59,7 @@ fn request(alloc: Global, name: &Name, file: &[u8]) -> Result<Request, AllocErro
     })
 }
 
-/// Installs the files. The first that is refused is said: `Twice` where its locale was given before.
+/// Installs the files. The first that is refused is said: `Twice` if its locale was given before.
 fn install_all<R: AllocGlobal + Eprint>(
     rt: &R,
     console: Console,
@@ -82,7 +82,7 @@ fn install_all<R: AllocGlobal + Eprint>(
     Ok(())
 }
 
-/// Prints the reply to a lookup; the status is 0 where something is found, and else 1.
+/// Prints the reply to a lookup; the status is 0 if something is found, and else 1.
 fn answer<R: AllocGlobal + Print + Eprint>(
     rt: &R,
     console: Console,
@@ -115,7 +115,7 @@ fn install_file(
     packages.install(app, name, bundle).ok()
 }
 
-/// The bundles of files, for `APP`; none where one of them is refused.
+/// The bundles of files, for `APP`; none if one of them is refused.
 fn packages_of<R: RandomSource + AllocGlobal>(
     rt: &R,
     app: &App,
@@ -146,7 +146,8 @@ fn say_fault<R: Eprint>(rt: &R, console: Console, word: &str) {
     let _ = eprintln!(rt; "{word}: {meaning}{hint}");
 }
 
-/// Says on standard error, step by step, why a lookup over an application's bundles finds what it finds.
+/// Says on standard error, step by step, why a lookup over an application's bundles finds what it
+/// finds.
 fn say_search<R: AllocGlobal + Eprint>(
     rt: &R,
     console: Console,
@@ -164,7 +165,7 @@ fn say_search<R: AllocGlobal + Eprint>(
     }
 }
 
-/// The same as `say_search` of a lookup over files; nothing where one of them is refused.
+/// The same as `say_search` of a lookup over files; nothing if one of them is refused.
 fn say_trace<R: RandomSource + AllocGlobal + Eprint>(
     rt: &R,
     console: Console,
@@ -222,13 +223,16 @@ fn look_over<R: Files + RandomSource + AllocGlobal + Print + Eprint>(
     Ok(answer(rt, console, &engine, lookup))
 }
 
-/// Looks a path up from a locale on over the bundles of files, with fallback, and prints the reply that `serve` would give. An
-/// argument is `LOCALE=FILE`, or `FILE`, whose stem is the locale; a file whose name ends in `.txt` is bundle text, any other a `.res`
-/// file. There are no common bundles. A traced lookup says on standard error before its reply, and where no file is refused, which
-/// names were asked at each level, what decided on the next name, how far the path was walked, and where an alias leads.
+/// Looks a path up from a locale on over the bundles of files, with fallback, and prints the reply
+/// that `serve` would give. An argument is `LOCALE=FILE`, or `FILE`, whose stem is the locale; a
+/// file whose name ends in `.txt` is bundle text, any other a `.res` file. There are no common
+/// bundles. A traced lookup says on standard error before its reply, and if no file is refused,
+/// which names were asked at each level, what decided on the next name, how far the path was
+/// walked, and where an alias leads.
 ///
-/// The status is 0 where something is found; 1 where nothing is, and where a file is refused, with its error; 2 for an argument
-/// without a locale's name, a file that can't be read, and where standard output can't be written.
+/// The status is 0 if something is found; 1 if nothing is, and if a file is refused, with its
+/// error; 2 for an argument without a locale's name, a file that can't be read, and if standard
+/// output can't be written.
 pub fn look_up<R: Files + RandomSource + AllocGlobal + Print + Eprint>(
     rt: &R,
     console: Console,

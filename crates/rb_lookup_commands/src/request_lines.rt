@@ -4,8 +4,8 @@ use json::Writer;
 use rb_console::{
     Console, Form, Given, StartError, all_given, is_text, not_started_on, printed, refused_on,
 };
-use rb_engine::App;
-use rb_format::FILE_LIMIT;
+use rb_engine::{App, Change};
+use rb_format::is_short_enough;
 use rb_lexer::Tokens;
 use std::alloc::{AllocError, Global};
 use std::io;
@@ -13,26 +13,16 @@ use std::io::{BufWriter, Write};
 use std::process::ExitCode;
 use std::rt::Files;
 
-/// What a line asks for a file.
-#[derive(Clone, Copy, Debug, PartialEq, Eq)]
-pub enum Change {
-    /// To put a bundle where there is none.
-    Install,
-    /// To put it in the place of the one that is there.
-    Replace,
-}
-
-impl Change {
-    /// The member `op` of the line.
-    pub fn op(self) -> &'static str {
-        match self {
-            Change::Install => "install",
-            Change::Replace => "replace",
-        }
+/// The member `op` of a line that asks for a change.
+fn op_of(change: Change) -> &'static str {
+    match change {
+        Change::Install => "install",
+        Change::Replace => "replace",
     }
 }
 
-/// Refuses a text that can't be in a line, as its bytes aren't UTF-8, or that no server takes, as it is too long; and such a file.
+/// Refuses a text that can't be in a line, as its bytes aren't UTF-8, or that no server takes, as
+/// it is too long; and such a file.
 fn refuse_content<R: AllocGlobal + Eprint>(
     rt: &R,
     console: Console,
@@ -40,10 +30,10 @@ fn refuse_content<R: AllocGlobal + Eprint>(
     bytes: &[u8],
 ) -> Result<(), ExitCode> {
     if !is_text(file) {
-        return if bytes.len() > FILE_LIMIT {
-            Err(refused_on(rt, console, file, "TooLong"))
-        } else {
+        return if is_short_enough(bytes) {
             Ok(())
+        } else {
+            Err(refused_on(rt, console, file, "TooLong"))
         };
     }
     if str::from_utf8(bytes).is_ok() && bytes.len() <= rb_lexer::SOURCE_LIMIT {
@@ -98,7 +88,7 @@ fn line_of(
     let mut out = Writer::new(Vec::new(alloc));
     out.begin_object()?;
     out.key("op")?;
-    out.string(change.op())?;
+    out.string(op_of(change))?;
     out.key("app")?;
     out.string(app)?;
     out.key("locale")?;
@@ -127,12 +117,14 @@ fn write_lines<R: AllocGlobal + Print>(
     out.flush()
 }
 
-/// Prints a request line for each file, which installs its bundle for `app`, or puts it in the place of another: by its text where the
-/// file's name ends in `.txt`, and else as a file. An argument is `LOCALE=FILE`, or `FILE`, whose stem is the locale.
+/// Prints a request line for each file, which installs its bundle for `app`, or puts it in the
+/// place of another: by its text if the file's name ends in `.txt`, and else as a file. An argument
+/// is `LOCALE=FILE`, or `FILE`, whose stem is the locale.
 ///
-/// All files are read before anything is printed. The status is 0; 1 where `app` is no application's name, a text isn't UTF-8, a text
-/// or a file is too long, or out of memory, with the error's name; 2 for an argument without a locale's name, and where a file or
-/// standard output can't be read or written.
+/// All files are read before anything is printed. The status is 0; 1 if `app` is no application's
+/// name, a text isn't UTF-8, a text or a file is too long, or out of memory, with the error's name;
+/// 2 for an argument without a locale's name, and if a file or standard output can't be read or
+/// written.
 pub fn lines<R: Files + AllocGlobal + Print + Eprint>(
     rt: &R,
     console: Console,

@@ -1,4 +1,5 @@
-//! The start of an engine: the arguments of `resb serve`, the files that they name, and the engine that is made of them.
+//! The start of an engine: the arguments of `resb serve`, the files that they name, and the engine
+//! that is made of them.
 ghost use Rattle.std.specs.Prelude.{◌≡◌, length, vec_len, IfOk};
 ghost use Rattle.rb_engine.specs.Start.{IsIndexed};
 
@@ -79,7 +80,7 @@ pub(crate) fn parents_of<'a, R: Files + AllocGlobal>(
     }
 }
 
-/// What a file has for a bundle: a bundle text where its name ends in `.txt`, and else a `.res` file.
+/// What a file has for a bundle: a bundle text if its name ends in `.txt`, and else a `.res` file.
 fn payload_of(file: &str, bytes: Vec<u8>) -> Payload {
     let bytes = ByteList::from_vec(bytes);
     if is_text(file) {
@@ -106,10 +107,12 @@ fn read_all<'a, R: Files + AllocGlobal>(
     Ok(entries)
 }
 
-/// An engine with the explicit parents of a file, if one is given, and ICUDATA made of the arguments, each `LOCALE=FILE`.
+/// An engine with the explicit parents of a file, if one is given, and ICUDATA made of the
+/// arguments, each `LOCALE=FILE`.
 ///
-/// First all arguments are split, then the parents are read and judged, then the other files are read, then the runtime is asked for
-/// a random state, and then the engine starts; the first error is reported.
+/// First all arguments are split, then the parents are read and judged, then the other files are
+/// read, then the runtime is asked for a random state, and then the engine starts; the first error
+/// is reported.
 pub fn start_engine<'a, R: Files + AllocGlobal + RandomSource>(
     rt: &R,
     parents: Option<&'a str>,

@@ -23,7 +23,7 @@ pub none_before : (r : Option (Items × List Token)) → r ≡ parse_map (λ ds.
 none_before None = refl
 none_before (Some p) = refl
 
--- what holds in any case, where there is an error
+-- what holds in any case, if there is an error
 pub at_an_error : {T E P : Type 0} (r : Result T E) → P → OnErr r P
 at_an_error (Ok x) p = tt
 at_an_error (Err e) p = p

@@ -20,7 +20,8 @@ pub enum Member<'a> {
 /// Reads a value, in which arrays and objects nest so deep at most.
 #[cycle(read_value)]
 pub(crate) fn read_value<'a>(reader: &mut Reader<'a>, depth: usize) -> Result<Member<'a>, Invalid>
-    ensures ok { IfOk result (λ m. (d : Data) × IsMember m d × (converted of_json (value_of depth reader.old) ≡ Some (d, reader.new))) }
+    ensures ok { IfOk result (λ m. (d : Data) × IsMember m d
+        × (converted of_json (value_of depth reader.old) ≡ Some (d, reader.new))) }
     ensures err { OnErr result (converted of_json (value_of depth reader.old) ≡ None) }
     ensures shorter { OnOk result (length reader.new < length reader.old) }
 {
@@ -56,8 +57,10 @@ pub(crate) fn read_value<'a>(reader: &mut Reader<'a>, depth: usize) -> Result<Me
 /// Passes over the items of an array and its closing bracket.
 #[cycle(read_value)]
 fn pass_items(reader: &mut Reader<'_>, depth: usize) -> Result<(), Invalid>
-    ensures ok { OnOk result ((ds : Items) × (converted of_items (items_of (value_of depth) (length reader.old) reader.old) ≡ Some (ds, reader.new))) }
-    ensures err { OnErr result (converted of_items (items_of (value_of depth) (length reader.old) reader.old) ≡ None) }
+    ensures ok { OnOk result ((ds : Items) × (converted of_items
+        (items_of (value_of depth) (length reader.old) reader.old) ≡ Some (ds, reader.new))) }
+    ensures err { OnErr result
+        (converted of_items (items_of (value_of depth) (length reader.old) reader.old) ≡ None) }
     ensures shorter { OnOk result (length reader.new < length reader.old) }
 {
     'items: while !reader.take_end_array() {
@@ -70,8 +73,10 @@ fn pass_items(reader: &mut Reader<'_>, depth: usize) -> Result<(), Invalid>
 #[cycle(read_value)]
 fn pass_members(reader: &mut Reader<'_>, depth: usize) -> Result<(), Invalid>
     ensures ok { OnOk result ((found : Members)
-        × (converted (λ ms. of_members ms no_members) (members_of (value_of depth) (length reader.old) reader.old) ≡ Some (found, reader.new))) }
-    ensures err { OnErr result (converted (λ ms. of_members ms no_members) (members_of (value_of depth) (length reader.old) reader.old) ≡ None) }
+        × (converted (λ ms. of_members ms no_members)
+        (members_of (value_of depth) (length reader.old) reader.old) ≡ Some (found, reader.new))) }
+    ensures err { OnErr result (converted (λ ms. of_members ms no_members)
+        (members_of (value_of depth) (length reader.old) reader.old) ≡ None) }
     ensures shorter { OnOk result (length reader.new < length reader.old) }
 {
     'members: while let Some(_) = reader.next_key()? {

@@ -1,5 +1,6 @@
 //! Numbers that `serde_json` takes.
-ghost use Rattle.std.specs.Prelude.{◌≡◌, ◌==◌, ◌<◌, is_some, IsTrue, length, slice_index, true, false};
+ghost use Rattle.std.specs.Prelude.{◌≡◌, ◌==◌, ◌<◌, is_some, IsTrue, length, slice_index, true};
+ghost use Rattle.std.specs.Prelude.{false};
 ghost use Rattle.serde_json.specs.Read.{number_of, number_from, float_of};
 
 use fast_float::Numeral;
@@ -32,7 +33,8 @@ fn is_negative(numeral: &Numeral<'_>) -> bool
     }
 }
 
-/// Whether the number that a token writes is in range: an integer of 64 bits, or one with a finite nearest float.
+/// Whether the number that a token writes is in range: an integer of 64 bits, or one with a finite
+/// nearest float.
 pub(crate) fn is_in_range(text: &str) -> bool
     ensures { result ≡ is_some (number_of text.now) }
 {

@@ -12,7 +12,8 @@ use crate::member::{Member, read_value};
 use json::{Reader, Scratch, Token};
 use std::alloc::AllocError;
 
-/// What an object has at the names that count for a request, where it has something. Of two members with one name the last counts.
+/// What an object has at the names that count for a request, if it has something. Of two members
+/// with one name the last counts.
 #[derive(Clone, Copy, Debug, PartialEq, Eq)]
 pub struct Texts<'a> {
     pub op: Option<Member<'a>>,
@@ -40,7 +41,8 @@ impl<'a> Texts<'a> {
 
     /// Those after one member more.
     fn with(self, key: &str, member: Member<'a>) -> Self
-        ensures { (found : Members) (d : Data) → IsMember member.entry d → Holds self.entry found → Holds result (put key.now d found) }
+        ensures { (found : Members) (d : Data) → IsMember member.entry d → Holds self.entry found
+            → Holds result (put key.now d found) }
     {
         Texts {
             op: after(key, "op", member, self.op),
@@ -60,7 +62,8 @@ fn after<'a>(
     member: Member<'a>,
     held: Option<Member<'a>>,
 ) -> Option<Member<'a>>
-    ensures { (found : Members) (d : Data) → IsMember member.entry d → IsAt held.entry (get_member name.now found)
+    ensures { (found : Members) (d : Data) → IsMember member.entry d
+        → IsAt held.entry (get_member name.now found)
         → IsAt result (get_member name.now (put key.now d found)) }
 {
     if key == name { Some(member) } else { held }
@@ -68,7 +71,8 @@ fn after<'a>(
 
 /// Whether an opening brace comes next, which is taken.
 fn opens_object(reader: &mut Reader<'_>) -> bool
-    ensures { MatchBool result (reader.old ≡ Tokens.begin_object ∷ reader.new) (BeginsWithNoBrace reader.old) }
+    ensures { MatchBool result (reader.old ≡ Tokens.begin_object ∷ reader.new)
+        (BeginsWithNoBrace reader.old) }
 {
     matches!(reader.next(), Some(Token::BeginObject))
 }
@@ -77,8 +81,10 @@ fn opens_object(reader: &mut Reader<'_>) -> bool
 fn read_members<'a>(reader: &mut Reader<'a>, texts: &mut Texts<'a>) -> bool
     requires { Holds texts.old no_members }
     ensures { MatchBool result ((found : Members) × Holds texts.new found
-        × (converted (λ ms. of_members ms no_members) (members_of (value_of 126) (length reader.old) reader.old) ≡ Some (found, reader.new)))
-        (converted (λ ms. of_members ms no_members) (members_of (value_of 126) (length reader.old) reader.old) ≡ None) }
+        × (converted (λ ms. of_members ms no_members)
+        (members_of (value_of 126) (length reader.old) reader.old) ≡ Some (found, reader.new)))
+        (converted (λ ms. of_members ms no_members)
+        (members_of (value_of 126) (length reader.old) reader.old) ≡ None) }
 {
     'members: loop {
         match reader.next_key() {
@@ -92,17 +98,20 @@ fn read_members<'a>(reader: &mut Reader<'a>, texts: &mut Texts<'a>) -> bool
     }
 }
 
-/// Whether a text is a JSON object, as `serde_json` reads it. If so, what it has at the names that count is in `texts`; else what is
-/// there counts for nothing. Texts without escapes are lent out of the text, the others out of the scratch, which grows to the length
-/// of the text; of other members and of values that are no texts nothing is kept. The error comes where there is no memory for the
-/// scratch.
+/// Whether a text is a JSON object, as `serde_json` reads it. If so, what it has at the names that
+/// count is in `texts`; else what is there counts for nothing. Texts without escapes are lent out
+/// of the text, the others out of the scratch, which grows to the length of the text; of other
+/// members and of values that are no texts nothing is kept. The error comes if there is no memory
+/// for the scratch.
 pub fn read_texts<'a>(
     text: &'a str,
     scratch: &'a mut Scratch,
     texts: &mut Texts<'a>,
 ) -> Result<bool, AllocError>
-    ensures read { IfOk result (λ all. IsTrue all → (found : Members) × Holds texts.new found × (read text.now ≡ Some (object found))) }
-    ensures all { IfOk result (λ all. (found : Members) → read text.now ≡ Some (object found) → IsTrue all) }
+    ensures read { IfOk result (λ all. IsTrue all
+        → (found : Members) × Holds texts.new found × (read text.now ≡ Some (object found))) }
+    ensures all { IfOk result
+        (λ all. (found : Members) → read text.now ≡ Some (object found) → IsTrue all) }
 {
     let mut reader = Reader::new(text, scratch)?;
     *texts = Texts::none();

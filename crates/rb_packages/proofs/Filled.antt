@@ -39,7 +39,7 @@ module _ {S : Type 0} where
   bare_is_there None h = absurd cc
   bare_is_there (Some bundles) h = refl
 
-  -- where one application's package changes, and has files then, all that are there have some
+  -- if one application's package changes, and has files then, all that are there have some
   pub all_after : (app : List ℕ) (old new : Rows S) → AllHaveBundles (files_by_app old) → KeepsOthers app old new
       → ¬ IsBare (lookup (bytes_eq app) new) → AllHaveBundles (files_by_app new)
   all_after app old new all keeps here other h = by (bytes_eq app other) refl

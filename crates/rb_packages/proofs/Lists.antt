@@ -84,7 +84,7 @@ module _ {S : Type 0} where
           let later : lookup (bytes_eq app) rs ≡ Some old = rw t at h in
           rw t (ap (λ l. (r.0, r.1.entries) ∷ l) (rest later e))
 
-  -- where one application's package is put, changed or taken out, every other's files stay
+  -- if one application's package is put, changed or taken out, every other's files stay
   pub other_files : (app : List ℕ) (old new : IndexMap (List ℕ) (IndexMap (List ℕ) (List ℕ) S) S) (bundles : Option (IndexMap (List ℕ) (List ℕ) S))
       → UpdatesBy bytes_eq (bytes_eq app) old new bundles → KeepsOthers app old.entries new.entries
   other_files app old new bundles h other n = h.2 other (other_bytes app other n)
@@ -116,7 +116,7 @@ pub judged_add : (r : Result (Unit {0}) (PackFault × List ℕ)) (bundle : List 
 judged_add (Ok u) bundle fault f h = f
 judged_add (Err e) bundle fault f h = rw f (ap (λ (p : PackFault × List ℕ). p.0) h)
 
--- one more application where it has no files
+-- one more application if it has no files
 pub more_apps_by : {S : Type 0} (o : Option (IndexMap (List ℕ) (List ℕ) S)) → ¬ IsBare o → more_apps (entries_of o) ≡ cond (is_some o) 0 1
 more_apps_by None filled = refl
 more_apps_by (Some bundles) filled = by bundles.entries refl
@@ -167,7 +167,7 @@ module _ {S : Type 0} {stored : Stored} {icudata : Files} (rows : Rows S) (e : r
     abbrev changed : Stored
     changed = record { icudata = icudata; owned = files_by_app new }
 
-    -- where another application's files stay, so do its bundles
+    -- if another application's files stay, so do its bundles
     pub others_seen : KeepsOthers app rows new → OthersStay app stored changed
     others_seen stays = record {
       icudata = ap icudata_of e;

@@ -16,7 +16,7 @@ fold_to f most a [] h = omega arith
 fold_to f most a (x ∷ xs) h =
     omega (arith, fold_to f most (min (a + f x) most) xs (omega arith), fold-start f (min (a + f x) most) xs, fold-start f (a + f x) xs)
 
--- where each step stops at the greatest number, the sum does
+-- if each step stops at the greatest number, the sum does
 pub sum_to : {X : Type 0} (f : X → ℕ) (most : ℕ) (xs : List X) → fold (λ s x. min (s + f x) most) 0 xs ≡ min (sum_by f xs) most
 sum_to f most xs = fold_to f most 0 xs (omega arith)
 

@@ -1,5 +1,7 @@
--- Names of applications, a rule of this project: 1 to 64 ASCII letters, digits, `_`, `-` and `.`; `ICUDATA` names the common bundles.
-use Rattle.std.specs.Prelude.{ℕ, ◌==◌, ◌&&◌, ◌||◌, Bool, not, List, length, nat_le, if◌then◌else◌, Result, Ok, Err, codes}
+-- Names of applications, a rule of this project: 1 to 64 ASCII letters, digits, `_`, `-` and `.`; `ICUDATA` names the
+-- common bundles.
+use Rattle.std.specs.Prelude.{ℕ, ◌==◌, ◌&&◌, ◌||◌, Bool, not, List, length, nat_le, if◌then◌else◌, Result, Ok, Err}
+use Rattle.std.specs.Prelude.{codes}
 use Rattle.std.specs.List.{list_all}
 use Rattle.std.specs.Str.{bytes_eq}
 use Rattle.std.specs.Char.{is_ascii_alphanumeric}
@@ -15,4 +17,5 @@ is_app bytes = (nat_le 1 (length bytes) && nat_le (length bytes) 64) && list_all
 
 -- the name that bytes are, or why they are none
 abbrev pub app_of : List ℕ → Result (List ℕ) AppFault
-app_of bytes = if not (is_app bytes) then Err BadApp else if bytes_eq bytes (codes "ICUDATA") then Err Reserved else Ok bytes
+app_of bytes = if not (is_app bytes) then Err BadApp else if bytes_eq bytes (codes "ICUDATA") then Err Reserved
+    else Ok bytes

@@ -10,7 +10,7 @@ abbrev pub Rows : Type 0 → Type 0
 Rows S = List (List ℕ × IndexMap (List ℕ) (List ℕ) S)
 
 module _ {S : Type 0} where
-  -- a package's files, where there is one
+  -- a package's files, if there is one
   abbrev pub entries_of : Option (IndexMap (List ℕ) (List ℕ) S) → Files
   entries_of None = []
   entries_of (Some bundles) = bundles.entries

@@ -14,7 +14,7 @@ use Rattle.rb_packages.specs.Shelf.{bundle_at}
 use Rattle.rb_packages.specs.Packages.{Files, shelf_of}
 use Rattle.rb_packages.specs.declared.shelf.AppShelf.{AppShelf}
 
--- no files where no package is lent
+-- no files if no package is lent
 abbrev pub files_lent : {S : Type 0} → Option (Bor (IndexMap (List ℕ) (List ℕ) S)) → Files
 files_lent None = []
 files_lent (Some bundles) = bundles.now.entries
@@ -28,5 +28,6 @@ bundles_lent shelf = bundle_at (shelf_of (files_in shelf))
 -- what is lent at a name is word 0 of the data of the file there
 abbrev pub LendsRoot : Files → List ℕ → Option (LentItem × Bool) → Type 0
 LendsRoot files name None = Unit {0}
-LendsRoot files name (Some lent) = (file : List ℕ) × (lookup (bytes_eq name) files ≡ Some file) × (item_data (lent_item lent.0) ≡ data_of file)
+LendsRoot files name (Some lent) = (file : List ℕ) × (lookup (bytes_eq name) files ≡ Some file)
+    × (item_data (lent_item lent.0) ≡ data_of file)
     × (item_word (lent_item lent.0) ≡ word_at (data_of file) 0)

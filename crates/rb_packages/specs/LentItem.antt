@@ -1,4 +1,5 @@
--- What an item that packages lend is seen as: the item of the bundle's file, and the tree that it denotes (`uresdata.h`).
+-- What an item that packages lend is seen as: the item of the bundle's file, and the tree that it denotes
+-- (`uresdata.h`).
 use Rattle.rb_tree.specs.Resource.{Resource}
 use Rattle.rb_views.specs.Seen.{tree_seen}
 use Rattle.rb_views.specs.declared.item.Item.{Item}

@@ -1,3 +1,4 @@
+pub mod Limits
 pub mod App
 pub mod Words
 pub mod Shelf

@@ -54,7 +54,7 @@ install_fault name shelf = if holds name shelf then Some Exists else if is_full 
 abbrev pub load_fault : List ℕ → Shelf → Option PackFault
 load_fault name shelf = if holds name shelf then Some Twice else None
 
--- the fault where there is one, else none or `Memory`
+-- the fault if there is one, else none or `Memory`
 abbrev pub IsJudged : {A B : Type 0} → Option PackFault → Result A (PackFault × B) → Type 0
 IsJudged fault (Ok a) = fault ≡ None
 IsJudged None (Err e) = e.0 ≡ Memory

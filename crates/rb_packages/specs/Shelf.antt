@@ -3,6 +3,7 @@ use Rattle.std.specs.Prelude.{ℕ, Bool, List, [], ◌∷◌, length, nat_le, na
 use Rattle.std.specs.Map.{lookup}
 use Rattle.std.specs.Cmp.Lexicographic.{pointwise}
 use Rattle.rb_tree.specs.SourceTree.{SourceTree}
+use Rattle.rb_packages.specs.Limits.{bundle_limit}
 
 abbrev pub Shelf : Type 0
 Shelf = List (List ℕ × SourceTree)
@@ -15,7 +16,7 @@ abbrev pub holds : List ℕ → Shelf → Bool
 holds name shelf = is_some (bundle_at shelf name)
 
 abbrev pub is_full : Shelf → Bool
-is_full shelf = nat_le 4096 (length shelf)
+is_full shelf = nat_le bundle_limit (length shelf)
 
 -- with the bundle in the old one's place
 abbrev pub replaced : List ℕ → SourceTree → Shelf → Shelf

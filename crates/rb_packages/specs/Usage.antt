@@ -13,7 +13,7 @@ bytes_of files = sum_by (λ e. length e.1) files
 abbrev pub apps_of : Stored → ℕ
 apps_of stored = length stored.owned
 
--- how many more have some where an application with these files gets one: one more where it has none
+-- how many more have some if an application with these files gets one: one more if it has none
 abbrev pub more_apps : Files → ℕ
 more_apps [] = 1
 more_apps (e ∷ es) = 0

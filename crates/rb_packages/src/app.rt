@@ -9,7 +9,8 @@ use std::marker::Model;
 /// The longest name of an application, in bytes.
 pub const APP_LIMIT: usize = 64;
 
-/// The name of an application: 1 to 64 letters, digits, `_`, `-` and `.`, and not `ICUDATA`. Contracts see it as its bytes.
+/// The name of an application: 1 to 64 letters, digits, `_`, `-` and `.`, and not `ICUDATA`.
+/// Contracts see it as its bytes.
 #[derive(Clone, Copy, Debug)]
 pub struct App {
     bytes: [u8; APP_LIMIT],

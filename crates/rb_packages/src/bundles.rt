@@ -1,5 +1,6 @@
 //! The bundles of one package, in the order of installing.
-ghost use Rattle.std.specs.Prelude.{◌≡◌, ◌-◌, ◌^◌, [], ◌∷◌, ◌++◌, Some, None, IfOk, IfErr, IfNone, OnOk, OnErr, ◌+◌, length, min, fold, map, option_map};
+ghost use Rattle.std.specs.Prelude.{◌≡◌, ◌-◌, ◌^◌, [], ◌∷◌, ◌++◌, Some, None, IfOk, IfErr, IfNone};
+ghost use Rattle.std.specs.Prelude.{OnOk, OnErr, ◌+◌, length, min, fold, map, option_map};
 ghost use Rattle.std.specs.Map.{lookup, keys_of, values_of, set_value, remove_entry};
 ghost use Rattle.std.specs.Str.{bytes_eq};
 ghost use Rattle.rb_packages.specs.Packages.{shelf_of, install_fault, IsJudged};
@@ -20,7 +21,8 @@ use std::mem;
 /// The bundles of one package, in the order of installing, each with what lookups ask of it.
 pub(crate) type Bundles = IndexMap<Name, Held, RandomState>;
 
-/// A package of one bundle. If out of memory, the bundle comes back.
+/// A package of one bundle, with room for no other, since many applications have one. If out of
+/// memory, the bundle comes back.
 pub(crate) fn of_one(
     alloc: Global,
     state: RandomState,
@@ -32,6 +34,7 @@ pub(crate) fn of_one(
 {
     let mut bundles = IndexMap::with_hasher(alloc, state);
     add(&mut bundles, name, bundle)?;
+    bundles.shrink_to_fit();
     Ok(bundles)
 }
 
@@ -83,7 +86,8 @@ pub(crate) fn replace(
 ) -> Result<Bundle, (Absent, Bundle)>
     ensures found { IfOk result (λ b. lookup (bytes_eq name.now) bundles.old.entries ≡ Some b) }
     ensures absent { OnErr result (lookup (bytes_eq name.now) bundles.old.entries ≡ None) }
-    ensures replaced { OnOk result (bundles.new.entries ≡ set_value (bytes_eq name.now) bundles.old.entries bundle) }
+    ensures replaced { OnOk result
+        (bundles.new.entries ≡ set_value (bytes_eq name.now) bundles.old.entries bundle) }
     ensures back { IfErr result (λ e. e.1 ≡ bundle) }
     ensures stays { OnErr result (bundles.new.entries ≡ bundles.old.entries) }
 {
@@ -114,7 +118,8 @@ pub(crate) fn names(alloc: Global, bundles: &Bundles) -> Result<Vec<Name>, Alloc
 
 /// The bytes of all files, `u64::MAX` at the most.
 fn bytes(bundles: &Bundles) -> u64
-    ensures { result ≡ fold (λ sum len. min (sum + len) (2 ^ 64 - 1)) 0 (map length (values_of bundles.now.entries)) }
+    ensures { result ≡ fold (λ sum len. min (sum + len) (2 ^ 64 - 1)) 0
+        (map length (values_of bundles.now.entries)) }
 {
     bundles
         .values()

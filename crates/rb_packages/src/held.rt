@@ -12,8 +12,9 @@ use rb_validator::Bundle;
 use rb_views::{Item, RootPlace, root, root_at, root_place};
 use std::marker::Model;
 
-/// A bundle, and what each lookup asks of it: where its root is, whether it has no fallback, and whether its root names another
-/// bundle. These are read off the file once, since whoever reads them there waits for memory each time.
+/// A bundle, and what each lookup asks of it: where its root is, whether it has no fallback, and
+/// whether its root names another bundle. These are read off the file once, since whoever reads
+/// them there waits for memory each time.
 #[derive(Drop)]
 pub(crate) struct Held {
     bundle: Bundle,
@@ -56,7 +57,7 @@ impl Held {
         }
     }
 
-    /// The bundle alone.
+    /// The bundle by itself.
     pub(crate) fn into_bundle(self) -> Bundle
         ensures { result ≡ self }
     {

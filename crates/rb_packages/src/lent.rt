@@ -7,8 +7,8 @@ ghost use Rattle.rb_packages.specs.inner.Names.{names_nothing};
 use rb_tree::{Kind, Node};
 use rb_views::Item;
 
-/// An item of a bundle that packages lend. It is what its `item` is, but that the root of a bundle whose table has neither `%%ALIAS`
-/// nor `%%Parent` answers so without a look at the file.
+/// An item of a bundle that packages lend. It is what its `item` is, but that the root of a bundle
+/// whose table has neither `%%ALIAS` nor `%%Parent` answers so without a look at the file.
 #[derive(Clone, Copy)]
 pub struct LentItem<'a> {
     pub(crate) item: Item<'a>,

@@ -1,4 +1,5 @@
-//! The bundles of many applications and those of ICUDATA, each package a list of its own, in one index.
+//! The bundles of many applications and those of ICUDATA, each package a list of its own, in one
+//! index.
 #![tactic(auto)]
 
 mod app;
@@ -10,8 +11,6 @@ mod limits;
 mod owned;
 mod packages;
 mod shelf;
-#[cfg(test)]
-mod tests;
 mod usage;
 mod words;
 

@@ -1,5 +1,7 @@
 //! The bundles of all applications, each application's in a list of its own.
-ghost use Rattle.std.specs.Prelude.{◌≡◌, ◌-◌, ◌^◌, ◌+◌, [], ◌∷◌, ◌++◌, Some, None, IfOk, IfErr, IfNone, OnOk, OnErr, IsTrue, true, false, length, min, is_some, option_map, if◌then◌else◌};
+ghost use Rattle.std.specs.Prelude.{◌≡◌, ◌-◌, ◌^◌, ◌+◌, [], ◌∷◌, ◌++◌, Some, None, IfOk, IfErr};
+ghost use Rattle.std.specs.Prelude.{IfNone, OnOk, OnErr, IsTrue, true, false, length, min, is_some};
+ghost use Rattle.std.specs.Prelude.{option_map, if◌then◌else◌};
 ghost use Rattle.std.specs.Map.{lookup, set_value, remove_entry};
 ghost use Rattle.std.specs.Str.{bytes_eq};
 ghost use Rattle.rb_packages.specs.Packages.{shelf_of, install_fault, IsJudged};
@@ -20,7 +22,8 @@ use std::hash::RandomState;
 /// The bundles of all applications. An application without bundles isn't there.
 pub(crate) type Owned = IndexMap<App, Bundles, RandomState>;
 
-/// Installs the first bundle of an application that isn't there. If out of memory, the bundle comes back.
+/// Installs the first bundle of an application that isn't there. If out of memory, the bundle comes
+/// back.
 fn install_first(
     owned: &mut Owned,
     app: &App,
@@ -30,7 +33,8 @@ fn install_first(
     ensures own { OnOk result (files_at app.now owned.new.entries ≡ (name, bundle) ∷ []) }
     ensures others { KeepsOthers app.now owned.old.entries owned.new.entries }
     ensures count { OnOk result (length owned.new.entries
-        ≡ length owned.old.entries + (if is_some (lookup (bytes_eq app.now) owned.old.entries) then 0 else 1)) }
+        ≡ length owned.old.entries
+        + (if is_some (lookup (bytes_eq app.now) owned.old.entries) then 0 else 1)) }
     ensures error { IfErr result (λ e. e ≡ (faults.Memory, bundle)) }
     ensures stays { OnErr result (owned.new.entries ≡ owned.old.entries) }
 {
@@ -49,11 +53,14 @@ pub(crate) fn install(
     name: Name,
     bundle: Bundle,
 ) -> Result<(), (PackFault, Bundle)>
-    ensures judged { IsJudged (install_fault name (shelf_of (files_at app.now owned.old.entries))) result }
-    ensures own { OnOk result (files_at app.now owned.new.entries ≡ files_at app.now owned.old.entries ++ (name, bundle) ∷ []) }
+    ensures judged { IsJudged
+        (install_fault name (shelf_of (files_at app.now owned.old.entries))) result }
+    ensures own { OnOk result (files_at app.now owned.new.entries
+        ≡ files_at app.now owned.old.entries ++ (name, bundle) ∷ []) }
     ensures others { KeepsOthers app.now owned.old.entries owned.new.entries }
     ensures count { OnOk result (length owned.new.entries
-        ≡ length owned.old.entries + (if is_some (lookup (bytes_eq app.now) owned.old.entries) then 0 else 1)) }
+        ≡ length owned.old.entries
+        + (if is_some (lookup (bytes_eq app.now) owned.old.entries) then 0 else 1)) }
     ensures back { IfErr result (λ e. e.1 ≡ bundle) }
     ensures stays { OnErr result (files_by_app owned.new.entries ≡ files_by_app owned.old.entries) }
 {
@@ -70,9 +77,12 @@ pub(crate) fn replace(
     name: &Name,
     bundle: Bundle,
 ) -> Result<Bundle, (Absent, Bundle)>
-    ensures found { IfOk result (λ b. lookup (bytes_eq name.now) (files_at app.now owned.old.entries) ≡ Some b) }
-    ensures absent { OnErr result (lookup (bytes_eq name.now) (files_at app.now owned.old.entries) ≡ None) }
-    ensures own { OnOk result (files_at app.now owned.new.entries ≡ set_value (bytes_eq name.now) (files_at app.now owned.old.entries) bundle) }
+    ensures found { IfOk result
+        (λ b. lookup (bytes_eq name.now) (files_at app.now owned.old.entries) ≡ Some b) }
+    ensures absent { OnErr result
+        (lookup (bytes_eq name.now) (files_at app.now owned.old.entries) ≡ None) }
+    ensures own { OnOk result (files_at app.now owned.new.entries
+        ≡ set_value (bytes_eq name.now) (files_at app.now owned.old.entries) bundle) }
     ensures others { KeepsOthers app.now owned.old.entries owned.new.entries }
     ensures count { length owned.new.entries ≡ length owned.old.entries }
     ensures back { IfErr result (λ e. e.1 ≡ bundle) }
@@ -87,11 +97,14 @@ pub(crate) fn replace(
 /// Takes a bundle out of the application's.
 fn remove_bundle(owned: &mut Owned, app: &App, name: &Name) -> Option<Bundle>
     ensures found { result ≡ lookup (bytes_eq name.now) (files_at app.now owned.old.entries) }
-    ensures own { files_at app.now owned.new.entries ≡ remove_entry (bytes_eq name.now) (files_at app.now owned.old.entries) }
+    ensures own { files_at app.now owned.new.entries
+        ≡ remove_entry (bytes_eq name.now) (files_at app.now owned.old.entries) }
     ensures others { KeepsOthers app.now owned.old.entries owned.new.entries }
     ensures count { length owned.new.entries ≡ length owned.old.entries }
-    ensures there { is_some result ≡ true → is_some (lookup (bytes_eq app.now) owned.new.entries) ≡ true }
-    ensures stays { IfNone result (files_by_app owned.new.entries ≡ files_by_app owned.old.entries) }
+    ensures there { is_some result ≡ true
+        → is_some (lookup (bytes_eq app.now) owned.new.entries) ≡ true }
+    ensures stays { IfNone result
+        (files_by_app owned.new.entries ≡ files_by_app owned.old.entries) }
 {
     match owned.get_mut(app) {
         Some(bundles) => bundles::remove(bundles, name),
@@ -116,7 +129,8 @@ fn remove_if_empty(owned: &mut Owned, app: &App)
     ensures others { KeepsOthers app.now owned.old.entries owned.new.entries }
     ensures filled { ¬ IsBare (lookup (bytes_eq app.now) owned.new.entries) }
     ensures count { is_some (lookup (bytes_eq app.now) owned.old.entries) ≡ true
-        → length owned.old.entries ≡ length owned.new.entries + more_apps (files_at app.now owned.old.entries) }
+        → length owned.old.entries
+        ≡ length owned.new.entries + more_apps (files_at app.now owned.old.entries) }
 {
     if !is_bare(owned, app) {
         return;
@@ -126,12 +140,16 @@ fn remove_if_empty(owned: &mut Owned, app: &App)
 
 /// Takes a bundle out of the application's, and the application with its last one.
 pub(crate) fn remove(owned: &mut Owned, app: &App, name: &Name) -> Result<Bundle, Absent>
-    ensures found { IfOk result (λ b. lookup (bytes_eq name.now) (files_at app.now owned.old.entries) ≡ Some b) }
-    ensures absent { OnErr result (lookup (bytes_eq name.now) (files_at app.now owned.old.entries) ≡ None) }
-    ensures own { OnOk result (files_at app.now owned.new.entries ≡ remove_entry (bytes_eq name.now) (files_at app.now owned.old.entries)) }
+    ensures found { IfOk result
+        (λ b. lookup (bytes_eq name.now) (files_at app.now owned.old.entries) ≡ Some b) }
+    ensures absent { OnErr result
+        (lookup (bytes_eq name.now) (files_at app.now owned.old.entries) ≡ None) }
+    ensures own { OnOk result (files_at app.now owned.new.entries
+        ≡ remove_entry (bytes_eq name.now) (files_at app.now owned.old.entries)) }
     ensures others { KeepsOthers app.now owned.old.entries owned.new.entries }
     ensures filled { OnOk result (¬ IsBare (lookup (bytes_eq app.now) owned.new.entries)) }
-    ensures count { OnOk result (length owned.old.entries ≡ length owned.new.entries + more_apps (files_at app.now owned.new.entries)) }
+    ensures count { OnOk result (length owned.old.entries
+        ≡ length owned.new.entries + more_apps (files_at app.now owned.new.entries)) }
     ensures stays { OnErr result (files_by_app owned.new.entries ≡ files_by_app owned.old.entries) }
 {
     match remove_bundle(owned, app, name) {
@@ -145,7 +163,8 @@ pub(crate) fn remove(owned: &mut Owned, app: &App, name: &Name) -> Result<Bundle
 
 /// How much an application holds.
 pub(crate) fn usage(owned: &Owned, app: &App) -> Usage
-    ensures bytes { result.bytes ≡ min (bytes_of (files_at app.now owned.now.entries)) (2 ^ 64 - 1) }
+    ensures bytes { result.bytes
+        ≡ min (bytes_of (files_at app.now owned.now.entries)) (2 ^ 64 - 1) }
     ensures count { result.bundles ≡ length (files_at app.now owned.now.entries) }
 {
     match owned.get(app) {
@@ -159,7 +178,8 @@ pub(crate) fn usage(owned: &Owned, app: &App) -> Usage
 
 /// The length of the file of an application's bundle.
 pub(crate) fn file_len(owned: &Owned, app: &App, name: &Name) -> Option<u64>
-    ensures { result ≡ option_map length (lookup (bytes_eq name.now) (files_at app.now owned.now.entries)) }
+    ensures { result
+        ≡ option_map length (lookup (bytes_eq name.now) (files_at app.now owned.now.entries)) }
 {
     let bundles = owned.get(app)?;
     bundles::file_len(bundles, name)

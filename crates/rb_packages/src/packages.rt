@@ -1,10 +1,12 @@
 //! The bundles of ICUDATA and of all applications.
-ghost use Rattle.std.specs.Prelude.{◌≡◌, ◌+◌, ◌-◌, ◌^◌, ℕ, [], ◌∷◌, ◌++◌, List, Some, None, IfOk, IfErr, OnOk, OnErr, map, length, min, option_map};
+ghost use Rattle.std.specs.Prelude.{◌≡◌, ◌+◌, ◌-◌, ◌^◌, ℕ, [], ◌∷◌, ◌++◌, List, Some, None, IfOk};
+ghost use Rattle.std.specs.Prelude.{IfErr, OnOk, OnErr, map, length, min, option_map};
 ghost use Rattle.std.specs.Map.{set_value, remove_entry};
 ghost use Rattle.std.specs.Str.{bytes_eq};
 ghost use Rattle.rb_format.specs.File.{source_tree_of};
 ghost use Rattle.rb_packages.specs.Shelf.{bundle_at, replaced, removed};
-ghost use Rattle.rb_packages.specs.Packages.{icudata_files, icudata_of, files_of, list_of, file_at, install_fault, load_fault, IsJudged, OthersStay};
+ghost use Rattle.rb_packages.specs.Packages.{icudata_files, icudata_of, files_of, list_of, file_at};
+ghost use Rattle.rb_packages.specs.Packages.{install_fault, load_fault, IsJudged, OthersStay};
 ghost use Rattle.rb_packages.specs.Lent.{files_in, bundles_lent};
 ghost use Rattle.rb_packages.specs.Usage.{bytes_of, apps_of, more_apps, AreThereOnce};
 
@@ -22,10 +24,12 @@ use std::alloc::{AllocError, Global};
 use std::hash::RandomState;
 use std::marker::Model;
 
-/// The bundles of ICUDATA and those of many applications, each package with its bundles by their names, in the order of installing.
+/// The bundles of ICUDATA and those of many applications, each package with its bundles by their
+/// names, in the order of installing.
 ///
-/// One index holds all applications, and each application's bundles are in an index of their own. So a call takes time for the
-/// caller's bundles alone. An application without bundles takes no memory.
+/// One index holds all applications, and each application's bundles are in an index of their own.
+/// So a call takes time only for the caller's bundles. An application without bundles takes no
+/// memory.
 #[derive(Drop)]
 pub struct Packages {
     icudata: Bundles,
@@ -43,7 +47,10 @@ impl Model for Packages {
 
     ghost coded = { Prim.hlevel codes };
 
-    ghost view = { λ p. record { icudata = p.icudata.entries; owned = files_by_app p.owned.entries } };
+    ghost view = { λ p. record {
+      icudata = p.icudata.entries;
+      owned = files_by_app p.owned.entries;
+    } };
 
     ghost invariant = { λ p. AllHaveBundles (files_by_app p.owned.entries) };
 }
@@ -63,12 +70,14 @@ impl Packages {
         }
     }
 
-    /// Adds a bundle of ICUDATA, last in its order. `Twice`: there is one of that name. `Memory`: out of memory. An error changes
-    /// nothing and gives the bundle back.
+    /// Adds a bundle of ICUDATA, last in its order. `Twice`: there is one of that name. `Memory`:
+    /// out of memory. An error changes nothing and gives the bundle back.
     pub fn load(&mut self, name: Name, bundle: Bundle) -> Result<(), (PackFault, Bundle)>
         ensures judged { IsJudged (load_fault name (icudata_of self.old)) result }
-        ensures file { OnOk result (icudata_files self.new ≡ icudata_files self.old ++ (name, bundle) ∷ []) }
-        ensures loaded { OnOk result (icudata_of self.new ≡ icudata_of self.old ++ (name, source_tree_of bundle) ∷ []) }
+        ensures file { OnOk result
+            (icudata_files self.new ≡ icudata_files self.old ++ (name, bundle) ∷ []) }
+        ensures loaded { OnOk result
+            (icudata_of self.new ≡ icudata_of self.old ++ (name, source_tree_of bundle) ∷ []) }
         ensures others { (app : List ℕ) → list_of app self.new ≡ list_of app self.old }
         ensures apps { apps_of self.new ≡ apps_of self.old }
         ensures files { (app : List ℕ) → files_of app self.new ≡ files_of app self.old }
@@ -81,8 +90,9 @@ impl Packages {
         bundles::add(&mut self.icudata, name, bundle)
     }
 
-    /// Adds a bundle of an application, last in its order. `Exists`: the application has one of that name. `Full`: it has 4,096
-    /// bundles. `Memory`: out of memory. An error changes nothing and gives the bundle back.
+    /// Adds a bundle of an application, last in its order. `Exists`: the application has one of
+    /// that name. `Full`: it has 4,096 bundles. `Memory`: out of memory. An error changes nothing
+    /// and gives the bundle back.
     ///
     /// ```rust
     /// let mut packages = Packages::new(alloc, RandomState::new(rt)?);
@@ -95,18 +105,21 @@ impl Packages {
         bundle: Bundle,
     ) -> Result<(), (PackFault, Bundle)>
         ensures judged { IsJudged (install_fault name (list_of app.now self.old)) result }
-        ensures files { OnOk result (files_of app.now self.new ≡ files_of app.now self.old ++ (name, bundle) ∷ []) }
-        ensures installed { OnOk result (list_of app.now self.new ≡ list_of app.now self.old ++ (name, source_tree_of bundle) ∷ []) }
+        ensures files { OnOk result
+            (files_of app.now self.new ≡ files_of app.now self.old ++ (name, bundle) ∷ []) }
+        ensures installed { OnOk result (list_of app.now self.new
+            ≡ list_of app.now self.old ++ (name, source_tree_of bundle) ∷ []) }
         ensures others { OthersStay app.now self.old self.new }
-        ensures apps { OnOk result (apps_of self.new ≡ apps_of self.old + more_apps (files_of app.now self.old)) }
+        ensures apps { OnOk result
+            (apps_of self.new ≡ apps_of self.old + more_apps (files_of app.now self.old)) }
         ensures unchanged { OnErr result (self.new ≡ self.old) }
         ensures back { IfErr result (λ e. e.1 ≡ bundle) }
     {
         owned::install(&mut self.owned, app, name, bundle)
     }
 
-    /// Puts a bundle in the place of the application's bundle of that name, and gives the old one. `Absent`: there is none; nothing
-    /// is changed, and the bundle comes back. It takes no memory.
+    /// Puts a bundle in the place of the application's bundle of that name, and gives the old one.
+    /// `Absent`: there is none; nothing is changed, and the bundle comes back. It takes no memory.
     pub fn replace(
         &mut self,
         app: &App,
@@ -114,10 +127,13 @@ impl Packages {
         bundle: Bundle,
     ) -> Result<Bundle, (Absent, Bundle)>
         ensures file { IfOk result (λ b. file_at app.now name.now self.old ≡ Some b) }
-        ensures old { IfOk result (λ b. bundle_at (list_of app.now self.old) name.now ≡ Some (source_tree_of b)) }
+        ensures old { IfOk result
+            (λ b. bundle_at (list_of app.now self.old) name.now ≡ Some (source_tree_of b)) }
         ensures absent { OnErr result (bundle_at (list_of app.now self.old) name.now ≡ None) }
-        ensures files { OnOk result (files_of app.now self.new ≡ set_value (bytes_eq name.now) (files_of app.now self.old) bundle) }
-        ensures replaced { OnOk result (list_of app.now self.new ≡ replaced name.now (source_tree_of bundle) (list_of app.now self.old)) }
+        ensures files { OnOk result (files_of app.now self.new
+            ≡ set_value (bytes_eq name.now) (files_of app.now self.old) bundle) }
+        ensures replaced { OnOk result (list_of app.now self.new
+            ≡ replaced name.now (source_tree_of bundle) (list_of app.now self.old)) }
         ensures others { OthersStay app.now self.old self.new }
         ensures apps { apps_of self.new ≡ apps_of self.old }
         ensures unchanged { OnErr result (self.new ≡ self.old) }
@@ -126,21 +142,27 @@ impl Packages {
         owned::replace(&mut self.owned, app, name, bundle)
     }
 
-    /// Takes the application's bundle of that name out and gives it. `Absent`: there is none; nothing is changed. It takes no memory.
+    /// Takes the application's bundle of that name out and gives it. `Absent`: there is none;
+    /// nothing is changed. It takes no memory.
     pub fn remove(&mut self, app: &App, name: &Name) -> Result<Bundle, Absent>
         ensures file { IfOk result (λ b. file_at app.now name.now self.old ≡ Some b) }
-        ensures old { IfOk result (λ b. bundle_at (list_of app.now self.old) name.now ≡ Some (source_tree_of b)) }
+        ensures old { IfOk result
+            (λ b. bundle_at (list_of app.now self.old) name.now ≡ Some (source_tree_of b)) }
         ensures absent { OnErr result (bundle_at (list_of app.now self.old) name.now ≡ None) }
-        ensures files { OnOk result (files_of app.now self.new ≡ remove_entry (bytes_eq name.now) (files_of app.now self.old)) }
-        ensures removed { OnOk result (list_of app.now self.new ≡ removed name.now (list_of app.now self.old)) }
+        ensures files { OnOk result (files_of app.now self.new
+            ≡ remove_entry (bytes_eq name.now) (files_of app.now self.old)) }
+        ensures removed { OnOk result
+            (list_of app.now self.new ≡ removed name.now (list_of app.now self.old)) }
         ensures others { OthersStay app.now self.old self.new }
-        ensures apps { OnOk result (apps_of self.old ≡ apps_of self.new + more_apps (files_of app.now self.new)) }
+        ensures apps { OnOk result
+            (apps_of self.old ≡ apps_of self.new + more_apps (files_of app.now self.new)) }
         ensures unchanged { OnErr result (self.new ≡ self.old) }
     {
         owned::remove(&mut self.owned, app, name)
     }
 
-    /// The names of an application's bundles, in the order of installing; none of an application without bundles.
+    /// The names of an application's bundles, in the order of installing; none of an application
+    /// without bundles.
     pub fn list(&self, alloc: Global, app: &App) -> Result<Vec<Name>, AllocError>
         ensures { IfOk result (λ names. names.items ≡ map (λ e. e.0) (list_of app.now self.now)) }
     {
@@ -150,8 +172,8 @@ impl Packages {
         }
     }
 
-    /// How much an application holds: nothing if it has no bundles. It takes no memory, and goes once through the
-    /// application's own bundles.
+    /// How much an application holds: nothing if it has no bundles. It takes no memory, and goes
+    /// once through the application's own bundles.
     pub fn usage(&self, app: &App) -> Usage
         ensures bytes { result.bytes ≡ min (bytes_of (files_of app.now self.now)) (2 ^ 64 - 1) }
         ensures bundles { result.bundles ≡ length (files_of app.now self.now) }
@@ -159,7 +181,8 @@ impl Packages {
         owned::usage(&self.owned, app)
     }
 
-    /// The length of the file of the application's bundle of that name, if there is one. It takes no memory.
+    /// The length of the file of the application's bundle of that name, if there is one. It takes
+    /// no memory.
     pub fn file_len(&self, app: &App, name: &Name) -> Option<u64>
         ensures { result ≡ option_map length (file_at app.now name.now self.now) }
     {

@@ -35,7 +35,8 @@ impl<'a> Shelf<'a> for AppShelf<'a> {
 
 /// The root of a name's bundle, and whether the bundle has no fallback.
 fn bundle_in<'a>(bundles: &'a Bundles, name: &Name) -> Option<(LentItem<'a>, bool)>
-    ensures value { option_map (bundle_of lent_tree) result ≡ bundle_at (shelf_of bundles.now.entries) name.now }
+    ensures value { option_map (bundle_of lent_tree) result
+        ≡ bundle_at (shelf_of bundles.now.entries) name.now }
     ensures place { LendsRoot bundles.now.entries name.now result }
 {
     match bundles.get(name) {

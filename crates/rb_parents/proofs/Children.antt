@@ -4,7 +4,7 @@ use Rattle.rb_tree.specs.Resource.{Resource, table}
 use Rattle.rb_tree.specs.Parts.{kind_of, units_of}
 use Rattle.rb_tree.specs.declared.kind.Kind.TheVariants as Kinds
 use Rattle.rb_parents.specs.Trail.{text_of}
-use Rattle.rb_parents.specs.Entries.{read_entries}
+use Rattle.rb_parents.specs.inner.Entries.{read_entries}
 use Rattle.rb_parents.specs.ParentMap.{entries_in}
 use Rattle.rb_parents.specs.declared.fault.ParentsFault.TheVariants as fault
 use Rattle.rb_parents.proofs.Explicits.{text_some, text_none}

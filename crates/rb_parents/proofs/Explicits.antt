@@ -15,7 +15,7 @@ use Rattle.rb_tree.specs.declared.kind.Kind.TheVariants as Kinds
 use Rattle.rb_locales.specs.Locale.{name, in_front}
 use Rattle.rb_parents.specs.Trail.{ParentsOf, text_of}
 use Rattle.rb_parents.specs.ParentMap.{texts_of, texts_in}
-use Rattle.rb_parents.specs.Entries.{Read, and_then, put_each, put_child, put_children, put_entry, put_entries}
+use Rattle.rb_parents.specs.inner.Entries.{Read, and_then, put_each, put_child, put_children, put_entry, put_entries}
 use Rattle.rb_parents.specs.declared.fault.ParentsFault.{ParentsFault}
 use Rattle.rb_parents.specs.declared.fault.ParentsFault.TheVariants as fault
 
@@ -145,7 +145,7 @@ pub string_more : (ts : List Resource) (i : ℕ) (x : Resource) → slice_get ts
 string_more ts i x e s h k d l = let le : k ≤ i = omega arith in
     elim (eq-or-lt_of_le le) [ inl q ↦ ap (λ j. kind_of (get_or ts j d)) q ∙ ap kind_of (get_or_from_slice_get ts i x d e) ∙ s | inr q ↦ h k d q ]
 
--- where all items are strings, each is one
+-- if all items are strings, each is one
 texts_each : (ts : List Resource) (i : ℕ) (x : Resource) (uss : List (List ℕ)) → texts_of ts ≡ Some uss → slice_get ts i ≡ Some x → kind_of x ≡ Kinds.String
 texts_each ts i x uss e h = by (kind_string x)
   where

@@ -9,7 +9,7 @@ use Rattle.rb_locales.specs.Locale.{name}
 use Rattle.rb_parents.specs.Trail.{ParentsOf}
 use Rattle.rb_parents.specs.ParentMap.{Entries, Mentions, texts_in, mentions, mentions_by, IsNamed}
 use Rattle.rb_parents.specs.Explicit.{ChildError, IsFirstBadChild, EntryError, IsFirstError, TableGives, TableRefuses}
-use Rattle.rb_parents.specs.Entries.{Read, and_then, put_child, put_children, put_value, put_entry, put_entries, no_parents, read_entries}
+use Rattle.rb_parents.specs.inner.Entries.{Read, and_then, put_child, put_children, put_value, put_entry, put_entries, no_parents, read_entries}
 use Rattle.rb_parents.specs.declared.fault.ParentsFault.{ParentsFault}
 use Rattle.rb_parents.specs.declared.fault.ParentsFault.TheVariants as fault
 use Rattle.rb_parents.proofs.ParentMaps.{put_all, each_push, child_put, entries_all, all_named, entries_give}

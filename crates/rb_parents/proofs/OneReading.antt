@@ -10,7 +10,7 @@ use Rattle.rb_locales.specs.Locale.{name}
 use Rattle.rb_parents.specs.Trail.{ParentsOf}
 use Rattle.rb_parents.specs.ParentMap.{Entries, Mentions, texts_in, mentions, mentions_by, Names, IsParentMap, IsNamed}
 use Rattle.rb_parents.specs.Explicit.{IsEntry, GivesMap, ChildError, IsFirstBadChild, EntryError, IsFirstError, TableGives, TableRefuses}
-use Rattle.rb_parents.specs.Entries.{Read, and_then, put_child, put_children, put_value, put_entry, put_entries, no_parents, read_entries}
+use Rattle.rb_parents.specs.inner.Entries.{Read, and_then, put_child, put_children, put_value, put_entry, put_entries, no_parents, read_entries}
 use Rattle.rb_parents.specs.declared.fault.ParentsFault.{ParentsFault}
 use Rattle.rb_parents.specs.declared.fault.ParentsFault.TheVariants as fault
 use Rattle.rb_parents.proofs.FirstErrors.{table_gives, table_refuses}
@@ -25,7 +25,7 @@ slice_get_mid : {A : Type 0} (xs : List A) (y : A) (ys : List A) → slice_get (
 slice_get_mid [] y ys = refl
 slice_get_mid (x ∷ xs) y ys = slice_get_mid xs y ys
 
--- where all mentions name a child of their own, a reading gives a map
+-- if all mentions name a child of their own, a reading gives a map
 names_new : (before ms : Mentions) (s : List ℕ × List ℕ) (m known : ParentsOf) (child parent : List ℕ) → IsNamed (before ++ s ∷ ms) m
     → put_all before no_parents ≡ Ok known → Names (before ++ s ∷ ms) (length before) child parent → known child ≡ None
 names_new before ms s m known child parent valid so_far here = by (known child) refl

@@ -11,7 +11,7 @@ use Rattle.rb_locales.specs.Locale.{name}
 use Rattle.rb_parents.specs.Trail.{ParentsOf}
 use Rattle.rb_parents.specs.ParentMap.{Entries, Mentions, texts_in, mentions, mentions_by, mentions_in, Names, IsParentMap, IsNamed}
 use Rattle.rb_parents.specs.Explicit.{IsEntry, GivesMap, TableGives}
-use Rattle.rb_parents.specs.Entries.{Read, and_then, put_each, put_child, put_children, put_value, put_entry, put_entries, no_parents}
+use Rattle.rb_parents.specs.inner.Entries.{Read, and_then, put_each, put_child, put_children, put_value, put_entry, put_entries, no_parents}
 use Rattle.rb_parents.specs.declared.fault.ParentsFault.TheVariants as fault
 
 -- ---- a reading, mention by mention

@@ -103,7 +103,7 @@ places_named test (n ∷ ns) =
 pub stops_named : (test : List ℕ → Bool) (ns : List (List ℕ)) (is : List ℕ) → is ≡ places test 0 ns → map (slice_get ns) is ≡ map Some (filter test ns)
 stops_named test ns is e = ap (map (slice_get ns)) e ∙ places_named test ns
 
--- a name is a stop where there is a tree of a stop
+-- a name is a stop if there is a tree of a stop
 pub stop_is : (o : Option SourceTree) → is_some (stop_tree o) ≡ stops_at o
 stop_is None = refl
 stop_is (Some b) = by (stops_at (Some b))

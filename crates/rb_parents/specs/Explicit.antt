@@ -1,6 +1,6 @@
--- The explicit parents that a tree gives, as the parent locales of UTS #35 (LDML) are in ICU's `supplementalData`: those that the table
--- at `parentLocales` names. Other entries of the tree say nothing. Where one of its entries is invalid it gives none: the first
--- invalid one is the error.
+-- The explicit parents that a tree gives, as the parent locales of UTS #35 (LDML) are in ICU's `supplementalData`:
+-- those that the table at `parentLocales` names. Other entries of the tree say nothing. Where one of its entries is
+-- invalid it gives none: the first invalid one is the error.
 use Rattle.std.specs.Prelude.{◌≡◌, ℕ, List, ◌∷◌, ◌++◌, Option, Some, None, codes, slice_get}
 use Rattle.rb_tree.specs.Resource.{Resource}
 use Rattle.rb_tree.specs.Parts.{child_of}

@@ -1,9 +1,9 @@
 pub mod Trail
 pub mod Shelf
 pub mod Explicit
-pub mod Entries
 pub mod ParentMap
 pub mod Family
 pub mod Answers
 pub mod Steps
 pub mod Words
+pub mod inner

@@ -1,6 +1,8 @@
--- Which map explicit parents are, in terms of the table at `parentLocales` (the parent locales of UTS #35): what its entries name,
--- and nothing else. Each key is a parent, and its value names the parent's children, as an array of strings or as one string.
-use Rattle.std.specs.Prelude.{◌≡◌, ◌↔◌, ◌<◌, ℕ, List, [], ◌∷◌, ◌++◌, length, Option, Some, None, map, slice_get, unwrap_or}
+-- Which map explicit parents are, in terms of the table at `parentLocales` (the parent locales of UTS #35): what its
+-- entries name, and nothing else. Each key is a parent, and its value names the parent's children, as an array of
+-- strings or as one string.
+use Rattle.std.specs.Prelude.{◌≡◌, ◌↔◌, ◌<◌, ℕ, List, [], ◌∷◌, ◌++◌, length, Option, Some, None, map, slice_get}
+use Rattle.std.specs.Prelude.{unwrap_or}
 use Rattle.rb_tree.specs.Resource.{Resource, string, array, table}
 use Rattle.rb_tree.specs.Keys.{items, pairs}
 use Rattle.rb_locales.specs.Locale.{name, in_front}
@@ -14,12 +16,12 @@ abbrev pub entries_in : Option Resource → Option Entries
 entries_in (Some (table es)) = Some (pairs es)
 entries_in o = None
 
--- the texts of strings, where all are strings
+-- the texts of strings, if all are strings
 abbrev pub texts_of : List Resource → Option (List (List ℕ))
 texts_of [] = Some []
 texts_of (t ∷ ts) = in_front (text_of t) (texts_of ts)
 
--- the texts of the children that a value names, where it has the shape of one
+-- the texts of the children that a value names, if it has the shape of one
 abbrev pub texts_in : Resource → Option (List (List ℕ))
 texts_in (string us) = Some (us ∷ [])
 texts_in (array ts) = texts_of (items ts)
@@ -49,7 +51,7 @@ pub record Names (ms : Mentions) (i : ℕ) (child parent : List ℕ) : Type 0 wh
   pub child_is : name text ≡ Some child
   pub parent_is : name key ≡ Some parent
 
--- a child has a parent exactly where a mention names them, and no two mentions name one child
+-- a child has a parent exactly if a mention names them, and no two mentions name one child
 pub record IsParentMap (ms : Mentions) (m : ParentsOf) : Type 0 where
   pub same : (child parent : List ℕ) → (m child ≡ Some parent) ↔ ((i : ℕ) × Names ms i child parent)
   pub once : (i j : ℕ) (child p q : List ℕ) → Names ms i child p → Names ms j child q → i ≡ j

@@ -2,7 +2,8 @@
 -- UTS #35 (LDML), with `%%ALIAS` and `%%Parent` as ICU's `ures_open` reads them. This profile has no
 -- default locale and no rule for scripts, and a trail of more than 32 names is an error. That a lookup ends at a bundle
 -- without fallback is `URES_ATT_NO_FALLBACK` of `uresdata.h`.
-use Rattle.std.specs.Prelude.{ℕ, zero, suc, List, [], ◌∷◌, Bool, true, false, Option, Some, None, option_and_then, option_map, unwrap_or, codes, is_none}
+use Rattle.std.specs.Prelude.{ℕ, zero, suc, List, [], ◌∷◌, Bool, true, false, Option, Some, None, option_and_then}
+use Rattle.std.specs.Prelude.{option_map, unwrap_or, codes, is_none}
 use Rattle.std.specs.Prelude.{if◌then◌else◌}
 use Rattle.std.specs.List.{filter}
 use Rattle.std.specs.Str.{bytes_eq}
@@ -62,11 +63,12 @@ abbrev pub named_or : Option (List ℕ) → Next → Next
 named_or None other = other
 named_or (Some us) other = named_next (name us)
 
--- after a bundle: its `%%ALIAS`; else the end, where it has no fallback; else its `%%Parent`; else as without a bundle
+-- after a bundle: its `%%ALIAS`; else the end, if it has no fallback; else its `%%Parent`; else as without a bundle
 abbrev pub bundle_next : ParentsOf → List ℕ → Option SourceTree → Next
 bundle_next parents n None = plain_next parents n
 bundle_next parents n (Some b) =
-    named_or (text_at alias_key b.tree) (if b.no_fallback then end else named_or (text_at parent_key b.tree) (plain_next parents n))
+    named_or (text_at alias_key b.tree)
+    (if b.no_fallback then end else named_or (text_at parent_key b.tree) (plain_next parents n))
 
 abbrev pub next : Bundles → ParentsOf → List ℕ → Next
 next bundles parents n = bundle_next parents n (bundles n)
@@ -99,10 +101,11 @@ onward go (goes_to n) = go n
 onward go end = names []
 onward go bad = bad_parent
 
--- the trail of a name, of at most so many names
+-- the trail of a name, of at most this many names
 unfoldable pub trail_within : ℕ → Bundles → ParentsOf → List ℕ → Trail
 trail_within zero bundles parents n = chain
-trail_within (suc k) bundles parents n = begins n (onward (λ m. trail_within k bundles parents m) (next bundles parents n))
+trail_within (suc k) bundles parents n = begins n
+    (onward (λ m. trail_within k bundles parents m) (next bundles parents n))
 
 -- a trail has at most 32 names
 abbrev pub trail : Bundles → ParentsOf → List ℕ → Trail

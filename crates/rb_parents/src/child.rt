@@ -9,7 +9,8 @@ use rb_tree::{Kind, Node};
 pub(crate) fn child_of_kind<N: Node>(node: N, key: &[u8], kind: Kind) -> Option<N>
     ensures child { IfSome result (λ m. child_of key.now (N.tree node) ≡ Some (N.tree m)) }
     ensures kind { IfSome result (λ m. kind_of (N.tree m) ≡ kind) }
-    ensures none { IfNone result ((t : Resource) → child_of key.now (N.tree node) ≡ Some t → kind_of t ≢ kind) }
+    ensures none { IfNone result
+        ((t : Resource) → child_of key.now (N.tree node) ≡ Some t → kind_of t ≢ kind) }
 {
     if node.kind() != Kind::Table {
         return None;

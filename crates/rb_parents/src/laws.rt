@@ -6,18 +6,23 @@ ghost use Rattle.rb_parents.specs.ParentMap.{IsParentMap, mentions_in};
 ghost use Rattle.rb_parents.specs.Trail.{ParentsOf};
 ghost use Rattle.rb_parents.specs.declared.fault.ParentsFault.{ParentsFault};
 
-/// Does nothing: where a tree gives explicit parents, a child has a parent exactly where an entry of the table at `parentLocales`
-/// names it so, and no child is named twice.
+/// Does nothing: if a tree gives explicit parents, a child has a parent exactly if an entry of the
+/// table at `parentLocales` names it so, and no child is named twice.
 #[tactic(auto, using(crate::proofs::ParentMaps::gives_map))]
 pub fn a_child_has_the_parent_that_names_it()
-    ensures { (t : Resource) (m : ParentsOf) → GivesParents t m → IsParentMap (mentions_in (parent_entries t)) m }
+    ensures { (t : Resource) (m : ParentsOf) → GivesParents t m
+        → IsParentMap (mentions_in (parent_entries t)) m }
 {}
 
 /// Does nothing: a tree gives one map of explicit parents or has one error, and not both.
 #[tactic(auto, using(crate::proofs::OneReading::map_or_error))]
 pub fn a_tree_gives_one_map_or_has_one_error()
-    ensures answered { (t : Resource) → ((m : ParentsOf) × GivesParents t m) ⊎ ((e : ParentsFault) × RefusesParents t e) }
-    ensures map { (t : Resource) (m k : ParentsOf) → GivesParents t m → GivesParents t k → (name : List ℕ) → m name ≡ k name }
-    ensures error { (t : Resource) (e f : ParentsFault) → RefusesParents t e → RefusesParents t f → e ≡ f }
-    ensures apart { (t : Resource) (m : ParentsOf) (e : ParentsFault) → GivesParents t m → RefusesParents t e → ⊥ }
+    ensures answered { (t : Resource)
+        → ((m : ParentsOf) × GivesParents t m) ⊎ ((e : ParentsFault) × RefusesParents t e) }
+    ensures map { (t : Resource) (m k : ParentsOf) → GivesParents t m → GivesParents t k
+        → (name : List ℕ) → m name ≡ k name }
+    ensures error { (t : Resource) (e f : ParentsFault) → RefusesParents t e → RefusesParents t f
+        → e ≡ f }
+    ensures apart { (t : Resource) (m : ParentsOf) (e : ParentsFault) → GivesParents t m
+        → RefusesParents t e → ⊥ }
 {}

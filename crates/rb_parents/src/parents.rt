@@ -1,10 +1,12 @@
 //! Explicit parents.
-ghost use Rattle.std.specs.Prelude.{◌≡◌, ◌⊎◌, List, ℕ, Ok, Err, None, IfOk, IfErr, IfSome, IfNone, OnOk, Some, map, if◌then◌else◌};
+ghost use Rattle.std.specs.Prelude.{◌≡◌, ◌⊎◌, List, ℕ, Ok, Err, None, IfOk, IfErr, IfSome, IfNone};
+ghost use Rattle.std.specs.Prelude.{OnOk, Some, map, if◌then◌else◌};
 ghost use Rattle.rb_tree.specs.Parts.{children_of, kind_of, pairs_of, units_of};
 ghost use Rattle.rb_tree.specs.View.{view_of};
 ghost use Rattle.rb_tree.specs.declared.kind.Kind.TheVariants as Kinds;
 ghost use Rattle.rb_locales.specs.Locale.{name};
-ghost use Rattle.rb_parents.specs.Entries.{no_parents, put_child, put_entries, put_entry, put_value, read_tree};
+ghost use Rattle.rb_parents.specs.inner.Entries.{no_parents, put_child, put_entries, put_entry};
+ghost use Rattle.rb_parents.specs.inner.Entries.{put_value, read_tree};
 ghost use Rattle.rb_parents.specs.Explicit.{GivesParents, RefusesParents};
 ghost use Rattle.rb_parents.specs.ParentMap.{texts_in};
 ghost use Rattle.rb_parents.specs.declared.fault.ParentsFault.TheVariants as Faults;
@@ -34,7 +36,7 @@ impl Parents {
         }
     }
 
-    /// The explicit parents that a tree has at `parentLocales`, where each key is a parent and each
+    /// The explicit parents that a tree has at `parentLocales`, if each key is a parent and each
     /// value an Array of Strings, the children, or one String.
     ///
     /// The first error in the order of keys and items is answered. `Shape`: the tree has no table
@@ -51,7 +53,8 @@ impl Parents {
     #[tactic(auto, using(crate::proofs::FirstErrors::table_refuses))]
     pub fn read(alloc: Global, tree: &Tree) -> Result<Parents, ParentsFault>
         ensures parents { IfOk result (λ p. GivesParents (view_of tree.now) (parent_of p)) }
-        ensures fault { IfErr result (λ e. (e ≡ Faults.Memory) ⊎ RefusesParents (view_of tree.now) e) }
+        ensures fault { IfErr result
+            (λ e. (e ≡ Faults.Memory) ⊎ RefusesParents (view_of tree.now) e) }
     {
         let table = match locales_table(tree) {
             Some(table) => table,
@@ -75,7 +78,8 @@ impl Parents {
 // The table of a tree that has explicit parents.
 fn locales_table(tree: &Tree) -> Option<&Tree>
     ensures kind { IfSome result (λ t. kind_of (view_of t.now) ≡ Kinds.Table) }
-    ensures entries { IfSome result (λ t. read_tree (view_of tree.now) ≡ put_entries (pairs_of (view_of t.now)) no_parents) }
+    ensures entries { IfSome result
+        (λ t. read_tree (view_of tree.now) ≡ put_entries (pairs_of (view_of t.now)) no_parents) }
     ensures none { IfNone result (read_tree (view_of tree.now) ≡ Err Faults.Shape) }
 {
     child_of_kind(tree, b"parentLocales", Kind::Table)
@@ -84,7 +88,8 @@ fn locales_table(tree: &Tree) -> Option<&Tree>
 // Whether all items of an array are strings.
 fn are_strings(value: &Tree) -> bool
     requires { kind_of (view_of value.now) ≡ Kinds.Array }
-    ensures { texts_in (view_of value.now) ≡ (if result then Some (map units_of (children_of (view_of value.now))) else None) }
+    ensures { texts_in (view_of value.now)
+        ≡ (if result then Some (map units_of (children_of (view_of value.now))) else None) }
 {
     for i in 0..value.len() {
         if value.at(i).kind() != Kind::String {
@@ -100,8 +105,10 @@ impl Parents {
     // Puts in one child more, whose name is a string.
     fn put_child(&mut self, parent: Name, text: &Tree) -> Result<(), ParentsFault>
         requires { kind_of (view_of text.now) ≡ Kinds.String }
-        ensures ok { OnOk result (put_child parent (name (units_of (view_of text.now))) (parent_of self.old) ≡ Ok (parent_of self.new)) }
-        ensures fault { IfErr result (λ e. (e ≡ Faults.Memory) ⊎ (put_child parent (name (units_of (view_of text.now))) (parent_of self.old) ≡ Err e)) }
+        ensures ok { OnOk result (put_child parent (name (units_of (view_of text.now)))
+            (parent_of self.old) ≡ Ok (parent_of self.new)) }
+        ensures fault { IfErr result (λ e. (e ≡ Faults.Memory) ⊎
+            (put_child parent (name (units_of (view_of text.now))) (parent_of self.old) ≡ Err e)) }
     {
         let child = match Name::read_units(text) {
             Ok(child) => child,
@@ -118,8 +125,10 @@ impl Parents {
 
     // Puts in the children that a value names.
     fn put_value(&mut self, parent: Name, value: &Tree) -> Result<(), ParentsFault>
-        ensures ok { OnOk result (put_value parent (texts_in (view_of value.now)) (parent_of self.old) ≡ Ok (parent_of self.new)) }
-        ensures fault { IfErr result (λ e. (e ≡ Faults.Memory) ⊎ (put_value parent (texts_in (view_of value.now)) (parent_of self.old) ≡ Err e)) }
+        ensures ok { OnOk result (put_value parent (texts_in (view_of value.now))
+            (parent_of self.old) ≡ Ok (parent_of self.new)) }
+        ensures fault { IfErr result (λ e. (e ≡ Faults.Memory)
+            ⊎ (put_value parent (texts_in (view_of value.now)) (parent_of self.old) ≡ Err e)) }
     {
         if value.kind() == Kind::String {
             return self.put_child(parent, value);
@@ -135,8 +144,10 @@ impl Parents {
 
     // Puts in one entry more.
     fn put_entry(&mut self, key: &[u8], value: &Tree) -> Result<(), ParentsFault>
-        ensures ok { OnOk result (put_entry (name key.now) (view_of value.now) (parent_of self.old) ≡ Ok (parent_of self.new)) }
-        ensures fault { IfErr result (λ e. (e ≡ Faults.Memory) ⊎ (put_entry (name key.now) (view_of value.now) (parent_of self.old) ≡ Err e)) }
+        ensures ok { OnOk result (put_entry (name key.now) (view_of value.now) (parent_of self.old)
+            ≡ Ok (parent_of self.new)) }
+        ensures fault { IfErr result (λ e. (e ≡ Faults.Memory)
+            ⊎ (put_entry (name key.now) (view_of value.now) (parent_of self.old) ≡ Err e)) }
     {
         match Name::read(key) {
             Ok(parent) => self.put_value(parent, value),

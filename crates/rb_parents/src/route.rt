@@ -1,10 +1,12 @@
 //! The trail of a name, found before any path is walked.
-ghost use Rattle.std.specs.Prelude.{◌≡◌, ◌++◌, ◌∷◌, [], ◌<◌, if◌then◌else◌, IfOk, IfSome, option_map, Some, None, map, slice_get};
+ghost use Rattle.std.specs.Prelude.{◌≡◌, ◌++◌, ◌∷◌, [], ◌<◌, if◌then◌else◌, IfOk, IfSome};
+ghost use Rattle.std.specs.Prelude.{option_map, Some, None, map, slice_get};
 ghost use Rattle.rb_tree.specs.Parts.{kind_of, units_of};
 ghost use Rattle.rb_tree.specs.declared.kind.Kind.TheVariants as Kinds;
 ghost use Rattle.rb_locales.specs.Locale.{name};
 ghost use Rattle.rb_parents.specs.Family.{parent_of};
-ghost use Rattle.rb_parents.specs.Trail.{text_at, named_next, plain_next, next, is_stop, stop_tree, stops, places, trail, alias_key, parent_key};
+ghost use Rattle.rb_parents.specs.Trail.{text_at, named_next, plain_next, next, is_stop, stop_tree};
+ghost use Rattle.rb_parents.specs.Trail.{stops, places, trail, alias_key, parent_key};
 ghost use Rattle.arrayvec.specs.ArrayVec.{array_vec_len};
 ghost use Rattle.rb_parents.specs.Answers.{trail_of};
 ghost use Rattle.rb_parents.specs.Steps.{next_of};
@@ -71,7 +73,8 @@ fn plain_step(parents: &Parents, name: &Name) -> Next
     }
 }
 
-/// What follows a name on a trail, as `trail` says, and the root of its bundle if it is a stop. The bundle is asked for once.
+/// What follows a name on a trail, as `trail` says, and the root of its bundle if it is a stop. The
+/// bundle is asked for once.
 pub fn visit<'a, S: Shelf<'a>>(shelf: S, parents: &Parents, name: &Name) -> (Next, Option<S::N>)
     ensures next { next_of result.0 ≡ next (S.bundles shelf) (parent_of parents.now) name.now }
     ensures stop { option_map S.N.tree result.1 ≡ stop_tree (S.bundles shelf name.now) }
@@ -112,16 +115,18 @@ fn note_stop(stops: &mut ArrayVec<u8, TRAIL_LIMIT>, i: u8, is_stop: bool)
     }
 }
 
-/// The trail of a name (locale inheritance of UTS #35, with `%%ALIAS` and `%%Parent` as `ures_open` reads them): the name itself,
-/// its next name, and so on to the end, with the indices of the stops among them. No memory is taken.
+/// The trail of a name (locale inheritance of UTS #35, with `%%ALIAS` and `%%Parent` as `ures_open`
+/// reads them): the name itself, its next name, and so on to the end, with the indices of the stops
+/// among them. No memory is taken.
 ///
-/// A bundle with a String at `%%ALIAS` is no stop, and the next name is that text; its flag isn't looked at. Any other bundle is a
-/// stop. After a stop without fallback the trail ends, and its `%%Parent` isn't looked at. After another the next name is the
-/// String at `%%Parent` if there is one. Everywhere else it is the explicit parent, else the shorter name, else `root`, and none
+/// A bundle with a String at `%%ALIAS` is no stop, and the next name is that text; its flag isn't
+/// looked at. Any other bundle is a stop. After a stop without fallback the trail ends, and its
+/// `%%Parent` isn't looked at. After another the next name is the String at `%%Parent` if there is
+/// one. Everywhere else it is the explicit parent, else the shorter name, else `root`, and none
 /// after `root`.
 ///
-/// `Chain`: there are more than 32 names. `BadParent`: a text that gives the next name is no locale name. The one that is met first
-/// is answered.
+/// `Chain`: there are more than 32 names. `BadParent`: a text that gives the next name is no locale
+/// name. The one that is met first is answered.
 ///
 /// ```rust
 /// let bundles = [(de, tree, false)];
@@ -135,9 +140,11 @@ pub fn trail<'a, S: Shelf<'a>>(
     name: &Name,
 ) -> Result<Route, TrailFault>
     ensures names { trail_of result ≡ trail (S.bundles shelf) (parent_of parents.now) name.now }
-    ensures stops { IfOk result (λ r. r.stops.items ≡ places (is_stop (S.bundles shelf)) 0 r.names.items) }
+    ensures stops { IfOk result
+        (λ r. r.stops.items ≡ places (is_stop (S.bundles shelf)) 0 r.names.items) }
     // The names at these indices are those that have a bundle without a String at `%%ALIAS`.
-    ensures stop_names { IfOk result (λ r. map (slice_get r.names.items) r.stops.items ≡ map Some (stops (S.bundles shelf) r.names.items)) }
+    ensures stop_names { IfOk result (λ r. map (slice_get r.names.items) r.stops.items
+        ≡ map Some (stops (S.bundles shelf) r.names.items)) }
 {
     let mut route = Route {
         names: ArrayVec::new(),

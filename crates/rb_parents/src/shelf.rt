@@ -15,12 +15,14 @@ pub trait Shelf<'a>: Copy {
     /// The bundles by their names: each one's tree, and whether it has no fallback.
     ghost bundles: { Self → List ℕ → Option SourceTree };
 
-    /// The root of a name's bundle, and whether the bundle has no fallback; `None` for a name without a bundle.
+    /// The root of a name's bundle, and whether the bundle has no fallback; `None` for a name
+    /// without a bundle.
     fn bundle(self, name: &Name) -> Option<(Self::N, bool)>
         ensures { option_map (bundle_of Self.N.tree) result ≡ bundles self name.now };
 }
 
-/// The bundles of a list, each a name, a tree and whether it has no fallback; of two with one name the first counts.
+/// The bundles of a list, each a name, a tree and whether it has no fallback; of two with one name
+/// the first counts.
 #[derive(Clone, Copy)]
 pub struct ListShelf<'a> {
     pub entries: &'a [(Name, Tree, bool)],

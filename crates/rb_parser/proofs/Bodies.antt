@@ -44,7 +44,7 @@ pub located_same : {Y : Type 0} (end at : ℕ) (read other : Result Y Stop) (e :
     → located end other ≡ Err e
 located_same {Y} end at read other e same is h = ap (located end) is ∙ ap (λ (n : ℕ). located n read) (sym same) ∙ h
 
--- ---- where there is no room
+-- ---- if there is no room
 
 pub depth_error : (end depth : ℕ) (ts : List Token) (e : SourceFault) → depth ≡ 0 → e.kind ≡ cond (begins colon ts || begins left ts) TooDeep Unexpected
     → e.line ≡ line_at end ts → located end (body the_tests depth ts) ≡ Err e

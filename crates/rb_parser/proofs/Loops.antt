@@ -26,7 +26,7 @@ use Rattle.rb_parser.proofs.Rows.{EntriesSoFar}
 use Rattle.rb_parser.proofs.Parts as parts
 use Rattle.rb_parser.proofs.Parts.{ElementsSoFar}
 
--- what follows a text, and what follows where none comes
+-- what follows a text, and what follows if none comes
 pub record TextTaken (now next : Cursor) : Type 0 where
   pub same_end : next.end ≡ now.end
   pub rest : next.rest ≡ tail now.rest

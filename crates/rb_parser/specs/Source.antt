@@ -1,5 +1,5 @@
 -- Good bundle texts, after the bundle syntax of ICU's genrb, and why another text is refused.
--- A text is good where it is short, cuts into tokens, and these spell a bundle within the limits of height and weight.
+-- A text is good if it is short, cuts into tokens, and these spell a bundle within the limits of height and weight.
 use Rattle.std.specs.Prelude.{◌≡◌, ◌≤◌, ◌==◌, ◌⊎◌, ℕ, suc, List, length, count_by}
 use Rattle.rb_lexer.specs.declared.token.Token.{Token}
 use Rattle.rb_lexer.specs.declared.fault.SourceKind.{SourceKind}
@@ -13,22 +13,24 @@ use Rattle.rb_grammar.specs.Form.{marks}
 use Rattle.rb_grammar.specs.Good.{IsGoodWithin}
 use Rattle.rb_grammar.specs.Faults as grammar
 use Rattle.rb_parser.specs.declared.source.Source.{Source}
+use Rattle.rb_lexer.specs.Limits.{source_limit}
+use Rattle.rb_tree.specs.Limits.{height_limit}
 
 -- the bundle of a source that was read: its tree and its flag
 abbrev pub source_tree : Source → SourceTree
 source_tree s = record { tree = view_of s.tree; no_fallback = s.no_fallback }
 
--- The source, which is UTF-8, is the text of a bundle of this name, tree and flag, whose table has at most so many levels, and
--- the weight that a bundle may have.
+-- The source, which is UTF-8, is the text of a bundle of this name, tree and flag, whose table has at most this many
+-- levels, and the weight that a bundle may have.
 pub record IsGoodSourceWithin (levels : ℕ) (bytes : List ℕ) (name : List ℕ) (source : SourceTree) : Type 0 where
-  pub short : length bytes ≤ 8388608
+  pub short : length bytes ≤ source_limit
   pub tokens : List Token
   pub cut : HasTokens bytes tokens
   pub good : IsGoodWithin levels (marks tokens) name source
 
 -- a good source: within 64 levels
 abbrev pub IsGoodSource : List ℕ → List ℕ → SourceTree → Type 0
-IsGoodSource bytes name source = IsGoodSourceWithin 64 bytes name source
+IsGoodSource bytes name source = IsGoodSourceWithin height_limit bytes name source
 
 -- the line in which the source ends: 1 and all its line feeds
 abbrev pub last_line : List ℕ → ℕ
@@ -36,12 +38,13 @@ last_line bytes = suc (count_by (λ b. b == 0x0A) bytes)
 
 -- The source cuts into tokens, and these have an error in this line.
 pub record HasTokenFault (bytes : List ℕ) (kind : SourceKind) (line : ℕ) : Type 0 where
-  pub short : length bytes ≤ 8388608
+  pub short : length bytes ≤ source_limit
   pub tokens : List Token
   pub cut : HasTokens bytes tokens
   pub fault : grammar.IsFault tokens (last_line bytes) kind line
 
--- The source is no text or has a lexical error, and this is the one that the lexer's definition decides; or its tokens have the error.
+-- The source is no text or has a lexical error, and this is the one that the lexer's definition decides; or its tokens
+-- have the error.
 abbrev pub IsFault : List ℕ → SourceKind → ℕ → Type 0
 IsFault bytes kind line = IsSourceFault bytes kind line ⊎ HasTokenFault bytes kind line
 

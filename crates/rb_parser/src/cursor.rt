@@ -1,9 +1,11 @@
 //! A place in the tokens of a text.
-ghost use Rattle.std.specs.Prelude.{◌≡◌, ◌≢◌, ◌||◌, ◌∷◌, [], ◌<◌, ◌≤◌, length, if◌then◌else◌, IsTrue, ◌↔◌, is_some};
+ghost use Rattle.std.specs.Prelude.{◌≡◌, ◌≢◌, ◌||◌, ◌∷◌, [], ◌<◌, ◌≤◌, length, if◌then◌else◌};
+ghost use Rattle.std.specs.Prelude.{IsTrue, ◌↔◌, is_some};
 ghost use Rattle.std.specs.Prelude.{MatchOption, MatchResult, Some, None, Ok, Err, OnOk, IfOk};
 ghost use Rattle.rb_grammar.specs.Faults.{line_at};
 ghost use Rattle.rb_lexer.specs.declared.fault.SourceKind.TheVariants.{TooDeep, Unexpected, Memory};
-ghost use Rattle.rb_grammar.specs.Reading.{left, colon, begins, is_punctuation, tail, first_text, is_no_fallback_text};
+ghost use Rattle.rb_grammar.specs.Reading.{left, colon, begins, is_punctuation, tail, first_text};
+ghost use Rattle.rb_grammar.specs.Reading.{is_no_fallback_text};
 ghost use Rattle.rb_grammar.specs.Reading.{punctuation_at, text_at, word_at, guess, guess_second};
 ghost use Rattle.rb_parser.specs.inner.Reads.{located, Reads};
 ghost use Rattle.rb_parser.specs.inner.Views.{punctuation_of, guessed, word_of};
@@ -41,13 +43,15 @@ pub struct Cursor<'a> {
 
 impl<'a> Cursor<'a> {
     fn first(&self) -> Option<&Token>
-        ensures { MatchOption result (self.now.rest ≡ []) (λ t. self.now.rest ≡ t.now ∷ tail self.now.rest) }
+        ensures { MatchOption result (self.now.rest ≡ [])
+            (λ t. self.now.rest ≡ t.now ∷ tail self.now.rest) }
     {
         self.rest.first()
     }
 
     fn second(&self) -> Option<&Token>
-        ensures { MatchOption result (tail self.now.rest ≡ []) (λ t. tail self.now.rest ≡ t.now ∷ tail (tail self.now.rest)) }
+        ensures { MatchOption result (tail self.now.rest ≡ [])
+            (λ t. tail self.now.rest ≡ t.now ∷ tail (tail self.now.rest)) }
     {
         self.rest.second()
     }
@@ -55,7 +59,8 @@ impl<'a> Cursor<'a> {
     #[tactic(auto, using(crate::proofs::Takes::dropped))]
     fn pop(&mut self) -> Result<Option<Token>, AllocError>
         ensures same_end { self.new.end ≡ self.old.end }
-        ensures token { IfOk result (λ found. MatchOption found (self.old.rest ≡ []) (λ t. self.old.rest ≡ t ∷ self.new.rest)) }
+        ensures token { IfOk result (λ found. MatchOption found (self.old.rest ≡ [])
+            (λ t. self.old.rest ≡ t ∷ self.new.rest)) }
         ensures rest { OnOk result (self.new.rest ≡ tail self.old.rest) }
     {
         self.rest.pop()
@@ -106,9 +111,11 @@ impl<'a> Cursor<'a> {
         self.is_at(Punctuation::Colon) || self.is_at(Punctuation::Left)
     }
 
-    /// The error at the next token where no deeper value is allowed: it begins one, or it is out of place.
+    /// The error at the next token if no deeper value is allowed: it begins one, or it is out of
+    /// place.
     pub fn depth_error(&self) -> SourceFault
-        ensures kind { result.kind ≡ (if begins colon self.now.rest || begins left self.now.rest then TooDeep else Unexpected) }
+        ensures kind { result.kind ≡ (if begins colon self.now.rest || begins left self.now.rest
+            then TooDeep else Unexpected) }
         ensures line { result.line ≡ line_at self.now.end self.now.rest }
     {
         if self.is_at_body() {
@@ -121,10 +128,13 @@ impl<'a> Cursor<'a> {
     /// Takes a punctuation mark, if it comes next.
     pub fn take(&mut self, punctuation: Punctuation) -> Result<bool, AllocError>
         ensures same_end { self.new.end ≡ self.old.end }
-        ensures value { IfOk result (λ comes. comes ≡ begins (punctuation_of punctuation) self.old.rest) }
-        ensures rest { OnOk result (self.new.rest ≡ (if begins (punctuation_of punctuation) self.old.rest then tail self.old.rest
+        ensures value { IfOk result
+            (λ comes. comes ≡ begins (punctuation_of punctuation) self.old.rest) }
+        ensures rest { OnOk result (self.new.rest
+            ≡ (if begins (punctuation_of punctuation) self.old.rest then tail self.old.rest
             else self.old.rest)) }
-        ensures shorter { IfOk result (λ comes. IsTrue comes → length self.new.rest < length self.old.rest) }
+        ensures shorter { IfOk result
+            (λ comes. IsTrue comes → length self.new.rest < length self.old.rest) }
         ensures no_longer { OnOk result (length self.new.rest ≤ length self.old.rest) }
     {
         let comes = self.is_at(punctuation);
@@ -137,8 +147,10 @@ impl<'a> Cursor<'a> {
     /// Takes a punctuation mark, which has to come next.
     pub fn expect(&mut self, punctuation: Punctuation) -> Result<(), SourceFault>
         ensures same_end { self.new.end ≡ self.old.end }
-        ensures exact { MatchResult result (λ _. punctuation_at (punctuation_of punctuation) self.old.rest ≡ Ok self.new.rest)
-            (λ e. e.kind ≢ Memory → located self.old.end (punctuation_at (punctuation_of punctuation) self.old.rest) ≡ Err e) }
+        ensures exact { MatchResult result
+            (λ _. punctuation_at (punctuation_of punctuation) self.old.rest ≡ Ok self.new.rest)
+            (λ e. e.kind ≢ Memory → located self.old.end
+            (punctuation_at (punctuation_of punctuation) self.old.rest) ≡ Err e) }
         ensures shorter { OnOk result (length self.new.rest < length self.old.rest) }
     {
         if self.take(punctuation)? {
@@ -161,8 +173,10 @@ impl<'a> Cursor<'a> {
     pub fn take_text(&mut self) -> Result<Option<UnitList>, AllocError>
         ensures same_end { self.new.end ≡ self.old.end }
         ensures text { IfOk result (λ found. first_text self.old.rest ≡ found) }
-        ensures rest { IfOk result (λ found. MatchOption found (self.new.rest ≡ self.old.rest) (λ _. self.new.rest ≡ tail self.old.rest)) }
-        ensures shorter { IfOk result (λ found. MatchOption found (length self.new.rest ≤ length self.old.rest)
+        ensures rest { IfOk result (λ found. MatchOption found (self.new.rest ≡ self.old.rest)
+            (λ _. self.new.rest ≡ tail self.old.rest)) }
+        ensures shorter { IfOk result
+            (λ found. MatchOption found (length self.new.rest ≤ length self.old.rest)
             (λ _. length self.new.rest < length self.old.rest)) }
     {
         if !self.is_at_text() {
@@ -207,8 +221,10 @@ impl<'a> Cursor<'a> {
     /// Takes the text `table(nofallback)`, if it comes next.
     pub fn take_no_fallback_table(&mut self) -> Result<bool, AllocError>
         ensures same_end { self.new.end ≡ self.old.end }
-        ensures value { IfOk result (λ comes. comes ≡ is_no_fallback_text (first_text self.old.rest)) }
-        ensures rest { OnOk result (self.new.rest ≡ (if is_no_fallback_text (first_text self.old.rest) then tail self.old.rest
+        ensures value { IfOk result
+            (λ comes. comes ≡ is_no_fallback_text (first_text self.old.rest)) }
+        ensures rest { OnOk result (self.new.rest
+            ≡ (if is_no_fallback_text (first_text self.old.rest) then tail self.old.rest
             else self.old.rest)) }
     {
         let comes = self.is_at_no_fallback_table();
@@ -254,7 +270,8 @@ impl<'a> Cursor<'a> {
     /// The type of a value that a text names, which has to come next.
     pub fn word(&mut self) -> Result<Word, SourceFault>
         ensures same_end { self.new.end ≡ self.old.end }
-        ensures exact { Reads (λ w v. w ≡ word_of v) self.old.end result self.new.rest (word_at self.old.rest) }
+        ensures exact { Reads (λ w v. w ≡ word_of v) self.old.end result self.new.rest
+            (word_at self.old.rest) }
         ensures shorter { OnOk result (length self.new.rest < length self.old.rest) }
     {
         let line = self.line();

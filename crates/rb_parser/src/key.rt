@@ -7,7 +7,8 @@ use std::alloc::{AllocError, Global};
 
 /// The bytes of units that are all below 128, or `None`.
 fn ascii_bytes(alloc: Global, units: &[u16]) -> Result<Option<Vec<u8>>, AllocError>
-    ensures { IfOk result (λ found. MatchOption found (IsKey units.now → ⊥) (λ bytes. bytes.items ≡ units.now)) }
+    ensures { IfOk result
+        (λ found. MatchOption found (IsKey units.now → ⊥) (λ bytes. bytes.items ≡ units.now)) }
 {
     let mut bytes = Vec::with_capacity(alloc, units.len())?;
     for unit in units {
@@ -19,9 +20,10 @@ fn ascii_bytes(alloc: Global, units: &[u16]) -> Result<Option<Vec<u8>>, AllocErr
     Ok(Some(bytes))
 }
 
-/// The key that a text spells, or `None` where it is no key.
+/// The key that a text spells, or `None` if it is no key.
 pub fn read_key(alloc: Global, units: &[u16]) -> Result<Option<ByteList>, AllocError>
-    ensures { IfOk result (λ found. MatchOption found (IsKey units.now → ⊥) (λ key. IsKey units.now × (key ≡ units.now))) }
+    ensures { IfOk result (λ found. MatchOption found (IsKey units.now → ⊥)
+        (λ key. IsKey units.now × (key ≡ units.now))) }
 {
     let Some(bytes) = ascii_bytes(alloc, units)? else {
         return Ok(None);

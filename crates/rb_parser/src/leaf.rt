@@ -17,10 +17,11 @@ use rb_lexer::{SourceFault, SourceKind};
 use rb_tree::{ByteList, Int28, NumberList, Tree, UnitList};
 use std::alloc::{AllocError, Global};
 
-/// A text, or no units where none is there.
+/// A text, or no units if none is there.
 fn read_text(alloc: Global, cursor: &mut Cursor) -> Result<UnitList, AllocError>
     ensures same_end { cursor.new.end ≡ cursor.old.end }
-    ensures exact { IfOk result (λ found. Reads (λ units t. units ≡ text_or_none t) cursor.old.end (Ok found) cursor.new.rest
+    ensures exact { IfOk result (λ found. Reads (λ units t. units ≡ text_or_none t) cursor.old.end
+        (Ok found) cursor.new.rest
         (maybe_at BadHex anything cursor.old.rest)) }
     ensures no_longer { OnOk result (length cursor.new.rest ≤ length cursor.old.rest) }
 {
@@ -30,10 +31,11 @@ fn read_text(alloc: Global, cursor: &mut Cursor) -> Result<UnitList, AllocError>
     }
 }
 
-/// The bytes that a text spells, or none where no text is there.
+/// The bytes that a text spells, or none if no text is there.
 fn read_binary(alloc: Global, cursor: &mut Cursor) -> Result<ByteList, SourceFault>
     ensures same_end { cursor.new.end ≡ cursor.old.end }
-    ensures exact { Reads (λ bytes t. IsHexText (text_or_none t) bytes) cursor.old.end result cursor.new.rest
+    ensures exact { Reads
+        (λ bytes t. IsHexText (text_or_none t) bytes) cursor.old.end result cursor.new.rest
         (maybe_at BadHex the_tests.is_hex cursor.old.rest) }
     ensures no_longer { OnOk result (length cursor.new.rest ≤ length cursor.old.rest) }
 {
@@ -68,7 +70,8 @@ fn read_number(cursor: &mut Cursor) -> Result<Int28, SourceFault>
 /// The numbers of a vector.
 fn read_numbers(alloc: Global, cursor: &mut Cursor) -> Result<Vec<i32>, SourceFault>
     ensures same_end { cursor.new.end ≡ cursor.old.end }
-    ensures exact { (n : ℕ) → length cursor.old.rest < n → Reads (λ v ns. AreNumbers v.items ns) cursor.old.end result cursor.new.rest
+    ensures exact { (n : ℕ) → length cursor.old.rest < n
+        → Reads (λ v ns. AreNumbers v.items ns) cursor.old.end result cursor.new.rest
         (numbers the_tests.is_element n cursor.old.rest) }
     ensures no_longer { OnOk result (length cursor.new.rest ≤ length cursor.old.rest) }
 {
@@ -90,7 +93,8 @@ fn read_numbers(alloc: Global, cursor: &mut Cursor) -> Result<Vec<i32>, SourceFa
 /// What is in a body of a type without others inside, up to its closing brace.
 pub fn read_leaf(alloc: Global, cursor: &mut Cursor, leaf: Leaf) -> Result<Tree, SourceFault>
     ensures same_end { cursor.new.end ≡ cursor.old.end }
-    ensures exact { (w : reading.Word) → word_of w ≡ word.Leaf leaf → Reads IsLeafTree cursor.old.end result cursor.new.rest
+    ensures exact { (w : reading.Word) → word_of w ≡ word.Leaf leaf
+        → Reads IsLeafTree cursor.old.end result cursor.new.rest
         (leaf_at w cursor.old.rest) }
     ensures no_longer { OnOk result (length cursor.new.rest ≤ length cursor.old.rest) }
 {

@@ -1,11 +1,13 @@
 //! Bodies, by recursive descent.
-ghost use Rattle.std.specs.Prelude.{◌≡◌, ℕ, ◌<◌, ◌≤◌, [], length, OnOk, IfOk, All};
+ghost use Rattle.std.specs.Prelude.{◌≡◌, ℕ, ◌<◌, ◌≤◌, [], ◌∷◌, ◌++◌, length, OnOk, IfOk, All};
 ghost use Rattle.rb_tree.specs.Keys.{IsKey};
 ghost use Rattle.rb_tree.specs.Table.{keys_in};
 ghost use Rattle.rb_grammar.specs.Reading as reading;
-ghost use Rattle.rb_grammar.specs.Reading.{body, typed_at, untyped_at, guess, table_at, array_at, entries, elements};
+ghost use Rattle.rb_grammar.specs.Reading.{body, typed_at, untyped_at, guess, table_at, array_at};
+ghost use Rattle.rb_grammar.specs.Reading.{entries, elements};
 ghost use Rattle.rb_grammar.specs.Tests.{the_tests};
-ghost use Rattle.rb_parser.specs.inner.Reads.{Reads, inner_at, IsBodyTree, IsTableTree, IsArrayTree, AreEntries};
+ghost use Rattle.rb_parser.specs.inner.Reads.{Reads, inner_at, IsBodyTree, IsTableTree};
+ghost use Rattle.rb_parser.specs.inner.Reads.{IsArrayTree, AreEntries};
 ghost use Rattle.rb_parser.specs.inner.Views.{word_of};
 
 use crate::cursor::{Cursor, Guess, Punctuation};
@@ -15,13 +17,14 @@ use crate::seen::SeenKeys;
 use crate::word::Word;
 use rb_lexer::{SourceFault, SourceKind};
 use rb_tree::{ByteList, TableFault, Tree, TreeList};
-use std::alloc::Global;
+use std::alloc::{AllocError, Global};
 
 /// A value, whose height is at most `depth`.
 #[cycle(body)]
 pub fn read_body(alloc: Global, cursor: &mut Cursor, depth: u64) -> Result<Tree, SourceFault>
     ensures same_end { cursor.new.end ≡ cursor.old.end }
-    ensures exact { Reads IsBodyTree cursor.old.end result cursor.new.rest (body the_tests depth cursor.old.rest) }
+    ensures exact { Reads IsBodyTree cursor.old.end result cursor.new.rest
+        (body the_tests depth cursor.old.rest) }
     ensures shorter { OnOk result (length cursor.new.rest < length cursor.old.rest) }
 {
     if depth == 0 {
@@ -46,7 +49,8 @@ fn read_typed(
     depth: u64,
 ) -> Result<Tree, SourceFault>
     ensures same_end { cursor.new.end ≡ cursor.old.end }
-    ensures exact { (w : reading.Word) → word_of w ≡ word → Reads IsBodyTree cursor.old.end result cursor.new.rest
+    ensures exact { (w : reading.Word) → word_of w ≡ word
+        → Reads IsBodyTree cursor.old.end result cursor.new.rest
         (typed_at the_tests (inner_at depth) w cursor.old.rest) }
     ensures shorter { OnOk result (length cursor.new.rest < length cursor.old.rest) }
 {
@@ -80,11 +84,13 @@ fn read_untyped(alloc: Global, cursor: &mut Cursor, depth: u64) -> Result<Tree, 
     }
 }
 
-/// The entries of a table, up to and with its closing brace. The height of what is inside is at most `depth`.
+/// The entries of a table, up to and with its closing brace. The height of what is inside is at
+/// most `depth`.
 #[cycle(body)]
 pub fn read_table(alloc: Global, cursor: &mut Cursor, depth: u64) -> Result<Tree, SourceFault>
     ensures same_end { cursor.new.end ≡ cursor.old.end }
-    ensures exact { Reads IsTableTree cursor.old.end result cursor.new.rest (table_at the_tests (inner_at depth) cursor.old.rest) }
+    ensures exact { Reads IsTableTree cursor.old.end result cursor.new.rest
+        (table_at the_tests (inner_at depth) cursor.old.rest) }
     ensures shorter { OnOk result (length cursor.new.rest < length cursor.old.rest) }
 {
     let pairs = read_entries(alloc, cursor, depth)?;
@@ -106,7 +112,8 @@ fn read_entries(
     depth: u64,
 ) -> Result<Vec<(ByteList, Tree)>, SourceFault>
     ensures same_end { cursor.new.end ≡ cursor.old.end }
-    ensures exact { (n : ℕ) → length cursor.old.rest < n → Reads (λ v es. AreEntries v.items es) cursor.old.end result cursor.new.rest
+    ensures exact { (n : ℕ) → length cursor.old.rest < n
+        → Reads (λ v es. AreEntries v.items es) cursor.old.end result cursor.new.rest
         (entries the_tests (body the_tests depth) n [] cursor.old.rest) }
     ensures keys { IfOk result (λ v. All IsKey (keys_in v.items)) }
     ensures shorter { OnOk result (length cursor.new.rest < length cursor.old.rest) }
@@ -135,11 +142,24 @@ fn read_entries(
     Ok(pairs)
 }
 
+/// Adds an element at the end. The first takes room for itself only, since arrays of one element
+/// are those that nest deep.
+fn add_tree(trees: &mut Vec<Tree>, tree: Tree) -> Result<(), AllocError>
+    ensures { OnOk result (trees.new.items ≡ trees.old.items ++ tree ∷ []) }
+{
+    if trees.capacity() == 0 {
+        trees.reserve_exact(1)?;
+    }
+    trees.push(tree)?;
+    Ok(())
+}
+
 /// The elements of an array, up to and with its closing brace. Each has at most the height `depth`.
 #[cycle(body)]
 fn read_array(alloc: Global, cursor: &mut Cursor, depth: u64) -> Result<Tree, SourceFault>
     ensures same_end { cursor.new.end ≡ cursor.old.end }
-    ensures exact { Reads IsArrayTree cursor.old.end result cursor.new.rest (array_at (inner_at depth) cursor.old.rest) }
+    ensures exact { Reads IsArrayTree cursor.old.end result cursor.new.rest
+        (array_at (inner_at depth) cursor.old.rest) }
     ensures shorter { OnOk result (length cursor.new.rest < length cursor.old.rest) }
 {
     let mut trees = Vec::new(alloc);
@@ -150,9 +170,9 @@ fn read_array(alloc: Global, cursor: &mut Cursor, depth: u64) -> Result<Tree, So
             if depth == 0 {
                 return Err(too_deep);
             }
-            trees.push(Tree::String(text))?;
+            add_tree(&mut trees, Tree::String(text))?;
         } else if cursor.is_at_body() {
-            trees.push(read_body(alloc, cursor, depth)?)?;
+            add_tree(&mut trees, read_body(alloc, cursor, depth)?)?;
         } else {
             break;
         }

@@ -1,5 +1,6 @@
 //! The keys of a table that were read.
-ghost use Rattle.std.specs.Prelude.{◌≡◌, ◌∷◌, ◌++◌, [], ◌<◌, ◌-◌, length, true, false, not, IfOk, OnOk, IsTrue};
+ghost use Rattle.std.specs.Prelude.{◌≡◌, ◌∷◌, ◌++◌, [], ◌<◌, ◌-◌, length, true, false, not, IfOk};
+ghost use Rattle.std.specs.Prelude.{OnOk, IsTrue};
 ghost use Rattle.rb_tree.specs.declared.tree.Tree.{Tree};
 ghost use Rattle.rb_grammar.specs.Reading.{is_among};
 ghost use Rattle.rb_parser.specs.inner.Seen.{keys_after, Sees, IsAbove, SameKeys};
@@ -11,7 +12,8 @@ use std::collections::BTreeSet;
 
 /// The keys of pairs, among which each key that comes is looked for.
 ///
-/// As long as they ascend, as they mostly do, the last one is compared. From the first that doesn't, there is a set of all.
+/// As long as they ascend, as they mostly do, the last one is compared. From the first that
+/// doesn't, there is a set of all.
 #[derive(Drop)]
 pub struct SeenKeys {
     pub set: BTreeSet<Vec<u8>>,
@@ -84,7 +86,8 @@ impl SeenKeys {
         key: &[u8],
     ) -> Result<bool, AllocError>
         requires { Sees self.old pairs.now }
-        ensures new { IfOk result (λ comes. comes ≡ not (is_among (keys_after pairs.now []) key.now)) }
+        ensures new { IfOk result
+            (λ comes. comes ≡ not (is_among (keys_after pairs.now []) key.now)) }
         ensures more { OnOk result ((t : Tree) → Sees self.new (pairs.now ++ (key.now, t) ∷ [])) }
     {
         if self.ascends && is_above(pairs, key) {

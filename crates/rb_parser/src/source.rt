@@ -28,7 +28,8 @@ pub struct Source {
     pub no_fallback: bool,
 }
 
-/// The type of a bundle, where one is written: `table`, or `table(nofallback)`, for which the answer is true.
+/// The type of a bundle, if one is written: `table`, or `table(nofallback)`, for which the answer
+/// is true.
 fn read_type(cursor: &mut Cursor) -> Result<bool, SourceFault>
     ensures same_end { cursor.new.end ≡ cursor.old.end }
     ensures exact { Reads IsFlag cursor.old.end result cursor.new.rest (type_at cursor.old.rest) }
@@ -78,16 +79,19 @@ fn last_line(bytes: &[u8]) -> u64
     feeds + 1
 }
 
-/// The bundle that a text spells, after the bundle syntax of ICU's genrb: its name, its tree, which is a table of height at most 64
-/// and weight at most 33,554,432, and whether its type is `table(nofallback)`.
+/// The bundle that a text spells, after the bundle syntax of ICU's genrb: its name, its tree, which
+/// is a table of height at most 64 and weight at most 33,554,432, and whether its type is
+/// `table(nofallback)`.
 ///
-/// A text that spells none is refused with an error and its line. `TooLong`, `NotUtf8`, `BadEscape`, `OpenQuote` and `OpenComment`
-/// are the lexer's, and come before the others. `Unexpected` comes at a token that cannot be at its place, so also at
-/// `table(nofallback)` anywhere but at the top, and at the end of a text that ends too early, in the line of that end;
-/// `UnknownType` at a text after a colon that is no type; `BadKey` and `DuplicateKey` at a key; `BadInt` and `BadHex` at the text
-/// of a number or of bytes; `TooDeep` at a value at level 65; `TrailingText` at the token after the bundle; `TooLarge`, which has
-/// line 1, where the tree weighs too much. `Memory` has line 0: out of memory.
-/// Where a text has several errors of the parser, one of them is reported. No memory is kept after an error.
+/// A text that spells none is refused with an error and its line. `TooLong`, `NotUtf8`,
+/// `BadEscape`, `OpenQuote` and `OpenComment` are the lexer's, and come before the others.
+/// `Unexpected` comes at a token that cannot be at its place, so also at `table(nofallback)`
+/// anywhere but at the top, and at the end of a text that ends too early, in the line of that end;
+/// `UnknownType` at a text after a colon that is no type; `BadKey` and `DuplicateKey` at a key;
+/// `BadInt` and `BadHex` at the text of a number or of bytes; `TooDeep` at a value at level 65;
+/// `TrailingText` at the token after the bundle; `TooLarge`, which has line 1, if the tree weighs
+/// too much. `Memory` has line 0: out of memory. If a text has several errors of the parser, one of
+/// them is reported. No memory is kept after an error.
 ///
 /// ```rust
 /// let source = parse(alloc, b"de{menu{open{\"O\"}}}")?; // the name is `de`, the tree's height 3
@@ -98,7 +102,8 @@ pub fn parse(alloc: Global, bytes: &[u8]) -> Result<Source, SourceFault>
     ensures found { IfOk result (λ s. IsGoodSource bytes.now s.name (source_tree s)) }
     // A good source is read, unless memory runs out.
     ensures only { (name : List ℕ) (source : SourceTree) → IsGoodSource bytes.now name source
-        → MatchResult result (λ s. (s.name ≡ name) × (source_tree s ≡ source)) (λ e. e.kind ≡ Memory) }
+        → MatchResult result (λ s. (s.name ≡ name) × (source_tree s ≡ source))
+        (λ e. e.kind ≡ Memory) }
     ensures fits { IfOk result (λ s. Fits (view_of s.tree)) }
     // What is reported is an error of the source, with its line, unless memory ran out.
     ensures fault { IfErr result (λ e. IsRefusal bytes.now e) }
@@ -121,7 +126,7 @@ pub fn parse(alloc: Global, bytes: &[u8]) -> Result<Source, SourceFault>
     Ok(source)
 }
 
-/// The error, with line 0 where it is out of memory.
+/// The error, with line 0 if it is out of memory.
 fn without_memory_line(fault: SourceFault) -> SourceFault
     ensures kind { result.kind ≡ fault.kind }
     ensures line { result.kind ≡ Memory → result.line ≡ 0 }

@@ -23,7 +23,8 @@ pub enum Leaf {
     Ints,
 }
 
-// `string`, `alias`, `binary`, `bin`, `integer`, `int`, `intvector`, `table`, `array`, `table(nofallback)`
+// `string`, `alias`, `binary`, `bin`, `integer`, `int`, `intvector`, `table`, `array`,
+// `table(nofallback)`
 const STRING: [u16; 6] = [0x73, 0x74, 0x72, 0x69, 0x6E, 0x67];
 
 const ALIAS: [u16; 5] = [0x61, 0x6C, 0x69, 0x61, 0x73];

@@ -25,7 +25,7 @@ use Rattle.rb_format.proofs.Keys.{key_is}
 use Rattle.rb_format.proofs.Plainly.{plain_limited}
 use Rattle.rb_format.specs.Attributes.{attributes_of, has_pool}
 use Rattle.rb_format.specs.File.{is_short_enough, has_header, has_valid_indexes, flagged, source_of_data, source_of_file, Denotes, source_tree_of, tree_of}
-use Rattle.rb_views.specs.Stands.{kind_named}
+use Rattle.rb_views.specs.inner.Stands.{kind_named}
 use Rattle.rb_views.specs.Trees.{item_tree}
 use Rattle.rb_views.proofs.Values.{then_some, where_some, some_eq}
 use Rattle.rb_views.proofs.Readings.{map_some, stands_from}

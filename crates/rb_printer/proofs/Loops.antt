@@ -123,7 +123,7 @@ units_len (table es) h = absurd h
 
 -- ---- bytes
 
--- what is left of a Binary's text where the present piece has room for so many bytes
+-- what is left of a Binary's text if the present piece has room for so many bytes
 abbrev pub tail : ℕ → List ℕ → ℕ → List ℕ
 tail level bs room = units_chars (hex_first bs room) false ++ quote ∷ lines_chars (hex_later bs room) level
 

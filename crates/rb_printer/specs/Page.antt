@@ -1,18 +1,22 @@
 -- The page of a bundle: the signs that the printer writes for a tree, each in front of what follows it.
-use Rattle.std.specs.Prelude.{ℕ, zero, suc, ◌+◌, ◌-◌, ◌*◌, min, ℤ, ◌/◌, ◌%◌, Bool, true, false, not, ◌&&◌, ◌||◌, nat_lt, nat_le, List, [], ◌∷◌, length, encode_utf8_all}
+use Rattle.std.specs.Prelude.{ℕ, zero, suc, ◌+◌, ◌-◌, ◌*◌, min, ℤ, ◌/◌, ◌%◌, Bool, true, false, not, ◌&&◌, ◌||◌, nat_lt}
+use Rattle.std.specs.Prelude.{nat_le, List, [], ◌∷◌, length, encode_utf8_all}
 use Rattle.std.specs.Char.{digit_char}
 use Rattle.std.specs.Fmt.{decimal, signed_decimal}
-use Rattle.rb_tree.specs.Resource.{Resource, string, int, ints, binary, alias, array, table, Resources, no_trees, tree_and, Members, no_entries, entry_and}
+use Rattle.rb_tree.specs.Resource.{Resource, string, int, ints, binary, alias, array, table, Resources, no_trees}
+use Rattle.rb_tree.specs.Resource.{tree_and, Members, no_entries, entry_and}
 use Rattle.rb_tree.specs.SourceTree.{SourceTree}
-use Rattle.rb_grammar.specs.Form.{alias_word, binary_word, int_word, ints_word, table_word, no_fallback_table_word, array_word}
-use Rattle.rb_printer.specs.Sign.{Sign, feed, space, left, right, colon, comma, text, pieces, is_name, text_chars, signs_chars}
+use Rattle.rb_grammar.specs.Form.{alias_word, binary_word, int_word, ints_word, table_word, no_fallback_table_word}
+use Rattle.rb_grammar.specs.Form.{array_word}
+use Rattle.rb_printer.specs.Sign.{Sign, feed, space, left, right, colon, comma, text, pieces, is_name, text_chars}
+use Rattle.rb_printer.specs.Sign.{signs_chars}
 
 -- two hexadecimal digits for each byte
 abbrev pub hex_units : List ℕ → List ℕ
 hex_units [] = []
 hex_units (b ∷ bs) = digit_char (b / 16) ∷ digit_char (b % 16) ∷ hex_units bs
 
--- those of the first bytes, at most so many
+-- those of the first bytes, at most this many
 abbrev pub hex_first : List ℕ → ℕ → List ℕ
 hex_first [] room = []
 hex_first (b ∷ bs) zero = []
@@ -38,13 +42,13 @@ abbrev pub pause : Bool → ℕ → List Sign → List Sign
 pause true level rest = space ∷ rest
 pause false level rest = feed ∷ indent level rest
 
--- How many of a line's 100 columns are left after something of a width and a comma: behind a space, where so many were left, or in a new
--- line.
+-- How many of a line's 100 columns are left after something of a width and a comma: behind a space, where this many
+-- were left, or in a new line.
 abbrev pub room_after : Bool → ℕ → ℕ → ℕ → ℕ
 room_after true level room width = room - width - 2
 room_after false level room width = 100 - 4 * level - width - 1
 
--- a comma where more follows
+-- a comma if more follows
 abbrev pub comma_if : Bool → List Sign → List Sign
 comma_if true rest = comma ∷ rest
 comma_if false rest = rest
@@ -57,11 +61,12 @@ are_more (z ∷ zs) = true
 abbrev pub wraps : ℕ → List ℤ → Bool
 wraps level zs = nat_lt 4 (length zs) && nat_le level 12
 
--- a number stands in the present line where the widest would, behind a space and with a comma, or where all have one line
+-- a number stands in the present line if the widest would, behind a space and with a comma, or if all have one
+-- line
 abbrev pub number_fits : Bool → ℕ → Bool
 number_fits wrapped room = not wrapped || nat_le 13 room
 
--- numbers with commas between them, in a line with so many columns left or in lines of a level
+-- numbers with commas between them, in a line with this many columns left or in lines of a level
 abbrev pub numbers_signs : List ℤ → Bool → ℕ → ℕ → List Sign → List Sign
 numbers_signs [] wrapped level room rest = rest
 numbers_signs (z ∷ zs) wrapped level room rest =
@@ -111,8 +116,8 @@ item_signs (table es) body rest = body
 abbrev pub text_width : List ℕ → ℕ
 text_width us = min 100 (length (text_chars false us))
 
--- whether an item of an array stands in the present line: a string for which there is room, with a space and a comma, at most twelve
--- levels deep
+-- whether an item of an array stands in the present line: a string for which there is room, with a space and a comma,
+-- at most twelve levels deep
 abbrev pub item_fits : ℕ → ℕ → Resource → Bool
 item_fits level room (string us) = nat_le level 12 && nat_le (text_width us + 2) room
 item_fits level room (int n) = false
@@ -136,16 +141,22 @@ abbrev mutual
   -- a type, if it isn't guessed, and braces
   pub body_signs : ℕ → Resource → List Sign → List Sign
   body_signs level (string us) rest = left ∷ space ∷ text false us ∷ space ∷ right ∷ rest
-  body_signs level (int n) rest = colon ∷ text true (int_word false) ∷ space ∷ left ∷ space ∷ text true (decimal n) ∷ space ∷ right ∷ rest
+  body_signs level (int n) rest = colon ∷ text true (int_word false) ∷ space ∷ left ∷ space ∷ text true (decimal n)
+      ∷ space ∷ right ∷ rest
   body_signs level (ints zs) rest = colon ∷ text true ints_word ∷ space ∷ left
       ∷ numbers_signs zs (wraps (level + 1) zs) (level + 1) 0 (pause (not (wraps (level + 1) zs)) level (right ∷ rest))
-  body_signs level (binary bs) rest = colon ∷ text true (binary_word false) ∷ space ∷ left ∷ pause (is_short bs) (level + 1)
+  body_signs level (binary bs) rest = colon ∷ text true (binary_word false) ∷ space ∷ left
+      ∷ pause (is_short bs) (level + 1)
       (pieces (level + 1) (hex_first bs 32) (hex_later bs 32) ∷ pause (is_short bs) level (right ∷ rest))
-  body_signs level (alias us) rest = colon ∷ text true alias_word ∷ space ∷ left ∷ space ∷ text false us ∷ space ∷ right ∷ rest
-  body_signs level (array ts) rest = type_unless (has_items ts) array_word (left ∷ items_signs (level + 1) ts 0 (feed ∷ indent level (right ∷ rest)))
-  body_signs level (table es) rest = type_unless (has_entries es) table_word (left ∷ feed ∷ entries_signs (level + 1) es (indent level (right ∷ rest)))
+  body_signs level (alias us) rest = colon ∷ text true alias_word ∷ space ∷ left ∷ space ∷ text false us ∷ space
+      ∷ right ∷ rest
+  body_signs level (array ts) rest = type_unless (has_items ts) array_word
+      (left ∷ items_signs (level + 1) ts 0 (feed ∷ indent level (right ∷ rest)))
+  body_signs level (table es) rest = type_unless (has_entries es) table_word
+      (left ∷ feed ∷ entries_signs (level + 1) es (indent level (right ∷ rest)))
 
-  -- strings several to a line and any other item in lines of its own, each with a comma, after a line with so many columns left
+  -- strings several to a line and any other item in lines of its own, each with a comma, after a line with this many
+  -- columns left
   pub items_signs : ℕ → Resources → ℕ → List Sign → List Sign
   items_signs level no_trees room rest = rest
   items_signs level (tree_and t ts) room rest =
@@ -158,14 +169,15 @@ abbrev mutual
   entries_signs level (entry_and k t es) rest =
       indent level (text (is_name k) k ∷ gap (is_guessed t) (body_signs level t (feed ∷ entries_signs level es rest)))
 
--- a bundle's type, which is written where it has a flag, and the space in front of the brace
+-- a bundle's type, which is written if it has a flag, and the space in front of the brace
 abbrev pub head_signs : Bool → List Sign → List Sign
 head_signs true rest = colon ∷ text true no_fallback_table_word ∷ space ∷ rest
 head_signs false rest = space ∷ rest
 
 -- a bundle of this name, flag and entries
 abbrev pub page : List ℕ → Bool → Members → List Sign
-page name no_fallback es = text (is_name name) name ∷ head_signs no_fallback (left ∷ feed ∷ entries_signs 1 es (right ∷ feed ∷ []))
+page name no_fallback es = text (is_name name) name
+    ∷ head_signs no_fallback (left ∷ feed ∷ entries_signs 1 es (right ∷ feed ∷ []))
 
 -- a table's entries
 abbrev pub members_of : Resource → Members

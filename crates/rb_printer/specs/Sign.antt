@@ -1,6 +1,7 @@
--- What the printer writes: signs, and the characters of each. Which keys and names stand without quotes, and which units stand for
--- themselves in a quoted text, is a rule of this project; both are read so by ICU's genrb.
-use Rattle.std.specs.Prelude.{ℕ, zero, suc, ◌/◌, ◌%◌, ◌==◌, ◌&&◌, ◌||◌, Bool, true, false, not, cond, nat_lt, nat_le, List, [], ◌∷◌, ◌++◌, Option, Some, None}
+-- What the printer writes: signs, and the characters of each. Which keys and names stand without quotes, and which
+-- units stand for themselves in a quoted text, is a rule of this project; both are read so by ICU's genrb.
+use Rattle.std.specs.Prelude.{ℕ, zero, suc, ◌/◌, ◌%◌, ◌==◌, ◌&&◌, ◌||◌, Bool, true, false, not, cond, nat_lt, nat_le}
+use Rattle.std.specs.Prelude.{List, [], ◌∷◌, ◌++◌, Option, Some, None}
 use Rattle.std.specs.List.{list_all}
 use Rattle.std.specs.Char.{digit_char}
 use Rattle.std.specs.Char.Utf16.{is_high_surrogate, is_low_surrogate, surrogate_pair_char}
@@ -9,8 +10,8 @@ use Rattle.rb_lexer.specs.Tokens.{is_empty}
 use Rattle.rb_lexer.specs.declared.token.Mark.{Mark}
 use Rattle.rb_lexer.specs.declared.token.Mark.TheVariants.{Text, LeftBrace, RightBrace, Colon, Comma}
 
--- A text is bare where it may stand without quotes, if its units allow that. A text in quoted pieces has all but the first in new lines
--- of a level.
+-- A text is bare where it may stand without quotes, if its units allow that. A text in quoted pieces has all but the
+-- first in new lines of a level.
 pub data Sign : Type 0 where
   feed : Sign
   space : Sign
@@ -25,14 +26,16 @@ pub data Sign : Type 0 where
 
 -- a printable ASCII character that ends no word
 abbrev pub is_word_unit : ℕ → Bool
-is_word_unit c = not (is_white c || (c == quote) || (c == backslash) || is_punctuation c) && (not (c == slash) && (nat_lt 0x20 c && nat_lt c 0x7F))
+is_word_unit c = not (is_white c || (c == quote) || (c == backslash) || is_punctuation c)
+    && (not (c == slash) && (nat_lt 0x20 c && nat_lt c 0x7F))
 
 abbrev pub is_word : List ℕ → Bool
 is_word us = not (is_empty us) && list_all is_word_unit us
 
 -- a letter, a digit, `_` or `-`
 abbrev pub is_name_unit : ℕ → Bool
-is_name_unit c = (nat_le 0x30 c && nat_le c 0x39) || (nat_le 0x41 c && nat_le c 0x5A) || (nat_le 0x61 c && nat_le c 0x7A) || (c == 0x5F) || (c == 0x2D)
+is_name_unit c = (nat_le 0x30 c && nat_le c 0x39) || (nat_le 0x41 c && nat_le c 0x5A) ||
+    (nat_le 0x61 c && nat_le c 0x7A) || (c == 0x5F) || (c == 0x2D)
 
 -- a key or a name that stands without quotes
 abbrev pub is_name : List ℕ → Bool
@@ -79,11 +82,12 @@ abbrev pub pair_chars : ℕ → Option ℕ → List ℕ
 pair_chars u None = []
 pair_chars u (Some v) = surrogate_pair_char u v ∷ []
 
--- A unit between quotes, after a high surrogate or not, and in front of the next unit. The first unit of a surrogate pair is written as
--- the pair's character, and then the second as nothing. A surrogate without its partner is escaped.
+-- A unit between quotes, after a high surrogate or not, and in front of the next unit. The first unit of a surrogate
+-- pair is written as the pair's character, and then the second as nothing. A surrogate without its partner is escaped.
 abbrev pub unit_chars : Bool → ℕ → Option ℕ → List ℕ
 unit_chars after_high u next = cond (is_shown u) (u ∷ [])
-    (cond (is_high_surrogate u && is_low next) (pair_chars u next) (cond (after_high && is_low_surrogate u) [] (escape_chars u)))
+    (cond (is_high_surrogate u && is_low next) (pair_chars u next)
+    (cond (after_high && is_low_surrogate u) [] (escape_chars u)))
 
 -- units between quotes, after a high surrogate or not
 abbrev pub units_chars : List ℕ → Bool → List ℕ

@@ -3,8 +3,10 @@ use Rattle.std.specs.Prelude.{◌≡◌, ℕ, ℤ, pos, negsuc, ◌<◌, ◌≤�
 use Rattle.std.specs.List.{AllByRecursion}
 use Rattle.rb_tree.specs.Parts.{kind_of}
 use Rattle.rb_tree.specs.declared.kind.Kind.TheVariants as Kinds
-use Rattle.rb_tree.specs.Resource.{Resource, string, int, ints, binary, alias, array, table, Resources, no_trees, tree_and, Members, no_entries, entry_and, height}
+use Rattle.rb_tree.specs.Resource.{Resource, string, int, ints, binary, alias, array, table, Resources, no_trees}
+use Rattle.rb_tree.specs.Resource.{tree_and, Members, no_entries, entry_and, height}
 use Rattle.rb_tree.specs.Keys.{IsTable}
+use Rattle.rb_tree.specs.Limits.{height_limit}
 
 abbrev pub AreUnits : List ℕ → Type 0
 AreUnits us = AllByRecursion (λ u. u < 65536) us
@@ -35,7 +37,8 @@ abbrev mutual
   EachSound no_entries = Unit {0}
   EachSound (entry_and k t es) = IsSound t × EachSound es
 
--- The keys of its tables are keys and ascend, and its Ints have 28 bits: what a reader of a bundle can't see from types.
+-- The keys of its tables are keys and ascend, and its Ints have 28 bits: what a reader of a bundle can't see from
+-- types.
 abbrev mutual
   pub IsWell : Resource → Type 0
   IsWell (string us) = Unit {0}
@@ -57,5 +60,5 @@ abbrev mutual
 -- the tree of a bundle, whatever its weight: a table of at most 64 levels
 pub record IsBundleTree (t : Resource) : Type 0 where
   pub is_table : kind_of t ≡ Kinds.Table
-  pub low : height t ≤ 64
+  pub low : height t ≤ height_limit
   pub well : IsWell t

@@ -8,6 +8,7 @@ ghost use Rattle.rb_printer.specs.Sound.{AreUnits, IsSound, IsBundleTree};
 ghost use Rattle.rb_printer.specs.inner.Growth.{Adds};
 ghost use Rattle.rb_printer.specs.Whole.{IsBundleText};
 ghost use Rattle.rb_printer.specs.declared.error.PrintError.TheVariants as errors;
+ghost use Rattle.rb_lexer.specs.Limits.{source_limit};
 
 use crate::error::PrintError;
 use crate::room::after_entries;
@@ -23,7 +24,8 @@ const LENGTH_LIMIT: usize = 8_388_608;
 
 /// Writes what is between a bundle's name and its first entry.
 fn begin_bundle(out: &mut Vec<u8>, no_fallback: bool) -> Result<(), AllocError>
-    ensures { OnOk result (Adds out.old.items out.new.items (signs_chars (head_signs no_fallback (left ∷ feed ∷ [])))) }
+    ensures { OnOk result (Adds out.old.items out.new.items
+        (signs_chars (head_signs no_fallback (left ∷ feed ∷ [])))) }
 {
     if no_fallback {
         put_str(out, ":table(nofallback) {\n")
@@ -40,7 +42,8 @@ fn put_page<N: Node>(
     no_fallback: bool,
 ) -> Result<(), AllocError>
     requires { IsBundleTree (N.tree root) }
-    ensures adds { OnOk result (Adds out.old.items out.new.items (signs_chars (page name.now no_fallback (members_of (N.tree root))))) }
+    ensures adds { OnOk result (Adds out.old.items out.new.items
+        (signs_chars (page name.now no_fallback (members_of (N.tree root))))) }
     ensures sound { OnOk result (IsSound (N.tree root)) }
     ensures units { OnOk result (AreUnits name.now) }
 {
@@ -50,16 +53,20 @@ fn put_page<N: Node>(
     put_str(out, "}\n")
 }
 
-/// The bundle text of a tree, with its name and its flag: `parse` reads just these back. No byte of it depends on anything else.
+/// The bundle text of a tree, with its name and its flag: `parse` reads just these back. No byte of
+/// it depends on anything else.
 ///
-/// It looks as a person would write it. Each entry of a table stands in lines of its own, with four spaces a level; the strings of an
-/// array and the numbers of a vector of more than four stand several to a line, of at most 100 columns, and 32 bytes of a Binary in one.
-/// A key or a name of letters, digits, `_` and `-` stands bare, any other between quotes. A type is written where a reader wouldn't
-/// guess it: `:int`, `:intvector`, `:bin`, `:alias`, and `:array` and `:table` of empty ones. Texts are UTF-8, with a backslash in front
-/// of quotes and backslashes; escapes of four digits stand for control characters, lone surrogates, U+2028, U+2029 and U+FEFF.
+/// It looks as a person would write it. Each entry of a table stands in lines of its own, with four
+/// spaces a level; the strings of an array and the numbers of a vector of more than four stand
+/// several to a line, of at most 100 columns, and 32 bytes of a Binary in one. A key or a name of
+/// letters, digits, `_` and `-` stands bare, any other between quotes. A type is written if a
+/// reader wouldn't guess it: `:int`, `:intvector`, `:bin`, `:alias`, and `:array` and `:table` of
+/// empty ones. Texts are UTF-8, with a backslash in front of quotes and backslashes; escapes of
+/// four digits stand for control characters, lone surrogates, U+2028, U+2029 and U+FEFF.
 ///
-/// Errors: `TooLarge` where the text would have more than 8,388,608 bytes, as that of each tree above the limit of weight would; where
-/// so many characters are there at the least, before anything is written, in no more steps than that. Else `Memory`, where out of memory.
+/// Errors: `TooLarge` if the text would have more than 8,388,608 bytes, as that of each tree above
+/// the limit of weight would; if this many characters are there at the least, before anything is
+/// written, in no more steps than that. Else `Memory`, if memory runs out.
 ///
 /// ```rust
 /// print(alloc, &source.name, &source.tree, source.no_fallback)? // `root {`, a line feed, `}` and a line feed for `root{}`
@@ -71,8 +78,10 @@ pub fn print<N: Node>(
     no_fallback: bool,
 ) -> Result<Vec<u8>, PrintError>
     requires { IsBundleTree (N.tree root) }
-    ensures text { IfOk result (λ bytes. IsBundleText bytes.items name.now (record { tree = N.tree root; no_fallback = no_fallback })) }
-    ensures error { IfErr result (λ e. e ≡ errors.TooLarge → 8388608 < length (page_bytes name.now (record { tree = N.tree root; no_fallback = no_fallback }))) }
+    ensures text { IfOk result (λ bytes. IsBundleText bytes.items name.now
+        (record { tree = N.tree root; no_fallback = no_fallback })) }
+    ensures error { IfErr result (λ e. e ≡ errors.TooLarge → source_limit
+        < length (page_bytes name.now (record { tree = N.tree root; no_fallback = no_fallback }))) }
 {
     let Some(left) = after_entries(LENGTH_LIMIT, 1, root) else {
         return Err(PrintError::TooLarge);
@@ -85,14 +94,17 @@ pub fn print<N: Node>(
     Ok(bytes)
 }
 
-/// The bundle text of a file, with a name, which a file doesn't have. It looks as that of `print`, and the errors are the same.
+/// The bundle text of a file, with a name, which a file doesn't have. It looks as that of `print`,
+/// and the errors are the same.
 ///
 /// ```rust
 /// print_bundle(alloc, &name, &accept(alloc, file)?)?
 /// ```
 pub fn print_bundle(alloc: Global, name: &UnitList, bundle: &Bundle) -> Result<Vec<u8>, PrintError>
-    ensures text { IfOk result (λ bytes. IsBundleText bytes.items name.now (source_tree_of bundle.now)) }
-    ensures error { IfErr result (λ e. e ≡ errors.TooLarge → 8388608 < length (page_bytes name.now (source_tree_of bundle.now))) }
+    ensures text { IfOk result
+        (λ bytes. IsBundleText bytes.items name.now (source_tree_of bundle.now)) }
+    ensures error { IfErr result (λ e. e ≡ errors.TooLarge
+        → source_limit < length (page_bytes name.now (source_tree_of bundle.now))) }
 {
     let _denoted = bundle.bytes();
     print(alloc, name, root(bundle), bundle.no_fallback())

@@ -1,11 +1,14 @@
 //! Trees without children.
-ghost use Rattle.std.specs.Prelude.{◌≡◌, ◌<◌, ◌+◌, ◌^◌, ℕ, List, drop, [], ◌∷◌, ◌++◌, true, false, length, ◌≤◌, OnOk, IfOk, ◌/◌, ◌%◌};
+ghost use Rattle.std.specs.Prelude.{◌≡◌, ◌<◌, ◌+◌, ◌^◌, ℕ, List, drop, [], ◌∷◌, ◌++◌, true, false};
+ghost use Rattle.std.specs.Prelude.{length, ◌≤◌, OnOk, IfOk, ◌/◌, ◌%◌};
 ghost use Rattle.std.specs.Char.{digit_char};
 ghost use Rattle.std.specs.List.{AllByRecursion};
 ghost use Rattle.std.specs.Fmt.{decimal, signed_decimal};
-ghost use Rattle.rb_tree.specs.Parts.{HasUnits, kind_of, len_of, units_of, numbers_of, bytes_of, int_of};
+ghost use Rattle.rb_tree.specs.Parts.{HasUnits, kind_of, len_of, units_of, numbers_of, bytes_of};
+ghost use Rattle.rb_tree.specs.Parts.{int_of};
 ghost use Rattle.rb_tree.specs.declared.kind.Kind.TheVariants as Kinds;
-ghost use Rattle.rb_printer.specs.Sign.{first_unit, unit_chars, pieces, sign_chars, signs_chars, text_chars, text, right};
+ghost use Rattle.rb_printer.specs.Sign.{first_unit, unit_chars, pieces, sign_chars, signs_chars};
+ghost use Rattle.rb_printer.specs.Sign.{text_chars, text, right};
 ghost use Rattle.rb_printer.specs.Page.{hex_first, hex_later, numbers_signs, comma_if};
 ghost use Rattle.rb_printer.specs.Sound.{AreUnits, AreBytes, IsNumber};
 ghost use Rattle.rb_printer.specs.inner.Growth.{Adds, after_break, break_chars};
@@ -41,7 +44,8 @@ fn put_unit_of<N: Node>(
 ) -> Result<(), AllocError>
     requires units { HasUnits (kind_of (N.tree node)) }
     requires in_range { i < len_of (N.tree node) }
-    ensures { OnOk result (Adds out.old.items out.new.items (unit_chars after_high unit (first_unit (drop (i + 1) (units_of (N.tree node)))))) }
+    ensures { OnOk result (Adds out.old.items out.new.items
+        (unit_chars after_high unit (first_unit (drop (i + 1) (units_of (N.tree node)))))) }
 {
     match shown(unit) {
         Some(c) => put(out, c),
@@ -52,7 +56,8 @@ fn put_unit_of<N: Node>(
 /// How many plain units are put at a time at the most.
 const RUN: usize = 64;
 
-/// Puts the plain units from an index on at the front of a block, a byte each, and says how many they are.
+/// Puts the plain units from an index on at the front of a block, a byte each, and says how many
+/// they are.
 #[inline(always)]
 fn plain_run<N: Node>(block: &mut [u8; RUN], node: N, at: usize, len: usize) -> usize
     requires units { HasUnits (kind_of (N.tree node)) }
@@ -75,7 +80,8 @@ fn plain_run<N: Node>(block: &mut [u8; RUN], node: N, at: usize, len: usize) -> 
 /// Writes the text of a String or an Alias, with quotes.
 pub fn put_units_of<N: Node>(out: &mut Vec<u8>, node: N) -> Result<(), AllocError>
     requires { HasUnits (kind_of (N.tree node)) }
-    ensures adds { OnOk result (Adds out.old.items out.new.items (text_chars false (units_of (N.tree node)))) }
+    ensures adds { OnOk result
+        (Adds out.old.items out.new.items (text_chars false (units_of (N.tree node)))) }
     ensures sound { OnOk result (AreUnits (units_of (N.tree node))) }
 {
     put(out, '"')?;
@@ -101,13 +107,15 @@ pub fn put_units_of<N: Node>(out: &mut Vec<u8>, node: N) -> Result<(), AllocErro
 
 /// Writes two hexadecimal digits.
 fn put_byte(out: &mut Vec<u8>, byte: u8) -> Result<(), AllocError>
-    ensures { OnOk result (Adds out.old.items out.new.items (digit_char (byte / 16) ∷ digit_char (byte % 16) ∷ [])) }
+    ensures { OnOk result
+        (Adds out.old.items out.new.items (digit_char (byte / 16) ∷ digit_char (byte % 16) ∷ [])) }
 {
     put(out, digit_char(byte as u16 / 16))?;
     put(out, digit_char(byte as u16 % 16))
 }
 
-/// Begins a new piece where the present one, at a level, has no room for another byte. Gives how many more it has room for after that.
+/// Begins a new piece if the present one, at a level, has no room for another byte. Gives how many
+/// more it has room for after that.
 fn put_break(out: &mut Vec<u8>, level: usize, room: usize) -> Result<usize, AllocError>
     ensures adds { OnOk result (Adds out.old.items out.new.items (break_chars room level)) }
     ensures room { IfOk result (λ more. more ≡ after_break room) }
@@ -121,11 +129,13 @@ fn put_break(out: &mut Vec<u8>, level: usize, room: usize) -> Result<usize, Allo
     Ok(31)
 }
 
-/// Writes the bytes of a Binary, with quotes: 32 a piece, each but the first in a new line of a level.
+/// Writes the bytes of a Binary, with quotes: 32 a piece, each but the first in a new line of a
+/// level.
 pub fn put_bytes_of<N: Node>(out: &mut Vec<u8>, level: usize, node: N) -> Result<(), AllocError>
     requires { kind_of (N.tree node) ≡ Kinds.Binary }
     ensures adds { OnOk result (Adds out.old.items out.new.items
-        (sign_chars (pieces level (hex_first (bytes_of (N.tree node)) 32) (hex_later (bytes_of (N.tree node)) 32)))) }
+        (sign_chars (pieces level (hex_first (bytes_of (N.tree node)) 32)
+        (hex_later (bytes_of (N.tree node)) 32)))) }
     ensures sound { OnOk result (AreBytes (bytes_of (N.tree node))) }
 {
     put(out, '"')?;
@@ -145,7 +155,7 @@ pub fn put_int(out: &mut Vec<u8>, number: u32) -> Result<(), AllocError>
     out.extend_from_slice(buffer.format(number).as_bytes())
 }
 
-/// Writes a number with a sign where it is below 0, in decimal.
+/// Writes a number with a sign if it is below 0, in decimal.
 fn put_number(out: &mut Vec<u8>, number: i32) -> Result<(), AllocError>
     ensures { OnOk result (Adds out.old.items out.new.items (signed_decimal number)) }
 {
@@ -163,14 +173,15 @@ fn put_wide(out: &mut Vec<u8>, number: i32) -> Result<usize, AllocError>
     Ok(out.as_slice().len() - start)
 }
 
-/// Writes a comma where more numbers follow.
+/// Writes a comma if more numbers follow.
 fn put_comma(out: &mut Vec<u8>, more: bool) -> Result<(), AllocError>
     ensures { OnOk result (Adds out.old.items out.new.items (signs_chars (comma_if more []))) }
 {
     if more { put(out, ',') } else { Ok(()) }
 }
 
-/// Writes the numbers of a vector, each after a space or in a new line of a level, with commas between them.
+/// Writes the numbers of a vector, each after a space or in a new line of a level, with commas
+/// between them.
 pub fn put_numbers_of<N: Node>(
     out: &mut Vec<u8>,
     wrapped: bool,
@@ -179,7 +190,8 @@ pub fn put_numbers_of<N: Node>(
 ) -> Result<(), AllocError>
     requires ints { kind_of (N.tree node) ≡ Kinds.Ints }
     requires low { level ≤ 65 }
-    ensures adds { OnOk result (Adds out.old.items out.new.items (signs_chars (numbers_signs (numbers_of (N.tree node)) wrapped level 0 []))) }
+    ensures adds { OnOk result (Adds out.old.items out.new.items
+        (signs_chars (numbers_signs (numbers_of (N.tree node)) wrapped level 0 []))) }
     ensures sound { OnOk result (AllByRecursion IsNumber (numbers_of (N.tree node))) }
 {
     let mut room = 0;

@@ -29,7 +29,8 @@ pub fn put_indent(out: &mut Vec<u8>, level: usize) -> Result<(), AllocError>
     Ok(())
 }
 
-/// Writes what stands in front of something: a space, or a line feed and the next line's indentation.
+/// Writes what stands in front of something: a space, or a line feed and the next line's
+/// indentation.
 pub fn put_pause(out: &mut Vec<u8>, fits: bool, level: usize) -> Result<(), AllocError>
     ensures { OnOk result (Adds out.old.items out.new.items (signs_chars (pause fits level []))) }
 {
@@ -40,7 +41,8 @@ pub fn put_pause(out: &mut Vec<u8>, fits: bool, level: usize) -> Result<(), Allo
     put_indent(out, level)
 }
 
-/// How many columns are left after something of a width, behind a space or in a new line, and a comma.
+/// How many columns are left after something of a width, behind a space or in a new line, and a
+/// comma.
 pub fn room_after(fits: bool, level: usize, room: usize, width: usize) -> usize
     requires { level ≤ 65 }
     ensures { result ≡ page.room_after fits level room width }
@@ -98,7 +100,8 @@ fn other_width(after_high: bool, unit: u16, next: Option<u16>) -> usize
 fn width_of<N: Node>(after_high: bool, unit: u16, node: N, i: usize) -> usize
     requires units { HasUnits (kind_of (N.tree node)) }
     requires in_range { i < len_of (N.tree node) }
-    ensures width { result ≡ length (unit_chars after_high unit (first_unit (drop (i + 1) (units_of (N.tree node))))) }
+    ensures width { result
+        ≡ length (unit_chars after_high unit (first_unit (drop (i + 1) (units_of (N.tree node))))) }
     ensures bound { result ≤ 6 }
 {
     if is_plain(unit) || is_shown(unit) {
@@ -133,7 +136,7 @@ pub struct Place {
     pub left: usize,
 }
 
-/// The place of an item of an array, after a line with so many columns left.
+/// The place of an item of an array, after a line with this many columns left.
 pub fn place_of<N: Node>(level: usize, room: usize, node: N) -> Place
     requires { level ≤ 65 }
     ensures fits { result.fits ≡ page.item_fits level room (N.tree node) }

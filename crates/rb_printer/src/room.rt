@@ -17,8 +17,8 @@ fn after_twice(room: usize, length: usize) -> Option<usize>
     room.checked_sub(length)?.checked_sub(length)
 }
 
-/// What is left of some room after the fewest characters that a tree's body has. Each step takes room, so what a file shares is entered
-/// no more often than the room allows.
+/// What is left of some room after the fewest characters that a tree's body has. Each step takes
+/// room, so what a file shares is entered no more often than the room allows.
 #[cycle(room)]
 pub fn after_body<N: Node>(room: usize, level: usize, node: N) -> Option<usize>
     requires { level + height (N.tree node) ≤ 64 }
@@ -42,8 +42,8 @@ pub fn after_body<N: Node>(room: usize, level: usize, node: N) -> Option<usize>
     }
 }
 
-/// How many characters an item has beside its own at the least: the indentation of its line, or a space and a comma where it may stand
-/// beside another.
+/// How many characters an item has beside its own at the least: the indentation of its line, or a
+/// space and a comma if it may stand beside another.
 fn item_lead<N: Node>(level: usize, node: N) -> usize
     requires { level ≤ 65 }
     ensures { result ≡ leasts.item_lead level (N.tree node) }

@@ -1,10 +1,12 @@
 //! Texts, with quotes and without.
-ghost use Rattle.std.specs.Prelude.{◌≡◌, ◌<◌, ◌+◌, ◌&&◌, ℕ, List, [], ◌∷◌, true, false, None, length, drop, OnOk, MatchOption, IsTrue};
+ghost use Rattle.std.specs.Prelude.{◌≡◌, ◌<◌, ◌+◌, ◌&&◌, ℕ, List, [], ◌∷◌, true, false, None};
+ghost use Rattle.std.specs.Prelude.{length, drop, OnOk, MatchOption, IsTrue};
 ghost use Rattle.std.specs.Char.{digit_char};
 ghost use Rattle.std.specs.Char.Utf16.{is_high_surrogate, is_low_surrogate};
 ghost use Rattle.std.specs.List.{list_all};
 ghost use Rattle.rb_printer.specs.Sign as sign;
-ghost use Rattle.rb_printer.specs.Sign.{text, escape_chars, first_unit, pair_chars, unit_chars, units_chars, sign_chars, is_ascii};
+ghost use Rattle.rb_printer.specs.Sign.{text, escape_chars, first_unit, pair_chars, unit_chars};
+ghost use Rattle.rb_printer.specs.Sign.{units_chars, sign_chars, is_ascii};
 ghost use Rattle.rb_printer.specs.inner.Growth.{Adds};
 
 use std::alloc::AllocError;
@@ -105,7 +107,8 @@ pub fn is_low(unit: u16) -> bool
 /// The character of a unit that stands for itself.
 #[inline(always)]
 pub fn shown(unit: u16) -> Option<char>
-    ensures { MatchOption result (sign.is_shown unit ≡ false) (λ c. (sign.is_shown unit ≡ true) × (c ≡ unit)) }
+    ensures { MatchOption result (sign.is_shown unit ≡ false)
+        (λ c. (sign.is_shown unit ≡ true) × (c ≡ unit)) }
 {
     if is_plain(unit) {
         return Some(char::from(unit as u8));
@@ -151,10 +154,11 @@ fn put_encoded(out: &mut Vec<u8>, c: char) -> Result<(), AllocError>
     out.extend_from_slice(c.encode_utf8(&mut buffer).as_bytes())
 }
 
-/// The character of a surrogate pair, where a unit and the next one are that.
+/// The character of a surrogate pair, if a unit and the next one are that.
 pub fn paired(unit: u16, next: Option<u16>) -> Option<char>
     ensures { MatchOption result ((is_high_surrogate unit && sign.is_low next) ≡ false)
-        (λ c. ((is_high_surrogate unit && sign.is_low next) ≡ true) × (c ∷ [] ≡ pair_chars unit next)) }
+        (λ c. ((is_high_surrogate unit && sign.is_low next) ≡ true)
+        × (c ∷ [] ≡ pair_chars unit next)) }
 {
     let low = next?;
     if !is_high(unit) || !is_low(low) {
@@ -207,7 +211,8 @@ pub fn put_other(
     put_escape(out, unit)
 }
 
-/// Writes a unit of a text with quotes, after a high surrogate or not, and in front of the next unit.
+/// Writes a unit of a text with quotes, after a high surrogate or not, and in front of the next
+/// unit.
 fn put_unit(
     out: &mut Vec<u8>,
     after_high: bool,
@@ -255,9 +260,10 @@ pub fn put_str(out: &mut Vec<u8>, text: &str) -> Result<(), AllocError>
     out.extend_from_slice(text.as_bytes())
 }
 
-/// Writes the name of a bundle, without quotes where they may be left out.
+/// Writes the name of a bundle, without quotes if they may be left out.
 pub fn put_name(out: &mut Vec<u8>, units: &[u16]) -> Result<(), AllocError>
-    ensures { OnOk result (Adds out.old.items out.new.items (sign_chars (text (sign.is_name units.now) units.now))) }
+    ensures { OnOk result
+        (Adds out.old.items out.new.items (sign_chars (text (sign.is_name units.now) units.now))) }
 {
     if is_name(units) {
         return put_units(out, units);
@@ -269,7 +275,8 @@ pub fn put_name(out: &mut Vec<u8>, units: &[u16]) -> Result<(), AllocError>
 
 /// Writes a key, likewise.
 pub fn put_key(out: &mut Vec<u8>, key: &[u8]) -> Result<(), AllocError>
-    ensures { OnOk result (Adds out.old.items out.new.items (sign_chars (text (sign.is_name key.now) key.now))) }
+    ensures { OnOk result
+        (Adds out.old.items out.new.items (sign_chars (text (sign.is_name key.now) key.now))) }
 {
     if is_name_key(key) {
         return out.extend_from_slice(key);

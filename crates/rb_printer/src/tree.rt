@@ -6,7 +6,8 @@ ghost use Rattle.rb_tree.specs.Parts.{kind_of};
 ghost use Rattle.rb_tree.specs.declared.kind.Kind.TheVariants as Kinds;
 ghost use Rattle.rb_printer.specs.Sign.{signs_chars, left, right, feed};
 ghost use Rattle.rb_printer.specs.Page as page;
-ghost use Rattle.rb_printer.specs.Page.{indent, gap, type_unless, item_signs, body_signs, entries_signs, members_of};
+ghost use Rattle.rb_printer.specs.Page.{indent, gap, type_unless, item_signs, body_signs};
+ghost use Rattle.rb_printer.specs.Page.{entries_signs, members_of};
 ghost use Rattle.rb_printer.specs.Sound.{IsSound, IsWell};
 ghost use Rattle.rb_printer.specs.inner.Growth.{Adds};
 
@@ -36,7 +37,8 @@ fn put_gap(out: &mut Vec<u8>, guessed: bool) -> Result<(), AllocError>
 
 /// Begins an array, and writes its type if it isn't guessed.
 fn begin_array(out: &mut Vec<u8>, guessed: bool) -> Result<(), AllocError>
-    ensures { OnOk result (Adds out.old.items out.new.items (signs_chars (type_unless guessed array_word (left ∷ [])))) }
+    ensures { OnOk result (Adds out.old.items out.new.items
+        (signs_chars (type_unless guessed array_word (left ∷ [])))) }
 {
     if guessed {
         put_str(out, "{")
@@ -47,7 +49,8 @@ fn begin_array(out: &mut Vec<u8>, guessed: bool) -> Result<(), AllocError>
 
 /// Begins a table, likewise.
 fn begin_table(out: &mut Vec<u8>, guessed: bool) -> Result<(), AllocError>
-    ensures { OnOk result (Adds out.old.items out.new.items (signs_chars (type_unless guessed table_word (left ∷ feed ∷ [])))) }
+    ensures { OnOk result (Adds out.old.items out.new.items
+        (signs_chars (type_unless guessed table_word (left ∷ feed ∷ [])))) }
 {
     if guessed {
         put_str(out, "{\n")
@@ -58,7 +61,8 @@ fn begin_table(out: &mut Vec<u8>, guessed: bool) -> Result<(), AllocError>
 
 /// Ends a table of a level.
 fn end_braces(out: &mut Vec<u8>, level: usize) -> Result<(), AllocError>
-    ensures { OnOk result (Adds out.old.items out.new.items (signs_chars (indent level (right ∷ [])))) }
+    ensures { OnOk result
+        (Adds out.old.items out.new.items (signs_chars (indent level (right ∷ [])))) }
 {
     put_indent(out, level)?;
     put_str(out, "}")
@@ -66,7 +70,8 @@ fn end_braces(out: &mut Vec<u8>, level: usize) -> Result<(), AllocError>
 
 /// Ends an array of a level.
 fn end_array(out: &mut Vec<u8>, level: usize) -> Result<(), AllocError>
-    ensures { OnOk result (Adds out.old.items out.new.items (signs_chars (feed ∷ indent level (right ∷ [])))) }
+    ensures { OnOk result
+        (Adds out.old.items out.new.items (signs_chars (feed ∷ indent level (right ∷ [])))) }
 {
     put_str(out, "\n")?;
     end_braces(out, level)
@@ -77,7 +82,8 @@ fn end_array(out: &mut Vec<u8>, level: usize) -> Result<(), AllocError>
 fn put_body<N: Node>(out: &mut Vec<u8>, level: usize, node: N) -> Result<(), AllocError>
     requires low { level + height (N.tree node) ≤ 64 }
     requires well { IsWell (N.tree node) }
-    ensures adds { OnOk result (Adds out.old.items out.new.items (signs_chars (body_signs level (N.tree node) []))) }
+    ensures adds { OnOk result
+        (Adds out.old.items out.new.items (signs_chars (body_signs level (N.tree node) []))) }
     ensures sound { OnOk result (IsSound (N.tree node)) }
 {
     match node.kind() {
@@ -138,7 +144,8 @@ fn put_body<N: Node>(out: &mut Vec<u8>, level: usize, node: N) -> Result<(), All
 fn put_item<N: Node>(out: &mut Vec<u8>, level: usize, node: N) -> Result<(), AllocError>
     requires low { level + height (N.tree node) ≤ 64 }
     requires well { IsWell (N.tree node) }
-    ensures adds { OnOk result (Adds out.old.items out.new.items (signs_chars (item_signs (N.tree node) (body_signs level (N.tree node) []) []))) }
+    ensures adds { OnOk result (Adds out.old.items out.new.items
+        (signs_chars (item_signs (N.tree node) (body_signs level (N.tree node) []) []))) }
     ensures sound { OnOk result (IsSound (N.tree node)) }
 {
     match node.kind() {
@@ -153,7 +160,8 @@ pub fn put_entries<N: Node>(out: &mut Vec<u8>, level: usize, node: N) -> Result<
     requires table { kind_of (N.tree node) ≡ Kinds.Table }
     requires low { level + height (N.tree node) ≤ 65 }
     requires well { IsWell (N.tree node) }
-    ensures adds { OnOk result (Adds out.old.items out.new.items (signs_chars (entries_signs level (members_of (N.tree node)) []))) }
+    ensures adds { OnOk result (Adds out.old.items out.new.items
+        (signs_chars (entries_signs level (members_of (N.tree node)) []))) }
     ensures sound { OnOk result (IsSound (N.tree node)) }
 {
     for i in 0..node.len() {

@@ -1,4 +1,5 @@
--- The line that answers a line, a form of this project: a compact object with its members in ascending order, as serde_json writes it, and a line feed.
+-- The line that answers a line, a form of this project: a compact object with its members in ascending order, as
+-- serde_json writes it, and a line feed.
 use Rattle.std.specs.Prelude.{ℕ, true, List, [], ◌∷◌, ◌++◌, Option, Some, None, codes}
 use Rattle.serde_json.specs.Data.{Data, boolean, number, string, unsigned, object, no_members, member}
 use Rattle.serde_json.specs.Written.{compact_text}
@@ -6,7 +7,8 @@ use Rattle.rb_engine.specs.Answer.{Response, Replies, Finds, Refuses}
 use Rattle.rb_items.specs.Item.{texts_data, found_data}
 use Rattle.rb_engine.specs.Words.{reply_word, look_word}
 use Rattle.rb_engine.specs.declared.request.Reply.{Reply}
-use Rattle.rb_engine.specs.declared.request.Reply.TheVariants.{Done, Names, BadApp, Reserved, BadLocale, BadText, BadFile, Exists, Absent, Full, Memory}
+use Rattle.rb_engine.specs.declared.request.Reply.TheVariants.{Done, Names, BadApp, Reserved, BadLocale, BadText}
+use Rattle.rb_engine.specs.declared.request.Reply.TheVariants.{BadFile, Exists, Absent, Full, Memory}
 
 abbrev pub error : List ℕ → Data
 error word = object (member (codes "error") (string word) no_members)

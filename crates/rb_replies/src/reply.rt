@@ -4,7 +4,8 @@ ghost use Rattle.json.specs.Token.{key, number as number_token};
 ghost use Rattle.rb_items.specs.Item.{texts_data};
 ghost use Rattle.rb_items.specs.Put.{Puts};
 ghost use Rattle.rb_json.specs.Tokens.{data_tokens};
-ghost use Rattle.rb_replies.specs.Replied.{error as error_data, reply_data, response_data, usage_data};
+ghost use Rattle.rb_replies.specs.Replied.{error as error_data, reply_data, response_data};
+ghost use Rattle.rb_replies.specs.Replied.{usage_data};
 ghost use Rattle.rb_engine.specs.declared.request.Reply.TheVariants as replies;
 ghost use Rattle.rb_engine.specs.LookResponse.{look_response};
 ghost use Rattle.rb_views.specs.Seen.{tree_seen};
@@ -82,7 +83,8 @@ pub(crate) fn put_look(
     alloc: Global,
     found: &Result<Found<Item<'_>>, LookFault>,
 ) -> Result<(), AllocError>
-    ensures { Puts result out.old out.new (data_tokens (response_data (look_response tree_seen found.now))) }
+    ensures { Puts result out.old out.new
+        (data_tokens (response_data (look_response tree_seen found.now))) }
 {
     match found {
         Ok(found) => put_found(out, text, alloc, found),

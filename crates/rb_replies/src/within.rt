@@ -22,7 +22,7 @@ pub enum Told {
     TooLong,
 }
 
-/// Which of the two a text of so many bytes is.
+/// Which of the two a text of this many bytes is.
 pub(crate) fn told_by(len: u64, limit: Option<u64>) -> Told
     ensures { IsTold result len limit }
 {
@@ -70,7 +70,8 @@ fn names_exceed(names: &[Name], most: u64) -> bool
 
 /// Whether what a lookup found is longer than the limit already by the lengths of its parts.
 pub(crate) fn look_exceeds(found: &Result<Found<Item<'_>>, LookFault>, limit: Option<u64>) -> bool
-    ensures { IsTrue result ↔ IsAbove (least_of_response (look_response tree_seen found.now)) limit }
+    ensures { IsTrue result
+        ↔ IsAbove (least_of_response (look_response tree_seen found.now)) limit }
 {
     match limit {
         Some(most) => match found {

@@ -11,7 +11,6 @@ use Rattle.rb_requests.specs.declared.reading.Held.{Held}
 use Rattle.rb_requests.specs.declared.reading.Longest.{Longest}
 use Rattle.rb_requests.specs.declared.reading.Progress.{Progress}
 use Rattle.rb_requests.specs.Lines.{onto_first, lines_of, feeds}
-use Rattle.rb_requests.specs.Served.{IsShort}
 use Rattle.rb_requests.specs.Runs.{Moves}
 
 -- ---- line feeds
@@ -144,7 +143,7 @@ pub run_refused : (longest : Longest) (before now : Reader) (progress : Progress
 run_refused longest before now progress old left h room k =
     record { bytes = h.line; part = plain_kept before.left now.left left h.line h.part k; fewer = omega (arith, h.far.many) }
 
--- the same where the line is passed over
+-- the same if the line is passed over
 pub run_starved : (longest : Longest) (before now then : Reader) (progress : Progress) (old held : List ℕ) → ReadSoFar longest before now progress old
     → Keeps now.left then.left → then.faults ≡ now.faults → longest.passes_starved ≡ true
     → ReadSoFar longest before then (record { count = progress.count; starved = true }) held

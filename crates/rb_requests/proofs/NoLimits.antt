@@ -1,5 +1,5 @@
 -- Lines under no limits are answered as the engine answers them.
-use Rattle.std.proofs.Common.{◌≡◌, ◌≤◌, ℕ, inl, inr, true, false, List, length, Option, Some, None, is_some, Result, Ok, Err, refl, sym, ◌∙◌, ap}
+use Rattle.std.proofs.Common.{◌≡◌, ℕ, inl, inr, false, List, length, Option, Some, None, is_some, Result, Ok, Err, refl, sym, ◌∙◌, ap}
 use Rattle.std.proofs.Math.Bool.{and-false}
 use Rattle.std.proofs.lemmas.Bool.{false≢true}
 use Rattle.rb_packages.specs.Packages.{files_of}

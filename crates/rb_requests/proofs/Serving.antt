@@ -59,7 +59,7 @@ module _ {S : Type 0} (Reply : S → List ℕ → List ℕ → S → Type 0) whe
   pub at_first : (limit : ℕ) (now : Moment S) → ServedSoFar limit now now 0
   at_first limit now = record { known = known_first limit now now.left; handed = refl }
 
-  -- what is left stays known where more is read
+  -- what is left stays known if more is read
   known_after : (P Q : List ℕ → List ℕ → Type 0) (R : Option (List ℕ) → Option (List ℕ) → Type 0)
       → ((left : List ℕ) → R (Some left) None → ⊥)
       → ((input left left' : List ℕ) → P input left → R (Some left) (Some left') → Q input left')
@@ -312,7 +312,7 @@ module _ {S : Type 0} (Reply : S → List ℕ → List ℕ → S → Type 0) whe
       unanswered limit fault before now after count most line line input left left' s m (t ∙ h.handed) r.part.read
       (last_is_next limit line left left' r) w)
 
-  -- ---- where no line may follow
+  -- ---- if no line may follow
 
   past_last : (limit : ℕ) (before now : Moment S) (left : Option (List ℕ)) (count byte : ℕ) → ServedSoFar limit before now count
       → Consumes now.left left (byte ∷ []) → AfterFaultWithin Reply limit LineLimit before (read_on now left) count

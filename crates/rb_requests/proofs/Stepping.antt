@@ -1,5 +1,5 @@
 -- What a line asks, by what was read of it, and what is answered.
-use Rattle.std.proofs.Common.{◌≡◌, ◌≤◌, ◌<◌, ◌⊎◌, ℕ, inl, inr, Bool, true, false, ◌&&◌, List, length, Option, Some, None, option_map, refl, sym, ◌∙◌, ap, arith, nat_lt, codes}
+use Rattle.std.proofs.Common.{◌≡◌, ◌≤◌, ◌<◌, ℕ, inl, inr, Bool, true, false, ◌&&◌, List, length, Option, Some, None, option_map, refl, sym, ◌∙◌, ap, arith, nat_lt, codes}
 use Rattle.std.proofs.lemmas.Bool.{false≢true}
 use Rattle.std.proofs.lemmas.Bool.Decides.{nat_tests}
 use Rattle.serde_json.specs.Data.{Data}
@@ -39,7 +39,7 @@ pub asked_none : {o : Option Line} (texts : Texts) → ((d : Data) → AreTextsO
     → o ≡ None → (d : Data) → AreTextsOf texts d → call_in d ≡ None
 asked_none texts h e d t = sym (h d t) ∙ ap (option_map line_view) e
 
--- what is left where memory runs out, of what says more
+-- what is left if memory runs out, of what says more
 pub leaves_more : (P Q : List ℕ → Kept → Type 0) (s : Starved) (old new : Kept) → ((text : List ℕ) → P text new → Q text new)
     → LeavesOf P s old new → LeavesOf Q s old new
 leaves_more P Q Before old new f same = same

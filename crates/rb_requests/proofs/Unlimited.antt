@@ -1,9 +1,9 @@
 -- Serving without limits: what is answered under none is what the engine answers.
-use Rattle.std.proofs.Common.{◌≡◌, ◌≤◌, ℕ, inl, inr, true, false, List, [], ◌∷◌, length, Option, Some, None, refl, sym, ◌∙◌, ap, arith, nat_lt}
+use Rattle.std.proofs.Common.{ℕ, inl, inr, List, [], ◌∷◌, Option, Some, None, ap}
 use Rattle.std.specs.Prelude.{All}
 use Rattle.std.proofs.lemmas.List.Elements.{All-head, All-tail}
 use Rattle.rb_requests.specs.Lines.{RepliesBy}
-use Rattle.rb_requests.specs.Served.{Moment, at, where_known, IsShort, Answers, AnswersWithin, FirstAnswered, After, AfterFaultWithin}
+use Rattle.rb_requests.specs.Served.{Moment, where_known, IsShort, Answers, AnswersWithin, FirstAnswered, After, AfterFaultWithin}
 use Rattle.rb_requests.specs.declared.lines.ServeFault.{ServeFault}
 use Rattle.rb_requests.specs.declared.lines.ServeFault.TheVariants.{Read, Write, LineLimit, LineTooLong, Memory}
 

@@ -1,6 +1,7 @@
--- What a line asks, in a form of this project. A line is read as a `Value` of serde_json; an object of one of the forms below is a
--- request, and further members count for nothing.
-use Rattle.std.specs.Prelude.{ℕ, Bool, List, is_some, if◌then◌else◌, Option, Some, None, codes, option_and_then, option_map, Result, Ok, Err}
+-- What a line asks, in a form of this project. A line is read as a `Value` of serde_json; an object of one of the forms
+-- below is a request, and further members count for nothing.
+use Rattle.std.specs.Prelude.{ℕ, Bool, List, is_some, if◌then◌else◌, Option, Some, None, codes, option_and_then}
+use Rattle.std.specs.Prelude.{option_map, Result, Ok, Err}
 use Rattle.std.specs.Str.{bytes_eq, is_utf8}
 use Rattle.serde_json.specs.Data.{Data}
 use Rattle.serde_json.specs.Read.{read}
@@ -28,7 +29,7 @@ abbrev pub decoded : Result (List ℕ) FromHexError → Option Payload
 decoded (Ok bytes) = Some (File bytes)
 decoded (Err e) = None
 
--- a text or a file; where both are there, whatever they hold, there is no payload
+-- a text or a file; if both are there, whatever they hold, there is no payload
 abbrev pub payload_in : Data → Option Payload
 payload_in d =
     if has (codes "text") d then (if has (codes "file") d then None else option_map Text (text_at (codes "text") d))
@@ -36,7 +37,8 @@ payload_in d =
 
 -- an install or a replacement, as `make` has it
 abbrev pub change_in : (List ℕ → List ℕ → Payload → Request) → Data → Option Call
-change_in make d = with_text (codes "app") d (λ a. with_text (codes "locale") d (λ l. option_map (λ p. Requests (make a l p)) (payload_in d)))
+change_in make d = with_text (codes "app") d
+    (λ a. with_text (codes "locale") d (λ l. option_map (λ p. Requests (make a l p)) (payload_in d)))
 
 abbrev pub remove_in : Data → Option Call
 remove_in d = with_text (codes "app") d (λ a. with_text (codes "locale") d (λ l. Some (Requests (Remove a l))))
@@ -45,7 +47,8 @@ abbrev pub list_in : Data → Option Call
 list_in d = with_text (codes "app") d (λ a. Some (Requests (Lists a)))
 
 abbrev pub look_in : Data → Option Call
-look_in d = with_text (codes "app") d (λ a. with_text (codes "locale") d (λ l. with_text (codes "path") d (λ p. Some (LooksUp a l p))))
+look_in d = with_text (codes "app") d
+    (λ a. with_text (codes "locale") d (λ l. with_text (codes "path") d (λ p. Some (LooksUp a l p))))
 
 abbrev pub call_by : List ℕ → Data → Option Call
 call_by op d =
@@ -63,6 +66,6 @@ call_in d = with_text (codes "op") d (λ op. call_by op d)
 abbrev pub data_of : List ℕ → Option Data
 data_of line = if is_utf8 line then read line else None
 
--- what a line calls; nothing, where it is no request
+-- what a line calls; nothing, if it is no request
 abbrev pub call_of : List ℕ → Option Call
 call_of line = option_and_then call_in (data_of line)

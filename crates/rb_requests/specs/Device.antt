@@ -1,4 +1,5 @@
--- What calls of a reader and a writer do to the bytes, as std's `Read` and `Write` have it, and to the counts of failed calls and of settled ones.
+-- What calls of a reader and a writer do to the bytes, as std's `Read` and `Write` have it, and to the counts of failed
+-- calls and of settled ones.
 use Rattle.std.specs.Prelude.{ℕ, zero, suc, ◌+◌, ◌-◌, ◌^◌, min, List, [], ◌∷◌, Option, Some, None, Result, Ok, Err}
 use Rattle.std.specs.Io.KnownBytes.{Keeps, Consumes, IsAtEnd}
 use Rattle.rb_requests.specs.declared.device.Failed.{Failed}
@@ -18,7 +19,7 @@ abbrev pub counted : {T : Type 0} → ℕ → Result T Failed → ℕ
 counted old (Ok x) = old
 counted old (Err e) = risen old
 
--- a count that has risen so many times
+-- a count that has risen this many times
 abbrev pub risen_by : ℕ → ℕ → ℕ
 risen_by count zero = count
 risen_by count (suc n) = risen (risen_by count n)

@@ -24,11 +24,13 @@ calls_of app (line ∷ rest) = with_call app (call_of line) (calls_of app rest)
 abbrev pub replies_to : List ℕ → List (List ℕ) → List (List ℕ) → List (List ℕ)
 replies_to app [] replies = []
 replies_to app (line ∷ rest) [] = []
-replies_to app (line ∷ rest) (reply ∷ more) = if is_of app (call_of line) then reply ∷ replies_to app rest more else replies_to app rest more
+replies_to app (line ∷ rest) (reply ∷ more) = if is_of app (call_of line) then reply ∷ replies_to app rest more
+    else replies_to app rest more
 
 -- ---- what holds of every text
 
--- lines with the same calls of one application, in the same order, over the same start and the same bundles of it, reply the same to it
+-- lines with the same calls of one application, in the same order, over the same start and the same bundles of it,
+-- reply the same to it
 abbrev pub AreLinesIsolated : Type 0
 AreLinesIsolated =
     (app : List ℕ) (s t end end' : State) (first second replies replies' : List (List ℕ))

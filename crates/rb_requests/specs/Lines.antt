@@ -30,7 +30,8 @@ AnswersAsked s (Some call) (Some response) new = Answered s call response new
 
 -- the text of the reply to a line, and what is then
 abbrev pub LineReply : State → List ℕ → List ℕ → State → Type 0
-LineReply s line text new = (response : Option Response) × AnswersAsked s (call_of line) response new × (text ≡ reply_line response)
+LineReply s line text new = (response : Option Response) × AnswersAsked s (call_of line) response new
+    × (text ≡ reply_line response)
 
 -- the replies to lines, one for each, each line having taken effect before the next; `Reply` says what the reply to one
 -- line is
@@ -42,6 +43,6 @@ RepliesBy Reply s (line ∷ rest) [] end = ⊥
 RepliesBy {S} Reply s (line ∷ rest) (reply ∷ more) end =
     (mid : S) × Reply s line reply mid × RepliesBy Reply mid rest more end
 
--- the same where each line is answered as its call is
+-- the same if each line is answered as its call is
 abbrev pub RepliesByLine : State → List (List ℕ) → List (List ℕ) → State → Type 0
 RepliesByLine s lines replies end = RepliesBy LineReply s lines replies end

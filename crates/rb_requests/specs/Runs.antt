@@ -1,4 +1,4 @@
--- What is read of an input where a run of bytes is taken from it: the bytes that calls of `pull` would give one by one.
+-- What is read of an input if a run of bytes is taken from it: the bytes that calls of `pull` would give one by one.
 use Rattle.std.specs.Prelude.{◌≡◌, ◌<◌, ◌≤◌, ℕ, length, List, [], ◌∷◌, ◌++◌, Option, Result, Ok, Err}
 use Rattle.std.specs.Io.KnownBytes.{Consumes, Keeps, IsAtEnd}
 use Rattle.rb_requests.specs.Lines.{feeds}
@@ -20,7 +20,7 @@ pub record Ends (old new : Option (List ℕ)) (line line' : List ℕ) : Type 0 w
   pub kept : Keeps old new
   pub same : line' ≡ line
 
--- where memory runs out, and where a call fails, nothing is read
+-- if memory runs out, and if a call fails, nothing is read
 abbrev pub RunRead : Option (List ℕ) → Option (List ℕ) → List ℕ → List ℕ → ℕ → Result Run Failed → Type 0
 RunRead old new line line' most (Ok Feed) = Moves old new line line' most (10 ∷ [])
 RunRead old new line line' most (Ok Part) = Moves old new line line' most [] × (length line < length line')

@@ -1,6 +1,7 @@
--- What serving comes to at the end of the input, and what stands where it ends earlier, this project's own rule: each
+-- What serving comes to at the end of the input, and what stands if it ends earlier, this project's own rule: each
 -- line is answered before the next is read.
-use Rattle.std.specs.Prelude.{◌≡◌, ◌≤◌, ◌<◌, ◌+◌, ◌++◌, ◌⊎◌, ℕ, List, [], ◌∷◌, length, All, ⊤, Option, Some, None, Result, Ok, Err}
+use Rattle.std.specs.Prelude.{◌≡◌, ◌≤◌, ◌<◌, ◌+◌, ◌++◌, ◌⊎◌, ℕ, List, [], ◌∷◌, length, All, ⊤, Option, Some, None}
+use Rattle.std.specs.Prelude.{Result, Ok, Err}
 use Rattle.std.specs.List.{concat}
 use Rattle.std.specs.Io.KnownBytes.{Appends}
 use Rattle.rb_requests.specs.Device.{risen, risen_by}
@@ -8,6 +9,7 @@ use Rattle.rb_engine.specs.History.{State}
 use Rattle.rb_requests.specs.Lines.{LineReply, RepliesBy, lines_of, feeds}
 use Rattle.rb_requests.specs.declared.lines.ServeFault.{ServeFault}
 use Rattle.rb_requests.specs.declared.lines.ServeFault.TheVariants.{Read, Write, LineLimit, LineTooLong, Memory}
+use Rattle.rb_requests.specs.Limits.{line_limit}
 
 -- a server at a moment: what it holds, the bytes that are left to read and those that are written, where they are
 -- known, and how many replies have been settled
@@ -20,7 +22,7 @@ pub record Moment (S : Type 0) : Type 0 where
 abbrev pub at : {S : Type 0} → S → Option (List ℕ) → Option (List ℕ) → ℕ → Moment S
 at state left written settled = record { state = state; left = left; written = written; settled = settled }
 
--- where the bytes that are left are known, before and after
+-- if the bytes that are left are known, before and after
 abbrev pub where_known : (List ℕ → List ℕ → Type 0) → Option (List ℕ) → Option (List ℕ) → Type 0
 where_known Holds None left = ⊤
 where_known Holds (Some input) None = ⊥
@@ -77,7 +79,7 @@ module _ {S : Type 0} (Reply : S → List ℕ → List ℕ → S → Type 0) whe
     pub replies : List (List ℕ)
     pub by_line : RepliesBy Reply old first replies now
 
-  -- after `Read`: of the next line a part is read that is no longer than a line may be, and where no further line may
+  -- after `Read`: of the next line a part is read that is no longer than a line may be, and if no further line may
   -- come nothing is
   pub record AfterRead (limit : ℕ) (before after : Moment S) (most : ℕ) (input left : List ℕ) : Type 0 where
     pub answered : FirstAnswered limit before.state after.state most input left
@@ -147,10 +149,10 @@ module _ {S : Type 0} (Reply : S → List ℕ → List ℕ → S → Type 0) whe
 -- ---- each line is answered as its call is, and has at most 268,435,456 bytes
 
 abbrev pub AnswersAll : Moment State → Moment State → ℕ → Type 0
-AnswersAll before after count = AnswersWithin LineReply 268435456 before after count
+AnswersAll before after count = AnswersWithin LineReply line_limit before after count
 
 abbrev pub AfterFault : ServeFault → Moment State → Moment State → ℕ → Type 0
-AfterFault fault before after most = AfterFaultWithin LineReply 268435456 fault before after most
+AfterFault fault before after most = AfterFaultWithin LineReply line_limit fault before after most
 
 -- ---- the counts of failed calls: that of the reader rises at `Read` alone, that of the writer at `Write` alone
 

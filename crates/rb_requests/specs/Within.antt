@@ -1,7 +1,7 @@
 -- The reply to a line under limits, this project's own rule.
 use Rattle.std.specs.Prelude.{◌≡◌, ◌⊎◌, ◌^◌, ◌-◌, ◌++◌, ◌∷◌, [], ℕ, List, length, min, nat_lt, Bool, true, false}
 use Rattle.std.specs.Prelude.{◌&&◌, ◌||◌, if◌then◌else◌, codes, Result, Ok, Err}
-use Rattle.std.specs.Prelude.{Option, Some, None, is_some, option_and_then, option_map, unwrap_or}
+use Rattle.std.specs.Prelude.{Option, Some, None, is_some, option_and_then, unwrap_or}
 use Rattle.std.specs.Str.{bytes_eq}
 use Rattle.serde_json.specs.Data.{Data}
 use Rattle.serde_json.specs.Written.{compact_text}
@@ -9,11 +9,10 @@ use Rattle.rb_packages.specs.App.{app_of}
 use Rattle.rb_packages.specs.Packages.{Files, files_of}
 use Rattle.rb_packages.specs.declared.app.AppFault.{AppFault}
 use Rattle.rb_engine.specs.Ask.{Call}
-use Rattle.rb_engine.specs.Answer.{Response, Replies, Finds, Refuses as NotFound}
+use Rattle.rb_engine.specs.Answer.{Response, Replies, Finds}
 use Rattle.rb_engine.specs.Kept.{Kept}
 use Rattle.rb_engine.specs.Place.{app_refusal}
 use Rattle.rb_engine.specs.Answer.{refusal}
-use Rattle.rb_engine.specs.declared.request.Reply.{Reply}
 use Rattle.rb_engine.specs.declared.request.Reply.TheVariants.{Names}
 use Rattle.rb_limits.specs.Limits.{is_over, used}
 use Rattle.rb_limits.specs.Steps.{Outcome, Answers, Refuses, CallIsJudged}
@@ -21,6 +20,7 @@ use Rattle.rb_limits.specs.Words.{refusal_word}
 use Rattle.rb_replies.specs.Replied.{error, reply_line, usage_data}
 use Rattle.rb_requests.specs.Asked.{call_of, data_of, text_at}
 use Rattle.rb_requests.specs.declared.limits.LineLimits.{LineLimits}
+use Rattle.rb_requests.specs.Limits.{line_limit}
 
 abbrev pub line_of : Data → List ℕ
 line_of d = compact_text d ++ 10 ∷ []
@@ -30,14 +30,14 @@ error_line word = line_of (error word)
 
 -- ---- how long a line may be
 
--- a line with at most so many bytes is read as what it asks
+-- a line with at most this many bytes is read as what it asks
 abbrev pub longest_kept : LineLimits → ℕ
-longest_kept limits = min (unwrap_or limits.line_bytes 268435456) 268435456
+longest_kept limits = min (unwrap_or limits.line_bytes line_limit) line_limit
 
 -- a line with more bytes than this ends serving: without a limit of its own 268,435,456, and with one as many as 64
 -- bits can tell
 abbrev pub longest_read : LineLimits → ℕ
-longest_read limits = if is_some limits.line_bytes then 2 ^ 64 - 1 else 268435456
+longest_read limits = if is_some limits.line_bytes then 2 ^ 64 - 1 else line_limit
 
 -- ---- what a line asks
 
@@ -51,9 +51,10 @@ is_limited limits =
 -- the application whose usage a line asks for: an object with `op` "usage" and `app`
 abbrev pub usage_in : Data → Option (List ℕ)
 usage_in d =
-    option_and_then (λ op. if bytes_eq op (codes "usage") then text_at (codes "app") d else None) (text_at (codes "op") d)
+    option_and_then (λ op. if bytes_eq op (codes "usage") then text_at (codes "app") d else None)
+    (text_at (codes "op") d)
 
--- it is asked only where any limit is on
+-- it is asked only if any limit is on
 abbrev pub asked_usage : LineLimits → Option (List ℕ) → Option (List ℕ)
 asked_usage limits app = if is_limited limits then app else None
 
@@ -95,7 +96,7 @@ abbrev pub ReadReply : LineLimits → Kept → List ℕ → List ℕ → Kept �
 ReadReply limits old line text new =
     AnswersRead limits old (call_of line) (asked_usage limits (option_and_then usage_in (data_of line))) text new
 
--- A line with more than so many bytes is not read. Where serving goes on without memory, any other may be answered
+-- A line with more than this many bytes is not read. Where serving goes on without memory, any other may be answered
 -- `Memory`, and has changed nothing.
 abbrev pub LineReplyUpTo : ℕ → LineLimits → Kept → List ℕ → List ℕ → Kept → Type 0
 LineReplyUpTo most limits old line text new =

@@ -7,7 +7,8 @@ ghost use Rattle.rb_engine.specs.Answer.{Replies};
 ghost use Rattle.rb_engine.specs.History.{is_memory as ran_out};
 ghost use Rattle.rb_limits.specs.Steps.{Answers};
 ghost use Rattle.rb_requests.specs.Within.{AnswersRead, ReadReply, asked_usage, error_line};
-ghost use Rattle.rb_requests.specs.Within.{is_limited as limited, outcome_line, usage_in, usage_reply};
+ghost use Rattle.rb_requests.specs.Within.{is_limited as limited, outcome_line, usage_in};
+ghost use Rattle.rb_requests.specs.Within.{usage_reply};
 ghost use Rattle.rb_requests.specs.inner.Line.{AreTextsOf};
 ghost use Rattle.rb_requests.specs.inner.Starving.{CallReply, DataReply, LeavesOf, untold_reply};
 
@@ -53,7 +54,7 @@ pub(crate) fn is_limited(limits: &LineLimits) -> bool
         || limits.keep_serving
 }
 
-/// What is known where the reply could not be made: only what is done has changed anything.
+/// What is known if the reply could not be made: only what is done has changed anything.
 fn untold(reply: &Reply) -> Starved
     ensures { result ≡ untold_reply reply.now }
 {
@@ -175,7 +176,8 @@ fn answer_other(
     texts: &Texts<'_>,
     reply: &mut ReplyLine,
 ) -> Result<(), AllocError>
-    ensures { OnOk result ((d : Data) → AreTextsOf texts.now d → AnswersRead limits.now engine.now None
+    ensures { OnOk result
+        ((d : Data) → AreTextsOf texts.now d → AnswersRead limits.now engine.now None
         (asked_usage limits.now (usage_in d)) reply.new engine.now) }
 {
     if is_limited(limits) {

@@ -1,18 +1,21 @@
 //! What a line asks.
 //!
-//! The texts at the names that count are lent out of the line, or out of a scratch where they have
+//! The texts at the names that count are lent out of the line, or out of a scratch if they have
 //! escapes. Of the line's other values nothing is kept.
 ghost use Rattle.std.specs.Prelude.{◌≡◌, IfOk, IsTrue, option_map, Some, false};
 ghost use Rattle.serde_json.specs.Data.{Data};
 ghost use Rattle.hex.specs.Hex.{decode_of};
-ghost use Rattle.rb_requests.specs.Asked.{call_in, data_of, decoded, change_in, remove_in, list_in, look_in};
+ghost use Rattle.rb_requests.specs.Asked.{call_in, data_of, decoded, change_in, remove_in, list_in};
+ghost use Rattle.rb_requests.specs.Asked.{look_in};
 ghost use Rattle.rb_requests.specs.Within.{usage_in};
-ghost use Rattle.rb_requests.specs.inner.Line.{line_view, made, payload_by, AreTextsOf, AsksNothing};
+ghost use Rattle.rb_engine.specs.Source.{change_request};
+ghost use Rattle.rb_requests.specs.inner.Line.{line_view, payload_by, AreTextsOf};
+ghost use Rattle.rb_requests.specs.inner.Line.{AsksNothing};
 
 use bstr::ByteSlice;
 use hex::FromHexError;
 use json::Scratch;
-use rb_engine::{Payload, Request};
+use rb_engine::{Change, Payload, Request};
 use rb_members::{Member, Texts, read_texts};
 use rb_tree::ByteList;
 use std::alloc::{AllocError, Global};
@@ -26,32 +29,6 @@ pub(crate) enum Line<'a> {
         locale: &'a str,
         path: &'a str,
     },
-}
-
-/// A request that brings a bundle.
-#[derive(Clone, Copy, Drop)]
-pub(crate) enum Change {
-    Install,
-    Replace,
-}
-
-impl Change {
-    fn request(self, app: ByteList, locale: ByteList, payload: Payload) -> Request
-        ensures { result ≡ made self app locale payload }
-    {
-        match self {
-            Change::Install => Request::Install {
-                app,
-                locale,
-                payload,
-            },
-            Change::Replace => Request::Replace {
-                app,
-                locale,
-                payload,
-            },
-        }
-    }
 }
 
 fn bytes_of(alloc: Global, text: &str) -> Result<ByteList, AllocError>
@@ -87,7 +64,8 @@ fn change_of<'a>(
     texts: &Texts<'a>,
     change: Change,
 ) -> Result<Option<Line<'a>>, AllocError>
-    ensures { IfOk result (λ o. (d : Data) → AreTextsOf texts.now d → option_map line_view o ≡ change_in (made change) d) }
+    ensures { IfOk result (λ o. (d : Data) → AreTextsOf texts.now d
+        → option_map line_view o ≡ change_in (change_request change) d) }
 {
     let Some(Member::Text(app)) = texts.app else {
         return Ok(None);
@@ -104,7 +82,8 @@ fn change_of<'a>(
 }
 
 fn remove_of<'a>(alloc: Global, texts: &Texts<'a>) -> Result<Option<Line<'a>>, AllocError>
-    ensures { IfOk result (λ o. (d : Data) → AreTextsOf texts.now d → option_map line_view o ≡ remove_in d) }
+    ensures { IfOk result
+        (λ o. (d : Data) → AreTextsOf texts.now d → option_map line_view o ≡ remove_in d) }
 {
     let Some(Member::Text(app)) = texts.app else {
         return Ok(None);
@@ -118,7 +97,8 @@ fn remove_of<'a>(alloc: Global, texts: &Texts<'a>) -> Result<Option<Line<'a>>, A
 }
 
 fn list_of<'a>(alloc: Global, texts: &Texts<'a>) -> Result<Option<Line<'a>>, AllocError>
-    ensures { IfOk result (λ o. (d : Data) → AreTextsOf texts.now d → option_map line_view o ≡ list_in d) }
+    ensures { IfOk result
+        (λ o. (d : Data) → AreTextsOf texts.now d → option_map line_view o ≡ list_in d) }
 {
     let Some(Member::Text(app)) = texts.app else {
         return Ok(None);
@@ -140,7 +120,8 @@ fn look_of<'a>(texts: &Texts<'a>) -> Option<Line<'a>>
 
 /// What a line with these texts asks, if it is a request.
 pub(crate) fn line_of<'a>(alloc: Global, texts: &Texts<'a>) -> Result<Option<Line<'a>>, AllocError>
-    ensures { IfOk result (λ o. (d : Data) → AreTextsOf texts.now d → option_map line_view o ≡ call_in d) }
+    ensures { IfOk result
+        (λ o. (d : Data) → AreTextsOf texts.now d → option_map line_view o ≡ call_in d) }
 {
     let Some(Member::Text(op)) = texts.op else {
         return Ok(None);

@@ -1,4 +1,5 @@
-//! Readers by the byte and by the run, writers, and the wrappers that make them of any `BufRead` and `Write`.
+//! Readers by the byte and by the run, writers, and the wrappers that make them of any `BufRead`
+//! and `Write`.
 
 ghost use Rattle.std.specs.Prelude.{◌≡◌, ◌<◌, ◌≤◌, ℕ, List, Option, length, IfOk};
 ghost use Rattle.std.specs.Io.KnownBytes.{Keeps, WriteAppends};
@@ -29,7 +30,7 @@ pub trait Feed {
     ghost use Rattle.rb_requests.specs.Device.{Pulls, counted};
     ghost use Rattle.rb_requests.specs.Runs.{RunRead};
 
-    /// The bytes that are left, where they are known.
+    /// The bytes that are left, if they are known.
     ghost left: { Self → Option (List ℕ) };
 
     /// How many calls have failed, up to the largest `u64`.
@@ -40,12 +41,14 @@ pub trait Feed {
         ensures bytes { Pulls (left self.old) (left self.new) result }
         ensures count { faults self.new ≡ counted (faults self.old) result };
 
-    /// Moves the next bytes onto the end of a line, at least one and at most so many: up to a line feed, which is taken and not moved,
-    /// or a part of the line. They are those that calls of `pull` would give. After an error nothing is taken, and where memory runs
-    /// out for the line neither.
+    /// Moves the next bytes onto the end of a line, at least one and at most this many: up to a
+    /// line feed, which is taken and not moved, or a part of the line. They are those that calls of
+    /// `pull` would give. After an error nothing is taken, and if memory runs out for the line
+    /// neither.
     fn pull_run(&mut self, line: &mut Vec<u8>, most: usize) -> Result<Run, Failed>
         requires { 0 < most }
-        ensures bytes { RunRead (left self.old) (left self.new) line.old.items line.new.items most result }
+        ensures bytes { RunRead (left self.old)
+            (left self.new) line.old.items line.new.items most result }
         ensures count { faults self.new ≡ counted (faults self.old) result }
     {
         if line.reserve(1).is_err() {
@@ -67,7 +70,7 @@ pub trait Feed {
 pub trait Sink {
     ghost use Rattle.rb_requests.specs.Device.{counted, settles};
 
-    /// The bytes that were written, where they are known.
+    /// The bytes that were written, if they are known.
     ghost written: { Self → Option (List ℕ) };
 
     /// How many calls have failed, up to the largest `u64`.

@@ -1,4 +1,5 @@
-//! Requests and replies by the line: what a line asks of an engine, the line that answers it, and the loop that serves them.
+//! Requests and replies by the line: what a line asks of an engine, the line that answers it, and
+//! the loop that serves them.
 //!
 //! The engine itself is rb_engine's; all its public items are here too.
 #![tactic(auto)]

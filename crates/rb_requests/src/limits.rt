@@ -4,7 +4,7 @@ use rb_limits::Limits;
 /// The most bytes of a line, without its line feed.
 pub const LINE_LIMIT: usize = 268_435_456;
 
-/// Limits under which lines are served. There is no limit where there is `None`.
+/// Limits under which lines are served. There is no limit if there is `None`.
 #[derive(Clone, Copy, Debug, PartialEq, Eq)]
 pub struct LineLimits {
     /// Those of what lines call.
@@ -14,7 +14,7 @@ pub struct LineLimits {
     pub line_bytes: Option<u64>,
     /// The bytes of the line of a found item or of names, with its line feed.
     pub reply_bytes: Option<u64>,
-    /// Whether serving goes on where memory runs out for a line that has changed nothing.
+    /// Whether serving goes on if memory runs out for a line that has changed nothing.
     pub keep_serving: bool,
 }
 

@@ -1,18 +1,18 @@
 //! Requests and replies by the line.
-ghost use Rattle.std.specs.Prelude.{◌≡◌, ◌<◌, ◌≤◌, true, OnOk, OnErr, IfOk, IfErr, List, [], ℕ, length, drop};
+ghost use Rattle.std.specs.Prelude.{◌≡◌, ◌<◌, ◌≤◌, true, OnOk, OnErr, IfOk, IfErr, List, [], ℕ};
+ghost use Rattle.std.specs.Prelude.{length, drop};
 ghost use Rattle.std.specs.Io.KnownBytes.{Appends};
 ghost use Rattle.rb_engine.specs.Kept.{state_of};
 ghost use Rattle.rb_requests.specs.inner.Taken.{EndsAfter, IsHeldUnder};
 ghost use Rattle.rb_requests.specs.Device.{risen_by, counted, settles};
-ghost use Rattle.rb_requests.specs.Served.{AnswersAll, AnswersWithin, AfterFault, AfterFaultWithin, at};
+ghost use Rattle.rb_requests.specs.Served.{AnswersAll, AnswersWithin, AfterFault, AfterFaultWithin};
+ghost use Rattle.rb_requests.specs.Served.{at};
 ghost use Rattle.rb_requests.specs.Served.{reads_failed, writes_failed};
 ghost use Rattle.rb_requests.specs.Within.{LineReplyUpTo, LineReplyWithin, longest_read};
 ghost use Rattle.rb_requests.specs.inner.Longest.{longest};
 ghost use Rattle.rb_requests.specs.declared.reading.Longest.{Longest};
-ghost use Rattle.rb_requests.specs.inner.OneLine.{Wrote, WrotePart, MayTakeEffect, FailsLine, line_settled};
-
-#[cfg(test)]
-mod tests;
+ghost use Rattle.rb_requests.specs.inner.OneLine.{Wrote, WrotePart, MayTakeEffect, FailsLine};
+ghost use Rattle.rb_requests.specs.inner.OneLine.{line_settled};
 
 use crate::answer::{Starved, reply_of};
 use crate::device::{Failed, Feed, Sink};
@@ -50,7 +50,7 @@ pub struct Served {
     pub lines: u64,
 }
 
-/// A buffer above so many bytes isn't kept for the next line.
+/// A buffer above this many bytes isn't kept for the next line.
 const KEPT: usize = 65_536;
 
 /// Empties a buffer, and keeps its memory unless that is large. The scratch, which grows with the
@@ -181,7 +181,7 @@ fn serve_line<S: Sink>(
     }
 }
 
-/// The end of the input, where as many lines were served as may be. A byte more is read, if there
+/// The end of the input, if as many lines were served as may be. A byte more is read, if there
 /// is one.
 fn end_after<F: Feed>(feed: &mut F, lines: u64) -> Result<Served, ServeFault>
     ensures end { EndsAfter (F.left feed.old) (F.left feed.new) lines result }
@@ -194,7 +194,7 @@ fn end_after<F: Feed>(feed: &mut F, lines: u64) -> Result<Served, ServeFault>
     }
 }
 
-/// `serve_limited`, with lines of so many bytes.
+/// `serve_limited`, with lines of this many bytes.
 #[tactic(auto, using(crate::proofs::Serving::at_first))]
 fn serve_within<F: Feed, S: Sink>(
     alloc: Global,
@@ -212,7 +212,8 @@ fn serve_within<F: Feed, S: Sink>(
         (at engine.old (F.left feed.old) (S.written sink.old) (S.settled sink.old))
         (at engine.new (F.left feed.new) (S.written sink.new) (S.settled sink.new)) served.lines) }
     ensures most { IfOk result (λ served. served.lines ≤ max_lines) }
-    ensures settled { IfOk result (λ served. S.settled sink.new ≡ risen_by (S.settled sink.old) served.lines) }
+    ensures settled { IfOk result
+        (λ served. S.settled sink.new ≡ risen_by (S.settled sink.old) served.lines) }
     ensures fault { IfErr result (λ fault. AfterFaultWithin
         (LineReplyUpTo longest.kept limits.now) longest.limit fault
         (at engine.old (F.left feed.old) (S.written sink.old) (S.settled sink.old))
@@ -291,7 +292,8 @@ pub fn serve_limited<F: Feed, S: Sink>(
         (at engine.new (F.left feed.new) (S.written sink.new) (S.settled sink.new)) served.lines) }
     ensures most { IfOk result (λ served. served.lines ≤ max_lines) }
     // Each reply is settled.
-    ensures settled { IfOk result (λ served. S.settled sink.new ≡ risen_by (S.settled sink.old) served.lines) }
+    ensures settled { IfOk result
+        (λ served. S.settled sink.new ≡ risen_by (S.settled sink.old) served.lines) }
     // The first lines are answered, and their replies settled; this is how far the next one came.
     ensures fault { IfErr result (λ fault. AfterFaultWithin
         (LineReplyWithin limits.now) (longest_read limits.now) fault
@@ -316,11 +318,11 @@ pub fn serve_limited<F: Feed, S: Sink>(
 /// the next one is read.
 ///
 /// At `Ok` all the input is read, and what is written is the replies to its lines. After an error
-/// the replies to the first lines are written, and these have taken effect. `Read` comes where a
+/// the replies to the first lines are written, and these have taken effect. `Read` comes if a
 /// call of the reader failed: the lines are answered whose line feeds were read. `LineTooLong`
 /// comes at the byte past a line's limit, and `LineLimit` at a byte after `max_lines` lines; all
-/// lines before it are answered. `Write` comes where a call of the writer failed: the next line has
-/// taken effect too, and a part of its reply is written. `Memory` comes where memory runs out for
+/// lines before it are answered. `Write` comes if a call of the writer failed: the next line has
+/// taken effect too, and a part of its reply is written. `Memory` comes if memory runs out for
 /// the next line, which may have taken effect.
 ///
 /// ```rust
@@ -340,14 +342,17 @@ pub fn serve<F: Feed, S: Sink>(
     // have taken effect.
     ensures all { IfOk result (λ served. AnswersAll
         (at (state_of engine.old) (F.left feed.old) (S.written sink.old) (S.settled sink.old))
-        (at (state_of engine.new) (F.left feed.new) (S.written sink.new) (S.settled sink.new)) served.lines) }
+        (at (state_of engine.new) (F.left feed.new) (S.written sink.new)
+        (S.settled sink.new)) served.lines) }
     ensures most { IfOk result (λ served. served.lines ≤ max_lines) }
     // Each reply is settled.
-    ensures settled { IfOk result (λ served. S.settled sink.new ≡ risen_by (S.settled sink.old) served.lines) }
+    ensures settled { IfOk result
+        (λ served. S.settled sink.new ≡ risen_by (S.settled sink.old) served.lines) }
     // The first lines are answered, and their replies settled; this is how far the next one came.
     ensures fault { IfErr result (λ fault. AfterFault fault
         (at (state_of engine.old) (F.left feed.old) (S.written sink.old) (S.settled sink.old))
-        (at (state_of engine.new) (F.left feed.new) (S.written sink.new) (S.settled sink.new)) max_lines) }
+        (at (state_of engine.new) (F.left feed.new) (S.written sink.new)
+        (S.settled sink.new)) max_lines) }
     // A count of failed calls rises by one at its device's fault, and else stays.
     ensures reads { F.faults feed.new ≡ reads_failed (F.faults feed.old) result }
     ensures writes { S.faults sink.new ≡ writes_failed (S.faults sink.old) result }

@@ -1,5 +1,6 @@
 //! Reading line by line.
-ghost use Rattle.std.specs.Prelude.{◌≡◌, ◌<◌, ◌≤◌, ◌-◌, ◌+◌, ◌^◌, min, false, Ok, Option, List, [], ℕ};
+ghost use Rattle.std.specs.Prelude.{◌≡◌, ◌<◌, ◌≤◌, ◌-◌, ◌+◌, ◌^◌, min, false, Ok, Option, List, []};
+ghost use Rattle.std.specs.Prelude.{ℕ};
 ghost use Rattle.std.specs.Io.KnownBytes.{IsAtEnd, Keeps};
 ghost use Rattle.rb_requests.specs.Device.{counted};
 ghost use Rattle.rb_requests.specs.inner.Taken.{Holds, IsSoFar, ReadsLine, ReadsPlain};
@@ -74,8 +75,8 @@ fn let_go(line: &mut Vec<u8>, longest: Longest, progress: Progress)
     }
 }
 
-/// The most bytes of the next run of a line of which so many were read: up to one byte more than is
-/// kept, and from there what the buffer has room for.
+/// The most bytes of the next run of a line of which this many were read: up to one byte more than
+/// is kept, and from there what the buffer has room for.
 fn run_len(longest: Longest, count: usize, room: usize) -> usize
     requires { count < longest.limit }
     ensures some { 0 < result }
@@ -129,7 +130,7 @@ pub(crate) fn read_line<F: Feed>(
     after_longest(feed, longest, progress.starved)
 }
 
-/// How far a line is read after a run of so many bytes.
+/// How far a line is read after a run of this many bytes.
 fn after_run(progress: Progress, bytes: usize) -> Progress
     ensures { result ≡ record {
       count = min (progress.count + bytes) (2 ^ 64 - 1);
@@ -145,8 +146,10 @@ fn after_run(progress: Progress, bytes: usize) -> Progress
 /// Reads what follows the most bytes that a line may have.
 #[tactic(auto, using(crate::proofs::LinesRead::after_longest))]
 fn after_longest<F: Feed>(feed: &mut F, longest: Longest, starved: bool) -> Result<NextLine, Failed>
-    ensures line { (first : Option (List ℕ)) → (line held : List ℕ) → ReadsPlain first (F.left feed.old) line
-        → IsSoFar longest (record { count = longest.limit; starved = starved }) line held → 0 < longest.limit
+    ensures line { (first : Option (List ℕ)) → (line held : List ℕ)
+        → ReadsPlain first (F.left feed.old) line
+        → IsSoFar longest (record { count = longest.limit; starved = starved }) line held
+        → 0 < longest.limit
         → ReadsLine longest held first (F.left feed.new) result }
     ensures count { F.faults feed.new ≡ counted (F.faults feed.old) result }
 {

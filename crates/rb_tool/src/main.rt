@@ -33,8 +33,8 @@ fn run<R: Files + RandomSource + Clock + AllocGlobal + Input + Print + Eprint + 
     })
 }
 
-/// Says on a line of standard error why no command was run: out of memory, an argument that isn't UTF-8, or a help that can't be
-/// written. The status is 1 after out of memory, and else 2.
+/// Says on a line of standard error why no command was run: out of memory, an argument that isn't
+/// UTF-8, or a help that can't be written. The status is 1 after out of memory, and else 2.
 fn not_run<R: Eprint>(rt: &R, error: io::Error) -> ExitCode {
     let (_, status) = match error.kind() {
         ErrorKind::OutOfMemory => (eprintln!(rt; "Memory"), 1),

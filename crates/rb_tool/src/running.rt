@@ -1,4 +1,6 @@
 //! Running what a command line asks for.
+ghost use Rattle.std.specs.Prelude.{◌≡◌, IfSome};
+
 use rb_arguments::{Asked, AskedLimits, AskedLookup};
 use rb_commands::{
     Change, Console, Layout, Limits, LineLimits, Lookup, check_all, check_on, compile_all,
@@ -77,7 +79,13 @@ fn run_look<R: Files + RandomSource + AllocGlobal + Print + Eprint>(
 }
 
 /// The limits that were asked for, if any were.
-fn limits_of(asked: AskedLimits) -> Option<LineLimits> {
+fn limits_of(asked: AskedLimits) -> Option<LineLimits>
+    ensures calls { IfSome result (λ l. (l.calls.bundle_bytes ≡ asked.bundle_bytes)
+        × (l.calls.app_bytes ≡ asked.app_bytes)
+        × (l.calls.apps ≡ asked.apps) × (l.calls.steps ≡ asked.steps)) }
+    ensures lines { IfSome result (λ l. (l.line_bytes ≡ asked.line_bytes)
+        × (l.reply_bytes ≡ asked.reply_bytes) × (l.keep_serving ≡ asked.keep_serving)) }
+{
     if asked == AskedLimits::none() {
         return None;
     }

@@ -1,4 +1,13 @@
 //! The steps of a traced lookup, in words.
+ghost use Rattle.std.specs.Prelude.{◌≡◌, is_some, option_map};
+ghost use Rattle.rb_tree.specs.Ending.{stop_at};
+ghost use Rattle.rb_parents.specs.Family.{parent_of};
+ghost use Rattle.rb_parents.specs.Shelf.{bundle_of};
+ghost use Rattle.rb_parents.specs.Steps.{next_of};
+ghost use Rattle.rb_parents.specs.Trail.{bundle_next, text_at};
+ghost use Rattle.rb_trace.specs.inner.Causes.{IsNextBy, cause, cause_words, plain_cause};
+ghost use Rattle.rb_trace.specs.inner.Has.{IsHas, IsReach, leads};
+
 use rb_fallback::rest_behind;
 use rb_lint::kind_word;
 use rb_locales::Name;
@@ -29,7 +38,9 @@ pub(crate) enum Why {
 }
 
 /// Whether a tree has a String at a key.
-fn has_text<N: Node>(root: N, key: &[u8]) -> bool {
+fn has_text<N: Node>(root: N, key: &[u8]) -> bool
+    ensures { result ≡ is_some (text_at key.now (N.tree root)) }
+{
     if root.kind() != Kind::Table {
         return false;
     }
@@ -40,7 +51,9 @@ fn has_text<N: Node>(root: N, key: &[u8]) -> bool {
 }
 
 /// What decides on the name after one whose bundle, if it has one, names no other.
-fn decided_plainly(parents: &Parents, name: &Name) -> Why {
+fn decided_plainly(parents: &Parents, name: &Name) -> Why
+    ensures { result ≡ plain_cause (parent_of parents.now) name.now }
+{
     if name.as_bytes() == b"root".as_slice() {
         return Why::Last;
     }
@@ -54,11 +67,10 @@ fn decided_plainly(parents: &Parents, name: &Name) -> Why {
 }
 
 /// What decides on the name after one with this bundle, if it has one.
-pub(crate) fn decided_by<N: Node>(
-    bundle: Option<(N, bool)>,
-    parents: &Parents,
-    name: &Name,
-) -> Why {
+fn decided_by<N: Node>(bundle: Option<(N, bool)>, parents: &Parents, name: &Name) -> Why
+    ensures { result
+        ≡ cause (parent_of parents.now) name.now (option_map (bundle_of N.tree) bundle) }
+{
     let Some((root, no_fallback)) = bundle else {
         return decided_plainly(parents, name);
     };
@@ -81,9 +93,30 @@ pub(crate) struct Then {
     pub(crate) why: Why,
 }
 
+/// What comes after a name with this bundle, if it has one, and what decided on it.
+pub(crate) fn then_by<N: Node>(
+    next: Next,
+    bundle: Option<(N, bool)>,
+    parents: &Parents,
+    name: &Name,
+) -> Then
+    requires { next_of next
+        ≡ bundle_next (parent_of parents.now) name.now (option_map (bundle_of N.tree) bundle) }
+    ensures next { result.next ≡ next }
+    ensures decided { result.why
+        ≡ cause (parent_of parents.now) name.now (option_map (bundle_of N.tree) bundle) }
+    ensures why { IsNextBy result.why (parent_of parents.now) name.now
+        (option_map (bundle_of N.tree) bundle) (next_of next) }
+{
+    let why = decided_by(bundle, parents, name);
+    Then { next, why }
+}
+
 impl Then {
     /// What decided on the next name.
-    fn cause(self) -> &'static str {
+    fn cause(self) -> &'static str
+        ensures { result.now ≡ cause_words self.why }
+    {
         match self.why {
             Why::Alias => "by its %%ALIAS",
             Why::NoFallback => "as it has no fallback",
@@ -125,15 +158,30 @@ pub(crate) enum Has {
 }
 
 /// Whether a path leads somewhere.
-fn leads<N: Node>(root: N, path: &[u8]) -> bool {
-    path_ok(path) && !matches!(walk(root, path), Ending::Gone)
+fn leads<N: Node>(root: N, path: &[u8]) -> bool
+    ensures { result ≡ leads (N.tree root) path.now }
+{
+    if !path_ok(path) {
+        return false;
+    }
+    match walk(root, path) {
+        Ending::End(_) | Ending::Link(_, _) => true,
+        Ending::Gone => false,
+    }
 }
 
-/// How many first bytes of a path lead somewhere: none, or up to a slash.
-fn reach<N: Node>(root: N, path: &[u8]) -> usize {
+/// How many first bytes of a path lead somewhere: none, or up to a slash. Behind a front that leads
+/// nowhere none is asked, since no longer one leads anywhere either.
+#[tactic(auto, using(crate::proofs::Reaching::reach_steps))]
+fn reach<N: Node>(root: N, path: &[u8]) -> usize
+    ensures { IsReach (N.tree root) path.now result }
+{
     let mut reached = 0;
-    for (at, byte) in path.iter().enumerate() {
-        if *byte == b'/' && leads(root, path.get(..at).unwrap_or(&[])) {
+    for at in 0..path.len() {
+        if path[at] == b'/' {
+            if !leads(root, &path[..at]) {
+                return reached;
+            }
             reached = at;
         }
     }
@@ -141,7 +189,9 @@ fn reach<N: Node>(root: N, path: &[u8]) -> usize {
 }
 
 /// What a tree has of a path whose walk ends so.
-pub(crate) fn has_of<N: Node>(root: N, path: &[u8], ending: Ending<N>) -> Has {
+pub(crate) fn has_of<N: Node>(root: N, path: &[u8], ending: Ending<N>) -> Has
+    ensures { IsHas (N.tree root) path.now (stop_at N.tree ending) result }
+{
     match ending {
         Ending::End(node) => Has::Item(node.kind()),
         Ending::Link(_, cut) => Has::Link(cut),

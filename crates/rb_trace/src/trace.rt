@@ -1,12 +1,32 @@
 //! `resb look --trace`: why a lookup finds what it finds.
 //!
-//! The way is walked once more beside the lookup, over the same calls that it rests on, and each step is said.
-use crate::steps::{Has, Then, Why, decided_by, has_of, shown};
+//! The way is walked once more beside the lookup, over the same calls that it rests on, and each
+//! step is said.
+ghost use Rattle.std.specs.Prelude.{◌≡◌, ◌⊎◌, ◌↔◌, ◌<◌, ◌≤◌, ◌++◌, ◌∷◌, [], ℕ, List, Err};
+ghost use Rattle.std.specs.Prelude.{IfNone, IfOk, IfSome, Some, length, map, option_map};
+ghost use Rattle.rb_tree.specs.Parts.{kind_of, units_of};
+ghost use Rattle.rb_tree.specs.Path.{IsPath, segments};
+ghost use Rattle.rb_tree.specs.declared.kind.Kind.TheVariants as Kinds;
+ghost use Rattle.rb_parents.specs.Family.{parent_of};
+ghost use Rattle.rb_parents.specs.Steps.{next_of};
+ghost use Rattle.rb_parents.specs.Trail.{Bundles, next, stop_tree};
+ghost use Rattle.rb_fallback.specs.AliasPaths.{joined_path};
+ghost use Rattle.rb_fallback.specs.Search.{bundles_of, by_stops, first_of, look_up};
+ghost use Rattle.rb_fallback.specs.declared.fault.LookError.TheVariants as Faults;
+ghost use Rattle.rb_fallback.specs.Limits.{path_limit};
+ghost use Rattle.rb_trace.specs.Files.{bundle_named};
+ghost use Rattle.rb_trace.specs.Traces.{trace_of};
+ghost use Rattle.rb_trace.specs.inner.Has.{HasAtName, HasAtStop};
+ghost use Rattle.rb_trace.specs.inner.Places.{LeadsFrom, shown_unit};
+ghost use Rattle.rb_trace.specs.inner.Stops.{AreStops, GoesOver, IsLevelOf, IsTracedLevel};
+ghost use Rattle.rb_trace.specs.inner.Stops.{deciding};
+
+use crate::steps::{Has, Then, has_of, shown, then_by};
 use rb_console::Given;
 use rb_fallback::{AliasFault, LEVEL_LIMIT, LookError, PATH_LIMIT, read_alias, rest_behind};
 use rb_locales::Name;
 use rb_parents::{Next, Parents, Shelf, TRAIL_LIMIT, visit};
-use rb_tree::{Ending, Kind, Node, path_ok, walk};
+use rb_tree::{Ending, Node, path_ok, walk};
 use std::alloc::{AllocError, Global};
 
 /// Why a traced lookup has no answer.
@@ -19,6 +39,11 @@ pub enum Untraced {
 }
 
 impl From<AllocError> for Untraced {
+    ghost use Rattle.std.specs.Prelude.{◌≡◌};
+    ghost use Rattle.rb_trace.specs.declared.trace.Untraced.TheVariants as untraced;
+
+    ghost from_gives = { λ e b. b ≡ untraced.Memory };
+
     fn from(_: AllocError) -> Untraced {
         Untraced::Memory
     }
@@ -47,28 +72,37 @@ struct Decided<N> {
     ending: Ending<N>,
 }
 
-/// Where a path leads; nowhere where it is none.
-fn ending_of<N: Node>(root: N, path: &[u8]) -> Ending<N> {
-    if path_ok(path) {
-        walk(root, path)
-    } else {
-        Ending::Gone
+/// What decides after a walk that ends so, if it leads somewhere.
+fn deciding<N: Node>(name: &Name, ending: Ending<N>) -> Option<(Name, Ending<N>)>
+    ensures { result ≡ deciding name.now ending }
+{
+    match ending {
+        Ending::Gone => None,
+        ending => Some((*name, ending)),
     }
 }
 
 /// The stops after one more, and what it has of the path.
-fn with_stop<N: Node>(stops: Stops<N>, name: &Name, root: N, path: &[u8]) -> (Stops<N>, Has) {
+fn with_stop<N: Node>(stops: Stops<N>, name: &Name, root: N, path: &[u8]) -> (Stops<N>, Has)
+    requires { IsPath path.now }
+    ensures stops { (b : Bundles) → (all : List (List ℕ))
+        → stop_tree (b name.now) ≡ Some (N.tree root) → AreStops N.tree b path.now stops all
+        → AreStops N.tree b path.now result.0 (all ++ name.now ∷ []) }
+    ensures has { HasAtStop stops.decided (N.tree root) path.now result.1 }
+{
     let first = Some(stops.first.unwrap_or(*name));
-    if stops.decided.is_some() {
-        let decided = stops.decided;
-        return (Stops { first, decided }, Has::NotAsked);
+    match stops.decided {
+        Some(_) => {
+            let decided = stops.decided;
+            (Stops { first, decided }, Has::NotAsked)
+        }
+        None => {
+            let ending = walk(root, path);
+            let has = has_of(root, path, ending);
+            let decided = deciding(name, ending);
+            (Stops { first, decided }, has)
+        }
     }
-    let ending = ending_of(root, path);
-    let decided = match ending {
-        Ending::Gone => None,
-        ending => Some((*name, ending)),
-    };
-    (Stops { first, decided }, has_of(root, path, ending))
 }
 
 /// The stops after one name more, and what it has of the path.
@@ -78,7 +112,12 @@ fn with_name<N: Node>(
     has_bundle: bool,
     stop: Option<N>,
     path: &[u8],
-) -> (Stops<N>, Has) {
+) -> (Stops<N>, Has)
+    requires { IsPath path.now }
+    ensures stops { (b : Bundles) → option_map N.tree stop ≡ stop_tree (b name.now)
+        → GoesOver N.tree b path.now name.now stops result.0 }
+    ensures has { HasAtName stops.decided has_bundle (option_map N.tree stop) path.now result.1 }
+{
     match stop {
         Some(root) => with_stop(stops, name, root, path),
         None if has_bundle => (stops, Has::Alias),
@@ -87,9 +126,14 @@ fn with_name<N: Node>(
 }
 
 /// What the stops of a whole trail give.
-fn decision<N: Node>(stops: Stops<N>) -> Result<Decided<N>, Untraced> {
-    let Some(first) = stops.first else {
-        return Err(Untraced::Fault(LookError::NoBundle));
+fn decision<N: Node>(stops: Stops<N>) -> Result<Decided<N>, Untraced>
+    ensures { (b : Bundles) → (path : List ℕ) → (all : List (List ℕ))
+        → AreStops N.tree b path stops all
+        → IsTracedLevel N.tree result path (by_stops b all (segments path)) (first_of all) }
+{
+    let first = match stops.first {
+        Some(first) => first,
+        None => return Err(Untraced::Fault(LookError::NoBundle)),
     };
     match stops.decided {
         Some((actual, ending)) => Ok(Decided {
@@ -101,32 +145,54 @@ fn decision<N: Node>(stops: Stops<N>) -> Result<Decided<N>, Untraced> {
     }
 }
 
-/// The text of an alias, as the bytes of its units; a unit that is no plain character is `?`.
-fn alias_text<N: Node>(alloc: Global, node: N) -> Result<Vec<u8>, AllocError> {
-    let mut text = Vec::new(alloc);
-    if node.kind() != Kind::Alias {
-        return Ok(text);
+/// A unit as a byte; one that is no plain character is `?`.
+fn shown_unit(unit: u16) -> u8
+    ensures { result ≡ shown_unit unit }
+{
+    if unit < 0x20 || unit > 0x7E {
+        return b'?';
     }
+    unit as u8
+}
+
+/// The text of an alias, as the bytes of its units; a unit that is no plain character is `?`.
+fn alias_text<N: Node>(alloc: Global, node: N) -> Result<Vec<u8>, AllocError>
+    requires { kind_of (N.tree node) ≡ Kinds.Alias }
+    ensures { IfOk result (λ t. t.items ≡ map shown_unit (units_of (N.tree node))) }
+{
+    let mut text = Vec::new(alloc);
     for i in 0..node.len() {
-        text.push(match node.unit(i) {
-            unit @ 0x20..=0x7E => unit as u8,
-            _ => b'?',
-        })?;
+        text.push(shown_unit(node.unit(i)))?;
     }
     Ok(text)
 }
 
-/// The path of an alias with what is left of the path that led to it.
-fn joined(alloc: Global, path: &[u8], rest: &[u8]) -> Result<Vec<u8>, AllocError> {
-    let mut joined = path.to_vec(alloc)?;
-    if !rest.is_empty() {
-        joined.push(b'/')?;
-        joined.extend_from_slice(rest)?;
+/// The most characters of an alias's text that are shown.
+const ALIAS_SHOWN: usize = 1000;
+
+/// The front of an alias's text that is shown, and what stands for the rest.
+fn front_of(text: &[u8]) -> (&str, &'static str) {
+    match text.get(..ALIAS_SHOWN) {
+        Some(front) if front.len() < text.len() => (shown(front), ".."),
+        _ => (shown(text), ""),
     }
+}
+
+/// The path of an alias with what is left of the path that led to it.
+fn joined(alloc: Global, path: &[u8], rest: &[u8]) -> Result<Vec<u8>, AllocError>
+    ensures { IfOk result (λ p. p.items ≡ joined_path path.now rest.now) }
+{
+    let mut joined = path.to_vec(alloc)?;
+    if rest.is_empty() {
+        return Ok(joined);
+    }
+    joined.push(b'/')?;
+    joined.extend_from_slice(rest)?;
     Ok(joined)
 }
 
-/// Where an alias leads that was met after the first `cut` bytes of a place's path; its text is given.
+/// Where an alias leads that was met after the first `cut` bytes of a place's path; its text is
+/// given.
 fn led_on<N: Node>(
     alloc: Global,
     node: N,
@@ -134,25 +200,35 @@ fn led_on<N: Node>(
     cut: usize,
     valid: &Name,
     here: &Place,
-) -> Result<Place, Untraced> {
-    if node.kind() != Kind::Alias {
-        return Err(Untraced::Fault(LookError::AliasText));
-    }
+) -> Result<Place, Untraced>
+    requires alias { kind_of (N.tree node) ≡ Kinds.Alias }
+    requires text { text.now ≡ map shown_unit (units_of (N.tree node)) }
+    requires path { IsPath here.now.path.items }
+    ensures { LeadsFrom result (units_of (N.tree node)) here.now cut valid.now }
+{
     let target = match read_alias(node, valid) {
         Ok(target) => target,
         Err(AliasFault::AliasText) => return Err(Untraced::Fault(LookError::AliasText)),
         Err(AliasFault::AliasPackage) => return Err(Untraced::Fault(LookError::AliasPackage)),
     };
+    let in_icudata = target.icudata | here.in_icudata;
+    let name = target.name;
+    let at = match target.path_at {
+        Some(at) => at,
+        None => {
+            let path = here.path.to_vec(alloc)?;
+            return Ok(Place {
+                in_icudata,
+                name,
+                path,
+            });
+        }
+    };
+    let path = joined(alloc, &text[at..], rest_behind(&here.path, cut))?;
     Ok(Place {
-        in_icudata: target.icudata || here.in_icudata,
-        name: target.name,
-        path: match target.path_at {
-            None => here.path.to_vec(alloc)?,
-            Some(at) => {
-                let rest = rest_behind(here.path.as_slice(), cut);
-                joined(alloc, text.get(at..).unwrap_or(&[]), rest)?
-            }
-        },
+        in_icudata,
+        name,
+        path,
     })
 }
 
@@ -165,8 +241,13 @@ pub struct Trace<'a, R: Eprint> {
 }
 
 impl<'a, R: Eprint + AllocGlobal> Trace<'a, R> {
-    /// The file of a name's bundle.
-    pub fn file(&self, name: &Name) -> &'a str {
+    /// The file of the first bundle with a name; the empty text if there is none.
+    #[tactic(auto, using(crate::proofs::Finding::file_step, crate::proofs::Finding::file_end))]
+    pub fn file(&self, name: &Name) -> &'a str
+        ensures first { IfSome (bundle_named name.now self.now.bundles.now)
+            (λ b. result.now ≡ b.file.now) }
+        ensures none { IfNone (bundle_named name.now self.now.bundles.now) (result.now ≡ []) }
+    {
         for bundle in self.bundles {
             if bundle.name.as_bytes() == name.as_bytes() {
                 return bundle.file;
@@ -196,24 +277,33 @@ impl<'a, R: Eprint + AllocGlobal> Trace<'a, R> {
         name: &Name,
         path: &[u8],
         stops: Stops<S::N>,
-    ) -> (Next, Stops<S::N>) {
+    ) -> (Next, Stops<S::N>)
+        requires { IsPath path.now }
+        ensures next { next_of result.0
+            ≡ next (S.bundles shelf) (parent_of self.now.parents.now) name.now }
+        ensures stops { GoesOver S.N.tree (S.bundles shelf) path.now name.now stops result.1 }
+    {
         let bundle = shelf.bundle(name);
         let has_bundle = bundle.is_some();
-        let why = decided_by(bundle, self.parents, name);
         let (next, stop) = visit(shelf, self.parents, name);
         let (after, has) = with_name(stops, name, has_bundle, stop, path);
-        let then = Then { next, why };
+        let then = then_by(next, bundle, self.parents, name);
         self.say_name(name, path, has, &then);
         (then.next, after)
     }
 
-    /// One level: each name of the trail is asked, and the first stop in which the path leads somewhere decides.
+    /// One level: each name of the trail is asked, and the first stop in which the path leads
+    /// somewhere decides.
     fn level<'s, S: Shelf<'s>>(
         &self,
         shelf: S,
         name: &Name,
         path: &[u8],
-    ) -> Result<Decided<S::N>, Untraced> {
+    ) -> Result<Decided<S::N>, Untraced>
+        requires { IsPath path.now }
+        ensures { IsLevelOf S.N.tree result (S.bundles shelf) (parent_of self.now.parents.now)
+            name.now path.now }
+    {
         let mut here = *name;
         let mut stops = Stops {
             first: None,
@@ -237,7 +327,14 @@ impl<'a, R: Eprint + AllocGlobal> Trace<'a, R> {
         own: S,
         icudata: I,
         place: &Place,
-    ) -> Result<Decided<S::N>, Untraced> {
+    ) -> Result<Decided<S::N>, Untraced>
+        requires { IsPath place.now.path.items }
+        ensures long { path_limit < length place.now.path.items
+            → result ≡ Err (Untraced.Fault Faults.PathTooLong) }
+        ensures level { length place.now.path.items ≤ path_limit → IsLevelOf S.N.tree result
+            (bundles_of (S.bundles own) (I.bundles icudata) place.now.in_icudata)
+            (parent_of self.now.parents.now) place.now.name place.now.path.items }
+    {
         if place.path.len() > PATH_LIMIT {
             return Err(Untraced::Fault(LookError::PathTooLong));
         }
@@ -256,11 +353,15 @@ impl<'a, R: Eprint + AllocGlobal> Trace<'a, R> {
         actual: &Name,
         valid: &Name,
         here: &Place,
-    ) -> Result<Place, Untraced> {
+    ) -> Result<Place, Untraced>
+        requires alias { kind_of (N.tree node) ≡ Kinds.Alias }
+        requires path { IsPath here.now.path.items }
+        ensures { LeadsFrom result (units_of (N.tree node)) here.now cut valid.now }
+    {
         let alloc = self.rt.alloc();
         let text = alias_text(alloc, node)?;
-        let (told, name) = (shown(&text), shown(actual.as_bytes()));
-        let _ = eprintln!(self.rt; "  the alias of {name}: \"{told}\"");
+        let ((front, rest), name) = (front_of(&text), shown(actual.as_bytes()));
+        let _ = eprintln!(self.rt; "  the alias of {name}: \"{front}\"{rest}");
         led_on(alloc, node, &text, cut, valid, here)
     }
 
@@ -271,7 +372,13 @@ impl<'a, R: Eprint + AllocGlobal> Trace<'a, R> {
         icudata: I,
         name: &Name,
         path: &[u8],
-    ) -> Result<Name, Untraced> {
+    ) -> Result<Name, Untraced>
+        ensures bad_path { (result ≡ Err (Untraced.Fault Faults.BadPath)) ↔ (IsPath path.now → ⊥) }
+        // Unless memory runs out, what the lookup gives: the name of its bundle, or its error.
+        ensures answer { IsPath path.now → (result ≡ Err Untraced.Memory) ⊎ (result ≡ trace_of
+            (look_up (S.bundles own) (I.bundles icudata) (parent_of self.now.parents.now)
+            name.now (segments path.now))) }
+    {
         if !path_ok(path) {
             return Err(Untraced::Fault(LookError::BadPath));
         }
@@ -288,7 +395,8 @@ impl<'a, R: Eprint + AllocGlobal> Trace<'a, R> {
             valid = Some(first);
             here = match decided.ending {
                 Ending::Link(node, cut) => self.follow(node, cut, &decided.actual, &first, &here)?,
-                _ => return Ok(decided.actual),
+                Ending::End(_) => return Ok(decided.actual),
+                Ending::Gone => return Err(Untraced::Fault(LookError::Missing)),
             };
         }
         Err(Untraced::Fault(LookError::TooManyAliases))

@@ -1,4 +1,5 @@
--- The parts of a tree, by the kinds of resources of `uresdata.h`. The limits of height and weight are a rule of this project.
+-- The parts of a tree, by the kinds of resources of `uresdata.h`. The limits of height and weight are a rule of this
+-- project.
 use Rattle.std.specs.Prelude.{◌≡◌, ◌≤◌, ℕ, ℤ, List, [], length, Option, nat_eq}
 use Rattle.rb_tree.specs.declared.kind.Kind.{Kind}
 use Rattle.rb_tree.specs.declared.kind.Kind.TheVariants as kind
@@ -6,6 +7,7 @@ use Rattle.rb_tree.specs.Resource.{Resource, string, int, ints, binary, alias, a
 use Rattle.rb_tree.specs.Keys.{items, pairs}
 use Rattle.std.specs.Map.{lookup, values_of}
 use Rattle.std.specs.Cmp.Lexicographic.{pointwise}
+use Rattle.rb_tree.specs.Limits.{height_limit, weight_limit}
 
 abbrev pub kind_of : Resource → Kind
 kind_of (string us) = kind.String
@@ -73,5 +75,5 @@ HasUnits k = ⊥
 -- a table within the limits of a bundle
 pub record Fits (t : Resource) : Type 0 where
   pub is_table : kind_of t ≡ kind.Table
-  pub low : height t ≤ 64
-  pub light : weight t ≤ 33554432
+  pub low : height t ≤ height_limit
+  pub light : weight t ≤ weight_limit

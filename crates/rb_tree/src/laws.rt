@@ -5,5 +5,6 @@ ghost use Rattle.rb_tree.specs.Table.{IsTableOf};
 
 /// Does nothing: some pairs have at most one table.
 pub fn one_table()
-    ensures { (ps : List (List ℕ × Resource)) (t u : Resource) → IsTableOf ps t → IsTableOf ps u → t ≡ u }
+    ensures { (ps : List (List ℕ × Resource)) (t u : Resource) → IsTableOf ps t → IsTableOf ps u
+        → t ≡ u }
 {}

@@ -1,4 +1,5 @@
-//! The limits of a bundle's tree. The definitions in specs/ have the same numbers written out, so that a proof compares the two.
+//! The limits of a bundle's tree. The definitions in specs/ have the same numbers written out, so
+//! that a proof compares the two.
 
 /// The greatest height of a bundle's tree, in levels.
 pub const HEIGHT_LIMIT: u64 = 64;

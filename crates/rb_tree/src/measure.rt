@@ -1,6 +1,7 @@
 //! Height and weight.
 ghost use Rattle.std.specs.Prelude.{◌≡◌, ◌-◌, ◌^◌, ◌↔◌, min, IsTrue, ◌+◌, ◌*◌, length};
-ghost use Rattle.rb_tree.specs.Resource.{height, trees_height, entries_height, weight, trees_weight, entries_weight};
+ghost use Rattle.rb_tree.specs.Resource.{height, trees_height, entries_height, weight};
+ghost use Rattle.rb_tree.specs.Resource.{trees_weight, entries_weight};
 ghost use Rattle.rb_tree.specs.Parts.{Fits};
 ghost use Rattle.rb_tree.specs.View.{view_of};
 
@@ -8,7 +9,8 @@ use crate::limits::{HEIGHT_LIMIT, WEIGHT_LIMIT};
 use crate::tree::{Entries, Tree, TreeList};
 
 impl Tree {
-    /// How many levels the tree has: 1 for a leaf and for an empty array or table, else one more than its highest child; `u64::MAX` at the most.
+    /// How many levels the tree has: 1 for a leaf and for an empty array or table, else one more
+    /// than its highest child; `u64::MAX` at the most.
     #[cycle(height)]
     #[tactic(auto, using(crate::proofs::Measures::measures))]
     pub fn height(&self) -> u64
@@ -21,10 +23,11 @@ impl Tree {
         }
     }
 
-    /// The tree's size as the limit of a bundle counts it, in bytes; `u64::MAX` at the most. A String or an Alias of n units counts
-    /// 8 + 2n, an Int nothing, a vector of n numbers 4 + 4n, a Binary of n bytes 20 + n, an array of n items 4 + 4n and its items,
-    /// a table of n entries 8 + 8n, each key's length and one more, and its items. It is no file's length: a file has a header
-    /// and indexes besides, and may hold a key or an item once for many.
+    /// The tree's size as the limit of a bundle counts it, in bytes; `u64::MAX` at the most. A
+    /// String or an Alias of n units counts 8 + 2n, an Int nothing, a vector of n numbers 4 + 4n, a
+    /// Binary of n bytes 20 + n, an array of n items 4 + 4n and its items, a table of n entries 8 +
+    /// 8n, each key's length and one more, and its items. It is no file's length: a file has a
+    /// header and indexes besides, and may hold a key or an item once for many.
     #[cycle(weight)]
     #[tactic(auto, using(crate::proofs::Measures::measures))]
     pub fn weight(&self) -> u64
@@ -43,7 +46,8 @@ impl Tree {
         }
     }
 
-    /// Whether the tree is a table of height at most 64 and weight at most 33,554,432, as a bundle's is.
+    /// Whether the tree is a table of height at most 64 and weight at most 33,554,432, as a
+    /// bundle's is.
     pub fn fits(&self) -> bool
         ensures { IsTrue result ↔ Fits (view_of self.now) }
     {

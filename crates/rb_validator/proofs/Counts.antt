@@ -18,7 +18,7 @@ count_le P (suc n) c h = elim h [
   | inr q ↦ let d = count_le P n c q.1 in omega arith
 ]
 
--- marked cells are counted where the marked ones are those with the property
+-- marked cells are counted if the marked ones are those with the property
 pub count_marked : (P : ℕ → Type 0) (cells : List ℕ) (n : ℕ) → ((i : ℕ) → get_or cells i 0 ≢ 0 → P i) → ((i : ℕ) → P i → get_or cells i 0 ≢ 0)
     → IsCount P n (marked cells n)
 count_marked P cells zero f g = refl

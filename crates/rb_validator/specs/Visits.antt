@@ -1,6 +1,7 @@
--- The places of a file, this project's own rule: the tables and arrays with data that some way of items leads to from the root
--- item on, each offset and kind once. A place is what an acceptance enters, and a visit is one entry.
-use Rattle.std.specs.Prelude.{◌≡◌, true, ℕ, zero, suc, ◌+◌, ◌*◌, ◌/◌, ◌%◌, ◌<◌, ◌==◌, ◌⊎◌, if◌then◌else◌, List, [], ◌∷◌, drop, Some}
+-- The places of a file, this project's own rule: the tables and arrays with data that some way of items leads to from
+-- the root item on, each offset and kind once. A place is what an acceptance enters, and a visit is one entry.
+use Rattle.std.specs.Prelude.{◌≡◌, true, ℕ, zero, suc, ◌+◌, ◌*◌, ◌/◌, ◌%◌, ◌<◌, ◌==◌, ◌⊎◌, if◌then◌else◌, List, [], ◌∷◌}
+use Rattle.std.specs.Prelude.{drop, Some}
 use Rattle.rb_format.specs.declared.kind.ItemKind.{ItemKind}
 use Rattle.rb_format.specs.declared.kind.ItemKind.TheVariants.{Table, LongTable, Array}
 use Rattle.rb_format.specs.Place.{word_at, half_at, layout_of}
@@ -16,7 +17,8 @@ pub record IsChild (body : List ℕ) (item child : ℕ) : Type 0 where
   pub counted : i < child_count body kind (offset_of item)
   pub is : child ≡ word_at body (first_child body kind (offset_of item) + i)
 
--- the items before it, the nearest first, lead from the root item, word 0, to an item: each next one is a child of the one before
+-- the items before it, the nearest first, lead from the root item, word 0, to an item: each next one is a child of the
+-- one before
 abbrev pub IsWay : List ℕ → List ℕ → ℕ → Type 0
 IsWay body [] item = item ≡ word_at body 0
 IsWay body (b ∷ before) item = IsChild body b item × IsWay body before b
@@ -43,7 +45,8 @@ abbrev pub IsCount : (ℕ → Type 0) → ℕ → ℕ → Type 0
 IsCount P zero c = c ≡ 0
 IsCount P (suc n) c = (P n × ((d : ℕ) × (c ≡ suc d) × IsCount P n d)) ⊎ ((P n → ⊥) × IsCount P n c)
 
--- a file has exactly n places. Their offsets are below the top of the bundle, word 4 of the data, which begin after the header
+-- a file has exactly n places. Their offsets are below the top of the bundle, word 4 of the data, which begin after the
+-- header
 abbrev pub HasVisits : List ℕ → ℕ → Type 0
 HasVisits bytes n =
     let body = drop (half_at bytes 0) bytes in

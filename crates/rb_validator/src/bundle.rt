@@ -6,11 +6,12 @@ ghost use Rattle.rb_format.specs.File.{Denotes, source_tree_of};
 ghost use Rattle.rb_format.specs.Checks.{first_fault};
 
 use crate::file::{Counts, check_file};
-use rb_format::{Attributes, FileFault, body};
+use rb_format::{Attributes, FileFault, MINOR_VERSION_AT, body};
 use std::alloc::Global;
 use std::marker::Model;
 
-/// A file that denotes a bundle: a tree, and whether a lookup stops there. It keeps the bytes of the file.
+/// A file that denotes a bundle: a tree, and whether a lookup stops there. It keeps the bytes of
+/// the file.
 #[derive(Drop)]
 pub struct Bundle {
     bytes: Vec<u8>,
@@ -29,19 +30,21 @@ impl Model for Bundle {
     ghost invariant = { λ b. IsAccepted b.bytes.items b.visits b.compared };
 }
 
-/// The bundle of a file that denotes one. Any other file is refused for its first fault, in the order of a reader's checks: the length,
-/// the header, the indexes, the attributes, the root item and the items, depth first. `Memory` comes in place of an answer where there
-/// is no memory for the marks of the tables and arrays, three bytes for each word of the file, or for what is kept where they overlap or
-/// keys are costly to compare. An error gives the bytes back as they were.
+/// The bundle of a file that denotes one. Any other file is refused for its first fault, in the
+/// order of a reader's checks: the length, the header, the indexes, the attributes, the root item
+/// and the items, depth first. `Memory` comes in place of an answer if there is no memory for the
+/// marks of the tables and arrays, three bytes for each word of the file, or for what is kept if
+/// they overlap or keys are costly to compare. An error gives the bytes back as they were.
 ///
 /// ```rust
 /// let bundle = accept(alloc, file)?; // `bundle.visits()` is 1 for `root{a{"b"}}`
-/// accept(alloc, bytes) // Err((FileFault::Header, bytes)), where they are no file
+/// accept(alloc, bytes) // Err((FileFault::Header, bytes)), if they are no file
 /// ```
 pub fn accept(alloc: Global, bytes: Vec<u8>) -> Result<Bundle, (FileFault, Vec<u8>)>
     ensures bytes { IfOk result (λ b. b ≡ bytes.items) }
     ensures tree { IfOk result (λ b. Denotes bytes.items (source_tree_of b)) }
-    ensures fault { IfErr result (λ e. (e.0 ≡ FileFault.Memory) ⊎ (first_fault bytes.items ≡ Some e.0)) }
+    ensures fault { IfErr result
+        (λ e. (e.0 ≡ FileFault.Memory) ⊎ (first_fault bytes.items ≡ Some e.0)) }
     ensures back { IfErr result (λ e. e.1.items ≡ bytes.items) }
 {
     match check_file(alloc, &bytes) {
@@ -68,21 +71,23 @@ impl Bundle {
         ensures { result ≡ (source_tree_of self.now).no_fallback }
     {
         let bytes = self.bytes();
-        Attributes::of(bytes[17], body(bytes)).no_fallback()
+        Attributes::of(bytes[MINOR_VERSION_AT], body(bytes)).no_fallback()
     }
 
-    /// How many tables and arrays the acceptance entered: each offset and kind of one with data that the root item leads to, once. It is
-    /// at most three for each word of the bundle.
+    /// How many tables and arrays the acceptance entered: each offset and kind of one with data
+    /// that the root item leads to, once. It is at most three for each word of the bundle.
     pub fn visits(&self) -> u64
         ensures counted { HasVisits self.now result }
-        ensures few { let body = drop (half_at self.now 0) self.now in result ≤ 3 * (layout_of body).top }
+        ensures few { let body = drop (half_at self.now 0) self.now in result
+            ≤ 3 * (layout_of body).top }
     {
         self.visits
     }
 
-    /// How many bytes of keys the acceptance compared. Where two keys of a table are compared byte by byte, all of the later one are
-    /// counted; where their lengths are known, those that they have in common, and the first that differs; where they are compared by
-    /// their ranks, none. It is at most 25 for each byte of the file.
+    /// How many bytes of keys the acceptance compared. If two keys of a table are compared byte by
+    /// byte, all of the later one are counted; if their lengths are known, those that they have in
+    /// common, and the first that differs; if they are compared by their ranks, none. It is at most
+    /// 25 for each byte of the file.
     pub fn compared(&self) -> u64
         ensures { result ≤ 25 * length self.now }
     {

@@ -27,7 +27,8 @@ pub fn has_children(kind: ItemKind) -> bool
     )
 }
 
-/// The items of a table or an array, if its length and its keys are right. `Memory` may come in place of an answer.
+/// The items of a table or an array, if its length and its keys are right. `Memory` may come in
+/// place of an answer.
 #[tactic(auto, unfolding(crate::specs::inner::Marks::children_at))]
 pub fn find_children(
     body: Body<'_>,
@@ -40,7 +41,8 @@ pub fn find_children(
     requires sound { IsSound body.layout.now body.bytes.now keys.old.known }
     requires below { offset < body.layout.now.top }
     requires inner { geometry.has_children kind ≡ true }
-    ensures value { (result ≡ Err FileFault.Memory) ⊎ (result ≡ marks.children_at body.entry.layout.now body.entry.bytes.now kind offset) }
+    ensures value { (result ≡ Err FileFault.Memory)
+        ⊎ (result ≡ marks.children_at body.entry.layout.now body.entry.bytes.now kind offset) }
     ensures sound { IsSound body.entry.layout.now body.entry.bytes.now keys.new.known }
 {
     match kind {
@@ -64,8 +66,10 @@ fn table_children(body: Body<'_>, keys: &mut KeyChecker, parts: TableParts) -> C
     requires tops { body.layout.now.keys_top ≤ body.layout.now.top }
     requires sound { IsSound body.layout.now body.bytes.now keys.old.known }
     requires small { parts.first + parts.count < 2 ^ 40 }
-    requires places { parts.first + parts.count ≤ body.layout.now.top → keys_end parts.keys parts.count ≤ length body.bytes.now }
-    ensures value { (result ≡ Err FileFault.Memory) ⊎ (result ≡ children_with body.entry.layout.now body.entry.bytes.now parts) }
+    requires places { parts.first + parts.count ≤ body.layout.now.top
+        → keys_end parts.keys parts.count ≤ length body.bytes.now }
+    ensures value { (result ≡ Err FileFault.Memory)
+        ⊎ (result ≡ children_with body.entry.layout.now body.entry.bytes.now parts) }
     ensures sound { IsSound body.entry.layout.now body.entry.bytes.now keys.new.known }
 {
     if (body.layout.top as usize) < parts.first + parts.count {

@@ -3,6 +3,7 @@ ghost use Rattle.std.specs.Prelude.{◌≡◌, ◌⊎◌, ◌+◌, ◌*◌, ◌�
 ghost use Rattle.rb_format.specs.inner.FirstFault.{fault_of, read_data, read_file};
 ghost use Rattle.rb_format.specs.Place as fields;
 ghost use Rattle.rb_validator.specs.Visits.{IsPlaceAt, IsCount, HasVisits};
+ghost use Rattle.rb_format.specs.Limits.{file_limit};
 
 use crate::body::{Body, Checked};
 use crate::items::check_item;
@@ -23,7 +24,8 @@ pub struct Counts {
     pub compared: u64,
 }
 
-/// How many places a file has, and how many bytes of its keys were compared, or its first fault; `Memory` may come in place of an answer.
+/// How many places a file has, and how many bytes of its keys were compared, or its first fault;
+/// `Memory` may come in place of an answer.
 #[tactic(auto, using(rb_format::proofs::Checks::header_is), unfolding(rb_format::specs::inner::FirstFault::read_file))]
 pub fn check_file(alloc: Global, bytes: &[u8]) -> Checked<Counts>
     ensures answer { MatchResult result (λ _. fault_of (read_file 64 bytes.now) ≡ None)
@@ -41,10 +43,11 @@ pub fn check_file(alloc: Global, bytes: &[u8]) -> Checked<Counts>
 /// The same of the data after the header of a file of a minor version.
 #[tactic(auto, unfolding(rb_format::specs::inner::FirstFault::read_data))]
 fn check_data(alloc: Global, minor: u8, body: &[u8]) -> Checked<Counts>
-    requires { length body.now ≤ 67108864 }
+    requires { length body.now ≤ file_limit }
     ensures answer { MatchResult result (λ _. fault_of (read_data 64 minor body.now) ≡ None)
         (λ e. (e ≡ FileFault.Memory) ⊎ (fault_of (read_data 64 minor body.now) ≡ Some e)) }
-    ensures visits { IfOk result (λ n. IsCount (IsPlaceAt body.now) (3 * fields.word_at body.now 4) n.visits) }
+    ensures visits { IfOk result
+        (λ n. IsCount (IsPlaceAt body.now) (3 * fields.word_at body.now 4) n.visits) }
     ensures compared { IfOk result (λ n. n.compared ≤ 25 * length body.now) }
 {
     if !has_valid_indexes(body) {

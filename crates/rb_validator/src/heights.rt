@@ -1,8 +1,12 @@
-//! A small number for each offset and each kind with children. Nearly every offset has such a number for one kind at most, so one byte
-//! for each offset has the kind and its number. The numbers of its other two kinds have bytes that are reserved from the start, and first
-//! written when one of them is set: no file whose tables and arrays do not overlap gets there, and memory that is not written costs little.
-ghost use Rattle.std.specs.Prelude.{◌≡◌, ◌≢◌, ◌⊎◌, true, false, ℕ, ◌*◌, ◌/◌, ◌<◌, ◌≤◌, ◌==◌, if◌then◌else◌};
-ghost use Rattle.std.specs.Prelude.{length, replicate, slice_index, slice_set, vec_len, vec_capacity, IfOk};
+//! A small number for each offset and each kind with children. Nearly every offset has such a
+//! number for one kind at most, so one byte for each offset has the kind and its number. The
+//! numbers of its other two kinds have bytes that are reserved from the start, and first written
+//! when one of them is set: no file whose tables and arrays do not overlap gets there, and memory
+//! that is not written costs little.
+ghost use Rattle.std.specs.Prelude.{◌≡◌, ◌≢◌, ◌⊎◌, true, false, ℕ, ◌*◌, ◌/◌, ◌<◌, ◌≤◌, ◌==◌};
+ghost use Rattle.std.specs.Prelude.{if◌then◌else◌};
+ghost use Rattle.std.specs.Prelude.{length, replicate, slice_index, slice_set, vec_len};
+ghost use Rattle.std.specs.Prelude.{vec_capacity, IfOk};
 ghost use Rattle.rb_validator.specs.inner.Marks.{cell, slot};
 ghost use Rattle.rb_validator.specs.inner.Packed.{other};
 
@@ -15,12 +19,15 @@ use std::marker::Model;
 /// Each number is below this.
 const SPAN: u8 = 66;
 
-/// A number below 66 for each offset below a top and each kind with children, 0 until another is set.
+/// A number below 66 for each offset below a top and each kind with children, 0 until another is
+/// set.
 #[derive(Drop)]
 pub struct Heights {
-    /// For each offset 66 times the slot of the kind that was set first, and its number; 0 where none was set.
+    /// For each offset 66 times the slot of the kind that was set first, and its number; 0 if none
+    /// was set.
     first: LateBytes,
-    /// For each offset the numbers of the other two kinds; empty, with room for them, until one of them is set.
+    /// For each offset the numbers of the other two kinds; empty, with room for them, until one of
+    /// them is set.
     rest: Vec<u8>,
 }
 
@@ -46,7 +53,7 @@ fn slot_of(kind: ItemKind) -> u8
     }
 }
 
-/// The place of the number of a slot, where another one was set first.
+/// The place of the number of a slot, if another one was set first.
 fn place_of(offset: u32, slot: u8, set: u8) -> usize
     requires slots { slot < 3 }
     requires set { set < 3 }
@@ -63,10 +70,11 @@ fn is_for(code: u8, slot: u8) -> bool
     code == 0 || code / SPAN == slot
 }
 
-/// Fills an empty list, which has room for them, with so many zeros.
+/// Fills an empty list, which has room for them, with this many zeros.
 fn fill(list: &mut Vec<u8>, count: usize)
     requires { vec_len list.old ≡ 0 → count ≤ vec_capacity list.old }
-    ensures { list.new.items ≡ (if length list.old.items == 0 then replicate count 0 else list.old.items) }
+    ensures { list.new.items
+        ≡ (if length list.old.items == 0 then replicate count 0 else list.old.items) }
 {
     if list.is_empty() {
         let Ok(()) = list.resize(count, 0) else {

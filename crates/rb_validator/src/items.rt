@@ -1,11 +1,13 @@
 //! The checks of an item and of all below it. Each table and array is entered once.
-ghost use Rattle.std.specs.Prelude.{◌≡◌, ◌≢◌, ◌⊎◌, true, ℕ, ◌+◌, ◌*◌, ◌≤◌, ◌<◌, length, Some, Ok, Err, IfOk};
+ghost use Rattle.std.specs.Prelude.{◌≡◌, ◌≢◌, ◌⊎◌, true, ℕ, ◌+◌, ◌*◌, ◌≤◌, ◌<◌, length, Some, Ok};
+ghost use Rattle.std.specs.Prelude.{Err, IfOk};
 ghost use Rattle.rb_format.specs.inner.FirstFault.{result_map, within, contents, read};
 ghost use Rattle.rb_format.specs.Item.{kind_of, offset_of};
 ghost use Rattle.rb_format.specs.Place as fields;
 ghost use Rattle.rb_tree.specs.Resource.{height, trees_height};
 ghost use Rattle.rb_validator.specs.inner.KnownKeys.{IsSound};
-ghost use Rattle.rb_validator.specs.inner.Marks.{mark_at, IsKnown, IsMet, Keeps, Leads, After, AreRuns, run_of, IsRunKnown};
+ghost use Rattle.rb_validator.specs.inner.Marks.{mark_at, IsKnown, IsMet, Keeps, Leads, After};
+ghost use Rattle.rb_validator.specs.inner.Marks.{AreRuns, run_of, IsRunKnown};
 ghost use Rattle.rb_format.specs.Geometry as geometry;
 
 use crate::body::{Body, Checked};
@@ -16,9 +18,9 @@ use crate::runs::split;
 use crate::state::CheckState;
 use rb_format::{FileFault, ItemKind, item_kind, item_offset, word_at};
 
-/// The height of the tree that an item denotes, where that is at most `left`, or its first fault. `Memory` may come in place
-/// of an answer. Most items have no children, so that it is inlined where items are checked one by one, and the recursion goes
-/// through `check_inner`.
+/// The height of the tree that an item denotes, if that is at most `left`, or its first fault.
+/// `Memory` may come in place of an answer. Most items have no children, so that it is inlined
+/// where items are checked one by one, and the recursion goes through `check_inner`.
 #[cycle(check)]
 #[inline(always)]
 pub fn check_item(body: Body<'_>, state: &mut CheckState, item: u32, left: u8) -> Checked<u8>
@@ -29,11 +31,15 @@ pub fn check_item(body: Body<'_>, state: &mut CheckState, item: u32, left: u8) -
     requires sound { IsSound body.layout.now body.bytes.now state.old.keys.known }
     requires keeps { Keeps body.layout.now body.bytes.now state.old.memo }
     requires holds { AreRuns body.layout.now body.bytes.now state.old.memo state.old.runs }
-    requires leads { Leads body.layout.now body.bytes.now state.old.memo (λ e. read body.layout.now body.bytes.now e item ≡ Err FileFault.TooDeep) }
-    ensures value { (result ≡ Err FileFault.Memory) ⊎ (result ≡ result_map height (read body.entry.layout.now body.entry.bytes.now left item)) }
+    requires leads { Leads body.layout.now body.bytes.now state.old.memo
+        (λ e. read body.layout.now body.bytes.now e item ≡ Err FileFault.TooDeep) }
+    ensures value { (result ≡ Err FileFault.Memory)
+        ⊎ (result ≡ result_map height (read body.entry.layout.now body.entry.bytes.now left item)) }
     ensures sound { IsSound body.entry.layout.now body.entry.bytes.now state.new.keys.known }
-    ensures after { IfOk result (λ _. After body.entry.layout.now body.entry.bytes.now state.old.memo state.new.memo) }
-    ensures holds { IfOk result (λ _. AreRuns body.entry.layout.now body.entry.bytes.now state.new.memo state.new.runs) }
+    ensures after { IfOk result
+        (λ _. After body.entry.layout.now body.entry.bytes.now state.old.memo state.new.memo) }
+    ensures holds { IfOk result
+        (λ _. AreRuns body.entry.layout.now body.entry.bytes.now state.new.memo state.new.runs) }
     ensures known { IfOk result (λ _. IsKnown state.new.memo item) }
 {
     if left == 0 {
@@ -56,7 +62,8 @@ pub fn check_item(body: Body<'_>, state: &mut CheckState, item: u32, left: u8) -
     }
 }
 
-/// The height of the tree of a table or an array with data. One that was not met before is entered, and its height is kept.
+/// The height of the tree of a table or an array with data. One that was not met before is entered,
+/// and its height is kept.
 #[cycle(check)]
 #[inline(never)]
 fn check_inner(
@@ -70,19 +77,24 @@ fn check_inner(
     requires tops { body.layout.now.keys_top ≤ body.layout.now.top }
     requires small { left < 64 }
     requires met { IsMet body.bytes.now item }
+    requires sound { IsSound body.layout.now body.bytes.now state.old.keys.known }
     requires is_kind { kind_of item ≡ Some kind }
     requires inner { geometry.has_children kind ≡ true }
     requires full { 0 < offset_of item }
     requires there { within body.layout.now kind (offset_of item) ≡ Ok true }
     requires below { offset_of item < body.layout.now.top }
-    requires sound { IsSound body.layout.now body.bytes.now state.old.keys.known }
     requires keeps { Keeps body.layout.now body.bytes.now state.old.memo }
     requires holds { AreRuns body.layout.now body.bytes.now state.old.memo state.old.runs }
-    requires leads { Leads body.layout.now body.bytes.now state.old.memo (λ e. read body.layout.now body.bytes.now e item ≡ Err FileFault.TooDeep) }
-    ensures value { (result ≡ Err FileFault.Memory) ⊎ (result ≡ result_map height (contents body.entry.layout.now body.entry.bytes.now (λ w. read body.entry.layout.now body.entry.bytes.now left w) (offset_of item) kind)) }
+    requires leads { Leads body.layout.now body.bytes.now state.old.memo
+        (λ e. read body.layout.now body.bytes.now e item ≡ Err FileFault.TooDeep) }
+    ensures value { (result ≡ Err FileFault.Memory)
+        ⊎ (result ≡ result_map height (contents body.entry.layout.now body.entry.bytes.now
+        (λ w. read body.entry.layout.now body.entry.bytes.now left w) (offset_of item) kind)) }
     ensures sound { IsSound body.entry.layout.now body.entry.bytes.now state.new.keys.known }
-    ensures after { IfOk result (λ _. After body.entry.layout.now body.entry.bytes.now state.old.memo state.new.memo) }
-    ensures holds { IfOk result (λ _. AreRuns body.entry.layout.now body.entry.bytes.now state.new.memo state.new.runs) }
+    ensures after { IfOk result
+        (λ _. After body.entry.layout.now body.entry.bytes.now state.old.memo state.new.memo) }
+    ensures holds { IfOk result
+        (λ _. AreRuns body.entry.layout.now body.entry.bytes.now state.new.memo state.new.runs) }
     ensures known { IfOk result (λ _. mark_at state.new.memo kind (offset_of item) ≢ 0) }
 {
     let offset = item_offset(item);
@@ -105,25 +117,32 @@ fn check_inner(
     }
 }
 
-/// The greatest height of so many items from a word on: they are checked one by one, or in two parts. What is found of a block of
-/// them is kept.
+/// The greatest height of this many items from a word on: they are checked one by one, or in two
+/// parts. What is found of a block of them is kept.
 #[cycle(check)]
 fn check_items(body: Body<'_>, state: &mut CheckState, items: Children, left: u8) -> Checked<u8>
     requires room { 4 * body.layout.now.top ≤ length body.bytes.now }
     requires tops { body.layout.now.keys_top ≤ body.layout.now.top }
     requires small { left < 64 }
     requires items { items.first + items.count ≤ body.layout.now.top }
-    requires met { (i : ℕ) → i < items.count → IsMet body.bytes.now (fields.word_at body.bytes.now (items.first + i)) }
+    requires met { (i : ℕ) → i < items.count
+        → IsMet body.bytes.now (fields.word_at body.bytes.now (items.first + i)) }
     requires sound { IsSound body.layout.now body.bytes.now state.old.keys.known }
     requires keeps { Keeps body.layout.now body.bytes.now state.old.memo }
     requires holds { AreRuns body.layout.now body.bytes.now state.old.memo state.old.runs }
-    requires leads { Leads body.layout.now body.bytes.now state.old.memo (λ e. run_of body.layout.now body.bytes.now e items.first items.count ≡ Err FileFault.TooDeep) }
-    ensures value { (result ≡ Err FileFault.Memory) ⊎ (result ≡ result_map trees_height (run_of body.entry.layout.now body.entry.bytes.now left items.first items.count)) }
+    requires leads { Leads body.layout.now body.bytes.now state.old.memo
+        (λ e. run_of body.layout.now body.bytes.now e items.first items.count
+        ≡ Err FileFault.TooDeep) }
+    ensures value { (result ≡ Err FileFault.Memory) ⊎ (result ≡ result_map trees_height
+        (run_of body.entry.layout.now body.entry.bytes.now left items.first items.count)) }
     ensures low { IfOk result (λ h. h ≤ left) }
     ensures sound { IsSound body.entry.layout.now body.entry.bytes.now state.new.keys.known }
-    ensures after { IfOk result (λ _. After body.entry.layout.now body.entry.bytes.now state.old.memo state.new.memo) }
-    ensures holds { IfOk result (λ _. AreRuns body.entry.layout.now body.entry.bytes.now state.new.memo state.new.runs) }
-    ensures known { IfOk result (λ _. IsRunKnown body.entry.bytes.now state.new.memo items.first items.count) }
+    ensures after { IfOk result
+        (λ _. After body.entry.layout.now body.entry.bytes.now state.old.memo state.new.memo) }
+    ensures holds { IfOk result
+        (λ _. AreRuns body.entry.layout.now body.entry.bytes.now state.new.memo state.new.runs) }
+    ensures known { IfOk result
+        (λ _. IsRunKnown body.entry.bytes.now state.new.memo items.first items.count) }
 {
     let Children { first, count } = items;
     let Ok(is_plain) = state.runs.is_plain(count) else {

@@ -1,10 +1,12 @@
-//! The keys of tables. They are compared byte by byte, until that has read many times as many bytes as the file has. From then on their
-//! lengths are known, and only what two keys have in common is read. Where that too has become many times the file, they are compared by
-//! their ranks, and what was found is kept.
+//! The keys of tables. They are compared byte by byte, until that has read many times as many bytes
+//! as the file has. From then on their lengths are known, and only what two keys have in common is
+//! read. If that too has become many times the file, they are compared by their ranks, and what was
+//! found is kept.
 ghost use Rattle.std.specs.Prelude.{◌≡◌, ◌⊎◌, ◌*◌, ◌≤◌, [], length, Some, Err, IfOk, IfErr};
 ghost use Rattle.rb_format.specs.inner.FirstFault.{fault_of, keys};
 ghost use Rattle.rb_validator.specs.inner.KnownKeys.{IsSound, AreGood, key_run};
 ghost use Rattle.rb_format.specs.Geometry.{keys_end, key_offset as offset_in};
+ghost use Rattle.rb_format.specs.Limits.{file_limit};
 
 use crate::body::{Body, Checked};
 use crate::keys::next_key;
@@ -48,7 +50,7 @@ fn key_bytes<'a>(body: Body<'a>) -> &'a [u8]
 impl KeyChecker {
     /// Nothing was found so far.
     pub fn new(alloc: Global, body: Body<'_>) -> KeyChecker
-        requires { length body.bytes.now ≤ 67108864 }
+        requires { length body.bytes.now ≤ file_limit }
         ensures { IsSound body.entry.layout.now body.entry.bytes.now result.known }
     {
         KeyChecker {
@@ -60,12 +62,15 @@ impl KeyChecker {
         }
     }
 
-    /// Whether the keys of a table are keys, each above the one before. `Memory` may come in place of an answer.
+    /// Whether the keys of a table are keys, each above the one before. `Memory` may come in place
+    /// of an answer.
     pub fn check_keys(&mut self, body: Body<'_>, places: KeyPlaces, count: usize) -> Checked<()>
         requires keys { 4 * body.layout.now.keys_top ≤ length body.bytes.now }
         requires places { keys_end places count ≤ length body.bytes.now }
         requires sound { IsSound body.layout.now body.bytes.now self.old.known }
-        ensures fault { (result ≡ Err FileFault.Memory) ⊎ (fault_of result ≡ fault_of (keys body.entry.layout.now body.entry.bytes.now (offset_in body.entry.bytes.now places) [] 0 count)) }
+        ensures fault { (result ≡ Err FileFault.Memory)
+            ⊎ (fault_of result ≡ fault_of (keys body.entry.layout.now body.entry.bytes.now
+            (offset_in body.entry.bytes.now places) [] 0 count)) }
         ensures sound { IsSound body.entry.layout.now body.entry.bytes.now self.new.known }
     {
         let reached = self.check_plainly(body, places, count)?;
@@ -92,9 +97,12 @@ impl KeyChecker {
         requires keys { 4 * body.layout.now.keys_top ≤ length body.bytes.now }
         requires places { keys_end places count ≤ length body.bytes.now }
         requires sound { IsSound body.layout.now body.bytes.now self.old.known }
-        ensures good { IfOk result (λ n. AreGood body.entry.layout.now body.entry.bytes.now (offset_in body.entry.bytes.now places) n) }
+        ensures good { IfOk result (λ n. AreGood body.entry.layout.now body.entry.bytes.now
+            (offset_in body.entry.bytes.now places) n) }
         ensures low { IfOk result (λ n. n ≤ count) }
-        ensures fault { IfErr result (λ e. fault_of (keys body.entry.layout.now body.entry.bytes.now (offset_in body.entry.bytes.now places) [] 0 count) ≡ Some e) }
+        ensures fault { IfErr result
+            (λ e. fault_of (keys body.entry.layout.now body.entry.bytes.now
+            (offset_in body.entry.bytes.now places) [] 0 count) ≡ Some e) }
         ensures sound { IsSound body.entry.layout.now body.entry.bytes.now self.new.known }
     {
         let limit = PLAIN_SHARE * body.bytes.len() as u64;
@@ -134,7 +142,8 @@ impl KeyChecker {
             return Ok(());
         }
         let compared = self.known.compared;
-        self.known = KnownKeys::new(self.alloc, body, compared); // no memory for lengths and ranks at one time
+        // no memory for lengths and ranks at one time
+        self.known = KnownKeys::new(self.alloc, body, compared);
         let ranks = rank_keys(self.alloc, key_bytes(body))?;
         self.known = KnownKeys::with(self.alloc, body, ranks, compared)?;
         self.is_prepared = true;

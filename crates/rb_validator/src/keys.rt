@@ -1,4 +1,5 @@
-//! A key of a table, compared with the one before it byte by byte. What is compared is counted here and nowhere else.
+//! A key of a table, compared with the one before it byte by byte. What is compared is counted here
+//! and nowhere else.
 ghost use Rattle.std.specs.Prelude.{◌≡◌, ℕ, ◌+◌, ◌*◌, ◌≤◌, ◌<◌, ◌==◌, ◌^◌, length, IfSome};
 ghost use Rattle.std.specs.List.{common_prefix_len};
 ghost use Rattle.rb_format.specs.inner.FirstFault.{result_map, next_key};
@@ -10,7 +11,8 @@ ghost use Rattle.rb_validator.specs.inner.Compared.{examined};
 use crate::body::{Body, Checked};
 use rb_format::{FileFault, key_within};
 
-/// Whether bytes are below others. All of the others are counted, since they were read to find their end.
+/// Whether bytes are below others. All of the others are counted, since they were read to find
+/// their end.
 #[inline(always)]
 fn is_below(a: &[u8], b: &[u8], compared: &mut u64) -> bool
     requires room { compared.old + length b.now < 2 ^ 64 }
@@ -60,8 +62,10 @@ pub fn next_key<'a>(
 ) -> Checked<&'a [u8]>
     requires keys { 4 * body.layout.now.keys_top ≤ length body.bytes.now }
     requires room { compared.old + length body.bytes.now < 2 ^ 64 }
-    ensures value { result_map (λ k. k.now) result ≡ next_key body.entry.layout.now body.entry.bytes.now last.now offset }
-    ensures counted { IfSome (key_at body.entry.layout.now body.entry.bytes.now offset) (λ k. compared.old + examined last.now k ≤ compared.new) }
+    ensures value { result_map (λ k. k.now) result
+        ≡ next_key body.entry.layout.now body.entry.bytes.now last.now offset }
+    ensures counted { IfSome (key_at body.entry.layout.now body.entry.bytes.now offset)
+        (λ k. compared.old + examined last.now k ≤ compared.new) }
     ensures most { compared.new ≤ compared.old + length body.entry.bytes.now }
 {
     match key_within(body.layout, body.bytes, offset) {

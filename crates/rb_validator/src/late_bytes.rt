@@ -1,12 +1,14 @@
-//! Bytes that are written only as far as one was set. They are kept from the last one down: a file has its root at its end, and if it
-//! has few tables, then mostly beside the root. Memory that is not written costs little.
-ghost use Rattle.std.specs.Prelude.{◌≡◌, ℕ, ◌<◌, ◌≤◌, length, replicate, slice_index, slice_set, vec_capacity, IfOk};
+//! Bytes that are written only as far as one was set. They are kept from the last one down: a file
+//! has its root at its end, and if it has few tables, then mostly beside the root. Memory that is
+//! not written costs little.
+ghost use Rattle.std.specs.Prelude.{◌≡◌, ℕ, ◌<◌, ◌≤◌, length, replicate, slice_index, slice_set};
+ghost use Rattle.std.specs.Prelude.{vec_capacity, IfOk};
 
 use crate::lists::byte_at;
 use std::alloc::{AllocError, Global};
 use std::marker::Model;
 
-/// So many bytes, each 0 until another is set.
+/// This many bytes, each 0 until another is set.
 #[derive(Drop)]
 pub struct LateBytes {
     len: usize,
@@ -25,7 +27,7 @@ impl Model for LateBytes {
     ghost invariant = { λ b. b.len ≤ vec_capacity b.kept };
 }
 
-/// Adds zeros to a list, which has room for them, up to so many bytes.
+/// Adds zeros to a list, which has room for them, up to this many bytes.
 fn extend(list: &mut Vec<u8>, count: usize)
     requires { count ≤ vec_capacity list.old }
     ensures same { (n : ℕ) → slice_index list.new.items n ≡ slice_index list.old.items n }
@@ -40,7 +42,7 @@ fn extend(list: &mut Vec<u8>, count: usize)
 }
 
 impl LateBytes {
-    /// So many bytes, all 0.
+    /// This many bytes, all 0.
     pub fn new(alloc: Global, len: usize) -> Result<LateBytes, AllocError>
         ensures { IfOk result (λ b. b ≡ replicate len 0) }
     {

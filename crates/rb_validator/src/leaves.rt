@@ -1,6 +1,7 @@
 //! The checks of values without children.
 ghost use Rattle.std.specs.Prelude.{◌≡◌, false, ℕ, ◌+◌, ◌*◌, ◌≤◌, ◌<◌, length, Result};
-ghost use Rattle.rb_format.specs.inner.FirstFault.{fault_of, units, bytes, numbers, within, contents};
+ghost use Rattle.rb_format.specs.inner.FirstFault.{fault_of, units, bytes, numbers, within};
+ghost use Rattle.rb_format.specs.inner.FirstFault.{contents};
 ghost use Rattle.rb_format.specs.Item as items;
 ghost use Rattle.rb_tree.specs.Resource.{Resource};
 ghost use Rattle.rb_format.specs.Geometry.{has_children};
@@ -32,7 +33,8 @@ pub fn check_offset(layout: &Layout, kind: ItemKind, offset: u32) -> Checked<boo
     }
 }
 
-/// The checks of a String or an Alias: its units, and a zero unit after them, end at or below the top.
+/// The checks of a String or an Alias: its units, and a zero unit after them, end at or below the
+/// top.
 #[tactic(auto, unfolding(rb_format::specs::inner::FirstFault::units))]
 #[inline(always)]
 fn check_units(body: Body<'_>, offset: usize) -> Checked<()>
@@ -70,7 +72,8 @@ fn check_bytes(body: Body<'_>, offset: usize) -> Checked<()>
 fn check_numbers(body: Body<'_>, offset: usize) -> Checked<()>
     requires room { 4 * body.layout.now.top ≤ length body.bytes.now }
     requires below { offset < body.layout.now.top }
-    ensures { fault_of result ≡ fault_of (numbers body.entry.layout.now body.entry.bytes.now offset) }
+    ensures { fault_of result
+        ≡ fault_of (numbers body.entry.layout.now body.entry.bytes.now offset) }
 {
     if (body.layout.top as usize) < offset + 1 + word_at(body.bytes, offset) as usize {
         Err(FileFault::Length)
@@ -86,7 +89,8 @@ pub fn check_leaf(body: Body<'_>, kind: ItemKind, offset: u32) -> Checked<()>
     requires room { 4 * body.layout.now.top ≤ length body.bytes.now }
     requires below { offset < body.layout.now.top }
     requires bare { has_children kind ≡ false }
-    ensures { (child : ℕ → Result Resource FileFault) → fault_of result ≡ fault_of (contents body.entry.layout.now body.entry.bytes.now child offset kind) }
+    ensures { (child : ℕ → Result Resource FileFault) → fault_of result
+        ≡ fault_of (contents body.entry.layout.now body.entry.bytes.now child offset kind) }
 {
     let offset = offset as usize;
     match kind {

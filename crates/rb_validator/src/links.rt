@@ -1,12 +1,12 @@
-//! Links over a list of key offsets: the link of place p is a place q, so that the offsets from p to q are those of ascending keys. A
-//! link that is 0 says nothing.
+//! Links over a list of key offsets: the link of place p is a place q, so that the offsets from p
+//! to q are those of ascending keys. A link that is 0 says nothing.
 ghost use Rattle.std.specs.Prelude.{◌≡◌, ℕ, ◌+◌, ◌-◌, slice_index, IfOk};
 ghost use Rattle.rb_validator.specs.inner.KnownKeys.{IsRedirected};
 
 use crate::lists::number_at;
 use std::alloc::{AllocError, Global};
 
-/// Links of so many places that say nothing.
+/// Links of this many places that say nothing.
 pub fn no_links(alloc: Global, count: usize) -> Result<Vec<u32>, AllocError>
     ensures { IfOk result (λ v. (n : ℕ) → slice_index v.items n ≡ 0) }
 {
@@ -23,7 +23,8 @@ pub fn count_linked(links: &[u32], first: usize, skip: usize) -> usize
     }
 }
 
-/// Links so many places from one on. Each link on the way is redirected to the end, so that no way is gone twice.
+/// Links this many places from one on. Each link on the way is redirected to the end, so that no
+/// way is gone twice.
 pub fn link(links: &mut [u32], first: usize, count: usize)
     ensures { (p : ℕ) → IsRedirected links.old links.new first (first + count) p }
 {

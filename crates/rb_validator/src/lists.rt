@@ -1,4 +1,5 @@
-//! Lists that are read and written without a bound: past its end a list has zeros, and a write there does nothing.
+//! Lists that are read and written without a bound: past its end a list has zeros, and a write
+//! there does nothing.
 ghost use Rattle.std.specs.Prelude.{◌≡◌, slice_index};
 
 /// No place of a list.

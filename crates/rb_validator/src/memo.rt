@@ -1,5 +1,6 @@
 //! The marks of the tables and arrays that an acceptance has entered.
-ghost use Rattle.std.specs.Prelude.{◌≡◌, ◌≢◌, ℕ, ◌*◌, ◌<◌, ◌≤◌, ◌^◌, List, length, slice_index, slice_set, IfOk};
+ghost use Rattle.std.specs.Prelude.{◌≡◌, ◌≢◌, ℕ, ◌*◌, ◌<◌, ◌≤◌, ◌^◌, List, length, slice_index};
+ghost use Rattle.std.specs.Prelude.{slice_set, IfOk};
 ghost use Rattle.rb_validator.specs.inner.Marks.{cell, mark_of, mark_at, marked};
 
 use crate::heights::Heights;
@@ -33,7 +34,8 @@ impl Model for Memo {
 
     ghost view = { λ m. m.heights };
 
-    ghost invariant = { λ m. (m.visits ≡ marked m.heights (length m.heights)) × (length m.heights ≤ 2 ^ 34) };
+    ghost invariant = { λ m. (m.visits ≡ marked m.heights (length m.heights))
+        × (length m.heights ≤ 2 ^ 34) };
 }
 
 impl Memo {
@@ -65,7 +67,8 @@ impl Memo {
         }
     }
 
-    /// Marks an offset and a kind as being checked. This is the one place where an entry is counted.
+    /// Marks an offset and a kind as being checked. This is the one place where an entry is
+    /// counted.
     pub fn enter(&mut self, kind: ItemKind, offset: u32)
         requires inside { cell kind offset < length self.old }
         requires fresh { mark_at self.old kind offset ≡ 0 }

@@ -1,17 +1,20 @@
-//! The runs of items of which the greatest height is known. Tables and arrays may overlap, so that a file's words are the items of very
-//! many of them: a run is split at the middle of its block, the smallest one that holds it. A block is a power of two of words, at a
-//! multiple of their number. What is found from a block's first word up to the end of a unit is kept, and what is found from a unit's
-//! first word up to the end of a block, so that it is found once.
-ghost use Rattle.std.specs.Prelude.{◌≡◌, ◌⊎◌, true, ◌+◌, ◌*◌, ◌≤◌, ◌<◌, ◌/◌, ◌^◌, List, All, Contains, slice_set, IfOk, IfSome};
+//! The runs of items of which the greatest height is known. Tables and arrays may overlap, so that
+//! a file's words are the items of very many of them: a run is split at the middle of its block,
+//! the smallest one that holds it. A block is a power of two of words, at a multiple of their
+//! number. What is found from a block's first word up to the end of a unit is kept, and what is
+//! found from a unit's first word up to the end of a block, so that it is found once.
+ghost use Rattle.std.specs.Prelude.{◌≡◌, ◌⊎◌, true, ◌+◌, ◌*◌, ◌≤◌, ◌<◌, ◌/◌, ◌^◌, List, All};
+ghost use Rattle.std.specs.Prelude.{Contains, slice_set, IfOk, IfSome};
 ghost use Rattle.rb_validator.specs.declared.runs.Run.{Run};
 
 use std::alloc::{AllocError, Global};
 use std::marker::Model;
 
-/// Up to so many items are checked one by one. So many words are a unit in blocks of up to `LONG` words.
+/// Up to this many items are checked one by one. This many words are a unit in blocks of up to
+/// `LONG` words.
 const SHORT: usize = 16;
 
-/// So many words are a unit in larger blocks.
+/// This many words are a unit in larger blocks.
 const LONG: usize = 128;
 
 /// A block of `LONG` words has 2 to this power.
@@ -23,7 +26,8 @@ const SHORT_LEVEL: usize = 4;
 /// How many runs begin, or end, in `LONG` words: one for each unit and each level of the blocks.
 const KEPT: usize = 3 * (LONG / SHORT) + 18;
 
-/// A run of items, by its first word and how many they are, and their greatest height. One of no items says nothing.
+/// A run of items, by its first word and how many they are, and their greatest height. One of no
+/// items says nothing.
 #[derive(Clone, Copy)]
 pub struct Run {
     pub first: u32,
@@ -40,8 +44,8 @@ pub struct Parts {
     pub slot: usize,
 }
 
-/// The place of what is kept of a run that begins or ends with a word's unit, in a block whose middle is a multiple of 2 to the
-/// power of `level`.
+/// The place of what is kept of a run that begins or ends with a word's unit, in a block whose
+/// middle is a multiple of 2 to the power of `level`.
 fn slot_of(level: usize, word: usize) -> usize
     requires level { level < 64 }
     requires word { word < 2 ^ 50 }
@@ -87,7 +91,8 @@ pub fn split(first: usize, count: usize) -> Parts
     }
 }
 
-/// A run of whole units is kept, and split at the middle of its block; from another its units are split off.
+/// A run of whole units is kept, and split at the middle of its block; from another its units are
+/// split off.
 fn part(units: usize, end: usize, middle: usize, slot: usize) -> Parts {
     let is_kept = units == end;
     Parts {
@@ -97,8 +102,8 @@ fn part(units: usize, end: usize, middle: usize, slot: usize) -> Parts {
     }
 }
 
-/// What was found of runs, by their slots. Nothing is kept before as many items were checked as the file has words:
-/// no file whose tables and arrays do not overlap gets there.
+/// What was found of runs, by their slots. Nothing is kept before as many items were checked as the
+/// file has words: no file whose tables and arrays do not overlap gets there.
 #[derive(Drop)]
 pub struct Runs {
     alloc: Global,
@@ -127,10 +132,12 @@ impl Runs {
         }
     }
 
-    /// Whether so many more items are checked one by one: a few of them, or those within the budget.
+    /// Whether this many more items are checked one by one: a few of them, or those within the
+    /// budget.
     pub fn is_plain(&mut self, count: usize) -> Result<bool, AllocError>
         ensures long { IfOk result (λ plain. (plain ≡ true) ⊎ (1 < count)) }
-        ensures runs { (self.new ≡ self.old) ⊎ All (λ run. run.count ≡ 0 × run.height ≡ 0) self.new }
+        ensures runs { (self.new ≡ self.old)
+            ⊎ All (λ run. run.count ≡ 0 × run.height ≡ 0) self.new }
     {
         if count <= self.budget {
             self.budget -= count;
@@ -160,7 +167,8 @@ impl Runs {
 
     /// The greatest height of a run's items, if it is known.
     pub fn height(&self, parts: Parts, first: usize, count: usize) -> Option<u8>
-        ensures { IfSome result (λ h. Contains self.now (record { first = first; count = count; height = h })) }
+        ensures { IfSome result
+            (λ h. Contains self.now (record { first = first; count = count; height = h })) }
     {
         if !parts.is_kept {
             return None;
@@ -175,7 +183,8 @@ impl Runs {
 
     /// Keeps the greatest height of a run's items, if the run is one of those that are kept.
     pub fn keep(&mut self, parts: Parts, first: usize, count: usize, height: u8)
-        ensures { (self.new ≡ self.old) ⊎ (self.new ≡ slice_set self.old parts.slot (record { first = first; count = count; height = height })) }
+        ensures { (self.new ≡ self.old) ⊎ (self.new ≡ slice_set self.old parts.slot
+            (record { first = first; count = count; height = height })) }
     {
         if parts.is_kept
             && let Ok(first) = u32::try_from(first)

@@ -20,7 +20,7 @@ use Rattle.rb_format.specs.Place.{word_at, key, values, layout_of}
 use Rattle.rb_format.specs.Geometry.{key_offset, keys_end, table_parts, long_table_parts}
 use Rattle.rb_format.specs.Item.{kind_of, offset_of}
 use Rattle.rb_format.specs.Denotation.{where_holds, ◌>>?◌, tree_at, trees_at, keys_at, members_at, table_at, item_at}
-use Rattle.rb_views.specs.Stands.{all_stand, table_stands, StandsFor, AllStand, TableStands, HasEntriesAt}
+use Rattle.rb_views.specs.inner.Stands.{all_stand, table_stands, StandsFor, AllStand, TableStands, HasEntriesAt}
 use Rattle.rb_views.specs.Trees.{item_tree, key_from}
 use Rattle.rb_views.proofs.Values.{some_is, is_some_from, some_eq, then_some, where_some, where_true}
 use Rattle.rb_views.proofs.Readings.{map_some, of_kind, child_stands, with_data, without_data}

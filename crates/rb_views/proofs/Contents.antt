@@ -12,7 +12,7 @@ use Rattle.rb_format.specs.declared.layout.Layout.{Layout}
 use Rattle.rb_format.specs.Place.{word_at, half_at, values, layout_of}
 use Rattle.rb_format.specs.Item.{offset_of}
 use Rattle.rb_format.specs.Denotation.{tree_at, units_at, item_at}
-use Rattle.rb_views.specs.Stands.{StandsFor}
+use Rattle.rb_views.specs.inner.Stands.{StandsFor}
 use Rattle.rb_views.specs.Trees.{item_tree}
 use Rattle.rb_views.proofs.Values.{some_eq, where_some, values_map}
 use Rattle.rb_views.proofs.Readings.{map_some, with_data, without_data}

@@ -12,7 +12,7 @@ use Rattle.rb_format.specs.Item.{kind_of, offset_of, has_data, bare}
 use Rattle.rb_format.specs.File.{has_valid_indexes}
 use Rattle.rb_format.specs.Denotation.{where_holds, tree_at, value_at, item_at}
 use Rattle.rb_format.proofs.Plainly.{plain_limited}
-use Rattle.rb_views.specs.Stands.{stands_for, StandsFor}
+use Rattle.rb_views.specs.inner.Stands.{stands_for, StandsFor}
 use Rattle.rb_views.specs.Trees.{item_tree}
 use Rattle.rb_views.proofs.Values.{is_some_from, some_eq, then_some}
 

@@ -10,7 +10,7 @@ use Rattle.rb_format.specs.Place.{word_at, half_at, layout_of}
 use Rattle.rb_format.specs.Item.{kind_of, is_table}
 use Rattle.rb_format.specs.Denotation.{tree_at}
 use Rattle.rb_format.specs.File.{is_short_enough, has_header, has_valid_indexes, flagged, source_of_data, source_of_file, Denotes, source_tree_of, tree_of}
-use Rattle.rb_views.specs.Stands.{StandsFor}
+use Rattle.rb_views.specs.inner.Stands.{StandsFor}
 use Rattle.rb_views.specs.Trees.{item_tree}
 use Rattle.rb_views.proofs.Values.{where_some}
 use Rattle.rb_views.proofs.Readings.{map_some, stands_from}

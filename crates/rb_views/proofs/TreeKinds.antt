@@ -11,7 +11,7 @@ use Rattle.rb_format.specs.declared.layout.Layout.{Layout}
 use Rattle.rb_format.specs.Place.{layout_of}
 use Rattle.rb_format.specs.Item.{kind_of, offset_of, has_data, bare}
 use Rattle.rb_format.specs.Denotation.{tree_at, value_at, item_at}
-use Rattle.rb_views.specs.Stands.{StandsFor, kind_named}
+use Rattle.rb_views.specs.inner.Stands.{StandsFor, kind_named}
 use Rattle.rb_views.specs.Trees.{item_tree}
 use Rattle.rb_views.specs.Parts.{uint_of}
 use Rattle.rb_views.proofs.Values.{some_eq, where_some}
@@ -83,7 +83,7 @@ kind_back body item c h e =
     let v = has_kind body item h in
     (v.0, v.1, sym (tree_kind body item v.0 h v.1.kind) ∙ e)
 
--- where one kind of item alone stands for a kind of tree, an item whose tree is of that kind has that value
+-- if one kind of item alone stands for a kind of tree, an item whose tree is of that kind has that value
 pub value_there : (body : List ℕ) (item o : ℕ) (k : ItemKind) (c : Kind) → ((j : ItemKind) → kind_named j ≡ c → j ≡ k) → o ≡ offset_of item
     → StandsFor body item → parts.kind_of (item_tree body item) ≡ c
     → item_at (layout_of body) body (λ w. tree_at (layout_of body) body 63 w) o k ≡ Some (item_tree body item)

@@ -63,7 +63,7 @@ lookup_hit q key value i (suc n) (suc m) h e ne =
     rw (key_other q (key i) _ refl first, s) (lookup_hit q key value (suc i) n m (omega arith) (ap key (sym s) ∙ e)
     (λ j l d. let t : i + suc j ≡ suc i + j = omega arith in ne (suc j) (omega arith) (ap key t ∙ d)))
 
--- where no pair has the key, none is found
+-- if no pair has the key, none is found
 pub lookup_miss : {T : Type 0} (q : List ℕ) (key : ℕ → List ℕ) (value : ℕ → T) (i n : ℕ) → ((j : ℕ) → j < n → key (i + j) ≡ q → ⊥)
     → lookup (pointwise nat_eq q) (values (λ k. (key k, value k)) i n) ≡ None
 lookup_miss q key value i zero ne = refl

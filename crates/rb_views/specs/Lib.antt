@@ -1,5 +1,5 @@
 pub mod Trees
-pub mod Stands
 pub mod Parts
 pub mod Seen
 pub mod Root
+pub mod inner

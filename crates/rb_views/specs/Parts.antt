@@ -1,5 +1,5 @@
--- The contents of a tree of each kind, and nothing for a tree of another kind (`ures_getString`, `ures_getInt`, `ures_getUInt`,
--- `ures_getIntVector`, `ures_getBinary` and the iteration of ICU's `uresbund.h`).
+-- The contents of a tree of each kind, and nothing for a tree of another kind (`ures_getString`, `ures_getInt`,
+-- `ures_getUInt`, `ures_getIntVector`, `ures_getBinary` and the iteration of ICU's `uresbund.h`).
 use Rattle.std.specs.Prelude.{ℕ, ℤ, pos, ◌-ℤ◌, ◌^◌, nat_lt, if◌then◌else◌, List, Option, Some, None}
 use Rattle.rb_tree.specs.Resource.{Resource, string, int, ints, binary, alias, array, table}
 use Rattle.rb_tree.specs.Keys.{items, pairs}

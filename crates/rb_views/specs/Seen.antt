@@ -1,5 +1,5 @@
--- What the views are seen as: an item as the tree that it denotes, and each view of its contents as the list of them, which
--- follow one another in the file (`uresdata.h`, format version 1); and the data of the file that each one reads.
+-- What the views are seen as: an item as the tree that it denotes, and each view of its contents as the list of them,
+-- which follow one another in the file (`uresdata.h`, format version 1); and the data of the file that each one reads.
 use Rattle.std.specs.Prelude.{◌≡◌, ℕ, ℤ, ◌+◌, List, Option, Some, IfSome, drop, slice_get}
 use Rattle.std.specs.Map.{keys_of}
 use Rattle.std.specs.Borrow.{Bor}
@@ -65,7 +65,8 @@ table_word table i = word_at (table_data table) ((parts_seen table).first + i)
 
 -- the key where the table's key offset i points
 abbrev pub key_placed : Table → ℕ → Option (List ℕ)
-key_placed table i = key (layout_of (table_data table)) (table_data table) (key_offset (table_data table) (parts_seen table).keys i)
+key_placed table i = key (layout_of (table_data table)) (table_data table)
+    (key_offset (table_data table) (parts_seen table).keys i)
 
 -- the item reads a table's data, and its word is that of entry i
 abbrev pub IsItemOf : Table → ℕ → Item → Type 0

@@ -1,6 +1,7 @@
--- The data of a file, and what is in them: the tree of an item, a key, an entry of a table, the bytes of a binary, the parts of a table
--- (`uresdata.h`, format version 1).
+-- The data of a file, and what is in them: the tree of an item, a key, an entry of a table, the bytes of a binary, the
+-- parts of a table (`uresdata.h`, format version 1).
 use Rattle.std.specs.Prelude.{ℕ, ◌+◌, ◌*◌, List, [], Option, Some, None, take, drop, unwrap_or}
+use Rattle.rb_tree.specs.Limits.{height_limit}
 use Rattle.rb_tree.specs.Resource.{Resource, int}
 use Rattle.rb_format.specs.declared.geometry.TableParts.{TableParts}
 use Rattle.rb_format.specs.declared.kind.ItemKind.{ItemKind}
@@ -16,7 +17,7 @@ data_of bytes = drop (half_at bytes 0) bytes
 
 -- the tree of at most 64 levels that an item denotes
 unfoldable pub item_tree : List ℕ → ℕ → Resource
-item_tree body item = unwrap_or (tree_at (layout_of body) body 64 item) (int 0)
+item_tree body item = unwrap_or (tree_at (layout_of body) body height_limit item) (int 0)
 
 -- the key at an offset
 abbrev pub key_from : List ℕ → ℕ → List ℕ

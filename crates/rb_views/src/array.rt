@@ -1,7 +1,7 @@
 //! Views of arrays.
 ghost use Rattle.std.specs.Prelude.{◌≡◌, ◌<◌, IsTrue, Some, length, slice_get};
 ghost use Rattle.rb_format.specs.File.{has_valid_indexes};
-ghost use Rattle.rb_views.specs.Stands.{AllStand};
+ghost use Rattle.rb_views.specs.inner.Stands.{AllStand};
 
 use crate::item::Item;
 use rb_format::word_at;
@@ -17,7 +17,8 @@ pub struct Array<'a> {
 }
 
 impl<'a> Array<'a> {
-    ghost use Rattle.rb_views.specs.Seen.{tree_seen, trees_seen, item_data, item_word, array_data, array_word};
+    ghost use Rattle.rb_views.specs.Seen.{tree_seen, trees_seen, item_data, item_word, array_data};
+    ghost use Rattle.rb_views.specs.Seen.{array_word};
 
     /// How many items there are.
     #[tactic(auto, using(crate::proofs::Values::values_length))]

@@ -30,7 +30,8 @@ pub fn root_place(bundle: &Bundle) -> RootPlace
     }
 }
 
-/// The root item of a bundle, as `root` gives it, where its place is known. Nothing of the file is read.
+/// The root item of a bundle, as `root` gives it, if its place is known. Nothing of the file is
+/// read.
 pub fn root_at(bundle: &Bundle, place: RootPlace) -> Item<'_>
     requires { IsRootPlace bundle.now place }
     ensures tree { tree_seen result ≡ tree_of bundle.now }
@@ -43,7 +44,8 @@ pub fn root_at(bundle: &Bundle, place: RootPlace) -> Item<'_>
     }
 }
 
-/// The root item of a bundle, a Table, which is seen as the bundle's tree: word 0 of the file's data.
+/// The root item of a bundle, a Table, which is seen as the bundle's tree: word 0 of the file's
+/// data.
 ///
 /// ```rust
 /// let text = root(&bundle).table()?.get(b"a")?.text()?; // of `root{a{"b"}}`

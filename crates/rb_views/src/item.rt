@@ -1,14 +1,17 @@
 //! Items of a bundle.
-ghost use Rattle.std.specs.Prelude.{◌≡◌, ◌+◌, ◌*◌, ◌<◌, ◌≤◌, IsTrue, Some, IfSome, option_map, length, take, drop};
+ghost use Rattle.std.specs.Prelude.{◌≡◌, ◌+◌, ◌*◌, ◌<◌, ◌≤◌, IsTrue, Some, IfSome, option_map};
+ghost use Rattle.std.specs.Prelude.{length, take, drop};
 ghost use Rattle.std.specs.Option.{option_copied};
-ghost use Rattle.rb_tree.specs.Parts.{HasUnits, kind_of, units_of, numbers_of, bytes_of, children_of, pairs_of};
+ghost use Rattle.rb_tree.specs.Parts.{HasUnits, kind_of, units_of, numbers_of, bytes_of};
+ghost use Rattle.rb_tree.specs.Parts.{children_of, pairs_of};
 ghost use Rattle.rb_tree.specs.declared.kind.Kind.TheVariants as Kinds;
 ghost use Rattle.rb_format.specs.File.{has_valid_indexes};
 ghost use Rattle.rb_format.specs.Item as items;
 ghost use Rattle.rb_format.specs.Item.{offset_of};
-ghost use Rattle.rb_views.specs.Stands.{StandsFor, HasEntriesAt, kind_named};
+ghost use Rattle.rb_views.specs.inner.Stands.{StandsFor, HasEntriesAt, kind_named};
 ghost use Rattle.rb_views.specs.Trees.{bytes_at, parts_at};
-ghost use Rattle.rb_views.specs.Parts.{text_of, alias_of, ints_of, binary_of, uint_of, signed, array_of, table_of};
+ghost use Rattle.rb_views.specs.Parts.{text_of, alias_of, ints_of, binary_of, uint_of, signed};
+ghost use Rattle.rb_views.specs.Parts.{array_of, table_of};
 
 use crate::array::Array;
 use crate::leaves::{Ints, Units};
@@ -18,8 +21,8 @@ use rb_format::{
 };
 use rb_tree::Kind;
 
-/// An item of a bundle: a resource of `uresdata.h`. It is seen as the tree that it denotes, holds a slice of the file and one word, and
-/// lends all that it gives from the file.
+/// An item of a bundle: a resource of `uresdata.h`. It is seen as the tree that it denotes, holds a
+/// slice of the file and one word, and lends all that it gives from the file.
 #[derive(Clone, Copy)]
 pub struct Item<'a> {
     pub(crate) body: &'a [u8],
@@ -63,7 +66,8 @@ fn signed(number: u32) -> i32
     }
 }
 
-// The values that follow their count, from an item's offset on; none at offset 0. `$first` says where they begin.
+// The values that follow their count, from an item's offset on; none at offset 0. `$first` says
+// where they begin.
 macro_rules! counted {
     ($item:ident, $view:ident, $offset:ident => $first:expr) => {{
         let $offset = item_offset($item.word);
@@ -83,8 +87,10 @@ macro_rules! counted {
 }
 
 impl<'a> Item<'a> {
-    ghost use Rattle.rb_views.specs.Seen.{tree_seen, units_seen, numbers_seen, trees_seen, entries_seen};
-    ghost use Rattle.rb_views.specs.Seen.{item_data, item_word, array_data, first_item, table_data, parts_seen};
+    ghost use Rattle.rb_views.specs.Seen.{tree_seen, units_seen, numbers_seen, trees_seen};
+    ghost use Rattle.rb_views.specs.Seen.{entries_seen};
+    ghost use Rattle.rb_views.specs.Seen.{item_data, item_word, array_data, first_item, table_data};
+    ghost use Rattle.rb_views.specs.Seen.{parts_seen};
     ghost use Rattle.rb_format.specs.Geometry.{array_first};
 
     /// The kind of the tree.
@@ -123,7 +129,8 @@ impl<'a> Item<'a> {
         }
     }
 
-    /// The numbers of an integer vector, as `ures_getIntVector` gives them; None for an item of another kind.
+    /// The numbers of an integer vector, as `ures_getIntVector` gives them; None for an item of
+    /// another kind.
     pub fn ints(self) -> Option<Ints<'a>>
         ensures { option_map numbers_seen result ≡ ints_of (tree_seen self.entry) }
     {
@@ -133,10 +140,12 @@ impl<'a> Item<'a> {
         }
     }
 
-    /// The bytes of a Binary, lent from the file, as `ures_getBinary` gives them; None for an item of another kind.
+    /// The bytes of a Binary, lent from the file, as `ures_getBinary` gives them; None for an item
+    /// of another kind.
     pub fn binary(self) -> Option<&'a [u8]>
         ensures contents { option_copied result ≡ binary_of (tree_seen self.entry) }
-        ensures place { IfSome result (λ b. let o = offset_of (item_word self.entry) in 0 < o → b.now ≡ bytes_at (item_data self.entry) o) }
+        ensures place { IfSome result (λ b. let o = offset_of (item_word self.entry) in 0 < o
+            → b.now ≡ bytes_at (item_data self.entry) o) }
     {
         match self.kind_here() {
             Kind::Binary => Some(self.bytes()),
@@ -144,7 +153,8 @@ impl<'a> Item<'a> {
         }
     }
 
-    /// The number of an Int, its 28 bits read with a sign, as `ures_getInt` does; None for an item of another kind.
+    /// The number of an Int, its 28 bits read with a sign, as `ures_getInt` does; None for an item
+    /// of another kind.
     pub fn int(self) -> Option<i32>
         ensures { result ≡ option_map signed (uint_of (tree_seen self.entry)) }
     {
@@ -154,7 +164,8 @@ impl<'a> Item<'a> {
         }
     }
 
-    /// The number of an Int, its 28 bits read without a sign, as `ures_getUInt` does; None for an item of another kind.
+    /// The number of an Int, its 28 bits read without a sign, as `ures_getUInt` does; None for an
+    /// item of another kind.
     pub fn uint(self) -> Option<u32>
         ensures { result ≡ uint_of (tree_seen self.entry) }
     {
@@ -168,7 +179,8 @@ impl<'a> Item<'a> {
     pub fn array(self) -> Option<Array<'a>>
         ensures items { option_map trees_seen result ≡ array_of (tree_seen self.entry) }
         ensures data { IfSome result (λ a. array_data a ≡ item_data self.entry) }
-        ensures place { IfSome result (λ a. let o = offset_of (item_word self.entry) in 0 < o → first_item a ≡ array_first o) }
+        ensures place { IfSome result (λ a. let o = offset_of (item_word self.entry) in 0 < o
+            → first_item a ≡ array_first o) }
     {
         match self.kind_here() {
             Kind::Array => Some(self.items()),
@@ -176,11 +188,13 @@ impl<'a> Item<'a> {
         }
     }
 
-    /// The entries of a Table, whether its key offsets are half words or words; None for an item of another kind.
+    /// The entries of a Table, whether its key offsets are half words or words; None for an item of
+    /// another kind.
     pub fn table(self) -> Option<Table<'a>>
         ensures entries { option_map entries_seen result ≡ table_of (tree_seen self.entry) }
         ensures data { IfSome result (λ t. table_data t ≡ item_data self.entry) }
-        ensures place { IfSome result (λ t. 0 < offset_of (item_word self.entry) → parts_seen t ≡ parts_at (item_data self.entry) (item_word self.entry)) }
+        ensures place { IfSome result (λ t. 0 < offset_of (item_word self.entry)
+            → parts_seen t ≡ parts_at (item_data self.entry) (item_word self.entry)) }
     {
         match self.kind_here() {
             Kind::Table => Some(self.entries()),
@@ -207,7 +221,8 @@ impl<'a> Item<'a> {
     pub(crate) fn bytes(self) -> &'a [u8]
         requires { kind_of (tree_seen self) ≡ Kinds.Binary }
         ensures contents { result.now ≡ bytes_of (tree_seen self.entry) }
-        ensures place { let o = offset_of (item_word self.entry) in 0 < o → result.now ≡ bytes_at (item_data self.entry) o }
+        ensures place { let o = offset_of (item_word self.entry) in 0 < o
+            → result.now ≡ bytes_at (item_data self.entry) o }
     {
         let offset = item_offset(self.word);
         if offset == 0 {
@@ -225,7 +240,8 @@ impl<'a> Item<'a> {
         requires { kind_of (tree_seen self) ≡ Kinds.Array }
         ensures items { trees_seen result ≡ children_of (tree_seen self.entry) }
         ensures data { array_data result ≡ item_data self.entry }
-        ensures place { let o = offset_of (item_word self.entry) in 0 < o → first_item result ≡ array_first o }
+        ensures place { let o = offset_of (item_word self.entry) in 0 < o
+            → first_item result ≡ array_first o }
     {
         counted!(self, Array, offset => offset + 1)
     }
@@ -234,7 +250,8 @@ impl<'a> Item<'a> {
         requires { kind_of (tree_seen self) ≡ Kinds.Table }
         ensures entries { entries_seen result ≡ pairs_of (tree_seen self.entry) }
         ensures data { table_data result ≡ item_data self.entry }
-        ensures place { 0 < offset_of (item_word self.entry) → parts_seen result ≡ parts_at (item_data self.entry) (item_word self.entry) }
+        ensures place { 0 < offset_of (item_word self.entry)
+            → parts_seen result ≡ parts_at (item_data self.entry) (item_word self.entry) }
     {
         Table {
             body: self.body,
@@ -245,7 +262,8 @@ impl<'a> Item<'a> {
     fn parts(self) -> TableParts
         requires { kind_of (tree_seen self) ≡ Kinds.Table }
         ensures entries { HasEntriesAt self.entry.body.now result (tree_seen self.entry) }
-        ensures place { 0 < offset_of self.entry.word → result ≡ parts_at self.entry.body.now self.entry.word }
+        ensures place { 0 < offset_of self.entry.word
+            → result ≡ parts_at self.entry.body.now self.entry.word }
     {
         let offset = item_offset(self.word);
         if offset == 0 {

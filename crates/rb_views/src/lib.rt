@@ -1,4 +1,5 @@
-//! Borrowed views of a bundle: its items, each seen as the tree that it denotes. No call takes memory.
+//! Borrowed views of a bundle: its items, each seen as the tree that it denotes. No call takes
+//! memory.
 #![tactic(auto)]
 
 mod array;

@@ -1,6 +1,7 @@
 //! Where the root item of a bundle is.
 
-/// Where the root item of a bundle is: the size of the file's header in bytes, and word 0 of the data after it, the item's word.
+/// Where the root item of a bundle is: the size of the file's header in bytes, and word 0 of the
+/// data after it, the item's word.
 #[derive(Clone, Copy, Debug)]
 pub struct RootPlace {
     pub(crate) header: u16,

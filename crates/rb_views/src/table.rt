@@ -1,11 +1,12 @@
 //! Views of tables.
-ghost use Rattle.std.specs.Prelude.{◌≡◌, ◌<◌, ◌≤◌, ◌+◌, ◌-◌, ◌/◌, ◌⊎◌, IsTrue, Some, length, slice_get, option_map, nat_eq, IfSome};
+ghost use Rattle.std.specs.Prelude.{◌≡◌, ◌<◌, ◌≤◌, ◌+◌, ◌-◌, ◌/◌, ◌⊎◌, IsTrue, Some, length};
+ghost use Rattle.std.specs.Prelude.{slice_get, option_map, nat_eq, IfSome};
 ghost use Rattle.std.specs.Map.{lookup, keys_of, values_of};
 ghost use Rattle.std.specs.Ordering.{nat_cmp};
 ghost use Rattle.std.specs.Cmp.Lexicographic.{pointwise, slice_cmp};
 ghost use Rattle.rb_format.specs.File.{has_valid_indexes};
 ghost use Rattle.rb_format.specs.Geometry.{keys_end};
-ghost use Rattle.rb_views.specs.Stands.{TableStands};
+ghost use Rattle.rb_views.specs.inner.Stands.{TableStands};
 
 use crate::item::Item;
 use rb_format::{Layout, TableParts, compare_key, key_within};
@@ -21,8 +22,9 @@ pub struct Table<'a> {
     ghost stands: { TableStands body.now parts },
 }
 
-// Which of the keys from low to high a search looks at: the one in the middle, but for ICU's own keys, such as `%%ALIAS`, at first the
-// table's first key, since they come before nearly all others.
+// Which of the keys from low to high a search looks at: the one in the middle, but for ICU's own
+// keys, such as `%%ALIAS`, at first the table's first key, since they come before nearly all
+// others.
 fn probe(key: &[u8], low: usize, high: usize) -> usize
     requires { low < high }
     ensures from { low ≤ result }
@@ -36,7 +38,8 @@ fn probe(key: &[u8], low: usize, high: usize) -> usize
 }
 
 impl<'a> Table<'a> {
-    ghost use Rattle.rb_views.specs.Seen.{tree_seen, entries_seen, rest_seen, pairs_table, key_placed, IsItemOf, IsItemWith};
+    ghost use Rattle.rb_views.specs.Seen.{tree_seen, entries_seen, rest_seen, pairs_table};
+    ghost use Rattle.rb_views.specs.Seen.{key_placed, IsItemOf, IsItemWith};
 
     /// How many entries there are.
     #[tactic(auto, using(crate::proofs::Values::values_length))]
@@ -46,7 +49,8 @@ impl<'a> Table<'a> {
         self.parts.count
     }
 
-    /// The key of entry i, which is one of `len`, lent from the file: its bytes without the NUL after them.
+    /// The key of entry i, which is one of `len`, lent from the file: its bytes without the NUL
+    /// after them.
     pub fn key(self, i: usize) -> &'a [u8]
         requires { i < length (entries_seen self) }
         ensures key { Some result.now ≡ slice_get (keys_of (entries_seen self.entry)) i }
@@ -74,14 +78,17 @@ impl<'a> Table<'a> {
     /// How a key compares with that of entry i, which is one of `len`.
     fn compare(self, key: &[u8], i: usize) -> Ordering
         requires { i < length (entries_seen self) }
-        ensures { IfSome (key_placed self.entry i) (λ stored. result ≡ slice_cmp nat_cmp key.now stored) }
+        ensures { IfSome (key_placed self.entry i)
+            (λ stored. result ≡ slice_cmp nat_cmp key.now stored) }
     {
         compare_key(key, self.body, self.parts.keys.offset(self.body, i))
     }
 
-    /// The item with a key, by halving over the key offsets, which are in the order of their keys; None where the table has no such key.
+    /// The item with a key, by halving over the key offsets, which are in the order of their keys;
+    /// None if the table has no such key.
     pub fn get(self, key: &[u8]) -> Option<Item<'a>>
-        ensures tree { option_map tree_seen result ≡ lookup (pointwise nat_eq key.now) (entries_seen self.entry) }
+        ensures tree { option_map tree_seen result
+            ≡ lookup (pointwise nat_eq key.now) (entries_seen self.entry) }
         ensures place { IfSome result (λ item. IsItemWith self.entry key.now item) }
     {
         let count = self.len();

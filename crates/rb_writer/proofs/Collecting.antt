@@ -1,8 +1,10 @@
 -- The keys of a tree, gathered.
-use Rattle.std.proofs.Common.{◌≡◌, ℕ, zero, suc, ◌+◌, ◌<◌, ◌≤◌, List, [], ◌∷◌, ◌++◌, length, drop, map, Some, refl, ap, arith, Bor, inl, inr, subst, sym, ◌∙◌}
+use Rattle.std.proofs.Common.{◌≡◌, ℕ, zero, suc, ◌+◌, ◌<◌, ◌≤◌, List, [], ◌∷◌, ◌++◌, length, drop, map, Some, refl, ap, arith, Bor, inl, inr, ◌⊎◌, subst, sym, ◌∙◌}
 use Rattle.std.proofs.lemmas.Bool.{cases_eq}
 use Rattle.std.proofs.lemmas.List.{map-append}
-use Rattle.std.specs.Prelude.{slice_get, All}
+use Rattle.std.specs.Prelude.{slice_get, All, Contains}
+use Rattle.std.proofs.lemmas.List.Elements.{Contains-append_left, Contains-append_right, Contains-append_cases}
+use Rattle.rb_writer.specs.KeyList.{all_keys, entries_keys}
 use Rattle.std.specs.Map.{keys_of, values_of}
 use Rattle.rb_tree.specs.Resource.{Resource, string, int, ints, binary, alias, array, table, Resources}
 use Rattle.rb_tree.specs.Resource.{no_trees, tree_and, Members, no_entries, entry_and, weight, trees_weight, entries_weight}
@@ -10,6 +12,7 @@ use Rattle.rb_tree.specs.Keys.{items, pairs, IsKey}
 use Rattle.rb_tree.specs.View.{view_of}
 use Rattle.rb_tree.specs.declared.tree.Tree.{Tree}
 use Rattle.rb_tree.specs.declared.tree.Tree.TheVariants as trees
+use Rattle.rb_writer.specs.KeyList as listed
 use Rattle.rb_writer.specs.inner.Most.{keys_most, trees_keys, members_keys, data_most, trees_most, members_most}
 use Rattle.rb_writer.specs.inner.Places.{EachKey, EachKeyIn, EachKeyOf}
 use Rattle.rb_writer.specs.inner.Collected.{keys_size, size_of, Has, Gains, Gathers}
@@ -85,12 +88,17 @@ pairs_size (entry_and k t es) = omega (arith, pairs_size es)
 
 -- ---- the loops that gather
 
+-- a key of one of these trees
+abbrev pub IsOfOne : List Resource → List ℕ → Type 0
+IsOfOne ts q = (j : ℕ) × (u : Resource) × (Some u ≡ slice_get ts j) × Contains (all_keys u) q
+
 -- the keys of the first i of these trees were added
 pub record Values (old cur : List (Bor (List ℕ))) (ts : List Resource) (i : ℕ) : Type 0 where
   pub covered : (j : ℕ) (u : Resource) → j < i → Some u ≡ slice_get ts j → EachKey (λ k. Has cur k) u
   pub stay : (q : List ℕ) → Has old q → Has cur q
   pub little : size_of cur + trees_size (drop i ts) ≤ size_of old + trees_size ts
   pub is_key : All (λ r. IsKey r.now) old → All (λ r. IsKey r.now) cur
+  pub only : (q : List ℕ) → Has cur q → Has old q ⊎ IsOfOne ts q
 
 -- the keys of a table's values were added, and the first j of its own
 pub record Owned (old cur : List (Bor (List ℕ))) (es : Members) (j : ℕ) : Type 0 where
@@ -99,9 +107,10 @@ pub record Owned (old cur : List (Bor (List ℕ))) (es : Members) (j : ℕ) : Ty
   pub stay : (q : List ℕ) → Has old q → Has cur q
   pub little : size_of cur + keys_size (drop j (keys_of (pairs es))) ≤ size_of old + members_keys es
   pub is_key : All (λ r. IsKey r.now) old → All (λ r. IsKey r.now) cur
+  pub only : (q : List ℕ) → Has cur q → Has old q ⊎ Contains (entries_keys es) q
 
 pub values_none : (old : List (Bor (List ℕ))) (ts : List Resource) → Values old old ts 0
-values_none old ts = record { covered = λ j u h e. absurd (omega arith); stay = λ q h. h; little = omega arith; is_key = λ a. a }
+values_none old ts = record { covered = λ j u h e. absurd (omega arith); stay = λ q h. h; little = omega arith; is_key = λ a. a; only = λ q h. inl h }
 
 pub values_more : (old cur new : List (Bor (List ℕ))) (ts : List Resource) (i : ℕ) (u : Resource) → Values old cur ts i → Some u ≡ slice_get ts i
     → Gathers u cur new → Values old new ts (i + 1)
@@ -119,7 +128,62 @@ values_more old cur new ts i u v e g =
       stay = λ q h. g.stay q (v.stay q h);
       little = rw up (omega (arith, trees_turn ts i u e));
       is_key = λ h. g.is_key (v.is_key h);
+      only = λ q h. elim (g.only q h) [
+        | inl before ↦ v.only q before
+        | inr now ↦ inr (i, u, e, now)
+      ];
     }
+
+-- keys of parts are keys of the whole
+item_keys : (ts : Resources) (j : ℕ) (u : Resource) (q : List ℕ) → Some u ≡ slice_get (items ts) j → Contains (all_keys u) q → Contains (listed.trees_keys ts) q
+item_keys no_trees j u q e h = cc
+item_keys (tree_and t ts) zero u q e h = let s : u ≡ t = cc in
+    Contains-append_left (all_keys t) (listed.trees_keys ts) q (subst (λ (v : Resource). Contains (all_keys v) q) s h)
+item_keys (tree_and t ts) (suc j) u q e h = Contains-append_right (all_keys t) (listed.trees_keys ts) q (item_keys ts j u q e h)
+
+value_keys : (es : Members) (j : ℕ) (u : Resource) (q : List ℕ) → Some u ≡ slice_get (values_of (pairs es)) j → Contains (all_keys u) q
+    → Contains (entries_keys es) q
+value_keys no_entries j u q e h = cc
+value_keys (entry_and k t es) zero u q e h = let s : u ≡ t = cc in
+    Contains-append_right (k ∷ []) (all_keys t ++ entries_keys es) q
+    (Contains-append_left (all_keys t) (entries_keys es) q (subst (λ (v : Resource). Contains (all_keys v) q) s h))
+value_keys (entry_and k t es) (suc j) u q e h =
+    Contains-append_right (k ∷ []) (all_keys t ++ entries_keys es) q (Contains-append_right (all_keys t) (entries_keys es) q (value_keys es j u q e h))
+
+own_key : (es : Members) (j : ℕ) (k : List ℕ) → Some k ≡ slice_get (keys_of (pairs es)) j → Contains (entries_keys es) k
+own_key no_entries j k e = cc
+own_key (entry_and q t es) zero k e = let s : k ≡ q = cc in
+    Contains-append_left (q ∷ []) (all_keys t ++ entries_keys es) k (subst (Contains (q ∷ [])) (sym s) (0, omega arith, refl))
+own_key (entry_and q t es) (suc j) k e =
+    Contains-append_right (q ∷ []) (all_keys t ++ entries_keys es) k (Contains-append_right (all_keys t) (entries_keys es) k (own_key es j k e))
+
+only_one : (k q : List ℕ) → Contains (k ∷ []) q → k ≡ q
+only_one k q (zero, h, e) = e
+only_one k q (suc i, h, e) = absurd (omega arith)
+
+-- each key of a tree has what each has
+mutual
+  pub each_has : (P : List ℕ → Type 0) (t : Resource) (q : List ℕ) → EachKey P t → Contains (all_keys t) q → P q
+  each_has P (array ts) q h c = in_has P ts q h c
+  each_has P (table es) q h c = of_has P es q h c
+  each_has P _ q h c = let low = c.1 in absurd (omega arith)
+
+  in_has : (P : List ℕ → Type 0) (ts : Resources) (q : List ℕ) → EachKeyIn P ts → Contains (listed.trees_keys ts) q → P q
+  in_has P no_trees q h c = let low = c.1 in absurd (omega arith)
+  in_has P (tree_and t ts) q h c = elim (Contains-append_cases (all_keys t) (listed.trees_keys ts) q c) [
+    | inl own ↦ each_has P t q h.0 own
+    | inr rest ↦ in_has P ts q h.1 rest
+  ]
+
+  of_has : (P : List ℕ → Type 0) (es : Members) (q : List ℕ) → EachKeyOf P es → Contains (entries_keys es) q → P q
+  of_has P no_entries q h c = let low = c.1 in absurd (omega arith)
+  of_has P (entry_and k t es) q h c = elim (Contains-append_cases (k ∷ []) (all_keys t ++ entries_keys es) q c) [
+    | inl own ↦ subst P (only_one k q own) h.0
+    | inr rest ↦ elim (Contains-append_cases (all_keys t) (entries_keys es) q rest) [
+      | inl value ↦ each_has P t q h.1 value
+      | inr others ↦ of_has P es q h.2 others
+    ]
+  ]
 
 tree_low : (ts : List Resource) (i : ℕ) (u : Resource) → Some u ≡ slice_get ts i → i < length ts
 tree_low [] i u e = cc
@@ -146,6 +210,10 @@ owned_none old cur es n v h =
       stay = v.stay;
       little = omega (arith, pairs_size es);
       is_key = v.is_key;
+      only = λ q g. elim (v.only q g) [
+        | inl before ↦ inl before
+        | inr one ↦ inr (value_keys es one.0 one.1 q one.2 one.3)
+      ];
     }
 
 pub owned_more : (old cur new : List (Bor (List ℕ))) (es : Members) (j : ℕ) (k : List ℕ) → Owned old cur es j → Some k ≡ slice_get (keys_of (pairs es)) j
@@ -165,6 +233,10 @@ owned_more old cur new es j k o e is_key g =
       stay = λ q h. g.stay q (o.stay q h);
       little = rw up (omega (arith, key_size (keys_of (pairs es)) j k e));
       is_key = λ h. g.is_key is_key (o.is_key h);
+      only = λ q h. elim (g.only q h) [
+        | inl before ↦ o.only q before
+        | inr now ↦ inr (subst (Contains (entries_keys es)) (sym now) (own_key es j k e))
+      ];
     }
 
 trees_covered : (P : List ℕ → Type 0) (ts : Resources) → ((i : ℕ) (u : Resource) → Some u ≡ slice_get (items ts) i → EachKey P u) → EachKeyIn P ts
@@ -185,6 +257,10 @@ array_gathered old cur ts n t eq v h =
       stay = v.stay;
       little = omega (arith, items_size ts);
       is_key = v.is_key;
+      only = λ q g. elim (v.only q g) [
+        | inl before ↦ inl before
+        | inr one ↦ inr (item_keys ts one.0 one.1 q one.2 one.3)
+      ];
     })
 
 pub table_gathered : (old cur : List (Bor (List ℕ))) (es : Members) (n : ℕ) (t : Tree) → t ≡ trees.Table es → Owned old cur es n → length (pairs es) ≤ n
@@ -196,4 +272,5 @@ table_gathered old cur es n t eq o h =
       stay = o.stay;
       little = omega arith;
       is_key = o.is_key;
+      only = o.only;
     })

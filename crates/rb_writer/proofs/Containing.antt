@@ -199,14 +199,14 @@ short_put : (ps : KeyPlaces) (area : KeyArea) (old mid new is offsets : List ℕ
 unfolding table16_at
 short_put ps area old mid new is offsets n o es s e d ks at t p small =
     let l = s.little in let m = table_most es in let c = s.count in let w = s.drafted.whole in let hi = s.drafted.high in
-    let pl = p.count.len in let ql = p.keys.len in let rl = p.padded.longer in let ne = p.near in let wh = p.whole in let cl = p.children.len in let st =
+    let pl = p.count.len in let ql = p.keys.len in let rl = p.adds.longer in let ne = p.near in let wh = p.whole in let cl = p.children.len in let st =
     p.stands in
     let vl : length (values_of (pairs es)) ≡ length (pairs es) = length-map (pairs es) (λ q. q.1) in
     let kl : length (keys_of (pairs es)) ≡ length (pairs es) = length-map (pairs es) (λ q. q.0) in
     let start : length mid ≡ 4 * o = omega arith in
     let len : length is ≡ length (pairs es) = c ∙ e in
     let on_c = p.children.adds in
-    let on_b = adds_trans p.b p.c new p.padded on_c in
+    let on_b = adds_trans p.b p.c new p.adds on_c in
     let on_a = adds_trans p.a p.b new p.keys.adds on_b in
     let on = adds_trans mid p.a new p.count.adds on_a in
     let count : half_at new (2 * o) ≡ length (pairs es) = half_stays p.a new (2 * o) on_a (omega arith) ∙ p.count.half_is (2 * o) (omega arith) ∙ len in
@@ -274,10 +274,10 @@ pub table_stands : (ps : KeyPlaces) (area : KeyArea) (old mid new is : List ℕ)
 table_stands ps area old mid new is n item es t eq s e d ks w =
     rw eq (elim w.written [
       | inl p ↦ put_stands area old new _ (entries_height es) _ es no_entries (offset_of item) item kinds.Table table
-          (short_put ps area old mid new is w.offsets n (offset_of item) es s e d ks w.places w.ordered p.1 w.small) p.0 refl (λ q. refl)
+          (short_put ps area old mid new is w.offsets n (offset_of item) es s e d ks w.places w.ordered p.puts w.small) p.kind_is refl (λ q. refl)
           (short_contents _ _ _ _) refl refl refl
       | inr p ↦ put_stands area old new _ (entries_height es) _ es no_entries (offset_of item) item kinds.LongTable table
-          (long_put ps area old mid new is w.offsets n (offset_of item) es s e d ks w.places w.ordered p.1 w.small) p.0 refl (λ q. refl)
+          (long_put ps area old mid new is w.offsets n (offset_of item) es s e d ks w.places w.ordered p.puts w.small) p.kind_is refl (λ q. refl)
           (long_contents _ _ _ _) refl refl refl
     ])
 

@@ -18,14 +18,15 @@ use Rattle.rb_format.proofs.Grows.{read_grow}
 use Rattle.rb_format.proofs.Steps.{bind_ok, map_ok, ok_is}
 use Rattle.rb_format.proofs.Cases.{value_cases}
 use Rattle.rb_writer.specs.inner.Growth.{IsDraft, draft}
-use Rattle.rb_writer.specs.inner.Whole.{IsFile, index_count}
+use Rattle.rb_writer.specs.inner.Whole.{IsFile}
+use Rattle.rb_writer.specs.Written.{index_count}
 use Rattle.rb_writer.specs.Longest.{longest}
 use Rattle.rb_tree.specs.Parts.{Fits}
 use Rattle.rb_tree.specs.Parts as parts
 use Rattle.rb_tree.specs.declared.kind.Kind.TheVariants as tree_kinds
 use Rattle.rb_format.proofs.Levels.{read_raise}
 use Rattle.rb_format.proofs.Root.{denotes_read}
-use Rattle.rb_writer.specs.inner.Header as heads
+use Rattle.rb_writer.specs.Header as heads
 use Rattle.rb_writer.proofs.Patches.{five_or_six}
 use Rattle.rb_writer.specs.declared.area.KeyArea.{KeyArea}
 use Rattle.rb_format.specs.Attributes.{attributes_of}

@@ -1,5 +1,7 @@
 -- The keys of a tree stay what they are when they are sorted.
-use Rattle.std.proofs.Common.{◌≡◌, ℕ, zero, suc, ◌+◌, ◌<◌, ◌≤◌, List, [], ◌∷◌, ◌++◌, length, get_or, map, take, Some, refl, sym, ap, ◌∙◌, arith, Bor, subst}
+use Rattle.std.proofs.Common.{◌≡◌, ℕ, zero, suc, ◌+◌, ◌<◌, List, [], ◌∷◌, ◌++◌, length, get_or, take, Some, refl, sym, ap, ◌∙◌, arith, Bor, subst, inl, inr}
+use Rattle.std.proofs.lemmas.List.Elements.{Contains-push_cases}
+use Rattle.rb_writer.specs.KeyList.{all_keys}
 use Rattle.std.proofs.lemmas.List.{map-append, get_or_push, get_or_append_left, length_push, take_more}
 use Rattle.std.proofs.lemmas.List.Elements.{All-append, All-contains}
 use Rattle.std.proofs.lemmas.List.Sums.{sum_by-cons}
@@ -9,8 +11,7 @@ use Rattle.std.specs.List.Sorted.{IsPermutation}
 use Rattle.std.specs.Map.{keys_of}
 use Rattle.rb_tree.specs.Resource.{Resource, Members}
 use Rattle.rb_tree.specs.Keys.{IsKey, IsTable, pairs}
-use Rattle.rb_writer.specs.inner.Collected.{keys_size, size_of, Has, Gains, Gathers, GathersKeys, names}
-use Rattle.rb_writer.specs.inner.Most.{keys_most}
+use Rattle.rb_writer.specs.inner.Collected.{size_of, Has, Gains, Gathers, GathersKeys, names}
 use Rattle.rb_writer.specs.inner.Places.{EachKey}
 use Rattle.rb_writer.proofs.Collecting.{each_still, size_push}
 
@@ -39,7 +40,7 @@ has_at keys i k d h e = (get_or keys i d, (i, h, same keys i d h), e)
     same (x ∷ xs) (suc i) d h = same xs i d (omega arith)
 
 pub gains_none : (k : List ℕ) (keys : List (Bor (List ℕ))) → Has keys k → Gains k keys keys
-gains_none k keys h = record { here = h; stay = λ q g. g; little = omega arith; is_key = λ _ a. a }
+gains_none k keys h = record { here = h; stay = λ q g. g; little = omega arith; is_key = λ _ a. a; only = λ q g. inl g }
 
 pub gains_new : (old new : List (Bor (List ℕ))) (r : Bor (List ℕ)) → new ≡ old ++ r ∷ [] → Gains r.now old new
 gains_new old new r e = rw e (record {
@@ -49,6 +50,10 @@ gains_new old new r e = rw e (record {
       (h.0, (h.1.0, omega (arith, length_push old r, at), get_or_append_left old (r ∷ []) h.0 h.1.0 at ∙ h.1.2), h.2);
   little = omega (arith, size_push old r);
   is_key = λ k a. keys_push old r a k;
+  only = λ q h. elim (Contains-push_cases old r h.0 h.1) [
+    | inl before ↦ inl (h.0, before, h.2)
+    | inr last ↦ inr (sym (ap (λ (x : Bor (List ℕ)). x.now) last ∙ h.2))
+  ];
 })
 
 -- one more key with its number
@@ -62,7 +67,15 @@ pub gathered : (t : Resource) (old keys : List (Bor (List ℕ))) → old ≡ [] 
 gathered t old keys e g =
     let f : Gathers t [] keys = subst (λ (o : List (Bor (List ℕ))). Gathers t o keys) e g in
     let l = f.little in
-    record { covered = f.covered; little = omega arith; is_key = f.is_key (λ i d h. absurd (omega arith)) }
+    record {
+      covered = f.covered;
+      little = omega arith;
+      is_key = f.is_key (λ i d h. absurd (omega arith));
+      only = λ q h. elim (f.only q h) [
+        | inl before ↦ let low = before.1.1 in absurd (omega arith)
+        | inr now ↦ now
+      ];
+    }
 
 -- what the keys take doesn't depend on their order
 size_sum : (ks : List (Bor (List ℕ))) → size_of ks ≡ sum_by (λ (r : Bor (List ℕ)). 1 + length r.now) ks
@@ -79,6 +92,10 @@ sorted_names t found keys g p =
       covered = each_still (λ k. Has found k) (λ k. Has keys k) (λ k h. (h.0, Contains-permutation found keys h.0 p h.1, h.2)) t g.covered;
       little = omega (arith, size_same found keys p);
       is_key = All-permutation (λ (r : Bor (List ℕ)). IsKey r.now) found keys p g.is_key;
+      only = λ q h.
+          let all : All (λ r. Contains (all_keys t) r.now) found = λ i d b. g.only (get_or found i d).now (has_at found i (get_or found i d).now d b refl) in
+          subst (Contains (all_keys t)) h.2 (All-contains (λ (r : Bor (List ℕ)). Contains (all_keys t) r.now) keys h.0
+          (All-permutation (λ (r : Bor (List ℕ)). Contains (all_keys t) r.now) found keys p all) h.1);
     }
 
 pub sorted : (t : Resource) (found : List (Bor (List ℕ))) (numbered keys : List (Bor (List ℕ) × ℕ)) → GathersKeys t found → names numbered ≡ found

@@ -1,4 +1,8 @@
 pub mod Puts
+pub mod Once
+pub mod Laying
+pub mod Trees
+pub mod Halves
 pub mod Patches
 pub mod Values
 pub mod Tabled
@@ -11,3 +15,5 @@ pub mod Keyloop
 pub mod Gathered
 pub mod Longer
 pub mod Room
+pub mod Bytes
+pub mod Sole

@@ -1,14 +1,21 @@
 -- Words that were replaced, and the file that comes of them.
 use Rattle.std.proofs.Common.{◌≡◌, ℕ, ◌+◌, ◌-◌, ◌*◌, ◌/◌, ◌^◌, ◌<◌, ◌≤◌, Bool, true, false, List}
-use Rattle.std.proofs.Common.{[], ◌++◌, length, get_or, take, drop, refl, sym, ap, ◌∙◌, arith, subst}
+use Rattle.std.proofs.Common.{[], ◌∷◌, ◌++◌, length, get_or, take, drop, refl, sym, ap, ◌∙◌, arith, subst}
 use Rattle.std.proofs.lemmas.List.{get_or_append_left, get_or-append_right, length-append, length-drop, length-take, get_or-drop}
+use Rattle.std.proofs.Math.Seq.{drop-append_seam}
+use Rattle.std.proofs.lemmas.Grind.{flat_map-append}
+use Rattle.rb_writer.specs.Bytes.{words}
+use Rattle.rb_writer.specs.Written.{front_words}
+use Rattle.rb_writer.specs.inner.Whole.{StartsWith}
+use Rattle.std.proofs.lemmas.List.{append_assoc, drop-drop}
 use Rattle.std.proofs.lemmas.List.{get_or-take, take-append-le, take_all, drop_all, append-nil}
 use Rattle.byteorder.specs.Endian.{little_bytes}
 use Rattle.byteorder.specs.Numbers.{little_number-reads_back}
 use Rattle.rb_format.specs.Place.{word_at}
-use Rattle.rb_writer.specs.inner.Header.{header}
+use Rattle.rb_writer.specs.Header.{header}
 use Rattle.rb_writer.specs.declared.area.KeyArea.{KeyArea}
-use Rattle.rb_writer.specs.inner.Whole.{SetsWord, IsIndexed, IsFile, index_count}
+use Rattle.rb_writer.specs.inner.Whole.{SetsWord, IsIndexed, IsFile}
+use Rattle.rb_writer.specs.Written.{index_count}
 use Rattle.rb_writer.proofs.Puts.{drop_append}
 
 pub five_or_six : (b : Bool) (n : ℕ) → n ≡ index_count b → (5 ≤ n) × (n ≤ 6)
@@ -38,6 +45,7 @@ replaced old i w h l =
           get_or-append_right (take (4 * i) old) (little_bytes 4 w ++ drop 4 (drop (4 * i) old)) (4 * i) j 0 front (omega arith)
           ∙ get_or-append_right (little_bytes 4 w) (drop 4 (drop (4 * i) old)) 4 (j - 4 * i) 0 mid (omega arith)
           ∙ get_or-drop 4 (drop (4 * i) old) (j - 4 * i - 4) 0 ∙ get_or-drop (4 * i) old (4 + (j - 4 * i - 4)) 0 ∙ ap (λ m. get_or old m 0) at;
+      bytes = refl;
     }
 
 pub sets_word : (old : List ℕ) (i w : ℕ) (part : List ℕ) (k : ℕ) → part ≡ little_bytes 4 w → k ≡ 4 → 4 * i + 4 ≤ length old → w < 2 ^ 32
@@ -55,6 +63,24 @@ kept a b i w j s h =
 never : {A : Type 0} (b : Bool) → b ≡ false → b ≡ true → A
 never b e f = absurd cc
 
+words_len : (ws : List ℕ) → length (words ws) ≡ 4 * length ws
+words_len [] = refl
+words_len (w ∷ ws) = omega (arith, words_len ws)
+
+-- one word more at the front
+next_word : (b0 b c ws : List ℕ) (n w : ℕ) → n ≡ length ws → StartsWith ws b0 b → SetsWord b c n w → StartsWith (ws ++ w ∷ []) b0 c
+next_word b0 b c ws n w e p s =
+    let x : List ℕ = drop (4 * length ws) b0 in
+    let at : 4 * n ≡ length (words ws) = omega (arith, words_len ws, e) in
+    let front : take (4 * n) b ≡ words ws = rw (at, p) (take-append-le (length (words ws)) (words ws) x (omega arith) ∙ take_all (length (words ws)) (words ws) (omega arith)) in
+    let behind : drop (4 * n) b ≡ x = rw (at, p) (drop-append_seam (words ws) x) in
+    let further : drop 4 x ≡ drop (4 * length (ws ++ w ∷ [])) b0 = (let m : 4 * length (ws ++ w ∷ []) ≡ 4 * length ws + 4 = omega
+    (arith, length-append ws (w ∷ [])) in rw m (drop-drop 4 (4 * length ws) b0)) in
+    s.bytes ∙ ap (λ (m : List ℕ). m ++ (little_bytes 4 w ++ drop 4 (drop (4 * n) b))) front
+    ∙ ap (λ (m : List ℕ). words ws ++ (little_bytes 4 w ++ drop 4 m)) behind ∙ ap (λ (m : List ℕ). words ws ++ (little_bytes 4 w ++ m)) further
+    ∙ sym (append_assoc (words ws) (words (w ∷ [])) (drop (4 * length (ws ++ w ∷ [])) b0))
+    ∙ ap (λ (m : List ℕ). m ++ drop (4 * length (ws ++ w ∷ [])) b0) (sym (flat_map-append (λ n. little_bytes 4 n) ws (w ∷ [])))
+
 pub plain_indexed : (b : Bool) (b0 b1 b2 b3 b4 b5 b6 : List ℕ) (root most : ℕ) (area : KeyArea) → b ≡ false → 5 ≤ area.indexes → SetsWord b0 b1 0 root
     → SetsWord b1 b2 1 area.indexes → SetsWord b2 b3 2 area.top → SetsWord b3 b4 3 (length b0 / 4) → SetsWord b4 b5 4 (length b0 / 4) → SetsWord b5 b6 5 most
     → IsIndexed b b0 root area most b6
@@ -71,11 +97,19 @@ plain_indexed b b0 b1 b2 b3 b4 b5 b6 root most area e h s0 s1 s2 s3 s4 s5 = reco
   attributes = never b e;
   same = λ i g. s5.after i (omega arith) ∙ s4.after i (omega arith) ∙ s3.after i (omega arith) ∙ s2.after i (omega arith) ∙ s1.after i (omega arith)
       ∙ s0.after i (omega arith);
+  bytes =
+      let n = length b0 / 4 in let i = area.indexes in let t = area.top in
+      let w1 = next_word b0 b0 b1 [] 0 root refl refl s0 in
+      let w2 = next_word b0 b1 b2 (root ∷ []) 1 i refl w1 s1 in
+      let w3 = next_word b0 b2 b3 (root ∷ i ∷ []) 2 t refl w2 s2 in
+      let w4 = next_word b0 b3 b4 (root ∷ i ∷ t ∷ []) 3 n refl w3 s3 in
+      let w5 = next_word b0 b4 b5 (root ∷ i ∷ t ∷ n ∷ []) 4 n refl w4 s4 in
+      rw e (next_word b0 b5 b6 (root ∷ i ∷ t ∷ n ∷ n ∷ []) 5 most refl w5 s5);
 }
 
-pub flagged_indexed : (b : Bool) (b0 b6 b7 : List ℕ) (root most : ℕ) (area : KeyArea) → area.indexes ≡ 6 → IsIndexed false b0 root area most b6
+pub flagged_indexed : (b : Bool) (b0 b6 b7 : List ℕ) (root most : ℕ) (area : KeyArea) → b ≡ true → area.indexes ≡ 6 → IsIndexed false b0 root area most b6
     → SetsWord b6 b7 6 1 → IsIndexed b b0 root area most b7
-flagged_indexed b b0 b6 b7 root most area e x s = record {
+flagged_indexed b b0 b6 b7 root most area flag e x s = record {
   len = s.len ∙ x.len;
   root_is = kept b6 b7 6 1 0 s (omega arith) ∙ x.root_is;
   indexes = kept b6 b7 6 1 1 s (omega arith) ∙ x.indexes;
@@ -85,6 +119,7 @@ flagged_indexed b b0 b6 b7 root most area e x s = record {
   longest = kept b6 b7 6 1 5 s (omega arith) ∙ x.longest;
   attributes = λ t. s.word_is;
   same = λ i g. s.after i (omega arith) ∙ x.same i g;
+  bytes = rw flag (next_word b0 b6 b7 (front_words false root area.indexes area.top (length b0 / 4) most) 6 1 refl x.bytes s);
 }
 
 -- a header and data make a file

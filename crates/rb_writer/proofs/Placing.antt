@@ -1,7 +1,7 @@
 -- A key that was written is read where it is.
 use Rattle.rb_writer.specs.declared.area.KeyArea.{KeyArea}
-use Rattle.std.proofs.Common.{◌≡◌, ℕ, zero, suc, ◌+◌, ◌-◌, ◌*◌, ◌<◌, ◌≤◌, Bool, true, false, cond, ltb, List, [], ◌∷◌, ◌++◌}
-use Rattle.std.proofs.Common.{length, get_or, take, drop, Option, Some, refl, sym, ap, ◌∙◌, arith, position, subst, inl, inr, ◌⊎◌, Bor}
+use Rattle.std.proofs.Common.{◌≡◌, ℕ, suc, ◌+◌, ◌-◌, ◌*◌, ◌<◌, ◌≤◌, true, false, ltb, List, [], ◌∷◌, ◌++◌}
+use Rattle.std.proofs.Common.{length, get_or, take, drop, Some, refl, sym, ap, ◌∙◌, arith, position, subst, inl, inr, ◌⊎◌, Bor}
 use Rattle.std.proofs.lemmas.Bool.Decides.{nat_tests}
 use Rattle.std.proofs.lemmas.Bool.{le-ltb, lt-ltb, cases_eq}
 use Rattle.std.proofs.lemmas.List.{get_or-drop, get_or-take, length-drop, length-take, ext_get_or, length_push, get_or_push, get_or_default}

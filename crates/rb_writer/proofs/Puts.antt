@@ -1,10 +1,14 @@
 -- What is put after data is there, and what was there stays.
 use Rattle.std.proofs.Common.{◌≡◌, ℕ, zero, suc, ◌+◌, ◌*◌, ◌^◌, ◌<◌, ◌≤◌, ℤ, List, [], ◌∷◌, ◌++◌, length, get_or, take, drop, replicate, refl, sym, ap, ◌∙◌, arith, inl, inr}
-use Rattle.std.specs.Prelude.{All}
+use Rattle.std.specs.Prelude.{All, flat_map, map}
+use Rattle.std.proofs.Math.Seq.{take-suc}
+use Rattle.std.proofs.lemmas.List.{flat_map_more}
+use Rattle.std.proofs.lemmas.List.Folds.{flat_map-map}
+use Rattle.rb_writer.specs.Bytes.{words}
 use Rattle.std.proofs.lemmas.List.{get_or_append_left, length-append, get_or-drop, append-nil, drop_all}
 use Rattle.std.proofs.lemmas.List.Elements.{All-nil, All-take, All-drop, All-replicate}
 use Rattle.std.proofs.lemmas.Bool.{cases_eq}
-use Rattle.std.specs.Int.{cast_signed, w32}
+use Rattle.std.specs.Int.{cast_signed, cast_unsigned, w32}
 use Rattle.byteorder.specs.Endian.{little_bytes, little_number}
 use Rattle.byteorder.specs.Numbers.{little_number-reads_back}
 use Rattle.rb_format.specs.Place.{word_at, half_at}
@@ -32,6 +36,7 @@ puts_word old new w e h = rw e (record {
   len = omega (arith, length-append old (little_bytes 4 w));
   word_is = λ i p. rw (drop_append (4 * i) old (little_bytes 4 w) p)
       (ap (little_number 4) (sym (append-nil (little_bytes 4 w))) ∙ little_number-reads_back 4 w [] h);
+  bytes = refl;
 })
 
 pub puts_half : (old new : List ℕ) (w : ℕ) → new ≡ old ++ little_bytes 2 w → w < 2 ^ 16 → PutsHalf old new w
@@ -41,6 +46,7 @@ puts_half old new w e h = rw e (record {
   len = omega (arith, length-append old (little_bytes 2 w));
   half_is = λ i p. rw (drop_append (2 * i) old (little_bytes 2 w) p)
       (ap (little_number 2) (sym (append-nil (little_bytes 2 w))) ∙ little_number-reads_back 2 w [] h);
+  bytes = refl;
 })
 
 pub puts_bytes : (old new bytes : List ℕ) → new ≡ old ++ bytes → PutsBytes old new bytes
@@ -48,6 +54,7 @@ puts_bytes old new bytes e = rw e (record {
   adds = adds_append old bytes;
   len = length-append old bytes;
   bytes_are = drop_append (length old) old bytes refl;
+  joined = refl;
 })
 
 -- a word stays
@@ -72,7 +79,7 @@ get_or_any [] i d e h = absurd (omega arith)
 get_or_any (x ∷ xs) zero d e h = refl
 get_or_any (x ∷ xs) (suc i) d e h = get_or_any xs i d e (omega arith)
 
--- where f gives the first n elements, and the next one, it gives one more
+-- if f gives the first n elements, and the next one, it gives one more
 one_more : {X : Type 0} (xs : List X) (f : ℕ → X) (n j : ℕ) (x d : X) → j < n + 1 → n < length xs → f n ≡ get_or xs n x → (j < n → f j ≡ get_or xs j d)
     → f j ≡ get_or xs j d
 one_more xs f n j x d g h next before =
@@ -81,34 +88,58 @@ one_more xs f n j x d g h next before =
       | inr other ↦ before (omega arith)
     ]
 
-pub words_more : (old mid new words : List ℕ) (w n : ℕ) → PutsWords old mid words n → PutsWord mid new w → w ≡ get_or words n w → n < length words
-    → PutsWords old new words (n + 1)
-words_more old mid new words w n p q e h =
+-- what the first n elements give, and then the next one
+joined_on : {X : Type 0} (f : X → List ℕ) (old mid new : List ℕ) (xs : List X) (n : ℕ) (x : X) → mid ≡ old ++ flat_map f (take n xs) → new ≡ mid ++ f x
+    → n < length xs → x ≡ get_or xs n x → new ≡ old ++ flat_map f (take (n + 1) xs)
+joined_on {X} f old mid new xs n x p q h e =
+    let up : n + 1 ≡ suc n = omega arith in
+    let next : take (suc n) xs ≡ take n xs ++ x ∷ [] = take-suc xs n x h ∙ ap (λ (y : X). take n xs ++ y ∷ []) (sym e) in
+    rw (up, next) (q ∙ ap (λ (m : List ℕ). m ++ f x) p ∙ flat_map_more f old (take n xs) x)
+
+pub words_more : (old mid new ws : List ℕ) (w n : ℕ) → PutsWords old mid ws n → PutsWord mid new w → w ≡ get_or ws n w → n < length ws
+    → PutsWords old new ws (n + 1)
+words_more old mid new ws w n p q e h =
     let pl = p.len in let ql = q.len in
     record {
       adds = adds_trans old mid new p.adds q.adds;
       len = omega arith;
-      words_are = λ i j f g. one_more words (λ k. word_at new (i + k)) n j w 0 g h (q.word_is (i + n) (omega arith) ∙ e)
+      words_are = λ i j f g. one_more ws (λ k. word_at new (i + k)) n j w 0 g h (q.word_is (i + n) (omega arith) ∙ e)
           (λ b. word_stays mid new (i + j) q.adds (omega arith) ∙ p.words_are i j f b);
+      bytes = joined_on (λ m. little_bytes 4 m) old mid new ws n w p.bytes q.bytes h e;
     }
 
-pub halves_more : (old mid new halves : List ℕ) (w n : ℕ) → PutsHalves old mid halves n → PutsHalf mid new w → w ≡ get_or halves n w → n < length halves
-    → PutsHalves old new halves (n + 1)
-halves_more old mid new halves w n p q e h =
+pub halves_more : (old mid new hs : List ℕ) (w n : ℕ) → PutsHalves old mid hs n → PutsHalf mid new w → w ≡ get_or hs n w → n < length hs
+    → PutsHalves old new hs (n + 1)
+halves_more old mid new hs w n p q e h =
     let pl = p.len in let ql = q.len in
     record {
       adds = adds_trans old mid new p.adds q.adds;
       len = omega arith;
-      halves_are = λ i j f g. one_more halves (λ k. half_at new (i + k)) n j w 0 g h (q.half_is (i + n) (omega arith) ∙ e)
+      halves_are = λ i j f g. one_more hs (λ k. half_at new (i + k)) n j w 0 g h (q.half_is (i + n) (omega arith) ∙ e)
           (λ b. half_stays mid new (i + j) q.adds (omega arith) ∙ p.halves_are i j f b);
+      bytes = joined_on (λ m. little_bytes 2 m) old mid new hs n w p.bytes q.bytes h e;
     }
+
+numbers_joined : (old mid new : List ℕ) (zs : List ℤ) (z : ℤ) (w n : ℕ) → mid ≡ old ++ words (map (cast_unsigned w32) (take n zs))
+    → new ≡ mid ++ little_bytes 4 w → w ≡ cast_unsigned w32 z → z ≡ get_or zs n z → n < length zs
+    → new ≡ old ++ words (map (cast_unsigned w32) (take (n + 1) zs))
+numbers_joined old mid new zs z w n p q u e h =
+    let each : (ys : List ℤ) → words (map (cast_unsigned w32) ys) ≡ flat_map (λ y. little_bytes 4 (cast_unsigned w32 y)) ys =
+    λ ys. flat_map-map (λ m. little_bytes 4 m) (cast_unsigned w32) ys in
+    joined_on (λ y. little_bytes 4 (cast_unsigned w32 y)) old mid new zs n z (p ∙ ap (λ (bs : List ℕ). old ++ bs) (each (take n zs)))
+    (q ∙ ap (λ m. mid ++ little_bytes 4 m) u) h e ∙ ap (λ (bs : List ℕ). old ++ bs) (sym (each (take (n + 1) zs)))
 
 pub numbers_none : (old : List ℕ) (numbers : List ℤ) → PutsNumbers old old numbers 0
-numbers_none old numbers = record { adds = adds_refl old; len = omega arith; numbers_are = λ i j d e h. absurd (omega arith) }
+numbers_none old numbers = record {
+  adds = adds_refl old;
+  len = omega arith;
+  numbers_are = λ i j d e h. absurd (omega arith);
+  bytes = sym (append-nil old);
+}
 
 pub numbers_more : (old mid new : List ℕ) (numbers : List ℤ) (z : ℤ) (w n : ℕ) → PutsNumbers old mid numbers n → PutsWord mid new w → cast_signed w32 w ≡ z
-    → z ≡ get_or numbers n z → n < length numbers → PutsNumbers old new numbers (n + 1)
-numbers_more old mid new numbers z w n p q t e h =
+    → w ≡ cast_unsigned w32 z → z ≡ get_or numbers n z → n < length numbers → PutsNumbers old new numbers (n + 1)
+numbers_more old mid new numbers z w n p q t u e h =
     let pl = p.len in let ql = q.len in
     record {
       adds = adds_trans old mid new p.adds q.adds;
@@ -116,6 +147,7 @@ numbers_more old mid new numbers z w n p q t e h =
       numbers_are = λ i j d f g. one_more numbers (λ k. cast_signed w32 (word_at new (i + k))) n j z d g h
           (ap (cast_signed w32) (q.word_is (i + n) (omega arith)) ∙ t ∙ e)
           (λ b. ap (cast_signed w32) (word_stays mid new (i + j) q.adds (omega arith)) ∙ p.numbers_are i j d f b);
+      bytes = numbers_joined old mid new numbers z w n p.bytes q.bytes u e h;
     }
 
 -- ---- padding

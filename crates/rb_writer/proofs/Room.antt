@@ -10,7 +10,8 @@ use Rattle.rb_writer.specs.inner.Collected.{keys_size, GathersKeys}
 use Rattle.rb_writer.specs.Longest.{longest}
 use Rattle.rb_writer.specs.inner.Most.{data_most, keys_most}
 use Rattle.rb_writer.specs.inner.Standing.{Stands}
-use Rattle.rb_writer.specs.inner.Whole.{IsFile, index_count}
+use Rattle.rb_writer.specs.inner.Whole.{IsFile}
+use Rattle.rb_writer.specs.Written.{index_count}
 use Rattle.rb_writer.proofs.Collecting.{table_weight}
 use Rattle.rb_writer.proofs.Ended.{IsWritten, is_written}
 use Rattle.rb_writer.proofs.Patches.{five_or_six}

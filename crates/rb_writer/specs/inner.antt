@@ -1,6 +1,5 @@
 pub mod Collected
 pub mod Growth
-pub mod Header
 pub mod Keyed
 pub mod Keying
 pub mod Most

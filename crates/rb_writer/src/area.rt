@@ -1,6 +1,7 @@
 //! Where the keys are.
 
-/// The words in which the keys are: after the root item and so many indexes, below the word `top`.
+/// The words in which the keys are: after the root item and this many indexes, below the word
+/// `top`.
 #[derive(Clone, Copy)]
 pub struct KeyArea {
     pub indexes: u32,

@@ -1,10 +1,12 @@
 //! What is written after the children of an array or a table.
-ghost use Rattle.std.specs.Prelude.{IfOk, OnOk, All, IsTrue, length, ◌≡◌, ◌+◌, ◌*◌, ◌%◌, ◌^◌, ◌≤◌, ◌<◌, ◌↔◌};
+ghost use Rattle.std.specs.Prelude.{IfOk, OnOk, All, IsTrue, length, ◌≡◌, ◌+◌, ◌*◌, ◌%◌, ◌^◌, ◌≤◌};
+ghost use Rattle.std.specs.Prelude.{◌<◌, ◌↔◌};
 ghost use Rattle.std.specs.Map.{keys_of};
 ghost use Rattle.rb_tree.specs.Keys.{pairs, IsTable};
 ghost use Rattle.rb_tree.specs.Resource.{table};
 ghost use Rattle.rb_writer.specs.inner.Growth.{PutsHalves};
-ghost use Rattle.rb_writer.specs.inner.Standing.{PutsArray, PutsShort, PutsLong, HasPlaces, PlacesAre};
+ghost use Rattle.rb_writer.specs.inner.Standing.{PutsArray, PutsShort, PutsLong, HasPlaces};
+ghost use Rattle.rb_writer.specs.inner.Standing.{PlacesAre};
 
 use crate::data::Data;
 use crate::keys::KeyPlaces;
@@ -85,7 +87,8 @@ pub fn key_offsets(
     entries: &Entries,
 ) -> Result<Vec<u32>, AllocError>
     requires each { HasPlaces keys.now (table entries.now) }
-    ensures places { IfOk result (λ offsets. PlacesAre keys.now (keys_of (pairs entries.now)) offsets.items (length (pairs entries.now))) }
+    ensures places { IfOk result (λ offsets. PlacesAre keys.now
+        (keys_of (pairs entries.now)) offsets.items (length (pairs entries.now))) }
     ensures ordered { IsTable entries.now }
 {
     let mut offsets = Vec::with_capacity(alloc, entries.len())?;

@@ -22,7 +22,7 @@ impl Model for Data {
 }
 
 impl Data {
-    /// Room for the root item and so many indexes.
+    /// Room for the root item and this many indexes.
     pub fn new(alloc: Global, indexes: u32) -> Result<Data, AllocError>
         requires { indexes ≤ 6 }
         ensures { IfOk result (λ d. length d ≡ 4 * (1 + indexes)) }

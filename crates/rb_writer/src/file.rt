@@ -4,10 +4,11 @@ ghost use Rattle.rb_format.specs.File.{Denotes};
 ghost use Rattle.rb_format.specs.Place.{word_at};
 ghost use Rattle.rb_tree.specs.Parts.{Fits};
 ghost use Rattle.rb_tree.specs.View.{view_of};
-ghost use Rattle.rb_writer.specs.inner.Header as specified;
-ghost use Rattle.rb_writer.specs.inner.Whole as whole;
+ghost use Rattle.rb_writer.specs.Header as specified;
+ghost use Rattle.rb_writer.specs.Written as written;
 ghost use Rattle.rb_writer.specs.inner.Whole.{IsFile, IsIndexed, SetsWord};
 ghost use Rattle.rb_writer.specs.Longest.{longest};
+ghost use Rattle.rb_writer.specs.Written.{IsWriterFile};
 
 use crate::area::KeyArea;
 use crate::data::Data;
@@ -22,7 +23,7 @@ use std::alloc::{AllocError, Global};
 
 /// How many indexes are written: the attributes are the sixth.
 fn index_count(no_fallback: bool) -> u32
-    ensures { result ≡ whole.index_count no_fallback }
+    ensures { result ≡ written.index_count no_fallback }
 {
     if no_fallback {
         ATTRIBUTES_INDEX_COUNT
@@ -41,7 +42,7 @@ fn set_word(bytes: &mut [u8], i: usize, word: u32)
 
 /// Writes the root item and the indexes at the front of the data.
 fn set_indexes(body: &mut [u8], root: u32, area: KeyArea, longest: u32, no_fallback: bool)
-    requires indexes { area.indexes ≡ whole.index_count no_fallback }
+    requires indexes { area.indexes ≡ written.index_count no_fallback }
     requires long { 4 * (1 + area.indexes) ≤ length body.old }
     requires room { length body.old < 2 ^ 31 }
     ensures { IsIndexed no_fallback body.old root area longest body.new }
@@ -60,7 +61,7 @@ fn set_indexes(body: &mut [u8], root: u32, area: KeyArea, longest: u32, no_fallb
 
 /// Writes the header, the root item and the indexes.
 fn set_front(file: &mut [u8], root: u32, area: KeyArea, longest: u32, no_fallback: bool)
-    requires indexes { area.indexes ≡ whole.index_count no_fallback }
+    requires indexes { area.indexes ≡ written.index_count no_fallback }
     requires long { 32 + 4 * (1 + area.indexes) ≤ length file.old }
     requires room { length file.old < 2 ^ 31 }
     ensures { IsFile no_fallback (drop 32 file.old) root area longest file.new }
@@ -72,7 +73,7 @@ fn set_front(file: &mut [u8], root: u32, area: KeyArea, longest: u32, no_fallbac
 
 /// The file of the data, with its header, its root item and its indexes.
 fn finish(out: Data, root: u32, area: KeyArea, longest: u32, no_fallback: bool) -> Vec<u8>
-    requires indexes { area.indexes ≡ whole.index_count no_fallback }
+    requires indexes { area.indexes ≡ written.index_count no_fallback }
     requires long { 4 * (1 + area.indexes) ≤ length out }
     requires room { length out + 32 < 2 ^ 31 }
     ensures { IsFile no_fallback out root area longest result.items }
@@ -82,20 +83,24 @@ fn finish(out: Data, root: u32, area: KeyArea, longest: u32, no_fallback: bool) 
     file
 }
 
-/// The file of a tree that `fits`, as a bundle with fallback or without. The only error is that memory runs out.
+/// The file of a tree that `fits`, as a bundle with fallback or without. The only error is that
+/// memory runs out.
 ///
-/// Each distinct key is there once, in ascending order, and the values follow in post-order; nothing else is shared. A table has
-/// short key offsets where its count and all its offsets are at most 65,535. All padding is 0xAA.
+/// Each distinct key is there once, in ascending order, and the values follow in post-order;
+/// nothing else is shared. A table has short key offsets if its count and all its offsets are at
+/// most 65,535. All padding is 0xAA.
 ///
 /// ```rust
 /// let file = write(alloc, &source.tree, source.no_fallback)?; // 56 bytes for `root{}`
 /// ```
 pub fn write(alloc: Global, tree: &Tree, no_fallback: bool) -> Result<Vec<u8>, AllocError>
     requires { Fits (view_of tree.now) }
-    ensures denotes { IfOk result (λ f. Denotes f.items (record { tree = view_of tree.now; no_fallback = no_fallback })) }
+    ensures denotes { IfOk result
+        (λ f. Denotes f.items (record { tree = view_of tree.now; no_fallback = no_fallback })) }
     ensures front { IfOk result (λ f. take 32 f.items ≡ specified.header no_fallback) }
     ensures end { IfOk result (λ f. length f.items ≡ 32 + 4 * word_at (drop 32 f.items) 4) }
     ensures longest { IfOk result (λ f. word_at (drop 32 f.items) 5 ≡ longest (view_of tree.now)) }
+    ensures bytes { IfOk result (λ f. IsWriterFile (view_of tree.now) no_fallback f.items) }
 {
     let indexes = index_count(no_fallback);
     let gathered = gather(alloc, tree)?;

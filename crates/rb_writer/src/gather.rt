@@ -13,10 +13,12 @@ use std::alloc::{AllocError, Global};
 /// How many keys are remembered by their bytes.
 const SLOTS: u32 = 1024;
 
-/// The keys of a tree, found as it is walked in the order of writing: a table's own keys after its values.
+/// The keys of a tree, found as it is walked in the order of writing: a table's own keys after its
+/// values.
 ///
-/// Where a key came before is remembered in a slot that its bytes choose, as long as no other key takes the slot; a key that is not
-/// found there is added again, and the sorted keys show it. This only saves time: what a slot leads to is compared.
+/// Where a key came before is remembered in a slot that its bytes choose, as long as no other key
+/// takes the slot; a key that is not found there is added again, and the sorted keys show it. This
+/// only saves time: what a slot leads to is compared.
 #[derive(Drop)]
 pub struct Gathered<'a> {
     /// The keys as they came first.
@@ -124,8 +126,10 @@ pub fn sorted_keys<'a>(
     alloc: Global,
     gathered: &Gathered<'a>,
 ) -> Result<Vec<(&'a [u8], u32)>, AllocError>
-    ensures keys { IfOk result (λ v. (t : Resource) → GathersKeys t gathered.now.keys.items → GathersKeys t (names v.items)) }
-    ensures ascending { IfOk result (λ v. IsSorted (λ a b. ordering_then (slice_cmp nat_cmp a.0.now b.0.now) (nat_cmp a.1 b.1)) v.items) }
+    ensures keys { IfOk result (λ v. (t : Resource) → GathersKeys t gathered.now.keys.items
+        → GathersKeys t (names v.items)) }
+    ensures ascending { IfOk result (λ v. IsSorted
+        (λ a b. ordering_then (slice_cmp nat_cmp a.0.now b.0.now) (nat_cmp a.1 b.1)) v.items) }
 {
     let mut ascending = numbered(alloc, &gathered.keys)?;
     ascending.sort()?;
@@ -135,7 +139,8 @@ pub fn sorted_keys<'a>(
 /// Adds the keys of a tree.
 #[tactic(auto, using(rb_tree::specs::inner::Lower::item_low, rb_tree::specs::inner::Lower::value_low))]
 fn collect_keys<'a>(tree: &'a Tree, gathered: &mut Gathered<'a>) -> Result<(), AllocError>
-    ensures { OnOk result (Gathers (view_of tree.now) gathered.old.keys.items gathered.new.keys.items) }
+    ensures { OnOk result
+        (Gathers (view_of tree.now) gathered.old.keys.items gathered.new.keys.items) }
 {
     match tree {
         Tree::Array(trees) => {

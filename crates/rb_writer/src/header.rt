@@ -1,6 +1,6 @@
 //! The header of the file.
 ghost use Rattle.std.specs.Prelude.{◌≡◌};
-ghost use Rattle.rb_writer.specs.inner.Header as specified;
+ghost use Rattle.rb_writer.specs.Header as specified;
 
 use rb_format::{
     ATTRIBUTES_VERSION, CHARSET_FAMILY, DATA_FORMAT, HEADER_SIZE, INFO_SIZE, MAGIC, MAJOR_VERSION,

@@ -1,6 +1,7 @@
 //! Item words.
 ghost use Rattle.std.specs.Prelude.{◌≡◌, ◌<◌, ◌^◌, Some};
 ghost use Rattle.rb_format.specs.Item as items;
+ghost use Rattle.rb_writer.specs.Values as values;
 
 use rb_format::ItemKind;
 
@@ -9,6 +10,7 @@ pub fn item(kind: ItemKind, offset: u32) -> u32
     requires { offset < 2 ^ 28 }
     ensures kind { items.kind_of result ≡ Some kind }
     ensures offset { items.offset_of result ≡ offset }
+    ensures word { result ≡ values.item_word kind offset }
 {
     match kind {
         ItemKind::String => offset,

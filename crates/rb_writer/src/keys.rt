@@ -1,11 +1,16 @@
 //! The keys and their places.
-ghost use Rattle.std.specs.Prelude.{◌≡◌, ◌⊎◌, ◌≤◌, ◌<◌, ◌+◌, ◌*◌, ◌^◌, ℕ, List, length, OnOk, IfOk, IfSome, IsTrue, All};
+ghost use Rattle.std.specs.Prelude.{◌≡◌, ◌⊎◌, ◌≤◌, ◌<◌, ◌+◌, ◌*◌, ◌/◌, ◌^◌, ℕ, List, length};
+ghost use Rattle.std.specs.Prelude.{OnOk, IfOk, IfSome, IsTrue, All, map};
 ghost use Rattle.rb_writer.specs.inner.Keyed.{IsStored, IsStoredAt, IsPlace, HasPlace};
 ghost use Rattle.rb_tree.specs.Keys.{IsKey};
 ghost use Rattle.rb_writer.specs.inner.Growth.{Adds, IsDraft};
 ghost use Rattle.rb_writer.specs.inner.Collected.{size_of, names};
 ghost use Rattle.rb_writer.specs.inner.Standing.{KeysStand};
-ghost use Rattle.rb_writer.specs.inner.Keying.{KeyAt};
+ghost use Rattle.rb_writer.specs.inner.Keying.{KeyAt, KeysWritten, PlacesKey, ends_with};
+ghost use Rattle.rb_writer.specs.inner.Keying.{known_keys};
+ghost use Rattle.std.specs.List.Sorted.{IsSorted};
+ghost use Rattle.std.specs.Ordering.{nat_cmp};
+ghost use Rattle.std.specs.Cmp.Lexicographic.{slice_cmp};
 
 use crate::area::KeyArea;
 use crate::data::Data;
@@ -14,7 +19,8 @@ use std::alloc::{AllocError, Global};
 
 /// The offset of each key in bytes, and the words in which the keys are.
 ///
-/// Which of them an entry's key is was found as the keys were gathered, so that it need not be searched for; it is compared.
+/// Which of them an entry's key is was found as the keys were gathered, so that it need not be
+/// searched for; it is compared.
 #[derive(Drop)]
 pub struct KeyPlaces<'a> {
     pub area: KeyArea,
@@ -59,7 +65,8 @@ impl<'a> KeyPlaces<'a> {
         if known.0 == key { Some(known.1) } else { None }
     }
 
-    /// The offset of the key of an entry, in the order of writing. Only a key that isn't awaited would be searched for.
+    /// The offset of the key of an entry, in the order of writing. Only a key that isn't awaited
+    /// would be searched for.
     pub fn offset(&self, entry: usize, key: &[u8]) -> u32
         requires { HasPlace self.now key.now }
         ensures { IsPlace self.now key.now result }
@@ -74,7 +81,8 @@ impl<'a> KeyPlaces<'a> {
 /// Whether a key is the last of these.
 #[tactic(auto, using(crate::proofs::Placing::stored_at))]
 fn is_last(known: &[(&[u8], u32)], key: &[u8]) -> bool
-    ensures { IsTrue result → IsStored known.now key.now }
+    ensures stored { IsTrue result → IsStored known.now key.now }
+    ensures ends { result ≡ ends_with (known_keys known.now) key.now }
 {
     let len = known.len();
     len > 0 && known[len - 1].0 == key
@@ -91,9 +99,12 @@ pub fn place_key<'a>(
     ensures adds { OnOk result (Adds out.old out.new) }
     ensures little { OnOk result (length out.new ≤ length out.old + (1 + length key.now)) }
     ensures here { OnOk result (IsStored known.new.items key.now) }
-    ensures stay { OnOk result ((q : List ℕ) → IsStored known.old.items q → IsStored known.new.items q) }
+    ensures stay { OnOk result
+        ((q : List ℕ) → IsStored known.old.items q → IsStored known.new.items q) }
     ensures stand { OnOk result ((q : List ℕ) (o : ℕ) → IsStoredAt known.new.items q o
         → IsStoredAt known.old.items q o ⊎ KeyAt (length out.old) out.new q o) }
+    ensures laid { OnOk result
+        (PlacesKey out.old out.new key.now known.old.items known.new.items) }
 {
     if is_last(known, key) {
         return Ok(());
@@ -112,8 +123,9 @@ fn rank_last(ranks: &mut [u32], id: u32, count: usize) {
     }
 }
 
-/// Puts keys after the root item and the indexes, in their order, and returns their places. Keys that are the same are side by side,
-/// and put once. The numbers of the keys are those that `order` has for the entries.
+/// Puts keys after the root item and the indexes, in their order, and returns their places. Keys
+/// that are the same are side by side, and put once. The numbers of the keys are those that `order`
+/// has for the entries.
 pub fn write_keys<'a>(
     alloc: Global,
     out: &mut Data,
@@ -125,11 +137,15 @@ pub fn write_keys<'a>(
     requires indexes { indexes ≤ 6 }
     requires start { length out.old ≡ 4 * (1 + indexes) }
     requires room { size_of (names keys.now) ≤ 2 ^ 26 }
+    requires ascending { IsSorted (slice_cmp nat_cmp) (map (λ r. r.now) (names keys.now)) }
     ensures drafted { IfOk result (λ p. IsDraft p.area out.new) }
     ensures little { OnOk result (length out.new < 4 * (2 + indexes) + size_of (names keys.now)) }
     ensures area { IfOk result (λ p. p.area.indexes ≡ indexes) }
+    ensures top { IfOk result (λ p. p.area.top ≡ length out.new / 4) }
     ensures stand { IfOk result (λ p. KeysStand p.area out.new p) }
     ensures each { IfOk result (λ p. All (λ r. HasPlace p r.now) (names keys.now)) }
+    ensures laid { IfOk result
+        (λ p. KeysWritten out.old out.new p (map (λ r. r.now) (names keys.now))) }
 {
     let mut known = Vec::with_capacity(alloc, keys.len())?;
     let mut ranks = vec![in alloc; 0_u32; keys.len()]?;

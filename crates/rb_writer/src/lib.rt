@@ -9,6 +9,7 @@ mod gather;
 mod header;
 mod item;
 mod keys;
+pub mod laws;
 mod leaves;
 mod longest;
 mod put;

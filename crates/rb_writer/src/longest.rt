@@ -5,7 +5,7 @@ ghost use Rattle.rb_writer.specs.Longest.{longest};
 
 use rb_tree::Tree;
 
-/// The number of entries of the longest table in a tree, 0 where there is none.
+/// The number of entries of the longest table in a tree, 0 if there is none.
 #[tactic(auto, using(rb_tree::specs::inner::Lower::item_low, rb_tree::specs::inner::Lower::value_low))]
 pub fn longest_table(tree: &Tree) -> usize
     ensures { result ≡ longest (view_of tree.now) }

@@ -1,6 +1,8 @@
 //! Numbers and bytes after what is there.
 ghost use Rattle.std.specs.Prelude.{OnOk, All, drop, length, ◌≡◌, ◌+◌, ◌<◌, ◌%◌, ◌≤◌, map};
-ghost use Rattle.rb_writer.specs.inner.Growth.{Adds, PutsWord, PutsHalf, PutsBytes, PutsWords, PutsHalves, PutsNumbers};
+ghost use Rattle.rb_writer.specs.inner.Growth.{Adds, PutsWord, PutsHalf, PutsBytes, PutsWords};
+ghost use Rattle.rb_writer.specs.inner.Growth.{PutsHalves, PutsNumbers};
+ghost use Rattle.rb_writer.specs.Bytes.{padded};
 
 use crate::data::Data;
 use std::alloc::AllocError;
@@ -68,6 +70,7 @@ pub fn pad(out: &mut Data) -> Result<(), AllocError>
     ensures whole { OnOk result (length out.new % 4 ≡ 0) }
     ensures little { OnOk result (length out.new < length out.old + 4) }
     ensures padding { OnOk result (All (λ b. b ≡ 170) (drop (length out.old) out.new)) }
+    ensures bytes { OnOk result (out.new ≡ padded out.old) }
 {
     let over = out.len() % 4;
     if over > 0 {

@@ -4,7 +4,8 @@ ghost use Rattle.rb_tree.specs.Parts.{kind_of, len_of, children_of, HasChildren}
 ghost use Rattle.rb_tree.specs.View.{view_of};
 ghost use Rattle.rb_writer.specs.inner.Growth.{IsDraft};
 ghost use Rattle.rb_writer.specs.inner.Most.{data_most};
-ghost use Rattle.rb_writer.specs.inner.Standing.{Stands, ChildrenStand, KeysStand, HasPlaces, children_most};
+ghost use Rattle.rb_writer.specs.inner.Standing.{Stands, ChildrenStand, KeysStand, HasPlaces};
+ghost use Rattle.rb_writer.specs.inner.Standing.{children_most, EachLaid, TreeLaid};
 
 use crate::containers::write_array;
 use crate::data::Data;
@@ -30,7 +31,9 @@ pub fn write_value(
     requires room { length out.old + data_most (view_of tree.now) ≤ 2 ^ 28 }
     requires keys { KeysStand keys.now.area out.old keys.now }
     requires each { HasPlaces keys.now (view_of tree.now) }
-    ensures { IfOk result (Stands keys.now.area out.old out.new (view_of tree.now)) }
+    ensures stands { IfOk result (Stands keys.now.area out.old out.new (view_of tree.now)) }
+    ensures laid { IfOk result
+        (λ item. TreeLaid keys.now out.old out.new (view_of tree.now) item) }
 {
     match tree {
         Tree::String(units) => Ok(item(ItemKind::String, write_units(out, units.as_slice())?)),
@@ -70,7 +73,10 @@ fn write_children(
     requires room { length out.old + children_most (children_of (view_of tree.now)) ≤ 2 ^ 28 }
     requires keys { KeysStand keys.now.area out.old keys.now }
     requires each { HasPlaces keys.now (view_of tree.now) }
-    ensures { IfOk result (λ items. ChildrenStand keys.now.area out.old out.new (children_of (view_of tree.now)) items.items (len_of (view_of tree.now))) }
+    ensures stand { IfOk result (λ items. ChildrenStand keys.now.area out.old out.new
+        (children_of (view_of tree.now)) items.items (len_of (view_of tree.now))) }
+    ensures laid { IfOk result (λ items. EachLaid keys.now out.old out.new
+        (children_of (view_of tree.now)) items.items (len_of (view_of tree.now))) }
 {
     let mut items = Vec::with_capacity(alloc, tree.len())?;
     for i in 0..tree.len() {

@@ -1,5 +1,5 @@
-//! Two engines, of which one serves another application more: the first application's replies are the same. And one engine of many
-//! applications.
+//! Two engines, of which one serves another application more: the first application's replies are
+//! the same. And one engine of many applications.
 
 use crate::engine::Step::{Find, Install, List, Remove};
 use crate::engine::{Step, answers, empty_engine, installs, is_answered};
@@ -22,7 +22,8 @@ const SHOP: [Step<'static>; 5] = [
 
 const OTHER: &[u8] = b"de{menu{close{\"B\"}}}";
 
-/// What `bank` asks between: installs and removals of the names that `shop` has, refused ones too. After the first time its answers differ.
+/// What `bank` asks between: installs and removals of the names that `shop` has, refused ones too.
+/// After the first time its answers differ.
 const BANK: [Step<'static>; 6] = [
     Install((b"bank", b"de"), Text(OTHER), "Done"),
     Install((b"bank", b"root"), Text(OTHER), "Done"),
@@ -38,7 +39,7 @@ fn bank_asks(alloc: Global, engine: &mut Engine) {
     }
 }
 
-/// Whether `shop` is answered so where `bank` asks before each of its requests.
+/// Whether `shop` is answered so if `bank` asks before each of its requests.
 fn answers_between(alloc: Global, engine: &mut Engine) -> bool {
     for step in SHOP {
         bank_asks(alloc, engine);

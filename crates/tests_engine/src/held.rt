@@ -15,7 +15,8 @@ fn brought(alloc: Global, place: Place<'_>, given: Given<'_>) -> Option<Brought>
     Brought::read(alloc, &app, &locale, payload(alloc, given)?).ok()
 }
 
-/// The length of the file at the place, that of the file that is put there, and the word of the reply.
+/// The length of the file at the place, that of the file that is put there, and the word of the
+/// reply.
 fn put(
     alloc: Global,
     engine: &mut Engine,

@@ -7,7 +7,7 @@ use crate::payloads::KEY;
 use rb_engine::Engine;
 use std::alloc::Global;
 
-/// Whether `shop` has the Int 0 at `a` and so many segments `0` after it.
+/// Whether `shop` has the Int 0 at `a` and this many segments `0` after it.
 fn has_int(alloc: Global, engine: &Engine, locale: &[u8], count: usize) -> Option<bool> {
     let mut path = b"a".as_slice().to_vec(alloc).ok()?;
     for _ in 0..count {
@@ -26,7 +26,7 @@ const CHAINS: [Step<'static>; 3] = [
     Install((b"shop", b"en"), Nested(63), "BadFile"),
 ];
 
-/// Locales, each with so many segments, and whether there is the Int 0 after them.
+/// Locales, each with this many segments, and whether there is the Int 0 after them.
 const BELOW: [(&[u8], usize, bool); 3] = [
     (b"root", 30, true),
     (b"fr", 62, true),

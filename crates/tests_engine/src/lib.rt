@@ -1,4 +1,4 @@
-//! Tests of the engine of many applications: `rb_engine`.
+//! Tests of the engine of many applications, `rb_engine`, and of their packages, `rb_packages`.
 #![tactic(auto)]
 
 #[cfg(test)]
@@ -9,6 +9,8 @@ mod engine;
 mod held;
 #[cfg(test)]
 mod hostile;
+#[cfg(test)]
+mod packages;
 #[cfg(test)]
 mod payloads;
 #[cfg(test)]

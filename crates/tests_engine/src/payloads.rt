@@ -12,13 +12,13 @@ pub(crate) enum Given<'a> {
     File(u8, &'a [u32]),
     /// The same file without its last byte.
     Cut(u8, &'a [u32]),
-    /// A file of nested arrays, so many of them.
+    /// A file of nested arrays, this many of them.
     Nested(u32),
-    /// The text `root{` and so many `a{`.
+    /// The text `root{` and this many `a{`.
     Braces(u32),
-    /// The text of a string at `a`, of so many bytes in all.
+    /// The text of a string at `a`, of this many bytes in all.
     LongText(usize),
-    /// A file of a Binary at `a`, of so many words of data in all.
+    /// A file of a Binary at `a`, of this many words of data in all.
     LongFile(u32),
 }
 
@@ -53,7 +53,8 @@ fn cut_file(alloc: Global, minor: u8, words: &[u32]) -> Option<Vec<u8>> {
     Some(file)
 }
 
-/// The file of a table that has, at `a`, nested arrays of two items each, both items being the next array, and Ints in the last.
+/// The file of a table that has, at `a`, nested arrays of two items each, both items being the next
+/// array, and Ints in the last.
 fn nested_arrays(alloc: Global, count: u32) -> Option<Vec<u8>> {
     let table = 7 + 3 * (count % 100);
     let front = [0x20000000 + table, 5, 7, table + 2, table + 2, 1, KEY];

@@ -83,7 +83,7 @@ fn stops_at_files_without_fallback(rt: HostRuntime) {
 
 const SMALL: &[u8] = b"x{}";
 
-/// Whether `shop` can install so many bundles.
+/// Whether `shop` can install this many bundles.
 fn takes_all(alloc: Global, engine: &mut Engine, count: u32) -> Option<bool> {
     for i in 0..count {
         let locale = format!(in alloc; "qq_{i}").ok()?;
@@ -137,7 +137,7 @@ fn takes_the_longest_text_and_file(rt: HostRuntime) {
     assert!(rt; is_served(&rt, &LIMITS));
 }
 
-/// The common bundles `qq_0` and so on, so many of them, each with its name at `a`.
+/// The common bundles `qq_0` and so on, this many of them, each with its name at `a`.
 fn common_bundles(alloc: Global, count: u32) -> Option<Vec<(Name, Payload)>> {
     let mut icudata = Vec::new(alloc);
     for i in 0..count {
@@ -151,7 +151,7 @@ fn common_bundles(alloc: Global, count: u32) -> Option<Vec<(Name, Payload)>> {
     Some(icudata)
 }
 
-/// An engine with so many common bundles.
+/// An engine with this many common bundles.
 fn engine_over(rt: &HostRuntime, count: u32) -> Option<Engine> {
     let alloc = rt.alloc();
     let icudata = common_bundles(alloc, count)?;

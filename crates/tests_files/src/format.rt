@@ -14,7 +14,8 @@ fn is_header(file: &[u8], minor: u8, fault: Option<FileFault>) -> bool {
     }
 }
 
-/// Whether the header of the sample with one string, with another minor version, is read or refused so.
+/// Whether the header of the sample with one string, with another minor version, is read or refused
+/// so.
 fn is_minor(alloc: Global, minor: u8, fault: Option<FileFault>) -> bool {
     let words = ONE_STRING.words;
     match bytes_of(alloc, Sample { minor, words }) {

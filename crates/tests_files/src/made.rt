@@ -20,7 +20,8 @@ fn front(alloc: Global, root: u32, keys_top: u32, top: u32) -> Draft {
     file
 }
 
-/// So many arrays from word 7 on, the first of two Ints and each other one of the one before it, twice.
+/// This many arrays from word 7 on, the first of two Ints and each other one of the one before it,
+/// twice.
 fn put_arrays(file: &mut Draft, arrays: u32)
     requires { arrays < 2 ^ 20 }
 {
@@ -31,7 +32,7 @@ fn put_arrays(file: &mut Draft, arrays: u32)
     }
 }
 
-/// A table whose `a` is the last of so many arrays.
+/// A table whose `a` is the last of this many arrays.
 pub fn chain(alloc: Global, arrays: u32) -> Option<Vec<u8>>
     requires { arrays < 2 ^ 20 }
 {
@@ -43,7 +44,8 @@ pub fn chain(alloc: Global, arrays: u32) -> Option<Vec<u8>>
     file.done()
 }
 
-/// A table whose `a` is the last of so many arrays, and whose `b` is an array of one item, the same array at first.
+/// A table whose `a` is the last of this many arrays, and whose `b` is an array of one item, the
+/// same array at first.
 pub fn chain_and_more(alloc: Global, arrays: u32) -> Option<Vec<u8>>
     requires { arrays < 2 ^ 20 }
 {
@@ -56,7 +58,8 @@ pub fn chain_and_more(alloc: Global, arrays: u32) -> Option<Vec<u8>>
     file.done()
 }
 
-/// So many arrays of one item each, from a word on, each of the one before it and the first of an item.
+/// This many arrays of one item each, from a word on, each of the one before it and the first of an
+/// item.
 fn put_wraps(file: &mut Draft, item: u32, first: u32, wraps: u32)
     requires first { first < 2 ^ 24 }
     requires wraps { wraps < 2 ^ 20 }
@@ -68,13 +71,15 @@ fn put_wraps(file: &mut Draft, item: u32, first: u32, wraps: u32)
     }
 }
 
-/// So many arrays from word 7 on, one word apart, each word the count of one and an item of others, with the string that all of them
-/// have; and an array of `word` items, each of these arrays in turn.
+/// This many arrays from word 7 on, one word apart, each word the count of one and an item of
+/// others, with the string that all of them have; and an array of `word` items, each of these
+/// arrays in turn.
 fn put_overlapping(file: &mut Draft, arrays: u32, word: u32)
     requires arrays { arrays < 2 ^ 20 }
     requires word { word < 2 ^ 21 }
 {
-    // each of these words is a string's offset, and the count of an array; words 7 + arrays and the next are the string
+    // each of these words is a string's offset, and the count of an array; words 7 + arrays and the
+    // next are the string
     file.repeat(word, arrays);
     file.words(&[0, 0]);
     file.repeat(word, 12 + arrays);
@@ -84,8 +89,9 @@ fn put_overlapping(file: &mut Draft, arrays: u32, word: u32)
     }
 }
 
-/// A table whose `a` is an array of so many arrays, one word apart, each word the count of one and an item of others; and whose
-/// `b` is an array that begins one word after `a`, below so many arrays of one item.
+/// A table whose `a` is an array of this many arrays, one word apart, each word the count of one
+/// and an item of others; and whose `b` is an array that begins one word after `a`, below this many
+/// arrays of one item.
 pub fn overlapping(alloc: Global, arrays: u32, above: u32) -> Option<Vec<u8>>
     requires many { arrays < 2 ^ 20 }
     requires deep { above < 2 ^ 20 }
@@ -104,8 +110,9 @@ pub fn overlapping(alloc: Global, arrays: u32, above: u32) -> Option<Vec<u8>>
     file.done()
 }
 
-/// A table whose `a` is an item, and whose `b` is another below so many arrays of one item. At word 7 are a long table of one key, its
-/// item an array of an array of an Int, and an array of a string; at word 14 are an empty table of either kind, and an empty array.
+/// A table whose `a` is an item, and whose `b` is another below this many arrays of one item. At
+/// word 7 are a long table of one key, its item an array of an array of an Int, and an array of a
+/// string; at word 14 are an empty table of either kind, and an empty array.
 pub fn two_kinds(alloc: Global, a: u32, b: u32, above: u8) -> Option<Vec<u8>> {
     let above = above as u32;
     let table = 26 + 2 * above;
@@ -119,7 +126,8 @@ pub fn two_kinds(alloc: Global, a: u32, b: u32, above: u8) -> Option<Vec<u8>> {
     file.done()
 }
 
-/// A table of so many keys, each the end of one long key, the shortest first. The last key has an offset of its own.
+/// A table of this many keys, each the end of one long key, the shortest first. The last key has an
+/// offset of its own.
 pub fn suffixes(alloc: Global, keys: u32, last: u32) -> Option<Vec<u8>>
     requires { keys < 2 ^ 20 }
 {
@@ -145,7 +153,7 @@ fn put_key(file: &mut Draft, number: u32) {
     file.push(0);
 }
 
-/// A table of so many Ints.
+/// A table of this many Ints.
 pub fn numbers(alloc: Global, count: u32) -> Option<Vec<u8>>
     requires { count < 2 ^ 20 }
 {

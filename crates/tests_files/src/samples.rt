@@ -84,8 +84,8 @@ pub const HOLDS_ITSELF: Sample<'static> = Sample {
     ],
 };
 
-/// A file with an item of each type: a String `x`, a Binary, an Alias `de`, an Int -3, the numbers 1 and -1, an Array of an Int and the
-/// String, a table and a long table.
+/// A file with an item of each type: a String `x`, a Binary, an Alias `de`, an Int -3, the numbers
+/// 1 and -1, an Array of an Int and the String, a table and a long table.
 pub const EVERY_TYPE: Sample<'static> = Sample {
     minor: 1,
     words: &[
@@ -97,8 +97,9 @@ pub const EVERY_TYPE: Sample<'static> = Sample {
     ],
 };
 
-/// The file that is written of `every_type` in the tests of the writer: keys, an Alias and its table, the array with the empty values, a
-/// Binary after two words of padding, an Ints, a String of two units, and the root.
+/// The file that is written of `every_type` in the tests of the writer: keys, an Alias and its
+/// table, the array with the empty values, a Binary after two words of padding, an Ints, a String
+/// of two units, and the root.
 pub const AS_WRITTEN: Sample<'static> = Sample {
     minor: 1,
     words: &[
@@ -109,7 +110,7 @@ pub const AS_WRITTEN: Sample<'static> = Sample {
     ],
 };
 
-/// The bytes of a file in the making; where memory runs out, it isn't whole.
+/// The bytes of a file in the making; if memory runs out, it isn't whole.
 #[derive(Drop)]
 pub struct Draft {
     bytes: Vec<u8>,
@@ -147,7 +148,7 @@ impl Draft {
         }
     }
 
-    /// The same word so many times.
+    /// The same word this many times.
     pub fn repeat(&mut self, word: u32, count: u32) {
         for _ in 0..count {
             self.word(word);

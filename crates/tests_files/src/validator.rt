@@ -17,7 +17,7 @@ use std::alloc::Global;
 /// What `accept` answers: the number of visits and the flag, or the fault.
 type Verdict = Result<(u64, bool), FileFault>;
 
-/// What `accept` answers of a file; none where other bytes come back.
+/// What `accept` answers of a file; none if other bytes come back.
 fn verdict(alloc: Global, bytes: &[u8]) -> Option<Verdict> {
     let (found, is_same) = match accept(alloc, bytes.to_vec(alloc).ok()?) {
         Ok(bundle) => (
@@ -130,7 +130,7 @@ fn minor_versions_have_attributes(rt: HostRuntime) {
     assert!(rt; first_wrong(rt.alloc(), &VERSIONS).is_none());
 }
 
-/// Whether a file of so many bytes is too long, and comes back.
+/// Whether a file of this many bytes is too long, and comes back.
 fn is_too_long(alloc: Global, length: usize) -> Option<bool> {
     let long = vec![in alloc; 0u8; length].ok()?;
     Some(match accept(alloc, long) {
@@ -144,7 +144,8 @@ fn length_is_limited(rt: HostRuntime) {
     assert!(rt; is_too_long(rt.alloc(), 67_108_865) == Some(true));
 }
 
-/// Whether each front of a file is refused: for its header where that isn't whole, and else for its indexes.
+/// Whether each front of a file is refused: for its header if that isn't whole, and else for its
+/// indexes.
 fn are_fronts_refused(alloc: Global, file: Option<Vec<u8>>) -> bool {
     let Some(file) = file else {
         return false;
@@ -167,8 +168,9 @@ fn cut_files_are_refused(rt: HostRuntime) {
     assert!(rt; are_fronts_refused(rt.alloc(), bytes_of(rt.alloc(), ONE_STRING)));
 }
 
-/// Whether `accept` judges a file as the plain checker does. Of a file that it takes, the views must give what the plain checker reads,
-/// and there are at most three visits for each word of the bundle.
+/// Whether `accept` judges a file as the plain checker does. Of a file that it takes, the views
+/// must give what the plain checker reads, and there are at most three visits for each word of the
+/// bundle.
 fn agrees(alloc: Global, file: &[u8]) -> Option<bool> {
     let fault = plain_fault(file);
     Some(match accept(alloc, file.to_vec(alloc).ok()?) {
@@ -292,7 +294,7 @@ fn long_keys_are_ranked(rt: HostRuntime) {
     }
 }
 
-/// Whether a file has so many bytes and is answered so.
+/// Whether a file has this many bytes and is answered so.
 fn is_visited(alloc: Global, file: Option<Vec<u8>>, length: usize, want: Verdict) -> bool {
     match file {
         Some(file) => file.len() == length && verdict(alloc, file.as_slice()) == Some(want),
@@ -300,7 +302,7 @@ fn is_visited(alloc: Global, file: Option<Vec<u8>>, length: usize, want: Verdict
     }
 }
 
-/// So many arrays in a chain, the file's length, and what is answered.
+/// This many arrays in a chain, the file's length, and what is answered.
 const CHAINS: [(u32, usize, Verdict); 4] = [
     (30, 428, Ok((31, false))),
     (31, 440, Ok((32, false))),
@@ -345,13 +347,16 @@ fn overlapping_arrays_are_entered_once(rt: HostRuntime) {
     assert!(rt; is_visited(alloc, deeper, 1_856, Err(FileFault::TooDeep)));
 }
 
-/// The items `a` and `b` of `two_kinds`, how many arrays `b` is below, and what is answered. The root is at level 1.
+/// The items `a` and `b` of `two_kinds`, how many arrays `b` is below, and what is answered. The
+/// root is at level 1.
 const TWO_KINDS: [(u32, u32, u8, Verdict); 13] = [
-    // the root, the long table with its two arrays, 61 arrays, and the array at level 63 with its string at level 64
+    // the root, the long table with its two arrays, 61 arrays, and the array at level 63 with its
+    // string at level 64
     (0x4000_0007, 0x8000_0007, 61, Ok((66, false))),
     // the string would be at level 65
     (0x4000_0007, 0x8000_0007, 62, Err(FileFault::TooDeep)),
-    // the root, the array, 59 arrays, and the long table at level 61 with two arrays and an Int below it
+    // the root, the array, 59 arrays, and the long table at level 61 with two arrays and an Int
+    // below it
     (0x8000_0007, 0x4000_0007, 59, Ok((64, false))),
     // the Int would be at level 65
     (0x8000_0007, 0x4000_0007, 60, Err(FileFault::TooDeep)),

@@ -176,7 +176,7 @@ fn each_key_of_a_long_table_is_found(rt: HostRuntime) {
     assert!(rt; has_each_number(bundle, 9_360) == Some(true));
 }
 
-/// The key `a`, and the first item so many times.
+/// The key `a`, and the first item this many times.
 fn path_down(alloc: Global, levels: usize) -> Option<Vec<u8>> {
     let mut path = b"a".to_vec(alloc).ok()?;
     for _ in 0..levels {
@@ -185,7 +185,7 @@ fn path_down(alloc: Global, levels: usize) -> Option<Vec<u8>> {
     Some(path)
 }
 
-/// The Int at which a walk ends, from an item so many levels down.
+/// The Int at which a walk ends, from an item this many levels down.
 fn int_below(alloc: Global, item: Item<'_>, levels: usize) -> Option<i32> {
     let path = path_down(alloc, levels)?;
     if !path_ok(path.as_slice()) {
@@ -197,7 +197,7 @@ fn int_below(alloc: Global, item: Item<'_>, levels: usize) -> Option<i32> {
     }
 }
 
-/// Whether a walk through so many nested arrays ends at an Int, and nothing is below that.
+/// Whether a walk through this many nested arrays ends at an Int, and nothing is below that.
 fn walks_down(alloc: Global, arrays: u32) -> bool
     requires { arrays ≤ 100 }
 {

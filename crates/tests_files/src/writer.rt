@@ -191,7 +191,8 @@ fn long_key_twice(alloc: Global) -> Option<Tree> {
     Tree::table(alloc, pairs).ok()
 }
 
-/// Its file: the keys `a`, `b` and, once, the long one with its NUL and three bytes of padding; then the two tables and the root.
+/// Its file: the keys `a`, `b` and, once, the long one with its NUL and three bytes of padding;
+/// then the two tables and the root.
 fn long_key_file(alloc: Global) -> Option<Vec<u8>> {
     let mut file = Draft::new(alloc, 1);
     file.words(&[0x20000106, 5, 258, 266, 266, 2, 0x00620061]);
@@ -221,7 +222,7 @@ pub fn numbered_key(number: u32) -> [u8; 6] {
     text
 }
 
-/// The table of the keys `k00000` and so on, so many of them, each with Int 0.
+/// The table of the keys `k00000` and so on, this many of them, each with Int 0.
 pub fn numbered(alloc: Global, count: u32) -> Option<Tree> {
     let zero = Int28::new(0)?;
     let mut pairs = Vec::new(alloc);
@@ -231,7 +232,7 @@ pub fn numbered(alloc: Global, count: u32) -> Option<Tree> {
     Tree::table(alloc, pairs).ok()
 }
 
-/// The highest byte of the root item of a file of so many keys.
+/// The highest byte of the root item of a file of this many keys.
 fn root_type(alloc: Global, count: u32) -> Option<u8> {
     let file = file(alloc, numbered(alloc, count), false)?;
     file.get(35).copied()

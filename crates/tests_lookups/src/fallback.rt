@@ -10,7 +10,8 @@ use rb_parents::{ListShelf, Parents};
 use rb_tree::{ByteList, Tree};
 use std::alloc::Global;
 
-/// What a lookup answers: an item's text, empty where it is no string, with its actual and its valid locale; or the error's word.
+/// What a lookup answers: an item's text, empty if it is no string, with its actual and its valid
+/// locale; or the error's word.
 #[derive(Clone, Copy)]
 enum Answer<'a> {
     Item(&'a [u8], &'a [u8], &'a [u8]),
@@ -22,7 +23,7 @@ use Answer::{Error, Item};
 /// A lookup: the locale, the path and the answer.
 type Lookup<'a> = (&'a [u8], &'a [u8], Answer<'a>);
 
-/// Whether a tree is a string of these bytes, or none where there are none.
+/// Whether a tree is a string of these bytes, or none if there are none.
 fn has_text(tree: &Tree, text: &[u8]) -> bool {
     let Tree::String(units) = tree else {
         return text.is_empty();
@@ -78,7 +79,8 @@ fn all_answered<'x>(
     true
 }
 
-/// Whether each lookup over bundles without explicit parents, none of them in ICUDATA, is answered so.
+/// Whether each lookup over bundles without explicit parents, none of them in ICUDATA, is answered
+/// so.
 fn are_answered(alloc: Global, own: Option<Bundles>, lookups: &[Lookup<'_>]) -> bool {
     match own {
         Some(own) => all_answered(own.as_slice(), &[], &Parents::none(alloc), lookups),
@@ -340,8 +342,8 @@ const CHAIN: [Bundle<'static>; 5] = [
     (b"root", &[(b"x", b"R")], false),
 ];
 
-/// What a lookup from `de_AT` along the chain gives that may take so many steps: whether it is the item at the chain's end, or an
-/// error.
+/// What a lookup from `de_AT` along the chain gives that may take this many steps: whether it is
+/// the item at the chain's end, or an error.
 fn along_chain(alloc: Global, path: &[u8], steps: u64) -> Option<Result<bool, BoundedError>> {
     let own = bundles(alloc, &CHAIN)?;
     let shelf = ListShelf {
@@ -358,7 +360,8 @@ fn along_chain(alloc: Global, path: &[u8], steps: u64) -> Option<Result<bool, Bo
 fn steps_are_counted(rt: HostRuntime) {
     let alloc = rt.alloc();
     let too_many = Some(Err(BoundedError::TooManySteps));
-    // `de_AT`, `de` and `root` with two segments are 9, `fr` and `root` with two are 6, `es_MX`, `es` and `root` with three are 12.
+    // `de_AT`, `de` and `root` with two segments are 9, `fr` and `root` with two are 6, `es_MX`,
+    // `es` and `root` with three are 12.
     assert!(rt; along_chain(alloc, b"a/k", 27) == Some(Ok(true)));
     assert!(rt; along_chain(alloc, b"a/k", 26) == too_many);
     let missing = BoundedError::Search(LookError::Missing);

@@ -312,7 +312,7 @@ const NO_NAME: Bundle<'static> = (b"de", &[(b"%%Parent", b"?")], false);
 fn a_root_with_a_parent_has_no_end(rt: HostRuntime) {
     let faults: [Trail<'_>; 2] = [(b"root", Err("BadParent")), (b"fr", Err("BadParent"))];
     for rows in ENDLESS {
-        // The name after the root is `de`, and its bundle is met where it has one.
+        // The name after the root is `de`, and its bundle is met if it has one.
         assert!(rt; are_trails_over(rt.alloc(), &rows, &faults));
         assert!(rt; are_trails_over(rt.alloc(), &rows[..1], &[(b"root", Err("Chain"))]));
     }

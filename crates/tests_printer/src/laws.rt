@@ -4,6 +4,7 @@ ghost use Rattle.rb_format.specs.File.{Denotes, source_tree_of};
 ghost use Rattle.rb_lexer.specs.declared.fault.SourceKind.TheVariants.{Memory};
 ghost use Rattle.rb_parser.specs.Source.{source_tree};
 ghost use Rattle.rb_printer.specs.Sound.{IsBundleTree};
+ghost use Rattle.rb_writer.specs.Written.{IsWriterFile};
 
 use rb_lexer::SourceFault;
 use rb_parser::{Source, parse};
@@ -13,7 +14,8 @@ use rb_validator::Bundle;
 use rb_writer::write;
 use std::alloc::Global;
 
-/// Prints a tree and parses the text: the name, the tree and the flag are the same, unless memory runs out.
+/// Prints a tree and parses the text: the name, the tree and the flag are the same, unless memory
+/// runs out.
 pub fn round_trip<N: Node>(
     alloc: Global,
     name: &UnitList,
@@ -21,16 +23,20 @@ pub fn round_trip<N: Node>(
     no_fallback: bool,
 ) -> Result<Result<Source, SourceFault>, PrintError>
     requires { IsBundleTree (N.tree root) }
-    ensures { IfOk result (λ read. MatchResult read (λ s. (s.name ≡ name.now) × (source_tree s ≡ record { tree = N.tree root; no_fallback = no_fallback }))
+    ensures { IfOk result (λ read. MatchResult read (λ s. (s.name ≡ name.now)
+        × (source_tree s ≡ record { tree = N.tree root; no_fallback = no_fallback }))
         (λ e. e.kind ≡ Memory)) }
 {
     let text = print(alloc, name, root, no_fallback)?;
     Ok(parse(alloc, &text))
 }
 
-/// Prints a file, parses the text and writes it: the file that comes of it is one of the same bundle.
+/// Prints a file, parses the text and writes it: the file that comes of it is one of the same
+/// bundle. If the file that was printed is one that `write` makes, it is that file, byte by byte.
 pub fn again(alloc: Global, name: &UnitList, bundle: &Bundle) -> Result<Vec<u8>, PrintError>
-    ensures { IfOk result (λ file. Denotes file.items (source_tree_of bundle.now)) }
+    ensures denotes { IfOk result (λ file. Denotes file.items (source_tree_of bundle.now)) }
+    ensures same { IfOk result (λ file. IsWriterFile (source_tree_of bundle.now).tree
+        (source_tree_of bundle.now).no_fallback bundle.now → file.items ≡ bundle.now) }
 {
     let text = print_bundle(alloc, name, bundle)?;
     match parse(alloc, &text) {

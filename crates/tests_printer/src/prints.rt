@@ -183,7 +183,8 @@ const FRONT: [u8; 32] = [
     0x01, 0x01, 0x00, 0x00, 0x00, 0x00, 0x00, 0x00, 0x00, 0x00, 0x00, 0x00, 0x00, 0x00, 0x00, 0x00,
 ];
 
-/// A file of 812 bytes whose table has 62 arrays, each of two items that are one: Ints in the first, in each other one the array before.
+/// A file of 812 bytes whose table has 62 arrays, each of two items that are one: Ints in the
+/// first, in each other one the array before.
 fn shared_arrays(alloc: Global) -> Result<Vec<u8>, Fail> {
     let mut file = Vec::new(alloc);
     file.extend_from_slice(&FRONT)?;

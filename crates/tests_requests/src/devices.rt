@@ -1,4 +1,5 @@
-//! Readers and writers of a byte for each call, of which one call fails, and others that take or give nothing.
+//! Readers and writers of a byte for each call, of which one call fails, and others that take or
+//! give nothing.
 ghost use Rattle.std.specs.Prelude.{None};
 
 use rb_requests::{Failed, Feed};

@@ -1,4 +1,5 @@
-//! Tests of requests by the line: `rb_requests`; and of the lines of replies: `rb_replies`.
+//! Tests of requests by the line: `rb_requests`; of the lines of replies, `rb_replies`; and of the
+//! objects that lines are, `rb_members`.
 #![tactic(auto)]
 
 #[cfg(test)]
@@ -8,6 +9,10 @@ mod items;
 #[cfg(test)]
 mod limited;
 #[cfg(test)]
+mod line_lengths;
+#[cfg(test)]
 mod lines;
+#[cfg(test)]
+mod objects;
 #[cfg(test)]
 mod run;

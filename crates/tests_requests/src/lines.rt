@@ -329,7 +329,7 @@ fn stops_at_the_last_line(rt: HostRuntime) -> Result<(), Fail> {
     Ok(())
 }
 
-/// The line of an install by the text `root{a{".."}}` of so many bytes.
+/// The line of an install by the text `root{a{".."}}` of this many bytes.
 fn text_line(alloc: Global, length: usize) -> Result<String, Fail> {
     let units = "x".repeat(alloc, length.saturating_sub(11))?;
     Ok(format!(in alloc;
@@ -384,7 +384,8 @@ fn found(alloc: Global, text: &str) -> Result<String, Fail> {
     )?)
 }
 
-/// Lookups of a string of 200,000 units, of nothing and of a short string, by one call of `serve`, and their replies.
+/// Lookups of a string of 200,000 units, of nothing and of a short string, by one call of `serve`,
+/// and their replies.
 fn long_and_short(alloc: Global) -> Result<(String, String), Fail> {
     let text = "x".repeat(alloc, 200_000)?;
     let (long, none, short) = (

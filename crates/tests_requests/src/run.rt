@@ -46,7 +46,7 @@ fn are_whole(replies: &[u8]) -> bool {
     REPLIES.starts_with(replies) && (replies.is_empty() || replies.ends_with(b"\n"))
 }
 
-/// How serving the stored run ends, where a call of the reader fails.
+/// How serving the stored run ends, if a call of the reader fails.
 fn ended(
     alloc: Global,
     engine: &mut Engine,
@@ -78,7 +78,8 @@ fn answers_the_lines_before_each_failed_read(rt: HostRuntime) -> Result<(), Fail
     Ok(())
 }
 
-/// Whether so many calls of the writer wrote these bytes: each takes a byte or settles a reply, and the last one may be about to settle.
+/// Whether this many calls of the writer wrote these bytes: each takes a byte or settles a reply,
+/// and the last one may be about to settle.
 fn wrote(calls: usize, replies: &[u8]) -> bool {
     let settled = replies.len().saturating_add(feeds(replies));
     REPLIES.starts_with(replies)
@@ -101,7 +102,7 @@ fn writes_a_part_before_each_failed_write(rt: HostRuntime) -> Result<(), Fail> {
     Ok(())
 }
 
-/// Where an allocation is refused, whole replies to the first lines are written; with memory, all are.
+/// If an allocation is refused, whole replies to the first lines are written; with memory, all are.
 #[test]
 fn answers_the_lines_before_memory_runs_out(rt: HostRuntime) -> Result<(), Fail> {
     let mut engine = empty_engine(&rt)?;

@@ -156,7 +156,7 @@ fn refuses(rt: HostRuntime) {
     assert!(rt; SourceKind::NotUtf8.word() == "NotUtf8");
 }
 
-/// Whether a token is a text of so many units.
+/// Whether a token is a text of this many units.
 fn has_units(token: &Token, count: usize) -> bool {
     match &token.what {
         Mark::Text(text) => text.as_slice().len() == count,

@@ -1,10 +1,12 @@
-//! Tests of trees and of bundle texts: `rb_tree`, `rb_lexer`, `rb_grammar`, `rb_parser`.
+//! Tests of trees and of bundle texts: `rb_tree`, `rb_lexer`, `rb_grammar`, `rb_parser`, `rb_lint`.
 #![tactic(auto)]
 
 #[cfg(test)]
 mod grammar;
 #[cfg(test)]
 mod lexer;
+#[cfg(test)]
+mod lint;
 #[cfg(test)]
 mod parser;
 #[cfg(test)]

@@ -25,7 +25,7 @@ fn shape(alloc: Global, text: &[u8], path: &[u8]) -> Result<Option<(Kind, usize)
     })
 }
 
-/// The front, so many times the middle, and so many times a closing brace.
+/// The front, this many times the middle, and this many times a closing brace.
 fn text_of(
     alloc: Global,
     front: &[u8],

@@ -1,4 +1,4 @@
--- For proofs only: a search with so many steps left, or, at None, without a limit.
+-- For proofs only: a search with this many steps left, or, at None, without a limit.
 use Rattle.std.specs.Prelude.{◌-◌, ℕ, List, Bool, nat_lt, Option, Some, None, Result, Ok, Err, if◌then◌else◌}
 use Rattle.rb_fallback.specs.Search.{Hit, Setting, search}
 use Rattle.rb_fallback.specs.Steps.{if_within, search_steps, searched}
@@ -6,7 +6,7 @@ use Rattle.rb_fallback.specs.declared.fault.BoundedError.{BoundedError}
 use Rattle.rb_fallback.specs.declared.fault.BoundedError.TheVariants as bounded
 use Rattle.rb_fallback.specs.declared.fault.LookError.{LookError}
 
--- what is left after so many steps
+-- what is left after this many steps
 abbrev pub spend : Option ℕ → ℕ → Result (Option ℕ) BoundedError
 spend None steps = Ok None
 spend (Some left) steps = if nat_lt left steps then Err bounded.TooManySteps else Ok (Some (left - steps))

@@ -13,7 +13,8 @@ use Rattle.rb_fallback.specs.declared.level.LevelState.{LevelState}
 use Rattle.rb_fallback.specs.declared.level.LevelResult.{LevelResult}
 
 -- the walk that decides among stops, as the program has it
-pub record DecidingWalk {N : Type 0} (tree : N → Resource) (b : Bundles) (path : List ℕ) (ending : Ending N) (actual : List ℕ) (all : List (List ℕ))
+pub record DecidingWalk {N : Type 0} (tree : N → Resource) (b : Bundles) (path : List ℕ) (ending : Ending N)
+    (actual : List ℕ) (all : List (List ℕ))
     : Type 0 where
   pub walked : Walked
   pub decides : decide b all (segments path) ≡ Some (record { stop = actual; walked = walked })
@@ -27,12 +28,14 @@ IsEnding tree b path (End n) actual all = DecidingWalk tree b path (End n) actua
 IsEnding tree b path (Link n k) actual all = DecidingWalk tree b path (Link n k) actual all
 
 -- the stops so far
-pub record IsLevelState {N : Type 0} (tree : N → Resource) (b : Bundles) (path : List ℕ) (state : LevelState N) (all : List (List ℕ)) : Type 0 where
+pub record IsLevelState {N : Type 0} (tree : N → Resource) (b : Bundles) (path : List ℕ) (state : LevelState N)
+    (all : List (List ℕ)) : Type 0 where
   pub first : state.first ≡ first_of all
   pub ending : IsEnding tree b path state.ending state.actual all
 
 -- the walk that decides at a level and the first stop, as the program has them
-pub record IsLevelResult {N : Type 0} (tree : N → Resource) (h : LevelResult N) (path : List ℕ) (r : Result Decided LookError) (head : Option (List ℕ))
+pub record IsLevelResult {N : Type 0} (tree : N → Resource) (h : LevelResult N) (path : List ℕ)
+    (r : Result Decided LookError) (head : Option (List ℕ))
     : Type 0 where
   pub walked : Walked
   pub decides : r ≡ Ok (record { stop = h.actual; walked = walked })
@@ -40,6 +43,7 @@ pub record IsLevelResult {N : Type 0} (tree : N → Resource) (h : LevelResult N
   pub rest : RestIs h.ending path (rest_of walked)
   pub first : head ≡ Some h.first
 
-abbrev pub IsLevel : {N : Type 0} → (N → Resource) → Result (LevelResult N) LookError → List ℕ → Result Decided LookError → Option (List ℕ) → Type 0
+abbrev pub IsLevel : {N : Type 0} → (N → Resource) → Result (LevelResult N) LookError → List ℕ
+    → Result Decided LookError → Option (List ℕ) → Type 0
 IsLevel tree (Ok h) path r head = IsLevelResult tree h path r head
 IsLevel tree (Err e) path r head = r ≡ Err e

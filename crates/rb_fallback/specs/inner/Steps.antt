@@ -36,7 +36,8 @@ abbrev pub valid_of : Option (List ℕ) → Option (List ℕ) → List ℕ → L
 valid_of valid first name = unwrap_or valid (unwrap_or first name)
 
 -- what a level gives is its step with the valid name
-abbrev pub IsOutcome : {N : Type 0} → (N → Resource) → Result (Outcome N) LookError → List ℕ → (List ℕ → Result Step LookError) → Type 0
+abbrev pub IsOutcome : {N : Type 0} → (N → Resource) → Result (Outcome N) LookError → List ℕ
+    → (List ℕ → Result Step LookError) → Type 0
 IsOutcome tree (Ok (outcome.Found f)) valid step = (step valid ≡ Ok (found (hit_of tree f))) × (f.valid ≡ valid)
 IsOutcome tree (Ok (outcome.Next v p)) valid step = GoesOn p (step valid) × (v ≡ valid)
 IsOutcome tree (Ok outcome.TooLong) valid step = GoesLong (step valid)

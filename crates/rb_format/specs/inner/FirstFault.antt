@@ -1,19 +1,22 @@
--- For proofs alone. The reading of a file as code does it, check by check: what is read without a fault is what the file denotes, and a fault
--- is the first of those in `Checks`.
+-- For proofs alone. The reading of a file as code does it, check by check: what is read without a fault is what the
+-- file denotes, and a fault is the first of those in `Checks`.
 use Rattle.std.specs.Prelude.{Bool, true, false, ℕ, zero, suc, ◌+◌, ◌*◌, ◌==◌, nat_lt, nat_le, if◌then◌else◌, List}
 use Rattle.std.specs.Prelude.{[], ◌∷◌, length, take, drop, map, slice_index, Option, Some, None, Result, Ok, Err}
 use Rattle.std.specs.Ordering.{is_lt, nat_cmp}
 use Rattle.std.specs.Cmp.Lexicographic.{slice_cmp}
 use Rattle.std.specs.Int.{cast_signed, w32}
-use Rattle.rb_tree.specs.Resource.{Resource, string, binary, table, alias, int, array, ints, Resources, no_trees, tree_and, Members, no_entries, entry_and}
+use Rattle.rb_tree.specs.Resource.{Resource, string, binary, table, alias, int, array, ints, Resources, no_trees}
+use Rattle.rb_tree.specs.Resource.{tree_and, Members, no_entries, entry_and}
 use Rattle.rb_tree.specs.SourceTree.{SourceTree}
 use Rattle.rb_format.specs.declared.layout.Layout.{Layout}
 use Rattle.rb_format.specs.declared.header.Header.{Header}
 use Rattle.rb_format.specs.declared.kind.ItemKind.{ItemKind}
-use Rattle.rb_format.specs.declared.kind.ItemKind.TheVariants.{String, Binary, Table, Alias, LongTable, Int, Array, Ints}
+use Rattle.rb_format.specs.declared.kind.ItemKind.TheVariants.{String, Binary, Table, Alias, LongTable, Int, Array}
+use Rattle.rb_format.specs.declared.kind.ItemKind.TheVariants.{Ints}
 use Rattle.rb_format.specs.declared.fault.FileFault.{FileFault}
 use Rattle.rb_format.specs.declared.fault.FileFault.TheVariants as faults
-use Rattle.rb_format.specs.declared.fault.FileFault.TheVariants.{TooLong, BigEndian, Family, FormatVersion, Indexes, Root, ItemType}
+use Rattle.rb_format.specs.declared.fault.FileFault.TheVariants.{TooLong, BigEndian, Family, FormatVersion, Indexes}
+use Rattle.rb_format.specs.declared.fault.FileFault.TheVariants.{Root, ItemType}
 use Rattle.rb_format.specs.declared.fault.FileFault.TheVariants.{Offset, Length, NotTerminated, Key, KeyOrder, TooDeep}
 use Rattle.rb_format.specs.declared.geometry.TableParts.{TableParts}
 use Rattle.rb_format.specs.Place.{word_at, half_at, key, values, layout_of}
@@ -21,6 +24,7 @@ use Rattle.rb_format.specs.Geometry.{key_offset, table_parts, long_table_parts, 
 use Rattle.rb_format.specs.Item.{kind_of, offset_of, is_table, has_data, bare}
 use Rattle.rb_format.specs.Attributes.{attributes_of, has_pool}
 use Rattle.rb_format.specs.File.{has_magic, has_family, has_version, has_sizes, has_valid_indexes, flagged}
+use Rattle.rb_format.specs.Limits.{file_limit}
 
 infixl 10 ◌>>=◌
 abbrev pub ◌>>=◌ : {A B : Type 0} → Result A FileFault → (A → Result B FileFault) → Result B FileFault
@@ -113,7 +117,8 @@ result_map f (Err e) = Err e
 -- whether there are data, which lie between the keys and the top
 abbrev pub within : Layout → ItemKind → ℕ → Result Bool FileFault
 within y k o =
-    if has_data k o then (if nat_lt o y.keys_top then Err Offset else (if nat_lt o y.top then Ok true else Err Offset)) else Ok false
+    if has_data k o then (if nat_lt o y.keys_top then Err Offset else (if nat_lt o y.top then Ok true else Err Offset))
+    else Ok false
 
 -- the value of the data, where child gives what an item in it denotes
 unfoldable pub contents : Layout → List ℕ → (ℕ → Result Resource FileFault) → ℕ → ItemKind → Result Resource FileFault
@@ -163,7 +168,8 @@ header bytes =
     (if slice_index bytes 8 == 0 then
     (if has_family bytes then
     (if has_version bytes then
-    (if has_sizes bytes then Ok (record { size = half_at bytes 0; minor = slice_index bytes 17 }) else Err faults.Header)
+    (if has_sizes bytes then Ok (record { size = half_at bytes 0; minor = slice_index bytes 17 })
+    else Err faults.Header)
     else Err FormatVersion)
     else Err Family)
     else Err BigEndian)
@@ -174,11 +180,12 @@ unfoldable pub read_data : ℕ → ℕ → List ℕ → Result SourceTree FileFa
 read_data d minor body =
     if has_valid_indexes body then
     (if has_pool (attributes_of minor body) then Err faults.Attributes else
-    (if is_table (kind_of (word_at body 0)) then result_map (flagged (attributes_of minor body)) (read (layout_of body) body d (word_at body 0)) else Err Root))
+    (if is_table (kind_of (word_at body 0))
+    then result_map (flagged (attributes_of minor body)) (read (layout_of body) body d (word_at body 0)) else Err Root))
     else Err Indexes
 
 unfoldable pub read_file : ℕ → List ℕ → Result SourceTree FileFault
 read_file d bytes =
-    if nat_lt 67108864 (length bytes) then Err TooLong else (do
+    if nat_lt file_limit (length bytes) then Err TooLong else (do
       h ← header bytes
       read_data d h.minor (drop h.size bytes))

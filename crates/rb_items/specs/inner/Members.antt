@@ -19,8 +19,9 @@ abbrev pub with_valid : Option (List ℕ) → Members → Members
 with_valid None ms = ms
 with_valid (Some valid) ms = put (codes "valid") (text_data valid) ms
 
--- the members of an item, `valid` among them where it is given, and the closing brace
-abbrev pub PutsMembers : {E : Type 0} → Result (Unit {0}) E → Written → Written → Option (Bor (List ℕ)) → Members → Type 0
+-- the members of an item, `valid` among them if it is given, and the closing brace
+abbrev pub PutsMembers : {E : Type 0} → Result (Unit {0}) E → Written → Written → Option (Bor (List ℕ)) → Members
+    → Type 0
 PutsMembers r old new valid ms = Puts r old new (rest_tokens (with_valid (option_map (λ v. v.now) valid) ms))
 
 -- its tokens

@@ -5,10 +5,11 @@ use Rattle.rb_lexer.specs.declared.reader.Reader.{Reader}
 use Rattle.rb_lexer.specs.declared.token.Token.{Token}
 use Rattle.rb_lexer.specs.Tokens.{width, line_of}
 use Rattle.rb_lexer.specs.Atom.{Atom, atoms_chars, AreAtoms, atoms_tokens}
+use Rattle.rb_lexer.specs.Limits.{source_limit}
 
 -- What is not read begins at its byte and in its line.
 pub record IsPlaced (r : Reader) : Type 0 where
-  pub short : length r.text.now ≤ 8388608
+  pub short : length r.text.now ≤ source_limit
   pub at : r.first + width (chars r.rest.now) ≡ length r.text.now
   pub line_is : r.line ≡ line_of r.text.now r.first
 

@@ -14,4 +14,5 @@ IsUnbroken cs = (xs : List Atom) × (cs ≡ atoms_chars xs []) × AreAtoms xs []
 abbrev pub BreaksSo : LexError → List ℕ → Type 0
 BreaksSo stop cs =
     (stop.kind ≡ Memory → ⊥) → (xs : List Atom) × ((b : Broken) ×
-    ((cs ≡ atoms_chars xs (broken_chars b)) × AreAtoms xs (broken_chars b) × IsBroken b × (stop.kind ≡ broken_kind b) × (stop.left ≡ width (from_fault b))))
+    ((cs ≡ atoms_chars xs (broken_chars b)) × AreAtoms xs (broken_chars b) × IsBroken b × (stop.kind ≡ broken_kind b)
+    × (stop.left ≡ width (from_fault b))))

@@ -1,9 +1,10 @@
--- For proofs only: a short text in an array of bytes. The bytes after its end are zero, so the array follows from the text.
+-- For proofs only: a short text in an array of bytes. The bytes after its end are zero, so the array follows from the
+-- text.
 use Rattle.std.specs.Prelude.{◌≡◌, ℕ, ◌≤◌, ◌-◌, List, ◌++◌, length, take, drop, replicate}
 use Rattle.std.proofs.Common.{arith, ◌∙◌, ap, take-append-drop, length-append}
 use Rattle.std.proofs.lemmas.List.{drop_at, drop-replicate, length-replicate, length-take-le}
 
--- the first len of so many bytes, and zeros after them
+-- the first len of this many bytes, and zeros after them
 pub record IsPadded (most len : ℕ) (bytes : List ℕ) : Type 0 where
   pub fits : len ≤ most
   pub all : length bytes ≡ most
@@ -21,7 +22,8 @@ padded-take most len bytes make h =
     let b : take len bytes ++ replicate (most - len) 0 ≡ bytes = rw (← h.rest) (take-append-drop len bytes) in
     ap (λ (k : ℕ). make (take len bytes ++ replicate (most - k) 0) k) l ∙ ap (λ (bs : List ℕ). make bs len) b
 
-pub IsPadded-front : (most k : ℕ) (bs rest : List ℕ) → length bs ≡ k → k ≤ most → rest ≡ drop k (replicate most 0) → IsPadded most k (bs ++ rest)
+pub IsPadded-front : (most k : ℕ) (bs rest : List ℕ) → length bs ≡ k → k ≤ most → rest ≡ drop k (replicate most 0)
+    → IsPadded most k (bs ++ rest)
 IsPadded-front most k bs rest l h e = record {
   fits = h;
   all = rw e (simp (length-append, drop-replicate, length-replicate) (omega arith));

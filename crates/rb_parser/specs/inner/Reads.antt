@@ -1,4 +1,5 @@
--- For the contracts of this crate's own functions: that a function of the parser returns what the grammar's reading function gives.
+-- For the contracts of this crate's own functions: that a function of the parser returns what the grammar's reading
+-- function gives.
 use Rattle.std.specs.Prelude.{◌≡◌, ◌≢◌, ℕ, ℤ, suc, Bool, List, [], ◌∷◌, length, Result, Ok, Err, nat_lt}
 use Rattle.rb_lexer.specs.declared.token.Token.{Token}
 use Rattle.rb_lexer.specs.declared.fault.SourceKind.TheVariants.{Unexpected, BadInt, BadHex, Memory}
@@ -6,9 +7,11 @@ use Rattle.rb_lexer.specs.declared.fault.SourceFault.{SourceFault}
 use Rattle.rb_tree.specs.View.{view_of}
 use Rattle.rb_tree.specs.declared.tree.Tree.{Tree}
 use Rattle.rb_grammar.specs.Faults.{line_at}
-use Rattle.rb_grammar.specs.Form.{Leaf, string, alias, binary, int, ints, Body, table, array, Entries, no_entries, entry, Elements, Head, has_no_fallback}
+use Rattle.rb_grammar.specs.Form.{Leaf, string, alias, binary, int, ints, Body, table, array, Entries, no_entries}
+use Rattle.rb_grammar.specs.Form.{entry, Elements, Head, has_no_fallback}
 use Rattle.rb_grammar.specs.Good.{AreElementTexts, LeafSpells, Spells}
-use Rattle.rb_grammar.specs.Reading.{Stop, stop, Read, ◌>>=◌, Inner, Word, string_type, alias_type, binary_type, int_type, ints_type, table_type, array_type}
+use Rattle.rb_grammar.specs.Reading.{Stop, stop, Read, ◌>>=◌, Inner, Word, string_type, alias_type, binary_type}
+use Rattle.rb_grammar.specs.Reading.{int_type, ints_type, table_type, array_type}
 use Rattle.rb_grammar.specs.Reading.{maybe_at, anything, checked_at, numbers, body}
 use Rattle.rb_grammar.specs.Tests.{the_tests}
 
@@ -17,7 +20,8 @@ abbrev pub located : {A : Type 0} → ℕ → Result A Stop → Result A SourceF
 located end (Ok x) = Ok x
 located end (Err s) = Err (record { kind = s.kind; line = line_at end s.rest })
 
--- What was returned is seen as what is read, and the same tokens are left; or it is refused as reading stops, unless memory ran out.
+-- What was returned is seen as what is read, and the same tokens are left; or it is refused as reading stops, unless
+-- memory ran out.
 abbrev pub Reads : {X Y : Type 0} → (X → Y → Type 0) → ℕ → Result X SourceFault → List Token → Read Y → Type 0
 Reads {X} {Y} SeenAs end (Ok x) rest read = (y : Y) × (read ≡ Ok (y, rest)) × SeenAs x y
 Reads {X} {Y} SeenAs end (Err e) rest read = e.kind ≢ Memory → located end read ≡ Err e

@@ -1,4 +1,5 @@
--- For the contracts of this crate's own functions: the program's punctuation, guesses and types beside those of the grammar's reading function.
+-- For the contracts of this crate's own functions: the program's punctuation, guesses and types beside those of the
+-- grammar's reading function.
 use Rattle.std.specs.Prelude.{ℕ, Result, Ok, Err}
 use Rattle.rb_lexer.specs.declared.fault.SourceKind.TheVariants.{Unexpected}
 use Rattle.rb_lexer.specs.declared.fault.SourceFault.{SourceFault}

@@ -1,7 +1,8 @@
 -- For proofs: the written form of a tree, in the grammar's words.
 use Rattle.std.specs.Prelude.{ℕ, ℤ, Bool, true, false, List, [], ◌∷◌, Some}
 use Rattle.std.specs.Fmt.{decimal, signed_decimal}
-use Rattle.rb_tree.specs.Resource.{Resource, string, int, ints, binary, alias, array, table, Resources, no_trees, tree_and, Members, no_entries, entry_and}
+use Rattle.rb_tree.specs.Resource.{Resource, string, int, ints, binary, alias, array, table, Resources, no_trees}
+use Rattle.rb_tree.specs.Resource.{tree_and, Members, no_entries, entry_and}
 use Rattle.rb_grammar.specs.Form as form
 use Rattle.rb_grammar.specs.Form.{Body, Entries, Elements, Head}
 use Rattle.rb_printer.specs.Page.{hex_units, are_more, has_items, has_entries}

@@ -1,9 +1,10 @@
--- For the contracts of this crate's own functions: characters that the text of a tree has at least. It weighs at most four times as many,
--- so a text within its limit is one of a tree within its own.
+-- For the contracts of this crate's own functions: characters that the text of a tree has at least. It weighs at most
+-- four times as many, so a text within its limit is one of a tree within its own.
 use Rattle.std.specs.Prelude.{◌≡◌, ◌<◌, ℕ, ◌+◌, ◌*◌, cond, nat_le, length, MatchOption, Option}
-use Rattle.rb_tree.specs.Resource.{Resource, string, int, ints, binary, alias, array, table, Resources, no_trees, tree_and, Members, no_entries, entry_and}
+use Rattle.rb_tree.specs.Resource.{Resource, string, int, ints, binary, alias, array, table, Resources, no_trees}
+use Rattle.rb_tree.specs.Resource.{tree_and, Members, no_entries, entry_and}
 
--- what stands in front of an item and after it: spaces or commas alone where it may have company in its line
+-- what stands in front of an item and after it: spaces or commas alone if it may have company in its line
 abbrev pub item_lead : ℕ → Resource → ℕ
 item_lead level (string us) = cond (nat_le level 12) 2 (4 * level)
 item_lead level (int n) = 4 * level
@@ -31,6 +32,6 @@ abbrev mutual
   entries_least level no_entries = 0
   entries_least level (entry_and k t es) = 4 * level + length k + least level t + entries_least level es
 
--- so many of some characters are taken, or there aren't as many
+-- this many of some characters are taken, or there aren't as many
 abbrev pub Takes : ℕ → ℕ → Option ℕ → Type 0
 Takes room count left = MatchOption left (room < count) (λ l. l + count ≡ room)

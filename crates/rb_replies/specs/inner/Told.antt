@@ -1,4 +1,4 @@
--- For what is private. Which of the two a text of so many bytes is.
+-- For what is private. Which of the two a text of this many bytes is.
 use Rattle.std.specs.Prelude.{ℕ, Option}
 use Rattle.rb_replies.specs.Within.{IsAbove, IsAtMost}
 use Rattle.rb_replies.specs.declared.within.Told.{Told}

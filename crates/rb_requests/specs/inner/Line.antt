@@ -5,25 +5,17 @@ use Rattle.hex.specs.Hex.{decode_of}
 use Rattle.rb_engine.specs.Ask.{Call, Requests, LooksUp}
 use Rattle.rb_engine.specs.declared.request.Payload.{Payload}
 use Rattle.rb_engine.specs.declared.request.Payload.TheVariants.{Text}
-use Rattle.rb_engine.specs.declared.request.Request.{Request}
-use Rattle.rb_engine.specs.declared.request.Request.TheVariants as requests
 use Rattle.rb_members.specs.declared.member.Member.{Member}
 use Rattle.rb_members.specs.declared.member.Member.TheVariants as members
 use Rattle.rb_members.specs.declared.texts.Texts.{Texts}
 use Rattle.rb_requests.specs.Asked.{text_at, call_in, decoded, payload_in}
 use Rattle.rb_requests.specs.Within.{usage_in}
-use Rattle.rb_requests.specs.declared.ask.Change.{Change}
-use Rattle.rb_requests.specs.declared.ask.Change.TheVariants as changes
 use Rattle.rb_requests.specs.declared.ask.Line.{Line}
 use Rattle.rb_requests.specs.declared.ask.Line.TheVariants as lines
 
 abbrev pub line_view : Line → Call
 line_view (lines.Request request) = Requests request
 line_view (lines.Look app locale path) = LooksUp app.now locale.now path.now
-
-abbrev pub made : Change → List ℕ → List ℕ → Payload → Request
-made changes.Install = requests.Install
-made changes.Replace = requests.Replace
 
 -- the text at a name
 abbrev pub text_in : Member → Option (List ℕ)
@@ -33,7 +25,7 @@ text_in members.Other = None
 abbrev pub lent : Option Member → Option (List ℕ)
 lent held = option_and_then text_in held
 
--- a text or a file, and nothing where both are there
+-- a text or a file, and nothing if both are there
 abbrev pub payload_by : Option Member → Option Member → Option Payload
 payload_by None file = option_and_then (λ digits. decoded (decode_of digits)) (lent file)
 payload_by (Some text) None = option_map Text (text_in text)

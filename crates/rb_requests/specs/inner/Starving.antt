@@ -1,6 +1,6 @@
--- For what is private. The text of the reply to what a line calls or asks, under limits, and what is left where memory
+-- For what is private. The text of the reply to what a line calls or asks, under limits, and what is left if memory
 -- runs out.
-use Rattle.std.specs.Prelude.{◌≡◌, ◌⊎◌, ℕ, List, Option, Result, Ok, Err}
+use Rattle.std.specs.Prelude.{◌≡◌, ◌⊎◌, ℕ, List}
 use Rattle.rb_engine.specs.Ask.{Call}
 use Rattle.rb_engine.specs.Kept.{Kept}
 use Rattle.rb_engine.specs.declared.request.Reply.{Reply}
@@ -22,12 +22,12 @@ CallReply limits old call text new =
 abbrev pub DataReply : LineLimits → Kept → Data → List ℕ → Kept → Type 0
 DataReply limits old d text new = AnswersRead limits old (call_in d) (asked_usage limits (usage_in d)) text new
 
--- what is left where memory runs out: what there was; or that, or what a reply that wasn't made would have told
+-- what is left if memory runs out: what there was; or that, or what a reply that wasn't made would have told
 abbrev pub LeavesOf : (List ℕ → Kept → Type 0) → Starved → Kept → Kept → Type 0
 LeavesOf Replies Before old new = new ≡ old
 LeavesOf Replies After old new = (new ≡ old) ⊎ ((text : List ℕ) × Replies text new)
 
--- what is known of what is left where a reply could not be made: only what is done has changed anything
+-- what is known of what is left if a reply could not be made: only what is done has changed anything
 abbrev pub untold_reply : Reply → Starved
 untold_reply Done = After
 untold_reply other = Before

@@ -1,4 +1,4 @@
--- For what is private. What is read of an input where a line is taken from it, which has so many bytes at most.
+-- For what is private. What is read of an input if a line is taken from it, which has this many bytes at most.
 use Rattle.std.specs.Prelude.{◌≡◌, ◌<◌, ◌≤◌, ◌+◌, ℕ, true, false, List, length, ◌∷◌, ◌++◌, []}
 use Rattle.std.specs.Prelude.{Option, IfSome, Result, Ok, Err}
 use Rattle.std.specs.Io.KnownBytes.{Consumes, Keeps, IsAtEnd}
@@ -64,14 +64,14 @@ pub record IsSoFar (longest : Longest) (progress : Progress) (line held : List �
   pub whole : progress.starved ≡ false → progress.count ≤ longest.kept → held ≡ line
   pub passed : progress.starved ≡ true → longest.passes_starved ≡ true
 
--- what is held of a line: no more than its front, if it has more bytes than are kept, else all of it; or a part, where
+-- what is held of a line: no more than its front, if it has more bytes than are kept, else all of it; or a part, if
 -- memory ran out
 abbrev pub IsHeld : Longest → List ℕ → List ℕ → Held → Type 0
 IsHeld longest line held Whole = (held ≡ line) × IsShort longest.kept line
 IsHeld longest line held Front = longest.kept < length line
 IsHeld longest line held Starved = (longest.passes_starved ≡ true) × IsShort longest.kept line
 
--- the same, where serving goes on if a line may be passed over for which memory runs out
+-- the same for serving that goes on if a line may be passed over for which memory runs out
 abbrev pub IsHeldUnder : LineLimits → Longest → List ℕ → List ℕ → Held → Type 0
 IsHeldUnder limits longest line held what =
     IsHeld longest line held what × (longest.passes_starved ≡ true → limits.keep_serving ≡ true)

@@ -4,7 +4,8 @@ use Rattle.std.specs.Coded.{Coded, code_by}
 use mathlib.Core.Path.{ap}
 use base.Stored.{Gv, gnil, gnum, gcons, num}
 use denote.Struct.Codes.{itself}
-use Rattle.rb_tree.specs.Resource.{Resource, string, int, ints, binary, alias, array, table, Resources, no_trees, tree_and, Members, no_entries, entry_and}
+use Rattle.rb_tree.specs.Resource.{Resource, string, int, ints, binary, alias, array, table, Resources, no_trees}
+use Rattle.rb_tree.specs.Resource.{tree_and, Members, no_entries, entry_and}
 
 abbrev pub numbers_code : List ℕ → Gv
 numbers_code [] = gnil
@@ -104,7 +105,8 @@ mutual
 
   pub entries_back_code : (es : Members) → entries_back (entries_code es) ≡ es
   entries_back_code no_entries = refl
-  entries_back_code (entry_and k t es) = λ i. entry_and (numbers_back_code k i) (tree_back_code t i) (entries_back_code es i)
+  entries_back_code (entry_and k t es) = λ i. entry_and (numbers_back_code k i) (tree_back_code t i)
+      (entries_back_code es i)
 
 abbrev pub tree_coded : Coded Resource
 tree_coded = code_by Gv itself tree_code tree_back tree_back_code

@@ -1,5 +1,6 @@
 -- For proofs only: what is known of the keys of a file.
-use Rattle.std.specs.Prelude.{◌≡◌, ◌⊎◌, ℕ, zero, suc, ◌+◌, ◌-◌, ◌*◌, ◌≤◌, ◌<◌, List, [], length, take, drop, slice_index, Option, None, Some, Ok}
+use Rattle.std.specs.Prelude.{◌≡◌, ◌⊎◌, ℕ, zero, suc, ◌+◌, ◌-◌, ◌*◌, ◌≤◌, ◌<◌, List, [], length, take, drop}
+use Rattle.std.specs.Prelude.{slice_index, Option, None, Some, Ok}
 use Rattle.std.specs.Prelude.{IfSome}
 use Rattle.rb_format.specs.declared.layout.Layout.{Layout}
 use Rattle.rb_format.specs.Place.{word_at, half_at, key}
@@ -7,12 +8,13 @@ use Rattle.rb_format.specs.inner.FirstFault.{next_key}
 use Rattle.rb_validator.specs.declared.known_keys.KnownKeys.{KnownKeys}
 use Rattle.rb_validator.specs.inner.Ranks.{IsRanked}
 use Rattle.rb_validator.specs.inner.Lengths.{AreCounted}
+use Rattle.rb_format.specs.Limits.{file_limit}
 
 -- the bytes of the keys
 abbrev pub key_run : Layout → List ℕ → List ℕ
 key_run y body = take (4 * y.keys_top - 4 * (1 + y.indexes)) (drop (4 * (1 + y.indexes)) body)
 
--- a key, or nothing where there is none
+-- a key, or nothing if there is none
 abbrev pub key_or_none : Option (List ℕ) → List ℕ
 key_or_none None = []
 key_or_none (Some k) = k
@@ -37,7 +39,8 @@ AreGood y body place n = (i : ℕ) → i < n → IsGood y body place i
 
 -- the key offset after place p is that of a key, above the one at p
 abbrev pub IsPair : Layout → List ℕ → (ℕ → ℕ) → ℕ → Type 0
-IsPair y body offset p = next_key y body (key_or_none (key y body (offset p))) (offset (suc p)) ≡ Ok (key_or_none (key y body (offset (suc p))))
+IsPair y body offset p = next_key y body (key_or_none (key y body (offset p))) (offset (suc p))
+    ≡ Ok (key_or_none (key y body (offset (suc p))))
 
 -- links lead over pairs alone
 abbrev pub IsLinked : Layout → List ℕ → (ℕ → ℕ) → List ℕ → Type 0
@@ -54,4 +57,4 @@ pub record IsSound (y : Layout) (body : List ℕ) (m : KnownKeys) : Type 0 where
   pub halves : IsLinked y body (half_at body) m.halves.items
   pub words : IsLinked y body (word_at body) m.words.items
   pub few : m.compared ≤ 25 * length body
-  pub short : length body ≤ 67108864
+  pub short : length body ≤ file_limit

@@ -1,5 +1,6 @@
 -- For proofs only: how long the keys are.
-use Rattle.std.specs.Prelude.{◌≡◌, ℕ, ◌+◌, ◌<◌, ◌==◌, ◌&&◌, Bool, true, if◌then◌else◌, nat_lt, nat_le, List, length, slice_index}
+use Rattle.std.specs.Prelude.{◌≡◌, ℕ, ◌+◌, ◌<◌, ◌==◌, ◌&&◌, Bool, true, if◌then◌else◌, nat_lt, nat_le, List, length}
+use Rattle.std.specs.Prelude.{slice_index}
 
 -- at a NUL 1, at a place with no key 0, and at any other one more than at the next
 abbrev pub is_counted : List ℕ → List ℕ → ℕ → Bool

@@ -1,5 +1,6 @@
 -- For proofs only: what the memo of an acceptance keeps.
-use Rattle.std.specs.Prelude.{◌≡◌, ◌≢◌, true, ℕ, zero, suc, ◌+◌, ◌*◌, ◌≤◌, ◌<◌, ◌==◌, if◌then◌else◌, nat_lt, List, [], length, slice_index, Some, Result}
+use Rattle.std.specs.Prelude.{◌≡◌, ◌≢◌, true, ℕ, zero, suc, ◌+◌, ◌*◌, ◌≤◌, ◌<◌, ◌==◌, if◌then◌else◌, nat_lt, List, []}
+use Rattle.std.specs.Prelude.{length, slice_index, Some, Result}
 use Rattle.std.specs.Prelude.{Ok, Err, All}
 use Rattle.rb_tree.specs.Resource.{Resource, Resources, height, trees_height}
 use Rattle.rb_format.specs.declared.layout.Layout.{Layout}
@@ -15,7 +16,8 @@ use Rattle.rb_validator.specs.declared.memo.Mark.{Mark}
 use Rattle.rb_validator.specs.declared.runs.Run.{Run}
 use Rattle.rb_validator.specs.declared.memo.Mark.TheVariants.{New, Open, Done}
 use Rattle.rb_format.specs.declared.geometry.TableParts.{TableParts}
-use Rattle.rb_format.specs.Geometry.{key_offset, table_parts, long_table_parts, array_first, array_count, has_children, child_count, first_child}
+use Rattle.rb_format.specs.Geometry.{key_offset, table_parts, long_table_parts, array_first, array_count, has_children}
+use Rattle.rb_format.specs.Geometry.{child_count, first_child}
 use Rattle.rb_validator.specs.Visits.{IsWay, IsPlace}
 
 -- ---- the items of a table or an array
@@ -60,7 +62,8 @@ marked cells (suc n) = if slice_index cells n == 0 then marked cells n else suc 
 
 -- a table or array with data is marked
 abbrev pub IsKnown : List ℕ → ℕ → Type 0
-IsKnown cells w = (k : ItemKind) → kind_of w ≡ Some k → has_children k ≡ true → 0 < offset_of w → mark_at cells k (offset_of w) ≢ 0
+IsKnown cells w = (k : ItemKind) → kind_of w ≡ Some k → has_children k ≡ true → 0 < offset_of w
+    → mark_at cells k (offset_of w) ≢ 0
 
 -- a finished pair: its tree has the height of the mark, and its children are known
 pub record IsDone (y : Layout) (body cells : List ℕ) (k : ItemKind) (o h : ℕ) : Type 0 where
@@ -73,7 +76,8 @@ pub record IsDone (y : Layout) (body cells : List ℕ) (k : ItemKind) (o h : ℕ
 -- what is true of the marks at all times
 pub record Keeps (y : Layout) (body cells : List ℕ) : Type 0 where
   pub long : length cells ≡ 3 * y.top
-  pub done : (k : ItemKind) (o : ℕ) → has_children k ≡ true → mark_at cells k o ≢ 0 → mark_at cells k o ≢ 65 → IsDone y body cells k o (mark_at cells k o)
+  pub done : (k : ItemKind) (o : ℕ) → has_children k ≡ true → mark_at cells k o ≢ 0 → mark_at cells k o ≢ 65
+      → IsDone y body cells k o (mark_at cells k o)
   pub place : (k : ItemKind) (o : ℕ) → has_children k ≡ true → mark_at cells k o ≢ 0 → IsPlace body k o
 
 -- what is marked stays so, and what is opened is finished
@@ -81,8 +85,8 @@ pub record Follows (cells after : List ℕ) : Type 0 where
   pub stays : (n : ℕ) → slice_index cells n ≢ 0 → slice_index after n ≡ slice_index cells n
   pub closes : (n : ℕ) → slice_index cells n ≡ 0 → slice_index after n ≢ 65
 
--- each open pair is too deep at a level wherever Q holds at some level that is no higher: all that is before it on the way
--- there has no other fault
+-- each open pair is too deep at a level wherever Q holds at some level that is no higher: all that is before it on the
+-- way there has no other fault
 pub record Leads (y : Layout) (body cells : List ℕ) (Q : ℕ → Type 0) : Type 0 where
   pub at : (k : ItemKind) (o : ℕ) → has_children k ≡ true → mark_at cells k o ≡ 65 → (e : ℕ)
       → (d : ℕ) × (d ≤ e) × (Q d → contents y body (λ w. read y body e w) o k ≡ Err TooDeep)

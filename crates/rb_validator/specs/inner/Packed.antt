@@ -1,8 +1,9 @@
 -- For proofs only: how the marks lie in bytes.
-use Rattle.std.specs.Prelude.{◌≡◌, ℕ, ◌+◌, ◌-◌, ◌*◌, ◌/◌, ◌%◌, ◌<◌, ◌≤◌, ◌==◌, ◌⊎◌, if◌then◌else◌, List, length, map, slice_index}
+use Rattle.std.specs.Prelude.{◌≡◌, ℕ, ◌+◌, ◌-◌, ◌*◌, ◌/◌, ◌%◌, ◌<◌, ◌≤◌, ◌==◌, ◌⊎◌, if◌then◌else◌, List, length, map}
+use Rattle.std.specs.Prelude.{slice_index}
 use Rattle.std.specs.List.{range_with_len}
 
--- the place of the mark of a slot, where another one was set first
+-- the place of the mark of a slot, if another one was set first
 abbrev pub other : ℕ → ℕ → ℕ → ℕ
 other o s t = 2 * o + (s + 2 - t) % 3
 

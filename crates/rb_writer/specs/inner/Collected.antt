@@ -1,5 +1,6 @@
 -- The keys of a tree. Only private contracts and proofs read this.
-use Rattle.std.specs.Prelude.{◌≡◌, ◌≤◌, ℕ, ◌+◌, List, [], ◌∷◌, length, map, All, Contains}
+use Rattle.rb_writer.specs.KeyList.{all_keys}
+use Rattle.std.specs.Prelude.{◌≡◌, ◌⊎◌, ◌≤◌, ℕ, ◌+◌, List, [], ◌∷◌, length, map, All, Contains}
 use Rattle.std.proofs.Common.{Bor}
 use Rattle.rb_tree.specs.Keys.{IsKey}
 use Rattle.rb_tree.specs.Resource.{Resource}
@@ -29,6 +30,7 @@ pub record Gains (k : List ℕ) (old new : List (Bor (List ℕ))) : Type 0 where
   pub stay : (q : List ℕ) → Has old q → Has new q
   pub little : size_of new ≤ size_of old + (1 + length k)
   pub is_key : IsKey k → All (λ r. IsKey r.now) old → All (λ r. IsKey r.now) new
+  pub only : (q : List ℕ) → Has new q → Has old q ⊎ (q ≡ k)
 
 -- the keys of a tree were added, unless they were there
 pub record Gathers (t : Resource) (old new : List (Bor (List ℕ))) : Type 0 where
@@ -36,9 +38,11 @@ pub record Gathers (t : Resource) (old new : List (Bor (List ℕ))) : Type 0 whe
   pub stay : (q : List ℕ) → Has old q → Has new q
   pub little : size_of new ≤ size_of old + keys_most t
   pub is_key : All (λ r. IsKey r.now) old → All (λ r. IsKey r.now) new
+  pub only : (q : List ℕ) → Has new q → Has old q ⊎ Contains (all_keys t) q
 
--- keys as they are lent, in any order, have each of the tree and take no more than all of them
+-- keys as they are lent, in any order, are those of the tree and take no more than all of them
 pub record GathersKeys (t : Resource) (keys : List (Bor (List ℕ))) : Type 0 where
   pub covered : EachKey (λ k. Has keys k) t
   pub little : size_of keys ≤ keys_most t
   pub is_key : All (λ r. IsKey r.now) keys
+  pub only : (q : List ℕ) → Has keys q → Contains (all_keys t) q

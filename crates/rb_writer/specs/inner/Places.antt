@@ -1,6 +1,7 @@
 -- Where the keys of a tree are. Only private contracts and proofs read this.
 use Rattle.std.specs.Prelude.{ℕ, List}
-use Rattle.rb_tree.specs.Resource.{Resource, string, int, ints, binary, alias, array, table, Resources, no_trees, tree_and, Members, no_entries, entry_and}
+use Rattle.rb_tree.specs.Resource.{Resource, string, int, ints, binary, alias, array, table, Resources, no_trees}
+use Rattle.rb_tree.specs.Resource.{tree_and, Members, no_entries, entry_and}
 
 -- each key of the tree is one of P
 abbrev mutual

@@ -1,4 +1,5 @@
-//! A checker of files, written from the format's description alone and apart from the code that it judges.
+//! A checker of files, written from the format's description alone and apart from the code that it
+//! judges.
 ghost use Rattle.std.specs.Prelude.{◌+◌, ◌<◌, ◌^◌};
 
 use rb_format::FileFault;
@@ -12,7 +13,7 @@ pub struct Data<'a> {
     pub top: u32,
 }
 
-/// The data after a header of so many bytes; the whole file where it is shorter.
+/// The data after a header of this many bytes; the whole file if it is shorter.
 pub fn data_after(file: &[u8], size: u64) -> Data<'_> {
     let bytes = if size <= file.len() as u64 {
         &file[size as usize..]
@@ -111,7 +112,7 @@ fn data_fault(minor: u64, data: Data<'_>) -> Option<FileFault> {
     item_fault(data, root, 64)
 }
 
-/// The first fault of an item below which so many levels are left.
+/// The first fault of an item below which this many levels are left.
 #[cycle(plain)]
 fn item_fault(data: Data<'_>, item: u64, left: u64) -> Option<FileFault>
     requires { item < 2 ^ 32 }

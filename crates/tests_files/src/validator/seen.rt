@@ -1,4 +1,5 @@
-//! What the views give of a bundle, beside what is read of its bytes by the format's description alone.
+//! What the views give of a bundle, beside what is read of its bytes by the format's description
+//! alone.
 ghost use Rattle.std.specs.Prelude.{◌<◌, ◌^◌};
 
 use super::plain::{Data, byte, data_after, half, word};

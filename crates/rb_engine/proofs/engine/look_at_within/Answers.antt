@@ -1,4 +1,4 @@
-use Rattle.std.proofs.Common.{◌≡◌, ℕ, List, Result, Ok, Err, ap, sym, ◌∙◌, subst}
+use Rattle.std.proofs.Common.{Result, Ok, Err, ap, ◌∙◌}
 use Rattle.rb_parents.specs.Family.{parent_of}
 use Rattle.rb_views.specs.Seen.{tree_seen}
 use Rattle.rb_views.specs.declared.item.Item.{Item}

@@ -16,7 +16,7 @@ pub returns-clause-step : goal.returns-clause-step
 returns-clause-step c app locale payload (h, k) =
     rw c.in-Err.ensures.unchanged (not_replaced app locale payload c.args.place.now c.args.bundle c.args.packages.now h k c.in-Err.ensures.absent)
 
--- where a file is there, the application has bundles
+-- if a file is there, the application has bundles
 no_more : (name file : List ℕ) (files : Files) → lookup (bytes_eq name) files ≡ Some file → more_apps files ≡ 0
 no_more name file [] there = absurd cc
 no_more name file (f ∷ fs) there = refl

@@ -14,8 +14,8 @@ use Rattle.rb_parser.proofs.Bodies.{table_spells, table_passed, no_repeat}
 use Rattle.rb_parser.proofs.Loops.{entries_begin, entries_bad_key, entries_twice, entries_bad_body, entries_open, entries_done, entries_more}
 use Rattle.rb_parser.proofs.Loops.{elements_begin, elements_too_deep, elements_bad_body, elements_open, elements_done, elements_text, elements_body}
 use Rattle.rb_parser.proofs.Ascending.{seen_before, not_seen}
-use Rattle.rb_parser.proofs.parser.+body.Goals.{read_array-in-Some+else-depth-eq0+in_ok-push}
-use Rattle.rb_parser.proofs.parser.+body.Goals.{read_array-in_default+then-is_at_body+in_ok-read_body+in_ok-push-2}
+use Rattle.rb_parser.proofs.parser.+body.Goals.{read_array-in-Some+else-depth-eq0+in_ok-add_tree}
+use Rattle.rb_parser.proofs.parser.+body.Goals.{read_array-in_default+then-is_at_body+in_ok-read_body+in_ok-add_tree-2}
 use Rattle.rb_parser.proofs.parser.+body.Goals as goal
 
 pub read_body-returns-then-depth-eq0-clause-exact : goal.read_body-returns-then-depth-eq0-clause-exact
@@ -231,7 +231,7 @@ read_array-returns-clause-exact t c =
 pub read_array-elements-preserved : goal.read_array-elements-preserved
 read_array-elements-preserved t c =
     elim c.match-next.branch [
-      | read_array-in-Some+else-depth-eq0+in_ok-push w ↦
+      | read_array-in-Some+else-depth-eq0+in_ok-add_tree w ↦
           let now : length c.match-next.cursor.rest ≡ length c.take_text.new.self.rest =
           ap (λ (x : Cursor). length x.rest) w.cursor-is in
           let shorter : length c.take.new.self.rest < length c.elements.cursor.rest =
@@ -242,8 +242,8 @@ read_array-elements-preserved t c =
           (record { same_end = c.take_text.ensures.same_end; rest = rw w.in-Some.is at c.in_ok-next.ensures.rest })
           (c.in_ok-take.ensures.same_end ∙ ap (λ (x : Cursor). x.end) w.cursor-is)
           (c.in_ok-take.ensures.rest ∙ ap (λ (x : Cursor). after_comma x.rest) w.cursor-is) shorter
-          (ap (λ (v : Vec Tree Global). v.items) w.trees-is ∙ w.in_ok-push.ensures.items)
-      | read_array-in_default+then-is_at_body+in_ok-read_body+in_ok-push-2 w ↦
+          (ap (λ (v : Vec Tree Global). v.items) w.trees-is ∙ w.in_ok-add_tree.ensures)
+      | read_array-in_default+then-is_at_body+in_ok-read_body+in_ok-add_tree-2 w ↦
           let now : length c.match-next.cursor.rest ≡ length w.read_body.new.cursor.rest =
           ap (λ (x : Cursor). length x.rest) w.cursor-is in
           let same_length : length c.take_text.new.self.rest ≡ length c.elements.cursor.rest = ap length (rw w.in_default.is at c.in_ok-next.ensures.rest) in
@@ -260,5 +260,5 @@ read_array-elements-preserved t c =
           }) w.is_at_body.ensures
           w.if-is_at_body.true b.1 b.2 w.in_ok-read_body.ensures.same_end (c.in_ok-take.ensures.same_end ∙ ap (λ (x : Cursor). x.end) w.cursor-is)
           (c.in_ok-take.ensures.rest ∙ ap (λ (x : Cursor). after_comma x.rest) w.cursor-is) shorter
-          (ap (λ (v : Vec Tree Global). v.items) w.trees-is ∙ w.in_ok-push-2.ensures.items)
+          (ap (λ (v : Vec Tree Global). v.items) w.trees-is ∙ w.in_ok-add_tree-2.ensures)
     ]

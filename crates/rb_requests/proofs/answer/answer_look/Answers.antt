@@ -3,7 +3,6 @@ use Rattle.std.proofs.lemmas.Result.{on_ok_weaker}
 use Rattle.rb_engine.specs.Ask.{LooksUp}
 use Rattle.rb_engine.specs.LookResponse.{look_response}
 use Rattle.rb_limits.specs.Steps.{Answers, Refuses}
-use Rattle.rb_limits.specs.Words.{refusal_word}
 use Rattle.rb_views.specs.Seen.{tree_seen}
 use Rattle.rb_requests.specs.Within.{error_line}
 use Rattle.rb_requests.proofs.Stepping.{judged_always, told_whole, told_long}

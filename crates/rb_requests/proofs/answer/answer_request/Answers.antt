@@ -1,8 +1,9 @@
-use Rattle.std.proofs.Common.{◌≡◌, ◌∙◌, true, false, sym}
+use Rattle.std.proofs.Common.{◌≡◌, ◌∙◌, true, false, sym, ap, refl}
 use Rattle.rb_engine.specs.Ask.{Requests}
 use Rattle.rb_engine.specs.Answer.{Replies}
 use Rattle.rb_engine.specs.History.{is_memory}
-use Rattle.rb_limits.specs.Steps.{Answers}
+use Rattle.rb_limits.specs.Steps.{Answers, Refuses}
+use Rattle.rb_requests.specs.Within.{error_line}
 use Rattle.rb_requests.proofs.Stepping.{nothing_changed, judged, left_by}
 use Rattle.rb_requests.proofs.answer.answer_request.Goals as goal
 
@@ -26,3 +27,10 @@ returns-clause-fault c =
     let told : is_memory (Replies answer) ≡ false = sym c.is_memory.ensures ∙ c.if-is_memory.false in
     rw c.untold.ensures
     (left_by c.args.limits.now c.args.engine.now (Requests c.args.request) answer c.handle.new.engine told c.in-Answer.ensures)
+
+pub returns-in-Refused-clause-reply : goal.returns-in-Refused-clause-reply
+returns-in-Refused-clause-reply c =
+    let outcome = Refuses c.in-Refused.refusal in
+    let call = Requests c.args.request in
+    let came = judged c.args.limits.now.calls c.args.engine.now call outcome c.handle.new.engine refl c.in-Refused.ensures in
+    (outcome, came, c.in_ok-tell_word-in-Refused.ensures ∙ ap error_line c.word.ensures)

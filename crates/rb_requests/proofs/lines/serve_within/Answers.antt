@@ -92,7 +92,7 @@ returns-in_err-serve_line-in-Ok-Last-clause-reads g c =
     (failed.ensures.fault c.args.longest line.0 (line.2, c.requires.passes)) in
     rw (p.1, p.2) (◌∙◌ {b = g.F.Feed.faults c.lines.feed} c.in-Ok-Last.ensures.count c.lines.invariant.1 ∙ sym quiet)
 
--- ---- where no line may follow
+-- ---- if no line may follow
 
 pub returns-clause-all : goal.returns-clause-all
 returns-clause-all g c =

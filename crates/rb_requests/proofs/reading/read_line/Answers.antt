@@ -1,4 +1,4 @@
-use Rattle.std.proofs.Common.{◌≡◌, ◌<◌, ◌≤◌, ◌^◌, ◌∙◌, List, ℕ, Ok, subst, arith}
+use Rattle.std.proofs.Common.{◌∙◌, arith}
 use Rattle.rb_requests.proofs.LinesRead.{reader, run_sum, run_ended, run_more, far_kept, far_full}
 use Rattle.rb_requests.proofs.reading.read_line.Goals as goal
 

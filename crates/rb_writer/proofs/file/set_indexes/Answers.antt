@@ -1,5 +1,6 @@
 use Rattle.std.proofs.Common.{◌≡◌, ◌∙◌, ap, refl, false}
-use Rattle.rb_writer.specs.inner.Whole.{index_count, IsIndexed}
+use Rattle.rb_writer.specs.inner.Whole.{IsIndexed}
+use Rattle.rb_writer.specs.Written.{index_count}
 use Rattle.rb_writer.proofs.Patches.{plain_indexed, flagged_indexed, five_or_six}
 use Rattle.rb_writer.proofs.file.set_indexes.Goals as goal
 
@@ -11,8 +12,8 @@ returns-then-no_fallback c =
     plain_indexed false c.args.body.now c.set_word.new.bytes c.set_word-2.new.bytes c.set_word-3.new.bytes c.set_word-4.new.bytes c.set_word-5.new.bytes
     c.set_word-6.new.bytes c.args.root c.args.longest c.args.area refl five.0 c.set_word.ensures c.set_word-2.ensures c.set_word-3.ensures
     c.set_word-4.ensures c.set_word-5.ensures c.set_word-6.ensures in
-    flagged_indexed c.args.no_fallback c.args.body.now c.set_word-6.new.bytes c.set_word-then-no_fallback.new.bytes c.args.root c.args.longest c.args.area six
-    plain c.set_word-then-no_fallback.ensures
+    flagged_indexed c.args.no_fallback c.args.body.now c.set_word-6.new.bytes c.set_word-then-no_fallback.new.bytes c.args.root c.args.longest c.args.area
+    c.if-no_fallback.true six plain c.set_word-then-no_fallback.ensures
 
 pub returns-else-no_fallback : goal.returns-else-no_fallback
 returns-else-no_fallback c =

@@ -1,13 +1,15 @@
-use Rattle.std.proofs.Common.{◌+◌, ◌*◌, ◌≤◌, ◌<◌, ◌≡◌, ◌∙◌, length, map, arith, Bor, List, ℕ}
+use Rattle.std.proofs.Common.{◌+◌, ◌*◌, ◌≤◌, ◌<◌, ◌≡◌, ◌∙◌, length, map, arith, ap, sym, Bor, List, ℕ}
 use Rattle.rb_tree.specs.View.{view_of}
 use Rattle.rb_writer.specs.inner.Collected.{keys_size, names}
 use Rattle.rb_writer.specs.inner.Most.{data_most}
 use Rattle.rb_writer.specs.inner.Keyed.{HasPlace}
-use Rattle.rb_writer.specs.inner.Whole.{index_count}
+use Rattle.rb_writer.specs.Written.{index_count}
 use Rattle.rb_writer.proofs.Ended.{IsWritten}
 use Rattle.rb_writer.proofs.Patches.{five_or_six}
 use Rattle.rb_writer.proofs.Gathered.{each_key}
 use Rattle.rb_writer.proofs.Room.{keys_fit, longest_fits, written_by}
+use Rattle.rb_writer.specs.inner.Keying.{distinct, KeysWritten}
+use Rattle.rb_writer.proofs.Bytes.{names_ascend, are_keys, file_is}
 use Rattle.rb_writer.proofs.file.write.Goals as goal
 
 pub write_keys-requires-clause-room : goal.write_keys-requires-clause-room
@@ -43,9 +45,12 @@ finish-requires-clause-room c =
     let f : keys_size (map {A = Bor (List ℕ)} (λ r. r.now) (names c.in_ok-keys.keys.items)) + data_most t + 4 ≤ 33554432 = keys_fit t (names c.in_ok-keys.keys.items)
     c.requires (c.in_ok-keys.ensures.keys t c.in_ok-gathered.ensures) in
     let short = rw c.deref.ensures.value at c.in_ok-places.ensures.little in
-    let l = c.in_ok-root.ensures.little in
+    let l = c.in_ok-root.ensures.stands.little in
     let five = five_or_six c.args.no_fallback c.index_count-indexes.result c.index_count-indexes.ensures in
     omega (arith, f, short, l)
+
+pub write_keys-requires-clause-ascending : goal.write_keys-requires-clause-ascending
+write_keys-requires-clause-ascending c = rw c.deref.ensures.value (names_ascend c.in_ok-keys.keys.items c.in_ok-keys.ensures.ascending)
 
 pub returns : goal.returns
 returns c =
@@ -57,5 +62,21 @@ returns c =
     let h : IsWritten c.args.no_fallback t c.finish.result.items = written_by c.args.no_fallback t (names c.in_ok-keys.keys.items) c.write_keys.new.out
     c.write_value.new.out c.in_ok-root.root c.in_ok-places.places.area c.longest_table.result c.finish.result.items c.requires
     (c.in_ok-keys.ensures.keys t c.in_ok-gathered.ensures) count
-    few c.in_ok-root.ensures c.longest_table.ensures c.finish.ensures in
-    record { denotes = h.denotes; front = h.front; end = h.end; longest = h.longest }
+    few c.in_ok-root.ensures.stands c.longest_table.ensures c.finish.ensures in
+    let sorted = names_ascend c.in_ok-keys.keys.items c.in_ok-keys.ensures.ascending in
+    let written : KeysWritten c.in_ok-out.out c.write_keys.new.out c.in_ok-places.places (map {A = Bor (List ℕ)} (λ r. r.now) (names c.in_ok-keys.keys.items)) =
+    rw c.deref.ensures.value at c.in_ok-places.ensures.laid in
+    record {
+      denotes = h.denotes;
+      front = h.front;
+      end = h.end;
+      longest = h.longest;
+      bytes = record {
+        keys = distinct (map {A = Bor (List ℕ)} (λ r. r.now) (names c.in_ok-keys.keys.items));
+        are_keys = are_keys t (names c.in_ok-keys.keys.items) (c.in_ok-keys.ensures.keys t c.in_ok-gathered.ensures) sorted;
+        bytes = file_is c.args.no_fallback t (map {A = Bor (List ℕ)} (λ r. r.now) (names c.in_ok-keys.keys.items)) c.in_ok-out.out c.write_keys.new.out
+            c.write_value.new.out c.finish.result.items c.in_ok-places.places c.in_ok-places.places.area c.in_ok-root.root c.longest_table.result
+            c.finish.ensures count (c.in_ok-out.ensures ∙ ap (λ n. 4 * (1 + n)) (sym c.in_ok-places.ensures.area)) written c.in_ok-root.ensures.laid
+            c.in_ok-places.ensures.top c.longest_table.ensures;
+      };
+    }

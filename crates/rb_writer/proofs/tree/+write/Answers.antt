@@ -1,14 +1,15 @@
-use Rattle.std.proofs.Common.{arith, ◌∙◌, refl, ◌≡◌, length}
+use Rattle.std.proofs.Common.{arith, ap, ◌∙◌, refl, ◌≡◌, ◌<◌, length}
 use Rattle.std.proofs.lemmas.Grind.{common_steps}
 use Rattle.std.proofs.lemmas.Result.{IfOk-weaker}
 use Rattle.rb_tree.specs.Parts.{children_of, len_of}
 use Rattle.rb_tree.specs.inner.Lower.{child_lower}
 use Rattle.rb_tree.specs.View.{view_of}
 use Rattle.rb_writer.specs.inner.Keyed.{HasPlace}
-use Rattle.rb_writer.specs.inner.Standing.{ChildrenStand}
-use Rattle.rb_writer.proofs.Nodes.{child_room, children_more, keys_stay, string_stands, int_stands, ints_stand, binary_stands, alias_stands}
+use Rattle.rb_writer.specs.inner.Standing.{ChildrenStand, EachLaid}
+use Rattle.rb_writer.proofs.Nodes.{child_room, children_none, children_more, keys_stay, string_stands, int_stands, ints_stand, binary_stands, alias_stands}
 use Rattle.rb_writer.proofs.Tabled.{child_keys}
 use Rattle.rb_writer.proofs.Containing.{array_stands, empty_array_stands, table_stands, empty_table_stands, array_room, table_room}
+use Rattle.rb_writer.proofs.Trees.{laid_more, none_laid_yet, array_laid_whole, empty_array_laid, table_laid_whole, empty_table_laid}
 use Rattle.rb_writer.proofs.tree.+write.Goals as goal
 
 pub write_children-write_value-requires : goal.write_children-write_value-requires
@@ -16,57 +17,64 @@ write_children-write_value-requires t c =
     let lower = child_lower (view_of c.args.tree.now) (view_of c.at.result.now) c.loop-i.i c.at.ensures in (
       omega (arith, lower, c.decreases),
       (
-        c.loop-i.invariant.drafted,
+        c.loop-i.invariant.0.drafted,
         (
-          child_room _ _ _ _ _ _ _ (view_of c.at.result.now) c.loop-i.invariant c.at.ensures c.requires.room,
+          child_room _ _ _ _ _ _ _ (view_of c.at.result.now) c.loop-i.invariant.0 c.at.ensures c.requires.room,
           (
-            keys_stay c.args.keys.now.area c.args.out.now c.loop-i.out c.args.keys.now c.requires.drafted c.loop-i.invariant.adds c.requires.keys,
+            keys_stay c.args.keys.now.area c.args.out.now c.loop-i.out c.args.keys.now c.requires.drafted c.loop-i.invariant.0.adds c.requires.keys,
             child_keys (λ k. HasPlace c.args.keys.now k) (view_of c.args.tree.now) (view_of c.at.result.now) c.loop-i.i c.requires.each c.at.ensures,
           ),
         ),
       ),
     )
 
-pub write_children-loop-i-preserved : goal.write_children-loop-i-preserved
-write_children-loop-i-preserved t c = rw c.in_ok-push.ensures.items
-    (children_more _ _ c.loop-i.out _ _ _ c.loop-i.i c.in_ok-item.item (view_of c.at.result.now) c.loop-i.invariant c.at.ensures c.in_ok-item.ensures)
+pub write_children-loop-i-init : goal.write_children-loop-i-init
+write_children-loop-i-init t c = rw c.in_ok-items.ensures.items
+    (children_none _ _ _ c.requires.drafted, λ at a. none_laid_yet at c.args.out.now (children_of (view_of c.args.tree.now)))
 
-pub write_value-returns-in_ok-write_units-in-String : goal.write_value-returns-in_ok-write_units-in-String
-write_value-returns-in_ok-write_units-in-String t c = let p = c.in_ok-write_units-in-String.ensures.put c.args.keys.now.area c.requires.drafted in
+pub write_children-loop-i-preserved : goal.write_children-loop-i-preserved
+write_children-loop-i-preserved t c = rw c.in_ok-push.ensures.items (
+  children_more _ _ c.loop-i.out _ _ _ c.loop-i.i c.in_ok-item.item (view_of c.at.result.now) c.loop-i.invariant.0 c.at.ensures c.in_ok-item.ensures.stands,
+  λ at a. laid_more at _ c.loop-i.out _ _ _ c.loop-i.i c.in_ok-item.item (view_of c.at.result.now) (c.loop-i.invariant.1 at a) c.at.ensures
+      (c.in_ok-item.ensures.laid at a),
+)
+
+pub write_value-returns-in_ok-write_units-in-String-clause-stands : goal.write_value-returns-in_ok-write_units-in-String-clause-stands
+write_value-returns-in_ok-write_units-in-String-clause-stands t c = let p = c.in_ok-write_units-in-String.ensures.put c.args.keys.now.area c.requires.drafted in
     string_stands c.args.keys.now.area c.args.out.now _ c.in-String.units _ _ c.args.tree.now c.in-String.is
     (rw c.as_slice.ensures at p) c.item.ensures.kind c.item.ensures.offset
 
-pub write_value-returns-in_ok-write_units-in-Alias : goal.write_value-returns-in_ok-write_units-in-Alias
-write_value-returns-in_ok-write_units-in-Alias t c = let p = c.in_ok-write_units-in-Alias.ensures.put c.args.keys.now.area c.requires.drafted in alias_stands
+pub write_value-returns-in_ok-write_units-in-Alias-clause-stands : goal.write_value-returns-in_ok-write_units-in-Alias-clause-stands
+write_value-returns-in_ok-write_units-in-Alias-clause-stands t c = let p = c.in_ok-write_units-in-Alias.ensures.put c.args.keys.now.area c.requires.drafted in alias_stands
     c.args.keys.now.area c.args.out.now _ c.in-Alias.units _ _ c.args.tree.now c.in-Alias.is
     (rw c.as_slice-in-Alias.ensures at p) c.item-in-Alias.ensures.kind c.item-in-Alias.ensures.offset
 
-pub write_value-returns-in_ok-write_numbers-in-Ints : goal.write_value-returns-in_ok-write_numbers-in-Ints
-write_value-returns-in_ok-write_numbers-in-Ints t c = let p = c.in_ok-write_numbers-in-Ints.ensures.put c.args.keys.now.area c.requires.drafted in ints_stand
+pub write_value-returns-in_ok-write_numbers-in-Ints-clause-stands : goal.write_value-returns-in_ok-write_numbers-in-Ints-clause-stands
+write_value-returns-in_ok-write_numbers-in-Ints-clause-stands t c = let p = c.in_ok-write_numbers-in-Ints.ensures.put c.args.keys.now.area c.requires.drafted in ints_stand
     c.args.keys.now.area c.args.out.now _ c.in-Ints.numbers _ _ c.args.tree.now c.in-Ints.is
     (rw c.as_slice-in-Ints.ensures at p) c.item-in-Ints.ensures.kind c.item-in-Ints.ensures.offset
 
-pub write_value-returns-in_ok-write_bytes-in-Binary : goal.write_value-returns-in_ok-write_bytes-in-Binary
-write_value-returns-in_ok-write_bytes-in-Binary t c = let p = c.in_ok-write_bytes-in-Binary.ensures.put c.args.keys.now.area c.requires.drafted in
+pub write_value-returns-in_ok-write_bytes-in-Binary-clause-stands : goal.write_value-returns-in_ok-write_bytes-in-Binary-clause-stands
+write_value-returns-in_ok-write_bytes-in-Binary-clause-stands t c = let p = c.in_ok-write_bytes-in-Binary.ensures.put c.args.keys.now.area c.requires.drafted in
     binary_stands c.args.keys.now.area c.args.out.now _ c.in-Binary.bytes _ _ c.args.tree.now c.in-Binary.is
     (rw c.as_slice-in-Binary.ensures at p) c.item-in-Binary.ensures.kind c.item-in-Binary.ensures.offset
 
-pub write_value-returns-in-Int : goal.write_value-returns-in-Int
-write_value-returns-in-Int t c = int_stands c.args.keys.now.area c.args.out.now c.in-Int.number c.item-in-Int.result c.args.tree.now c.in-Int.is
+pub write_value-returns-in-Int-clause-stands : goal.write_value-returns-in-Int-clause-stands
+write_value-returns-in-Int-clause-stands t c = int_stands c.args.keys.now.area c.args.out.now c.in-Int.number c.item-in-Int.result c.args.tree.now c.in-Int.is
     c.requires.drafted c.item-in-Int.ensures.kind (c.item-in-Int.ensures.offset ∙ c.get.ensures.value)
 
-pub write_value-returns-then-is_empty : goal.write_value-returns-then-is_empty
-write_value-returns-then-is_empty t c =
+pub write_value-returns-then-is_empty-clause-stands : goal.write_value-returns-then-is_empty-clause-stands
+write_value-returns-then-is_empty-clause-stands t c =
     let s : ChildrenStand c.args.keys.now.area c.args.out.now c.write_children.new.out
-    (children_of (view_of c.args.tree.now)) c.in_ok-items-in-Array.items.items (len_of (view_of c.args.tree.now)) = c.in_ok-items-in-Array.ensures in
+    (children_of (view_of c.args.tree.now)) c.in_ok-items-in-Array.items.items (len_of (view_of c.args.tree.now)) = c.in_ok-items-in-Array.ensures.stand in
     let none : length c.in_ok-items-in-Array.items.items ≡ 0 = grind (arith, common_steps, c.is_empty.ensures, c.if-is_empty.true) in
     empty_array_stands c.args.keys.now.area c.args.out.now c.write_children.new.out c.in_ok-items-in-Array.items.items _ c.item-then-is_empty.result
     c.in-Array.field-0 c.args.tree.now c.in-Array.is (rw c.in-Array.is at s) refl none c.item-then-is_empty.ensures.kind c.item-then-is_empty.ensures.offset
 
-pub write_value-returns-in_ok-write_array-in-Array : goal.write_value-returns-in_ok-write_array-in-Array
-write_value-returns-in_ok-write_array-in-Array t c =
+pub write_value-returns-in_ok-write_array-in-Array-clause-stands : goal.write_value-returns-in_ok-write_array-in-Array-clause-stands
+write_value-returns-in_ok-write_array-in-Array-clause-stands t c =
     let s : ChildrenStand c.args.keys.now.area c.args.out.now c.write_children.new.out
-    (children_of (view_of c.args.tree.now)) c.in_ok-items-in-Array.items.items (len_of (view_of c.args.tree.now)) = c.in_ok-items-in-Array.ensures in
+    (children_of (view_of c.args.tree.now)) c.in_ok-items-in-Array.items.items (len_of (view_of c.args.tree.now)) = c.in_ok-items-in-Array.ensures.stand in
     array_stands c.args.keys.now.area c.args.out.now c.write_children.new.out c.write_array.new.out c.in_ok-items-in-Array.items.items _
     c.in_ok-write_array-in-Array.field-0 c.item-in-Array.result c.in-Array.field-0 c.args.tree.now c.in-Array.is (rw c.in-Array.is at s) refl
     (rw c.deref.ensures.value at c.in_ok-write_array-in-Array.ensures.array) c.in_ok-write_array-in-Array.ensures.small c.item-in-Array.ensures.kind
@@ -75,28 +83,69 @@ write_value-returns-in_ok-write_array-in-Array t c =
 pub write_value-write_array-requires-clause-room : goal.write_value-write_array-requires-clause-room
 write_value-write_array-requires-clause-room t c =
     let s : ChildrenStand c.args.keys.now.area c.args.out.now c.write_children.new.out
-    (children_of (view_of c.args.tree.now)) c.in_ok-items-in-Array.items.items (len_of (view_of c.args.tree.now)) = c.in_ok-items-in-Array.ensures in
+    (children_of (view_of c.args.tree.now)) c.in_ok-items-in-Array.items.items (len_of (view_of c.args.tree.now)) = c.in_ok-items-in-Array.ensures.stand in
     rw c.deref.ensures.value (array_room _ _ _ _ _ _ c.in-Array.field-0 c.args.tree.now c.in-Array.is (rw c.in-Array.is at s) refl c.requires.room)
 
 pub write_value-write_table-requires-clause-room : goal.write_value-write_table-requires-clause-room
 write_value-write_table-requires-clause-room t c =
     let s : ChildrenStand c.args.keys.now.area c.args.out.now c.write_children-in-Table.new.out
-    (children_of (view_of c.args.tree.now)) c.in_ok-items-in-Table.items.items (len_of (view_of c.args.tree.now)) = c.in_ok-items-in-Table.ensures in
+    (children_of (view_of c.args.tree.now)) c.in_ok-items-in-Table.items.items (len_of (view_of c.args.tree.now)) = c.in_ok-items-in-Table.ensures.stand in
     rw c.deref-in-Table.ensures.value (table_room _ _ _ _ _ _ c.in-Table.entries c.args.tree.now c.in-Table.is (rw c.in-Table.is at s) refl c.requires.room)
 
-pub write_value-returns-then-is_empty-2 : goal.write_value-returns-then-is_empty-2
-write_value-returns-then-is_empty-2 t c =
+pub write_value-returns-then-is_empty-2-clause-stands : goal.write_value-returns-then-is_empty-2-clause-stands
+write_value-returns-then-is_empty-2-clause-stands t c =
     let s : ChildrenStand c.args.keys.now.area c.args.out.now c.write_children-in-Table.new.out
-    (children_of (view_of c.args.tree.now)) c.in_ok-items-in-Table.items.items (len_of (view_of c.args.tree.now)) = c.in_ok-items-in-Table.ensures in
+    (children_of (view_of c.args.tree.now)) c.in_ok-items-in-Table.items.items (len_of (view_of c.args.tree.now)) = c.in_ok-items-in-Table.ensures.stand in
     let none : length c.in_ok-items-in-Table.items.items ≡ 0 = grind (arith, common_steps, c.is_empty-in-Table.ensures, c.if-is_empty-2.true) in
     empty_table_stands c.args.keys.now.area c.args.out.now c.write_children-in-Table.new.out c.in_ok-items-in-Table.items.items _ c.item-then-is_empty-2.result
     c.in-Table.entries c.args.tree.now c.in-Table.is
     (rw c.in-Table.is at s) refl none c.item-then-is_empty-2.ensures.kind c.item-then-is_empty-2.ensures.offset
 
-pub write_value-returns-else-is_empty-2 : goal.write_value-returns-else-is_empty-2
-write_value-returns-else-is_empty-2 t c =
+pub write_value-returns-else-is_empty-2-clause-stands : goal.write_value-returns-else-is_empty-2-clause-stands
+write_value-returns-else-is_empty-2-clause-stands t c =
     let s : ChildrenStand c.args.keys.now.area c.args.out.now c.write_children-in-Table.new.out
-    (children_of (view_of c.args.tree.now)) c.in_ok-items-in-Table.items.items (len_of (view_of c.args.tree.now)) = c.in_ok-items-in-Table.ensures in
+    (children_of (view_of c.args.tree.now)) c.in_ok-items-in-Table.items.items (len_of (view_of c.args.tree.now)) = c.in_ok-items-in-Table.ensures.stand in
     IfOk-weaker c.write_table.result _ _ (λ i w. table_stands c.args.keys.now c.args.keys.now.area c.args.out.now c.write_children-in-Table.new.out
     c.write_table.new.out c.in_ok-items-in-Table.items.items _ i c.in-Table.entries c.args.tree.now c.in-Table.is
     (rw c.in-Table.is at s) refl c.requires.drafted c.requires.keys (rw c.deref-in-Table.ensures.value at w)) c.write_table.ensures
+
+pub write_value-returns-in_ok-write_array-in-Array-clause-laid : goal.write_value-returns-in_ok-write_array-in-Array-clause-laid
+write_value-returns-in_ok-write_array-in-Array-clause-laid t c =
+    let s : EachLaid c.args.keys.now c.args.out.now c.write_children.new.out
+    (children_of (view_of c.args.tree.now)) c.in_ok-items-in-Array.items.items (len_of (view_of c.args.tree.now)) = c.in_ok-items-in-Array.ensures.laid in
+    let some : 0 < length c.in_ok-items-in-Array.items.items = grind (arith, common_steps, c.is_empty.ensures, c.if-is_empty.false) in
+    array_laid_whole c.args.keys.now c.args.out.now c.write_children.new.out c.write_array.new.out c.in_ok-items-in-Array.items.items _
+    c.in_ok-write_array-in-Array.field-0 c.item-in-Array.result c.in-Array.field-0 c.args.tree.now c.in-Array.is (rw c.in-Array.is at s) refl
+    (rw c.deref.ensures.value at c.in_ok-write_array-in-Array.ensures.array) some c.item-in-Array.ensures.word
+
+pub write_value-returns-then-is_empty-clause-laid : goal.write_value-returns-then-is_empty-clause-laid
+write_value-returns-then-is_empty-clause-laid t c =
+    let s : EachLaid c.args.keys.now c.args.out.now c.write_children.new.out
+    (children_of (view_of c.args.tree.now)) c.in_ok-items-in-Array.items.items (len_of (view_of c.args.tree.now)) = c.in_ok-items-in-Array.ensures.laid in
+    let none : length c.in_ok-items-in-Array.items.items ≡ 0 = grind (arith, common_steps, c.is_empty.ensures, c.if-is_empty.true) in
+    empty_array_laid c.args.keys.now c.args.out.now c.write_children.new.out c.in_ok-items-in-Array.items.items _ c.item-then-is_empty.result
+    c.in-Array.field-0 c.args.tree.now c.in-Array.is (rw c.in-Array.is at s) refl none c.item-then-is_empty.ensures.word
+
+pub write_value-returns-else-is_empty-2-clause-laid : goal.write_value-returns-else-is_empty-2-clause-laid
+write_value-returns-else-is_empty-2-clause-laid t c =
+    let s : EachLaid c.args.keys.now c.args.out.now c.write_children-in-Table.new.out
+    (children_of (view_of c.args.tree.now)) c.in_ok-items-in-Table.items.items (len_of (view_of c.args.tree.now)) = c.in_ok-items-in-Table.ensures.laid in
+    let stand : ChildrenStand c.args.keys.now.area c.args.out.now c.write_children-in-Table.new.out
+    (children_of (view_of c.args.tree.now)) c.in_ok-items-in-Table.items.items (len_of (view_of c.args.tree.now)) = c.in_ok-items-in-Table.ensures.stand in
+    let some : 0 < length c.in_ok-items-in-Table.items.items = grind (arith, common_steps, c.is_empty-in-Table.ensures, c.if-is_empty-2.false) in
+    let words = stand.drafted.whole in
+    IfOk-weaker c.write_table.result _ _ (λ i w. table_laid_whole c.args.keys.now c.args.out.now c.write_children-in-Table.new.out
+    c.write_table.new.out c.in_ok-items-in-Table.items.items _ i c.in-Table.entries c.args.tree.now c.in-Table.is
+    (rw c.in-Table.is at s) refl (rw c.deref-in-Table.ensures.value at w) (stand.count ∙ ap len_of (ap view_of c.in-Table.is)) some (omega arith))
+    c.write_table.ensures
+
+pub write_value-returns-then-is_empty-2-clause-laid : goal.write_value-returns-then-is_empty-2-clause-laid
+write_value-returns-then-is_empty-2-clause-laid t c =
+    let s : EachLaid c.args.keys.now c.args.out.now c.write_children-in-Table.new.out
+    (children_of (view_of c.args.tree.now)) c.in_ok-items-in-Table.items.items (len_of (view_of c.args.tree.now)) = c.in_ok-items-in-Table.ensures.laid in
+    let stand : ChildrenStand c.args.keys.now.area c.args.out.now c.write_children-in-Table.new.out
+    (children_of (view_of c.args.tree.now)) c.in_ok-items-in-Table.items.items (len_of (view_of c.args.tree.now)) = c.in_ok-items-in-Table.ensures.stand in
+    let none : length c.in_ok-items-in-Table.items.items ≡ 0 = grind (arith, common_steps, c.is_empty-in-Table.ensures, c.if-is_empty-2.true) in
+    empty_table_laid c.args.keys.now c.args.out.now c.write_children-in-Table.new.out c.in_ok-items-in-Table.items.items _ c.item-then-is_empty-2.result
+    c.in-Table.entries c.args.tree.now c.in-Table.is
+    (rw c.in-Table.is at s) refl none (stand.count ∙ ap len_of (ap view_of c.in-Table.is)) c.item-then-is_empty-2.ensures.word

@@ -3,7 +3,7 @@ use Rattle.std.specs.Result.{result_ok}
 use Rattle.rb_tree.specs.Parts.{units_of}
 use Rattle.rb_tree.specs.View.{view_of}
 use Rattle.rb_locales.specs.Locale.{name}
-use Rattle.rb_parents.specs.Entries.{put_child}
+use Rattle.rb_parents.specs.inner.Entries.{put_child}
 use Rattle.rb_parents.specs.Family.{parent_of}
 use Rattle.rb_parents.proofs.Explicits.{put_new}
 use Rattle.rb_parents.proofs.parents.Parents.put_child.Goals as goal

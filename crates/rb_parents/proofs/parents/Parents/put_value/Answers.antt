@@ -3,7 +3,7 @@ use Rattle.rb_tree.specs.Parts.{children_of, kind_of, units_of}
 use Rattle.rb_tree.specs.View.{view_of}
 use Rattle.rb_tree.specs.declared.kind.Kind.TheVariants as Kinds
 use Rattle.rb_locales.specs.Locale.{name}
-use Rattle.rb_parents.specs.Entries.{put_child, put_children, put_value}
+use Rattle.rb_parents.specs.inner.Entries.{put_child, put_children, put_value}
 use Rattle.rb_parents.specs.ParentMap.{texts_in}
 use Rattle.rb_parents.specs.Family.{parent_of}
 use Rattle.rb_parents.proofs.Explicits.{array_len, children_on, children_bad, children_end, string_in, fault_on, err_is}

@@ -1,7 +1,7 @@
 use Rattle.std.proofs.Common.{◌≡◌, drop, map}
 use Rattle.rb_tree.specs.Parts.{children_of, units_of}
 use Rattle.rb_tree.specs.View.{view_of}
-use Rattle.rb_parents.specs.Entries.{put_children}
+use Rattle.rb_parents.specs.inner.Entries.{put_children}
 use Rattle.rb_parents.specs.Family.{parent_of}
 use Rattle.rb_parents.proofs.parents.Parents.put_value.Given as goal
 

@@ -1,7 +1,7 @@
 use Rattle.std.proofs.Common.{sym, ◌∙◌, arith}
 use Rattle.rb_tree.specs.View.{view_of}
 use Rattle.rb_locales.specs.Locale.{name}
-use Rattle.rb_parents.specs.Entries.{put_entry}
+use Rattle.rb_parents.specs.inner.Entries.{put_entry}
 use Rattle.rb_parents.specs.Explicit.{RefusesParents, parent_entries}
 use Rattle.rb_parents.specs.Family.{parent_of}
 use Rattle.rb_parents.proofs.Explicits.{entries_on, entries_bad, entries_end, err_is, fault_on}

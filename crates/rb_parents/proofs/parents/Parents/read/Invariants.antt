@@ -1,7 +1,7 @@
 use Rattle.std.proofs.Common.{◌≡◌, drop}
 use Rattle.rb_tree.specs.Parts.{pairs_of}
 use Rattle.rb_tree.specs.View.{view_of}
-use Rattle.rb_parents.specs.Entries.{read_tree, put_entries}
+use Rattle.rb_parents.specs.inner.Entries.{read_tree, put_entries}
 use Rattle.rb_parents.specs.Family.{parent_of}
 use Rattle.rb_parents.proofs.parents.Parents.read.Given as goal
 

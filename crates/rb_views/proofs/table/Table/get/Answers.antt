@@ -8,7 +8,7 @@ use Rattle.rb_tree.specs.Resource.{Resource}
 use Rattle.rb_format.specs.declared.geometry.TableParts.{TableParts}
 use Rattle.rb_format.specs.Place.{word_at, key, layout_of}
 use Rattle.rb_format.specs.Geometry.{key_offset}
-use Rattle.rb_views.specs.Stands.{TableStands}
+use Rattle.rb_views.specs.inner.Stands.{TableStands}
 use Rattle.rb_views.specs.Trees.{item_tree, key_from}
 use Rattle.rb_views.proofs.Values.{values_length, lookup_found, lookup_absent, first_at, second_at}
 use Rattle.rb_views.proofs.Containers.{table_key, table_rises}

@@ -1,0 +1,90 @@
+-- What a command line asks for, by the rows that clap took for its command.
+use Rattle.std.specs.Prelude.{◌≡◌, ◌++◌, ◌∷◌, [], Bool, false, List, Option, Some, None, codes, option_map}
+use Rattle.std.specs.List.{list_any}
+use Rattle.std.specs.Str.{bytes_eq}
+use Rattle.clap.specs.Words.{Row, Text, first_of}
+use Rattle.clap.specs.Walk.{texts}
+use Rattle.rb_arguments.specs.Rows.{IsFlagIn, alone, word_in, words_in}
+use Rattle.rb_arguments.specs.Limits.{AreGiven}
+use Rattle.rb_arguments.specs.declared.asking.Asked.{Asked}
+use Rattle.rb_arguments.specs.declared.asking.Asked.TheVariants.{Compile, CompileAll, Check, Get, Json, Text as ToText}
+use Rattle.rb_arguments.specs.declared.asking.Asked.TheVariants.{Lint, Explain, Lines, Look, Serve}
+
+-- the commands
+abbrev pub names : List Text
+names =
+    codes "compile" ∷ codes "check" ∷ codes "get" ∷ codes "json" ∷ codes "text" ∷ codes "lint" ∷ codes "explain"
+    ∷ codes "lines" ∷ codes "look" ∷ codes "serve" ∷ []
+
+abbrev pub is_command : Text → Bool
+is_command name = list_any (bytes_eq name) names
+
+-- the texts of `compile --to`: IN, OUT and TEXT, in this order
+abbrev pub texts_in : List Row → List Text
+texts_in rows =
+    alone (first_of (codes "IN") rows) ++ alone (first_of (codes "OUT") rows) ++ words_in rows (codes "TEXT")
+
+-- the command of this name, with these rows, asks for this
+abbrev pub AsksFor : Text → List Row → Asked → Type 0
+AsksFor name rows (Compile input output is_quiet) =
+    (name ≡ codes "compile")
+    × (first_of (codes "to") rows ≡ None)
+    × (input.now ≡ word_in rows (codes "IN"))
+    × (output.now ≡ word_in rows (codes "OUT"))
+    × IsFlagIn rows (codes "quiet") is_quiet
+AsksFor name rows (CompileAll folder files is_quiet) =
+    (name ≡ codes "compile")
+    × (first_of (codes "to") rows ≡ Some folder.now)
+    × (texts files.items ≡ texts_in rows)
+    × IsFlagIn rows (codes "quiet") is_quiet
+AsksFor name rows (Check files is_quiet) =
+    (name ≡ codes "check")
+    × (texts files.items ≡ words_in rows (codes "FILE"))
+    × IsFlagIn rows (codes "quiet") is_quiet
+AsksFor name rows (Get file path) =
+    (name ≡ codes "get")
+    × (file.now ≡ word_in rows (codes "FILE"))
+    × (path.now ≡ word_in rows (codes "PATH"))
+AsksFor name rows (Json file path is_pretty) =
+    (name ≡ codes "json")
+    × (file.now ≡ word_in rows (codes "FILE"))
+    × (path.now ≡ word_in rows (codes "PATH"))
+    × IsFlagIn rows (codes "pretty") is_pretty
+AsksFor name rows (ToText file bundle) =
+    (name ≡ codes "text")
+    × (file.now ≡ word_in rows (codes "FILE"))
+    × (option_map (λ s. s.now) bundle ≡ first_of (codes "name") rows)
+AsksFor name rows (Lint root files) =
+    (name ≡ codes "lint")
+    × (option_map (λ s. s.now) root ≡ first_of (codes "root") rows)
+    × (texts files.items ≡ words_in rows (codes "TEXT"))
+AsksFor name rows (Explain word) =
+    (name ≡ codes "explain")
+    × (option_map (λ s. s.now) word ≡ first_of (codes "WORD") rows)
+AsksFor name rows (Lines op app files) =
+    (name ≡ codes "lines")
+    × (option_map (λ s. s.now) op ≡ first_of (codes "op") rows)
+    × (app.now ≡ word_in rows (codes "APP"))
+    × (texts files.items ≡ words_in rows (codes "FILE"))
+AsksFor name rows (Look lookup) =
+    (name ≡ codes "look")
+    × (option_map (λ s. s.now) lookup.parents ≡ first_of (codes "parents") rows)
+    × (lookup.locale.now ≡ word_in rows (codes "LOCALE"))
+    × (lookup.path.now ≡ word_in rows (codes "PATH"))
+    × IsFlagIn rows (codes "trace") lookup.is_traced
+    × (texts lookup.files.items ≡ words_in rows (codes "FILE"))
+AsksFor name rows (Serve parents bundles limits) =
+    (name ≡ codes "serve")
+    × (option_map (λ s. s.now) parents ≡ first_of (codes "parents") rows)
+    × (texts bundles.items ≡ words_in rows (codes "bundles"))
+    × AreGiven rows limits
+
+-- ---- by the name and the rows of the command that a command line enters, if it enters one
+
+abbrev pub enters_command : Option (Text × List Row) → Bool
+enters_command None = false
+enters_command (Some entered) = is_command entered.0
+
+abbrev pub EntersFor : Option (Text × List Row) → Asked → Type 0
+EntersFor None asked = ⊥
+EntersFor (Some entered) asked = AsksFor entered.0 entered.1 asked

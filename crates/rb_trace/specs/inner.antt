@@ -1,0 +1,4 @@
+pub mod Causes
+pub mod Has
+pub mod Places
+pub mod Stops

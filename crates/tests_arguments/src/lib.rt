@@ -1,0 +1,5 @@
+//! Tests of command lines: `rb_arguments`.
+#![tactic(auto)]
+
+#[cfg(test)]
+mod lines;

@@ -1,0 +1,336 @@
+//! The commands over files in memory: what they print, what they leave, and their statuses.
+mod batch;
+mod desk;
+mod get;
+mod helpers;
+mod root;
+mod texts;
+mod traces;
+mod values;
+
+use desk::Desk;
+use rb_console::{Console, StartError, not_started_on};
+use rb_file_commands::{Layout, check, compile, get, json};
+use rb_lookup_commands::start_engine;
+use std::alloc::Global;
+use std::process::ExitCode;
+
+/// The file of `root{}`.
+const EMPTY: [u8; 56] = [
+    0x20, 0x00, 0xDA, 0x27, 0x14, 0x00, 0x00, 0x00, 0x00, 0x00, 0x02, 0x00, 0x52, 0x65, 0x73, 0x42,
+    0x01, 0x01, 0x00, 0x00, 0x00, 0x00, 0x00, 0x00, 0x00, 0x00, 0x00, 0x00, 0x00, 0x00, 0x00, 0x00,
+    0x00, 0x00, 0x00, 0x20, 0x05, 0x00, 0x00, 0x00, 0x06, 0x00, 0x00, 0x00, 0x06, 0x00, 0x00, 0x00,
+    0x06, 0x00, 0x00, 0x00, 0x00, 0x00, 0x00, 0x00,
+];
+
+/// The file of `root{a{"b"}}`.
+const ONE_STRING: [u8; 76] = [
+    0x20, 0x00, 0xDA, 0x27, 0x14, 0x00, 0x00, 0x00, 0x00, 0x00, 0x02, 0x00, 0x52, 0x65, 0x73, 0x42,
+    0x01, 0x01, 0x00, 0x00, 0x00, 0x00, 0x00, 0x00, 0x00, 0x00, 0x00, 0x00, 0x00, 0x00, 0x00, 0x00,
+    0x09, 0x00, 0x00, 0x20, 0x05, 0x00, 0x00, 0x00, 0x07, 0x00, 0x00, 0x00, 0x0B, 0x00, 0x00, 0x00,
+    0x0B, 0x00, 0x00, 0x00, 0x01, 0x00, 0x00, 0x00, 0x61, 0x00, 0xAA, 0xAA, 0x01, 0x00, 0x00, 0x00,
+    0x62, 0x00, 0x00, 0x00, 0x01, 0x00, 0x18, 0x00, 0x07, 0x00, 0x00, 0x00,
+];
+
+/// A file whose root holds an array that holds itself.
+const HOLDS_ITSELF: [u8; 76] = [
+    0x20, 0x00, 0xDA, 0x27, 0x14, 0x00, 0x00, 0x00, 0x00, 0x00, 0x02, 0x00, 0x52, 0x65, 0x73, 0x42,
+    0x01, 0x01, 0x00, 0x00, 0x00, 0x00, 0x00, 0x00, 0x00, 0x00, 0x00, 0x00, 0x00, 0x00, 0x00, 0x00,
+    0x09, 0x00, 0x00, 0x20, 0x05, 0x00, 0x00, 0x00, 0x07, 0x00, 0x00, 0x00, 0x0B, 0x00, 0x00, 0x00,
+    0x0B, 0x00, 0x00, 0x00, 0x01, 0x00, 0x00, 0x00, 0x61, 0x00, 0xAA, 0xAA, 0x01, 0x00, 0x00, 0x00,
+    0x07, 0x00, 0x00, 0x80, 0x01, 0x00, 0x18, 0x00, 0x07, 0x00, 0x00, 0x80,
+];
+
+/// The file of `de:table(nofallback){}`.
+const EMPTY_WITHOUT_FALLBACK: [u8; 60] = [
+    0x20, 0x00, 0xDA, 0x27, 0x14, 0x00, 0x00, 0x00, 0x00, 0x00, 0x02, 0x00, 0x52, 0x65, 0x73, 0x42,
+    0x01, 0x02, 0x00, 0x00, 0x00, 0x00, 0x00, 0x00, 0x00, 0x00, 0x00, 0x00, 0x00, 0x00, 0x00, 0x00,
+    0x00, 0x00, 0x00, 0x20, 0x06, 0x00, 0x00, 0x00, 0x07, 0x00, 0x00, 0x00, 0x07, 0x00, 0x00, 0x00,
+    0x07, 0x00, 0x00, 0x00, 0x00, 0x00, 0x00, 0x00, 0x01, 0x00, 0x00, 0x00,
+];
+
+/// How many bytes a file of a desk may have.
+const ROOM: usize = 1000;
+
+/// What is done with a desk, and what is seen then.
+#[derive(Clone, Copy)]
+pub(crate) enum Step<'a> {
+    /// A file is put there.
+    Put(&'a str, &'a [u8]),
+    /// Nothing can be printed to standard output any more.
+    Close,
+    /// A text is compiled to a file; the status, and what is printed to standard output and to
+    /// standard error.
+    Compile(&'a str, &'a str, u8, &'a str, &'a str),
+    /// A file is checked; the same.
+    Check(&'a str, u8, &'a str, &'a str),
+    /// The item at a path of a file is printed; the same.
+    Get(&'a str, &'a str, u8, &'a str, &'a str),
+    /// The whole item at a path of a file is printed as one value; the same.
+    Json(&'a str, &'a str, Layout, u8, &'a str, &'a str),
+    /// There is a file with these bytes.
+    Has(&'a str, &'a [u8]),
+    /// There is such a file, or there is none.
+    Keeps(&'a str, bool),
+}
+
+use Step::{Check, Close, Compile, Get, Has, Json, Keeps, Put};
+
+/// Whether a command ended with this status, and printed this.
+fn ended(desk: &Desk, found: ExitCode, status: u8, output: &str, errors: &str) -> bool {
+    found == ExitCode::from(status) && desk.said(output, errors)
+}
+
+fn is_step(desk: &Desk, step: Step<'_>) -> bool {
+    match step {
+        Put(path, bytes) => desk.put(path, bytes),
+        Close => {
+            desk.close_output();
+            true
+        }
+        Compile(text, file, status, output, errors) => {
+            ended(desk, compile(desk, text, file), status, output, errors)
+        }
+        Check(file, status, output, errors) => {
+            ended(desk, check(desk, file), status, output, errors)
+        }
+        Get(file, path, status, output, errors) => {
+            ended(desk, get(desk, file, path), status, output, errors)
+        }
+        Json(file, path, layout, status, output, errors) => {
+            ended(
+                desk,
+                json(desk, Console::plain(), file, path, layout),
+                status,
+                output,
+                errors,
+            )
+        }
+        Has(path, bytes) => desk.has(path, bytes),
+        Keeps(path, is_there) => desk.keeps(path) == is_there,
+    }
+}
+
+/// Whether each step on a desk is as it says.
+pub(crate) fn all_steps(desk: &Desk, steps: &[Step<'_>]) -> bool {
+    for step in steps {
+        if !is_step(desk, *step) {
+            return false;
+        }
+    }
+    true
+}
+
+/// A desk with files. If memory runs out some aren't there, and the test fails by that.
+pub(crate) fn desk_of(alloc: Global, files: &[(&str, &[u8])]) -> Desk {
+    let desk = Desk::new(alloc, ROOM);
+    for (name, bytes) in files {
+        let _ = desk.put(name, bytes);
+    }
+    desk
+}
+
+/// Whether each step on a new desk is as it says.
+pub(crate) fn are_steps(alloc: Global, room: usize, steps: &[Step<'_>]) -> bool {
+    all_steps(&Desk::new(alloc, room), steps)
+}
+
+/// Texts, and the files that they are compiled to.
+const COMPILED: [(&[u8], &[u8], &str); 4] = [
+    (b"root{}", &EMPTY, "wrote 56 bytes\n"),
+    (b"root{a{\"b\"}}", &ONE_STRING, "wrote 76 bytes\n"),
+    (b"root{a{\"b\"},}", &ONE_STRING, "wrote 76 bytes\n"),
+    (
+        b"de:table(nofallback){}",
+        &EMPTY_WITHOUT_FALLBACK,
+        "wrote 60 bytes\n",
+    ),
+];
+
+#[test]
+fn compiles_texts(rt: HostRuntime) {
+    for (text, file, said) in COMPILED {
+        let steps = [
+            Put("in.txt", text),
+            Compile("in.txt", "out.res", 0, said, ""),
+            Has("out.res", file),
+        ];
+        assert!(rt; are_steps(rt.alloc(), ROOM, &steps));
+    }
+}
+
+const BAD_TEXT: [Step<'static>; 5] = [
+    Put("bad.txt", b"root{\na:int{x}}"),
+    Compile("bad.txt", "out.res", 1, "", "bad.txt:2: BadInt\n"),
+    Keeps("out.res", false),
+    Compile("absent.txt", "out.res", 2, "", "cannot read absent.txt\n"),
+    Keeps("out.res", false),
+];
+
+#[test]
+fn compiles_before_it_writes(rt: HostRuntime) {
+    assert!(rt; are_steps(rt.alloc(), ROOM, &BAD_TEXT));
+}
+
+const FULL_DISK: [Step<'static>; 10] = [
+    Put("in.txt", b"root{}"),
+    Compile("in.txt", "out.res", 2, "", "cannot write out.res\n"),
+    Keeps("out.res", false),
+    Put("older.res", b"older"),
+    Compile("in.txt", "older.res", 2, "", "cannot write older.res\n"),
+    Has("older.res", b"older"),
+    Keeps("older.res.resb-unfinished", false),
+    Put("/dev/full", b""),
+    Compile("in.txt", "/dev/full", 2, "", "cannot write /dev/full\n"),
+    Keeps("/dev/full", true),
+];
+
+/// An older file, what a command that was killed left, and files that aren't overwritten.
+const OLDER: [Step<'static>; 12] = [
+    Put("in.txt", b"root{}"),
+    Put("out.res", b"older"),
+    Put("out.res.resb-unfinished", b"half"),
+    Compile("in.txt", "out.res", 0, "wrote 56 bytes\n", ""),
+    Has("out.res", &EMPTY),
+    Keeps("out.res.resb-unfinished", false),
+    Put("fr.txt", b"fr{}"),
+    Compile(
+        "in.txt",
+        "fr.txt",
+        2,
+        "",
+        "resb: OUT is a bundle text: fr.txt\n",
+    ),
+    Has("fr.txt", b"fr{}"),
+    Put("fr", b"fr{}"),
+    Compile("fr", "fr", 2, "", "resb: OUT is IN: fr\n"),
+    Has("fr", b"fr{}"),
+];
+
+#[test]
+fn replaces_files_and_no_texts(rt: HostRuntime) {
+    assert!(rt; are_steps(rt.alloc(), ROOM, &OLDER));
+}
+
+#[test]
+fn leaves_no_half_file(rt: HostRuntime) {
+    assert!(rt; are_steps(rt.alloc(), 40, &FULL_DISK));
+}
+
+const CLOSED: [Step<'static>; 5] = [
+    Put("in.txt", b"root{a{\"b\"}}"),
+    Close,
+    Compile("in.txt", "out.res", 2, "", "cannot write stdout\n"),
+    Check("out.res", 2, "", "cannot write stdout\n"),
+    Get("out.res", "a", 2, "", "cannot write stdout\n"),
+];
+
+#[test]
+fn says_that_output_is_not_taken(rt: HostRuntime) {
+    assert!(rt; are_steps(rt.alloc(), ROOM, &CLOSED));
+}
+
+const CHECKED: [Step<'static>; 5] = [
+    Put("good.res", &ONE_STRING),
+    Put("bad.res", &HOLDS_ITSELF),
+    Check("good.res", 0, "ok, 1 visits\n", ""),
+    Check("bad.res", 1, "", "bad.res: TooDeep\n"),
+    Check("absent.res", 2, "", "cannot read absent.res\n"),
+];
+
+#[test]
+fn checks_files(rt: HostRuntime) {
+    assert!(rt; are_steps(rt.alloc(), ROOM, &CHECKED));
+}
+
+/// The files that starts are given.
+const GIVEN: [(&str, &[u8]); 9] = [
+    ("a.txt", b"x{}"),
+    ("b.txt", b"x{}"),
+    ("c.txt", b"x"),
+    ("d.res", &HOLDS_ITSELF),
+    ("good.res", &ONE_STRING),
+    ("none.txt", b"x{a{\"b\"}}"),
+    ("two.txt", b"x{parentLocales{en{\"de\"} fr{\"de\"}}}"),
+    ("good.txt", b"x{parentLocales{root{\"zh_Hant\"}}}"),
+    ("text.TXT", b"x{}"),
+];
+
+/// Starts that are refused: the file of explicit parents, the arguments, what is said, and the
+/// status.
+const REFUSED: [(Option<&str>, &[&str], &str, u8); 15] = [
+    (None, &["de"], "bad bundle argument: de\n", 2),
+    (None, &["d=x.txt"], "bad bundle argument: d=x.txt\n", 2),
+    (None, &["=a.txt", "de=c.txt"], "c.txt: BadText\n", 1),
+    (None, &["de=x=a.txt"], "cannot read x=a.txt\n", 2),
+    (None, &["de=a.txt", "de=b.txt"], "b.txt: Twice\n", 1),
+    (None, &["de=c.txt"], "c.txt: BadText\n", 1),
+    (None, &["de=d.res"], "d.res: BadFile\n", 1),
+    (None, &["de=text.TXT"], "text.TXT: BadFile\n", 1),
+    (None, &["de=a.txt", "de=c.txt"], "c.txt: BadText\n", 1),
+    (Some("none.txt"), &[], "none.txt: Shape\n", 1),
+    (Some("two.txt"), &[], "two.txt: TwoParents\n", 1),
+    (Some("c.txt"), &[], "c.txt: Unexpected\n", 1),
+    (Some("absent.txt"), &["de"], "bad bundle argument: de\n", 2),
+    (Some("none.txt"), &["de=absent.txt"], "none.txt: Shape\n", 1),
+    (
+        Some("good.txt"),
+        &["de=c.txt", "fr=absent.txt"],
+        "cannot read absent.txt\n",
+        2,
+    ),
+];
+
+/// The status of a start that is refused, or none.
+fn refusal(desk: &Desk, parents: Option<&str>, arguments: &[&str]) -> Option<ExitCode> {
+    match start_engine(desk, parents, arguments) {
+        Ok(_) => None,
+        Err(error) => Some(not_started_on(desk, Console::plain(), error)),
+    }
+}
+
+/// Whether each start with random bytes is refused so.
+fn are_refused(desk: &Desk) -> bool {
+    if !desk.put("/dev/random", b"") {
+        return false;
+    }
+    for (parents, arguments, said, status) in REFUSED {
+        let found = refusal(desk, parents, arguments);
+        if found != Some(ExitCode::from(status)) || !desk.said("", said) {
+            return false;
+        }
+    }
+    true
+}
+
+#[test]
+fn refuses_to_start(rt: HostRuntime) {
+    assert!(rt; are_refused(&desk_of(rt.alloc(), &GIVEN)));
+}
+
+/// Whether there is no start without random bytes, and one with them.
+fn wants_random_bytes(desk: &Desk) -> bool {
+    let arguments = ["root=good.res", "de-at=a.txt"];
+    let (parents, status) = (Some("good.txt"), ExitCode::from(2));
+    refusal(desk, parents, &arguments) == Some(status)
+        && desk.said("", "no random state\n")
+        && desk.put("/dev/random", b"")
+        && refusal(desk, parents, &arguments).is_none()
+        && desk.said("", "")
+}
+
+#[test]
+fn starts_with_a_random_state(rt: HostRuntime) {
+    assert!(rt; wants_random_bytes(&desk_of(rt.alloc(), &GIVEN)));
+}
+
+/// Whether a start for which there is no memory is answered so.
+fn says_memory(desk: &Desk) -> bool {
+    let status = not_started_on(desk, Console::plain(), StartError::Memory);
+    ended(desk, status, 1, "", "Memory\n")
+}
+
+#[test]
+fn says_that_memory_is_out(rt: HostRuntime) {
+    assert!(rt; says_memory(&Desk::new(rt.alloc(), ROOM)));
+}
