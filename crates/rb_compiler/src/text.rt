@@ -11,8 +11,9 @@ use rb_parser::parse;
 use rb_writer::write;
 use std::alloc::Global;
 
-/// The file of the bundle that a text spells, in ResB format 1, as ICU's `genrb --formatVersion 1`
-/// writes it but for what it shares. Its buffer holds the file and nothing else.
+/// The file of the bundle that a text spells, in ResB format 1.1, or 1.2 if it is without fallback;
+/// docs/FORMAT.md says what differs from the files of `genrb --formatVersion 1`. Its buffer holds
+/// the file and nothing else.
 ///
 /// The errors and their lines are those of `parse`; `Memory` has line 0. No memory is kept after an
 /// error.
@@ -22,7 +23,7 @@ use std::alloc::Global;
 /// compile(alloc, b"root{\na:int{09}}") // Err: BadInt, line 2
 /// ```
 pub fn compile(alloc: Global, text: &[u8]) -> Result<Vec<u8>, SourceFault>
-    // What is given is a file of the bundle that the text spells.
+    // What is given is the file that is written of the bundle that the text spells.
     ensures compiled { IfOk result (λ file. IsCompiled text.now file.items) }
     // It ends with its bundle.
     ensures end { IfOk result

@@ -1,4 +1,4 @@
--- What a trace gives, from what the lookup gives that it traces.
+-- What a trace answers, by the answer of the lookup that it traces.
 use Rattle.std.specs.Prelude.{ℕ, List, Result, Ok, Err}
 use Rattle.rb_fallback.specs.Search.{Hit}
 use Rattle.rb_fallback.specs.declared.fault.LookError.{LookError}

@@ -3,7 +3,7 @@
 //! The way is walked once more beside the lookup, over the same calls that it rests on, and each
 //! step is said.
 ghost use Rattle.std.specs.Prelude.{◌≡◌, ◌⊎◌, ◌↔◌, ◌<◌, ◌≤◌, ◌++◌, ◌∷◌, [], ℕ, List, Err};
-ghost use Rattle.std.specs.Prelude.{IfNone, IfOk, IfSome, Some, length, map, option_map};
+ghost use Rattle.std.specs.Prelude.{IfNone, IfOk, IfSome, Some, is_some, length, map, option_map};
 ghost use Rattle.rb_tree.specs.Parts.{kind_of, units_of};
 ghost use Rattle.rb_tree.specs.Path.{IsPath, segments};
 ghost use Rattle.rb_tree.specs.declared.kind.Kind.TheVariants as Kinds;
@@ -16,6 +16,7 @@ ghost use Rattle.rb_fallback.specs.declared.fault.LookError.TheVariants as Fault
 ghost use Rattle.rb_fallback.specs.Limits.{path_limit};
 ghost use Rattle.rb_trace.specs.Files.{bundle_named};
 ghost use Rattle.rb_trace.specs.Traces.{trace_of};
+ghost use Rattle.rb_trace.specs.inner.Causes.{IsNextBy};
 ghost use Rattle.rb_trace.specs.inner.Has.{HasAtName, HasAtStop};
 ghost use Rattle.rb_trace.specs.inner.Places.{LeadsFrom, shown_unit};
 ghost use Rattle.rb_trace.specs.inner.Stops.{AreStops, GoesOver, IsLevelOf, IsTracedLevel};
@@ -123,6 +124,31 @@ fn with_name<N: Node>(
         None if has_bundle => (stops, Has::Alias),
         None => (stops, Has::NoBundle),
     }
+}
+
+/// What comes of one name on the way: which name is next, what this one has of the path, and the
+/// stops then.
+fn asked<'s, S: Shelf<'s>>(
+    shelf: S,
+    parents: &Parents,
+    name: &Name,
+    path: &[u8],
+    stops: Stops<S::N>,
+) -> (Then, Has, Stops<S::N>)
+    requires { IsPath path.now }
+    ensures next { next_of result.0.next
+        ≡ next (S.bundles shelf) (parent_of parents.now) name.now }
+    ensures why { IsNextBy result.0.why (parent_of parents.now) name.now
+        (S.bundles shelf name.now) (next_of result.0.next) }
+    ensures has { HasAtName stops.decided (is_some (S.bundles shelf name.now))
+        (stop_tree (S.bundles shelf name.now)) path.now result.1 }
+    ensures stops { GoesOver S.N.tree (S.bundles shelf) path.now name.now stops result.2 }
+{
+    let bundle = shelf.bundle(name);
+    let has_bundle = bundle.is_some();
+    let (next, stop) = visit(shelf, parents, name);
+    let (after, has) = with_name(stops, name, has_bundle, stop, path);
+    (then_by(next, bundle, parents, name), has, after)
 }
 
 /// What the stops of a whole trail give.
@@ -283,11 +309,7 @@ impl<'a, R: Eprint + AllocGlobal> Trace<'a, R> {
             ≡ next (S.bundles shelf) (parent_of self.now.parents.now) name.now }
         ensures stops { GoesOver S.N.tree (S.bundles shelf) path.now name.now stops result.1 }
     {
-        let bundle = shelf.bundle(name);
-        let has_bundle = bundle.is_some();
-        let (next, stop) = visit(shelf, self.parents, name);
-        let (after, has) = with_name(stops, name, has_bundle, stop, path);
-        let then = then_by(next, bundle, self.parents, name);
+        let (then, has, after) = asked(shelf, self.parents, name, path, stops);
         self.say_name(name, path, has, &then);
         (then.next, after)
     }

@@ -1,5 +1,5 @@
--- The keys of a tree as they are written: each once, in the order of their bytes, with a NUL after it (`uresdata.h`).
--- That none is there twice and that no key shares the end of another is a rule of this project.
+-- The keys of a tree as they are written. The NUL after each is `uresdata.h`'s. That each key is there once, that they
+-- ascend by bytes, and that none shares the end of another are rules of this project.
 use Rattle.std.specs.Prelude.{ℕ, ◌+◌, List, [], ◌∷◌, ◌++◌, length, flat_map, if◌then◌else◌, Contains}
 use Rattle.std.specs.Str.{bytes_eq}
 use Rattle.std.specs.Ordering.{nat_cmp}

@@ -11,7 +11,7 @@ use Rattle.rb_format.specs.declared.kind.ItemKind.{ItemKind}
 use Rattle.rb_format.specs.declared.kind.ItemKind.TheVariants as kinds
 use Rattle.rb_writer.specs.Bytes.{words, halves, padded, if_any, place_of}
 
--- ---- values without children, each behind n bytes
+-- ---- values without children; where a Binary begins depends on the n bytes before it
 
 -- a text: its count, its units and a zero unit
 abbrev pub text_data : List ℕ → List ℕ
@@ -64,7 +64,8 @@ abbrev pub table_item : ℕ → List ℕ → List ℕ → ℕ
 table_item n offsets items =
     item_word (if are_halves (length items ∷ offsets) then kinds.Table else kinds.LongTable) (place_of n items)
 
--- ---- a tree behind n bytes, each value after its children; `at` says where keys are
+-- ---- a tree behind n bytes, each value after its children, those of a table in the order of its keys; `at` says where
+-- keys are
 abbrev mutual
   pub data_of : (List ℕ → ℕ) → ℕ → Resource → List ℕ
   data_of at n (string us) = text_data us

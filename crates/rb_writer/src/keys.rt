@@ -115,7 +115,7 @@ pub fn place_key<'a>(
     Ok(())
 }
 
-/// Keeps that the last key that was placed is the one of this number.
+/// Notes, for the key of this number, its rank among the keys that were placed, of which it is last.
 fn rank_last(ranks: &mut [u32], id: u32, count: usize) {
     let i = id as usize;
     if i < ranks.len() {

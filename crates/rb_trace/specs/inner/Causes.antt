@@ -1,4 +1,5 @@
--- For proofs only: what decides on the name after one, as `next` of rb_parents has it, and what it says of that name.
+-- For private contracts and proofs: what decides on the name after one, as `next` of rb_parents has it, and what it says
+-- of that name.
 use Rattle.std.specs.Prelude.{◌≡◌, ◌⊎◌, ℕ, List, Option, Some, None, codes, is_some, option_map, if◌then◌else◌}
 use Rattle.std.specs.Str.{bytes_eq}
 use Rattle.rb_tree.specs.SourceTree.{SourceTree}

@@ -1,4 +1,4 @@
--- For proofs only: what a name on the way has of a path.
+-- For private contracts and proofs: what a name on the way has of a path.
 use Rattle.std.specs.Prelude.{◌≡◌, ◌<◌, ◌&&◌, ◌⊎◌, ℕ, List, length, slice_index, take}
 use Rattle.std.specs.Prelude.{Bool, true, false, Option, Some, None, if◌then◌else◌}
 use Rattle.rb_tree.specs.Resource.{Resource}

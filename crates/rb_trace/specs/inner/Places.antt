@@ -1,4 +1,4 @@
--- For proofs only: the text of an alias as a trace keeps it, and where it leads.
+-- For private contracts and proofs: the text of an alias as a trace keeps it, and where it leads.
 use Rattle.std.specs.Prelude.{◌≡◌, ◌++◌, ℕ, List, drop, Result, Ok, Err, if◌then◌else◌}
 use Rattle.rb_tree.specs.Path.{segments, IsPath}
 use Rattle.rb_tree.specs.Walk.{behind}

@@ -1,4 +1,4 @@
--- For proofs only: what a trace knows of the stops of a level so far, and what a level gives.
+-- For private contracts and proofs: what a trace knows of the stops of a level so far, and what a level gives.
 use Rattle.std.specs.Prelude.{◌≡◌, ◌++◌, ◌∷◌, [], ℕ, List, Option, Some, None, Result, Ok, Err}
 use Rattle.rb_tree.specs.Resource.{Resource}
 use Rattle.rb_tree.specs.Path.{segments}
