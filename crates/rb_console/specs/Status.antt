@@ -1,6 +1,7 @@
 -- The statuses that commands share, this project's own rule: 0 on success; 1 if a text, a file or a path is refused, or
 -- memory runs out; 2 if an argument names no bundle, a file can't be read, standard output can't be written, or there is
--- no random state. Serving that ends early is 1, whatever the cause, and isn't said here.
+-- no random state. Not said here: serving that ends early is 1, whatever the cause, and a file that can't be written
+-- is 2.
 use Rattle.std.specs.Prelude.{ℕ, Result, Ok, Err}
 use Rattle.std.specs.declared.io.ErrorKind.{ErrorKind}
 use Rattle.std.specs.declared.io.ErrorKind.TheVariants.{OutOfMemory}
@@ -20,6 +21,10 @@ start_status Memory = 1
 abbrev pub unread_status : ErrorKind → ℕ
 unread_status OutOfMemory = 1
 unread_status _ = 2
+
+-- a file or a path that is refused
+abbrev pub refused_status : ℕ
+refused_status = 1
 
 -- a command whose output was written, or not
 abbrev pub printed_status : {T E : Type 0} → Result T E → ℕ

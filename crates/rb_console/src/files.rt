@@ -2,7 +2,7 @@
 ghost use Rattle.std.specs.Prelude.{◌≡◌};
 ghost use Rattle.std.specs.IoError.{error_kind};
 ghost use Rattle.std.specs.Process.{exit_status};
-ghost use Rattle.rb_console.specs.Status.{printed_status, unread_status};
+ghost use Rattle.rb_console.specs.Status.{printed_status, refused_status, unread_status};
 
 use crate::console::Console;
 use rb_format::FILE_LIMIT;
@@ -127,7 +127,7 @@ pub fn cannot_read_on<R: Eprint>(
 
 /// Says that a file or a path is refused, by the error's name.
 pub fn refused_on<R: Eprint>(rt: &R, console: Console, place: &str, word: &str) -> ExitCode
-    ensures status { exit_status result ≡ 1 }
+    ensures status { exit_status result ≡ refused_status }
 {
     let hint = console.hint(word);
     let _ = eprintln!(rt; "{place}: {word}{hint}");

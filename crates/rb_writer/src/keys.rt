@@ -115,7 +115,8 @@ pub fn place_key<'a>(
     Ok(())
 }
 
-/// Notes, for the key of this number, its rank among the keys that were placed, of which it is last.
+/// Notes, for the key of this number, its rank among the keys that were placed, of which it is the
+/// last.
 fn rank_last(ranks: &mut [u32], id: u32, count: usize) {
     let i = id as usize;
     if i < ranks.len() {
