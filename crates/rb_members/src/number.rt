@@ -1,6 +1,7 @@
 //! Numbers that `serde_json` takes.
-ghost use Rattle.std.specs.Prelude.{◌≡◌, ◌==◌, ◌<◌, is_some, IsTrue, length, slice_index, true};
-ghost use Rattle.std.specs.Prelude.{false};
+ghost use Rattle.std.specs.Prelude.{◌≡◌, ◌==◌, ◌<◌, ◌≤◌, is_some, IsTrue, length, slice_index};
+ghost use Rattle.std.specs.Prelude.{true, false, All};
+ghost use Rattle.std.specs.Char.{IsAsciiDigit};
 ghost use Rattle.serde_json.specs.Read.{number_of, number_from, float_of};
 
 use fast_float::Numeral;
@@ -33,12 +34,25 @@ fn is_negative(numeral: &Numeral<'_>) -> bool
     }
 }
 
+/// Whether bytes are decimal digits, and so few that they write an integer of 64 bits. Most numbers
+/// are such, and need no reading.
+fn is_short_integer(bytes: &[u8]) -> bool
+    ensures digits { IsTrue result → All IsAsciiDigit bytes.now }
+    ensures some { IsTrue result → 0 < length bytes.now }
+    ensures few { IsTrue result → length bytes.now ≤ 19 }
+{
+    !bytes.is_empty() && bytes.len() <= 19 && bytes.iter().all(|byte| byte.is_ascii_digit())
+}
+
 /// Whether the number that a token writes is in range: an integer of 64 bits, or one with a finite
 /// nearest float.
 pub(crate) fn is_in_range(text: &str) -> bool
     ensures { result ≡ is_some (number_of text.now) }
 {
     let bytes = text.as_bytes();
+    if is_short_integer(bytes) {
+        return true;
+    }
     if has_minus(bytes) {
         is_negative(&Numeral::scan(&bytes[1..]))
     } else {

@@ -1,10 +1,10 @@
-use Rattle.std.proofs.Common.{◌≡◌, ◌-◌, ◌<◌, [], ◌∷◌, length, is_some, true, false, Some, None, inl, inr, sym, ap, ap₂, ◌∙◌, arith, rules, refl}
+use Rattle.std.proofs.Common.{◌≡◌, ◌-◌, ◌<◌, [], ◌∷◌, length, Some, None, inl, inr, ap, ap₂, ◌∙◌, arith, refl}
 use Rattle.json.specs.Token.{Token}
 use Rattle.json.specs.Json.{parse_map, after_end_array, read_key, items, members, value}
 use Rattle.json.specs.Reads.{token_of}
 use Rattle.json.proofs.Grammar.{value_is, value-begin_array, value-begin_object, read_key-shorter}
-use Rattle.serde_json.specs.Data.{null, boolean, number, string, array, object, no_items, no_members, item, put}
-use Rattle.serde_json.specs.Read.{of_json, of_items, of_members, converted, number_of}
+use Rattle.serde_json.specs.Data.{null, boolean, string, array, object, no_items, no_members, item, put}
+use Rattle.serde_json.specs.Read.{of_json, converted}
 use Rattle.rb_members.proofs.Reading.{converted-array, converted-object, item_read, item_refused, items_over, member_read, member_refused, key_refused, members_over}
 use Rattle.rb_members.proofs.Members.{one_more_before, none_before, at_an_error, number_in_range, number_out_of_range, boolean_read, null_read}
 use Rattle.rb_members.proofs.member.+read_value.Goals as goal

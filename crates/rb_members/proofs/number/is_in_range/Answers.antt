@@ -1,6 +1,7 @@
 use Rattle.std.proofs.Common.{◌≡◌, drop, get_or, true, false, is_some, ◌==◌, sym, ap, ◌∙◌, arith, take_all, length-drop}
 use Rattle.fast_float.specs.Text.{Parts, scan}
 use Rattle.serde_json.specs.Read.{number_of, number_from}
+use Rattle.rb_members.proofs.ShortIntegers.{short_integer}
 use Rattle.rb_members.proofs.number.is_in_range.Goals as goal
 
 pub returns-then-has_minus : goal.returns-then-has_minus
@@ -21,3 +22,10 @@ returns-else-has_minus c =
     let read : number_from false (scan s) ≡ number_of s = rw unsigned in
     c.is_unsigned.ensures ∙ ap (λ (p : Parts). is_some (number_from false p)) c.scan-else-has_minus.ensures.parts ∙ ap is_some read
     ∙ ap (λ t. is_some (number_of t)) c.as_bytes-bytes.ensures.value
+
+pub returns-then-is_short_integer : goal.returns-then-is_short_integer
+returns-then-is_short_integer c =
+    let told = c.is_short_integer.ensures in
+    let set = c.if-is_short_integer.true in
+    let short = short_integer c.as_bytes-bytes.result.now (told.digits set) (told.some set) (told.few set) in
+    sym short ∙ ap (λ t. is_some (number_of t)) c.as_bytes-bytes.ensures.value

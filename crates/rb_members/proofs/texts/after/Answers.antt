@@ -1,7 +1,6 @@
-use Rattle.std.proofs.Common.{sym, ◌∙◌, ap, subst, Option, Some, eq-eqb, rules, ◌≡◌, true≢false}
+use Rattle.std.proofs.Common.{sym, ◌∙◌, subst, Option, rules, ◌≡◌, true≢false}
 use Rattle.std.proofs.lemmas.Slice.Eq.{bytes_eq-Decides}
-use Rattle.serde_json.specs.Data.{Data, put}
-use Rattle.serde_json.specs.Find.{get_member}
+use Rattle.serde_json.specs.Data.{Data}
 use Rattle.serde_json.proofs.Views.{get_member-put, get_member-put_other}
 use Rattle.rb_members.specs.Texts.{IsAt}
 use Rattle.rb_members.proofs.texts.after.Goals as goal

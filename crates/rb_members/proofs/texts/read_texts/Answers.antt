@@ -1,12 +1,9 @@
-use Rattle.std.proofs.Common.{◌≡◌, ◌∷◌, [], length, false, true≢false, Some, None, ap, sym, ◌∙◌, arith, rules}
+use Rattle.std.proofs.Common.{◌≡◌, ◌∷◌, [], Some, ap, ◌∙◌, arith}
 use Rattle.json.specs.Token.{Token}
 use Rattle.json.specs.Lex.{tokens}
-use Rattle.json.specs.Json.{parse_map, members, value}
-use Rattle.json.specs.Reads.{token_of}
-use Rattle.json.proofs.Grammar.{value-begin_object}
-use Rattle.serde_json.specs.Data.{object, no_members}
-use Rattle.serde_json.specs.Read.{of_json, of_members, converted}
-use Rattle.rb_members.proofs.Reading.{converted-object, whole, whole_read, whole_refused, whole_and_more}
+use Rattle.json.specs.Json.{parse_map, value}
+use Rattle.serde_json.specs.Data.{object}
+use Rattle.rb_members.proofs.Reading.{whole_read, whole_refused, whole_and_more}
 use Rattle.rb_members.proofs.Members.{no_object, no_value, object_opened, ended}
 use Rattle.rb_members.proofs.texts.read_texts.Goals as goal
 
