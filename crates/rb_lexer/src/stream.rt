@@ -110,4 +110,23 @@ impl<'a> Tokens<'a> {
             }
         }
     }
+
+    /// Takes the next token, if there is one, and drops it.
+    ///
+    /// # Errors
+    ///
+    /// As of `pop`.
+    pub fn skip(&mut self) -> Result<(), AllocError>
+        ensures { MatchResult result (λ _. self.new ≡ drop 1 self.old) (λ _. self.new ≡ []) }
+    {
+        drop(self.reader.builder.pop());
+        match self.reader.fill() {
+            Ok(()) => Ok(()),
+            Err(error) => {
+                let alloc = self.reader.alloc;
+                *self = Tokens::none(alloc);
+                Err(memory_error(error))
+            }
+        }
+    }
 }

@@ -1,5 +1,5 @@
 -- Bodies, as the code reads them, and the tables of their entries.
-use Rattle.std.proofs.Common.{◌≡◌, ℕ, zero, suc, ◌<◌, ◌++◌, ◌||◌, Bool, true, false, cond, List, [], ◌∷◌, length, get_or, Option, Some, Result, Ok, Err, All}
+use Rattle.std.proofs.Common.{◌≡◌, ℕ, suc, ◌++◌, ◌||◌, Bool, true, false, cond, List, [], ◌∷◌, length, Option, Some, Result, Ok, Err, All}
 use Rattle.std.proofs.Common.{refl, sym, ap, subst, ◌∙◌, arith, ◌⊎◌, inl, inr, nat_eq}
 use Rattle.std.specs.Map.{lookup}
 use Rattle.std.specs.Cmp.Lexicographic.{pointwise}
@@ -12,7 +12,7 @@ use Rattle.rb_lexer.specs.declared.fault.SourceFault.{SourceFault}
 use Rattle.rb_tree.specs.Resource as resource
 use Rattle.rb_tree.specs.Resource.{Resource, Members}
 use Rattle.rb_tree.specs.Keys.{IsKey, IsTable}
-use Rattle.rb_tree.specs.Table.{seen_pairs, keys_in, IsFirstRepeat, IsTableOf}
+use Rattle.rb_tree.specs.Table.{seen_pairs, keys_in, IsTableOf}
 use Rattle.rb_tree.specs.View.{view_of}
 use Rattle.rb_tree.specs.declared.tree.Tree.{Tree}
 use Rattle.rb_grammar.specs.Faults.{line_at}
@@ -31,7 +31,7 @@ use Rattle.rb_parser.specs.declared.cursor.Guess as program
 use Rattle.rb_parser.specs.declared.cursor.Guess.TheVariants.{Text}
 use Rattle.rb_parser.specs.declared.word.Word.TheVariants as word
 use Rattle.rb_parser.specs.declared.word.Leaf as word_leaf
-use Rattle.rb_parser.specs.inner.Seen.{Pair}
+use Rattle.rb_parser.specs.inner.Rows.{Pair}
 use Rattle.rb_parser.proofs.Steps.{located_bind, fault_is}
 
 -- the same end and the same reading
@@ -210,22 +210,3 @@ table_spells ps es d are passed t = (
 pub table_passed : (depth n : ℕ) (ts : List Token) (es : Entries) (r : List Token) → entries the_tests (body the_tests depth) n [] ts ≡ Ok (es, r)
     → AllPassed the_tests es
 table_passed depth n ts es r e = (entries_take the_tests depth (body the_tests depth) (body_takes the_tests depth) n [] ts (es, r) e).passed
-
--- no key comes twice
-key_there : (ps : List Pair) (es : Entries) (i : ℕ) → AreEntries ps es → i < length (keys_in ps) → IsKeyOf es (get_or (keys_in ps) i [])
-key_there [] es i are h = absurd (omega arith)
-key_there (p ∷ ps) no_entries i are h = absurd are
-key_there (p ∷ ps) (entry k b c es) zero are h = inl are.0
-key_there (p ∷ ps) (entry k b c es) (suc i) are h = inr (key_there ps es i are.2 (omega arith))
-
-apart : (ps : List Pair) (es : Entries) (i j : ℕ) → AreEntries ps es → AllPassed the_tests es → j < i → i < length (keys_in ps)
-    → get_or (keys_in ps) j [] ≡ get_or (keys_in ps) i [] → ⊥
-apart [] es i j are passed low high e = absurd (omega arith)
-apart (p ∷ ps) no_entries i j are passed low high e = absurd are
-apart (p ∷ ps) (entry k b c es) zero j are passed low high e = absurd (omega arith)
-apart (p ∷ ps) (entry k b c es) (suc i) zero are passed low high e =
-    passed.1 (subst (λ (l : List ℕ). IsKeyOf es l) (sym e ∙ are.0) (key_there ps es i are.2 (omega arith)))
-apart (p ∷ ps) (entry k b c es) (suc i) (suc j) are passed low high e = apart ps es i j are.2 passed.3 (omega arith) (omega arith) e
-
-pub no_repeat : (ps : List Pair) (es : Entries) (i : ℕ) → AreEntries ps es → AllPassed the_tests es → IsFirstRepeat (keys_in ps) i → ⊥
-no_repeat ps es i are passed r = apart ps es i r.repeats.0 are passed r.repeats.1 r.within r.repeats.2

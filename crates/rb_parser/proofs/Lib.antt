@@ -3,7 +3,7 @@ pub mod Steps
 pub mod Words
 pub mod Leaves
 pub mod Rows
-pub mod Ascending
+pub mod Repeats
 pub mod Parts
 pub mod Bodies
 pub mod Loops

@@ -1,11 +1,6 @@
 -- The entries of a table, one after another, as the code reads them.
-use Rattle.std.proofs.Common.{◌≡◌, ℕ, suc, ◌<◌, ◌++◌, ◌-◌, ◌||◌, Bool, true, false, not, List, [], ◌∷◌, length, Some, None, Ok, Err, refl, sym, ap, ap₂, ◌∙◌}
-use Rattle.std.proofs.Common.{arith, Vec, Global, nat_eq, Ordering, Less, Equal, Greater, nat_cmp}
-use Rattle.std.specs.Cmp.Lexicographic.{pointwise, slice_cmp}
-use Rattle.std.specs.Ordering.{match_ordering, is_eq}
-use Rattle.std.specs.BTreeSet.{insert_key}
-use Rattle.std.proofs.lemmas.Map.Text.{is_eq-slice_cmp}
-use Rattle.std.proofs.lemmas.Slice.Eq.{bytes_eq-Decides}
+use Rattle.std.proofs.Common.{◌≡◌, ℕ, suc, ◌<◌, ◌++◌, ◌-◌, Bool, true, false, List, [], ◌∷◌, length, Some, None, Ok, Err, refl, sym, ap, ap₂, ◌∙◌}
+use Rattle.std.proofs.Common.{arith}
 use Rattle.rb_lexer.specs.declared.token.Token.{Token}
 use Rattle.rb_lexer.specs.declared.fault.SourceKind.TheVariants.{BadKey, DuplicateKey}
 use Rattle.rb_lexer.specs.declared.fault.SourceFault.{SourceFault}
@@ -17,7 +12,7 @@ use Rattle.rb_grammar.specs.Reading.{stop, Read, ◌>>=◌, right, tail, first_t
 use Rattle.rb_grammar.specs.Tests.{the_tests}
 use Rattle.rb_grammar.proofs.Conditions.{are_tests}
 use Rattle.rb_parser.specs.inner.Reads.{located, IsBodyTree, AreEntries}
-use Rattle.rb_parser.specs.inner.Seen.{Pair, keys_after, Seen, was_seen, SameKeys}
+use Rattle.rb_parser.specs.inner.Rows.{Pair, keys_after}
 use Rattle.rb_parser.proofs.Steps.{located_bind, stops_at}
 
 -- an entry that was read: its key, its body, and whether a comma follows
@@ -173,55 +168,3 @@ module _ (reads : List Token → Read Body) where
               ∙ ap₂ (λ (ks : List (List ℕ)) (l : List Token). entries the_tests reads below.0 ks l >>= put_rows (so.rows ++ row ∷ []))
               (ap (λ (k : List ℕ). k ∷ keys_after ps []) (sym same) ∙ sym (keys_push ps pair [])) (sym is);
         }
-
--- ---- the set of the keys
-
-abbrev pub key_cmp : Vec ℕ Global → Vec ℕ Global → Ordering
-key_cmp x y = slice_cmp nat_cmp x.items y.items
-
-later : (a b c : Bool) → (a || (b || c)) ≡ (b || (a || c))
-later true true c = refl
-later true false c = refl
-later false true c = refl
-later false false c = refl
-
-again : (a b c : Bool) → a ≡ b → (a || c) ≡ (b || (a || c))
-again true true c e = refl
-again true false c e = absurd cc
-again false true c e = absurd cc
-again false false c e = refl
-
-was_seen-insert : (q : List ℕ) (ks : Seen) (k : Vec ℕ Global) → was_seen (insert_key key_cmp ks k) q ≡ (pointwise nat_eq q k.items || was_seen ks q)
-was_seen-insert q [] k = ap (λ b. b || false) (is_eq-slice_cmp q k.items)
-was_seen-insert q (x ∷ xs) k = by (key_cmp k x) refl (was_seen-insert q xs k) where
-  test : Vec ℕ Global → Bool
-  test y = is_eq (slice_cmp nat_cmp q y.items)
-
-  by : (o : Ordering) → key_cmp k x ≡ o → was_seen (insert_key key_cmp xs k) q ≡ (pointwise nat_eq q k.items || was_seen xs q)
-      → was_seen (match_ordering o (k ∷ x ∷ xs) (x ∷ xs) (x ∷ insert_key key_cmp xs k)) q ≡ (pointwise nat_eq q k.items || was_seen (x ∷ xs) q)
-  by Less is h = ap (λ b. b || was_seen (x ∷ xs) q) (is_eq-slice_cmp q k.items)
-  by Equal is h =
-      let key : k.items ≡ x.items = (bytes_eq-Decides k.items x.items).0 (sym (is_eq-slice_cmp k.items x.items) ∙ ap is_eq is) in
-      again (is_eq (slice_cmp nat_cmp q x.items)) (pointwise nat_eq q k.items) (was_seen xs q)
-      (is_eq-slice_cmp q x.items ∙ ap (λ (l : List ℕ). pointwise nat_eq q l) (sym key))
-  by Greater is h =
-      ap (λ b. is_eq (slice_cmp nat_cmp q x.items) || b) h ∙ later (is_eq (slice_cmp nat_cmp q x.items)) (pointwise nat_eq q k.items) (was_seen xs q)
-
--- one more entry, whose key was put into the set
-pub same_keys_push : (ps : List Pair) (ks new : Seen) (k : Vec ℕ Global) (s key : List ℕ) (t : Tree) → SameKeys ps ks → new ≡ insert_key key_cmp ks k
-    → k.items ≡ s → key ≡ s → SameKeys (ps ++ (key, t) ∷ []) new
-same_keys_push ps ks new k s key t same is at name = λ q.
-    ap (λ (l : Seen). was_seen l q) is ∙ was_seen-insert q ks k
-    ∙ ap₂ (λ (l : List ℕ) (b : Bool). pointwise nat_eq q l || b) (at ∙ sym name) (same q)
-    ∙ ap (λ (l : List (List ℕ)). is_among l q) (sym (keys_push ps (key, t) []))
-
-was_in : (b added : Bool) → added ≡ not b → added ≡ false → b ≡ true
-was_in true added e f = refl
-was_in false added e f = absurd cc
-
-was_out : (b added : Bool) → added ≡ not b → added ≡ true → b ≡ false
-was_out true added e f = absurd cc
-was_out false added e f = refl
-
-pub same_keys_none : SameKeys [] []
-same_keys_none = λ q. refl

@@ -1,4 +1,4 @@
 pub mod Reads
 pub mod ReadsBundle
-pub mod Seen
+pub mod Rows
 pub mod Views

@@ -66,6 +66,13 @@ impl<'a> Cursor<'a> {
         self.rest.pop()
     }
 
+    fn skip(&mut self) -> Result<(), AllocError>
+        ensures same_end { self.new.end ≡ self.old.end }
+        ensures rest { OnOk result (self.new.rest ≡ tail self.old.rest) }
+    {
+        self.rest.skip()
+    }
+
     /// Whether all tokens are taken.
     pub fn is_at_end(&self) -> bool
         ensures { IsTrue result ↔ (self.now.rest ≡ []) }
@@ -139,7 +146,7 @@ impl<'a> Cursor<'a> {
     {
         let comes = self.is_at(punctuation);
         if comes {
-            drop(self.pop()?);
+            self.skip()?;
         }
         Ok(comes)
     }
@@ -229,7 +236,7 @@ impl<'a> Cursor<'a> {
     {
         let comes = self.is_at_no_fallback_table();
         if comes {
-            drop(self.pop()?);
+            self.skip()?;
         }
         Ok(comes)
     }

@@ -2,7 +2,7 @@
 ghost use Rattle.std.specs.Prelude.{◌≡◌, IfOk, MatchOption};
 ghost use Rattle.rb_tree.specs.Keys.{IsKey};
 
-use rb_tree::{ByteList, key_ok};
+use rb_tree::{ByteList, Key, key_ok};
 use std::alloc::{AllocError, Global};
 
 /// The bytes of units that are all below 128, or `None`.
@@ -21,7 +21,7 @@ fn ascii_bytes(alloc: Global, units: &[u16]) -> Result<Option<Vec<u8>>, AllocErr
 }
 
 /// The key that a text spells, or `None` if it is no key.
-pub fn read_key(alloc: Global, units: &[u16]) -> Result<Option<ByteList>, AllocError>
+pub fn read_key(alloc: Global, units: &[u16]) -> Result<Option<Key>, AllocError>
     ensures { IfOk result (λ found. MatchOption found (IsKey units.now → ⊥)
         (λ key. IsKey units.now × (key ≡ units.now))) }
 {
@@ -29,7 +29,7 @@ pub fn read_key(alloc: Global, units: &[u16]) -> Result<Option<ByteList>, AllocE
         return Ok(None);
     };
     if key_ok(bytes.as_slice()) {
-        Ok(Some(ByteList::from_vec(bytes)))
+        Ok(Some(Key::of(ByteList::from_vec(bytes))))
     } else {
         Ok(None)
     }

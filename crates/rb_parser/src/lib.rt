@@ -6,8 +6,8 @@ mod key;
 pub mod laws;
 mod leaf;
 mod parser;
-mod seen;
 mod source;
+mod table;
 mod word;
 
 pub use source::{Source, parse};

@@ -1,22 +1,21 @@
 //! Bodies, by recursive descent.
-ghost use Rattle.std.specs.Prelude.{◌≡◌, ℕ, ◌<◌, ◌≤◌, [], ◌∷◌, ◌++◌, length, OnOk, IfOk, All};
-ghost use Rattle.rb_tree.specs.Keys.{IsKey};
-ghost use Rattle.rb_tree.specs.Table.{keys_in};
+ghost use Rattle.std.specs.Prelude.{◌≡◌, ◌<◌, [], ◌∷◌, ◌++◌, length, OnOk};
 ghost use Rattle.rb_grammar.specs.Reading as reading;
 ghost use Rattle.rb_grammar.specs.Reading.{body, typed_at, untyped_at, guess, table_at, array_at};
 ghost use Rattle.rb_grammar.specs.Reading.{entries, elements};
 ghost use Rattle.rb_grammar.specs.Tests.{the_tests};
 ghost use Rattle.rb_parser.specs.inner.Reads.{Reads, inner_at, IsBodyTree, IsTableTree};
-ghost use Rattle.rb_parser.specs.inner.Reads.{IsArrayTree, AreEntries};
+ghost use Rattle.rb_parser.specs.inner.Reads.{IsArrayTree};
+ghost use Rattle.rb_parser.specs.inner.Rows.{AreRead, IsKnown};
 ghost use Rattle.rb_parser.specs.inner.Views.{word_of};
 
 use crate::cursor::{Cursor, Guess, Punctuation};
 use crate::key::read_key;
 use crate::leaf::read_leaf;
-use crate::seen::SeenKeys;
+use crate::table::Rows;
 use crate::word::Word;
 use rb_lexer::{SourceFault, SourceKind};
-use rb_tree::{ByteList, TableFault, Tree, TreeList};
+use rb_tree::{Tree, TreeList};
 use std::alloc::{AllocError, Global};
 
 /// A value, whose height is at most `depth`.
@@ -93,33 +92,28 @@ pub fn read_table(alloc: Global, cursor: &mut Cursor, depth: u64) -> Result<Tree
         (table_at the_tests (inner_at depth) cursor.old.rest) }
     ensures shorter { OnOk result (length cursor.new.rest < length cursor.old.rest) }
 {
-    let pairs = read_entries(alloc, cursor, depth)?;
-    match Tree::table(alloc, pairs) {
-        Ok(tree) => Ok(tree),
-        Err(TableFault::Memory) => Err(SourceFault {
-            kind: SourceKind::Memory,
-            line: 0,
-        }),
-        Err(TableFault::DuplicateKey(_)) => unreachable!(),
+    let mut rows = Rows::new(alloc);
+    match read_rows(alloc, cursor, depth, &mut rows) {
+        Ok(()) => rows.table(alloc),
+        Err(fault) => Err(rows.first_fault(alloc, fault)),
     }
 }
 
-/// The same as pairs, in the order in which they are written; no key comes twice.
+/// The same as rows, in the order in which they are written. A key may come again.
 #[cycle(body)]
-fn read_entries(
+fn read_rows(
     alloc: Global,
     cursor: &mut Cursor,
     depth: u64,
-) -> Result<Vec<(ByteList, Tree)>, SourceFault>
+    rows: &mut Rows,
+) -> Result<(), SourceFault>
+    requires pairs { rows.old.pairs.items ≡ [] }
+    requires lines { rows.old.lines.items ≡ [] }
     ensures same_end { cursor.new.end ≡ cursor.old.end }
-    ensures exact { (n : ℕ) → length cursor.old.rest < n
-        → Reads (λ v es. AreEntries v.items es) cursor.old.end result cursor.new.rest
-        (entries the_tests (body the_tests depth) n [] cursor.old.rest) }
-    ensures keys { IfOk result (λ v. All IsKey (keys_in v.items)) }
+    ensures rows { IsKnown result → AreRead depth cursor.old.end cursor.old.rest rows.new result
+        cursor.new.rest }
     ensures shorter { OnOk result (length cursor.new.rest < length cursor.old.rest) }
 {
-    let mut pairs = Vec::new(alloc);
-    let mut seen = SeenKeys::new(alloc);
     'entries: loop {
         let bad = cursor.fault(SourceKind::BadKey);
         let Some(text) = cursor.take_text()? else {
@@ -128,18 +122,15 @@ fn read_entries(
         let Some(key) = read_key(alloc, text.as_slice())? else {
             return Err(bad);
         };
-        if !seen.add(alloc, &pairs, key.as_slice())? {
-            return Err(SourceFault {
-                kind: SourceKind::DuplicateKey,
-                line: bad.line,
-            });
-        }
-        let tree = read_body(alloc, cursor, depth)?;
-        pairs.push((key, tree))?;
+        let tree = match read_body(alloc, cursor, depth) {
+            Ok(tree) => tree,
+            Err(fault) => return Err(rows.fault_at(bad.line, key.as_slice(), fault)),
+        };
+        rows.add(bad.line, key, tree)?;
         cursor.take(Punctuation::Comma)?;
     }
     cursor.expect(Punctuation::Right)?;
-    Ok(pairs)
+    Ok(())
 }
 
 /// Adds an element at the end. The first takes room for itself only, since arrays of one element

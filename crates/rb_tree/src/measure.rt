@@ -8,19 +8,21 @@ ghost use Rattle.rb_tree.specs.View.{view_of};
 use crate::limits::{HEIGHT_LIMIT, WEIGHT_LIMIT};
 use crate::tree::{Entries, Tree, TreeList};
 
+/// Height and weight, `u64::MAX` at the most. One walk takes both, since a large tree isn't in a
+/// processor's cache.
+#[derive(Clone, Copy)]
+struct Measures {
+    height: u64,
+    weight: u64,
+}
+
 impl Tree {
     /// How many levels the tree has: 1 for a leaf and for an empty array or table, else one more
     /// than its highest child; `u64::MAX` at the most.
-    #[cycle(height)]
-    #[tactic(auto, using(crate::proofs::Measures::measures))]
     pub fn height(&self) -> u64
         ensures { result ≡ min (height (view_of self.now)) (2 ^ 64 - 1) }
     {
-        match self {
-            Tree::Array(trees) => trees.height().saturating_add(1),
-            Tree::Table(entries) => entries.height().saturating_add(1),
-            _ => 1,
-        }
+        self.measures().height
     }
 
     /// The tree's size as the limit of a bundle counts it, in bytes; `u64::MAX` at the most. A
@@ -28,22 +30,10 @@ impl Tree {
     /// Binary of n bytes 20 + n, an array of n items 4 + 4n and its items, a table of n entries 8 +
     /// 8n, each key's length and one more, and its items. It is no file's length: a file has a
     /// header and indexes besides, and may hold a key or an item once for many.
-    #[cycle(weight)]
-    #[tactic(auto, using(crate::proofs::Measures::measures))]
     pub fn weight(&self) -> u64
         ensures { result ≡ min (weight (view_of self.now)) (2 ^ 64 - 1) }
     {
-        match self {
-            Tree::String(units) => text_weight(units.as_slice()),
-            Tree::Int(_) => 0,
-            Tree::Ints(numbers) => (numbers.as_slice().len() as u64)
-                .saturating_mul(4)
-                .saturating_add(4),
-            Tree::Binary(bytes) => (bytes.as_slice().len() as u64).saturating_add(20),
-            Tree::Alias(units) => text_weight(units.as_slice()),
-            Tree::Array(trees) => trees.weight().saturating_add(4),
-            Tree::Table(entries) => entries.weight().saturating_add(8),
-        }
+        self.measures().weight
     }
 
     /// Whether the tree is a table of height at most 64 and weight at most 33,554,432, as a
@@ -51,9 +41,50 @@ impl Tree {
     pub fn fits(&self) -> bool
         ensures { IsTrue result ↔ Fits (view_of self.now) }
     {
+        let measures = self.measures();
         matches!(self, Tree::Table(_))
-            && self.height() <= HEIGHT_LIMIT
-            && self.weight() <= WEIGHT_LIMIT
+            && measures.height <= HEIGHT_LIMIT
+            && measures.weight <= WEIGHT_LIMIT
+    }
+
+    #[cycle(measures)]
+    #[tactic(auto, using(crate::proofs::Measures::measures))]
+    fn measures(&self) -> Measures
+        ensures height { result.height ≡ min (height (view_of self.now)) (2 ^ 64 - 1) }
+        ensures weight { result.weight ≡ min (weight (view_of self.now)) (2 ^ 64 - 1) }
+    {
+        match self {
+            Tree::String(units) => leaf(text_weight(units.as_slice())),
+            Tree::Int(_) => leaf(0),
+            Tree::Ints(numbers) => leaf(
+                (numbers.as_slice().len() as u64)
+                    .saturating_mul(4)
+                    .saturating_add(4),
+            ),
+            Tree::Binary(bytes) => leaf((bytes.as_slice().len() as u64).saturating_add(20)),
+            Tree::Alias(units) => leaf(text_weight(units.as_slice())),
+            Tree::Array(trees) => above(trees.measures(), 4),
+            Tree::Table(entries) => above(entries.measures(), 8),
+        }
+    }
+}
+
+/// The measures of a tree without children.
+fn leaf(weight: u64) -> Measures
+    ensures height { result.height ≡ 1 }
+    ensures weight { result.weight ≡ weight }
+{
+    Measures { height: 1, weight }
+}
+
+/// The measures of an array or a table, given those of its children and what it weighs itself.
+fn above(children: Measures, weight: u64) -> Measures
+    ensures height { result.height ≡ min (children.height + 1) (2 ^ 64 - 1) }
+    ensures weight { result.weight ≡ min (children.weight + weight) (2 ^ 64 - 1) }
+{
+    Measures {
+        height: children.height.saturating_add(1),
+        weight: children.weight.saturating_add(weight),
     }
 }
 
@@ -64,56 +95,46 @@ fn text_weight(units: &[u16]) -> u64
 }
 
 impl TreeList {
-    #[cycle(height)]
+    #[cycle(measures)]
     #[tactic(auto, using(crate::proofs::Measures::measures))]
-    fn height(&self) -> u64
-        ensures { result ≡ min (trees_height self.now) (2 ^ 64 - 1) }
+    fn measures(&self) -> Measures
+        ensures height { result.height ≡ min (trees_height self.now) (2 ^ 64 - 1) }
+        ensures weight { result.weight ≡ min (trees_weight self.now) (2 ^ 64 - 1) }
     {
         let mut highest = 0;
-        for tree in &self.trees {
-            highest = tree.height().max(highest);
-        }
-        highest
-    }
-
-    #[cycle(weight)]
-    #[tactic(auto, using(crate::proofs::Measures::measures))]
-    fn weight(&self) -> u64
-        ensures { result ≡ min (trees_weight self.now) (2 ^ 64 - 1) }
-    {
         let mut sum: u64 = 0;
         for tree in &self.trees {
-            sum = sum.saturating_add(4).saturating_add(tree.weight());
+            let measures = tree.measures();
+            highest = measures.height.max(highest);
+            sum = sum.saturating_add(4).saturating_add(measures.weight);
         }
-        sum
+        Measures {
+            height: highest,
+            weight: sum,
+        }
     }
 }
 
 impl Entries {
-    #[cycle(height)]
+    #[cycle(measures)]
     #[tactic(auto, using(crate::proofs::Measures::measures))]
-    fn height(&self) -> u64
-        ensures { result ≡ min (entries_height self.now) (2 ^ 64 - 1) }
+    fn measures(&self) -> Measures
+        ensures height { result.height ≡ min (entries_height self.now) (2 ^ 64 - 1) }
+        ensures weight { result.weight ≡ min (entries_weight self.now) (2 ^ 64 - 1) }
     {
         let mut highest = 0;
-        for entry in &self.pairs {
-            highest = entry.tree.height().max(highest);
-        }
-        highest
-    }
-
-    #[cycle(weight)]
-    #[tactic(auto, using(crate::proofs::Measures::measures))]
-    fn weight(&self) -> u64
-        ensures { result ≡ min (entries_weight self.now) (2 ^ 64 - 1) }
-    {
         let mut sum: u64 = 0;
         for entry in &self.pairs {
+            let measures = entry.tree.measures();
+            highest = measures.height.max(highest);
             sum = sum
                 .saturating_add(9)
                 .saturating_add(entry.key.as_slice().len() as u64);
-            sum = sum.saturating_add(entry.tree.weight());
+            sum = sum.saturating_add(measures.weight);
         }
-        sum
+        Measures {
+            height: highest,
+            weight: sum,
+        }
     }
 }

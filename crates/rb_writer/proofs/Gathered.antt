@@ -1,11 +1,11 @@
 -- The keys of a tree stay what they are when they are sorted.
-use Rattle.std.proofs.Common.{◌≡◌, ℕ, zero, suc, ◌+◌, ◌<◌, List, [], ◌∷◌, ◌++◌, length, get_or, take, Some, refl, sym, ap, ◌∙◌, arith, Bor, subst, inl, inr}
+use Rattle.std.proofs.Common.{◌≡◌, ℕ, zero, suc, ◌+◌, ◌<◌, ◌≤◌, List, [], ◌∷◌, ◌++◌, length, get_or, take, map, Some, refl, sym, ap, ◌∙◌, arith, Bor, subst, inl, inr}
 use Rattle.std.proofs.lemmas.List.Elements.{Contains-push_cases}
 use Rattle.rb_writer.specs.KeyList.{all_keys}
-use Rattle.std.proofs.lemmas.List.{map-append, get_or_push, get_or_append_left, length_push, take_more}
+use Rattle.std.proofs.lemmas.List.{map-append, get_or_push, get_or_append_left, length_push, take_more, take_all}
 use Rattle.std.proofs.lemmas.List.Elements.{All-append, All-contains}
 use Rattle.std.proofs.lemmas.List.Sums.{sum_by-cons}
-use Rattle.std.proofs.lemmas.List.Sorted.{All-permutation, Contains-permutation, sum_by-IsPermutation, IsPermutation-map}
+use Rattle.std.proofs.lemmas.List.Sorted.{All-permutation, Contains-permutation, sum_by-IsPermutation, IsPermutation-map, IsPermutation-trans}
 use Rattle.std.specs.Prelude.{All, Contains, slice_get, sum_by}
 use Rattle.std.specs.List.Sorted.{IsPermutation}
 use Rattle.std.specs.Map.{keys_of}
@@ -13,6 +13,7 @@ use Rattle.rb_tree.specs.Resource.{Resource, Members}
 use Rattle.rb_tree.specs.Keys.{IsKey, IsTable, pairs}
 use Rattle.rb_writer.specs.inner.Collected.{size_of, Has, Gains, Gathers, GathersKeys, names}
 use Rattle.rb_writer.specs.inner.Places.{EachKey}
+use Rattle.rb_writer.specs.declared.sorting.Headed.{Headed}
 use Rattle.rb_writer.proofs.Collecting.{each_still, size_push}
 
 all_at : {X : Type 0} (P : X → Type 0) (ks : List X) (i : ℕ) (k : X) → All P ks → Some k ≡ slice_get ks i → P k
@@ -56,12 +57,22 @@ gains_new old new r e = rw e (record {
   ];
 })
 
--- one more key with its number
-pub named_more : (ks : List (Bor (List ℕ))) (ps : List (Bor (List ℕ) × ℕ)) (i n : ℕ) (d : Bor (List ℕ)) → names ps ≡ take i ks → i < length ks
-    → names (ps ++ (get_or ks i d, n) ∷ []) ≡ take (i + 1) ks
-named_more ks ps i n d e h =
-    map-append (λ (p : Bor (List ℕ) × ℕ). p.0) ps ((get_or ks i d, n) ∷ []) ∙ ap (λ (xs : List (Bor (List ℕ))). xs ++ get_or ks i d ∷ []) e
-    ∙ sym (take_more ks i d h)
+-- one more key with its first bytes
+pub headed_more : (ks : List (Bor (List ℕ))) (hs new : List Headed) (i : ℕ) (h : Headed) (d : Bor (List ℕ)) → map (λ (x : Headed). x.key) hs ≡ take i ks
+    → new ≡ hs ++ h ∷ [] → h.key ≡ get_or ks i d → i < length ks → map (λ (x : Headed). x.key) new ≡ take (i + 1) ks
+headed_more ks hs new i h d e is at low =
+    ap (map (λ (x : Headed). x.key)) is ∙ map-append (λ (x : Headed). x.key) hs (h ∷ [])
+    ∙ ap (λ (xs : List (Bor (List ℕ))). xs ++ h.key ∷ []) e ∙ ap (λ (k : Bor (List ℕ)). take i ks ++ k ∷ []) at ∙ sym (take_more ks i d low)
+
+pub by_heads : (ks : List (Bor (List ℕ))) (hs sorted : List Headed) (i : ℕ) → map (λ (x : Headed). x.key) hs ≡ take i ks → length ks ≤ i
+    → IsPermutation hs sorted → IsPermutation ks (map (λ (x : Headed). x.key) sorted)
+by_heads ks hs sorted i e h p =
+    subst (λ (xs : List (Bor (List ℕ))). IsPermutation xs (map (λ (x : Headed). x.key) sorted)) (e ∙ take_all i ks h)
+    (IsPermutation-map (λ (x : Headed). x.key) hs sorted p)
+
+pub headed_names : (hs : List Headed) → names (map (λ (x : Headed). (x.key, x.id)) hs) ≡ map (λ (x : Headed). x.key) hs
+headed_names [] = refl
+headed_names (h ∷ hs) = ap (λ (xs : List (Bor (List ℕ))). h.key ∷ xs) (headed_names hs)
 
 pub gathered : (t : Resource) (old keys : List (Bor (List ℕ))) → old ≡ [] → Gathers t old keys → GathersKeys t keys
 gathered t old keys e g =
@@ -98,10 +109,10 @@ sorted_names t found keys g p =
           (All-permutation (λ (r : Bor (List ℕ)). Contains (all_keys t) r.now) found keys p all) h.1);
     }
 
-pub sorted : (t : Resource) (found : List (Bor (List ℕ))) (numbered keys : List (Bor (List ℕ) × ℕ)) → GathersKeys t found → names numbered ≡ found
-    → IsPermutation numbered keys → GathersKeys t (names keys)
-sorted t found numbered keys g e p = sorted_names t (names numbered) (names keys) (subst (GathersKeys t) (sym e) g)
-    (IsPermutation-map (λ (x : Bor (List ℕ) × ℕ). x.0) numbered keys p)
+pub sorted : (t : Resource) (found : List (Bor (List ℕ))) (numbered keys : List (Bor (List ℕ) × ℕ)) → GathersKeys t found
+    → IsPermutation found (names numbered) → IsPermutation numbered keys → GathersKeys t (names keys)
+sorted t found numbered keys g e p = sorted_names t found (names keys) g
+    (IsPermutation-trans found (names numbered) (names keys) e (IsPermutation-map (λ (x : Bor (List ℕ) × ℕ). x.0) numbered keys p))
 
 -- what holds of all the keys holds of each in the tree
 pub each_key : (P : List ℕ → Type 0) (t : Resource) (keys : List (Bor (List ℕ))) → GathersKeys t keys → All (λ r. P r.now) keys → EachKey P t

@@ -1,6 +1,7 @@
 -- The longest table, child by child.
-use Rattle.std.proofs.Common.{◌≡◌, ℕ, zero, suc, ◌+◌, ◌≤◌, max, List, [], ◌∷◌, length, drop, Some, refl, ap, arith}
+use Rattle.std.proofs.Common.{◌≡◌, ℕ, zero, suc, ◌+◌, ◌≤◌, max, ap, List, [], ◌∷◌, length, drop, Some, refl, arith}
 use Rattle.std.specs.Prelude.{slice_get}
+use Rattle.std.proofs.lemmas.List.{drop_all}
 use Rattle.std.specs.Map.{values_of}
 use Rattle.rb_tree.specs.Resource.{Resource, string, int, ints, binary, alias, array, table, Resources}
 use Rattle.rb_tree.specs.Resource.{no_trees, tree_and, Members, no_entries, entry_and, weight, trees_weight, entries_weight}
@@ -24,12 +25,16 @@ longest_turn [] i u e = cc
 longest_turn (t ∷ ts) zero u e = let s : t ≡ u = cc in ap (λ (v : Resource). max (longest v) (longest_in ts)) s
 longest_turn (t ∷ ts) (suc i) u e = longest_turn ts i u e
 
-pub longest_more : (ts : List Resource) (i m n : ℕ) (u : Resource) (all : ℕ) → n ≡ longest u → Some u ≡ slice_get ts i → max m (longest_in (drop i ts)) ≡ all
-    → max (max n m) (longest_in (drop (i + 1) ts)) ≡ all
-longest_more ts i m n u all e f g =
+-- one more child, and the longest so far
+pub longest_turned : (ts : List Resource) (i m n : ℕ) (u : Resource) (all : ℕ) → n ≡ max m (longest u) → Some u ≡ slice_get ts i
+    → max m (longest_in (drop i ts)) ≡ all → max n (longest_in (drop (i + 1) ts)) ≡ all
+longest_turned ts i m n u all e f g =
     let up : i + 1 ≡ suc i = omega arith in
     let turn = longest_turn ts i u f in
     rw up (omega arith)
+
+pub longest_end : (ts : List Resource) (i m all : ℕ) → max m (longest_in (drop i ts)) ≡ all → length ts ≤ i → m ≡ all
+longest_end ts i m all e h = let none = ap longest_in (drop_all i ts h) in omega arith
 
 -- a table takes eight bytes for each entry at least
 mutual

@@ -12,10 +12,10 @@ ghost use Rattle.rb_writer.specs.Written.{IsWriterFile};
 
 use crate::area::KeyArea;
 use crate::data::Data;
-use crate::gather::{gather, sorted_keys};
+use crate::gather::gather;
 use crate::header::header;
 use crate::keys::write_keys;
-use crate::longest::longest_table;
+use crate::sorting::sorted_keys;
 use crate::tree::write_value;
 use rb_format::{ATTRIBUTES_INDEX_COUNT, HEADER_SIZE, INDEX_COUNT};
 use rb_tree::Tree;
@@ -111,11 +111,5 @@ pub fn write(alloc: Global, tree: &Tree, no_fallback: bool) -> Result<Vec<u8>, A
     drop(keys);
     let mut entry = 0;
     let root = write_value(alloc, &mut out, &places, &mut entry, tree)?;
-    Ok(finish(
-        out,
-        root,
-        places.area,
-        longest_table(tree) as u32,
-        no_fallback,
-    ))
+    Ok(finish(out, root, places.area, gathered.longest as u32, no_fallback))
 }

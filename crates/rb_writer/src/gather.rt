@@ -1,11 +1,8 @@
 //! The keys of a tree, each once.
-ghost use Rattle.std.specs.Prelude.{◌≡◌, OnOk, IfOk, IsTrue, []};
-ghost use Rattle.std.specs.List.Sorted.{IsSorted};
-ghost use Rattle.std.specs.Ordering.{nat_cmp, ordering_then};
-ghost use Rattle.std.specs.Cmp.Lexicographic.{slice_cmp};
-ghost use Rattle.rb_tree.specs.Resource.{Resource};
+ghost use Rattle.std.specs.Prelude.{◌≡◌, OnOk, IfOk, IsTrue, [], max};
 ghost use Rattle.rb_tree.specs.View.{view_of};
-ghost use Rattle.rb_writer.specs.inner.Collected.{Has, Gains, Gathers, GathersKeys, names};
+ghost use Rattle.rb_writer.specs.Longest.{longest};
+ghost use Rattle.rb_writer.specs.inner.Collected.{Has, Gains, Gathers, GathersKeys};
 
 use rb_tree::Tree;
 use std::alloc::{AllocError, Global};
@@ -25,6 +22,8 @@ pub struct Gathered<'a> {
     pub keys: Vec<&'a [u8]>,
     /// For each entry, in the order of writing, where its key is among them.
     pub order: Vec<u32>,
+    /// The number of entries of the longest table, 0 if there is none.
+    pub longest: usize,
     slots: Vec<u32>,
 }
 
@@ -40,11 +39,13 @@ fn slot_of(key: &[u8]) -> usize {
 impl<'a> Gathered<'a> {
     /// No keys.
     pub fn new(alloc: Global) -> Result<Gathered<'a>, AllocError>
-        ensures { IfOk result (λ g. g.keys.items ≡ []) }
+        ensures keys { IfOk result (λ g. g.keys.items ≡ []) }
+        ensures longest { IfOk result (λ g. g.longest ≡ 0) }
     {
         Ok(Gathered {
             keys: Vec::new(alloc),
             order: Vec::new(alloc),
+            longest: 0,
             slots: vec![in alloc; 0_u32; SLOTS as usize]?,
         })
     }
@@ -61,7 +62,8 @@ impl<'a> Gathered<'a> {
     /// Adds a key after the others.
     #[tactic(auto, using(crate::proofs::Gathered::gains_new))]
     fn insert(&mut self, key: &'a [u8]) -> Result<u32, AllocError>
-        ensures { OnOk result (Gains key.now self.old.keys.items self.new.keys.items) }
+        ensures keys { OnOk result (Gains key.now self.old.keys.items self.new.keys.items) }
+        ensures longest { self.new.longest ≡ self.old.longest }
     {
         let id = u32::try_from(self.keys.len()).unwrap_or(u32::MAX);
         self.keys.push(key)?;
@@ -71,7 +73,8 @@ impl<'a> Gathered<'a> {
     /// Where a key is. It is added if it isn't in its slot.
     #[tactic(auto, using(crate::proofs::Gathered::gains_none))]
     fn place_of(&mut self, key: &'a [u8]) -> Result<u32, AllocError>
-        ensures { OnOk result (Gains key.now self.old.keys.items self.new.keys.items) }
+        ensures keys { OnOk result (Gains key.now self.old.keys.items self.new.keys.items) }
+        ensures longest { self.new.longest ≡ self.old.longest }
     {
         let slot = slot_of(key);
         if slot >= self.slots.len() {
@@ -90,7 +93,8 @@ impl<'a> Gathered<'a> {
 
     /// Adds the key of the next entry.
     fn add(&mut self, key: &'a [u8]) -> Result<(), AllocError>
-        ensures { OnOk result (Gains key.now self.old.keys.items self.new.keys.items) }
+        ensures keys { OnOk result (Gains key.now self.old.keys.items self.new.keys.items) }
+        ensures longest { self.new.longest ≡ self.old.longest }
     {
         let id = self.place_of(key)?;
         self.order.push(id)?;
@@ -98,49 +102,24 @@ impl<'a> Gathered<'a> {
     }
 }
 
-/// The keys of a tree.
+/// The keys of a tree, and the length of its longest table.
 #[tactic(auto, using(crate::proofs::Gathered::gathered))]
 pub fn gather(alloc: Global, tree: &Tree) -> Result<Gathered<'_>, AllocError>
-    ensures { IfOk result (λ g. GathersKeys (view_of tree.now) g.keys.items) }
+    ensures keys { IfOk result (λ g. GathersKeys (view_of tree.now) g.keys.items) }
+    ensures longest { IfOk result (λ g. g.longest ≡ longest (view_of tree.now)) }
 {
     let mut gathered = Gathered::new(alloc)?;
     collect_keys(tree, &mut gathered)?;
     Ok(gathered)
 }
 
-/// Keys, each with where it is among the others.
-#[tactic(auto, using(crate::proofs::Gathered::named_more))]
-fn numbered<'a>(alloc: Global, keys: &[&'a [u8]]) -> Result<Vec<(&'a [u8], u32)>, AllocError>
-    ensures { IfOk result (λ v. names v.items ≡ keys.now) }
-{
-    let mut pairs = Vec::with_capacity(alloc, keys.len())?;
-    for i in 0..keys.len() {
-        let id = u32::try_from(i).unwrap_or(u32::MAX);
-        pairs.push((keys[i], id))?;
-    }
-    Ok(pairs)
-}
-
-/// Keys in ascending order, each with where it was found.
-pub fn sorted_keys<'a>(
-    alloc: Global,
-    gathered: &Gathered<'a>,
-) -> Result<Vec<(&'a [u8], u32)>, AllocError>
-    ensures keys { IfOk result (λ v. (t : Resource) → GathersKeys t gathered.now.keys.items
-        → GathersKeys t (names v.items)) }
-    ensures ascending { IfOk result (λ v. IsSorted
-        (λ a b. ordering_then (slice_cmp nat_cmp a.0.now b.0.now) (nat_cmp a.1 b.1)) v.items) }
-{
-    let mut ascending = numbered(alloc, &gathered.keys)?;
-    ascending.sort()?;
-    Ok(ascending)
-}
-
-/// Adds the keys of a tree.
+/// Adds the keys of a tree, and notes how long its tables are.
 #[tactic(auto, using(rb_tree::specs::inner::Lower::item_low, rb_tree::specs::inner::Lower::value_low))]
 fn collect_keys<'a>(tree: &'a Tree, gathered: &mut Gathered<'a>) -> Result<(), AllocError>
-    ensures { OnOk result
+    ensures keys { OnOk result
         (Gathers (view_of tree.now) gathered.old.keys.items gathered.new.keys.items) }
+    ensures longest { OnOk result
+        (gathered.new.longest ≡ max gathered.old.longest (longest (view_of tree.now))) }
 {
     match tree {
         Tree::Array(trees) => {
@@ -149,6 +128,7 @@ fn collect_keys<'a>(tree: &'a Tree, gathered: &mut Gathered<'a>) -> Result<(), A
             }
         }
         Tree::Table(entries) => {
+            gathered.longest = gathered.longest.max(entries.len());
             for i in 0..entries.len() {
                 collect_keys(entries.at(i), gathered)?;
             }

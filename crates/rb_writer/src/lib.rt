@@ -11,8 +11,8 @@ mod item;
 mod keys;
 pub mod laws;
 mod leaves;
-mod longest;
 mod put;
+mod sorting;
 mod table;
 mod tree;
 

@@ -1,6 +1,5 @@
-use Rattle.std.proofs.Common.{◌≡◌, ℕ, ◌<◌, ◌-◌, suc, length, List, Ok, Err, refl, sym, ap, subst, ◌∙◌, arith, Vec, Global}
+use Rattle.std.proofs.Common.{◌≢◌, [], ◌≡◌, ℕ, ◌<◌, ◌-◌, length, List, Ok, refl, sym, ap, subst, ◌∙◌, arith, Vec, Global}
 use Rattle.std.proofs.lemmas.Result.{err_from_is_err_and}
-use Rattle.rb_lexer.specs.declared.fault.SourceKind.TheVariants.{DuplicateKey}
 use Rattle.rb_tree.specs.Keys.{IsKey}
 use Rattle.rb_tree.specs.declared.tree.Tree.{Tree}
 use Rattle.rb_grammar.specs.Form.{leaf, plain}
@@ -10,10 +9,11 @@ use Rattle.rb_parser.specs.inner.Reads.{inner_at, IsBodyTree}
 use Rattle.rb_parser.specs.declared.cursor.Cursor.{Cursor}
 use Rattle.rb_parser.proofs.Bodies.{reads_same, depth_error, bad_word, no_brace, typed_body, unopened, untyped_body, leaf_stops, leaf_open, leaf_reads}
 use Rattle.rb_parser.proofs.Bodies.{plain_reads}
-use Rattle.rb_parser.proofs.Bodies.{table_spells, table_passed, no_repeat}
-use Rattle.rb_parser.proofs.Loops.{entries_begin, entries_bad_key, entries_twice, entries_bad_body, entries_open, entries_done, entries_more}
+use Rattle.rb_lexer.specs.declared.fault.SourceKind.TheVariants.{Memory}
+use Rattle.rb_grammar.specs.Reading.{is_among}
+use Rattle.rb_parser.specs.inner.Rows.{keys_after, later_fault}
+use Rattle.rb_parser.proofs.Loops.{entries_begin, entries_bad_key, entries_bad_body, entries_open, entries_done, entries_more, table_reads, table_stops}
 use Rattle.rb_parser.proofs.Loops.{elements_begin, elements_too_deep, elements_bad_body, elements_open, elements_done, elements_text, elements_body}
-use Rattle.rb_parser.proofs.Ascending.{seen_before, not_seen}
 use Rattle.rb_parser.proofs.parser.+body.Goals.{read_array-in-Some+else-depth-eq0+in_ok-add_tree}
 use Rattle.rb_parser.proofs.parser.+body.Goals.{read_array-in_default+then-is_at_body+in_ok-read_body+in_ok-add_tree-2}
 use Rattle.rb_parser.proofs.parser.+body.Goals as goal
@@ -104,82 +104,62 @@ read_untyped-returns-in_ok-expect-in-Text-clause-exact t c =
       refl,
     )
 
-pub read_table-unreachable-requires : goal.read_table-unreachable-requires
-read_table-unreachable-requires t c =
-    let es = c.in_ok-pairs.ensures.exact (suc (length c.args.cursor.now.rest)) (omega arith) in
-    no_repeat c.in_ok-pairs.pairs.items es.0 c.in-Err-DuplicateKey.field-0-0 es.2
-    (table_passed c.args.depth (suc (length c.args.cursor.now.rest)) c.args.cursor.now.rest es.0 c.read_entries.new.cursor.rest es.1)
-    (c.table.ensures.duplicate c.in-Err-DuplicateKey.field-0-0 (c.in-Err-DuplicateKey.is ∙ ap Err c.in-Err-DuplicateKey.field-0-is))
-
 pub read_table-returns-in-Ok-clause-exact : goal.read_table-returns-in-Ok-clause-exact
 read_table-returns-in-Ok-clause-exact t c =
-    let es = c.in_ok-pairs.ensures.exact (suc (length c.args.cursor.now.rest)) (omega arith) in (
-      es.0,
-      es.1,
-      table_spells c.in_ok-pairs.pairs.items es.0 _ es.2
-          (table_passed c.args.depth (suc (length c.args.cursor.now.rest)) c.args.cursor.now.rest es.0 c.read_entries.new.cursor.rest es.1)
-          c.in-Ok.ensures.table,
-    )
+    table_reads c.args.depth c.args.cursor.now.end c.args.cursor.now.rest c.read_rows.new.rows c.read_rows.new.cursor.rest c.table.result
+    (c.in-Ok.ensures.rows tt) c.table.ensures.table c.table.ensures.no_repeat c.table.ensures.repeat
 
-pub read_entries-entries-init : goal.read_entries-entries-init
-read_entries-entries-init t c =
-    entries_begin c.args.depth c.args.cursor.now c.new-pairs.result.items c.new-seen.result c.new-pairs.ensures.items c.new-seen.ensures
+pub read_table-returns-in-Err-clause-exact : goal.read_table-returns-in-Err-clause-exact
+read_table-returns-in-Err-clause-exact t c =
+    table_stops c.args.depth c.args.cursor.now.end c.args.cursor.now.rest c.read_rows.new.rows c.read_rows.new.cursor.rest c.in-Err.fault
+    c.first_fault.result c.in-Err.ensures.rows c.first_fault.ensures.memory c.first_fault.ensures.first
 
-pub read_entries-returns-in_default-2-clause-exact : goal.read_entries-returns-in_default-2-clause-exact
-read_entries-returns-in_default-2-clause-exact t c =
+pub read_rows-entries-init : goal.read_rows-entries-init
+read_rows-entries-init t c =
+    entries_begin c.args.depth c.args.cursor.now c.args.rows.now.pairs.items c.args.rows.now.lines.items c.requires.pairs c.requires.lines
+
+pub read_rows-returns-in_default-2-clause-rows : goal.read_rows-returns-in_default-2-clause-rows
+read_rows-returns-in_default-2-clause-rows t c = λ other.
     let none = rw c.in_default-2.is at c.in_ok-key.ensures in
-    entries_bad_key c.entries.invariant c.in-Some.text c.fault-bad.result (rw c.in-Some.is at c.in_ok-text.ensures.text)
+    entries_bad_key c.entries.rows c.entries.invariant _ c.in-Some.text c.fault-bad.result (rw c.in-Some.is at c.in_ok-text.ensures.text)
     (λ h. none (subst (λ (l : List ℕ). IsKey l) (sym c.as_slice.ensures) h)) c.fault-bad.ensures.kind c.fault-bad.ensures.line
 
-pub read_entries-returns-then-not-branch-clause-exact : goal.read_entries-returns-then-not-branch-clause-exact
-read_entries-returns-then-not-branch-clause-exact t c =
+pub read_rows-returns-in-Err-clause-rows : goal.read_rows-returns-in-Err-clause-rows
+read_rows-returns-in-Err-clause-rows t c = λ other.
     let key = rw c.in-Some-2.is at c.in_ok-key.ensures in
-    entries_twice c.entries.invariant c.in-Some.text (record { kind = DuplicateKey; line = c.fault-bad.result.line })
-    (rw c.in-Some.is at c.in_ok-text.ensures.text)
-    (subst (λ (l : List ℕ). IsKey l) c.as_slice.ensures key.0)
-    (seen_before c.entries.pairs.items c.in-Some.text _ c.in_ok-add.field-0 (rw c.deref.ensures.value at c.in_ok-add.ensures.new)
-    (c.as_slice-in-entries.ensures ∙ key.1 ∙ c.as_slice.ensures) c.if-not-branch.true)
-    refl c.fault-bad.ensures.line
+    let known : c.in-Err.fault.kind ≢ Memory = λ m. other (c.fault_at.ensures.memory m) in
+    let text : c.as_slice-in-Err.result.now ≡ c.in-Some.text = c.as_slice-in-Err.ensures ∙ key.1 ∙ c.as_slice.ensures in
+    entries_bad_body c.entries.rows c.entries.invariant _ c.in-Some.text c.in-Err.fault c.fault_at.result c.take_text.new.self c.fault-bad.result.line
+    (rw c.in-Some.is at c.in_ok-text.ensures.text) (subst (λ (l : List ℕ). IsKey l) c.as_slice.ensures key.0)
+    (record { same_end = c.take_text.ensures.same_end; rest = rw c.in-Some.is at c.in_ok-text.ensures.rest }) (c.in-Err.ensures.exact known)
+    c.fault-bad.ensures.line
+    (c.fault_at.ensures.other known ∙ ap (λ (l : List ℕ). later_fault (is_among (keys_after c.entries.rows.pairs.items []) l) c.fault-bad.result.line c.in-Err.fault) text)
 
-pub read_entries-returns-in_err-tree-clause-exact : goal.read_entries-returns-in_err-tree-clause-exact
-read_entries-returns-in_err-tree-clause-exact t c =
-    let p = err_from_is_err_and c.from_residual-in_err-tree.result c.from_residual-in_err-tree.ensures.1 in
+pub read_rows-entries-preserved : goal.read_rows-entries-preserved
+read_rows-entries-preserved t c =
     let key = rw c.in-Some-2.is at c.in_ok-key.ensures in
-    rw (p.1, p.2) (entries_bad_body c.entries.invariant c.in-Some.text _ c.take_text.new.self (rw c.in-Some.is at c.in_ok-text.ensures.text)
-    (subst (λ (l : List ℕ). IsKey l) c.as_slice.ensures key.0)
-    (not_seen c.entries.pairs.items c.in-Some.text _ c.in_ok-add.field-0 (rw c.deref.ensures.value at c.in_ok-add.ensures.new)
-    (c.as_slice-in-entries.ensures ∙ key.1 ∙ c.as_slice.ensures) c.if-not-branch.false)
-    (record { same_end = c.take_text.ensures.same_end; rest = rw c.in-Some.is at c.in_ok-text.ensures.rest }) c.in_err-tree.ensures.exact)
-
-pub read_entries-entries-preserved : goal.read_entries-entries-preserved
-read_entries-entries-preserved t c =
-    let key = rw c.in-Some-2.is at c.in_ok-key.ensures in
-    let b = c.in_ok-tree.ensures.exact in
+    let b = c.in-Ok.ensures.exact in
     let shorter : length c.take.new.self.rest < length c.entries.cursor.rest =
-    omega (arith, (rw c.in-Some.is at c.in_ok-text.ensures.shorter), c.in_ok-tree.ensures.shorter, c.in_ok-take.ensures.no_longer) in
-    entries_more c.entries.invariant c.in-Some.text b.0 c.take_text.new.self c.read_body.new.cursor c.take.new.self c.in-Some-2.key c.in_ok-tree.tree
-    c.push.new.self.items c.add.new.self (rw c.in-Some.is at c.in_ok-text.ensures.text)
-    (subst (λ (l : List ℕ). IsKey l) c.as_slice.ensures key.0)
-    (not_seen c.entries.pairs.items c.in-Some.text _ c.in_ok-add.field-0 (rw c.deref.ensures.value at c.in_ok-add.ensures.new)
-    (c.as_slice-in-entries.ensures ∙ key.1 ∙ c.as_slice.ensures) c.if-not-branch.false)
-    (record { same_end = c.take_text.ensures.same_end; rest = rw c.in-Some.is at c.in_ok-text.ensures.rest }) b.1 b.2 c.in_ok-tree.ensures.same_end
-    c.in_ok-take.ensures.same_end
-    c.in_ok-take.ensures.rest shorter (key.1 ∙ c.as_slice.ensures) c.in_ok-push.ensures.items
-    (rw (c.deref.ensures.value, c.as_slice-in-entries.ensures) at (c.in_ok-add.ensures.more c.in_ok-tree.tree))
+    omega (arith, (rw c.in-Some.is at c.in_ok-text.ensures.shorter), c.in-Ok.ensures.shorter, c.in_ok-take.ensures.no_longer) in
+    entries_more c.entries.rows c.entries.invariant c.in-Some.text b.0 c.take_text.new.self c.read_body.new.cursor c.take.new.self c.in-Some-2.key c.in-Ok.tree
+    c.fault-bad.result.line c.add.new.self.pairs.items c.add.new.self.lines.items (rw c.in-Some.is at c.in_ok-text.ensures.text)
+    (subst (λ (l : List ℕ). IsKey l) c.as_slice.ensures key.0) c.fault-bad.ensures.line
+    (record { same_end = c.take_text.ensures.same_end; rest = rw c.in-Some.is at c.in_ok-text.ensures.rest }) b.1 b.2 c.in-Ok.ensures.same_end
+    c.in_ok-take.ensures.same_end c.in_ok-take.ensures.rest shorter (key.1 ∙ c.as_slice.ensures) c.in_ok-add.ensures.pairs c.in_ok-add.ensures.lines
 
-pub read_entries-returns-in_err-expect-clause-exact : goal.read_entries-returns-in_err-expect-clause-exact
-read_entries-returns-in_err-expect-clause-exact t c =
+pub read_rows-returns-in_err-expect-clause-rows : goal.read_rows-returns-in_err-expect-clause-rows
+read_rows-returns-in_err-expect-clause-rows t c =
     let p = err_from_is_err_and c.from_residual-in_err-expect.result c.from_residual-in_err-expect.ensures.1 in
-    rw (p.1, p.2) (entries_open c.entries.invariant _ c.take_text.new.self
+    rw (p.1, p.2) (λ other. entries_open c.entries.rows c.entries.invariant _ _ c.take_text.new.self
     (record {
       none = rw c.in_default.is at c.in_ok-text.ensures.text;
       same_end = c.take_text.ensures.same_end;
       rest = rw c.in_default.is at c.in_ok-text.ensures.rest;
     }) c.in_err-expect.ensures.exact)
 
-pub read_entries-returns-clause-exact : goal.read_entries-returns-clause-exact
-read_entries-returns-clause-exact t c =
-    entries_done c.entries.invariant c.take_text.new.self c.expect.new.self.rest
+pub read_rows-returns-clause-rows : goal.read_rows-returns-clause-rows
+read_rows-returns-clause-rows t c = λ _.
+    entries_done c.entries.rows c.entries.invariant c.take_text.new.self c.expect.new.self.rest
     (record {
       none = rw c.in_default.is at c.in_ok-text.ensures.text;
       same_end = c.take_text.ensures.same_end;

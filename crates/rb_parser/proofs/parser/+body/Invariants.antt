@@ -14,17 +14,17 @@ decreases-read_untyped l = 4 * l.depth + 3
 abbrev pub decreases-read_table : goal.decreases-read_table
 decreases-read_table l = 4 * l.depth + 2
 
-abbrev pub decreases-read_entries : goal.decreases-read_entries
-decreases-read_entries l = 4 * l.depth + 1
+abbrev pub decreases-read_rows : goal.decreases-read_rows
+decreases-read_rows l = 4 * l.depth + 1
 
 abbrev pub decreases-read_array : goal.decreases-read_array
 decreases-read_array l = 4 * l.depth + 1
 
-abbrev pub invariant-read_entries-entries : goal.invariant-read_entries-entries
-invariant-read_entries-entries l = EntriesAt l.depth l.initial.cursor l.cursor l.pairs.items l.seen
+abbrev pub invariant-read_rows-entries : goal.invariant-read_rows-entries
+invariant-read_rows-entries l = EntriesAt l.depth l.initial.cursor l.cursor l.rows.pairs.items l.rows.lines.items
 
-abbrev pub decreases-read_entries-entries : goal.decreases-read_entries-entries
-decreases-read_entries-entries l = length l.cursor.rest
+abbrev pub decreases-read_rows-entries : goal.decreases-read_rows-entries
+decreases-read_rows-entries l = length l.cursor.rest
 
 abbrev pub invariant-read_array-elements : goal.invariant-read_array-elements
 invariant-read_array-elements l = ElementsAt l.depth l.initial.cursor l.cursor l.trees.items

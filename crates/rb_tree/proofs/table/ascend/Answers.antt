@@ -1,4 +1,4 @@
-use Rattle.std.proofs.Common.{rules, ◌≡◌, ◌-◌, get_or}
+use Rattle.std.proofs.Common.{rules}
 use Rattle.rb_tree.proofs.Filled.{ascend_more, ascends}
 use Rattle.rb_tree.proofs.table.ascend.Goals as goal
 

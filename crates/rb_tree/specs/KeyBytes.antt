@@ -1,0 +1,12 @@
+-- What a key of the program is seen as: its bytes, which are few or a list. How many are few is a rule of this project.
+use Rattle.std.specs.Prelude.{ℕ, ◌≤◌, List, take}
+use Rattle.rb_tree.specs.declared.key.KeyBytes.{KeyBytes}
+use Rattle.rb_tree.specs.declared.key.KeyBytes.TheVariants.{Short, Long}
+
+abbrev pub bytes_of : KeyBytes → List ℕ
+bytes_of (Short s) = take s.len s.bytes
+bytes_of (Long list) = list
+
+abbrev pub IsWithin : KeyBytes → Type 0
+IsWithin (Short s) = s.len ≤ 30
+IsWithin (Long list) = Unit {0}

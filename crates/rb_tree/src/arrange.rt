@@ -1,0 +1,81 @@
+//! Pairs in the order of their keys.
+ghost use Rattle.std.specs.Prelude.{IsTrue, IfOk, IfSome};
+ghost use Rattle.rb_tree.specs.Table.{keys_in};
+ghost use Rattle.rb_tree.specs.inner.Arranged.{AreNumbered, Rise, IsOrder, AreArranged};
+
+use crate::key::Key;
+use crate::lists::UnitList;
+use crate::path::key_head;
+use crate::tree::{Entry, Tree};
+use std::alloc::{AllocError, Global};
+use std::cmp::Ordering;
+use std::mem;
+
+/// A key with its index among pairs.
+///
+/// Its first bytes come before it, so that most comparisons need not wait for the memory where it
+/// is. This only saves time: the order that comes of it is compared by whole keys.
+#[derive(Clone, Copy, PartialEq, Eq, PartialOrd, Ord)]
+struct Numbered<'a> {
+    head: u64,
+    key: &'a [u8],
+    index: usize,
+}
+
+/// The keys of pairs, each with its index.
+fn with_indices(alloc: Global, pairs: &[(Key, Tree)]) -> Result<Vec<Numbered<'_>>, AllocError>
+    ensures { IfOk result (λ v. AreNumbered (keys_in pairs.now) v.items) }
+{
+    let mut numbered = Vec::with_capacity(alloc, pairs.len())?;
+    for index in 0..pairs.len() {
+        let key = pairs[index].0.as_slice();
+        let head = key_head(key);
+        numbered.push(Numbered { head, key, index })?;
+    }
+    Ok(numbered)
+}
+
+/// Whether each key is below the next.
+fn rise(keys: &[Numbered<'_>]) -> bool
+    ensures { IsTrue result → Rise keys.now }
+{
+    for i in 1..keys.len() {
+        match keys[i - 1].key.cmp(keys[i].key) {
+            Ordering::Less => {}
+            _ => return false,
+        }
+    }
+    true
+}
+
+/// The indices of pairs in the order of their keys, if no key is there twice.
+pub fn order_of(alloc: Global, pairs: &[(Key, Tree)]) -> Result<Option<Vec<usize>>, AllocError>
+    ensures { IfOk result (λ found. IfSome found (λ order. IsOrder (keys_in pairs.now) order.items)) }
+{
+    let mut keys = with_indices(alloc, pairs)?;
+    keys.sort()?;
+    if !rise(&keys) {
+        return Ok(None);
+    }
+    let order = keys.iter().map(|key| key.index).collect(alloc)?;
+    Ok(Some(order))
+}
+
+/// The pairs of these indices, as entries.
+pub fn arranged(
+    alloc: Global,
+    pairs: Vec<(Key, Tree)>,
+    order: &[usize],
+) -> Result<Vec<Entry>, AllocError>
+    requires { IsOrder (keys_in pairs.items) order.now }
+    ensures { IfOk result (λ entries. AreArranged pairs.items order.now entries.items) }
+{
+    let mut pairs = pairs;
+    let mut entries = Vec::with_capacity(alloc, order.len())?;
+    for index in order {
+        let nothing = (Key::empty(), Tree::String(UnitList::new(alloc)));
+        let (key, tree) = mem::replace(&mut pairs[*index], nothing);
+        entries.push(Entry { key, tree })?;
+    }
+    Ok(entries)
+}

@@ -1,0 +1,127 @@
+//! Keys of tables, as the program keeps them.
+ghost use Rattle.std.specs.Prelude.{◌≡◌, [], nat_eq};
+ghost use Rattle.std.proofs.Common.{rules};
+ghost use Rattle.std.specs.Cmp.{partial_order_from_own_ties};
+ghost use Rattle.std.specs.Cmp.Lexicographic.{slice_cmp, pointwise};
+ghost use Rattle.std.specs.Cmp.Rules.{comparing};
+ghost use Rattle.std.specs.Ordering.{nat_cmp, as_partial_cmp};
+
+use crate::lists::ByteList;
+use std::cmp::Ordering;
+use std::marker::Model;
+
+/// How many bytes of a key are kept in place.
+const IN_PLACE: usize = 30;
+
+/// The bytes of a key, seen by contracts as a list.
+///
+/// Few bytes are kept in place: most keys are short, and many blocks of their own would take longer
+/// than all else that is done with them.
+#[derive(Debug, Drop)]
+pub struct Key {
+    bytes: KeyBytes,
+}
+
+#[derive(Debug, Drop)]
+enum KeyBytes {
+    Short(ShortBytes),
+    Long(ByteList),
+}
+
+#[derive(Clone, Copy, Debug)]
+struct ShortBytes {
+    len: u8,
+    bytes: [u8; IN_PLACE],
+}
+
+impl Model for Key {
+    ghost use Rattle.std.specs.Prelude.{List, ℕ};
+
+    ghost Value = { List ℕ };
+
+    ghost use Rattle.rb_tree.specs.KeyBytes.{bytes_of, IsWithin};
+
+    ghost view = { λ k. bytes_of k.bytes };
+
+    ghost invariant = { λ k. IsWithin k.bytes };
+}
+
+impl Key {
+    /// No bytes.
+    pub(crate) fn empty() -> Key
+        ensures { result ≡ [] }
+    {
+        Key {
+            bytes: KeyBytes::Short(ShortBytes {
+                len: 0,
+                bytes: [0; IN_PLACE],
+            }),
+        }
+    }
+
+    /// The bytes of a list.
+    pub fn of(list: ByteList) -> Key
+        ensures { result ≡ list }
+    {
+        let len = list.as_slice().len();
+        if len > IN_PLACE {
+            return Key {
+                bytes: KeyBytes::Long(list),
+            };
+        }
+        let mut bytes = [0; IN_PLACE];
+        bytes[..len].copy_from_slice(list.as_slice());
+        let len = len as u8;
+        Key {
+            bytes: KeyBytes::Short(ShortBytes { len, bytes }),
+        }
+    }
+
+    /// The bytes, in order.
+    pub fn as_slice(&self) -> &[u8]
+        ensures { result.now ≡ self.now }
+    {
+        match &self.bytes {
+            KeyBytes::Short(short) => &short.bytes[..short.len as usize],
+            KeyBytes::Long(list) => list.as_slice(),
+        }
+    }
+}
+
+impl PartialEq for Key {
+    ghost eq = { pointwise nat_eq };
+
+    ghost laws = { Prim.search (comparing, rules) };
+
+    fn eq(&self, other: &Key) -> bool {
+        self.as_slice() == other.as_slice()
+    }
+}
+
+impl Eq for Key {
+    ghost laws = { Prim.search (comparing, rules) };
+}
+
+impl Ord for Key {
+    ghost cmp = { slice_cmp nat_cmp };
+
+    ghost total = { Prim.search (comparing, rules) };
+
+    ghost matches_partial_cmp = { Prim.search (comparing, rules) };
+
+    ghost matches_eq = { Prim.search (comparing, rules) };
+
+    fn cmp(&self, other: &Key) -> Ordering {
+        self.as_slice().cmp(other.as_slice())
+    }
+}
+
+impl PartialOrd for Key {
+    ghost partial_cmp = { as_partial_cmp (slice_cmp nat_cmp) };
+
+    ghost laws = { partial_order_from_own_ties (Prim.search (comparing, rules)) (Prim.search (comparing, rules)) };
+
+    fn partial_cmp(&self, other: &Key) -> Option<Ordering> {
+        Some(self.cmp(other))
+    }
+}
