@@ -32,7 +32,9 @@ pub(crate) fn of_one(
     ensures made { IfOk result (λ bundles. bundles.entries ≡ (name, bundle) ∷ []) }
     ensures error { IfErr result (λ e. e ≡ (faults.Memory, bundle)) }
 {
-    let mut bundles = IndexMap::with_hasher(alloc, state);
+    let Ok(mut bundles) = IndexMap::with_capacity_and_hasher(alloc, 1, state) else {
+        return Err((PackFault::Memory, bundle));
+    };
     add(&mut bundles, name, bundle)?;
     bundles.shrink_to_fit();
     Ok(bundles)

@@ -76,6 +76,10 @@ impl<'a> Node for LentItem<'a> {
         self.item.unit(i)
     }
 
+    fn segment_run(self, from: usize) -> usize {
+        self.item.segment_run(from)
+    }
+
     fn number(self, i: usize) -> i32 {
         self.item.number(i)
     }

@@ -10,7 +10,7 @@ use Rattle.std.proofs.lemmas.List.{length-take, length-drop}
 use Rattle.rb_format.specs.declared.layout.Layout.{Layout}
 use Rattle.rb_format.specs.Place.{key, key_ok, key_before, key_front}
 use Rattle.rb_validator.specs.inner.Compared.{examined}
-use Rattle.rb_validator.proofs.Ranking.{then_same, cmp_same}
+use Rattle.rb_validator.proofs.Orders.{then_same, cmp_same}
 
 -- ---- a key is no longer than the data
 

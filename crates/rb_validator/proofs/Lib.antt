@@ -8,8 +8,11 @@ pub mod Upwards
 pub mod Spans
 pub mod Shapes
 pub mod Ways
+pub mod Orders
+pub mod Fronts
 pub mod Ranking
 pub mod Pairs
+pub mod LeafRuns
 mod Refusals
 pub mod Measuring
 mod Comparing

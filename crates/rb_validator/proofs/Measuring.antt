@@ -4,15 +4,15 @@ use Rattle.std.proofs.Common.{take, drop, Option, Some, None, refl, sym, ap, sub
 use Rattle.std.specs.Prelude.{◌==◌, ◌&&◌, nat_lt}
 use Rattle.std.proofs.lemmas.Bool.{ltb-true, ltb-false, lt-ltb, le-ltb}
 use Rattle.std.proofs.lemmas.Bool.Decides.{nat_tests}
-use Rattle.std.proofs.lemmas.List.{length-drop, drop-take, drop-drop, get_or_past}
+use Rattle.std.proofs.lemmas.List.{length-drop, length-take, drop_all, drop-take, drop-drop, get_or_past}
 use Rattle.std.proofs.Math.Seq.{drop-cons}
 use Rattle.rb_tree.specs.Path.{is_plain}
 use Rattle.rb_format.specs.declared.layout.Layout.{Layout}
 use Rattle.rb_format.specs.Place.{key}
-use Rattle.rb_validator.specs.inner.KnownKeys.{key_run}
-use Rattle.rb_validator.specs.inner.Ranks.{rank_at}
-use Rattle.rb_validator.specs.inner.Lengths.{AreCounted}
-use Rattle.rb_validator.proofs.Ranking.{front, cons_to, nonempty, run_long, placed}
+use Rattle.rb_validator.specs.inner.KnownKeys.{key_run, key_or_none}
+use Rattle.rb_validator.specs.inner.Ranks.{key_from}
+use Rattle.rb_validator.specs.inner.Lengths.{AreCounted, place_of, length_at}
+use Rattle.rb_validator.proofs.Fronts.{front, cons_to, nonempty, run_long, placed}
 
 abbrev pub IsLong : List ℕ → ℕ → Option (List ℕ) → Type 0
 IsLong lengths p None = get_or lengths p 0 ≡ 0
@@ -26,6 +26,9 @@ count_nul b n rest h e = grind (arith, nat_tests)
 
 count_none : (b n rest : ℕ) → count_of b n rest ≡ true → (b == 0) ≡ false → (is_plain b && nat_lt 0 rest) ≡ false → n ≡ 0
 count_none b n rest h e f = let g : (n == 0) ≡ true = rw (e, f) at h in grind (arith, nat_tests, g)
+
+next_length : (b n rest : ℕ) → count_of b n rest ≡ true → 2 ≤ n → n ≡ rest + 1
+next_length b n rest h l = grind (arith, nat_tests)
 
 count_some : (b n rest : ℕ) → count_of b n rest ≡ true → (b == 0) ≡ false → (is_plain b && nat_lt 0 rest) ≡ true → n ≡ rest + 1
 count_some b n rest h e f = let g : (n == rest + 1) ≡ true = rw (e, f) at h in grind (arith, nat_tests, g)
@@ -109,32 +112,35 @@ some_of lengths p None h l = absurd (omega arith)
 some_of lengths p (Some []) h l = absurd (omega arith)
 some_of lengths p (Some (b ∷ s)) h l = record { bytes = b ∷ s; is = refl; key = refl; count = h }
 
-inside_of : (lengths : List ℕ) (p m : ℕ) → length lengths ≡ m → 2 ≤ get_or lengths p 0 → p < m
-inside_of lengths p m e l = by (ltb p m) refl
+pub inside_some : (lengths : List ℕ) (p m : ℕ) → length lengths ≡ m → 0 < get_or lengths p 0 → p < m
+inside_some lengths p m e l = by (ltb p m) refl
   where
     by : (t : Bool) → ltb p m ≡ t → p < m
     by true g = ltb-true p m g
     by false g = let a = ltb-false p m g in let past = get_or_past lengths p 0 (omega arith) in absurd (omega arith)
 
-pub measured_none : (y : Layout) (body lengths : List ℕ) (k : ℕ) → AreCounted (key_run y body) lengths → rank_at y lengths k < 2 → key y body k ≡ None
+inside_of : (lengths : List ℕ) (p m : ℕ) → length lengths ≡ m → 2 ≤ get_or lengths p 0 → p < m
+inside_of lengths p m e l = inside_some lengths p m e (omega arith)
+
+pub measured_none : (y : Layout) (body lengths : List ℕ) (k : ℕ) → AreCounted (key_run y body) lengths → length_at y lengths k < 2 → key y body k ≡ None
 measured_none y body lengths k c l =
     let s = placed y body lengths k c.long in
-    let rank = s.rank in
+    let listed = s.count in
     s.read ∙ none_of lengths s.place _ (long_all (key_run y body) lengths c _ s.place refl) (omega arith)
 
 pub record IsMeasured (y : Layout) (body lengths : List ℕ) (k : ℕ) : Type 0 where
-  pub low : k + (rank_at y lengths k - 1) ≤ length body
-  pub is : key y body k ≡ Some (take (rank_at y lengths k - 1) (drop k body))
+  pub low : k + (length_at y lengths k - 1) ≤ length body
+  pub is : key y body k ≡ Some (take (length_at y lengths k - 1) (drop k body))
 
 pub measured_some : (y : Layout) (body lengths : List ℕ) (k : ℕ) → 4 * y.keys_top ≤ length body → AreCounted (key_run y body) lengths
-    → 2 ≤ rank_at y lengths k → IsMeasured y body lengths k
+    → 2 ≤ length_at y lengths k → IsMeasured y body lengths k
 measured_some y body lengths k room c l =
     let run = key_run y body in
     let first = 4 * (1 + y.indexes) in
     let m = 4 * y.keys_top - 4 * (1 + y.indexes) in
     let s = placed y body lengths k c.long in
     let p = s.place in
-    let rank = s.rank in
+    let listed = s.count in
     let high : 2 ≤ get_or lengths p 0 = omega arith in
     let inside : p < length run = inside_of lengths p (length run) c.long high in
     let at : first + p ≡ k = s.at inside in
@@ -143,7 +149,7 @@ measured_some y body lengths k room c l =
     let w = front_take (drop p run) some.bytes some.is in
     let short = w.short in
     let count = some.count in
-    let n : length some.bytes ≡ rank_at y lengths k - 1 = omega arith in
+    let n : length some.bytes ≡ length_at y lengths k - 1 = omega arith in
     let parts : p + (m - p) ≡ m = omega arith in
     let cut : drop p run ≡ take (m - p) (drop p (drop first body)) = rw parts at (drop-take p (m - p) (drop first body)) in
     let there : drop p (drop first body) ≡ drop k body = drop-drop p first body ∙ ap (λ (x : ℕ). drop x body) at in
@@ -154,4 +160,85 @@ measured_some y body lengths k room c l =
     record {
       low = omega (arith, length-drop p run);
       is = s.read ∙ some.key ∙ ap Some (bytes ∙ ap (λ (x : ℕ). take x (drop k body)) n);
+    }
+
+-- ---- the key from a place
+
+-- the key at an offset, by the length at its place
+pub record IsAt (y : Layout) (body lengths : List ℕ) (k : ℕ) : Type 0 where
+  pub either : key_or_none (key y body k) ≡ key_from (key_run y body) lengths (place_of y (key_run y body) k)
+  pub none : get_or lengths (place_of y (key_run y body) k) 0 < 2 → key y body k ≡ None
+  pub some : 2 ≤ get_or lengths (place_of y (key_run y body) k) 0
+      → key y body k ≡ Some (key_from (key_run y body) lengths (place_of y (key_run y body) k))
+
+key_many : (lengths d : List ℕ) (p : ℕ) → IsLong lengths p (front d) → 2 ≤ get_or lengths p 0
+    → nonempty (front d) ≡ Some (take (get_or lengths p 0 - 1) d)
+key_many lengths d p long l =
+    let some = some_of lengths p _ long l in
+    let w = front_take d some.bytes some.is in
+    let count = some.count in
+    let n : length some.bytes ≡ get_or lengths p 0 - 1 = omega arith in
+    some.key ∙ ap Some (sym w.is ∙ ap (λ (x : ℕ). take x d) n)
+
+key_place : (lengths d : List ℕ) (p : ℕ) (k : Option (List ℕ)) → k ≡ nonempty (front d) → IsLong lengths p (front d)
+    → key_or_none k ≡ take (get_or lengths p 0 - 1) d
+key_place lengths d p k e long = by (ltb (get_or lengths p 0) 2) refl
+  where
+    by : (t : Bool) → ltb (get_or lengths p 0) 2 ≡ t → key_or_none k ≡ take (get_or lengths p 0 - 1) d
+    by true f =
+        let l = ltb-true (get_or lengths p 0) 2 f in
+        let zero : get_or lengths p 0 - 1 ≡ 0 = omega arith in
+        ap key_or_none (e ∙ none_of lengths p _ long l) ∙ sym (ap (λ (x : ℕ). take x d) zero)
+    by false f = ap key_or_none (e ∙ key_many lengths d p long (ltb-false (get_or lengths p 0) 2 f))
+
+pub key_at : (y : Layout) (body lengths : List ℕ) (k : ℕ) → AreCounted (key_run y body) lengths → IsAt y body lengths k
+key_at y body lengths k c =
+    let run = key_run y body in
+    let s = placed y body lengths k c.long in
+    let long : IsLong lengths s.place (front (drop s.place run)) = long_all run lengths c _ s.place refl in
+    record {
+      either = rw s.is (key_place lengths (drop s.place run) s.place (key y body k) s.read long);
+      none = rw s.is (λ l. s.read ∙ none_of lengths s.place _ long l);
+      some = rw s.is (λ l. s.read ∙ key_many lengths (drop s.place run) s.place long l);
+    }
+
+-- the length at a later place of a key
+pub length_on : (run lengths : List ℕ) → AreCounted run lengths → (k p : ℕ) → k < get_or lengths p 0 → get_or lengths (p + k) 0 + k ≡ get_or lengths p 0
+length_on run lengths c zero p h = let e : p + 0 ≡ p = omega arith in rw e (omega arith)
+length_on run lengths c (suc k) p h =
+    let here : p < length run = inside_of lengths p (length run) c.long (omega arith) in
+    let n = next_length (get_or run p 0) (get_or lengths p 0) (get_or lengths (p + 1) 0) (c.each p here) (omega arith) in
+    let on = length_on run lengths c k (p + 1) (omega arith) in
+    let e : p + 1 + k ≡ p + suc k = omega arith in
+    let there : get_or lengths (p + 1 + k) 0 ≡ get_or lengths (p + suc k) 0 = ap (λ (x : ℕ). get_or lengths x 0) e in
+    omega arith
+
+-- what is left of a key after so many bytes
+pub key_on : (run lengths : List ℕ) → AreCounted run lengths → (k p : ℕ) → k < get_or lengths p 0
+    → drop k (key_from run lengths p) ≡ key_from run lengths (p + k)
+key_on run lengths c k p h =
+    let on = length_on run lengths c k p h in
+    let whole : k + (get_or lengths p 0 - 1 - k) ≡ get_or lengths p 0 - 1 = omega arith in
+    let rest : get_or lengths p 0 - 1 - k ≡ get_or lengths (p + k) 0 - 1 = omega arith in
+    let cut : drop k (take (get_or lengths p 0 - 1) (drop p run)) ≡ take (get_or lengths p 0 - 1 - k) (drop k (drop p run)) =
+    rw whole at (drop-take k (get_or lengths p 0 - 1 - k) (drop p run)) in
+    cut ∙ ap (take (get_or lengths p 0 - 1 - k)) (drop-drop k p run) ∙ ap (λ (x : ℕ). take x (drop (p + k) run)) rest
+
+pub key_done : (run lengths : List ℕ) (k p : ℕ) → get_or lengths p 0 ≤ suc k → drop k (key_from run lengths p) ≡ []
+key_done run lengths k p h = drop_all k (key_from run lengths p) (omega (arith, length-take (get_or lengths p 0 - 1) (drop p run)))
+
+-- a key with bytes
+pub record HasBytes (run lengths : List ℕ) (p : ℕ) : Type 0 where
+  pub first : ℕ
+  pub more : List ℕ
+  pub is : key_from run lengths p ≡ first ∷ more
+
+pub key_bytes : (run lengths : List ℕ) → AreCounted run lengths → (p : ℕ) → 2 ≤ get_or lengths p 0 → HasBytes run lengths p
+key_bytes run lengths c p h =
+    let here : p < length run = inside_of lengths p (length run) c.long h in
+    let n : get_or lengths p 0 - 1 ≡ suc (get_or lengths p 0 - 2) = omega arith in
+    record {
+      first = get_or run p 0;
+      more = take (get_or lengths p 0 - 2) (drop (suc p) run);
+      is = ap (take (get_or lengths p 0 - 1)) (drop-cons run p 0 here) ∙ ap (λ (x : ℕ). take x (get_or run p 0 ∷ drop (suc p) run)) n;
     }

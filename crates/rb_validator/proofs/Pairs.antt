@@ -1,26 +1,30 @@
 -- Keys that are good, pair by pair.
-use Rattle.std.proofs.Common.{◌≡◌, ◌⊎◌, ℕ, zero, suc, ◌+◌, ◌-◌, ◌*◌, ◌<◌, ◌≤◌, Bool, true, false, cond, ltb, List, [], length, get_or, Option, Some, None}
-use Rattle.std.proofs.Common.{Result, Ok, Err, refl, sym, ap, subst, ◌∙◌, arith, inl, inr, set, get_or-set_other, get_or-set_same}
+use Rattle.std.proofs.Common.{◌≡◌, ◌⊎◌, ℕ, zero, suc, ◌+◌, ◌-◌, ◌*◌, ◌<◌, ◌≤◌, Bool, true, false, cond, List, [], length, get_or, Option, Some, None}
+use Rattle.std.proofs.Common.{Result, Ok, Err, refl, sym, ap, subst, ◌∙◌, arith, inl, inr, take, drop, set, get_or-set_other, get_or-set_same}
 use Rattle.std.specs.Ordering.{nat_cmp, is_lt}
 use Rattle.std.specs.Cmp.Lexicographic.{slice_cmp}
-use Rattle.std.proofs.lemmas.Bool.{lt-ltb, le-ltb, cases_eq}
+use Rattle.std.proofs.lemmas.Bool.{cases_eq}
 use Rattle.std.proofs.lemmas.List.{get_or_past}
 use Rattle.rb_format.specs.declared.fault.FileFault.{FileFault}
 use Rattle.rb_format.specs.declared.fault.FileFault.TheVariants.{Key, KeyOrder}
 use Rattle.rb_format.specs.declared.layout.Layout.{Layout}
-use Rattle.rb_format.specs.Place.{key}
+use Rattle.rb_format.specs.declared.geometry.KeyPlaces.{KeyPlaces}
+use Rattle.rb_format.specs.declared.geometry.KeyPlaces.TheVariants.{Halves, Words}
+use Rattle.rb_format.specs.Geometry.{key_offset}
+use Rattle.rb_format.specs.Place.{key, half_at, word_at}
 use Rattle.rb_validator.specs.declared.known_keys.KnownKeys.{KnownKeys}
 use Rattle.rb_format.specs.inner.FirstFault.{◌>>=◌, fault_of, key_or_fault, next_key, keys}
 use Rattle.rb_format.proofs.Faults.{keys_on, keys_stop, keys_end}
-use Rattle.rb_validator.specs.inner.KnownKeys.{key_run, key_or_none, previous_key, last_key, IsGood, AreGood, IsPair, IsLinked, IsRedirected, IsSound}
-use Rattle.rb_validator.specs.inner.Ranks.{IsRanked, rank_at, previous_rank}
-use Rattle.rb_validator.proofs.Ranking.{read_all, ranked_nodes, ranked_climbs, rank_none, rank_some, rank_order, placed}
+use Rattle.rb_validator.specs.inner.KnownKeys.{key_run, key_or_none, previous_key, last_key, IsGood, AreGood, AreFrom, IsPair, IsLinked, IsRedirected, IsSound}
+use Rattle.rb_validator.specs.inner.Lengths.{AreCounted, place_of, previous_place}
+use Rattle.rb_validator.specs.inner.Ranks.{key_from}
+use Rattle.rb_validator.proofs.Measuring.{key_at}
 
 -- ---- a count that was raised
 
 pub counted_more : (y : Layout) (body : List ℕ) (m : KnownKeys) (n : ℕ) → IsSound y body m → n ≤ 25 * length body → IsSound y body (record m { compared = n })
 counted_more y body m n s l =
-    record { lengths = s.lengths; ranks = s.ranks; halves = s.halves; words = s.words; few = l; short = s.short }
+    record { lengths = s.lengths; ranks = s.ranks; halves = s.halves; words = s.words; few = l; looked = s.looked; short = s.short }
 
 -- ---- one key
 
@@ -67,53 +71,43 @@ less_fault o last s e f = rw (e, f) refl
 more_fault : (o : Option (List ℕ)) (last s : List ℕ) → o ≡ Some s → is_lt (slice_cmp nat_cmp last s) ≡ false → Some KeyOrder ≡ fault_of (step_of o last)
 more_fault o last s e f = rw (e, f) refl
 
-pub ranked_none : (y : Layout) (body ranks last : List ℕ) (o : ℕ) → IsRanked (key_run y body) ranks → rank_at y ranks o < 2
-    → Some Key ≡ fault_of (next_key y body last o)
-ranked_none y body ranks last o r l =
-    let s = placed y body ranks o r.long in
-    let read = read_all (key_run y body) ranks r.heads (ranked_nodes (key_run y body) ranks r) _ s.place refl in
-    let rank = s.rank in
-    let none = rank_none (key_run y body) ranks r.heads s.place _ read (omega arith) in
-    rw (next_is y body last o) (none_fault (key y body o) last (s.read ∙ none))
-
-ranked_test : (y : Layout) (body ranks : List ℕ) (before : Option ℕ) (o : ℕ) → IsRanked (key_run y body) ranks → 2 ≤ rank_at y ranks o
-    → (k : List ℕ) × (key y body o ≡ Some k) × (is_lt (slice_cmp nat_cmp (previous_key y body before) k) ≡ ltb (previous_rank y ranks before)
-    (rank_at y ranks o))
-ranked_test y body ranks None o r l =
+-- the key before, of which the offset is given
+previous_from : (y : Layout) (body lengths : List ℕ) (before : Option ℕ) → AreCounted (key_run y body) lengths
+    → previous_key y body before ≡ key_from (key_run y body) lengths (previous_place y (key_run y body) before)
+previous_from y body lengths None c =
     let run = key_run y body in
-    let s = placed y body ranks o r.long in
-    let read = read_all run ranks r.heads (ranked_nodes run ranks r) _ s.place refl in
-    let rank = s.rank in
-    let k = rank_some run ranks r.heads s.place _ read (omega arith) in
-    let long = r.long in
-    let zero : get_or ranks (length run) 0 ≡ 0 = get_or_past ranks (length run) 0 (omega arith) in
-    let order = rank_order run ranks r.heads (ranked_climbs run ranks r) (length run) s.place None _ k.0 zero read k.1 in
-    let same : ltb (get_or ranks (length run) 0) (get_or ranks s.place 0) ≡ ltb 0 (rank_at y ranks o) = cc in
-    (k.0, s.read ∙ k.1, order ∙ same)
-ranked_test y body ranks (Some j) o r l =
-    let run = key_run y body in
-    let s = placed y body ranks o r.long in
-    let t = placed y body ranks j r.long in
-    let read = read_all run ranks r.heads (ranked_nodes run ranks r) _ s.place refl in
-    let before = read_all run ranks r.heads (ranked_nodes run ranks r) _ t.place refl in
-    let rank = s.rank in
-    let k = rank_some run ranks r.heads s.place _ read (omega arith) in
-    let order = rank_order run ranks r.heads (ranked_climbs run ranks r) t.place s.place _ _ k.0 before read k.1 in
-    let other = t.rank in
-    let same : ltb (get_or ranks t.place 0) (get_or ranks s.place 0) ≡ ltb (rank_at y ranks j) (rank_at y ranks o) = cc in
-    (k.0, s.read ∙ k.1, ap (λ (x : Option (List ℕ)). is_lt (slice_cmp nat_cmp (key_or_none x) k.0)) t.read ∙ order ∙ same)
+    let long = c.long in
+    let zero : get_or lengths (length run) 0 - 1 ≡ 0 = omega (arith, get_or_past lengths (length run) 0 (omega arith)) in
+    sym (ap (λ (x : ℕ). take x (drop (length run) run)) zero)
+previous_from y body lengths (Some k) c = (key_at y body lengths k c).either
 
-pub ranked_less : (y : Layout) (body ranks : List ℕ) (before : Option ℕ) (o : ℕ) → IsRanked (key_run y body) ranks → 2 ≤ rank_at y ranks o
-    → previous_rank y ranks before < rank_at y ranks o → None ≡ fault_of (next_key y body (previous_key y body before) o)
-ranked_less y body ranks before o r l h =
-    let t = ranked_test y body ranks before o r l in
-    rw (next_is y body (previous_key y body before) o) (less_fault (key y body o) (previous_key y body before) t.0 t.1 (t.2 ∙ lt-ltb _ _ h))
+pub ranked_none : (y : Layout) (body lengths last : List ℕ) (o : ℕ) → AreCounted (key_run y body) lengths
+    → get_or lengths (place_of y (key_run y body) o) 0 < 2 → Some Key ≡ fault_of (next_key y body last o)
+ranked_none y body lengths last o c l = rw (next_is y body last o) (none_fault (key y body o) last ((key_at y body lengths o c).none l))
 
-pub ranked_more : (y : Layout) (body ranks : List ℕ) (before : Option ℕ) (o : ℕ) → IsRanked (key_run y body) ranks → 2 ≤ rank_at y ranks o
-    → rank_at y ranks o ≤ previous_rank y ranks before → Some KeyOrder ≡ fault_of (next_key y body (previous_key y body before) o)
-ranked_more y body ranks before o r l h =
-    let t = ranked_test y body ranks before o r l in
-    rw (next_is y body (previous_key y body before) o) (more_fault (key y body o) (previous_key y body before) t.0 t.1 (t.2 ∙ le-ltb _ _ h))
+ranked_test : (y : Layout) (body lengths : List ℕ) (before : Option ℕ) (o : ℕ) (t : Bool) → AreCounted (key_run y body) lengths
+    → t ≡ is_lt (slice_cmp nat_cmp (key_from (key_run y body) lengths (previous_place y (key_run y body) before))
+    (key_from (key_run y body) lengths (place_of y (key_run y body) o)))
+    → is_lt (slice_cmp nat_cmp (previous_key y body before) (key_from (key_run y body) lengths (place_of y (key_run y body) o))) ≡ t
+ranked_test y body lengths before o t c e =
+    ap (λ (x : List ℕ). is_lt (slice_cmp nat_cmp x (key_from (key_run y body) lengths (place_of y (key_run y body) o))))
+    (previous_from y body lengths before c) ∙ sym e
+
+pub ranked_less : (y : Layout) (body lengths : List ℕ) (before : Option ℕ) (o : ℕ) → AreCounted (key_run y body) lengths
+    → 2 ≤ get_or lengths (place_of y (key_run y body) o) 0
+    → true ≡ is_lt (slice_cmp nat_cmp (key_from (key_run y body) lengths (previous_place y (key_run y body) before))
+    (key_from (key_run y body) lengths (place_of y (key_run y body) o)))
+    → None ≡ fault_of (next_key y body (previous_key y body before) o)
+ranked_less y body lengths before o c l e = rw (next_is y body (previous_key y body before) o)
+    (less_fault (key y body o) (previous_key y body before) _ ((key_at y body lengths o c).some l) (ranked_test y body lengths before o true c e))
+
+pub ranked_more : (y : Layout) (body lengths : List ℕ) (before : Option ℕ) (o : ℕ) → AreCounted (key_run y body) lengths
+    → 2 ≤ get_or lengths (place_of y (key_run y body) o) 0
+    → false ≡ is_lt (slice_cmp nat_cmp (key_from (key_run y body) lengths (previous_place y (key_run y body) before))
+    (key_from (key_run y body) lengths (place_of y (key_run y body) o)))
+    → Some KeyOrder ≡ fault_of (next_key y body (previous_key y body before) o)
+ranked_more y body lengths before o c l e = rw (next_is y body (previous_key y body before) o)
+    (more_fault (key y body o) (previous_key y body before) _ ((key_at y body lengths o c).some l) (ranked_test y body lengths before o false c e))
 
 -- ---- many keys
 
@@ -138,6 +132,23 @@ good_stop y body place n i d l g e =
     sym (keys_stop y body place (last_key y body place i) i (n - i) (n - suc i) d _ f e (good_from y body place n i (omega arith) g))
 
 -- ---- links
+
+-- key offsets, counted from the top of the keys
+pub from_halves : (y : Layout) (body : List ℕ) (places p : KeyPlaces) (first : ℕ) → AreFrom y places p → p ≡ Halves first → (i : ℕ)
+    → key_offset body places i ≡ half_at body (2 * y.keys_top + (first + i))
+from_halves y body places p first h e i = by places (subst (AreFrom y places) e h)
+  where
+    by : (places : KeyPlaces) → AreFrom y places (Halves first) → key_offset body places i ≡ half_at body (2 * y.keys_top + (first + i))
+    by (Halves a) h = let n : a + i ≡ 2 * y.keys_top + (first + i) = omega arith in ap (half_at body) n
+    by (Words a) h = absurd h
+
+pub from_words : (y : Layout) (body : List ℕ) (places p : KeyPlaces) (first : ℕ) → AreFrom y places p → p ≡ Words first → (i : ℕ)
+    → key_offset body places i ≡ word_at body (y.keys_top + (first + i))
+from_words y body places p first h e i = by places (subst (AreFrom y places) e h)
+  where
+    by : (places : KeyPlaces) → AreFrom y places (Words first) → key_offset body places i ≡ word_at body (y.keys_top + (first + i))
+    by (Halves a) h = absurd h
+    by (Words a) h = let n : a + i ≡ y.keys_top + (first + i) = omega arith in ap (word_at body) n
 
 pub pair_good : (y : Layout) (body : List ℕ) (offset place : ℕ → ℕ) (first : ℕ) → ((i : ℕ) → place i ≡ offset (first + i)) → (i : ℕ)
     → IsPair y body offset (first + i) → IsGood y body place (suc i)

@@ -1,2 +1,3 @@
+pub mod TextBlocks
 pub mod Visits
 pub mod inner

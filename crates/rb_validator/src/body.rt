@@ -1,4 +1,8 @@
 //! What is checked, and the answer of a check.
+ghost use Rattle.std.specs.Prelude.{◌≡◌, ◌*◌, ◌≤◌, length};
+ghost use Rattle.rb_validator.specs.inner.KnownKeys.{key_run};
+ghost use Rattle.rb_validator.specs.inner.Leaves.{AreLeaves};
+
 use rb_format::{FileFault, Layout};
 
 /// The data of a file after its header, and their bounds.
@@ -6,7 +10,25 @@ use rb_format::{FileFault, Layout};
 pub struct Body<'a> {
     pub layout: &'a Layout,
     pub bytes: &'a [u8],
+    /// For each unit how many units from it on have leaves alone, or nothing if they weren't
+    /// counted.
+    pub leaves: &'a [u32],
+    ghost counted: { AreLeaves layout.now bytes.now leaves.now },
 }
 
 /// What a check finds, or the first fault.
 pub type Checked<T> = Result<T, FileFault>;
+
+/// The bytes of all keys, those between the indexes and the top of the keys.
+pub fn key_bytes<'a>(body: Body<'a>) -> &'a [u8]
+    requires { 4 * body.layout.now.keys_top ≤ length body.bytes.now }
+    ensures { result.now ≡ key_run body.entry.layout.now body.entry.bytes.now }
+{
+    let first = 4 * (1 + body.layout.indexes as usize);
+    let top = 4 * body.layout.keys_top as usize;
+    if first < top {
+        &body.bytes[first..top]
+    } else {
+        &[]
+    }
+}

@@ -1,11 +1,12 @@
 //! Files that denote a bundle.
 ghost use Rattle.std.specs.Prelude.{◌≡◌, ◌⊎◌, ◌*◌, ◌≤◌, Some, IfOk, IfErr, drop, length};
 ghost use Rattle.rb_format.specs.Place.{half_at, layout_of};
+ghost use Rattle.rb_validator.specs.TextBlocks.{AreSegmentBlocks};
 ghost use Rattle.rb_validator.specs.Visits.{HasVisits};
 ghost use Rattle.rb_format.specs.File.{Denotes, source_tree_of};
 ghost use Rattle.rb_format.specs.Checks.{first_fault};
 
-use crate::file::{Counts, check_file};
+use crate::file::{Findings, check_file};
 use rb_format::{Attributes, FileFault, MINOR_VERSION_AT, body};
 use std::alloc::Global;
 use std::marker::Model;
@@ -17,6 +18,8 @@ pub struct Bundle {
     bytes: Vec<u8>,
     visits: u64,
     compared: u64,
+    looked: u64,
+    blocks: Vec<bool>,
 }
 
 impl Model for Bundle {
@@ -27,7 +30,7 @@ impl Model for Bundle {
 
     ghost view = { λ b. b.bytes.items };
 
-    ghost invariant = { λ b. IsAccepted b.bytes.items b.visits b.compared };
+    ghost invariant = { λ b. IsAccepted b.bytes.items b.visits b.compared b.looked b.blocks.items };
 }
 
 /// The bundle of a file that denotes one. Any other file is refused for its first fault, in the
@@ -48,10 +51,19 @@ pub fn accept(alloc: Global, bytes: Vec<u8>) -> Result<Bundle, (FileFault, Vec<u
     ensures back { IfErr result (λ e. e.1.items ≡ bytes.items) }
 {
     match check_file(alloc, &bytes) {
-        Ok(Counts { visits, compared }) => Ok(Bundle {
+        Ok(
+            Findings {
+                visits,
+                compared,
+                looked,
+                blocks,
+            },
+        ) => Ok(Bundle {
             bytes,
             visits,
             compared,
+            looked,
+            blocks,
         }),
         Err(fault) => Err((fault, bytes)),
     }
@@ -86,11 +98,30 @@ impl Bundle {
 
     /// How many bytes of keys the acceptance compared. If two keys of a table are compared byte by
     /// byte, all of the later one are counted; if their lengths are known, those that they have in
-    /// common, and the first that differs; if they are compared by their ranks, none. It is at most
-    /// 25 for each byte of the file.
+    /// common, and the first that differs; if they are compared by their ranks, none here, but in
+    /// `compared_before_ranks`. It is at most 25 for each byte of the file.
     pub fn compared(&self) -> u64
         ensures { result ≤ 25 * length self.now }
     {
         self.compared
+    }
+
+    /// How many bytes of keys the acceptance compared before it compared two keys by the ranks of
+    /// what comes after: fewer than 336 for each two keys, and at most 252 for each byte of the
+    /// file. Few files have keys that are so costly to compare; for all others it is 0.
+    pub fn compared_before_ranks(&self) -> u64
+        ensures { result ≤ 252 * length self.now }
+    {
+        self.looked
+    }
+
+    /// Marks of the data after the header, one for each whole block of 1,024 half words: if it is
+    /// set, each half word of the block is a unit of a path's segment, printable ASCII and no
+    /// slash. There are none for a file without an Alias as long as a block, so that no other file
+    /// pays for them.
+    pub fn blocks(&self) -> &[bool]
+        ensures { AreSegmentBlocks (drop (half_at self.now 0) self.now) result.now }
+    {
+        &self.blocks
     }
 }

@@ -1,16 +1,21 @@
 //! The checks of a whole file.
-ghost use Rattle.std.specs.Prelude.{◌≡◌, ◌⊎◌, ◌+◌, ◌*◌, ◌≤◌, None, Some, length, IfOk, MatchResult};
+ghost use Rattle.std.specs.Prelude.{◌≡◌, ◌⊎◌, ◌+◌, ◌*◌, ◌≤◌, None, Some, Err, length, drop, IfOk};
+ghost use Rattle.std.specs.Prelude.{IfErr, MatchResult};
+ghost use Rattle.rb_tree.specs.Resource.{height};
+ghost use Rattle.rb_format.specs.inner.FirstFault.{result_map, read};
+ghost use Rattle.rb_validator.specs.inner.KnownKeys.{IsSound};
+ghost use Rattle.rb_validator.specs.inner.Marks.{marked, IsFresh};
 ghost use Rattle.rb_format.specs.inner.FirstFault.{fault_of, read_data, read_file};
 ghost use Rattle.rb_format.specs.Place as fields;
+ghost use Rattle.rb_validator.specs.TextBlocks.{AreSegmentBlocks};
 ghost use Rattle.rb_validator.specs.Visits.{IsPlaceAt, IsCount, HasVisits};
 ghost use Rattle.rb_format.specs.Limits.{file_limit};
 
 use crate::body::{Body, Checked};
 use crate::items::check_item;
-use crate::key_checker::KeyChecker;
-use crate::memo::Memo;
-use crate::runs::Runs;
+use crate::leaf_runs::count_leaves;
 use crate::state::CheckState;
+use crate::text_blocks::segment_blocks;
 use rb_format::{
     Attributes, FILE_LIMIT, FileFault, Header, Layout, has_valid_indexes, is_table, item_kind,
     word_at,
@@ -18,20 +23,26 @@ use rb_format::{
 use rb_tree::HEIGHT_LIMIT;
 use std::alloc::Global;
 
-/// What an acceptance counted: the places that it entered, and the bytes of keys that it compared.
-pub struct Counts {
+/// What an acceptance counted: the places that it entered, and the bytes of keys that it compared,
+/// those before ranks apart; and the blocks that it marked.
+pub struct Findings {
     pub visits: u64,
     pub compared: u64,
+    pub looked: u64,
+    pub blocks: Vec<bool>,
 }
 
 /// How many places a file has, and how many bytes of its keys were compared, or its first fault;
 /// `Memory` may come in place of an answer.
 #[tactic(auto, using(rb_format::proofs::Checks::header_is), unfolding(rb_format::specs::inner::FirstFault::read_file))]
-pub fn check_file(alloc: Global, bytes: &[u8]) -> Checked<Counts>
+pub fn check_file(alloc: Global, bytes: &[u8]) -> Checked<Findings>
     ensures answer { MatchResult result (λ _. fault_of (read_file 64 bytes.now) ≡ None)
         (λ e. (e ≡ FileFault.Memory) ⊎ (fault_of (read_file 64 bytes.now) ≡ Some e)) }
     ensures visits { IfOk result (λ n. HasVisits bytes.now n.visits) }
     ensures compared { IfOk result (λ n. n.compared ≤ 25 * length bytes.now) }
+    ensures looked { IfOk result (λ n. n.looked ≤ 252 * length bytes.now) }
+    ensures blocks { IfOk result
+        (λ n. AreSegmentBlocks (drop (fields.half_at bytes.now 0) bytes.now) n.blocks.items) }
 {
     if bytes.len() > FILE_LIMIT {
         return Err(FileFault::TooLong);
@@ -40,15 +51,111 @@ pub fn check_file(alloc: Global, bytes: &[u8]) -> Checked<Counts>
     check_data(alloc, header.minor, &bytes[header.size as usize..])
 }
 
+/// What was found of data that have no fault.
+fn found_of(alloc: Global, body: Body<'_>, state: &CheckState) -> Checked<Findings>
+    ensures memory { IfErr result (λ e. e ≡ FileFault.Memory) }
+    ensures visits { IfOk result
+        (λ n. n.visits ≡ marked state.now.memo (length state.now.memo)) }
+    ensures compared { IfOk result (λ n. n.compared ≡ state.now.keys.known.compared) }
+    ensures looked { IfOk result (λ n. n.looked ≡ state.now.keys.known.looked) }
+    ensures blocks { IfOk result (λ n. AreSegmentBlocks body.entry.bytes.now n.blocks.items) }
+{
+    let Ok(blocks) = segment_blocks(alloc, body.bytes, state.has_long_alias) else {
+        return Err(FileFault::Memory);
+    };
+    Ok(Findings {
+        visits: state.memo.visits(),
+        compared: state.keys.known.compared,
+        looked: state.keys.known.looked,
+        blocks,
+    })
+}
+
+/// The checks of the root item and of all below it, if nothing is known but of the keys.
+fn check_root(body: Body<'_>, state: &mut CheckState, root: u32) -> Checked<u8>
+    requires room { 4 * body.layout.now.top ≤ length body.bytes.now }
+    requires tops { body.layout.now.keys_top ≤ body.layout.now.top }
+    requires layout { body.layout.now ≡ fields.layout_of body.bytes.now }
+    requires root { root ≡ fields.word_at body.bytes.now 0 }
+    requires fresh { IsFresh body.layout.now state.old.memo state.old.runs }
+    requires sound { IsSound body.layout.now body.bytes.now state.old.keys.known }
+    ensures value { (result ≡ Err FileFault.Memory) ⊎ (result
+        ≡ result_map height (read body.entry.layout.now body.entry.bytes.now 64 root)) }
+    ensures sound { IsSound body.entry.layout.now body.entry.bytes.now state.new.keys.known }
+    ensures visits { IfOk result (λ _. IsCount (IsPlaceAt body.entry.bytes.now)
+        (3 * fields.word_at body.entry.bytes.now 4)
+        (marked state.new.memo (length state.new.memo))) }
+{
+    let height = check_item(body, state, root, HEIGHT_LIMIT as u8)?;
+    Ok(height)
+}
+
+/// The same once more, after the leaves are counted.
+fn check_again(alloc: Global, body: Body<'_>, state: &mut CheckState, root: u32) -> Checked<u8>
+    requires room { 4 * body.layout.now.top ≤ length body.bytes.now }
+    requires tops { body.layout.now.keys_top ≤ body.layout.now.top }
+    requires layout { body.layout.now ≡ fields.layout_of body.bytes.now }
+    requires root { root ≡ fields.word_at body.bytes.now 0 }
+    requires sound { IsSound body.layout.now body.bytes.now state.old.keys.known }
+    ensures value { (result ≡ Err FileFault.Memory) ⊎ (result
+        ≡ result_map height (read body.entry.layout.now body.entry.bytes.now 64 root)) }
+    ensures sound { IsSound body.entry.layout.now body.entry.bytes.now state.new.keys.known }
+    ensures visits { IfOk result (λ _. IsCount (IsPlaceAt body.entry.bytes.now)
+        (3 * fields.word_at body.entry.bytes.now 4)
+        (marked state.new.memo (length state.new.memo))) }
+{
+    let Ok(leaves) = count_leaves(alloc, body) else {
+        return Err(FileFault::Memory);
+    };
+    let body = Body {
+        layout: body.layout,
+        bytes: body.bytes,
+        leaves: &leaves,
+    };
+    if state.begin_again(alloc, body).is_err() {
+        return Err(FileFault::Memory);
+    }
+    check_root(body, state, root)
+}
+
+/// The checks of data with these bounds. If items overlap, they begin again once the leaves are
+/// counted.
+fn check_tree(alloc: Global, body: Body<'_>, root: u32) -> Checked<Findings>
+    requires short { length body.bytes.now ≤ file_limit }
+    requires room { 4 * body.layout.now.top ≤ length body.bytes.now }
+    requires tops { body.layout.now.keys_top ≤ body.layout.now.top }
+    requires layout { body.layout.now ≡ fields.layout_of body.bytes.now }
+    requires root { root ≡ fields.word_at body.bytes.now 0 }
+    ensures fault { (result ≡ Err FileFault.Memory) ⊎ (fault_of result
+        ≡ fault_of (read body.entry.layout.now body.entry.bytes.now 64 root)) }
+    ensures visits { IfOk result (λ n. IsCount (IsPlaceAt body.entry.bytes.now)
+        (3 * fields.word_at body.entry.bytes.now 4) n.visits) }
+    ensures compared { IfOk result (λ n. n.compared ≤ 25 * length body.entry.bytes.now) }
+    ensures looked { IfOk result (λ n. n.looked ≤ 252 * length body.entry.bytes.now) }
+    ensures blocks { IfOk result (λ n. AreSegmentBlocks body.entry.bytes.now n.blocks.items) }
+{
+    let Ok(mut state) = CheckState::new(alloc, body) else {
+        return Err(FileFault::Memory);
+    };
+    let mut found = check_root(body, &mut state, root);
+    if state.runs.has_stopped {
+        found = check_again(alloc, body, &mut state, root);
+    }
+    found?;
+    found_of(alloc, body, &state)
+}
+
 /// The same of the data after the header of a file of a minor version.
 #[tactic(auto, unfolding(rb_format::specs::inner::FirstFault::read_data))]
-fn check_data(alloc: Global, minor: u8, body: &[u8]) -> Checked<Counts>
+fn check_data(alloc: Global, minor: u8, body: &[u8]) -> Checked<Findings>
     requires { length body.now ≤ file_limit }
     ensures answer { MatchResult result (λ _. fault_of (read_data 64 minor body.now) ≡ None)
         (λ e. (e ≡ FileFault.Memory) ⊎ (fault_of (read_data 64 minor body.now) ≡ Some e)) }
     ensures visits { IfOk result
         (λ n. IsCount (IsPlaceAt body.now) (3 * fields.word_at body.now 4) n.visits) }
     ensures compared { IfOk result (λ n. n.compared ≤ 25 * length body.now) }
+    ensures looked { IfOk result (λ n. n.looked ≤ 252 * length body.now) }
+    ensures blocks { IfOk result (λ n. AreSegmentBlocks body.now n.blocks.items) }
 {
     if !has_valid_indexes(body) {
         return Err(FileFault::Indexes);
@@ -61,19 +168,10 @@ fn check_data(alloc: Global, minor: u8, body: &[u8]) -> Checked<Counts>
     if !is_table(item_kind(root)) {
         return Err(FileFault::Root);
     }
-    let Ok(memo) = Memo::new(alloc, layout.top) else {
-        return Err(FileFault::Memory);
-    };
-    let runs = Runs::new(alloc, layout.top);
     let body = Body {
         layout: &layout,
         bytes: body,
+        leaves: &[],
     };
-    let keys = KeyChecker::new(alloc, body);
-    let mut state = CheckState { memo, runs, keys };
-    check_item(body, &mut state, root, HEIGHT_LIMIT as u8)?;
-    Ok(Counts {
-        visits: state.memo.visits(),
-        compared: state.keys.known.compared,
-    })
+    check_tree(alloc, body, root)
 }

@@ -12,9 +12,9 @@ ghost use Rattle.rb_format.specs.Geometry as geometry;
 
 use crate::body::{Body, Checked};
 use crate::children::{Children, find_children, has_children};
+use crate::leaf_runs::is_leaf_run;
 use crate::leaves::{check_leaf, check_offset};
 use crate::memo::Mark;
-use crate::runs::split;
 use crate::state::CheckState;
 use rb_format::{FileFault, ItemKind, item_kind, item_offset, word_at};
 
@@ -55,6 +55,7 @@ pub fn check_item(body: Body<'_>, state: &mut CheckState, item: u32, left: u8) -
                 check_inner(body, state, item, kind, left - 1)
             } else {
                 check_leaf(body, kind, offset)?;
+                state.note(body, kind, offset);
                 Ok(1)
             }
         }
@@ -156,7 +157,10 @@ fn check_items(body: Body<'_>, state: &mut CheckState, items: Children, left: u8
         }
         return Ok(height);
     }
-    let parts = split(first, count);
+    if 0 < left && is_leaf_run(body.leaves, first, count) {
+        return Ok(1);
+    }
+    let parts = state.runs.split(body.leaves, first, count);
     if let Some(height) = state.runs.height(parts, first, count) {
         if height <= left {
             return Ok(height);

@@ -4,20 +4,19 @@
 //! found is kept.
 ghost use Rattle.std.specs.Prelude.{◌≡◌, ◌⊎◌, ◌*◌, ◌≤◌, [], length, Some, Err, IfOk, IfErr};
 ghost use Rattle.rb_format.specs.inner.FirstFault.{fault_of, keys};
-ghost use Rattle.rb_validator.specs.inner.KnownKeys.{IsSound, AreGood, key_run};
+ghost use Rattle.rb_validator.specs.inner.KnownKeys.{IsSound, AreGood};
 ghost use Rattle.rb_format.specs.Geometry.{keys_end, key_offset as offset_in};
 ghost use Rattle.rb_format.specs.Limits.{file_limit};
 
-use crate::body::{Body, Checked};
+use crate::body::{Body, Checked, key_bytes};
 use crate::keys::next_key;
 use crate::known_keys::KnownKeys;
 use crate::lengths::measure_keys;
-use crate::ranks::rank_keys;
 use rb_format::{FileFault, KeyPlaces};
 use std::alloc::{AllocError, Global};
 
 /// Up to how many bytes of keys are compared byte by byte, for each byte of the data.
-const PLAIN_SHARE: u64 = 8;
+const PLAIN_SHARE: u64 = 4;
 
 /// Checks the keys of tables, each table after what was found in those before it.
 #[derive(Drop)]
@@ -33,20 +32,6 @@ pub struct KeyChecker {
     pub known: KnownKeys,
 }
 
-/// The bytes of all keys, those between the indexes and the top of the keys.
-fn key_bytes<'a>(body: Body<'a>) -> &'a [u8]
-    requires { 4 * body.layout.now.keys_top ≤ length body.bytes.now }
-    ensures { result.now ≡ key_run body.entry.layout.now body.entry.bytes.now }
-{
-    let first = 4 * (1 + body.layout.indexes as usize);
-    let top = 4 * body.layout.keys_top as usize;
-    if first < top {
-        &body.bytes[first..top]
-    } else {
-        &[]
-    }
-}
-
 impl KeyChecker {
     /// Nothing was found so far.
     pub fn new(alloc: Global, body: Body<'_>) -> KeyChecker
@@ -58,7 +43,7 @@ impl KeyChecker {
             pairs: body.bytes.len() / 2,
             is_measured: false,
             is_prepared: false,
-            known: KnownKeys::new(alloc, body, 0),
+            known: KnownKeys::new(alloc, body),
         }
     }
 
@@ -138,15 +123,10 @@ impl KeyChecker {
         requires sound { IsSound body.layout.now body.bytes.now self.old.known }
         ensures { IsSound body.entry.layout.now body.entry.bytes.now self.new.known }
     {
-        if self.is_prepared {
-            return Ok(());
+        if !self.is_prepared {
+            self.known.rank(self.alloc, body)?;
+            self.is_prepared = true;
         }
-        let compared = self.known.compared;
-        // no memory for lengths and ranks at one time
-        self.known = KnownKeys::new(self.alloc, body, compared);
-        let ranks = rank_keys(self.alloc, key_bytes(body))?;
-        self.known = KnownKeys::with(self.alloc, body, ranks, compared)?;
-        self.is_prepared = true;
         Ok(())
     }
 }

@@ -7,24 +7,12 @@ ghost use Rattle.std.specs.Prelude.{◌≡◌, ◌⊎◌, true, ◌+◌, ◌*◌
 ghost use Rattle.std.specs.Prelude.{Contains, slice_set, IfOk, IfSome};
 ghost use Rattle.rb_validator.specs.declared.runs.Run.{Run};
 
+use crate::leaf_runs::{UNIT, leaf_middle};
 use std::alloc::{AllocError, Global};
 use std::marker::Model;
 
-/// Up to this many items are checked one by one. This many words are a unit in blocks of up to
-/// `LONG` words.
-const SHORT: usize = 16;
-
-/// This many words are a unit in larger blocks.
-const LONG: usize = 128;
-
-/// A block of `LONG` words has 2 to this power.
-const LONG_LEVEL: usize = 7;
-
-/// A block of two units of `SHORT` words has its middle at a multiple of 2 to this power.
-const SHORT_LEVEL: usize = 4;
-
-/// How many runs begin, or end, in `LONG` words: one for each unit and each level of the blocks.
-const KEPT: usize = 3 * (LONG / SHORT) + 18;
+/// A unit has 2 to this power words.
+const UNIT_LEVEL: usize = 5;
 
 /// A run of items, by its first word and how many they are, and their greatest height. One of no
 /// items says nothing.
@@ -44,64 +32,6 @@ pub struct Parts {
     pub slot: usize,
 }
 
-/// The place of what is kept of a run that begins or ends with a word's unit, in a block whose
-/// middle is a multiple of 2 to the power of `level`.
-fn slot_of(level: usize, word: usize) -> usize
-    requires level { level < 64 }
-    requires word { word < 2 ^ 50 }
-{
-    let group = word / LONG * KEPT;
-    if level < LONG_LEVEL {
-        group + level.saturating_sub(SHORT_LEVEL) * (LONG / SHORT) + word % LONG / SHORT
-    } else {
-        group + 3 * (LONG / SHORT) + (level - LONG_LEVEL)
-    }
-}
-
-/// Splits a run.
-pub fn split(first: usize, count: usize) -> Parts
-    requires long { 1 < count }
-    requires small { first + count < 2 ^ 50 }
-    ensures low { first < result.middle }
-    ensures high { result.middle < first + count }
-{
-    let stop = first + count;
-    let level = match (first ^ (stop - 1)).checked_ilog2() {
-        Some(bits) => bits as usize,
-        None => 0,
-    };
-    let block = (2usize << level).saturating_sub(1);
-    let unit = if level < LONG_LEVEL { SHORT } else { LONG };
-    let middle = (stop - 1) & (usize::MAX << level);
-    let parts = if first & block == 0 {
-        part(stop / unit * unit, stop, middle, slot_of(level, stop - 1))
-    } else if stop & block == 0 {
-        part(
-            first.div_ceil(unit) * unit,
-            first,
-            middle,
-            slot_of(level, first),
-        )
-    } else {
-        part(middle, first, middle, 0)
-    };
-    Parts {
-        middle: parts.middle.max(first + 1).min(stop - 1),
-        ..parts
-    }
-}
-
-/// A run of whole units is kept, and split at the middle of its block; from another its units are
-/// split off.
-fn part(units: usize, end: usize, middle: usize, slot: usize) -> Parts {
-    let is_kept = units == end;
-    Parts {
-        middle: if is_kept { middle } else { units },
-        is_kept,
-        slot,
-    }
-}
-
 /// What was found of runs, by their slots. Nothing is kept before as many items were checked as the
 /// file has words: no file whose tables and arrays do not overlap gets there.
 #[derive(Drop)]
@@ -111,6 +41,10 @@ pub struct Runs {
     top: usize,
     /// How many items may still be checked one by one.
     budget: usize,
+    /// Whether a check stops there, so that the leaves are counted first.
+    stops: bool,
+    /// Whether it has stopped.
+    pub has_stopped: bool,
 }
 
 impl Model for Runs {
@@ -121,7 +55,7 @@ impl Model for Runs {
 
 impl Runs {
     /// Nothing is known of the items below the top.
-    pub fn new(alloc: Global, top: u32) -> Runs
+    pub fn new(alloc: Global, top: u32, stops: bool) -> Runs
         ensures { All (λ run. run.count ≡ 0 × run.height ≡ 0) result }
     {
         Runs {
@@ -129,11 +63,52 @@ impl Runs {
             runs: Vec::new(alloc),
             top: top as usize,
             budget: top as usize,
+            stops,
+            has_stopped: false,
+        }
+    }
+
+    /// Splits a run. If all its whole units have leaves alone, these are split off. Else a run that
+    /// begins and ends with whole units in its block is kept, and split at the middle of the block;
+    /// from another its units are split off.
+    pub fn split(&self, leaves: &[u32], first: usize, count: usize) -> Parts
+        requires long { 1 < count }
+        requires small { first + count < 2 ^ 50 }
+        ensures low { first < result.middle }
+        ensures high { result.middle < first + count }
+    {
+        let stop = first + count;
+        if let Some(middle) = leaf_middle(leaves, first, count) {
+            return Parts {
+                middle: middle.max(first + 1).min(stop - 1),
+                is_kept: false,
+                slot: 0,
+            };
+        }
+        let level = match (first ^ (stop - 1)).checked_ilog2() {
+            Some(bits) => bits as usize,
+            None => 0,
+        };
+        let block = (2usize << level).saturating_sub(1);
+        let half = (stop - 1) & (usize::MAX << level);
+        let (end, units) = if first & block == 0 {
+            (stop, stop / UNIT * UNIT)
+        } else if stop & block == 0 {
+            (first, first.div_ceil(UNIT) * UNIT)
+        } else {
+            (first, half)
+        };
+        let is_kept = end == units;
+        let middle = if is_kept { half } else { units };
+        Parts {
+            middle: middle.max(first + 1).min(stop - 1),
+            is_kept,
+            slot: self.slot(level, end),
         }
     }
 
     /// Whether this many more items are checked one by one: a few of them, or those within the
-    /// budget.
+    /// budget. An error if memory runs out, or if the check stops here.
     pub fn is_plain(&mut self, count: usize) -> Result<bool, AllocError>
         ensures long { IfOk result (λ plain. (plain ≡ true) ⊎ (1 < count)) }
         ensures runs { (self.new ≡ self.old)
@@ -143,8 +118,12 @@ impl Runs {
             self.budget -= count;
             return Ok(true);
         }
-        if count <= SHORT {
+        if count <= UNIT {
             return Ok(true);
+        }
+        if self.stops {
+            self.has_stopped = true;
+            return Err(AllocError);
         }
         if self.runs.is_empty() {
             self.start()?;
@@ -161,8 +140,27 @@ impl Runs {
             count: 0,
             height: 0,
         };
-        self.runs = vec![in self.alloc; none; (self.top / LONG + 1) * KEPT]?;
+        let levels = self.top.checked_ilog2().unwrap_or(0) as usize;
+        let slots = self
+            .units()
+            .saturating_mul(levels.saturating_sub(UNIT_LEVEL - 1));
+        self.runs = vec![in self.alloc; none; slots]?;
         Ok(())
+    }
+
+    /// How many units there are.
+    fn units(&self) -> usize {
+        self.top / UNIT + 1
+    }
+
+    /// The place of what is kept of a run that begins or ends at a word, in a block whose middle is
+    /// a multiple of 2 to the power of `level`. Those of one level lie side by side, since runs of
+    /// one length are split at few levels.
+    fn slot(&self, level: usize, word: usize) -> usize {
+        level
+            .saturating_sub(UNIT_LEVEL)
+            .saturating_mul(self.units())
+            .saturating_add(word / UNIT)
     }
 
     /// The greatest height of a run's items, if it is known.

@@ -1,7 +1,7 @@
 -- Lists of the values of a function, place by place.
 use Rattle.std.proofs.Common.{◌≡◌, ℕ, zero, suc, ◌+◌, ◌<◌, ◌≤◌, Bool, true, false, List, [], ◌∷◌}
 use Rattle.std.proofs.Common.{length, drop, map, nat_eq, Option, Some, None, refl, sym, ap, ◌∙◌, arith}
-use Rattle.std.specs.Prelude.{slice_get, is_some, IsSome}
+use Rattle.std.specs.Prelude.{slice_get, slice_index, is_some, IsSome}
 use Rattle.std.specs.Cmp.Lexicographic.{pointwise}
 use Rattle.std.specs.Map.{lookup}
 use Rattle.std.proofs.lemmas.Slice.Eq.{bytes_eq-Decides}
@@ -16,6 +16,11 @@ pub values_get : {X : Type 0} (f : ℕ → X) (i n k : ℕ) → k < n → slice_
 values_get f i zero k h = absurd (omega arith)
 values_get f i (suc n) zero h = let z : i + 0 ≡ i = omega arith in rw z refl
 values_get f i (suc n) (suc k) h = let s : i + suc k ≡ suc i + k = omega arith in rw s (values_get f (suc i) n k (omega arith))
+
+pub values_index : (f : ℕ → ℕ) (i n k : ℕ) → k < n → slice_index (values f i n) k ≡ f (i + k)
+values_index f i zero k h = absurd (omega arith)
+values_index f i (suc n) zero h = let z : i + 0 ≡ i = omega arith in rw z refl
+values_index f i (suc n) (suc k) h = let s : i + suc k ≡ suc i + k = omega arith in rw s (values_index f (suc i) n k (omega arith))
 
 -- the same from 0 on
 pub values_at : {X : Type 0} (f : ℕ → X) (n k : ℕ) → k < n → slice_get (values f 0 n) k ≡ Some (f k)

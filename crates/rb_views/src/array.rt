@@ -1,6 +1,7 @@
 //! Views of arrays.
 ghost use Rattle.std.specs.Prelude.{◌≡◌, ◌<◌, IsTrue, Some, length, slice_get};
 ghost use Rattle.rb_format.specs.File.{has_valid_indexes};
+ghost use Rattle.rb_validator.specs.TextBlocks.{AreSegmentBlocks};
 ghost use Rattle.rb_views.specs.inner.Stands.{AllStand};
 
 use crate::item::Item;
@@ -10,9 +11,11 @@ use rb_format::word_at;
 #[derive(Clone, Copy)]
 pub struct Array<'a> {
     pub(crate) body: &'a [u8],
+    pub(crate) blocks: &'a [bool],
     pub(crate) first: u32,
     pub(crate) count: u32,
     ghost laid: { IsTrue (has_valid_indexes body.now) },
+    ghost marked: { AreSegmentBlocks body.now blocks.now },
     ghost stands: { AllStand body.now first count },
 }
 
@@ -37,6 +40,7 @@ impl<'a> Array<'a> {
     {
         Item {
             body: self.body,
+            blocks: self.blocks,
             word: word_at(self.body, self.first as usize + i),
         }
     }

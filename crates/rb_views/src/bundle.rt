@@ -40,6 +40,7 @@ pub fn root_at(bundle: &Bundle, place: RootPlace) -> Item<'_>
 {
     Item {
         body: behind(bundle.bytes(), place.header),
+        blocks: bundle.blocks(),
         word: place.word,
     }
 }

@@ -8,6 +8,7 @@ ghost use Rattle.rb_tree.specs.declared.kind.Kind.TheVariants as Kinds;
 ghost use Rattle.rb_format.specs.File.{has_valid_indexes};
 ghost use Rattle.rb_format.specs.Item as items;
 ghost use Rattle.rb_format.specs.Item.{offset_of};
+ghost use Rattle.rb_validator.specs.TextBlocks.{AreSegmentBlocks};
 ghost use Rattle.rb_views.specs.inner.Stands.{StandsFor, HasEntriesAt, kind_named};
 ghost use Rattle.rb_views.specs.Trees.{bytes_at, parts_at};
 ghost use Rattle.rb_views.specs.Parts.{text_of, alias_of, ints_of, binary_of, uint_of, signed};
@@ -26,8 +27,11 @@ use rb_tree::Kind;
 #[derive(Clone, Copy)]
 pub struct Item<'a> {
     pub(crate) body: &'a [u8],
+    /// Marks of the file's blocks, as `Bundle::blocks` gives them.
+    pub(crate) blocks: &'a [bool],
     pub(crate) word: u32,
     ghost laid: { IsTrue (has_valid_indexes body.now) },
+    ghost marked: { AreSegmentBlocks body.now blocks.now },
     ghost stands: { StandsFor body.now word },
 }
 
@@ -67,19 +71,21 @@ fn signed(number: u32) -> i32
 }
 
 // The values that follow their count, from an item's offset on; none at offset 0. `$first` says
-// where they begin.
+// where they begin, `$more` what else the view has of the item.
 macro_rules! counted {
-    ($item:ident, $view:ident, $offset:ident => $first:expr) => {{
+    ($item:ident, $view:ident, $offset:ident => $first:expr $(, $more:ident)*) => {{
         let $offset = item_offset($item.word);
         if $offset == 0 {
             return $view {
                 body: $item.body,
+                $($more: $item.$more,)*
                 first: 0,
                 count: 0,
             };
         }
         $view {
             body: $item.body,
+            $($more: $item.$more,)*
             first: $first,
             count: word_at($item.body, $offset as usize),
         }
@@ -205,7 +211,8 @@ impl<'a> Item<'a> {
     #[tactic(auto, using(crate::proofs::Contents::units_there, crate::proofs::Contents::units_none))]
     pub(crate) fn units(self) -> Units<'a>
         requires { HasUnits (kind_of (tree_seen self)) }
-        ensures { units_seen result ≡ units_of (tree_seen self.entry) }
+        ensures units { units_seen result ≡ units_of (tree_seen self.entry) }
+        ensures data { result.body.now ≡ self.entry.body.now }
     {
         counted!(self, Units, offset => 2 * offset + 2)
     }
@@ -243,7 +250,7 @@ impl<'a> Item<'a> {
         ensures place { let o = offset_of (item_word self.entry) in 0 < o
             → first_item result ≡ array_first o }
     {
-        counted!(self, Array, offset => offset + 1)
+        counted!(self, Array, offset => offset + 1, blocks)
     }
 
     pub(crate) fn entries(self) -> Table<'a>
@@ -255,6 +262,7 @@ impl<'a> Item<'a> {
     {
         Table {
             body: self.body,
+            blocks: self.blocks,
             parts: self.parts(),
         }
     }

@@ -1,7 +1,13 @@
 //! Views of texts and of vectors of numbers.
-ghost use Rattle.std.specs.Prelude.{◌≡◌, ◌+◌, ◌*◌, ◌<◌, ◌≤◌, Some, length, slice_index, slice_get};
+ghost use Rattle.std.specs.Prelude.{◌≡◌, ◌+◌, ◌*◌, ◌/◌, ◌<◌, ◌≤◌, ℕ, Some, true, length};
+ghost use Rattle.std.specs.Prelude.{slice_index, slice_get};
+ghost use Rattle.rb_tree.specs.Path.{is_segment_unit};
+ghost use Rattle.rb_validator.specs.TextBlocks.{AreSegmentBlocks};
 
 use rb_format::{half_at, word_at};
+
+/// How many half words a block has that `Bundle::blocks` marks.
+const BLOCK: usize = 1024;
 
 /// The UTF-16 units of a String or an Alias, in the file.
 #[derive(Clone, Copy)]
@@ -31,6 +37,31 @@ impl<'a> Units<'a> {
     {
         half_at(self.body, self.first as usize + i)
     }
+
+    /// How many units from one on are in blocks that are marked, up to a block that isn't.
+    pub(crate) fn segment_run(self, blocks: &[bool], from: usize) -> usize
+        requires marked { AreSegmentBlocks self.body.now blocks.now }
+        requires within { from ≤ length (units_seen self) }
+        ensures within { from + result ≤ length (units_seen self.entry) }
+        ensures run { (i : ℕ) → from ≤ i → i < from + result
+            → is_segment_unit (slice_index (units_seen self.entry) i) ≡ true }
+    {
+        let at = self.first as usize + from;
+        let left = self.count as usize - from;
+        marked_run(blocks, at).min(left)
+    }
+}
+
+/// How many half words from one on are in blocks that are marked, up to a block that isn't.
+fn marked_run(blocks: &[bool], at: usize) -> usize
+    ensures { (h : ℕ) → at ≤ h → h < at + result → slice_get blocks.now (h / 1024) ≡ Some true }
+{
+    for block in at / BLOCK..blocks.len() {
+        if !blocks[block] {
+            return block.saturating_mul(BLOCK).saturating_sub(at);
+        }
+    }
+    blocks.len().saturating_mul(BLOCK).saturating_sub(at)
 }
 
 /// The numbers of an integer vector, in the file.

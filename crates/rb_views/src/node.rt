@@ -35,6 +35,10 @@ impl<'a> Node for Item<'a> {
         self.units().at(i)
     }
 
+    fn segment_run(self, from: usize) -> usize {
+        self.units().segment_run(self.blocks, from)
+    }
+
     fn number(self, i: usize) -> i32 {
         self.numbers().at(i)
     }

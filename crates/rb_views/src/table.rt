@@ -6,6 +6,7 @@ ghost use Rattle.std.specs.Ordering.{nat_cmp};
 ghost use Rattle.std.specs.Cmp.Lexicographic.{pointwise, slice_cmp};
 ghost use Rattle.rb_format.specs.File.{has_valid_indexes};
 ghost use Rattle.rb_format.specs.Geometry.{keys_end};
+ghost use Rattle.rb_validator.specs.TextBlocks.{AreSegmentBlocks};
 ghost use Rattle.rb_views.specs.inner.Stands.{TableStands};
 
 use crate::item::Item;
@@ -16,8 +17,10 @@ use std::cmp::Ordering;
 #[derive(Clone, Copy)]
 pub struct Table<'a> {
     pub(crate) body: &'a [u8],
+    pub(crate) blocks: &'a [bool],
     pub(crate) parts: TableParts,
     ghost laid: { IsTrue (has_valid_indexes body.now) },
+    ghost marked: { AreSegmentBlocks body.now blocks.now },
     ghost keys: { keys_end parts.keys parts.count ≤ length body.now },
     ghost stands: { TableStands body.now parts },
 }
@@ -71,6 +74,7 @@ impl<'a> Table<'a> {
     {
         Item {
             body: self.body,
+            blocks: self.blocks,
             word: self.parts.item(self.body, i),
         }
     }

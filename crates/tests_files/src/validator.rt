@@ -263,21 +263,21 @@ fn a_plain_checker_agrees_on_shared_items(rt: HostRuntime) {
     assert!(rt; agrees_on_all(alloc, numbers(alloc, 6)));
 }
 
-/// The offset of the last of 300 keys, and the fault.
+/// The offset of the last of 1,000 keys, and the fault.
 const LAST_KEYS: [(u32, Option<FileFault>); 8] = [
     (24, None),
     (28, None),
     (29, Some(FileFault::KeyOrder)),
     (30, Some(FileFault::KeyOrder)),
-    (327, Some(FileFault::KeyOrder)),
-    (328, Some(FileFault::Key)),
-    (332, Some(FileFault::Key)),
+    (1_027, Some(FileFault::KeyOrder)),
+    (1_028, Some(FileFault::Key)),
+    (1_032, Some(FileFault::Key)),
     (23, Some(FileFault::Key)),
 ];
 
-/// Whether 300 keys of which the last is at this offset have this fault, for the plain checker too.
+/// Whether 1,000 keys of which the last is at this offset have this fault, for the plain checker too.
 fn is_ranked(alloc: Global, last: u32, fault: Option<FileFault>) -> bool {
-    let Some(file) = suffixes(alloc, 300, last) else {
+    let Some(file) = suffixes(alloc, 1_000, last) else {
         return false;
     };
     let found = match verdict(alloc, file.as_slice()) {

@@ -1,10 +1,15 @@
 -- For proofs only: what each bundle keeps.
-use Rattle.std.specs.Prelude.{ℕ, ◌*◌, ◌≤◌, List, length}
+use Rattle.std.specs.Prelude.{ℕ, ◌*◌, ◌≤◌, List, Bool, length, drop}
 use Rattle.rb_format.specs.File.{Denotes, source_tree_of}
+use Rattle.rb_format.specs.Place.{half_at}
+use Rattle.rb_validator.specs.TextBlocks.{AreSegmentBlocks}
 use Rattle.rb_validator.specs.Visits.{HasVisits}
 
--- its bytes denote a bundle and have this many places, and this many bytes of its keys were compared
-pub record IsAccepted (bytes : List ℕ) (visits compared : ℕ) : Type 0 where
+-- its bytes denote a bundle and have this many places; this many bytes of its keys were compared, and this many before
+-- ranks; and these are marks of its blocks
+pub record IsAccepted (bytes : List ℕ) (visits compared looked : ℕ) (blocks : List Bool) : Type 0 where
   pub denoted : Denotes bytes (source_tree_of bytes)
   pub counted : HasVisits bytes visits
   pub few : compared ≤ 25 * length bytes
+  pub few_looked : looked ≤ 252 * length bytes
+  pub marked : AreSegmentBlocks (drop (half_at bytes 0) bytes) blocks

@@ -3,9 +3,12 @@ use Rattle.std.specs.Prelude.{◌≡◌, ◌⊎◌, ℕ, zero, suc, ◌+◌, ◌
 use Rattle.std.specs.Prelude.{slice_index, Option, None, Some, Ok}
 use Rattle.std.specs.Prelude.{IfSome}
 use Rattle.rb_format.specs.declared.layout.Layout.{Layout}
+use Rattle.rb_format.specs.declared.geometry.KeyPlaces.{KeyPlaces}
+use Rattle.rb_format.specs.declared.geometry.KeyPlaces.TheVariants.{Halves, Words}
 use Rattle.rb_format.specs.Place.{word_at, half_at, key}
 use Rattle.rb_format.specs.inner.FirstFault.{next_key}
 use Rattle.rb_validator.specs.declared.known_keys.KnownKeys.{KnownKeys}
+use Rattle.rb_validator.specs.declared.ranks.Ranks.{Ranks}
 use Rattle.rb_validator.specs.inner.Ranks.{IsRanked}
 use Rattle.rb_validator.specs.inner.Lengths.{AreCounted}
 use Rattle.rb_format.specs.Limits.{file_limit}
@@ -50,11 +53,22 @@ IsLinked y body offset links = (p q : ℕ) → p ≤ q → q < slice_index links
 abbrev pub IsRedirected : List ℕ → List ℕ → ℕ → ℕ → ℕ → Type 0
 IsRedirected old new from to p = (slice_index new p ≡ slice_index old p) ⊎ ((from ≤ p) × (slice_index new p ≡ to))
 
+-- the same places, counted from the top of the keys
+abbrev pub AreFrom : Layout → KeyPlaces → KeyPlaces → Type 0
+AreFrom y (Halves a) (Halves b) = a ≡ 2 * y.keys_top + b
+AreFrom y (Words a) (Words b) = a ≡ y.keys_top + b
+AreFrom y _ _ = ⊥
+
+-- the ranks of the keys in these bytes
+abbrev pub AreRanks : List ℕ → Ranks → Type 0
+AreRanks run r = IsRanked run r.lengths.items r.starts.items r.ranks.items
+
 -- what is true of it at all times
 pub record IsSound (y : Layout) (body : List ℕ) (m : KnownKeys) : Type 0 where
   pub lengths : IfSome m.lengths (λ v. AreCounted (key_run y body) v.items)
-  pub ranks : IfSome m.ranks (λ v. IsRanked (key_run y body) v.items)
-  pub halves : IsLinked y body (half_at body) m.halves.items
-  pub words : IsLinked y body (word_at body) m.words.items
+  pub ranks : IfSome m.ranks (λ r. AreRanks (key_run y body) r)
+  pub halves : IsLinked y body (λ p. half_at body (2 * y.keys_top + p)) m.halves.items
+  pub words : IsLinked y body (λ p. word_at body (y.keys_top + p)) m.words.items
   pub few : m.compared ≤ 25 * length body
+  pub looked : m.looked ≤ 252 * length body
   pub short : length body ≤ file_limit

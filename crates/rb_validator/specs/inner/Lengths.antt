@@ -1,6 +1,7 @@
 -- For proofs only: how long the keys are.
-use Rattle.std.specs.Prelude.{◌≡◌, ℕ, ◌+◌, ◌<◌, ◌==◌, ◌&&◌, Bool, true, if◌then◌else◌, nat_lt, nat_le, List, length}
-use Rattle.std.specs.Prelude.{slice_index}
+use Rattle.std.specs.Prelude.{◌≡◌, ℕ, ◌+◌, ◌-◌, ◌*◌, ◌<◌, ◌==◌, ◌&&◌, Bool, true, if◌then◌else◌, nat_lt, nat_le}
+use Rattle.std.specs.Prelude.{List, length, slice_index, Option, None, Some}
+use Rattle.rb_format.specs.declared.layout.Layout.{Layout}
 
 -- at a NUL 1, at a place with no key 0, and at any other one more than at the next
 abbrev pub is_counted : List ℕ → List ℕ → ℕ → Bool
@@ -14,3 +15,16 @@ is_counted run lengths p =
 pub record AreCounted (run lengths : List ℕ) : Type 0 where
   pub long : length lengths ≡ length run
   pub each : (p : ℕ) → p < length run → is_counted run lengths p ≡ true
+
+-- the number that a list has for an offset of the body
+abbrev pub length_at : Layout → List ℕ → ℕ → ℕ
+length_at y lengths k = if nat_lt k (4 * (1 + y.indexes)) then 0 else slice_index lengths (k - 4 * (1 + y.indexes))
+
+-- the place of an offset of the body among the key bytes: past their end if it is before them
+abbrev pub place_of : Layout → List ℕ → ℕ → ℕ
+place_of y run k = if nat_lt k (4 * (1 + y.indexes)) then length run else k - 4 * (1 + y.indexes)
+
+-- the place of the key before, of which the offset is given: past their end if there is none
+abbrev pub previous_place : Layout → List ℕ → Option ℕ → ℕ
+previous_place y run None = length run
+previous_place y run (Some k) = place_of y run k

@@ -8,20 +8,24 @@ use Rattle.rb_format.specs.declared.fault.FileFault.TheVariants.{Memory}
 use Rattle.rb_format.specs.declared.header.Header.{Header}
 use Rattle.rb_format.specs.Checks.{header_of}
 use Rattle.rb_format.specs.inner.FirstFault.{fault_of, read_data, read_file}
-use Rattle.rb_validator.specs.declared.file.Counts.{Counts}
+use Rattle.rb_validator.specs.declared.file.Findings.{Findings}
 use Rattle.rb_format.specs.Place.{word_at, half_at}
+use Rattle.rb_validator.specs.TextBlocks.{AreSegmentBlocks}
 use Rattle.rb_validator.specs.Visits.{IsCount, IsPlaceAt, HasVisits}
 use Rattle.rb_format.proofs.Checks.{header_is}
 use Rattle.rb_validator.proofs.Cases.{header_size}
 use Rattle.rb_validator.proofs.file.check_file.Goals as goal
 
-after_header : (bytes : List ℕ) (size : ℕ) (r : Result Counts FileFault) → size ≡ half_at bytes 0
-    → IfOk r (λ n. IsCount (IsPlaceAt (take (length bytes - size) (drop size bytes))) (3 * word_at (take (length bytes - size) (drop size bytes)) 4) n.visits)
-    → IfOk r (λ n. HasVisits bytes n.visits)
-after_header bytes size r e h =
+-- the rest of a file after a header of its size is its data
+data_is : (bytes : List ℕ) (size : ℕ) → size ≡ half_at bytes 0 → take (length bytes - size) (drop size bytes) ≡ drop (half_at bytes 0) bytes
+data_is bytes size e =
     let all : take (length bytes - size) (drop size bytes) ≡ drop size bytes = take_all _ _ (omega (arith, length-drop size bytes)) in
-    let is : take (length bytes - size) (drop size bytes) ≡ drop (half_at bytes 0) bytes = all ∙ ap (λ (x : ℕ). drop x bytes) e in
-    IfOk-weaker r _ _ (λ n p. subst (λ (body : List ℕ). IsCount (IsPlaceAt body) (3 * word_at body 4) n.visits) is p) h
+    all ∙ ap (λ (x : ℕ). drop x bytes) e
+
+-- what is found of the rest is found of the data
+after_header : (bytes : List ℕ) (size : ℕ) (r : Result Findings FileFault) (P : List ℕ → Findings → Type 0) → size ≡ half_at bytes 0
+    → IfOk r (λ n. P (take (length bytes - size) (drop size bytes)) n) → IfOk r (λ n. P (drop (half_at bytes 0) bytes) n)
+after_header bytes size r P e h = IfOk-weaker r _ _ (λ n p. subst (λ (body : List ℕ). P body n) (data_is bytes size e) p) h
 
 -- the reading of a file after its header, which the data follow
 read_after : (bytes : List ℕ) (h : Header) → length bytes ≤ 67108864 → header_of bytes ≡ Ok h
@@ -32,7 +36,7 @@ read_after bytes h l e =
     let short : ltb 67108864 (length bytes) ≡ false = grind (arith, nat_tests) in
     rw (all, short, header_is bytes, e) refl
 
-answer_after : (o p : Option FileFault) (r : Result Counts FileFault) → o ≡ p
+answer_after : (o p : Option FileFault) (r : Result Findings FileFault) → o ≡ p
     → MatchResult r (λ _. o ≡ None) (λ e. (e ≡ Memory) ⊎ (o ≡ Some e))
     → MatchResult r (λ _. p ≡ None) (λ e. (e ≡ Memory) ⊎ (p ≡ Some e))
 answer_after o p r e h = subst (λ (x : Option FileFault). MatchResult r (λ _. x ≡ None) (λ d. (d ≡ Memory) ⊎ (x ≡ Some d))) e h
@@ -46,4 +50,11 @@ returns-clause-answer c =
 pub returns-clause-visits : goal.returns-clause-visits
 returns-clause-visits c =
     let z = header_size c.args.bytes.now c.in_ok-header.header (header_is c.args.bytes.now ∙ sym c.in_ok-header.ensures.value) in
-    after_header c.args.bytes.now c.in_ok-header.header.size c.check_data.result z.0 c.check_data.ensures.visits
+    after_header c.args.bytes.now c.in_ok-header.header.size c.check_data.result (λ body n. IsCount (IsPlaceAt body) (3 * word_at body 4) n.visits) z.0
+    c.check_data.ensures.visits
+
+pub returns-clause-blocks : goal.returns-clause-blocks
+returns-clause-blocks c =
+    let z = header_size c.args.bytes.now c.in_ok-header.header (header_is c.args.bytes.now ∙ sym c.in_ok-header.ensures.value) in
+    after_header c.args.bytes.now c.in_ok-header.header.size c.check_data.result (λ body n. AreSegmentBlocks body n.blocks.items) z.0
+    c.check_data.ensures.blocks

@@ -15,6 +15,7 @@ use Rattle.rb_validator.proofs.Entering.{new_is, open_is, met_done, limit_fits, 
 use Rattle.rb_validator.proofs.Entering.{items_next, items_end, some_fault, entered_height, entered_after, opened_keeps, opened_met, read_low, max_is}
 use Rattle.rb_validator.proofs.Spans.{run_height, leads_shift, runs_set, run_low_err, run_high_err, run_both, run_fits, run_passed, leads_low, leads_high}
 use Rattle.rb_validator.proofs.Spans.{known_both, kept_run, made_run, runs_kept, runs_ready}
+use Rattle.rb_validator.proofs.LeafRuns.{leaf_known, leaf_value}
 use Rattle.rb_validator.proofs.Refusals.{told, passed, onward}
 use Rattle.rb_validator.proofs.items.+check.Goals as goal
 
@@ -178,6 +179,23 @@ check_items-returns-then-is_plain-clause-value t c =
     let y = c.args.body.layout.now in let body = c.args.body.bytes.now in let i = c.loop-i.i in
     let none : c.args.items.first + c.args.items.count - i ≡ 0 = omega arith in
     inr (items_end (λ w. read y body c.args.left w) (fields.word_at body) i (c.args.items.first + c.args.items.count - i) c.loop-i.height _ none c.loop-i.invariant.value)
+
+-- ---- several items, of which it is known that they are leaves
+
+pub check_items-returns-then-is_leaf_run-clause-value : goal.check_items-returns-then-is_leaf_run-clause-value
+check_items-returns-then-is_leaf_run-clause-value t c =
+    let y = c.args.body.layout.now in let body = c.args.body.bytes.now in
+    inr (leaf_value y body c.args.left c.args.items.first c.args.items.count (omega arith) (c.is_leaf_run.ensures.some c.if-is_leaf_run.true)
+    (c.is_leaf_run.ensures.leaves c.if-is_leaf_run.true y body c.args.body.counted))
+
+pub check_items-returns-then-is_leaf_run-clause-holds : goal.check_items-returns-then-is_leaf_run-clause-holds
+check_items-returns-then-is_leaf_run-clause-holds t c =
+    runs_ready c.args.body.layout.now c.args.body.bytes.now c.args.state.now.memo c.args.state.now.runs c.is_plain.new.self c.requires.holds c.is_plain.ensures.runs
+
+pub check_items-returns-then-is_leaf_run-clause-known : goal.check_items-returns-then-is_leaf_run-clause-known
+check_items-returns-then-is_leaf_run-clause-known t c =
+    let y = c.args.body.layout.now in let body = c.args.body.bytes.now in
+    leaf_known y body c.args.state.now.memo c.args.items.first c.args.items.count (c.is_leaf_run.ensures.leaves c.if-is_leaf_run.true y body c.args.body.counted)
 
 -- ---- several items, in two parts
 

@@ -8,7 +8,7 @@ invariant_of-result c =
     let e = c.parts.ensures.entries in
     let b = e.below in
     let r = laid_room s.body.now s.laid in
-    record { laid = s.laid; keys = omega arith; stands = e.stand }
+    record { laid = s.laid; marked = s.marked; keys = omega arith; stands = e.stand }
 
 pub returns-clause-entries : goal.returns-clause-entries
 returns-clause-entries c = c.parts.ensures.entries.are

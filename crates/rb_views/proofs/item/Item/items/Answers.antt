@@ -4,7 +4,7 @@ use Rattle.rb_views.proofs.Containers.{items_there, items_none, none_stand}
 use Rattle.rb_views.proofs.item.Item.items.Goals as goal
 
 pub invariant_of-result : goal.invariant_of-result
-invariant_of-result c = let s = c.args.self in record { laid = s.laid; stands = none_stand s.body.now }
+invariant_of-result c = let s = c.args.self in record { laid = s.laid; marked = s.marked; stands = none_stand s.body.now }
 
 pub returns-then-offset-eq0-clause-items : goal.returns-then-offset-eq0-clause-items
 returns-then-offset-eq0-clause-items c =
@@ -22,7 +22,7 @@ pub invariant_of-result-2 : goal.invariant_of-result-2
 invariant_of-result-2 c =
     let s = c.args.self in
     let a = items_there s.body.now s.word c.item_offset-offset.result c.item_offset-offset.ensures s.stands c.requires (omega arith) in
-    record { laid = s.laid; stands = rw c.word_at.ensures a.stand }
+    record { laid = s.laid; marked = s.marked; stands = rw c.word_at.ensures a.stand }
 
 pub returns-clause-items : goal.returns-clause-items
 returns-clause-items c =

@@ -21,7 +21,7 @@ pub invariant_of-result : goal.invariant_of-result
 invariant_of-result c =
     let s = c.args.self in
     let h : c.args.i < s.parts.count = rw values_length at c.requires in
-    record { laid = s.laid; stands = rw c.item.ensures (table_child s.body.now s.parts c.args.i s.stands h) }
+    record { laid = s.laid; marked = s.marked; stands = rw c.item.ensures (table_child s.body.now s.parts c.args.i s.stands h) }
 
 pub returns-clause-tree : goal.returns-clause-tree
 returns-clause-tree c =
