@@ -6,7 +6,6 @@ pub mod Follows
 pub mod Links
 pub mod Levels
 pub mod NeverBadPath
-mod Fronts
 mod Budgets
 mod FewSteps
-mod Judging
+pub mod Stretches

@@ -13,14 +13,12 @@ use Rattle.rb_tree.specs.declared.ending.Ending.TheVariants.{End, Link, Gone}
 use Rattle.rb_parents.specs.Trail.{Bundles, ParentsOf, Trail, names, trail, stops}
 use Rattle.rb_fallback.specs.Alias.{target}
 use Rattle.rb_fallback.specs.Search.{Decided, walk_of, unless_gone, decide, by_stops, by_trail, level, step, step_of, follow}
-use Rattle.rb_fallback.specs.inner.Judgements.{TextAt}
 use Rattle.rb_fallback.specs.inner.LevelResult.{IsLevelResult}
 use Rattle.rb_fallback.specs.declared.fault.LookError.{LookError}
 use Rattle.rb_fallback.specs.declared.fault.LookError.TheVariants as fault
 use Rattle.rb_fallback.specs.declared.level.LevelResult.{LevelResult}
 use Rattle.rb_fallback.specs.declared.search.Place.{Place}
 use Rattle.rb_fallback.specs.inner.Steps.{IsFollowed}
-use Rattle.rb_fallback.proofs.Fronts.{IsFront, IsFrontOf, front_is, walk_front}
 use Rattle.rb_fallback.proofs.Paths.{Whole, walk_whole}
 
 -- ---- the deciding walk is that of its stop
@@ -61,12 +59,6 @@ pub walk_of_whole : (o : Option SourceTree) (ss : List (List ℕ)) → Whole (wa
 walk_of_whole None ss = tt
 walk_of_whole (Some b) ss = walk_whole b.tree ss
 
--- to the alias leads what was walked alone
-walk_of_front : (o : Option SourceTree) (ss : List (List ℕ)) (us : List ℕ) (walked rest : List (List ℕ)) → walk_of o ss ≡ links us walked rest
-    → walk_of o walked ≡ links us walked []
-walk_of_front None ss us walked rest e = cc
-walk_of_front (Some b) ss us walked rest e = subst (IsFrontOf b.tree) e (walk_front b.tree ss)
-
 -- ---- a deciding walk that ends at an item
 ends_at : (w : Walked) (t : Resource) → end t ≡ stop_of w → w ≡ ends t
 ends_at (ends u) t e = cc
@@ -86,7 +78,6 @@ record IsLink (t : Resource) (path : List ℕ) (cut : ℕ) (w : Walked) : Type 0
   same : t ≡ alias us
   left : rest ≡ segments (drop (behind cut) path)
   whole : walked ++ rest ≡ segments path
-  front : IsFront walked path cut
 
 link_of : (t : Resource) (path : List ℕ) (cut : ℕ) (w : Walked) → link t cut ≡ stop_of w → rest_of w ≡ segments (drop (behind cut) path)
     → Whole w (segments path) → IsLink t path cut w
@@ -100,7 +91,6 @@ link_of t path cut (links us walked rest) e r h = record {
   same = cc;
   left = r;
   whole = h;
-  front = let c : cut ≡ length (join_with_byte 47 walked) = cc in front_is walked rest path cut h c r;
 }
 
 module _ {N : Type 0} {tree : N → Resource} {h : LevelResult N} {path : List ℕ} {r : Result Decided LookError} {head : Option (List ℕ)}
@@ -127,17 +117,6 @@ module _ (bundles : Bundles) (parents : ParentsOf) (n : List ℕ) {N : Type 0} {
       link_of (tree node) path cut decided.walked (sym (ap (stop_at tree) ending) ∙ decided.stop)
       (subst (λ x. RestIs x path (rest_of decided.walked)) ending decided.rest)
       (subst (λ w. Whole w (segments path)) level_walk (walk_of_whole (bundles h.actual) (segments path)))
-
-  -- the alias is where the path up to the cut leads
-  pub link_text : TextAt bundles h.actual (take cut path) (units_of (tree node))
-  link_text =
-      let l = level_link in
-      let front = walk_of_front (bundles h.actual) (segments path) l.us l.walked l.rest (level_walk ∙ l.is) in
-      let text : l.us ≡ units_of (tree node) = sym (ap units_of l.same) in
-      subst (λ ss. walk_of (bundles h.actual) ss ≡ links (units_of (tree node)) ss []) l.front.is (front ∙ ap (λ us. links us l.walked []) text)
-
-  pub link_within : cut ≤ length path
-  link_within = level_link.front.within
 
   pub link_kind : kind_of (tree node) ≡ Kinds.Alias
   link_kind = ap kind_of level_link.same

@@ -1,4 +1,4 @@
 pub mod LevelResult
 pub mod Steps
-pub mod Judgements
 pub mod Budget
+pub mod Stretches

@@ -1,5 +1,6 @@
 //! The texts of aliases.
-ghost use Rattle.std.specs.Prelude.{◌≡◌, ◌≤◌, slice_range};
+ghost use Rattle.std.specs.Prelude.{◌≡◌, ◌≤◌, ◌<◌, true, false, slice_index, slice_range};
+ghost use Rattle.std.specs.Prelude.{IfNone, IfSome};
 ghost use Rattle.std.specs.List.{list_all};
 ghost use Rattle.std.specs.Str.{bytes_eq};
 ghost use Rattle.rb_tree.specs.Parts.{HasUnits, kind_of, len_of, units_of};
@@ -8,6 +9,7 @@ ghost use Rattle.rb_fallback.specs.Alias.{is_plain, aim, with_path, located, pac
 ghost use Rattle.rb_fallback.specs.Answers.{aim_of};
 ghost use Rattle.rb_fallback.specs.AliasPaths.{are_filled, segment_end, segments_after};
 ghost use Rattle.rb_fallback.specs.AliasPaths.{segments_from};
+ghost use Rattle.rb_fallback.specs.inner.Stretches.{ArePlain, HasNoSlash};
 
 use crate::fault::AliasFault;
 use rb_locales::Name;
@@ -24,18 +26,59 @@ pub struct Target {
     pub path_at: Option<usize>,
 }
 
-// Whether each unit is from a space to a tilde.
-fn units_plain<N: Node>(node: N) -> bool
-    requires { HasUnits (kind_of (N.tree node)) }
-    ensures { result ≡ list_all is_plain (units_of (N.tree node)) }
+// So many units are read before it is asked how many of the next ones needn't be.
+const STRETCH: usize = 1024;
+
+// Whether the units from one up to another are from a space to a tilde.
+fn are_plain<N: Node>(node: N, from: usize, past: usize) -> bool
+    requires units { HasUnits (kind_of (N.tree node)) }
+    requires within { past ≤ len_of (N.tree node) }
+    ensures yes { result ≡ true → ArePlain (units_of (N.tree node)) from past }
+    ensures no { result ≡ false → list_all is_plain (units_of (N.tree node)) ≡ false }
 {
-    for i in 0..node.len() {
+    for i in from..past {
         let unit = node.unit(i);
         if unit < 0x20 || unit > 0x7E {
             return false;
         }
     }
     true
+}
+
+// Whether each unit is from a space to a tilde.
+fn units_plain<N: Node>(node: N) -> bool
+    requires { HasUnits (kind_of (N.tree node)) }
+    ensures { result ≡ list_all is_plain (units_of (N.tree node)) }
+{
+    let len = node.len();
+    let mut at = 0usize;
+    'stretches: loop {
+        let stop = len.min(at.saturating_add(STRETCH));
+        if !are_plain(node, at, stop) {
+            return false;
+        }
+        if stop == len {
+            return true;
+        }
+        at = stop + node.segment_run(stop);
+    }
+}
+
+// The first slash from one unit up to another.
+fn slash_in<N: Node>(node: N, from: usize, past: usize) -> Option<usize>
+    requires units { HasUnits (kind_of (N.tree node)) }
+    requires within { past ≤ len_of (N.tree node) }
+    ensures some { IfSome result (λ i. from ≤ i × i < past
+        × slice_index (units_of (N.tree node)) i ≡ 47
+        × HasNoSlash (units_of (N.tree node)) from i) }
+    ensures none { IfNone result (HasNoSlash (units_of (N.tree node)) from past) }
+{
+    for i in from..past {
+        if node.unit(i) == 0x2F {
+            return Some(i);
+        }
+    }
+    None
 }
 
 // Where the segment ends that begins here.
@@ -47,12 +90,17 @@ fn segment_end<N: Node>(node: N, from: usize) -> usize
     ensures within { result ≤ len_of (N.tree node) }
 {
     let len = node.len();
-    for i in from..len {
-        if node.unit(i) == 0x2F {
+    let mut at = from;
+    'stretches: loop {
+        let stop = len.min(at.saturating_add(STRETCH));
+        if let Some(i) = slash_in(node, at, stop) {
             return i;
         }
+        if stop == len {
+            return len;
+        }
+        at = stop + node.segment_run(stop);
     }
-    len
 }
 
 // Whether the units between two places spell a word.

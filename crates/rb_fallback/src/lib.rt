@@ -4,7 +4,6 @@
 mod alias;
 mod fault;
 mod found;
-mod judged;
 pub mod laws;
 mod level;
 mod limits;

@@ -7,22 +7,20 @@ ghost use Rattle.rb_tree.specs.Path.{IsPath, segments};
 ghost use Rattle.rb_tree.specs.Walk.{behind};
 ghost use Rattle.rb_parents.specs.Family.{parent_of};
 ghost use Rattle.rb_parents.specs.Trail.{Bundles, trail};
-ghost use Rattle.rb_fallback.specs.Alias.{aim, target};
-ghost use Rattle.rb_fallback.specs.Answers.{aim_of, answer_of, bounded_answer_of};
+ghost use Rattle.rb_fallback.specs.Alias.{target};
+ghost use Rattle.rb_fallback.specs.Answers.{answer_of, bounded_answer_of};
 ghost use Rattle.rb_fallback.specs.Search.{bundles_of, first_stop, follow, level, look_up, setting};
 ghost use Rattle.rb_fallback.specs.Search.{setting_of, step};
 ghost use Rattle.rb_fallback.specs.Steps.{look_up_within, trail_length};
 ghost use Rattle.rb_fallback.specs.inner.Budget.{search_within};
-ghost use Rattle.rb_fallback.specs.inner.Judgements.{AreJudged, AreJudgedIn, IsTargetAt, TextAt};
 ghost use Rattle.rb_fallback.specs.inner.Steps.{IsFollowed, IsOutcome, place_at, valid_of};
-ghost use Rattle.rb_fallback.specs.declared.alias.Target.{Target as Aimed};
 ghost use Rattle.rb_fallback.specs.declared.fault.BoundedError.TheVariants as Bounded;
 ghost use Rattle.rb_fallback.specs.declared.fault.LookError.TheVariants as Faults;
 ghost use Rattle.rb_fallback.specs.Limits.{path_limit};
 
+use crate::alias::read_alias;
 use crate::fault::{AliasFault, BoundedError, LookError};
 use crate::found::Found;
-use crate::judged::{Judged, judge};
 use crate::level::level;
 use crate::limits::{LEVEL_LIMIT, PATH_LIMIT};
 use crate::path::{replaced, rest_behind, short_path};
@@ -54,31 +52,23 @@ fn place_of(icudata: bool, name: Name, path: Option<ArrayVec<u8, PATH_LIMIT>>) -
     }
 }
 
-// Where an alias leads that was met in the bundle `actual` after the first `cut` bytes of a path;
-// `None` if the next path is too long.
+// Where an alias leads that was met after the first `cut` bytes of a path; `None` if the next path
+// is too long.
 fn follow_alias<N: Node>(
     node: N,
     cut: usize,
     valid: &Name,
     icudata: bool,
     path: &[u8],
-    actual: &Name,
-    known: &mut Option<Judged>,
 ) -> Result<Option<Place>, LookError>
     requires alias { kind_of (N.tree node) ≡ Kinds.Alias }
     requires path { IsPath path.now }
-    requires within { cut ≤ length path.now }
-    requires known { (t : Aimed) → IsTargetAt known.old icudata actual.now (take cut path.now) t
-        → aim_of (units_of (N.tree node)) (Ok t) ≡ aim (units_of (N.tree node)) valid.now }
-    ensures place { (walked rest : List (List ℕ)) → walked ++ rest ≡ segments path.now
+    ensures { (walked rest : List (List ℕ)) → walked ++ rest ≡ segments path.now
         → rest ≡ segments (drop (behind cut) path.now)
         → IsFollowed result
         (follow rest (target (units_of (N.tree node)) icudata valid.now walked)) }
-    ensures known { (own icu : Bundles) → AreJudged own icu valid.now known.old
-        → TextAt (bundles_of own icu icudata) actual.now (take cut path.now)
-        (units_of (N.tree node)) → AreJudged own icu valid.now known.new }
 {
-    let target = match judge(node, valid, icudata, actual, &path[..cut], known) {
+    let target = match read_alias(node, valid) {
         Ok(target) => target,
         Err(AliasFault::AliasText) => return Err(LookError::AliasText),
         Err(AliasFault::AliasPackage) => return Err(LookError::AliasPackage),
@@ -113,12 +103,9 @@ fn step<'a, S: Shelf<'a>>(
     name: &Name,
     path: &[u8],
     valid: Option<Name>,
-    known: &mut Option<Judged>,
     names: &mut u8,
 ) -> Result<Outcome<S::N>, LookError>
-    requires path { IsPath path.now }
-    requires known { AreJudgedIn icudata (S.bundles shelf) (valid_of valid
-        (first_stop (S.bundles shelf) (parent_of parents.now) name.now) name.now) known.old }
+    requires { IsPath path.now }
     ensures outcome { IsOutcome S.N.tree result
         (valid_of valid (first_stop (S.bundles shelf) (parent_of parents.now) name.now) name.now)
         (λ v. step icudata v
@@ -127,11 +114,6 @@ fn step<'a, S: Shelf<'a>>(
         (λ o. IsSome (first_stop (S.bundles shelf) (parent_of parents.now) name.now)) }
     ensures names { names.new
         ≡ trail_length (trail (S.bundles shelf) (parent_of parents.now) name.now) }
-    ensures known { (own icu : Bundles) → bundles_of own icu icudata ≡ S.bundles shelf
-        → AreJudged own icu (valid_of valid
-        (first_stop (S.bundles shelf) (parent_of parents.now) name.now) name.now) known.old
-        → AreJudged own icu (valid_of valid
-        (first_stop (S.bundles shelf) (parent_of parents.now) name.now) name.now) known.new }
 {
     let decided = level(shelf, parents, name, path, names)?;
     let valid = valid.unwrap_or(decided.first);
@@ -141,30 +123,24 @@ fn step<'a, S: Shelf<'a>>(
             actual: decided.actual,
             valid,
         })),
-        Ending::Link(node, cut) => {
-            let actual = &decided.actual;
-            match follow_alias(node, cut, &valid, icudata, path, actual, known)? {
-                Some(place) => Ok(Outcome::Next { valid, place }),
-                None => Ok(Outcome::TooLong),
-            }
-        }
+        Ending::Link(node, cut) => match follow_alias(node, cut, &valid, icudata, path)? {
+            Some(place) => Ok(Outcome::Next { valid, place }),
+            None => Ok(Outcome::TooLong),
+        },
         Ending::Gone => Err(LookError::Missing),
     }
 }
 
 // One level of a search, at a place.
-#[tactic(auto, using(crate::proofs::Judging::judged_icu, crate::proofs::Judging::judged_own))]
 fn step_at<'a, S: Shelf<'a>, I: Shelf<'a, N = S::N>>(
     own: S,
     icu: I,
     parents: &Parents,
     valid: Name,
     place: &Place,
-    known: &mut Option<Judged>,
     names: &mut u8,
 ) -> Result<Outcome<S::N>, LookError>
-    requires path { IsPath place.now.path.items }
-    requires known { AreJudged (S.bundles own) (I.bundles icu) valid known.old }
+    requires { IsPath place.now.path.items }
     ensures outcome { IsOutcome S.N.tree result valid
         (λ v. step place.now.icudata v
         (level (bundles_of (S.bundles own) (I.bundles icu) place.now.icudata)
@@ -173,15 +149,14 @@ fn step_at<'a, S: Shelf<'a>, I: Shelf<'a, N = S::N>>(
         ≡ trail_length (trail (bundles_of (S.bundles own) (I.bundles icu) place.now.icudata)
         (parent_of parents.now) place.now.name) }
     ensures short { length place.now.path.items ≤ path_limit }
-    ensures known { AreJudged (S.bundles own) (I.bundles icu) valid known.new }
 {
     let name = &place.name;
     let path = place.path.as_slice();
     let valid = Some(valid);
     if place.icudata {
-        step(icu, parents, true, name, path, valid, known, names)
+        step(icu, parents, true, name, path, valid, names)
     } else {
-        step(own, parents, false, name, path, valid, known, names)
+        step(own, parents, false, name, path, valid, names)
     }
 }
 
@@ -213,10 +188,9 @@ fn search_on<'a, S: Shelf<'a>, I: Shelf<'a, N = S::N>>(
     ensures valid { IfOk result (λ f. f.valid ≡ valid) }
 {
     let mut here = place;
-    let mut known = None;
     for level in 1..LEVEL_LIMIT {
         let mut names = 0;
-        let outcome = step_at(own, icu, parents, valid, &here, &mut known, &mut names);
+        let outcome = step_at(own, icu, parents, valid, &here, &mut names);
         left = left_after(left, names, here.path.as_slice())?;
         match outcome? {
             Outcome::Found(found) => return Ok(found),
@@ -250,11 +224,8 @@ fn search_from<'a, S: Shelf<'a>, I: Shelf<'a, N = S::N>>(
     if path.len() > PATH_LIMIT {
         return Err(BoundedError::Search(LookError::PathTooLong));
     }
-    let mut known = None;
     let mut names = 0;
-    let outcome = step(
-        own, parents, false, name, path, None, &mut known, &mut names,
-    );
+    let outcome = step(own, parents, false, name, path, None, &mut names);
     let left = left_after(left, names, path)?;
     match outcome? {
         Outcome::Found(found) => Ok(found),

@@ -19,29 +19,29 @@ replaced-requires-clause-within g c =
     let to = c.in-Ok.target in
     let at = c.in-Some.at in
     let aimed : aim us c.args.valid.now ≡ aims to.icudata to.name (Some (segments_from us at)) =
-    sym c.judge.ensures.aim ∙ ap (aim_of us) c.in-Ok.is ∙ ap (λ o. aims to.icudata to.name (option_map (segments_from us) o)) c.in-Some.is in
+    sym c.read_alias.ensures ∙ ap (aim_of us) c.in-Ok.is ∙ ap (λ o. aims to.icudata to.name (option_map (segments_from us) o)) c.in-Some.is in
     let some : 0 < length (drop at us) = filled_some (drop at us) (aim_is_filled us c.args.valid.now to.name to.icudata (segments_from us at) aimed) in
     omega (arith, length-drop at us, units_len t (alias_units t c.requires.alias))
 
-pub returns-in-None-clause-place : goal.returns-in-None-clause-place
-returns-in-None-clause-place g c = λ walked rest whole left.
+pub returns-in-None : goal.returns-in-None
+returns-in-None g c = λ walked rest whole left.
     let us = units_of (g.N.Node.tree c.args.node) in
     let to = c.in-Ok.target in
     let valid = c.args.valid.now in
     let aimed : aim us valid ≡ aims to.icudata to.name None =
-    sym c.judge.ensures.aim ∙ ap (aim_of us) c.in-Ok.is ∙ ap (λ o. aims to.icudata to.name (option_map (segments_from us) o)) c.in-None.is in
+    sym c.read_alias.ensures ∙ ap (aim_of us) c.in-Ok.is ∙ ap (λ o. aims to.icudata to.name (option_map (segments_from us) o)) c.in-None.is in
     let leads = same_leads us valid to.name to.icudata c.args.icudata c.args.path.now walked rest c.requires.path whole aimed in
     subst (λ x. IsFollowed (Ok x) (follow rest (target us c.args.icudata valid walked))) (sym c.place_of.ensures)
     (place_follows c.short_path.result leads c.short_path.ensures.some c.short_path.ensures.none)
 
-pub returns-clause-place : goal.returns-clause-place
-returns-clause-place g c = λ walked rest whole left.
+pub returns : goal.returns
+returns g c = λ walked rest whole left.
     let us = units_of (g.N.Node.tree c.args.node) in
     let to = c.in-Ok.target in
     let at = c.in-Some.at in
     let valid = c.args.valid.now in
     let aimed : aim us valid ≡ aims to.icudata to.name (Some (segments_from us at)) =
-    sym c.judge.ensures.aim ∙ ap (aim_of us) c.in-Ok.is ∙ ap (λ o. aims to.icudata to.name (option_map (segments_from us) o)) c.in-Some.is in
+    sym c.read_alias.ensures ∙ ap (aim_of us) c.in-Ok.is ∙ ap (λ o. aims to.icudata to.name (option_map (segments_from us) o)) c.in-Some.is in
     let with_path = path_leads us valid to.name to.icudata c.args.icudata c.args.path.now walked rest c.requires.path whole in
     let leads = with_path at c.args.cut c.rest_behind.result.now aimed c.rest_behind.ensures left in
     subst (λ x. IsFollowed (Ok x) (follow rest (target us c.args.icudata valid walked))) (sym c.place_of-2.ensures)
