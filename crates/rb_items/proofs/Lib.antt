@@ -4,3 +4,5 @@ pub mod OfKinds
 pub mod Tokens
 pub mod Walks
 pub mod Written
+pub mod Lists
+pub mod Objects

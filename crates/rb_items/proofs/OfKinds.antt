@@ -2,11 +2,11 @@
 use Rattle.std.proofs.Common.{◌≡◌, codes, length, refl}
 use Rattle.std.proofs.lemmas.List.{length-map}
 use Rattle.std.specs.Map.{keys_of}
-use Rattle.rb_tree.specs.Resource.{Resource, string, ints, binary, alias, table}
+use Rattle.rb_tree.specs.Resource.{Resource, string, ints, binary, alias, array, table}
 use Rattle.rb_tree.specs.Keys.{pairs}
 use Rattle.rb_tree.specs.Parts.{bytes_of, kind_of, len_of, numbers_of, pairs_of, units_of}
 use Rattle.hex.specs.Hex.{encode_lower}
-use Rattle.serde_json.specs.Data.{put, string as string_data}
+use Rattle.serde_json.specs.Data.{number, put, string as string_data, unsigned}
 use Rattle.rb_items.specs.Item.{item_members, numbers_data, of_type, texts_data, with_text}
 use Rattle.rb_tree.specs.declared.kind.Kind.TheVariants as Kinds
 
@@ -36,3 +36,8 @@ pub table_members : (t : Resource) → kind_of t ≡ Kinds.Table
     → item_members t ≡ put (codes "keys") (texts_data (keys_of (pairs_of t))) (of_type (codes "table"))
 table_members (table es) h = refl
 table_members _ h = absurd cc
+
+pub array_members : (t : Resource) → kind_of t ≡ Kinds.Array
+    → item_members t ≡ put (codes "len") (number (unsigned (len_of t))) (of_type (codes "array"))
+array_members (array ts) h = refl
+array_members _ h = absurd cc

@@ -3,6 +3,8 @@
 
 mod item;
 mod least;
+mod stream;
 
 pub use item::{item_text, put_found, put_text, put_word};
 pub use least::{found_exceeds, room_after};
+pub use stream::stream_found;

@@ -4,10 +4,10 @@ use Rattle.std.proofs.Common.{refl, ap, ◌∙◌, sym, arith, append_assoc}
 use Rattle.std.specs.List.{slice_index}
 use Rattle.hex.specs.Hex.{encode_with}
 
-abbrev digits_of : List ℕ → ℕ → List ℕ
+abbrev pub digits_of : List ℕ → ℕ → List ℕ
 digits_of t b = slice_index t (b / 16) ∷ slice_index t (b % 16) ∷ []
 
-one_more : (t xs : List ℕ) (i : ℕ) → i < length xs → encode_with t (take (suc i) xs) ≡ encode_with t (take i xs) ++ digits_of t (get_or xs i 0)
+pub one_more : (t xs : List ℕ) (i : ℕ) → i < length xs → encode_with t (take (suc i) xs) ≡ encode_with t (take i xs) ++ digits_of t (get_or xs i 0)
 unfolding encode_with
 one_more t [] i h = absurd (omega arith)
 one_more t (x ∷ xs) zero h = refl

@@ -8,3 +8,4 @@ pub mod Runs
 pub mod Rooms
 pub mod Tagged
 pub mod SameValues
+pub mod Spelling

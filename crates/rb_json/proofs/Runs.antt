@@ -1,6 +1,7 @@
 -- Runs of ASCII units.
-use Rattle.std.proofs.Common.{◌≡◌, ◌+◌, ◌<◌, ℕ, zero, suc, List, [], ◌∷◌, ◌++◌, take, drop, length, get_or, set, refl, sym, ap, subst, ◌∙◌, arith}
+use Rattle.std.proofs.Common.{◌≡◌, ◌+◌, ◌<◌, ℕ, zero, suc, List, [], ◌∷◌, ◌++◌, take, drop, length, get_or, set, encode_utf8_all, refl, sym, ap, subst, ◌∙◌, arith}
 use Rattle.std.specs.Str.{IsAscii}
+use Rattle.std.specs.Char.Utf16.{utf16_lossy_chars}
 use Rattle.std.proofs.lemmas.List.{take_more_set, take_more, get_or-drop, take-append-drop, drop-drop, length-drop}
 use Rattle.std.proofs.lemmas.Str.{IsAscii-append}
 use Rattle.std.proofs.lemmas.Str.Ascii.{IsAscii-nil}
@@ -26,12 +27,24 @@ run_more block us at i u r h inside e low =
       is = stored ∙ ap (λ (xs : List ℕ). xs ++ u ∷ []) r.is ∙ ap (λ (x : ℕ). take i (drop at us) ++ x ∷ []) (sym there) ∙ sym (take_more (drop at us) i 0 left);
     }
 
+-- what is left from a run on
+cut : (us block : List ℕ) (at n : ℕ) → IsRun block us at n → drop at us ≡ take n block ++ drop (at + n) us
+cut us block at n run =
+    sym (take-append-drop n (drop at us)) ∙ ap (λ (xs : List ℕ). xs ++ drop n (drop at us)) (sym run.is)
+    ∙ ap (λ (xs : List ℕ). take n block ++ xs) (drop-drop n at us)
+
 -- a run is put after a text
 pub run_read : (text more us block : List ℕ) (at n : ℕ) → ReadSoFar text us at → IsRun block us at n → more ≡ text ++ take n block → ReadSoFar more us (at + n)
 run_read text more us block at n so_far run put =
     let bytes = take n block in
-    let cut : drop at us ≡ bytes ++ drop (at + n) us =
-    sym (take-append-drop n (drop at us)) ∙ ap (λ (xs : List ℕ). xs ++ drop n (drop at us)) (sym run.is)
-    ∙ ap (λ (xs : List ℕ). bytes ++ xs) (drop-drop n at us) in
     subst (λ (t : List ℕ). ReadSoFar t us (at + n)) (sym put)
-    (ascii_read text bytes (drop (at + n) us) us (subst (λ (xs : List ℕ). Reads text xs us) cut so_far) run.ascii)
+    (ascii_read text bytes (drop (at + n) us) us (subst (λ (xs : List ℕ). Reads text xs us) (cut us block at n run) so_far) run.ascii)
+
+-- a run is the text of its units
+pub run_front : (us block : List ℕ) (at n : ℕ) → IsRun block us at n
+    → encode_utf8_all (utf16_lossy_chars (drop at us)) ≡ take n block ++ encode_utf8_all (utf16_lossy_chars (drop (at + n) us))
+run_front us block at n run =
+    let left = drop at us in
+    let rest = drop (at + n) us in
+    let whole : Reads [] left left = (refl, refl) in
+    sym (ascii_read [] (take n block) rest left (subst (λ (xs : List ℕ). Reads [] xs left) (cut us block at n run) whole) run.ascii).0

@@ -1,14 +1,13 @@
 //! Texts as JSON, made in a buffer that is kept.
-ghost use Rattle.std.specs.Prelude.{◌≡◌, ◌+◌, ◌<◌, ◌≤◌, ◌∷◌, IfOk, OnOk, MatchOption, true, not};
-ghost use Rattle.std.specs.Prelude.{drop, take, string_bytes, encode_utf8_all};
-ghost use Rattle.std.specs.Char.Utf16.{has_unpaired_surrogate, utf16_chars, utf16_lossy_chars};
+ghost use Rattle.std.specs.Prelude.{◌≡◌, IfOk, OnOk, MatchOption, true, not};
+ghost use Rattle.std.specs.Prelude.{string_bytes, encode_utf8_all};
+ghost use Rattle.std.specs.Char.Utf16.{has_unpaired_surrogate, utf16_lossy_chars};
 ghost use Rattle.std.specs.Str.{IsAscii, IsNotAscii};
-ghost use Rattle.hex.specs.Hex.{encode_lower, lower_digits};
-ghost use Rattle.rb_tree.specs.Parts.{HasUnits, bytes_of, kind_of, len_of, units_of};
+ghost use Rattle.hex.specs.Hex.{encode_lower};
+ghost use Rattle.rb_tree.specs.Parts.{HasUnits, bytes_of, kind_of, units_of};
 ghost use Rattle.rb_tree.specs.declared.kind.Kind.TheVariants as Kinds;
-ghost use Rattle.rb_json.specs.inner.Run.{IsRun};
-ghost use Rattle.std.specs.Prelude.{slice_index};
 
+use crate::units::{RUN, ascii_run, character_at, digit};
 use rb_tree::Node;
 use std::alloc::{AllocError, Global};
 
@@ -47,14 +46,6 @@ pub fn ascii(bytes: &[u8]) -> Option<&str>
     }
 }
 
-fn digit(n: u8) -> char
-    requires { n < 16 }
-    ensures is { result ≡ slice_index lower_digits n }
-    ensures ascii { result < 128 }
-{
-    char::from(b"0123456789abcdef"[n as usize])
-}
-
 /// Makes a text the bytes of a Binary as lower-case hexadecimal digits, two a byte. After an error,
 /// which comes only if out of memory, nothing is known of the text.
 pub fn read_hex<N: Node>(text: &mut String, node: N) -> Result<(), AllocError>
@@ -68,55 +59,6 @@ pub fn read_hex<N: Node>(text: &mut String, node: N) -> Result<(), AllocError>
         text.push(digit(byte % 16))?;
     }
     Ok(())
-}
-
-/// The character whose units begin at an index, unless that unit is a surrogate without a partner,
-/// and where the next one begins.
-fn character_at<N: Node>(node: N, at: usize, len: usize) -> (Option<char>, usize)
-    requires units { HasUnits (kind_of (N.tree node)) }
-    requires len { len ≡ len_of (N.tree node) }
-    requires in_range { at < len }
-    ensures bound { (at < result.1) × (result.1 ≤ len_of (N.tree node)) }
-    ensures first { utf16_chars (drop at (units_of (N.tree node)))
-        ≡ result.0 ∷ utf16_chars (drop result.1 (units_of (N.tree node))) }
-{
-    let high = node.unit(at) as u32;
-    if high < 0xD800 || 0xE000 <= high {
-        return (char::from_u32(high), at + 1);
-    }
-    if 0xDC00 <= high || len - at < 2 {
-        return (None, at + 1);
-    }
-    let low = node.unit(at + 1) as u32;
-    if low < 0xDC00 || 0xE000 <= low {
-        return (None, at + 1);
-    }
-    let code = 0x1_0000 + (high - 0xD800) * 0x400 + (low - 0xDC00);
-    (char::from_u32(code), at + 2)
-}
-
-/// How many ASCII units are put at a time at the most.
-const RUN: usize = 64;
-
-/// Puts the ASCII units from an index on at the front of a block, a byte each, and says how many
-/// they are.
-#[inline(always)]
-fn ascii_run<N: Node>(block: &mut [u8; RUN], node: N, at: usize, len: usize) -> usize
-    requires units { HasUnits (kind_of (N.tree node)) }
-    requires len { len ≡ len_of (N.tree node) }
-    requires in_range { at ≤ len }
-    ensures bound { (result ≤ 64) × (at + result ≤ len) }
-    ensures run { IsRun block.new (units_of (N.tree node)) at result }
-{
-    let most = RUN.min(len - at);
-    for i in 0..most {
-        let unit = node.unit(at + i);
-        if 0x80 <= unit {
-            return i;
-        }
-        block[i] = unit as u8;
-    }
-    most
 }
 
 /// Makes a text the characters of a String or an Alias, and says whether its units are well-formed

@@ -2,6 +2,7 @@ pub mod Texts
 pub mod Lent
 pub mod Stepping
 pub mod NoLimits
+pub mod Placing
 pub mod Putting
 pub mod Moving
 pub mod LinesRead

@@ -3,22 +3,32 @@ ghost use Rattle.std.specs.Prelude.{◌≡◌, codes, IfErr, OnOk, None};
 ghost use Rattle.serde_json.specs.Data.{Data};
 ghost use Rattle.rb_packages.specs.App.{app_of};
 ghost use Rattle.rb_engine.specs.Ask.{Requests, LooksUp};
-ghost use Rattle.rb_engine.specs.Answer.{Replies};
+ghost use Rattle.rb_engine.specs.Answer.{Finds, Replies};
 ghost use Rattle.rb_engine.specs.History.{is_memory as ran_out};
+ghost use Rattle.rb_engine.specs.LookResponse.{look_response};
+ghost use Rattle.rb_fallback.specs.Answers.{hit_of};
 ghost use Rattle.rb_limits.specs.Steps.{Answers};
+ghost use Rattle.rb_views.specs.Seen.{tree_seen};
 ghost use Rattle.rb_requests.specs.Within.{AnswersRead, ReadReply, asked_usage, error_line};
 ghost use Rattle.rb_requests.specs.Within.{is_limited as limited, outcome_line, usage_in};
 ghost use Rattle.rb_requests.specs.Within.{usage_reply};
 ghost use Rattle.rb_requests.specs.inner.Line.{AreTextsOf};
+ghost use Rattle.rb_requests.specs.inner.Placing.{PlacesReply};
+ghost use Rattle.rb_requests.specs.inner.Putting.{writer};
 ghost use Rattle.rb_requests.specs.inner.Starving.{CallReply, DataReply, LeavesOf, untold_reply};
 
 use crate::ask::{Line, lent_texts, line_of, usage_app};
+use crate::device::{Failed, Sink};
 use crate::limits::LineLimits;
+use crate::stream::put_found;
 use json::Scratch;
-use rb_engine::{App, AppFault, Engine, Reply, Request};
+use rb_engine::{App, AppFault, Engine, LookFault, Reply, Request};
+use rb_fallback::Found;
+use rb_items::found_exceeds;
 use rb_limits::{Limited, handle, look};
 use rb_members::Texts;
-use rb_replies::{ReplyLine, Told};
+use rb_replies::{ReplyLine, Told, found_is_above};
+use rb_views::Item;
 use std::alloc::{AllocError, Global};
 
 /// Memory ran out for a line.
@@ -39,6 +49,19 @@ impl From<AllocError> for Starved {
         Starved::Before
     }
 }
+
+/// Where the reply to a line is.
+#[derive(Clone, Copy, Debug, PartialEq, Eq)]
+pub(crate) enum Placed {
+    /// It is the reply line, and nothing is put.
+    Held,
+    /// It is put, or a part of it if a call of the sink failed.
+    Put(Result<(), Failed>),
+}
+
+/// An item with parts of more bytes than this isn't made a line. By the forms of JSON the line of
+/// any other is at most six times as long, but for the names in it.
+const WHOLE: u64 = 10_000;
 
 /// Whether any limit is on.
 pub(crate) fn is_limited(limits: &LineLimits) -> bool
@@ -124,7 +147,75 @@ fn tell_answer(
     }
 }
 
-fn answer_look(
+/// Whether no reply may be so long that it isn't made a line.
+fn is_short(limits: &LineLimits) -> bool {
+    match limits.reply_bytes {
+        Some(most) => most <= WHOLE,
+        None => false,
+    }
+}
+
+/// Puts the reply for an item that was found and is too long to be made a line, or makes the line
+/// say that it would be longer than the limit.
+fn place_long<S: Sink>(
+    alloc: Global,
+    limits: &LineLimits,
+    found: &Found<Item<'_>>,
+    reply: &mut ReplyLine,
+    sink: &mut S,
+) -> Result<Placed, AllocError>
+    ensures { PlacesReply result reply.new
+        (writer (S.written sink.old) (S.faults sink.old) (S.settled sink.old))
+        (writer (S.written sink.new) (S.faults sink.new) (S.settled sink.new))
+        (λ text. text ≡ outcome_line limits.now
+        (Answers (Finds (hit_of tree_seen found.now) found.now.valid))) }
+{
+    if found_is_above(found, limits.reply_bytes) {
+        tell_word(alloc, "ReplyTooLong", reply)?;
+        return Ok(Placed::Held);
+    }
+    Ok(Placed::Put(put_found(alloc, sink, found)?))
+}
+
+/// Makes the line the reply to a lookup, or says that it would be too long.
+fn tell_found(
+    alloc: Global,
+    limits: &LineLimits,
+    found: &Result<Found<Item<'_>>, LookFault>,
+    reply: &mut ReplyLine,
+) -> Result<(), AllocError>
+    ensures { OnOk result (reply.new
+        ≡ outcome_line limits.now (Answers (look_response tree_seen found.now))) }
+{
+    match reply.tell_look_within(alloc, found, limits.reply_bytes)? {
+        Told::Whole => Ok(()),
+        Told::TooLong => tell_word(alloc, "ReplyTooLong", reply),
+    }
+}
+
+/// Makes the line the reply to a lookup, or puts that reply if it is long.
+fn place_found<S: Sink>(
+    alloc: Global,
+    limits: &LineLimits,
+    found: &Result<Found<Item<'_>>, LookFault>,
+    reply: &mut ReplyLine,
+    sink: &mut S,
+) -> Result<Placed, AllocError>
+    ensures { PlacesReply result reply.new
+        (writer (S.written sink.old) (S.faults sink.old) (S.settled sink.old))
+        (writer (S.written sink.new) (S.faults sink.new) (S.settled sink.new))
+        (λ text. text ≡ outcome_line limits.now (Answers (look_response tree_seen found.now))) }
+{
+    if let Ok(item) = found {
+        if !is_short(limits) && found_exceeds(item, WHOLE) {
+            return place_long(alloc, limits, item, reply, sink);
+        }
+    }
+    tell_found(alloc, limits, found, reply)?;
+    Ok(Placed::Held)
+}
+
+fn answer_look<S: Sink>(
     alloc: Global,
     engine: &Engine,
     limits: &LineLimits,
@@ -132,18 +223,21 @@ fn answer_look(
     locale: &str,
     path: &str,
     reply: &mut ReplyLine,
-) -> Result<(), AllocError>
-    ensures { OnOk result (CallReply limits.now engine.now
-        (LooksUp app.now locale.now path.now) reply.new engine.now) }
+    sink: &mut S,
+) -> Result<Placed, AllocError>
+    ensures { PlacesReply result reply.new
+        (writer (S.written sink.old) (S.faults sink.old) (S.settled sink.old))
+        (writer (S.written sink.new) (S.faults sink.new) (S.settled sink.new))
+        (λ text. CallReply limits.now engine.now
+        (LooksUp app.now locale.now path.now) text engine.now) }
 {
     let (app, locale, path) = (app.as_bytes(), locale.as_bytes(), path.as_bytes());
-    let found = match look(engine, &limits.calls, app, locale, path) {
-        Limited::Answer(found) => found,
-        Limited::Refused(refusal) => return tell_word(alloc, refusal.word(), reply),
-    };
-    match reply.tell_look_within(alloc, &found, limits.reply_bytes)? {
-        Told::Whole => Ok(()),
-        Told::TooLong => tell_word(alloc, "ReplyTooLong", reply),
+    match look(engine, &limits.calls, app, locale, path) {
+        Limited::Answer(found) => place_found(alloc, limits, &found, reply, sink),
+        Limited::Refused(refusal) => {
+            tell_word(alloc, refusal.word(), reply)?;
+            Ok(Placed::Held)
+        }
     }
 }
 
@@ -189,44 +283,54 @@ fn answer_other(
 }
 
 /// The reply to a line with these texts.
-fn answer_texts(
+fn answer_texts<S: Sink>(
     alloc: Global,
     engine: &mut Engine,
     limits: &LineLimits,
     texts: &Texts<'_>,
     reply: &mut ReplyLine,
-) -> Result<(), Starved>
-    ensures reply { OnOk result ((d : Data) → AreTextsOf texts.now d
-        → DataReply limits.now engine.old d reply.new engine.new) }
+    sink: &mut S,
+) -> Result<Placed, Starved>
+    ensures reply { PlacesReply result reply.new
+        (writer (S.written sink.old) (S.faults sink.old) (S.settled sink.old))
+        (writer (S.written sink.new) (S.faults sink.new) (S.settled sink.new))
+        (λ text. (d : Data) → AreTextsOf texts.now d
+        → DataReply limits.now engine.old d text engine.new) }
     ensures fault { IfErr result (λ s. (d : Data) → AreTextsOf texts.now d
         → LeavesOf (DataReply limits.now engine.old d) s engine.old engine.new) }
 {
     match line_of(alloc, texts)? {
-        None => Ok(answer_other(alloc, engine, limits, texts, reply)?),
-        Some(Line::Request(request)) => answer_request(alloc, engine, limits, request, reply),
+        None => answer_other(alloc, engine, limits, texts, reply)?,
+        Some(Line::Request(request)) => answer_request(alloc, engine, limits, request, reply)?,
         Some(Line::Look { app, locale, path }) => {
-            Ok(answer_look(alloc, engine, limits, app, locale, path, reply)?)
+            return Ok(answer_look(alloc, engine, limits, app, locale, path, reply, sink)?);
         }
     }
+    Ok(Placed::Held)
 }
 
-/// Makes the line that answers a line. The scratch may grow to the line's length.
-pub(crate) fn reply_of(
+/// Makes the line that answers a line, or puts it if it is long. The scratch may grow to the line's
+/// length.
+pub(crate) fn reply_of<S: Sink>(
     alloc: Global,
     engine: &mut Engine,
     limits: &LineLimits,
     scratch: &mut Scratch,
     line: &[u8],
     reply: &mut ReplyLine,
-) -> Result<(), Starved>
-    ensures reply { OnOk result (ReadReply limits.now engine.old line.now reply.new engine.new) }
+    sink: &mut S,
+) -> Result<Placed, Starved>
+    ensures reply { PlacesReply result reply.new
+        (writer (S.written sink.old) (S.faults sink.old) (S.settled sink.old))
+        (writer (S.written sink.new) (S.faults sink.new) (S.settled sink.new))
+        (λ text. ReadReply limits.now engine.old line.now text engine.new) }
     ensures fault { IfErr result (λ s.
         LeavesOf (ReadReply limits.now engine.old line.now) s engine.old engine.new) }
 {
     let mut texts = Texts::none();
     if lent_texts(line, scratch, &mut texts)? {
-        answer_texts(alloc, engine, limits, &texts, reply)
-    } else {
-        Ok(bad_line(alloc, reply)?)
+        return answer_texts(alloc, engine, limits, &texts, reply, sink);
     }
+    bad_line(alloc, reply)?;
+    Ok(Placed::Held)
 }

@@ -11,6 +11,7 @@ pub mod laws;
 mod limits;
 mod lines;
 mod reading;
+mod stream;
 mod words;
 
 pub use device::{Failed, Feed, ReadFeed, Run, Sink, WriteSink};

@@ -1,6 +1,6 @@
 //! Requests and replies by the line.
 ghost use Rattle.std.specs.Prelude.{◌≡◌, ◌<◌, ◌≤◌, true, OnOk, OnErr, IfOk, IfErr, List, [], ℕ};
-ghost use Rattle.std.specs.Prelude.{length, drop};
+ghost use Rattle.std.specs.Prelude.{length, drop, min, take};
 ghost use Rattle.std.specs.Io.KnownBytes.{Appends};
 ghost use Rattle.rb_engine.specs.Kept.{state_of};
 ghost use Rattle.rb_requests.specs.inner.Taken.{EndsAfter, IsHeldUnder};
@@ -13,8 +13,10 @@ ghost use Rattle.rb_requests.specs.inner.Longest.{longest};
 ghost use Rattle.rb_requests.specs.declared.reading.Longest.{Longest};
 ghost use Rattle.rb_requests.specs.inner.OneLine.{Wrote, WrotePart, MayTakeEffect, FailsLine};
 ghost use Rattle.rb_requests.specs.inner.OneLine.{line_settled};
+ghost use Rattle.rb_requests.specs.inner.Placing.{Finishes, PlacesReply};
+ghost use Rattle.rb_requests.specs.inner.Putting.{writer};
 
-use crate::answer::{Starved, reply_of};
+use crate::answer::{Placed, Starved, reply_of};
 use crate::device::{Failed, Feed, Sink};
 use crate::limits::{LINE_LIMIT, LineLimits};
 use crate::reading::{Held, Longest, NextLine, read_line};
@@ -66,9 +68,19 @@ fn empty(alloc: Global, buffer: &mut Vec<u8>, scratch: &mut Scratch)
     }
 }
 
-/// Writes bytes, whatever pieces the sink takes.
+/// The most bytes of a piece, which a call of the sink gets.
+pub(crate) const PIECE: usize = 65_536;
+
+/// The bytes of the next piece.
+fn piece(bytes: &[u8]) -> &[u8]
+    ensures { result.now ≡ take (min (length bytes.now) 65536) bytes.now }
+{
+    &bytes[..bytes.len().min(PIECE)]
+}
+
+/// Writes bytes by pieces, of which the sink may take parts.
 #[tactic(auto, using(crate::proofs::Putting::at_first, crate::proofs::Putting::put_part))]
-fn put_all<S: Sink>(sink: &mut S, bytes: &[u8]) -> Result<(), Failed>
+pub(crate) fn put_all<S: Sink>(sink: &mut S, bytes: &[u8]) -> Result<(), Failed>
     ensures bytes { OnOk result (Appends (S.written sink.old) (S.written sink.new) bytes.now) }
     ensures fault { OnErr result (WrotePart (S.written sink.old) (S.written sink.new) bytes.now) }
     ensures count { S.faults sink.new ≡ counted (S.faults sink.old) result }
@@ -76,7 +88,7 @@ fn put_all<S: Sink>(sink: &mut S, bytes: &[u8]) -> Result<(), Failed>
 {
     let mut rest = bytes;
     while !rest.is_empty() {
-        match sink.put(rest) {
+        match sink.put(piece(rest)) {
             Ok(taken) => rest = after(rest, taken),
             Err(failed) => return Err(failed),
         }
@@ -119,9 +131,9 @@ fn longest_of(limits: &LineLimits) -> Longest
     }
 }
 
-/// Makes the reply to a line of which so much is held. `AllocError`: memory ran out, and serving
-/// doesn't go on.
-fn tell_line(
+/// Makes the reply to a line of which so much is held, or puts it if it is long. `AllocError`:
+/// memory ran out, nothing is put, and serving doesn't go on.
+fn tell_line<S: Sink>(
     alloc: Global,
     engine: &mut Engine,
     limits: &LineLimits,
@@ -129,23 +141,41 @@ fn tell_line(
     line: &[u8],
     held: Held,
     reply: &mut ReplyLine,
-) -> Result<(), AllocError>
-    ensures reply { OnOk result ((longest : Longest) → (whole : List ℕ)
+    sink: &mut S,
+) -> Result<Placed, AllocError>
+    ensures reply { PlacesReply result reply.new
+        (writer (S.written sink.old) (S.faults sink.old) (S.settled sink.old))
+        (writer (S.written sink.new) (S.faults sink.new) (S.settled sink.new))
+        (λ text. (longest : Longest) → (whole : List ℕ)
         → IsHeldUnder limits.now longest whole line.now held
-        → LineReplyUpTo longest.kept limits.now engine.old whole reply.new engine.new) }
+        → LineReplyUpTo longest.kept limits.now engine.old whole text engine.new) }
     ensures fault { IfErr result (λ e. (longest : Longest) → (whole : List ℕ)
         → IsHeldUnder limits.now longest whole line.now held
         → MayTakeEffect (LineReplyUpTo longest.kept limits.now) engine.old whole engine.new) }
 {
-    match held {
-        Held::Front => return reply.tell_error(alloc, "LineTooLong"),
-        Held::Starved => return reply.tell_error(alloc, "Memory"),
-        Held::Whole => {}
-    }
-    match reply_of(alloc, engine, limits, scratch, line, reply) {
-        Ok(()) => Ok(()),
-        Err(Starved::Before) if limits.keep_serving => reply.tell_error(alloc, "Memory"),
-        Err(_) => Err(AllocError),
+    let word = match held {
+        Held::Front => "LineTooLong",
+        Held::Starved => "Memory",
+        Held::Whole => match reply_of(alloc, engine, limits, scratch, line, reply, sink) {
+            Ok(placed) => return Ok(placed),
+            Err(Starved::Before) if limits.keep_serving => "Memory",
+            Err(_) => return Err(AllocError),
+        },
+    };
+    reply.tell_error(alloc, word)?;
+    Ok(Placed::Held)
+}
+
+/// Puts a reply that isn't put yet, and settles.
+fn put_placed<S: Sink>(sink: &mut S, placed: Placed, line: &[u8]) -> Result<(), Failed>
+    ensures { Finishes placed line.now
+        (writer (S.written sink.old) (S.faults sink.old) (S.settled sink.old))
+        (writer (S.written sink.new) (S.faults sink.new) (S.settled sink.new)) result }
+{
+    match placed {
+        Placed::Held => put_reply(sink, line),
+        Placed::Put(Ok(())) => sink.settle(),
+        Placed::Put(Err(failed)) => Err(failed),
     }
 }
 
@@ -171,11 +201,11 @@ fn serve_line<S: Sink>(
     ensures count { S.faults sink.new ≡ writes_failed (S.faults sink.old) result }
     ensures settled { S.settled sink.new ≡ line_settled (S.settled sink.old) result }
 {
-    match tell_line(alloc, engine, limits, scratch, line, held, reply) {
-        Ok(()) => (),
+    let placed = match tell_line(alloc, engine, limits, scratch, line, held, reply, sink) {
+        Ok(placed) => placed,
         Err(_) => return Err(ServeFault::Memory),
-    }
-    match put_reply(sink, reply.as_bytes()) {
+    };
+    match put_placed(sink, placed, reply.as_bytes()) {
         Ok(()) => Ok(()),
         Err(Failed) => Err(ServeFault::Write),
     }
@@ -324,6 +354,9 @@ pub fn serve_limited<F: Feed, S: Sink>(
 /// lines before it are answered. `Write` comes if a call of the writer failed: the next line has
 /// taken effect too, and a part of its reply is written. `Memory` comes if memory runs out for
 /// the next line, which may have taken effect.
+///
+/// The sink gets at most 65,536 bytes by a call. The line of a long item is put as the item is
+/// read, and is never in memory whole.
 ///
 /// ```rust
 /// let lines: &[u8] = b"{\"op\":\"list\",\"app\":\"shop\"}\n";

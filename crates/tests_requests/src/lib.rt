@@ -16,3 +16,5 @@ mod lines;
 mod objects;
 #[cfg(test)]
 mod run;
+#[cfg(test)]
+mod streams;

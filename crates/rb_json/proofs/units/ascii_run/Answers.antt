@@ -2,7 +2,7 @@ use Rattle.std.proofs.Common.{arith}
 use Rattle.rb_tree.specs.Parts.{units_of}
 use Rattle.rb_json.proofs.OfKinds.{units_len}
 use Rattle.rb_json.proofs.Runs.{no_run, run_more}
-use Rattle.rb_json.proofs.text.ascii_run.Goals as goal
+use Rattle.rb_json.proofs.units.ascii_run.Goals as goal
 
 pub loop-i-init : goal.loop-i-init
 loop-i-init g c = no_run _ _ _

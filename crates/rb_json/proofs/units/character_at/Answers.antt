@@ -5,7 +5,7 @@ use Rattle.std.proofs.str.Utf16.{IsPair, lone_unit_char_low, lone_unit_char_high
 use Rattle.rb_tree.specs.Parts.{units_of}
 use Rattle.rb_json.proofs.OfKinds.{units_len}
 use Rattle.rb_json.proofs.Surrogates.{is_value, lone, paired}
-use Rattle.rb_json.proofs.text.character_at.Goals as goal
+use Rattle.rb_json.proofs.units.character_at.Goals as goal
 
 pub returns-then-high-lt55296-clause-first : goal.returns-then-high-lt55296-clause-first
 returns-then-high-lt55296-clause-first g c =

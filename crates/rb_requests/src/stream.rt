@@ -1,0 +1,158 @@
+//! A sink that is given a text piece by piece.
+ghost use Rattle.std.specs.Prelude.{◌≡◌, [], IfErr, IfOk, Some};
+ghost use Rattle.rb_engine.specs.Answer.{Finds};
+ghost use Rattle.rb_fallback.specs.Answers.{hit_of};
+ghost use Rattle.rb_replies.specs.Replied.{reply_line};
+ghost use Rattle.rb_views.specs.Seen.{tree_seen};
+ghost use Rattle.rb_requests.specs.inner.Putting.{Passes, Puts, writer};
+ghost use Rattle.rb_requests.specs.inner.Streaming.{Holds, Takes};
+
+use crate::device::{Failed, Sink};
+use crate::lines::{PIECE, put_all};
+use rb_fallback::Found;
+use rb_json::Outlet;
+use rb_replies::stream_reply;
+use rb_views::Item;
+use std::alloc::{AllocError, Global};
+
+/// Puts bytes, unless a call of the sink has failed. It says whether one has.
+fn pass<S: Sink>(sink: &mut S, failed: bool, bytes: &[u8]) -> bool
+    ensures { Passes failed (writer (S.written sink.old) (S.faults sink.old) (S.settled sink.old))
+        result (writer (S.written sink.new) (S.faults sink.new) (S.settled sink.new)) bytes.now }
+{
+    if failed {
+        return true;
+    }
+    match put_all(sink, bytes) {
+        Ok(()) => false,
+        Err(Failed) => true,
+    }
+}
+
+/// A text on its way to a sink. After a call of the sink has failed, the rest is passed over.
+#[derive(Drop)]
+struct Stream<'a, S: Sink> {
+    sink: &'a mut S,
+    held: &'a mut Vec<u8>,
+    failed: bool,
+}
+
+impl<'a, S: Sink> Stream<'a, S> {
+    /// Holds bytes, if there is room for them.
+    fn hold(&mut self, bytes: &[u8]) -> bool
+        ensures same { (self.new.sink.ghost_name ≡ self.old.sink.ghost_name)
+            × (self.new.held.ghost_name ≡ self.old.held.ghost_name) }
+        ensures sink { self.new.sink.now ≡ self.old.sink.now }
+        ensures failed { self.new.failed ≡ self.old.failed }
+        ensures held { Holds result self.old.held.now.items self.new.held.now.items bytes.now }
+    {
+        let room = PIECE.saturating_sub(self.held.len());
+        if room < bytes.len() {
+            return false;
+        }
+        match self.held.extend_from_slice(bytes) {
+            Ok(()) => true,
+            Err(_) => false,
+        }
+    }
+
+    /// Puts what is held.
+    fn pass_on(&mut self)
+        ensures same { (self.new.sink.ghost_name ≡ self.old.sink.ghost_name)
+            × (self.new.held.ghost_name ≡ self.old.held.ghost_name) }
+        ensures takes { Takes self.old.failed (writer (S.written self.old.sink.now)
+            (S.faults self.old.sink.now) (S.settled self.old.sink.now)) self.old.held.now.items
+            self.new.failed (writer (S.written self.new.sink.now)
+            (S.faults self.new.sink.now) (S.settled self.new.sink.now)) self.new.held.now.items [] }
+        ensures empty { self.new.held.now.items ≡ [] }
+    {
+        self.failed = pass(self.sink, self.failed, self.held);
+        self.held.clear();
+    }
+}
+
+impl<'a, S: Sink> Outlet for Stream<'a, S> {
+    ghost use Rattle.std.specs.Prelude.{refl};
+    ghost use Rattle.std.proofs.Common.{◌∙◌};
+    ghost use Rattle.rb_requests.specs.inner.Streaming.{takes_joined, takes_nothing};
+
+    ghost takes = { λ old new bytes. (new.sink.ghost_name ≡ old.sink.ghost_name)
+        × (new.held.ghost_name ≡ old.held.ghost_name)
+        × Takes old.failed (writer (S.written old.sink.now)
+        (S.faults old.sink.now) (S.settled old.sink.now)) old.held.now.items
+        new.failed (writer (S.written new.sink.now)
+        (S.faults new.sink.now) (S.settled new.sink.now)) new.held.now.items bytes };
+
+    ghost nothing = { λ x. (
+      refl,
+      refl,
+      takes_nothing x.failed (writer (S.written x.sink.now)
+          (S.faults x.sink.now) (S.settled x.sink.now)) x.held.now.items,
+    ) };
+
+    ghost joined = { λ x y z a b h k. (
+      k.0 ∙ h.0,
+      k.1 ∙ h.1,
+      takes_joined
+          x.failed (writer (S.written x.sink.now)
+          (S.faults x.sink.now) (S.settled x.sink.now)) x.held.now.items
+          y.failed (writer (S.written y.sink.now)
+          (S.faults y.sink.now) (S.settled y.sink.now)) y.held.now.items
+          z.failed (writer (S.written z.sink.now)
+          (S.faults z.sink.now) (S.settled z.sink.now)) z.held.now.items
+          a b h.2 k.2,
+    ) };
+
+    fn put(&mut self, bytes: &[u8]) {
+        if self.hold(bytes) {
+            return;
+        }
+        self.pass_on();
+        if self.hold(bytes) {
+            return;
+        }
+        self.failed = pass(self.sink, self.failed, bytes);
+    }
+}
+
+/// Puts the line of the reply to a lookup that found an item, all of it.
+fn stream_found<S: Sink>(stream: &mut Stream<'_, S>, found: &Found<Item<'_>>)
+    ensures same { (stream.new.sink.ghost_name ≡ stream.old.sink.ghost_name)
+        × (stream.new.held.ghost_name ≡ stream.old.held.ghost_name) }
+    ensures takes { Takes stream.old.failed (writer (S.written stream.old.sink.now)
+        (S.faults stream.old.sink.now) (S.settled stream.old.sink.now)) stream.old.held.now.items
+        stream.new.failed (writer (S.written stream.new.sink.now)
+        (S.faults stream.new.sink.now) (S.settled stream.new.sink.now)) stream.new.held.now.items
+        (reply_line (Some (Finds (hit_of tree_seen found.now) found.now.valid))) }
+    ensures empty { stream.new.held.now.items ≡ [] }
+{
+    stream_reply(stream, found);
+    stream.pass_on();
+}
+
+/// Puts the line of the reply to a lookup that found an item, piece by piece. `AllocError`: memory
+/// ran out for the buffer, and nothing is put.
+pub(crate) fn put_found<S: Sink>(
+    alloc: Global,
+    sink: &mut S,
+    found: &Found<Item<'_>>,
+) -> Result<Result<(), Failed>, AllocError>
+    ensures put { IfOk result (λ put. Puts put
+        (writer (S.written sink.old) (S.faults sink.old) (S.settled sink.old))
+        (writer (S.written sink.new) (S.faults sink.new) (S.settled sink.new))
+        (reply_line (Some (Finds (hit_of tree_seen found.now) found.now.valid)))) }
+    ensures none { IfErr result (λ _. sink.new ≡ sink.old) }
+{
+    let mut held = Vec::with_capacity(alloc, PIECE)?;
+    let mut stream = Stream {
+        sink,
+        held: &mut held,
+        failed: false,
+    };
+    stream_found(&mut stream, found);
+    if stream.failed {
+        Ok(Err(Failed))
+    } else {
+        Ok(Ok(()))
+    }
+}
