@@ -129,6 +129,19 @@ def overlapping_arrays(count, is_mixed=False):
     return made.file_of_one(item(ARRAY, made.add([count] + items)))
 
 
+def overlapping_over_arrays(size):
+    """Arrays that overlap, met in random order, of which each second item is one of as many other arrays, without items."""
+    count, made, dice = size // 20, Builder(b"a\0"), random.Random(7)
+    empty = made.add([0] * count)
+    length = empty + count - 2  # as an item a String at this word, which is empty
+    run = []
+    for _ in range(count + length // 2 + 1):
+        run += [length, item(ARRAY, empty + dice.randrange(count))]
+    first = made.add(run)
+    items = [item(ARRAY, first + 2 * i) for i in mixed(count, True)]
+    return made.file_of_one(item(ARRAY, made.add([count] + items)))
+
+
 def overlapping_tables(count, is_mixed=False):
     """Each word of a long run is the length of one long table, a key offset of others, and an item of others, an empty
     String."""
@@ -182,6 +195,14 @@ def by_turns(count):
     text = bytearray(2 * half)
     text[0::2] = dice.randbytes(half).translate(bytes(33 + i % 47 for i in range(256)))
     text[1::2] = dice.randbytes(half).translate(bytes(126 - i % 47 for i in range(256)))
+    return bytes(text[:count])
+
+
+def runs(count):
+    """Runs of one letter of random length, so that many pieces of the key begin alike."""
+    dice, text = random.Random(7), bytearray()
+    while len(text) < count:
+        text += b"a" * dice.randrange(100, 700) + b"b"
     return bytes(text[:count])
 
 
@@ -270,10 +291,15 @@ CHECKED = [
     ("2 copies of random letters, 1,000 tables", copies(random_letters, 2, 1_000), 60),
     ("64 copies of random letters, 300 tables", copies(random_letters, 64, 300), 60),
     ("2 copies of low and high letters by turns, 100 tables", copies(by_turns, 2, 100), 60),
+    ("2 copies of Fibonacci, 100 tables", copies(fibonacci, 2, 100), 60),
+    ("2 copies of a long period, 100 tables", copies(periodic, 2, 100), 60),
+    ("2 copies of `aaa..`, 100 tables", copies(repeated(b"a"), 2, 100), 60),
+    ("2 copies of runs of one letter, 100 tables", copies(runs, 2, 100), 60),
 ]
 OVERLAPPING = [
     ("arrays that overlap, in random order", mixed_arrays, 30),
     ("tables that overlap, in random order", mixed_tables, 30),
+    ("arrays that overlap over other arrays", overlapping_over_arrays, 60),
 ]
 
 # ---- texts
@@ -381,11 +407,29 @@ def install_file(locale, data):
 
 
 def aliases_by_turns(size):
-    """Two bundles, each with an alias to the other that has a long keyword: a search remembers only the last one."""
+    """Two bundles, each with an alias to the other that has a long keyword."""
     def bundle(other):
         made = Builder(b"a\0")
         return made.file_of_one(item(ALIAS, made.text(other + b"@" + b"x" * (size // 4) + b"/a")))
     return install_file(b"aa", bundle(b"bb")) + install_file(b"bb", bundle(b"aa")), look(b"aa", b"a")
+
+
+def overlapping_aliases(size):
+    """Long aliases to 120 bundles that share their end: the count of units and the name of each are printable, and so may
+    stand in the texts of those before it. Each bundle leads on to the next alias. From 5 to 16 MB."""
+    highs = [high for high in range(0x20, size // 2 >> 16) if high != ord("/")]
+    steps = [high << 16 | low for high in highs for low in range(0x20, 0x7F, 6)][:-121:-1]
+    names = [b"n%c%c" % (97 + i // 26, 97 + i % 26) for i in range(len(steps))]
+    long, made = steps[0] + 2, Builder(b"".join(name + b"\0" for name in names))
+    text = made.text(b"x" * (long - 2) + b"/k")
+    places = [text + (long - step) // 2 for step in steps]
+    for place, step, name in zip(places, steps, names):
+        at = 4 * place - FIRST_KEY
+        made.data[at:at + 12] = struct.pack("<I", step) + (name + b"@").decode().encode("utf-16-le")
+    keys = [FIRST_KEY + 4 * i for i in range(len(steps))]
+    root = item(LONG_TABLE, made.add([len(steps)] + keys + [item(ALIAS, place) for place in places]))
+    onward = (install(name, name + b'{k:alias{"root/' + next + b'"}}') for name, next in zip(names, names[1:] + names[:1]))
+    return install_file(b"root", made.file(root)) + b"".join(onward), look(b"root", names[0])
 
 
 def long_parent(size):
@@ -573,6 +617,7 @@ def measure(report, is_large):
     longer = "an alias with a long text, a longer path each time"
     report.lookup(longer, growing_path, [MB, 4 * MB, 8 * MB], 50)
     report.lookup("two aliases with long texts by turns", aliases_by_turns, [MB, 4 * MB, 8 * MB], 50)
+    report.lookup("120 long aliases that overlap", overlapping_aliases, [5 * MB, 8 * MB, 16 * MB], 50)
     report.lookup("a `%%Parent` with a long text", long_parent, [MB, 8 * MB, 32 * MB], 50, 50)
     report.lookup("a long key whose reply is refused", long_key_reply, [MB, 8 * MB, 32 * MB], 50, 50,
                   ["--reply-bytes", "1000"])
