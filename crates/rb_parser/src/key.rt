@@ -1,8 +1,8 @@
 //! Keys of tables.
-ghost use Rattle.std.specs.Prelude.{◌≡◌, IfOk, MatchOption};
+ghost use Rattle.std.specs.Prelude.{◌≡◌, ◌≤◌, true, false, take, length, IfOk, MatchOption};
 ghost use Rattle.rb_tree.specs.Keys.{IsKey};
 
-use rb_tree::{ByteList, Key, key_ok};
+use rb_tree::{Key, key_ok};
 use std::alloc::{AllocError, Global};
 
 /// The bytes of units that are all below 128, or `None`.
@@ -20,17 +20,50 @@ fn ascii_bytes(alloc: Global, units: &[u16]) -> Result<Option<Vec<u8>>, AllocErr
     Ok(Some(bytes))
 }
 
+/// How many units of a text are copied with no memory for them: most keys are shorter.
+const SHORT: usize = 64;
+
+/// Copies units that are all below 128 to the front of some bytes, or says that one isn't.
+fn copy_ascii(units: &[u16], bytes: &mut [u8]) -> bool
+    requires { length units.now ≤ length bytes.old }
+    ensures bytes { result ≡ true → take (length units.now) bytes.new ≡ units.now }
+    ensures other { result ≡ false → IsKey units.now → ⊥ }
+{
+    for i in 0..units.len() {
+        let unit = units[i];
+        if unit >= 0x80 {
+            return false;
+        }
+        bytes[i] = unit as u8;
+    }
+    true
+}
+
+/// The key of these bytes, or `None` if they are no key.
+fn key_of(alloc: Global, bytes: &[u8]) -> Result<Option<Key>, AllocError>
+    ensures { IfOk result (λ found. MatchOption found (IsKey bytes.now → ⊥)
+        (λ key. IsKey bytes.now × (key ≡ bytes.now))) }
+{
+    if !key_ok(bytes) {
+        return Ok(None);
+    }
+    Ok(Some(Key::copied(alloc, bytes)?))
+}
+
 /// The key that a text spells, or `None` if it is no key.
 pub fn read_key(alloc: Global, units: &[u16]) -> Result<Option<Key>, AllocError>
     ensures { IfOk result (λ found. MatchOption found (IsKey units.now → ⊥)
         (λ key. IsKey units.now × (key ≡ units.now))) }
 {
-    let Some(bytes) = ascii_bytes(alloc, units)? else {
-        return Ok(None);
-    };
-    if key_ok(bytes.as_slice()) {
-        Ok(Some(Key::of(ByteList::from_vec(bytes))))
-    } else {
-        Ok(None)
+    if units.len() <= SHORT {
+        let mut bytes = [0; SHORT];
+        if !copy_ascii(units, &mut bytes) {
+            return Ok(None);
+        }
+        return key_of(alloc, &bytes[..units.len()]);
+    }
+    match ascii_bytes(alloc, units)? {
+        Some(bytes) => key_of(alloc, &bytes),
+        None => Ok(None),
     }
 }

@@ -53,7 +53,7 @@ pub fn order_of(alloc: Global, pairs: &[(Key, Tree)]) -> Result<Option<Vec<usize
     ensures { IfOk result (λ found. IfSome found (λ order. IsOrder (keys_in pairs.now) order.items)) }
 {
     let mut keys = with_indices(alloc, pairs)?;
-    keys.sort()?;
+    keys.sort_unstable();
     if !rise(&keys) {
         return Ok(None);
     }

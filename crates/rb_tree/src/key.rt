@@ -1,5 +1,5 @@
 //! Keys of tables, as the program keeps them.
-ghost use Rattle.std.specs.Prelude.{◌≡◌, [], nat_eq};
+ghost use Rattle.std.specs.Prelude.{◌≡◌, ◌≤◌, [], nat_eq, length, IfOk};
 ghost use Rattle.std.proofs.Common.{rules};
 ghost use Rattle.std.specs.Cmp.{partial_order_from_own_ties};
 ghost use Rattle.std.specs.Cmp.Lexicographic.{slice_cmp, pointwise};
@@ -7,6 +7,7 @@ ghost use Rattle.std.specs.Cmp.Rules.{comparing};
 ghost use Rattle.std.specs.Ordering.{nat_cmp, as_partial_cmp};
 
 use crate::lists::ByteList;
+use std::alloc::{AllocError, Global};
 use std::cmp::Ordering;
 use std::marker::Model;
 
@@ -63,15 +64,33 @@ impl Key {
     pub fn of(list: ByteList) -> Key
         ensures { result ≡ list }
     {
-        let len = list.as_slice().len();
-        if len > IN_PLACE {
+        if list.as_slice().len() > IN_PLACE {
             return Key {
                 bytes: KeyBytes::Long(list),
             };
         }
+        Key::short(list.as_slice())
+    }
+
+    /// These bytes. Few of them take no memory.
+    pub fn copied(alloc: Global, bytes: &[u8]) -> Result<Key, AllocError>
+        ensures { IfOk result (λ key. key ≡ bytes.now) }
+    {
+        if bytes.len() > IN_PLACE {
+            let bytes = bytes.to_vec(alloc)?;
+            return Ok(Key::of(ByteList::from_vec(bytes)));
+        }
+        Ok(Key::short(bytes))
+    }
+
+    /// Bytes that are kept in place.
+    fn short(list: &[u8]) -> Key
+        requires { length list.now ≤ 30 }
+        ensures { result ≡ list.now }
+    {
         let mut bytes = [0; IN_PLACE];
-        bytes[..len].copy_from_slice(list.as_slice());
-        let len = len as u8;
+        bytes[..list.len()].copy_from_slice(list);
+        let len = list.len() as u8;
         Key {
             bytes: KeyBytes::Short(ShortBytes { len, bytes }),
         }

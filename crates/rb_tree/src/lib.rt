@@ -10,7 +10,6 @@ mod limits;
 mod lists;
 mod measure;
 mod node;
-mod order;
 mod path;
 mod table;
 mod tree;
