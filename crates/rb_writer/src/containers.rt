@@ -11,8 +11,9 @@ ghost use Rattle.rb_writer.specs.inner.Standing.{PlacesAre};
 use crate::data::Data;
 use crate::keys::KeyPlaces;
 use crate::put::{pad, put_half, put_word, put_words};
+use crate::spare::Spare;
 use rb_tree::Entries;
-use std::alloc::{AllocError, Global};
+use std::alloc::AllocError;
 
 /// Writes the count and the items of an array, and returns the offset.
 pub fn write_array(out: &mut Data, items: &[u32]) -> Result<u32, AllocError>
@@ -81,7 +82,7 @@ pub fn is_short(offsets: &[u32]) -> bool
 /// The offsets of a table's keys, whose entries are counted.
 #[tactic(auto, using(crate::proofs::Tabled::places_more, crate::proofs::Tabled::has_place))]
 pub fn key_offsets(
-    alloc: Global,
+    spare: &mut Spare,
     keys: &KeyPlaces<'_>,
     entry: &mut usize,
     entries: &Entries,
@@ -91,7 +92,8 @@ pub fn key_offsets(
         (keys_of (pairs entries.now)) offsets.items (length (pairs entries.now))) }
     ensures ordered { IsTable entries.now }
 {
-    let mut offsets = Vec::with_capacity(alloc, entries.len())?;
+    let mut offsets = spare.take();
+    offsets.reserve(entries.len())?;
     for i in 0..entries.len() {
         offsets.push(keys.offset(*entry, entries.key_at(i)))?;
         *entry = entry.wrapping_add(1);

@@ -16,6 +16,7 @@ use crate::gather::gather;
 use crate::header::header;
 use crate::keys::write_keys;
 use crate::sorting::sorted_keys;
+use crate::spare::Spare;
 use crate::tree::write_value;
 use rb_format::{ATTRIBUTES_INDEX_COUNT, HEADER_SIZE, INDEX_COUNT};
 use rb_tree::Tree;
@@ -109,7 +110,8 @@ pub fn write(alloc: Global, tree: &Tree, no_fallback: bool) -> Result<Vec<u8>, A
     let mut out = Data::new(alloc, indexes)?;
     let places = write_keys(alloc, &mut out, &keys, gathered.order, indexes)?;
     drop(keys);
+    let mut spare = Spare::new(alloc);
     let mut entry = 0;
-    let root = write_value(alloc, &mut out, &places, &mut entry, tree)?;
+    let root = write_value(&mut spare, &mut out, &places, &mut entry, tree)?;
     Ok(finish(out, root, places.area, gathered.longest as u32, no_fallback))
 }

@@ -13,6 +13,7 @@ pub mod laws;
 mod leaves;
 mod put;
 mod sorting;
+mod spare;
 mod table;
 mod tree;
 

@@ -35,7 +35,7 @@ fn by_heads<'a>(alloc: Global, keys: &[&'a [u8]]) -> Result<Vec<Headed<'a>>, All
             key,
         })?;
     }
-    found.sort()?;
+    found.sort_unstable();
     Ok(found)
 }
 

@@ -12,16 +12,17 @@ use crate::data::Data;
 use crate::item::item;
 use crate::keys::KeyPlaces;
 use crate::leaves::{write_bytes, write_numbers, write_units};
+use crate::spare::Spare;
 use crate::table::write_table;
 use rb_format::ItemKind;
 use rb_tree::{Node, Tree};
-use std::alloc::{AllocError, Global};
+use std::alloc::AllocError;
 
 /// Writes a tree, and returns the item that stands for it.
 #[cycle(write)]
 #[tactic(auto, using(crate::proofs::Nodes::children_le, crate::proofs::Containing::array_room, crate::proofs::Containing::table_room))]
 pub fn write_value(
-    alloc: Global,
+    spare: &mut Spare,
     out: &mut Data,
     keys: &KeyPlaces<'_>,
     entry: &mut usize,
@@ -42,18 +43,24 @@ pub fn write_value(
         Tree::Binary(bytes) => Ok(item(ItemKind::Binary, write_bytes(out, bytes.as_slice())?)),
         Tree::Alias(units) => Ok(item(ItemKind::Alias, write_units(out, units.as_slice())?)),
         Tree::Array(_) => {
-            let items = write_children(alloc, out, keys, entry, tree)?;
+            let items = write_children(spare, out, keys, entry, tree)?;
             if items.is_empty() {
+                spare.give(items)?;
                 return Ok(item(ItemKind::Array, 0));
             }
-            Ok(item(ItemKind::Array, write_array(out, &items)?))
+            let offset = write_array(out, &items)?;
+            spare.give(items)?;
+            Ok(item(ItemKind::Array, offset))
         }
         Tree::Table(entries) => {
-            let items = write_children(alloc, out, keys, entry, tree)?;
+            let items = write_children(spare, out, keys, entry, tree)?;
             if items.is_empty() {
+                spare.give(items)?;
                 return Ok(item(ItemKind::Table, 0));
             }
-            write_table(alloc, out, keys, entry, entries, &items)
+            let written = write_table(spare, out, keys, entry, entries, &items)?;
+            spare.give(items)?;
+            Ok(written)
         }
     }
 }
@@ -62,7 +69,7 @@ pub fn write_value(
 #[cycle(write)]
 #[tactic(auto, using(rb_tree::specs::inner::Lower::child_lower, rb_tree::specs::inner::Lower::children_len, crate::proofs::Nodes::children_none))]
 fn write_children(
-    alloc: Global,
+    spare: &mut Spare,
     out: &mut Data,
     keys: &KeyPlaces<'_>,
     entry: &mut usize,
@@ -78,9 +85,10 @@ fn write_children(
     ensures laid { IfOk result (λ items. EachLaid keys.now out.old out.new
         (children_of (view_of tree.now)) items.items (len_of (view_of tree.now))) }
 {
-    let mut items = Vec::with_capacity(alloc, tree.len())?;
+    let mut items = spare.take();
+    items.reserve(tree.len())?;
     for i in 0..tree.len() {
-        let item = write_value(alloc, out, keys, entry, tree.at(i))?;
+        let item = write_value(spare, out, keys, entry, tree.at(i))?;
         items.push(item)?;
     }
     Ok(items)

@@ -120,11 +120,16 @@ pub record WritesAs (kind : ItemKind) (short : Bool) (Puts : Type 0) (offsets it
   pub fitting : are_halves (length items ∷ offsets) ≡ short
   pub word : item ≡ item_word kind (offset_of item)
 
+-- a table with these key offsets and items is put after the data, a short one if it fits, and its item is this
+abbrev pub PutsTable : (old new offsets items : List ℕ) (item : ℕ) → Type 0
+PutsTable old new offsets items item =
+    WritesAs Table true (PutsShort old new offsets items (offset_of item)) offsets items item
+    ⊎ WritesAs LongTable false (PutsLong old new offsets items (offset_of item)) offsets items item
+
 -- a table was written with the items of its values, and an item leads to it
 pub record WritesTable (keys : KeyPlaces) (es : Members) (old new items : List ℕ) (item : ℕ) : Type 0 where
   pub offsets : List ℕ
   pub places : PlacesAre keys (keys_of (pairs es)) offsets (length (pairs es))
   pub ordered : IsTable es
   pub small : offset_of item < 2 ^ 28
-  pub written : WritesAs Table true (PutsShort old new offsets items (offset_of item)) offsets items item ⊎
-      WritesAs LongTable false (PutsLong old new offsets items (offset_of item)) offsets items item
+  pub written : PutsTable old new offsets items item

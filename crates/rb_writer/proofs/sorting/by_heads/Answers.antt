@@ -7,4 +7,4 @@ loop-i-preserved c = headed_more c.args.keys.now c.loop-i.found.items c.push.new
     refl (search rules)
 
 pub returns : goal.returns
-returns c = by_heads c.args.keys.now c.loop-i.found.items c.sort.new.self.items c.loop-i.i c.loop-i.invariant (search rules) c.in_ok-sort.ensures.permutation
+returns c = by_heads c.args.keys.now c.loop-i.found.items c.sort_unstable.new.self.items c.loop-i.i c.loop-i.invariant (search rules) c.sort_unstable.ensures.permutation

@@ -1,6 +1,5 @@
 use Rattle.std.proofs.Common.{arith, ap, ◌∙◌, refl, ◌≡◌, ◌<◌, length}
 use Rattle.std.proofs.lemmas.Grind.{common_steps}
-use Rattle.std.proofs.lemmas.Result.{IfOk-weaker}
 use Rattle.rb_tree.specs.Parts.{children_of, len_of}
 use Rattle.rb_tree.specs.inner.Lower.{child_lower}
 use Rattle.rb_tree.specs.View.{view_of}
@@ -29,7 +28,7 @@ write_children-write_value-requires t c =
     )
 
 pub write_children-loop-i-init : goal.write_children-loop-i-init
-write_children-loop-i-init t c = rw c.in_ok-items.ensures.items
+write_children-loop-i-init t c = rw (c.in_ok-reserve.ensures.items, c.take-items.ensures)
     (children_none _ _ _ c.requires.drafted, λ at a. none_laid_yet at c.args.out.now (children_of (view_of c.args.tree.now)))
 
 pub write_children-loop-i-preserved : goal.write_children-loop-i-preserved
@@ -71,13 +70,13 @@ write_value-returns-then-is_empty-clause-stands t c =
     empty_array_stands c.args.keys.now.area c.args.out.now c.write_children.new.out c.in_ok-items-in-Array.items.items _ c.item-then-is_empty.result
     c.in-Array.field-0 c.args.tree.now c.in-Array.is (rw c.in-Array.is at s) refl none c.item-then-is_empty.ensures.kind c.item-then-is_empty.ensures.offset
 
-pub write_value-returns-in_ok-write_array-in-Array-clause-stands : goal.write_value-returns-in_ok-write_array-in-Array-clause-stands
-write_value-returns-in_ok-write_array-in-Array-clause-stands t c =
+pub write_value-returns-in_ok-give-in-Array-2-clause-stands : goal.write_value-returns-in_ok-give-in-Array-2-clause-stands
+write_value-returns-in_ok-give-in-Array-2-clause-stands t c =
     let s : ChildrenStand c.args.keys.now.area c.args.out.now c.write_children.new.out
     (children_of (view_of c.args.tree.now)) c.in_ok-items-in-Array.items.items (len_of (view_of c.args.tree.now)) = c.in_ok-items-in-Array.ensures.stand in
     array_stands c.args.keys.now.area c.args.out.now c.write_children.new.out c.write_array.new.out c.in_ok-items-in-Array.items.items _
-    c.in_ok-write_array-in-Array.field-0 c.item-in-Array.result c.in-Array.field-0 c.args.tree.now c.in-Array.is (rw c.in-Array.is at s) refl
-    (rw c.deref.ensures.value at c.in_ok-write_array-in-Array.ensures.array) c.in_ok-write_array-in-Array.ensures.small c.item-in-Array.ensures.kind
+    c.in_ok-offset-in-Array.offset c.item-in-Array.result c.in-Array.field-0 c.args.tree.now c.in-Array.is (rw c.in-Array.is at s) refl
+    (rw c.deref.ensures.value at c.in_ok-offset-in-Array.ensures.array) c.in_ok-offset-in-Array.ensures.small c.item-in-Array.ensures.kind
     c.item-in-Array.ensures.offset
 
 pub write_value-write_array-requires-clause-room : goal.write_value-write_array-requires-clause-room
@@ -101,22 +100,22 @@ write_value-returns-then-is_empty-2-clause-stands t c =
     c.in-Table.entries c.args.tree.now c.in-Table.is
     (rw c.in-Table.is at s) refl none c.item-then-is_empty-2.ensures.kind c.item-then-is_empty-2.ensures.offset
 
-pub write_value-returns-else-is_empty-2-clause-stands : goal.write_value-returns-else-is_empty-2-clause-stands
-write_value-returns-else-is_empty-2-clause-stands t c =
+pub write_value-returns-in_ok-give-in-Table-2-clause-stands : goal.write_value-returns-in_ok-give-in-Table-2-clause-stands
+write_value-returns-in_ok-give-in-Table-2-clause-stands t c =
     let s : ChildrenStand c.args.keys.now.area c.args.out.now c.write_children-in-Table.new.out
     (children_of (view_of c.args.tree.now)) c.in_ok-items-in-Table.items.items (len_of (view_of c.args.tree.now)) = c.in_ok-items-in-Table.ensures.stand in
-    IfOk-weaker c.write_table.result _ _ (λ i w. table_stands c.args.keys.now c.args.keys.now.area c.args.out.now c.write_children-in-Table.new.out
-    c.write_table.new.out c.in_ok-items-in-Table.items.items _ i c.in-Table.entries c.args.tree.now c.in-Table.is
-    (rw c.in-Table.is at s) refl c.requires.drafted c.requires.keys (rw c.deref-in-Table.ensures.value at w)) c.write_table.ensures
+    table_stands c.args.keys.now c.args.keys.now.area c.args.out.now c.write_children-in-Table.new.out
+    c.write_table.new.out c.in_ok-items-in-Table.items.items _ c.in_ok-written-in-Table.written c.in-Table.entries c.args.tree.now c.in-Table.is
+    (rw c.in-Table.is at s) refl c.requires.drafted c.requires.keys (rw c.deref-in-Table.ensures.value at c.in_ok-written-in-Table.ensures)
 
-pub write_value-returns-in_ok-write_array-in-Array-clause-laid : goal.write_value-returns-in_ok-write_array-in-Array-clause-laid
-write_value-returns-in_ok-write_array-in-Array-clause-laid t c =
+pub write_value-returns-in_ok-give-in-Array-2-clause-laid : goal.write_value-returns-in_ok-give-in-Array-2-clause-laid
+write_value-returns-in_ok-give-in-Array-2-clause-laid t c =
     let s : EachLaid c.args.keys.now c.args.out.now c.write_children.new.out
     (children_of (view_of c.args.tree.now)) c.in_ok-items-in-Array.items.items (len_of (view_of c.args.tree.now)) = c.in_ok-items-in-Array.ensures.laid in
     let some : 0 < length c.in_ok-items-in-Array.items.items = grind (arith, common_steps, c.is_empty.ensures, c.if-is_empty.false) in
     array_laid_whole c.args.keys.now c.args.out.now c.write_children.new.out c.write_array.new.out c.in_ok-items-in-Array.items.items _
-    c.in_ok-write_array-in-Array.field-0 c.item-in-Array.result c.in-Array.field-0 c.args.tree.now c.in-Array.is (rw c.in-Array.is at s) refl
-    (rw c.deref.ensures.value at c.in_ok-write_array-in-Array.ensures.array) some c.item-in-Array.ensures.word
+    c.in_ok-offset-in-Array.offset c.item-in-Array.result c.in-Array.field-0 c.args.tree.now c.in-Array.is (rw c.in-Array.is at s) refl
+    (rw c.deref.ensures.value at c.in_ok-offset-in-Array.ensures.array) some c.item-in-Array.ensures.word
 
 pub write_value-returns-then-is_empty-clause-laid : goal.write_value-returns-then-is_empty-clause-laid
 write_value-returns-then-is_empty-clause-laid t c =
@@ -126,18 +125,18 @@ write_value-returns-then-is_empty-clause-laid t c =
     empty_array_laid c.args.keys.now c.args.out.now c.write_children.new.out c.in_ok-items-in-Array.items.items _ c.item-then-is_empty.result
     c.in-Array.field-0 c.args.tree.now c.in-Array.is (rw c.in-Array.is at s) refl none c.item-then-is_empty.ensures.word
 
-pub write_value-returns-else-is_empty-2-clause-laid : goal.write_value-returns-else-is_empty-2-clause-laid
-write_value-returns-else-is_empty-2-clause-laid t c =
+pub write_value-returns-in_ok-give-in-Table-2-clause-laid : goal.write_value-returns-in_ok-give-in-Table-2-clause-laid
+write_value-returns-in_ok-give-in-Table-2-clause-laid t c =
     let s : EachLaid c.args.keys.now c.args.out.now c.write_children-in-Table.new.out
     (children_of (view_of c.args.tree.now)) c.in_ok-items-in-Table.items.items (len_of (view_of c.args.tree.now)) = c.in_ok-items-in-Table.ensures.laid in
     let stand : ChildrenStand c.args.keys.now.area c.args.out.now c.write_children-in-Table.new.out
     (children_of (view_of c.args.tree.now)) c.in_ok-items-in-Table.items.items (len_of (view_of c.args.tree.now)) = c.in_ok-items-in-Table.ensures.stand in
     let some : 0 < length c.in_ok-items-in-Table.items.items = grind (arith, common_steps, c.is_empty-in-Table.ensures, c.if-is_empty-2.false) in
     let words = stand.drafted.whole in
-    IfOk-weaker c.write_table.result _ _ (λ i w. table_laid_whole c.args.keys.now c.args.out.now c.write_children-in-Table.new.out
-    c.write_table.new.out c.in_ok-items-in-Table.items.items _ i c.in-Table.entries c.args.tree.now c.in-Table.is
-    (rw c.in-Table.is at s) refl (rw c.deref-in-Table.ensures.value at w) (stand.count ∙ ap len_of (ap view_of c.in-Table.is)) some (omega arith))
-    c.write_table.ensures
+    table_laid_whole c.args.keys.now c.args.out.now c.write_children-in-Table.new.out
+    c.write_table.new.out c.in_ok-items-in-Table.items.items _ c.in_ok-written-in-Table.written c.in-Table.entries c.args.tree.now c.in-Table.is
+    (rw c.in-Table.is at s) refl (rw c.deref-in-Table.ensures.value at c.in_ok-written-in-Table.ensures) (stand.count ∙ ap len_of (ap view_of c.in-Table.is))
+    some (omega arith)
 
 pub write_value-returns-then-is_empty-2-clause-laid : goal.write_value-returns-then-is_empty-2-clause-laid
 write_value-returns-then-is_empty-2-clause-laid t c =
