@@ -1,8 +1,8 @@
 -- Items of which it is known beforehand that they are leaves.
-use Rattle.std.proofs.Common.{◌≡◌, ℕ, zero, suc, ◌+◌, ◌≤◌, ◌<◌, max, Bool, true, false, List, Result, Ok, Err, Option, Some, refl, sym, ap, ◌∙◌, subst, arith}
+use Rattle.std.proofs.Common.{◌≡◌, ℕ, zero, suc, ◌+◌, ◌≤◌, ◌<◌, max, Bool, true, false, List, Result, Ok, Err, Some, refl, sym, ap, ◌∙◌, subst, arith}
 use Rattle.std.specs.Prelude.{if◌then◌else◌, is_ok, nat_lt, None}
 use Rattle.std.proofs.lemmas.Bool.{lt-ltb}
-use Rattle.rb_tree.specs.Resource.{Resource, Resources, height, trees_height, tree_and}
+use Rattle.rb_tree.specs.Resource.{Resource, Resources, height, trees_height}
 use Rattle.rb_format.specs.declared.layout.Layout.{Layout}
 use Rattle.rb_format.specs.declared.kind.ItemKind.{ItemKind}
 use Rattle.rb_format.specs.declared.kind.ItemKind.TheVariants.{Table, LongTable, Array}

@@ -4,5 +4,6 @@ pub mod KnownKeys
 pub mod Leaves
 pub mod Lengths
 pub mod Marks
+pub mod Noted
 pub mod Packed
 pub mod Ranks

@@ -7,30 +7,32 @@ ghost use Rattle.rb_format.specs.File.{Denotes, source_tree_of};
 ghost use Rattle.rb_format.specs.Checks.{first_fault};
 
 use crate::file::{Findings, check_file};
+use crate::notes::Notes;
 use rb_format::{Attributes, FileFault, MINOR_VERSION_AT, body};
 use std::alloc::Global;
 use std::marker::Model;
 
 /// A file that denotes a bundle: a tree, and whether a lookup stops there. It keeps the bytes of
-/// the file.
+/// the file, and takes no more room than six words, as a server has many.
 #[derive(Drop)]
 pub struct Bundle {
     bytes: Vec<u8>,
-    visits: u64,
-    compared: u64,
-    looked: u64,
-    blocks: Vec<bool>,
+    visits: u32,
+    compared: u32,
+    notes: Option<Box<Notes>>,
 }
 
 impl Model for Bundle {
     ghost use Rattle.std.specs.Prelude.{List, ℕ};
     ghost use Rattle.rb_validator.specs.inner.Accepted.{IsAccepted};
+    ghost use Rattle.rb_validator.specs.inner.Noted.{blocks_noted, looked_noted};
 
     ghost Value = { List ℕ };
 
     ghost view = { λ b. b.bytes.items };
 
-    ghost invariant = { λ b. IsAccepted b.bytes.items b.visits b.compared b.looked b.blocks.items };
+    ghost invariant = { λ b. IsAccepted b.bytes.items b.visits b.compared
+        (looked_noted b.notes) (blocks_noted b.notes) };
 }
 
 /// The bundle of a file that denotes one. Any other file is refused for its first fault, in the
@@ -55,15 +57,13 @@ pub fn accept(alloc: Global, bytes: Vec<u8>) -> Result<Bundle, (FileFault, Vec<u
             Findings {
                 visits,
                 compared,
-                looked,
-                blocks,
+                notes,
             },
         ) => Ok(Bundle {
             bytes,
             visits,
             compared,
-            looked,
-            blocks,
+            notes,
         }),
         Err(fault) => Err((fault, bytes)),
     }
@@ -93,7 +93,7 @@ impl Bundle {
         ensures few { let body = drop (half_at self.now 0) self.now in result
             ≤ 3 * (layout_of body).top }
     {
-        self.visits
+        self.visits as u64
     }
 
     /// How many bytes of keys the acceptance compared. If two keys of a table are compared byte by
@@ -103,7 +103,7 @@ impl Bundle {
     pub fn compared(&self) -> u64
         ensures { result ≤ 25 * length self.now }
     {
-        self.compared
+        self.compared as u64
     }
 
     /// How many bytes of keys the acceptance compared before it compared two keys by the ranks of
@@ -112,7 +112,10 @@ impl Bundle {
     pub fn compared_before_ranks(&self) -> u64
         ensures { result ≤ 252 * length self.now }
     {
-        self.looked
+        match &self.notes {
+            Some(notes) => notes.looked,
+            None => 0,
+        }
     }
 
     /// Marks of the data after the header, one for each whole block of 1,024 half words: if it is
@@ -122,6 +125,9 @@ impl Bundle {
     pub fn blocks(&self) -> &[bool]
         ensures { AreSegmentBlocks (drop (half_at self.now 0) self.now) result.now }
     {
-        &self.blocks
+        match &self.notes {
+            Some(notes) => &notes.blocks,
+            None => &[],
+        }
     }
 }

@@ -1,5 +1,5 @@
 //! The checks of a whole file.
-ghost use Rattle.std.specs.Prelude.{◌≡◌, ◌⊎◌, ◌+◌, ◌*◌, ◌≤◌, None, Some, Err, length, drop, IfOk};
+ghost use Rattle.std.specs.Prelude.{◌≡◌, ◌⊎◌, ◌+◌, ◌*◌, ◌≤◌, ◌<◌, ◌^◌, None, Some, Err, length, drop, IfOk};
 ghost use Rattle.std.specs.Prelude.{IfErr, MatchResult};
 ghost use Rattle.rb_tree.specs.Resource.{height};
 ghost use Rattle.rb_format.specs.inner.FirstFault.{result_map, read};
@@ -8,12 +8,14 @@ ghost use Rattle.rb_validator.specs.inner.Marks.{marked, IsFresh};
 ghost use Rattle.rb_format.specs.inner.FirstFault.{fault_of, read_data, read_file};
 ghost use Rattle.rb_format.specs.Place as fields;
 ghost use Rattle.rb_validator.specs.TextBlocks.{AreSegmentBlocks};
+ghost use Rattle.rb_validator.specs.inner.Noted.{blocks_noted, looked_noted};
 ghost use Rattle.rb_validator.specs.Visits.{IsPlaceAt, IsCount, HasVisits};
 ghost use Rattle.rb_format.specs.Limits.{file_limit};
 
 use crate::body::{Body, Checked};
 use crate::items::check_item;
 use crate::leaf_runs::count_leaves;
+use crate::notes::{Notes, noted};
 use crate::state::CheckState;
 use crate::text_blocks::segment_blocks;
 use rb_format::{
@@ -24,12 +26,11 @@ use rb_tree::HEIGHT_LIMIT;
 use std::alloc::Global;
 
 /// What an acceptance counted: the places that it entered, and the bytes of keys that it compared,
-/// those before ranks apart; and the blocks that it marked.
+/// but for those before ranks; and what is noted of few files.
 pub struct Findings {
-    pub visits: u64,
-    pub compared: u64,
-    pub looked: u64,
-    pub blocks: Vec<bool>,
+    pub visits: u32,
+    pub compared: u32,
+    pub notes: Option<Box<Notes>>,
 }
 
 /// How many places a file has, and how many bytes of its keys were compared, or its first fault;
@@ -40,9 +41,10 @@ pub fn check_file(alloc: Global, bytes: &[u8]) -> Checked<Findings>
         (λ e. (e ≡ FileFault.Memory) ⊎ (fault_of (read_file 64 bytes.now) ≡ Some e)) }
     ensures visits { IfOk result (λ n. HasVisits bytes.now n.visits) }
     ensures compared { IfOk result (λ n. n.compared ≤ 25 * length bytes.now) }
-    ensures looked { IfOk result (λ n. n.looked ≤ 252 * length bytes.now) }
+    ensures looked { IfOk result (λ n. looked_noted n.notes ≤ 252 * length bytes.now) }
     ensures blocks { IfOk result
-        (λ n. AreSegmentBlocks (drop (fields.half_at bytes.now 0) bytes.now) n.blocks.items) }
+        (λ n. AreSegmentBlocks (drop (fields.half_at bytes.now 0) bytes.now)
+        (blocks_noted n.notes)) }
 {
     if bytes.len() > FILE_LIMIT {
         return Err(FileFault::TooLong);
@@ -53,21 +55,26 @@ pub fn check_file(alloc: Global, bytes: &[u8]) -> Checked<Findings>
 
 /// What was found of data that have no fault.
 fn found_of(alloc: Global, body: Body<'_>, state: &CheckState) -> Checked<Findings>
+    requires few_visits { marked state.now.memo (length state.now.memo) < 2 ^ 32 }
+    requires few_compared { state.now.keys.known.compared < 2 ^ 32 }
     ensures memory { IfErr result (λ e. e ≡ FileFault.Memory) }
     ensures visits { IfOk result
         (λ n. n.visits ≡ marked state.now.memo (length state.now.memo)) }
     ensures compared { IfOk result (λ n. n.compared ≡ state.now.keys.known.compared) }
-    ensures looked { IfOk result (λ n. n.looked ≡ state.now.keys.known.looked) }
-    ensures blocks { IfOk result (λ n. AreSegmentBlocks body.entry.bytes.now n.blocks.items) }
+    ensures looked { IfOk result (λ n. looked_noted n.notes ≡ state.now.keys.known.looked) }
+    ensures blocks { IfOk result
+        (λ n. AreSegmentBlocks body.entry.bytes.now (blocks_noted n.notes)) }
 {
     let Ok(blocks) = segment_blocks(alloc, body.bytes, state.has_long_alias) else {
         return Err(FileFault::Memory);
     };
+    let Ok(notes) = noted(alloc, state.keys.known.looked, blocks) else {
+        return Err(FileFault::Memory);
+    };
     Ok(Findings {
-        visits: state.memo.visits(),
-        compared: state.keys.known.compared,
-        looked: state.keys.known.looked,
-        blocks,
+        visits: state.memo.visits() as u32,
+        compared: state.keys.known.compared as u32,
+        notes,
     })
 }
 
@@ -90,34 +97,6 @@ fn check_root(body: Body<'_>, state: &mut CheckState, root: u32) -> Checked<u8>
     Ok(height)
 }
 
-/// The same once more, after the leaves are counted.
-fn check_again(alloc: Global, body: Body<'_>, state: &mut CheckState, root: u32) -> Checked<u8>
-    requires room { 4 * body.layout.now.top ≤ length body.bytes.now }
-    requires tops { body.layout.now.keys_top ≤ body.layout.now.top }
-    requires layout { body.layout.now ≡ fields.layout_of body.bytes.now }
-    requires root { root ≡ fields.word_at body.bytes.now 0 }
-    requires sound { IsSound body.layout.now body.bytes.now state.old.keys.known }
-    ensures value { (result ≡ Err FileFault.Memory) ⊎ (result
-        ≡ result_map height (read body.entry.layout.now body.entry.bytes.now 64 root)) }
-    ensures sound { IsSound body.entry.layout.now body.entry.bytes.now state.new.keys.known }
-    ensures visits { IfOk result (λ _. IsCount (IsPlaceAt body.entry.bytes.now)
-        (3 * fields.word_at body.entry.bytes.now 4)
-        (marked state.new.memo (length state.new.memo))) }
-{
-    let Ok(leaves) = count_leaves(alloc, body) else {
-        return Err(FileFault::Memory);
-    };
-    let body = Body {
-        layout: body.layout,
-        bytes: body.bytes,
-        leaves: &leaves,
-    };
-    if state.begin_again(alloc, body).is_err() {
-        return Err(FileFault::Memory);
-    }
-    check_root(body, state, root)
-}
-
 /// The checks of data with these bounds. If items overlap, they begin again once the leaves are
 /// counted.
 fn check_tree(alloc: Global, body: Body<'_>, root: u32) -> Checked<Findings>
@@ -131,17 +110,29 @@ fn check_tree(alloc: Global, body: Body<'_>, root: u32) -> Checked<Findings>
     ensures visits { IfOk result (λ n. IsCount (IsPlaceAt body.entry.bytes.now)
         (3 * fields.word_at body.entry.bytes.now 4) n.visits) }
     ensures compared { IfOk result (λ n. n.compared ≤ 25 * length body.entry.bytes.now) }
-    ensures looked { IfOk result (λ n. n.looked ≤ 252 * length body.entry.bytes.now) }
-    ensures blocks { IfOk result (λ n. AreSegmentBlocks body.entry.bytes.now n.blocks.items) }
+    ensures looked { IfOk result (λ n. looked_noted n.notes ≤ 252 * length body.entry.bytes.now) }
+    ensures blocks { IfOk result (λ n. AreSegmentBlocks body.entry.bytes.now (blocks_noted n.notes)) }
 {
     let Ok(mut state) = CheckState::new(alloc, body) else {
         return Err(FileFault::Memory);
     };
-    let mut found = check_root(body, &mut state, root);
-    if state.runs.has_stopped {
-        found = check_again(alloc, body, &mut state, root);
+    let found = check_root(body, &mut state, root);
+    if !state.runs.has_stopped {
+        found?;
+        return found_of(alloc, body, &state);
     }
-    found?;
+    let Ok(leaves) = count_leaves(alloc, body) else {
+        return Err(FileFault::Memory);
+    };
+    let body = Body {
+        layout: body.layout,
+        bytes: body.bytes,
+        leaves: &leaves,
+    };
+    if state.begin_again(alloc, body).is_err() {
+        return Err(FileFault::Memory);
+    }
+    check_root(body, &mut state, root)?;
     found_of(alloc, body, &state)
 }
 
@@ -154,8 +145,8 @@ fn check_data(alloc: Global, minor: u8, body: &[u8]) -> Checked<Findings>
     ensures visits { IfOk result
         (λ n. IsCount (IsPlaceAt body.now) (3 * fields.word_at body.now 4) n.visits) }
     ensures compared { IfOk result (λ n. n.compared ≤ 25 * length body.now) }
-    ensures looked { IfOk result (λ n. n.looked ≤ 252 * length body.now) }
-    ensures blocks { IfOk result (λ n. AreSegmentBlocks body.now n.blocks.items) }
+    ensures looked { IfOk result (λ n. looked_noted n.notes ≤ 252 * length body.now) }
+    ensures blocks { IfOk result (λ n. AreSegmentBlocks body.now (blocks_noted n.notes)) }
 {
     if !has_valid_indexes(body) {
         return Err(FileFault::Indexes);

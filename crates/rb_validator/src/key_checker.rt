@@ -22,8 +22,6 @@ const PLAIN_SHARE: u64 = 4;
 #[derive(Drop)]
 pub struct KeyChecker {
     alloc: Global,
-    /// How many keys may still be compared with the one before by their lengths.
-    pairs: usize,
     /// Whether the lengths were asked for.
     is_measured: bool,
     /// Whether the ranks were asked for.
@@ -40,7 +38,6 @@ impl KeyChecker {
     {
         KeyChecker {
             alloc,
-            pairs: body.bytes.len() / 2,
             is_measured: false,
             is_prepared: false,
             known: KnownKeys::new(alloc, body),
@@ -65,9 +62,7 @@ impl KeyChecker {
         if self.measure(body).is_err() {
             return Err(FileFault::Memory);
         }
-        let reached = self
-            .known
-            .check_closely(body, places, count, &mut self.pairs)?;
+        let reached = self.known.check_closely(body, places, count)?;
         if reached == count {
             return Ok(());
         }

@@ -19,6 +19,7 @@ mod lengths;
 mod links;
 mod lists;
 mod memo;
+mod notes;
 mod rank_builder;
 mod ranks;
 mod runs;

@@ -11,7 +11,8 @@ use Rattle.rb_format.specs.inner.FirstFault.{fault_of, read_data, read_file}
 use Rattle.rb_validator.specs.declared.file.Findings.{Findings}
 use Rattle.rb_format.specs.Place.{word_at, half_at}
 use Rattle.rb_validator.specs.TextBlocks.{AreSegmentBlocks}
-use Rattle.rb_validator.specs.Visits.{IsCount, IsPlaceAt, HasVisits}
+use Rattle.rb_validator.specs.inner.Noted.{blocks_noted}
+use Rattle.rb_validator.specs.Visits.{IsCount, IsPlaceAt}
 use Rattle.rb_format.proofs.Checks.{header_is}
 use Rattle.rb_validator.proofs.Cases.{header_size}
 use Rattle.rb_validator.proofs.file.check_file.Goals as goal
@@ -56,5 +57,5 @@ returns-clause-visits c =
 pub returns-clause-blocks : goal.returns-clause-blocks
 returns-clause-blocks c =
     let z = header_size c.args.bytes.now c.in_ok-header.header (header_is c.args.bytes.now ∙ sym c.in_ok-header.ensures.value) in
-    after_header c.args.bytes.now c.in_ok-header.header.size c.check_data.result (λ body n. AreSegmentBlocks body n.blocks.items) z.0
+    after_header c.args.bytes.now c.in_ok-header.header.size c.check_data.result (λ body n. AreSegmentBlocks body (blocks_noted n.notes)) z.0
     c.check_data.ensures.blocks

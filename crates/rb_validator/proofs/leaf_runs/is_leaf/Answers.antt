@@ -1,4 +1,4 @@
-use Rattle.std.proofs.Common.{◌≡◌, ◌-◌, sym, ◌∙◌, ap, arith}
+use Rattle.std.proofs.Common.{◌-◌, sym, ◌∙◌, ap}
 use Rattle.rb_tree.specs.Resource.{height}
 use Rattle.rb_format.specs.Item.{offset_of}
 use Rattle.rb_format.specs.inner.FirstFault.{read, result_map}
