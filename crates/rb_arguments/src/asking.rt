@@ -208,50 +208,12 @@ fn check_asked<'a>(alloc: Global, given: &ArgMatches<'a>) -> Result<Asked<'a>, A
     })
 }
 
-fn get_asked<'a>(given: &ArgMatches<'a>) -> Asked<'a>
-    ensures { AsksFor (codes "get") (rows_of (found_of given.now)) result }
-{
-    Asked::Get {
-        file: word_of(given, "FILE"),
-        path: word_of(given, "PATH"),
-    }
-}
-
-fn json_asked<'a>(given: &ArgMatches<'a>) -> Asked<'a>
-    ensures { AsksFor (codes "json") (rows_of (found_of given.now)) result }
-{
-    Asked::Json {
-        file: word_of(given, "FILE"),
-        path: word_of(given, "PATH"),
-        is_pretty: flag_of(given, "pretty"),
-    }
-}
-
-fn text_asked<'a>(given: &ArgMatches<'a>) -> Asked<'a>
-    ensures { AsksFor (codes "text") (rows_of (found_of given.now)) result }
-{
-    Asked::Text {
-        file: word_of(given, "FILE"),
-        name: optional_of(given, "name"),
-    }
-}
-
 fn lint_asked<'a>(alloc: Global, given: &ArgMatches<'a>) -> Result<Asked<'a>, AllocError>
     ensures { IfOk result (AsksFor (codes "lint") (rows_of (found_of given.now))) }
 {
     Ok(Asked::Lint {
         root: optional_of(given, "root"),
         texts: words_of(alloc, given, "TEXT")?,
-    })
-}
-
-fn lines_asked<'a>(alloc: Global, given: &ArgMatches<'a>) -> Result<Asked<'a>, AllocError>
-    ensures { IfOk result (AsksFor (codes "lines") (rows_of (found_of given.now))) }
-{
-    Ok(Asked::Lines {
-        op: optional_of(given, "op"),
-        app: word_of(given, "APP"),
-        files: words_of(alloc, given, "FILE")?,
     })
 }
 
@@ -285,10 +247,13 @@ fn limits_asked(given: &ArgMatches<'_>) -> AskedLimits
 fn serve_asked<'a>(alloc: Global, given: &ArgMatches<'a>) -> Result<Asked<'a>, AllocError>
     ensures { IfOk result (AsksFor (codes "serve") (rows_of (found_of given.now))) }
 {
+    let bundles = words_of(alloc, given, "bundles")?;
+    let parents = optional_of(given, "parents");
+    let limits = limits_asked(given);
     Ok(Asked::Serve {
-        parents: optional_of(given, "parents"),
-        bundles: words_of(alloc, given, "bundles")?,
-        limits: limits_asked(given),
+        parents,
+        bundles,
+        limits,
     })
 }
 
@@ -305,14 +270,28 @@ fn command_asked<'a>(
     Ok(Some(match command {
         "compile" => compile_asked(alloc, given)?,
         "check" => check_asked(alloc, given)?,
-        "get" => get_asked(given),
-        "json" => json_asked(given),
-        "text" => text_asked(given),
+        "get" => Asked::Get {
+            file: word_of(given, "FILE"),
+            path: word_of(given, "PATH"),
+        },
+        "json" => Asked::Json {
+            file: word_of(given, "FILE"),
+            path: word_of(given, "PATH"),
+            is_pretty: flag_of(given, "pretty"),
+        },
+        "text" => Asked::Text {
+            file: word_of(given, "FILE"),
+            name: optional_of(given, "name"),
+        },
         "lint" => lint_asked(alloc, given)?,
         "explain" => Asked::Explain {
             word: optional_of(given, "WORD"),
         },
-        "lines" => lines_asked(alloc, given)?,
+        "lines" => Asked::Lines {
+            op: optional_of(given, "op"),
+            app: word_of(given, "APP"),
+            files: words_of(alloc, given, "FILE")?,
+        },
         "look" => look_asked(alloc, given)?,
         "serve" => serve_asked(alloc, given)?,
         _ => return Ok(None),

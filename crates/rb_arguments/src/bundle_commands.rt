@@ -48,14 +48,15 @@ Status:
   1  it isn't, as {\"error\":\"Missing\"}; or a file is refused, as root.txt:2: BadInt
   2  the command line is invalid, or a file or standard output can't be read or written";
 
+/// `--trace`
+fn trace_flag<'a>(alloc: Global) -> Arg<'a> {
+    let help = "say on standard error which bundles were asked, and why";
+    flag(alloc, "trace", help)
+}
+
 /// The options of `look`.
 fn with_options<'a>(alloc: Global, command: Command<'a>) -> Result<Command<'a>, AllocError> {
-    let trace = flag(
-        alloc,
-        "trace",
-        "say on standard error which bundles were asked, and why",
-    );
-    command.arg(parents_option(alloc))?.arg(trace)
+    command.arg(parents_option(alloc))?.arg(trace_flag(alloc))
 }
 
 /// `look LOCALE PATH [LOCALE=]FILE..`

@@ -31,19 +31,23 @@ Status:
      where this or an unreadable file is the fate of any text
   2  the command line is invalid, or a file or standard output can't be read or written";
 
+/// OUT, which may only be left out with `--to`.
+fn output_word<'a>(alloc: Global) -> Result<Arg<'a>, AllocError> {
+    let output = Arg::new(alloc, "OUT").required_unless_present("to")?;
+    Ok(output.help("the file to write; with --to, a further text"))
+}
+
+/// Further texts, with `--to`.
+fn more_texts<'a>(alloc: Global) -> Result<Arg<'a>, AllocError> {
+    let more = Arg::new(alloc, "TEXT").num_args(0..).requires_arg("to")?;
+    Ok(more.help("with --to, further texts"))
+}
+
 /// The texts of `compile`: IN and OUT, or with `--to` any number.
 fn with_texts<'a>(alloc: Global, command: Command<'a>) -> Result<Command<'a>, AllocError> {
-    let output = Arg::new(alloc, "OUT")
-        .required_unless_present("to")?
-        .help("the file to write; with --to, a further text");
-    let more = Arg::new(alloc, "TEXT")
-        .num_args(0..)
-        .requires_arg("to")?
-        .help("with --to, further texts");
-    command
-        .arg(word(alloc, "IN", "a bundle text, in UTF-8"))?
-        .arg(output)?
-        .arg(more)
+    let command = command.arg(word(alloc, "IN", "a bundle text, in UTF-8"))?;
+    let command = command.arg(output_word(alloc)?)?;
+    command.arg(more_texts(alloc)?)
 }
 
 fn compile_command<'a>(alloc: Global) -> Result<Command<'a>, AllocError> {
@@ -89,14 +93,10 @@ Status:
   2  the command line is invalid, the file can't be read, or standard output can't be written";
 
 fn get_command<'a>(alloc: Global) -> Result<Command<'a>, AllocError> {
-    described(
-        alloc,
-        "get",
-        "Prints the item at a path of a .res file",
-        GET_HELP,
-    )
-    .arg(file_word(alloc))?
-    .arg(path_word(alloc))
+    let about = "Prints the item at a path of a .res file";
+    described(alloc, "get", about, GET_HELP)
+        .arg(file_word(alloc))?
+        .arg(path_word(alloc))
 }
 
 /// The end of the help of `text`.
@@ -111,21 +111,33 @@ Status:
   1  the file is refused, as de.res: KeyOrder, or its text would be too large, or out of memory
   2  the command line is invalid, the file can't be read, or standard output can't be written";
 
-fn text_command<'a>(alloc: Global) -> Result<Command<'a>, AllocError> {
-    let name = option(
+/// `--name NAME`
+fn name_option<'a>(alloc: Global) -> Arg<'a> {
+    option(
         alloc,
         "name",
         "NAME",
         "the bundle's name; by default the file's, up to its first full stop",
-    );
-    described(
-        alloc,
-        "text",
-        "Prints a .res file as a bundle text",
-        TEXT_HELP,
     )
-    .arg(file_word(alloc))?
-    .arg(name)
+}
+
+fn text_command<'a>(alloc: Global) -> Result<Command<'a>, AllocError> {
+    let about = "Prints a .res file as a bundle text";
+    described(alloc, "text", about, TEXT_HELP)
+        .arg(file_word(alloc))?
+        .arg(name_option(alloc))
+}
+
+/// `PATH`, which may be left out.
+fn optional_path<'a>(alloc: Global) -> Arg<'a> {
+    Arg::new(alloc, "PATH").help(
+        "keys and indexes, with slashes between them; the whole bundle without it",
+    )
+}
+
+/// `--pretty`
+fn pretty_flag<'a>(alloc: Global) -> Arg<'a> {
+    flag(alloc, "pretty", "a line for each item and member, indented")
 }
 
 /// The end of the help of `json`.
@@ -142,15 +154,11 @@ Status:
   2  the command line is invalid, the file can't be read, or standard output can't be written";
 
 fn json_command<'a>(alloc: Global) -> Result<Command<'a>, AllocError> {
-    let path = Arg::new(alloc, "PATH").help(
-        "keys and indexes, with slashes between them; the whole bundle without it",
-    );
     let about = "Prints a whole .res file, or the item at a path, as one JSON value";
-    let pretty = flag(alloc, "pretty", "a line for each item and member, indented");
     described(alloc, "json", about, JSON_HELP)
         .arg(file_word(alloc))?
-        .arg(path)?
-        .arg(pretty)
+        .arg(optional_path(alloc))?
+        .arg(pretty_flag(alloc))
 }
 
 /// The end of the help of the whole command.

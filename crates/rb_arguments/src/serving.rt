@@ -59,20 +59,29 @@ fn with_bytes<'a>(alloc: Global, command: Command<'a>) -> Result<Command<'a>, Al
     command.arg(app)?.arg(bundle)?.arg(reply)?.arg(line)
 }
 
+/// `--apps N`
+fn apps_option<'a>(alloc: Global) -> Arg<'a> {
+    let help = "the most applications with bundles at one time";
+    limit_option(alloc, "apps", help)
+}
+
+/// `--steps N`
+fn steps_option<'a>(alloc: Global) -> Arg<'a> {
+    limit_option(alloc, "steps", "the most steps of a lookup")
+}
+
+/// `--keep-serving`
+fn keep_flag<'a>(alloc: Global) -> Arg<'a> {
+    let help = "answer a line for which memory is out, and serve on if the bundles are as before";
+    flag(alloc, "keep-serving", help)
+}
+
 /// The limits that aren't in bytes.
 fn with_counts<'a>(alloc: Global, command: Command<'a>) -> Result<Command<'a>, AllocError> {
-    let apps = limit_option(
-        alloc,
-        "apps",
-        "the most applications with bundles at one time",
-    );
-    let steps = limit_option(alloc, "steps", "the most steps of a lookup");
-    let keep = flag(
-        alloc,
-        "keep-serving",
-        "answer a line for which memory is out, and serve on if the bundles are as before",
-    );
-    command.arg(apps)?.arg(steps)?.arg(keep)
+    command
+        .arg(apps_option(alloc))?
+        .arg(steps_option(alloc))?
+        .arg(keep_flag(alloc))
 }
 
 /// `serve [LOCALE=FILE ..]`

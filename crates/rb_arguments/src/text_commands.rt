@@ -17,22 +17,22 @@ Status:
   1  there is a warning, as de.txt:3: warning: .., or an error of a text, as of compile
   2  the command line is invalid, or standard output can't be written";
 
-/// `lint [--root ROOT] TEXT..`
-pub fn lint_command<'a>(alloc: Global) -> Result<Command<'a>, AllocError> {
-    let root = option(
+/// `--root ROOT`
+fn root_option<'a>(alloc: Global) -> Arg<'a> {
+    option(
         alloc,
         "root",
         "ROOT",
         "the bundle text of the root locale, to compare with",
-    );
-    described(
-        alloc,
-        "lint",
-        "Says what is doubtful in bundle texts, and where an error really began",
-        LINT_HELP,
     )
-    .arg(root)?
-    .arg(words(alloc, "TEXT", "a bundle text, in UTF-8"))
+}
+
+/// `lint [--root ROOT] TEXT..`
+pub fn lint_command<'a>(alloc: Global) -> Result<Command<'a>, AllocError> {
+    let about = "Says what is doubtful in bundle texts, and where an error really began";
+    described(alloc, "lint", about, LINT_HELP)
+        .arg(root_option(alloc))?
+        .arg(words(alloc, "TEXT", "a bundle text, in UTF-8"))
 }
 
 /// The end of the help of `explain`.

@@ -155,6 +155,17 @@ fn stream_text<O: Outlet, N: Node>(out: &mut O, node: N, word: &str, valid: &[u8
     }
 }
 
+/// The last members of an item whose own come before its type, and the closing brace.
+fn stream_type_last<O: Outlet>(out: &mut O, word: &str, valid: &[u8])
+    ensures { O.takes out.old out.new (rest_text valid.now (of_type word.now)) }
+{
+    stream_name(out, "type");
+    spell_text(out, word);
+    stream_name(out, "valid");
+    spell_bytes(out, valid);
+    out.put(b"}")
+}
+
 fn stream_int<O: Outlet>(out: &mut O, bits: u32, valid: &[u8])
     ensures { O.takes out.old out.new (rest_text valid.now (item_members (int bits))) }
 {
@@ -188,11 +199,7 @@ fn stream_binary<O: Outlet, N: Node>(out: &mut O, node: N, valid: &[u8])
 {
     stream_name(out, "hex");
     spell_hex(out, node);
-    stream_name(out, "type");
-    spell_text(out, "bin");
-    stream_name(out, "valid");
-    spell_bytes(out, valid);
-    out.put(b"}")
+    stream_type_last(out, "bin", valid)
 }
 
 fn stream_array<O: Outlet, N: Node>(out: &mut O, node: N, valid: &[u8])
@@ -201,11 +208,7 @@ fn stream_array<O: Outlet, N: Node>(out: &mut O, node: N, valid: &[u8])
 {
     stream_name(out, "len");
     spell_unsigned(out, node.len() as u64);
-    stream_name(out, "type");
-    spell_text(out, "array");
-    stream_name(out, "valid");
-    spell_bytes(out, valid);
-    out.put(b"}")
+    stream_type_last(out, "array", valid)
 }
 
 fn stream_table<O: Outlet, N: Node>(out: &mut O, node: N, valid: &[u8])
@@ -214,11 +217,7 @@ fn stream_table<O: Outlet, N: Node>(out: &mut O, node: N, valid: &[u8])
 {
     stream_name(out, "keys");
     stream_keys(out, node);
-    stream_name(out, "type");
-    spell_text(out, "table");
-    stream_name(out, "valid");
-    spell_bytes(out, valid);
-    out.put(b"}")
+    stream_type_last(out, "table", valid)
 }
 
 fn stream_members<O: Outlet, N: Node>(out: &mut O, node: N, valid: &[u8])

@@ -151,34 +151,21 @@ pub fn handle(
     ensures { CallComesTo limits.now engine.old (Requests request)
         (reply_outcome result) engine.new }
 {
-    match request {
+    let (kind, app, locale, payload) = match request {
         Request::Install {
             app,
             locale,
             payload,
-        } => change(
-            engine,
-            alloc,
-            limits,
-            Change::Install,
-            &app,
-            &locale,
-            payload,
-        ),
+        } => (Change::Install, app, locale, payload),
         Request::Replace {
             app,
             locale,
             payload,
-        } => change(
-            engine,
-            alloc,
-            limits,
-            Change::Replace,
-            &app,
-            &locale,
-            payload,
-        ),
-        Request::Remove { app, locale } => Limited::Answer(engine.remove(&app, &locale)),
-        Request::List { app } => Limited::Answer(engine.list(alloc, &app)),
-    }
+        } => (Change::Replace, app, locale, payload),
+        Request::Remove { app, locale } => {
+            return Limited::Answer(engine.remove(&app, &locale));
+        }
+        Request::List { app } => return Limited::Answer(engine.list(alloc, &app)),
+    };
+    change(engine, alloc, limits, kind, &app, &locale, payload)
 }

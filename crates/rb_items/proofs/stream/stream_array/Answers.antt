@@ -11,10 +11,8 @@ pub returns : goal.returns
 returns g c =
     let t = g.N.Node.tree c.args.node in
     let taken = member_taken g.O.Outlet.takes g.met.O.Outlet.joined in
-    let m2 = member (codes "valid") (text_data c.args.valid.now) no_members in
-    let m1 = member (codes "type") (string (codes "array")) m2 in
-    subst (λ (ms : Members). g.O.Outlet.takes c.args.out.now c.put.new.self (rest_text c.args.valid.now ms)) (sym (array_members t c.requires))
-    (taken c.args.out.now c.stream_name.new.out c.spell_unsigned.new.out c.put.new.self true (codes "len") (number (unsigned (len_of t))) m1 c.stream_name.ensures (rw c.len.ensures at c.spell_unsigned.ensures)
-    (taken c.spell_unsigned.new.out c.stream_name-2.new.out c.spell_text.new.out c.put.new.self true (codes "type") (string (codes "array")) m2 c.stream_name-2.ensures c.spell_text.ensures
-    (taken c.spell_text.new.out c.stream_name-3.new.out c.spell_bytes.new.out c.put.new.self true (codes "valid") (text_data c.args.valid.now) no_members c.stream_name-3.ensures c.spell_bytes.ensures
-    c.put.ensures)))
+    let end = c.stream_type_last.new.out in
+    let m1 = member (codes "type") (string (codes "array")) (member (codes "valid") (text_data c.args.valid.now) no_members) in
+    subst (λ (ms : Members). g.O.Outlet.takes c.args.out.now end (rest_text c.args.valid.now ms)) (sym (array_members t c.requires))
+    (taken c.args.out.now c.stream_name.new.out c.spell_unsigned.new.out end true (codes "len") (number (unsigned (len_of t))) m1 c.stream_name.ensures
+    (rw c.len.ensures at c.spell_unsigned.ensures) c.stream_type_last.ensures)
