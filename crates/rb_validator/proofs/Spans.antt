@@ -1,5 +1,5 @@
 -- Runs of items that are split, and those that were looked at before.
-use Rattle.std.proofs.Common.{◌≡◌, ◌≢◌, ℕ, zero, suc, ◌+◌, ◌-◌, ◌<◌, ◌≤◌, max, Bool, true, false, cond, leb, List, length, set, All, Contains, Result, Ok}
+use Rattle.std.proofs.Common.{◌≡◌, ◌≢◌, ℕ, zero, suc, ◌+◌, ◌-◌, ◌<◌, ◌≤◌, max, Bool, true, false, cond, leb, List, [], length, set, All, Contains, Result, Ok}
 use Rattle.std.proofs.Common.{Err, refl, sym, ap, subst, ◌∙◌, arith, inl, inr}
 use Rattle.std.specs.Prelude.{◌⊎◌}
 use Rattle.std.proofs.lemmas.Bool.{le-leb, lt-leb}
@@ -14,7 +14,9 @@ use Rattle.rb_format.specs.inner.FirstFault.{◌>>=◌, result_map, limited, rea
 use Rattle.rb_format.proofs.Steps.{bind_ok, ok_is}
 use Rattle.rb_format.proofs.Levels.{read-limited, trees-limited}
 use Rattle.rb_validator.specs.declared.runs.Run.{Run}
-use Rattle.rb_validator.specs.inner.Marks.{IsKnown, Leads, run_of, IsRunKnown, IsRun, IsRunOf, AreRuns}
+use Rattle.rb_validator.specs.inner.Marks.{IsKnown, Leads, run_of, IsRunKnown, IsRun, IsRunOf}
+use Rattle.rb_validator.specs.inner.KnownRuns.{KnownRuns, AreRuns, SaysNothing}
+use Rattle.rb_validator.specs.inner.Leaves.{AreLeaves}
 use Rattle.rb_validator.proofs.Cells.{known_set}
 use Rattle.rb_validator.proofs.Ways.{leads_map}
 use Rattle.rb_validator.proofs.Entering.{above, items_none}
@@ -217,23 +219,32 @@ run_map y body cells after from n h f r = record {
       λ i l. f (word_at body (from + i)) (r.known i l);
 }
 
-pub runs_set : (y : Layout) (body cells : List ℕ) (p v : ℕ) (runs : List Run) → v ≢ 0 → p < length cells → AreRuns y body cells runs
+pub runs_set : (y : Layout) (body cells : List ℕ) (p v : ℕ) (runs : KnownRuns) → v ≢ 0 → p < length cells → AreRuns y body cells runs
     → AreRuns y body (set cells p v) runs
-runs_set y body cells p v runs f l h = All-weaker (IsRunOf y body cells) (IsRunOf y body (set cells p v))
-    (λ r q. run_map y body cells (set cells p v) r.first r.count r.height (λ w k. known_set cells p v w f l k) q) runs h
+runs_set y body cells p v runs f l h = record {
+  kept = All-weaker (IsRunOf y body cells) (IsRunOf y body (set cells p v))
+      (λ r q. run_map y body cells (set cells p v) r.first r.count r.height (λ w k. known_set cells p v w f l k) q) runs.kept h.kept;
+  leaves = h.leaves;
+}
 
 -- a run of no items
 none_run : (y : Layout) (body cells : List ℕ) (from n h : ℕ) → n ≡ 0 → h ≡ 0 → IsRun y body cells from n h
 unfolding trees
 none_run y body cells from n h e f = rw (e, f) (record { items = no_trees; level = 0; is = refl; high = refl; known = λ i l. absurd (omega arith) })
 
-pub runs_none : (y : Layout) (body cells : List ℕ) (runs : List Run) → All (λ r. r.count ≡ 0 × r.height ≡ 0) runs → AreRuns y body cells runs
-runs_none y body cells runs h = All-weaker (λ r. r.count ≡ 0 × r.height ≡ 0) (IsRunOf y body cells)
-    (λ r q. none_run y body cells r.first r.count r.height q.0 q.1) runs h
+kept_none : (y : Layout) (body cells : List ℕ) (kept : List Run) → SaysNothing kept → All (IsRunOf y body cells) kept
+kept_none y body cells kept h = All-weaker (λ r. r.count ≡ 0 × r.height ≡ 0) (IsRunOf y body cells)
+    (λ r q. none_run y body cells r.first r.count r.height q.0 q.1) kept h
 
-pub kept_run : (y : Layout) (body cells : List ℕ) (runs : List Run) (from n h : ℕ) → AreRuns y body cells runs
-    → Contains runs (record { first = from; count = n; height = h }) → IsRun y body cells from n h
-kept_run y body cells runs from n h k c = All-contains (IsRunOf y body cells) runs (record { first = from; count = n; height = h }) k c
+pub runs_none : (y : Layout) (body cells : List ℕ) (runs : KnownRuns) → SaysNothing runs.kept → runs.leaves ≡ [] → AreRuns y body cells runs
+runs_none y body cells runs h e = record {
+  kept = kept_none y body cells runs.kept h;
+  leaves = subst (AreLeaves y body) (sym e) (λ u w a b. absurd (omega arith));
+}
+
+pub kept_run : (y : Layout) (body cells : List ℕ) (runs : KnownRuns) (from n h : ℕ) → AreRuns y body cells runs
+    → Contains runs.kept (record { first = from; count = n; height = h }) → IsRun y body cells from n h
+kept_run y body cells runs from n h k c = All-contains (IsRunOf y body cells) runs.kept (record { first = from; count = n; height = h }) k.kept c
 
 -- the parts make the run
 pub made_run : (y : Layout) (body cells : List ℕ) (left from n h : ℕ) → Ok h ≡ result_map trees_height (run_of y body left from n)
@@ -241,16 +252,19 @@ pub made_run : (y : Layout) (body cells : List ℕ) (left from n h : ℕ) → Ok
 made_run y body cells left from n h e k = let t = trees_ok (run_of y body left from n) h e in
     record { items = t.0; level = left; is = t.1; high = t.2; known = k }
 
-pub runs_kept : (y : Layout) (body cells : List ℕ) (runs after : List Run) (at from n h : ℕ) → AreRuns y body cells runs → IsRun y body cells from n h
-    → (after ≡ runs) ⊎ (after ≡ set runs at (record { first = from; count = n; height = h })) → AreRuns y body cells after
+pub runs_kept : (y : Layout) (body cells : List ℕ) (runs after : KnownRuns) (at from n h : ℕ) → AreRuns y body cells runs → IsRun y body cells from n h
+    → (after ≡ runs) ⊎ (after ≡ record runs { kept = set runs.kept at (record { first = from; count = n; height = h }) }) → AreRuns y body cells after
 runs_kept y body cells runs after at from n h k r e = elim e [
   | inl q ↦ rw q k
-  | inr q ↦ rw q (All-set (IsRunOf y body cells) runs at (record { first = from; count = n; height = h }) r k)
+  | inr q ↦ rw q (record {
+    kept = All-set (IsRunOf y body cells) runs.kept at (record { first = from; count = n; height = h }) r k.kept;
+    leaves = k.leaves;
+  })
 ]
 
-pub runs_ready : (y : Layout) (body cells : List ℕ) (runs after : List Run) → AreRuns y body cells runs
-    → (after ≡ runs) ⊎ All (λ r. r.count ≡ 0 × r.height ≡ 0) after → AreRuns y body cells after
+pub runs_ready : (y : Layout) (body cells : List ℕ) (runs after : KnownRuns) → AreRuns y body cells runs
+    → (after ≡ runs) ⊎ (SaysNothing after.kept × AreLeaves y body after.leaves) → AreRuns y body cells after
 runs_ready y body cells runs after h e = elim e [
   | inl q ↦ rw q h
-  | inr q ↦ runs_none y body cells after q
+  | inr q ↦ record { kept = kept_none y body cells after.kept q.0; leaves = q.1 }
 ]

@@ -1,7 +1,6 @@
 //! What is checked, and the answer of a check.
 ghost use Rattle.std.specs.Prelude.{◌≡◌, ◌*◌, ◌≤◌, length};
 ghost use Rattle.rb_validator.specs.inner.KnownKeys.{key_run};
-ghost use Rattle.rb_validator.specs.inner.Leaves.{AreLeaves};
 
 use rb_format::{FileFault, Layout};
 
@@ -10,10 +9,6 @@ use rb_format::{FileFault, Layout};
 pub struct Body<'a> {
     pub layout: &'a Layout,
     pub bytes: &'a [u8],
-    /// For each unit how many units from it on have leaves alone, or nothing if they weren't
-    /// counted.
-    pub leaves: &'a [u32],
-    ghost counted: { AreLeaves layout.now bytes.now leaves.now },
 }
 
 /// What a check finds, or the first fault.

@@ -4,17 +4,17 @@ ghost use Rattle.std.specs.Prelude.{IfErr, MatchResult};
 ghost use Rattle.rb_tree.specs.Resource.{height};
 ghost use Rattle.rb_format.specs.inner.FirstFault.{result_map, read};
 ghost use Rattle.rb_validator.specs.inner.KnownKeys.{IsSound};
-ghost use Rattle.rb_validator.specs.inner.Marks.{marked, IsFresh};
+ghost use Rattle.rb_validator.specs.inner.Marks.{marked};
 ghost use Rattle.rb_format.specs.inner.FirstFault.{fault_of, read_data, read_file};
 ghost use Rattle.rb_format.specs.Place as fields;
 ghost use Rattle.rb_validator.specs.TextBlocks.{AreSegmentBlocks};
+ghost use Rattle.rb_validator.specs.inner.KnownRuns.{IsFresh};
 ghost use Rattle.rb_validator.specs.inner.Noted.{blocks_noted, looked_noted};
 ghost use Rattle.rb_validator.specs.Visits.{IsPlaceAt, IsCount, HasVisits};
 ghost use Rattle.rb_format.specs.Limits.{file_limit};
 
 use crate::body::{Body, Checked};
 use crate::items::check_item;
-use crate::leaf_runs::count_leaves;
 use crate::notes::{Notes, noted};
 use crate::state::CheckState;
 use crate::text_blocks::segment_blocks;
@@ -97,8 +97,7 @@ fn check_root(body: Body<'_>, state: &mut CheckState, root: u32) -> Checked<u8>
     Ok(height)
 }
 
-/// The checks of data with these bounds. If items overlap, they begin again once the leaves are
-/// counted.
+/// The checks of data with these bounds.
 fn check_tree(alloc: Global, body: Body<'_>, root: u32) -> Checked<Findings>
     requires short { length body.bytes.now ≤ file_limit }
     requires room { 4 * body.layout.now.top ≤ length body.bytes.now }
@@ -116,22 +115,6 @@ fn check_tree(alloc: Global, body: Body<'_>, root: u32) -> Checked<Findings>
     let Ok(mut state) = CheckState::new(alloc, body) else {
         return Err(FileFault::Memory);
     };
-    let found = check_root(body, &mut state, root);
-    if !state.runs.has_stopped {
-        found?;
-        return found_of(alloc, body, &state);
-    }
-    let Ok(leaves) = count_leaves(alloc, body) else {
-        return Err(FileFault::Memory);
-    };
-    let body = Body {
-        layout: body.layout,
-        bytes: body.bytes,
-        leaves: &leaves,
-    };
-    if state.begin_again(alloc, body).is_err() {
-        return Err(FileFault::Memory);
-    }
     check_root(body, &mut state, root)?;
     found_of(alloc, body, &state)
 }
@@ -162,7 +145,6 @@ fn check_data(alloc: Global, minor: u8, body: &[u8]) -> Checked<Findings>
     let body = Body {
         layout: &layout,
         bytes: body,
-        leaves: &[],
     };
     check_tree(alloc, body, root)
 }

@@ -7,12 +7,12 @@ ghost use Rattle.rb_format.specs.Place as fields;
 ghost use Rattle.rb_tree.specs.Resource.{height, trees_height};
 ghost use Rattle.rb_validator.specs.inner.KnownKeys.{IsSound};
 ghost use Rattle.rb_validator.specs.inner.Marks.{mark_at, IsKnown, IsMet, Keeps, Leads, After};
-ghost use Rattle.rb_validator.specs.inner.Marks.{AreRuns, run_of, IsRunKnown};
+ghost use Rattle.rb_validator.specs.inner.Marks.{run_of, IsRunKnown};
+ghost use Rattle.rb_validator.specs.inner.KnownRuns.{AreRuns};
 ghost use Rattle.rb_format.specs.Geometry as geometry;
 
 use crate::body::{Body, Checked};
 use crate::children::{Children, find_children, has_children};
-use crate::leaf_runs::is_leaf_run;
 use crate::leaves::{check_leaf, check_offset};
 use crate::memo::Mark;
 use crate::state::CheckState;
@@ -146,7 +146,7 @@ fn check_items(body: Body<'_>, state: &mut CheckState, items: Children, left: u8
         (λ _. IsRunKnown body.entry.bytes.now state.new.memo items.first items.count) }
 {
     let Children { first, count } = items;
-    let Ok(is_plain) = state.runs.is_plain(count) else {
+    let Ok(is_plain) = state.runs.is_plain(body, count) else {
         return Err(FileFault::Memory);
     };
     if is_plain {
@@ -157,10 +157,10 @@ fn check_items(body: Body<'_>, state: &mut CheckState, items: Children, left: u8
         }
         return Ok(height);
     }
-    if 0 < left && is_leaf_run(body.leaves, first, count) {
+    if 0 < left && state.runs.are_leaves(first, count) {
         return Ok(1);
     }
-    let parts = state.runs.split(body.leaves, first, count);
+    let parts = state.runs.split(first, count);
     if let Some(height) = state.runs.height(parts, first, count) {
         if height <= left {
             return Ok(height);

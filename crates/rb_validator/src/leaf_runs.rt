@@ -9,13 +9,15 @@ use crate::body::Body;
 use crate::children::has_children;
 use crate::leaves::{check_leaf, check_offset};
 use crate::lists::number_at;
+use crate::text_blocks::is_long_alias;
 use rb_format::{item_kind, item_offset, word_at};
 use std::alloc::{AllocError, Global};
 
 /// This many words are a unit.
 pub const UNIT: usize = 32;
 
-/// Whether an item is a leaf without a fault.
+/// Whether an item is a leaf without an error. A long alias isn't one of these, since it is noted
+/// when it is checked by itself.
 fn is_leaf(body: Body<'_>, item: u32) -> bool
     requires { 4 * body.layout.now.top ≤ length body.bytes.now }
     ensures { result ≡ true → IsLeaf body.entry.layout.now body.entry.bytes.now item }
@@ -26,7 +28,12 @@ fn is_leaf(body: Body<'_>, item: u32) -> bool
     let offset = item_offset(item);
     match check_offset(body.layout, kind, offset) {
         Ok(false) => true,
-        Ok(true) => !has_children(kind) && check_leaf(body, kind, offset).is_ok(),
+        Ok(true) => {
+            if is_long_alias(body, kind, offset) {
+                return false;
+            }
+            !has_children(kind) && check_leaf(body, kind, offset).is_ok()
+        }
         Err(_) => false,
     }
 }

@@ -4,10 +4,15 @@
 //! number. What is found from a block's first word up to the end of a unit is kept, and what is
 //! found from a unit's first word up to the end of a block, so that it is found once.
 ghost use Rattle.std.specs.Prelude.{◌≡◌, ◌⊎◌, true, ◌+◌, ◌*◌, ◌≤◌, ◌<◌, ◌/◌, ◌^◌, List, All};
-ghost use Rattle.std.specs.Prelude.{Contains, slice_set, IfOk, IfSome};
+ghost use Rattle.std.specs.Prelude.{Contains, slice_set, IfOk, IfSome, ℕ, [], length};
+ghost use Rattle.rb_format.specs.Place as fields;
+ghost use Rattle.rb_format.specs.declared.layout.Layout.{Layout as Bounds};
 ghost use Rattle.rb_validator.specs.declared.runs.Run.{Run};
+ghost use Rattle.rb_validator.specs.inner.KnownRuns.{SaysNothing};
+ghost use Rattle.rb_validator.specs.inner.Leaves.{AreLeaves, IsLeaf};
 
-use crate::leaf_runs::{UNIT, leaf_middle};
+use crate::body::Body;
+use crate::leaf_runs::{UNIT, count_leaves, is_leaf_run, leaf_middle};
 use std::alloc::{AllocError, Global};
 use std::marker::Model;
 
@@ -32,53 +37,68 @@ pub struct Parts {
     pub slot: usize,
 }
 
-/// What was found of runs, by their slots. Nothing is kept before as many items were checked as the
-/// file has words: no file whose tables and arrays do not overlap gets there.
+/// What is known of runs. Nothing is before as many items were checked as the file has words: no
+/// file whose tables and arrays do not overlap gets there. Then the leaves are counted, and what is
+/// found of other runs is kept, by their slots.
 #[derive(Drop)]
 pub struct Runs {
     alloc: Global,
     runs: Vec<Run>,
+    /// For each unit how many units from it on have leaves alone.
+    leaves: Vec<u32>,
     top: usize,
     /// How many items may still be checked one by one.
     budget: usize,
-    /// Whether a check stops there, so that the leaves are counted first.
-    stops: bool,
-    /// Whether it has stopped.
-    pub has_stopped: bool,
 }
 
 impl Model for Runs {
-    ghost Value = { List Run };
+    ghost use Rattle.rb_validator.specs.inner.KnownRuns.{KnownRuns};
 
-    ghost view = { λ r. r.runs.items };
+    ghost Value = { KnownRuns };
+
+    ghost use Rattle.std.specs.Coded.{codes};
+
+    ghost coded = { Prim.hlevel codes };
+
+    ghost view = { λ r. record { kept = r.runs.items; leaves = r.leaves.items } };
 }
 
 impl Runs {
     /// Nothing is known of the items below the top.
-    pub fn new(alloc: Global, top: u32, stops: bool) -> Runs
-        ensures { All (λ run. run.count ≡ 0 × run.height ≡ 0) result }
+    pub fn new(alloc: Global, top: u32) -> Runs
+        ensures kept { SaysNothing result.kept }
+        ensures leaves { result.leaves ≡ [] }
     {
         Runs {
             alloc,
             runs: Vec::new(alloc),
+            leaves: Vec::new(alloc),
             top: top as usize,
             budget: top as usize,
-            stops,
-            has_stopped: false,
         }
+    }
+
+    /// Whether there are items, and all are known to be leaves.
+    pub fn are_leaves(&self, first: usize, count: usize) -> bool
+        ensures some { result ≡ true → 0 < count }
+        ensures leaves { result ≡ true → (y : Bounds) (body : List ℕ)
+            → AreLeaves y body self.now.leaves → (w : ℕ) → first ≤ w → w < first + count
+            → IsLeaf y body (fields.word_at body w) }
+    {
+        is_leaf_run(&self.leaves, first, count)
     }
 
     /// Splits a run. If all its whole units have leaves alone, these are split off. Else a run that
     /// begins and ends with whole units in its block is kept, and split at the middle of the block;
     /// from another its units are split off.
-    pub fn split(&self, leaves: &[u32], first: usize, count: usize) -> Parts
+    pub fn split(&self, first: usize, count: usize) -> Parts
         requires long { 1 < count }
         requires small { first + count < 2 ^ 50 }
         ensures low { first < result.middle }
         ensures high { result.middle < first + count }
     {
         let stop = first + count;
-        if let Some(middle) = leaf_middle(leaves, first, count) {
+        if let Some(middle) = leaf_middle(&self.leaves, first, count) {
             return Parts {
                 middle: middle.max(first + 1).min(stop - 1),
                 is_kept: false,
@@ -108,11 +128,12 @@ impl Runs {
     }
 
     /// Whether this many more items are checked one by one: a few of them, or those within the
-    /// budget. An error if memory runs out, or if the check stops here.
-    pub fn is_plain(&mut self, count: usize) -> Result<bool, AllocError>
+    /// budget. Where that ends the leaves are counted; an error if memory runs out.
+    pub fn is_plain(&mut self, body: Body<'_>, count: usize) -> Result<bool, AllocError>
+        requires { 4 * body.layout.now.top ≤ length body.bytes.now }
         ensures long { IfOk result (λ plain. (plain ≡ true) ⊎ (1 < count)) }
-        ensures runs { (self.new ≡ self.old)
-            ⊎ All (λ run. run.count ≡ 0 × run.height ≡ 0) self.new }
+        ensures runs { (self.new ≡ self.old) ⊎ (SaysNothing self.new.kept
+            × AreLeaves body.entry.layout.now body.entry.bytes.now self.new.leaves) }
     {
         if count <= self.budget {
             self.budget -= count;
@@ -121,19 +142,17 @@ impl Runs {
         if count <= UNIT {
             return Ok(true);
         }
-        if self.stops {
-            self.has_stopped = true;
-            return Err(AllocError);
-        }
         if self.runs.is_empty() {
-            self.start()?;
+            self.start(body)?;
         }
         Ok(false)
     }
 
-    /// Makes room for what is found.
-    fn start(&mut self) -> Result<(), AllocError>
-        ensures { (self.new ≡ self.old) ⊎ All (λ run. run.count ≡ 0 × run.height ≡ 0) self.new }
+    /// Counts the leaves, and makes room for what is found.
+    fn start(&mut self, body: Body<'_>) -> Result<(), AllocError>
+        requires { 4 * body.layout.now.top ≤ length body.bytes.now }
+        ensures { (self.new ≡ self.old) ⊎ (SaysNothing self.new.kept
+            × AreLeaves body.entry.layout.now body.entry.bytes.now self.new.leaves) }
     {
         let none = Run {
             first: 0,
@@ -144,7 +163,10 @@ impl Runs {
         let slots = self
             .units()
             .saturating_mul(levels.saturating_sub(UNIT_LEVEL - 1));
-        self.runs = vec![in self.alloc; none; slots]?;
+        let leaves = count_leaves(self.alloc, body)?;
+        let runs = vec![in self.alloc; none; slots]?;
+        self.leaves = leaves;
+        self.runs = runs;
         Ok(())
     }
 
@@ -166,7 +188,7 @@ impl Runs {
     /// The greatest height of a run's items, if it is known.
     pub fn height(&self, parts: Parts, first: usize, count: usize) -> Option<u8>
         ensures { IfSome result
-            (λ h. Contains self.now (record { first = first; count = count; height = h })) }
+            (λ h. Contains self.now.kept (record { first = first; count = count; height = h })) }
     {
         if !parts.is_kept {
             return None;
@@ -181,8 +203,10 @@ impl Runs {
 
     /// Keeps the greatest height of a run's items, if the run is one of those that are kept.
     pub fn keep(&mut self, parts: Parts, first: usize, count: usize, height: u8)
-        ensures { (self.new ≡ self.old) ⊎ (self.new ≡ slice_set self.old parts.slot
-            (record { first = first; count = count; height = height })) }
+        ensures { (self.new ≡ self.old) ⊎ (self.new ≡ record self.old {
+          kept = slice_set self.old.kept
+              parts.slot (record { first = first; count = count; height = height });
+        }) }
     {
         if parts.is_kept
             && let Ok(first) = u32::try_from(first)

@@ -2,14 +2,14 @@
 ghost use Rattle.std.specs.Prelude.{◌≡◌, ◌≤◌, ◌<◌, ◌*◌, ℕ, IfOk, length, slice_index};
 ghost use Rattle.rb_format.specs.Limits.{file_limit};
 ghost use Rattle.rb_validator.specs.inner.KnownKeys.{IsSound};
-ghost use Rattle.rb_validator.specs.inner.Marks.{IsFresh};
+ghost use Rattle.rb_validator.specs.inner.KnownRuns.{IsFresh};
 
 use crate::body::Body;
 use crate::key_checker::KeyChecker;
 use crate::memo::Memo;
 use crate::runs::Runs;
-use crate::text_blocks::BLOCK;
-use rb_format::{ItemKind, word_at};
+use crate::text_blocks::is_long_alias;
+use rb_format::ItemKind;
 use std::alloc::{AllocError, Global};
 
 /// The marks of the tables and arrays, the runs of items whose height is known, and what is known
@@ -24,7 +24,7 @@ pub struct CheckState {
 }
 
 impl CheckState {
-    /// Nothing is known. A check with this state stops if items overlap.
+    /// Nothing is known.
     pub fn new(alloc: Global, body: Body<'_>) -> Result<CheckState, AllocError>
         requires { length body.bytes.now ≤ file_limit }
         ensures fresh { IfOk result (λ s. IsFresh body.entry.layout.now s.memo s.runs) }
@@ -33,21 +33,10 @@ impl CheckState {
     {
         Ok(CheckState {
             memo: Memo::new(alloc, body.layout.top)?,
-            runs: Runs::new(alloc, body.layout.top, true),
+            runs: Runs::new(alloc, body.layout.top),
             keys: KeyChecker::new(alloc, body),
             has_long_alias: false,
         })
-    }
-
-    /// Forgets all but what is known of the keys. A check with this state doesn't stop.
-    pub fn begin_again(&mut self, alloc: Global, body: Body<'_>) -> Result<(), AllocError>
-        ensures fresh { IfOk result
-            (λ _. IsFresh body.entry.layout.now self.new.memo self.new.runs) }
-        ensures keys { self.new.keys ≡ self.old.keys }
-    {
-        self.memo = Memo::new(alloc, body.layout.top)?;
-        self.runs = Runs::new(alloc, body.layout.top, false);
-        Ok(())
     }
 
     /// Takes note of an item with data and without children.
@@ -59,7 +48,7 @@ impl CheckState {
         ensures runs { self.new.runs ≡ self.old.runs }
         ensures keys { self.new.keys ≡ self.old.keys }
     {
-        if kind == ItemKind::Alias && word_at(body.bytes, offset as usize) as usize >= BLOCK {
+        if is_long_alias(body, kind, offset) {
             self.has_long_alias = true;
         }
     }

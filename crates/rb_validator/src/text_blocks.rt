@@ -6,11 +6,20 @@ ghost use Rattle.rb_tree.specs.Path as path;
 ghost use Rattle.rb_format.specs.Place as fields;
 ghost use Rattle.rb_validator.specs.TextBlocks.{AreSegmentBlocks};
 
-use rb_format::half_at;
+use crate::body::Body;
+use rb_format::{ItemKind, half_at, word_at};
 use std::alloc::{AllocError, Global};
 
 /// How many half words a block has.
-pub const BLOCK: usize = 1024;
+const BLOCK: usize = 1024;
+
+/// Whether a value with data is an Alias whose text is as long as a block.
+pub fn is_long_alias(body: Body<'_>, kind: ItemKind, offset: u32) -> bool
+    requires room { 4 * body.layout.now.top ≤ length body.bytes.now }
+    requires below { offset < body.layout.now.top }
+{
+    kind == ItemKind::Alias && word_at(body.bytes, offset as usize) as usize >= BLOCK
+}
 
 /// Whether a unit may stand between slashes: printable ASCII, and no slash.
 fn is_segment_unit(unit: u16) -> bool

@@ -119,13 +119,3 @@ pub record IsRun (y : Layout) (body cells : List ℕ) (from n h : ℕ) : Type 0 
 
 abbrev pub IsRunOf : Layout → List ℕ → List ℕ → Run → Type 0
 IsRunOf y body cells r = IsRun y body cells r.first r.count r.height
-
--- what is true of the runs at all times
-abbrev pub AreRuns : Layout → List ℕ → List ℕ → List Run → Type 0
-AreRuns y body cells runs = All (IsRunOf y body cells) runs
-
--- nothing was entered, and nothing is kept
-pub record IsFresh (y : Layout) (cells : List ℕ) (runs : List Run) : Type 0 where
-  pub long : length cells ≡ 3 * y.top
-  pub fresh : (n : ℕ) → slice_index cells n ≡ 0
-  pub none : All (λ run. run.count ≡ 0 × run.height ≡ 0) runs

@@ -15,9 +15,4 @@ few_places body top visits short room is counted =
 pub found_of-requires-clause-few_visits : goal.found_of-requires-clause-few_visits
 found_of-requires-clause-few_visits c =
     few_places c.args.body.bytes.now c.args.body.layout.now.top _ c.requires.short c.requires.room (ap (λ y. y.top) c.requires.layout)
-    c.in_ok-found.ensures.visits
-
-pub found_of-requires-2-clause-few_visits : goal.found_of-requires-2-clause-few_visits
-found_of-requires-2-clause-few_visits c =
-    few_places c.args.body.bytes.now c.args.body.layout.now.top _ c.requires.short c.requires.room (ap (λ y. y.top) c.requires.layout)
     c.in_ok-check_root.ensures.visits

@@ -182,20 +182,22 @@ check_items-returns-then-is_plain-clause-value t c =
 
 -- ---- several items, of which it is known that they are leaves
 
-pub check_items-returns-then-is_leaf_run-clause-value : goal.check_items-returns-then-is_leaf_run-clause-value
-check_items-returns-then-is_leaf_run-clause-value t c =
+pub check_items-returns-then-are_leaves-clause-value : goal.check_items-returns-then-are_leaves-clause-value
+check_items-returns-then-are_leaves-clause-value t c =
     let y = c.args.body.layout.now in let body = c.args.body.bytes.now in
-    inr (leaf_value y body c.args.left c.args.items.first c.args.items.count (omega arith) (c.is_leaf_run.ensures.some c.if-is_leaf_run.true)
-    (c.is_leaf_run.ensures.leaves c.if-is_leaf_run.true y body c.args.body.counted))
+    let ready = runs_ready y body c.args.state.now.memo c.args.state.now.runs c.is_plain.new.self c.requires.holds c.is_plain.ensures.runs in
+    inr (leaf_value y body c.args.left c.args.items.first c.args.items.count (omega arith) (c.are_leaves.ensures.some c.if-are_leaves.true)
+    (c.are_leaves.ensures.leaves c.if-are_leaves.true y body ready.leaves))
 
-pub check_items-returns-then-is_leaf_run-clause-holds : goal.check_items-returns-then-is_leaf_run-clause-holds
-check_items-returns-then-is_leaf_run-clause-holds t c =
+pub check_items-returns-then-are_leaves-clause-holds : goal.check_items-returns-then-are_leaves-clause-holds
+check_items-returns-then-are_leaves-clause-holds t c =
     runs_ready c.args.body.layout.now c.args.body.bytes.now c.args.state.now.memo c.args.state.now.runs c.is_plain.new.self c.requires.holds c.is_plain.ensures.runs
 
-pub check_items-returns-then-is_leaf_run-clause-known : goal.check_items-returns-then-is_leaf_run-clause-known
-check_items-returns-then-is_leaf_run-clause-known t c =
+pub check_items-returns-then-are_leaves-clause-known : goal.check_items-returns-then-are_leaves-clause-known
+check_items-returns-then-are_leaves-clause-known t c =
     let y = c.args.body.layout.now in let body = c.args.body.bytes.now in
-    leaf_known y body c.args.state.now.memo c.args.items.first c.args.items.count (c.is_leaf_run.ensures.leaves c.if-is_leaf_run.true y body c.args.body.counted)
+    let ready = runs_ready y body c.args.state.now.memo c.args.state.now.runs c.is_plain.new.self c.requires.holds c.is_plain.ensures.runs in
+    leaf_known y body c.args.state.now.memo c.args.items.first c.args.items.count (c.are_leaves.ensures.leaves c.if-are_leaves.true y body ready.leaves)
 
 -- ---- several items, in two parts
 

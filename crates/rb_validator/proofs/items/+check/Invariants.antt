@@ -4,7 +4,8 @@ use Rattle.rb_format.specs.declared.fault.FileFault.TheVariants.{TooDeep}
 use Rattle.rb_format.specs.inner.FirstFault.{result_map}
 use Rattle.rb_format.specs.Place as fields
 use Rattle.rb_validator.specs.inner.KnownKeys.{IsSound}
-use Rattle.rb_validator.specs.inner.Marks.{IsKnown, Leads, After, AreRuns, run_of}
+use Rattle.rb_validator.specs.inner.Marks.{IsKnown, Leads, After, run_of}
+use Rattle.rb_validator.specs.inner.KnownRuns.{AreRuns}
 use Rattle.rb_validator.proofs.items.+check.Given as goal
 
 -- 2 ^ 66 for a level, and below it a run's length
