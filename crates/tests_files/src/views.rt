@@ -3,7 +3,7 @@ ghost use Rattle.std.specs.Prelude.{◌≤◌};
 
 use crate::made::chain;
 use crate::samples::{EVERY_TYPE, SUFFIX_KEY, bytes_of};
-use crate::writer::{file, numbered, numbered_key};
+use crate::writer::{file, file_of_alias, numbered, numbered_key};
 use rb_tree::{Ending, Kind, Node, path_ok, walk};
 use rb_validator::{Bundle, accept};
 use rb_views::{Ints, Item, Table, Units, root};
@@ -215,4 +215,26 @@ fn walks_down(alloc: Global, arrays: u32) -> bool
 fn a_walk_goes_through_nested_arrays(rt: HostRuntime) {
     assert!(rt; walks_down(rt.alloc(), 30));
     assert!(rt; walks_down(rt.alloc(), 62));
+}
+
+/// How many blocks are marked of a file with an alias of so many letters, and how many of these
+/// needn't be read from one on.
+fn passed_over(alloc: Global, letters: usize, from: usize) -> Option<(usize, usize)> {
+    let text = vec![in alloc; 0x78u16; letters].ok()?;
+    let bundle = bundle(alloc, file_of_alias(alloc, &text))?;
+    let marked = bundle.blocks().iter().filter(|marked| **marked).count();
+    let alias = root(&bundle).table()?.get(b"a")?;
+    match alias.kind() {
+        Kind::Alias if from <= alias.len() => Some((marked, alias.segment_run(from))),
+        _ => None,
+    }
+}
+
+#[test]
+fn blocks_of_long_aliases_are_passed_over(rt: HostRuntime) {
+    let alloc = rt.alloc();
+    // the text begins at half word 16, and the blocks from 1,024 to 4,096 have its letters alone
+    assert_eq!(rt; passed_over(alloc, 5_000, 2_000), Some((3, 2_080)));
+    assert_eq!(rt; passed_over(alloc, 5_000, 4_500), Some((3, 0)));
+    assert_eq!(rt; passed_over(alloc, 1_000, 0), Some((0, 0)));
 }

@@ -78,6 +78,11 @@ pub fn file(alloc: Global, tree: Option<Tree>, no_fallback: bool) -> Option<Vec<
     }
 }
 
+/// The file of a table with one alias, at `a`, with this text.
+pub fn file_of_alias(alloc: Global, text: &[u16]) -> Option<Vec<u8>> {
+    file(alloc, table(alloc, &[(b"a", Leaf::Alias(text))]), false)
+}
+
 /// Whether the tree's file is this one.
 fn is_written(alloc: Global, tree: Option<Tree>, no_fallback: bool, sample: Sample<'_>) -> bool {
     match (file(alloc, tree, no_fallback), bytes_of(alloc, sample)) {
