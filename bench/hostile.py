@@ -142,6 +142,28 @@ def overlapping_over_arrays(size):
     return made.file_of_one(item(ARRAY, made.add([count] + items)))
 
 
+def overlapping_ends(size):
+    """The same, but each length is also a String at a random word whose zero unit is at another random word, and each run
+    ends at the last word of a group of 32, so that what stands at its end is checked item by item."""
+    words_in_all, made, dice = size // 4, Builder(b"a\0"), random.Random(7)
+    texts, empties = words_in_all * 12 // 100, words_in_all // 10
+    first = made.here()
+    rooms = ((texts - 2 - i) * 2 >> 16 for i in range(texts))
+    made.data += words(dice.randrange(room + 1) << 16 if room > 0 else 0 for room in rooms)
+    empty = made.add([0] * empties)
+    count = (words_in_all - 2 * texts - empties - 40) // 3
+    start, run = made.here(), []
+    for i in range(2 * count + texts + 2):
+        if i % 2:
+            run.append(item(ARRAY, empty + dice.randrange(empties)))
+        else:
+            length = first + dice.randrange(texts - 64)
+            run.append(length + (31 - (start + i + 1 + length)) % 32)
+    made.data += words(run)
+    items = [item(ARRAY, start + 2 * i) for i in mixed(count, True)]
+    return made.file_of_one(item(ARRAY, made.add([count] + items)))
+
+
 def overlapping_tables(count, is_mixed=False):
     """Each word of a long run is the length of one long table, a key offset of others, and an item of others, an empty
     String."""
@@ -300,6 +322,7 @@ OVERLAPPING = [
     ("arrays that overlap, in random order", mixed_arrays, 30),
     ("tables that overlap, in random order", mixed_tables, 30),
     ("arrays that overlap over other arrays", overlapping_over_arrays, 60),
+    ("arrays that overlap over others, to the ends of groups", overlapping_ends, 60),
 ]
 
 # ---- texts
@@ -330,6 +353,12 @@ def random_keys(size):
     return b"root{" + b"".join(key + b"{}" for key in keys) + b"}"
 
 
+def random_keys_with_one_again(size):
+    """The same, with the first key once more at the end: refused as DuplicateKey."""
+    text = random_keys(size - 6)
+    return text[:-1] + text[5:9] + b"{}}"
+
+
 def falling_keys(size):
     """Tables of 57 levels, each with an entry and then one with a lower key. Up to 6 MB they are light enough."""
     one = b"b{}a{" * 57 + b"a{}" + b"}" * 57
@@ -348,12 +377,14 @@ def keys_of_one_slot(size):
     return b"root{a{" + b"".join(tables) + b"}}"
 
 
+# what they are, how they are made, and the status of their compilation
 TEXTS = [
-    ("texts `k{a{}}..`", small_tables),
-    ("texts `{{{}}}` of 59 levels", nested_arrays),
-    ("texts of short keys in random order", random_keys),
-    ("texts of 57 levels with a lower key last", falling_keys),
-    ("texts of keys that share a place", keys_of_one_slot),
+    ("texts `k{a{}}..`", small_tables, 0),
+    ("texts `{{{}}}` of 59 levels", nested_arrays, 0),
+    ("texts of short keys in random order", random_keys, 0),
+    ("texts of short keys in random order, one of them twice", random_keys_with_one_again, 1),
+    ("texts of 57 levels with a lower key last", falling_keys, 0),
+    ("texts of keys that share a place", keys_of_one_slot, 0),
 ]
 
 # ---- texts that are compared with the root's, here with themselves
@@ -531,14 +562,14 @@ class Report:
             self.plain[size] = max(self.best(["check", path], 5)[0] - start, size / MB * 1e-3)
         return self.plain[size]
 
-    def text(self, name, make, sizes):
+    def text(self, name, make, wanted, sizes):
         if not self.is_asked(name):
             return
         for size in sizes:
             out = os.path.join(self.folder.name, "out.res")
             plain = self.best(["compile", self.file("plain.txt", plain_text(size)), out])[0]
             seconds, memory, status = self.best(["compile", self.file("made.txt", make(size)), out])
-            over = seconds > 5 * plain or status != 0 or size >= 4 * MB and memory * MB > 40 * size
+            over = seconds > 5 * plain or status != wanted or size >= 4 * MB and memory * MB > 40 * size
             text = (f"{seconds:.3f} s, plain text {plain:.3f} s, {seconds / plain:.1f} times of 5;"
                     f" {memory:.0f} MB, {memory * MB / size:.1f} times the text of 40; status {status}")
             self.say("text", name, size, text, over, seconds=seconds, plain=plain, allowed=5, MB=memory)
@@ -609,8 +640,8 @@ def measure(report, is_large):
         report.check(name, make, allowed, [MB, 4 * MB, 16 * MB] + [62 * MB] * is_large)
     for name, make, allowed in OVERLAPPING:
         report.check(name, make, allowed, [4 * MB, 16 * MB, 62 * MB])
-    for name, make in TEXTS:
-        report.text(name, make, [MB, 4 * MB, (6 if make is falling_keys else 8) * MB])
+    for name, make, status in TEXTS:
+        report.text(name, make, status, [MB, 4 * MB, (6 if make is falling_keys else 8) * MB])
     for name, make in COMPARED:
         report.compared(name, make, [MB, 4 * MB, 8 * MB])
     report.lookup("an alias with a long text", long_alias, [MB, 4 * MB, 8 * MB], 50)
