@@ -7,8 +7,8 @@ ghost use Rattle.rb_format.specs.Place.{word_at};
 ghost use Rattle.rb_compiler.specs.Compiled.{IsCompiled};
 
 use rb_lexer::{SourceFault, SourceKind};
-use rb_parser::parse;
-use rb_writer::write;
+use rb_parser::parse_unweighed;
+use rb_writer::write_if_light;
 use std::alloc::Global;
 
 /// The file of the bundle that a text spells, in ResB format 1.1, or 1.2 if it is without fallback;
@@ -34,16 +34,22 @@ pub fn compile(alloc: Global, text: &[u8]) -> Result<Vec<u8>, SourceFault>
     // What is reported is an error of the text, with its line, unless memory ran out.
     ensures refused { IfErr result (IsRefusal text.now) }
 {
-    let source = match parse(alloc, text) {
+    let source = match parse_unweighed(alloc, text) {
         Ok(source) => source,
         Err(fault) => return Err(fault),
     };
-    let Ok(mut file) = write(alloc, &source.tree, source.no_fallback) else {
-        return Err(SourceFault {
+    match write_if_light(alloc, &source.tree, source.no_fallback) {
+        Ok(Some(mut file)) => {
+            file.shrink_to_fit();
+            Ok(file)
+        }
+        Ok(None) => Err(SourceFault {
+            kind: SourceKind::TooLarge,
+            line: 1,
+        }),
+        Err(_) => Err(SourceFault {
             kind: SourceKind::Memory,
             line: 0,
-        });
-    };
-    file.shrink_to_fit();
-    Ok(file)
+        }),
+    }
 }

@@ -15,10 +15,14 @@ use std::marker::Model;
 /// A bundle, and what each lookup asks of it: where its root is, whether it has no fallback, and
 /// whether its root names another bundle. These are read off the file once, since whoever reads
 /// them there waits for memory each time.
+///
+/// The parts of the root's place stand by themselves, so that both flags fit into the same word: a
+/// server has many bundles.
 #[derive(Drop)]
 pub(crate) struct Held {
     bundle: Bundle,
-    root: RootPlace,
+    root_word: u32,
+    header: u16,
     no_fallback: bool,
     lacks_names: bool,
 }
@@ -31,7 +35,7 @@ impl Model for Held {
 
     ghost view = { λ h. h.bundle };
 
-    ghost invariant = { λ h. IsHeld h.bundle h.root h.no_fallback h.lacks_names };
+    ghost invariant = { λ h. IsHeld h.bundle h.header h.root_word h.no_fallback h.lacks_names };
 }
 
 /// Whether a table has neither `%%ALIAS` nor `%%Parent`.
@@ -49,8 +53,10 @@ impl Held {
     pub(crate) fn of(bundle: Bundle) -> Held
         ensures { result ≡ bundle }
     {
+        let place = root_place(&bundle);
         Held {
-            root: root_place(&bundle),
+            root_word: place.word,
+            header: place.header,
             no_fallback: bundle.no_fallback(),
             lacks_names: lacks_names(root(&bundle)),
             bundle,
@@ -77,8 +83,12 @@ impl Held {
         ensures data { item_data (lent_item result) ≡ data_of self.now }
         ensures word { item_word (lent_item result) ≡ word_at (data_of self.now) 0 }
     {
+        let place = RootPlace {
+            header: self.header,
+            word: self.root_word,
+        };
         LentItem {
-            item: root_at(&self.bundle, self.root),
+            item: root_at(&self.bundle, place),
             lacks_names: self.lacks_names,
         }
     }

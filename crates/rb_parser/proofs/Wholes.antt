@@ -130,16 +130,31 @@ good_memory bytes ts e end name source cut r g =
     let x : List ℕ × Head × Entries = (name, h.whole.head, h.whole.form) in
     is_memory e.kind (λ other. not_both end x e (bundle the_tests ts) (spelled_read the_tests are_tests ts name source h.whole h.low) (r other))
 
-pub good_fits : (bytes : List ℕ) (ts : List Token) (s : Source) (end : ℕ) (name : List ℕ) (source : SourceTree) → HasTokens bytes ts
-    → ReadsBundle end (Ok s) (bundle the_tests ts) → IsGoodSource bytes name source → Fits (view_of s.tree)
-good_fits bytes ts s end name source cut r g =
-    let same = good_same bytes ts s end name source cut r g in
-    let h = same_tokens bytes ts name source cut g in
+-- a good source that was read has a tree that fits
+pub fits_of_good : (bytes : List ℕ) (s : Source) (name : List ℕ) (source : SourceTree) → kind_of (view_of s.tree) ≡ Table
+    → (s.name ≡ name) × (source_tree s ≡ source) → IsGoodSource bytes name source → Fits (view_of s.tree)
+fits_of_good bytes s name source is_table same g =
     record {
-      is_table = ap kind_of r.3.1;
-      low = subst (λ (d : SourceTree). height d.tree ≤ 64) (sym same.1) h.low;
-      light = subst (λ (d : SourceTree). weight d.tree ≤ 33554432) (sym same.1) h.light;
+      is_table = is_table;
+      low = subst (λ (d : SourceTree). height d.tree ≤ 64) (sym same.1) g.good.low;
+      light = subst (λ (d : SourceTree). weight d.tree ≤ 33554432) (sym same.1) g.good.light;
     }
+
+-- what was read is a table within the limit of height
+pub read_table_low : (ts : List Token) (s : Source) (end : ℕ) → ReadsBundle end (Ok s) (bundle the_tests ts)
+    → (kind_of (view_of s.tree) ≡ Table) × (height (view_of s.tree) ≤ 64)
+read_table_low ts s end r =
+    let t = read_spelled the_tests are_tests ts s.name r.0 r.1 r.2 in
+    let same : t.source.tree ≡ view_of s.tree = tree_one (table r.1) t.source.tree (view_of s.tree) t.means r.3 in
+    (ap kind_of r.3.1, subst (λ (d : Resource). height d ≤ 64) same t.low)
+
+-- a tree that does not fit, though it is a table within that limit, weighs too much
+pub heavy_if_unfit : (s : Source) → kind_of (view_of s.tree) ≡ Table → height (view_of s.tree) ≤ 64 → (Fits (view_of s.tree) → ⊥)
+    → 33554432 < weight (view_of s.tree)
+heavy_if_unfit s is_table low over = elim (cases_lt 33554432 (weight (view_of s.tree))) [
+  | inl h ↦ h
+  | inr light ↦ absurd (over (record { is_table = is_table; low = low; light = light }))
+]
 
 -- ---- errors
 
@@ -165,18 +180,11 @@ refused bytes ts end e reported short cut is r kind none line = elim (memory_or 
       inr (inr (record { short = short; tokens = ts; cut = cut; fault = subst (λ (n : ℕ). grammar.IsFault ts n reported.kind reported.line) is here }))
 ]
 
--- a tree that was read and does not fit weighs too much
-pub too_large : (bytes : List ℕ) (ts : List Token) (s : Source) (end : ℕ) → length bytes ≤ 8388608 → HasTokens bytes ts
-    → ReadsBundle end (Ok s) (bundle the_tests ts) → (Fits (view_of s.tree) → ⊥) → IsFault bytes TooLarge 1
-too_large bytes ts s end short cut r over =
-    let t = read_spelled the_tests are_tests ts s.name r.0 r.1 r.2 in
-    let same : t.source.tree ≡ view_of s.tree = tree_one (table r.1) t.source.tree (view_of s.tree) t.means r.3 in
-    let low : height (view_of s.tree) ≤ 64 = subst (λ (d : Resource). height d ≤ 64) same t.low in
-    let kind : kind_of (view_of s.tree) ≡ Table = ap kind_of r.3.1 in
-    let heavy : 33554432 < weight (view_of s.tree) = elim (cases_lt 33554432 (weight (view_of s.tree))) [
-      | inl h ↦ h
-      | inr light ↦ absurd (over (record { is_table = kind; low = low; light = light }))
-    ] in
+-- a tree that was read and weighs too much is an error of the text
+pub too_heavy : (bytes : List ℕ) (ts : List Token) (s : Source) (end : ℕ) → length bytes ≤ 8388608 → HasTokens bytes ts
+    → ReadsBundle end (Ok s) (bundle the_tests ts) → 33554432 < weight (view_of s.tree) → IsFault bytes TooLarge 1
+too_heavy bytes ts s end short cut r heavy =
+    let low = (read_table_low ts s end r).1 in
     let large : grammar.IsTooLarge (marks ts) = record { name = s.name; source = source_tree s; whole = spelled ts s end r; low = low; heavy = heavy } in
     inr (record { short = short; tokens = ts; cut = cut; fault = inr (refl, large, refl) })
 

@@ -10,4 +10,4 @@ mod source;
 mod table;
 mod word;
 
-pub use source::{Source, parse};
+pub use source::{Source, parse, parse_unweighed};

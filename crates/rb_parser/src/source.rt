@@ -1,14 +1,18 @@
 //! Whole bundle texts.
-ghost use Rattle.std.specs.Prelude.{◌≡◌, ◌==◌, ℕ, List, suc, count_by, IfOk, IfErr, MatchResult};
-ghost use Rattle.rb_lexer.specs.declared.fault.SourceKind.TheVariants.{Memory};
-ghost use Rattle.rb_tree.specs.Parts.{Fits};
+ghost use Rattle.std.specs.Prelude.{◌≡◌, ◌==◌, ◌<◌, ◌≤◌, ℕ, List, suc, count_by, IfOk, IfErr};
+ghost use Rattle.std.specs.Prelude.{MatchResult};
+ghost use Rattle.rb_lexer.specs.declared.fault.SourceKind.TheVariants.{Memory, TooLarge};
+ghost use Rattle.rb_tree.specs.Limits.{height_limit, weight_limit};
+ghost use Rattle.rb_tree.specs.Parts.{Fits, kind_of};
+ghost use Rattle.rb_tree.specs.Resource.{height, weight};
+ghost use Rattle.rb_tree.specs.declared.kind.Kind.TheVariants as Kinds;
 ghost use Rattle.rb_tree.specs.SourceTree.{SourceTree};
 ghost use Rattle.rb_tree.specs.View.{view_of};
 ghost use Rattle.rb_grammar.specs.Reading.{type_at, bundle};
 ghost use Rattle.rb_grammar.specs.Tests.{the_tests};
 ghost use Rattle.rb_parser.specs.inner.Reads.{Reads, IsFlag};
 ghost use Rattle.rb_parser.specs.inner.ReadsBundle.{ReadsBundle};
-ghost use Rattle.rb_parser.specs.Source.{source_tree, IsGoodSource, last_line, IsRefusal};
+ghost use Rattle.rb_parser.specs.Source.{source_tree, IsGoodSource, last_line, IsFault, IsRefusal};
 
 use crate::cursor::{Cursor, Punctuation};
 use crate::parser::read_table;
@@ -108,14 +112,9 @@ pub fn parse(alloc: Global, bytes: &[u8]) -> Result<Source, SourceFault>
     // What is reported is an error of the source, with its line, unless memory ran out.
     ensures fault { IfErr result (λ e. IsRefusal bytes.now e) }
 {
-    let tokens = Tokens::of(alloc, bytes)?;
-    let mut cursor = Cursor {
-        rest: tokens,
-        end: last_line(bytes),
-    };
-    let source = match read_bundle(alloc, &mut cursor) {
+    let source = match parse_unweighed(alloc, bytes) {
         Ok(source) => source,
-        Err(fault) => return Err(without_memory_line(fault)),
+        Err(fault) => return Err(fault),
     };
     if !source.tree.fits() {
         return Err(SourceFault {
@@ -124,6 +123,35 @@ pub fn parse(alloc: Global, bytes: &[u8]) -> Result<Source, SourceFault>
         });
     }
     Ok(source)
+}
+
+/// The same for who weighs the tree: it is a table of height at most 64, but may weigh too much, at
+/// which the text has the error `TooLarge` in line 1.
+pub fn parse_unweighed(alloc: Global, bytes: &[u8]) -> Result<Source, SourceFault>
+    // The answer is the source's name, tree and flag, if the tree isn't too heavy.
+    ensures found { IfOk result
+        (λ s. Fits (view_of s.tree) → IsGoodSource bytes.now s.name (source_tree s)) }
+    // Else the text has that error.
+    ensures heavy { IfOk result
+        (λ s. weight_limit < weight (view_of s.tree) → IsFault bytes.now TooLarge 1) }
+    // A good source is read, unless memory runs out.
+    ensures only { (name : List ℕ) (source : SourceTree) → IsGoodSource bytes.now name source
+        → MatchResult result (λ s. (s.name ≡ name) × (source_tree s ≡ source))
+        (λ e. e.kind ≡ Memory) }
+    ensures table { IfOk result (λ s. kind_of (view_of s.tree) ≡ Kinds.Table) }
+    ensures low { IfOk result (λ s. height (view_of s.tree) ≤ height_limit) }
+    // What is reported is an error of the source, with its line, unless memory ran out.
+    ensures fault { IfErr result (λ e. IsRefusal bytes.now e) }
+{
+    let tokens = Tokens::of(alloc, bytes)?;
+    let mut cursor = Cursor {
+        rest: tokens,
+        end: last_line(bytes),
+    };
+    match read_bundle(alloc, &mut cursor) {
+        Ok(source) => Ok(source),
+        Err(fault) => Err(without_memory_line(fault)),
+    }
 }
 
 /// The error, with line 0 if it is out of memory.

@@ -4,6 +4,8 @@
 /// data after it, the item's word.
 #[derive(Clone, Copy, Debug)]
 pub struct RootPlace {
-    pub(crate) header: u16,
-    pub(crate) word: u32,
+    /// The size of the header.
+    pub header: u16,
+    /// The item's word.
+    pub word: u32,
 }

@@ -1,6 +1,8 @@
 -- The file that `write` makes of a tree, byte by byte (`uresdata.h`). What the format leaves open is settled by rules
 -- of this project, which docs/FORMAT.md has in words.
-use Rattle.std.specs.Prelude.{◌≡◌, ℕ, ◌+◌, ◌*◌, ◌/◌, Bool, if◌then◌else◌, List, [], ◌∷◌, ◌++◌, length}
+use Rattle.std.specs.Prelude.{◌≡◌, ℕ, ◌+◌, ◌*◌, ◌/◌, Bool, if◌then◌else◌, List, [], ◌∷◌, ◌++◌, length, take, drop}
+use Rattle.rb_format.specs.File.{Denotes}
+use Rattle.rb_format.specs.Place.{word_at}
 use Rattle.rb_tree.specs.Resource.{Resource}
 use Rattle.rb_writer.specs.Bytes.{words, padded}
 use Rattle.rb_writer.specs.Header.{header}
@@ -47,3 +49,12 @@ pub record IsWriterFile (t : Resource) (no_fallback : Bool) (file : List ℕ) : 
   pub keys : List (List ℕ)
   pub are_keys : AreKeysOf t keys
   pub bytes : file ≡ file_of keys t no_fallback
+
+-- These bytes are the file of a bundle, and denote it. Its header, its end (`URES_INDEX_BUNDLE_TOP`) and the length of
+-- its longest table are where a reader looks for them.
+pub record IsFileOf (t : Resource) (no_fallback : Bool) (file : List ℕ) : Type 0 where
+  pub denotes : Denotes file (record { tree = t; no_fallback = no_fallback })
+  pub front : take 32 file ≡ header no_fallback
+  pub end : length file ≡ 32 + 4 * word_at (drop 32 file) 4
+  pub longest : word_at (drop 32 file) 5 ≡ longest t
+  pub bytes : IsWriterFile t no_fallback file

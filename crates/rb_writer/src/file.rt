@@ -1,25 +1,29 @@
 //! A tree as a file.
-ghost use Rattle.std.specs.Prelude.{IfOk, length, take, drop, ◌≡◌, ◌+◌, ◌*◌, ◌≤◌, ◌<◌, ◌^◌};
+ghost use Rattle.std.specs.Prelude.{IfOk, IfSome, IsSome, length, take, drop, ◌≡◌, ◌↔◌, ◌+◌, ◌*◌};
+ghost use Rattle.std.specs.Prelude.{◌≤◌, ◌<◌, ◌^◌};
 ghost use Rattle.rb_format.specs.File.{Denotes};
 ghost use Rattle.rb_format.specs.Place.{word_at};
-ghost use Rattle.rb_tree.specs.Parts.{Fits};
+ghost use Rattle.rb_tree.specs.Parts.{Fits, kind_of};
+ghost use Rattle.rb_tree.specs.Resource.{height};
+ghost use Rattle.rb_tree.specs.declared.kind.Kind.TheVariants as Kinds;
 ghost use Rattle.rb_tree.specs.View.{view_of};
 ghost use Rattle.rb_writer.specs.Header as specified;
 ghost use Rattle.rb_writer.specs.Written as written;
+ghost use Rattle.rb_writer.specs.inner.Collected.{GathersKeys};
 ghost use Rattle.rb_writer.specs.inner.Whole.{IsFile, IsIndexed, SetsWord};
 ghost use Rattle.rb_writer.specs.Longest.{longest};
-ghost use Rattle.rb_writer.specs.Written.{IsWriterFile};
+ghost use Rattle.rb_writer.specs.Written.{IsFileOf, IsWriterFile};
 
 use crate::area::KeyArea;
 use crate::data::Data;
-use crate::gather::gather;
+use crate::gather::{Gathered, gather};
 use crate::header::header;
 use crate::keys::write_keys;
 use crate::sorting::sorted_keys;
 use crate::spare::Spare;
 use crate::tree::write_value;
 use rb_format::{ATTRIBUTES_INDEX_COUNT, HEADER_SIZE, INDEX_COUNT};
-use rb_tree::Tree;
+use rb_tree::{Tree, WEIGHT_LIMIT};
 use std::alloc::{AllocError, Global};
 
 /// How many indexes are written: the attributes are the sixth.
@@ -84,6 +88,30 @@ fn finish(out: Data, root: u32, area: KeyArea, longest: u32, no_fallback: bool) 
     file
 }
 
+/// The file of a tree that fits, given its keys.
+fn write_gathered(
+    alloc: Global,
+    tree: &Tree,
+    gathered: Gathered<'_>,
+    no_fallback: bool,
+) -> Result<Vec<u8>, AllocError>
+    requires fits { Fits (view_of tree.now) }
+    requires keys { GathersKeys (view_of tree.now) gathered.keys.items }
+    requires longest { gathered.longest ≡ longest (view_of tree.now) }
+    ensures { IfOk result (λ f. IsFileOf (view_of tree.now) no_fallback f.items) }
+{
+    let indexes = index_count(no_fallback);
+    let keys = sorted_keys(alloc, &gathered)?;
+    drop(gathered.keys);
+    let mut out = Data::new(alloc, indexes)?;
+    let places = write_keys(alloc, &mut out, &keys, gathered.order, indexes)?;
+    drop(keys);
+    let mut spare = Spare::new(alloc);
+    let mut entry = 0;
+    let root = write_value(&mut spare, &mut out, &places, &mut entry, tree)?;
+    Ok(finish(out, root, places.area, gathered.longest as u32, no_fallback))
+}
+
 /// The file of a tree that `fits`, as a bundle with fallback or without. The only error is that
 /// memory runs out.
 ///
@@ -103,15 +131,32 @@ pub fn write(alloc: Global, tree: &Tree, no_fallback: bool) -> Result<Vec<u8>, A
     ensures longest { IfOk result (λ f. word_at (drop 32 f.items) 5 ≡ longest (view_of tree.now)) }
     ensures bytes { IfOk result (λ f. IsWriterFile (view_of tree.now) no_fallback f.items) }
 {
-    let indexes = index_count(no_fallback);
     let gathered = gather(alloc, tree)?;
-    let keys = sorted_keys(alloc, &gathered)?;
-    drop(gathered.keys);
-    let mut out = Data::new(alloc, indexes)?;
-    let places = write_keys(alloc, &mut out, &keys, gathered.order, indexes)?;
-    drop(keys);
-    let mut spare = Spare::new(alloc);
-    let mut entry = 0;
-    let root = write_value(&mut spare, &mut out, &places, &mut entry, tree)?;
-    Ok(finish(out, root, places.area, gathered.longest as u32, no_fallback))
+    let file = write_gathered(alloc, tree, gathered, no_fallback)?;
+    Ok(file)
+}
+
+/// The same of a tree whose weight isn't known, or `None` if that is above 33,554,432. The walk
+/// that finds the keys also weighs the tree, so it takes one walk less than `fits` and `write`.
+///
+/// ```rust
+/// let file = write_if_light(alloc, &source.tree, source.no_fallback)?;
+/// ```
+pub fn write_if_light(
+    alloc: Global,
+    tree: &Tree,
+    no_fallback: bool,
+) -> Result<Option<Vec<u8>>, AllocError>
+    requires table { kind_of (view_of tree.now) ≡ Kinds.Table }
+    requires low { height (view_of tree.now) ≤ 64 }
+    ensures fits { IfOk result (λ found. IsSome found ↔ Fits (view_of tree.now)) }
+    ensures file { IfOk result
+        (λ found. IfSome found (λ f. IsFileOf (view_of tree.now) no_fallback f.items)) }
+{
+    let gathered = gather(alloc, tree)?;
+    if gathered.weight > WEIGHT_LIMIT {
+        return Ok(None);
+    }
+    let file = write_gathered(alloc, tree, gathered, no_fallback)?;
+    Ok(Some(file))
 }

@@ -1,5 +1,6 @@
-//! The keys of a tree, each once.
-ghost use Rattle.std.specs.Prelude.{◌≡◌, OnOk, IfOk, IsTrue, [], max};
+//! The keys of a tree, each once, and what it weighs.
+ghost use Rattle.std.specs.Prelude.{◌≡◌, ◌+◌, ◌-◌, ◌^◌, OnOk, IfOk, IsTrue, [], length, max, min};
+ghost use Rattle.rb_tree.specs.Resource.{weight};
 ghost use Rattle.rb_tree.specs.View.{view_of};
 ghost use Rattle.rb_writer.specs.Longest.{longest};
 ghost use Rattle.rb_writer.specs.inner.Collected.{Has, Gains, Gathers, GathersKeys};
@@ -24,6 +25,9 @@ pub struct Gathered<'a> {
     pub order: Vec<u32>,
     /// The number of entries of the longest table, 0 if there is none.
     pub longest: usize,
+    /// What was walked weighs so much, `u64::MAX` at the most. One walk takes this and the keys,
+    /// since a large tree isn't in a processor's cache.
+    pub weight: u64,
     slots: Vec<u32>,
 }
 
@@ -41,11 +45,13 @@ impl<'a> Gathered<'a> {
     pub fn new(alloc: Global) -> Result<Gathered<'a>, AllocError>
         ensures keys { IfOk result (λ g. g.keys.items ≡ []) }
         ensures longest { IfOk result (λ g. g.longest ≡ 0) }
+        ensures weight { IfOk result (λ g. g.weight ≡ 0) }
     {
         Ok(Gathered {
             keys: Vec::new(alloc),
             order: Vec::new(alloc),
             longest: 0,
+            weight: 0,
             slots: vec![in alloc; 0_u32; SLOTS as usize]?,
         })
     }
@@ -64,6 +70,7 @@ impl<'a> Gathered<'a> {
     fn insert(&mut self, key: &'a [u8]) -> Result<u32, AllocError>
         ensures keys { OnOk result (Gains key.now self.old.keys.items self.new.keys.items) }
         ensures longest { self.new.longest ≡ self.old.longest }
+        ensures weight { self.new.weight ≡ self.old.weight }
     {
         let id = u32::try_from(self.keys.len()).unwrap_or(u32::MAX);
         self.keys.push(key)?;
@@ -75,6 +82,7 @@ impl<'a> Gathered<'a> {
     fn place_of(&mut self, key: &'a [u8]) -> Result<u32, AllocError>
         ensures keys { OnOk result (Gains key.now self.old.keys.items self.new.keys.items) }
         ensures longest { self.new.longest ≡ self.old.longest }
+        ensures weight { self.new.weight ≡ self.old.weight }
     {
         let slot = slot_of(key);
         if slot >= self.slots.len() {
@@ -91,10 +99,30 @@ impl<'a> Gathered<'a> {
         Ok(id)
     }
 
+    /// Adds to the weight.
+    #[inline(always)]
+    fn weigh(&mut self, more: u64)
+        ensures keys { self.new.keys.items ≡ self.old.keys.items }
+        ensures longest { self.new.longest ≡ self.old.longest }
+        ensures weight { self.new.weight ≡ min (self.old.weight + more) (2 ^ 64 - 1) }
+    {
+        self.weight = self.weight.saturating_add(more);
+    }
+
+    /// Adds what an entry weighs beside its value.
+    fn weigh_key(&mut self, key: &[u8])
+        ensures keys { self.new.keys.items ≡ self.old.keys.items }
+        ensures longest { self.new.longest ≡ self.old.longest }
+        ensures weight { self.new.weight ≡ min (self.old.weight + (9 + length key.now)) (2 ^ 64 - 1) }
+    {
+        self.weigh((key.len() as u64).saturating_add(9));
+    }
+
     /// Adds the key of the next entry.
     fn add(&mut self, key: &'a [u8]) -> Result<(), AllocError>
         ensures keys { OnOk result (Gains key.now self.old.keys.items self.new.keys.items) }
         ensures longest { self.new.longest ≡ self.old.longest }
+        ensures weight { self.new.weight ≡ self.old.weight }
     {
         let id = self.place_of(key)?;
         self.order.push(id)?;
@@ -102,41 +130,48 @@ impl<'a> Gathered<'a> {
     }
 }
 
-/// The keys of a tree, and the length of its longest table.
+/// The keys of a tree, the length of its longest table, and its weight.
 #[tactic(auto, using(crate::proofs::Gathered::gathered))]
 pub fn gather(alloc: Global, tree: &Tree) -> Result<Gathered<'_>, AllocError>
     ensures keys { IfOk result (λ g. GathersKeys (view_of tree.now) g.keys.items) }
     ensures longest { IfOk result (λ g. g.longest ≡ longest (view_of tree.now)) }
+    ensures weight { IfOk result (λ g. g.weight ≡ min (weight (view_of tree.now)) (2 ^ 64 - 1)) }
 {
     let mut gathered = Gathered::new(alloc)?;
     collect_keys(tree, &mut gathered)?;
     Ok(gathered)
 }
 
-/// Adds the keys of a tree, and notes how long its tables are.
+/// Adds the keys of a tree and its weight, and notes how long its tables are.
 #[tactic(auto, using(rb_tree::specs::inner::Lower::item_low, rb_tree::specs::inner::Lower::value_low))]
 fn collect_keys<'a>(tree: &'a Tree, gathered: &mut Gathered<'a>) -> Result<(), AllocError>
     ensures keys { OnOk result
         (Gathers (view_of tree.now) gathered.old.keys.items gathered.new.keys.items) }
     ensures longest { OnOk result
         (gathered.new.longest ≡ max gathered.old.longest (longest (view_of tree.now))) }
+    ensures weight { OnOk result (gathered.new.weight
+        ≡ min (gathered.old.weight + weight (view_of tree.now)) (2 ^ 64 - 1)) }
 {
     match tree {
         Tree::Array(trees) => {
+            gathered.weigh(4);
             for i in 0..trees.len() {
+                gathered.weigh(4);
                 collect_keys(trees.at(i), gathered)?;
             }
         }
         Tree::Table(entries) => {
             gathered.longest = gathered.longest.max(entries.len());
+            gathered.weigh(8);
             for i in 0..entries.len() {
+                gathered.weigh_key(entries.key_at(i));
                 collect_keys(entries.at(i), gathered)?;
             }
             for j in 0..entries.len() {
                 gathered.add(entries.key_at(j))?;
             }
         }
-        _ => {}
+        _ => gathered.weigh(tree.weight()),
     }
     Ok(())
 }

@@ -6,28 +6,35 @@ use Rattle.rb_tree.specs.Keys.{items, pairs}
 use Rattle.rb_writer.proofs.Collecting.{values_more, owned_none, owned_more, array_gathered, table_gathered}
 use Rattle.rb_writer.proofs.Gathered.{entry_key}
 use Rattle.rb_writer.proofs.Longer.{longest_turned, longest_end, longest_items, longest_values}
+use Rattle.rb_writer.proofs.Weighing.{weight_items, weight_turned, weight_pairs, pair_turned, pair_end}
 use Rattle.rb_writer.proofs.gather.+collect_keys.Goals as goal
 
 pub loop-i-init : goal.loop-i-init
-loop-i-init t c = record { keys = search rules; longest = omega (arith, longest_items c.in-Array.trees) }
+loop-i-init t c = record { keys = search rules; longest = omega (arith, longest_items c.in-Array.trees); high = search rules; weight = omega (arith, weight_items c.in-Array.trees, c.weigh.ensures.weight) }
 
 pub loop-i-2-init : goal.loop-i-2-init
-loop-i-2-init t c = record { keys = search rules; longest = omega (arith, longest_values c.in-Table.entries, c.len.ensures.value, c.max-gathered.ensures) }
+loop-i-2-init t c = record { keys = search rules; longest = omega (arith, longest_values c.in-Table.entries, c.len.ensures.value, c.max-gathered.ensures); high = search rules; weight = omega (arith, weight_pairs c.in-Table.entries) }
 
 pub loop-i-preserved : goal.loop-i-preserved
 loop-i-preserved t c = record {
   keys = values_more _ _ _ (items c.in-Array.trees) c.loop-i.i (view_of c.at.result.now) c.loop-i.invariant.keys c.at.ensures
-      c.in_ok-collect_keys-in-Array.ensures.keys;
+      (rw c.weigh-in-loop-i.ensures.keys at c.in_ok-collect_keys-in-Array.ensures.keys);
   longest = longest_turned (items c.in-Array.trees) c.loop-i.i c.loop-i.gathered.longest _ (view_of c.at.result.now) _
-      c.in_ok-collect_keys-in-Array.ensures.longest c.at.ensures c.loop-i.invariant.longest;
+      (rw c.weigh-in-loop-i.ensures.longest at c.in_ok-collect_keys-in-Array.ensures.longest) c.at.ensures c.loop-i.invariant.longest;
+  high = omega (arith, c.in_ok-collect_keys-in-Array.ensures.weight);
+  weight = weight_turned (items c.in-Array.trees) c.loop-i.i c.loop-i.gathered.weight _ _ (view_of c.at.result.now) _ (search rules)
+      c.in_ok-collect_keys-in-Array.ensures.weight c.at.ensures c.loop-i.invariant.weight;
 }
 
 pub loop-i-2-preserved : goal.loop-i-2-preserved
 loop-i-2-preserved t c = record {
   keys = values_more _ _ _ (values_of (pairs c.in-Table.entries)) c.loop-i-2.i (view_of c.at-in-loop-i-2.result.now) c.loop-i-2.invariant.keys
-      c.at-in-loop-i-2.ensures c.in_ok-collect_keys-in-Table.ensures.keys;
+      c.at-in-loop-i-2.ensures (rw c.weigh_key.ensures.keys at c.in_ok-collect_keys-in-Table.ensures.keys);
   longest = longest_turned (values_of (pairs c.in-Table.entries)) c.loop-i-2.i c.loop-i-2.gathered.longest _ (view_of c.at-in-loop-i-2.result.now) _
-      c.in_ok-collect_keys-in-Table.ensures.longest c.at-in-loop-i-2.ensures c.loop-i-2.invariant.longest;
+      (rw c.weigh_key.ensures.longest at c.in_ok-collect_keys-in-Table.ensures.longest) c.at-in-loop-i-2.ensures c.loop-i-2.invariant.longest;
+  high = omega (arith, c.in_ok-collect_keys-in-Table.ensures.weight);
+  weight = pair_turned (pairs c.in-Table.entries) c.loop-i-2.i c.loop-i-2.gathered.weight _ _ c.key_at.result.now (view_of c.at-in-loop-i-2.result.now) _
+      c.weigh_key.ensures.weight c.in_ok-collect_keys-in-Table.ensures.weight c.key_at.ensures c.at-in-loop-i-2.ensures c.loop-i-2.invariant.weight;
 }
 
 pub loop-j-init : goal.loop-j-init
@@ -35,13 +42,16 @@ loop-j-init t c = record {
   keys = owned_none _ _ c.in-Table.entries c.loop-i-2.i c.loop-i-2.invariant.keys (search rules);
   longest = longest_end (values_of (pairs c.in-Table.entries)) c.loop-i-2.i c.loop-i-2.gathered.longest _ c.loop-i-2.invariant.longest
       (omega (arith, length-map (pairs c.in-Table.entries) (λ e. e.1), c.loop-i-2-test.false, c.len-i-end-in-Table.ensures.value));
+  weight = pair_end (pairs c.in-Table.entries) c.loop-i-2.i c.loop-i-2.gathered.weight _ c.loop-i-2.invariant.high c.loop-i-2.invariant.weight
+      (search rules);
 }
 
 pub loop-j-preserved : goal.loop-j-preserved
 loop-j-preserved t c = record {
-  keys = owned_more _ _ _ c.in-Table.entries c.loop-j.j c.key_at.result.now c.loop-j.invariant.keys c.key_at.ensures
-      (entry_key c.in-Table.entries c.loop-j.j c.key_at.result.now c.len-j-end.ensures.ordered c.key_at.ensures) c.in_ok-add-in-Table.ensures.keys;
+  keys = owned_more _ _ _ c.in-Table.entries c.loop-j.j c.key_at-in-loop-j.result.now c.loop-j.invariant.keys c.key_at-in-loop-j.ensures
+      (entry_key c.in-Table.entries c.loop-j.j c.key_at-in-loop-j.result.now c.len-j-end.ensures.ordered c.key_at-in-loop-j.ensures) c.in_ok-add-in-Table.ensures.keys;
   longest = c.in_ok-add-in-Table.ensures.longest ∙ c.loop-j.invariant.longest;
+  weight = c.in_ok-add-in-Table.ensures.weight ∙ c.loop-j.invariant.weight;
 }
 
 pub returns-after-loop-i-clause-keys : goal.returns-after-loop-i-clause-keys

@@ -1,10 +1,11 @@
-use Rattle.std.proofs.Common.{◌≡◌, max, length, drop}
+use Rattle.std.proofs.Common.{◌≡◌, ◌+◌, ◌-◌, ◌^◌, ◌≤◌, max, min, length, drop}
 use Rattle.std.specs.Map.{values_of}
-use Rattle.rb_tree.specs.Resource.{height}
+use Rattle.rb_tree.specs.Resource.{height, weight, table, trees_weight, entries_weight}
 use Rattle.rb_tree.specs.Keys.{items, pairs}
 use Rattle.rb_tree.specs.View.{view_of}
 use Rattle.rb_writer.specs.Longest.{longest_of_trees, longest_of_entries}
 use Rattle.rb_writer.proofs.Longer.{longest_in}
+use Rattle.rb_writer.proofs.Weighing.{weight_in, weight_of_pairs}
 use Rattle.rb_writer.proofs.Collecting.{Values, Owned}
 use Rattle.rb_writer.proofs.gather.+collect_keys.Given as goal
 
@@ -15,6 +16,8 @@ abbrev pub invariant-loop-i : goal.invariant-loop-i
 invariant-loop-i l = record {
   keys : Values l.fn.gathered.keys.items l.gathered.keys.items (items l.trees) l.i;
   longest : max l.gathered.longest (longest_in (drop l.i (items l.trees))) ≡ max l.fn.gathered.longest (longest_of_trees l.trees);
+  high : l.gathered.weight ≤ 2 ^ 64 - 1;
+  weight : min (l.gathered.weight + weight_in (drop l.i (items l.trees))) (2 ^ 64 - 1) ≡ min (l.fn.gathered.weight + (4 + trees_weight l.trees)) (2 ^ 64 - 1);
 }
 
 abbrev pub invariant-loop-i-2 : goal.invariant-loop-i-2
@@ -22,10 +25,14 @@ invariant-loop-i-2 l = record {
   keys : Values l.fn.gathered.keys.items l.gathered.keys.items (values_of (pairs l.entries)) l.i;
   longest : max l.gathered.longest (longest_in (drop l.i (values_of (pairs l.entries))))
       ≡ max l.fn.gathered.longest (max (length (pairs l.entries)) (longest_of_entries l.entries));
+  high : l.gathered.weight ≤ 2 ^ 64 - 1;
+  weight : min (l.gathered.weight + weight_of_pairs (drop l.i (pairs l.entries))) (2 ^ 64 - 1)
+      ≡ min (l.fn.gathered.weight + (8 + entries_weight l.entries)) (2 ^ 64 - 1);
 }
 
 abbrev pub invariant-loop-j : goal.invariant-loop-j
 invariant-loop-j l = record {
   keys : Owned l.fn.gathered.keys.items l.gathered.keys.items l.entries l.j;
   longest : l.gathered.longest ≡ max l.fn.gathered.longest (max (length (pairs l.entries)) (longest_of_entries l.entries));
+  weight : l.gathered.weight ≡ min (l.fn.gathered.weight + weight (table l.entries)) (2 ^ 64 - 1);
 }
