@@ -37,11 +37,15 @@ impl Builder {
     }
 
     /// Adds the pending text as a token.
+    #[inline(always)]
     pub fn flush(&mut self) -> Result<(), LexError>
         ensures memory { IfErr result (λ e. e.kind ≡ Memory) }
         ensures flushed { OnOk result ((self.new.tokens.items
             ≡ self.old.tokens.items ++ flushed self.old.pending []) × (self.new.pending ≡ None)) }
     {
+        if self.pending.is_none() {
+            return Ok(());
+        }
         if let Some(pending) = self.pending.take() {
             self.tokens.push_back(Token {
                 what: Mark::Text(pending.units),

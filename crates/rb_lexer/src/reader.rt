@@ -1,6 +1,8 @@
 //! A source that is read item by item.
-ghost use Rattle.std.specs.Prelude.{◌≡◌, ◌<◌, ℕ, List, length, OnOk, IfOk, MatchResult, IsTrue};
-ghost use Rattle.std.specs.Prelude.{false};
+ghost use Rattle.std.specs.Prelude.{◌≡◌, ◌<◌, ℕ, List, length, OnOk, IfOk, IfErr, MatchResult};
+ghost use Rattle.std.specs.Prelude.{IsTrue, false};
+ghost use Rattle.std.specs.Str.{chars};
+ghost use Rattle.rb_lexer.specs.Atom.{Begins};
 ghost use Rattle.rb_lexer.specs.declared.fault.SourceKind.TheVariants.{Memory};
 ghost use Rattle.rb_lexer.specs.declared.token.Token.{Token};
 ghost use Rattle.rb_lexer.specs.Tokens.{width};
@@ -9,7 +11,7 @@ ghost use Rattle.rb_lexer.specs.inner.Left.{IsAtStart, IsPlaced, Gives, IsDone, 
 use crate::builder::Builder;
 use crate::fault::LexError;
 use crate::front::width;
-use crate::scan::scan_first;
+use crate::scan::{Scanned, first_mark, scan_first};
 use crate::text::line_feeds;
 use rb_tree::UnitList;
 use std::alloc::Global;
@@ -51,17 +53,36 @@ impl<'a> Reader<'a> {
             (λ more. IsTrue more → length self.new.rest.now < length self.old.rest.now) }
         ensures done { IfOk result (λ more. more ≡ false → IsDone self.new) }
     {
+        if let Some((mark, after)) = first_mark(self.rest) {
+            let item = Scanned::Punctuation(mark);
+            self.take(item, UnitList::new(self.alloc), after)?;
+            return Ok(true);
+        }
         let mut units = UnitList::new(self.alloc);
         let Some((item, after)) = scan_first(&mut units, self.rest)? else {
             self.builder.flush()?;
             return Ok(false);
         };
+        self.take(item, units, after)?;
+        Ok(true)
+    }
+
+    /// Takes the item that the rest begins with, given what follows it.
+    #[inline(always)]
+    fn take(&mut self, item: Scanned, units: UnitList, after: &'a str) -> Result<(), LexError>
+        requires placed { IsPlaced self.old }
+        requires begins { Begins (chars self.old.rest.now) item units (chars after.now) }
+        ensures memory { IfErr result (λ e. e.kind ≡ Memory) }
+        ensures placed { OnOk result (IsPlaced self.new) }
+        ensures same { OnOk result ((ts : List Token) → Gives self.old ts → Gives self.new ts) }
+        ensures rest { OnOk result (self.new.rest.now ≡ after.now) }
+    {
         let past = width(self.text) - width(after);
         self.builder.add(item, units, self.first, past, self.line)?;
         self.line += line_feeds(self.text.as_bytes(), self.first, past);
         self.first = past;
         self.rest = after;
-        Ok(true)
+        Ok(())
     }
 
     /// Reads on until two tokens wait, or all that are left.

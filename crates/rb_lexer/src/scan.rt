@@ -1,5 +1,5 @@
 //! The front of a text.
-ghost use Rattle.rb_lexer.specs.declared.scan.Scanned.TheVariants.{Run};
+ghost use Rattle.rb_lexer.specs.declared.scan.Scanned.TheVariants.{Punctuation, Run};
 ghost use Rattle.std.specs.Prelude.{◌≡◌, ◌<◌, ◌≤◌, ◌∷◌, [], ℕ, List, true, false, MatchOption};
 ghost use Rattle.std.specs.Prelude.{MatchResult, IfOk, IfSome, OnSome, length};
 ghost use Rattle.std.specs.Str.{chars};
@@ -38,6 +38,18 @@ fn punctuation(c: char) -> Option<Mark>
         ',' => Some(Mark::Comma),
         _ => None,
     }
+}
+
+/// The mark that a text begins with, and what follows it, if that is so.
+#[inline(always)]
+pub fn first_mark(text: &str) -> Option<(Mark, &str)>
+    ensures taken { IfSome result
+        (λ x. Begins (chars text.now) (Punctuation x.0) [] (chars x.1.now)) }
+    ensures shorter { IfSome result (λ x. length x.1.now < length text.now) }
+{
+    let (c, after) = split_first(text)?;
+    let mark = punctuation(c)?;
+    Some((mark, after))
 }
 
 /// What follows the run that a backslash begins, given what is after it.
