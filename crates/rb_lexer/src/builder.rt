@@ -2,6 +2,7 @@
 ghost use Rattle.std.specs.Prelude.{◌≡◌, ◌++◌, ◌≤◌, ℕ, List, [], ◌+◌, ◌&&◌, is_some, None, Some};
 ghost use Rattle.std.specs.Prelude.{false, ◌∷◌, drop, length, MatchOption, OnOk, IfOk, IfErr};
 ghost use Rattle.rb_lexer.specs.declared.fault.SourceKind.TheVariants.{Memory};
+ghost use Rattle.rb_lexer.specs.declared.scan.Scanned.TheVariants.{Punctuation};
 ghost use Rattle.rb_lexer.specs.Tokens.{line_of, width};
 ghost use Rattle.rb_lexer.specs.Merging.{flushed, grown};
 ghost use Rattle.rb_lexer.specs.Atom.{Atom, Shows, atoms_chars, atoms_tokens, extended};
@@ -95,6 +96,35 @@ impl Builder {
         Ok(())
     }
 
+    /// Adds a punctuation mark with its span and its line.
+    #[inline(always)]
+    pub fn add_mark(
+        &mut self,
+        what: Mark,
+        first: usize,
+        past: usize,
+        line: u64,
+    ) -> Result<(), LexError>
+        ensures memory { IfErr result (λ e. e.kind ≡ Memory) }
+        ensures added { OnOk result ((bytes : List ℕ) (us : List ℕ) (xs rest : List Atom)
+            → Shows (Punctuation what) us xs
+            → line ≡ line_of bytes first → past ≡ first + width (atoms_chars xs [])
+            → self.old.tokens.items
+            ++ atoms_tokens bytes first self.old.pending self.old.is_open (xs ++ rest)
+            ≡ self.new.tokens.items
+            ++ atoms_tokens bytes past self.new.pending self.new.is_open rest) }
+    {
+        self.flush()?;
+        self.is_open = false;
+        self.tokens.push_back(Token {
+            what,
+            first,
+            past,
+            line,
+        })?;
+        Ok(())
+    }
+
     /// Adds an item with its units, its span and its line.
     pub fn add(
         &mut self,
@@ -115,16 +145,7 @@ impl Builder {
         match item {
             Scanned::White => self.is_open = false,
             Scanned::Comment => {}
-            Scanned::Punctuation(what) => {
-                self.flush()?;
-                self.is_open = false;
-                self.tokens.push_back(Token {
-                    what,
-                    first,
-                    past,
-                    line,
-                })?;
-            }
+            Scanned::Punctuation(what) => self.add_mark(what, first, past, line)?,
             Scanned::Quoted => {
                 self.join(PendingText {
                     units,

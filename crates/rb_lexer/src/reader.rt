@@ -1,9 +1,10 @@
 //! A source that is read item by item.
 ghost use Rattle.std.specs.Prelude.{◌≡◌, ◌<◌, ℕ, List, length, OnOk, IfOk, IfErr, MatchResult};
-ghost use Rattle.std.specs.Prelude.{IsTrue, false};
+ghost use Rattle.std.specs.Prelude.{IsTrue, false, []};
 ghost use Rattle.std.specs.Str.{chars};
 ghost use Rattle.rb_lexer.specs.Atom.{Begins};
 ghost use Rattle.rb_lexer.specs.declared.fault.SourceKind.TheVariants.{Memory};
+ghost use Rattle.rb_lexer.specs.declared.scan.Scanned.TheVariants.{Punctuation};
 ghost use Rattle.rb_lexer.specs.declared.token.Token.{Token};
 ghost use Rattle.rb_lexer.specs.Tokens.{width};
 ghost use Rattle.rb_lexer.specs.inner.Left.{IsAtStart, IsPlaced, Gives, IsDone, Left};
@@ -13,6 +14,7 @@ use crate::fault::LexError;
 use crate::front::width;
 use crate::scan::{Scanned, first_mark, scan_first};
 use crate::text::line_feeds;
+use crate::token::Mark;
 use rb_tree::UnitList;
 use std::alloc::Global;
 
@@ -54,8 +56,7 @@ impl<'a> Reader<'a> {
         ensures done { IfOk result (λ more. more ≡ false → IsDone self.new) }
     {
         if let Some((mark, after)) = first_mark(self.rest) {
-            let item = Scanned::Punctuation(mark);
-            self.take(item, UnitList::new(self.alloc), after)?;
+            self.take_mark(mark, after)?;
             return Ok(true);
         }
         let mut units = UnitList::new(self.alloc);
@@ -65,6 +66,24 @@ impl<'a> Reader<'a> {
         };
         self.take(item, units, after)?;
         Ok(true)
+    }
+
+    /// Takes the mark that the rest begins with, given what follows it.
+    #[inline(always)]
+    fn take_mark(&mut self, mark: Mark, after: &'a str) -> Result<(), LexError>
+        requires placed { IsPlaced self.old }
+        requires begins { Begins (chars self.old.rest.now) (Punctuation mark) [] (chars after.now) }
+        ensures memory { IfErr result (λ e. e.kind ≡ Memory) }
+        ensures placed { OnOk result (IsPlaced self.new) }
+        ensures same { OnOk result ((ts : List Token) → Gives self.old ts → Gives self.new ts) }
+        ensures rest { OnOk result (self.new.rest.now ≡ after.now) }
+    {
+        let past = width(self.text) - width(after);
+        self.builder.add_mark(mark, self.first, past, self.line)?;
+        self.line += line_feeds(self.text.as_bytes(), self.first, past);
+        self.first = past;
+        self.rest = after;
+        Ok(())
     }
 
     /// Takes the item that the rest begins with, given what follows it.

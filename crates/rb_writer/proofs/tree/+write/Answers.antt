@@ -1,4 +1,4 @@
-use Rattle.std.proofs.Common.{arith, ap, ◌∙◌, refl, ◌≡◌, ◌<◌, length}
+use Rattle.std.proofs.Common.{arith, ap, ◌∙◌, refl, [], ◌∷◌, ◌≡◌, ◌<◌, length}
 use Rattle.std.proofs.lemmas.Grind.{common_steps}
 use Rattle.rb_tree.specs.Parts.{children_of, len_of}
 use Rattle.rb_tree.specs.inner.Lower.{child_lower}
@@ -26,6 +26,33 @@ write_children-write_value-requires t c =
         ),
       ),
     )
+
+pub write_only_child-write_value-requires : goal.write_only_child-write_value-requires
+write_only_child-write_value-requires t c =
+    let lower = child_lower (view_of c.args.tree.now) (view_of c.at.result.now) 0 c.at.ensures in
+    let none = children_none c.args.keys.now.area c.args.out.now (children_of (view_of c.args.tree.now)) c.requires.drafted in (
+      omega (arith, lower, c.decreases),
+      (
+        c.requires.drafted,
+        (
+          child_room _ _ _ _ _ _ _ (view_of c.at.result.now) none c.at.ensures c.requires.room,
+          (
+            c.requires.keys,
+            child_keys (λ k. HasPlace c.args.keys.now k) (view_of c.args.tree.now) (view_of c.at.result.now) 0 c.requires.each c.at.ensures,
+          ),
+        ),
+      ),
+    )
+
+pub write_only_child-returns-clause-stand : goal.write_only_child-returns-clause-stand
+write_only_child-returns-clause-stand t c =
+    children_more _ _ c.args.out.now _ _ [] 0 c.in_ok-item.item (view_of c.at.result.now)
+    (children_none c.args.keys.now.area c.args.out.now (children_of (view_of c.args.tree.now)) c.requires.drafted) c.at.ensures c.in_ok-item.ensures.stands
+
+pub write_only_child-returns-clause-laid : goal.write_only_child-returns-clause-laid
+write_only_child-returns-clause-laid t c = λ at a.
+    laid_more at _ c.args.out.now _ _ [] 0 c.in_ok-item.item (view_of c.at.result.now)
+    (none_laid_yet at c.args.out.now (children_of (view_of c.args.tree.now))) c.at.ensures (c.in_ok-item.ensures.laid at a)
 
 pub write_children-loop-i-init : goal.write_children-loop-i-init
 write_children-loop-i-init t c = rw (c.in_ok-reserve.ensures.items, c.take-items.ensures)
@@ -65,25 +92,25 @@ write_value-returns-in-Int-clause-stands t c = int_stands c.args.keys.now.area c
 pub write_value-returns-then-is_empty-clause-stands : goal.write_value-returns-then-is_empty-clause-stands
 write_value-returns-then-is_empty-clause-stands t c =
     let s : ChildrenStand c.args.keys.now.area c.args.out.now c.write_children.new.out
-    (children_of (view_of c.args.tree.now)) c.in_ok-items-in-Array.items.items (len_of (view_of c.args.tree.now)) = c.in_ok-items-in-Array.ensures.stand in
-    let none : length c.in_ok-items-in-Array.items.items ≡ 0 = grind (arith, common_steps, c.is_empty.ensures, c.if-is_empty.true) in
-    empty_array_stands c.args.keys.now.area c.args.out.now c.write_children.new.out c.in_ok-items-in-Array.items.items _ c.item-then-is_empty.result
-    c.in-Array.field-0 c.args.tree.now c.in-Array.is (rw c.in-Array.is at s) refl none c.item-then-is_empty.ensures.kind c.item-then-is_empty.ensures.offset
+    (children_of (view_of c.args.tree.now)) c.in_ok-items-in-Array-2.items.items (len_of (view_of c.args.tree.now)) = c.in_ok-items-in-Array-2.ensures.stand in
+    let none : length c.in_ok-items-in-Array-2.items.items ≡ 0 = grind (arith, common_steps, c.is_empty.ensures, c.if-is_empty.true) in
+    empty_array_stands c.args.keys.now.area c.args.out.now c.write_children.new.out c.in_ok-items-in-Array-2.items.items _ c.item-then-is_empty.result
+    c.in-Array-2.field-0 c.args.tree.now c.in-Array-2.is (rw c.in-Array-2.is at s) refl none c.item-then-is_empty.ensures.kind c.item-then-is_empty.ensures.offset
 
-pub write_value-returns-in_ok-give-in-Array-2-clause-stands : goal.write_value-returns-in_ok-give-in-Array-2-clause-stands
-write_value-returns-in_ok-give-in-Array-2-clause-stands t c =
+pub write_value-returns-in_ok-give-in-Array-2-2-clause-stands : goal.write_value-returns-in_ok-give-in-Array-2-2-clause-stands
+write_value-returns-in_ok-give-in-Array-2-2-clause-stands t c =
     let s : ChildrenStand c.args.keys.now.area c.args.out.now c.write_children.new.out
-    (children_of (view_of c.args.tree.now)) c.in_ok-items-in-Array.items.items (len_of (view_of c.args.tree.now)) = c.in_ok-items-in-Array.ensures.stand in
-    array_stands c.args.keys.now.area c.args.out.now c.write_children.new.out c.write_array.new.out c.in_ok-items-in-Array.items.items _
-    c.in_ok-offset-in-Array.offset c.item-in-Array.result c.in-Array.field-0 c.args.tree.now c.in-Array.is (rw c.in-Array.is at s) refl
-    (rw c.deref.ensures.value at c.in_ok-offset-in-Array.ensures.array) c.in_ok-offset-in-Array.ensures.small c.item-in-Array.ensures.kind
-    c.item-in-Array.ensures.offset
+    (children_of (view_of c.args.tree.now)) c.in_ok-items-in-Array-2.items.items (len_of (view_of c.args.tree.now)) = c.in_ok-items-in-Array-2.ensures.stand in
+    array_stands c.args.keys.now.area c.args.out.now c.write_children.new.out c.write_array-in-Array-2.new.out c.in_ok-items-in-Array-2.items.items _
+    c.in_ok-offset-in-Array-2.offset c.item-in-Array-2.result c.in-Array-2.field-0 c.args.tree.now c.in-Array-2.is (rw c.in-Array-2.is at s) refl
+    (rw c.deref.ensures.value at c.in_ok-offset-in-Array-2.ensures.array) c.in_ok-offset-in-Array-2.ensures.small c.item-in-Array-2.ensures.kind
+    c.item-in-Array-2.ensures.offset
 
-pub write_value-write_array-requires-clause-room : goal.write_value-write_array-requires-clause-room
-write_value-write_array-requires-clause-room t c =
+pub write_value-write_array-requires-in-Array-2-clause-room : goal.write_value-write_array-requires-in-Array-2-clause-room
+write_value-write_array-requires-in-Array-2-clause-room t c =
     let s : ChildrenStand c.args.keys.now.area c.args.out.now c.write_children.new.out
-    (children_of (view_of c.args.tree.now)) c.in_ok-items-in-Array.items.items (len_of (view_of c.args.tree.now)) = c.in_ok-items-in-Array.ensures.stand in
-    rw c.deref.ensures.value (array_room _ _ _ _ _ _ c.in-Array.field-0 c.args.tree.now c.in-Array.is (rw c.in-Array.is at s) refl c.requires.room)
+    (children_of (view_of c.args.tree.now)) c.in_ok-items-in-Array-2.items.items (len_of (view_of c.args.tree.now)) = c.in_ok-items-in-Array-2.ensures.stand in
+    rw c.deref.ensures.value (array_room _ _ _ _ _ _ c.in-Array-2.field-0 c.args.tree.now c.in-Array-2.is (rw c.in-Array-2.is at s) refl c.requires.room)
 
 pub write_value-write_table-requires-clause-room : goal.write_value-write_table-requires-clause-room
 write_value-write_table-requires-clause-room t c =
@@ -108,22 +135,22 @@ write_value-returns-in_ok-give-in-Table-2-clause-stands t c =
     c.write_table.new.out c.in_ok-items-in-Table.items.items _ c.in_ok-written-in-Table.written c.in-Table.entries c.args.tree.now c.in-Table.is
     (rw c.in-Table.is at s) refl c.requires.drafted c.requires.keys (rw c.deref-in-Table.ensures.value at c.in_ok-written-in-Table.ensures)
 
-pub write_value-returns-in_ok-give-in-Array-2-clause-laid : goal.write_value-returns-in_ok-give-in-Array-2-clause-laid
-write_value-returns-in_ok-give-in-Array-2-clause-laid t c =
+pub write_value-returns-in_ok-give-in-Array-2-2-clause-laid : goal.write_value-returns-in_ok-give-in-Array-2-2-clause-laid
+write_value-returns-in_ok-give-in-Array-2-2-clause-laid t c =
     let s : EachLaid c.args.keys.now c.args.out.now c.write_children.new.out
-    (children_of (view_of c.args.tree.now)) c.in_ok-items-in-Array.items.items (len_of (view_of c.args.tree.now)) = c.in_ok-items-in-Array.ensures.laid in
-    let some : 0 < length c.in_ok-items-in-Array.items.items = grind (arith, common_steps, c.is_empty.ensures, c.if-is_empty.false) in
-    array_laid_whole c.args.keys.now c.args.out.now c.write_children.new.out c.write_array.new.out c.in_ok-items-in-Array.items.items _
-    c.in_ok-offset-in-Array.offset c.item-in-Array.result c.in-Array.field-0 c.args.tree.now c.in-Array.is (rw c.in-Array.is at s) refl
-    (rw c.deref.ensures.value at c.in_ok-offset-in-Array.ensures.array) some c.item-in-Array.ensures.word
+    (children_of (view_of c.args.tree.now)) c.in_ok-items-in-Array-2.items.items (len_of (view_of c.args.tree.now)) = c.in_ok-items-in-Array-2.ensures.laid in
+    let some : 0 < length c.in_ok-items-in-Array-2.items.items = grind (arith, common_steps, c.is_empty.ensures, c.if-is_empty.false) in
+    array_laid_whole c.args.keys.now c.args.out.now c.write_children.new.out c.write_array-in-Array-2.new.out c.in_ok-items-in-Array-2.items.items _
+    c.in_ok-offset-in-Array-2.offset c.item-in-Array-2.result c.in-Array-2.field-0 c.args.tree.now c.in-Array-2.is (rw c.in-Array-2.is at s) refl
+    (rw c.deref.ensures.value at c.in_ok-offset-in-Array-2.ensures.array) some c.item-in-Array-2.ensures.word
 
 pub write_value-returns-then-is_empty-clause-laid : goal.write_value-returns-then-is_empty-clause-laid
 write_value-returns-then-is_empty-clause-laid t c =
     let s : EachLaid c.args.keys.now c.args.out.now c.write_children.new.out
-    (children_of (view_of c.args.tree.now)) c.in_ok-items-in-Array.items.items (len_of (view_of c.args.tree.now)) = c.in_ok-items-in-Array.ensures.laid in
-    let none : length c.in_ok-items-in-Array.items.items ≡ 0 = grind (arith, common_steps, c.is_empty.ensures, c.if-is_empty.true) in
-    empty_array_laid c.args.keys.now c.args.out.now c.write_children.new.out c.in_ok-items-in-Array.items.items _ c.item-then-is_empty.result
-    c.in-Array.field-0 c.args.tree.now c.in-Array.is (rw c.in-Array.is at s) refl none c.item-then-is_empty.ensures.word
+    (children_of (view_of c.args.tree.now)) c.in_ok-items-in-Array-2.items.items (len_of (view_of c.args.tree.now)) = c.in_ok-items-in-Array-2.ensures.laid in
+    let none : length c.in_ok-items-in-Array-2.items.items ≡ 0 = grind (arith, common_steps, c.is_empty.ensures, c.if-is_empty.true) in
+    empty_array_laid c.args.keys.now c.args.out.now c.write_children.new.out c.in_ok-items-in-Array-2.items.items _ c.item-then-is_empty.result
+    c.in-Array-2.field-0 c.args.tree.now c.in-Array-2.is (rw c.in-Array-2.is at s) refl none c.item-then-is_empty.ensures.word
 
 pub write_value-returns-in_ok-give-in-Table-2-clause-laid : goal.write_value-returns-in_ok-give-in-Table-2-clause-laid
 write_value-returns-in_ok-give-in-Table-2-clause-laid t c =
@@ -148,3 +175,28 @@ write_value-returns-then-is_empty-2-clause-laid t c =
     empty_table_laid c.args.keys.now c.args.out.now c.write_children-in-Table.new.out c.in_ok-items-in-Table.items.items _ c.item-then-is_empty-2.result
     c.in-Table.entries c.args.tree.now c.in-Table.is
     (rw c.in-Table.is at s) refl none (stand.count ∙ ap len_of (ap view_of c.in-Table.is)) c.item-then-is_empty-2.ensures.word
+
+-- ---- an array of one item
+
+pub write_value-write_array-requires-clause-room : goal.write_value-write_array-requires-clause-room
+write_value-write_array-requires-clause-room t c =
+    let s : ChildrenStand c.args.keys.now.area c.args.out.now c.write_only_child.new.out
+    (children_of (view_of c.args.tree.now)) (c.in_ok-only-in-Array.only ∷ []) 1 = c.in_ok-only-in-Array.ensures.stand in
+    array_room _ _ _ _ _ _ c.in-Array.trees c.args.tree.now c.in-Array.is (rw c.in-Array.is at s) (omega (arith, c.len.ensures, c.if-len-eq1.true)) c.requires.room
+
+pub write_value-returns-in_ok-offset-in-Array-clause-stands : goal.write_value-returns-in_ok-offset-in-Array-clause-stands
+write_value-returns-in_ok-offset-in-Array-clause-stands t c =
+    let s : ChildrenStand c.args.keys.now.area c.args.out.now c.write_only_child.new.out
+    (children_of (view_of c.args.tree.now)) (c.in_ok-only-in-Array.only ∷ []) 1 = c.in_ok-only-in-Array.ensures.stand in
+    array_stands c.args.keys.now.area c.args.out.now c.write_only_child.new.out c.write_array.new.out (c.in_ok-only-in-Array.only ∷ []) _
+    c.in_ok-offset-in-Array.offset c.item-in-Array.result c.in-Array.trees c.args.tree.now c.in-Array.is (rw c.in-Array.is at s) (omega (arith, c.len.ensures, c.if-len-eq1.true))
+    c.in_ok-offset-in-Array.ensures.array c.in_ok-offset-in-Array.ensures.small c.item-in-Array.ensures.kind
+    c.item-in-Array.ensures.offset
+
+pub write_value-returns-in_ok-offset-in-Array-clause-laid : goal.write_value-returns-in_ok-offset-in-Array-clause-laid
+write_value-returns-in_ok-offset-in-Array-clause-laid t c =
+    let s : EachLaid c.args.keys.now c.args.out.now c.write_only_child.new.out
+    (children_of (view_of c.args.tree.now)) (c.in_ok-only-in-Array.only ∷ []) 1 = c.in_ok-only-in-Array.ensures.laid in
+    array_laid_whole c.args.keys.now c.args.out.now c.write_only_child.new.out c.write_array.new.out (c.in_ok-only-in-Array.only ∷ []) _
+    c.in_ok-offset-in-Array.offset c.item-in-Array.result c.in-Array.trees c.args.tree.now c.in-Array.is (rw c.in-Array.is at s) (omega (arith, c.len.ensures, c.if-len-eq1.true))
+    c.in_ok-offset-in-Array.ensures.array (omega arith) c.item-in-Array.ensures.word

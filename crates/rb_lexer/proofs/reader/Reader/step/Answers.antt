@@ -16,7 +16,7 @@ returns-in_default-2-clause-same c = λ ts g.
     let f = c.in_ok-flush.ensures.flushed in
     record { atoms = []; spelled = none; good = tt; tokens = flush_gives c.args.self.now ts g none c.flush.new.self f.0 f.1 }
 
-pub take-requires-2-clause-begins : goal.take-requires-2-clause-begins
-take-requires-2-clause-begins c =
+pub take-requires-clause-begins : goal.take-requires-clause-begins
+take-requires-clause-begins c =
     let s = rw c.in-Some-2.is at c.in_ok-item.ensures.taken in
     subst (λ (us : List ℕ). Begins (chars c.args.self.now.rest.now) c.in-Some-2.item us (chars c.in-Some-2.after.now)) (sym s.1) s.2
