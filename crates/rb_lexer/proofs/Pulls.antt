@@ -1,5 +1,5 @@
 -- A source that gives its tokens as they are taken.
-use Rattle.std.proofs.Common.{◌≡◌, ℕ, ◌≤◌, List, [], ◌∷◌, ◌++◌, length, drop, length-drop, append-nil, Option, Some, None, MatchOption, refl, sym, ap, subst}
+use Rattle.std.proofs.Common.{◌≡◌, ℕ, ◌+◌, ◌≤◌, List, [], ◌∷◌, ◌++◌, length, drop, length-drop, append-nil, Option, Some, None, MatchOption, refl, sym, ap, subst}
 use Rattle.std.proofs.Common.{◌∙◌, arith, false, IsTrue, encode_utf8_all}
 use Rattle.std.proofs.Common.{◌⊎◌, inl, inr, ⊎_elim}
 use Rattle.std.proofs.lemmas.Str.{chars-nil}
@@ -11,16 +11,19 @@ use Rattle.rb_lexer.specs.declared.token.Token.{Token}
 use Rattle.rb_lexer.specs.declared.fault.SourceKind.TheVariants.{Memory}
 use Rattle.rb_lexer.specs.declared.fault.LexError.{LexError}
 use Rattle.rb_lexer.specs.Faults.{Broken}
-use Rattle.rb_lexer.specs.Tokens.{width, HasTokens}
+use Rattle.rb_lexer.specs.declared.scan.Scanned.{Scanned}
+use Rattle.rb_lexer.specs.declared.span.Span.{Span}
+use Rattle.rb_lexer.specs.Tokens.{width, line_of, HasTokens}
 use Rattle.rb_lexer.specs.Merging.{flushed}
-use Rattle.rb_lexer.specs.Atom.{Atom, atoms_chars, AreAtoms, atoms_tokens, Stops}
+use Rattle.rb_lexer.specs.Atom.{Atom, atoms_chars, AreAtoms, atoms_tokens, Begins, Stops}
+use Rattle.rb_lexer.specs.inner.Added.{Adds}
 use Rattle.rb_lexer.specs.inner.Passing.{IsUnbroken}
 use Rattle.rb_lexer.specs.inner.Left.{IsAtStart, IsPlaced, Gives, Left}
 use Rattle.rb_lexer.specs.Coming.{atoms_at, left}
 use Rattle.rb_lexer.proofs.Coming.{atoms_read}
 use Rattle.rb_lexer.proofs.Decided.{tail, texts_one}
 use Rattle.rb_lexer.proofs.Total.{reading}
-use Rattle.rb_lexer.proofs.Turns.{chars_front, are_front}
+use Rattle.rb_lexer.proofs.Turns.{chars_front, are_front, turn_place, width_atoms}
 use Rattle.rb_lexer.proofs.Whole.{found, memory_or}
 
 -- no characters, no atoms
@@ -37,6 +40,26 @@ rest_of xs front after e good are =
     (e ∙ ap (atoms_chars front) r.1.1 ∙ sym (chars_front front r.0 (tail r.1.0))) in
     let none : tail r.1.0 ≡ [] = ap tail (sym w.1) in
     (r.0, r.1.1 ∙ ap (atoms_chars r.0) none, rw none at r.1.2, w.0)
+
+-- What follows an item takes no more bytes than what begins with it.
+pub follows_within : (cs after us : List ℕ) (item : Scanned) → Begins cs item us after → width after ≤ width cs
+follows_within cs after us item w = omega (arith, ap width w.1, width_atoms w.0 after)
+
+-- The tokens that are to come are the same after an item is taken.
+pub taken : (r s : Reader) (ts : List Token) (item : Scanned) (us : List ℕ) (at : Span) → IsPlaced r → Begins (chars r.rest.now) item us (chars s.rest.now)
+    → Adds r.builder s.builder item us at → at.first ≡ r.first → at.line ≡ r.line → at.past + width (chars s.rest.now) ≡ length r.text.now
+    → s.first ≡ at.past → s.text.now ≡ r.text.now → Gives r ts → Gives s ts
+taken r s ts item us at placed w adds first line past to same g =
+    let p = turn_place r.first (chars r.rest.now) (chars s.rest.now) (length r.text.now) placed.at w.0 w.1 in
+    let y = rest_of g.atoms w.0 (chars s.rest.now) (sym g.spelled ∙ w.1) g.good w.2 in
+    record {
+      atoms = y.0;
+      spelled = y.1;
+      good = y.2;
+      tokens =
+          g.tokens ∙ ap (λ (xs : List Atom). r.builder.tokens.items ++ atoms_tokens r.text.now r.first r.builder.pending r.builder.is_open xs) y.3
+          ∙ rw (same, to, ← first) (adds r.text.now w.0 y.0 w.3 (line ∙ placed.line_is ∙ ap (line_of r.text.now) (sym first)) (omega (arith, p, past, first)));
+    }
 
 -- Reading stops there for want of memory alone.
 pub no_stop : (xs : List Atom) (cs : List ℕ) → cs ≡ atoms_chars xs [] → AreAtoms xs [] → (s : LexError) → Stops s cs → s.kind ≡ Memory

@@ -1,15 +1,16 @@
 //! Tokens as they come.
-ghost use Rattle.std.specs.Prelude.{◌≡◌, ◌++◌, ◌≤◌, ℕ, List, [], ◌+◌, ◌&&◌, is_some, None, Some};
+ghost use Rattle.std.specs.Prelude.{◌≡◌, ◌++◌, ℕ, List, [], ◌&&◌, is_some, None, Some};
 ghost use Rattle.std.specs.Prelude.{false, ◌∷◌, drop, length, MatchOption, OnOk, IfOk, IfErr};
 ghost use Rattle.rb_lexer.specs.declared.fault.SourceKind.TheVariants.{Memory};
 ghost use Rattle.rb_lexer.specs.declared.scan.Scanned.TheVariants.{Punctuation};
-ghost use Rattle.rb_lexer.specs.Tokens.{line_of, width};
 ghost use Rattle.rb_lexer.specs.Merging.{flushed, grown};
-ghost use Rattle.rb_lexer.specs.Atom.{Atom, Shows, atoms_chars, atoms_tokens, extended};
+ghost use Rattle.rb_lexer.specs.Atom.{extended};
+ghost use Rattle.rb_lexer.specs.inner.Added.{Adds};
 
 use crate::fault::LexError;
 use crate::pending::PendingText;
 use crate::scan::Scanned;
+use crate::span::Span;
 use crate::token::{Mark, Token};
 use rb_tree::UnitList;
 use std::alloc::Global;
@@ -96,77 +97,54 @@ impl Builder {
         Ok(())
     }
 
-    /// Adds a punctuation mark with its span and its line.
+    /// Adds a punctuation mark.
     #[inline(always)]
-    pub fn add_mark(
-        &mut self,
-        what: Mark,
-        first: usize,
-        past: usize,
-        line: u64,
-    ) -> Result<(), LexError>
+    pub fn add_mark(&mut self, what: Mark, at: Span) -> Result<(), LexError>
         ensures memory { IfErr result (λ e. e.kind ≡ Memory) }
-        ensures added { OnOk result ((bytes : List ℕ) (us : List ℕ) (xs rest : List Atom)
-            → Shows (Punctuation what) us xs
-            → line ≡ line_of bytes first → past ≡ first + width (atoms_chars xs [])
-            → self.old.tokens.items
-            ++ atoms_tokens bytes first self.old.pending self.old.is_open (xs ++ rest)
-            ≡ self.new.tokens.items
-            ++ atoms_tokens bytes past self.new.pending self.new.is_open rest) }
+        ensures added { OnOk result ((us : List ℕ)
+            → Adds self.old self.new (Punctuation what) us at) }
     {
         self.flush()?;
         self.is_open = false;
         self.tokens.push_back(Token {
             what,
-            first,
-            past,
-            line,
+            first: at.first,
+            past: at.past,
+            line: at.line,
         })?;
         Ok(())
     }
 
-    /// Adds an item with its units, its span and its line.
-    pub fn add(
-        &mut self,
-        item: Scanned,
-        units: UnitList,
-        first: usize,
-        past: usize,
-        line: u64,
-    ) -> Result<(), LexError>
+    /// Adds an item with its units.
+    pub fn add(&mut self, item: Scanned, units: UnitList, at: Span) -> Result<(), LexError>
         ensures memory { IfErr result (λ e. e.kind ≡ Memory) }
-        ensures added { OnOk result ((bytes : List ℕ) (xs rest : List Atom) → Shows item units xs
-            → line ≡ line_of bytes first → past ≡ first + width (atoms_chars xs [])
-            → self.old.tokens.items
-            ++ atoms_tokens bytes first self.old.pending self.old.is_open (xs ++ rest)
-            ≡ self.new.tokens.items
-            ++ atoms_tokens bytes past self.new.pending self.new.is_open rest) }
+        ensures added { OnOk result (Adds self.old self.new item units at) }
     {
         match item {
             Scanned::White => self.is_open = false,
             Scanned::Comment => {}
-            Scanned::Punctuation(what) => self.add_mark(what, first, past, line)?,
+            Scanned::Punctuation(what) => self.add_mark(what, at)?,
             Scanned::Quoted => {
                 self.join(PendingText {
                     units,
                     is_quoted: true,
-                    first,
-                    past,
-                    line,
+                    first: at.first,
+                    past: at.past,
+                    line: at.line,
                 })?;
                 self.is_open = false;
             }
             Scanned::Run => {
                 if self.goes_on() {
-                    self.extend(&units, past)?;
+                    self.extend(&units, at.past)?;
                     return Ok(());
                 }
                 self.join(PendingText {
                     units,
                     is_quoted: false,
-                    first,
-                    past,
-                    line,
+                    first: at.first,
+                    past: at.past,
+                    line: at.line,
                 })?;
                 self.is_open = true;
             }

@@ -14,6 +14,7 @@ mod pending;
 mod quoted;
 mod reader;
 mod scan;
+mod span;
 mod stream;
 mod text;
 mod token;

@@ -1,10 +1,8 @@
 //! A source that is read item by item.
-ghost use Rattle.std.specs.Prelude.{◌≡◌, ◌<◌, ℕ, List, length, OnOk, IfOk, IfErr, MatchResult};
-ghost use Rattle.std.specs.Prelude.{IsTrue, false, []};
+ghost use Rattle.std.specs.Prelude.{◌≡◌, ◌<◌, ◌≤◌, ◌+◌, List, length, OnOk, IfOk, MatchResult};
+ghost use Rattle.std.specs.Prelude.{IsTrue, false};
 ghost use Rattle.std.specs.Str.{chars};
-ghost use Rattle.rb_lexer.specs.Atom.{Begins};
 ghost use Rattle.rb_lexer.specs.declared.fault.SourceKind.TheVariants.{Memory};
-ghost use Rattle.rb_lexer.specs.declared.scan.Scanned.TheVariants.{Punctuation};
 ghost use Rattle.rb_lexer.specs.declared.token.Token.{Token};
 ghost use Rattle.rb_lexer.specs.Tokens.{width};
 ghost use Rattle.rb_lexer.specs.inner.Left.{IsAtStart, IsPlaced, Gives, IsDone, Left};
@@ -12,9 +10,9 @@ ghost use Rattle.rb_lexer.specs.inner.Left.{IsAtStart, IsPlaced, Gives, IsDone, 
 use crate::builder::Builder;
 use crate::fault::LexError;
 use crate::front::width;
-use crate::scan::{Scanned, first_mark, scan_first};
+use crate::scan::{first_mark, scan_first};
+use crate::span::Span;
 use crate::text::line_feeds;
-use crate::token::Mark;
 use rb_tree::UnitList;
 use std::alloc::Global;
 
@@ -56,7 +54,9 @@ impl<'a> Reader<'a> {
         ensures done { IfOk result (λ more. more ≡ false → IsDone self.new) }
     {
         if let Some((mark, after)) = first_mark(self.rest) {
-            self.take_mark(mark, after)?;
+            let at = self.up_to(after);
+            self.builder.add_mark(mark, at)?;
+            self.go_on(at.past, after);
             return Ok(true);
         }
         let mut units = UnitList::new(self.alloc);
@@ -64,44 +64,43 @@ impl<'a> Reader<'a> {
             self.builder.flush()?;
             return Ok(false);
         };
-        self.take(item, units, after)?;
+        let at = self.up_to(after);
+        self.builder.add(item, units, at)?;
+        self.go_on(at.past, after);
         Ok(true)
     }
 
-    /// Takes the mark that the rest begins with, given what follows it.
+    /// Where the rest of the source begins, up to what follows in it.
     #[inline(always)]
-    fn take_mark(&mut self, mark: Mark, after: &'a str) -> Result<(), LexError>
-        requires placed { IsPlaced self.old }
-        requires begins { Begins (chars self.old.rest.now) (Punctuation mark) [] (chars after.now) }
-        ensures memory { IfErr result (λ e. e.kind ≡ Memory) }
-        ensures placed { OnOk result (IsPlaced self.new) }
-        ensures same { OnOk result ((ts : List Token) → Gives self.old ts → Gives self.new ts) }
-        ensures rest { OnOk result (self.new.rest.now ≡ after.now) }
+    fn up_to(&self, after: &str) -> Span
+        requires placed { IsPlaced self.now }
+        requires within { width (chars after.now) ≤ width (chars self.now.rest.now) }
+        ensures first { result.first ≡ self.now.first }
+        ensures line { result.line ≡ self.now.line }
+        ensures past { result.past + width (chars after.now) ≡ length self.now.text.now }
     {
-        let past = width(self.text) - width(after);
-        self.builder.add_mark(mark, self.first, past, self.line)?;
-        self.line += line_feeds(self.text.as_bytes(), self.first, past);
-        self.first = past;
-        self.rest = after;
-        Ok(())
+        Span {
+            first: self.first,
+            past: width(self.text) - width(after),
+            line: self.line,
+        }
     }
 
-    /// Takes the item that the rest begins with, given what follows it.
+    /// Goes on to the byte `past`, where this follows.
     #[inline(always)]
-    fn take(&mut self, item: Scanned, units: UnitList, after: &'a str) -> Result<(), LexError>
+    fn go_on(&mut self, past: usize, after: &'a str)
         requires placed { IsPlaced self.old }
-        requires begins { Begins (chars self.old.rest.now) item units (chars after.now) }
-        ensures memory { IfErr result (λ e. e.kind ≡ Memory) }
-        ensures placed { OnOk result (IsPlaced self.new) }
-        ensures same { OnOk result ((ts : List Token) → Gives self.old ts → Gives self.new ts) }
-        ensures rest { OnOk result (self.new.rest.now ≡ after.now) }
+        requires order { self.old.first ≤ past }
+        requires follows { past + width (chars after.now) ≡ length self.old.text.now }
+        ensures placed { IsPlaced self.new }
+        ensures first { self.new.first ≡ past }
+        ensures rest { self.new.rest.now ≡ after.now }
+        ensures same_text { self.new.text.now ≡ self.old.text.now }
+        ensures same_builder { self.new.builder ≡ self.old.builder }
     {
-        let past = width(self.text) - width(after);
-        self.builder.add(item, units, self.first, past, self.line)?;
         self.line += line_feeds(self.text.as_bytes(), self.first, past);
         self.first = past;
         self.rest = after;
-        Ok(())
     }
 
     /// Reads on until two tokens wait, or all that are left.

@@ -32,7 +32,7 @@ use Rattle.rb_parser.specs.declared.cursor.Guess.TheVariants.{Text}
 use Rattle.rb_parser.specs.declared.word.Word.TheVariants as word
 use Rattle.rb_parser.specs.declared.word.Leaf as word_leaf
 use Rattle.rb_parser.specs.inner.Rows.{Pair}
-use Rattle.rb_parser.proofs.Steps.{located_bind, fault_is}
+use Rattle.rb_parser.proofs.Steps.{located_bind, fault_is, stops_at}
 
 -- the same end and the same reading
 pub reads_same : {X Y : Type 0} (R : X → Y → Type 0) (end at : ℕ) (r : Result X SourceFault) (rest : List Token) (read other : Read Y) → at ≡ end → other ≡ read
@@ -54,52 +54,46 @@ depth_error end depth ts e none kind line = rw none (by (begins colon ts || begi
   by true k = ap Err (fault_is e TooDeep (line_at end ts) k line)
   by false k = ap Err (fault_is e Unexpected (line_at end ts) k line)
 
--- ---- a body, once its first mark is taken or not
+-- ---- a body, by its first mark
 
-module _ (depth below : ℕ) (ts next : List Token) (b : Bool) (some : depth ≡ suc below) (value : b ≡ begins colon ts)
-    (goes : next ≡ cond (begins colon ts) (tail ts) ts) where
+module _ (depth below : ℕ) (ts : List Token) (some : depth ≡ suc below) where
   body_is : body the_tests depth ts ≡ body_at the_tests (inner_at below) ts
   unfolding body
   body_is = rw some refl
 
-  typed_is : b ≡ true → body the_tests depth ts ≡ (word_at next >>= λ w. punctuation_at left w.1 >>= λ after. typed_at the_tests (inner_at below) w.0 after)
-  typed_is comes =
-      let opens : begins colon ts ≡ true = sym value ∙ comes in
-      let same : next ≡ tail ts = goes ∙ ap (λ c. cond c (tail ts) ts) opens in
-      body_is ∙ rw (opens, same) refl
+  module _ (next : List Token) (comes : begins colon ts ≡ true) (goes : next ≡ tail ts) where
+    typed_is : body the_tests depth ts ≡ (word_at next >>= λ w. punctuation_at left w.1 >>= λ after. typed_at the_tests (inner_at below) w.0 after)
+    typed_is = body_is ∙ rw (comes, goes) refl
 
-  untyped_is : b ≡ false → body the_tests depth ts ≡ (punctuation_at left next >>= λ after. untyped_at the_tests (inner_at below) (guess after) after)
-  untyped_is no_colon =
-      let opens : begins colon ts ≡ false = sym value ∙ no_colon in
-      let same : next ≡ ts = goes ∙ ap (λ c. cond c (tail ts) ts) opens in
-      body_is ∙ rw (opens, same) refl
+    pub bad_word : (end at : ℕ) (e : SourceFault) → at ≡ end → located at (word_at next) ≡ Err e → located end (body the_tests depth ts) ≡ Err e
+    bad_word end at e same h =
+        located_same end at (word_at next >>= λ w. punctuation_at left w.1 >>= λ after. typed_at the_tests (inner_at below) w.0 after)
+        (body the_tests depth ts) e same typed_is
+        (located_bind at (word_at next) (λ w. punctuation_at left w.1 >>= λ after. typed_at the_tests (inner_at below) w.0 after) e h)
 
-  pub bad_word : (end at : ℕ) (e : SourceFault) → b ≡ true → at ≡ end → located at (word_at next) ≡ Err e → located end (body the_tests depth ts) ≡ Err e
-  bad_word end at e comes same h =
-      located_same end at (word_at next >>= λ w. punctuation_at left w.1 >>= λ after. typed_at the_tests (inner_at below) w.0 after) (body the_tests depth ts) e
-      same (typed_is comes) (located_bind at (word_at next) (λ w. punctuation_at left w.1 >>= λ after. typed_at the_tests (inner_at below) w.0 after) e h)
+    module _ (w : Word) (mid : List Token) (named : word_at next ≡ Ok (w, mid)) where
+      after_word : body the_tests depth ts ≡ (punctuation_at left mid >>= λ after. typed_at the_tests (inner_at below) w after)
+      after_word = typed_is ∙ rw named refl
 
-  module _ (w : Word) (mid : List Token) (comes : b ≡ true) (named : word_at next ≡ Ok (w, mid)) where
-    after_word : body the_tests depth ts ≡ (punctuation_at left mid >>= λ after. typed_at the_tests (inner_at below) w after)
-    after_word = typed_is comes ∙ rw named refl
+      pub no_brace : (end at : ℕ) (e : SourceFault) → at ≡ end → located at (punctuation_at left mid) ≡ Err e → located end (body the_tests depth ts) ≡ Err e
+      no_brace end at e same h =
+          located_same end at (punctuation_at left mid >>= λ after. typed_at the_tests (inner_at below) w after) (body the_tests depth ts) e same after_word
+          (located_bind at (punctuation_at left mid) (λ after. typed_at the_tests (inner_at below) w after) e h)
 
-    pub no_brace : (end at : ℕ) (e : SourceFault) → at ≡ end → located at (punctuation_at left mid) ≡ Err e → located end (body the_tests depth ts) ≡ Err e
-    no_brace end at e same h =
-        located_same end at (punctuation_at left mid >>= λ after. typed_at the_tests (inner_at below) w after) (body the_tests depth ts) e same after_word
-        (located_bind at (punctuation_at left mid) (λ after. typed_at the_tests (inner_at below) w after) e h)
+      pub typed_body : (after : List Token) → punctuation_at left mid ≡ Ok after → body the_tests depth ts ≡ typed_at the_tests (inner_at below) w after
+      typed_body after opened = after_word ∙ rw opened refl
 
-    pub typed_body : (after : List Token) → punctuation_at left mid ≡ Ok after → body the_tests depth ts ≡ typed_at the_tests (inner_at below) w after
-    typed_body after opened = after_word ∙ rw opened refl
+  module _ (no_colon : begins colon ts ≡ false) where
+    untyped_is : body the_tests depth ts ≡ (punctuation_at left ts >>= λ after. untyped_at the_tests (inner_at below) (guess after) after)
+    untyped_is = body_is ∙ rw no_colon refl
 
-  pub unopened : (end at : ℕ) (e : SourceFault) → b ≡ false → at ≡ end → located at (punctuation_at left next) ≡ Err e
-      → located end (body the_tests depth ts) ≡ Err e
-  unopened end at e no_colon same h =
-      located_same end at (punctuation_at left next >>= λ after. untyped_at the_tests (inner_at below) (guess after) after) (body the_tests depth ts) e same
-      (untyped_is no_colon) (located_bind at (punctuation_at left next) (λ after. untyped_at the_tests (inner_at below) (guess after) after) e h)
+    pub unopened : (end : ℕ) (e : SourceFault) → begins left ts ≡ false → e.kind ≡ Unexpected → e.line ≡ line_at end ts
+        → located end (body the_tests depth ts) ≡ Err e
+    unopened end e no_left kind line = stops_at end Unexpected ts e (body the_tests depth ts) (untyped_is ∙ rw no_left refl) kind line
 
-  pub untyped_body : (after : List Token) → b ≡ false → punctuation_at left next ≡ Ok after
-      → body the_tests depth ts ≡ untyped_at the_tests (inner_at below) (guess after) after
-  untyped_body after no_colon opened = untyped_is no_colon ∙ rw opened refl
+    pub untyped_body : (next : List Token) → begins left ts ≡ true → next ≡ tail ts
+        → body the_tests depth ts ≡ untyped_at the_tests (inner_at below) (guess next) next
+    untyped_body next opened goes = untyped_is ∙ rw (opened, goes) refl
 
 -- ---- leaves with their closing brace
 

@@ -225,33 +225,23 @@ module _ {depth : ℕ} {start now : Cursor} {trees : List Tree} (inv : ElementsA
       comes
       (ap (nat_lt 0) none) kind (line ∙ ap (λ end. line_at end now.rest) inv.same_end)
 
-  -- whether a body comes next, asked at a cursor with the same tokens
-  opens : (next : Cursor) (at b : Bool) → NothingTaken now next → at ≡ (begins colon next.rest || begins left next.rest) → at ≡ b
-      → (begins colon now.rest || begins left now.rest) ≡ b
-  opens next at b took is so = sym (is ∙ ap (λ r. begins colon r || begins left r) took.rest) ∙ so
-
-  pub elements_bad_body : (e : SourceFault) (next : Cursor) (at : Bool) → NothingTaken now next
-      → at ≡ (begins colon next.rest || begins left next.rest) → at ≡ true
-      → (e.kind ≢ Memory → located next.end (body the_tests depth next.rest) ≡ Err e) → ElementsStop depth start e
-  elements_bad_body e next at took is so h = λ other.
+  pub elements_bad_body : (e : SourceFault) → (first_text now.rest ≡ None) × ((begins colon now.rest || begins left now.rest) ≡ true)
+      → (e.kind ≢ Memory → located now.end (body the_tests depth now.rest) ≡ Err e) → ElementsStop depth start e
+  elements_bad_body e comes h = λ other.
       parts.stop_element (nat_lt 0 depth) (body the_tests depth) (suc (length start.rest)) start.rest now.rest trees inv.so_far start.end e
-      took.none (opens next at true took is so)
-      (ap₂ (λ end r. located end (body the_tests depth r)) (sym (took.same_end ∙ inv.same_end)) (sym took.rest) ∙ h other)
+      comes.0 comes.1 (ap (λ end. located end (body the_tests depth now.rest)) (sym inv.same_end) ∙ h other)
 
-  pub elements_open : (e : SourceFault) (next : Cursor) (at : Bool) → NothingTaken now next
-      → at ≡ (begins colon next.rest || begins left next.rest) → at ≡ false
-      → (e.kind ≢ Memory → located next.end (punctuation_at right next.rest) ≡ Err e) → ElementsStop depth start e
-  elements_open e next at took is so h = λ other.
+  pub elements_open : (e : SourceFault) → (first_text now.rest ≡ None) × ((begins colon now.rest || begins left now.rest) ≡ false)
+      → (e.kind ≢ Memory → located now.end (punctuation_at right now.rest) ≡ Err e) → ElementsStop depth start e
+  elements_open e comes h = λ other.
       parts.stop_open (nat_lt 0 depth) (body the_tests depth) (suc (length start.rest)) start.rest now.rest trees inv.so_far start.end e
-      took.none (opens next at false took is so)
-      (ap₂ (λ end r. located end (punctuation_at right r)) (sym (took.same_end ∙ inv.same_end)) (sym took.rest) ∙ h other)
+      comes.0 comes.1 (ap (λ end. located end (punctuation_at right now.rest)) (sym inv.same_end) ∙ h other)
 
-  pub elements_done : (next : Cursor) (at : Bool) (r : List Token) → NothingTaken now next
-      → at ≡ (begins colon next.rest || begins left next.rest) → at ≡ false → punctuation_at right next.rest ≡ Ok r
+  pub elements_done : (r : List Token) → (first_text now.rest ≡ None) × ((begins colon now.rest || begins left now.rest) ≡ false)
+      → punctuation_at right now.rest ≡ Ok r
       → (xs : Elements) × (all_elements depth start.rest ≡ Ok (xs, r)) × EachSpells xs (views_of trees)
-  elements_done next at r took is so h =
-      parts.elements_end (nat_lt 0 depth) (body the_tests depth) (suc (length start.rest)) start.rest now.rest trees inv.so_far r took.none
-      (opens next at false took is so) (ap (punctuation_at right) (sym took.rest) ∙ h)
+  elements_done r comes h =
+      parts.elements_end (nat_lt 0 depth) (body the_tests depth) (suc (length start.rest)) start.rest now.rest trees inv.so_far r comes.0 comes.1 h
 
   pub elements_text : (s : List ℕ) (next after : Cursor) (more : List Tree) → first_text now.rest ≡ Some s → 0 < depth → TextTaken now next
       → after.end ≡ next.end → after.rest ≡ after_comma next.rest → length after.rest < length now.rest
@@ -264,15 +254,15 @@ module _ {depth : ℕ} {start now : Cursor} {trees : List Tree} (inv : ElementsA
         s after.rest comes (lt-ltb 0 depth some) (rest ∙ ap after_comma took.rest) shorter);
   }
 
-  pub elements_body : (b : Body) (next read after : Cursor) (at : Bool) (t : Tree) (more : List Tree) → NothingTaken now next
-      → at ≡ (begins colon next.rest || begins left next.rest) → at ≡ true
-      → body the_tests depth next.rest ≡ Ok (b, read.rest) → IsBodyTree t b → read.end ≡ next.end
+  pub elements_body : (b : Body) (read after : Cursor) (t : Tree) (more : List Tree)
+      → (first_text now.rest ≡ None) × ((begins colon now.rest || begins left now.rest) ≡ true)
+      → body the_tests depth now.rest ≡ Ok (b, read.rest) → IsBodyTree t b → read.end ≡ now.end
       → after.end ≡ read.end → after.rest ≡ after_comma read.rest → length after.rest < length now.rest
       → more ≡ trees ++ t ∷ [] → ElementsAt depth start after more
-  elements_body b next read after at t more took is so h means read_end after_end rest shorter more_is = record {
-    same_end = after_end ∙ read_end ∙ took.same_end ∙ inv.same_end;
+  elements_body b read after t more comes h means read_end after_end rest shorter more_is = record {
+    same_end = after_end ∙ read_end ∙ inv.same_end;
     no_longer = omega (arith, inv.no_longer, shorter);
     so_far =
         rw more_is (parts.body_turn (nat_lt 0 depth) (body the_tests depth) (suc (length start.rest)) start.rest now.rest trees inv.so_far
-        b read.rest after.rest t took.none (opens next at true took is so) (ap (body the_tests depth) (sym took.rest) ∙ h) means rest shorter);
+        b read.rest after.rest t comes.0 comes.1 h means rest shorter);
   }

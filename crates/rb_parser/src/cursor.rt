@@ -8,7 +8,7 @@ ghost use Rattle.rb_grammar.specs.Reading.{left, colon, begins, is_punctuation, 
 ghost use Rattle.rb_grammar.specs.Reading.{is_no_fallback_text};
 ghost use Rattle.rb_grammar.specs.Reading.{punctuation_at, text_at, word_at, guess, guess_second};
 ghost use Rattle.rb_parser.specs.inner.Reads.{located, Reads};
-ghost use Rattle.rb_parser.specs.inner.Views.{punctuation_of, guessed, word_of};
+ghost use Rattle.rb_parser.specs.inner.Views.{punctuation_of, next_of, guessed, word_of};
 
 use crate::word::{Word, is_no_fallback_table, word_fault};
 use rb_lexer::{Mark, SourceFault, SourceKind, Token, Tokens};
@@ -22,6 +22,15 @@ pub enum Punctuation {
     Right,
     Colon,
     Comma,
+}
+
+/// What comes next, of what a value may begin with.
+#[derive(Clone, Copy)]
+pub enum Next {
+    Text,
+    Left,
+    Colon,
+    Other,
 }
 
 /// What a body without a type is.
@@ -66,7 +75,8 @@ impl<'a> Cursor<'a> {
         self.rest.pop()
     }
 
-    fn skip(&mut self) -> Result<(), AllocError>
+    /// Takes the next token, if there is one, and drops it.
+    pub fn skip(&mut self) -> Result<(), AllocError>
         ensures same_end { self.new.end ≡ self.old.end }
         ensures rest { OnOk result (self.new.rest ≡ tail self.old.rest) }
     {
@@ -116,6 +126,21 @@ impl<'a> Cursor<'a> {
         ensures { result ≡ begins colon self.now.rest || begins left self.now.rest }
     {
         self.is_at(Punctuation::Colon) || self.is_at(Punctuation::Left)
+    }
+
+    /// What comes next.
+    pub fn next(&self) -> Next
+        ensures { result ≡ next_of self.now.rest }
+    {
+        let Some(first) = self.first() else {
+            return Next::Other;
+        };
+        match first.what {
+            Mark::Text(_) => Next::Text,
+            Mark::LeftBrace => Next::Left,
+            Mark::Colon => Next::Colon,
+            Mark::RightBrace | Mark::Comma => Next::Other,
+        }
     }
 
     /// The error at the next token if no deeper value is allowed: it begins one, or it is out of

@@ -9,7 +9,7 @@ ghost use Rattle.rb_parser.specs.inner.Reads.{IsArrayTree};
 ghost use Rattle.rb_parser.specs.inner.Rows.{AreRead, IsKnown};
 ghost use Rattle.rb_parser.specs.inner.Views.{word_of};
 
-use crate::cursor::{Cursor, Guess, Punctuation};
+use crate::cursor::{Cursor, Guess, Next, Punctuation};
 use crate::key::read_key;
 use crate::leaf::read_leaf;
 use crate::table::Rows;
@@ -29,13 +29,18 @@ pub fn read_body(alloc: Global, cursor: &mut Cursor, depth: u64) -> Result<Tree,
     if depth == 0 {
         return Err(cursor.depth_error());
     }
-    if cursor.take(Punctuation::Colon)? {
-        let word = cursor.word()?;
-        cursor.expect(Punctuation::Left)?;
-        read_typed(alloc, cursor, word, depth - 1)
-    } else {
-        cursor.expect(Punctuation::Left)?;
-        read_untyped(alloc, cursor, depth - 1)
+    match cursor.next() {
+        Next::Colon => {
+            cursor.skip()?;
+            let word = cursor.word()?;
+            cursor.expect(Punctuation::Left)?;
+            read_typed(alloc, cursor, word, depth - 1)
+        }
+        Next::Left => {
+            cursor.skip()?;
+            read_untyped(alloc, cursor, depth - 1)
+        }
+        Next::Text | Next::Other => Err(cursor.fault(SourceKind::Unexpected)),
     }
 }
 
@@ -155,17 +160,16 @@ fn read_array(alloc: Global, cursor: &mut Cursor, depth: u64) -> Result<Tree, So
 {
     let mut trees = Vec::new(alloc);
     'elements: loop {
-        let too_deep = cursor.fault(SourceKind::TooDeep);
-        let next = cursor.take_text()?;
-        if let Some(text) = next {
-            if depth == 0 {
-                return Err(too_deep);
+        match cursor.next() {
+            Next::Text => {
+                if depth == 0 {
+                    return Err(cursor.fault(SourceKind::TooDeep));
+                }
+                let text = cursor.text()?;
+                add_tree(&mut trees, Tree::String(text))?;
             }
-            add_tree(&mut trees, Tree::String(text))?;
-        } else if cursor.is_at_body() {
-            add_tree(&mut trees, read_body(alloc, cursor, depth)?)?;
-        } else {
-            break;
+            Next::Left | Next::Colon => add_tree(&mut trees, read_body(alloc, cursor, depth)?)?,
+            Next::Other => break,
         }
         cursor.take(Punctuation::Comma)?;
     }

@@ -86,6 +86,11 @@ children_more area old mid new cs is n item u s e p =
       ];
     }
 
+-- The only child was written, and its item is that of all.
+pub only_stands : (area : KeyArea) (old new : List ℕ) (cs : List Resource) (item : ℕ) (u : Resource) → IsDraft area old → Some u ≡ slice_get cs 0
+    → Stands area old new u item → ChildrenStand area old new cs (item ∷ []) 1
+only_stands area old new cs item u d e p = children_more area old old new cs [] 0 item u (children_none area old cs d) e p
+
 trees_count : (ts : Resources) → children_most (items ts) + 4 * length (items ts) ≡ trees_most ts
 trees_count no_trees = refl
 trees_count (tree_and t ts) = omega (arith, trees_count ts)

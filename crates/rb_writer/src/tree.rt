@@ -1,5 +1,5 @@
 //! The values of a tree, each after its children.
-ghost use Rattle.std.specs.Prelude.{IfOk, length, [], ◌∷◌, ◌≡◌, ◌+◌, ◌^◌, ◌≤◌};
+ghost use Rattle.std.specs.Prelude.{IfOk, length, ◌+◌, ◌^◌, ◌≤◌};
 ghost use Rattle.rb_tree.specs.Parts.{kind_of, len_of, children_of, HasChildren};
 ghost use Rattle.rb_tree.specs.View.{view_of};
 ghost use Rattle.rb_writer.specs.inner.Growth.{IsDraft};
@@ -20,7 +20,7 @@ use std::alloc::AllocError;
 
 /// Writes a tree, and returns the item that stands for it.
 #[cycle(write)]
-#[tactic(auto, using(crate::proofs::Nodes::children_le, crate::proofs::Containing::array_room, crate::proofs::Containing::table_room))]
+#[tactic(auto, using(rb_tree::specs::inner::Lower::child_lower, crate::proofs::Nodes::children_le))]
 pub fn write_value(
     spare: &mut Spare,
     out: &mut Data,
@@ -42,27 +42,21 @@ pub fn write_value(
         Tree::Ints(numbers) => Ok(item(ItemKind::Ints, write_numbers(out, numbers.as_slice())?)),
         Tree::Binary(bytes) => Ok(item(ItemKind::Binary, write_bytes(out, bytes.as_slice())?)),
         Tree::Alias(units) => Ok(item(ItemKind::Alias, write_units(out, units.as_slice())?)),
+        Tree::Array(trees) if trees.len() == 0 => Ok(item(ItemKind::Array, 0)),
         Tree::Array(trees) if trees.len() == 1 => {
-            let only = write_only_child(spare, out, keys, entry, tree)?;
-            let offset = write_array(out, &[only])?;
-            Ok(item(ItemKind::Array, offset))
+            // Deep texts are made of such arrays, for which no list is needed.
+            let only = write_value(spare, out, keys, entry, tree.at(0))?;
+            Ok(item(ItemKind::Array, write_array(out, &[only])?))
         }
         Tree::Array(_) => {
             let items = write_children(spare, out, keys, entry, tree)?;
-            if items.is_empty() {
-                spare.give(items)?;
-                return Ok(item(ItemKind::Array, 0));
-            }
             let offset = write_array(out, &items)?;
             spare.give(items)?;
             Ok(item(ItemKind::Array, offset))
         }
+        Tree::Table(entries) if entries.len() == 0 => Ok(item(ItemKind::Table, 0)),
         Tree::Table(entries) => {
             let items = write_children(spare, out, keys, entry, tree)?;
-            if items.is_empty() {
-                spare.give(items)?;
-                return Ok(item(ItemKind::Table, 0));
-            }
             let written = write_table(spare, out, keys, entry, entries, &items)?;
             spare.give(items)?;
             Ok(written)
@@ -97,30 +91,4 @@ fn write_children(
         items.push(item)?;
     }
     Ok(items)
-}
-
-/// Writes the child of an array of one, and returns the item that stands for it. Deep texts are
-/// made of such arrays, for which no list is needed.
-#[cycle(write)]
-#[tactic(auto, using(rb_tree::specs::inner::Lower::child_lower))]
-fn write_only_child(
-    spare: &mut Spare,
-    out: &mut Data,
-    keys: &KeyPlaces<'_>,
-    entry: &mut usize,
-    tree: &Tree,
-) -> Result<u32, AllocError>
-    requires nested { HasChildren (kind_of (view_of tree.now)) }
-    requires only { len_of (view_of tree.now) ≡ 1 }
-    requires drafted { IsDraft keys.now.area out.old }
-    requires room { length out.old + children_most (children_of (view_of tree.now)) ≤ 2 ^ 28 }
-    requires keys { KeysStand keys.now.area out.old keys.now }
-    requires each { HasPlaces keys.now (view_of tree.now) }
-    ensures stand { IfOk result (λ item. ChildrenStand keys.now.area out.old out.new
-        (children_of (view_of tree.now)) (item ∷ []) 1) }
-    ensures laid { IfOk result (λ item. EachLaid keys.now out.old out.new
-        (children_of (view_of tree.now)) (item ∷ []) 1) }
-{
-    let item = write_value(spare, out, keys, entry, tree.at(0))?;
-    Ok(item)
 }

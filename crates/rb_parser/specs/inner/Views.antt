@@ -1,12 +1,17 @@
--- For the contracts of this crate's own functions: the program's punctuation, guesses and types beside those of the
--- grammar's reading function.
-use Rattle.std.specs.Prelude.{ℕ, Result, Ok, Err}
+-- For the contracts of this crate's own functions: the program's punctuation, what comes next, guesses and types beside
+-- those of the grammar's reading function.
+use Rattle.std.specs.Prelude.{ℕ, List, [], ◌∷◌, Result, Ok, Err}
 use Rattle.rb_lexer.specs.declared.fault.SourceKind.TheVariants.{Unexpected}
 use Rattle.rb_lexer.specs.declared.fault.SourceFault.{SourceFault}
 use Rattle.rb_grammar.specs.Faults.{line_at}
 use Rattle.rb_grammar.specs.Reading as reading
 use Rattle.rb_parser.specs.declared.cursor.Punctuation.{Punctuation}
 use Rattle.rb_parser.specs.declared.cursor.Punctuation.TheVariants.{Left, Right, Colon, Comma}
+use Rattle.rb_lexer.specs.declared.token.Token.{Token}
+use Rattle.rb_lexer.specs.declared.token.Mark.{Mark}
+use Rattle.rb_lexer.specs.declared.token.Mark.TheVariants as mark
+use Rattle.rb_parser.specs.declared.cursor.Next.{Next}
+use Rattle.rb_parser.specs.declared.cursor.Next.TheVariants as next
 use Rattle.rb_parser.specs.declared.cursor.Guess.{Guess}
 use Rattle.rb_parser.specs.declared.cursor.Guess.TheVariants.{Text, Table, Array}
 use Rattle.rb_parser.specs.declared.word.Word.{Word}
@@ -18,6 +23,17 @@ punctuation_of Left = reading.left
 punctuation_of Right = reading.right
 punctuation_of Colon = reading.colon
 punctuation_of Comma = reading.comma
+
+abbrev pub next_mark : Mark → Next
+next_mark (mark.Text s) = next.Text
+next_mark mark.LeftBrace = next.Left
+next_mark mark.Colon = next.Colon
+next_mark mark.RightBrace = next.Other
+next_mark mark.Comma = next.Other
+
+abbrev pub next_of : List Token → Next
+next_of [] = next.Other
+next_of (t ∷ ts) = next_mark t.what
 
 -- what is guessed, or the error at the token that decides
 abbrev pub guessed : ℕ → reading.Guess → Result Guess SourceFault

@@ -14,8 +14,10 @@ use Rattle.rb_grammar.specs.Reading.{is_among}
 use Rattle.rb_parser.specs.inner.Rows.{keys_after, later_fault}
 use Rattle.rb_parser.proofs.Loops.{entries_begin, entries_bad_key, entries_bad_body, entries_open, entries_done, entries_more, table_reads, table_stops}
 use Rattle.rb_parser.proofs.Loops.{elements_begin, elements_too_deep, elements_bad_body, elements_open, elements_done, elements_text, elements_body}
-use Rattle.rb_parser.proofs.parser.+body.Goals.{read_array-in-Some+else-depth-eq0+in_ok-add_tree}
-use Rattle.rb_parser.proofs.parser.+body.Goals.{read_array-in_default+then-is_at_body+in_ok-read_body+in_ok-add_tree-2}
+use Rattle.rb_parser.proofs.Steps.{text_parts}
+use Rattle.rb_parser.proofs.Takes.{next_text, next_colon, next_left, next_body, next_other, no_body}
+use Rattle.rb_parser.proofs.parser.+body.Goals.{read_array-in-Text+else-depth-eq0+in_ok-text-in-Text+in_ok-add_tree-in-Text}
+use Rattle.rb_parser.proofs.parser.+body.Goals.{read_array-in-Left+in_ok-read_body-in-Left+in_ok-add_tree-in-Left}
 use Rattle.rb_parser.proofs.parser.+body.Goals as goal
 
 pub read_body-returns-then-depth-eq0-clause-exact : goal.read_body-returns-then-depth-eq0-clause-exact
@@ -23,52 +25,52 @@ read_body-returns-then-depth-eq0-clause-exact t c = λ other.
     depth_error c.args.cursor.now.end c.args.depth c.args.cursor.now.rest c.depth_error.result c.if-depth-eq0.true c.depth_error.ensures.kind
     c.depth_error.ensures.line
 
-pub read_body-returns-in_err-word-clause-exact : goal.read_body-returns-in_err-word-clause-exact
-read_body-returns-in_err-word-clause-exact t c =
-    let p = err_from_is_err_and c.from_residual-in_err-word.result c.from_residual-in_err-word.ensures.1 in
-    rw (p.1, p.2) (λ other. bad_word c.args.depth (c.args.depth - 1) c.args.cursor.now.rest c.take.new.self.rest c.in_ok-take.field-0 (omega arith)
-    c.in_ok-take.ensures.value c.in_ok-take.ensures.rest
-    c.args.cursor.now.end c.take.new.self.end _ c.if-branch.true c.in_ok-take.ensures.same_end (c.in_err-word.ensures.exact other))
+pub read_body-returns-in_err-word-in-Colon-clause-exact : goal.read_body-returns-in_err-word-in-Colon-clause-exact
+read_body-returns-in_err-word-in-Colon-clause-exact t c =
+    let p = err_from_is_err_and c.from_residual-in_err-word-in-Colon.result c.from_residual-in_err-word-in-Colon.ensures.1 in
+    let comes = next_colon c.args.cursor.now.rest (sym c.next.ensures ∙ c.in-Colon.is) in
+    rw (p.1, p.2) (λ other. bad_word c.args.depth (c.args.depth - 1) c.args.cursor.now.rest (omega arith) c.skip.new.self.rest comes
+    c.in_ok-skip-in-Colon.ensures.rest c.args.cursor.now.end c.skip.new.self.end _ c.in_ok-skip-in-Colon.ensures.same_end
+    (c.in_err-word-in-Colon.ensures.exact other))
 
-pub read_body-returns-in_err-expect-clause-exact : goal.read_body-returns-in_err-expect-clause-exact
-read_body-returns-in_err-expect-clause-exact t c =
-    let p = err_from_is_err_and c.from_residual-in_err-expect.result c.from_residual-in_err-expect.ensures.1 in
-    let w = c.in_ok-word.ensures.exact in
-    rw (p.1, p.2) (λ other. no_brace c.args.depth (c.args.depth - 1) c.args.cursor.now.rest c.take.new.self.rest c.in_ok-take.field-0 (omega arith)
-    c.in_ok-take.ensures.value c.in_ok-take.ensures.rest
-    w.0 c.word.new.self.rest c.if-branch.true w.1 c.args.cursor.now.end c.word.new.self.end _ (c.in_ok-word.ensures.same_end ∙ c.in_ok-take.ensures.same_end)
-    (c.in_err-expect.ensures.exact other))
+pub read_body-returns-in_err-expect-in-Colon-clause-exact : goal.read_body-returns-in_err-expect-in-Colon-clause-exact
+read_body-returns-in_err-expect-in-Colon-clause-exact t c =
+    let p = err_from_is_err_and c.from_residual-in_err-expect-in-Colon.result c.from_residual-in_err-expect-in-Colon.ensures.1 in
+    let comes = next_colon c.args.cursor.now.rest (sym c.next.ensures ∙ c.in-Colon.is) in
+    let w = c.in_ok-word-in-Colon.ensures.exact in
+    rw (p.1, p.2) (λ other. no_brace c.args.depth (c.args.depth - 1) c.args.cursor.now.rest (omega arith) c.skip.new.self.rest comes
+    c.in_ok-skip-in-Colon.ensures.rest w.0 c.word.new.self.rest w.1 c.args.cursor.now.end c.word.new.self.end _
+    (c.in_ok-word-in-Colon.ensures.same_end ∙ c.in_ok-skip-in-Colon.ensures.same_end) (c.in_err-expect-in-Colon.ensures.exact other))
 
-pub read_body-returns-in_err-expect-2-clause-exact : goal.read_body-returns-in_err-expect-2-clause-exact
-read_body-returns-in_err-expect-2-clause-exact t c =
-    let p = err_from_is_err_and c.from_residual-in_err-expect-2.result c.from_residual-in_err-expect-2.ensures.1 in
-    rw (p.1, p.2) (λ other. unopened c.args.depth (c.args.depth - 1) c.args.cursor.now.rest c.take.new.self.rest c.in_ok-take.field-0 (omega arith)
-    c.in_ok-take.ensures.value c.in_ok-take.ensures.rest
-    c.args.cursor.now.end c.take.new.self.end _ c.if-branch.false c.in_ok-take.ensures.same_end (c.in_err-expect-2.ensures.exact other))
-
-pub read_body-returns-in_ok-expect-clause-exact : goal.read_body-returns-in_ok-expect-clause-exact
-read_body-returns-in_ok-expect-clause-exact t c =
-    let w = c.in_ok-word.ensures.exact in
+pub read_body-returns-in_ok-expect-in-Colon-clause-exact : goal.read_body-returns-in_ok-expect-in-Colon-clause-exact
+read_body-returns-in_ok-expect-in-Colon-clause-exact t c =
+    let comes = next_colon c.args.cursor.now.rest (sym c.next.ensures ∙ c.in-Colon.is) in
+    let w = c.in_ok-word-in-Colon.ensures.exact in
     let below = c.args.depth - 1 in
-    let same : c.expect.new.self.end ≡ c.args.cursor.now.end = c.in_ok-expect.ensures.same_end ∙ c.in_ok-word.ensures.same_end ∙
-    c.in_ok-take.ensures.same_end in
+    let same : c.expect.new.self.end ≡ c.args.cursor.now.end =
+    c.in_ok-expect-in-Colon.ensures.same_end ∙ c.in_ok-word-in-Colon.ensures.same_end ∙ c.in_ok-skip-in-Colon.ensures.same_end in
     reads_same IsBodyTree c.args.cursor.now.end c.expect.new.self.end c.read_typed.result c.read_typed.new.cursor.rest
     (typed_at the_tests (inner_at below) w.0 c.expect.new.self.rest) (body the_tests c.args.depth c.args.cursor.now.rest) same
-    (typed_body c.args.depth below c.args.cursor.now.rest c.take.new.self.rest c.in_ok-take.field-0 (omega arith) c.in_ok-take.ensures.value
-    c.in_ok-take.ensures.rest
-    w.0 c.word.new.self.rest c.if-branch.true w.1 c.expect.new.self.rest c.in_ok-expect.ensures.exact)
+    (typed_body c.args.depth below c.args.cursor.now.rest (omega arith) c.skip.new.self.rest comes c.in_ok-skip-in-Colon.ensures.rest
+    w.0 c.word.new.self.rest w.1 c.expect.new.self.rest c.in_ok-expect-in-Colon.ensures.exact)
     (c.read_typed.ensures.exact w.0 (sym w.2))
 
-pub read_body-returns-in_ok-expect-2-clause-exact : goal.read_body-returns-in_ok-expect-2-clause-exact
-read_body-returns-in_ok-expect-2-clause-exact t c =
+pub read_body-returns-in_ok-skip-in-Left-clause-exact : goal.read_body-returns-in_ok-skip-in-Left-clause-exact
+read_body-returns-in_ok-skip-in-Left-clause-exact t c =
+    let comes = next_left c.args.cursor.now.rest (sym c.next.ensures ∙ c.in-Left.is) in
     let below = c.args.depth - 1 in
-    let after = c.expect-else-branch.new.self.rest in
-    let same : c.expect-else-branch.new.self.end ≡ c.args.cursor.now.end = c.in_ok-expect-2.ensures.same_end ∙ c.in_ok-take.ensures.same_end in
-    reads_same IsBodyTree c.args.cursor.now.end c.expect-else-branch.new.self.end c.read_untyped.result c.read_untyped.new.cursor.rest
-    (untyped_at the_tests (inner_at below) (guess after) after) (body the_tests c.args.depth c.args.cursor.now.rest) same
-    (untyped_body c.args.depth below c.args.cursor.now.rest c.take.new.self.rest c.in_ok-take.field-0 (omega arith) c.in_ok-take.ensures.value
-    c.in_ok-take.ensures.rest after c.if-branch.false c.in_ok-expect-2.ensures.exact)
+    let after = c.skip-in-Left.new.self.rest in
+    reads_same IsBodyTree c.args.cursor.now.end c.skip-in-Left.new.self.end c.read_untyped.result c.read_untyped.new.cursor.rest
+    (untyped_at the_tests (inner_at below) (guess after) after) (body the_tests c.args.depth c.args.cursor.now.rest)
+    c.in_ok-skip-in-Left.ensures.same_end
+    (untyped_body c.args.depth below c.args.cursor.now.rest (omega arith) comes.0 after comes.1 c.in_ok-skip-in-Left.ensures.rest)
     c.read_untyped.ensures.exact
+
+pub read_body-returns-in-Text-clause-exact : goal.read_body-returns-in-Text-clause-exact
+read_body-returns-in-Text-clause-exact t c = λ other.
+    let none = no_body c.args.cursor.now.rest (rw c.next.ensures at c.in-Text.is) in
+    unopened c.args.depth (c.args.depth - 1) c.args.cursor.now.rest (omega arith) none.0 c.args.cursor.now.end c.fault.result none.1
+    c.fault.ensures.kind c.fault.ensures.line
 
 pub read_typed-returns-in_err-tree-in-Leaf-clause-exact : goal.read_typed-returns-in_err-tree-in-Leaf-clause-exact
 read_typed-returns-in_err-tree-in-Leaf-clause-exact t c = λ w is.
@@ -171,74 +173,49 @@ read_array-elements-init t c = elements_begin c.args.depth c.args.cursor.now c.n
 
 pub read_array-returns-then-depth-eq0-clause-exact : goal.read_array-returns-then-depth-eq0-clause-exact
 read_array-returns-then-depth-eq0-clause-exact t c =
-    elements_too_deep c.elements.invariant c.in-Some.text c.fault-too_deep.result (rw c.in-Some.is at c.in_ok-next.ensures.text) c.if-depth-eq0.true
-    c.fault-too_deep.ensures.kind
-    c.fault-too_deep.ensures.line
+    let comes = next_text c.elements.cursor.rest (sym c.next.ensures ∙ c.in-Text.is) in
+    elements_too_deep c.elements.invariant comes.0 c.fault.result comes.1 c.if-depth-eq0.true c.fault.ensures.kind c.fault.ensures.line
 
-pub read_array-returns-in_err-read_body-clause-exact : goal.read_array-returns-in_err-read_body-clause-exact
-read_array-returns-in_err-read_body-clause-exact t c =
-    let p = err_from_is_err_and c.from_residual-in_err-read_body.result c.from_residual-in_err-read_body.ensures.1 in
-    rw (p.1, p.2) (elements_bad_body c.elements.invariant _ c.take_text.new.self c.is_at_body.result
-    (record {
-      none = rw c.in_default.is at c.in_ok-next.ensures.text;
-      same_end = c.take_text.ensures.same_end;
-      rest = rw c.in_default.is at c.in_ok-next.ensures.rest;
-    }) c.is_at_body.ensures
-    c.if-is_at_body.true c.in_err-read_body.ensures.exact)
+pub read_array-returns-in_err-read_body-in-Left-clause-exact : goal.read_array-returns-in_err-read_body-in-Left-clause-exact
+read_array-returns-in_err-read_body-in-Left-clause-exact t c =
+    let p = err_from_is_err_and c.from_residual-in_err-read_body-in-Left.result c.from_residual-in_err-read_body-in-Left.ensures.1 in
+    rw (p.1, p.2) (elements_bad_body c.elements.invariant _ (next_body c.elements.cursor.rest (rw c.next.ensures at c.in-Left.is))
+    c.in_err-read_body-in-Left.ensures.exact)
 
 pub read_array-returns-in_err-expect-clause-exact : goal.read_array-returns-in_err-expect-clause-exact
 read_array-returns-in_err-expect-clause-exact t c =
     let p = err_from_is_err_and c.from_residual-in_err-expect.result c.from_residual-in_err-expect.ensures.1 in
-    rw (p.1, p.2) (elements_open c.elements.invariant _ c.take_text.new.self c.is_at_body.result
-    (record {
-      none = rw c.in_default.is at c.in_ok-next.ensures.text;
-      same_end = c.take_text.ensures.same_end;
-      rest = rw c.in_default.is at c.in_ok-next.ensures.rest;
-    }) c.is_at_body.ensures
-    c.if-is_at_body.false c.in_err-expect.ensures.exact)
+    rw (p.1, p.2) (elements_open c.elements.invariant _ (next_other c.elements.cursor.rest (sym c.next.ensures ∙ c.in-Other.is))
+    c.in_err-expect.ensures.exact)
 
 pub read_array-returns-clause-exact : goal.read_array-returns-clause-exact
 read_array-returns-clause-exact t c =
-    let x = elements_done c.elements.invariant c.take_text.new.self c.is_at_body.result c.expect.new.self.rest
-    (record {
-      none = rw c.in_default.is at c.in_ok-next.ensures.text;
-      same_end = c.take_text.ensures.same_end;
-      rest = rw c.in_default.is at c.in_ok-next.ensures.rest;
-    }) c.is_at_body.ensures
-    c.if-is_at_body.false c.in_ok-expect.ensures.exact in
+    let x = elements_done c.elements.invariant c.expect.new.self.rest (next_other c.elements.cursor.rest (sym c.next.ensures ∙ c.in-Other.is))
+    c.in_ok-expect.ensures.exact in
     (x.0, x.1, (_, ap (λ v. Rattle.rb_tree.specs.Resource.array v) c.from_vec.ensures, x.2))
 
 pub read_array-elements-preserved : goal.read_array-elements-preserved
 read_array-elements-preserved t c =
     elim c.match-next.branch [
-      | read_array-in-Some+else-depth-eq0+in_ok-add_tree w ↦
-          let now : length c.match-next.cursor.rest ≡ length c.take_text.new.self.rest =
-          ap (λ (x : Cursor). length x.rest) w.cursor-is in
+      | read_array-in-Text+else-depth-eq0+in_ok-text-in-Text+in_ok-add_tree-in-Text w ↦
+          let now : length c.match-next.cursor.rest ≡ length w.text.new.self.rest = ap (λ (x : Cursor). length x.rest) w.cursor-is in
+          let taken = text_parts c.elements.cursor.rest w.text.new.self.rest w.in_ok-text-in-Text.text w.in_ok-text-in-Text.ensures.exact in
           let shorter : length c.take.new.self.rest < length c.elements.cursor.rest =
-          omega (arith, (rw w.in-Some.is at c.in_ok-next.ensures.shorter), c.in_ok-take.ensures.no_longer, now) in
-          elements_text c.elements.invariant w.in-Some.text c.take_text.new.self c.take.new.self c.match-next.trees.items
-          (rw w.in-Some.is at c.in_ok-next.ensures.text)
+          omega (arith, w.in_ok-text-in-Text.ensures.shorter, c.in_ok-take.ensures.no_longer, now) in
+          elements_text c.elements.invariant w.in_ok-text-in-Text.text w.text.new.self c.take.new.self c.match-next.trees.items taken.0
           (omega arith)
-          (record { same_end = c.take_text.ensures.same_end; rest = rw w.in-Some.is at c.in_ok-next.ensures.rest })
+          (record { same_end = w.in_ok-text-in-Text.ensures.same_end; rest = sym taken.1 })
           (c.in_ok-take.ensures.same_end ∙ ap (λ (x : Cursor). x.end) w.cursor-is)
           (c.in_ok-take.ensures.rest ∙ ap (λ (x : Cursor). after_comma x.rest) w.cursor-is) shorter
-          (ap (λ (v : Vec Tree Global). v.items) w.trees-is ∙ w.in_ok-add_tree.ensures)
-      | read_array-in_default+then-is_at_body+in_ok-read_body+in_ok-add_tree-2 w ↦
-          let now : length c.match-next.cursor.rest ≡ length w.read_body.new.cursor.rest =
-          ap (λ (x : Cursor). length x.rest) w.cursor-is in
-          let same_length : length c.take_text.new.self.rest ≡ length c.elements.cursor.rest = ap length (rw w.in_default.is at c.in_ok-next.ensures.rest) in
-          let b = w.in_ok-read_body.ensures.exact in
+          (ap (λ (v : Vec Tree Global). v.items) w.trees-is ∙ w.in_ok-add_tree-in-Text.ensures)
+      | read_array-in-Left+in_ok-read_body-in-Left+in_ok-add_tree-in-Left w ↦
+          let now : length c.match-next.cursor.rest ≡ length w.read_body.new.cursor.rest = ap (λ (x : Cursor). length x.rest) w.cursor-is in
+          let b = w.in_ok-read_body-in-Left.ensures.exact in
           let shorter : length c.take.new.self.rest < length c.elements.cursor.rest =
-          omega (arith, w.in_ok-read_body.ensures.shorter, c.in_ok-take.ensures.no_longer, now, same_length) in
-          elements_body c.elements.invariant b.0 c.take_text.new.self w.read_body.new.cursor c.take.new.self w.is_at_body.result w.in_ok-read_body.field-0
-          c.match-next.trees.items
-          (record {
-            none = rw w.in_default.is at c.in_ok-next.ensures.text;
-            same_end = c.take_text.ensures.same_end;
-            rest =
-                (rw w.in_default.is at c.in_ok-next.ensures.rest);
-          }) w.is_at_body.ensures
-          w.if-is_at_body.true b.1 b.2 w.in_ok-read_body.ensures.same_end (c.in_ok-take.ensures.same_end ∙ ap (λ (x : Cursor). x.end) w.cursor-is)
+          omega (arith, w.in_ok-read_body-in-Left.ensures.shorter, c.in_ok-take.ensures.no_longer, now) in
+          elements_body c.elements.invariant b.0 w.read_body.new.cursor c.take.new.self w.in_ok-read_body-in-Left.field-0 c.match-next.trees.items
+          (next_body c.elements.cursor.rest (rw c.next.ensures at w.in-Left.is)) b.1 b.2 w.in_ok-read_body-in-Left.ensures.same_end
+          (c.in_ok-take.ensures.same_end ∙ ap (λ (x : Cursor). x.end) w.cursor-is)
           (c.in_ok-take.ensures.rest ∙ ap (λ (x : Cursor). after_comma x.rest) w.cursor-is) shorter
-          (ap (λ (v : Vec Tree Global). v.items) w.trees-is ∙ w.in_ok-add_tree-2.ensures)
+          (ap (λ (v : Vec Tree Global). v.items) w.trees-is ∙ w.in_ok-add_tree-in-Left.ensures)
     ]

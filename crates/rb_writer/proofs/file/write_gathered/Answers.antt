@@ -15,15 +15,13 @@ use Rattle.rb_writer.proofs.file.write_gathered.Goals as goal
 pub write_keys-requires-clause-room : goal.write_keys-requires-clause-room
 write_keys-requires-clause-room c =
     let t = view_of c.args.tree.now in
-    let f : keys_size (map {A = Bor (List ℕ)} (λ r. r.now) (names c.in_ok-keys.keys.items)) + data_most t + 4 ≤ 33554432 = keys_fit t (names c.in_ok-keys.keys.items)
-    c.requires.fits (c.in_ok-keys.ensures.keys t c.requires.keys) in
+    let f = keys_fit t (names c.in_ok-keys.keys.items) c.requires.fits (c.in_ok-keys.ensures.keys t c.requires.keys) in
     rw c.deref.ensures.value (omega (arith, f))
 
 pub write_value-requires-clause-room : goal.write_value-requires-clause-room
 write_value-requires-clause-room c =
     let t = view_of c.args.tree.now in
-    let f : keys_size (map {A = Bor (List ℕ)} (λ r. r.now) (names c.in_ok-keys.keys.items)) + data_most t + 4 ≤ 33554432 = keys_fit t (names c.in_ok-keys.keys.items)
-    c.requires.fits (c.in_ok-keys.ensures.keys t c.requires.keys) in
+    let f = keys_fit t (names c.in_ok-keys.keys.items) c.requires.fits (c.in_ok-keys.ensures.keys t c.requires.keys) in
     let short = rw c.deref.ensures.value at c.in_ok-places.ensures.little in
     let five = five_or_six c.args.no_fallback c.index_count-indexes.result c.index_count-indexes.ensures in
     omega (arith, f, short)
@@ -42,8 +40,7 @@ overflow_cast-gathered c =
 pub finish-requires-clause-room : goal.finish-requires-clause-room
 finish-requires-clause-room c =
     let t = view_of c.args.tree.now in
-    let f : keys_size (map {A = Bor (List ℕ)} (λ r. r.now) (names c.in_ok-keys.keys.items)) + data_most t + 4 ≤ 33554432 = keys_fit t (names c.in_ok-keys.keys.items)
-    c.requires.fits (c.in_ok-keys.ensures.keys t c.requires.keys) in
+    let f = keys_fit t (names c.in_ok-keys.keys.items) c.requires.fits (c.in_ok-keys.ensures.keys t c.requires.keys) in
     let short = rw c.deref.ensures.value at c.in_ok-places.ensures.little in
     let l = c.in_ok-root.ensures.stands.little in
     let five = five_or_six c.args.no_fallback c.index_count-indexes.result c.index_count-indexes.ensures in

@@ -14,6 +14,3 @@ decreases-write_children l = 2 * height (view_of l.tree.now)
 abbrev pub invariant-write_children-loop-i : goal.invariant-write_children-loop-i
 invariant-write_children-loop-i l = ChildrenStand l.keys.area l.fn.out l.out (children_of (view_of l.tree)) l.items.items l.i
     × EachLaid l.keys l.fn.out l.out (children_of (view_of l.tree)) l.items.items l.i
-
-abbrev pub decreases-write_only_child : goal.decreases-write_only_child
-decreases-write_only_child l = 2 * height (view_of l.tree.now)
