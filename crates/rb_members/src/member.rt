@@ -19,6 +19,7 @@ pub enum Member<'a> {
 
 /// Reads a value, in which arrays and objects nest so deep at most.
 #[cycle(read_value)]
+#[inline(always)]
 pub(crate) fn read_value<'a>(reader: &mut Reader<'a>, depth: usize) -> Result<Member<'a>, Invalid>
     ensures ok { IfOk result (λ m. (d : Data) × IsMember m d
         × (converted of_json (value_of depth reader.old) ≡ Some (d, reader.new))) }
@@ -56,6 +57,7 @@ pub(crate) fn read_value<'a>(reader: &mut Reader<'a>, depth: usize) -> Result<Me
 
 /// Passes over the items of an array and its closing bracket.
 #[cycle(read_value)]
+#[inline(never)]
 fn pass_items(reader: &mut Reader<'_>, depth: usize) -> Result<(), Invalid>
     ensures ok { OnOk result ((ds : Items) × (converted of_items
         (items_of (value_of depth) (length reader.old) reader.old) ≡ Some (ds, reader.new))) }
@@ -71,6 +73,7 @@ fn pass_items(reader: &mut Reader<'_>, depth: usize) -> Result<(), Invalid>
 
 /// Passes over the members of an object and its closing brace.
 #[cycle(read_value)]
+#[inline(never)]
 fn pass_members(reader: &mut Reader<'_>, depth: usize) -> Result<(), Invalid>
     ensures ok { OnOk result ((found : Members)
         × (converted (λ ms. of_members ms no_members)

@@ -36,6 +36,7 @@ fn is_negative(numeral: &Numeral<'_>) -> bool
 
 /// Whether bytes are decimal digits, and so few that they write an integer of 64 bits. Most numbers
 /// are such, and need no reading.
+#[inline(always)]
 fn is_short_integer(bytes: &[u8]) -> bool
     ensures digits { IsTrue result → All IsAsciiDigit bytes.now }
     ensures some { IsTrue result → 0 < length bytes.now }
@@ -46,13 +47,19 @@ fn is_short_integer(bytes: &[u8]) -> bool
 
 /// Whether the number that a token writes is in range: an integer of 64 bits, or one with a finite
 /// nearest float.
+#[inline(always)]
 pub(crate) fn is_in_range(text: &str) -> bool
     ensures { result ≡ is_some (number_of text.now) }
 {
+    is_short_integer(text.as_bytes()) || is_read_in_range(text)
+}
+
+/// The same, by reading the number.
+#[inline(never)]
+fn is_read_in_range(text: &str) -> bool
+    ensures { result ≡ is_some (number_of text.now) }
+{
     let bytes = text.as_bytes();
-    if is_short_integer(bytes) {
-        return true;
-    }
     if has_minus(bytes) {
         is_negative(&Numeral::scan(&bytes[1..]))
     } else {
