@@ -1,7 +1,6 @@
 use Rattle.std.proofs.Common.{◌+◌, ◌*◌, ◌≤◌, ◌<◌, ◌≡◌, ◌∙◌, length, map, arith, ap, sym, Bor, List, ℕ}
 use Rattle.rb_tree.specs.View.{view_of}
 use Rattle.rb_writer.specs.inner.Collected.{keys_size, names}
-use Rattle.rb_writer.specs.inner.Most.{data_most}
 use Rattle.rb_writer.specs.inner.Keyed.{HasPlace}
 use Rattle.rb_writer.specs.Written.{index_count}
 use Rattle.rb_writer.proofs.Ended.{IsWritten}

@@ -1,5 +1,4 @@
-use Rattle.std.proofs.Common.{arith, ap, ◌∙◌, refl, [], ◌∷◌, ◌≡◌, ◌<◌, length}
-use Rattle.std.proofs.lemmas.Grind.{common_steps}
+use Rattle.std.proofs.Common.{arith, ap, ◌∙◌, refl, [], ◌∷◌, ◌<◌, length}
 use Rattle.rb_tree.specs.Parts.{children_of, len_of}
 use Rattle.rb_tree.specs.inner.Lower.{child_lower}
 use Rattle.rb_tree.specs.View.{view_of}
