@@ -16,6 +16,9 @@ use crate::text::line_feeds;
 use rb_tree::UnitList;
 use std::alloc::Global;
 
+/// How many tokens wait after reading on, if so many are left.
+const AHEAD: usize = 16;
+
 /// A source without lexical errors: what of it is not read, the byte and the line where that
 /// begins, and the tokens of what is.
 #[derive(Drop)]
@@ -70,7 +73,7 @@ impl<'a> Reader<'a> {
         Ok(true)
     }
 
-    /// Where the rest of the source begins, up to what follows in it.
+    /// The span of the item that the rest begins with, given what follows it.
     #[inline(always)]
     fn up_to(&self, after: &str) -> Span
         requires placed { IsPlaced self.now }
@@ -86,7 +89,7 @@ impl<'a> Reader<'a> {
         }
     }
 
-    /// Goes on to the byte `past`, where this follows.
+    /// Goes on to what follows an item, at the byte past it.
     #[inline(always)]
     fn go_on(&mut self, past: usize, after: &'a str)
         requires placed { IsPlaced self.old }
@@ -103,13 +106,27 @@ impl<'a> Reader<'a> {
         self.rest = after;
     }
 
-    /// Reads on until two tokens wait, or all that are left.
+    /// Sees to it that two tokens wait, or all that are left.
+    #[inline(always)]
     pub fn fill(&mut self) -> Result<(), LexError>
         requires { IsPlaced self.old }
         ensures same { (ts : List Token) → Gives self.old ts
             → MatchResult result (λ _. Left self.new ts) (λ e. e.kind ≡ Memory) }
     {
-        'items: while self.builder.count() < 2 {
+        if self.builder.count() >= 2 {
+            return Ok(());
+        }
+        self.read_on()
+    }
+
+    /// Reads on until some tokens wait, or all that are left, so that most are taken without a call.
+    #[inline(never)]
+    fn read_on(&mut self) -> Result<(), LexError>
+        requires { IsPlaced self.old }
+        ensures same { (ts : List Token) → Gives self.old ts
+            → MatchResult result (λ _. Left self.new ts) (λ e. e.kind ≡ Memory) }
+    {
+        'items: while self.builder.count() < AHEAD {
             if !self.step()? {
                 return Ok(());
             }

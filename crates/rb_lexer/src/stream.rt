@@ -14,7 +14,7 @@ use std::alloc::{AllocError, Global};
 use std::marker::Model;
 
 /// The tokens of a source that are still to come, seen by contracts as a list. They are read as
-/// they are taken; no more than the next two wait.
+/// they are taken; no more than the next few wait.
 ///
 /// The source has no lexical error: it was read for them before the first token.
 #[derive(Drop)]

@@ -140,6 +140,7 @@ fn read_rows(
 
 /// Adds an element at the end. The first takes room for itself only, since arrays of one element
 /// are those that nest deep.
+#[inline(always)]
 fn add_tree(trees: &mut Vec<Tree>, tree: Tree) -> Result<(), AllocError>
     ensures { OnOk result (trees.new.items ≡ trees.old.items ++ tree ∷ []) }
 {

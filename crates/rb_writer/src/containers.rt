@@ -16,6 +16,7 @@ use rb_tree::Entries;
 use std::alloc::AllocError;
 
 /// Writes the count and the items of an array, and returns the offset.
+#[inline(always)]
 pub fn write_array(out: &mut Data, items: &[u32]) -> Result<u32, AllocError>
     requires whole { length out.old % 4 ≡ 0 }
     requires room { length out.old + (4 + 4 * length items.now) ≤ 2 ^ 28 }

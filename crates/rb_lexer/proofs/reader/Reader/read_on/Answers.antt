@@ -1,5 +1,5 @@
 use Rattle.std.proofs.lemmas.Result.{err_from_is_err_and}
-use Rattle.rb_lexer.proofs.reader.Reader.fill.Goals as goal
+use Rattle.rb_lexer.proofs.reader.Reader.read_on.Goals as goal
 
 pub returns-in_err-step : goal.returns-in_err-step
 returns-in_err-step c = record {

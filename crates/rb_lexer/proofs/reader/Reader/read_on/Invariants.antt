@@ -1,7 +1,7 @@
 use Rattle.std.proofs.Common.{List, length}
 use Rattle.rb_lexer.specs.declared.token.Token.{Token}
 use Rattle.rb_lexer.specs.inner.Left.{IsPlaced, Gives}
-use Rattle.rb_lexer.proofs.reader.Reader.fill.Given as goal
+use Rattle.rb_lexer.proofs.reader.Reader.read_on.Given as goal
 
 abbrev pub invariant-items : goal.invariant-items
 invariant-items l = record {
