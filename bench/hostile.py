@@ -538,11 +538,11 @@ class Report:
         return min([first, *(measured([self.program, *words], source) for _ in range(runs - 1) if first[0] < LONG)])
 
     def by_turns(self, plain, made, runs=5):
-        """The least of some runs of each of two commands, by turns, as a machine's speed changes from minute to minute."""
+        """Of some runs of two commands by turns the turn whose ratio is the middle one, as a machine's speed changes from second to second."""
         turns = [(measured([self.program, *plain]), measured([self.program, *made]))]
         while len(turns) < runs and turns[0][1][0] < LONG:
             turns.append((measured([self.program, *plain]), measured([self.program, *made])))
-        return min(turn[0] for turn in turns), min(turn[1] for turn in turns)
+        return sorted(turns, key=lambda turn: turn[1][0] / max(turn[0][0], 1e-6))[len(turns) // 2]
 
     def check(self, name, make, allowed, sizes):
         if not self.is_asked(name):
@@ -599,10 +599,10 @@ class Report:
                     f" {memory:.0f} MB, {memory * MB / size:.1f} times the text of {most}; status {status}")
             self.say("text", name, size, text, over, seconds=seconds, plain=plain, allowed=5, MB=memory)
 
-    def serve(self, prepared, line, count, limits=()):
+    def serve(self, prepared, line, count, limits=(), runs=4):
         """Seconds for one more line, and the memory that it takes besides, in MB."""
         files = self.file("before.jsonl", prepared), self.file("after.jsonl", prepared + line * count)
-        before, after = (self.best(["serve", *limits], 4, file) for file in files)
+        before, after = (self.best(["serve", *limits], runs, file) for file in files)
         return max(0.0, after[0] - before[0]) / count, after[1] - before[1]
 
     def lookup(self, name, make, sizes, allowed, count=3, limits=()):
@@ -626,7 +626,7 @@ class Report:
         if not self.is_asked(name):
             return
         for size in sizes:
-            seconds, memory = self.serve(*other_members(size), 1)
+            seconds, memory = self.serve(*other_members(size), 1, runs=8)
             over = memory * MB > 3 * size + 4 * MB or seconds > 1e-8 * size + 0.01
             text = f"{1e9 * seconds / size:.1f} ns a byte of 10; {memory * MB / size:.1f} times the line of 3"
             self.say("line", name, size, text, over, seconds=seconds, MB=memory)
