@@ -99,7 +99,7 @@ refuse_files() {
     echo "ok: each of $sum allocations refused in turn over $number files that are dear to check"
 }
 
-refuse memory 800 20 20q rb_engine rb_packages rb_validator rb_format rb_locales rb_parents rb_views rb_tree
+refuse memory 900 20 20q rb_engine rb_packages rb_validator rb_format rb_locales rb_parents rb_views rb_tree
 [ "$(left 20q)" = "$(left 20)" ] || fails 'lookups, replacements or removals take memory'
 echo 'ok: lookups, replacements and removals take none'
 refuse lines 200 20 '' rb_requests rb_engine rb_parents
