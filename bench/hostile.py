@@ -663,7 +663,7 @@ def measure(report, is_large):
     report.lookup("a long key whose reply is refused", long_key_reply, [MB, 8 * MB, 32 * MB], 50, 50,
                   ["--reply-bytes", "1000"])
     sizes = [MB // 100, MB, 7 * MB, 20 * MB]
-    report.lookup("a trail of 32 names, 256 levels", deep_trail, sizes, 100)
+    report.lookup("a trail of 32 names, 256 levels", deep_trail, sizes, 100, 20)
     report.reply("a reply whose keys share their bytes", [MB // 20, MB // 10, MB * 3 // 10])
     report.line("members that nobody asked for", [MB, 8 * MB, 48 * MB])
     report.applications("applications of one small bundle", [1_000, 10_000, 100_000])
