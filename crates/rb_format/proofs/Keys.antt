@@ -1,5 +1,5 @@
 -- The keys of a file are the keys of trees.
-use Rattle.std.proofs.Common.{◌≡◌, ℕ, ◌↔◌, IsTrue, Bool, true, false, List, get_or, refl, sym}
+use Rattle.std.proofs.Common.{ℕ, List, get_or}
 use Rattle.std.specs.Bool.{Decides}
 use Rattle.std.specs.List.{list_all}
 use Rattle.std.proofs.lemmas.List.Sums.{AllPass-from_list_all, list_all-from_AllPass}
@@ -16,12 +16,3 @@ key_is k = (
   λ h. both_is (is_filled k) (list_all is_plain k) ((filled_test k).1 h.0)
       (list_all-from_AllPass is_plain k (λ i d l. (plain_test (get_or k i d)).1 (h.1 i d l))),
 )
-
--- whoever knows whether bytes are a key knows what the test says
-pub key_test : (k : List ℕ) (b : Bool) → (IsTrue b ↔ IsKey k) → b ≡ key_ok k
-key_test k b h = same b (key_ok k) (λ e. (key_is k).1 (h.0 e)) (λ e. h.1 ((key_is k).0 e))
-  where
-    same : (a b : Bool) → (a ≡ true → b ≡ true) → (b ≡ true → a ≡ true) → a ≡ b
-    same true b f g = sym (f refl)
-    same false true f g = g refl
-    same false false f g = refl

@@ -1,4 +1,5 @@
 pub mod Checks
+pub mod KeyFronts
 pub mod Keys
 pub mod Steps
 pub mod Fronts

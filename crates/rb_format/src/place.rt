@@ -1,12 +1,12 @@
 //! What is at a place of the data.
-ghost use Rattle.std.specs.Prelude.{◌≡◌, ◌+◌, ◌*◌, ◌≤◌, ◌<◌, ◌==◌, length, position, IfSome};
+ghost use Rattle.std.specs.Prelude.{◌≡◌, ◌+◌, ◌*◌, ◌≤◌, ◌<◌, length, position, not, IfSome};
 ghost use Rattle.std.specs.Option.{option_copied};
 ghost use Rattle.rb_format.specs.Place as places;
-ghost use Rattle.rb_format.specs.Place.{word, half, key, key_at, key_front, key_ok as key_test};
+ghost use Rattle.rb_tree.specs.Path.{is_plain};
+ghost use Rattle.rb_format.specs.Place.{word, half, key, key_at, key_front};
 
 use crate::layout::Layout;
 use byteorder::{ByteOrder, LittleEndian};
-use rb_tree::key_ok;
 
 /// Word i of the data: the number in the 4 bytes from byte 4i. None if they aren't all there.
 #[tactic(auto, unfolding(crate::specs::Place::word_at))]
@@ -61,27 +61,18 @@ pub fn key_within<'a>(layout: &Layout, body: &'a [u8], k: u32) -> Option<&'a [u8
 fn key_in(run: &[u8]) -> Option<&[u8]>
     ensures { option_copied result ≡ key_front run.now }
 {
-    match first_nul(run) {
-        Some(length) => {
-            let key = &run[..length];
-            if is_key(key) { Some(key) } else { None }
-        }
-        None => None,
+    match plain_end(run) {
+        Some(end) if 0 < end && run[end] == 0 => Some(&run[..end]),
+        _ => None,
     }
 }
 
-fn first_nul(bytes: &[u8]) -> Option<usize>
-    ensures value { result ≡ position (λ x. x == 0) bytes.now }
+/// Where the first byte stands that no key has.
+fn plain_end(bytes: &[u8]) -> Option<usize>
+    ensures value { result ≡ position (λ b. not (is_plain b)) bytes.now }
     ensures bound { IfSome result (λ n. n < length bytes.now) }
 {
-    bytes.iter().position(|x| *x == 0)
-}
-
-/// Whether the bytes are a key, as trees have them.
-fn is_key(bytes: &[u8]) -> bool
-    ensures { result ≡ key_test bytes.now }
-{
-    key_ok(bytes)
+    bytes.iter().position(|&b| !(0x20 <= b && b <= 0x7E))
 }
 
 /// Word i of the data, whose bytes are there.

@@ -12,7 +12,8 @@ use Rattle.rb_format.specs.Place.{key}
 use Rattle.rb_validator.specs.inner.KnownKeys.{key_run, key_or_none}
 use Rattle.rb_validator.specs.inner.Ranks.{key_from}
 use Rattle.rb_validator.specs.inner.Lengths.{AreCounted, place_of, length_at}
-use Rattle.rb_validator.proofs.Fronts.{front, cons_to, nonempty, run_long, placed}
+use Rattle.rb_format.proofs.KeyFronts.{front, cons_to, nonempty}
+use Rattle.rb_validator.proofs.Fronts.{run_long, placed}
 
 abbrev pub IsLong : List ℕ → ℕ → Option (List ℕ) → Type 0
 IsLong lengths p None = get_or lengths p 0 ≡ 0
