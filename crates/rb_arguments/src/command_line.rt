@@ -185,43 +185,48 @@ fn bare<'a>(alloc: Global) -> Result<Command<'a>, AllocError> {
     )
 }
 
-fn with_compile<'a>(alloc: Global, command: Command<'a>) -> Result<Command<'a>, AllocError> {
-    command.subcommand(compile_command(alloc)?)
+/// The names of the commands, in the order in which the help lists them.
+const NAMES: [&str; 10] = [
+    "compile", "check", "get", "lint", "explain", "lines", "look", "text", "json", "serve",
+];
+
+/// The command of a name; none if there is no such command.
+fn command_named<'a>(alloc: Global, name: &str) -> Result<Option<Command<'a>>, AllocError> {
+    Ok(Some(match name {
+        "compile" => compile_command(alloc)?,
+        "check" => check_command(alloc)?,
+        "get" => get_command(alloc)?,
+        "lint" => lint_command(alloc)?,
+        "explain" => explain_command(alloc)?,
+        "lines" => lines_command(alloc)?,
+        "look" => look_command(alloc)?,
+        "text" => text_command(alloc)?,
+        "json" => json_command(alloc)?,
+        "serve" => serve_command(alloc)?,
+        _ => return Ok(None),
+    }))
 }
 
-fn with_check<'a>(alloc: Global, command: Command<'a>) -> Result<Command<'a>, AllocError> {
-    command.subcommand(check_command(alloc)?)
-}
-
-fn with_get<'a>(alloc: Global, command: Command<'a>) -> Result<Command<'a>, AllocError> {
-    command.subcommand(get_command(alloc)?)
-}
-
-/// The commands that help with texts and with lookups.
-fn with_helpers<'a>(alloc: Global, command: Command<'a>) -> Result<Command<'a>, AllocError> {
-    command
-        .subcommand(lint_command(alloc)?)?
-        .subcommand(explain_command(alloc)?)?
-        .subcommand(lines_command(alloc)?)?
-        .subcommand(look_command(alloc)?)
-}
-
-fn with_text<'a>(alloc: Global, command: Command<'a>) -> Result<Command<'a>, AllocError> {
-    command.subcommand(text_command(alloc)?)
-}
-
-fn with_json<'a>(alloc: Global, command: Command<'a>) -> Result<Command<'a>, AllocError> {
-    command.subcommand(json_command(alloc)?)
-}
-
-/// The commands.
+/// All commands.
 pub fn commands<'a>(alloc: Global) -> Result<Command<'a>, AllocError> {
-    let command = bare(alloc)?;
-    let command = with_compile(alloc, command)?;
-    let command = with_check(alloc, command)?;
-    let command = with_get(alloc, command)?;
-    let command = with_helpers(alloc, command)?;
-    let command = with_text(alloc, command)?;
-    let command = with_json(alloc, command)?;
-    command.subcommand(serve_command(alloc)?)
+    let mut command = bare(alloc)?;
+    for name in NAMES {
+        if let Some(named) = command_named(alloc, name)? {
+            command = command.subcommand(named)?;
+        }
+    }
+    Ok(command)
+}
+
+/// The commands that a command line can enter whose first word after the program's name is this
+/// one: the command of that name by itself, or all. Each takes and refuses what it does among all
+/// the others; to make those takes longer than most runs of one.
+pub fn commands_for<'a>(alloc: Global, word: Option<&str>) -> Result<Command<'a>, AllocError> {
+    let Some(name) = word else {
+        return commands(alloc);
+    };
+    match command_named(alloc, name)? {
+        Some(named) => bare(alloc)?.subcommand(named),
+        None => commands(alloc),
+    }
 }

@@ -10,4 +10,4 @@ mod serving;
 mod text_commands;
 
 pub use asking::{Asked, AskedLimits, AskedLookup, asked_by};
-pub use command_line::commands;
+pub use command_line::{commands, commands_for};

@@ -4,7 +4,7 @@
 mod running;
 
 use crate::running::run_asked;
-use rb_arguments::{asked_by, commands};
+use rb_arguments::{asked_by, commands_for};
 use rb_commands::Console;
 use std::io::{ErrorKind, IsTerminal};
 use std::process::ExitCode;
@@ -19,7 +19,7 @@ fn run<R: Files + RandomSource + Clock + AllocGlobal + Input + Print + Eprint + 
 ) -> io::Result<ExitCode> {
     let alloc = rt.alloc();
     let words: Vec<String> = env::args(rt)?.collect(alloc)?;
-    let command = commands(alloc)?;
+    let command = commands_for(alloc, words.get(1).map(|word| word.as_str()))?;
     let matches = match command.try_get_matches_from(words.as_slice()) {
         Ok(matches) => matches,
         Err(error) => {

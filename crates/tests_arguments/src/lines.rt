@@ -1,5 +1,6 @@
 //! Command lines that are taken, what they ask for, and those that are refused.
-use rb_arguments::{Asked, AskedLimits, asked_by, commands};
+use clap::{ArgMatches, Error};
+use rb_arguments::{Asked, AskedLimits, asked_by, commands, commands_for};
 use std::alloc::Global;
 use std::test::Fail;
 
@@ -260,4 +261,45 @@ fn says_what_is_served(rt: HostRuntime) -> Result<(), Fail> {
 #[test]
 fn has_no_limits_without_arguments(rt: HostRuntime) {
     assert_eq!(rt; AskedLimits::none(), SERVED[0].3);
+}
+
+/// Command lines for which no command is run, and ones with words that are no command's name.
+const OTHERS: [&[&str]; 14] = [
+    &["resb", "--help"],
+    &["resb", "help"],
+    &["resb", "help", "get"],
+    &["resb", "help", "gets"],
+    &["resb", "--version"],
+    &["resb", "-V"],
+    &["resb", "gets", "a.res"],
+    &["resb", "-q", "check", "a.res"],
+    &["resb", ""],
+    &["resb", "get", "--help"],
+    &["resb", "get", "help"],
+    &["resb", "get", "-h", "--version"],
+    &["resb", "text", "json", "a.res"],
+    &["resb", "check", "--pretty", "a.res"],
+];
+
+/// What a command line asks for, or the message of why no command is run, with its status.
+fn answer(alloc: Global, taken: Result<ArgMatches<'_>, Error>) -> Result<String, Fail> {
+    match taken {
+        Ok(matches) => {
+            let asked = asked_by(alloc, &matches)?;
+            Ok(format!(in alloc; "{asked:?}")?)
+        }
+        Err(error) => Ok(format!(in alloc; "{}: {error}", error.exit_code())?),
+    }
+}
+
+#[test]
+fn answers_as_among_all_commands(rt: HostRuntime) -> Result<(), Fail> {
+    let alloc = rt.alloc();
+    let lines = LINES.iter().map(|(words, _)| *words);
+    for words in lines.chain(OTHERS.iter().copied()) {
+        let all = commands(alloc)?.try_get_matches_from(words);
+        let one = commands_for(alloc, words.get(1).copied())?.try_get_matches_from(words);
+        assert_eq!(rt; answer(alloc, one)?, answer(alloc, all)?);
+    }
+    Ok(())
 }
