@@ -3,7 +3,7 @@ use Rattle.std.proofs.Common.{◌≡◌, ℕ, true, false, List, [], ◌∷◌, 
 use Rattle.std.proofs.lemmas.Bool.{false≢true}
 use Rattle.rb_lexer.specs.declared.token.Token.{Token}
 use Rattle.rb_lexer.specs.declared.token.Mark.{Mark}
-use Rattle.rb_lexer.specs.declared.token.Mark.TheVariants.{Text, LeftBrace, RightBrace, Colon, Comma}
+use Rattle.rb_lexer.specs.declared.token.Mark.TheVariants.{Text, LeftBrace, RightBrace, Colon}
 use Rattle.rb_grammar.specs.Form.{marks, Body, plain, group, listed, leaf, table, array, no_entries, entry, no_elements, one_text, one_body, comma_marks}
 use Rattle.rb_grammar.specs.Form.{body_marks, entries_marks, elements_marks, IsForm}
 use Rattle.rb_grammar.specs.Reading.{Punctuation, left, right, colon, comma, punctuation_mark, is_punctuation, text_of, begins, first_text}

@@ -1,12 +1,13 @@
 -- What is still to be written in each loop.
 use Rattle.std.proofs.Common.{◌≡◌, ℕ, zero, suc, ◌+◌, ◌-◌, ◌/◌, ◌%◌, ◌<◌, ◌≤◌, ℤ, Bool, true, false, cond, List, [], ◌∷◌, ◌++◌, length, get_or, drop, refl, sym, ap, subst, ◌∙◌}
 use Rattle.std.proofs.Common.{arith, append_assoc, add-one, drop-cons, Option, Some, None, encode_utf8_all}
-use Rattle.std.specs.Prelude.{slice_get}
-use Rattle.std.specs.List.{AllByRecursion}
+use Rattle.std.specs.Prelude.{slice_get, take}
+use Rattle.std.proofs.Common.{replicate, ◌*◌}
+use Rattle.std.specs.List.{AllByRecursion, list_all}
 use Rattle.std.specs.Char.{digit_char}
 use Rattle.std.specs.Char.Utf16.{is_high_surrogate, is_low_surrogate}
 use Rattle.std.specs.Fmt.{signed_decimal}
-use Rattle.std.proofs.lemmas.List.{drop_all}
+use Rattle.std.proofs.lemmas.List.{drop_all, take-replicate, replicate-append-replicate}
 use Rattle.std.proofs.lemmas.Bool.{lt-ltb, le-ltb, lt-leb, ltb-true, ltb-false}
 use Rattle.std.proofs.Common.{ne_eqb}
 use Rattle.std.specs.Prelude.{nat_lt, ◌&&◌}
@@ -14,12 +15,12 @@ use Rattle.rb_lexer.specs.Lexeme.{quote}
 use Rattle.rb_tree.specs.Resource.{Resource, string, int, ints, binary, alias, array, table}
 use Rattle.rb_tree.specs.Parts.{kind_of, len_of, HasUnits, units_of, numbers_of, bytes_of}
 use Rattle.rb_tree.specs.declared.kind.Kind.TheVariants as Kinds
-use Rattle.rb_printer.specs.Sign.{text, is_shown, is_low, escape_chars, pair_chars, first_unit, unit_chars, units_chars, pieces, spaces, lines_chars, text_chars, sign_chars, signs_chars}
+use Rattle.rb_printer.specs.Sign.{text, is_ascii, is_shown, is_low, escape_chars, pair_chars, first_unit, unit_chars, units_chars, pieces, spaces, lines_chars, text_chars, sign_chars, signs_chars}
 use Rattle.rb_printer.specs.Page.{hex_first, hex_later, indent, pause, room_after, comma_if, are_more, number_fits, numbers_signs}
 use Rattle.rb_printer.specs.Sound.{AreUnits, AreBytes, IsNumber}
 use Rattle.rb_printer.specs.inner.Growth.{Adds, Owes, break_chars, after_break}
 use Rattle.rb_printer.proofs.Growths.{adds_more, owes_all, owes_step, owes_end}
-use Rattle.rb_printer.proofs.Puts.{adds_as}
+use Rattle.rb_printer.proofs.Puts.{adds_as, ascii_encoded}
 use Rattle.rb_printer.proofs.Splits.{same, pause_splits, comma_splits}
 use Rattle.rb_printer.proofs.Texts.{shown_next}
 use Rattle.rb_printer.proofs.Words.{ascii_shown, number_word}
@@ -272,20 +273,37 @@ numbers_len (table es) h = absurd cc
 
 -- ---- indentation
 
-pub indent_more : (n i : ℕ) → i < n → signs_chars (indent (n - i) []) ≡ 0x20 ∷ 0x20 ∷ 0x20 ∷ 0x20 ∷ signs_chars (indent (n - (i + 1)) [])
-indent_more n i h = let e : n - i ≡ suc (n - (i + 1)) = omega arith in ap (λ (k : ℕ). signs_chars (indent k [])) e
-
-pub indent_put : (old now new : List ℕ) (n i : ℕ) → Owes old (signs_chars (indent n [])) now (signs_chars (indent (n - i) [])) → i < n
-    → Adds now new (0x20 ∷ 0x20 ∷ 0x20 ∷ 0x20 ∷ []) → Owes old (signs_chars (indent n [])) new (signs_chars (indent (n - (i + 1)) []))
-indent_put old now new n i o h a = owes_step (signs_chars (indent (n - (i + 1)) [])) (owes_as o (indent_more n i h)) a
-
-pub indent_end : (old now : List ℕ) (n i : ℕ) → Owes old (signs_chars (indent n [])) now (signs_chars (indent (n - i) [])) → n ≤ i
-    → Adds old now (signs_chars (indent n []))
-indent_end old now n i o h = let e : n - i ≡ 0 = omega arith in owes_end (owes_as o (ap (λ (k : ℕ). signs_chars (indent k [])) e))
-
 pub indent_spaces : (n : ℕ) → signs_chars (indent n []) ≡ spaces n
 indent_spaces zero = refl
 indent_spaces (suc n) = ap (λ (cs : List ℕ). 0x20 ∷ 0x20 ∷ 0x20 ∷ 0x20 ∷ cs) (indent_spaces n)
+
+spaces_more : (n m : ℕ) → spaces (n + m) ≡ spaces n ++ spaces m
+spaces_more zero m = let e : 0 + m ≡ m = omega arith in ap spaces e
+spaces_more (suc n) m =
+    let e : suc n + m ≡ suc (n + m) = omega arith in
+    ap spaces e ∙ ap (λ (cs : List ℕ). 0x20 ∷ 0x20 ∷ 0x20 ∷ 0x20 ∷ cs) (spaces_more n m)
+
+spaces_are : (n : ℕ) → replicate (4 * n) 0x20 ≡ spaces n
+spaces_are zero = refl
+spaces_are (suc n) =
+    let e : 4 * suc n ≡ 4 + 4 * n = omega arith in
+    ap (λ (k : ℕ). replicate k 0x20) e ∙ sym (replicate-append-replicate 4 (4 * n) 0x20) ∙ ap (λ (cs : List ℕ). replicate 4 0x20 ++ cs) (spaces_are n)
+
+spaces_ascii : (n : ℕ) → list_all is_ascii (spaces n) ≡ true
+spaces_ascii zero = refl
+spaces_ascii (suc n) = spaces_ascii n
+
+-- the spaces of some of the levels that are left are written, out of a row of spaces
+pub indent_put : (old total now new : List ℕ) (left n row : ℕ) → Owes old total now (signs_chars (indent left [])) → n ≤ left → 4 * n ≤ row
+    → new ≡ now ++ take (4 * n) (replicate row 0x20) → Owes old total new (signs_chars (indent (left - n) []))
+indent_put old total now new left n row o h fits put =
+    let e : left ≡ n + (left - n) = omega arith in
+    let cut : signs_chars (indent left []) ≡ spaces n ++ signs_chars (indent (left - n) []) =
+    indent_spaces left ∙ ap spaces e ∙ spaces_more n (left - n) ∙ ap (λ (cs : List ℕ). spaces n ++ cs) (sym (indent_spaces (left - n))) in
+    let row_is : take (4 * n) (replicate row 0x20) ≡ spaces n = take-replicate (4 * n) row 0x20 fits ∙ spaces_are n in
+    let added : Adds now new (spaces n) =
+    record { is = put ∙ ap (λ (t : List ℕ). now ++ t) (row_is ∙ sym (ascii_encoded (spaces n) (spaces_ascii n))) } in
+    owes_step (signs_chars (indent (left - n) [])) (owes_as o cut) added
 
 pub break_put : (old a b new : List ℕ) (room level : ℕ) → room ≤ 0 → Adds old a (quote ∷ 0x0A ∷ []) → Adds a b (signs_chars (indent level []))
     → Adds b new (quote ∷ []) → Adds old new (break_chars room level)

@@ -19,12 +19,19 @@ const LINE: usize = 100;
 /// The deepest level at which lines are filled.
 pub const DEEPEST: usize = 12;
 
+/// The levels whose spaces are written at once.
+const LEVELS: usize = 16;
+
 /// Begins a line: writes four spaces for each level.
 pub fn put_indent(out: &mut Vec<u8>, level: usize) -> Result<(), AllocError>
     ensures { OnOk result (Adds out.old.items out.new.items (signs_chars (indent level []))) }
 {
-    for _ in 0..level {
-        put_str(out, "    ")?;
+    let spaces = [0x20; 4 * LEVELS];
+    let mut left = level;
+    while left > 0 {
+        let levels = left.min(LEVELS);
+        out.extend_from_slice(&spaces[..4 * levels])?;
+        left -= levels;
     }
     Ok(())
 }

@@ -1,7 +1,7 @@
 -- For proofs only: what the memo of an acceptance keeps.
 use Rattle.std.specs.Prelude.{◌≡◌, ◌≢◌, true, ℕ, zero, suc, ◌+◌, ◌*◌, ◌≤◌, ◌<◌, ◌==◌, if◌then◌else◌, nat_lt, List, []}
 use Rattle.std.specs.Prelude.{length, slice_index, Some, Result}
-use Rattle.std.specs.Prelude.{Ok, Err, All}
+use Rattle.std.specs.Prelude.{Ok, Err}
 use Rattle.rb_tree.specs.Resource.{Resource, Resources, height, trees_height}
 use Rattle.rb_format.specs.declared.layout.Layout.{Layout}
 use Rattle.rb_format.specs.declared.kind.ItemKind.{ItemKind}

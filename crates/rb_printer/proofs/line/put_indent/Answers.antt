@@ -1,5 +1,6 @@
+use Rattle.std.proofs.Common.{arith}
 use Rattle.rb_printer.proofs.Loops.{indent_put}
 use Rattle.rb_printer.proofs.line.put_indent.Goals as goal
 
-pub loop-preserved : goal.loop-preserved
-loop-preserved c = indent_put _ _ _ c.args.level c.loop.counter c.loop.invariant c.loop-test.true c.in_ok-put_str.ensures
+pub loop-left-preserved : goal.loop-left-preserved
+loop-left-preserved c = indent_put _ _ _ _ c.loop-left.left c.min-levels.result 64 c.loop-left.invariant (omega arith) (omega arith) c.in_ok-extend_from_slice.ensures.items

@@ -1,4 +1,4 @@
-use Rattle.std.proofs.Common.{◌≡◌, ℕ, List, ap, ◌∙◌, sym, subst}
+use Rattle.std.proofs.Common.{◌≡◌, ap, ◌∙◌, sym, subst}
 use Rattle.rb_validator.specs.inner.KnownRuns.{KnownRuns}
 use Rattle.rb_validator.specs.inner.Leaves.{AreLeaves}
 use Rattle.rb_validator.proofs.runs.Runs.are_leaves.Goals as goal

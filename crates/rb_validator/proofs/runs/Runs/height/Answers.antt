@@ -1,4 +1,4 @@
-use Rattle.std.proofs.Common.{◌≡◌, ℕ, List, Contains, ap, ◌∙◌, subst, rules}
+use Rattle.std.proofs.Common.{◌≡◌, List, Contains, ap, ◌∙◌, subst, rules}
 use Rattle.rb_validator.specs.declared.runs.Run.{Run}
 use Rattle.rb_validator.specs.inner.KnownRuns.{KnownRuns}
 use Rattle.rb_validator.proofs.runs.Runs.height.Goals as goal

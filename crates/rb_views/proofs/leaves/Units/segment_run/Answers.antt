@@ -1,7 +1,6 @@
-use Rattle.std.proofs.Common.{◌≡◌, ◌+◌, ◌-◌, ◌≤◌, ◌<◌, ℕ, length, true, sym, ap, ◌∙◌, arith}
+use Rattle.std.proofs.Common.{◌+◌, ◌≤◌, ◌<◌, ap, ◌∙◌, arith}
 use Rattle.rb_tree.specs.Path.{is_segment_unit}
 use Rattle.rb_format.specs.Place.{half_at}
-use Rattle.rb_views.specs.Seen.{units_seen}
 use Rattle.rb_views.proofs.Values.{values_length, values_index}
 use Rattle.rb_views.proofs.leaves.Units.segment_run.Goals as goal
 
