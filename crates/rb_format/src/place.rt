@@ -1,5 +1,6 @@
 //! What is at a place of the data.
-ghost use Rattle.std.specs.Prelude.{◌≡◌, ◌+◌, ◌*◌, ◌≤◌, ◌<◌, length, position, not, IfSome};
+ghost use Rattle.std.specs.Prelude.{◌≡◌, ◌+◌, ◌*◌, ◌≤◌, ◌<◌, ◌==◌, ◌&&◌, nat_lt, length};
+ghost use Rattle.std.specs.Prelude.{slice_index_or, position, not, IfSome};
 ghost use Rattle.std.specs.Option.{option_copied};
 ghost use Rattle.rb_format.specs.Place as places;
 ghost use Rattle.rb_tree.specs.Path.{is_plain};
@@ -62,9 +63,17 @@ fn key_in(run: &[u8]) -> Option<&[u8]>
     ensures { option_copied result ≡ key_front run.now }
 {
     match plain_end(run) {
-        Some(end) if 0 < end && run[end] == 0 => Some(&run[..end]),
+        Some(end) if is_ended(run, end) => Some(&run[..end]),
         _ => None,
     }
+}
+
+/// Whether bytes up to an end aren't empty, and the NUL is there.
+fn is_ended(run: &[u8], end: usize) -> bool
+    requires { end < length run.now }
+    ensures { result ≡ (nat_lt 0 end && (slice_index_or run.now end 0 == 0)) }
+{
+    0 < end && run[end] == 0
 }
 
 /// Where the first byte stands that no key has.
