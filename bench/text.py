@@ -7,8 +7,8 @@ Each family is a text that is made here and compiled by PROGRAM, as large as the
 icudt*l.dat of ICU's data (docs/ICU.md says where it is): tools/icu2text makes texts of it, and PROGRAM files of format 1. A time is the
 processor time of whole processes, the middle of RUNS runs, of the three programs by turns, whose output goes to /dev/null; of CLDR it
 is the sum over its files, a process a file for each program. Memory is the most that a process held; as measured.py shows no less
-than FLOOR, less isn't asked about. Each row ends with the goals that it misses, and the status is 1 where one is missed. Without derb
-its columns are left out.
+than FLOOR, less isn't asked about. Each row ends with the goals that it misses, and the status is 1 where one is missed. The last row
+sets the sums of all times against derb's. Without derb its columns are left out.
 
 --self-test runs the same over small texts, and ends with status 1 where something printed is not as it must be; it asks for no goal.
 """
@@ -125,7 +125,7 @@ def row(name, seconds, printed, longest, memory, file_bytes, theirs):
 
 
 def report(files, program, derb, runs, asks=True):
-    """Prints the rows of a set, and with `asks` which goals they miss. Gives how many miss one."""
+    """Prints the rows of a set, and with `asks` which goals they miss. Gives how many miss one, and the seconds of each program."""
     made = commands(files.files, program, derb)
     seconds, memory = by_turns(made, runs)
     misses = 0
@@ -136,7 +136,13 @@ def report(files, program, derb, runs, asks=True):
         said = "missed: " + ", ".join(missed) if missed else "holds"
         print(f"{line}: {said}" if asks else line, flush=True)
         misses += bool(missed)
-    return misses
+    return misses, seconds
+
+
+def together(sets):
+    """The row of all sets: how many times derb's speed the sums of their times are."""
+    sums = {name: sum(seconds[name] for seconds in sets) for name in sets[0]}
+    return "together: " + ", ".join(f"{command} {sums['derb'] / sums[command]:.1f} times derb's speed" for command in ("text", "json"))
 
 
 def wrong_of(files, program):
@@ -165,6 +171,8 @@ def self_test(program, derb):
         wrong.append("a row that holds")
     if len(row("r", 1.0, 59_000_000, 59_000_000, 121.0, 1_000_000, 4.9)[1]) != 3:
         wrong.append("a row that misses each goal")
+    if together([{"text": 1.0, "json": 2.0, "derb": 9.0}, {"text": 2.0, "json": 1.0, "derb": 6.0}]) != "together: text 5.0 times derb's speed, json 5.0 times derb's speed":
+        wrong.append("the row of all sets")
     print("".join(f"wrong: {line}\n" for line in wrong) or "ok: text.py\n", end="")
     return 1 if wrong else 0
 
@@ -183,12 +191,15 @@ def main():
         print("skipped: derb")
     if options.self_test:
         return self_test(program, derb)
-    misses = 0
+    reports = []
     with tempfile.TemporaryDirectory() as folder:
         for name, text in FAMILIES:
-            misses += report(family(name, text(8_000_000), folder, program), program, derb, RUNS)
+            reports.append(report(family(name, text(8_000_000), folder, program), program, derb, RUNS))
         if options.package:
-            misses += report(cldr(options.package, folder, program), program, derb, RUNS)
+            reports.append(report(cldr(options.package, folder, program), program, derb, RUNS))
+    misses = sum(missed for missed, _ in reports)
+    if derb:
+        print(together([seconds for _, seconds in reports]))
     print(f"{misses} rows miss a goal" if misses else "each goal holds")
     return 1 if misses else 0
 
