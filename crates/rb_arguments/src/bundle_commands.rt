@@ -24,7 +24,6 @@ Status:
   2  the command line is invalid, or a file or standard output can't be read or written";
 
 /// `lines APP [LOCALE=]FILE..`
-#[inline(never)]
 pub fn lines_command<'a>(alloc: Global) -> Result<Command<'a>, AllocError> {
     described(
         alloc,
@@ -61,7 +60,6 @@ fn with_options<'a>(alloc: Global, command: Command<'a>) -> Result<Command<'a>, 
 }
 
 /// `look LOCALE PATH [LOCALE=]FILE..`
-#[inline(never)]
 pub fn look_command<'a>(alloc: Global) -> Result<Command<'a>, AllocError> {
     let command = described(
         alloc,

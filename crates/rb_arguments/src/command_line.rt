@@ -50,7 +50,6 @@ fn with_texts<'a>(alloc: Global, command: Command<'a>) -> Result<Command<'a>, Al
     command.arg(more_texts(alloc)?)
 }
 
-#[inline(never)]
 fn compile_command<'a>(alloc: Global) -> Result<Command<'a>, AllocError> {
     let command = described(
         alloc,
@@ -75,7 +74,6 @@ Status:
   1  a file is refused, as de.res: KeyOrder, or out of memory; or one of many can't be read
   2  the command line is invalid, the file can't be read, or standard output can't be written";
 
-#[inline(never)]
 fn check_command<'a>(alloc: Global) -> Result<Command<'a>, AllocError> {
     described(alloc, "check", "Checks .res files", CHECK_HELP)
         .arg(quiet_flag(alloc))?
@@ -94,7 +92,6 @@ Status:
   1  the file is refused, or has no such item, as menu/shut: Missing, or out of memory
   2  the command line is invalid, the file can't be read, or standard output can't be written";
 
-#[inline(never)]
 fn get_command<'a>(alloc: Global) -> Result<Command<'a>, AllocError> {
     let about = "Prints the item at a path of a .res file";
     described(alloc, "get", about, GET_HELP)
@@ -124,7 +121,6 @@ fn name_option<'a>(alloc: Global) -> Arg<'a> {
     )
 }
 
-#[inline(never)]
 fn text_command<'a>(alloc: Global) -> Result<Command<'a>, AllocError> {
     let about = "Prints a .res file as a bundle text";
     described(alloc, "text", about, TEXT_HELP)
@@ -157,7 +153,6 @@ Status:
   1  the file is refused, has no such item, as menu/shut: Missing, or the item is too large, or out of memory
   2  the command line is invalid, the file can't be read, or standard output can't be written";
 
-#[inline(never)]
 fn json_command<'a>(alloc: Global) -> Result<Command<'a>, AllocError> {
     let about = "Prints a whole .res file, or the item at a path, as one JSON value";
     described(alloc, "json", about, JSON_HELP)
@@ -195,8 +190,7 @@ const NAMES: [&str; 10] = [
     "compile", "check", "get", "lint", "explain", "lines", "look", "text", "json", "serve",
 ];
 
-/// The command of a name; none if there is no such command. What makes each isn't inlined, so that
-/// a run touches the stack of one.
+/// The command of a name; none if there is no such command.
 fn command_named<'a>(alloc: Global, name: &str) -> Result<Option<Command<'a>>, AllocError> {
     Ok(Some(match name {
         "compile" => compile_command(alloc)?,

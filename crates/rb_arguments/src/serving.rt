@@ -85,7 +85,6 @@ fn with_counts<'a>(alloc: Global, command: Command<'a>) -> Result<Command<'a>, A
 }
 
 /// `serve [LOCALE=FILE ..]`
-#[inline(never)]
 pub fn serve_command<'a>(alloc: Global) -> Result<Command<'a>, AllocError> {
     let about = "Answers requests, a line each, from standard input";
     let command = described(alloc, "serve", about, SERVE_HELP).arg(parents_option(alloc))?;

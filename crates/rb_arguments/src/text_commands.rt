@@ -28,7 +28,6 @@ fn root_option<'a>(alloc: Global) -> Arg<'a> {
 }
 
 /// `lint [--root ROOT] TEXT..`
-#[inline(never)]
 pub fn lint_command<'a>(alloc: Global) -> Result<Command<'a>, AllocError> {
     let about = "Says what is doubtful in bundle texts, and where an error really began";
     described(alloc, "lint", about, LINT_HELP)
@@ -48,7 +47,6 @@ Status:
   2  the command line is invalid, or standard output can't be written";
 
 /// `explain [WORD]`
-#[inline(never)]
 pub fn explain_command<'a>(alloc: Global) -> Result<Command<'a>, AllocError> {
     let word = Arg::new(alloc, "WORD").help("an error word, as BadInt; none lists all");
     described(
