@@ -1,49 +1,66 @@
-//! The kinds of arguments that the commands take, and a command before it has any.
-use clap::{Arg, ArgAction, Command};
-use std::alloc::Global;
+//! The arguments of the commands.
+use clap::builder::ValueParser;
+use clap::{Arg, ArgAction};
+use std::alloc::{AllocError, Global};
 
-/// A command without arguments: what it does, and the end of its help.
-pub fn described<'a>(alloc: Global, name: &'a str, about: &'a str, end: &'a str) -> Command<'a> {
-    Command::new(alloc, name).about(about).after_help(end)
+/// The largest number that a limit may be: 2 to the power of 63.
+const LARGEST_LIMIT: u64 = 9_223_372_036_854_775_808;
+
+/// How an argument is given.
+#[derive(Clone, Copy)]
+pub enum Kind {
+    /// A word that must be given.
+    Word,
+    /// A word that may be left out.
+    OptionalWord,
+    /// A word that may only be left out with this option.
+    WordUnless(&'static str),
+    /// Words, of which at least one must be given; the help shows them by this name.
+    Words(&'static str),
+    /// Any number of words; the help shows them by this name.
+    AnyWords(&'static str),
+    /// Any number of words, with this option only.
+    WordsWith(&'static str),
+    /// `--NAME VALUE`; the help shows the value by this name.
+    Option(&'static str),
+    /// `--NAME N`, with a number from 1 to the largest limit.
+    Limit,
+    /// `--NAME`
+    Flag,
+    /// `--NAME`, or a dash and this letter.
+    ShortFlag(char),
 }
 
-/// A word that must be given.
-pub fn word<'a>(alloc: Global, name: &'a str, help: &'a str) -> Arg<'a> {
-    Arg::new(alloc, name).required(true).help(help)
+/// An argument of a command.
+#[derive(Clone, Copy)]
+pub struct Argument {
+    pub name: &'static str,
+    pub kind: Kind,
+    /// What the help says of it.
+    pub help: &'static str,
 }
 
-/// Words, of which at least one must be given.
-pub fn words<'a>(alloc: Global, name: &'a str, help: &'a str) -> Arg<'a> {
-    word(alloc, name, help).num_args(1..)
-}
-
-/// `--NAME VALUE`
-pub fn option<'a>(alloc: Global, name: &'a str, value: &'a str, help: &'a str) -> Arg<'a> {
-    Arg::new(alloc, name)
-        .long(name)
-        .value_name(value)
-        .help(help)
-}
-
-/// `--NAME`
-pub fn flag<'a>(alloc: Global, name: &'a str, help: &'a str) -> Arg<'a> {
-    Arg::new(alloc, name)
-        .long(name)
-        .action(ArgAction::SetTrue)
-        .help(help)
-}
-
-/// `--parents FILE`
-pub fn parents_option<'a>(alloc: Global) -> Arg<'a> {
-    option(
-        alloc,
-        "parents",
-        "FILE",
-        "a bundle text with the explicit parents, at parentLocales",
-    )
-}
-
-/// `PATH`
-pub fn path_word<'a>(alloc: Global) -> Arg<'a> {
-    word(alloc, "PATH", "keys and indexes, with slashes between them")
+impl Argument {
+    /// The argument as `clap` takes it.
+    pub fn made<'a>(self, alloc: Global) -> Result<Arg<'a>, AllocError> {
+        let made = Arg::new(alloc, self.name).help(self.help);
+        Ok(match self.kind {
+            Kind::Word => made.required(true),
+            Kind::OptionalWord => made,
+            Kind::WordUnless(option) => made.required_unless_present(option)?,
+            Kind::Words(shown) => made.required(true).num_args(1..).value_name(shown),
+            Kind::AnyWords(shown) => made.num_args(0..).value_name(shown),
+            Kind::WordsWith(option) => made.num_args(0..).requires_arg(option)?,
+            Kind::Option(shown) => made.long(self.name).value_name(shown),
+            Kind::Limit => made
+                .long(self.name)
+                .value_name("N")
+                .value_parser(ValueParser::unsigned(1, LARGEST_LIMIT)),
+            Kind::Flag => made.long(self.name).action(ArgAction::SetTrue),
+            Kind::ShortFlag(letter) => made
+                .long(self.name)
+                .short(letter)
+                .action(ArgAction::SetTrue),
+        })
+    }
 }

@@ -1,17 +1,10 @@
 //! The commands that take bundles into lookups: `lines` and `look`.
-use crate::argument::{described, flag, option, parents_option, path_word, word, words};
-use clap::{Arg, Command};
-use std::alloc::{AllocError, Global};
+use crate::argument::{Argument, Kind};
+use crate::description::Description;
 
-/// The bundles of a command, each with its locale.
-fn bundles_argument<'a>(alloc: Global) -> Arg<'a> {
-    words(
-        alloc,
-        "FILE",
-        "a bundle: bundle text where FILE ends in .txt, else a .res file; LOCALE is its stem",
-    )
-    .value_name("[LOCALE=]FILE")
-}
+/// What the help says of the bundles of a command.
+const BUNDLE_HELP: &str =
+    "a bundle: bundle text where FILE ends in .txt, else a .res file; LOCALE is its stem";
 
 /// The end of the help of `lines`.
 const LINES_HELP: &str = "\
@@ -24,17 +17,28 @@ Status:
   2  the command line is invalid, or a file or standard output can't be read or written";
 
 /// `lines APP [LOCALE=]FILE..`
-pub fn lines_command<'a>(alloc: Global) -> Result<Command<'a>, AllocError> {
-    described(
-        alloc,
-        "lines",
-        "Prints request lines for serve that install bundles",
-        LINES_HELP,
-    )
-    .arg(option(alloc, "op", "OP", "install, or replace"))?
-    .arg(word(alloc, "APP", "the application"))?
-    .arg(bundles_argument(alloc))
-}
+pub const LINES: Description = Description {
+    name: "lines",
+    about: "Prints request lines for serve that install bundles",
+    arguments: &[
+        Argument {
+            name: "op",
+            kind: Kind::Option("OP"),
+            help: "install, or replace",
+        },
+        Argument {
+            name: "APP",
+            kind: Kind::Word,
+            help: "the application",
+        },
+        Argument {
+            name: "FILE",
+            kind: Kind::Words("[LOCALE=]FILE"),
+            help: BUNDLE_HELP,
+        },
+    ],
+    end: LINES_HELP,
+};
 
 /// The end of the help of `look`.
 const LOOK_HELP: &str = "\
@@ -48,27 +52,36 @@ Status:
   1  it isn't, as {\"error\":\"Missing\"}; or a file is refused, as root.txt:2: BadInt
   2  the command line is invalid, or a file or standard output can't be read or written";
 
-/// `--trace`
-fn trace_flag<'a>(alloc: Global) -> Arg<'a> {
-    let help = "say on standard error which bundles were asked, and why";
-    flag(alloc, "trace", help)
-}
-
-/// The options of `look`.
-fn with_options<'a>(alloc: Global, command: Command<'a>) -> Result<Command<'a>, AllocError> {
-    command.arg(parents_option(alloc))?.arg(trace_flag(alloc))
-}
-
 /// `look LOCALE PATH [LOCALE=]FILE..`
-pub fn look_command<'a>(alloc: Global) -> Result<Command<'a>, AllocError> {
-    let command = described(
-        alloc,
-        "look",
-        "Looks an item up over bundles, with fallback",
-        LOOK_HELP,
-    );
-    with_options(alloc, command)?
-        .arg(word(alloc, "LOCALE", "the locale to look up from"))?
-        .arg(path_word(alloc))?
-        .arg(bundles_argument(alloc))
-}
+pub const LOOK: Description = Description {
+    name: "look",
+    about: "Looks an item up over bundles, with fallback",
+    arguments: &[
+        Argument {
+            name: "parents",
+            kind: Kind::Option("FILE"),
+            help: "a bundle text with the explicit parents, at parentLocales",
+        },
+        Argument {
+            name: "trace",
+            kind: Kind::Flag,
+            help: "say on standard error which bundles were asked, and why",
+        },
+        Argument {
+            name: "LOCALE",
+            kind: Kind::Word,
+            help: "the locale to look up from",
+        },
+        Argument {
+            name: "PATH",
+            kind: Kind::Word,
+            help: "keys and indexes, with slashes between them",
+        },
+        Argument {
+            name: "FILE",
+            kind: Kind::Words("[LOCALE=]FILE"),
+            help: BUNDLE_HELP,
+        },
+    ],
+    end: LOOK_HELP,
+};

@@ -6,6 +6,8 @@ mod argument;
 mod asking;
 mod bundle_commands;
 mod command_line;
+mod description;
+mod file_commands;
 mod serving;
 mod text_commands;
 

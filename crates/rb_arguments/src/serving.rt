@@ -1,11 +1,6 @@
 //! The command `serve`, with its limits.
-use crate::argument::{described, flag, option, parents_option};
-use clap::builder::ValueParser;
-use clap::{Arg, Command};
-use std::alloc::{AllocError, Global};
-
-/// The largest number that a limit may be: 2 to the power of 63.
-const LARGEST_LIMIT: u64 = 9_223_372_036_854_775_808;
+use crate::argument::{Argument, Kind};
+use crate::description::Description;
 
 /// The end of the help of `serve`.
 const SERVE_HELP: &str = "\
@@ -22,73 +17,57 @@ Status:
   1  a file is refused, as root.txt: BadText, serving ended early, as LineTooLong, or out of memory
   2  the command line is invalid, a file can't be read, or there is no random state";
 
-fn bundles_argument<'a>(alloc: Global) -> Arg<'a> {
-    Arg::new(alloc, "bundles")
-        .value_name("LOCALE=FILE")
-        .num_args(0..)
-        .help("a bundle of ICUDATA: bundle text where FILE ends in .txt, else a .res file")
-}
-
-/// `--NAME N`, with a number from 1 to the largest limit.
-fn limit_option<'a>(alloc: Global, name: &'a str, help: &'a str) -> Arg<'a> {
-    option(alloc, name, "N", help).value_parser(ValueParser::unsigned(1, LARGEST_LIMIT))
-}
-
-/// The limits in bytes.
-fn with_bytes<'a>(alloc: Global, command: Command<'a>) -> Result<Command<'a>, AllocError> {
-    let app = limit_option(
-        alloc,
-        "app-bytes",
-        "the most bytes of all files of one application",
-    );
-    let bundle = limit_option(
-        alloc,
-        "bundle-bytes",
-        "the most bytes of one bundle, as text and as file",
-    );
-    let reply = limit_option(
-        alloc,
-        "reply-bytes",
-        "the most bytes of the line of a found item or of names",
-    );
-    let line = limit_option(
-        alloc,
-        "line-bytes",
-        "the most bytes of a line; a longer one is passed over",
-    );
-    command.arg(app)?.arg(bundle)?.arg(reply)?.arg(line)
-}
-
-/// `--apps N`
-fn apps_option<'a>(alloc: Global) -> Arg<'a> {
-    let help = "the most applications with bundles at one time";
-    limit_option(alloc, "apps", help)
-}
-
-/// `--steps N`
-fn steps_option<'a>(alloc: Global) -> Arg<'a> {
-    limit_option(alloc, "steps", "the most steps of a lookup")
-}
-
-/// `--keep-serving`
-fn keep_flag<'a>(alloc: Global) -> Arg<'a> {
-    let help = "answer a line for which memory is out, and serve on if the bundles are as before";
-    flag(alloc, "keep-serving", help)
-}
-
-/// The limits that aren't in bytes.
-fn with_counts<'a>(alloc: Global, command: Command<'a>) -> Result<Command<'a>, AllocError> {
-    command
-        .arg(apps_option(alloc))?
-        .arg(steps_option(alloc))?
-        .arg(keep_flag(alloc))
-}
-
 /// `serve [LOCALE=FILE ..]`
-pub fn serve_command<'a>(alloc: Global) -> Result<Command<'a>, AllocError> {
-    let about = "Answers requests, a line each, from standard input";
-    let command = described(alloc, "serve", about, SERVE_HELP).arg(parents_option(alloc))?;
-    let command = with_bytes(alloc, command)?;
-    let command = with_counts(alloc, command)?;
-    command.arg(bundles_argument(alloc))
-}
+pub const SERVE: Description = Description {
+    name: "serve",
+    about: "Answers requests, a line each, from standard input",
+    arguments: &[
+        Argument {
+            name: "parents",
+            kind: Kind::Option("FILE"),
+            help: "a bundle text with the explicit parents, at parentLocales",
+        },
+        Argument {
+            name: "app-bytes",
+            kind: Kind::Limit,
+            help: "the most bytes of all files of one application",
+        },
+        Argument {
+            name: "bundle-bytes",
+            kind: Kind::Limit,
+            help: "the most bytes of one bundle, as text and as file",
+        },
+        Argument {
+            name: "reply-bytes",
+            kind: Kind::Limit,
+            help: "the most bytes of the line of a found item or of names",
+        },
+        Argument {
+            name: "line-bytes",
+            kind: Kind::Limit,
+            help: "the most bytes of a line; a longer one is passed over",
+        },
+        Argument {
+            name: "apps",
+            kind: Kind::Limit,
+            help: "the most applications with bundles at one time",
+        },
+        Argument {
+            name: "steps",
+            kind: Kind::Limit,
+            help: "the most steps of a lookup",
+        },
+        Argument {
+            name: "keep-serving",
+            kind: Kind::Flag,
+            help: "answer a line for which memory is out, and serve on if the bundles are as \
+                before",
+        },
+        Argument {
+            name: "bundles",
+            kind: Kind::AnyWords("LOCALE=FILE"),
+            help: "a bundle of ICUDATA: bundle text where FILE ends in .txt, else a .res file",
+        },
+    ],
+    end: SERVE_HELP,
+};

@@ -1,7 +1,6 @@
 //! The commands that help with bundle texts: `lint` and `explain`.
-use crate::argument::{described, option, words};
-use clap::{Arg, Command};
-use std::alloc::{AllocError, Global};
+use crate::argument::{Argument, Kind};
+use crate::description::Description;
 
 /// The end of the help of `lint`.
 const LINT_HELP: &str = "\
@@ -17,23 +16,24 @@ Status:
   1  there is a warning, as de.txt:3: warning: .., or an error of a text, as of compile
   2  the command line is invalid, or standard output can't be written";
 
-/// `--root ROOT`
-fn root_option<'a>(alloc: Global) -> Arg<'a> {
-    option(
-        alloc,
-        "root",
-        "ROOT",
-        "the bundle text of the root locale, to compare with",
-    )
-}
-
 /// `lint [--root ROOT] TEXT..`
-pub fn lint_command<'a>(alloc: Global) -> Result<Command<'a>, AllocError> {
-    let about = "Says what is doubtful in bundle texts, and where an error really began";
-    described(alloc, "lint", about, LINT_HELP)
-        .arg(root_option(alloc))?
-        .arg(words(alloc, "TEXT", "a bundle text, in UTF-8"))
-}
+pub const LINT: Description = Description {
+    name: "lint",
+    about: "Says what is doubtful in bundle texts, and where an error really began",
+    arguments: &[
+        Argument {
+            name: "root",
+            kind: Kind::Option("ROOT"),
+            help: "the bundle text of the root locale, to compare with",
+        },
+        Argument {
+            name: "TEXT",
+            kind: Kind::Words("TEXT"),
+            help: "a bundle text, in UTF-8",
+        },
+    ],
+    end: LINT_HELP,
+};
 
 /// The end of the help of `explain`.
 const EXPLAIN_HELP: &str = "\
@@ -47,13 +47,13 @@ Status:
   2  the command line is invalid, or standard output can't be written";
 
 /// `explain [WORD]`
-pub fn explain_command<'a>(alloc: Global) -> Result<Command<'a>, AllocError> {
-    let word = Arg::new(alloc, "WORD").help("an error word, as BadInt; none lists all");
-    described(
-        alloc,
-        "explain",
-        "Says what an error word means, its likely causes and what to do",
-        EXPLAIN_HELP,
-    )
-    .arg(word)
-}
+pub const EXPLAIN: Description = Description {
+    name: "explain",
+    about: "Says what an error word means, its likely causes and what to do",
+    arguments: &[Argument {
+        name: "WORD",
+        kind: Kind::OptionalWord,
+        help: "an error word, as BadInt; none lists all",
+    }],
+    end: EXPLAIN_HELP,
+};

@@ -1,0 +1,26 @@
+//! A command with its arguments and its help.
+use crate::argument::Argument;
+use clap::Command;
+use std::alloc::{AllocError, Global};
+
+/// A command: what it does, its arguments in the order of the help, and the end of its help.
+#[derive(Clone, Copy)]
+pub struct Description {
+    pub name: &'static str,
+    pub about: &'static str,
+    pub arguments: &'static [Argument],
+    pub end: &'static str,
+}
+
+impl Description {
+    /// The command as `clap` takes it.
+    pub fn made<'a>(&self, alloc: Global) -> Result<Command<'a>, AllocError> {
+        let mut made = Command::new(alloc, self.name)
+            .about(self.about)
+            .after_help(self.end);
+        for argument in self.arguments {
+            made = made.arg(argument.made(alloc)?)?;
+        }
+        Ok(made)
+    }
+}

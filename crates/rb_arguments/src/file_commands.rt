@@ -1,0 +1,183 @@
+//! The commands over files: `compile`, `check`, `get`, `text` and `json`.
+use crate::argument::{Argument, Kind};
+use crate::description::Description;
+
+/// The end of the help of `compile`.
+const COMPILE_HELP: &str = "\
+Examples:
+  resb compile de.txt de.res
+  resb compile --to bundles texts/*.txt
+
+IN - is standard input, and OUT - is standard output. OUT is never IN, nor a file whose name ends
+in .txt. With --to each text is compiled to DIR/STEM.res.
+
+Status:
+  0  OUT is written; its length is printed
+  1  the text is refused, as de.txt:3: BadInt, or out of memory; nothing is written. With --to,
+     where this or an unreadable file is the fate of any text
+  2  the command line is invalid, or a file or standard output can't be read or written";
+
+/// `compile IN OUT`, or `compile --to DIR TEXT..`
+pub const COMPILE: Description = Description {
+    name: "compile",
+    about: "Compiles bundle texts to .res files",
+    arguments: &[
+        Argument {
+            name: "to",
+            kind: Kind::Option("DIR"),
+            help: "compile many texts into this folder",
+        },
+        Argument {
+            name: "quiet",
+            kind: Kind::ShortFlag('q'),
+            help: "no line on success",
+        },
+        Argument {
+            name: "IN",
+            kind: Kind::Word,
+            help: "a bundle text, in UTF-8",
+        },
+        Argument {
+            name: "OUT",
+            kind: Kind::WordUnless("to"),
+            help: "the file to write; with --to, a further text",
+        },
+        Argument {
+            name: "TEXT",
+            kind: Kind::WordsWith("to"),
+            help: "with --to, further texts",
+        },
+    ],
+    end: COMPILE_HELP,
+};
+
+/// The end of the help of `check`.
+const CHECK_HELP: &str = "\
+Examples:
+  resb check de.res
+  resb check bundles/*.res
+
+Each line begins with the file's name where there is more than one file.
+
+Status:
+  0  each file is a bundle; the number of its tables and arrays with data is printed
+  1  a file is refused, as de.res: KeyOrder, or out of memory; or one of many can't be read
+  2  the command line is invalid, the file can't be read, or standard output can't be written";
+
+/// `check FILE..`
+pub const CHECK: Description = Description {
+    name: "check",
+    about: "Checks .res files",
+    arguments: &[
+        Argument {
+            name: "quiet",
+            kind: Kind::ShortFlag('q'),
+            help: "no line on success",
+        },
+        Argument {
+            name: "FILE",
+            kind: Kind::Words("FILE"),
+            help: "a .res file",
+        },
+    ],
+    end: CHECK_HELP,
+};
+
+/// The end of the help of `get`.
+const GET_HELP: &str = "\
+Example:
+  resb get de.res menu/close
+
+An alias on the way is printed and not followed. The empty path '' is the whole bundle.
+
+Status:
+  0  the item is printed, as JSON
+  1  the file is refused, or has no such item, as menu/shut: Missing, or out of memory
+  2  the command line is invalid, the file can't be read, or standard output can't be written";
+
+/// `get FILE PATH`
+pub const GET: Description = Description {
+    name: "get",
+    about: "Prints the item at a path of a .res file",
+    arguments: &[
+        Argument {
+            name: "FILE",
+            kind: Kind::Word,
+            help: "a .res file",
+        },
+        Argument {
+            name: "PATH",
+            kind: Kind::Word,
+            help: "keys and indexes, with slashes between them",
+        },
+    ],
+    end: GET_HELP,
+};
+
+/// The end of the help of `text`.
+const TEXT_HELP: &str = "\
+Example:
+  resb text de.res > de.txt
+
+The text compiles to a file of the same bundle. A file doesn't have the bundle's name.
+
+Status:
+  0  the text is printed
+  1  the file is refused, as de.res: KeyOrder, or its text would be too large, or out of memory
+  2  the command line is invalid, the file can't be read, or standard output can't be written";
+
+/// `text FILE`
+pub const TEXT: Description = Description {
+    name: "text",
+    about: "Prints a .res file as a bundle text",
+    arguments: &[
+        Argument {
+            name: "FILE",
+            kind: Kind::Word,
+            help: "a .res file",
+        },
+        Argument {
+            name: "name",
+            kind: Kind::Option("NAME"),
+            help: "the bundle's name; by default the file's, up to its first full stop",
+        },
+    ],
+    end: TEXT_HELP,
+};
+
+/// The end of the help of `json`.
+const JSON_HELP: &str = "\
+Example:
+  resb json de.res menu
+
+A table is an object, an array an array, a String a string, an Int a number; the others are objects of one member, :alias, :bin,
+:intvector or :units. A key that begins with a colon has one colon more. Aliases are printed and not followed.
+
+Status:
+  0  the item is printed, as JSON
+  1  the file is refused, has no such item, as menu/shut: Missing, or the item is too large, or out of memory
+  2  the command line is invalid, the file can't be read, or standard output can't be written";
+
+/// `json FILE [PATH]`
+pub const JSON: Description = Description {
+    name: "json",
+    about: "Prints a whole .res file, or the item at a path, as one JSON value",
+    arguments: &[
+        Argument {
+            name: "FILE",
+            kind: Kind::Word,
+            help: "a .res file",
+        },
+        Argument {
+            name: "PATH",
+            kind: Kind::OptionalWord,
+            help: "keys and indexes, with slashes between them; the whole bundle without it",
+        },
+        Argument {
+            name: "pretty",
+            kind: Kind::Flag,
+            help: "a line for each item and member, indented",
+        },
+    ],
+    end: JSON_HELP,
+};
