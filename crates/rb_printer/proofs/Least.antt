@@ -1,5 +1,5 @@
 -- The fewest characters of a text, and its tree's weight.
-use Rattle.std.proofs.Common.{◌≡◌, ℕ, zero, suc, ◌+◌, ◌*◌, ◌≤◌, ℤ, Bool, true, false, cond, ◌&&◌, not, List, [], ◌∷◌, ◌++◌, length}
+use Rattle.std.proofs.Common.{◌≡◌, ℕ, zero, suc, ◌+◌, ◌*◌, ◌≤◌, ◌<◌, ℤ, Bool, true, false, cond, ◌&&◌, not, List, [], ◌∷◌, ◌++◌, length}
 use Rattle.std.proofs.Common.{refl, ap, arith, length-append, encode_utf8, encode_utf8_all, Option, Some, None}
 use Rattle.std.specs.Fmt.{decimal, signed_decimal}
 use Rattle.std.specs.Prelude.{nat_le}
@@ -19,7 +19,10 @@ use Rattle.rb_printer.proofs.Forming.{hex_joined}
 use Rattle.rb_printer.specs.Page.{hex_first, hex_later, is_short, pause, room_after, wraps, number_fits, text_width, item_fits, item_room}
 use Rattle.rb_printer.specs.Page.{hex_units, indent, comma_if, are_more, has_items, has_entries, is_guessed, numbers_signs, type_unless, gap, item_signs}
 use Rattle.rb_printer.specs.Page.{head_signs, body_signs, items_signs, entries_signs, page}
-use Rattle.rb_printer.specs.inner.Least.{item_lead, least, items_least, entries_least}
+use Rattle.rb_lexer.specs.Limits.{source_limit}
+use Rattle.rb_printer.specs.declared.error.PrintError.{PrintError}
+use Rattle.rb_printer.specs.inner.Growth.{Exceeds}
+use Rattle.rb_printer.specs.inner.Least.{item_lead, least, items_least, entries_least, frame, items_frame, entries_frame}
 use Rattle.rb_printer.proofs.Tests.{and_left, and_right}
 use Rattle.rb_printer.proofs.Texts.{shown_high, low_not_high}
 
@@ -274,6 +277,26 @@ mutual
         entries_least_of es level rest,
       )
 
+-- ---- frames
+
+mutual
+  frame_least : (t : Resource) (level : ℕ) → frame level t ≤ least level t
+  frame_least (string us) level = omega arith
+  frame_least (int n) level = omega arith
+  frame_least (ints zs) level = omega arith
+  frame_least (binary bs) level = omega arith
+  frame_least (alias us) level = omega arith
+  frame_least (array ts) level = omega (arith, items_frame_least ts (level + 1))
+  frame_least (table es) level = omega (arith, entries_frame_least es (level + 1))
+
+  items_frame_least : (ts : Resources) (level : ℕ) → items_frame level ts ≤ items_least level ts
+  items_frame_least no_trees level = omega arith
+  items_frame_least (tree_and t ts) level = omega (arith, frame_least t level, items_frame_least ts level)
+
+  entries_frame_least : (es : Members) (level : ℕ) → entries_frame level es ≤ entries_least level es
+  entries_frame_least no_entries level = omega arith
+  entries_frame_least (entry_and k t es) level = omega (arith, frame_least t level, entries_frame_least es level)
+
 -- ---- weights
 
 mutual
@@ -296,7 +319,7 @@ mutual
 
 -- ---- a page
 
-pub page_least : (name : List ℕ) (b : Bool) (es : Members) → entries_least 1 es + 4 ≤ length (encode_utf8_all (signs_chars (page name b es)))
+page_least : (name : List ℕ) (b : Bool) (es : Members) → entries_least 1 es + 4 ≤ length (encode_utf8_all (signs_chars (page name b es)))
 page_least name b es =
     let inner = left ∷ feed ∷ entries_signs 1 es (right ∷ feed ∷ []) in
     omega (
@@ -306,6 +329,14 @@ page_least name b es =
       head_least b inner,
       entries_least_of es 1 (right ∷ feed ∷ []),
     )
+
+pub page_frame : (name : List ℕ) (b : Bool) (es : Members) → entries_frame 1 es + 4 ≤ length (encode_utf8_all (signs_chars (page name b es)))
+page_frame name b es = omega (arith, page_least name b es, entries_frame_least es 1)
+
+-- a text of more units than there is room for bytes is too long
+pub text_exceeds : (old us : List ℕ) (e : PrintError) → source_limit < length old + length us → Exceeds old (text_chars false us) e
+text_exceeds old us e h = λ _.
+    omega (arith, h, size_is (text_chars false us), quoted_least us, length-append old (encode_utf8_all (text_chars false us)))
 
 pub page_light : (name : List ℕ) (b : Bool) (es : Members) → length (encode_utf8_all (signs_chars (page name b es))) ≤ 8388608 → weight (table es) ≤ 33554432
 page_light name b es h = omega (arith, page_least name b es, members_weight es 1 (omega arith))

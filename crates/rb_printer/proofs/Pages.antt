@@ -3,8 +3,10 @@ use Rattle.std.proofs.Common.{◌≡◌, ℕ, suc, ◌≤◌, ◌<◌, Bool, tru
 use Rattle.rb_tree.specs.Resource.{Resource, string, int, ints, binary, alias, array, table, Members, height}
 use Rattle.rb_tree.specs.Parts.{kind_of}
 use Rattle.rb_tree.specs.declared.kind.Kind.TheVariants as Kinds
-use Rattle.rb_printer.specs.inner.Growth.{Adds}
-use Rattle.rb_printer.proofs.Growths.{adds_more}
+use Rattle.rb_printer.specs.inner.Growth.{Adds, Exceeds}
+use Rattle.rb_printer.specs.declared.error.PrintError.{PrintError}
+use Rattle.rb_printer.proofs.Growths.{adds_more, owes_all, owes_step, exceeds_in}
+use Rattle.rb_printer.proofs.Loops.{owes_as}
 use Rattle.rb_printer.proofs.Puts.{adds_as}
 use Rattle.rb_printer.proofs.Splits.{same, front, head_splits, entries_split}
 use Rattle.rb_printer.proofs.Least.{page_light}
@@ -49,16 +51,31 @@ page_spells bytes name no_fallback es u s low e short =
 
 -- ---- what is written
 
+page_parts : (name : List ℕ) (no_fallback : Bool) (es : Members)
+    → signs_chars (page name no_fallback es)
+    ≡ sign_chars (text (is_name name) name) ++ (signs_chars (head_signs no_fallback (left ∷ feed ∷ []))
+    ++ (signs_chars (entries_signs 1 es []) ++ (0x7D ∷ 0x0A ∷ [])))
+page_parts name no_fallback es =
+    let end = right ∷ feed ∷ [] in
+    let begin = signs_chars (head_signs no_fallback (left ∷ feed ∷ [])) in
+    ap (λ (cs : List ℕ). sign_chars (text (is_name name) name) ++ cs)
+    ((head_splits no_fallback (front left (front feed same))).are (entries_signs 1 es end) ∙ ap (λ (cs : List ℕ). begin ++ cs) ((entries_split es 1).are end))
+
 pub page_put : (old a b c new name : List ℕ) (no_fallback : Bool) (es : Members) → Adds old a (sign_chars (text (is_name name) name))
     → Adds a b (signs_chars (head_signs no_fallback (left ∷ feed ∷ []))) → Adds b c (signs_chars (entries_signs 1 es [])) → Adds c new (0x7D ∷ 0x0A ∷ [])
     → Adds old new (signs_chars (page name no_fallback es))
-page_put old a b c new name no_fallback es p q r s =
-    let end = right ∷ feed ∷ [] in
-    let inner = entries_signs 1 es end in
+page_put old a b c new name no_fallback es p q r s = adds_as (adds_more p (adds_more q (adds_more r s))) (sym (page_parts name no_fallback es))
+
+-- entries that are too long make the page too long
+pub page_exceeds : (old a b name : List ℕ) (no_fallback : Bool) (es : Members) (err : PrintError) → Adds old a (sign_chars (text (is_name name) name))
+    → Adds a b (signs_chars (head_signs no_fallback (left ∷ feed ∷ []))) → Exceeds b (signs_chars (entries_signs 1 es [])) err
+    → Exceeds old (signs_chars (page name no_fallback es)) err
+page_exceeds old a b name no_fallback es err p q h =
+    let entries = signs_chars (entries_signs 1 es []) in
+    let end = 0x7D ∷ 0x0A ∷ [] in
     let begin = signs_chars (head_signs no_fallback (left ∷ feed ∷ [])) in
-    adds_as (adds_more p (adds_more q (adds_more r s)))
-    (ap (λ (cs : List ℕ). sign_chars (text (is_name name) name) ++ cs)
-    (sym ((head_splits no_fallback (front left (front feed same))).are inner ∙ ap (λ (cs : List ℕ). begin ++ cs) ((entries_split es 1).are end))))
+    exceeds_in entries end err
+    (owes_step (entries ++ end) (owes_step (begin ++ (entries ++ end)) (owes_as (owes_all old (signs_chars (page name no_fallback es))) (page_parts name no_fallback es)) p) q) h
 
 table_is : (t : Resource) → kind_of t ≡ Kinds.Table → table (members_of t) ≡ t
 table_is (string us) k = absurd cc

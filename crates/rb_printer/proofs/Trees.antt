@@ -14,8 +14,10 @@ use Rattle.rb_printer.specs.Page.{hex_first, hex_later, is_short, pause, wraps, 
 use Rattle.rb_printer.specs.Page.{indent, has_items, has_entries, is_guessed, numbers_signs, type_unless, gap, item_signs}
 use Rattle.rb_printer.specs.Page.{body_signs, items_signs, entries_signs, items_of, members_of}
 use Rattle.rb_printer.specs.Sound.{AreUnits, IsSound, AreSound, EachSound, IsWell, AreWell, EachWell}
-use Rattle.rb_printer.specs.inner.Growth.{Adds, Owes}
-use Rattle.rb_printer.proofs.Growths.{adds_more, owes_all, owes_step, owes_end}
+use Rattle.rb_printer.specs.inner.Growth.{Adds, Owes, Exceeds}
+use Rattle.rb_printer.specs.declared.error.PrintError.{PrintError}
+use Rattle.rb_lexer.specs.Limits.{source_limit}
+use Rattle.rb_printer.proofs.Growths.{adds_more, owes_all, owes_step, owes_end, exceeds_in, exceeds_now}
 use Rattle.rb_printer.proofs.Puts.{adds_as}
 use Rattle.rb_printer.proofs.Words.{decimal_word}
 use Rattle.rb_printer.proofs.Loops.{owes_as}
@@ -74,6 +76,16 @@ item_left level room u ts rest =
     ∙ ap (λ (cs : List ℕ). signs_chars (pause (item_fits level room u) level []) ++ cs)
     ((item_splits u (body_signs level u) (λ rest. rest) (body_splits u level) same).are after)
 
+-- what is still to be written begins with the present item
+item_owed : (level room : ℕ) (t u : Resource) (i : ℕ) → Some u ≡ slice_get (items (items_of t)) i
+    → signs_chars (items_signs (level + 1) (drop_trees i (items_of t)) room (feed ∷ indent level (right ∷ [])))
+    ≡ signs_chars (pause (item_fits (level + 1) room u) (level + 1) []) ++ (signs_chars (item_signs u (body_signs (level + 1) u []) [])
+    ++ (0x2C ∷ signs_chars (items_signs (level + 1) (drop_trees (i + 1) (items_of t)) (item_room (level + 1) room u) (feed ∷ indent level (right ∷ [])))))
+item_owed level room t u i e =
+    let end = feed ∷ indent level (right ∷ []) in
+    ap (λ (ts : Resources). signs_chars (items_signs (level + 1) ts room end)) (tree_there (items_of t) i u e)
+    ∙ item_left (level + 1) room u (drop_trees (i + 1) (items_of t)) end
+
 pub items_put : (old now a b new : List ℕ) (level room next : ℕ) (t u : Resource) (i : ℕ) (fits : Bool) → ItemsPut old now level t room i
     → Some u ≡ slice_get (items (items_of t)) i → fits ≡ item_fits (level + 1) room u → next ≡ item_room (level + 1) room u
     → Adds now a (signs_chars (pause fits (level + 1) [])) → Adds a b (signs_chars (item_signs u (body_signs (level + 1) u []) [])) → IsSound u
@@ -86,13 +98,24 @@ items_put old now a b new level room next t u i fits m e f g p q s r =
     let item = signs_chars (item_signs u (body_signs (level + 1) u []) []) in
     let front = signs_chars (pause fits (level + 1) []) in
     let owed : signs_chars (items_signs (level + 1) (drop_trees i (items_of t)) room end) ≡ front ++ (item ++ (0x2C ∷ after)) =
-    ap (λ (ts : Resources). signs_chars (items_signs (level + 1) ts room end)) there ∙ item_left (level + 1) room u later end
+    item_owed level room t u i e
     ∙ ap (λ (v : Bool). signs_chars (pause v (level + 1) []) ++ (item ++ (0x2C ∷ signs_chars (items_signs (level + 1) later (item_room (level + 1) room u) end)))) (sym f)
     ∙ ap (λ (n : ℕ). front ++ (item ++ (0x2C ∷ signs_chars (items_signs (level + 1) later n end)))) (sym g) in
     record {
       owes = owes_step {xs = 0x2C ∷ []} after (owes_step (0x2C ∷ after) (owes_step (item ++ (0x2C ∷ after)) (owes_as m.owes owed) p) q) r;
       sound = λ (k : AreSound later). m.sound (subst AreSound (sym there) (s, k));
     }
+
+-- an item that is too long makes the array too long
+pub items_exceed : (old now a : List ℕ) (level room : ℕ) (t u : Resource) (i : ℕ) (fits : Bool) (err : PrintError) → ItemsPut old now level t room i
+    → Some u ≡ slice_get (items (items_of t)) i → fits ≡ item_fits (level + 1) room u → Adds now a (signs_chars (pause fits (level + 1) []))
+    → Exceeds a (signs_chars (item_signs u (body_signs (level + 1) u []) [])) err → Exceeds old (signs_chars (body_signs level t [])) err
+items_exceed old now a level room t u i fits err m e f p h =
+    let end = feed ∷ indent level (right ∷ []) in
+    let item = signs_chars (item_signs u (body_signs (level + 1) u []) []) in
+    let left = 0x2C ∷ signs_chars (items_signs (level + 1) (drop_trees (i + 1) (items_of t)) (item_room (level + 1) room u) end) in
+    let paused = subst (λ (v : Bool). Adds now a (signs_chars (pause v (level + 1) []))) f p in
+    exceeds_in item left err (owes_step (item ++ left) (owes_as m.owes (item_owed level room t u i e)) paused) h
 
 array_sound : (t : Resource) → kind_of t ≡ Kinds.Array → AreSound (items_of t) → IsSound t
 array_sound (string us) k s = absurd cc
@@ -158,6 +181,14 @@ pub other_item : (old new : List ℕ) (level : ℕ) (t : Resource) → (kind_of 
     → Adds old new (signs_chars (item_signs t (body_signs level t []) []))
 other_item old new level t k p = adds_as p (sym (item_other t level k))
 
+pub string_item_exceeds : (old : List ℕ) (level : ℕ) (t : Resource) (err : PrintError) → kind_of t ≡ Kinds.String → Exceeds old (text_chars false (units_of t)) err
+    → Exceeds old (signs_chars (item_signs t (body_signs level t []) [])) err
+string_item_exceeds old level t err k h = subst (λ (cs : List ℕ). Exceeds old cs err) (sym (item_string t level k)) h
+
+pub other_item_exceeds : (old : List ℕ) (level : ℕ) (t : Resource) (err : PrintError) → (kind_of t ≡ Kinds.String → ⊥)
+    → Exceeds old (signs_chars (body_signs level t [])) err → Exceeds old (signs_chars (item_signs t (body_signs level t []) [])) err
+other_item_exceeds old level t err k h = subst (λ (cs : List ℕ). Exceeds old cs err) (sym (item_other t level k)) h
+
 pub string_sound : (t : Resource) → kind_of t ≡ Kinds.String → AreUnits (units_of t) → IsSound t
 string_sound (string us) k s = s
 string_sound (int n) k s = absurd cc
@@ -211,23 +242,49 @@ entry_left level k u es =
     ∙ ap (λ (cs : List ℕ). signs_chars (indent level []) ++ (key ++ cs)) ((gap_splits (is_guessed u) same).are (body_signs level u after))
     ∙ ap (λ (cs : List ℕ). signs_chars (indent level []) ++ (key ++ (space ++ cs))) ((body_splits u level).are after)
 
+-- what is still to be written begins with the present entry
+entry_owed : (level : ℕ) (t u : Resource) (k : List ℕ) (i : ℕ) → Some k ≡ slice_get (keys_of (pairs (members_of t))) i
+    → Some u ≡ slice_get (values_of (pairs (members_of t))) i
+    → signs_chars (entries_signs level (drop_members i (members_of t)) [])
+    ≡ signs_chars (indent level []) ++ (sign_chars (text (is_name k) k) ++ (signs_chars (gap (is_guessed u) [])
+    ++ (signs_chars (body_signs level u []) ++ (0x0A ∷ signs_chars (entries_signs level (drop_members (i + 1) (members_of t)) [])))))
+entry_owed level t u k i e f =
+    ap (λ (es : Members). signs_chars (entries_signs level es [])) (entry_there (members_of t) i k u e f)
+    ∙ entry_left level k u (drop_members (i + 1) (members_of t))
+
 pub entries_put : (old now a b c d new : List ℕ) (level : ℕ) (t u : Resource) (k : List ℕ) (i : ℕ) (guessed : Bool) → guessed ≡ is_guessed u → EntriesPut old now level t i
     → Some k ≡ slice_get (keys_of (pairs (members_of t))) i → Some u ≡ slice_get (values_of (pairs (members_of t))) i
     → Adds now a (signs_chars (indent level [])) → Adds a b (sign_chars (text (is_name k) k)) → Adds b c (signs_chars (gap guessed []))
     → Adds c d (signs_chars (body_signs level u [])) → IsSound u → Adds d new (0x0A ∷ []) → EntriesPut old new level t (i + 1)
 entries_put old now a b c d new level t u k i guessed is m e f p q h r s w =
-    let there = entry_there (members_of t) i k u e f in
     let after = signs_chars (entries_signs level (drop_members (i + 1) (members_of t)) []) in
     let body = signs_chars (body_signs level u []) in
     let space = signs_chars (gap (is_guessed u) []) in
     let g = subst (λ (x : Bool). Adds b c (signs_chars (gap x []))) is h in
-    let left = ap (λ (es : Members). signs_chars (entries_signs level es [])) there ∙ entry_left level k u (drop_members (i + 1) (members_of t)) in
     record {
       owes = owes_step {xs = 0x0A ∷ []} after (owes_step (0x0A ∷ after) (owes_step (body ++ (0x0A ∷ after))
-          (owes_step (space ++ (body ++ (0x0A ∷ after))) (owes_step (sign_chars (text (is_name k) k) ++ (space ++ (body ++ (0x0A ∷ after)))) (owes_as m.owes left) p) q)
+          (owes_step (space ++ (body ++ (0x0A ∷ after))) (owes_step (sign_chars (text (is_name k) k) ++ (space ++ (body ++ (0x0A ∷ after))))
+          (owes_as m.owes (entry_owed level t u k i e f)) p) q)
           g) r) w;
-      sound = λ (h : EachSound (drop_members (i + 1) (members_of t))). m.sound (subst EachSound (sym there) (s, h));
+      sound = λ (h : EachSound (drop_members (i + 1) (members_of t))). m.sound (subst EachSound (sym (entry_there (members_of t) i k u e f)) (s, h));
     }
+
+-- a body that is too long makes the table too long
+pub entries_exceed : (old now a b c : List ℕ) (level : ℕ) (t u : Resource) (k : List ℕ) (i : ℕ) (guessed : Bool) (err : PrintError) → guessed ≡ is_guessed u
+    → EntriesPut old now level t i → Some k ≡ slice_get (keys_of (pairs (members_of t))) i → Some u ≡ slice_get (values_of (pairs (members_of t))) i
+    → Adds now a (signs_chars (indent level [])) → Adds a b (sign_chars (text (is_name k) k)) → Adds b c (signs_chars (gap guessed []))
+    → Exceeds c (signs_chars (body_signs level u [])) err → Exceeds old (signs_chars (entries_signs level (members_of t) [])) err
+entries_exceed old now a b c level t u k i guessed err is m e f p q h x =
+    let left = 0x0A ∷ signs_chars (entries_signs level (drop_members (i + 1) (members_of t)) []) in
+    let body = signs_chars (body_signs level u []) in
+    let space = signs_chars (gap (is_guessed u) []) in
+    let g = subst (λ (x : Bool). Adds b c (signs_chars (gap x []))) is h in
+    exceeds_in body left err (owes_step (body ++ left) (owes_step (space ++ (body ++ left)) (owes_step (sign_chars (text (is_name k) k) ++ (space ++ (body ++ left)))
+    (owes_as m.owes (entry_owed level t u k i e f)) p) q) g) x
+
+pub entries_long : (old now : List ℕ) (level : ℕ) (t : Resource) (i : ℕ) (err : PrintError) → EntriesPut old now level t i → source_limit < length now
+    → Exceeds old (signs_chars (entries_signs level (members_of t) [])) err
+entries_long old now level t i err m h = exceeds_now err m.owes h
 
 table_sound : (t : Resource) → kind_of t ≡ Kinds.Table → IsTable (members_of t) → EachSound (members_of t) → IsSound t
 table_sound (string us) k o s = absurd cc
@@ -302,6 +359,26 @@ table_put old a b new level (table es) g k w p q r =
     (sym ((unless_splits (has_entries es) table_word (front left (front feed same))).are inner
     ∙ ap (λ (cs : List ℕ). begin ++ cs) ((entries_split es (level + 1)).are end)))
 
+-- entries that are too long make the table too long
+pub table_exceeds : (old a : List ℕ) (level : ℕ) (t : Resource) (g : Bool) (err : PrintError) → kind_of t ≡ Kinds.Table → g ≡ is_guessed t
+    → Adds old a (signs_chars (type_unless g table_word (left ∷ feed ∷ []))) → Exceeds a (signs_chars (entries_signs (level + 1) (members_of t) [])) err
+    → Exceeds old (signs_chars (body_signs level t [])) err
+table_exceeds old a level (string us) g err k w p h = absurd cc
+table_exceeds old a level (int n) g err k w p h = absurd cc
+table_exceeds old a level (ints zs) g err k w p h = absurd cc
+table_exceeds old a level (binary bs) g err k w p h = absurd cc
+table_exceeds old a level (alias us) g err k w p h = absurd cc
+table_exceeds old a level (array ts) g err k w p h = absurd cc
+table_exceeds old a level (table es) g err k w p h =
+    let end = indent level (right ∷ []) in
+    let inner = entries_signs (level + 1) es end in
+    let begin = signs_chars (type_unless (has_entries es) table_word (left ∷ feed ∷ [])) in
+    let first = subst (λ (b : Bool). Adds old a (signs_chars (type_unless b table_word (left ∷ feed ∷ [])))) w p in
+    let owed = (unless_splits (has_entries es) table_word (front left (front feed same))).are inner
+    ∙ ap (λ (cs : List ℕ). begin ++ cs) ((entries_split es (level + 1)).are end) in
+    exceeds_in (signs_chars (entries_signs (level + 1) es [])) (signs_chars end) err
+    (owes_step (signs_chars (entries_signs (level + 1) es []) ++ signs_chars end) (owes_as (owes_all old (signs_chars (body_signs level (table es) []))) owed) first) h
+
 -- ---- children of a tree that is well
 
 well_item : (ts : Resources) (i : ℕ) (u : Resource) → AreWell ts → Some u ≡ slice_get (items ts) i → IsWell u
@@ -343,6 +420,18 @@ string_put old a b new level (binary bs) k p q r = absurd cc
 string_put old a b new level (alias us) k p q r = absurd cc
 string_put old a b new level (array ts) k p q r = absurd cc
 string_put old a b new level (table es) k p q r = absurd cc
+
+pub string_exceeds : (old a : List ℕ) (level : ℕ) (t : Resource) (err : PrintError) → kind_of t ≡ Kinds.String → Adds old a (0x7B ∷ 0x20 ∷ [])
+    → Exceeds a (text_chars false (units_of t)) err → Exceeds old (signs_chars (body_signs level t [])) err
+string_exceeds old a level (string us) err k p h =
+    exceeds_in (text_chars false us) (0x20 ∷ 0x7D ∷ []) err
+    (owes_step (text_chars false us ++ 0x20 ∷ 0x7D ∷ []) (owes_all old (signs_chars (body_signs level (string us) []))) p) h
+string_exceeds old a level (int n) err k p h = absurd cc
+string_exceeds old a level (ints zs) err k p h = absurd cc
+string_exceeds old a level (binary bs) err k p h = absurd cc
+string_exceeds old a level (alias us) err k p h = absurd cc
+string_exceeds old a level (array ts) err k p h = absurd cc
+string_exceeds old a level (table es) err k p h = absurd cc
 
 -- `:int { `
 pub int_put : (old a b new : List ℕ) (level n : ℕ) (t : Resource) → kind_of t ≡ Kinds.Int → n ≡ int_of t → n < 2 ^ 28
@@ -409,3 +498,15 @@ alias_put old a b new level (ints zs) k p q r = absurd cc
 alias_put old a b new level (binary bs) k p q r = absurd cc
 alias_put old a b new level (array ts) k p q r = absurd cc
 alias_put old a b new level (table es) k p q r = absurd cc
+
+pub alias_exceeds : (old a : List ℕ) (level : ℕ) (t : Resource) (err : PrintError) → kind_of t ≡ Kinds.Alias → Adds old a (0x3A ∷ 0x61 ∷ 0x6C ∷ 0x69 ∷ 0x61 ∷ 0x73 ∷ 0x20 ∷ 0x7B ∷ 0x20 ∷ [])
+    → Exceeds a (text_chars false (units_of t)) err → Exceeds old (signs_chars (body_signs level t [])) err
+alias_exceeds old a level (string us) err k p h = absurd cc
+alias_exceeds old a level (int n) err k p h = absurd cc
+alias_exceeds old a level (ints zs) err k p h = absurd cc
+alias_exceeds old a level (binary bs) err k p h = absurd cc
+alias_exceeds old a level (alias us) err k p h =
+    exceeds_in (text_chars false us) (0x20 ∷ 0x7D ∷ []) err
+    (owes_step (text_chars false us ++ 0x20 ∷ 0x7D ∷ []) (owes_all old (signs_chars (body_signs level (alias us) []))) p) h
+alias_exceeds old a level (array ts) err k p h = absurd cc
+alias_exceeds old a level (table es) err k p h = absurd cc

@@ -5,12 +5,13 @@ ghost use Rattle.rb_printer.specs.Sign.{signs_chars, left, feed};
 ghost use Rattle.rb_format.specs.File.{source_tree_of};
 ghost use Rattle.rb_printer.specs.Page.{page, head_signs, members_of, page_bytes};
 ghost use Rattle.rb_printer.specs.Sound.{AreUnits, IsSound, IsBundleTree};
-ghost use Rattle.rb_printer.specs.inner.Growth.{Adds};
+ghost use Rattle.rb_printer.specs.inner.Growth.{Adds, Exceeds};
 ghost use Rattle.rb_printer.specs.Whole.{IsBundleText};
 ghost use Rattle.rb_printer.specs.declared.error.PrintError.TheVariants as errors;
 ghost use Rattle.rb_lexer.specs.Limits.{source_limit};
 
 use crate::error::PrintError;
+use crate::limit::{LENGTH_LIMIT, has_room};
 use crate::room::after_entries;
 use crate::text::{put_name, put_str};
 use crate::tree::put_entries;
@@ -18,9 +19,6 @@ use rb_tree::{Node, UnitList};
 use rb_validator::Bundle;
 use rb_views::root;
 use std::alloc::{AllocError, Global};
-
-/// The length of the longest text that `parse` reads.
-const LENGTH_LIMIT: usize = 8_388_608;
 
 /// Writes what is between a bundle's name and its first entry.
 fn begin_bundle(out: &mut Vec<u8>, no_fallback: bool) -> Result<(), AllocError>
@@ -40,17 +38,20 @@ fn put_page<N: Node>(
     name: &[u16],
     root: N,
     no_fallback: bool,
-) -> Result<(), AllocError>
+) -> Result<(), PrintError>
     requires { IsBundleTree (N.tree root) }
     ensures adds { OnOk result (Adds out.old.items out.new.items
         (signs_chars (page name.now no_fallback (members_of (N.tree root))))) }
     ensures sound { OnOk result (IsSound (N.tree root)) }
     ensures units { OnOk result (AreUnits name.now) }
+    ensures error { IfErr result (Exceeds out.old.items
+        (signs_chars (page name.now no_fallback (members_of (N.tree root))))) }
 {
     put_name(out, name)?;
     begin_bundle(out, no_fallback)?;
     put_entries(out, 1, root)?;
-    put_str(out, "}\n")
+    put_str(out, "}\n")?;
+    Ok(())
 }
 
 /// The bundle text of a tree, with its name and its flag: `parse` reads just these back. No byte of
@@ -65,8 +66,9 @@ fn put_page<N: Node>(
 /// four digits stand for control characters, lone surrogates, U+2028, U+2029 and U+FEFF.
 ///
 /// Errors: `TooLarge` if the text would have more than 8,388,608 bytes, as that of each tree above
-/// the limit of weight would; if this many characters are there at the least, before anything is
-/// written, in no more steps than that. Else `Memory`, if memory runs out.
+/// the limit of weight would; if it would have them without what stands in keys, Strings and
+/// Aliases, before anything is written, in no more steps than that, and else as soon as there are
+/// as many. Else `Memory`, if memory runs out.
 ///
 /// ```rust
 /// print(alloc, &source.name, &source.tree, source.no_fallback)? // `root {`, a line feed, `}` and a line feed for `root{}`
@@ -88,7 +90,7 @@ pub fn print<N: Node>(
     };
     let mut bytes = Vec::with_capacity(alloc, LENGTH_LIMIT - left)?;
     put_page(&mut bytes, name.as_slice(), root, no_fallback)?;
-    if bytes.len() > LENGTH_LIMIT {
+    if !has_room(bytes.as_slice().len(), 0) {
         return Err(PrintError::TooLarge);
     }
     Ok(bytes)

@@ -1,6 +1,6 @@
 //! Trees without children.
 ghost use Rattle.std.specs.Prelude.{◌≡◌, ◌<◌, ◌+◌, ◌^◌, ℕ, List, drop, [], ◌∷◌, ◌++◌, true, false};
-ghost use Rattle.std.specs.Prelude.{length, ◌≤◌, OnOk, IfOk, ◌/◌, ◌%◌};
+ghost use Rattle.std.specs.Prelude.{length, ◌≤◌, OnOk, IfOk, IfErr, ◌/◌, ◌%◌};
 ghost use Rattle.std.specs.Char.{digit_char};
 ghost use Rattle.std.specs.List.{AllByRecursion};
 ghost use Rattle.std.specs.Fmt.{decimal, signed_decimal};
@@ -11,9 +11,11 @@ ghost use Rattle.rb_printer.specs.Sign.{first_unit, unit_chars, pieces, sign_cha
 ghost use Rattle.rb_printer.specs.Sign.{text_chars, text, right};
 ghost use Rattle.rb_printer.specs.Page.{hex_first, hex_later, numbers_signs, comma_if};
 ghost use Rattle.rb_printer.specs.Sound.{AreUnits, AreBytes, IsNumber};
-ghost use Rattle.rb_printer.specs.inner.Growth.{Adds, after_break, break_chars};
+ghost use Rattle.rb_printer.specs.inner.Growth.{Adds, Exceeds, after_break, break_chars};
 ghost use Rattle.rb_printer.specs.inner.Run.{IsRun};
 
+use crate::error::PrintError;
+use crate::limit::has_room;
 use crate::line::{number_fits, put_indent, put_pause, room_after};
 use crate::text::{digit_char, is_high, is_plain, put, put_other, put_str, shown};
 use rb_tree::Node;
@@ -78,7 +80,7 @@ fn plain_run<N: Node>(block: &mut [u8; RUN], node: N, at: usize, len: usize) -> 
 }
 
 /// Writes the text of a String or an Alias, with quotes.
-pub fn put_units_of<N: Node>(out: &mut Vec<u8>, node: N) -> Result<(), AllocError>
+fn put_units_of<N: Node>(out: &mut Vec<u8>, node: N) -> Result<(), AllocError>
     requires { HasUnits (kind_of (N.tree node)) }
     ensures adds { OnOk result
         (Adds out.old.items out.new.items (text_chars false (units_of (N.tree node)))) }
@@ -103,6 +105,22 @@ pub fn put_units_of<N: Node>(out: &mut Vec<u8>, node: N) -> Result<(), AllocErro
         at += 1;
     }
     put(out, '"')
+}
+
+/// Writes the same, if the text can have that many bytes more.
+pub fn put_text_of<N: Node>(out: &mut Vec<u8>, node: N) -> Result<(), PrintError>
+    requires { HasUnits (kind_of (N.tree node)) }
+    ensures adds { OnOk result
+        (Adds out.old.items out.new.items (text_chars false (units_of (N.tree node)))) }
+    ensures sound { OnOk result (AreUnits (units_of (N.tree node))) }
+    ensures error { IfErr result
+        (Exceeds out.old.items (text_chars false (units_of (N.tree node)))) }
+{
+    if !has_room(out.as_slice().len(), node.len()) {
+        return Err(PrintError::TooLarge);
+    }
+    put_units_of(out, node)?;
+    Ok(())
 }
 
 /// Writes two hexadecimal digits.

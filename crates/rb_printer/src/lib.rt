@@ -5,6 +5,7 @@ mod bundle;
 mod error;
 pub mod laws;
 mod leaf;
+mod limit;
 mod line;
 mod room;
 mod text;

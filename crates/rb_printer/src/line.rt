@@ -36,16 +36,26 @@ pub fn put_indent(out: &mut Vec<u8>, level: usize) -> Result<(), AllocError>
     Ok(())
 }
 
+/// Begins a line of a level after another one.
+#[inline(never)]
+fn begin_line(out: &mut Vec<u8>, level: usize) -> Result<(), AllocError>
+    ensures { OnOk result (Adds out.old.items out.new.items (signs_chars (pause false level []))) }
+{
+    put_str(out, "\n")?;
+    put_indent(out, level)
+}
+
 /// Writes what stands in front of something: a space, or a line feed and the next line's
 /// indentation.
+#[inline(always)]
 pub fn put_pause(out: &mut Vec<u8>, fits: bool, level: usize) -> Result<(), AllocError>
     ensures { OnOk result (Adds out.old.items out.new.items (signs_chars (pause fits level []))) }
 {
     if fits {
-        return put(out, ' ');
+        put(out, ' ')
+    } else {
+        begin_line(out, level)
     }
-    put_str(out, "\n")?;
-    put_indent(out, level)
 }
 
 /// How many columns are left after something of a width, behind a space or in a new line, and a

@@ -1,11 +1,11 @@
-//! Whether a text would be too long, known before it is written.
+//! Whether a text would be too long for its frame alone, known before it is written.
 ghost use Rattle.std.specs.Prelude.{◌≡◌, ◌+◌, ◌*◌, ◌≤◌, ℕ, length, Option};
 ghost use Rattle.rb_tree.specs.Parts.{kind_of, len_of};
 ghost use Rattle.rb_tree.specs.Resource.{height};
 ghost use Rattle.rb_tree.specs.declared.kind.Kind.TheVariants as Kinds;
 ghost use Rattle.rb_printer.specs.Page.{items_of, members_of};
 ghost use Rattle.rb_printer.specs.inner.Least as leasts;
-ghost use Rattle.rb_printer.specs.inner.Least.{least, items_least, entries_least, Takes};
+ghost use Rattle.rb_printer.specs.inner.Least.{frame, entries_frame, Takes};
 
 use crate::line::DEEPEST;
 use rb_tree::{Kind, Node};
@@ -17,15 +17,16 @@ fn after_twice(room: usize, length: usize) -> Option<usize>
     room.checked_sub(length)?.checked_sub(length)
 }
 
-/// What is left of some room after the fewest characters that a tree's body has. Each step takes
-/// room, so what a file shares is entered no more often than the room allows.
+/// What is left of some room after the fewest characters that a tree's body has, but those of keys,
+/// Strings and Aliases. Each step takes room, so what a file shares is entered no more often than
+/// the room allows.
 #[cycle(room)]
 pub fn after_body<N: Node>(room: usize, level: usize, node: N) -> Option<usize>
     requires { level + height (N.tree node) ≤ 64 }
-    ensures { Takes room (least level (N.tree node)) result }
+    ensures { Takes room (frame level (N.tree node)) result }
 {
     match node.kind() {
-        Kind::String | Kind::Alias => room.checked_sub(2)?.checked_sub(node.len()),
+        Kind::String | Kind::Alias => room.checked_sub(2),
         Kind::Int => room.checked_sub(1),
         Kind::Ints => after_twice(room.checked_sub(1)?, node.len()),
         Kind::Binary => after_twice(room.checked_sub(5)?, node.len()),
@@ -55,18 +56,18 @@ fn item_lead<N: Node>(level: usize, node: N) -> usize
     }
 }
 
-/// What is left of some room after the fewest characters that the entries of a table have.
+/// What is left of some room after the fewest characters that the entries of a table have,
+/// likewise.
 #[cycle(room)]
 pub fn after_entries<N: Node>(room: usize, level: usize, node: N) -> Option<usize>
     requires table { kind_of (N.tree node) ≡ Kinds.Table }
     requires low { level + height (N.tree node) ≤ 65 }
-    ensures { Takes room (entries_least level (members_of (N.tree node))) result }
+    ensures { Takes room (entries_frame level (members_of (N.tree node))) result }
 {
     let mut left = room;
     for i in 0..node.len() {
-        let key = node.key_at(i);
         let child = node.at(i);
-        let room = left.checked_sub(4 * level)?.checked_sub(key.len())?;
+        let room = left.checked_sub(4 * level)?;
         left = after_body(room, level, child)?;
     }
     Some(left)

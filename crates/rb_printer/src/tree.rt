@@ -1,5 +1,5 @@
 //! Trees, each level indented by four spaces more.
-ghost use Rattle.std.specs.Prelude.{◌≡◌, ◌+◌, ◌≤◌, [], ◌∷◌, OnOk};
+ghost use Rattle.std.specs.Prelude.{◌≡◌, ◌+◌, ◌≤◌, [], ◌∷◌, OnOk, IfErr};
 ghost use Rattle.rb_grammar.specs.Form.{array_word, table_word};
 ghost use Rattle.rb_tree.specs.Resource.{height};
 ghost use Rattle.rb_tree.specs.Parts.{kind_of};
@@ -9,9 +9,11 @@ ghost use Rattle.rb_printer.specs.Page as page;
 ghost use Rattle.rb_printer.specs.Page.{indent, gap, type_unless, item_signs, body_signs};
 ghost use Rattle.rb_printer.specs.Page.{entries_signs, members_of};
 ghost use Rattle.rb_printer.specs.Sound.{IsSound, IsWell};
-ghost use Rattle.rb_printer.specs.inner.Growth.{Adds};
+ghost use Rattle.rb_printer.specs.inner.Growth.{Adds, Exceeds};
 
-use crate::leaf::{put_bytes_of, put_int, put_numbers_of, put_units_of};
+use crate::error::PrintError;
+use crate::leaf::{put_bytes_of, put_int, put_numbers_of, put_text_of};
+use crate::limit::has_room;
 use crate::line::{is_short, place_of, put_indent, put_pause, wraps};
 use crate::text::{put_key, put_str};
 use rb_tree::{Kind, Node};
@@ -79,17 +81,19 @@ fn end_array(out: &mut Vec<u8>, level: usize) -> Result<(), AllocError>
 
 /// Writes a tree as it is after a key: its type, if it isn't guessed, and braces.
 #[cycle(tree)]
-fn put_body<N: Node>(out: &mut Vec<u8>, level: usize, node: N) -> Result<(), AllocError>
+fn put_body<N: Node>(out: &mut Vec<u8>, level: usize, node: N) -> Result<(), PrintError>
     requires low { level + height (N.tree node) ≤ 64 }
     requires well { IsWell (N.tree node) }
     ensures adds { OnOk result
         (Adds out.old.items out.new.items (signs_chars (body_signs level (N.tree node) []))) }
     ensures sound { OnOk result (IsSound (N.tree node)) }
+    ensures error { IfErr result
+        (Exceeds out.old.items (signs_chars (body_signs level (N.tree node) []))) }
 {
     match node.kind() {
         Kind::String => {
             put_str(out, "{ ")?;
-            put_units_of(out, node)?;
+            put_text_of(out, node)?;
             put_str(out, " }")?;
         }
         Kind::Int => {
@@ -114,7 +118,7 @@ fn put_body<N: Node>(out: &mut Vec<u8>, level: usize, node: N) -> Result<(), All
         }
         Kind::Alias => {
             put_str(out, ":alias { ")?;
-            put_units_of(out, node)?;
+            put_text_of(out, node)?;
             put_str(out, " }")?;
         }
         Kind::Array => {
@@ -141,30 +145,37 @@ fn put_body<N: Node>(out: &mut Vec<u8>, level: usize, node: N) -> Result<(), All
 
 /// Writes an item of an array: a string without braces.
 #[cycle(tree)]
-fn put_item<N: Node>(out: &mut Vec<u8>, level: usize, node: N) -> Result<(), AllocError>
+fn put_item<N: Node>(out: &mut Vec<u8>, level: usize, node: N) -> Result<(), PrintError>
     requires low { level + height (N.tree node) ≤ 64 }
     requires well { IsWell (N.tree node) }
     ensures adds { OnOk result (Adds out.old.items out.new.items
         (signs_chars (item_signs (N.tree node) (body_signs level (N.tree node) []) []))) }
     ensures sound { OnOk result (IsSound (N.tree node)) }
+    ensures error { IfErr result (Exceeds out.old.items
+        (signs_chars (item_signs (N.tree node) (body_signs level (N.tree node) []) []))) }
 {
     match node.kind() {
-        Kind::String => put_units_of(out, node),
+        Kind::String => put_text_of(out, node),
         _ => put_body(out, level, node),
     }
 }
 
 /// Writes the entries of a table, each in lines of its own.
 #[cycle(tree)]
-pub fn put_entries<N: Node>(out: &mut Vec<u8>, level: usize, node: N) -> Result<(), AllocError>
+pub fn put_entries<N: Node>(out: &mut Vec<u8>, level: usize, node: N) -> Result<(), PrintError>
     requires table { kind_of (N.tree node) ≡ Kinds.Table }
     requires low { level + height (N.tree node) ≤ 65 }
     requires well { IsWell (N.tree node) }
     ensures adds { OnOk result (Adds out.old.items out.new.items
         (signs_chars (entries_signs level (members_of (N.tree node)) []))) }
     ensures sound { OnOk result (IsSound (N.tree node)) }
+    ensures error { IfErr result (Exceeds out.old.items
+        (signs_chars (entries_signs level (members_of (N.tree node)) []))) }
 {
     for i in 0..node.len() {
+        if !has_room(out.as_slice().len(), 0) {
+            return Err(PrintError::TooLarge);
+        }
         put_indent(out, level)?;
         put_key(out, node.key_at(i))?;
         let child = node.at(i);

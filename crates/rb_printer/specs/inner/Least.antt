@@ -32,6 +32,26 @@ abbrev mutual
   entries_least level no_entries = 0
   entries_least level (entry_and k t es) = 4 * level + length k + least level t + entries_least level es
 
+-- ---- the same without what stands in keys, Strings and Aliases, which a count of it needn't look at
+
+abbrev mutual
+  pub frame : ℕ → Resource → ℕ
+  frame level (string us) = 2
+  frame level (int n) = 1
+  frame level (ints zs) = 1 + 2 * length zs
+  frame level (binary bs) = 5 + 2 * length bs
+  frame level (alias us) = 2
+  frame level (array ts) = 2 + items_frame (level + 1) ts
+  frame level (table es) = 2 + entries_frame (level + 1) es
+
+  pub items_frame : ℕ → Resources → ℕ
+  items_frame level no_trees = 0
+  items_frame level (tree_and t ts) = item_lead level t + frame level t + items_frame level ts
+
+  pub entries_frame : ℕ → Members → ℕ
+  entries_frame level no_entries = 0
+  entries_frame level (entry_and k t es) = 4 * level + frame level t + entries_frame level es
+
 -- this many of some characters are taken, or there aren't as many
 abbrev pub Takes : ℕ → ℕ → Option ℕ → Type 0
 Takes room count left = MatchOption left (room < count) (λ l. l + count ≡ room)

@@ -3,13 +3,13 @@ use Rattle.rb_printer.specs.Sign.{signs_chars}
 use Rattle.rb_printer.specs.Page.{page, members_of}
 use Rattle.rb_printer.specs.Whole.{IsBundleText}
 use Rattle.rb_printer.specs.inner.Growth.{Adds}
-use Rattle.rb_printer.proofs.Least.{page_least}
+use Rattle.rb_printer.proofs.Least.{page_frame}
 use Rattle.rb_printer.proofs.Pages.{page_printed}
 use Rattle.rb_printer.proofs.bundle.print.Goals as goal
 
 pub returns-in_default-clause-error : goal.returns-in_default-clause-error
 returns-in_default-clause-error g c = λ _.
-    omega (arith, page_least c.args.name.now c.args.no_fallback (members_of (g.N.Node.tree c.args.root)), c.in_default.ensures)
+    omega (arith, page_frame c.args.name.now c.args.no_fallback (members_of (g.N.Node.tree c.args.root)), c.in_default.ensures)
 
 pub returns-clause-text : goal.returns-clause-text
 returns-clause-text g c =

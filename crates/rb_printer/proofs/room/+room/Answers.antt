@@ -1,27 +1,24 @@
-use Rattle.std.proofs.Common.{◌≡◌, ◌+◌, ◌*◌, ◌<◌, ℕ, List, Some, length, subst, sym, arith}
+use Rattle.std.proofs.Common.{◌≡◌, ◌+◌, ◌*◌, ◌<◌, ℕ, List, Some, subst, sym, arith}
 use Rattle.std.specs.Prelude.{slice_get}
-use Rattle.std.specs.Map.{keys_of}
 use Rattle.rb_tree.specs.Resource.{Resource, height}
 use Rattle.rb_tree.specs.inner.Lower.{child_lower}
-use Rattle.rb_tree.specs.Parts.{kind_of, children_of, pairs_of}
+use Rattle.rb_tree.specs.Parts.{kind_of, children_of}
 use Rattle.rb_tree.specs.declared.kind.Kind.TheVariants as Kinds
 use Rattle.rb_printer.specs.Page.{items_of, members_of}
-use Rattle.rb_printer.specs.inner.Least.{item_lead, least, items_least, entries_least}
-use Rattle.rb_printer.proofs.Trees.{array_children, array_len, table_children, table_pairs, table_len, drop_trees, drop_members}
-use Rattle.rb_printer.proofs.Rooms.{array_least, items_next, entries_next, items_last, entries_last, none_left}
+use Rattle.rb_printer.specs.inner.Least.{item_lead, frame, items_frame, entries_frame}
+use Rattle.rb_printer.proofs.Trees.{array_children, array_len, table_children, table_len, drop_trees, drop_members}
+use Rattle.rb_printer.proofs.Rooms.{array_frame, items_next, entries_next, items_last, entries_last, none_left}
 use Rattle.rb_printer.proofs.room.+room.Goals as goal
 
 -- what the items from the present one on need
 items_need : (level i : ℕ) (t u : Resource) → kind_of t ≡ Kinds.Array → Some u ≡ slice_get (children_of t) i
-    → items_least level (drop_trees i (items_of t)) ≡ item_lead level u + least level u + items_least level (drop_trees (i + 1) (items_of t))
+    → items_frame level (drop_trees i (items_of t)) ≡ item_lead level u + frame level u + items_frame level (drop_trees (i + 1) (items_of t))
 items_need level i t u k e = items_next level (items_of t) i u (subst (λ (xs : List Resource). Some u ≡ slice_get xs i) (array_children t k) e)
 
-entries_need : (level i : ℕ) (t u : Resource) (key : List ℕ) → kind_of t ≡ Kinds.Table → Some key ≡ slice_get (keys_of (pairs_of t)) i
-    → Some u ≡ slice_get (children_of t) i
-    → entries_least level (drop_members i (members_of t)) ≡ 4 * level + length key + least level u + entries_least level (drop_members (i + 1) (members_of t))
-entries_need level i t u key k e f =
-    entries_next level (members_of t) i key u (subst (λ (ps : List (List ℕ × Resource)). Some key ≡ slice_get (keys_of ps) i) (table_pairs t) e)
-    (subst (λ (xs : List Resource). Some u ≡ slice_get xs i) (table_children t k) f)
+entries_need : (level i : ℕ) (t u : Resource) → kind_of t ≡ Kinds.Table → Some u ≡ slice_get (children_of t) i
+    → entries_frame level (drop_members i (members_of t)) ≡ 4 * level + frame level u + entries_frame level (drop_members (i + 1) (members_of t))
+entries_need level i t u k f =
+    entries_next level (members_of t) i u (subst (λ (xs : List Resource). Some u ≡ slice_get xs i) (table_children t k) f)
 
 pub after_body-returns-in_err-room-in-Array : goal.after_body-returns-in_err-room-in-Array
 after_body-returns-in_err-room-in-Array g t c =
@@ -29,7 +26,7 @@ after_body-returns-in_err-room-in-Array g t c =
     let array : kind_of tree ≡ Kinds.Array = sym c.in-Array.ensures in
     let need = items_need (c.args.level + 1) c.loop-i.i tree (g.N.Node.tree c.at-child.result) array c.at-child.ensures in
     none_left _ _ c.from_residual-in_err-room-in-Array.result c.from_residual-in_err-room-in-Array.ensures
-    (omega (arith, array_least c.args.level tree array, need, c.in_err-room-in-Array.ensures, c.loop-i.invariant))
+    (omega (arith, array_frame c.args.level tree array, need, c.in_err-room-in-Array.ensures, c.loop-i.invariant))
 
 pub after_body-after_body-requires : goal.after_body-after_body-requires
 after_body-after_body-requires g t c κs within =
@@ -44,7 +41,7 @@ after_body-returns-in_err-left-in-Array-2 g t c =
     let array : kind_of tree ≡ Kinds.Array = sym c.in-Array.ensures in
     let need = items_need (c.args.level + 1) c.loop-i.i tree (g.N.Node.tree c.at-child.result) array c.at-child.ensures in
     none_left _ _ c.from_residual-in_err-left-in-Array-2.result c.from_residual-in_err-left-in-Array-2.ensures
-    (omega (arith, array_least c.args.level tree array, need, c.in_ok-room-in-Array.ensures, c.in_err-left-in-Array-2.ensures, c.loop-i.invariant))
+    (omega (arith, array_frame c.args.level tree array, need, c.in_ok-room-in-Array.ensures, c.in_err-left-in-Array-2.ensures, c.loop-i.invariant))
 
 pub after_body-loop-i-preserved : goal.after_body-loop-i-preserved
 after_body-loop-i-preserved g t c =
@@ -57,32 +54,13 @@ after_body-returns-after-loop-i g t c =
     let tree = g.N.Node.tree c.args.node in
     let array : kind_of tree ≡ Kinds.Array = sym c.in-Array.ensures in
     let last = items_last (c.args.level + 1) (items_of tree) c.loop-i.i (omega (arith, array_len tree array, c.len-i-end.ensures)) in
-    omega (arith, array_least c.args.level tree array, last, c.loop-i.invariant)
-
-pub after_entries-returns-in_err-checked_sub : goal.after_entries-returns-in_err-checked_sub
-after_entries-returns-in_err-checked_sub g t c =
-    let tree = g.N.Node.tree in
-    none_left _ _ c.from_residual.result c.from_residual.ensures
-    (omega (
-      arith,
-      entries_need c.args.level c.loop-i.i (tree c.args.node) (tree c.at-child.result) c.key_at-key.result.now c.requires.table c.key_at-key.ensures
-          c.at-child.ensures,
-      c.in_err-checked_sub.ensures,
-      c.loop-i.invariant,
-    ))
+    omega (arith, array_frame c.args.level tree array, last, c.loop-i.invariant)
 
 pub after_entries-returns-in_err-room : goal.after_entries-returns-in_err-room
 after_entries-returns-in_err-room g t c =
     let tree = g.N.Node.tree in
-    none_left _ _ c.from_residual-in_err-room.result c.from_residual-in_err-room.ensures
-    (omega (
-      arith,
-      entries_need c.args.level c.loop-i.i (tree c.args.node) (tree c.at-child.result) c.key_at-key.result.now c.requires.table c.key_at-key.ensures
-          c.at-child.ensures,
-      c.in_ok-checked_sub.ensures,
-      c.in_err-room.ensures,
-      c.loop-i.invariant,
-    ))
+    let need = entries_need c.args.level c.loop-i.i (tree c.args.node) (tree c.at-child.result) c.requires.table c.at-child.ensures in
+    none_left _ _ c.from_residual.result c.from_residual.ensures (omega (arith, need, c.in_err-room.ensures, c.loop-i.invariant))
 
 pub after_entries-after_body-requires : goal.after_entries-after_body-requires
 after_entries-after_body-requires g t c κs within =
@@ -94,25 +72,16 @@ after_entries-after_body-requires g t c κs within =
 pub after_entries-returns-in_err-left : goal.after_entries-returns-in_err-left
 after_entries-returns-in_err-left g t c =
     let tree = g.N.Node.tree in
+    let need = entries_need c.args.level c.loop-i.i (tree c.args.node) (tree c.at-child.result) c.requires.table c.at-child.ensures in
     none_left _ _ c.from_residual-in_err-left.result c.from_residual-in_err-left.ensures
-    (omega (
-      arith,
-      entries_need c.args.level c.loop-i.i (tree c.args.node) (tree c.at-child.result) c.key_at-key.result.now c.requires.table c.key_at-key.ensures
-          c.at-child.ensures,
-      c.in_ok-checked_sub.ensures,
-      c.in_ok-room.ensures,
-      c.in_err-left.ensures,
-      c.loop-i.invariant,
-    ))
+    (omega (arith, need, c.in_ok-room.ensures, c.in_err-left.ensures, c.loop-i.invariant))
 
 pub after_entries-loop-i-preserved : goal.after_entries-loop-i-preserved
 after_entries-loop-i-preserved g t c =
     let tree = g.N.Node.tree in
     omega (
       arith,
-      entries_need c.args.level c.loop-i.i (tree c.args.node) (tree c.at-child.result) c.key_at-key.result.now c.requires.table c.key_at-key.ensures
-          c.at-child.ensures,
-      c.in_ok-checked_sub.ensures,
+      entries_need c.args.level c.loop-i.i (tree c.args.node) (tree c.at-child.result) c.requires.table c.at-child.ensures,
       c.in_ok-room.ensures,
       c.in_ok-left.ensures,
       c.loop-i.invariant,
