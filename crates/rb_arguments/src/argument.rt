@@ -31,36 +31,57 @@ pub enum Kind {
     ShortFlag(char),
 }
 
-/// An argument of a command.
+/// An argument of a command: its name, how it is given, and what the help says of it.
 #[derive(Clone, Copy)]
-pub struct Argument {
-    pub name: &'static str,
-    pub kind: Kind,
-    /// What the help says of it.
-    pub help: &'static str,
-}
+pub struct Argument(pub &'static str, pub Kind, pub &'static str);
 
 impl Argument {
     /// The argument as `clap` takes it.
     pub fn made<'a>(self, alloc: Global) -> Result<Arg<'a>, AllocError> {
-        let made = Arg::new(alloc, self.name).help(self.help);
-        Ok(match self.kind {
+        let Argument(name, kind, help) = self;
+        let made = Arg::new(alloc, name).help(help);
+        Ok(match kind {
             Kind::Word => made.required(true),
             Kind::OptionalWord => made,
             Kind::WordUnless(option) => made.required_unless_present(option)?,
             Kind::Words(shown) => made.required(true).num_args(1..).value_name(shown),
             Kind::AnyWords(shown) => made.num_args(0..).value_name(shown),
             Kind::WordsWith(option) => made.num_args(0..).requires_arg(option)?,
-            Kind::Option(shown) => made.long(self.name).value_name(shown),
+            Kind::Option(shown) => made.long(name).value_name(shown),
             Kind::Limit => made
-                .long(self.name)
+                .long(name)
                 .value_name("N")
                 .value_parser(ValueParser::unsigned(1, LARGEST_LIMIT)),
-            Kind::Flag => made.long(self.name).action(ArgAction::SetTrue),
-            Kind::ShortFlag(letter) => made
-                .long(self.name)
-                .short(letter)
-                .action(ArgAction::SetTrue),
+            Kind::Flag => made.long(name).action(ArgAction::SetTrue),
+            Kind::ShortFlag(letter) => made.long(name).short(letter).action(ArgAction::SetTrue),
         })
     }
 }
+
+/// `--parents FILE`
+pub const PARENTS: Argument = Argument(
+    "parents",
+    Kind::Option("FILE"),
+    "a bundle text with the explicit parents, at parentLocales",
+);
+
+/// `--root ROOT`
+pub const ROOT: Argument = Argument(
+    "root",
+    Kind::Option("ROOT"),
+    "the bundle text of the root locale, to compare with",
+);
+
+/// A path.
+pub const PATH: Argument = Argument(
+    "PATH",
+    Kind::Word,
+    "keys and indexes, with slashes between them",
+);
+
+/// A path, which may be left out.
+pub const OPTIONAL_PATH: Argument = Argument(
+    "PATH",
+    Kind::OptionalWord,
+    "keys and indexes, with slashes between them; the whole bundle without it",
+);

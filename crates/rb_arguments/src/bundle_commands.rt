@@ -1,10 +1,13 @@
 //! The commands that take bundles into lookups: `lines` and `look`.
-use crate::argument::{Argument, Kind};
+use crate::argument::{Argument, Kind, PARENTS, PATH};
 use crate::description::Description;
 
-/// What the help says of the bundles of a command.
-const BUNDLE_HELP: &str =
-    "a bundle: bundle text where FILE ends in .txt, else a .res file; LOCALE is its stem";
+/// The bundles of a command, each with its locale.
+const BUNDLES: Argument = Argument(
+    "FILE",
+    Kind::Words("[LOCALE=]FILE"),
+    "a bundle: bundle text where FILE ends in .txt, else a .res file; LOCALE is its stem",
+);
 
 /// The end of the help of `lines`.
 const LINES_HELP: &str = "\
@@ -21,21 +24,9 @@ pub const LINES: Description = Description {
     name: "lines",
     about: "Prints request lines for serve that install bundles",
     arguments: &[
-        Argument {
-            name: "op",
-            kind: Kind::Option("OP"),
-            help: "install, or replace",
-        },
-        Argument {
-            name: "APP",
-            kind: Kind::Word,
-            help: "the application",
-        },
-        Argument {
-            name: "FILE",
-            kind: Kind::Words("[LOCALE=]FILE"),
-            help: BUNDLE_HELP,
-        },
+        Argument("op", Kind::Option("OP"), "install, or replace"),
+        Argument("APP", Kind::Word, "the application"),
+        BUNDLES,
     ],
     end: LINES_HELP,
 };
@@ -57,31 +48,15 @@ pub const LOOK: Description = Description {
     name: "look",
     about: "Looks an item up over bundles, with fallback",
     arguments: &[
-        Argument {
-            name: "parents",
-            kind: Kind::Option("FILE"),
-            help: "a bundle text with the explicit parents, at parentLocales",
-        },
-        Argument {
-            name: "trace",
-            kind: Kind::Flag,
-            help: "say on standard error which bundles were asked, and why",
-        },
-        Argument {
-            name: "LOCALE",
-            kind: Kind::Word,
-            help: "the locale to look up from",
-        },
-        Argument {
-            name: "PATH",
-            kind: Kind::Word,
-            help: "keys and indexes, with slashes between them",
-        },
-        Argument {
-            name: "FILE",
-            kind: Kind::Words("[LOCALE=]FILE"),
-            help: BUNDLE_HELP,
-        },
+        PARENTS,
+        Argument(
+            "trace",
+            Kind::Flag,
+            "say on standard error which bundles were asked, and why",
+        ),
+        Argument("LOCALE", Kind::Word, "the locale to look up from"),
+        PATH,
+        BUNDLES,
     ],
     end: LOOK_HELP,
 };

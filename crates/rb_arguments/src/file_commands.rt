@@ -1,6 +1,16 @@
 //! The commands over files: `compile`, `check`, `get`, `text` and `json`.
-use crate::argument::{Argument, Kind};
+use crate::argument::{Argument, Kind, OPTIONAL_PATH, PATH};
 use crate::description::Description;
+
+/// The file to write, which may only be left out with `--to`.
+const OUTPUT: Argument = Argument(
+    "OUT",
+    Kind::WordUnless("to"),
+    "the file to write; with --to, a further text",
+);
+
+/// The one file of a command.
+const FILE: Argument = Argument("FILE", Kind::Word, "a .res file");
 
 /// The end of the help of `compile`.
 const COMPILE_HELP: &str = "\
@@ -22,31 +32,15 @@ pub const COMPILE: Description = Description {
     name: "compile",
     about: "Compiles bundle texts to .res files",
     arguments: &[
-        Argument {
-            name: "to",
-            kind: Kind::Option("DIR"),
-            help: "compile many texts into this folder",
-        },
-        Argument {
-            name: "quiet",
-            kind: Kind::ShortFlag('q'),
-            help: "no line on success",
-        },
-        Argument {
-            name: "IN",
-            kind: Kind::Word,
-            help: "a bundle text, in UTF-8",
-        },
-        Argument {
-            name: "OUT",
-            kind: Kind::WordUnless("to"),
-            help: "the file to write; with --to, a further text",
-        },
-        Argument {
-            name: "TEXT",
-            kind: Kind::WordsWith("to"),
-            help: "with --to, further texts",
-        },
+        Argument(
+            "to",
+            Kind::Option("DIR"),
+            "compile many texts into this folder",
+        ),
+        Argument("quiet", Kind::ShortFlag('q'), "no line on success"),
+        Argument("IN", Kind::Word, "a bundle text, in UTF-8"),
+        OUTPUT,
+        Argument("TEXT", Kind::WordsWith("to"), "with --to, further texts"),
     ],
     end: COMPILE_HELP,
 };
@@ -69,16 +63,8 @@ pub const CHECK: Description = Description {
     name: "check",
     about: "Checks .res files",
     arguments: &[
-        Argument {
-            name: "quiet",
-            kind: Kind::ShortFlag('q'),
-            help: "no line on success",
-        },
-        Argument {
-            name: "FILE",
-            kind: Kind::Words("FILE"),
-            help: "a .res file",
-        },
+        Argument("quiet", Kind::ShortFlag('q'), "no line on success"),
+        Argument("FILE", Kind::Words("FILE"), "a .res file"),
     ],
     end: CHECK_HELP,
 };
@@ -99,18 +85,7 @@ Status:
 pub const GET: Description = Description {
     name: "get",
     about: "Prints the item at a path of a .res file",
-    arguments: &[
-        Argument {
-            name: "FILE",
-            kind: Kind::Word,
-            help: "a .res file",
-        },
-        Argument {
-            name: "PATH",
-            kind: Kind::Word,
-            help: "keys and indexes, with slashes between them",
-        },
-    ],
+    arguments: &[FILE, PATH],
     end: GET_HELP,
 };
 
@@ -131,16 +106,12 @@ pub const TEXT: Description = Description {
     name: "text",
     about: "Prints a .res file as a bundle text",
     arguments: &[
-        Argument {
-            name: "FILE",
-            kind: Kind::Word,
-            help: "a .res file",
-        },
-        Argument {
-            name: "name",
-            kind: Kind::Option("NAME"),
-            help: "the bundle's name; by default the file's, up to its first full stop",
-        },
+        Argument(
+            "name",
+            Kind::Option("NAME"),
+            "the bundle's name; by default the file's, up to its first full stop",
+        ),
+        FILE,
     ],
     end: TEXT_HELP,
 };
@@ -163,21 +134,13 @@ pub const JSON: Description = Description {
     name: "json",
     about: "Prints a whole .res file, or the item at a path, as one JSON value",
     arguments: &[
-        Argument {
-            name: "FILE",
-            kind: Kind::Word,
-            help: "a .res file",
-        },
-        Argument {
-            name: "PATH",
-            kind: Kind::OptionalWord,
-            help: "keys and indexes, with slashes between them; the whole bundle without it",
-        },
-        Argument {
-            name: "pretty",
-            kind: Kind::Flag,
-            help: "a line for each item and member, indented",
-        },
+        FILE,
+        OPTIONAL_PATH,
+        Argument(
+            "pretty",
+            Kind::Flag,
+            "a line for each item and member, indented",
+        ),
     ],
     end: JSON_HELP,
 };

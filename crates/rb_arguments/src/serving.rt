@@ -1,5 +1,5 @@
 //! The command `serve`, with its limits.
-use crate::argument::{Argument, Kind};
+use crate::argument::{Argument, Kind, PARENTS};
 use crate::description::Description;
 
 /// The end of the help of `serve`.
@@ -22,52 +22,43 @@ pub const SERVE: Description = Description {
     name: "serve",
     about: "Answers requests, a line each, from standard input",
     arguments: &[
-        Argument {
-            name: "parents",
-            kind: Kind::Option("FILE"),
-            help: "a bundle text with the explicit parents, at parentLocales",
-        },
-        Argument {
-            name: "app-bytes",
-            kind: Kind::Limit,
-            help: "the most bytes of all files of one application",
-        },
-        Argument {
-            name: "bundle-bytes",
-            kind: Kind::Limit,
-            help: "the most bytes of one bundle, as text and as file",
-        },
-        Argument {
-            name: "reply-bytes",
-            kind: Kind::Limit,
-            help: "the most bytes of the line of a found item or of names",
-        },
-        Argument {
-            name: "line-bytes",
-            kind: Kind::Limit,
-            help: "the most bytes of a line; a longer one is passed over",
-        },
-        Argument {
-            name: "apps",
-            kind: Kind::Limit,
-            help: "the most applications with bundles at one time",
-        },
-        Argument {
-            name: "steps",
-            kind: Kind::Limit,
-            help: "the most steps of a lookup",
-        },
-        Argument {
-            name: "keep-serving",
-            kind: Kind::Flag,
-            help: "answer a line for which memory is out, and serve on if the bundles are as \
-                before",
-        },
-        Argument {
-            name: "bundles",
-            kind: Kind::AnyWords("LOCALE=FILE"),
-            help: "a bundle of ICUDATA: bundle text where FILE ends in .txt, else a .res file",
-        },
+        PARENTS,
+        Argument(
+            "app-bytes",
+            Kind::Limit,
+            "the most bytes of all files of one application",
+        ),
+        Argument(
+            "bundle-bytes",
+            Kind::Limit,
+            "the most bytes of one bundle, as text and as file",
+        ),
+        Argument(
+            "reply-bytes",
+            Kind::Limit,
+            "the most bytes of the line of a found item or of names",
+        ),
+        Argument(
+            "line-bytes",
+            Kind::Limit,
+            "the most bytes of a line; a longer one is passed over",
+        ),
+        Argument(
+            "apps",
+            Kind::Limit,
+            "the most applications with bundles at one time",
+        ),
+        Argument("steps", Kind::Limit, "the most steps of a lookup"),
+        Argument(
+            "keep-serving",
+            Kind::Flag,
+            "answer a line for which memory is out, and serve on if the bundles are as before",
+        ),
+        Argument(
+            "bundles",
+            Kind::AnyWords("LOCALE=FILE"),
+            "a bundle of ICUDATA: bundle text where FILE ends in .txt, else a .res file",
+        ),
     ],
     end: SERVE_HELP,
 };

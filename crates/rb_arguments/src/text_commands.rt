@@ -1,5 +1,5 @@
 //! The commands that help with bundle texts: `lint` and `explain`.
-use crate::argument::{Argument, Kind};
+use crate::argument::{Argument, Kind, ROOT};
 use crate::description::Description;
 
 /// The end of the help of `lint`.
@@ -21,16 +21,8 @@ pub const LINT: Description = Description {
     name: "lint",
     about: "Says what is doubtful in bundle texts, and where an error really began",
     arguments: &[
-        Argument {
-            name: "root",
-            kind: Kind::Option("ROOT"),
-            help: "the bundle text of the root locale, to compare with",
-        },
-        Argument {
-            name: "TEXT",
-            kind: Kind::Words("TEXT"),
-            help: "a bundle text, in UTF-8",
-        },
+        ROOT,
+        Argument("TEXT", Kind::Words("TEXT"), "a bundle text, in UTF-8"),
     ],
     end: LINT_HELP,
 };
@@ -50,10 +42,11 @@ Status:
 pub const EXPLAIN: Description = Description {
     name: "explain",
     about: "Says what an error word means, its likely causes and what to do",
-    arguments: &[Argument {
-        name: "WORD",
-        kind: Kind::OptionalWord,
-        help: "an error word, as BadInt; none lists all",
-    }],
+    arguments: &[Argument(
+        "WORD",
+        Kind::OptionalWord,
+        "an error word,
+        as BadInt; none lists all",
+    )],
     end: EXPLAIN_HELP,
 };

@@ -56,7 +56,7 @@ fn put_unit_of<N: Node>(
 }
 
 /// How many plain units are put at a time at the most.
-const RUN: usize = 64;
+const RUN: usize = 32;
 
 /// Puts the plain units from an index on at the front of a block, a byte each, and says how many
 /// they are.
@@ -65,7 +65,7 @@ fn plain_run<N: Node>(block: &mut [u8; RUN], node: N, at: usize, len: usize) -> 
     requires units { HasUnits (kind_of (N.tree node)) }
     requires len { len ≡ len_of (N.tree node) }
     requires in_range { at ≤ len }
-    ensures bound { (result ≤ 64) × (at + result ≤ len) }
+    ensures bound { (result ≤ 32) × (at + result ≤ len) }
     ensures run { IsRun block.new (units_of (N.tree node)) at result }
 {
     let most = RUN.min(len - at);

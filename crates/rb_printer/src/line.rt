@@ -22,15 +22,17 @@ pub const DEEPEST: usize = 12;
 /// The levels whose spaces are written at once.
 const LEVELS: usize = 16;
 
+/// The spaces of these levels.
+static SPACES: [u8; 4 * LEVELS] = [0x20; 4 * LEVELS];
+
 /// Begins a line: writes four spaces for each level.
 pub fn put_indent(out: &mut Vec<u8>, level: usize) -> Result<(), AllocError>
     ensures { OnOk result (Adds out.old.items out.new.items (signs_chars (indent level []))) }
 {
-    let spaces = [0x20; 4 * LEVELS];
     let mut left = level;
     while left > 0 {
         let levels = left.min(LEVELS);
-        out.extend_from_slice(&spaces[..4 * levels])?;
+        out.extend_from_slice(&SPACES[..4 * levels])?;
         left -= levels;
     }
     Ok(())
