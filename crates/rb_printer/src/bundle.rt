@@ -54,6 +54,33 @@ fn put_page<N: Node>(
     Ok(())
 }
 
+/// The bundle text of a tree, of which as much is expected beside its frame. That changes no byte:
+/// the less is expected, the more often what is written is moved to a larger place.
+fn print_expecting<N: Node>(
+    alloc: Global,
+    name: &UnitList,
+    root: N,
+    no_fallback: bool,
+    expected: usize,
+) -> Result<Vec<u8>, PrintError>
+    requires { IsBundleTree (N.tree root) }
+    ensures text { IfOk result (λ bytes. IsBundleText bytes.items name.now
+        (record { tree = N.tree root; no_fallback = no_fallback })) }
+    ensures error { IfErr result (λ e. e ≡ errors.TooLarge → source_limit
+        < length (page_bytes name.now (record { tree = N.tree root; no_fallback = no_fallback }))) }
+{
+    let Some(left) = after_entries(LENGTH_LIMIT, 1, root) else {
+        return Err(PrintError::TooLarge);
+    };
+    let room = LENGTH_LIMIT - left.saturating_sub(expected);
+    let mut bytes = Vec::with_capacity(alloc, room)?;
+    put_page(&mut bytes, name.as_slice(), root, no_fallback)?;
+    if !has_room(bytes.as_slice().len(), 0) {
+        return Err(PrintError::TooLarge);
+    }
+    Ok(bytes)
+}
+
 /// The bundle text of a tree, with its name and its flag: `parse` reads just these back. No byte of
 /// it depends on anything else.
 ///
@@ -85,15 +112,7 @@ pub fn print<N: Node>(
     ensures error { IfErr result (λ e. e ≡ errors.TooLarge → source_limit
         < length (page_bytes name.now (record { tree = N.tree root; no_fallback = no_fallback }))) }
 {
-    let Some(left) = after_entries(LENGTH_LIMIT, 1, root) else {
-        return Err(PrintError::TooLarge);
-    };
-    let mut bytes = Vec::with_capacity(alloc, LENGTH_LIMIT - left)?;
-    put_page(&mut bytes, name.as_slice(), root, no_fallback)?;
-    if !has_room(bytes.as_slice().len(), 0) {
-        return Err(PrintError::TooLarge);
-    }
-    Ok(bytes)
+    print_expecting(alloc, name, root, no_fallback, 0)
 }
 
 /// The bundle text of a file, with a name, which a file doesn't have. It looks as that of `print`,
@@ -108,6 +127,7 @@ pub fn print_bundle(alloc: Global, name: &UnitList, bundle: &Bundle) -> Result<V
     ensures error { IfErr result (λ e. e ≡ errors.TooLarge
         → source_limit < length (page_bytes name.now (source_tree_of bundle.now))) }
 {
-    let _denoted = bundle.bytes();
-    print(alloc, name, root(bundle), bundle.no_fallback())
+    // a text is about as long as its file and the frame
+    let expected = bundle.bytes().len();
+    print_expecting(alloc, name, root(bundle), bundle.no_fallback(), expected)
 }

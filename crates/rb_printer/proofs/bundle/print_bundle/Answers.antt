@@ -3,5 +3,5 @@ use Rattle.rb_printer.specs.Sound.{IsBundleTree}
 use Rattle.rb_printer.proofs.Filed.{is_bundle_tree}
 use Rattle.rb_printer.proofs.bundle.print_bundle.Goals as goal
 
-pub print-requires : goal.print-requires
-print-requires c = subst IsBundleTree (sym c.root.ensures.tree) (is_bundle_tree c.args.bundle.now c.bytes-denoted.ensures.denoted)
+pub print_expecting-requires : goal.print_expecting-requires
+print_expecting-requires c = subst IsBundleTree (sym c.root.ensures.tree) (is_bundle_tree c.args.bundle.now c.bytes-expected.ensures.denoted)

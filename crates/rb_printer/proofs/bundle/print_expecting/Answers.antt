@@ -5,7 +5,7 @@ use Rattle.rb_printer.specs.Whole.{IsBundleText}
 use Rattle.rb_printer.specs.inner.Growth.{Adds}
 use Rattle.rb_printer.proofs.Least.{page_frame}
 use Rattle.rb_printer.proofs.Pages.{page_printed}
-use Rattle.rb_printer.proofs.bundle.print.Goals as goal
+use Rattle.rb_printer.proofs.bundle.print_expecting.Goals as goal
 
 pub returns-in_default-clause-error : goal.returns-in_default-clause-error
 returns-in_default-clause-error g c = λ _.
