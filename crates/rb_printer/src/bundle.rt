@@ -64,10 +64,10 @@ fn print_expecting<N: Node>(
     expected: usize,
 ) -> Result<Vec<u8>, PrintError>
     requires { IsBundleTree (N.tree root) }
-    ensures text { IfOk result (λ bytes. IsBundleText bytes.items name.now
-        (record { tree = N.tree root; no_fallback = no_fallback })) }
     ensures error { IfErr result (λ e. e ≡ errors.TooLarge → source_limit
         < length (page_bytes name.now (record { tree = N.tree root; no_fallback = no_fallback }))) }
+    ensures text { IfOk result (λ bytes. IsBundleText bytes.items name.now
+        (record { tree = N.tree root; no_fallback = no_fallback })) }
 {
     let Some(left) = after_entries(LENGTH_LIMIT, 1, root) else {
         return Err(PrintError::TooLarge);
