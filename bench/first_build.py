@@ -1,5 +1,5 @@
 #!/usr/bin/env python3
-"""How long a first build takes: bin/resb in a fresh clone, and the table of its crates for docs/ARCHITECTURE.md.
+"""How long a first build takes: bin/resb in a fresh clone, and the table of its crates for bench/notes/first_build.md.
 
   bench/first_build.py               clones this checkout's main branch, builds, and prints what it took
   bench/first_build.py --self-test   tries the table over a build that is written here

@@ -1,4 +1,4 @@
-# Building for bin/resb, which reads this file: it has set `top`, `program` and `stamp`.
+# Builds for bin/resb, which reads this file after it has set `top`, `program` and `stamp`.
 
 say() {
     printf 'resb: %s\n' "$1" >&2
@@ -10,7 +10,7 @@ has_toolchain() {
     command -v rt >/dev/null
 }
 
-# What is done if there is no program of the present sources.
+# Runs or builds the program if there is none of the present sources.
 run_or_build() {
     if [ "${1-}" = --unproved ]; then
         shift
@@ -24,7 +24,7 @@ run_or_build() {
     fi
 }
 
-# Lets the program run that is there, though its sources are newer.
+# Lets the existing program run although its sources are newer.
 run_older() {
     if [ -x "$program" ]; then
         say "its sources are newer than the program that runs, and $1"
@@ -34,7 +34,7 @@ run_older() {
     fi
 }
 
-# Runs a command by the toolchain's `rt try`, over copies of the files that its arguments name. What it writes to files is lost.
+# Runs a command with `rt try`, which proves nothing, over copies of the files that its arguments name. Files that it writes are lost.
 run_unproved() {
     if ! has_toolchain; then
         say "$no_toolchain"
@@ -50,8 +50,8 @@ run_unproved() {
     exec rt try --seconds 600 "$@"
 }
 
-# How many crates are begun at a time: one more than the processors, as one of them often waits for those below it, and 3 GB of
-# free memory for each.
+# Prints how many crates are begun at a time: one more than the processors, as one of them often waits for those below it, and at
+# most one for 3 GB of free memory.
 jobs() {
     free=$(sed -n 's/^MemAvailable: *\([0-9]*\) kB/\1/p' /proc/meminfo 2>/dev/null || :)
     room=$((${free:-0} / 3000000))
@@ -61,7 +61,7 @@ jobs() {
     echo "${RESB_JOBS:-$many}"
 }
 
-# The crates that a crate uses, and itself, by crates.txt, a line each.
+# Prints the crates that a crate uses, and itself, in the order of crates.txt, one a line.
 crates_below() {
     awk -v crate="$1" '
         { sub(/#.*/, "") }
@@ -76,16 +76,27 @@ crates_below() {
         END { visit(crate) }' "$top/crates.txt"
 }
 
-# Says of each crate that it is proved, how many are left, and the time so far; on a terminal in one place.
+# A whole build takes this many times as long as its first crate (bench/first_build.py).
+whole_by_first=16
+
+# Prints after the first crate how long the build will take. On a machine that kept proofs it takes less.
+estimate() {
+    say "a build from nothing takes about $(($1 * whole_by_first / 60 + 1)) min on this machine"
+    say 'bin/resb --unproved COMMAND answers in two minutes meanwhile; an interrupted build continues where it stopped'
+}
+
+# Reports each crate once it is proved, with the number of remaining crates and the time so far; on a terminal in one place.
 progress() {
     left=$(crates_below rb_tool | wc -l)
+    all=$left
     began=$(date +%s)
     while IFS= read -r line; do
         case $line in
             '== summary') ;;
             '== '*)
-                left=$((left - 1))
                 seconds=$(($(date +%s) - began))
+                [ "$left" != "$all" ] || estimate "$seconds"
+                left=$((left - 1))
                 time=$(printf '%d:%02d' $((seconds / 60)) $((seconds % 60)))
                 if [ -t 2 ]; then
                     printf '\r\033[Kresb: %s: %s is checked, %d to go' "$time" "${line#== }" "$left" >&2
@@ -98,28 +109,11 @@ progress() {
     [ ! -t 2 ] || printf '\r\033[K' >&2
 }
 
-# Proves a crate and those below it, those that don't need each other at the same time: CRATE JOBS.
-prove() {
-    cd "$top/crates/$1" && rt all check --jobs "$2"
-}
-
-# Proves a crate as `prove` does, and says only then what was said.
-prove_quietly() {
-    status=0
-    said=$(prove "$@" 2>&1) || status=$?
-    printf '%s\n' "$said"
-    return "$status"
-}
-
-# Proves the two crates that the program uses, with all below them, side by side; then proves and builds the program. Its own
-# check is a part of its build, since most of it is the reading of what all its crates state.
+# Proves the program and all crates below it, those that don't need each other at the same time; then builds it over what that kept. One
+# run of `rt all` does it, as each holds the locks of all crates below.
 prove_and_link() {
-    failed=0
-    prove_quietly rb_arguments 1 &
-    prove rb_commands "$(jobs)" || failed=1
-    wait "$!" || failed=1
-    [ "$failed" = 0 ] || return 1
-    cd "$top/crates/rb_tool" && RT_BACKEND=llvm rt run -- --version && echo '== rb_tool'
+    (cd "$top/crates/rb_tool" && rt all check --jobs "$(jobs)") || return 1
+    cd "$top/crates/rb_tool" && RT_BACKEND=llvm rt run -- --version
 }
 
 build() {

@@ -1,59 +1,136 @@
 #!/usr/bin/env bash
-# All tests. First what needs no built program: the launcher, the manual page if mandoc is there, where definitions stand, the
-# bench's pictures and its table of a first build, a program that must not compile, and one of whose allocations each is refused in
-# turn. Then the gate, which proves every crate from nothing, tries the wrong bodies, runs each test, and builds the program. Last
-# what runs that program: the examples, the documents, traced lookups, the benches of daily use and of printed texts over small
-# inputs, replies through pipes, lines with a member more, limits, the package, tools/icu2text beside ICU's tools, the shards of deploy/,
-# and its gateway.
-set -eu
-cd "$(dirname "$0")/.."
+# Runs all tests, side by side where processors allow, and prints a line with its time for each part.
+#
+# usage: all.sh [--quick]
+#   --quick  leaves out the gate (`rt ci`), the mutants and the programs that the toolchain interprets; needs a built program
+#
+# The gate proves every crate from nothing, runs the tests in Rattle and builds the program. The mutants in crates/*/gate/ come after
+# it, as they are tried over the libraries that it proved. What runs the built program comes last. A part that can't run because a tool
+# is missing is skipped, counted, and named in the last lines; tools/need names the packages that are missing.
+# Ends with status 0 if every part that ran passed, and else with 1.
+set -u
+cd "$(dirname "$0")/.." || exit 2
+quick=
+case ${1-} in
+    '') ;;
+    --quick) quick=1 ;;
+    *)
+        echo 'usage: all.sh [--quick]' >&2
+        exit 2
+        ;;
+esac
 program=crates/rb_tool/out/rb_tool
+logs=$(mktemp -d)
+trap 'rm -rf "$logs"' EXIT
+processors=$(nproc)
 
-# has COMMAND: whether it is there, said if it isn't
-has() {
-    command -v "$1" >/dev/null || {
-        echo "skipped: $1 is not there"
-        return 1
-    }
+# part NAME COMMAND..: runs a part, and prints its time, its skipped tests, and its output if it fails
+part() {
+    local name=$1 began=$SECONDS status=0
+    local log="$logs/$name.log"
+    shift
+    "$@" >"$log" 2>&1 </dev/null || status=$?
+    if [ "$status" = 0 ]; then
+        printf 'ok      %5d s  %s\n' $((SECONDS - began)) "$name"
+        grep -i 'skipped' "$log" | sed "s/^/$name: /" >"$logs/$name.skipped"
+    else
+        { printf 'FAILED  %5d s  %s, status %s:\n' $((SECONDS - began)) "$name" "$status" && failures "$log"; } | tee "$logs/$name.failed"
+    fi
+    return "$status"
 }
 
-# once_more COMMAND..: runs what waits for other processes a second time if it failed, as a machine may have been busy
-once_more() {
-    "$@" || {
-        echo "failed, and is tried once more: $1"
-        "$@"
-    }
+# failures LOG: the lines of a log that say what failed, and its end
+failures() {
+    grep -E -A 8 '^ *(--- FAIL|panic:|FAILED|AssertionError|Traceback)' "$1" | head -n 80
+    echo '-- the last lines:'
+    tail -n 30 "$1"
 }
 
-tests/launcher.sh
-if has mandoc; then
-    mandoc -T lint -W warning docs/resb.1
+# start NAME COMMAND..: runs a part in the background, once fewer than one a processor are running
+start() {
+    while [ "$(jobs -rp | wc -l)" -ge "$processors" ]; do
+        wait -n
+    done
+    part "$@" &
+}
+
+# start_if COMMAND NAME ..: starts a part if a command is there
+start_if() {
+    local command=$1
+    shift
+    if command -v "$command" >/dev/null; then
+        start "$@"
+    else
+        echo "$1: skipped: $command is not there" | tee "$logs/$1.skipped"
+    fi
+}
+
+# proofs LANES: the gate; one job for each proof, since a second one costs half as much processor time again for little gain
+proofs() {
+    RT_JOBS=$1 rt ci
+}
+
+# lanes: how many proofs run side by side: one a processor, and each has 4 GB of memory
+lanes() {
+    local memory
+    memory=$(sed -n 's/^MemAvailable: *\([0-9]*\) kB/\1/p' /proc/meminfo)
+    memory=$((memory / 4000000))
+    [ "$memory" -lt "$processors" ] || memory=$processors
+    [ "$memory" -gt 0 ] || memory=1
+    echo "$memory"
+}
+
+summary() {
+    wait
+    cat "$logs"/*.skipped 2>/dev/null >"$logs/all"
+    echo "$(find "$logs" -name '*.log' | wc -l) parts in $((SECONDS / 60)) min $((SECONDS % 60)) s," \
+        "$(find "$logs" -name '*.failed' | wc -l) failed, $(wc -l <"$logs/all") tests skipped"
+    cat "$logs/all"
+    for failed in "$logs"/*.failed; do
+        [ ! -e "$failed" ] || head -n 1 "$failed"
+    done
+    ! compgen -G "$logs/*.failed" >/dev/null
+}
+
+if [ -n "$quick" ] && [ ! -x "$program" ]; then
+    echo "$program isn't built: bin/resb --version builds it" >&2
+    exit 2
 fi
-if has python3; then
-    tests/trusted.py --inner
-    bench/draw.py --check
-    bench/first_build.py --self-test
+lacks=$(tools/need) || printf 'These packages are missing, so tests are skipped (tools/need --install):\n%s\n' "$lacks"
+start launcher tests/launcher.sh
+start_if mandoc manual mandoc -T lint -W warning docs/resb.1
+start_if python3 definitions tests/trusted.py --inner
+start_if python3 pictures bench/draw.py --check
+start_if python3 first_build bench/first_build.py --self-test
+if [ -z "$quick" ]; then
+    # these interpret programs and need no proof, so they run beside the gate
+    part memory tests/memory.sh &
+    part no_change_while_lent tests/no_change_while_lent.sh &
+    if ! part gate proofs "$(lanes)"; then
+        summary
+        exit 1
+    fi
+    grep -h 'passed, .* failed' "$logs/gate.log"
+    if command -v python3 >/dev/null; then
+        part mutants tests/edits.py --gate --bare --jobs "$(lanes)"
+        tail -n 1 "$logs/mutants.log"
+    fi
 fi
-tests/no_change_while_lent.sh
-tests/memory.sh
-rt ci
-tests/examples.sh "$program"
-tests/stdout.sh "$program"
-tests/files.sh "$program"
-tests/clients.sh "$program"
-tests/package.sh "$program"
-if has python3; then
-    tests/documents.py "$program"
-    tests/completions.py "$program"
-    tests/traces.py "$program"
-    bench/daily.py --self-test "$program"
-    bench/text.py --self-test "$program"
-    tests/pipe.py "$program"
-    tests/ignored_members.py "$program"
-    tests/limits.py "$program"
-    tests/icu2text.py "$program"
-    tests/icu.sh "$program" brkitr translit
-    tests/json_values.py "$program"
+for script in examples replies stdout files clients package; do
+    start "$script" "tests/$script.sh" "$program"
+done
+for script in commands documents completions traces pipe ignored_members icu2text json_values parents exchange; do
+    start_if python3 "$script" "tests/$script.py" "$program"
+done
+start_if python3 pages tools/pages --check "$program"
+start_if python3 daily bench/daily.py --self-test "$program"
+start_if python3 printing bench/text.py --self-test "$program"
+start_if genrb icu tests/icu.sh "$program" brkitr translit
+wait
+# what measures memory or time, or starts many processes, has the machine to itself
+if command -v python3 >/dev/null; then
+    part limits tests/limits.py "$program"
 fi
-once_more deploy/test "$program"
-once_more deploy/gateway/test "$program"
+part shards deploy/test "$program"
+part gateway deploy/gateway/test "$program"
+summary

@@ -1,7 +1,7 @@
 #!/usr/bin/env python3
 """Compares the completions in docs/completions/ with `resb --help` and `resb COMMAND --help`: the same commands, each with the same
-flags. Commands that only `resb` has, or only a file of completions, count too. Says as well whether CHANGELOG.md lists the version
-of `resb --version` first.
+flags. Commands that only `resb` has, or only a file of completions, count too. Also checks that the first version in CHANGELOG.md, after
+a section "Unreleased" if there is one, is that of `resb --version`.
 
 usage: completions.py PROGRAM
 Ends with status 0 if all agree, with 1 if one differs; says `skipped` if there is no such program.
@@ -57,7 +57,7 @@ def main():
         "resb.fish": of_fish(text_of("docs", "completions", "resb.fish")),
     }
     wrong = [f"docs/completions/{name}: {flags}, and resb has {wanted}" for name, flags in found.items() if flags != wanted]
-    first = re.search(r"^## (\S+)", text_of("CHANGELOG.md"), flags=re.M).group(1)
+    first = re.search(r"^## (?!Unreleased$)(\S+)", text_of("CHANGELOG.md"), flags=re.M).group(1)
     if printed(program, "--version") != f"resb {first}\n":
         wrong.append(f"CHANGELOG.md: {first} is listed first, and the program is another")
     print("".join(f"{line}\n" for line in wrong) or "ok: completions and the version\n", end="")

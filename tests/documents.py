@@ -1,18 +1,22 @@
 #!/usr/bin/env python3
-"""Runs the commands that docs/TUTORIAL.md and docs/TROUBLESHOOTING.md show, and compares what they print with what is written there.
+"""Runs the commands that README.md and the pages of docs/ and tests/notes/ show, and compares what they print with what is written there.
 
 A block that begins with ```console has commands, as they are typed: a line that begins with `$ ` is a command, lines after it
 that begin with `> ` are more of it, and all other lines up to the next command are what it prints, on standard output and
 standard error together. The blocks of a page are run in their order, by one shell, in an empty folder; `resb` is the built
-program, `icu2text` the script in tools/, and $EXAMPLES is the folder examples/ of this repository. If a page begins with a block
-of ```console first, each other block is run by a shell of its own, which runs that first block before it, in a folder that has bin/,
+program, `icu2text` and `resb-exchange` the scripts in tools/, and $EXAMPLES is the folder examples/ of this repository. If a page begins with a block
+of ```console first, each other block is run by a separate shell, which runs that first block before it, in a folder that has bin/,
 tools/ and examples/ as this repository does. A block of ```console by-hand needs more than a shell (other tools, or files from a
 network), and is run only if --with gives what it needs. All other blocks are left alone.
 
-It also compares the pages with the code: each relative link leads to a file and to a heading in it; files, and items as
-`rb_tree::walk`, that a page names are there; docs/TROUBLESHOOTING.md and
-docs/resb.1 have each error word; docs/ARCHITECTURE.md has each crate of crates.txt with what it uses, and these name what they cite; the
-definitions, laws and clauses that docs/PROOFS.md names are in the crates of its section, and it has the count of tests/trusted.py; `resb explain` says what docs/TROUBLESHOOTING.md does.
+README.md has indented blocks instead. Those that begin with `$ ` are run in one shell; a sentence that has "`FILE` is `TEXT`" makes a
+file, and lines that begin with `{"op"` after `resb serve` are its input.
+
+It also compares the pages with the code. Each relative link leads to a file and to a heading in it. Files and items, such as
+`rb_tree::walk`, that a page names exist. docs/TROUBLESHOOTING.md and docs/resb.1 have each error code. docs/ARCHITECTURE.md has a row for each
+crate of crates.txt, below those that it uses, and the crates cite what crates.txt names. docs/PROOFS.md is
+as tools/proofs writes it. `resb explain` says what docs/TROUBLESHOOTING.md does.
+README.md has at most 80 lines of at most 200 characters.
 
 usage: documents.py [--with FILE]... [PROGRAM]   (default: crates/rb_tool/out/rb_tool)
   --with FILE  copies FILE into the folder that the blocks are run in, and runs those by hand too
@@ -29,7 +33,7 @@ import sys
 import tempfile
 
 TOP = os.path.dirname(os.path.dirname(os.path.abspath(__file__)))
-PAGES = ("docs/TUTORIAL.md", "docs/TROUBLESHOOTING.md")
+README_LINES, README_WIDTH = 80, 200
 MARK = "-- the end of a command --"
 SECONDS = 600
 FULL = "/dev/full"
@@ -98,7 +102,8 @@ def printed(program, first, groups, given):
         for name in ("bin", "tools", "run"):
             os.mkdir(os.path.join(folder, name))
         os.symlink(os.path.abspath(program), os.path.join(folder, "bin", "resb"))
-        os.symlink(os.path.join(TOP, "tools", "icu2text"), os.path.join(folder, "tools", "icu2text"))
+        for name in ("icu2text", "resb-exchange"):
+            os.symlink(os.path.join(TOP, "tools", name), os.path.join(folder, "tools", name))
         os.symlink(os.path.join(TOP, "examples"), os.path.join(folder, "examples"))
         run = os.path.join(folder, "run")
         if first:
@@ -118,7 +123,7 @@ def is_device(path):
     return os.path.exists(path) and stat.S_ISCHR(os.stat(path).st_mode)
 
 
-def told(name, asked, answers):
+def count_differences(name, asked, answers):
     """Prints where commands print something else than a page says, and tells how many do."""
     differ = 0
     for index, (number, command, wanted) in enumerate(asked):
@@ -131,9 +136,8 @@ def told(name, asked, answers):
 
 
 def run_page(name, program, given):
-    """Prints what differs on a page, and tells how many commands did."""
-    with open(os.path.join(TOP, name), encoding="utf-8") as file:
-        page = file.read()
+    """Prints what differs on a page, and returns how many commands did."""
+    page = text_of(name)
     kinds = ("console", "console by-hand") if given else ("console",)
     found = [(info, commands(first, lines)) for info, first, lines in blocks(page) if info in kinds or info == "console first"]
     first = [command for info, block in found if info == "console first" for command in block]
@@ -144,10 +148,43 @@ def run_page(name, program, given):
     answers = printed(program, first, groups, given)
     if not first:
         groups = [[command for block in groups for command in block]]
-    differ = sum(told(name, asked, given_answers) for asked, given_answers in zip(groups, answers))
+    differ = sum(count_differences(name, asked, given_answers) for asked, given_answers in zip(groups, answers))
     count = sum(len(block) for block in groups)
     print(f"{name}: {count - differ} commands agree, {differ} differ" + (f", in {len(groups)} shells" if first else ""))
     return differ
+
+
+def readme_commands(page):
+    """Returns the commands of README.md's indented blocks, each with its line and what it should print."""
+    found = []
+    for number, line in enumerate(page.splitlines(), 1):
+        if line.startswith("    $ "):
+            found.append([number, line[6:], []])
+        elif line.startswith('    {"op"') and found[-1][1].startswith("resb serve"):
+            end = "" if "<<" in found[-1][1] else " <<'END'"
+            found[-1][1] = found[-1][1].removesuffix("\nEND") + f"{end}\n{line[4:]}\nEND"
+        elif line.startswith("    ") and found and page.splitlines()[number - 2].startswith("    "):
+            found[-1][2].append(line[4:])
+    return found
+
+
+def run_readme(program):
+    """Prints what differs in README.md, and returns how many commands did."""
+    page = text_of("README.md")
+    files = re.findall(r"`(\w+\.txt)` is `([^`]+)`", page)
+    made = [[0, "\n".join(f"printf '%s\\n' '{text}' > {name}" for name, text in files), []]]
+    asked = [*made, *readme_commands(page)]
+    differ = count_differences("README.md", asked, printed(program, [], [asked], [])[0])
+    print(f"README.md: {len(asked) - 1 - differ} commands agree, {differ} differ")
+    return differ
+
+
+def long_readme():
+    """Returns what is too long in README.md."""
+    lines = text_of("README.md").splitlines()
+    if len(lines) > README_LINES:
+        yield f"README.md: {len(lines)} lines, and {README_LINES} are allowed"
+    yield from (f"README.md:{number}: {len(line)} characters" for number, line in enumerate(lines, 1) if len(line) > README_WIDTH)
 
 
 def anchor(heading):
@@ -244,7 +281,7 @@ def missing_words():
         page = text_of(name)
         for word in sorted(error_words()):
             if not re.search(form % word, page):
-                yield f"{name}: the error word {word} isn't there"
+                yield f"{name}: the error code {word} isn't there"
 
 
 def plain(cell):
@@ -259,22 +296,24 @@ def unexplained(program):
         for word in re.findall(r"`(?:FILE: )?([A-Z]\w*)`", words):
             if word not in error_words() | {"Memory"} or cause.startswith("[") or cause.startswith("as for any request"):
                 continue
-            told = subprocess.run([program, "explain", word], stdout=subprocess.PIPE, check=False).stdout.decode()
-            if f"  likely cause: {plain(cause)}\n  what to do: {plain(remedy)}\n" not in told:
+            explained = subprocess.run([program, "explain", word], stdout=subprocess.PIPE, check=False).stdout.decode()
+            if f"  likely cause: {plain(cause)}\n  what to do: {plain(remedy)}\n" not in explained:
                 yield f"docs/TROUBLESHOOTING.md: resb explain {word} says something else"
     listed = subprocess.run([program, "explain"], stdout=subprocess.PIPE, check=False).stdout.decode()
     yield from (f"resb explain: {word} isn't listed" for word in sorted(error_words()) if f"  {word}: " not in listed)
 
 
 def wrong_rows():
-    """The crates whose row in the table of crates isn't that of crates.txt."""
-    page = text_of("docs/ARCHITECTURE.md")
+    """Returns what is wrong in the table of crates: a row for each crate, below those of the crates that it uses."""
+    table = text_of("docs/ARCHITECTURE.md").partition("| Crate | What it does |\n")[2].partition("\n\n")[0]
+    rows = re.findall(r"^\| (\w+) \| [^|]* \|$", table, flags=re.M)
+    place = {name: number for number, name in enumerate(rows)}
     for name, uses in crates().items():
-        row = re.search(rf"^\| {name} \|[^|]*\|([^|]*)\|$", page, flags=re.M)
-        if not row:
+        if name not in place:
             yield f"docs/ARCHITECTURE.md: the crate {name} has no row"
-        elif sorted(re.findall(r"\w+", row.group(1))) != sorted(uses):
-            yield f"docs/ARCHITECTURE.md: {name} uses {' '.join(uses)}"
+        else:
+            yield from (f"docs/ARCHITECTURE.md: {name} is above {used}" for used in uses if place.get(used, -1) > place[name])
+    yield from (f"docs/ARCHITECTURE.md: there is no crate {name}" for name in rows if re.match("(rb|tests)_", name) and name not in crates())
 
 
 def wrong_uses():
@@ -287,15 +326,6 @@ def wrong_uses():
         cited = {*re.findall(r"\bRattle\.(\w+)\.", text), *re.findall(r"\b(\w+)::", text)} & known - {name}
         if cited != set(uses):
             yield f"crates.txt: {name} uses {' '.join(sorted(cited))}"
-
-
-def wrong_count():
-    """The count of definitions, if docs/PROOFS.md doesn't have it."""
-    told = subprocess.run([os.path.join(TOP, "tests/trusted.py")], capture_output=True, text=True, check=True).stdout
-    calls, laws = (f"{int(count):,}" for count in told.split()[-2:])
-    sentence = f"The contracts of calls reach {calls} lines of definitions, and those of laws {laws} more"
-    if sentence not in text_of("docs/PROOFS.md"):
-        yield f"docs/PROOFS.md doesn't say: {sentence}"
 
 
 def is_named(name, named):
@@ -314,26 +344,18 @@ def is_named(name, named):
     return False
 
 
-def unknown_names():
-    """What the page on proofs names in its rows and lists of definitions, and the crates of the section don't have."""
-    for section in re.split(r"^## ", text_of("docs/PROOFS.md"), flags=re.M)[1:]:
-        heading, _, body = section.partition("\n")
-        named = [crate for crate in re.findall(r"\w+", heading.partition(":")[0]) if crate in crates()]
-        for line in body.splitlines() if named else ():
-            cells = line.split(" | ")
-            if line.startswith("Definitions: "):
-                names = re.findall(r"`([A-Z]\w*)`", line.partition(". ")[0])
-            elif line.startswith("| ") and len(cells) == 2:
-                names = re.findall(r"`([a-z_:]*\w+)`", cells[1])
-            else:
-                continue
-            yield from (f"docs/PROOFS.md: {heading}: there is no {name}" for name in names if not is_named(name, named))
+def wrong_proofs():
+    """The page on proofs, if it isn't as tools/proofs writes it."""
+    run = subprocess.run([os.path.join(TOP, "tools/proofs"), "--check"], capture_output=True, text=True, check=False)
+    if run.returncode:
+        yield run.stderr.strip()
 
 
 def compare_code():
     """Prints where a page isn't what the code is, and tells how often."""
     wrong = [f"{name}: the link {link} leads nowhere" for name in pages() for link in bad_links(name)]
-    wrong += [*missing_files(), *missing_items(), *missing_words(), *wrong_rows(), *wrong_uses(), *wrong_count(), *unknown_names()]
+    wrong += [*missing_files(), *missing_items(), *missing_words(), *wrong_rows(), *wrong_uses(), *wrong_proofs()]
+    wrong += long_readme()
     print("".join(f"{line}\n" for line in wrong), end="")
     return len(wrong)
 
@@ -348,7 +370,8 @@ def main():
         differ = list(unexplained(chosen.program))
         print("".join(f"{line}\n" for line in differ), end="")
         wrong += len(differ)
-        wrong += sum(run_page(name, chosen.program, chosen.given) for name in PAGES)
+        shown = [name for name in pages() if name.startswith(("docs/", "tests/notes/")) and "\n```console" in text_of(name)]
+        wrong += run_readme(chosen.program) + sum(run_page(name, chosen.program, chosen.given) for name in shown)
     else:
         print(f"skipped: {chosen.program} is not there")
     return 1 if wrong else 0

@@ -10,9 +10,9 @@ failed=0
 # checkout FOLDER: a checkout in which the program is built.
 checkout() {
     mkdir -p "$1/bin" "$1/crates/rb_tool/src" "$1/crates/rb_tool/specs" "$1/crates/rb_tool/proofs" "$1/crates/rb_tool/out"
-    mkdir "$1/crates/rb_arguments" "$1/crates/rb_commands"
+    mkdir "$1/crates/rb_arguments" "$1/crates/rb_commands" "$1/crates/rb_requests"
     cp "$top"/bin/* "$1/bin"
-    printf '%s\n' 'rb_arguments:' 'rb_commands:' 'rb_tool: rb_commands rb_arguments' >"$1/crates.txt"
+    printf '%s\n' 'rb_arguments:' 'rb_requests:' 'rb_commands:' 'rb_tool: rb_commands rb_requests rb_arguments' >"$1/crates.txt"
     echo 'fn main() {}' >"$1/crates/rb_tool/src/main.rt"
     touch -d '1 hour ago' "$1/crates.txt" "$1/crates/rb_tool/src/main.rt" "$1/crates/rb_tool/src" "$1/crates/rb_tool/specs"
     program "$1/crates/rb_tool/out/rb_tool"
@@ -84,43 +84,25 @@ rt() {
 }
 building='resb: proving and building; a first build takes a quarter to half an hour'
 
-# sorted_said COMMAND..: what a command prints, with the lines of the toolchain's two runs in one order.
-sorted_said() {
-    local said status
-    said=$("$@" 2>&1)
-    status=$?
-    head -1 <<<"$said"
-    grep '^of rt:' <<<"$said" | sort
-    tail -1 <<<"$said"
-    return "$status"
-}
-
 rt 'exit 1'
 trial 'a build that fails' "$building
-of rt: all check --jobs 1
 of rt: all check --jobs 3
-resb: the build failed; 2" sorted_said env RESB_JOBS=3 PATH="$tools" "$second/bin/resb" serve
+resb: the build failed; 2" env RESB_JOBS=3 PATH="$tools" "$second/bin/resb" serve
 
-# Of the two crates that the program uses, one can't be proved.
-rt 'case $* in' "'all check --jobs 1') exit 1 ;;" 'esac'
-trial 'a crate beside the others that fails' "$building
-of rt: all check --jobs 1
-of rt: all check --jobs 3
-resb: the build failed; 2" sorted_said env RESB_JOBS=3 PATH="$tools" "$second/bin/resb" serve
-
-# It proves the two crates that the program uses, links the program, and says its version, as the real one does.
+# It proves the crates, links the program, and prints its version, as the real one does.
 rt 'case $* in' \
-    "'all check --jobs 1') echo '== rb_arguments'; echo '== summary' ;;" \
-    "'all check --jobs 3') echo '== rb_commands'; echo '== summary' ;;" \
+    "'all check --jobs 3') echo '== rb_arguments'; echo '== rb_commands'; echo '== rb_requests'; echo '== rb_tool'; echo '== summary' ;;" \
     "*) $(command -v mv) '$made/rb_tool' out/rb_tool; echo 'resb 0.0.0' ;;" \
     'esac'
 trial 'a build says so on standard error, and nothing of it is on standard output' 'ran: check a; 0' \
     env RESB_JOBS=3 PATH="$tools" /bin/sh -c '"$0" check a 2>"$1"' "$second/bin/resb" "$made/said"
-# Two crates are proved side by side, so either can be first.
 trial 'each crate has a line' "$building
-resb: 0:00: CRATE is checked, 2 to go
-resb: 0:00: CRATE is checked, 1 to go
-resb: 0:00: rb_tool is checked, 0 to go; 0" sed -E 's/rb_(arguments|commands)/CRATE/; s/0:[0-9]+:/0:00:/' "$made/said"
+resb: a build from nothing takes about 1 min on this machine
+resb: bin/resb --unproved COMMAND answers in two minutes meanwhile; an interrupted build continues where it stopped
+resb: 0:00: rb_arguments is checked, 3 to go
+resb: 0:00: rb_commands is checked, 2 to go
+resb: 0:00: rb_requests is checked, 1 to go
+resb: 0:00: rb_tool is checked, 0 to go; 0" sed -E 's/0:[0-9]+:/0:00:/' "$made/said"
 touch -d '1 hour ago' "$second/crates/rb_tool/src/main.rt"
 trial 'a program that was just built' 'ran: check a; 0' without check a
 

@@ -3,11 +3,13 @@
 replacements and removals; an application that is at its limits all the time beside another, whose replies are those of a server that has
 it alone; a line of 300 MB; 100,000 applications; memory under an attack; a lack of memory; and command lines that are invalid.
 
-usage: limits.py PROGRAM [--seconds S]
+usage: limits.py PROGRAM [--seconds S] [--all]
   --seconds S  how long the attack lasts (3)
+  --all        fragments memory by 32 applications and by 256 too, which takes minutes
 Ends with status 0 if all is as it should be.
 """
 import argparse
+import itertools
 import json
 import os
 import random
@@ -132,7 +134,7 @@ def at_values(program):
 
 
 def not_refused(program):
-    """What no limit is asked of, and what is told before a limit is."""
+    """Requests that no limit applies to, and refusals that come before those of a limit."""
     serves(program, ["--reply-bytes", "1"], [
         (install("shop", "de"), OK), (replace("shop", "de"), OK), (install("shop", "de"), refused("Exists")), (b"", refused("BadLine")),
         (look("shop", "de", "a/b/c"), refused("Missing")), (names("shop"), refused("ReplyTooLong")), (names("a b"), refused("BadApp")),
@@ -239,11 +241,16 @@ def beside_another(program):
         assert reply_of(refused(word)) not in alone, f"the other one met {word}"
 
 
+# The setting of bin/resb and deploy/ that docs/OPERATIONS.md asks of an operator.
+FIXED_THRESHOLD = {"MALLOC_MMAP_THRESHOLD_": "4096"}
+
+
 class Server:
     """A server that runs, with a thread that takes its replies."""
 
     def __init__(self, program, arguments):
-        self.process = subprocess.Popen([program, "serve", *arguments], stdin=subprocess.PIPE, stdout=subprocess.PIPE)
+        self.process = subprocess.Popen(
+            [program, "serve", *arguments], stdin=subprocess.PIPE, stdout=subprocess.PIPE, env={**os.environ, **FIXED_THRESHOLD})
         self.lock = threading.Condition()
         self.replies = []
         self.count = 0
@@ -375,6 +382,60 @@ def under_attack(program, seconds):
     return peak, bound(LIMITS), sent
 
 
+class Fragmenter:
+    """The bundles of one application that fragments memory: it removes every second one, and fills its quota with bundles of twice the size,
+    which no hole holds. Each doubling costs half of the quota again in an allocator that never moves (Robson's bound)."""
+
+    def __init__(self, app, quota):
+        self.app, self.quota, self.made, self.live = app, quota, 0, []
+
+    def halve(self):
+        for locale, _ in self.live[::2]:
+            yield remove(self.app, locale)
+        self.live = self.live[1::2]
+
+    def fill(self, size, file):
+        held = sum(each for _, each in self.live)
+        while held + size <= self.quota and len(self.live) < 4096:
+            locale = f"{chr(97 + self.made // 676 % 26)}{chr(97 + self.made // 26 % 26)}{chr(97 + self.made % 26)}_{self.made}"
+            self.made, held = self.made + 1, held + size
+            self.live.append((locale, size))
+            yield install_file(self.app, locale, file)
+
+
+def binary_of(size):
+    """Returns a file of `size` bytes in hexadecimal, whose one item is a binary."""
+    least = len(files.write((("table", {"a": ("bin", b"")}), False)))
+    file = files.write((("table", {"a": ("bin", bytes(max(size - least - 32, 0)))}), False))
+    return file.hex(), len(file)
+
+
+def fragmented(program, apps, quota, largest):
+    """Returns the most memory of a server whose applications all fragment it, the sum of docs/SERVER.md, and the lines sent."""
+    limits = {"--app-bytes": quota, "--bundle-bytes": largest, "--reply-bytes": 65536, "--line-bytes": 2 * largest + 1024, "--apps": apps,
+              "--steps": 20000}
+    server = Server(program, [word for name, value in limits.items() for word in (name, str(value))])
+    server.keeps = False
+    attackers = [Fragmenter(f"app{number}", quota) for number in range(apps)]
+    size, sent = max(quota // 4096, 256), 0
+    while size <= largest:
+        file, length = binary_of(size)
+        for attacker in attackers:
+            for request in itertools.chain(attacker.halve() if sent else (), attacker.fill(length, file)):
+                server.send(line_of(request) + b"\n")
+                sent += 1
+        size *= 2
+    server.await_replies(sent)
+    server.keeps = True
+    server.send(line_of(usage("app0")) + b"\n")
+    server.await_replies(sent + 1)
+    live = attackers[0].live
+    expect("an application that fragments memory", [reply_of(used(sum(each for _, each in live), len(live)))], server.replies)
+    peak = server.peak()
+    expect(f"{apps} applications that fragment memory: the status", 0, server.end())
+    return peak, bound(limits), sent
+
+
 def limited_memory(size):
     """What a process does before it begins, so that it has so much address space."""
     return lambda: resource.setrlimit(resource.RLIMIT_AS, (size, size))
@@ -424,6 +485,7 @@ def main():
     options = argparse.ArgumentParser(usage=__doc__.split("usage: ")[1])
     options.add_argument("program")
     options.add_argument("--seconds", type=float, default=3)
+    options.add_argument("--all", action="store_true")
     given = options.parse_args()
     if not os.access(given.program, os.X_OK):
         print(f"limits: skipped, as {given.program} isn't built")
@@ -437,6 +499,11 @@ def main():
         return
     assert peak < most, f"an attack: {peak} bytes of memory, and {most} are named"
     print(f"limits: all as it should be; {sent} lines of an attack took {peak / MEGABYTE:.1f} MB of memory, of {most / MEGABYTE:.1f} MB")
+    for apps, quota in ((4, 16), (32, 4), (256, 1))[: 3 if given.all else 1]:
+        peak, most, sent = fragmented(program, apps, quota * MEGABYTE, MEGABYTE)
+        result = f"{apps} applications of {quota} MB that fragment memory, {sent} lines, took {peak / MEGABYTE:.1f} MB, of {most / MEGABYTE:.1f} MB"
+        assert peak < most, result
+        print(f"limits: {result}")
 
 
 if __name__ == "__main__":

@@ -2,9 +2,13 @@
 
 package main
 
-import "errors"
+import (
+	"errors"
+
+	"luvdregan.example/resb/deploy/internal/api"
+)
 
 // newShards is there where the gateway is built with NATS' library.
-func newShards(settings) (backend, error) {
+func newShards(settings) (api.Backend, error) {
 	return nil, errors.New("built without NATS: deploy/gateway/build builds it with its library, where that is installed")
 }

@@ -21,7 +21,7 @@ func TestClients(t *testing.T) {
 			if err != nil {
 				t.Skipf("skipped: %s is not there", language)
 			}
-			s.backend.(*single).serving().kill()
+			s.killServer()
 			command := exec.Command(path, "../../examples/clients/"+client, s.url, "shop", shopWrites)
 			command.Env = append(os.Environ(), "PYTHONIOENCODING=utf-8", "PYTHONDONTWRITEBYTECODE=1")
 			late := time.AfterFunc(time.Minute, func() { _ = command.Process.Kill() })

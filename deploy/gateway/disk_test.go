@@ -2,8 +2,6 @@ package main
 
 import (
 	"fmt"
-	"os"
-	"path/filepath"
 	"strings"
 	"syscall"
 	"testing"
@@ -64,49 +62,23 @@ func TestADiskThatIsNearlyFull(t *testing.T) {
 	if got := s.ask("DELETE", "/v1/shop/laa", shopWrites, ""); got.StatusCode != 200 {
 		t.Errorf("%d %s", got.StatusCode, got.body)
 	}
-	if text := s.ask("GET", "/metrics", "", "").body; !strings.Contains(text, "resb_shard_replays_total{shard=\"0\"} 1\n") {
+	if text := s.ask("GET", "/metrics", "", "").body; !strings.Contains(text, "resb_shard_replays_total{shard=\"0\"} 2\n") {
 		t.Error("the server was started again")
 	}
 }
 
-// TestADiskThatBecomesFull has a write fail half-way: the change isn't done, all that was told is there, and once there is room
-// changes are taken again.
-func TestADiskThatBecomesFull(t *testing.T) {
-	folder := smallDisk(t)
-	s := open(t, "-state", folder)
-	s.backend.(*single).journal.spare = -1 << 40 // as if the room went away after it was looked for
-	bundles, last := s.fillUp()
-	if last.StatusCode != 503 || last.body != "{\"error\":\"NotKept\"}\n" || bundles < 10 {
-		t.Fatalf("%d bundles: %d %s", bundles, last.StatusCode, last.body)
-	}
-	s.holds(bundles)
-	path := filepath.Join(folder, "changes")
-	if size, err := os.Stat(path); err != nil || size.Size() != s.backend.(*single).journal.end {
-		t.Errorf("the file isn't put back: %v, %v", size, err)
-	}
-	if err := syscall.Mount("", folder, "", syscall.MS_REMOUNT, "size=16m"); err != nil {
-		t.Skipf("the disk can't grow: %v", err)
-	}
-	text := fmt.Sprintf(`x{a{"%d"}}`, bundles)
-	for end := time.Now().Add(20 * time.Second); ; time.Sleep(20 * time.Millisecond) {
-		got := s.ask("PUT", fmt.Sprintf("/v1/shop/l%c%c.txt", 'a'+bundles/26, 'a'+bundles%26), shopWrites, text)
-		if got.StatusCode == 201 {
-			break
-		} else if got.StatusCode != 503 || time.Now().After(end) {
-			t.Fatalf("%d %s", got.StatusCode, got.body)
+// TestServersThatStand stops both servers for a while: lookups are 504, and afterwards as before; nothing ends.
+func TestServersThatStand(t *testing.T) {
+	s := withBundle(t, "-patience", "300ms")
+	serves, judges := s.servers()
+	signal := func(what syscall.Signal) {
+		for _, pid := range []int{serves, judges} {
+			if err := syscall.Kill(pid, what); err != nil {
+				t.Error(err)
+			}
 		}
 	}
-	s.holds(bundles + 1)
-}
-
-// TestAServerThatStands stops the server for a while: lookups are 504, and afterwards as before; nothing ends.
-func TestAServerThatStands(t *testing.T) {
-	s := withBundle(t, "-patience", "300ms")
-	pid := s.backend.(*single).serving().pid()
-	if err := syscall.Kill(pid, syscall.SIGSTOP); err != nil {
-		t.Fatal(err)
-	}
-	defer func() { _ = syscall.Kill(pid, syscall.SIGCONT) }()
+	signal(syscall.SIGSTOP)
 	for method, path := range map[string]string{"GET": "/v1/shop/de/a", "PUT": "/v1/shop/de.txt", "DELETE": "/v1/shop/fr"} {
 		if got := s.ask(method, path, shopWrites, `de{a{"A"}}`); got.StatusCode != 504 || got.body != "{\"error\":\"Timeout\"}\n" {
 			t.Errorf("%s: %d %s", method, got.StatusCode, got.body)
@@ -115,8 +87,6 @@ func TestAServerThatStands(t *testing.T) {
 	if got := s.ask("POST", "/v1/shop/look", shopReads, `{"locale":"de","path":"a"}`); got.StatusCode != 200 || got.body != "{\"error\":\"Timeout\"}\n" {
 		t.Errorf("%d %s", got.StatusCode, got.body)
 	}
-	if err := syscall.Kill(pid, syscall.SIGCONT); err != nil {
-		t.Fatal(err)
-	}
+	signal(syscall.SIGCONT)
 	s.alive()
 }

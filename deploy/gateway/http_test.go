@@ -13,8 +13,12 @@ import (
 	"os"
 	"path/filepath"
 	"strings"
+	"syscall"
 	"testing"
 	"time"
+
+	"luvdregan.example/resb/deploy/internal/auth"
+	"luvdregan.example/resb/deploy/internal/replica"
 )
 
 // The tokens of the tests: shop has one to write and one to read, bank has one to write, and one reads both.
@@ -55,8 +59,8 @@ type site struct {
 // open begins a gateway over a server of its own, with settings like those of the command line.
 func open(t *testing.T, options ...string) *site {
 	t.Helper()
-	arguments := append([]string{"-serve", "-program", server(), "-state", t.TempDir(), "-tokens", tokenFile(t)}, options...)
-	s, err := readSettings(arguments)
+	arguments := append([]string{"-serve", "-init", "-program", server(), "-state", t.TempDir(), "-tokens", tokenFile(t)}, options...)
+	s, err := readSettings(arguments, os.Stderr)
 	if err != nil {
 		t.Fatal(err)
 	}
@@ -95,7 +99,7 @@ func openUnreached(t *testing.T, s settings) *site {
 		if err := <-at.ended; err != nil {
 			t.Error(err)
 		}
-		g.backend.close()
+		g.Backend.Close()
 	})
 	return at
 }
@@ -103,9 +107,35 @@ func openUnreached(t *testing.T, s settings) *site {
 // await waits until the backend answers.
 func (s *site) await() {
 	s.t.Helper()
-	for end := time.Now().Add(20 * time.Second); s.backend.ready() != nil; time.Sleep(2 * time.Millisecond) {
+	for end := time.Now().Add(20 * time.Second); s.Backend.Ready() != nil; time.Sleep(2 * time.Millisecond) {
 		if time.Now().After(end) {
-			s.t.Fatal(s.backend.ready())
+			s.t.Fatal(s.Backend.Ready())
+		}
+	}
+}
+
+// servers returns the processes of the server that answers and of the one that judges changes, 0 for one that is missing.
+func (s *site) servers() (serves, judges int) { return s.Backend.(*replica.Replica).PIDs() }
+
+// killServer kills the server that answers, once there are two.
+func (s *site) killServer() {
+	s.t.Helper()
+	s.awaitBoth()
+	serves, _ := s.servers()
+	if err := syscall.Kill(serves, syscall.SIGKILL); err != nil {
+		s.t.Fatal(err)
+	}
+}
+
+// awaitBoth waits until there are two servers.
+func (s *site) awaitBoth() {
+	s.t.Helper()
+	for end := time.Now().Add(20 * time.Second); ; time.Sleep(2 * time.Millisecond) {
+		if serves, judges := s.servers(); serves != 0 && judges != 0 {
+			return
+		}
+		if time.Now().After(end) {
+			s.t.Fatal("there aren't two servers")
 		}
 	}
 }
@@ -265,12 +295,12 @@ func (s *site) session() {
 // TestTokensPart tries each token at each application, to read and to write.
 func TestTokensPart(t *testing.T) {
 	s := open(t)
-	for token, may := range map[string]map[string]right{
-		shopWrites: {"shop": write}, shopReads: {"shop": read}, bankWrites: {"bank": write}, bothReads: {"shop": read, "bank": read},
+	for token, may := range map[string]map[string]auth.Right{
+		shopWrites: {"shop": auth.Write}, shopReads: {"shop": auth.Read}, bankWrites: {"bank": auth.Write}, bothReads: {"shop": auth.Read, "bank": auth.Read},
 		"": {}, "other": {}, "shop-write": {}, "shop-writesx": {}, strings.Repeat("x", 5000): {},
 	} {
 		for _, app := range []string{"shop", "bank", "none", "SHOP", "ICUDATA", "a%00b", "%ff"} {
-			for method, needed := range map[string]right{"GET": read, "HEAD": read, "PUT": write, "POST": write, "DELETE": write} {
+			for method, needed := range map[string]auth.Right{"GET": auth.Read, "HEAD": auth.Read, "PUT": auth.Write, "POST": auth.Write, "DELETE": auth.Write} {
 				got := s.ask(method, "/v1/"+app+"/fr", token, "fr{}", "Content-Type", plain)
 				denied := got.StatusCode == 401 || got.StatusCode == 403
 				if denied == (may[app] >= needed) {
@@ -337,7 +367,7 @@ func TestTheTokensFileIsReadAgain(t *testing.T) {
 		if err := os.WriteFile(s.tokenFile, []byte(text), 0o600); err != nil {
 			t.Fatal(err)
 		}
-		s.gateway.tokens.again(true)
+		s.Tokens.Reload(true)
 	}
 	if status(shopReads) != 200 || status("new") != 401 {
 		t.Error("before")
@@ -353,7 +383,7 @@ func TestTheTokensFileIsReadAgain(t *testing.T) {
 		}
 	}
 	_ = os.Remove(s.tokenFile)
-	s.gateway.tokens.again(true)
+	s.Tokens.Reload(true)
 	if status("new") != 200 {
 		t.Error("after the file went")
 	}

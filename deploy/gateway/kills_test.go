@@ -49,7 +49,7 @@ func freeAddress(t *testing.T) string {
 
 func (p *process) start(folder, tokens string, options ...string) {
 	p.t.Helper()
-	arguments := append([]string{"-listen", p.address, "-serve", "-program", server(), "-state", folder, "-tokens", tokens}, options...)
+	arguments := append([]string{"-listen", p.address, "-serve", "-init", "-program", server(), "-state", folder, "-tokens", tokens}, options...)
 	p.command = exec.Command(os.Args[0], arguments...)
 	p.command.Env = append(os.Environ(), asGateway+"=1")
 	p.command.Stderr = &p.log

@@ -8,12 +8,14 @@ import (
 	"sync"
 	"sync/atomic"
 	"time"
+
+	"luvdregan.example/resb/deploy/internal/api"
 )
 
 // A listener counts connections, and refuses those past the limit.
 type listener struct {
 	net.Listener
-	metrics *metrics
+	metrics *api.Metrics
 	most    int64
 	plain   bool // no TLS is spoken over it
 }
@@ -32,15 +34,15 @@ func (l *listener) Accept() (net.Conn, error) {
 		if err != nil {
 			return nil, err
 		}
-		if atomic.AddInt64(&l.metrics.connections, 1) <= l.most {
+		if l.metrics.Connect(1) <= l.most {
 			counted := &conn{Conn: c, of: l}
 			if l.plain {
 				return &caller{Conn: counted}, nil
 			}
 			return counted, nil
 		}
-		atomic.AddInt64(&l.metrics.connections, -1)
-		atomic.AddUint64(&l.metrics.refused, 1)
+		l.metrics.Connect(-1)
+		l.metrics.Refuse()
 		if l.plain {
 			_ = c.SetWriteDeadline(time.Now().Add(time.Second))
 			_, _ = c.Write([]byte(tooManyConnections))
@@ -58,7 +60,7 @@ type conn struct {
 
 // Close ends the connection.
 func (c *conn) Close() error {
-	c.closing.Do(func() { atomic.AddInt64(&c.of.metrics.connections, -1) })
+	c.closing.Do(func() { c.of.metrics.Connect(-1) })
 	return c.Conn.Close()
 }
 

@@ -4,6 +4,7 @@ package main
 
 import (
 	"context"
+	_ "embed" // for the pages
 	"errors"
 	"flag"
 	"fmt"
@@ -15,16 +16,30 @@ import (
 	"runtime/debug"
 	"syscall"
 	"time"
+
+	"luvdregan.example/resb/deploy/internal/api"
+	"luvdregan.example/resb/deploy/internal/auth"
+	"luvdregan.example/resb/deploy/internal/replica"
+	"luvdregan.example/resb/deploy/internal/store/sqlite"
 )
+
+//go:embed try.html
+var tryPage []byte
+
+//go:embed openapi.json
+var openAPI []byte
 
 func main() {
 	log.SetFlags(log.LstdFlags | log.Lmicroseconds)
 	if os.Getenv("GOGC") == "" {
-		// Requests leave much behind and little is kept, so memory is collected less often, as long as there is little of it.
+		// Requests leave much garbage and little is kept, so memory is collected less often as long as there is little of it.
 		debug.SetGCPercent(400)
 		debug.SetMemoryLimit(1 << 30)
 	}
-	s, err := readSettings(os.Args[1:])
+	if len(os.Args) > 1 && os.Args[1] == "state" {
+		os.Exit(stateCommand(os.Args[2:], os.Stdout, os.Stderr))
+	}
+	s, err := readSettings(os.Args[1:], os.Stderr)
 	if errors.Is(err, flag.ErrHelp) {
 		return
 	} else if err != nil {
@@ -53,7 +68,7 @@ func run(s settings) error {
 	if err != nil {
 		return err
 	}
-	defer g.backend.close()
+	defer g.Backend.Close()
 	go g.refresh(leaving, pair)
 	if s.inside != "" {
 		inner, err := g.openInside()
@@ -65,9 +80,16 @@ func run(s settings) error {
 	return g.listenOn(outer, pair)
 }
 
+// A gateway is a handler with the settings of its listeners.
+type gateway struct {
+	settings
+	*api.Handler
+	leaving context.Context // is done when the gateway ends
+}
+
 // newGateway reads the tokens and begins with the backend.
 func newGateway(leaving context.Context, s settings) (*gateway, error) {
-	known, err := openTokens(s.tokenFile)
+	known, err := auth.Open(s.tokenFile)
 	if err != nil {
 		return nil, err
 	}
@@ -75,16 +97,21 @@ func newGateway(leaving context.Context, s settings) (*gateway, error) {
 	if err != nil {
 		return nil, err
 	}
-	return &gateway{settings: s, backend: b, tokens: known, limits: newLimits(s.each, s.all, s.bodyBytes/2, s.bodyBytes),
-		metrics: newMetrics(), pages: newPages(), leaving: leaving}, nil
+	options := s.options
+	options.Try, options.OpenAPI, options.Leaving, options.Inside = tryPage, openAPI, leaving, s.inside != ""
+	return &gateway{s, api.New(b, known, options), leaving}, nil
 }
 
-// connect gives the backend that the settings ask for.
-func connect(s settings) (backend, error) {
+// connect returns the backend that the settings ask for.
+func connect(s settings) (api.Backend, error) {
 	if s.nats != "" {
 		return newShards(s)
 	}
-	return newSingle(s.state, s.program, s.arguments)
+	changes, err := sqlite.Open(s.state, sqlite.Options{Create: s.create, Logf: log.Printf})
+	if err != nil {
+		return nil, err
+	}
+	return replica.Open(changes, replica.Settings{Program: s.program, Arguments: s.serverArguments(), Memory: s.memory / 2}), nil
 }
 
 // refresh reads the file of tokens and the certificates again when they change.
@@ -98,9 +125,9 @@ func (g *gateway) refresh(ctx context.Context, p *pair) {
 		case <-ctx.Done():
 			return
 		case <-ticks.C:
-			g.tokens.again(false)
+			g.Tokens.Reload(false)
 		case <-hangups:
-			g.tokens.again(true)
+			g.Tokens.Reload(true)
 		}
 		p.again()
 	}
@@ -109,8 +136,9 @@ func (g *gateway) refresh(ctx context.Context, p *pair) {
 // server gives a server with the limits of the settings.
 func (g *gateway) server(handler http.Handler) *http.Server {
 	return &http.Server{
-		Handler: handler, ReadHeaderTimeout: g.headerTime, ReadTimeout: g.readTime, WriteTimeout: g.writeTime, IdleTimeout: g.idleTime,
-		MaxHeaderBytes: 16 << 10, ConnState: state, ErrorLog: log.New(quiet{}, "", 0),
+		Handler: handler, ReadHeaderTimeout: g.headerTime, ReadTimeout: g.options.ReadTime, WriteTimeout: g.writeTime,
+		IdleTimeout: g.idleTime, MaxHeaderBytes: 16 << 10, ConnState: state, ConnContext: api.WithConn,
+		ErrorLog: log.New(quiet{}, "", 0),
 	}
 }
 
@@ -122,7 +150,7 @@ func (quiet) Write(b []byte) (int, error) { return len(b), nil }
 // listenOn answers until the gateway is to end; then what is on its way is answered, and no more taken.
 func (g *gateway) listenOn(outer net.Listener, p *pair) error {
 	server := g.server(g)
-	var l net.Listener = &listener{Listener: outer, metrics: g.metrics, most: g.connections, plain: p == nil}
+	var l net.Listener = &listener{Listener: outer, metrics: g.Metrics, most: g.connections, plain: p == nil}
 	if p != nil {
 		l = newSecure(l, p.configuration(), g.headerTime)
 	}
@@ -150,17 +178,7 @@ func (g *gateway) openInside() (*http.Server, error) {
 	if err != nil {
 		return nil, err
 	}
-	own := *g
-	own.settings.inside = ""
-	server := own.server(http.HandlerFunc(func(w http.ResponseWriter, r *http.Request) {
-		c := &call{gateway: &own, w: w, r: r, kind: "other"}
-		switch r.URL.Path {
-		case "/healthz", "/readyz", "/metrics":
-			c.page(r.URL.Path[1:])
-		default:
-			c.refuse(noPage)
-		}
-	}))
+	server := g.server(g.Handler.Inside())
 	go func() { _ = server.Serve(l) }()
 	return server, nil
 }

@@ -65,8 +65,10 @@ func TestMetrics(t *testing.T) {
 		`resb_gateway_requests_total{kind="other",status="401"}`:  1,
 		`resb_gateway_requests_total{kind="change",status="201"}`: 1,
 		`resb_gateway_request_seconds_count{kind="look"}`:         6,
-		`resb_shard_lines_total{shard="0"}`:                       8, // one of them after the replay
-		`resb_shard_replays_total{shard="0"}`:                     1,
+		`resb_shard_lines_total{shard="0"}`:                       7,
+		`resb_shard_replays_total{shard="0"}`:                     2, // of both servers
+		`resb_shard_left_out{shard="0"}`:                          0,
+		`resb_shard_writes{shard="0"}`:                            1,
 		`resb_shard_serves{shard="0"}`:                            1,
 		`resb_shard_bundles{shard="0"}`:                           1,
 	} {
@@ -75,10 +77,10 @@ func TestMetrics(t *testing.T) {
 		}
 	}
 	last := 0.0
-	for _, bound := range bounds {
-		at := values[fmt.Sprintf(`resb_gateway_request_seconds_bucket{kind="look",le="%v"}`, bound.Seconds())]
-		if at < last {
-			t.Errorf("a bucket goes down at %v", bound)
+	for _, bound := range []string{"0.0001", "0.001", "0.01", "0.1", "1", "10", "+Inf"} {
+		at, there := values[fmt.Sprintf(`resb_gateway_request_seconds_bucket{kind="look",le=%q}`, bound)]
+		if !there || at < last {
+			t.Errorf("the bucket of %s has %v after %v", bound, at, last)
 		}
 		last = at
 	}

@@ -3,18 +3,19 @@ package main
 import (
 	"os"
 	"os/exec"
-	"strings"
 	"testing"
 	"time"
+
+	"luvdregan.example/resb/deploy/internal/page"
 )
 
 // TestThePageByItsRequests makes the requests that the page makes, as it writes their addresses.
 func TestThePageByItsRequests(t *testing.T) {
 	s := open(t)
 	s.fillPage()
-	page := s.ask("GET", "/", "", "")
-	if !strings.Contains(page.Header.Get("Content-Security-Policy"), "connect-src 'self'; script-src "+sourceOf("script")) || page.body != string(tryPage) {
-		t.Errorf("%v", page.Header)
+	got := s.ask("GET", "/", "", "")
+	if got.Header.Get("Content-Security-Policy") != page.Policy(tryPage) || got.body != string(tryPage) {
+		t.Errorf("%v", got.Header)
 	}
 	for address, want := range map[string]int{
 		"/v1/shop": 200, "/v1/shop/de_AT/a": 200, "/v1/shop/de_AT": 200, "/v1/shop/root/a": 404, "/v1/shop/de_AT/none": 404, "/v1/bank/de_AT/a": 403,

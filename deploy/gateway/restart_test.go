@@ -8,13 +8,12 @@ import (
 	"path/filepath"
 	"strings"
 	"testing"
-	"time"
 )
 
 // TestListsAndRepliesStay makes changes at random, under all names that a locale has; what is listed and found is the same after
-// the server was killed, and after the gateway was started again over a rewritten file.
+// a server was killed, and after the gateway was started again.
 func TestListsAndRepliesStay(t *testing.T) {
-	settings, err := readSettings([]string{"-serve", "-program", server(), "-state", t.TempDir(), "-tokens", tokenFile(t)})
+	settings, err := readSettings([]string{"-serve", "-init", "-program", server(), "-state", t.TempDir(), "-tokens", tokenFile(t)}, os.Stderr)
 	if err != nil {
 		t.Fatal(err)
 	}
@@ -36,20 +35,11 @@ func TestListsAndRepliesStay(t *testing.T) {
 				}
 			}
 			before = s.seen(names)
-			b := s.backend.(*single)
-			dead := b.serving()
-			dead.kill()
-			for b.serving() == dead {
-				time.Sleep(time.Millisecond)
-			}
-			s.await()
-			if after := s.seen(names); after != before {
-				t.Errorf("after a kill of the server:\n%s\nand before:\n%s", after, before)
-			}
-			if round%2 == 1 {
-				b.journal.settle()
-				if err := b.journal.rewrite(); err != nil {
-					t.Fatal(err)
+			for kill := 0; kill < 2; kill++ {
+				s.killServer()
+				s.awaitBoth()
+				if after := s.seen(names); after != before {
+					t.Errorf("after a kill of the server:\n%s\nand before:\n%s", after, before)
 				}
 			}
 		})
@@ -84,7 +74,7 @@ func TestCompiledFiles(t *testing.T) {
 	if err != nil {
 		t.Fatal(err)
 	}
-	settings, err := readSettings([]string{"-serve", "-program", program, "-state", t.TempDir(), "-tokens", tokenFile(t)})
+	settings, err := readSettings([]string{"-serve", "-init", "-program", program, "-state", t.TempDir(), "-tokens", tokenFile(t)}, os.Stderr)
 	if err != nil {
 		t.Fatal(err)
 	}
@@ -119,39 +109,60 @@ func TestCompiledFiles(t *testing.T) {
 	}
 }
 
-// TestAServerWithoutMemoryForItsBundles doesn't serve with a part of what stands, and does so again with memory for all. Only the
-// fake server lacks memory when it is told to.
-func TestAServerWithoutMemoryForItsBundles(t *testing.T) {
+// TestABundleWithoutMemory is left out at a start; the others are there, and it is again where there is memory, unless it was
+// removed. Only the stand-in lacks memory when it is told to.
+func TestABundleWithoutMemory(t *testing.T) {
 	if os.Getenv("RESB") != "" {
 		t.Skip("the real server has the memory")
 	}
-	arguments := []string{"-serve", "-program", os.Args[0], "-state", t.TempDir(), "-tokens", tokenFile(t)}
-	rich, err := readSettings(arguments)
+	state := t.TempDir()
+	arguments := []string{"-serve", "-init", "-program", os.Args[0], "-state", state, "-tokens", tokenFile(t)}
+	rich, err := readSettings(arguments, os.Stderr)
 	if err != nil {
 		t.Fatal(err)
 	}
-	poor, err := readSettings(append(arguments, "--", "short"))
+	poor, err := readSettings(append(arguments, "--", "short"), os.Stderr)
 	if err != nil {
 		t.Fatal(err)
 	}
 	t.Run("with memory", func(t *testing.T) {
 		s := openWith(t, rich)
-		for name, text := range map[string]string{"de": `de{a{"much"}}`, "fr": `fr{a{"F"}}`} {
-			if got := s.ask("PUT", "/v1/shop/"+name+".txt", shopWrites, text); got.StatusCode != 201 {
+		for _, name := range []string{"de", "fr", "nl"} {
+			body := name + `{a{"much"}}`
+			if name == "fr" {
+				body = `fr{a{"F"}}`
+			}
+			if got := s.ask("PUT", "/v1/shop/"+name+".txt", shopWrites, body); got.StatusCode != 201 {
 				t.Fatalf("%d %s", got.StatusCode, got.body)
 			}
 		}
 	})
 	t.Run("without", func(t *testing.T) {
-		s := openUnreached(t, poor)
-		for end := time.Now().Add(time.Second); time.Now().Before(end); time.Sleep(20 * time.Millisecond) {
-			if got := s.ask("GET", "/v1/shop/fr/a", shopReads, ""); got.StatusCode != 503 {
-				t.Fatalf("%d %s", got.StatusCode, got.body)
-			}
+		s := openWith(t, poor)
+		s.awaitBoth()
+		if got := s.ask("GET", "/v1/shop", shopReads, ""); got.body != "{\"names\":[\"fr\"]}\n" {
+			t.Errorf("%d %s", got.StatusCode, got.body)
+		}
+		if left := s.measured()[`resb_shard_left_out{shard="0"}`]; left != 2 {
+			t.Errorf("%v are left out", left)
+		}
+		if got := s.ask("DELETE", "/v1/shop/nl", shopWrites, ""); got.StatusCode != 200 {
+			t.Errorf("%d %s", got.StatusCode, got.body)
+		}
+	})
+	t.Run("listed", func(t *testing.T) {
+		var out, errors strings.Builder
+		if stateCommand([]string{"list", "-state", state}, &out, &errors) != 0 || strings.Count(out.String(), "\n") != 2 ||
+			!strings.Contains(out.String(), "shop\tde\t") || strings.Count(out.String(), "left out: {\"error\":\"Memory\"}") != 1 {
+			t.Errorf("%s%s", out.String(), errors.String())
+		}
+		if stateCommand([]string{"remove", "-state", state, "shop", "fr"}, &out, &errors) != 0 {
+			t.Error(errors.String())
 		}
 	})
 	t.Run("with memory again", func(t *testing.T) {
-		if got := openWith(t, rich).ask("GET", "/v1/shop/de/a", shopReads, ""); got.StatusCode != 200 {
+		s := openWith(t, rich)
+		if got := s.ask("GET", "/v1/shop", shopReads, ""); got.body != "{\"names\":[\"de\"]}\n" {
 			t.Errorf("%d %s", got.StatusCode, got.body)
 		}
 	})

@@ -3,36 +3,34 @@ package main
 import (
 	"errors"
 	"flag"
+	"io"
 	"time"
-)
 
-// The longest text and file that the server takes. As lines both are below its limit on lines, past which it ends.
-const (
-	mostText = 8 << 20
-	mostFile = 64 << 20
+	"luvdregan.example/resb/deploy/internal/api"
+	"luvdregan.example/resb/deploy/internal/child"
 )
 
 // Settings are what the command line says.
 type settings struct {
 	listen, inside, tokenFile string
 	cert, key                 string
-	serve                     bool
+	serve, create             bool
 	program, state            string
 	arguments                 []string
+	memory, replyBytes        int64
+	apps                      int
 	nats, passwords, watcher  string
 
-	textBytes, fileBytes, lookBytes int64
-	bodyBytes                       int64
-	each, all                       int
-	connections                     int64
-	headerTime, readTime, writeTime time.Duration
-	idleTime, patience, leave       time.Duration
+	options                                api.Options
+	connections                            int64
+	headerTime, writeTime, idleTime, leave time.Duration
 }
 
-// readSettings reads the command line.
-func readSettings(arguments []string) (settings, error) {
+// readSettings reads the command line. Its errors and the usage are also printed to `said`.
+func readSettings(arguments []string, said io.Writer) (settings, error) {
 	s := settings{}
 	f := flag.NewFlagSet("gateway", flag.ContinueOnError)
+	f.SetOutput(said)
 	f.StringVar(&s.listen, "listen", "127.0.0.1:6422", "the `address` to answer at")
 	f.StringVar(&s.inside, "inside", "", "an `address` for the metrics, which are then at no other")
 	f.StringVar(&s.tokenFile, "tokens", "", "the `file` of tokens: lines of APP, read or write, and the token's SHA-256")
@@ -41,31 +39,39 @@ func readSettings(arguments []string) (settings, error) {
 	f.BoolVar(&s.serve, "serve", false, "serve by one `resb serve` of its own, with what follows the options as its arguments")
 	f.StringVar(&s.program, "program", "resb", "with -serve: the `program`")
 	f.StringVar(&s.state, "state", "", "with -serve: the `folder` of the accepted changes")
+	f.BoolVar(&s.create, "init", false, "with -serve: make the store if the folder has none")
+	f.Var((*bytesValue)(&s.memory), "memory", "with -serve: the memory of both servers, in `bytes` or as 512M or 4G, from which their limits follow; by default half of the machine's")
+	f.IntVar(&s.apps, "apps", 64, "with -serve: the most applications with bundles, which share the memory")
+	f.Int64Var(&s.replyBytes, "reply-bytes", 8<<20, "with -serve: the most bytes of a reply")
 	f.StringVar(&s.nats, "nats", "", "serve by the shards behind this `URL`")
 	f.StringVar(&s.passwords, "passwords", "", "with -nats: the `file` of passwords that deploy/start writes")
 	f.StringVar(&s.watcher, "watcher", "watcher", "with -nats: the `user` of NATS that may ask how the shards do, for the metrics; none where it is empty")
-	f.Int64Var(&s.textBytes, "text-bytes", mostText, "the most bytes of a bundle text")
-	f.Int64Var(&s.fileBytes, "file-bytes", mostFile, "the most bytes of a bundle's file")
-	f.Int64Var(&s.lookBytes, "look-bytes", 8<<20, "the most bytes of the lookups in one request")
-	f.Int64Var(&s.bodyBytes, "body-bytes", 512<<20, "the most bytes of all bodies at once; one application may have half")
-	f.IntVar(&s.each, "each", 512, "the most requests of an application at once")
-	f.IntVar(&s.all, "all", 4096, "the most requests of all applications at once")
+	f.Int64Var(&s.options.TextBytes, "text-bytes", child.MostText, "the most bytes of a bundle text")
+	f.Int64Var(&s.options.FileBytes, "file-bytes", child.MostFile, "the most bytes of a bundle's file")
+	f.Int64Var(&s.options.LookBytes, "look-bytes", 8<<20, "the most bytes of the lookups in one request")
+	f.Int64Var(&s.options.BodyBytes, "body-bytes", 512<<20, "the most bytes of all bodies at once; one application may have half of what others leave")
+	f.IntVar(&s.options.Each, "each", 512, "the most requests of an application at once")
+	f.IntVar(&s.options.All, "all", 4096, "the most requests of all applications at once")
 	f.Int64Var(&s.connections, "connections", 16384, "the most connections")
 	f.DurationVar(&s.headerTime, "header-time", 10*time.Second, "how long a header may take to come")
-	f.DurationVar(&s.readTime, "read-time", 2*time.Minute, "how long a request may take to come")
+	f.DurationVar(&s.options.ReadTime, "read-time", 2*time.Minute, "how long a request may take to come")
 	f.DurationVar(&s.writeTime, "write-time", 5*time.Minute, "how long a request may take altogether")
 	f.DurationVar(&s.idleTime, "idle-time", 2*time.Minute, "how long a connection may wait for its next request")
-	f.DurationVar(&s.patience, "patience", 30*time.Second, "how long a reply of the server is waited for")
+	f.DurationVar(&s.options.Patience, "patience", 30*time.Second, "how long a reply of the server is waited for")
 	f.DurationVar(&s.leave, "leave", 30*time.Second, "how long requests on their way may take when the gateway ends")
 	if err := f.Parse(arguments); err != nil {
 		return s, err
 	}
 	s.arguments = f.Args()
+	if s.memory == 0 {
+		s.memory = machineMemory() / 2
+	}
 	return s, s.check()
 }
 
 // check finds what doesn't go together.
 func (s settings) check() error {
+	o := s.options
 	switch {
 	case s.serve == (s.nats != ""):
 		return errors.New("say either -serve or -nats")
@@ -75,12 +81,39 @@ func (s settings) check() error {
 		return errors.New("-nats needs -passwords")
 	case !s.serve && len(s.arguments) > 0:
 		return errors.New("only -serve has arguments")
+	case s.serve && (s.memory < leastMemory || s.apps < 1 || s.replyBytes < 1):
+		return errors.New("-memory is at least 256M, -apps and -reply-bytes at least 1")
 	case s.tokenFile == "":
 		return errors.New("-tokens is missing")
-	case s.textBytes > mostText || s.fileBytes > mostFile || s.lookBytes > mostFile:
+	case o.TextBytes > child.MostText || o.FileBytes > child.MostFile || o.LookBytes > child.MostFile:
 		return errors.New("the server takes texts of 8 MB and files of 64 MB, and one longer line of lookups would end it for all")
 	case (s.cert == "") != (s.key == ""):
 		return errors.New("-cert and -key go together")
 	}
 	return nil
+}
+
+// serverArguments returns the arguments of `resb serve`: those of the command line, and the limits that follow from the memory.
+func (s settings) serverArguments() []string {
+	return merge(child.Limits(s.memory/2, s.apps, s.replyBytes), s.arguments)
+}
+
+// merge leaves out of the limits those that the arguments have too: the program takes none of them twice.
+func merge(limits, arguments []string) []string {
+	given := map[string]bool{}
+	for _, a := range arguments {
+		given[a] = true
+	}
+	var all []string
+	for i := 0; i < len(limits); i++ {
+		width := 2
+		if limits[i] == "--keep-serving" {
+			width = 1
+		}
+		if !given[limits[i]] {
+			all = append(all, limits[i:i+width]...)
+		}
+		i += width - 1
+	}
+	return append(all, arguments...)
 }

@@ -1,6 +1,7 @@
 package main
 
 import (
+	"io"
 	"strings"
 	"testing"
 )
@@ -19,8 +20,11 @@ func TestSettingsThatDontGoTogether(t *testing.T) {
 		"-serve -state x -tokens x -look-bytes 999999999": "line",
 		"-serve -state x -tokens x -parents x de=x":       "-parents",
 		"-serve -state x -tokens x -- --parents x de=x":   "",
+		"-serve -state x -tokens x -memory 1M":            "256M",
+		"-serve -state x -tokens x -memory 4X":            "4X",
+		"-serve -state x -tokens x -memory 4G":            "",
 	} {
-		_, err := readSettings(strings.Fields(given))
+		_, err := readSettings(strings.Fields(given), io.Discard)
 		if (err == nil) != (want == "") || err != nil && !strings.Contains(err.Error(), want) {
 			t.Errorf("%s: %v", given, err)
 		}

@@ -16,7 +16,12 @@ import (
 	"github.com/nats-io/nats.go"
 
 	"luvdregan.example/resb/deploy/client"
+	"luvdregan.example/resb/deploy/internal/api"
+	"luvdregan.example/resb/deploy/internal/child"
 	"luvdregan.example/resb/deploy/internal/passwords"
+	"luvdregan.example/resb/deploy/internal/prom"
+	"luvdregan.example/resb/deploy/internal/replica"
+	"luvdregan.example/resb/deploy/internal/store"
 	"luvdregan.example/resb/deploy/internal/subjects"
 )
 
@@ -53,7 +58,7 @@ type link struct {
 	many    chan struct{} // has an element for each message of several lookups on its way
 }
 
-func newShards(s settings) (backend, error) {
+func newShards(s settings) (api.Backend, error) {
 	w := &watcher{url: s.nats, passwords: s.passwords, name: s.watcher}
 	b := &shards{url: s.nats, passwords: s.passwords, watcher: w, links: map[string]*link{}, stop: make(chan struct{})}
 	go b.sweep()
@@ -81,7 +86,7 @@ func (b *shards) of(app string) (*client.Client, error) {
 	if c == nil {
 		var err error
 		if c, err = b.dial(app, l); err != nil {
-			return nil, errUnreached
+			return nil, api.ErrUnreached
 		}
 	}
 	switch since := l.lost.Load(); {
@@ -96,7 +101,7 @@ func (b *shards) of(app string) (*client.Client, error) {
 		l.lost.Store(0)
 		c.Close()
 	}
-	return nil, errUnreached
+	return nil, api.ErrUnreached
 }
 
 // dial makes an application's connection, where no other has made it, or tried to, just before.
@@ -107,7 +112,7 @@ func (b *shards) dial(app string, l *link) (*client.Client, error) {
 		return c, nil
 	}
 	if time.Since(l.failed) < untried {
-		return nil, errUnreached
+		return nil, api.ErrUnreached
 	}
 	password, err := passwords.Find(b.passwords, subjects.User(app))
 	var c *client.Client
@@ -156,49 +161,47 @@ func (l *link) close() {
 func judgedError(err error) error {
 	switch {
 	case errors.Is(err, client.ErrShardEnded):
-		return errEnded
+		return child.ErrEnded
 	case errors.Is(err, client.ErrBusy):
-		return errTooMany
+		return child.ErrTooMany
 	case errors.Is(err, nats.ErrNoResponders):
-		return errReplaying
+		return child.ErrReplaying
 	case errors.Is(err, nats.ErrMaxPayload):
-		return errTooLarge
+		return api.ErrTooLarge
 	case errors.Is(err, nats.ErrTimeout):
-		return errTimeout
+		return child.ErrTimeout
 	case strings.Contains(err.Error(), "maximum bytes exceeded"):
-		return errNoRoom
+		return replica.ErrNoRoom
 	}
 	log.Printf("NATS: %v", err)
-	return errUnreached
+	return api.ErrUnreached
 }
 
-func (b *shards) ask(ctx context.Context, app string, line []byte, answer func(reply []byte, err error)) {
+// Ask answers a lookup or a list.
+func (b *shards) Ask(ctx context.Context, app string, line []byte) *child.Call {
 	c, err := b.of(app)
 	if err != nil {
-		answer(nil, err)
-		return
+		return &child.Call{Err: err}
 	}
-	go func() {
-		var reply string
-		err := again(ctx, func(patience time.Duration) (err error) {
-			reply, err = c.Once(string(line), patience)
-			return err
-		})
-		if err != nil {
-			answer(nil, judgedError(err))
-			return
-		}
-		answer([]byte(reply), nil)
-	}()
+	var reply string
+	err = again(ctx, func(patience time.Duration) (err error) {
+		reply, err = c.Once(string(line), patience)
+		return err
+	})
+	if err != nil {
+		return &child.Call{Err: judgedError(err)}
+	}
+	return &child.Call{Reply: []byte(reply)}
 }
 
-func (b *shards) askMany(ctx context.Context, app string, lines [][]byte, answer func(place int, reply []byte, err error)) {
+// AskMany answers several lookups.
+func (b *shards) AskMany(ctx context.Context, app string, lines [][]byte, answer func(index int, reply *child.Call)) {
 	c, err := b.of(app)
 	texts := make([]string, len(lines))
 	for place, line := range lines {
 		texts[place] = string(line)
 		if err != nil {
-			answer(place, nil, err)
+			answer(place, &child.Call{Err: err})
 		}
 	}
 	if err != nil {
@@ -214,14 +217,14 @@ func (b *shards) askMany(ctx context.Context, app string, lines [][]byte, answer
 			return err
 		})
 		for place, line := range lines {
-			place := place
+			place, line := place, line
 			switch {
 			case err != nil:
-				answer(place, nil, judgedError(err))
+				answer(place, &child.Call{Err: judgedError(err)})
 			case replies[place] == tooLarge: // among others, but perhaps not alone
-				b.ask(ctx, app, line, func(reply []byte, err error) { answer(place, reply, err) })
+				go func() { answer(place, b.Ask(ctx, app, line)) }()
 			default:
-				answer(place, []byte(replies[place]), nil)
+				answer(place, &child.Call{Reply: []byte(replies[place])})
 			}
 		}
 	}()
@@ -257,8 +260,9 @@ func min64(a, b time.Duration) time.Duration {
 	return b
 }
 
-func (b *shards) change(ctx context.Context, asked change) (reply []byte, err error) {
-	c, err := b.of(asked.app)
+// Change publishes a change and returns the shard's answer.
+func (b *shards) Change(ctx context.Context, asked store.Change) (reply []byte, err error) {
+	c, err := b.of(asked.App)
 	if err != nil {
 		return nil, err
 	}
@@ -268,7 +272,7 @@ func (b *shards) change(ctx context.Context, asked change) (reply []byte, err er
 	}
 	answers := make(chan answer, 1)
 	go func() {
-		stored, err := c.Change(string(asked.line()))
+		stored, err := c.Change(string(child.ChangeLine(asked)))
 		if err != nil {
 			answers <- answer{"", err}
 			return
@@ -283,29 +287,29 @@ func (b *shards) change(ctx context.Context, asked change) (reply []byte, err er
 		}
 		return []byte(a.reply), nil
 	case <-ctx.Done():
-		return nil, errTimeout
+		return nil, child.ErrTimeout
 	}
 }
 
-// has asks for the names of the application's bundles: a change that would be refused stays in the stream.
-func (b *shards) has(app, locale string) bool {
+// Has asks for the names of the application's bundles: a change that would be refused stays in the stream.
+func (b *shards) Has(app, locale string) bool {
 	ctx, cancel := context.WithTimeout(context.Background(), 2*time.Second)
 	defer cancel()
-	reply, err := wait(ctx, b, app, listLine(app))
+	reply := b.Ask(ctx, app, child.ListLine(app))
 	var listed struct{ Names []string }
-	if err != nil || json.Unmarshal(reply, &listed) != nil {
+	if reply.Err != nil || json.Unmarshal(reply.Reply, &listed) != nil {
 		return false
 	}
 	for _, name := range listed.Names {
-		if name == canonical(locale) {
+		if name == store.Canonical(locale) {
 			return true
 		}
 	}
 	return false
 }
 
-// ready tells whether NATS is reached: by an application's connection or by the watcher's, as far as there is one.
-func (b *shards) ready() error {
+// Ready tells whether NATS is reached: by an application's connection or by the watcher's, as far as there is one.
+func (b *shards) Ready() error {
 	tried, reached := b.reaches()
 	if reached {
 		return nil
@@ -313,7 +317,7 @@ func (b *shards) ready() error {
 	if has, there := b.watcher.reaches(); there || !has && !tried {
 		return nil
 	}
-	return errUnreached
+	return api.ErrUnreached
 }
 
 // reaches tells whether an application was asked for, and whether one has a connection.
@@ -328,7 +332,8 @@ func (b *shards) reaches() (tried, reached bool) {
 	return len(b.links) > 0, false
 }
 
-func (b *shards) close() {
+// Close closes the connections.
+func (b *shards) Close() {
 	close(b.stop)
 	b.watcher.close()
 	b.mu.Lock()
@@ -338,11 +343,11 @@ func (b *shards) close() {
 	}
 }
 
-// measures writes how many connections there are, and how each shard does.
-func (b *shards) measures(to io.Writer) {
+// Measures writes how many connections there are, and how each shard does.
+func (b *shards) Measures(to io.Writer) {
 	b.mu.Lock()
 	open := len(b.links)
 	b.mu.Unlock()
-	gauge(to, "resb_gateway_nats_connections", "Connections to NATS, one for each application.", "gauge", "", float64(open))
+	prom.Value(to, "resb_gateway_nats_connections", "Connections to NATS, one for each application.", "gauge", "", float64(open))
 	writeShards(to, b.watcher.see())
 }

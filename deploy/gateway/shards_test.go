@@ -21,7 +21,7 @@ func openShards(t *testing.T) *site {
 	if url == "" {
 		t.Skip("skipped: no shards are started")
 	}
-	s, err := readSettings([]string{"-nats", url, "-passwords", os.Getenv("GATEWAY_STATE") + "/passwords", "-tokens", tokenFile(t)})
+	s, err := readSettings([]string{"-nats", url, "-passwords", os.Getenv("GATEWAY_STATE") + "/passwords", "-tokens", tokenFile(t)}, os.Stderr)
 	if err != nil {
 		t.Fatal(err)
 	}
@@ -130,7 +130,7 @@ func TestMetricsOverNATS(t *testing.T) {
 		t.Errorf("%v lines, %v shards", lines, after["resb_gateway_shards_seen"])
 	}
 	for _, name := range []string{"", "nobody"} {
-		s.backend.(*shards).watcher = &watcher{url: s.nats, passwords: s.passwords, name: name}
+		s.Backend.(*shards).watcher = &watcher{url: s.nats, passwords: s.passwords, name: name}
 		if none := s.measured(); none["resb_gateway_shards_seen"] != 0 || none["resb_shard_serves{shard=\"0\"}"] != 0 {
 			t.Errorf("%q sees the shards", name)
 		}
@@ -230,7 +230,7 @@ func TestAnApplicationOverNATSIsDropped(t *testing.T) {
 
 // TestNATSIsNotThere asks for an application where no nats-server is.
 func TestNATSIsNotThere(t *testing.T) {
-	s, err := readSettings([]string{"-nats", "nats://" + freeAddress(t), "-passwords", tokenFile(t), "-tokens", tokenFile(t)})
+	s, err := readSettings([]string{"-nats", "nats://" + freeAddress(t), "-passwords", tokenFile(t), "-tokens", tokenFile(t)}, os.Stderr)
 	if err != nil {
 		t.Fatal(err)
 	}

@@ -14,6 +14,7 @@ import (
 	"github.com/nats-io/nats.go"
 
 	"luvdregan.example/resb/deploy/internal/passwords"
+	"luvdregan.example/resb/deploy/internal/prom"
 	"luvdregan.example/resb/deploy/internal/status"
 	"luvdregan.example/resb/deploy/internal/subjects"
 )
@@ -149,7 +150,7 @@ var measures = []measure{
 // writeShards writes how the shards do in Prometheus' text form. Of a shard that no bridge tells only that it doesn't serve is known.
 func writeShards(to io.Writer, shards []*status.Status) {
 	seen := 0
-	head(to, "resb_shard_serves", "Whether the shard answers: 1 or 0.", "gauge")
+	prom.Head(to, "resb_shard_serves", "Whether the shard answers: 1 or 0.", "gauge")
 	for shard, s := range shards {
 		serves := 0
 		if s != nil {
@@ -160,9 +161,9 @@ func writeShards(to io.Writer, shards []*status.Status) {
 		}
 		fmt.Fprintf(to, "resb_shard_serves{shard=\"%d\"} %d\n", shard, serves)
 	}
-	gauge(to, "resb_gateway_shards_seen", "Shards whose bridges tell how they do.", "gauge", "", float64(seen))
+	prom.Value(to, "resb_gateway_shards_seen", "Shards whose bridges tell how they do.", "gauge", "", float64(seen))
 	for _, m := range measures {
-		head(to, m.name, m.help, m.kind)
+		prom.Head(to, m.name, m.help, m.kind)
 		for shard, s := range shards {
 			if s != nil {
 				fmt.Fprintf(to, "%s{shard=\"%d\"} %s\n", m.name, shard, strconv.FormatFloat(m.of(s), 'f', -1, 64))
@@ -175,7 +176,7 @@ func writeShards(to io.Writer, shards []*status.Status) {
 
 // writeStreams writes one measure of each stream.
 func writeStreams(to io.Writer, shards []*status.Status, name, help string, of func(s status.Stream) uint64) {
-	head(to, name, help, "gauge")
+	prom.Head(to, name, help, "gauge")
 	for shard, s := range shards {
 		if s == nil {
 			continue

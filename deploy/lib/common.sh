@@ -4,10 +4,17 @@
 top=$(CDPATH='' cd -- "$here/.." && pwd)
 out=$here/out
 state=${RESB_STATE:-$out/state}
-port=${RESB_PORT:-4422} # Debian runs a nats-server of its own on 4222
+port=${RESB_PORT:-4422} # Debian runs its own nats-server on 4222
 program=${RESB:-$top/crates/rb_tool/out/rb_tool}
 libraries=/usr/share/gocode
 PATH=$PATH:/usr/sbin # where nats-server is
+
+# prints the Debian packages that are missing for a gateway that runs its own server
+missing_for_gateway() {
+    command -v go >/dev/null || printf ' golang-go'
+    command -v gcc >/dev/null || printf ' gcc'
+    [ -d "$libraries/src/github.com/mattn/go-sqlite3" ] || printf ' golang-github-mattn-go-sqlite3-dev'
+}
 
 # prints the Debian packages that are missing
 missing_packages() {
@@ -36,15 +43,23 @@ need_program() {
     }
 }
 
-# prints the go.mod FILE with each library that it requires found in Debian's packages; nuid has no go.mod there
+# prints the go.mod FILE with each library that it requires found in Debian's packages, without those that aren't installed: the
+# gateway that runs its own server needs SQLite alone. nuid has no go.mod there.
 debian_module() {
-    cat "$1"
-    echo 'replace ('
-    for library in github.com/nats-io/nats.go github.com/nats-io/nkeys golang.org/x/crypto; do
-        echo "	$library => $libraries/src/$library"
+    replaced=
+    left_out=//
+    for library in github.com/mattn/go-sqlite3 github.com/nats-io/nats.go github.com/nats-io/nkeys github.com/nats-io/nuid golang.org/x/crypto; do
+        from=$libraries/src/$library
+        [ "$library" != github.com/nats-io/nuid ] || from=$out/nuid
+        if [ -f "$from/go.mod" ]; then
+            replaced="$replaced	$library => $from
+"
+        else
+            left_out="$left_out\\|$library "
+        fi
     done
-    echo "	github.com/nats-io/nuid => $out/nuid"
-    echo ')'
+    grep -v -e "^	\\($left_out\\)" "$1"
+    printf 'replace (\n%s)\n' "$replaced"
 }
 
 # runs Go in the folder, only over Debian's libraries: in_go FOLDER ARGUMENTS..
@@ -52,11 +67,13 @@ in_go() {
     go_folder=$1
     shift
     mkdir -p "$out/nuid"
-    cp "$libraries/src/github.com/nats-io/nuid/nuid.go" "$out/nuid/nuid.go"
-    printf 'module github.com/nats-io/nuid\n' >"$out/nuid/go.mod"
+    if [ -f "$libraries/src/github.com/nats-io/nuid/nuid.go" ]; then
+        cp "$libraries/src/github.com/nats-io/nuid/nuid.go" "$out/nuid/nuid.go"
+        printf 'module github.com/nats-io/nuid\n' >"$out/nuid/go.mod"
+    fi
     debian_module "$go_folder/go.mod" >"$out/debian.mod.$$"
     mv "$out/debian.mod.$$" "$out/debian.mod"
-    (cd "$go_folder" && GO111MODULE=on GOFLAGS="-modfile=$out/debian.mod" GOCACHE="$out/go" GOPROXY=off go "$@")
+    (cd "$go_folder" && GO111MODULE=on GOFLAGS="-modfile=$out/debian.mod -tags=${go_tags:-libsqlite3}" GOCACHE="$out/go" GOPROXY=off go "$@")
 }
 
 run_go() { in_go "$here" "$@"; }
@@ -71,7 +88,7 @@ build() {
 }
 
 # prints the limits of a `resb serve` that may take so many bytes of memory, for so many applications: limits_of BYTES APPS.
-# README.md has the formula.
+# OPERATIONS.md has the formula.
 limits_of() {
     awk -v memory="$1" -v apps="$2" '
         function part(of, most) { of = int(memory / of); return of < 1 ? 1 : of > most ? most : of }

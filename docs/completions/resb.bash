@@ -2,20 +2,22 @@
 _resb() {
     local word=${COMP_WORDS[COMP_CWORD]} before=${COMP_WORDS[COMP_CWORD - 1]} flags=
     if [ "$COMP_CWORD" -eq 1 ]; then
-        COMPREPLY=($(compgen -W 'compile check get text json lint explain lines look serve help --help --version' -- "$word"))
+        COMPREPLY=($(compgen -W 'compile check get lint explain lines look text json serve help --help --version' -- "$word"))
         return
     fi
     case ${COMP_WORDS[1]} in
+        # options, by tools/pages
         compile) flags='--to --quiet --help' ;;
         check) flags='--quiet --help' ;;
         get) flags='--help' ;;
-        text) flags='--name --help' ;;
-        json) flags='--pretty --help' ;;
         lint) flags='--root --help' ;;
         explain) flags='--help' ;;
         lines) flags='--op --help' ;;
         look) flags='--parents --trace --help' ;;
+        text) flags='--name --help' ;;
+        json) flags='--pretty --help' ;;
         serve) flags='--parents --app-bytes --bundle-bytes --reply-bytes --line-bytes --apps --steps --keep-serving --help' ;;
+        # end
     esac
     case $before in
         --to) COMPREPLY=($(compgen -d -- "$word")) && return ;;

@@ -5,11 +5,13 @@
 //   await bundles.put("de", 'de{menu{open{"Öffnen"}}}');
 //   await bundles.text("de_AT", "menu/open");   // "Öffnen"
 //
-// Run as a program it does what `session` does:  over_http.mjs URL APP TOKEN
+// Run as a program it tries each call:  over_http.mjs URL APP TOKEN
+// It installs two bundles where the application has none, and removes only those two.
 
 const PATIENCE = 30_000; // milliseconds in which a request that can't be answered now is asked again
+const SAMPLES = { de: 'de{menu{open{"Öffnen"} close{"Schließen"}}}', de_AT: 'de_AT{menu{close{"Zumachen"}}}' };
 
-/** A refusal: its HTTP status, and its word. */
+/** A refusal: its HTTP status and its error code. */
 export class Refused extends Error {
   constructor(status, word) {
     super(`${status} ${word}`);
@@ -23,7 +25,7 @@ export class Bundles {
   #url;
   #app;
   #token;
-  #known = new Map(); // of an address to the last reply and its tag
+  #known = new Map(); // the last reply and its tag for each address
 
   constructor(url, app, token) {
     this.#url = url.replace(/\/$/, "");
@@ -31,12 +33,12 @@ export class Bundles {
     this.#token = token;
   }
 
-  /** The text of a String, or null where there is no such item. */
+  /** Returns the value of a String, or null if there is no such item. */
   async text(locale, path) {
     return (await this.look(locale, path))?.value ?? null;
   }
 
-  /** An item, with the locales that it was found by, or null where there is none. */
+  /** Returns an item with its actual and valid locale, or null if there is no such item. */
   async look(locale, path) {
     try {
       return await this.#get(this.#address(locale, ...path.split("/")));
@@ -46,34 +48,44 @@ export class Bundles {
     }
   }
 
-  /** The replies to pairs of a locale and a path, in order, by one request. */
+  /** Returns the replies to pairs of a locale and a path, in order, with one request. */
   async lookMany(questions) {
     const lines = questions.map(([locale, path]) => JSON.stringify({ locale, path }) + "\n").join("");
     const response = await this.#ask("POST", this.#address("look"), { body: lines });
     return (await response.text()).split("\n").slice(0, -1).map((line) => JSON.parse(line));
   }
 
-  /** The locales of the application's bundles, in the order of installing. */
+  /** Returns the locales of the application's bundles, in the order of installing. */
   async names() {
     return (await this.#get(this.#address())).names;
   }
 
-  /** Installs a bundle, or puts it in the place of the one that is there: a text, or the bytes of a .res file. */
-  async put(locale, bundle) {
-    const type = typeof bundle === "string" ? "text/plain; charset=utf-8" : "application/octet-stream";
-    await (await this.#ask("PUT", this.#address(locale), { body: bundle, headers: { "Content-Type": type } })).text();
+  /** Installs a bundle, a text or the bytes of a .res file; refused with 409 Exists if there is one for the locale. */
+  async add(locale, bundle) {
+    await this.#send("POST", locale, bundle);
   }
 
-  /** Takes a bundle out. */
+  /** Installs a bundle, or replaces the one of the locale: a text, or the bytes of a .res file. */
+  async put(locale, bundle) {
+    await this.#send("PUT", locale, bundle);
+  }
+
+  /** Removes the bundle of a locale. */
   async remove(locale) {
     await (await this.#ask("DELETE", this.#address(locale))).text();
+  }
+
+  /** Sends a bundle with the type of its body. */
+  async #send(method, locale, bundle) {
+    const type = typeof bundle === "string" ? "text/plain; charset=utf-8" : "application/octet-stream";
+    await (await this.#ask(method, this.#address(locale), { body: bundle, headers: { "Content-Type": type } })).text();
   }
 
   #address(...parts) {
     return [this.#url, "v1", ...[this.#app, ...parts].map(encodeURIComponent)].join("/");
   }
 
-  /** A reply; one that hasn't changed since is not sent again. */
+  /** Returns a reply; the server sends it again only if it has changed. */
   async #get(address) {
     const known = this.#known.get(address);
     const response = await this.#ask("GET", address, { headers: known?.tag ? { "If-None-Match": known.tag } : {} });
@@ -84,7 +96,7 @@ export class Bundles {
     return reply;
   }
 
-  /** A response; asks again while the server can't answer. */
+  /** Returns a response; asks again while the server can't answer. */
   async #ask(method, address, { body, headers = {} } = {}) {
     const mayRepeat = method === "GET" || method === "PUT" || address.endsWith("/look");
     for (const end = Date.now() + PATIENCE; ; ) {
@@ -105,22 +117,33 @@ export class Bundles {
   }
 }
 
-/** Installs two bundles, looks items up, and takes the bundles out. */
-async function session(url, app, token) {
-  const bundles = new Bundles(url, app, token);
-  await bundles.put("de", 'de{menu{open{"Öffnen"} close{"Schließen"}}}');
-  await bundles.put("de_AT", 'de_AT{menu{close{"Zumachen"}}}');
+/** Looks items up in the sample bundles, and tries to install a text that isn't valid. */
+async function tryLookups(bundles) {
   console.log((await bundles.names()).join(" "));
   for (const path of ["menu/open", "menu/close", "menu/none"]) console.log(path, await bundles.text("de_AT", path));
-  console.log(await bundles.text("de_AT", "menu/open")); // by its tag
+  console.log(await bundles.text("de_AT", "menu/open")); // answered from the cache, by its tag
   const replies = await bundles.lookMany([["de_AT", "menu/open"], ["de", "menu/close"], ["fr", "menu/open"]]);
   console.log(replies.map((reply) => reply.value ?? reply.error).join(" "));
   try {
-    await bundles.put("fr", "fr{");
+    await bundles.add("fr", "fr{");
   } catch (error) {
     console.log(error.message);
   }
-  for (const name of await bundles.names()) await bundles.remove(name);
+}
+
+/** Installs the samples where the application has no bundles, looks items up, and removes the samples. */
+async function session(url, app, token) {
+  const bundles = new Bundles(url, app, token);
+  const added = [];
+  try {
+    for (const [locale, text] of Object.entries(SAMPLES)) {
+      await bundles.add(locale, text);
+      added.push(locale);
+    }
+    await tryLookups(bundles);
+  } finally {
+    for (const locale of added) await bundles.remove(locale);
+  }
   console.log(await bundles.look("de", "menu/open"));
 }
 
@@ -129,5 +152,11 @@ if (globalThis.process?.argv[1]?.endsWith("over_http.mjs")) {
     console.error("usage: over_http.mjs URL APP TOKEN");
     process.exit(2);
   }
-  await session(...process.argv.slice(2));
+  try {
+    await session(...process.argv.slice(2));
+  } catch (error) {
+    if (error.word !== "Exists") throw error;
+    console.error(`${process.argv[3]} already has a bundle for ${Object.keys(SAMPLES).join(" or ")}; it was left as it is`);
+    process.exit(1);
+  }
 }

@@ -5,7 +5,8 @@
     bundles.put("de", 'de{menu{open{"Öffnen"}}}')
     bundles.text("de_AT", "menu/open")      # "Öffnen"
 
-Run as a program it does what `session` does:  over_http.py URL APP TOKEN
+Run as a program it tries each call:  over_http.py URL APP TOKEN
+It installs two bundles where the application has none, and removes only those two.
 """
 import json
 import sys
@@ -14,10 +15,11 @@ from http.client import HTTPConnection, HTTPException, HTTPSConnection
 from urllib.parse import quote, urlsplit
 
 PATIENCE = 30  # seconds in which a request that can't be answered now is asked again
+SAMPLES = {"de": 'de{menu{open{"Öffnen"} close{"Schließen"}}}', "de_AT": 'de_AT{menu{close{"Zumachen"}}}'}
 
 
 class Refused(Exception):
-    """A refusal: its HTTP status, and its word."""
+    """A refusal: its HTTP status and its error code."""
 
     def __init__(self, status, word):
         super().__init__(f"{status} {word}")
@@ -25,20 +27,20 @@ class Refused(Exception):
 
 
 class Bundles:
-    """The bundles of an application. Not to be used by several threads at once."""
+    """The bundles of an application. Not safe for use by several threads at once."""
 
     def __init__(self, url, app, token):
         self.url, self.app, self.token = urlsplit(url), app, token
         self.connection = None
-        self.known = {}  # of an address to the last reply and its tag
+        self.known = {}  # the last reply and its tag for each address
 
     def text(self, locale, path):
-        """The text of a String, or None where there is no such item."""
+        """Returns the value of a String, or None if there is no such item."""
         item = self.look(locale, path)
         return item["value"] if item else None
 
     def look(self, locale, path):
-        """An item, with the locales that it was found by, or None where there is none."""
+        """Returns an item with its actual and valid locale, or None if there is no such item."""
         try:
             return self._get(self._address(locale, *path.split("/")))
         except Refused as refused:
@@ -47,32 +49,36 @@ class Bundles:
             raise
 
     def look_many(self, questions):
-        """The replies to pairs of a locale and a path, in order, by one request."""
+        """Returns the replies to pairs of a locale and a path, in order, with one request."""
         lines = "".join(json.dumps({"locale": locale, "path": path}) + "\n" for locale, path in questions)
         _, _, reply = self._ask("POST", self._address("look"), lines.encode())
         return [json.loads(line) for line in reply.splitlines()]
 
     def names(self):
-        """The locales of the application's bundles, in the order of installing."""
+        """Returns the locales of the application's bundles, in the order of installing."""
         return self._get(self._address())["names"]
 
+    def add(self, locale, text):
+        """Installs a bundle text; refused with 409 Exists if there is a bundle for the locale."""
+        self._ask("POST", self._address(locale), text.encode(), "text/plain; charset=utf-8")
+
     def put(self, locale, text):
-        """Installs a bundle text, or puts it in the place of the one that is there."""
+        """Installs a bundle text, or replaces the bundle of the locale."""
         self._ask("PUT", self._address(locale), text.encode(), "text/plain; charset=utf-8")
 
     def put_file(self, locale, data):
-        """The same with the bytes of a .res file."""
+        """Installs the bytes of a .res file, or replaces the bundle of the locale."""
         self._ask("PUT", self._address(locale), data, "application/octet-stream")
 
     def remove(self, locale):
-        """Takes a bundle out."""
+        """Removes the bundle of a locale."""
         self._ask("DELETE", self._address(locale))
 
     def _address(self, *parts):
         return "/".join([self.url.path.rstrip("/"), "v1", *(quote(part, safe="") for part in (self.app, *parts))])
 
     def _get(self, address):
-        """A reply; one that hasn't changed since is not sent again."""
+        """Returns a reply; the server sends it again only if it has changed."""
         tag, reply = self.known.get(address, (None, None))
         status, headers, body = self._ask("GET", address, tag=tag)
         if status == 304:
@@ -82,7 +88,7 @@ class Bundles:
         return reply
 
     def _ask(self, method, address, body=None, kind=None, tag=None):
-        """The status, headers and body of a response; asks again while the server can't answer."""
+        """Returns status, headers and body of a response; asks again while the server can't answer."""
         end = time.monotonic() + PATIENCE
         while True:
             try:
@@ -112,27 +118,44 @@ class Bundles:
         return response.status, response.headers, response.read()
 
 
-def session(url, app, token):
-    """Installs two bundles, looks items up, and takes the bundles out."""
-    bundles = Bundles(url, app, token)
-    bundles.put("de", 'de{menu{open{"Öffnen"} close{"Schließen"}}}')
-    bundles.put("de_AT", 'de_AT{menu{close{"Zumachen"}}}')
+def try_lookups(bundles):
+    """Looks items up in the sample bundles, and tries to install a text that isn't valid."""
     print(" ".join(bundles.names()))
     for path in ("menu/open", "menu/close", "menu/none"):
         print(path, bundles.text("de_AT", path))
-    print(bundles.text("de_AT", "menu/open"))  # by its tag
+    print(bundles.text("de_AT", "menu/open"))  # answered from the cache, by its tag
     replies = bundles.look_many([("de_AT", "menu/open"), ("de", "menu/close"), ("fr", "menu/open")])
     print(" ".join(reply.get("value") or reply["error"] for reply in replies))
     try:
-        bundles.put("fr", "fr{")
+        bundles.add("fr", "fr{")
     except Refused as refused:
         print(refused)
-    for name in bundles.names():
-        bundles.remove(name)
+
+
+def session(url, app, token):
+    """Installs the samples where the application has no bundles, looks items up, and removes the samples."""
+    bundles, added = Bundles(url, app, token), []
+    try:
+        for locale, text in SAMPLES.items():
+            bundles.add(locale, text)
+            added.append(locale)
+        try_lookups(bundles)
+    finally:
+        for locale in added:
+            bundles.remove(locale)
     print(bundles.look("de", "menu/open"))
 
 
-if __name__ == "__main__":
+def main():
     if len(sys.argv) != 4:
         sys.exit("usage: over_http.py URL APP TOKEN")
-    session(*sys.argv[1:])
+    try:
+        session(*sys.argv[1:])
+    except Refused as refused:
+        if refused.word != "Exists":
+            raise
+        sys.exit(f"{sys.argv[2]} already has a bundle for {' or '.join(SAMPLES)}; it was left as it is")
+
+
+if __name__ == "__main__":
+    main()

@@ -1,4 +1,4 @@
--- What clap's getters give, by the rows.
+-- Proves which values clap's getters return, by the rows.
 use Rattle.std.proofs.Common.{◌≡◌, ◌∙◌, ap, refl, ℕ, Bool, true, false, List, [], map, Option, Some, None, codes}
 use Rattle.std.specs.Prelude.{Result, Ok, Err, unwrap_or, option_map}
 use Rattle.std.specs.Borrow.{Bor}

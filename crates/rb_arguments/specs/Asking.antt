@@ -1,4 +1,4 @@
--- What a command line asks for, by the rows that clap took for its command.
+-- Defines the command that a command line asks for, by the rows of values that clap returned for it.
 use Rattle.std.specs.Prelude.{◌≡◌, ◌++◌, ◌∷◌, [], Bool, false, List, Option, Some, None, codes, option_map}
 use Rattle.std.specs.List.{list_any}
 use Rattle.std.specs.Str.{bytes_eq}
@@ -10,7 +10,7 @@ use Rattle.rb_arguments.specs.declared.asking.Asked.{Asked}
 use Rattle.rb_arguments.specs.declared.asking.Asked.TheVariants.{Compile, CompileAll, Check, Get, Json, Text as ToText}
 use Rattle.rb_arguments.specs.declared.asking.Asked.TheVariants.{Lint, Explain, Lines, Look, Serve}
 
--- the commands
+-- the names of the commands
 abbrev pub names : List Text
 names =
     codes "compile" ∷ codes "check" ∷ codes "get" ∷ codes "json" ∷ codes "text" ∷ codes "lint" ∷ codes "explain"

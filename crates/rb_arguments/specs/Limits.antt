@@ -1,10 +1,10 @@
--- The limits of `serve`.
+-- Defines the limits of `serve`, by the rows of values that clap returned.
 use Rattle.std.specs.Prelude.{List, codes}
 use Rattle.clap.specs.Words.{Row}
 use Rattle.rb_arguments.specs.Rows.{IsFlagIn, IsNumberIn}
 use Rattle.rb_arguments.specs.declared.asking.AskedLimits.{AskedLimits}
 
--- the limits that were given: each is the number of the option of its name, `keep_serving` the flag of its name
+-- the given limits: each is the number of the option of its name, and `keep_serving` is the flag of its name
 pub record AreGiven (rows : List Row) (limits : AskedLimits) : Type 0 where
   pub app_bytes : IsNumberIn rows (codes "app-bytes") limits.app_bytes
   pub bundle_bytes : IsNumberIn rows (codes "bundle-bytes") limits.bundle_bytes

@@ -1,29 +1,26 @@
-//! The arguments of the commands.
 use clap::builder::ValueParser;
 use clap::{Arg, ArgAction};
 use std::alloc::{AllocError, Global};
 
-/// The largest number that a limit may be: 2 to the power of 63.
 const LARGEST_LIMIT: u64 = 9_223_372_036_854_775_808;
 
-/// How an argument is given.
+/// The ways to give an argument.
 #[derive(Clone, Copy)]
 pub enum Kind {
-    /// A word that must be given.
+    /// A required word.
     Word,
-    /// A word that may be left out.
     OptionalWord,
-    /// A word that may only be left out with this option.
+    /// A word that may be missing only with this option.
     WordUnless(&'static str),
-    /// Words, of which at least one must be given; the help shows them by this name.
+    /// At least one word; the help shows them by this name.
     Words(&'static str),
     /// Any number of words; the help shows them by this name.
     AnyWords(&'static str),
-    /// Any number of words, with this option only.
+    /// Any number of words, only with this option.
     WordsWith(&'static str),
     /// `--NAME VALUE`; the help shows the value by this name.
     Option(&'static str),
-    /// `--NAME N`, with a number from 1 to the largest limit.
+    /// `--NAME N`, with a number from 1 to 2^63.
     Limit,
     /// `--NAME`
     Flag,
@@ -31,12 +28,12 @@ pub enum Kind {
     ShortFlag(char),
 }
 
-/// An argument of a command: its name, how it is given, and what the help says of it.
+/// An argument of a command: its name, the way to give it, and its help.
 #[derive(Clone, Copy)]
 pub struct Argument(pub &'static str, pub Kind, pub &'static str);
 
 impl Argument {
-    /// The argument as `clap` takes it.
+    /// Makes clap's argument.
     pub fn made<'a>(self, alloc: Global) -> Result<Arg<'a>, AllocError> {
         let Argument(name, kind, help) = self;
         let made = Arg::new(alloc, name).help(help);
@@ -58,28 +55,24 @@ impl Argument {
     }
 }
 
-/// `--parents FILE`
 pub const PARENTS: Argument = Argument(
     "parents",
     Kind::Option("FILE"),
     "a bundle text with the explicit parents, at parentLocales",
 );
 
-/// `--root ROOT`
 pub const ROOT: Argument = Argument(
     "root",
     Kind::Option("ROOT"),
     "the bundle text of the root locale, to compare with",
 );
 
-/// A path.
 pub const PATH: Argument = Argument(
     "PATH",
     Kind::Word,
     "keys and indexes, with slashes between them",
 );
 
-/// A path, which may be left out.
 pub const OPTIONAL_PATH: Argument = Argument(
     "PATH",
     Kind::OptionalWord,

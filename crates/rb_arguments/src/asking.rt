@@ -1,4 +1,3 @@
-//! What a command line asks for.
 ghost use Rattle.std.specs.Prelude.{◌≡◌, ◌++◌, [], IfOk, IfSome, OnOk, is_some, option_map, codes};
 ghost use Rattle.clap.specs.Walk.{texts};
 ghost use Rattle.clap.specs.Words.{first_of, found_of, rows_of, subcommand_rows_of};
@@ -10,7 +9,7 @@ ghost use Rattle.rb_arguments.specs.Asking.{texts_in};
 use clap::ArgMatches;
 use std::alloc::{AllocError, Global};
 
-/// A command with its arguments, as they were given.
+/// A command with its arguments.
 #[derive(Debug, Drop)]
 pub enum Asked<'a> {
     /// `compile IN OUT`
@@ -71,7 +70,6 @@ pub enum Asked<'a> {
     },
 }
 
-/// The arguments of `look`.
 #[derive(Debug, Drop)]
 pub struct AskedLookup<'a> {
     pub parents: Option<&'a str>,
@@ -81,29 +79,20 @@ pub struct AskedLookup<'a> {
     pub files: Vec<&'a str>,
 }
 
-/// What `serve` is limited by: the files of an application, one bundle, a reply, a line, the number
-/// of applications and the steps of a lookup; and whether it serves on after memory ran out. A
-/// limit that wasn't given is none.
+/// The limits of `serve`, by the options of the same names, and whether it keeps running after
+/// memory ran out. A missing limit is no limit.
 #[derive(Clone, Copy, Debug, PartialEq, Eq)]
 pub struct AskedLimits {
-    /// `--app-bytes N`
     pub app_bytes: Option<u64>,
-    /// `--bundle-bytes N`
     pub bundle_bytes: Option<u64>,
-    /// `--reply-bytes N`
     pub reply_bytes: Option<u64>,
-    /// `--line-bytes N`
     pub line_bytes: Option<u64>,
-    /// `--apps N`
     pub apps: Option<u64>,
-    /// `--steps N`
     pub steps: Option<u64>,
-    /// `--keep-serving`
     pub keep_serving: bool,
 }
 
 impl AskedLimits {
-    /// No limits, as without arguments.
     pub fn none() -> AskedLimits
         ensures { AreGiven [] result }
     {
@@ -119,21 +108,19 @@ impl AskedLimits {
     }
 }
 
-/// One word of a command, if it was given.
 fn optional_of<'a>(given: &ArgMatches<'a>, id: &str) -> Option<&'a str>
     ensures { option_map (λ s. s.now) result ≡ first_of id.now (rows_of (found_of given.now)) }
 {
     given.get_str(id)
 }
 
-/// One word of a command, empty if it wasn't given.
+/// Returns one word of a command, or an empty one if it is missing.
 fn word_of<'a>(given: &ArgMatches<'a>, id: &str) -> &'a str
     ensures { result.now ≡ word_in (rows_of (found_of given.now)) id.now }
 {
     optional_of(given, id).unwrap_or("")
 }
 
-/// Any number of words of a command, in their order.
 fn words_of<'a>(alloc: Global, given: &ArgMatches<'a>, id: &str) -> Result<Vec<&'a str>, AllocError>
     ensures { IfOk result (λ words. texts words.items
         ≡ words_in (rows_of (found_of given.now)) id.now) }
@@ -141,21 +128,18 @@ fn words_of<'a>(alloc: Global, given: &ArgMatches<'a>, id: &str) -> Result<Vec<&
     given.get_strs(id).unwrap_or(&[]).to_vec(alloc)
 }
 
-/// Whether a flag of a command is set.
 fn flag_of(given: &ArgMatches<'_>, id: &str) -> bool
     ensures { IsFlagIn (rows_of (found_of given.now)) id.now result }
 {
     given.get_flag(id)
 }
 
-/// The number of an option, if it was given.
 fn number_of(given: &ArgMatches<'_>, id: &str) -> Option<u64>
     ensures { IsNumberIn (rows_of (found_of given.now)) id.now result }
 {
     given.get_one::<u64>(id)
 }
 
-/// One more text, if it was given.
 fn push_given<'a>(
     gathered: &mut Vec<&'a str>,
     given: &ArgMatches<'a>,
@@ -170,7 +154,7 @@ fn push_given<'a>(
     Ok(())
 }
 
-/// The texts of `compile --to`, in their order.
+/// Collects the texts of `compile --to`, in order: clap has put the first two into IN and OUT.
 fn texts_of<'a>(alloc: Global, given: &ArgMatches<'a>) -> Result<Vec<&'a str>, AllocError>
     ensures { IfOk result (λ files. texts files.items ≡ texts_in (rows_of (found_of given.now))) }
 {
@@ -229,7 +213,7 @@ fn look_asked<'a>(alloc: Global, given: &ArgMatches<'a>) -> Result<Asked<'a>, Al
     }))
 }
 
-/// The limits of `serve`. Which numbers an option takes is `clap`'s to check.
+/// Collects the limits of `serve`. clap has checked their numbers.
 fn limits_asked(given: &ArgMatches<'_>) -> AskedLimits
     ensures { AreGiven (rows_of (found_of given.now)) result }
 {
@@ -257,7 +241,7 @@ fn serve_asked<'a>(alloc: Global, given: &ArgMatches<'a>) -> Result<Asked<'a>, A
     })
 }
 
-/// What a command asks for; none if there is no such command.
+/// Returns what a command asks for, or None if there is no such command.
 fn command_asked<'a>(
     alloc: Global,
     command: &str,
@@ -298,8 +282,7 @@ fn command_asked<'a>(
     }))
 }
 
-/// What a command line asks for, by what `clap` took of it; none if it names no command. An
-/// error only if memory runs out.
+/// Returns what a command line asks for, or None if it names no command. `Err` means out of memory.
 pub fn asked_by<'a>(
     alloc: Global,
     matches: &ArgMatches<'a>,

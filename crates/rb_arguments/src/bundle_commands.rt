@@ -1,15 +1,12 @@
-//! The commands that take bundles into lookups: `lines` and `look`.
 use crate::argument::{Argument, Kind, PARENTS, PATH};
 use crate::description::Description;
 
-/// The bundles of a command, each with its locale.
 const BUNDLES: Argument = Argument(
     "FILE",
     Kind::Words("[LOCALE=]FILE"),
     "a bundle: bundle text where FILE ends in .txt, else a .res file; LOCALE is its stem",
 );
 
-/// The end of the help of `lines`.
 const LINES_HELP: &str = "\
 Example:
   resb lines shop bundles/*.res | resb serve
@@ -31,7 +28,6 @@ pub const LINES: Description = Description {
     end: LINES_HELP,
 };
 
-/// The end of the help of `look`.
 const LOOK_HELP: &str = "\
 Examples:
   resb look de_AT menu/close bundles/*.res

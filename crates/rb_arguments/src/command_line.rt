@@ -1,4 +1,3 @@
-//! The command line.
 use crate::bundle_commands::{LINES, LOOK};
 use crate::description::Description;
 use crate::file_commands::{CHECK, COMPILE, GET, JSON, TEXT};
@@ -7,7 +6,6 @@ use crate::text_commands::{EXPLAIN, LINT};
 use clap::Command;
 use std::alloc::{AllocError, Global};
 
-/// The end of the help of the whole command.
 const HELP: &str = "\
 Example:
   resb compile de.txt de.res
@@ -19,12 +17,11 @@ Status:
 
 Errors are printed to standard error, a line each. 'resb help COMMAND' says more of a command.";
 
-/// The commands, in the order in which the help lists them.
+/// The commands, in the order of the help.
 const COMMANDS: [Description; 10] = [
     COMPILE, CHECK, GET, LINT, EXPLAIN, LINES, LOOK, TEXT, JSON, SERVE,
 ];
 
-/// The command without its subcommands.
 fn bare<'a>(alloc: Global) -> Result<Command<'a>, AllocError> {
     Ok(
         Command::new(alloc, "resb")
@@ -36,7 +33,6 @@ fn bare<'a>(alloc: Global) -> Result<Command<'a>, AllocError> {
     )
 }
 
-/// The command with some of its subcommands.
 fn with_commands<'a>(alloc: Global, commands: &[Description]) -> Result<Command<'a>, AllocError> {
     let mut command = bare(alloc)?;
     for description in commands {
@@ -45,14 +41,13 @@ fn with_commands<'a>(alloc: Global, commands: &[Description]) -> Result<Command<
     Ok(command)
 }
 
-/// All commands.
 pub fn commands<'a>(alloc: Global) -> Result<Command<'a>, AllocError> {
     with_commands(alloc, &COMMANDS)
 }
 
-/// The commands that a command line can enter whose first word after the program's name is this
-/// one: the command of that name by itself, or all. Each takes and refuses what it does among all
-/// the others; to make those takes longer than most runs of one.
+/// Makes only the command that a command line can enter, given its first word after the program's
+/// name, or all commands if the word is none. That command accepts and rejects the same as among
+/// all; making all takes longer than most commands run.
 pub fn commands_for<'a>(alloc: Global, word: Option<&str>) -> Result<Command<'a>, AllocError> {
     for description in &COMMANDS {
         if word == Some(description.name) {

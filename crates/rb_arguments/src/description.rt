@@ -1,9 +1,8 @@
-//! A command with its arguments and its help.
 use crate::argument::Argument;
 use clap::Command;
 use std::alloc::{AllocError, Global};
 
-/// A command: what it does, its arguments in the order of the help, and the end of its help.
+/// A command: its purpose, its arguments in the order of the help, and the end of its help.
 #[derive(Clone, Copy)]
 pub struct Description {
     pub name: &'static str,
@@ -13,7 +12,7 @@ pub struct Description {
 }
 
 impl Description {
-    /// The command as `clap` takes it.
+    /// Makes clap's command.
     pub fn made<'a>(&self, alloc: Global) -> Result<Command<'a>, AllocError> {
         let mut made = Command::new(alloc, self.name)
             .about(self.about)

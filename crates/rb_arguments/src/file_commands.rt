@@ -1,18 +1,15 @@
-//! The commands over files: `compile`, `check`, `get`, `text` and `json`.
 use crate::argument::{Argument, Kind, OPTIONAL_PATH, PATH};
 use crate::description::Description;
 
-/// The file to write, which may only be left out with `--to`.
+/// The file to write, which may be missing only with `--to`.
 const OUTPUT: Argument = Argument(
     "OUT",
     Kind::WordUnless("to"),
     "the file to write; with --to, a further text",
 );
 
-/// The one file of a command.
 const FILE: Argument = Argument("FILE", Kind::Word, "a .res file");
 
-/// The end of the help of `compile`.
 const COMPILE_HELP: &str = "\
 Examples:
   resb compile de.txt de.res
@@ -45,7 +42,6 @@ pub const COMPILE: Description = Description {
     end: COMPILE_HELP,
 };
 
-/// The end of the help of `check`.
 const CHECK_HELP: &str = "\
 Examples:
   resb check de.res
@@ -69,7 +65,6 @@ pub const CHECK: Description = Description {
     end: CHECK_HELP,
 };
 
-/// The end of the help of `get`.
 const GET_HELP: &str = "\
 Example:
   resb get de.res menu/close
@@ -89,7 +84,6 @@ pub const GET: Description = Description {
     end: GET_HELP,
 };
 
-/// The end of the help of `text`.
 const TEXT_HELP: &str = "\
 Example:
   resb text de.res > de.txt
@@ -116,7 +110,6 @@ pub const TEXT: Description = Description {
     end: TEXT_HELP,
 };
 
-/// The end of the help of `json`.
 const JSON_HELP: &str = "\
 Example:
   resb json de.res menu

@@ -1,5 +1,5 @@
-//! The command line of `resb`: its commands, their arguments and their help, and what a command
-//! line asks for.
+//! The command line of `resb`: its commands, their arguments and help, and what a command line asks
+//! for.
 #![tactic(auto)]
 
 mod argument;

@@ -1,8 +1,6 @@
-//! The command `serve`, with its limits.
 use crate::argument::{Argument, Kind, PARENTS};
 use crate::description::Description;
 
-/// The end of the help of `serve`.
 const SERVE_HELP: &str = "\
 Examples:
   resb serve --parents parents.txt root=root.txt de=de.res < requests.jsonl

@@ -1,8 +1,6 @@
-//! The commands that help with bundle texts: `lint` and `explain`.
 use crate::argument::{Argument, Kind, ROOT};
 use crate::description::Description;
 
-/// The end of the help of `lint`.
 const LINT_HELP: &str = "\
 Examples:
   resb lint texts/*.txt
@@ -27,7 +25,6 @@ pub const LINT: Description = Description {
     end: LINT_HELP,
 };
 
-/// The end of the help of `explain`.
 const EXPLAIN_HELP: &str = "\
 Examples:
   resb explain

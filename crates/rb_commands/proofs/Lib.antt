@@ -1,1 +1,5 @@
-pub mod Kept
+pub mod Causing
+pub mod Finding
+pub mod Reaching
+pub mod Showing
+pub mod Shown

@@ -1,1 +1,5 @@
+pub mod Got
+pub mod Status
+pub mod Whole
+pub mod Words
 pub mod inner

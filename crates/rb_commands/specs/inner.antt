@@ -1,1 +1,5 @@
-pub mod Limits
+pub mod Files
+pub mod Causes
+pub mod Reached
+pub mod ShownUnits
+pub mod Writing

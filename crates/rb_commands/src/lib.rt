@@ -1,15 +1,41 @@
-//! The commands of `resb`, over any runtime: serving; those over files and those of lookups are
-//! rb_file_commands' and rb_lookup_commands', and are here too.
+//! The commands of `resb` that end by themselves, over any runtime: compiling, checking, linting,
+//! explaining, printing items, texts and JSON, and looking items up; and what serving starts from.
 #![tactic(auto)]
 
-mod handing;
-mod serve;
+mod batch;
+mod commands;
+mod console;
+mod contents;
+mod error;
+mod explain_words;
+mod files;
+mod given;
+mod item;
+mod linting;
+mod lookup;
+mod output;
+mod progress;
+mod request_lines;
+mod start;
+mod texts;
+mod trace;
+mod trace_steps;
+mod value;
+mod words;
 
-pub use rb_console::{Console, Hint};
-pub use rb_file_commands::{
-    ItemError, Layout, ValueError, check, check_all, check_on, compile, compile_all, compile_on,
-    explain, get, get_on, json, lint_all, text, text_at, value_at,
-};
-pub use rb_lookup_commands::{Change, Lookup, lines, look_up};
-pub use rb_requests::{Limits, LineLimits};
-pub use serve::{serve_input, serve_limited_on, serve_on};
+pub use batch::{check_all, compile_all};
+pub use commands::{check, check_on, compile, compile_on, get, get_on};
+pub use console::{Console, Hint, ShownName};
+pub use error::{StartError, not_started_on};
+pub use explain_words::{explain, explain_on};
+pub use files::{cannot_read_on, printed, refused_on};
+pub use given::stem;
+pub use item::{ItemError, text_at};
+pub use linting::lint_all;
+pub use lookup::{Lookup, look_up};
+pub use rb_engine::Change;
+pub use rb_json::Layout;
+pub use request_lines::lines;
+pub use start::start_engine;
+pub use texts::{name_of, text};
+pub use value::{ValueError, json, value_at};

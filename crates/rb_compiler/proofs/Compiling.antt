@@ -1,4 +1,4 @@
--- A text compiles to one file.
+-- Proves that a text compiles to at most one file.
 use Rattle.std.proofs.Common.{◌≡◌, ℕ, List, sym, subst}
 use Rattle.rb_tree.specs.SourceTree.{SourceTree}
 use Rattle.rb_parser.proofs.Wholes.{good_one}

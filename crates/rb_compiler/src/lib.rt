@@ -1,4 +1,4 @@
-//! Bundle texts as files: what ICU's `genrb` does, in this project's formats.
+//! Compiler of bundle texts: ICU's `genrb`, for this project's formats.
 #![tactic(auto)]
 
 pub mod laws;

@@ -1,4 +1,3 @@
-//! A bundle text as a file.
 ghost use Rattle.std.specs.Prelude.{◌≡◌, ◌⊎◌, ◌+◌, ◌*◌, ℕ, List, length, drop, IfOk, IfErr, OnErr};
 ghost use Rattle.rb_lexer.specs.declared.fault.SourceKind.TheVariants.{Memory};
 ghost use Rattle.rb_tree.specs.SourceTree.{SourceTree};
@@ -11,27 +10,20 @@ use rb_parser::parse_unweighed;
 use rb_writer::write_if_light;
 use std::alloc::Global;
 
-/// The file of the bundle that a text spells, in ResB format 1.1, or 1.2 if it is without fallback;
-/// docs/FORMAT.md says what differs from the files of `genrb --formatVersion 1`. Its buffer holds
-/// the file and nothing else.
-///
-/// The errors and their lines are those of `parse`; `Memory` has line 0. No memory is kept after an
-/// error.
+/// Compiles a bundle text to a file in ResB format 1.1, or 1.2 if it is without fallback;
+/// docs/FORMAT.md says how it differs from the files of `genrb --formatVersion 1`. The returned
+/// buffer has no spare capacity. Fails as `parse` does.
 ///
 /// ```rust
 /// let file = compile(alloc, b"root{a{\"b\"}}")?; // 76 bytes
 /// compile(alloc, b"root{\na:int{09}}") // Err: BadInt, line 2
 /// ```
 pub fn compile(alloc: Global, text: &[u8]) -> Result<Vec<u8>, SourceFault>
-    // What is given is the file that is written of the bundle that the text spells.
     ensures compiled { IfOk result (λ file. IsCompiled text.now file.items) }
-    // It ends with its bundle.
     ensures end { IfOk result
         (λ file. length file.items ≡ 32 + 4 * word_at (drop 32 file.items) 4) }
-    // A good source is compiled, unless memory runs out.
     ensures only { (name : List ℕ) (source : SourceTree) → IsGoodSource text.now name source
         → IfErr result (λ e. e.kind ≡ Memory) }
-    // What is reported is an error of the text, with its line, unless memory ran out.
     ensures refused { IfErr result (IsRefusal text.now) }
 {
     let source = match parse_unweighed(alloc, text) {

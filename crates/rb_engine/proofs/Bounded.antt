@@ -1,4 +1,4 @@
--- A lookup that may take only so many steps, as an answer.
+-- Proves the answer of a lookup with a limit on its steps.
 use Rattle.std.proofs.Common.{◌≡◌, ℕ, Bool, true, false, cond, List, Some, Result, Ok, Err, refl, sym, ◌∙◌, ap}
 use Rattle.std.specs.Prelude.{nat_lt}
 use Rattle.std.proofs.lemmas.Bool.{false≢true}

@@ -1,4 +1,4 @@
--- What a list of steps does to one application.
+-- Proves what a list of steps does to one application.
 use Rattle.std.proofs.Common.{◌≡◌, ℕ, inl, inr, Bool, true, false, cond, List, [], ◌∷◌, ◌++◌, Option, Some, None, Result, Ok, Err, refl, sym, ◌∙◌, ap, subst}
 use Rattle.std.specs.Str.{bytes_eq}
 use Rattle.std.proofs.lemmas.Slice.Eq.{bytes_eq-Decides}
@@ -69,7 +69,7 @@ pub asks_one : SpellsOne → AsksOne
 asks_one one (Requests r) a b p q = one_request one r a b p q
 asks_one one (LooksUp app locale path) a b p q = p ∙ sym q
 
--- ---- no answer over bundles is want of memory
+-- ---- no answer over bundles is out of memory
 
 refusal_not_memory : (e : PlaceFault) → is_memory (Replies (refusal e)) ≡ false
 refusal_not_memory place.BadApp = refl

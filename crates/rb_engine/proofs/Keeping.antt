@@ -1,4 +1,4 @@
--- A text's bundle in its file.
+-- Proves that the file of a text denotes the text's bundle.
 use Rattle.std.proofs.Common.{◌≡◌, ℕ, false, List, [], ◌∷◌, ◌++◌, ap}
 use Rattle.std.specs.Option.{unwrap_or}
 use Rattle.rb_tree.specs.Resource.{int}

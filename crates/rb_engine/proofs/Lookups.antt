@@ -1,4 +1,4 @@
--- A lookup as an answer.
+-- Proves the answer of a lookup.
 use Rattle.std.proofs.Common.{◌≡◌, ℕ, Bool, true, false, cond, List, Option, Some, Result, Ok, Err, IfOk, refl, sym, ◌∙◌, ap, subst}
 use Rattle.std.proofs.lemmas.Bool.{false≢true}
 use Rattle.rb_tree.specs.Resource.{Resource}

@@ -1,4 +1,4 @@
--- The steps of a request, once it is known which of its tests pass.
+-- Proves the steps of a request, by which of its checks pass.
 use Rattle.std.proofs.Common.{◌≡◌, ℕ, inl, inr, Bool, true, false, not, cond, List, [], ◌∷◌, ◌++◌, Option, Some, None, Result, Ok, Err, is_some}
 use Rattle.std.proofs.Common.{refl, sym, ap, subst}
 use Rattle.std.specs.Prelude.{codes, nat_eq, ◌⊎◌}

@@ -1,4 +1,4 @@
--- A payload that gives no bundle.
+-- Proves the answers to a payload without a bundle.
 use Rattle.std.proofs.Common.{◌≡◌, ◌⊎◌, inl, inr, refl}
 use Rattle.rb_tree.specs.SourceTree.{SourceTree}
 use Rattle.rb_engine.specs.Source.{HasNone, unread_reply}

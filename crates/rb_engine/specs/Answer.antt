@@ -1,5 +1,5 @@
--- What an application is answered over its bundles, and what its bundles are then. A lookup is the search of
--- rb_fallback, after ICU's `ures_getByKeyWithFallback`; the requests are this project's own.
+-- Defines the answer to an application from its bundles, and its bundles afterwards. A lookup is the search of
+-- rb_fallback (ICU's `ures_getByKeyWithFallback`); the requests are a rule of this project.
 use Rattle.std.specs.Prelude.{ℕ, List, [], ◌∷◌, ◌++◌, ◌||◌, map, if◌then◌else◌, Option, Some, None, Result, Ok, Err}
 use Rattle.rb_tree.specs.SourceTree.{SourceTree}
 use Rattle.rb_tree.specs.Path.{is_path, segments}
@@ -21,20 +21,20 @@ use Rattle.rb_engine.specs.declared.request.Reply.TheVariants.{BadFile, Exists, 
 use Rattle.rb_engine.specs.declared.request.LookFault.{LookFault}
 use Rattle.rb_engine.specs.declared.request.LookFault.TheVariants as fault
 
--- what is there from the start: the common bundles of ICUDATA, and the explicit parents
+-- the state at the start: the common bundles of ICUDATA, and the explicit parents
 pub record Start : Type 0 where
   pub icudata : Shelf
   pub parents : ParentsOf
 
--- what an application is answered: a reply, an item with the name of the first bundle asked, or why there is none
+-- an answer: a reply; an item with the name of the trail's first stop; or the reason why there is none
 pub data Response : Type 0 where
   Replies : Reply → Response
   Finds : Hit → (valid : List ℕ) → Response
   Refuses : LookFault → Response
 
--- ---- its bundles after what it asks
+-- ---- the application's bundles afterwards
 
--- a bundle goes after the others if its name is new and fewer than the most are there
+-- a bundle is added at the end if its name is new and the limit isn't reached
 abbrev pub added : Place → SourceTree → Shelf → Shelf
 added p source shelf = if holds p.name shelf || is_full shelf then shelf else shelf ++ (p.name, source) ∷ []
 
@@ -106,13 +106,13 @@ look_refusal place.BadApp = fault.BadApp
 look_refusal place.Reserved = fault.Reserved
 look_refusal place.BadLocale = fault.BadLocale
 
--- the valid locale is the first stop of the trail; if the trail has none there is nothing to find
+-- the valid locale is the first stop of the trail; without a stop nothing is found
 abbrev pub search_response : Option (List ℕ) → Result Hit LookError → Response
 search_response valid (Err e) = Refuses (look_fault_of e)
 search_response None (Ok hit) = Refuses fault.NoBundle
 search_response (Some valid) (Ok hit) = Finds hit valid
 
--- a path that is invalid is refused before anything is looked for
+-- an invalid path is rejected before the search
 abbrev pub lookup_in : Bundles → Bundles → ParentsOf → List ℕ → List ℕ → Response
 lookup_in own icu parents name path =
     if is_path path then search_response (first_stop own parents name) (look_up own icu parents name (segments path))
@@ -125,7 +125,7 @@ abbrev pub lookup_at : Start → Shelf → Result Place PlaceFault → List ℕ 
 lookup_at start shelf (Err e) path = Refuses (look_refusal e)
 lookup_at start shelf (Ok p) path = lookup_from start shelf p.name path
 
--- ---- what is answered over these bundles
+-- ---- the answer from these bundles
 
 abbrev pub answer_over : Start → Shelf → Ask → Response
 answer_over start shelf (Installs app locale content) = Replies (install_reply (place_of app locale) content shelf)
@@ -134,11 +134,11 @@ answer_over start shelf (Removes app locale) = Replies (remove_reply (place_of a
 answer_over start shelf (Lists app) = Replies (list_reply (app_of app) shelf)
 answer_over start shelf (Looks app locale path) = lookup_at start shelf (place_of app locale) path
 
--- the bundles after what an application asks, one by one
+-- the bundles after a list of calls
 abbrev pub bundles_after_all : Shelf → List Ask → Shelf
 bundles_after_all shelf [] = shelf
 bundles_after_all shelf (ask ∷ asks) = bundles_after_all (bundles_after ask shelf) asks
 
--- the answer to an application that asked this before, from no bundles
+-- the answer to an application that asked this before, starting without bundles
 abbrev pub answer : Start → List Ask → Ask → Response
 answer start asked ask = answer_over start (bundles_after_all [] asked) ask

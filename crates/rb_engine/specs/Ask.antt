@@ -1,5 +1,5 @@
--- What an application calls, and what it asks by that: a payload counts by the bundle that it is. The requests are this
--- project's own.
+-- Defines what a call asks, where a payload counts as the bundle that it denotes. The requests are a rule of this
+-- project.
 use Rattle.std.specs.Prelude.{◌≡◌, ℕ, List, Option, Some, None, Result, Ok, Err}
 use Rattle.rb_tree.specs.SourceTree.{SourceTree}
 use Rattle.rb_parser.specs.Source.{IsGoodSource}
@@ -12,7 +12,7 @@ use Rattle.rb_engine.specs.declared.request.Payload.TheVariants.{Text, File}
 use Rattle.rb_engine.specs.declared.request.Request.{Request}
 use Rattle.rb_engine.specs.declared.request.Request.TheVariants as request
 
--- a call of the engine, as it comes
+-- a call of the engine, before it is read
 pub data Call : Type 0 where
   Requests : Request → Call
   LooksUp : (app locale path : List ℕ) → Call
@@ -28,8 +28,7 @@ abbrev pub caller : Call → List ℕ
 caller (Requests r) = requester r
 caller (LooksUp app locale path) = app
 
--- the bundle that a text spells, or nothing if it is not a good text; the bundle that a file denotes, or nothing;
--- and a payload that is not looked at
+-- the bundle that a text or a file denotes, nothing if it is invalid, or a payload that isn't read
 pub data Content : Type 0 where
   spelled : Option SourceTree → Content
   denoted : Option SourceTree → Content
@@ -45,12 +44,12 @@ IsContent (File bytes) (denoted None) = (source : SourceTree) → Denotes bytes 
 IsContent (File bytes) (spelled source) = ⊥
 IsContent (File bytes) unread = ⊥
 
--- a payload is looked at only if the request names a place
+-- a payload is read only if the request's names are valid
 abbrev pub IsRead : Result Place PlaceFault → Payload → Content → Type 0
 IsRead (Err e) payload content = content ≡ unread
 IsRead (Ok p) payload content = IsContent payload content
 
--- what is asked
+-- a question that a call asks
 pub data Ask : Type 0 where
   Installs : (app locale : List ℕ) → Content → Ask
   Replaces : (app locale : List ℕ) → Content → Ask

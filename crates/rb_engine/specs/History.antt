@@ -1,5 +1,5 @@
--- Histories of many applications on one engine, and what holds of them all: this project's own rule that none sees
--- another's bundles.
+-- Defines histories of many applications on one engine, and states that no application sees another's bundles, a rule
+-- of this project.
 use Rattle.std.specs.Prelude.{◌≡◌, ◌≢◌, ℕ, Bool, true, false, List, [], ◌∷◌, ◌++◌, not, map, filter, ◌⊎◌}
 use Rattle.std.specs.Str.{bytes_eq}
 use Rattle.rb_packages.specs.Shelf.{Shelf}
@@ -14,7 +14,7 @@ pub record State : Type 0 where
   pub start : Start
   pub lists : List ℕ → Shelf
 
--- an engine at its start has no bundles of any application
+-- at the start no application has bundles
 abbrev pub new_state : Start → State
 new_state start = record { start = start; lists = λ app. [] }
 
@@ -32,7 +32,7 @@ is_memory (Replies reply) = is_memory_reply reply
 is_memory (Finds hit valid) = false
 is_memory (Refuses e) = false
 
--- which calls may run out of memory: a removal and a lookup never do
+-- the calls that may run out of memory: all except removals and lookups
 abbrev pub may_run_out_of_memory : Call → Bool
 may_run_out_of_memory (Requests (request.Install app locale payload)) = true
 may_run_out_of_memory (Requests (request.Replace app locale payload)) = true
@@ -40,14 +40,14 @@ may_run_out_of_memory (Requests (request.Remove app locale)) = false
 may_run_out_of_memory (Requests (request.List app)) = true
 may_run_out_of_memory (LooksUp app locale path) = false
 
--- memory ran out, and nothing changes
+-- out of memory: nothing changes
 pub record OutOfMemory (old : State) (call : Call) (response : Response) (new : State) : Type 0 where
   pub memory : response ≡ Replies Memory
   pub may : may_run_out_of_memory call ≡ true
   pub start : new.start ≡ old.start
   pub lists : (app : List ℕ) → new.lists app ≡ old.lists app
 
--- the caller gets the answer over its own bundles, which change as it asks; no other application's do
+-- the caller is answered from its own bundles, which change as it asks; those of the others don't change
 pub record Answered (old : State) (call : Call) (response : Response) (new : State) : Type 0 where
   pub ask : Ask
   pub means : Means call ask
@@ -59,7 +59,7 @@ pub record Answered (old : State) (call : Call) (response : Response) (new : Sta
 abbrev pub Step : State → Call → Response → State → Type 0
 Step old call response new = OutOfMemory old call response new ⊎ Answered old call response new
 
--- a list of steps
+-- a sequence of steps
 abbrev pub Run : State → List Turn → State → Type 0
 Run old [] new = (new.start ≡ old.start) × ((app : List ℕ) → new.lists app ≡ old.lists app)
 Run old (turn ∷ turns) new = (mid : State) × Step old turn.call turn.response mid × Run mid turns new
@@ -83,17 +83,17 @@ EachMeans (call ∷ calls) (ask ∷ asks) = Means call ask × EachMeans calls as
 abbrev pub asked_by : List ℕ → List Turn → List (Call × Bool)
 asked_by app history = map (λ turn. (turn.call, is_memory turn.response)) (turns_of app history)
 
--- what the application was answered
+-- the answers to the application
 abbrev pub responses_to : List ℕ → List Turn → List Response
 responses_to app history = map (λ turn. turn.response) (turns_of app history)
 
--- ---- what holds of every history
+-- ---- properties of every history
 
 -- a call asks one thing
 abbrev pub AsksOne : Type 0
 AsksOne = (call : Call) (a b : Ask) → Means call a → Means call b → a ≡ b
 
--- each answer but out of memory is that over what the caller itself asked before
+-- each answer except out of memory is the one over what the caller asked before
 abbrev pub AnswersOwn : Type 0
 AnswersOwn =
     (start : Start) (before after : List Turn) (turn : Turn) (end : State)
@@ -102,8 +102,8 @@ AnswersOwn =
     → (asked : List Ask) × (ask : Ask) × EachMeans (own_calls (caller turn.call) before) asked × Means turn.call ask
     × (turn.response ≡ answer start asked ask)
 
--- two histories with the same start, and with the same calls of one application, the same ones of which ran out of
--- memory, answer it the same
+-- two histories with the same start answer an application the same if its calls are the same, and the same ones run out
+-- of memory
 abbrev pub IsIsolated : Type 0
 IsIsolated =
     (start : Start) (app : List ℕ) (first second : List Turn) (end end' : State)

@@ -1,4 +1,5 @@
--- What an engine is seen as: its packages and the explicit parents. A bundle's file is seen as its source tree.
+-- Defines the model of an engine: its packages and the explicit parents, where a bundle's file counts as its source
+-- tree.
 use Rattle.std.specs.Prelude.{◌≡◌, ℕ, List, ◌∷◌, ◌++◌}
 use Rattle.rb_tree.specs.SourceTree.{SourceTree}
 use Rattle.rb_parser.specs.Source.{IsGoodSource}
@@ -18,11 +19,11 @@ pub record Kept : Type 0 where
 abbrev pub state_over : ParentsOf → Stored → State
 state_over parents packages = record { start = record { icudata = icudata_of packages; parents = parents }; lists = λ app. list_of app packages }
 
--- as each application sees it
+-- the engine's state, as each application sees it
 abbrev pub state_of : Kept → State
 state_of engine = state_over (parent_in engine.parents) engine.packages
 
--- a lookup over files, of which one denotes the bundle that a text spells, is the lookup over the text's own bundle
+-- a lookup over files, one of which denotes the bundle of a text, is the lookup over the text's own bundle
 abbrev pub KeepsTexts : Type 0
 KeepsTexts =
     (start : Start) (before after : Files) (locale text name file : List ℕ) (source : SourceTree)
@@ -31,7 +32,7 @@ KeepsTexts =
     → (from path : List ℕ) → lookup_from start (shelf_of (before ++ (locale, file) ∷ after)) from path
     ≡ lookup_from start (shelf_of before ++ (locale, source) ∷ shelf_of after) from path
 
--- the same if ICUDATA has such a file
+-- the lookup over a file of ICUDATA is that over the text, too
 abbrev pub KeepsCommonTexts : Type 0
 KeepsCommonTexts =
     (parents : ParentsOf) (own : Shelf) (before after : Files) (locale text name file : List ℕ) (source : SourceTree)

@@ -1,4 +1,4 @@
--- A search's error as a lookup's.
+-- Defines the error of a lookup from that of a search.
 use Rattle.rb_fallback.specs.declared.fault.LookError.{LookError}
 use Rattle.rb_fallback.specs.declared.fault.LookError.TheVariants as error
 use Rattle.rb_engine.specs.declared.request.LookFault.{LookFault}

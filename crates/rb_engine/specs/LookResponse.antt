@@ -1,4 +1,4 @@
--- What the application is answered by a lookup, of what `Engine::look` gives.
+-- Defines the answer to an application from the result of `Engine::look`.
 use Rattle.std.specs.Prelude.{Result, Ok, Err}
 use Rattle.rb_tree.specs.Resource.{Resource}
 use Rattle.rb_engine.specs.Answer.{Response, Finds, Refuses}

@@ -1,4 +1,4 @@
--- Where a request's bundle is to be, this project's own rule: under an application's name and a locale's.
+-- Defines the name under which a bundle is stored, an application and a locale, a rule of this project.
 use Rattle.std.specs.Prelude.{ℕ, List, Option, Some, None, Result, Ok, Err}
 use Rattle.rb_locales.specs.Locale.{name}
 use Rattle.rb_packages.specs.App.{app_of}
@@ -12,7 +12,7 @@ abbrev pub app_refusal : AppFault → PlaceFault
 app_refusal app.BadApp = place.BadApp
 app_refusal app.Reserved = place.Reserved
 
--- the application is judged before the locale
+-- the application's name is checked before the locale
 abbrev pub place_by : Result (List ℕ) AppFault → Option (List ℕ) → Result Place PlaceFault
 place_by (Err e) n = Err (app_refusal e)
 place_by (Ok a) None = Err place.BadLocale

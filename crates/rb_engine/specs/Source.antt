@@ -1,4 +1,4 @@
--- A payload's bundle, or why there is none, and what a request that brings one asks.
+-- Defines a payload's bundle, or the reason why it has none, and what a request with a payload asks.
 use Rattle.std.specs.Prelude.{◌≡◌, ◌⊎◌, ℕ, true, false, List, [], ◌∷◌, ◌++◌, None, Result, Ok, Err}
 use Rattle.rb_tree.specs.SourceTree.{SourceTree}
 use Rattle.rb_lexer.specs.declared.fault.SourceKind.{SourceKind}
@@ -41,20 +41,20 @@ HasNone (File bytes) fault.BadText = ⊥
 HasNone (File bytes) fault.BadFile = IsContent (File bytes) (denoted None)
 HasNone (File bytes) fault.Memory = Unit {0}
 
--- the file of a payload's bundle, or why there is none
+-- the file of a payload's bundle, or the reason why there is none
 abbrev pub BundleOrFault : Payload → Result (List ℕ) PayloadFault → Type 0
 BundleOrFault payload (Ok file) = HasBundle payload (source_tree_of file)
 BundleOrFault payload (Err fault) = HasNone payload fault
 
--- the error of a text as that of a payload; out of memory stays what it is
+-- the error of a text as one of a payload; out of memory stays out of memory
 abbrev pub IsTextFault : SourceKind → PayloadFault → Type 0
 IsTextFault kind f = ((kind ≡ text.Memory) × (f ≡ fault.Memory)) ⊎ ((kind ≡ text.Memory → ⊥) × (f ≡ fault.BadText))
 
--- the same of a file's
+-- the error of a file as one of a payload
 abbrev pub IsFileFault : FileFault → PayloadFault → Type 0
 IsFileFault e f = ((e ≡ file.Memory) × (f ≡ fault.Memory)) ⊎ ((e ≡ file.Memory → ⊥) × (f ≡ fault.BadFile))
 
--- an entry at an index is added last to a shelf, or is refused
+-- the entry at an index is added at the end of a shelf, or rejected
 abbrev pub Adds : ℕ → List ℕ → Payload → Shelf → Result (Unit {0}) StartFault → Shelf → Type 0
 Adds index name payload old (Ok done) new = (source : SourceTree) × HasBundle payload source × (holds name old ≡ false)
     × (new ≡ old ++ (name, source) ∷ [])
@@ -66,26 +66,26 @@ Adds index name payload old (Err (start.Twice i)) new = (i ≡ index) × (source
     × (holds name old ≡ true)
 Adds index name payload old (Err start.Memory) new = Unit {0}
 
--- the reply if a payload gives no bundle
+-- the reply to a payload without a bundle
 abbrev pub unread_reply : PayloadFault → Reply
 unread_reply fault.BadText = reply.BadText
 unread_reply fault.BadFile = reply.BadFile
 unread_reply fault.Memory = reply.Memory
 
--- a request's place with the file of its payload's bundle; or the reply if it names no place, or if its payload
--- has no bundle
+-- a request's names with the file of its payload's bundle; or the reply if they are invalid, or if the payload has no
+-- bundle
 abbrev pub Reads : List ℕ → List ℕ → Payload → Result (Place × List ℕ) Reply → Type 0
 Reads app locale payload (Ok r) = (place_of app locale ≡ Ok r.0) × HasBundle payload (source_tree_of r.1)
 Reads app locale payload (Err reply) =
     ((e : PlaceFault) × (place_of app locale ≡ Err e) × (reply ≡ refusal e))
     ⊎ ((p : Place) × (e : PayloadFault) × (place_of app locale ≡ Ok p) × HasNone payload e × (reply ≡ unread_reply e))
 
--- a request that brings a bundle
+-- a request with a payload
 abbrev pub change_request : Change → List ℕ → List ℕ → Payload → Request
 change_request changes.Install = request.Install
 change_request changes.Replace = request.Replace
 
--- a request is answered with a reply over what packages have, and changes it, whatever the explicit parents are
+-- a request gets this reply from these packages, and changes them so, whatever the explicit parents are
 abbrev pub Handles : Request → Reply → Stored → Stored → Type 0
 Handles r reply old new = (parents : ParentsOf)
     → Step (state_over parents old) (Requests r) (Replies reply) (state_over parents new)

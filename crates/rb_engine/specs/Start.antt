@@ -1,5 +1,5 @@
--- What an engine starts with, this project's own rule: the bundles of ICUDATA, each a name and a payload, or the first
--- entry that is refused. The payload is judged before the name.
+-- Defines the bundles of ICUDATA at the start of an engine, each a name and a payload, or the first entry that is
+-- rejected, a rule of this project. The payload is checked before the name.
 use Rattle.std.specs.Prelude.{◌≡◌, ◌<◌, ℕ, true, false, List, [], ◌∷◌, ◌++◌, length, Some, None}
 use Rattle.rb_tree.specs.SourceTree.{SourceTree}
 use Rattle.rb_packages.specs.Shelf.{Shelf, holds}
@@ -18,13 +18,13 @@ abbrev pub HasBundle : Payload → SourceTree → Type 0
 HasBundle (Text bytes) source = IsContent (Text bytes) (spelled (Some source))
 HasBundle (File bytes) source = IsContent (File bytes) (denoted (Some source))
 
--- the bundles after entries, each of which has a bundle and a name that isn't there yet
+-- the bundles after these entries, each of which has a bundle and a new name
 abbrev pub Loads : Shelf → Entries → Shelf → Type 0
 Loads old [] new = new ≡ old
 Loads old (e ∷ es) new = (source : SourceTree) × HasBundle e.1 source × (holds e.0 old ≡ false)
     × Loads (old ++ (e.0, source) ∷ []) es new
 
--- the entry at an index, before which all entries load
+-- the entry at an index, before which all entries are valid
 pub record IsReached (entries : Entries) (at : ℕ) (name : List ℕ) (payload : Payload) (shelf : Shelf) : Type 0 where
   pub before : Entries
   pub after : Entries
@@ -32,7 +32,7 @@ pub record IsReached (entries : Entries) (at : ℕ) (name : List ℕ) (payload :
   pub count : length before ≡ at
   pub loaded : Loads [] before shelf
 
--- the first entry whose payload has no bundle, or whose payload has one and whose name is there
+-- the first entry whose payload has no bundle, or else whose name isn't new
 abbrev pub IsRefused : Entries → StartFault → Type 0
 IsRefused entries (BadText i) = (name text : List ℕ) × (shelf : Shelf) × IsReached entries i name (Text text) shelf
     × IsContent (Text text) (spelled None)
@@ -43,7 +43,7 @@ IsRefused entries (Twice i) = (name : List ℕ) × (payload : Payload) × (sourc
     × HasBundle payload source × (holds name shelf ≡ true)
 IsRefused entries Memory = Unit {0}
 
--- the index of a refused entry is that of an entry
+-- the index of a rejected entry is that of an entry
 abbrev pub IsIndexed : ℕ → StartFault → Type 0
 IsIndexed count (BadText i) = i < count
 IsIndexed count (BadFile i) = i < count

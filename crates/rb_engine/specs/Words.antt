@@ -1,4 +1,4 @@
--- The words of replies and of errors: each is its variant's name.
+-- Defines the codes of replies and of errors: the variant's name.
 use Rattle.std.specs.Prelude.{ℕ, List, codes}
 use Rattle.rb_engine.specs.declared.request.Reply.{Reply}
 use Rattle.rb_engine.specs.declared.request.Reply.TheVariants as reply

@@ -1,4 +1,3 @@
-//! Bundles that requests bring, read and not put yet.
 ghost use Rattle.std.specs.Prelude.{◌≡◌, IfOk, length};
 ghost use Rattle.rb_engine.specs.Source.{Reads};
 ghost use Rattle.rb_engine.specs.Change.{IsFileOf};
@@ -12,8 +11,7 @@ use rb_validator::Bundle;
 use std::alloc::Global;
 use std::marker::Model;
 
-/// A bundle that a request brings, and where it is to be. Contracts see it as its place, an
-/// application with a locale's name, and the bytes of its file.
+/// A bundle that was read from a request's payload, and the name under which to store it.
 #[derive(Drop)]
 pub struct Brought {
     place: Place,
@@ -33,17 +31,9 @@ impl Model for Brought {
 }
 
 impl Brought {
-    /// Reads what a request brings: where a bundle is to be, and the bundle of a payload. A text is
-    /// parsed, written as a file and accepted; a file is accepted.
-    ///
-    /// It is judged in this order, and the error is the reply: `BadApp`, `Reserved`, `BadLocale`,
-    /// `BadText`, `BadFile`. `Memory`: out of memory, which may come before `BadText` and
-    /// `BadFile`. After an error nothing is kept of the payload.
-    ///
-    /// ```rust
-    /// let brought = Brought::read(alloc, &app, &locale, payload)?;
-    /// engine.put(Change::Install, brought) // Reply::Done
-    /// ```
+    /// Reads an incoming bundle: checks its names, then parses and writes a text or accepts a file.
+    /// Returns the first error: `BadApp`, `Reserved`, `BadLocale`, `BadText` or `BadFile`; or
+    /// `Memory`. An error keeps nothing of the payload.
     pub fn read(
         alloc: Global,
         app: &ByteList,
@@ -58,28 +48,24 @@ impl Brought {
         Ok(Brought { place, bundle })
     }
 
-    /// The application whose bundle it is to be.
     pub fn app(&self) -> &App
         ensures { result.now ≡ self.now.0.app }
     {
         &self.place.app
     }
 
-    /// The length of the bundle's file.
     pub fn len(&self) -> u64
         ensures { result ≡ length self.now.1 }
     {
         self.bundle.bytes().len() as u64
     }
 
-    /// Where it is to be.
     pub(crate) fn place(&self) -> &Place
         ensures { result.now ≡ self.now.0 }
     {
         &self.place
     }
 
-    /// Where it is to be, and the bundle.
     pub(crate) fn into_parts(self) -> (Place, Bundle)
         ensures { result ≡ self }
     {

@@ -1,4 +1,3 @@
-//! The engine of many applications.
 ghost use Rattle.std.specs.Prelude.{◌≡◌, ◌≢◌, ◌+◌, ◌-◌, ◌^◌, [], ℕ, List, length, Ok, true, false};
 ghost use Rattle.std.specs.Prelude.{IfOk, IfErr, OnOk, OnErr, min, option_map};
 ghost use Rattle.std.specs.Coded.{codes};
@@ -37,10 +36,10 @@ use std::alloc::Global;
 use std::hash::RandomState;
 use std::marker::Model;
 
-/// The bundles of many applications, the common bundles of ICUDATA and the explicit parents.
+/// The bundles of many applications and of ICUDATA, with the explicit parents.
 ///
-/// An application sees its own bundles and those of ICUDATA, and nothing of another application's.
-/// Of each bundle only the bytes of its file are kept.
+/// An application sees its own bundles and those of ICUDATA, never those of another. The engine
+/// stores only the bytes of each bundle's file.
 #[derive(Drop)]
 pub struct Engine {
     packages: Packages,
@@ -56,17 +55,10 @@ impl Model for Engine {
 }
 
 impl Engine {
-    /// An engine with the bundles of ICUDATA and explicit parents, and with no bundles of
-    /// applications, whose index hashes by `state`.
-    ///
-    /// `BadText(i)`, `BadFile(i)` and `Twice(i)` are at the first entry i of ICUDATA that is
-    /// refused: its payload is no good text, or no file of a bundle, or else its name is that of an
-    /// earlier entry. `Memory`: out of memory. An error leaves nothing allocated.
-    ///
-    /// ```rust
-    /// let state = RandomState::new(rt)?;
-    /// let engine = Engine::start(alloc, state, Vec::new(alloc), Parents::none(alloc))?;
-    /// ```
+    /// Starts an engine with the bundles of ICUDATA and explicit parents; `state` seeds its hashes.
+    /// Returns an error with the index of the first invalid entry: `BadText` or `BadFile` for its
+    /// payload, else `Twice` for a name that an earlier entry has; or `Memory`. An error leaves
+    /// nothing allocated.
     pub fn start(
         alloc: Global,
         state: RandomState,
@@ -86,17 +78,20 @@ impl Engine {
         Ok(Engine { packages, parents })
     }
 
-    /// Answers one request. A text is parsed, written as a file and accepted; a file is accepted.
+    /// Handles one request: parses a text and writes it as a file, or takes a file; then accepts
+    /// the file as a bundle.
     ///
-    /// A request is judged in this order: `BadApp`, `Reserved`, `BadLocale`, `BadText`, `BadFile`,
-    /// `Exists`, `Absent`, `Full`. `Memory` may come before any of them, though never to a removal.
-    /// A refused request changes nothing, and its payload is dropped.
+    /// Checks in this order: `BadApp`, `Reserved`, `BadLocale`, `BadText`, `BadFile`, `Exists`,
+    /// `Absent`, `Full`. `Memory` may come before any of them, except for a removal. A rejected
+    /// request changes nothing, and its payload is dropped.
     ///
     /// ```rust
     /// engine.handle(alloc, Request::Install { app, locale, payload }) // Reply::Done
     /// ```
     pub fn handle(&mut self, alloc: Global, request: Request) -> Reply
-        ensures { Step (state_of self.old) (Requests request) (Replies result) (state_of self.new) }
+        ensures step { Step (state_of self.old) (Requests request) (Replies result)
+            (state_of self.new) }
+        ensures unchanged { result ≢ Reply.Done → self.new ≡ self.old }
     {
         match request {
             Request::Install {
@@ -114,7 +109,6 @@ impl Engine {
         }
     }
 
-    /// Handles a request that brings a bundle.
     fn read_and_put(
         &mut self,
         alloc: Global,
@@ -123,9 +117,10 @@ impl Engine {
         locale: &ByteList,
         payload: Payload,
     ) -> Reply
-        ensures { Step (state_of self.old)
+        ensures step { Step (state_of self.old)
             (Requests (change_request change app.now locale.now payload)) (Replies result)
             (state_of self.new) }
+        ensures unchanged { result ≢ Reply.Done → self.new ≡ self.old }
     {
         match Brought::read(alloc, app, locale, payload) {
             Ok(brought) => self.put(change, brought),
@@ -133,16 +128,10 @@ impl Engine {
         }
     }
 
-    /// Puts a bundle that a request brought and that was read: what `handle` does after it has read
-    /// the payload. An install puts it after the application's other bundles, a replacement in the
-    /// place of the one of its name.
-    ///
-    /// `Done`: it is put. `Exists`: an install, and the application has a bundle of that name.
-    /// `Absent`: a replacement, and it has none. `Full`: an install, and it has as many bundles as
-    /// it may. `Memory`: an install that ran out of memory; a replacement takes none. Any other
-    /// reply than `Done` changes nothing, and the bundle is dropped.
+    /// Stores an incoming bundle: the part of `handle` after reading the payload. Any reply other
+    /// than `Done` changes nothing and drops the bundle: `Exists`, `Full` and `Memory` for an
+    /// install, `Absent` for a replacement, which allocates nothing.
     pub fn put(&mut self, change: Change, brought: Brought) -> Reply
-        // To whoever brought it, the reply is that to the request.
         ensures step { (app locale : List ℕ) → (payload : Payload)
             → Reads app locale payload (Ok brought)
             → Step (state_of self.old) (Requests (change_request change app locale payload))
@@ -165,10 +154,8 @@ impl Engine {
         }
     }
 
-    /// Takes a bundle out: what `handle` does for a removal. It takes no memory.
-    ///
-    /// `Done`: it is taken out. `BadApp`, `Reserved`, `BadLocale`: there is no such place.
-    /// `Absent`: there is no bundle. Any other reply than `Done` changes nothing.
+    /// Removes a bundle, like `handle`. Any reply other than `Done` changes nothing: `BadApp`,
+    /// `Reserved`, `BadLocale` or `Absent`. Allocates nothing.
     pub fn remove(&mut self, app: &ByteList, locale: &ByteList) -> Reply
         ensures step { Step (state_of self.old) (Requests (Removal app.now locale.now))
             (Replies result) (state_of self.new) }
@@ -181,8 +168,8 @@ impl Engine {
         handle::remove(&mut self.packages, app, locale)
     }
 
-    /// The names of an application's bundles in the order of installing: what `handle` answers to a
-    /// list. `BadApp`, `Reserved`: it is no application's name. `Memory`: out of memory.
+    /// Lists the names of an application's bundles, like `handle`: `Names`, `BadApp`, `Reserved` or
+    /// `Memory`.
     pub fn list(&self, alloc: Global, app: &ByteList) -> Reply
         ensures { Step (state_of self.now) (Requests (Listing app.now)) (Replies result)
             (state_of self.now) }
@@ -190,8 +177,7 @@ impl Engine {
         handle::list(&self.packages, alloc, app)
     }
 
-    /// How much an application holds: nothing if it has no bundles. It takes no memory, and goes
-    /// once through the application's own bundles.
+    /// Returns how much an application stores. Takes time linear in its number of bundles.
     pub fn usage(&self, app: &App) -> Usage
         ensures bytes { result.bytes
             ≡ min (bytes_of (files_of app.now self.now.packages)) (2 ^ 64 - 1) }
@@ -200,8 +186,7 @@ impl Engine {
         self.packages.usage(app)
     }
 
-    /// The length of the file of the bundle that is where a brought one is to be, if there is one.
-    /// It takes no memory.
+    /// Returns the length of the file that is stored under the incoming bundle's name.
     pub fn file_len(&self, brought: &Brought) -> Option<u64>
         ensures { result
             ≡ option_map length (file_at brought.now.0.app brought.now.0.name self.now.packages) }
@@ -210,26 +195,19 @@ impl Engine {
         self.packages.file_len(&place.app, &place.name)
     }
 
-    /// How many applications have bundles. It takes no memory.
     pub fn apps(&self) -> u64
         ensures count { result ≡ apps_of self.now.packages }
-        // Each of them counts once, and has bundles.
+        // Each application counts once, and has bundles.
         ensures once { AreThereOnce self.now.packages }
     {
         self.packages.apps()
     }
 
-    /// Looks up the item at a path, from a locale on, along the trail of locale inheritance, and
-    /// lends it out of its bundle's file. It takes no memory.
+    /// Looks up the item at a path along the trail of locale inheritance, and borrows it from its
+    /// bundle's file. Allocates nothing.
     ///
-    /// A lookup is judged in this order: `BadApp`, `Reserved`, `BadLocale`, `BadPath`, and then the
-    /// refusals of a search in the order in which it meets them. While what was found is held, the
-    /// engine can't be changed.
-    ///
-    /// ```rust
-    /// let found = engine.look(b"shop", b"de_AT", b"menu/open")?;
-    /// engine.look(b"bank", b"de_AT", b"menu/open") // Err(LookFault::NoBundle)
-    /// ```
+    /// Checks `BadApp`, `Reserved`, `BadLocale` and `BadPath` in this order; then the search
+    /// returns its first error.
     pub fn look(&self, app: &[u8], locale: &[u8], path: &[u8]) -> Result<Found<Item<'_>>, LookFault>
         ensures { look_response tree_seen result
             ≡ answer_over (state_of self.now).start ((state_of self.now).lists app.now)
@@ -239,17 +217,11 @@ impl Engine {
         look_at(&self.packages, &self.parents, &place, path)
     }
 
-    /// Looks up as `look` does, if that takes no more than this many steps: at each level of the
-    /// search, the names of its trail times one more than the segments of its path. It takes no
-    /// memory.
+    /// Looks up like `look`, or returns `TooManySteps` if the lookup would take more than this many
+    /// steps, whatever it would find. An invalid application, locale or path is reported first.
     ///
-    /// `TooManySteps`: the lookup would take more, whatever it would find; but a refusal of the
-    /// application, of the locale or of the path comes first. A lookup never takes more than
-    /// 4,202,496 steps.
-    ///
-    /// ```rust
-    /// engine.look_within(b"shop", b"de_AT", b"menu/open", 1000)?? // as `look` gives it
-    /// ```
+    /// Each level of the search counts the names of its trail times one more than the segments of
+    /// its path. No lookup takes more than 4,202,496 steps.
     pub fn look_within(
         &self,
         app: &[u8],
@@ -285,7 +257,6 @@ impl From<LookError> for LookFault {
     }
 }
 
-/// Looks a path up from a place.
 fn look_at<'a>(
     packages: &'a Packages,
     parents: &Parents,
@@ -303,7 +274,6 @@ fn look_at<'a>(
     }
 }
 
-/// Looks a path up from a place, by no more than this many steps.
 fn look_at_within<'a>(
     packages: &'a Packages,
     parents: &Parents,

@@ -1,4 +1,3 @@
-//! The requests, on the packages of all applications.
 ghost use Rattle.std.specs.Prelude.{◌≡◌, ◌≢◌, ◌+◌, ℕ, List, Ok, [], ◌∷◌, ◌++◌};
 ghost use Rattle.std.specs.Map.{set_value};
 ghost use Rattle.std.specs.Str.{bytes_eq};
@@ -18,17 +17,14 @@ use rb_tree::ByteList;
 use rb_validator::Bundle;
 use std::alloc::Global;
 
-/// What a bundle that is brought is for.
+/// The kind of request that stores a bundle.
 #[derive(Clone, Copy, Debug, PartialEq, Eq)]
 pub enum Change {
-    /// It is put after the others, if there is none of its name.
     Install,
-    /// It is put in the place of the one of its name.
     Replace,
 }
 
 impl Change {
-    /// The request of an application that brings a bundle for this change.
     pub fn request(self, app: ByteList, locale: ByteList, payload: Payload) -> Request
         ensures { result ≡ change_request self app locale payload }
     {
@@ -61,7 +57,6 @@ impl From<PackFault> for Reply {
     }
 }
 
-/// Installs the bundle that a request brings.
 pub(crate) fn install(packages: &mut Packages, place: &Place, bundle: Bundle) -> Reply
     ensures step { (app locale : List ℕ) → (payload : Payload)
         → Reads app locale payload (Ok (place.now, bundle))
@@ -81,7 +76,6 @@ pub(crate) fn install(packages: &mut Packages, place: &Place, bundle: Bundle) ->
     }
 }
 
-/// Puts the bundle that a request brings in the place of the one that is there. It takes no memory.
 pub(crate) fn replace(packages: &mut Packages, place: &Place, bundle: Bundle) -> Reply
     ensures step { (app locale : List ℕ) → (payload : Payload)
         → Reads app locale payload (Ok (place.now, bundle))

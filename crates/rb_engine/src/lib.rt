@@ -1,4 +1,4 @@
-//! The bundles of many applications, and requests and lookups on them.
+//! The engine: handles requests and lookups of many applications over their bundles.
 #![tactic(auto)]
 
 mod brought;

@@ -1,4 +1,3 @@
-//! The bundle of a payload.
 ghost use Rattle.std.specs.Prelude.{◌≡◌, IfOk};
 ghost use Rattle.rb_compiler.specs.Compiled.{IsCompiled};
 ghost use Rattle.rb_engine.specs.Source.{BundleOrFault};
@@ -14,7 +13,7 @@ use rb_tree::ByteList;
 use rb_validator::{Bundle, accept};
 use std::alloc::{AllocError, Global};
 
-/// Why a payload gives no bundle.
+/// The reason why a payload isn't a bundle.
 #[derive(Clone, Copy, Debug, PartialEq, Eq)]
 pub(crate) enum PayloadFault {
     BadText,
@@ -68,7 +67,7 @@ impl From<PayloadFault> for Reply {
     }
 }
 
-/// The bundle that a text spells, if it spells one.
+/// Parses a text, writes it as a file and accepts that.
 fn text_bundle(alloc: Global, text: ByteList) -> Result<Bundle, PayloadFault>
     ensures bundle { BundleOrFault (Text text) result }
     ensures file { IfOk result (λ file. IsCompiled text file) }
@@ -85,7 +84,6 @@ fn text_bundle(alloc: Global, text: ByteList) -> Result<Bundle, PayloadFault>
     }
 }
 
-/// The bundle that a file denotes, if it denotes one.
 fn file_bundle(alloc: Global, file: ByteList) -> Result<Bundle, PayloadFault>
     ensures bundle { BundleOrFault (File file) result }
     ensures file { IfOk result (λ bundle. bundle ≡ file) }
@@ -97,7 +95,7 @@ fn file_bundle(alloc: Global, file: ByteList) -> Result<Bundle, PayloadFault>
     }
 }
 
-/// The bundle of a payload. `BadText` and `BadFile`: it has none.
+/// Reads a payload's bundle, or returns `BadText`, `BadFile` or `Memory`.
 pub(crate) fn bundle_of(alloc: Global, payload: Payload) -> Result<Bundle, PayloadFault>
     ensures bundle { BundleOrFault payload result }
     ensures file { IfOk result (IsFileOf payload) }

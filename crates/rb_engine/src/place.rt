@@ -1,4 +1,3 @@
-//! Where a bundle is: under an application's name and a locale's.
 ghost use Rattle.std.specs.Prelude.{◌≡◌};
 ghost use Rattle.rb_engine.specs.Place.{place_of as placed};
 
@@ -7,14 +6,13 @@ use crate::same_name::same_name;
 use rb_locales::Name;
 use rb_packages::{App, AppFault};
 
-/// Where a bundle is.
+/// The name of a stored bundle: its application and its locale.
 #[derive(Clone, Copy)]
 pub struct Place {
     pub app: App,
     pub name: Name,
 }
 
-/// Why a request names no place.
 #[derive(Clone, Copy, Debug, PartialEq, Eq)]
 pub(crate) enum PlaceFault {
     BadApp,
@@ -32,7 +30,7 @@ impl From<AppFault> for PlaceFault {
     }
 }
 
-/// Reads where a bundle is to be; the application is judged before the locale.
+/// Reads an application's name, then a locale's name.
 pub(crate) fn place_of(app: &[u8], locale: &[u8]) -> Result<Place, PlaceFault>
     ensures { result ≡ placed app.now locale.now }
 {

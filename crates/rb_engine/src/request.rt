@@ -1,46 +1,38 @@
-//! What is asked of an engine, and what it answers.
 ghost use Rattle.std.specs.Prelude.{◌≡◌};
 
 use rb_locales::Name;
 use rb_tree::ByteList;
 use std::marker::Model;
 
-/// What a bundle is made of.
+/// The payload of a request, from which a bundle is read.
 #[derive(Debug, Drop)]
 pub enum Payload {
-    /// A bundle text.
     Text(ByteList),
-    /// A `.res` file.
     File(ByteList),
 }
 
-/// A request of an application. Its name and the locale are as they came.
+/// A request of an application, with unchecked names.
 #[derive(Debug, Drop)]
 pub enum Request {
-    /// Puts a bundle if there is none.
     Install {
         app: ByteList,
         locale: ByteList,
         payload: Payload,
     },
-    /// Puts a bundle in the place of the one that is there.
     Replace {
         app: ByteList,
         locale: ByteList,
         payload: Payload,
     },
-    /// Takes a bundle out.
     Remove {
         app: ByteList,
         locale: ByteList,
     },
-    /// Asks for the names of the application's bundles.
     List {
         app: ByteList,
     },
 }
 
-/// Names of locales, seen by contracts as a list.
 #[derive(Debug, Drop)]
 pub struct NameList {
     names: Vec<Name>,
@@ -55,14 +47,12 @@ impl Model for NameList {
 }
 
 impl NameList {
-    /// The names of a `Vec`, which keeps its memory.
     pub(crate) fn from_vec(names: Vec<Name>) -> Self
         ensures { result ≡ names.items }
     {
         NameList { names }
     }
 
-    /// The names, in order.
     pub fn as_slice(&self) -> &[Name]
         ensures { result.now ≡ self.now }
     {
@@ -70,62 +60,48 @@ impl NameList {
     }
 }
 
-/// The reply to a request.
 #[derive(Debug, Drop)]
 pub enum Reply {
-    /// It is done.
     Done,
-    /// The names of the application's bundles, in the order of installing.
     Names(NameList),
-    /// The application's name is invalid.
     BadApp,
-    /// The application's name is that of the common bundles.
+    /// The application's name is `ICUDATA`.
     Reserved,
-    /// The locale is no name.
     BadLocale,
-    /// The text is no good bundle text.
     BadText,
-    /// The file denotes no bundle.
     BadFile,
-    /// There is a bundle already.
+    /// A bundle with this name exists.
     Exists,
-    /// There is no bundle.
+    /// No bundle with this name exists.
     Absent,
-    /// The application has as many bundles as it may.
+    /// The application has the maximum number of bundles.
     Full,
-    /// Out of memory. Nothing has changed.
+    /// Out of memory; nothing has changed.
     Memory,
 }
 
-/// Why a lookup found nothing.
+/// The reason why a lookup finds nothing.
 #[derive(Clone, Copy, Debug, PartialEq, Eq)]
 pub enum LookFault {
-    /// The application's name is invalid.
     BadApp,
-    /// The application's name is that of the common bundles.
+    /// The application's name is `ICUDATA`.
     Reserved,
-    /// The locale is no name.
     BadLocale,
-    /// The path has a byte that no path has, or an empty segment.
     BadPath,
-    /// A path, the given one or one that an alias made, is too long.
+    /// The given path, or one that an alias made, is too long.
     PathTooLong,
-    /// A trail does not end.
     Chain,
-    /// A text at `%%ALIAS` or `%%Parent` is no name.
+    /// A text at `%%ALIAS` or `%%Parent` isn't a name.
     BadParent,
-    /// No name of the trail is a stop: none has a bundle without a text at `%%ALIAS`.
+    /// No name of the trail has a bundle without a text at `%%ALIAS`.
     NoBundle,
-    /// No bundle of the trail has the item.
     Missing,
-    /// An alias has a text that leads nowhere.
+    /// The text of an alias is invalid.
     AliasText,
-    /// An alias leads to a package that it may not.
+    /// An alias names a package that isn't accessible.
     AliasPackage,
-    /// Too many aliases lead to one another.
     TooManyAliases,
 }
 
-/// A lookup takes more steps than it may.
 #[derive(Clone, Copy, Debug, PartialEq, Eq)]
 pub struct TooManySteps;

@@ -1,4 +1,3 @@
-//! The bundles of ICUDATA that an engine starts with.
 ghost use Rattle.std.specs.Prelude.{◌≡◌, [], List, ℕ, IfErr, OnOk};
 ghost use Rattle.rb_packages.specs.Packages.{icudata_of, list_of};
 ghost use Rattle.rb_engine.specs.Start.{Loads, IsRefused};
@@ -11,25 +10,20 @@ use rb_packages::{PackFault, Packages};
 use std::alloc::Global;
 use thiserror::Error;
 
-/// Why an engine doesn't start. Each but `Memory` has the index of the first entry of ICUDATA that
-/// is refused; its payload is judged before its name.
+/// The reason why an engine doesn't start, with the index of the first invalid entry of ICUDATA. An
+/// entry's payload is checked before its name.
 #[derive(Clone, Copy, Debug, PartialEq, Eq, Error)]
 pub enum StartFault {
-    /// The entry's text is no good bundle text.
     #[error("the text of entry {0} is not a valid bundle text")]
     BadText(usize),
-    /// The entry's file denotes no bundle.
     #[error("the file of entry {0} is not a valid bundle")]
     BadFile(usize),
-    /// The entry has a bundle, and its name is that of an earlier entry.
     #[error("the name of entry {0} is that of an earlier one")]
     Twice(usize),
-    /// Out of memory.
     #[error("out of memory")]
     Memory,
 }
 
-/// Adds an entry of ICUDATA, the one at an index.
 fn load(
     alloc: Global,
     packages: &mut Packages,
@@ -54,7 +48,6 @@ fn load(
     }
 }
 
-/// Adds the entries of ICUDATA, in order, to packages without bundles.
 pub(crate) fn load_all(
     alloc: Global,
     packages: &mut Packages,

@@ -1,4 +1,3 @@
-//! The words of replies, and of the errors of lookups and of starting.
 ghost use Rattle.std.specs.Prelude.{◌≡◌};
 ghost use Rattle.rb_engine.specs.Words.{look_word, reply_word, start_word};
 
@@ -7,7 +6,6 @@ use crate::start::StartFault;
 use rb_tree::variant_name;
 
 impl Reply {
-    /// The variant's name.
     pub fn word(&self) -> &'static str
         ensures { result.now ≡ reply_word self.now }
     {
@@ -19,7 +17,6 @@ impl Reply {
 }
 
 impl LookFault {
-    /// The variant's name.
     pub fn word(self) -> &'static str
         ensures { result.now ≡ look_word self }
     {
@@ -31,7 +28,6 @@ impl LookFault {
 }
 
 impl StartFault {
-    /// The variant's name.
     pub fn word(self) -> &'static str
         ensures { result.now ≡ start_word self }
     {

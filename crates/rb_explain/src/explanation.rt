@@ -1,4 +1,3 @@
-//! Explanations of error words.
 ghost use Rattle.std.specs.Prelude.{◌≡◌, IfSome, map};
 ghost use Rattle.std.specs.Char.{to_ascii_lowercase};
 
@@ -8,7 +7,7 @@ use crate::words::{
 };
 use std::fmt;
 
-/// What an error word is about: an input, a step or memory.
+/// The subject of an error code: an input, a step or memory.
 #[derive(Clone, Copy, Debug, PartialEq, Eq)]
 pub enum Of {
     /// A bundle text.
@@ -17,24 +16,23 @@ pub enum Of {
     File,
     /// A path within one file.
     Path,
-    /// A file that is printed as a text.
+    /// Printing a file as a text.
     Printing,
-    /// An item that is printed as one value.
+    /// Printing an item as one value.
     Value,
-    /// What `serve` is given at its start.
+    /// Starting `serve`.
     Start,
     /// A request to `serve`.
     Request,
     /// A lookup.
     Lookup,
-    /// Serving that ends early.
+    /// The early end of serving.
     Serving,
     /// Running out of memory.
     Memory,
 }
 
 impl Of {
-    /// The explanations of its words.
     pub fn explanations(self) -> &'static [Explanation] {
         match self {
             Of::Text => &OF_TEXT,
@@ -50,7 +48,7 @@ impl Of {
         }
     }
 
-    /// The explanation of a word, if it is an error of this; the case of letters doesn't count.
+    /// Finds the explanation of an error code of this subject, ignoring case.
     pub fn explanation(self, word: &str) -> Option<&'static Explanation>
         ensures { IfSome result
             (λ e. map to_ascii_lowercase e.now.word.now ≡ map to_ascii_lowercase word.now) }
@@ -81,16 +79,14 @@ impl fmt::Display for Of {
     }
 }
 
-/// What an error word means.
+/// The explanation of an error code.
 #[derive(Clone, Copy, Debug)]
 pub struct Explanation {
     pub word: &'static str,
     pub of: Of,
-    /// The meaning, without a capital and without a full stop, as the others.
+    /// The meaning, as a sentence without a capital and a full stop.
     pub meaning: &'static str,
-    /// Likely causes.
     pub cause: &'static str,
-    /// What to do.
     pub remedy: &'static str,
 }
 

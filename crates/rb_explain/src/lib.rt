@@ -1,4 +1,4 @@
-//! What the error words mean, their likely causes and what to do.
+//! Explanations of error codes: their meanings, likely causes and remedies.
 #![tactic(auto)]
 
 mod explanation;

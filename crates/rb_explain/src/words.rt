@@ -1,7 +1,6 @@
-//! What each error word means: the rows of docs/TROUBLESHOOTING.md, with a line of meaning.
+//! The explanations: the rows of docs/TROUBLESHOOTING.md, with a line of meaning.
 use crate::explanation::{Explanation, Of};
 
-/// The words of texts.
 pub(crate) const OF_TEXT: [Explanation; 14] = [
     Explanation {
         word: "NotUtf8",
@@ -103,7 +102,6 @@ pub(crate) const OF_TEXT: [Explanation; 14] = [
     },
 ];
 
-/// The words of files.
 pub(crate) const OF_FILE: [Explanation; 15] = [
     Explanation {
         word: "Header",
@@ -212,7 +210,6 @@ pub(crate) const OF_FILE: [Explanation; 15] = [
     },
 ];
 
-/// The words of paths within one file.
 pub(crate) const OF_PATH: [Explanation; 3] = [
     Explanation {
         word: "Missing",
@@ -237,7 +234,6 @@ pub(crate) const OF_PATH: [Explanation; 3] = [
     },
 ];
 
-/// The words of files that are printed as texts.
 pub(crate) const OF_PRINTING: [Explanation; 1] = [Explanation {
     word: "TooLarge",
     of: Of::Printing,
@@ -246,7 +242,6 @@ pub(crate) const OF_PRINTING: [Explanation; 1] = [Explanation {
     remedy: "print the parts that you want with resb get",
 }];
 
-/// The words of items that are printed as one value.
 pub(crate) const OF_VALUE: [Explanation; 2] = [
     Explanation {
         word: "Missing",
@@ -264,7 +259,6 @@ pub(crate) const OF_VALUE: [Explanation; 2] = [
     },
 ];
 
-/// The words of what keeps serving from starting.
 pub(crate) const OF_START: [Explanation; 6] = [
     Explanation {
         word: "BadText",
@@ -310,7 +304,6 @@ pub(crate) const OF_START: [Explanation; 6] = [
     },
 ];
 
-/// The words of requests.
 pub(crate) const OF_REQUEST: [Explanation; 15] = [
     Explanation {
         word: "BadLine",
@@ -419,7 +412,6 @@ pub(crate) const OF_REQUEST: [Explanation; 15] = [
     },
 ];
 
-/// The words of lookups.
 pub(crate) const OF_LOOKUP: [Explanation; 11] = [
     Explanation {
         word: "BadPath",
@@ -500,7 +492,6 @@ pub(crate) const OF_LOOKUP: [Explanation; 11] = [
     },
 ];
 
-/// The words of what ends serving early.
 pub(crate) const OF_SERVING: [Explanation; 4] = [
     Explanation {
         word: "Read",
@@ -532,7 +523,6 @@ pub(crate) const OF_SERVING: [Explanation; 4] = [
     },
 ];
 
-/// The words of memory.
 pub(crate) const OF_MEMORY: [Explanation; 1] = [Explanation {
     word: "Memory",
     of: Of::Memory,

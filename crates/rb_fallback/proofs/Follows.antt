@@ -14,7 +14,7 @@ use Rattle.rb_locales.proofs.Parts.{split_append}
 use Rattle.rb_fallback.specs.Alias.{aims, is_plain, aim, target, target_of}
 use Rattle.rb_fallback.specs.AliasPaths.{are_filled, joined_path, segments_from}
 use Rattle.rb_fallback.specs.Search.{Step, follow, goes}
-use Rattle.rb_fallback.specs.inner.Steps.{IsFollowed, place_at}
+use Rattle.rb_fallback.specs.inner.Steps.{IsFollowed, state_at}
 use Rattle.rb_fallback.specs.declared.fault.LookError.{LookError}
 use Rattle.arrayvec.specs.ArrayVec.{ArrayVec}
 use Rattle.rb_fallback.proofs.Paths.{aim_is_filled, aim_is_plain, long_is}
@@ -92,13 +92,13 @@ module _ (us valid n : List ℕ) (icu in_icu : Bool) (p : List ℕ) (walked rest
   }
 
 -- the place of that step, if the path is short enough
-pub place_follows : {r : Result Step LookError} {in_icu : Bool} {n q : List ℕ} (o : Option (ArrayVec ℕ)) → LeadsTo r in_icu n q
-    → IfSome o (λ short. short.items ≡ q) → IfNone o (1024 < length q) → IsFollowed (Ok (option_map (place_at in_icu n) o)) r
-place_follows {in_icu = in_icu} {n = n} (Some short) leads some none = record {
+pub state_follows : {r : Result Step LookError} {in_icu : Bool} {n q : List ℕ} (o : Option (ArrayVec ℕ)) → LeadsTo r in_icu n q
+    → IfSome o (λ short. short.items ≡ q) → IfNone o (1024 < length q) → IsFollowed (Ok (option_map (state_at in_icu n) o)) r
+state_follows {in_icu = in_icu} {n = n} (Some short) leads some none = record {
   onto = leads.onto ∙ ap (λ l. Ok (goes in_icu n (segments l))) (sym some);
   path = subst IsPath (sym some) leads.path;
 }
-place_follows {in_icu = in_icu} {n = n} {q = q} None leads some none = record {
+state_follows {in_icu = in_icu} {n = n} {q = q} None leads some none = record {
   in_icu = in_icu;
   name = n;
   rest = segments q;

@@ -15,7 +15,7 @@ use Rattle.rb_fallback.specs.declared.fault.BoundedError.TheVariants as bounded
 use Rattle.rb_fallback.specs.declared.fault.LookError.{LookError}
 use Rattle.rb_fallback.specs.declared.fault.LookError.TheVariants as fault
 use Rattle.rb_fallback.specs.declared.found.Found.{Found}
-use Rattle.rb_fallback.specs.declared.search.Place.{Place}
+use Rattle.rb_fallback.specs.declared.search.SearchState.{SearchState}
 use Rattle.rb_fallback.specs.declared.search.Outcome.{Outcome}
 use Rattle.rb_fallback.proofs.Budgets.{spent_at, step_at, steps_at, steps_end, steps_long, steps_on, within_after, within_less, within_none}
 use Rattle.rb_fallback.proofs.Paths.{long_is}
@@ -103,7 +103,7 @@ module _ {left : Option ℕ} {most i : ℕ} {s : Setting} {in_icu : Bool} {n p :
     err_answer {f = f} e = sym (within_none later (Err f)) ∙ level_answer e
 
     -- an alias leads on
-    pub next_level : (to : Place) → GoesOn to (step_at s in_icu n (segments p)) → ComesTo later most (i + 1) s to.icudata to.name to.path.items answer
+    pub next_level : (to : SearchState) → GoesOn to (step_at s in_icu n (segments p)) → ComesTo later most (i + 1) s to.icudata to.name to.path.items answer
     next_level to on = record { path = on.path; same = level_answer on.onto }
 
     -- or to a path that is too long

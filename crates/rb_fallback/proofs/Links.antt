@@ -1,6 +1,5 @@
 -- A level that ends at an item or at an alias.
-use Rattle.std.proofs.Common.{◌≡◌, ◌≤◌, ℕ, List, [], ◌∷◌, ◌++◌, length, take, drop, Bool, Option, Some, None, Result, Ok, Err, refl, ap, sym, ◌∙◌, subst}
-use Rattle.std.specs.List.{join_with_byte}
+use Rattle.std.proofs.Common.{◌≡◌, ℕ, List, [], ◌∷◌, ◌++◌, drop, Bool, Option, Some, None, Result, Ok, Err, refl, ap, sym, ◌∙◌, subst}
 use Rattle.std.specs.Option.{ok_or}
 use Rattle.rb_tree.specs.Resource.{Resource, alias}
 use Rattle.rb_tree.specs.SourceTree.{SourceTree}
@@ -17,7 +16,7 @@ use Rattle.rb_fallback.specs.inner.LevelResult.{IsLevelResult}
 use Rattle.rb_fallback.specs.declared.fault.LookError.{LookError}
 use Rattle.rb_fallback.specs.declared.fault.LookError.TheVariants as fault
 use Rattle.rb_fallback.specs.declared.level.LevelResult.{LevelResult}
-use Rattle.rb_fallback.specs.declared.search.Place.{Place}
+use Rattle.rb_fallback.specs.declared.search.SearchState.{SearchState}
 use Rattle.rb_fallback.specs.inner.Steps.{IsFollowed}
 use Rattle.rb_fallback.proofs.Paths.{Whole, walk_whole}
 
@@ -122,7 +121,7 @@ module _ (bundles : Bundles) (parents : ParentsOf) (n : List ℕ) {N : Type 0} {
   link_kind = ap kind_of level_link.same
 
   -- what `follow_alias` gives, whatever was walked to the alias and is left, is the step of the level
-  pub follow_link : {q : List ℕ} (in_icu : Bool) (valid : List ℕ) (x : Result (Option Place) LookError) → q ≡ path
+  pub follow_link : {q : List ℕ} (in_icu : Bool) (valid : List ℕ) (x : Result (Option SearchState) LookError) → q ≡ path
       → ((walked rest : List (List ℕ)) → walked ++ rest ≡ segments q → rest ≡ segments (drop (behind cut) q)
       → IsFollowed x (follow rest (target (units_of (tree node)) in_icu valid walked)))
       → IsFollowed x (step in_icu valid (level bundles parents n (segments path)))

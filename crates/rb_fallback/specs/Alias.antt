@@ -1,5 +1,5 @@
--- What the text of an alias means, after the aliases of ICU's bundle syntax (`genrb`): a package, a
--- locale and a path between slashes, with `/LOCALE` and `/ICUDATA` as ICU's `uresdata.h` reads them.
+-- Defines what the text of an alias means, after the aliases of ICU's bundle syntax (`genrb`): a package, a locale and
+-- a path between slashes, with `/LOCALE` and `/ICUDATA` as ICU's `uresdata.h` reads them.
 use Rattle.std.specs.Prelude.{◌&&◌, ◌||◌, ℕ, List, [], ◌∷◌, length, Bool, true, false, Option, Some, None, codes, cond}
 use Rattle.std.specs.Prelude.{nat_le, nat_lt}
 use Rattle.std.specs.List.{slice_split, list_all}

@@ -1,4 +1,4 @@
--- What the program's answers are seen as.
+-- Defines how proofs see what the program returns.
 use Rattle.std.specs.Prelude.{ℕ, List, drop, option_map, Result, Ok, Err}
 use Rattle.std.specs.List.{slice_split}
 use Rattle.rb_tree.specs.Path.{is_slash}

@@ -1,6 +1,6 @@
--- The search of a path from a name: the trail of the name is found, the path is walked through the trees of its stops,
--- and an alias that is met goes on in another place. It is the lookup with fallback of ICU's `ures_*` calls over the
--- locale inheritance of UTS #35 (LDML). This project's own rules: an alias is final, so that no later stop is asked; a
+-- Defines the search of a path from a name: it finds the name's trail, walks the path through the trees of the trail's
+-- stops, and continues where an alias leads. This is the lookup with fallback of ICU's `ures_*` calls over the locale
+-- inheritance of UTS #35 (LDML). This project's own rules: an alias is final, so that no later stop is asked; a
 -- search has at most 256 levels; a path has at most 1,024 bytes.
 use Rattle.std.specs.Prelude.{ℕ, zero, suc, List, [], ◌∷◌, ◌++◌, length, Bool, true, false, nat_lt, if◌then◌else◌}
 use Rattle.std.specs.Prelude.{Option, Some, None, unwrap_or, Result, Ok, Err}
@@ -67,7 +67,7 @@ pub record Hit : Type 0 where
   pub tree : Resource
   pub actual : List ℕ
 
--- an item is found, or the search goes on: whether in ICUDATA, the name, the path
+-- an item is found, or the search continues: whether in ICUDATA, the name, the path
 pub data Step : Type 0 where
   found : Hit → Step
   goes : Bool → List ℕ → List (List ℕ) → Step

@@ -2,3 +2,4 @@ pub mod LevelResult
 pub mod Steps
 pub mod Budget
 pub mod Stretches
+pub mod Visits

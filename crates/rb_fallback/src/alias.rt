@@ -1,4 +1,4 @@
-//! The texts of aliases.
+//! Reading the texts of aliases.
 ghost use Rattle.std.specs.Prelude.{◌≡◌, ◌≤◌, ◌<◌, true, false, slice_index, slice_range};
 ghost use Rattle.std.specs.Prelude.{IfNone, IfSome};
 ghost use Rattle.std.specs.List.{list_all};
@@ -15,21 +15,21 @@ use crate::fault::AliasFault;
 use rb_locales::Name;
 use rb_tree::Node;
 
-/// Where an alias leads.
+/// Describes where an alias leads.
 #[derive(Clone, Copy, Debug)]
 pub struct Target {
-    /// Whether ICUDATA is named; else the package is the alias's own.
+    /// True if the text names ICUDATA; otherwise the alias stays in its own package.
     pub icudata: bool,
-    /// The locale, which for `/LOCALE` is the valid one.
+    /// The locale; for `/LOCALE` it is the valid locale of the lookup.
     pub name: Name,
-    /// Where the path begins in the alias's text; at None it is the path walked.
+    /// The unit at which the path begins in the alias's text; `None` keeps the path of the lookup.
     pub path_at: Option<usize>,
 }
 
-// So many units are read before it is asked how many of the next ones needn't be.
+/// The number of units that a scan reads before it asks the node which units it may skip.
 const STRETCH: usize = 1024;
 
-// Whether the units from one up to another are from a space to a tilde.
+/// Returns true if each unit from `from` up to `past` is printable ASCII.
 fn are_plain<N: Node>(node: N, from: usize, past: usize) -> bool
     requires units { HasUnits (kind_of (N.tree node)) }
     requires within { past ≤ len_of (N.tree node) }
@@ -45,7 +45,7 @@ fn are_plain<N: Node>(node: N, from: usize, past: usize) -> bool
     true
 }
 
-// Whether each unit is from a space to a tilde.
+/// Returns true if each unit is printable ASCII.
 fn units_plain<N: Node>(node: N) -> bool
     requires { HasUnits (kind_of (N.tree node)) }
     ensures { result ≡ list_all is_plain (units_of (N.tree node)) }
@@ -64,7 +64,7 @@ fn units_plain<N: Node>(node: N) -> bool
     }
 }
 
-// The first slash from one unit up to another.
+/// Returns the index of the first slash from `from` up to `past`.
 fn slash_in<N: Node>(node: N, from: usize, past: usize) -> Option<usize>
     requires units { HasUnits (kind_of (N.tree node)) }
     requires within { past ≤ len_of (N.tree node) }
@@ -81,7 +81,7 @@ fn slash_in<N: Node>(node: N, from: usize, past: usize) -> Option<usize>
     None
 }
 
-// Where the segment ends that begins here.
+/// Returns the index at which the segment ends that begins at `from`.
 #[tactic(auto, using(crate::proofs::Texts::slash_here, crate::proofs::Texts::slash_none))]
 fn segment_end<N: Node>(node: N, from: usize) -> usize
     requires units { HasUnits (kind_of (N.tree node)) }
@@ -103,7 +103,7 @@ fn segment_end<N: Node>(node: N, from: usize) -> usize
     }
 }
 
-// Whether the units between two places spell a word.
+/// Returns true if the units from `from` up to `past` spell a word.
 #[tactic(auto, using(crate::proofs::Texts::word_no, crate::proofs::Texts::word_yes, crate::proofs::Texts::word_long))]
 fn is_word<N: Node>(node: N, from: usize, past: usize, word: &[u8]) -> bool
     requires units { HasUnits (kind_of (N.tree node)) }
@@ -122,7 +122,7 @@ fn is_word<N: Node>(node: N, from: usize, past: usize, word: &[u8]) -> bool
     true
 }
 
-// Whether no segment from here on is empty.
+/// Returns true if no segment from `from` on is empty.
 #[tactic(auto, using(crate::proofs::Texts::filled_steps))]
 fn filled_from<N: Node>(node: N, from: usize) -> bool
     requires units { HasUnits (kind_of (N.tree node)) }
@@ -143,7 +143,7 @@ fn filled_from<N: Node>(node: N, from: usize) -> bool
     }
 }
 
-// A name with the path after it.
+/// Reads the path that follows a name, whose segment ends at `past`.
 #[tactic(auto, using(crate::proofs::Texts::path_some, crate::proofs::Texts::segments_after_some))]
 fn with_path<N: Node>(icudata: bool, name: Name, node: N, past: usize) -> Result<Target, AliasFault>
     requires units { HasUnits (kind_of (N.tree node)) }
@@ -169,7 +169,7 @@ fn with_path<N: Node>(icudata: bool, name: Name, node: N, past: usize) -> Result
     })
 }
 
-// A locale and a path, from here on.
+/// Reads a locale and a path, from `from` on.
 #[tactic(auto, using(crate::proofs::Texts::located_none))]
 fn located<N: Node>(icudata: bool, node: N, from: usize) -> Result<Target, AliasFault>
     requires units { HasUnits (kind_of (N.tree node)) }
@@ -187,7 +187,7 @@ fn located<N: Node>(icudata: bool, node: N, from: usize) -> Result<Target, Alias
     }
 }
 
-// A package, and what follows it, after the first slash.
+/// Reads a package and what follows it, after the first slash.
 fn packaged<N: Node>(node: N, valid: &Name) -> Result<Target, AliasFault>
     requires units { HasUnits (kind_of (N.tree node)) }
     requires slash { 1 ≤ len_of (N.tree node) }
@@ -211,7 +211,7 @@ fn packaged<N: Node>(node: N, valid: &Name) -> Result<Target, AliasFault>
 ///
 /// The errors come in this order. `AliasText`: the text is empty or has a unit outside of printable
 /// ASCII. `AliasPackage`: it begins with a slash, and neither `LOCALE` nor `ICUDATA` follows.
-/// `AliasText`: its locale is missing, empty or no name, or its path has an empty segment.
+/// `AliasText`: its locale is missing, empty or invalid, or its path has an empty segment.
 #[tactic(auto, using(crate::proofs::Texts::aim_slash))]
 pub fn read_alias<N: Node>(node: N, valid: &Name) -> Result<Target, AliasFault>
     requires { kind_of (N.tree node) ≡ Kinds.Alias }

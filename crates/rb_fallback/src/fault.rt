@@ -1,45 +1,46 @@
-//! Why a lookup or the text of an alias is refused.
+//! The errors of lookups and of alias texts.
 ghost use Rattle.std.specs.Prelude.{◌≡◌};
 ghost use Rattle.rb_fallback.specs.declared.fault.BoundedError.TheVariants as bounded;
 
-/// Why the text of an alias leads nowhere.
+/// Says why the text of an alias is invalid.
 #[derive(Clone, Copy, Debug, PartialEq, Eq)]
 pub enum AliasFault {
-    /// No text, a unit that is not printable ASCII, no locale, or an empty segment in the path.
+    /// The text is empty or isn't printable ASCII, its locale is missing or invalid, or its path
+    /// has an empty segment.
     AliasText,
-    /// A package after the first slash that is neither `LOCALE` nor `ICUDATA`.
+    /// The package after the first slash is neither `LOCALE` nor `ICUDATA`.
     AliasPackage,
 }
 
-/// Why a lookup finds nothing.
+/// Says why a lookup finds nothing.
 #[derive(Clone, Copy, Debug, PartialEq, Eq)]
 pub enum LookError {
     /// The path has a byte that is not printable ASCII, or an empty segment.
     BadPath,
-    /// The path has more than 1,024 bytes, at the beginning or after an alias.
+    /// The path has more than 1,024 bytes, the caller's or one that an alias gives.
     PathTooLong,
     /// A trail has more than 32 names.
     Chain,
-    /// A `%%ALIAS` or `%%Parent` on a trail is no locale name.
+    /// A `%%ALIAS` or `%%Parent` on a trail isn't a locale name.
     BadParent,
-    /// No name of the trail has a bundle of its own.
+    /// No name of the trail has a bundle, apart from bundles that name another by `%%ALIAS`.
     NoBundle,
-    /// The path leads nowhere in each bundle of the trail.
+    /// The path leads nowhere in any bundle of the trail.
     Missing,
-    /// The text of an alias leads nowhere.
+    /// The text of an alias is invalid, as `AliasFault::AliasText` says.
     AliasText,
-    /// The text of an alias names another package.
+    /// The text of an alias names a package other than `LOCALE` and `ICUDATA`.
     AliasPackage,
-    /// The path leads from alias to alias, more than 255 times.
+    /// More than 255 aliases follow one another.
     TooManyAliases,
 }
 
-/// Why a lookup that may take only this many steps finds nothing.
+/// Says why a lookup with a limit on its steps finds nothing.
 #[derive(Clone, Copy, Debug, PartialEq, Eq)]
 pub enum BoundedError {
-    /// The lookup takes more steps.
+    /// The lookup takes more steps than the limit.
     TooManySteps,
-    /// The steps are enough, and the lookup finds nothing for this reason.
+    /// The lookup stays within the limit, and finds nothing for this reason.
     Search(LookError),
 }
 

@@ -1,23 +1,23 @@
-//! What a lookup finds.
+//! The result of a lookup.
 ghost use Rattle.std.specs.Prelude.{◌≡◌};
 
 use rb_locales::Name;
 
-/// What was found: the node, the name of the bundle that has it, and the first bundle of the trail.
+/// Stores what a lookup found.
 #[derive(Clone, Copy, Debug)]
 pub struct Found<N> {
     /// The node to which the path leads.
     pub node: N,
-    /// The name of the bundle that has it.
+    /// The name of the bundle that has the node.
     pub actual: Name,
-    /// The first name of the requested name's trail that has a bundle of its own.
+    /// The first stop of the requested name's trail.
     pub valid: Name,
 }
 
 impl<N> Found<N> {
     ghost use Rattle.rb_fallback.specs.Answers.{with_node};
 
-    /// The same with another node, as the view of the one that was found.
+    /// Returns a copy with another node in place of the one that was found, such as a view of it.
     pub fn with_node<M>(&self, node: M) -> Found<M>
         ensures { result ≡ with_node self.now node }
     {

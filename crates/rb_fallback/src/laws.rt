@@ -1,4 +1,4 @@
-//! What holds of every lookup.
+//! Facts that hold for every lookup.
 ghost use Rattle.rb_fallback.specs.Steps.{HasFewSteps};
 
 /// Does nothing: whatever the bundles and the explicit parents are, a lookup of a path takes at

@@ -1,4 +1,4 @@
-//! One level of a search: one pass over a trail, which asks for each name's bundle once and keeps
+//! One level of a search: one pass over a trail, which asks for each name's bundle once and stores
 //! no name.
 ghost use Rattle.std.specs.Prelude.{◌≡◌, ◌++◌, ◌∷◌, [], List, ℕ, Some, option_map};
 ghost use Rattle.rb_tree.specs.SourceTree.{SourceTree};
@@ -8,13 +8,16 @@ ghost use Rattle.rb_parents.specs.Family.{parent_of};
 ghost use Rattle.rb_fallback.specs.Search.{by_stops, first_of, first_stop, level};
 ghost use Rattle.rb_fallback.specs.Steps.{trail_length};
 ghost use Rattle.rb_fallback.specs.inner.LevelResult.{IsLevel, IsLevelState};
+ghost use Rattle.rb_fallback.specs.inner.Visits.{visited};
 
 use crate::fault::LookError;
+use crate::watch::{Visit, Watch};
 use rb_locales::Name;
 use rb_parents::{Next, Parents, Shelf, TRAIL_LIMIT, visit};
 use rb_tree::{Ending, Node, walk};
 
-// The stops of a level so far: the first one, and the walk that decides with its stop.
+/// Stores what the stops of a level have given so far: the first stop, and the walk that decides
+/// with its stop.
 #[derive(Clone, Copy)]
 pub(crate) struct LevelState<N> {
     pub(crate) first: Option<Name>,
@@ -22,7 +25,7 @@ pub(crate) struct LevelState<N> {
     pub(crate) ending: Ending<N>,
 }
 
-// The first stop of a level, and the walk that decides with its stop.
+/// Stores what a level gives: its first stop, and the walk that decides with its stop.
 #[derive(Clone, Copy)]
 pub(crate) struct LevelResult<N> {
     pub(crate) first: Name,
@@ -30,7 +33,7 @@ pub(crate) struct LevelResult<N> {
     pub(crate) ending: Ending<N>,
 }
 
-// The state after one stop more. It is walked only if no earlier one decides.
+/// Returns the state after another stop, whose bundle is walked only if no earlier stop decides.
 fn with_stop<N: Node>(state: LevelState<N>, name: &Name, root: N, path: &[u8]) -> LevelState<N>
     requires { IsPath path.now }
     ensures { (b : Bundles) → (all : List (List ℕ)) → stop_tree (b name.now) ≡ Some (N.tree root)
@@ -52,7 +55,7 @@ fn with_stop<N: Node>(state: LevelState<N>, name: &Name, root: N, path: &[u8]) -
     }
 }
 
-// The state after one name more.
+/// Returns the state after another name, which is a stop if `stop` has its root.
 fn with_name<N: Node>(
     state: LevelState<N>,
     name: &Name,
@@ -70,7 +73,40 @@ fn with_name<N: Node>(
     }
 }
 
-// What the stops of a whole trail give.
+/// Returns what a search did at a name, from the root of its bundle if it is a stop, and from the
+/// states before and after the name.
+fn visited<N: Node>(stop: Option<N>, before: LevelState<N>, after: LevelState<N>) -> Visit<N>
+    ensures { result ≡ visited stop before.ending after.ending }
+{
+    let Some(root) = stop else {
+        return Visit::NoStop;
+    };
+    match before.ending {
+        Ending::Gone => Visit::Walked(root, after.ending),
+        Ending::End(_) | Ending::Link(_, _) => Visit::Skipped,
+    }
+}
+
+/// Returns the state after another name as `with_name` does, and reports the name to the observer.
+fn ask<N: Node, W: Watch>(
+    state: LevelState<N>,
+    name: &Name,
+    stop: Option<N>,
+    path: &[u8],
+    next: &Next,
+    watch: &mut W,
+) -> LevelState<N>
+    requires { IsPath path.now }
+    ensures { (b : Bundles) → (ns : List (List ℕ)) → option_map N.tree stop
+        ≡ stop_tree (b name.now) → IsLevelState N.tree b path.now state (stops b ns)
+        → IsLevelState N.tree b path.now result (stops b (ns ++ name.now ∷ [])) }
+{
+    let after = with_name(state, name, stop, path);
+    watch.name(name, path, visited(stop, state, after), next);
+    after
+}
+
+/// Returns what the stops of a whole trail give, or `NoBundle` or `Missing`.
 fn decided<N: Node>(state: LevelState<N>, path: &[u8]) -> Result<LevelResult<N>, LookError>
     ensures { (b : Bundles) → (all : List (List ℕ)) → IsLevelState N.tree b path.now state all
         → IsLevel N.tree result path.now (by_stops b all (segments path.now)) (first_of all) }
@@ -89,14 +125,18 @@ fn decided<N: Node>(state: LevelState<N>, path: &[u8]) -> Result<LevelResult<N>,
     }
 }
 
-// One level: the trail, and the first walk that does not end nowhere. What the walks gave counts
-// only once the whole trail is found, and so do its names, of which there are none before.
-pub(crate) fn level<'a, S: Shelf<'a>>(
+/// Finds the trail of a name and the first of its stops in which the path leads somewhere, and sets
+/// `names` to the length of the trail.
+///
+/// The whole trail is read even after a stop has decided, since a later name can make it invalid:
+/// `Chain` and `BadParent` come before what the stops give, and leave `names` at 0.
+pub(crate) fn level<'a, S: Shelf<'a>, W: Watch>(
     shelf: S,
     parents: &Parents,
     name: &Name,
     path: &[u8],
     names: &mut u8,
+    watch: &mut W,
 ) -> Result<LevelResult<S::N>, LookError>
     requires { IsPath path.now }
     ensures level { IsLevel S.N.tree result path.now
@@ -114,7 +154,7 @@ pub(crate) fn level<'a, S: Shelf<'a>>(
     };
     for i in 0..TRAIL_LIMIT {
         let (next, stop) = visit(shelf, parents, &here);
-        state = with_name(state, &here, stop, path);
+        state = ask(state, &here, stop, path, &next, watch);
         match next {
             Next::Name(name) => here = name,
             Next::End => {

@@ -1,4 +1,4 @@
-//! Lookups that follow locale inheritance and aliases.
+//! Lookups that follow locale inheritance and aliases, with an optional observer.
 #![tactic(auto)]
 
 mod alias;
@@ -10,6 +10,7 @@ mod limits;
 mod path;
 mod search;
 mod steps;
+mod watch;
 mod words;
 
 pub use alias::{Target, read_alias};
@@ -17,4 +18,5 @@ pub use fault::{AliasFault, BoundedError, LookError};
 pub use found::Found;
 pub use limits::{LEVEL_LIMIT, PATH_LIMIT};
 pub use path::rest_behind;
-pub use search::{look, look_within};
+pub use search::{look, look_watched, look_within};
+pub use watch::{Visit, Watch};

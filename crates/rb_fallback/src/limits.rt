@@ -1,8 +1,8 @@
-//! The limits of a lookup. The definitions in specs/ have the same numbers written out, so that a
-//! proof compares the two.
+//! The limits of a lookup. The definitions in specs/ repeat these numbers, so that a proof compares
+//! the two.
 
-/// The greatest number of levels of a lookup.
+/// The maximum number of levels of a lookup.
 pub const LEVEL_LIMIT: u16 = 256;
 
-/// The greatest number of bytes in a path, also after an alias has replaced its front.
+/// The maximum number of bytes in a path, including one that an alias gives.
 pub const PATH_LIMIT: usize = 1024;

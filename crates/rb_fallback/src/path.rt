@@ -14,7 +14,7 @@ use crate::limits::PATH_LIMIT;
 use arrayvec::ArrayVec;
 use rb_tree::Node;
 
-// Appends a node's units from one on, if they fit.
+/// Appends a node's units from `at` on, and returns true, if they fit.
 #[tactic(auto, using(crate::proofs::AppendedUnits::append_steps))]
 pub(crate) fn append_units<N: Node>(path: &mut ArrayVec<u8, PATH_LIMIT>, node: N, at: usize) -> bool
     requires units { HasUnits (kind_of (N.tree node)) }
@@ -34,7 +34,7 @@ pub(crate) fn append_units<N: Node>(path: &mut ArrayVec<u8, PATH_LIMIT>, node: N
     true
 }
 
-// A path that is short enough.
+/// Copies a path, or returns `None` if it is too long.
 pub(crate) fn short_path(path: &[u8]) -> Option<ArrayVec<u8, PATH_LIMIT>>
     ensures some { IfSome result (λ p. p.items ≡ path.now) }
     ensures none { IfNone result (path_limit < length path.now) }
@@ -46,7 +46,7 @@ pub(crate) fn short_path(path: &[u8]) -> Option<ArrayVec<u8, PATH_LIMIT>>
     Some(short)
 }
 
-/// What is left of a path after its first `cut` bytes and the slash that follows them.
+/// Returns the path after its first `cut` bytes and the slash that follows them.
 #[tactic(auto, using(crate::proofs::Follows::behind_more))]
 pub fn rest_behind(path: &[u8], cut: usize) -> &[u8]
     ensures { result.now ≡ drop (behind cut) path.now }
@@ -60,7 +60,7 @@ pub fn rest_behind(path: &[u8], cut: usize) -> &[u8]
     &path[cut + 1..]
 }
 
-// The path in an alias, with a slash and the rest of another path after it, if it is short enough.
+/// Joins the path in an alias's text with `rest`, or returns `None` if the result is too long.
 pub(crate) fn replaced<N: Node>(node: N, at: usize, rest: &[u8]) -> Option<ArrayVec<u8, PATH_LIMIT>>
     requires units { HasUnits (kind_of (N.tree node)) }
     requires plain { list_all is_plain (units_of (N.tree node)) ≡ true }

@@ -13,7 +13,7 @@ ghost use Rattle.rb_fallback.specs.Search.{bundles_of, first_stop, follow, level
 ghost use Rattle.rb_fallback.specs.Search.{setting_of, step};
 ghost use Rattle.rb_fallback.specs.Steps.{look_up_within, trail_length};
 ghost use Rattle.rb_fallback.specs.inner.Budget.{search_within};
-ghost use Rattle.rb_fallback.specs.inner.Steps.{IsFollowed, IsOutcome, place_at, valid_of};
+ghost use Rattle.rb_fallback.specs.inner.Steps.{IsFollowed, IsOutcome, state_at, valid_of};
 ghost use Rattle.rb_fallback.specs.declared.fault.BoundedError.TheVariants as Bounded;
 ghost use Rattle.rb_fallback.specs.declared.fault.LookError.TheVariants as Faults;
 ghost use Rattle.rb_fallback.specs.Limits.{path_limit};
@@ -25,25 +25,30 @@ use crate::level::level;
 use crate::limits::{LEVEL_LIMIT, PATH_LIMIT};
 use crate::path::{replaced, rest_behind, short_path};
 use crate::steps::left_after;
+use crate::watch::Watch;
 use arrayvec::ArrayVec;
 use rb_locales::Name;
 use rb_parents::{Parents, Shelf};
 use rb_tree::{Ending, Node, path_ok};
 
-// Where a search goes on: a package, a name and a path.
+/// Stores where a search continues: a package, a name and a path.
 #[derive(Drop)]
-pub(crate) struct Place {
+pub(crate) struct SearchState {
     pub(crate) icudata: bool,
     pub(crate) name: Name,
     pub(crate) path: ArrayVec<u8, PATH_LIMIT>,
 }
 
-// A place with a path that is short enough.
-fn place_of(icudata: bool, name: Name, path: Option<ArrayVec<u8, PATH_LIMIT>>) -> Option<Place>
-    ensures { result ≡ option_map (place_at icudata name) path }
+/// Returns a state with this path, or `None` if the path was too long.
+fn state_of(
+    icudata: bool,
+    name: Name,
+    path: Option<ArrayVec<u8, PATH_LIMIT>>,
+) -> Option<SearchState>
+    ensures { result ≡ option_map (state_at icudata name) path }
 {
     match path {
-        Some(path) => Some(Place {
+        Some(path) => Some(SearchState {
             icudata,
             name,
             path,
@@ -52,15 +57,16 @@ fn place_of(icudata: bool, name: Name, path: Option<ArrayVec<u8, PATH_LIMIT>>) -
     }
 }
 
-// Where an alias leads that was met after the first `cut` bytes of a path; `None` if the next path
-// is too long.
-fn follow_alias<N: Node>(
+/// Returns where an alias leads that was met after the first `cut` bytes of a path, or `None` if
+/// the path there is too long. The errors are those of `read_alias`.
+fn follow_alias<N: Node, W: Watch>(
     node: N,
     cut: usize,
     valid: &Name,
     icudata: bool,
     path: &[u8],
-) -> Result<Option<Place>, LookError>
+    watch: &mut W,
+) -> Result<Option<SearchState>, LookError>
     requires alias { kind_of (N.tree node) ≡ Kinds.Alias }
     requires path { IsPath path.now }
     ensures { (walked rest : List (List ℕ)) → walked ++ rest ≡ segments path.now
@@ -76,27 +82,28 @@ fn follow_alias<N: Node>(
     let icudata = target.icudata | icudata;
     let at = match target.path_at {
         Some(at) => at,
-        None => return Ok(place_of(icudata, target.name, short_path(path))),
+        None => return Ok(state_of(icudata, target.name, short_path(path))),
     };
-    Ok(place_of(
-        icudata,
-        target.name,
-        replaced(node, at, rest_behind(path, cut)),
-    ))
+    let rest = rest_behind(path, cut);
+    let path = replaced(node, at, rest);
+    if path.is_none() {
+        watch.long_path(icudata, &target.name, node, at, rest);
+    }
+    Ok(state_of(icudata, target.name, path))
 }
 
-// What a level of a search gives: an item, or where the search goes on, if the path there isn't too
-// long.
+/// Describes how a level of a search ends: at an item, at an alias that leads on, or at one whose
+/// path is too long.
 #[derive(Drop)]
 pub(crate) enum Outcome<N> {
     Found(Found<N>),
-    Next { valid: Name, place: Place },
+    Next { valid: Name, state: SearchState },
     TooLong,
 }
 
-// One level of a search, and how many names its trail has. The first has no valid name yet, as its
-// first stop is it.
-fn step<'a, S: Shelf<'a>>(
+/// Searches one level, and sets `names` to the length of its trail. At the first level `valid` is
+/// `None`: its first stop becomes the valid name.
+fn step<'a, S: Shelf<'a>, W: Watch>(
     shelf: S,
     parents: &Parents,
     icudata: bool,
@@ -104,6 +111,7 @@ fn step<'a, S: Shelf<'a>>(
     path: &[u8],
     valid: Option<Name>,
     names: &mut u8,
+    watch: &mut W,
 ) -> Result<Outcome<S::N>, LookError>
     requires { IsPath path.now }
     ensures outcome { IsOutcome S.N.tree result
@@ -115,7 +123,7 @@ fn step<'a, S: Shelf<'a>>(
     ensures names { names.new
         ≡ trail_length (trail (S.bundles shelf) (parent_of parents.now) name.now) }
 {
-    let decided = level(shelf, parents, name, path, names)?;
+    let decided = level(shelf, parents, name, path, names, watch)?;
     let valid = valid.unwrap_or(decided.first);
     match decided.ending {
         Ending::End(node) => Ok(Outcome::Found(Found {
@@ -123,44 +131,48 @@ fn step<'a, S: Shelf<'a>>(
             actual: decided.actual,
             valid,
         })),
-        Ending::Link(node, cut) => match follow_alias(node, cut, &valid, icudata, path)? {
-            Some(place) => Ok(Outcome::Next { valid, place }),
-            None => Ok(Outcome::TooLong),
-        },
+        Ending::Link(node, cut) => {
+            watch.alias(node, &decided.actual);
+            match follow_alias(node, cut, &valid, icudata, path, watch)? {
+                Some(state) => Ok(Outcome::Next { valid, state }),
+                None => Ok(Outcome::TooLong),
+            }
+        }
         Ending::Gone => Err(LookError::Missing),
     }
 }
 
-// One level of a search, at a place.
-fn step_at<'a, S: Shelf<'a>, I: Shelf<'a, N = S::N>>(
+/// Searches the level of a state, in the bundles of its package.
+fn step_at<'a, S: Shelf<'a>, I: Shelf<'a, N = S::N>, W: Watch>(
     own: S,
     icu: I,
     parents: &Parents,
     valid: Name,
-    place: &Place,
+    state: &SearchState,
     names: &mut u8,
+    watch: &mut W,
 ) -> Result<Outcome<S::N>, LookError>
-    requires { IsPath place.now.path.items }
+    requires { IsPath state.now.path.items }
     ensures outcome { IsOutcome S.N.tree result valid
-        (λ v. step place.now.icudata v
-        (level (bundles_of (S.bundles own) (I.bundles icu) place.now.icudata)
-        (parent_of parents.now) place.now.name (segments place.now.path.items))) }
+        (λ v. step state.now.icudata v
+        (level (bundles_of (S.bundles own) (I.bundles icu) state.now.icudata)
+        (parent_of parents.now) state.now.name (segments state.now.path.items))) }
     ensures names { names.new
-        ≡ trail_length (trail (bundles_of (S.bundles own) (I.bundles icu) place.now.icudata)
-        (parent_of parents.now) place.now.name) }
-    ensures short { length place.now.path.items ≤ path_limit }
+        ≡ trail_length (trail (bundles_of (S.bundles own) (I.bundles icu) state.now.icudata)
+        (parent_of parents.now) state.now.name) }
+    ensures short { length state.now.path.items ≤ path_limit }
 {
-    let name = &place.name;
-    let path = place.path.as_slice();
+    let name = &state.name;
+    let path = state.path.as_slice();
     let valid = Some(valid);
-    if place.icudata {
-        step(icu, parents, true, name, path, valid, names)
+    if state.icudata {
+        step(icu, parents, true, name, path, valid, names, watch)
     } else {
-        step(own, parents, false, name, path, valid, names)
+        step(own, parents, false, name, path, valid, names, watch)
     }
 }
 
-// Why a search ends whose next path is too long.
+/// Returns the error of a search whose next path is too long.
 fn next_fault(level: u16) -> LookError
     ensures { result ≡ (if level + 1 == 256 then Faults.TooManyAliases else Faults.PathTooLong) }
 {
@@ -171,45 +183,48 @@ fn next_fault(level: u16) -> LookError
     }
 }
 
-// The search from a place to which the first alias led, with this many steps left; `None` is no
-// limit.
-fn search_on<'a, S: Shelf<'a>, I: Shelf<'a, N = S::N>>(
+/// Continues a search from where its first alias led, in at most `left` steps; `None` is no limit.
+fn search_on<'a, S: Shelf<'a>, I: Shelf<'a, N = S::N>, W: Watch>(
     own: S,
     icu: I,
     parents: &Parents,
     valid: Name,
-    place: Place,
+    state: SearchState,
     mut left: Option<u64>,
+    watch: &mut W,
 ) -> Result<Found<S::N>, BoundedError>
-    requires { IsPath place.path.items }
+    requires { IsPath state.path.items }
     ensures answer { bounded_answer_of S.N.tree result ≡ search_within left 255
         (setting_of (S.bundles own) (I.bundles icu)
-        (parent_of parents.now) valid) place.icudata place.name (segments place.path.items) }
+        (parent_of parents.now) valid) state.icudata state.name (segments state.path.items) }
     ensures valid { IfOk result (λ f. f.valid ≡ valid) }
 {
-    let mut here = place;
+    let mut here = state;
     for level in 1..LEVEL_LIMIT {
+        let path = here.path.as_slice();
+        watch.level(level + 1, here.icudata, &here.name, path);
         let mut names = 0;
-        let outcome = step_at(own, icu, parents, valid, &here, &mut names);
-        left = left_after(left, names, here.path.as_slice())?;
+        let outcome = step_at(own, icu, parents, valid, &here, &mut names, watch);
+        left = left_after(left, names, path)?;
         match outcome? {
             Outcome::Found(found) => return Ok(found),
-            Outcome::Next { place, .. } => here = place,
+            Outcome::Next { state, .. } => here = state,
             Outcome::TooLong => return Err(BoundedError::Search(next_fault(level))),
         }
     }
     Err(BoundedError::Search(LookError::TooManyAliases))
 }
 
-// A lookup with this many steps; `None` is no limit. A level's steps are taken off once it has been
-// asked.
-fn search_from<'a, S: Shelf<'a>, I: Shelf<'a, N = S::N>>(
+/// Looks a path up in at most `left` steps; `None` is no limit. The steps of a level are subtracted
+/// after the level was searched.
+fn search_from<'a, S: Shelf<'a>, I: Shelf<'a, N = S::N>, W: Watch>(
     own: S,
     icu: I,
     parents: &Parents,
     name: &Name,
     path: &[u8],
     left: Option<u64>,
+    watch: &mut W,
 ) -> Result<Found<S::N>, BoundedError>
     ensures bad_path { (result ≡ Err (Bounded.Search Faults.BadPath)) ↔ (IsPath path.now → ⊥) }
     ensures answer { IsPath path.now → bounded_answer_of S.N.tree result ≡ search_within left 256
@@ -221,15 +236,16 @@ fn search_from<'a, S: Shelf<'a>, I: Shelf<'a, N = S::N>>(
     if !path_ok(path) {
         return Err(BoundedError::Search(LookError::BadPath));
     }
+    watch.level(1, false, name, path);
     if path.len() > PATH_LIMIT {
         return Err(BoundedError::Search(LookError::PathTooLong));
     }
     let mut names = 0;
-    let outcome = step(own, parents, false, name, path, None, &mut names);
+    let outcome = step(own, parents, false, name, path, None, &mut names, watch);
     let left = left_after(left, names, path)?;
     match outcome? {
         Outcome::Found(found) => Ok(found),
-        Outcome::Next { valid, place } => search_on(own, icu, parents, valid, place, left),
+        Outcome::Next { valid, state } => search_on(own, icu, parents, valid, state, left, watch),
         Outcome::TooLong => Err(BoundedError::Search(LookError::PathTooLong)),
     }
 }
@@ -238,13 +254,14 @@ fn search_from<'a, S: Shelf<'a>, I: Shelf<'a, N = S::N>>(
 /// lookup with fallback of ICU's `ures_*` calls). A path is segments of printable ASCII with
 /// slashes between them; the empty path is the root.
 ///
-/// The bundles of the name's trail are asked in order; the first in which the path leads somewhere
-/// decides. An alias goes on from there with its own locale and path, and its answer is final.
+/// The bundles of the name's trail are searched in order; the first in which the path leads
+/// somewhere decides. If it leads to an alias, the search continues with the alias's locale and
+/// path, and what it finds there is final.
 ///
 /// The errors come in this order. `BadPath`: a byte that isn't printable ASCII, or an empty
 /// segment. Then at each level: `TooManyAliases` at the 257th, `PathTooLong` for more than 1,024
 /// bytes, `Chain` or `BadParent` as `trail` has them, `NoBundle` if the trail has no stop,
-/// `Missing`, `AliasText` or `AliasPackage` as `read_alias` has them. No memory is taken.
+/// `Missing`, `AliasText` or `AliasPackage` as `read_alias` has them. Allocates nothing.
 ///
 /// ```rust
 /// let found = look(shelf, shelf, &parents, &de_at, b"menu/open")?;
@@ -264,7 +281,32 @@ pub fn look<'a, S: Shelf<'a>, I: Shelf<'a, N = S::N>>(
     ensures valid { IfOk result
         (λ f. first_stop (S.bundles own) (parent_of parents.now) name.now ≡ Some f.valid) }
 {
-    match search_from(own, icu, parents, name, path, None) {
+    look_watched(own, icu, parents, name, path, &mut ())
+}
+
+/// Looks a path up as `look` does, and reports each level, name and alias to an observer when the
+/// search gets there.
+///
+/// ```rust
+/// let found = look_watched(shelf, shelf, &parents, &de_at, b"menu/open", &mut trace)?;
+/// // What `look` finds, whatever `trace` does.
+/// ```
+pub fn look_watched<'a, S: Shelf<'a>, I: Shelf<'a, N = S::N>, W: Watch>(
+    own: S,
+    icu: I,
+    parents: &Parents,
+    name: &Name,
+    path: &[u8],
+    watch: &mut W,
+) -> Result<Found<S::N>, LookError>
+    ensures bad_path { (result ≡ Err Faults.BadPath) ↔ (IsPath path.now → ⊥) }
+    ensures answer { IsPath path.now → answer_of S.N.tree result
+        ≡ look_up (S.bundles own) (I.bundles icu) (parent_of parents.now) name.now
+        (segments path.now) }
+    ensures valid { IfOk result
+        (λ f. first_stop (S.bundles own) (parent_of parents.now) name.now ≡ Some f.valid) }
+{
+    match search_from(own, icu, parents, name, path, None, watch) {
         Ok(found) => Ok(found),
         Err(BoundedError::Search(fault)) => Err(fault),
         Err(BoundedError::TooManySteps) => unreachable!(),
@@ -273,15 +315,15 @@ pub fn look<'a, S: Shelf<'a>, I: Shelf<'a, N = S::N>>(
 
 /// Looks a path up as `look` does, in at most this many steps. At each level each name of the trail
 /// takes one step for its bundle and one for each segment of the path; a level whose trail is
-/// refused takes none. A lookup takes at most 4,202,496 steps (`laws::a_lookup_takes_few_steps`).
+/// invalid takes none. A lookup takes at most 4,202,496 steps (`laws::a_lookup_takes_few_steps`).
 ///
 /// The errors: `Search(BadPath)` as `look` has it, whatever the steps are. `TooManySteps`: the
-/// whole lookup takes more steps. Else `Search` with the error of `look`. The steps of a level are
-/// counted once it has been asked, so that at most one level is asked in vain. No memory is taken.
+/// whole lookup takes more steps. Otherwise `Search` with the error of `look`. The steps of a level
+/// are counted after it was searched, so at most one level is searched in vain. Allocates nothing.
 ///
 /// ```rust
 /// let found = look_within(shelf, shelf, &parents, &de_at, b"menu/open", 10_000)?;
-/// // The same as `look` finds, unless that takes more than 10,000 steps.
+/// // What `look` finds, unless that takes more than 10,000 steps.
 /// ```
 pub fn look_within<'a, S: Shelf<'a>, I: Shelf<'a, N = S::N>>(
     own: S,
@@ -298,5 +340,5 @@ pub fn look_within<'a, S: Shelf<'a>, I: Shelf<'a, N = S::N>>(
     ensures valid { IfOk result
         (λ f. first_stop (S.bundles own) (parent_of parents.now) name.now ≡ Some f.valid) }
 {
-    search_from(own, icu, parents, name, path, Some(steps))
+    search_from(own, icu, parents, name, path, Some(steps), &mut ())
 }

@@ -1,4 +1,4 @@
-//! How many steps a search may still take.
+//! Counting the steps of a search.
 ghost use Rattle.std.specs.Prelude.{◌≡◌, ◌≤◌, ◌+◌, ◌*◌, count_by, length};
 ghost use Rattle.rb_tree.specs.Path.{is_slash, segments};
 ghost use Rattle.rb_fallback.specs.inner.Budget.{spend};
@@ -6,14 +6,14 @@ ghost use Rattle.rb_fallback.specs.Limits.{path_limit};
 
 use crate::fault::BoundedError;
 
-// How many slashes a path has.
+/// Counts the slashes of a path.
 fn slash_count(path: &[u8]) -> usize
     ensures { result ≡ count_by is_slash path.now }
 {
     path.iter().filter(|b| **b == b'/').count()
 }
 
-// How many segments a path has.
+/// Counts the segments of a path.
 fn segment_count(path: &[u8]) -> usize
     ensures count { result ≡ length (segments path.now) }
     ensures within { result ≤ length path.now + 1 }
@@ -24,7 +24,7 @@ fn segment_count(path: &[u8]) -> usize
     slash_count(path) + 1
 }
 
-// What is left after a level with this many names, if it was enough; `None` is no limit.
+/// Subtracts the steps of a level with this many names from the remaining ones. `None` is no limit.
 pub(crate) fn left_after(
     left: Option<u64>,
     names: u8,

@@ -1,4 +1,4 @@
-//! The words of the errors of lookups and of aliases.
+//! The error codes of lookups and of aliases.
 ghost use Rattle.std.specs.Prelude.{◌≡◌};
 ghost use Rattle.rb_fallback.specs.Words.{alias_word, look_word};
 
@@ -6,7 +6,7 @@ use crate::fault::{AliasFault, LookError};
 use rb_tree::variant_name;
 
 impl LookError {
-    /// The variant's name.
+    /// Returns the variant's name, which is its error code.
     pub fn word(self) -> &'static str
         ensures { result.now ≡ look_word self }
     {
@@ -18,7 +18,7 @@ impl LookError {
 }
 
 impl AliasFault {
-    /// The variant's name.
+    /// Returns the variant's name, which is its error code.
     pub fn word(self) -> &'static str
         ensures { result.now ≡ alias_word self }
     {

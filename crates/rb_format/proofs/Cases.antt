@@ -1,4 +1,4 @@
--- What a reading says by cases: with data and without, and of two keys that compare as equal.
+-- Proves the cases of a reading: with data and without, and two keys that compare as equal.
 use Rattle.std.proofs.Common.{◌≡◌, ℕ, ◌<◌, ◌≤◌, Bool, true, false, cond, ltb, List, Result, Ok, Err, refl, ap, ◌∙◌, inl, inr}
 use Rattle.std.specs.Prelude.{◌⊎◌}
 use Rattle.std.specs.Ordering.{nat_cmp}

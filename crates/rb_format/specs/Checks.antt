@@ -1,7 +1,6 @@
--- The checks of a file as one list in their order, each with the error that it names and whether the file fails it:
--- those of the file itself, then those of its items, depth first, an item before its children and these in their order.
--- Which checks there are, and their order, are rules of this project; what they look at is `uresdata.h`, format version
--- 1.
+-- Defines the checks of a file as one ordered list of pairs: the error, and whether the file fails the check
+-- (`uresdata.h`, format version 1). The checks of the file itself come first, then those of its items depth first, an
+-- item before its children. Which checks there are, and their order, are rules of this project.
 use Rattle.std.specs.Prelude.{Bool, true, ℕ, zero, suc, ◌+◌, ◌*◌, ◌==◌, ◌&&◌, ◌||◌, not, nat_lt, nat_le, if◌then◌else◌}
 use Rattle.std.specs.Prelude.{List, [], ◌∷◌, ◌++◌, length, drop, slice_index, Option, Some, None, is_none, unwrap_or}
 use Rattle.std.specs.Prelude.{Result, Ok, Err}
@@ -26,16 +25,16 @@ use Rattle.rb_format.specs.Item.{kind_of, offset_of, is_table, has_data}
 use Rattle.rb_format.specs.Attributes.{attributes_of, has_pool}
 use Rattle.rb_format.specs.File.{is_short_enough, has_magic, has_family, has_version, has_sizes, has_valid_indexes}
 
--- of each check the error that it names, and whether it is failed
+-- pairs of an error, and whether its check fails
 abbrev pub CheckList : Type 0
 CheckList = List (FileFault × Bool)
 
--- the error of the first check that is failed
+-- the error of the first check that fails
 abbrev pub first_failed : CheckList → Option FileFault
 first_failed [] = None
 first_failed (c ∷ cs) = if c.1 then Some c.0 else first_failed cs
 
--- ---- the checks of a file itself
+-- ---- the checks of the file itself
 
 abbrev pub header_checks : List ℕ → CheckList
 header_checks bytes =
@@ -54,7 +53,7 @@ header_unless bytes (Some e) = Err e
 unfoldable pub header_of : List ℕ → Result Header FileFault
 header_of bytes = header_unless bytes (first_failed (header_checks bytes))
 
--- of the data in a file of a minor version
+-- the checks of the data, in a file with this minor version
 abbrev pub data_checks : ℕ → List ℕ → CheckList
 data_checks minor body =
     (Indexes, not (has_valid_indexes body))
@@ -64,12 +63,12 @@ data_checks minor body =
 
 -- ---- the checks of an item
 
--- the key before place i, and for the first place the empty list, which is below all keys
+-- the key before index i; before the first key it is the empty list, which is below all keys
 abbrev pub key_before : Layout → List ℕ → (ℕ → ℕ) → ℕ → List ℕ
 key_before y body place zero = []
 key_before y body place (suc i) = unwrap_or (key y body (place i)) []
 
--- of each of the n keys from place i on: whether it is one, and whether it is above the one before
+-- for each of the n keys from index i on: whether it is a key, and whether it is above the previous one
 abbrev pub key_checks : Layout → List ℕ → (ℕ → ℕ) → ℕ → ℕ → CheckList
 key_checks y body place i zero = []
 key_checks y body place i (suc n) =
@@ -77,18 +76,18 @@ key_checks y body place i (suc n) =
     ∷ (KeyOrder, not (is_lt (slice_cmp nat_cmp (key_before y body place i) (unwrap_or (key y body (place i)) []))))
     ∷ key_checks y body place (suc i) n
 
--- of a table with these parts: whether its items end below the top, and the checks of its keys
+-- the checks of a table with these parts: its items end below the top, and its keys are valid
 abbrev pub table_checks : Layout → List ℕ → TableParts → CheckList
 table_checks y body p = (Length, nat_lt y.top (p.first + p.count))
     ∷ key_checks y body (key_offset body p.keys) 0 p.count
 
--- of a text: whether it ends below the top, with a zero unit
+-- the checks of a text: it ends below the top, with a zero unit
 abbrev pub text_checks : Layout → List ℕ → ℕ → CheckList
 text_checks y body o =
     let n = word_at body o in
     (Length, nat_lt (4 * y.top) (4 * o + 6 + 2 * n)) ∷ (NotTerminated, not (half_at body (2 * o + 2 + n) == 0)) ∷ []
 
--- of the data at an offset
+-- the checks of the data at an offset
 abbrev pub value_checks : Layout → List ℕ → ℕ → ItemKind → CheckList
 value_checks y body o String = text_checks y body o
 value_checks y body o Binary = (Length, nat_lt (4 * y.top) (4 * o + 4 + word_at body o)) ∷ []
@@ -99,7 +98,7 @@ value_checks y body o Int = []
 value_checks y body o Array = (Length, nat_lt y.top (array_first o + array_count body o)) ∷ []
 value_checks y body o Ints = (Length, nat_lt y.top (o + 1 + word_at body o)) ∷ []
 
--- of an item with an offset: that its type is one, where its data begin, and the checks of these
+-- the checks of an item with an offset: its type is known, its data begin between the bounds, and the data are valid
 abbrev pub kind_checks : Layout → List ℕ → ℕ → Option ItemKind → CheckList
 kind_checks y body o None = (ItemType, true) ∷ []
 kind_checks y body o (Some k) =
@@ -107,7 +106,7 @@ kind_checks y body o (Some k) =
 
 -- ---- the items of a file
 
--- how many children an item with an offset has, and child i
+-- the number of children of an item with an offset, and child i
 abbrev pub count_of : List ℕ → ℕ → Option ItemKind → ℕ
 count_of body o None = 0
 count_of body o (Some k) = if has_data k o then child_count body k o else 0
@@ -116,12 +115,12 @@ abbrev pub child_of : List ℕ → ℕ → Option ItemKind → ℕ → ℕ
 child_of body o None i = 0
 child_of body o (Some k) i = word_at body (first_child body k o + i)
 
--- of n items from item i on, in their order
+-- the checks of n items from item i on, in order
 abbrev pub all_checks : (ℕ → CheckList) → ℕ → ℕ → CheckList
 all_checks of i zero = []
 all_checks of i (suc n) = of i ++ all_checks of (suc i) n
 
--- of an item for which d levels are left, and then of its children
+-- the checks of an item with d levels left, and then of its children
 unfoldable pub item_checks : Layout → List ℕ → ℕ → ℕ → CheckList
 item_checks y body zero item = (TooDeep, true) ∷ []
 item_checks y body (suc d) item =
@@ -130,7 +129,7 @@ item_checks y body (suc d) item =
 
 -- ---- the first fault
 
--- of a file and its items
+-- the checks of a file and its items
 abbrev pub file_checks : List ℕ → CheckList
 file_checks bytes =
     let body = drop (half_at bytes 0) bytes in

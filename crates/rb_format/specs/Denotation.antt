@@ -1,5 +1,5 @@
--- The tree that an item denotes, by cases on its type, and nothing if something doesn't hold (`uresdata.h`, the
--- resource types of format version 1). No order of checks and no fault occurs here.
+-- Defines the tree that an item denotes, by cases on its type, or nothing if a condition fails (`uresdata.h`, the
+-- resource types of format version 1). The order of checks and the faults are not part of it.
 use Rattle.std.specs.Prelude.{Bool, true, false, ℕ, zero, suc, ◌+◌, ◌*◌, ◌==◌, ◌&&◌, nat_lt}
 use Rattle.std.specs.Prelude.{nat_le, if◌then◌else◌, List, [], ◌∷◌, take, drop, map, Option, Some, None, option_map}
 use Rattle.std.specs.Ordering.{is_lt, nat_cmp}
@@ -26,18 +26,18 @@ abbrev pub ◌>>?◌ : {A B : Type 0} → Option A → (A → Option B) → Opti
 (Some x) >>? f = f x
 None >>? f = None
 
--- the trees of n items from place i on
+-- the trees of n items from index i on
 abbrev pub trees_at : (ℕ → Option Resource) → (ℕ → ℕ) → ℕ → ℕ → Option Resources
 trees_at child item i zero = Some no_trees
 trees_at child item i (suc n) = child (item i) >>? λ t. trees_at child item (suc i) n >>? λ ts. Some (tree_and t ts)
 
--- the n keys from place i on, each above the one before
+-- the n keys from index i on, each above the one before
 abbrev pub keys_at : Layout → List ℕ → (ℕ → ℕ) → List ℕ → ℕ → ℕ → Option (List (List ℕ))
 keys_at y body place last i zero = Some []
 keys_at y body place last i (suc n) = key y body (place i) >>? λ k. where_holds (is_lt (slice_cmp nat_cmp last k))
     (keys_at y body place k (suc i) n >>? λ ks. Some (k ∷ ks))
 
--- the entries of these keys, whose items begin at place i
+-- the entries with these keys, whose items begin at index i
 abbrev pub members_at : (ℕ → Option Resource) → (ℕ → ℕ) → ℕ → List (List ℕ) → Option Members
 members_at child item i [] = Some no_entries
 members_at child item i (k ∷ ks) = child (item i) >>? λ t. members_at child item (suc i) ks >>? λ es. Some
@@ -58,7 +58,7 @@ units_at y body o = where_holds (nat_le (4 * o + 6 + 2 * word_at body o) (4 * y.
     (where_holds (half_at body (2 * o + 2 + word_at body o) == 0)
     (Some (values (half_at body) (2 * o + 2) (word_at body o))))
 
--- the value of the data at an offset, where child gives what an item in them denotes
+-- the value of the data at an offset, where `child` gives the tree of an item in them
 abbrev pub value_at : Layout → List ℕ → (ℕ → Option Resource) → ℕ → ItemKind → Option Resource
 value_at y body child o String = option_map string (units_at y body o)
 value_at y body child o Binary = where_holds (nat_le (4 * o + 4 + word_at body o) (4 * y.top))
@@ -74,7 +74,7 @@ value_at y body child o Array =
 value_at y body child o Ints = where_holds (nat_le (o + 1 + word_at body o) y.top)
     (Some (ints (map (cast_signed w32) (values (word_at body) (o + 1) (word_at body o)))))
 
--- an item without data has its bare value, any other the value of its data, which begin between the keys and the top
+-- the empty value for an item without data, else the value of its data, which begin between the keys and the top
 abbrev pub item_at : Layout → List ℕ → (ℕ → Option Resource) → ℕ → ItemKind → Option Resource
 item_at y body child o k = if has_data k o
     then where_holds (nat_le y.keys_top o && nat_lt o y.top) (value_at y body child o k) else Some (bare k o)

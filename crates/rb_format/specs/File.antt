@@ -1,6 +1,6 @@
--- What a file denotes: the tree that its root item denotes and its flag, if the header and the indexes are right
--- (ICU's `UDataInfo` and `uresdata.h`, format version 1.1 and later minor versions). The greatest height of a tree and
--- the greatest length of a file are rules of this project.
+-- Defines what a file denotes: the tree of its root item and its flag, if the header and the indexes are valid (ICU's
+-- `UDataInfo` and `uresdata.h`, format version 1.1 and later minor versions). The limits of a tree's height and a
+-- file's length are rules of this project.
 use Rattle.std.specs.Prelude.{◌≡◌, Bool, false, ℕ, ◌+◌, ◌/◌, ◌%◌, ◌==◌, ◌&&◌, not}
 use Rattle.std.specs.Prelude.{nat_lt, nat_le, List, length, drop, slice_index, Option, Some, option_map, unwrap_or}
 use Rattle.rb_tree.specs.Limits.{height_limit}
@@ -31,7 +31,7 @@ has_family bytes = slice_index bytes 9 == 0 && slice_index bytes 10 == 2
 abbrev pub has_version : List ℕ → Bool
 has_version bytes = slice_index bytes 16 == 1 && nat_le 1 (slice_index bytes 17)
 
--- a header within the file, whose size is a multiple of 16 and leaves room for the info block
+-- a header inside the file, whose size is a multiple of 16 and at least that of the info block
 abbrev pub has_sizes : List ℕ → Bool
 has_sizes bytes =
     half_at bytes 0 % 16 == 0 && nat_le 32 (half_at bytes 0) && nat_le (half_at bytes 0) (length bytes)
@@ -42,7 +42,7 @@ abbrev pub has_header : List ℕ → Bool
 has_header bytes = nat_le 24 (length bytes) && has_magic bytes && slice_index bytes 8 == 0 && has_family bytes
     && has_version bytes && has_sizes bytes
 
--- enough indexes, and the tops of the keys, the resources and the bundle in order, within the data
+-- enough indexes, and the ends of the keys, the resources and the bundle in order, within the data
 abbrev pub are_in_order : List ℕ → Bool
 are_in_order body =
     nat_le 5 (word_at body 1) && nat_lt (word_at body 1) (word_at body 2)
@@ -56,24 +56,24 @@ has_valid_indexes body = nat_le 24 (length body) && are_in_order body
 abbrev pub flagged : ℕ → Resource → SourceTree
 flagged bits t = record { tree = t; no_fallback = no_fallback bits }
 
--- what data denote in a file of a minor version: a tree of height at most h, that the first word denotes, a table's
--- item, and a flag
+-- what the data of a file with a minor version denote: the tree of a table, which the first word denotes, with a height
+-- of at most h, and its flag
 unfoldable pub source_of_data : ℕ → ℕ → List ℕ → Option SourceTree
 source_of_data h minor body =
     where_holds (has_valid_indexes body && not (has_pool (attributes_of minor body))
     && is_table (kind_of (word_at body 0)))
     (option_map (flagged (attributes_of minor body)) (tree_at (layout_of body) body h (word_at body 0)))
 
--- what a file denotes, whose data follow the header
+-- what a file denotes; its data follow the header
 unfoldable pub source_of_file : ℕ → List ℕ → Option SourceTree
 source_of_file h bytes = where_holds (is_short_enough bytes && has_header bytes)
     (source_of_data h (slice_index bytes 17) (drop (half_at bytes 0) bytes))
 
--- the file denotes the bundle, whose tree has a height of at most h
+-- the file denotes this bundle, whose tree has a height of at most h
 abbrev pub DenotesWithin : ℕ → List ℕ → SourceTree → Type 0
 DenotesWithin h bytes s = source_of_file h bytes ≡ Some s
 
--- the file denotes the bundle
+-- the file denotes this bundle
 abbrev pub Denotes : List ℕ → SourceTree → Type 0
 Denotes bytes s = DenotesWithin height_limit bytes s
 

@@ -1,6 +1,6 @@
--- Where the parts of tables and arrays are: a table has a half word that counts its entries, then half words that are
--- the offsets of its keys, a half word of padding if the count is even, and its items; a long table has words alone,
--- and an array has a word that counts its items, and the items (`uresdata.h`, URES_TABLE, URES_TABLE32 and URES_ARRAY).
+-- Defines where the parts of tables and arrays are (`uresdata.h`, URES_TABLE, URES_TABLE32 and URES_ARRAY). A table has
+-- a half word that counts its entries, half words with the offsets of its keys, a half word of padding if the count is
+-- even, and its items. A long table has words only. An array has a word that counts its items, and the items.
 use Rattle.std.specs.Prelude.{Bool, true, false, ℕ, ◌+◌, ◌*◌, ◌/◌, List}
 use Rattle.rb_format.specs.declared.geometry.KeyPlaces.{KeyPlaces}
 use Rattle.rb_format.specs.declared.geometry.KeyPlaces.TheVariants.{Halves, Words}
@@ -32,7 +32,7 @@ table_parts body o = record {
 abbrev pub long_table_parts : List ℕ → ℕ → TableParts
 long_table_parts body o = record { keys = Words (o + 1); first = o + 1 + word_at body o; count = word_at body o }
 
--- the word of the first item of the array at word o, and how many it has
+-- the index of the first item's word of the array at word o, and the number of its items
 abbrev pub array_first : ℕ → ℕ
 array_first o = o + 1
 
@@ -46,14 +46,14 @@ has_children LongTable = true
 has_children Array = true
 has_children k = false
 
--- how many items the data at word o have, by their kind
+-- the number of items of the data at word o, by kind
 abbrev pub child_count : List ℕ → ItemKind → ℕ → ℕ
 child_count body Table o = (table_parts body o).count
 child_count body LongTable o = (long_table_parts body o).count
 child_count body Array o = array_count body o
 child_count body k o = 0
 
--- the word of the first of them, which the others follow
+-- the index of the first item's word; the others follow it
 abbrev pub first_child : List ℕ → ItemKind → ℕ → ℕ
 first_child body Table o = (table_parts body o).first
 first_child body LongTable o = (long_table_parts body o).first

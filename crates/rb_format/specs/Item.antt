@@ -1,4 +1,5 @@
--- Items: a type and an offset in words from the root item, or a value (`uresdata.h`, RES_GET_TYPE and RES_GET_OFFSET).
+-- Defines items: a type, and an offset in words from the root item or a value (`uresdata.h`, RES_GET_TYPE and
+-- RES_GET_OFFSET).
 use Rattle.std.specs.Prelude.{Bool, true, false, ℕ, ◌^◌, ◌/◌, ◌%◌, ◌==◌, nat_lt, if◌then◌else◌, [], Option, Some, None}
 use Rattle.rb_format.specs.declared.kind.ItemKind.{ItemKind}
 use Rattle.rb_format.specs.declared.kind.ItemKind.TheVariants.{String, Binary, Table, Alias, LongTable, Int, Array}
@@ -32,7 +33,7 @@ abbrev pub has_data : ItemKind → ℕ → Bool
 has_data Int o = false
 has_data k o = nat_lt 0 o
 
--- the value of an item without data: an Int's number, and else the empty value
+-- the value of an item without data: an Int's number, or the empty value
 abbrev pub bare : ItemKind → ℕ → Resource
 bare String o = string []
 bare Binary o = binary []

@@ -1,6 +1,6 @@
--- The limit of a file, a rule of this project.
+-- Defines the maximum length of a file, a rule of this project.
 use Rattle.std.specs.Prelude.{ℕ}
 
--- the greatest length of a file, in bytes
+-- in bytes
 abbrev pub file_limit : ℕ
 file_limit = 67108864

@@ -1,4 +1,4 @@
--- The word that is printed for a fault of a file: the variant's name.
+-- Defines the error code of a file's fault: the variant's name.
 use Rattle.std.specs.Prelude.{ℕ, List, codes}
 use Rattle.rb_format.specs.declared.fault.FileFault.{FileFault}
 use Rattle.rb_format.specs.declared.fault.FileFault.TheVariants as faults

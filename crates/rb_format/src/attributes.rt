@@ -1,4 +1,3 @@
-//! The attributes of a bundle.
 ghost use Rattle.std.specs.Prelude.{◌≡◌, ◌<◌, IsTrue};
 ghost use Rattle.rb_format.specs.Attributes as specified;
 ghost use Rattle.rb_format.specs.Attributes.{attributes_of, bit};
@@ -7,15 +6,14 @@ ghost use Rattle.rb_format.specs.File as files;
 use crate::constants::{ATTRIBUTES_INDEX_COUNT, ATTRIBUTES_VERSION};
 use crate::place::word_at;
 
-/// The attributes of a bundle, one a bit (`URES_INDEX_ATTRIBUTES` of `uresdata.h`).
+/// The attribute bits of a bundle (`URES_INDEX_ATTRIBUTES` of `uresdata.h`).
 #[derive(Clone, Copy, Debug, PartialEq, Eq)]
 pub struct Attributes {
     pub bits: u32,
 }
 
 impl Attributes {
-    /// The attributes of the data of a file with this minor format version; none before version
-    /// 1.2, or if fewer than six indexes are there.
+    /// Reads the attributes; they are 0 before version 1.2 and with fewer than six indexes.
     pub fn of(minor: u8, body: &[u8]) -> Attributes
         requires { IsTrue (files.has_valid_indexes body.now) }
         ensures { result.bits ≡ attributes_of minor body.now }
@@ -26,15 +24,15 @@ impl Attributes {
         }
     }
 
-    /// Whether a lookup stops at the bundle (`URES_ATT_NO_FALLBACK`).
+    /// Returns true if a lookup stops at the bundle (`URES_ATT_NO_FALLBACK`).
     pub fn no_fallback(self) -> bool
         ensures { result ≡ specified.no_fallback self.bits }
     {
         self.has(0)
     }
 
-    /// Whether the bundle is a pool bundle, or uses the keys of one (`URES_ATT_IS_POOL_BUNDLE`,
-    /// `URES_ATT_USES_POOL_BUNDLE`).
+    /// Returns true for a pool bundle (`URES_ATT_IS_POOL_BUNDLE`) and for one that uses a pool
+    /// bundle's keys (`URES_ATT_USES_POOL_BUNDLE`).
     pub fn has_pool(self) -> bool
         ensures { result ≡ specified.has_pool self.bits }
     {

@@ -1,4 +1,3 @@
-//! Where the parts of tables are.
 ghost use Rattle.std.specs.Prelude.{◌≡◌, ◌+◌, ◌*◌, ◌≤◌, ◌<◌, ◌^◌, length};
 ghost use Rattle.rb_format.specs.Geometry as parts;
 ghost use Rattle.rb_format.specs.Geometry.{key_offset, keys_end};
@@ -6,7 +5,7 @@ ghost use Rattle.rb_format.specs.Place as places;
 
 use crate::place::{half_at, word_at};
 
-/// Where the key offsets of a table begin: at a half word, or at a word.
+/// The position of a table's first key offset, in half words or in words.
 #[derive(Clone, Copy, Debug, PartialEq, Eq)]
 pub enum KeyPlaces {
     Halves(usize),
@@ -14,7 +13,7 @@ pub enum KeyPlaces {
 }
 
 impl KeyPlaces {
-    /// The offset of key i, in bytes from the root item.
+    /// Returns the offset of key i, in bytes from the root item.
     pub fn offset(self, body: &[u8], i: usize) -> u32
         requires { keys_end self (i + 1) ≤ length body.now }
         ensures { result ≡ key_offset body.now self i }
@@ -26,19 +25,15 @@ impl KeyPlaces {
     }
 }
 
-/// Where the parts of a table are.
 #[derive(Clone, Copy, Debug, PartialEq, Eq)]
 pub struct TableParts {
-    /// The offsets of its keys.
     pub keys: KeyPlaces,
-    /// The word of its first item, which the others follow.
+    /// The index of the first item's word.
     pub first: usize,
-    /// How many entries it has.
     pub count: usize,
 }
 
 impl TableParts {
-    /// The word of item i.
     pub fn item(self, body: &[u8], i: usize) -> u32
         requires { 4 * (self.first + i + 1) ≤ length body.now }
         ensures { result ≡ places.word_at body.now (self.first + i) }
@@ -47,7 +42,7 @@ impl TableParts {
     }
 }
 
-/// The parts of the table at a word, whose count is a half word.
+/// Locates the parts of the table at a word; its count is a half word.
 pub fn table_parts(body: &[u8], offset: u32) -> TableParts
     requires { 4 * offset + 2 ≤ length body.now }
     ensures parts { result ≡ parts.table_parts body.now offset }
@@ -62,7 +57,7 @@ pub fn table_parts(body: &[u8], offset: u32) -> TableParts
     }
 }
 
-/// The parts of the long table at a word, whose count is a word.
+/// Locates the parts of the long table at a word; its count is a word.
 pub fn long_table_parts(body: &[u8], offset: u32) -> TableParts
     requires { 4 * offset + 4 ≤ length body.now }
     ensures parts { result ≡ parts.long_table_parts body.now offset }

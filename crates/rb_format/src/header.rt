@@ -1,4 +1,3 @@
-//! The header of a file.
 ghost use Rattle.std.specs.Prelude.{◌≡◌, ◌+◌, ◌≤◌, length, drop, IfOk, IsTrue};
 ghost use Rattle.rb_format.specs.Place.{half_at};
 ghost use Rattle.rb_format.specs.File as files;
@@ -12,7 +11,7 @@ use crate::constants::{
 use crate::fault::FileFault;
 use crate::place::half_at;
 
-/// The header of a file: its size in bytes, and its minor format version, byte 17.
+/// The size of a file's header in bytes, and the minor format version.
 #[derive(Clone, Copy, Debug, PartialEq, Eq)]
 pub struct Header {
     pub size: u16,
@@ -20,15 +19,9 @@ pub struct Header {
 }
 
 impl Header {
-    /// The header at the front of a file. It is refused for the first of these: fewer than 24 bytes
-    /// or other magic bytes (`Header`), big-endian numbers (`BigEndian`), another charset family or
-    /// size of units (`Family`), a format version other than 1.1 and 1 with a later minor version
-    /// (`FormatVersion`), and sizes that can't be (`Header`).
-    ///
-    /// ```rust
-    /// let header = Header::read(&file)?;
-    /// let data = &file[header.size as usize..]; // its word 0 is the root item
-    /// ```
+    /// Reads the header at the front of a file. Returns the first error in this order: `Header`
+    /// (fewer than 24 bytes or other magic bytes), `BigEndian`, `Family`, `FormatVersion`, and
+    /// `Header` again (impossible sizes). The data after the header begins with the root item.
     #[tactic(auto, unfolding(crate::specs::Checks::header_of))]
     pub fn read(bytes: &[u8]) -> Result<Header, FileFault>
         ensures value { result ≡ header_of bytes.now }
@@ -56,7 +49,6 @@ impl Header {
     }
 }
 
-/// Whether the magic bytes are there, and the data format is that of a resource bundle.
 fn has_magic(bytes: &[u8]) -> bool
     requires { 24 ≤ length bytes.now }
     ensures { result ≡ files.has_magic bytes.now }
@@ -69,7 +61,6 @@ fn has_magic(bytes: &[u8]) -> bool
         && bytes[DATA_FORMAT_AT + 3] == DATA_FORMAT[3]
 }
 
-/// Whether the header's size and that of its info block can be.
 fn has_sizes(bytes: &[u8]) -> bool
     requires { 24 ≤ length bytes.now }
     ensures value { result ≡ files.has_sizes bytes.now }
@@ -84,14 +75,13 @@ fn has_sizes(bytes: &[u8]) -> bool
         && info as usize + 4 <= size as usize
 }
 
-/// Whether the file is no longer than `FILE_LIMIT`, the first check of a reader.
 pub fn is_short_enough(bytes: &[u8]) -> bool
     ensures { result ≡ files.is_short_enough bytes.now }
 {
     bytes.len() <= FILE_LIMIT
 }
 
-/// What follows the header.
+/// Returns the data after the header.
 pub fn body(bytes: &[u8]) -> &[u8]
     requires long { 24 ≤ length bytes.now }
     requires inside { half_at bytes.now 0 ≤ length bytes.now }

@@ -1,4 +1,3 @@
-//! How a key compares with one of the data.
 ghost use Rattle.std.specs.Prelude.{◌≡◌, ◌==◌, ◌<◌, IsTrue, IfSome, is_some, not, length, position};
 ghost use Rattle.std.specs.List.{take_while};
 ghost use Rattle.std.specs.Ordering.{nat_cmp};
@@ -7,8 +6,7 @@ ghost use Rattle.rb_format.specs.Place.{key as stored_key, layout_of};
 
 use std::cmp::Ordering;
 
-/// How a key compares, byte by byte, with the key from byte k of the data, which is one. It reads
-/// no further than they agree.
+/// Compares a key byte by byte with the key at byte k of the data, up to the first difference.
 pub fn compare_key(key: &[u8], body: &[u8], k: u32) -> Ordering
     requires { IsTrue (is_some (stored_key (layout_of body.now) body.now k)) }
     ensures { IfSome (stored_key (layout_of body.now) body.now k)
@@ -17,7 +15,6 @@ pub fn compare_key(key: &[u8], body: &[u8], k: u32) -> Ordering
     compare_before_nul(key, &body[k as usize..])
 }
 
-/// How a key compares with the bytes before the first NUL.
 fn compare_before_nul(key: &[u8], run: &[u8]) -> Ordering
     requires { IsTrue (is_some (position (λ b. b == 0) run.now)) }
     ensures { result ≡ slice_cmp nat_cmp key.now (take_while (λ b. not (b == 0)) run.now) }

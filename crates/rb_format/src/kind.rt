@@ -1,9 +1,8 @@
-//! Item words: a type and an offset.
 ghost use Rattle.std.specs.Prelude.{◌≡◌};
 ghost use Rattle.rb_format.specs.Item as items;
 ghost use Rattle.rb_format.specs.Item.{kind_of, type_of, offset_of};
 
-/// The kinds of item, with their types.
+/// The kinds of items and their type numbers.
 #[derive(Clone, Copy, Debug, PartialEq, Eq)]
 pub enum ItemKind {
     String = 0,
@@ -16,21 +15,19 @@ pub enum ItemKind {
     Ints = 14,
 }
 
-/// The type of an item, its bits 31 to 28.
 pub fn item_type(item: u32) -> u8
     ensures { result ≡ type_of item }
 {
     (item >> 28) as u8
 }
 
-/// The offset of an item, its bits 27 to 0.
 pub fn item_offset(item: u32) -> u32
     ensures { result ≡ offset_of item }
 {
     item & 0x0FFF_FFFF
 }
 
-/// The kind of an item; None if its type is none of the layout's.
+/// Returns the kind of an item word, or None for an unknown type.
 pub fn item_kind(item: u32) -> Option<ItemKind>
     ensures { result ≡ kind_of item }
 {
@@ -47,7 +44,6 @@ pub fn item_kind(item: u32) -> Option<ItemKind>
     }
 }
 
-/// Whether a kind is that of a table.
 pub fn is_table(kind: Option<ItemKind>) -> bool
     ensures { result ≡ items.is_table kind }
 {

@@ -1,4 +1,4 @@
-//! What holds of the definitions, as contracts of functions that do nothing.
+//! Properties of the definitions, as contracts of functions that do nothing.
 ghost use Rattle.std.specs.Prelude.{◌≡◌, ◌≤◌, ℕ, List, Some, None, MatchOption, is_none, nat_le};
 ghost use Rattle.std.specs.Prelude.{if◌then◌else◌};
 ghost use Rattle.rb_format.specs.declared.layout.Layout.{Layout};
@@ -9,24 +9,20 @@ ghost use Rattle.rb_format.specs.File.{Denotes, DenotesWithin, has_header};
 ghost use Rattle.rb_format.specs.declared.fault.FileFault.TheVariants.{TooDeep};
 ghost use Rattle.rb_format.specs.Checks.{first_failed, first_fault, header_checks, item_checks};
 
-/// A file denotes a bundle or has a first fault, and never both.
 pub fn a_tree_or_a_fault()
     ensures { (bytes : List ℕ) → MatchOption (first_fault bytes)
         ((s : SourceTree) × Denotes bytes s) (λ e. (s : SourceTree) → ¬ (Denotes bytes s)) }
 {}
 
-/// A header fails none of its checks exactly if it is the header of a resource bundle.
 pub fn a_header_or_a_fault()
     ensures { (bytes : List ℕ) → is_none (first_failed (header_checks bytes)) ≡ has_header bytes }
 {}
 
-/// A file denotes at most one bundle.
 pub fn at_most_one_tree()
     ensures { (bytes : List ℕ) (s r : SourceTree) → Denotes bytes s → Denotes bytes r → s ≡ r }
 {}
 
-/// An item that denotes a tree at one level denotes it at every level that is at least the tree's
-/// height, and for none at a smaller one; there it is too deep.
+/// An item denotes one tree at all levels from its height up; at lower levels it is too deep.
 pub fn same_at_every_level()
     ensures tree { (y : Layout) (body : List ℕ) (d e item : ℕ) (t : Resource)
         → tree_at y body d item ≡ Some t
@@ -37,9 +33,8 @@ pub fn same_at_every_level()
         ≡ (if nat_le (height t) e then None else Some TooDeep) }
 {}
 
-/// A file that denotes a bundle under one limit of heights denotes the same one under every greater
-/// limit. So each file that was accepted while a tree had at most 32 levels still is, and with the
-/// same answers.
+/// A file accepted under one limit of heights denotes the same bundle under every greater limit. So
+/// files accepted under the earlier limit of 32 levels keep their meaning.
 pub fn old_files_keep_their_meaning()
     ensures all { (h k : ℕ) (bytes : List ℕ) (s : SourceTree) → h ≤ k → DenotesWithin h bytes s
         → DenotesWithin k bytes s }

@@ -1,4 +1,3 @@
-//! The bounds in a file's data.
 ghost use Rattle.std.specs.Prelude.{◌≡◌, ◌≤◌, length};
 ghost use Rattle.rb_format.specs.File as files;
 ghost use Rattle.rb_format.specs.Place.{layout_of};
@@ -6,19 +5,16 @@ ghost use Rattle.rb_format.specs.Place.{layout_of};
 use crate::constants::INDEX_COUNT;
 use crate::place::word_at;
 
-/// The bounds that the indexes of a file give, in words from the root item.
+/// The bounds that a file's indexes give, in words from the root item.
 #[derive(Clone, Copy, Debug, PartialEq, Eq)]
 pub struct Layout {
-    /// The number of the indexes, which follow the root item.
+    /// The number of indexes, which follow the root item.
     pub indexes: u32,
-    /// Where the keys end.
     pub keys_top: u32,
-    /// Where the bundle ends.
     pub top: u32,
 }
 
 impl Layout {
-    /// The bounds that the indexes give.
     pub fn of(body: &[u8]) -> Layout
         requires { 24 ≤ length body.now }
         ensures { result ≡ layout_of body.now }
@@ -31,8 +27,8 @@ impl Layout {
     }
 }
 
-/// Whether the indexes are there, and the keys, the resources and the bundle end in this order,
-/// within the data.
+/// Checks that the indexes are present, and that the keys, the resources and the bundle end in this
+/// order within the data.
 pub fn has_valid_indexes(body: &[u8]) -> bool
     ensures { result ≡ files.has_valid_indexes body.now }
 {

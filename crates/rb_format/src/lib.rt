@@ -1,4 +1,4 @@
-//! The layout of a resource bundle's file, ResB format 1.1 and later minor versions, and what a
+//! The file format of resource bundles (ResB 1.1 and later minor versions): its layout, and what a
 //! file denotes.
 #![tactic(auto)]
 

@@ -1,4 +1,3 @@
-//! What is at a place of the data.
 ghost use Rattle.std.specs.Prelude.{◌≡◌, ◌+◌, ◌*◌, ◌≤◌, ◌<◌, ◌==◌, ◌&&◌, nat_lt, length};
 ghost use Rattle.std.specs.Prelude.{slice_index_or, position, not, IfSome};
 ghost use Rattle.std.specs.Option.{option_copied};
@@ -9,7 +8,7 @@ ghost use Rattle.rb_format.specs.Place.{word, half, key, key_at, key_front};
 use crate::layout::Layout;
 use byteorder::{ByteOrder, LittleEndian};
 
-/// Word i of the data: the number in the 4 bytes from byte 4i. None if they aren't all there.
+/// Reads the word at byte 4i, or returns None if it extends past the end.
 #[tactic(auto, unfolding(crate::specs::Place::word_at))]
 pub fn word(body: &[u8], i: usize) -> Option<u32>
     ensures { result ≡ word body.now i }
@@ -17,7 +16,7 @@ pub fn word(body: &[u8], i: usize) -> Option<u32>
     (i < body.len() / 4).then(|| word_at(body, i))
 }
 
-/// Half word i of the data: the number in the 2 bytes from byte 2i. None if they aren't both there.
+/// Reads the half word at byte 2i, or returns None if it extends past the end.
 #[tactic(auto, unfolding(crate::specs::Place::half_at))]
 pub fn half(body: &[u8], i: usize) -> Option<u16>
     ensures { result ≡ half body.now i }
@@ -25,8 +24,7 @@ pub fn half(body: &[u8], i: usize) -> Option<u16>
     (i < body.len() / 2).then(|| half_at(body, i))
 }
 
-/// The key from byte k of the data: the bytes up to the next NUL, which lie after the indexes and
-/// below the top of the keys. None if there is no key.
+/// Reads the key at byte k: the bytes before the next NUL, or None if there is no key.
 pub fn key_at(body: &[u8], k: u32) -> Option<&[u8]>
     ensures { option_copied result ≡ key_at body.now k }
 {
@@ -41,7 +39,7 @@ pub fn key_at(body: &[u8], k: u32) -> Option<&[u8]>
     key_within(&layout, body, k)
 }
 
-/// The key from byte k of the data, in these bounds.
+/// Reads the key at byte k, like `key_at`, with the bounds already known.
 #[tactic(auto, unfolding(crate::specs::Place::key), using(crate::proofs::Fronts::key_behind, crate::proofs::Fronts::key_beyond))]
 pub fn key_within<'a>(layout: &Layout, body: &'a [u8], k: u32) -> Option<&'a [u8]>
     ensures { option_copied result ≡ key layout.now body.now k }
@@ -58,7 +56,6 @@ pub fn key_within<'a>(layout: &Layout, body: &'a [u8], k: u32) -> Option<&'a [u8
     }
 }
 
-/// The key at the front of the bytes, before their first NUL.
 fn key_in(run: &[u8]) -> Option<&[u8]>
     ensures { option_copied result ≡ key_front run.now }
 {
@@ -68,7 +65,6 @@ fn key_in(run: &[u8]) -> Option<&[u8]>
     }
 }
 
-/// Whether bytes up to an end aren't empty, and the NUL is there.
 fn is_ended(run: &[u8], end: usize) -> bool
     requires { end < length run.now }
     ensures { result ≡ (nat_lt 0 end && (slice_index_or run.now end 0 == 0)) }
@@ -76,7 +72,6 @@ fn is_ended(run: &[u8], end: usize) -> bool
     0 < end && run[end] == 0
 }
 
-/// Where the first byte stands that no key has.
 fn plain_end(bytes: &[u8]) -> Option<usize>
     ensures value { result ≡ position (λ b. not (is_plain b)) bytes.now }
     ensures bound { IfSome result (λ n. n < length bytes.now) }
@@ -84,7 +79,6 @@ fn plain_end(bytes: &[u8]) -> Option<usize>
     bytes.iter().position(|&b| !(0x20 <= b && b <= 0x7E))
 }
 
-/// Word i of the data, whose bytes are there.
 #[tactic(auto, unfolding(crate::specs::Place::word_at))]
 pub fn word_at(body: &[u8], i: usize) -> u32
     requires { 4 * i + 4 ≤ length body.now }
@@ -93,7 +87,6 @@ pub fn word_at(body: &[u8], i: usize) -> u32
     LittleEndian::read_u32(&body[4 * i..])
 }
 
-/// Half word i of the data, whose bytes are there.
 #[tactic(auto, unfolding(crate::specs::Place::half_at))]
 pub fn half_at(body: &[u8], i: usize) -> u16
     requires { 2 * i + 2 ≤ length body.now }

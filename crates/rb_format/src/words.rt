@@ -1,4 +1,3 @@
-//! The words of the errors of a file.
 ghost use Rattle.std.specs.Prelude.{◌≡◌};
 ghost use Rattle.rb_format.specs.Words.{word_of};
 
@@ -6,7 +5,6 @@ use crate::fault::FileFault;
 use rb_tree::variant_name;
 
 impl FileFault {
-    /// The variant's name.
     pub fn word(self) -> &'static str
         ensures { result.now ≡ word_of self }
     {

@@ -1,4 +1,4 @@
--- What a stop of reading says: the marks that were read begin some form, and each form that goes on as the tokens do has the error at the stop.
+-- Defines what a stop of reading proves: the marks before it begin some form, and each form that has the next marks too has the error at the stop.
 use Rattle.std.proofs.Common.{◌≡◌, ℕ, Bool, true, false, List, [], ◌∷◌, ◌++◌, Result, Ok, Err, refl, sym, ap, subst, ◌∙◌, append_assoc, ◌⊎◌, inl, inr}
 use Rattle.rb_lexer.specs.declared.fault.SourceKind.{SourceKind}
 use Rattle.rb_lexer.specs.declared.fault.SourceKind.TheVariants.{Unexpected, UnknownType, BadKey, DuplicateKey, BadInt, BadHex, TooDeep}
@@ -61,7 +61,7 @@ Says Unexpected front rest = NoWord front rest → ⊥
 Says UnknownType front rest = NoWord front rest
 Says other front rest = Unit {0}
 
--- ---- how an untyped body goes on
+-- ---- how an untyped body continues
 
 -- a sign that opens a body comes
 abbrev pub Opened : List Mark → Type 0
@@ -245,7 +245,7 @@ outside inner outer ts inside s b pre last other there form extra good spelled a
 
 -- ---- ways to stop
 
--- a mark is missing: no form goes on as the tokens do
+-- a mark is missing: no form continues as the tokens do
 pub lacks : (sort : Sort) (kind : SourceKind) → IsSeen kind [] → (ts rest : List Token) (front : List Mark) → Says kind front (marks rest)
     → marks ts ≡ front ++ marks rest → (form : sort.Form) (next : Mark) (others : List Mark) → sort.Good form → sort.Fit ts form
     → front ++ next ∷ others ≡ sort.spell form []

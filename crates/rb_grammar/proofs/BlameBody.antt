@@ -402,7 +402,7 @@ module _ (tests : Tests) (are : AreTests tests) (level : ℕ) (inner : Inner) (i
         ]
       ]
 
--- Where reading a body stops, each form that has the marks up to there has the error there.
+-- If reading a body stops, each form with the marks up to the stop has the error at the stop.
 pub body_blames : (tests : Tests) (are : AreTests tests) (depth level : ℕ) → level + depth ≡ 65 → Blames level (body tests depth)
 unfolding body
 body_blames tests are zero level high ts s e = elim (chosen (begins colon ts || begins left ts) (Err (stop TooDeep ts)) (Err (stop Unexpected ts)) (Err s) e) [

@@ -50,7 +50,7 @@ pub neither_mark : (a b : Bool) → (a || b) ≡ false → (a ≡ false) × (b �
 neither_mark true b e = absurd cc
 neither_mark false b e = (refl, e)
 
--- it still does if the tokens go on otherwise after a stop
+-- it still does if the tokens continue differently after a stop
 pub opened_still : (ts : List Token) (front rest ms : List Mark) → (begins colon ts || begins left ts) ≡ true → marks ts ≡ front ++ rest → Alike rest ms
     → Opened (front ++ ms)
 opened_still ts front rest ms opens parts a = elim (either_mark (begins colon ts) (begins left ts) opens) [

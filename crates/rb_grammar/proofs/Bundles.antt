@@ -1,4 +1,4 @@
--- Whole bundles: what is read is spelled so, and what is spelled so is read.
+-- Proves that the reading function reads exactly the spelled bundles.
 use Rattle.std.proofs.Common.{◌≡◌, ℕ, suc, ◌≤◌, true, List, [], ◌∷◌, length, Option, Some, None, Ok, refl, ap, subst, ◌∙◌, arith, inl, inr}
 use Rattle.std.proofs.lemmas.Slice.Eq.{bytes_eq-Decides}
 use Rattle.rb_lexer.specs.declared.token.Token.{Token}

@@ -1,4 +1,4 @@
--- The tests that reading makes are the conditions.
+-- Proves that the tests of the reading function decide the conditions.
 use Rattle.std.proofs.Common.{◌≡◌, ℕ, suc, ◌&&◌, ◌^◌, Bool, true, false, not, nat_lt, nat_le, List, [], ◌∷◌, length, All, refl, sym, ap}
 use Rattle.std.proofs.Common.{◌∙◌, arith}
 use Rattle.std.specs.List.{filter, list_all}

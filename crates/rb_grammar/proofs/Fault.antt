@@ -1,4 +1,4 @@
--- A list of tokens that isn't read has the error at which reading stops.
+-- Proves that tokens at which reading stops have its error.
 use Rattle.std.proofs.Common.{◌≡◌, ℕ, suc, Bool, false, List, [], ◌∷◌, ◌++◌, length, Option, Some, None, Ok, Err, refl, sym, ap, subst, ◌∙◌, arith}
 use Rattle.std.proofs.Common.{append_assoc, ◌⊎◌, inl, inr}
 use Rattle.std.proofs.lemmas.Bool.{false≢true}
@@ -500,7 +500,7 @@ module _ (tests : Tests) (are : AreTests tests) where
             ]
       ]
 
-  -- Where reading stops, the tokens have that error, in that line.
+  -- If reading stops, the tokens have its error, in its line.
   pub stop_is_fault : (ts : List Token) (end : ℕ) (s : Stop) → bundle tests ts ≡ Err s → IsFault ts end s.kind (line_at end s.rest)
   stop_is_fault ts end s e =
       let f = bundle_found ts s e in

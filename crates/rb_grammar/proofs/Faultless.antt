@@ -1,4 +1,4 @@
--- A good list of marks has no error, and every other has one.
+-- Proves that a list of marks is either good or has an error.
 use Rattle.std.proofs.Common.{◌≡◌, ℕ, ℤ, suc, ◌+◌, ◌≤◌, Bool, List, [], ◌∷◌, ◌++◌, Option, Some, None, Result, Ok, Err, refl, sym, ap, subst, ◌∙◌, arith}
 use Rattle.std.proofs.Common.{append_assoc, ◌⊎◌, inl, inr}
 use Rattle.std.proofs.lemmas.Bool.Decides.{leb_tells}
@@ -120,7 +120,7 @@ module _ (kind : SourceKind) where
 
 module _ (ms : List Mark) (name : List ℕ) (d : SourceTree) (whole : IsSpelled ms name d) (low : height d.tree ≤ 64) (front rest : List Mark)
     (cut : ms ≡ front ++ rest) where
-  -- a front of a bundle that is not all of it goes on
+  -- a proper front of a bundle has a next mark
   not_longest : (m : Mark) (more : List Mark) → rest ≡ m ∷ more → IsFront front rest → ⊥
   not_longest m more e f = f.longest m more e (record {
     name = name;

@@ -1,4 +1,4 @@
--- Where nothing decides what an untyped body is, no form has the marks up to there and the next one.
+-- Proves that if the guess of an untyped body fails, no form has the marks up to and with the one that decides.
 use Rattle.std.proofs.Common.{◌≡◌, ℕ, true, false, List, [], ◌∷◌, Some, None, refl, sym, ap, ◌∙◌}
 use Rattle.std.proofs.lemmas.Bool.{false≢true}
 use Rattle.rb_lexer.specs.declared.token.Token.{Token}

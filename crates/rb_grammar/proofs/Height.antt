@@ -1,4 +1,4 @@
--- How many levels a written form has.
+-- Defines the number of levels of a written form.
 use Rattle.std.proofs.Common.{ℕ, suc}
 use Rattle.std.specs.Prelude.{max}
 use Rattle.rb_grammar.specs.Form.{Body, plain, group, listed, leaf, table, array, Entries, no_entries, entry, Elements, no_elements, one_text, one_body}

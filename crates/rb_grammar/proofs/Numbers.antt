@@ -1,4 +1,4 @@
--- A text is at most one number, and at most one list of bytes.
+-- Proves that a text spells at most one number and at most one list of bytes.
 use Rattle.std.proofs.Common.{◌≡◌, ℕ, ℤ, ◌<◌, ◌≤◌, Bool, true, false, List, [], ◌∷◌, refl, sym, ap, subst, ◌∙◌, arith}
 use Rattle.std.specs.Prelude.{◌==◌, ◌+◌, ◌*◌, if◌then◌else◌}
 use Rattle.std.specs.Char.{digit_value}

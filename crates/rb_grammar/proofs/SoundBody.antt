@@ -1,4 +1,4 @@
--- What is read of a body, and of a bundle, is spelled so.
+-- Proves that the bodies and bundles that reading returns are spelled by the tokens.
 use Rattle.std.proofs.Common.{◌≡◌, ℕ, zero, suc, ◌≤◌, Bool, true, cond, ◌||◌, nat_lt, List, [], ◌∷◌, length, Option, Some, None, Ok, Err, refl, sym, ap, subst}
 use Rattle.std.proofs.Common.{◌∙◌, arith, inl, inr}
 use Rattle.std.specs.Prelude.{nat_eq}
@@ -198,7 +198,7 @@ module _ (tests : Tests) (depth : ℕ) (inner : Inner) (law : Law tests depth in
             record { spelled = mark_takes left ts a.0 a.1 ∙ t.spelled; form = t.form; passed = t.passed; high = t.high }
       ]
 
--- What is read is a body that is spelled so, no higher than the number.
+-- Reading returns a body that the tokens spell, and that is no higher than the number.
 pub body_takes : (tests : Tests) (depth : ℕ) → Law tests depth (body tests depth)
 unfolding body
 body_takes tests zero ts x e = elim (chosen (begins colon ts || begins left ts) (Err (stop TooDeep ts)) (Err (stop Unexpected ts)) (Ok x) e) [

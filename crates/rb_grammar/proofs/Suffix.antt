@@ -1,4 +1,4 @@
--- What reading leaves, and where it stops, is the end of what it was given.
+-- Proves that the tokens that reading leaves, or stops at, end the tokens that it was given.
 use Rattle.std.proofs.Common.{◌≡◌, ℕ, zero, suc, Bool, true, false, cond, ◌||◌, nat_lt, length, List, [], ◌∷◌, ◌++◌, Option, Some, None, Result, Ok, Err, refl}
 use Rattle.std.proofs.Common.{sym, ap, ◌∙◌, append_assoc}
 use Rattle.rb_lexer.specs.declared.fault.SourceKind.{SourceKind}

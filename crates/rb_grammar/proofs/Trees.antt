@@ -1,4 +1,4 @@
--- A form spells one tree, as high as the form.
+-- Proves that a form spells one tree, as high as the form.
 use Rattle.std.proofs.Common.{◌≡◌, ℕ, ℤ, suc, ◌≤◌, max, Bool, true, false, List, [], ◌∷◌, Option, Some, None, refl, sym, ap, ◌∙◌, arith, ◌⊎◌, inl, inr}
 use Rattle.rb_tree.specs.Resource.{Resource, height, Resources, no_trees, tree_and, trees_height, Members}
 use Rattle.rb_tree.specs.Resource as resource

@@ -1,4 +1,4 @@
--- One spelling has one form, whatever follows it.
+-- Proves that a spelling has one form, whatever follows it.
 use Rattle.std.proofs.Common.{◌≡◌, ℕ, Bool, true, false, List, [], ◌∷◌, Option, Some, None, refl, sym, ap, subst, ◌∙◌}
 use Rattle.rb_lexer.specs.declared.token.Mark.{Mark}
 use Rattle.rb_lexer.specs.declared.token.Mark.TheVariants.{Text, LeftBrace, RightBrace, Colon, Comma}

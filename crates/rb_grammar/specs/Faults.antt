@@ -1,7 +1,7 @@
--- Which errors a list of marks has, and in which line. The syntax is that of ICU's genrb; the errors and their lines
--- are this project's own rule. An error at a mark is given by `front`, the marks before it, and `rest`, the marks from
--- it on; at the end of the text rest is empty. What a mark is there for follows from the forms that begin with the
--- marks so far: a text after `{` may be a key, a string or an element, until what follows decides.
+-- Defines the errors of a list of marks, and their lines. The syntax is that of ICU's genrb; the errors and their lines
+-- are rules of this project. An error at a mark is given by `front`, the marks before it, and `rest`, the marks from it
+-- on; at the end of the text `rest` is empty. The role of a mark follows from the forms that begin with the marks up to
+-- it: a text after `{` may be a key, a string or an element, until the next marks decide.
 use Rattle.std.specs.Prelude.{◌≡◌, ◌<◌, ◌≤◌, ℕ, ℤ, suc, Bool, List, [], ◌∷◌, ◌++◌, Option, Some, None, ◌⊎◌}
 use Rattle.rb_lexer.specs.declared.token.Mark.{Mark}
 use Rattle.rb_lexer.specs.declared.token.Mark.TheVariants.{Text, RightBrace, Colon}
@@ -23,8 +23,8 @@ use Rattle.rb_grammar.specs.Form.{AreForms}
 use Rattle.rb_grammar.specs.Good.{IsSpelled}
 use Rattle.rb_tree.specs.Limits.{height_limit, weight_limit}
 
--- What a mark is in a form: a key, with the earlier keys of its table; the first mark of a value, at a level; the text
--- of an Int, of an element of a vector, of bytes.
+-- The role of a mark in a form: a key, with the earlier keys of its table; the first mark of a value, at a level; the
+-- text of an Int, of an element of a vector, or of bytes.
 pub data Role : Type 0 where
   key : List (List ℕ) → List ℕ → Role
   value : ℕ → Role
@@ -36,7 +36,8 @@ abbrev pub IsAmong : List (List ℕ) → List ℕ → Type 0
 IsAmong [] k = ⊥
 IsAmong (l ∷ ls) k = (k ≡ l) ⊎ IsAmong ls k
 
--- ---- The first mark of `from`, the marks from some place of a spelling on, has a role that is P; `after` follows the spelling.
+-- ---- The first mark of `from`, the marks from some point of a spelling on, has a role that satisfies P; `after`
+-- follows the spelling.
 
 abbrev pub NumbersHave : (Role → Type 0) → List (List ℕ × Bool) → List Mark → List Mark → Type 0
 NumbersHave P [] after from = ⊥
@@ -83,7 +84,7 @@ abbrev mutual
   ElementsHave P (one_body b c xs) level after from = BodyHas P b level (comma_marks c (elements_marks xs after)) from
       ⊎ ElementsHave P xs level after from
 
--- which roles break a condition
+-- the roles that break a condition
 abbrev pub IsBad : SourceKind → Role → Type 0
 IsBad BadKey (key earlier k) = IsKey k → ⊥
 IsBad DuplicateKey (key earlier k) = IsAmong earlier k
@@ -93,7 +94,7 @@ IsBad BadHex (hex_text s) = (bytes : List ℕ) → IsHexText s bytes → ⊥
 IsBad TooDeep (value level) = level ≡ 65
 IsBad other role = ⊥
 
--- ---- what some first marks may still become
+-- ---- how some first marks may continue
 
 -- a bundle that begins with these marks
 pub record Begun (ms : List Mark) : Type 0 where
@@ -107,7 +108,7 @@ pub record Begun (ms : List Mark) : Type 0 where
 abbrev pub IsBundle : List Mark → Type 0
 IsBundle ms = (name : List ℕ) × (head : Head) × (es : Entries) × AreForms es × (ms ≡ bundle_marks name head es)
 
--- some bundle begins with the marks of front, and none with those and the next: front is the longest such list
+-- some bundle begins with the marks of `front`, and none with those and the next: `front` is the longest such list
 pub record IsFront (front rest : List Mark) : Type 0 where
   pub begun : Begun front
   pub longest : (m : Mark) (ms : List Mark) → rest ≡ m ∷ ms → Begun (front ++ m ∷ []) → ⊥
@@ -123,7 +124,7 @@ pub data IsWord : List ℕ → Type 0 where
   is_no_fallback_table : IsWord no_fallback_table_word
   is_array : IsWord array_word
 
--- after a colon a text comes that is no type word
+-- after a colon comes a text that is no type word
 pub record NoWord (front rest : List Mark) : Type 0 where
   pub before : List Mark
   pub word : List ℕ
@@ -132,8 +133,8 @@ pub record NoWord (front rest : List Mark) : Type 0 where
   pub text : rest ≡ Text word ∷ after
   pub unknown : IsWord word → ⊥
 
--- The first mark of rest is one of the longest front, and breaks the condition in each bundle that begins with that
--- front.
+-- The first mark of `rest` belongs to one of the longest fronts, and breaks the condition in each bundle that begins
+-- with that front.
 pub record Breaks (kind : SourceKind) (front rest : List Mark) : Type 0 where
   pub at : Mark
   pub others : List Mark
@@ -144,7 +145,7 @@ pub record Breaks (kind : SourceKind) (front rest : List Mark) : Type 0 where
 
 -- ---- the errors
 
--- The marks front and rest, together, have this error at the first mark of rest, or at the end.
+-- The marks `front` and `rest`, together, have this error at the first mark of `rest`, or at the end.
 abbrev pub HasFault : SourceKind → List Mark → List Mark → Type 0
 HasFault Unexpected front rest = IsFront front rest × (IsBundle front → ⊥) × (NoWord front rest → ⊥)
 HasFault UnknownType front rest = IsFront front rest × NoWord front rest
@@ -169,7 +170,7 @@ abbrev pub line_at : ℕ → List Token → ℕ
 line_at end [] = end
 line_at end (t ∷ ts) = t.line
 
--- The tokens, where the text ends in line `end`, have this error in this line.
+-- The tokens of a text that ends in line `end` have this error in this line.
 abbrev pub IsFault : List Token → ℕ → SourceKind → ℕ → Type 0
 IsFault ts end kind line =
     ((front rest : List Token) × (ts ≡ front ++ rest) × HasFault kind (marks front) (marks rest)

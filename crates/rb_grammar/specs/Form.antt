@@ -1,6 +1,6 @@
--- The written form of a bundle text, after the bundle syntax of ICU's genrb, and the marks (texts and punctuation) that
--- spell it. A list of marks is in the grammar if some form is spelled so. Each spelling is in front of what follows
--- it.
+-- Defines the written form of a bundle text, after the bundle syntax of ICU's genrb, and the marks (texts and
+-- punctuation) that spell it. A list of marks is in the grammar if it spells some form. Each spelling is followed by
+-- the remaining marks.
 use Rattle.std.specs.Prelude.{◌≡◌, ℕ, Bool, true, false, List, [], ◌∷◌, map, Option, Some, None, ◌⊎◌}
 use Rattle.rb_lexer.specs.declared.token.Mark.{Mark}
 use Rattle.rb_lexer.specs.declared.token.Mark.TheVariants.{Text, LeftBrace, RightBrace, Colon, Comma}
@@ -9,7 +9,7 @@ use Rattle.rb_lexer.specs.declared.token.Token.{Token}
 abbrev pub marks : List Token → List Mark
 marks ts = map (λ t. t.what) ts
 
--- what is in a body of a type without children: the text, if one is there, or the texts
+-- the content of a body of a type without children: an optional text, or texts
 pub data Leaf : Type 0 where
   string : Option (List ℕ) → Leaf
   alias : Option (List ℕ) → Leaf
@@ -18,7 +18,7 @@ pub data Leaf : Type 0 where
   ints : List (List ℕ × Bool) → Leaf
 
 mutual
-  -- what is after a key, or for an element
+  -- a value: the body after a key, or of an element
   pub data Body : Type 0 where
     -- without a type: one text, entries, or elements
     plain : List ℕ → Body
@@ -120,7 +120,7 @@ abbrev mutual
 
 -- ---- a bundle
 
--- what is written between the name of a bundle and its brace: nothing, `:table`, or `:table(nofallback)`
+-- the type between the name of a bundle and its brace: none, `:table`, or `:table(nofallback)`
 pub data Head : Type 0 where
   untyped : Head
   plain_table : Head
@@ -141,12 +141,12 @@ bundle_marks name head es = Text name ∷ head_marks head (LeftBrace ∷ entries
 
 -- ---- the guess if no type is written
 
--- entries are there: a text, and then a brace or a colon
+-- the body holds entries: a text, and then a brace or a colon
 abbrev pub AreSome : Entries → Type 0
 AreSome no_entries = ⊥
 AreSome (entry k b c es) = Unit {0}
 
--- elements begin as an array: with none of them, with a body, or with a text and a comma
+-- the elements begin as an array: with none of them, with a body, or with a text and a comma
 abbrev pub BeginArray : Elements → Type 0
 BeginArray no_elements = Unit {0}
 BeginArray (one_text s c xs) = c ≡ true

@@ -1,4 +1,5 @@
--- What the written form of a bundle means, after ICU's genrb: which conditions its keys keep, and which tree it spells.
+-- Defines the meaning of a bundle's written form, after ICU's genrb: the conditions on its keys, and the tree that it
+-- spells.
 use Rattle.std.specs.Prelude.{◌≡◌, ◌≤◌, ℕ, ℤ, Bool, List, [], ◌∷◌, Option, Some, None, nat_eq}
 use Rattle.std.specs.Map.{lookup}
 use Rattle.std.specs.Cmp.Lexicographic.{pointwise}
@@ -14,7 +15,7 @@ use Rattle.rb_grammar.specs.Form.{no_elements, one_text, one_body, Head, bundle_
 use Rattle.rb_grammar.specs.Form.{IsKeyOf}
 use Rattle.rb_tree.specs.Limits.{height_limit, weight_limit}
 
--- Each key is one, and none comes twice in one table.
+-- Each key is valid, and no table repeats one.
 abbrev mutual
   pub HasKeys : Body → Type 0
   HasKeys (plain t) = Unit {0}
@@ -33,12 +34,12 @@ abbrev mutual
   EachHasKeys (one_text t c xs) = EachHasKeys xs
   EachHasKeys (one_body b c xs) = HasKeys b × EachHasKeys xs
 
--- the text, or none of its units
+-- the text, or no units if it is missing
 abbrev pub text_or_none : Option (List ℕ) → List ℕ
 text_or_none None = []
 text_or_none (Some t) = t
 
--- the texts are those of the numbers, in their order
+-- the texts spell the numbers, in order
 abbrev pub AreElementTexts : List (List ℕ × Bool) → List ℤ → Type 0
 AreElementTexts [] [] = Unit {0}
 AreElementTexts [] (z ∷ zs) = ⊥
@@ -52,7 +53,7 @@ LeafSpells (binary long t) d = (bytes : List ℕ) × IsHexText (text_or_none t) 
 LeafSpells (int long t) d = (n : ℕ) × IsIntText t n × (d ≡ resource.int n)
 LeafSpells (ints ns) d = (zs : List ℤ) × AreElementTexts ns zs × (d ≡ resource.ints zs)
 
--- the item that a table has at a key
+-- the item of a table at a key
 abbrev pub item_at : List ℕ → Members → Option Resource
 item_at k rows = lookup (pointwise nat_eq k) (pairs rows)
 
@@ -60,7 +61,7 @@ item_at k rows = lookup (pointwise nat_eq k) (pairs rows)
 abbrev pub HasJust : Entries → Members → Type 0
 HasJust es rows = (k : List ℕ) (d : Resource) → item_at k rows ≡ Some d → IsKeyOf es k
 
--- The tree is what is written: a table has the written item at each written key, and nothing else; an array has the
+-- The tree is the written one: a table has the written item at each written key, and nothing else; an array has the
 -- elements in their order.
 abbrev mutual
   pub Spells : Body → Resource → Type 0
@@ -93,7 +94,7 @@ pub record IsSpelled (marks : List Mark) (name : List ℕ) (source : SourceTree)
   pub means : Spells (table form) source.tree
   pub flag : source.no_fallback ≡ has_no_fallback head
 
--- They spell it, and its table has at most this many levels, and the weight that a bundle may have.
+-- The marks spell it, its table has at most this many levels, and its weight is within the limit of a bundle.
 pub record IsGoodWithin (levels : ℕ) (marks : List Mark) (name : List ℕ) (source : SourceTree) : Type 0 where
   pub whole : IsSpelled marks name source
   pub low : height source.tree ≤ levels

@@ -1,4 +1,4 @@
--- Numbers and bytes that a text spells, after genrb's `int`, `intvector` and `bin`.
+-- Defines the numbers and bytes that a text spells, after genrb's `int`, `intvector` and `bin`.
 use Rattle.std.specs.Prelude.{◌≡◌, ◌<◌, ◌≤◌, ◌+◌, ◌-◌, ◌*◌, ◌%◌, ◌^◌, ℕ, ℤ, pos, neg_ℤ, Bool, true, false, List, []}
 use Rattle.std.specs.Prelude.{◌∷◌, length, filter, not, ◌||◌, ◌==◌}
 use Rattle.std.specs.Prelude.{if◌then◌else◌, nat_lt}
@@ -26,7 +26,7 @@ numeral_units (hexadecimal upper ds) = 0x30 ∷ (if upper then 0x58 else 0x78) �
 numeral_units (octal ds) = 0x30 ∷ ds
 numeral_units (decimal ds) = ds
 
--- at least one digit, of which the first is not 0
+-- at least one digit, the first of them not 0
 abbrev pub BeginsAbove0 : List ℕ → Type 0
 BeginsAbove0 [] = ⊥
 BeginsAbove0 (d ∷ ds) = 0 < digit_value d
@@ -41,13 +41,13 @@ numeral_value (hexadecimal upper ds) = digits_value 16 ds
 numeral_value (octal ds) = digits_value 8 ds
 numeral_value (decimal ds) = digits_value 10 ds
 
--- A number is given by whether it is below zero, and how far it is from zero.
+-- A number is given by whether it is negative, and its distance from zero.
 abbrev pub is_minus : Sign → Bool
 is_minus bare = false
 is_minus plus = false
 is_minus minus = true
 
--- the units write this number
+-- the units spell this number
 pub record Writes (units : List ℕ) (negative : Bool) (size : ℕ) : Type 0 where
   pub sign : Sign
   pub numeral : Numeral
@@ -56,12 +56,12 @@ pub record Writes (units : List ℕ) (negative : Bool) (size : ℕ) : Type 0 whe
   pub negative_is : negative ≡ is_minus sign
   pub size_is : size ≡ numeral_value numeral
 
--- a number is from -least on and below a modulus
+-- a number from -least up to below a modulus
 abbrev pub IsWithin : ℕ → ℕ → Bool → ℕ → Type 0
 IsWithin least modulus false size = size < modulus
 IsWithin least modulus true size = size ≤ least
 
--- ---- an Int, kept modulo 2^28
+-- ---- an Int, stored modulo 2^28
 abbrev pub IsIntSize : Bool → ℕ → Type 0
 IsIntSize = IsWithin (2 ^ 27) (2 ^ 28)
 
@@ -73,7 +73,7 @@ abbrev pub IsIntText : List ℕ → ℕ → Type 0
 IsIntText units n = (negative : Bool) × (size : ℕ) × Writes units negative size × IsIntSize negative size
     × (n ≡ int_kept negative size)
 
--- ---- an element of a vector, kept modulo 2^32 as a signed number
+-- ---- an element of a vector, stored modulo 2^32 as a signed number
 abbrev pub IsElementSize : Bool → ℕ → Type 0
 IsElementSize = IsWithin (2 ^ 31) (2 ^ 32)
 

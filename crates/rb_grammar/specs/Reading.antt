@@ -1,6 +1,6 @@
--- For proofs, and the contracts of a parser's own functions: the grammar as a function that reads tokens from left to
--- right and stops at the first error that it meets. What a bundle text is, Form and Good define, and Faults which
--- errors it has; laws say that this function meets them.
+-- For proofs and private contracts: defines the grammar as a function that reads tokens from left to right and stops at
+-- the first error that it meets. Form and Good define bundle texts, and Faults their errors; laws say that this
+-- function agrees with them.
 use Rattle.std.specs.Prelude.{ℕ, zero, suc, ◌||◌, Bool, true, false, List, [], ◌∷◌, length, Option, Some, None, Result}
 use Rattle.std.specs.Prelude.{Ok, Err, nat_lt, nat_eq, if◌then◌else◌}
 use Rattle.std.specs.Cmp.Lexicographic.{pointwise}
@@ -16,7 +16,7 @@ use Rattle.rb_grammar.specs.Form.{no_elements, one_text, one_body, string_word, 
 use Rattle.rb_grammar.specs.Form.{ints_word, table_word}
 use Rattle.rb_grammar.specs.Form.{no_fallback_table_word, array_word, Head, untyped, plain_table, no_fallback_table}
 
--- why reading stops, and the tokens from the invalid one on
+-- the reason why reading stops, and the tokens from the invalid one on
 pub record Stop : Type 0 where
   pub kind : SourceKind
   pub rest : List Token
@@ -24,7 +24,7 @@ pub record Stop : Type 0 where
 abbrev pub stop : SourceKind → List Token → Stop
 stop kind rest = record { kind = kind; rest = rest }
 
--- what was read, and the tokens after it
+-- a value, and the tokens after it
 abbrev pub Read : Type 0 → Type 0
 Read A = Result (A × List Token) Stop
 
@@ -65,11 +65,11 @@ abbrev pub tail : List Token → List Token
 tail [] = []
 tail (t ∷ ts) = ts
 
--- the punctuation mark, which has to come
+-- a required punctuation mark
 abbrev pub punctuation_at : Punctuation → List Token → Result (List Token) Stop
 punctuation_at s ts = if begins s ts then Ok (tail ts) else Err (stop Unexpected ts)
 
--- the text, if one comes
+-- an optional text
 abbrev pub first_text : List Token → Option (List ℕ)
 first_text [] = None
 first_text (t ∷ ts) = text_of t.what
@@ -81,7 +81,7 @@ text_or ts (Some s) = Ok (s, tail ts)
 abbrev pub text_at : List Token → Read (List ℕ)
 text_at ts = text_or ts (first_text ts)
 
--- a comma, if one comes
+-- an optional comma
 abbrev pub has_comma : List Token → Bool
 has_comma ts = begins comma ts
 
@@ -131,7 +131,7 @@ abbrev pub is_no_fallback_text : Option (List ℕ) → Bool
 is_no_fallback_text None = false
 is_no_fallback_text (Some s) = is_no_fallback_word s
 
--- why a text that names no type of a value is refused: it names a type out of place, or none
+-- the error of a text that names no type of a value: it names a type that is misplaced, or none
 abbrev pub word_fault : List ℕ → SourceKind
 word_fault s = if is_no_fallback_word s then Unexpected else UnknownType
 
@@ -145,11 +145,11 @@ word_at ts = text_at ts >>= λ s. word_or ts s.0 (first_word s.0 all_words)
 
 -- ---- leaves
 
--- a text that passes, which has to come
+-- a required text that passes a test
 abbrev pub checked_at : SourceKind → (List ℕ → Bool) → List Token → Read (List ℕ)
 checked_at kind passes ts = text_at ts >>= λ s. if passes s.0 then Ok s else Err (stop kind ts)
 
--- a text that passes, or none
+-- an optional text that passes a test
 abbrev pub maybe_or : SourceKind → (List ℕ → Bool) → List Token → Option (List ℕ) → Read (Option (List ℕ))
 maybe_or kind passes ts None = Ok (None, ts)
 maybe_or kind passes ts (Some s) = if passes s then Ok (Some s, tail ts) else Err (stop kind ts)
@@ -194,7 +194,7 @@ unfoldable pub entries : Tests → (List Token → Read Body) → ℕ → List (
 entries tests body zero earlier ts = Err (stop Unexpected ts)
 entries tests body (suc n) earlier ts = entries_step tests body (entries tests body n) earlier ts (first_text ts)
 
--- room: an element may be one level deeper
+-- the flag says whether an element may be one level deeper
 abbrev pub elements_step : Bool → (List Token → Read Body) → (List Token → Read Elements) → List Token
     → Option (List ℕ) → Read Elements
 elements_step room body more ts None =
@@ -211,7 +211,7 @@ elements room body (suc n) ts = elements_step room body (elements room body n) t
 
 -- ---- bodies
 
--- what reads the values inside, and whether one may be there at all
+-- the reader of the values inside, and whether there may be any
 pub record Inner : Type 0 where
   pub room : Bool
   pub reads : List Token → Read Body
@@ -235,7 +235,7 @@ typed_at tests inner ints_type ts = closed (λ ns. leaf (ints ns)) (numbers test
 typed_at tests inner table_type ts = table_at tests inner ts >>= λ es. Ok (table es.0, es.1)
 typed_at tests inner array_type ts = array_at inner ts >>= λ xs. Ok (array xs.0, xs.1)
 
--- after the brace of a body without a type: what decides
+-- after the brace of a body without a type: the guess
 pub data Guess : Type 0 where
   as_text : Guess
   as_table : Guess
@@ -260,14 +260,14 @@ untyped_at tests inner as_table ts = table_at tests inner ts >>= λ es. Ok (grou
 untyped_at tests inner as_array ts = array_at inner ts >>= λ xs. Ok (listed xs.0, xs.1)
 untyped_at tests inner (none_at rest) ts = Err (stop Unexpected rest)
 
--- a body, at a place where one may be
+-- a body, where one is allowed
 abbrev pub body_at : Tests → Inner → List Token → Read Body
 body_at tests inner ts =
     if begins colon ts
     then (word_at (tail ts) >>= λ w. punctuation_at left w.1 >>= λ after. typed_at tests inner w.0 after)
     else (punctuation_at left ts >>= λ after. untyped_at tests inner (guess after) after)
 
--- A body with others inside it no deeper than the number.
+-- A body that contains others to at most this depth.
 unfoldable pub body : Tests → ℕ → List Token → Read Body
 unfolding entries elements numbers
 body tests zero ts = if begins colon ts || begins left ts then Err (stop TooDeep ts) else Err (stop Unexpected ts)
@@ -288,7 +288,7 @@ abbrev pub head_word_at : List Token → Read Head
 head_word_at ts = if is_no_fallback_text (first_text ts) then Ok (no_fallback_table, tail ts)
     else (word_at ts >>= λ w. table_word_or ts w.0 w.1)
 
--- the type of the bundle, if one is written
+-- the optional type of the bundle
 abbrev pub type_at : List Token → Read Head
 type_at ts = if begins colon ts then head_word_at (tail ts) else Ok (untyped, ts)
 

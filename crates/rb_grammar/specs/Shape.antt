@@ -1,4 +1,4 @@
--- For proofs, and the contracts of private functions: the one numeral that some units can be.
+-- For proofs and private contracts: defines the only numeral that some units can spell.
 use Rattle.std.specs.Prelude.{ℕ, true, false, List, [], ◌∷◌, ◌==◌, if◌then◌else◌}
 use Rattle.rb_grammar.specs.Numeral.{Sign, bare, plus, minus, Numeral, hexadecimal, octal, decimal}
 

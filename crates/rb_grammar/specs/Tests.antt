@@ -1,5 +1,5 @@
--- For proofs, and the contracts of a parser's own functions: the tests that reading makes of keys, numbers and bytes,
--- and that they are the conditions.
+-- For proofs and private contracts: defines the tests of keys, numbers and bytes that reading uses, and says that they
+-- decide the conditions.
 use Rattle.std.specs.Prelude.{◌≡◌, ◌&&◌, ◌^◌, ℕ, Bool, true, false, List, [], ◌∷◌, length, filter, not, nat_lt, nat_le}
 use Rattle.std.specs.List.{list_all}
 use Rattle.std.specs.Char.{digit_value}
@@ -10,7 +10,7 @@ use Rattle.rb_grammar.specs.Numeral.{IsElementText, IsHexText}
 use Rattle.rb_grammar.specs.Reading.{Tests}
 use Rattle.rb_grammar.specs.Shape.{shape, sign_of, unsigned_of}
 
--- a test passes if there is a value, and fails if there is none
+-- the test passes exactly if there is a value
 abbrev pub IsTestOf : {A : Type 0} → (List ℕ → Bool) → (List ℕ → A → Type 0) → Type 0
 IsTestOf {A} test means = ((s : List ℕ) → test s ≡ true → (x : A) × means s x)
     × ((s : List ℕ) → test s ≡ false → (x : A) → means s x → ⊥)
@@ -47,7 +47,7 @@ abbrev pub is_element_size : Bool → ℕ → Bool
 is_element_size false size = nat_lt size (2 ^ 32)
 is_element_size true size = nat_le size (2 ^ 31)
 
--- the numeral after the sign, if there is one
+-- the numeral after an optional sign
 abbrev pub numeral_of : List ℕ → Numeral
 numeral_of us = shape (unsigned_of us)
 

@@ -1,4 +1,3 @@
-//! Bytes that a text spells.
 ghost use Rattle.std.specs.Prelude.{◌≡◌, ℕ, List, IfOk, MatchOption};
 ghost use Rattle.rb_grammar.specs.Numeral.{is_gap, IsHexText};
 
@@ -11,9 +10,9 @@ fn is_gap(unit: u16) -> bool
     unit == 0x09 || unit == 0x0A || unit == 0x0D || unit == 0x20
 }
 
-/// The bytes that a text spells by two hexadecimal digits each; tabs, line feeds, carriage returns
-/// and spaces are ignored. `None` if the text has another unit, or an odd number of digits. The
-/// only error is that memory runs out.
+/// Reads the bytes that a text spells by two hexadecimal digits each, ignoring tabs, line feeds,
+/// carriage returns and spaces. Returns `None` for any other unit and for an odd number of digits.
+/// `Err` means out of memory.
 ///
 /// ```rust
 /// read_bytes(alloc, &[48, 48, 102, 102])? // Some, of the bytes 0 and 255

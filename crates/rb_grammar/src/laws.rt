@@ -1,4 +1,4 @@
-//! Laws about the definitions: each is the contract of a function that does nothing.
+//! Laws of the definitions, each the contract of an empty function.
 ghost use Rattle.std.specs.Prelude.{◌≡◌, ◌≤◌, ◌⊎◌, ℕ, Bool, true, false, List, codes};
 ghost use Rattle.rb_lexer.specs.declared.fault.SourceKind.{SourceKind};
 ghost use Rattle.rb_lexer.specs.declared.token.Mark.{Mark};
@@ -13,7 +13,6 @@ ghost use Rattle.rb_grammar.specs.Faults.{line_at, IsFault};
 ghost use Rattle.rb_grammar.specs.Reading.{Stop, bundle};
 ghost use Rattle.rb_grammar.specs.Tests.{the_tests};
 
-/// The type words, letter by letter.
 pub fn type_words()
     ensures texts { (string_word ≡ codes "string") × (alias_word ≡ codes "alias") }
     ensures bytes { (binary_word true ≡ codes "binary") × (binary_word false ≡ codes "bin") }
@@ -23,14 +22,12 @@ pub fn type_words()
     ensures no_fallback { no_fallback_table_word ≡ codes "table(nofallback)" }
 {}
 
-/// Marks spell at most one name and bundle.
 pub fn spells_one_bundle()
     ensures { (ms : List Mark) (name other : List ℕ) (source another : SourceTree)
         → IsSpelled ms name source → IsSpelled ms other another
         → (name ≡ other) × (source ≡ another) }
 {}
 
-/// What is read is spelled so, and its tree is not too high.
 pub fn read_is_spelled()
     ensures { (tokens : List Token) (name : List ℕ) (head : Head) (form : Entries)
         → bundle the_tests tokens ≡ Ok (name, head, form)
@@ -39,7 +36,6 @@ pub fn read_is_spelled()
         × (source.no_fallback ≡ has_no_fallback head) × (height source.tree ≤ 64) }
 {}
 
-/// What is spelled, and not too high, is read so.
 pub fn spelled_is_read()
     ensures { (tokens : List Token) (name : List ℕ) (source : SourceTree)
         → IsSpelled (marks tokens) name source → height source.tree ≤ 64
@@ -48,20 +44,18 @@ pub fn spelled_is_read()
         × (source.no_fallback ≡ has_no_fallback head) }
 {}
 
-/// Tokens that aren't read have the error at which reading stops, in its line.
+/// Proves that reading, if it stops, does so at an error of the tokens, in its line.
 pub fn stop_is_fault()
     ensures { (tokens : List Token) (end : ℕ) (stop : Stop) → bundle the_tests tokens ≡ Err stop
         → IsFault tokens end stop.kind (line_at end stop.rest) }
 {}
 
-/// Good tokens have no error.
 pub fn good_has_no_fault()
     ensures { (tokens : List Token) (name : List ℕ) (source : SourceTree) (end : ℕ)
         (kind : SourceKind) (line : ℕ) → IsGood (marks tokens) name source
         → IsFault tokens end kind line → ⊥ }
 {}
 
-/// Tokens that aren't good have an error.
 pub fn good_or_faulty()
     ensures { (tokens : List Token) (end : ℕ)
         → ((name : List ℕ) × (source : SourceTree) × IsGood (marks tokens) name source)

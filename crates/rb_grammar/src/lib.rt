@@ -1,5 +1,4 @@
-//! The grammar of bundle texts: their written forms, what these mean, which errors a text has, and
-//! the numbers and bytes that texts spell.
+//! The grammar of bundle texts: their forms, meanings and errors, and the numbers they spell.
 #![tactic(auto)]
 
 mod bytes;

@@ -1,4 +1,3 @@
-//! Numbers that a text spells.
 ghost use Rattle.std.specs.Prelude.{◌≡◌, ◌≤◌, ◌<◌, ℕ, ℤ, min, Bool, MatchOption};
 ghost use Rattle.std.specs.Char.{digit_value};
 ghost use Rattle.std.specs.Str.Parse.{digits_value, AllDigits};
@@ -8,10 +7,9 @@ ghost use Rattle.rb_grammar.specs.Shape.{shape, after_0, sign_of, unsigned_of};
 
 use crate::limits::{ELEMENT_MODULUS, INT_MODULUS, LEAST_ELEMENT_MAGNITUDE, LEAST_INT_MAGNITUDE};
 
-/// More than any limit.
+/// Greater than any limit.
 const CEILING: u64 = 1 << 33;
 
-/// The value of a digit or a letter, or 36.
 pub(crate) fn digit(unit: u16) -> u64
     ensures value { result ≡ digit_value unit }
     ensures small { result ≤ 36 }
@@ -24,7 +22,6 @@ pub(crate) fn digit(unit: u16) -> u64
     }
 }
 
-/// The value of digits, or the ceiling if that is less. `None` if another unit is among them.
 fn digits(units: &[u16], radix: u64) -> Option<u64>
     requires least { 1 ≤ radix }
     requires most { radix ≤ 16 }
@@ -42,7 +39,6 @@ fn digits(units: &[u16], radix: u64) -> Option<u64>
     Some(value)
 }
 
-/// How large a number without a sign is, up to the ceiling.
 fn unsigned(units: &[u16]) -> Option<u64>
     ensures { MatchOption result (IsNumeral (shape units.now) → ⊥)
         (λ v. IsNumeral (shape units.now) × (v ≡ min (numeral_value (shape units.now)) CEILING)) }
@@ -65,7 +61,7 @@ fn unsigned(units: &[u16]) -> Option<u64>
     digits(rest, 8)
 }
 
-/// A number by its sign and how far it is from zero, up to the ceiling.
+/// A number by its sign and its distance from zero, capped at `CEILING`.
 #[derive(Clone, Copy)]
 struct Signed {
     negative: bool,
@@ -93,7 +89,6 @@ fn number(units: &[u16]) -> Option<Signed>
     }
 }
 
-/// The number that a text spells, if it is from `-least` on and below `modulus`.
 fn number_within(units: &[u16], least: u64, modulus: u64) -> Option<Signed>
     requires least { least < CEILING }
     requires modulus { modulus ≤ CEILING }
@@ -111,8 +106,8 @@ fn number_within(units: &[u16], least: u64, modulus: u64) -> Option<Signed>
     is_within.then_some(found)
 }
 
-/// The value of an Int, modulo 2^28. `None` if the text is no number, or the number is below -2^27
-/// or above 2^28 - 1.
+/// Reads an Int, modulo 2^28. Returns `None` if the text is no number, or one below -2^27 or above
+/// 2^28 - 1.
 pub fn read_int(units: &[u16]) -> Option<u32>
     ensures { MatchOption result ((n : ℕ) → IsIntText units.now n → ⊥)
         (λ n. IsIntText units.now n) }
@@ -125,8 +120,8 @@ pub fn read_int(units: &[u16]) -> Option<u32>
     }
 }
 
-/// The value of an element of a vector, modulo 2^32 as a signed number. `None` if the text is no
-/// number, or the number is below -2^31 or above 2^32 - 1.
+/// Reads an element of a vector, modulo 2^32 as a signed number. Returns `None` if the text is no
+/// number, or one below -2^31 or above 2^32 - 1.
 pub fn read_element(units: &[u16]) -> Option<i32>
     ensures { MatchOption result ((z : ℤ) → IsElementText units.now z → ⊥)
         (λ z. IsElementText units.now z) }

@@ -1,6 +1,6 @@
 -- Hexadecimal digits, made byte by byte.
 use Rattle.std.proofs.Common.{◌≡◌, ◌+◌, ◌<◌, ◌/◌, ◌%◌, ℕ, zero, suc, List, [], ◌∷◌, ◌++◌, take, length, get_or, encode_utf8}
-use Rattle.std.proofs.Common.{refl, ap, ◌∙◌, sym, arith, append_assoc}
+use Rattle.std.proofs.Common.{drop, refl, ap, ◌∙◌, sym, arith, append_assoc}
 use Rattle.std.specs.List.{slice_index}
 use Rattle.hex.specs.Hex.{encode_with}
 
@@ -29,3 +29,10 @@ no_digits t xs = refl
 
 pub digit_pushed : (text more : List ℕ) (c d : ℕ) → more ≡ text ++ encode_utf8 c → encode_utf8 c ≡ c ∷ [] → c ≡ d → more ≡ text ++ d ∷ []
 digit_pushed text more c d pushed one same = pushed ∙ ap (λ (cs : List ℕ). text ++ cs) (one ∙ ap (λ (x : ℕ). x ∷ []) same)
+
+-- the digits of the first bytes, and those of the others
+pub digits_cut : (t xs : List ℕ) (i : ℕ) → encode_with t (take i xs) ++ encode_with t (drop i xs) ≡ encode_with t xs
+unfolding encode_with
+digits_cut t xs zero = refl
+digits_cut t [] (suc i) = refl
+digits_cut t (x ∷ xs) (suc i) = ap (λ (ds : List ℕ). slice_index t (x / 16) ∷ slice_index t (x % 16) ∷ ds) (digits_cut t xs i)

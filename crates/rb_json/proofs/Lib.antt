@@ -9,3 +9,8 @@ pub mod Rooms
 pub mod Tagged
 pub mod SameValues
 pub mod Spelling
+pub mod Lengths
+pub mod Lists
+pub mod ItemKinds
+pub mod Objects
+pub mod AtLeast

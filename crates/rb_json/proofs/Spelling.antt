@@ -1,5 +1,5 @@
 -- What stands in a string of JSON, piece by piece.
-use Rattle.std.proofs.Common.{◌≡◌, ◌≤◌, ◌<◌, ◌+◌, ◌/◌, ◌%◌, ℕ, suc, List, [], ◌∷◌, ◌++◌, length, take, drop, get_or, refl, ap, sym, subst, ◌∙◌, append_assoc, append-nil, arith}
+use Rattle.std.proofs.Common.{◌≡◌, ◌≤◌, ◌<◌, ◌+◌, ◌/◌, ◌%◌, ℕ, suc, List, [], ◌∷◌, ◌++◌, length, take, drop, get_or, refl, ap, sym, subst, ◌∙◌, append_assoc, append-nil, arith, zero-le}
 use Rattle.std.proofs.Common.{encode_utf8, encode_utf8_all}
 use Rattle.std.proofs.lemmas.Bool.{lt-ltb, le-ltb}
 use Rattle.std.proofs.lemmas.Grind.{flat_map-append}
@@ -9,7 +9,7 @@ use Rattle.std.specs.Char.{digit_char}
 use Rattle.std.specs.Char.Utf16.{utf16_lossy_chars}
 use Rattle.std.proofs.str.Utf16.{utf16_chars-drop_all}
 use Rattle.hex.specs.Hex.{lower_digits, encode_lower}
-use Rattle.rb_json.proofs.Hex.{digits_of, no_digits, one_more}
+use Rattle.rb_json.proofs.Hex.{digits_cut, digits_of, no_digits, one_more}
 use Rattle.rb_json.proofs.Latin.{character_more}
 use Rattle.rb_json.specs.inner.Spelled.{Spells}
 use Rattle.json.specs.Print.{escape, escape_byte, escape_letter, quoted}
@@ -89,3 +89,11 @@ module _ {S : Type 0} (Takes : S → S → List ℕ → Type 0) (joined : (x y z
       let same : front ++ two ≡ encode_lower (take (i + 1) bytes) =
       sym (one_more lower_digits bytes i inside) ∙ ap (λ (m : ℕ). encode_lower (take m bytes)) n in
       subst (λ (s : List ℕ). Takes x z (escape s)) same (then_escaped x y z front two h k)
+
+  -- the outlet needs no more digits
+  pub pairs_skipped : (x y z : S) (bytes : List ℕ) (i : ℕ) → Takes x y (escape (encode_lower (take i bytes)))
+      → ((text : List ℕ) → 0 ≤ length text → Takes y z text) → Takes x z (escape (encode_lower bytes))
+  pairs_skipped x y z bytes i h skips =
+      let rest = encode_lower (drop i bytes) in
+      subst (λ (s : List ℕ). Takes x z (escape s)) (digits_cut lower_digits bytes i)
+      (then_escaped x y z (encode_lower (take i bytes)) rest h (skips (escape rest) zero-le))

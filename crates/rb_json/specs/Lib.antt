@@ -3,4 +3,8 @@ pub mod Value
 pub mod Tokens
 pub mod Printed
 pub mod Sound
+pub mod Item
+pub mod Outlet
+pub mod Parts
+pub mod Stored
 pub mod inner

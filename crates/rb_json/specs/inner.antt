@@ -1,3 +1,4 @@
 pub mod Room
 pub mod Run
 pub mod Spelled
+pub mod Listed

@@ -1,7 +1,9 @@
-//! Trees as JSON: a whole item as one value, and the parts of items as texts.
+//! Trees as JSON: a tree as one value, and items as objects.
 #![tactic(auto)]
 
+mod buffer;
 mod error;
+mod item;
 pub mod laws;
 mod layout;
 mod leaf;
@@ -14,7 +16,9 @@ mod tree;
 mod units;
 mod whole;
 
+pub use buffer::Buffer;
 pub use error::JsonError;
+pub use item::{item_text, put_found, put_item, put_name, skips_items};
 pub use layout::Layout;
 pub use leaf::signed;
 pub use outlet::Outlet;

@@ -1,22 +1,28 @@
-//! What takes a text piece by piece.
+//! What a text is written into, piece by piece.
 ghost use Rattle.std.specs.Prelude.{List, ℕ};
 
-/// What takes the bytes of a text in their order, and writes or counts them. A call can't fail:
-/// what can't be taken is told by the outlet's own type, at the end.
+/// Takes the bytes of a text in their order, and writes, stores or counts them. No call fails: an
+/// outlet that can't take more remembers that, and its own type reports it at the end.
 pub trait Outlet {
     ghost use Rattle.std.specs.Prelude.{[], ◌++◌};
+    ghost use Rattle.rb_json.specs.Outlet.{Skips};
 
-    /// Bytes are taken, these and no others.
+    /// Between two states the outlet took these bytes and no others.
     ghost takes: { Self → Self → List ℕ → Type 0 };
 
     /// Takes bytes.
     fn put(&mut self, bytes: &[u8])
         ensures { takes self.old self.new bytes.now };
 
-    /// Nothing is taken where nothing changes.
+    /// Returns true if the outlet needs no more of a text that has at least this many bytes left,
+    /// so that the caller may stop: the outlet is then as if it had taken them.
+    fn skips(&mut self, least: u64) -> bool
+        ensures { Skips (takes self.old self.new) least result };
+
+    /// An outlet that doesn't change took nothing.
     ghost nothing: { (x : Self) → takes x x [] };
 
-    /// What is taken one after the other is taken together.
+    /// Texts that were taken one after another were taken together.
     ghost joined: { (x y z : Self) (first second : List ℕ)
         → takes x y first → takes y z second → takes x z (first ++ second) };
 }

@@ -1,4 +1,4 @@
-//! Strings and numbers of JSON, put into an outlet piece by piece: none is made whole.
+//! Strings and numbers of JSON, written piece by piece into an outlet.
 ghost use Rattle.std.specs.Prelude.{◌≡◌, ◌<◌, ◌≤◌, ◌∷◌, [], MatchOption, take, length, true};
 ghost use Rattle.std.specs.Prelude.{decimal, encode_utf8, encode_utf8_all, not};
 ghost use Rattle.std.specs.Char.{digit_char};
@@ -16,7 +16,7 @@ use crate::text::ascii;
 use crate::units::{RUN, ascii_run, character_at, digit};
 use rb_tree::Node;
 
-/// The letter after the backslash of a short escape.
+/// Returns the letter after the backslash of a short escape.
 fn short_escape(byte: u8) -> Option<u8>
     ensures { MatchOption result (escape_letter byte ≡ 0)
         (λ l. (escape_letter byte ≡ l) × (0 < l)) }
@@ -39,7 +39,7 @@ fn hex_digit(n: u8) -> u8
     if n < 10 { b'0' + n } else { b'a' - 10 + n }
 }
 
-/// What stands in a string for a byte.
+/// Writes a byte as a string of JSON has it.
 fn put_escape<O: Outlet>(out: &mut O, byte: u8)
     ensures { O.takes out.old out.new (escape_byte byte) }
 {
@@ -56,14 +56,14 @@ fn put_escape<O: Outlet>(out: &mut O, byte: u8)
     }
 }
 
-/// Whether a byte stands for itself in a string.
+/// Checks whether a string of JSON has a byte as it is.
 fn is_plain(byte: u8) -> bool
     ensures { result ≡ true → escape_byte byte ≡ byte ∷ [] }
 {
     0x20 <= byte && byte != b'"' && byte != b'\\'
 }
 
-/// How many bytes at the front stand for themselves in a string.
+/// Counts the first bytes that a string of JSON has as they are.
 fn plain_len(bytes: &[u8]) -> usize
     ensures bound { result ≤ length bytes.now }
     ensures plain { escape (take result bytes.now) ≡ take result bytes.now }
@@ -77,8 +77,8 @@ fn plain_len(bytes: &[u8]) -> usize
     len
 }
 
-/// What stands in a string for some first bytes. It says how many they are.
-fn put_front<O: Outlet>(out: &mut O, bytes: &[u8]) -> usize
+/// Writes some first bytes, of which there is at least one, and returns how many.
+fn put_first<O: Outlet>(out: &mut O, bytes: &[u8]) -> usize
     requires { 0 < length bytes.now }
     ensures bound { (0 < result) × (result ≤ length bytes.now) }
     ensures taken { O.takes out.old out.new (escape (take result bytes.now)) }
@@ -92,7 +92,19 @@ fn put_front<O: Outlet>(out: &mut O, bytes: &[u8]) -> usize
     run
 }
 
-/// What stands in a string for bytes.
+/// Writes some first bytes and returns how many: all of them if the outlet needs none.
+fn put_front<O: Outlet>(out: &mut O, bytes: &[u8]) -> usize
+    requires { 0 < length bytes.now }
+    ensures bound { (0 < result) × (result ≤ length bytes.now) }
+    ensures taken { O.takes out.old out.new (escape (take result bytes.now)) }
+{
+    if out.skips(0) {
+        return bytes.len();
+    }
+    put_first(out, bytes)
+}
+
+/// Writes bytes, each as a string of JSON has it.
 fn put_escaped<O: Outlet>(out: &mut O, bytes: &[u8])
     ensures { O.takes out.old out.new (escape bytes.now) }
 {
@@ -102,7 +114,7 @@ fn put_escaped<O: Outlet>(out: &mut O, bytes: &[u8])
     }
 }
 
-/// What stands in a string for a character.
+/// Writes a character as a string of JSON has it.
 fn put_character<O: Outlet>(out: &mut O, character: char)
     ensures { O.takes out.old out.new (escape (encode_utf8 character)) }
 {
@@ -119,7 +131,7 @@ fn put_each<O: Outlet>(out: &mut O, bytes: &[u8])
     }
 }
 
-/// The same, run by run if the bytes are ASCII.
+/// Writes bytes, a character each, in longer spans if they are ASCII.
 fn put_latin<O: Outlet>(out: &mut O, bytes: &[u8])
     ensures { O.takes out.old out.new (escape (encode_utf8_all bytes.now)) }
 {
@@ -129,7 +141,7 @@ fn put_latin<O: Outlet>(out: &mut O, bytes: &[u8])
     }
 }
 
-/// Bytes as a string, a character each: byte b is the character U+00b.
+/// Writes bytes as a string, a character each: byte b is the character U+00b.
 pub fn spell_bytes<O: Outlet>(out: &mut O, bytes: &[u8])
     ensures { O.takes out.old out.new (quoted (encode_utf8_all bytes.now)) }
 {
@@ -138,7 +150,7 @@ pub fn spell_bytes<O: Outlet>(out: &mut O, bytes: &[u8])
     out.put(b"\"")
 }
 
-/// A text as a string.
+/// Writes a text as a string.
 pub fn spell_text<O: Outlet>(out: &mut O, text: &str)
     ensures { O.takes out.old out.new (quoted text.now) }
 {
@@ -147,19 +159,22 @@ pub fn spell_text<O: Outlet>(out: &mut O, text: &str)
     out.put(b"\"")
 }
 
-/// What stands in a string for the digits of a Binary.
+/// Writes the digits of a Binary.
 fn put_pairs<O: Outlet, N: Node>(out: &mut O, node: N)
     requires { kind_of (N.tree node) ≡ Kinds.Binary }
     ensures { O.takes out.old out.new (escape (encode_lower (bytes_of (N.tree node)))) }
 {
     let len = node.len();
     for i in 0..len {
+        if out.skips(0) {
+            return;
+        }
         let byte = node.byte(i);
         put_escaped(out, &[digit(byte / 16) as u8, digit(byte % 16) as u8]);
     }
 }
 
-/// The bytes of a Binary as a string of lower-case hexadecimal digits, two a byte.
+/// Writes the bytes of a Binary as a string of lower-case hexadecimal digits, two a byte.
 pub fn spell_hex<O: Outlet, N: Node>(out: &mut O, node: N)
     requires { kind_of (N.tree node) ≡ Kinds.Binary }
     ensures { O.takes out.old out.new (quoted (encode_lower (bytes_of (N.tree node)))) }
@@ -169,7 +184,7 @@ pub fn spell_hex<O: Outlet, N: Node>(out: &mut O, node: N)
     out.put(b"\"")
 }
 
-/// Whether the units of a String or an Alias are well-formed UTF-16.
+/// Checks whether the units of a String or an Alias are well-formed UTF-16.
 pub fn is_well_formed<N: Node>(node: N) -> bool
     requires { HasUnits (kind_of (N.tree node)) }
     ensures { result ≡ not (has_unpaired_surrogate (units_of (N.tree node))) }
@@ -186,9 +201,9 @@ pub fn is_well_formed<N: Node>(node: N) -> bool
     true
 }
 
-/// What stands in a string for the next characters: a run of ASCII units, or one character. It
-/// says where the next one begins.
-fn put_run<O: Outlet, N: Node>(out: &mut O, node: N, at: usize, len: usize) -> usize
+/// Writes the next characters, which are a run of ASCII units or one character, and returns the
+/// index of the next unit.
+fn put_next<O: Outlet, N: Node>(out: &mut O, node: N, at: usize, len: usize) -> usize
     requires units { HasUnits (kind_of (N.tree node)) }
     requires len { len ≡ len_of (N.tree node) }
     requires in_range { at < len }
@@ -206,7 +221,22 @@ fn put_run<O: Outlet, N: Node>(out: &mut O, node: N, at: usize, len: usize) -> u
     next
 }
 
-/// What stands in a string for the characters of a String or an Alias.
+/// Writes the next characters and returns the index of the next unit: the last index if the outlet
+/// needs none of them.
+fn put_run<O: Outlet, N: Node>(out: &mut O, node: N, at: usize, len: usize) -> usize
+    requires units { HasUnits (kind_of (N.tree node)) }
+    requires len { len ≡ len_of (N.tree node) }
+    requires in_range { at < len }
+    ensures more { (at < result) × (result ≤ len) }
+    ensures spelled { Spells (O.takes out.old out.new) (units_of (N.tree node)) at result }
+{
+    if out.skips(0) {
+        return len;
+    }
+    put_next(out, node, at, len)
+}
+
+/// Writes the characters of a String or an Alias.
 fn put_runs<O: Outlet, N: Node>(out: &mut O, node: N)
     requires { HasUnits (kind_of (N.tree node)) }
     ensures { O.takes out.old out.new
@@ -219,7 +249,8 @@ fn put_runs<O: Outlet, N: Node>(out: &mut O, node: N)
     }
 }
 
-/// The characters of a String or an Alias as a string; a surrogate without its partner is U+FFFD.
+/// Writes the characters of a String or an Alias as a string, with U+FFFD for a surrogate without
+/// its partner.
 pub fn spell_units<O: Outlet, N: Node>(out: &mut O, node: N)
     requires { HasUnits (kind_of (N.tree node)) }
     ensures { O.takes out.old out.new
@@ -230,7 +261,7 @@ pub fn spell_units<O: Outlet, N: Node>(out: &mut O, node: N)
     out.put(b"\"")
 }
 
-/// A number in decimal, with its sign if it is negative.
+/// Writes a number in decimal, with a sign if it is negative.
 pub fn spell_integer<O: Outlet>(out: &mut O, integer: i64)
     ensures { O.takes out.old out.new (number_text (of_integer integer)) }
 {
@@ -238,7 +269,7 @@ pub fn spell_integer<O: Outlet>(out: &mut O, integer: i64)
     out.put(buffer.format(integer).as_bytes())
 }
 
-/// A number in decimal.
+/// Writes a number in decimal.
 pub fn spell_unsigned<O: Outlet>(out: &mut O, number: u64)
     ensures { O.takes out.old out.new (decimal number) }
 {

@@ -1,4 +1,4 @@
--- What the builder adds is what the atoms give.
+-- Proves that the builder adds the tokens of the atoms.
 use Rattle.std.proofs.Common.{◌≡◌, ℕ, ◌+◌, Bool, true, false, List, [], ◌∷◌, ◌++◌, Option, Some, None, refl, sym, ap, ◌∙◌, arith, append_assoc, append-nil}
 use Rattle.std.proofs.Common.{◌&&◌, is_some}
 use Rattle.rb_lexer.specs.declared.token.Token.{Token}
@@ -46,7 +46,7 @@ module _ (bytes : List ℕ) (rest : List Atom) where
   run_place : (p : Part) (ps : List Part) (at : ℕ) → past_atom at (single p) + width (parts_chars ps []) ≡ at + width (atoms_chars (singles (p ∷ ps)) [])
   run_place p ps at = omega (arith, width_part p (parts_chars ps []), ap width (singles_chars (p ∷ ps) []))
 
-  -- an unquoted piece that goes on
+  -- an unquoted piece that continues
   run_goes_on : (p : Part) (ps : List Part) (at : ℕ) (h : PendingText) → atoms_tokens bytes at (Some h) true (singles (p ∷ ps) ++ rest)
       ≡ atoms_tokens bytes (at + width (atoms_chars (singles (p ∷ ps)) []))
       (Some (stretched h (parts_units (p ∷ ps)) (at + width (atoms_chars (singles (p ∷ ps)) [])))) true rest

@@ -1,4 +1,4 @@
--- Both readings have the same tokens: lexemes, and the atoms that they are made of.
+-- Proves that both readings, by lexemes and by their atoms, have the same tokens.
 use Rattle.std.proofs.Common.{◌≡◌, ℕ, ◌+◌, true, false, List, [], ◌∷◌, ◌++◌, Option, Some, None, refl, sym, ap, ◌∙◌, arith, append_assoc, append-nil, ◌⊎◌, inl}
 use Rattle.std.proofs.Common.{inr, ⊎_elim}
 use Rattle.rb_lexer.specs.declared.token.Token.{Token}
@@ -65,7 +65,7 @@ flat_good (quoted ps ∷ ls) rest h = (rw (flat_chars ls rest) h.0, flat_good ls
 flat_good (unquoted ps ∷ ls) rest h = parts_good ps (flat ls) rest (rw (flat_chars ls rest) h.0) (flat_good ls rest h.4)
 
 -- ---- from atoms to lexemes
--- these lexemes go on with an unquoted piece
+-- these lexemes continue with an unquoted piece
 record GoesOnWith (ls : List Lexeme) (rest : List ℕ) (ps : List Part) (more : List Lexeme) : Type 0 where
   spelled : chars_of ls rest ≡ parts_chars ps (chars_of more rest)
   atoms : flat ls ≡ parts_atoms ps (flat more)

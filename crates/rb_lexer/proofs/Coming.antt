@@ -1,4 +1,4 @@
--- The second reading as a function gives the atoms that the characters are spelled by.
+-- Proves that the second reading, as a function, returns the atoms that spell the characters.
 use Rattle.std.proofs.Common.{◌≡◌, ℕ, zero, suc, ◌≤◌, Bool, true, false, eqb, not, ◌||◌, ◌&&◌, List, [], ◌∷◌, ◌++◌, length, Option, Some, None, refl, ap}
 use Rattle.std.proofs.Common.{◌∙◌, arith, IsTrue, ⊎_elim, eqb-true, ne_eqb}
 use Rattle.rb_lexer.specs.Lexeme.{is_white, is_punctuation, quote, backslash, slash, star, begins, begins_comment, ends_line, line_comment, block_comment}

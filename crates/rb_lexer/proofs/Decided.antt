@@ -1,4 +1,4 @@
--- A source has one list of tokens or one error, and not both.
+-- Proves that a source has either one list of tokens or one error.
 use Rattle.std.proofs.Common.{◌≡◌, ℕ, ◌≤◌, List, [], ◌∷◌, length, Option, Some, None, refl, sym, ap, ◌∙◌, arith, ◌⊎◌, inl, inr, ⊎_elim, IsUtf8, take_all}
 use Rattle.std.proofs.Common.{le_refl, false}
 use Rattle.std.specs.Str.{IsValidUpTo}

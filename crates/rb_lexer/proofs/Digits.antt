@@ -6,7 +6,7 @@ use Rattle.std.specs.Char.{is_digit, digit_value}
 use Rattle.std.specs.Str.Parse.{digits_value, digits_value_after}
 use Rattle.rb_lexer.specs.Escapes.{digits_at}
 
--- What the digits so far and those to come make together.
+-- the value of the digits that were read, followed by the remaining ones
 pub record SoFar (radix most : ℕ) (text : List ℕ) (value count : ℕ) (rest : List ℕ) : Type 0 where
   pub value_is : digits_value_after radix value (digits_at radix (most - count) rest).0 ≡ digits_value radix (digits_at radix most text).0
   pub count_is : count + length (digits_at radix (most - count) rest).0 ≡ length (digits_at radix most text).0

@@ -1,4 +1,4 @@
--- Escapes: what is read is an escape, and an escape is read.
+-- Proves that the function reads exactly the escapes.
 use Rattle.std.proofs.Common.{◌≡◌, ◌≢◌, ℕ, zero, suc, ◌<◌, ◌≤◌, ◌||◌, ◌⊎◌, inl, inr, ⊎_elim, Bool, true, false, cond, eqb, ltb, not, nat_lt, List, [], ◌∷◌}
 use Rattle.std.proofs.Common.{◌++◌, length, Option, Some, None, refl, sym, ap, ◌∙◌, arith, lt-ltb, le-ltb, ltb-false, eqb-true, IsTrue}
 use Rattle.std.proofs.lemmas.Bool.Decides.{nat_tests}
@@ -235,7 +235,7 @@ all_false false false false false true h = cc
 letter_with : (c : ℕ) (cs : List ℕ) (e : Escape) (rest : List ℕ) → (letter c ≡ e) × (cs ≡ rest) → IsEscape (letter c) cs → Takes (c ∷ cs) e rest
 letter_with c cs e rest same good = rw (sym same.0, sym same.1) (refl, good)
 
--- What is read is an escape.
+-- The function reads only escapes.
 pub escape_takes : (cs : List ℕ) (e : Escape) (rest : List ℕ) → escape_at cs ≡ Some (e, rest) → Takes cs e rest
 unfolding escape_at
 escape_takes [] e rest h = absurd (no_some h)

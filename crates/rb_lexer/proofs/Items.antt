@@ -1,4 +1,4 @@
--- What a text begins with.
+-- Proves which item begins a text.
 use Rattle.std.proofs.Common.{◌≡◌, ◌≢◌, ℕ, Some, None, Bool, true, false, eqb, ◌||◌, ◌&&◌, List, [], ◌∷◌, refl, sym, ap, ◌∙◌, ne_eqb, ◌+◌, arith}
 use Rattle.rb_lexer.specs.Lexeme.{quote, backslash, slash, star, is_white, is_punctuation, begins, begins_comment, Escape, escape_value, units_of, Part, plain}
 use Rattle.rb_lexer.specs.Lexeme.{escaped, part_chars, part_units, AreParts, line_comment, block_comment, HasNoEnd}

@@ -1,4 +1,4 @@
--- The tokens that the code makes with a pending text are those of the runs of text pieces.
+-- Proves that the tokens made with a pending text are those of the groups of text pieces.
 use Rattle.std.proofs.Common.{◌≡◌, ℕ, true, false, List, [], ◌∷◌, map, Option, Some, None, refl, sym, ap, ◌∙◌}
 use Rattle.rb_lexer.specs.declared.token.Token.{Token}
 use Rattle.rb_lexer.specs.declared.token.Mark.TheVariants.{Text}

@@ -10,7 +10,7 @@ use Rattle.rb_lexer.specs.Tokens.{width}
 use Rattle.rb_lexer.specs.Atom.{Stops, IsSingle, IsPastQuote, IsPastRun}
 use Rattle.rb_lexer.proofs.Escapes.{escape_takes, no_escape}
 
--- however the rest goes on, the whole does too
+-- the whole continues as its rest does
 abbrev pub GoesOn : (Part → List ℕ → Type 0) → List ℕ → List ℕ → List ℕ → List ℕ → Type 0
 GoesOn Is before text units rest =
     (ps : List Part) (more : List ℕ) → rest ≡ parts_chars ps more → AreParts Is ps more

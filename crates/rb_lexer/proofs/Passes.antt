@@ -1,4 +1,4 @@
--- A text that is read to its end for its errors.
+-- Proves that checking a text finds its first error.
 use Rattle.std.proofs.Common.{◌≡◌, ◌≢◌, List, ℕ, Bool, true, false, [], ◌∷◌, ◌++◌, refl, sym, ap, ◌∙◌, ne_eqb}
 use Rattle.std.specs.Prelude.{◌==◌}
 use Rattle.rb_lexer.specs.Lexeme.{is_white, is_punctuation, quote, backslash, slash, plain}

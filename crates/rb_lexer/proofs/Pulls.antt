@@ -1,4 +1,4 @@
--- A source that gives its tokens as they are taken.
+-- Proves that reading on demand returns the tokens of the source.
 use Rattle.std.proofs.Common.{◌≡◌, ℕ, ◌+◌, ◌≤◌, List, [], ◌∷◌, ◌++◌, length, drop, length-drop, append-nil, Option, Some, None, MatchOption, refl, sym, ap, subst}
 use Rattle.std.proofs.Common.{◌∙◌, arith, false, IsTrue, encode_utf8_all}
 use Rattle.std.proofs.Common.{◌⊎◌, inl, inr, ⊎_elim}
@@ -41,7 +41,7 @@ rest_of xs front after e good are =
     let none : tail r.1.0 ≡ [] = ap tail (sym w.1) in
     (r.0, r.1.1 ∙ ap (atoms_chars r.0) none, rw none at r.1.2, w.0)
 
--- What follows an item takes no more bytes than what begins with it.
+-- The text after an item is no longer than the text that begins with it.
 pub follows_within : (cs after us : List ℕ) (item : Scanned) → Begins cs item us after → width after ≤ width cs
 follows_within cs after us item w = omega (arith, ap width w.1, width_atoms w.0 after)
 
@@ -61,7 +61,7 @@ taken r s ts item us at placed w adds first line past to same g =
           ∙ rw (same, to, ← first) (adds r.text.now w.0 y.0 w.3 (line ∙ placed.line_is ∙ ap (line_of r.text.now) (sym first)) (omega (arith, p, past, first)));
     }
 
--- Reading stops there for want of memory alone.
+-- Reading stops only when out of memory.
 pub no_stop : (xs : List Atom) (cs : List ℕ) → cs ≡ atoms_chars xs [] → AreAtoms xs [] → (s : LexError) → Stops s cs → s.kind ≡ Memory
 no_stop xs cs e good s stops =
     ⊎_elim (λ m. m)
@@ -171,7 +171,7 @@ left_one r ts l =
 pub left_is : (r : Reader) (ts : List Token) → Left r ts → Left r (left r)
 left_is r ts l = subst (Left r) (left_one r ts l) l
 
--- Where the next token was taken.
+-- After the next token was taken.
 pub pop_leaves : (s : Reader) (ts : List Token) (found : Option Token) → Left s (drop 1 ts) → MatchOption found (ts ≡ []) (λ t. ts ≡ t ∷ drop 1 ts)
     → MatchOption found (ts ≡ []) (λ t. ts ≡ t ∷ left s)
 pop_leaves s ts None l h = h

@@ -1,4 +1,4 @@
--- Each text has tokens or an error.
+-- Proves that each text has tokens or an error.
 use Rattle.std.proofs.Common.{◌≡◌, ◌≢◌, ℕ, zero, suc, ◌≤◌, ◌<◌, Bool, true, false, eqb, ◌||◌, ◌&&◌, List, [], ◌∷◌, ◌++◌, length, Option, Some, None, refl, sym}
 use Rattle.std.proofs.Common.{ap, ◌∙◌, arith, IsTrue, ◌⊎◌, inl, inr, ⊎_elim, IsUtf8, eqb-true, eq-eqb, length-append, ltb-true, ltb-false, nat_lt, ◌-◌, take}
 use Rattle.std.proofs.Common.{take_all, encode_utf8_all}

@@ -1,4 +1,4 @@
--- The loop over items.
+-- Proves the loop over items.
 use Rattle.std.proofs.Common.{◌≡◌, ℕ, ◌+◌, ◌-◌, ◌≤◌, List, [], ◌∷◌, ◌++◌, length, Some, None, refl, sym, ap, ◌∙◌, arith, encode_utf8_all}
 use Rattle.std.proofs.Common.{length-append, append_assoc, count_by, take, drop, eqb, cond, zero-le, take-add}
 use Rattle.std.proofs.lemmas.List.Sums.{sum_by-append}

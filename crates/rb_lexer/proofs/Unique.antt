@@ -1,4 +1,4 @@
--- A text is read in one way.
+-- Proves that a text has only one reading.
 use Rattle.std.proofs.Common.{◌≡◌, ℕ, ◌+◌, ◌*◌, Bool, true, false, cond, eqb, not, ◌||◌, ◌⊎◌, inl, inr, ⊎_elim, List, [], ◌∷◌, ◌++◌, Option, Some, None, refl}
 use Rattle.std.proofs.Common.{sym, ap, subst, ◌∙◌, arith, IsTrue, eqb-true, eq-eqb}
 use Rattle.rb_lexer.specs.Lexeme.{is_white, is_punctuation, quote, backslash, slash, star, begins, begins_comment, ends_line, Escape, escape_chars, IsEscape}

@@ -1,4 +1,4 @@
--- From the second reading to the definitions.
+-- Proves that the second reading agrees with the definitions.
 use Rattle.std.proofs.Common.{◌≡◌, ℕ, ◌-◌, ◌≤◌, false, List, [], length, None, refl, sym, ap, ◌∙◌, arith, IsTrue, encode_utf8_all, ◌⊎◌, inl, inr}
 use Rattle.std.specs.Str.{all_scalars}
 use Rattle.rb_lexer.specs.declared.token.Token.{Token}

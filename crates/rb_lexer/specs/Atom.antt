@@ -1,4 +1,4 @@
--- For proofs only: a second reading, which follows the code. In it an unquoted piece is read part by part.
+-- For proofs only: defines a second reading, which follows the code. It reads an unquoted piece part by part.
 use Rattle.std.specs.Prelude.{◌≡◌, ℕ, ◌+◌, Bool, true, false, cond, List, [], ◌∷◌, ◌++◌, Option, Some, None, IsTrue}
 use Rattle.rb_lexer.specs.Lexeme.{is_white, is_punctuation, quote, Comment, comment_chars, IsComment, Part, part_chars}
 use Rattle.rb_lexer.specs.Lexeme.{part_units, parts_chars, parts_units}
@@ -54,18 +54,18 @@ abbrev pub blanks : List ℕ → List Atom
 blanks [] = []
 blanks (c ∷ cs) = blank c ∷ blanks cs
 
--- the characters after a quote go on with a quoted piece of these units, its last quote, and the rest
+-- The characters after a quote spell a quoted piece of these units and its closing quote, and then the rest.
 abbrev pub IsPastQuote : List ℕ → List ℕ → List ℕ → Type 0
 IsPastQuote text units rest = (ps : List Part) × (text ≡ parts_chars ps (quote ∷ rest))
     × AreParts IsQuotedPart ps (quote ∷ rest) × (units ≡ parts_units ps)
 
--- The characters go on with parts of a run of an unquoted piece, and the rest; the units are those before and those of
--- the parts.
+-- The characters continue a run of an unquoted piece by some parts, then comes the rest. The first units are those
+-- before the parts, the others those after them.
 abbrev pub IsPastRun : List ℕ → List ℕ → List ℕ → List ℕ → Type 0
 IsPastRun before text units rest = (ps : List Part) × (text ≡ parts_chars ps rest) × AreParts IsSingle ps rest
     × (units ≡ before ++ parts_units ps)
 
--- What the code has for atoms.
+-- Relates an item of the code to its atoms.
 abbrev pub Shows : Scanned → List ℕ → List Atom → Type 0
 Shows White us xs = (c : ℕ) × ((cs : List ℕ) × (xs ≡ blanks (c ∷ cs)))
 Shows CommentItem us xs = (c : Comment) × (xs ≡ remark c ∷ [])
@@ -73,16 +73,16 @@ Shows (Punctuation m) us xs = (c : ℕ) × (xs ≡ punct c ∷ []) × (m ≡ pun
 Shows Quoted us xs = (ps : List Part) × (xs ≡ cited ps ∷ []) × (us ≡ parts_units ps)
 Shows Run us xs = (p : Part) × ((ps : List Part) × (xs ≡ singles (p ∷ ps)) × (us ≡ parts_units (p ∷ ps)))
 
--- The characters begin with what this item is, with these units if it is a piece, and the rest follows it.
+-- The characters begin with this item, of these units if it is a piece, and the rest follows.
 abbrev pub Begins : List ℕ → Scanned → List ℕ → List ℕ → Type 0
 Begins text item us rest = (xs : List Atom) × (text ≡ atoms_chars xs rest) × AreAtoms xs rest × Shows item us xs
 
--- These characters are broken in this way, unless memory ran out.
+-- The characters have this lexical error, unless memory ran out.
 abbrev pub Stops : LexError → List ℕ → Type 0
 Stops stop cs = (stop.kind ≡ Memory → ⊥) → (b : Broken) × (cs ≡ broken_chars b) × IsBroken b
     × (stop.kind ≡ broken_kind b) × (stop.left ≡ width (from_fault b))
 
--- a piece that goes on
+-- a piece, extended by another
 abbrev pub longer : Option PendingText → PendingText → PendingText
 longer None b = b
 longer (Some a) b = record {
@@ -94,20 +94,20 @@ longer (Some a) b = record {
   line = a.line;
 }
 
--- the same if there is one, with more units
+-- a pending text, extended by units, if there is one
 abbrev pub extended : Option PendingText → List ℕ → ℕ → Option PendingText
 extended None us past = None
 extended (Some a) us past = Some
     (record { units = a.units ++ us; is_quoted = a.is_quoted; first = a.first; past = past; line = a.line })
 
--- with one more unquoted character
+-- a pending text, extended by one unquoted character
 abbrev pub with_character : Bool → Option PendingText → PendingText → PendingText
 with_character is_open pending b = cond is_open (longer pending b) (grown pending b)
 
 abbrev pub past_atom : ℕ → Atom → ℕ
 past_atom at a = at + width (atom_chars a [])
 
--- The tokens of atoms that begin at a byte, after a pending text that is open if an unquoted piece may go on.
+-- The tokens of atoms that begin at a byte, after a pending text; the flag says whether its unquoted piece is open.
 abbrev pub atoms_tokens : List ℕ → ℕ → Option PendingText → Bool → List Atom → List Token
 atoms_tokens bytes at pending is_open [] = flushed pending []
 atoms_tokens bytes at pending is_open (blank c ∷ xs) = atoms_tokens bytes (past_atom at (blank c)) pending false xs

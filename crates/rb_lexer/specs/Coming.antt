@@ -1,5 +1,5 @@
--- For what `Tokens` is seen as: the tokens that are still to come, as a function. It is the second reading of
--- characters that have no error; what it gives of others is of no account.
+-- Defines the view of `Tokens`: the tokens not yet taken, as a function. It follows the second reading of characters
+-- without errors; its results for other characters don't matter.
 use Rattle.std.specs.Prelude.{ℕ, zero, suc, ◌==◌, ◌&&◌, cond, List, [], ◌∷◌, ◌++◌, Option, Some, None, length, drop}
 use Rattle.std.specs.Str.{chars}
 use Rattle.rb_lexer.specs.declared.reader.Reader.{Reader}
@@ -9,18 +9,18 @@ use Rattle.rb_lexer.specs.Lexeme.{ends_line, Escape, line_comment, block_comment
 use Rattle.rb_lexer.specs.Escapes.{escape_at}
 use Rattle.rb_lexer.specs.Atom.{Atom, blank, remark, punct, cited, single, atoms_tokens}
 
--- what a line comment has after its slashes, what ends it, and what follows it
+-- the text of a line comment after its slashes, its end, and the remaining characters
 unfoldable pub line_at : List ℕ → List ℕ × Option ℕ × List ℕ
 line_at [] = ([], None, [])
 line_at (c ∷ cs) = cond (ends_line c) ([], Some c, cs) (c ∷ (line_at cs).0, (line_at cs).1, (line_at cs).2)
 
--- what a block comment has in it, and what follows it
+-- the text of a block comment, and the remaining characters
 unfoldable pub block_at : List ℕ → List ℕ × List ℕ
 block_at [] = ([], [])
 block_at (c ∷ cs) =
     cond ((c == star) && begins (λ d. d == slash) cs) ([], drop 1 cs) (c ∷ (block_at cs).0, (block_at cs).1)
 
--- the comment after a slash, and what follows it
+-- the comment after a slash, and the remaining characters
 abbrev pub comment_at : List ℕ → Atom × List ℕ
 comment_at [] = (blank slash, [])
 comment_at (c ∷ cs) =
@@ -31,18 +31,18 @@ abbrev pub escaped_at : Option (Escape × List ℕ) → Part × List ℕ
 escaped_at None = (plain backslash, [])
 escaped_at (Some x) = (escaped x.0, x.1)
 
--- a character or an escape, and what follows it
+-- a character or an escape, and the remaining characters
 abbrev pub part_at : ℕ → List ℕ → Part × List ℕ
 part_at c cs = cond (c == backslash) (escaped_at (escape_at cs)) (plain c, cs)
 
--- the parts of a quoted piece after its first quote, and what follows it
+-- the parts of a quoted piece after its first quote, and the remaining characters
 unfoldable pub quoted_at : ℕ → List ℕ → List Part × List ℕ
 quoted_at zero cs = ([], [])
 quoted_at (suc n) [] = ([], [])
 quoted_at (suc n) (c ∷ cs) =
     cond (c == quote) ([], cs) ((part_at c cs).0 ∷ (quoted_at n (part_at c cs).1).0, (quoted_at n (part_at c cs).1).1)
 
--- the atom that begins with a character, and what follows it
+-- the atom that begins with a character, and the remaining characters
 unfoldable pub atom_at : ℕ → List ℕ → Atom × List ℕ
 atom_at c cs =
     cond (is_white c) (blank c, cs)
@@ -56,7 +56,7 @@ atoms_at zero cs = []
 atoms_at (suc n) [] = []
 atoms_at (suc n) (c ∷ cs) = (atom_at c cs).0 ∷ atoms_at n (atom_at c cs).1
 
--- the tokens that wait and those of what is not read
+-- the buffered tokens, then those of the unread characters
 unfoldable pub left : Reader → List Token
 left r =
     r.builder.tokens.items

@@ -1,10 +1,10 @@
--- For proofs only: an escape read from the front of the characters after a backslash.
+-- For proofs only: reads an escape from the characters after a backslash.
 use Rattle.std.specs.Prelude.{ℕ, zero, suc, ◌==◌, cond, List, [], ◌∷◌, length, Option, Some, None, nat_lt}
 use Rattle.std.specs.Char.{is_digit}
 use Rattle.std.specs.Str.Parse.{digits_value}
 use Rattle.rb_lexer.specs.Lexeme.{Escape, four, eight, hex, octal, letter}
 
--- up to this many digits, as many as there are, and what follows them
+-- as many digits as there are, up to a limit, and the remaining characters
 unfoldable pub digits_at : ℕ → ℕ → List ℕ → List ℕ × List ℕ
 digits_at radix zero cs = ([], cs)
 digits_at radix (suc n) [] = ([], [])

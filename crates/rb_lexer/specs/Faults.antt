@@ -1,7 +1,6 @@
--- The lexical errors of a source, and which one it has. The syntax is that of ICU's genrb; what is an error, and in
--- which line, is this project's own rule: too many bytes before all else, then bytes that are not UTF-8, then what
--- comes first in the text of an escape that is none, a quoted piece that is never closed and a comment that is never
--- closed.
+-- Defines the lexical errors of a source, and which one is reported. The syntax is that of ICU's genrb. What is an
+-- error, and in which line, is a rule of this project: too many bytes come first, then bytes that are not UTF-8, then
+-- the first in the text of a bad escape, a quoted piece that is never closed and a comment that is never closed.
 use Rattle.std.specs.Prelude.{◌≡◌, ℕ, ◌+◌, ◌<◌, ◌≤◌, ◌⊎◌, List, [], ◌∷◌, length, encode_utf8_all, IsTrue}
 use Rattle.std.specs.Str.{all_scalars, IsValidUpTo}
 use Rattle.rb_lexer.specs.declared.fault.SourceKind.{SourceKind}
@@ -14,8 +13,8 @@ use Rattle.rb_lexer.specs.Lexeme.{chars_of, AreLexemes}
 use Rattle.rb_lexer.specs.Tokens.{width, line_of}
 use Rattle.rb_lexer.specs.Limits.{source_limit}
 
--- A quoted piece or a comment that is never closed, or a backslash that begins no escape, outside a quoted piece or in
--- one.
+-- A quoted piece or a comment that is never closed, or a backslash, inside or outside a quoted piece, that begins no
+-- escape.
 pub data Broken : Type 0 where
   open_quote : List Part → Broken
   open_comment : List ℕ → Broken
@@ -29,7 +28,7 @@ broken_chars (open_comment cs) = slash ∷ star ∷ cs
 broken_chars (bad_escape rest) = backslash ∷ rest
 broken_chars (bad_quoted ps rest) = quote ∷ parts_chars ps (backslash ∷ rest)
 
--- No escape comes after a backslash.
+-- No escape follows the backslash.
 abbrev pub NoEscape : List ℕ → Type 0
 NoEscape cs = (e : Escape) (rest : List ℕ) → cs ≡ escape_chars e rest → IsEscape e rest → ⊥
 
@@ -52,7 +51,7 @@ from_fault (open_comment cs) = []
 from_fault (bad_escape rest) = backslash ∷ rest
 from_fault (bad_quoted ps rest) = backslash ∷ rest
 
--- The source, which is UTF-8, has this lexical error.
+-- The source is UTF-8 and has this lexical error.
 pub record HasFault (bytes : List ℕ) (kind : SourceKind) (line : ℕ) : Type 0 where
   pub front : List Lexeme
   pub broken : Broken
@@ -69,18 +68,18 @@ pub record HasFault (bytes : List ℕ) (kind : SourceKind) (line : ℕ) : Type 0
 abbrev pub IsLong : List ℕ → ℕ → Type 0
 IsLong bytes line = (source_limit < length bytes) × (line ≡ 1)
 
--- a first byte from which no character reads
+-- a first byte at which no character begins
 abbrev pub IsGarbled : List ℕ → ℕ → Type 0
 IsGarbled bytes line = (length bytes ≤ source_limit) × ((at : ℕ) × IsValidUpTo bytes at × (line ≡ line_of bytes at))
 
--- what keeps a source from being a text
+-- the reason why a source is no text
 abbrev pub IsTextFault : List ℕ → SourceKind → ℕ → Type 0
 IsTextFault bytes kind line = ((kind ≡ TooLong) × IsLong bytes line) ⊎ ((kind ≡ NotUtf8) × IsGarbled bytes line)
 
--- The source is no text, or it is one with a lexical error.
+-- The source is no text, or it is a text with a lexical error.
 abbrev pub IsSourceFault : List ℕ → SourceKind → ℕ → Type 0
 IsSourceFault bytes kind line = IsTextFault bytes kind line ⊎ ((length bytes ≤ source_limit) × HasFault bytes kind line)
 
--- Why a source is refused: out of memory, or for an error that it has.
+-- The reason why a source is rejected: out of memory, or an error in it.
 abbrev pub IsRefusal : List ℕ → SourceFault → Type 0
 IsRefusal bytes e = ((e.kind ≡ Memory) × (e.line ≡ 0)) ⊎ IsSourceFault bytes e.kind e.line

@@ -1,6 +1,6 @@
--- How a bundle text is written, in the syntax of ICU's genrb: its lexemes, and the characters that spell them in front
--- of what follows. This project's own are the comment that owns its line break, a comment inside an unquoted piece, and
--- in an unquoted piece an escape of any other character.
+-- Defines the lexemes of a bundle text, in the syntax of ICU's genrb, and the characters that spell them. Three rules
+-- are this project's own: a line comment includes its line break, an unquoted piece may contain comments, and in an
+-- unquoted piece a backslash before any other character stands for that character.
 use Rattle.std.specs.Prelude.{◌≡◌, ℕ, ◌+◌, ◌-◌, ◌/◌, ◌%◌, ◌<◌, ◌≤◌, ◌==◌, ◌||◌, ◌&&◌, Bool, false, not, nat_lt}
 use Rattle.std.specs.Prelude.{if◌then◌else◌, List, [], ◌∷◌, ◌++◌, length}
 use Rattle.std.specs.Prelude.{IsTrue, Option, Some, None}
@@ -27,11 +27,11 @@ star = 0x2A
 abbrev pub is_punctuation : ℕ → Bool
 is_punctuation c = (c == 0x7B) || (c == 0x7D) || (c == 0x2C) || (c == 0x3A)
 
--- what ends a line comment, and belongs to it
+-- the characters that end a line comment, and belong to it
 abbrev pub ends_line : ℕ → Bool
 ends_line c = (c == 0x0A) || (c == 0x0D) || (c == 0x2029)
 
--- the test holds of the first character, if there is one
+-- The test is true of the first character, if there is one.
 abbrev pub begins : (ℕ → Bool) → List ℕ → Bool
 begins is [] = false
 begins is (c ∷ cs) = is c
@@ -43,7 +43,7 @@ begins_comment (c ∷ cs) = (c == slash) && begins (λ d. (d == slash) || (d == 
 
 -- ---- escapes
 
--- what comes after a backslash
+-- the characters after a backslash
 pub data Escape : Type 0 where
   four : List ℕ → Escape
   eight : List ℕ → Escape
@@ -58,14 +58,14 @@ escape_chars (hex ds) rest = 0x78 ∷ (ds ++ rest)
 escape_chars (octal ds) rest = ds ++ rest
 escape_chars (letter c) rest = c ∷ rest
 
--- between least and most digits, and as many as follow
+-- between `least` and `most` digits, as many as there are
 pub record IsRun (radix least most : ℕ) (ds rest : List ℕ) : Type 0 where
   pub digits : AllByRecursion (λ c. IsTrue (is_digit c radix)) ds
   pub least_len : least ≤ length ds
   pub most_len : length ds ≤ most
   pub all : length ds < most → IsTrue (not (begins (λ c. is_digit c radix) rest))
 
--- The escape is one of these, with rest after it.
+-- The escape is one of genrb's, with `rest` after it.
 abbrev pub IsEscape : Escape → List ℕ → Type 0
 IsEscape (four ds) rest = IsRun 16 4 4 ds rest
 IsEscape (eight ds) rest = IsRun 16 8 8 ds rest × (digits_value 16 ds ≤ 0x10FFFF)
@@ -86,7 +86,7 @@ escape_value (hex ds) = digits_value 16 ds
 escape_value (octal ds) = digits_value 8 ds
 escape_value (letter c) = letter_value c
 
--- the units of a code point, those of a surrogate's number among them
+-- the units of a code point; a surrogate's number is one unit
 abbrev pub units_of : ℕ → List ℕ
 units_of c = if nat_lt c 0x10000 then c ∷ []
     else (0xD800 + (c - 0x10000) / 0x400) ∷ (0xDC00 + (c - 0x10000) % 0x400) ∷ []
@@ -105,7 +105,7 @@ abbrev pub comment_chars : Comment → List ℕ → List ℕ
 comment_chars (line_comment cs end) rest = slash ∷ slash ∷ (cs ++ option_chars end rest)
 comment_chars (block_comment cs) rest = slash ∷ star ∷ (cs ++ star ∷ slash ∷ rest)
 
--- no star and slash side by side, also if a star follows the last
+-- no star and slash side by side, even if a star follows the last character
 abbrev pub HasNoEnd : List ℕ → Type 0
 HasNoEnd [] = Unit {0}
 HasNoEnd (c ∷ cs) = (IsTrue (c == star) → IsTrue (not (begins (λ d. d == slash) cs))) × HasNoEnd cs
@@ -183,7 +183,7 @@ lexeme_chars (punctuation c) rest = c ∷ rest
 lexeme_chars (quoted ps) rest = quote ∷ parts_chars ps (quote ∷ rest)
 lexeme_chars (unquoted ps) rest = parts_chars ps rest
 
--- the characters of lexemes, in front of what follows
+-- the characters of lexemes, followed by the rest
 abbrev pub chars_of : List Lexeme → List ℕ → List ℕ
 chars_of [] rest = rest
 chars_of (l ∷ ls) rest = lexeme_chars l (chars_of ls rest)
@@ -197,7 +197,7 @@ EndsUnquoted (punctuation c ∷ ls) = Unit {0}
 EndsUnquoted (quoted ps ∷ ls) = Unit {0}
 EndsUnquoted (unquoted ps ∷ ls) = ⊥
 
--- These are lexemes, with rest after them: nothing, or what is no lexeme (specs.Faults).
+-- These are lexemes, with `rest` after them: nothing, or characters that begin no lexeme (specs.Faults).
 abbrev pub AreLexemes : List Lexeme → List ℕ → Type 0
 AreLexemes [] rest = Unit {0}
 AreLexemes (white c ∷ ls) rest = IsTrue (is_white c) × AreLexemes ls rest

@@ -1,6 +1,6 @@
--- The limit of a bundle text, a rule of this project.
+-- Defines the limit of a bundle text (a rule of this project).
 use Rattle.std.specs.Prelude.{ℕ}
 
--- the greatest length of a source, in bytes
+-- the maximum length of a source, in bytes
 abbrev pub source_limit : ℕ
 source_limit = 8388608

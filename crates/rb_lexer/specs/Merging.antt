@@ -1,4 +1,4 @@
--- For proofs only: tokens as the code makes them, with a pending text that the next piece may still join.
+-- For proofs only: defines tokens as the code makes them, with a pending text that the next piece may join.
 use Rattle.std.specs.Prelude.{ℕ, Bool, true, false, List, [], ◌∷◌, ◌++◌, Option, Some, None}
 use Rattle.rb_lexer.specs.Lexeme.{Lexeme, white, comment, punctuation, quoted, unquoted, parts_units}
 use Rattle.rb_lexer.specs.Tokens.{line_of, punctuation_mark, separator, past_lexeme}
@@ -36,7 +36,7 @@ piece bytes units is_quoted first past = record { units = units; is_quoted = is_
 abbrev pub punctuation_token : List ℕ → ℕ → ℕ → ℕ → Token
 punctuation_token bytes c first past = record { what = punctuation_mark c; first = first; past = past; line = line_of bytes first }
 
--- The tokens of lexemes that begin at a byte, after a pending text.
+-- the tokens of lexemes that begin at a byte, after a pending text
 abbrev pub tokens_from : List ℕ → ℕ → Option PendingText → List Lexeme → List Token
 tokens_from bytes at pending [] = flushed pending []
 tokens_from bytes at pending (white c ∷ ls) = tokens_from bytes (past_lexeme at (white c)) pending ls

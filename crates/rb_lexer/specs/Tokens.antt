@@ -1,5 +1,5 @@
--- The tokens of a source: its texts and punctuation in the syntax of ICU's genrb, each with its span and its line. That
--- pieces side by side are one text, and when a space goes between them, is this project's own rule.
+-- Defines the tokens of a source: its texts and punctuation in the syntax of ICU's genrb, each with its span and line.
+-- That adjacent pieces form one text, and when a space separates them, are rules of this project.
 use Rattle.std.specs.Prelude.{◌≡◌, ◌<◌, ◌≤◌, ℕ, suc, ◌+◌, ◌==◌, Bool, true, false, ◌&&◌, ◌||◌, if◌then◌else◌, List, []}
 use Rattle.std.specs.Prelude.{◌∷◌, ◌++◌, length, map, take, count_by}
 use Rattle.std.specs.Prelude.{encode_utf8_all, IsTrue}
@@ -11,11 +11,11 @@ use Rattle.rb_lexer.specs.declared.token.Mark.TheVariants.{Text, LeftBrace, Righ
 use Rattle.rb_lexer.specs.declared.token.Token.{Token}
 use Rattle.rb_lexer.specs.Limits.{source_limit}
 
--- how many bytes the characters take
+-- the number of bytes of the characters
 abbrev pub width : List ℕ → ℕ
 width cs = length (encode_utf8_all cs)
 
--- 1 and the line feeds before a byte
+-- the line of a byte: 1 and the line feeds before it
 abbrev pub line_of : List ℕ → ℕ → ℕ
 line_of bytes at = suc (count_by (λ b. b == 0x0A) (take at bytes))
 
@@ -41,7 +41,7 @@ pub data Piece : Type 0 where
 abbrev pub past_lexeme : ℕ → Lexeme → ℕ
 past_lexeme at l = at + width (lexeme_chars l [])
 
--- The pieces of lexemes that begin at a byte: white space and comments are dropped.
+-- The pieces of lexemes that begin at a byte; white space and comments are dropped.
 abbrev pub pieces_from : ℕ → List Lexeme → List Piece
 pieces_from at [] = []
 pieces_from at (white c ∷ ls) = pieces_from (past_lexeme at (white c)) ls
@@ -58,18 +58,18 @@ pieces_from at (unquoted ps ∷ ls) =
 
 -- ---- merging
 
--- a maximal run of text pieces, of which there is one at least, or a punctuation mark
+-- one or more consecutive text pieces, as many as there are, or a punctuation mark
 pub data Group : Type 0 where
   run : TextPiece → List TextPiece → Group
   alone : Mark → ℕ → ℕ → Group
 
--- with a text piece in front, which is of the first group's run, if the first group is one
+-- puts a text piece in front: it joins the first group, if that one consists of text pieces
 abbrev pub in_front : TextPiece → List Group → List Group
 in_front p [] = run p [] ∷ []
 in_front p (run q qs ∷ gs) = run p (q ∷ qs) ∷ gs
 in_front p (alone m first past ∷ gs) = run p [] ∷ alone m first past ∷ gs
 
--- The pieces split into maximal runs of text pieces, and punctuation.
+-- The pieces, split into groups of consecutive text pieces, and punctuation.
 abbrev pub groups : List Piece → List Group
 groups [] = []
 groups (text p ∷ ps) = in_front p (groups ps)
@@ -79,18 +79,17 @@ abbrev pub is_empty : List ℕ → Bool
 is_empty [] = true
 is_empty (u ∷ us) = false
 
--- Two quoted pieces are joined directly, and so is what follows nothing. Otherwise a space goes between.
+-- the separator of two pieces: none between two quoted ones or before the first, else a space
 abbrev pub separator : List ℕ → Bool → Bool → List ℕ
 separator units is_quoted next_is_quoted = if (is_empty units || (is_quoted && next_is_quoted)) then [] else 0x20 ∷ []
 
--- The units of a run: those of its first pieces, the last of them quoted or not, joined with each of its other pieces
--- in turn.
+-- The units of a group: those of its first pieces, the last of them quoted or not, joined with each further piece.
 abbrev pub joined_units : List ℕ → Bool → List TextPiece → List ℕ
 joined_units units is_quoted [] = units
 joined_units units is_quoted (p ∷ ps) = joined_units
     ((units ++ separator units is_quoted p.is_quoted) ++ p.units) p.is_quoted ps
 
--- the byte after the last piece of a run
+-- the byte after the last piece of a group
 abbrev pub past_last : ℕ → List TextPiece → ℕ
 past_last past [] = past
 past_last past (p ∷ ps) = past_last p.past ps
@@ -105,11 +104,11 @@ token bytes (run p ps) = record {
 }
 token bytes (alone m first past) = record { what = m; first = first; past = past; line = line_of bytes first }
 
--- The tokens of lexemes: one of each run of text pieces and one of each punctuation mark.
+-- The tokens of lexemes: one for each group of text pieces and one for each punctuation mark.
 abbrev pub tokens_of : List ℕ → List Lexeme → List Token
 tokens_of bytes ls = map (token bytes) (groups (pieces_from 0 ls))
 
--- The tokens of a source, which is UTF-8.
+-- The source is UTF-8 and has these tokens.
 pub record HasTokens (bytes : List ℕ) (ts : List Token) : Type 0 where
   pub lexemes : List Lexeme
   pub spelled : bytes ≡ encode_utf8_all (chars_of lexemes [])
@@ -121,7 +120,7 @@ pub record HasTokens (bytes : List ℕ) (ts : List Token) : Type 0 where
 abbrev pub LexesTo : List ℕ → List Token → Type 0
 LexesTo bytes ts = (length bytes ≤ source_limit) × HasTokens bytes ts
 
--- From `at` on, each token takes a byte at least and begins where the one before ends or after it; none goes past
+-- From `at` on, each token has at least one byte and begins where the previous one ends or later; none extends past
 -- `end`.
 abbrev pub AreInOrder : ℕ → List Token → ℕ → Type 0
 AreInOrder at [] end = at ≤ end

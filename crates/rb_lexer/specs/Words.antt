@@ -1,4 +1,4 @@
--- The word of each kind of error: the name of its variant.
+-- Defines the error codes of `SourceKind`: the names of its variants.
 use Rattle.std.specs.Prelude.{ℕ, List, codes}
 use Rattle.rb_lexer.specs.declared.fault.SourceKind.{SourceKind}
 use Rattle.rb_lexer.specs.declared.fault.SourceKind.TheVariants.{TooLong, NotUtf8, BadEscape, OpenQuote, OpenComment}

@@ -1,4 +1,3 @@
-//! Tokens as they come.
 ghost use Rattle.std.specs.Prelude.{◌≡◌, ◌++◌, ℕ, List, [], ◌&&◌, is_some, None, Some};
 ghost use Rattle.std.specs.Prelude.{false, ◌∷◌, drop, length, MatchOption, OnOk, IfOk, IfErr};
 ghost use Rattle.rb_lexer.specs.declared.fault.SourceKind.TheVariants.{Memory};
@@ -16,7 +15,8 @@ use rb_tree::UnitList;
 use std::alloc::Global;
 use std::collections::VecDeque;
 
-/// The tokens so far, and the pending text after them. It is open if an unquoted piece may go on.
+/// The tokens so far, and the pending text after them. `is_open` means that its last, unquoted
+/// piece may continue.
 #[derive(Drop)]
 pub struct Builder {
     pub tokens: VecDeque<Token>,
@@ -25,7 +25,6 @@ pub struct Builder {
 }
 
 impl Builder {
-    /// No tokens, and no text before them.
     pub fn new(alloc: Global) -> Builder
         ensures tokens { result.tokens.items ≡ [] }
         ensures pending { result.pending ≡ None }
@@ -38,7 +37,7 @@ impl Builder {
         }
     }
 
-    /// Adds the pending text as a token.
+    /// Turns the pending text into a token.
     #[inline(always)]
     pub fn flush(&mut self) -> Result<(), LexError>
         ensures memory { IfErr result (λ e. e.kind ≡ Memory) }
@@ -59,7 +58,6 @@ impl Builder {
         Ok(())
     }
 
-    /// Joins a piece to the pending text.
     fn join(&mut self, piece: PendingText) -> Result<(), LexError>
         ensures memory { IfErr result (λ e. e.kind ≡ Memory) }
         ensures joined { OnOk result ((self.new.tokens.items ≡ self.old.tokens.items)
@@ -75,14 +73,13 @@ impl Builder {
         Ok(())
     }
 
-    /// Whether an unquoted piece may go on.
-    fn goes_on(&self) -> bool
+    fn may_continue(&self) -> bool
         ensures { result ≡ (self.now.is_open && is_some self.now.pending) }
     {
         self.is_open && self.pending.is_some()
     }
 
-    /// Extends the pending text by units of its last piece.
+    /// Appends to the last piece of the pending text.
     fn extend(&mut self, units: &UnitList, past: usize) -> Result<(), LexError>
         ensures memory { IfErr result (λ e. e.kind ≡ Memory) }
         ensures longer { OnOk result ((self.new.tokens.items ≡ self.old.tokens.items) ×
@@ -97,7 +94,6 @@ impl Builder {
         Ok(())
     }
 
-    /// Adds a punctuation mark.
     #[inline(always)]
     pub fn add_mark(&mut self, what: Mark, at: Span) -> Result<(), LexError>
         ensures memory { IfErr result (λ e. e.kind ≡ Memory) }
@@ -115,7 +111,6 @@ impl Builder {
         Ok(())
     }
 
-    /// Adds an item with its units.
     pub fn add(&mut self, item: Scanned, units: UnitList, at: Span) -> Result<(), LexError>
         ensures memory { IfErr result (λ e. e.kind ≡ Memory) }
         ensures added { OnOk result (Adds self.old self.new item units at) }
@@ -135,7 +130,7 @@ impl Builder {
                 self.is_open = false;
             }
             Scanned::Run => {
-                if self.goes_on() {
+                if self.may_continue() {
                     self.extend(&units, at.past)?;
                     return Ok(());
                 }
@@ -152,7 +147,6 @@ impl Builder {
         Ok(())
     }
 
-    /// The first token.
     pub fn first(&self) -> Option<&Token>
         ensures { MatchOption result (self.now.tokens.items ≡ [])
             (λ t. self.now.tokens.items ≡ t.now ∷ drop 1 self.now.tokens.items) }
@@ -160,7 +154,6 @@ impl Builder {
         self.tokens.front()
     }
 
-    /// The token after it.
     pub fn second(&self) -> Option<&Token>
         ensures { MatchOption result (drop 1 self.now.tokens.items ≡ [])
             (λ t. drop 1 self.now.tokens.items ≡ t.now ∷ drop 1 (drop 1 self.now.tokens.items)) }
@@ -168,7 +161,6 @@ impl Builder {
         self.tokens.get(1)
     }
 
-    /// Takes the first token.
     pub fn pop(&mut self) -> Option<Token>
         ensures token { MatchOption result (self.old.tokens.items ≡ [])
             (λ t. self.old.tokens.items ≡ t ∷ self.new.tokens.items) }
@@ -179,7 +171,6 @@ impl Builder {
         self.tokens.pop_front()
     }
 
-    /// How many tokens there are.
     pub fn count(&self) -> usize
         ensures { result ≡ length self.now.tokens.items }
     {

@@ -1,4 +1,3 @@
-//! Escapes.
 ghost use Rattle.std.specs.Prelude.{◌≡◌, ◌≤◌, ◌<◌, ◌++◌, ◌^◌, ℕ, List, length, MatchOption, IfSome};
 ghost use Rattle.std.specs.Prelude.{OnOk};
 ghost use Rattle.std.specs.Str.{chars};
@@ -10,7 +9,7 @@ use crate::front::split_first;
 use crate::units::UnitSink;
 use std::alloc::AllocError;
 
-/// Adds the units of a code point. It is asked of each character of a piece.
+/// Adds the units of a code point. Inlined: it is called for each character of a piece.
 #[inline(always)]
 pub fn push_code<U: UnitSink>(units: &mut U, code: u32) -> Result<(), AllocError>
     requires { code ≤ 0x10FFFF }
@@ -27,7 +26,7 @@ pub fn push_code<U: UnitSink>(units: &mut U, code: u32) -> Result<(), AllocError
     Ok(())
 }
 
-/// The number that up to `most` digits write, how many there are, and what follows them.
+/// Reads up to `most` digits. Returns their value and number, and the remaining text.
 fn digits(text: &str, radix: u32, most: usize) -> (u32, usize, &str)
     requires least_radix { 2 ≤ radix }
     requires most_radix { radix ≤ 16 }
@@ -56,7 +55,6 @@ fn digits(text: &str, radix: u32, most: usize) -> (u32, usize, &str)
     (value, count, rest)
 }
 
-/// The value of the letter after a backslash.
 fn letter(c: char) -> u32
     ensures { result ≡ letter_value c }
 {
@@ -73,7 +71,8 @@ fn letter(c: char) -> u32
     }
 }
 
-/// The value of the escape after a backslash, and what follows it.
+/// Reads the escape after a backslash. Returns its value and the remaining text, or None if it is
+/// bad.
 pub fn escape(text: &str) -> Option<(u32, &str)>
     ensures taken { MatchOption result (escape_at (chars text.now) ≡ None)
         (λ x. (x.0 ≤ 0x10FFFF) × ((e : Escape)

@@ -1,10 +1,8 @@
-//! Why a text is refused.
-
 use std::alloc::{AllocError, AllocFailed};
 
-/// Why a text is refused, one type for the lexer and the parser above it. `lex` answers `TooLong`,
-/// `NotUtf8`, `BadEscape`, `OpenQuote`, `OpenComment` and `Memory`; the others are only the
-/// parser's.
+/// The reasons why a text is rejected, for the lexer and the parser. `lex` returns `TooLong`,
+/// `NotUtf8`, `BadEscape`, `OpenQuote`, `OpenComment` and `Memory`; only the parser returns the
+/// others.
 #[derive(Clone, Copy, Debug, PartialEq, Eq)]
 pub enum SourceKind {
     /// The source has more than 8,388,608 bytes.
@@ -17,15 +15,15 @@ pub enum SourceKind {
     OpenQuote,
     /// A block comment is never closed.
     OpenComment,
-    /// A token is where none may be, or the text ends too early.
+    /// A token is misplaced, or the text ends too early.
     Unexpected,
     /// The text after a colon is not a type.
     UnknownType,
-    /// A key is empty or has a unit outside a space to a tilde.
+    /// A key is empty or has a unit outside the range from space to tilde.
     BadKey,
-    /// A table has a key twice.
+    /// A table repeats a key.
     DuplicateKey,
-    /// A text is not a number, or the number is outside its limits.
+    /// A text is not a number, or the number is out of range.
     BadInt,
     /// A binary is not an even number of hexadecimal digits.
     BadHex,
@@ -35,11 +33,11 @@ pub enum SourceKind {
     TrailingText,
     /// The tree weighs too much.
     TooLarge,
-    /// An allocation was refused.
+    /// An allocation failed.
     Memory,
 }
 
-/// Why a text is refused, and in which line. Out of memory has line 0.
+/// The reason why a text is rejected, and its line. Out of memory has line 0.
 #[derive(Clone, Copy, Debug, PartialEq, Eq)]
 pub struct SourceFault {
     pub kind: SourceKind,
@@ -73,7 +71,7 @@ impl<T: Drop> From<AllocFailed<T>> for SourceFault {
     }
 }
 
-/// An error of the lexer, and how many bytes there are from it on.
+/// An error of the lexer, and the number of bytes from it to the end.
 #[derive(Clone, Copy, Debug)]
 pub struct LexError {
     pub kind: SourceKind,

@@ -1,9 +1,7 @@
-//! The first character of a text.
 ghost use Rattle.std.specs.Prelude.{◌≡◌, ◌<◌, ◌≤◌, ◌∷◌, [], ℕ, List, length, MatchOption, IfSome};
 ghost use Rattle.std.specs.Str.{chars};
 ghost use Rattle.rb_lexer.specs.Tokens.{width};
 
-/// The first character of a text, and what follows it.
 pub fn split_first(text: &str) -> Option<(char, &str)>
     ensures taken { MatchOption result (chars text.now ≡ [])
         (λ x. chars text.now ≡ x.0 ∷ chars x.1.now) }
@@ -15,7 +13,6 @@ pub fn split_first(text: &str) -> Option<(char, &str)>
     Some((first, chars.as_str()))
 }
 
-/// What follows this character, if a text begins with it.
 pub fn strip(text: &str, first: char) -> Option<&str>
     ensures taken { MatchOption result ((cs : List ℕ) → chars text.now ≡ first ∷ cs → ⊥)
         (λ rest. chars text.now ≡ first ∷ chars rest.now) }
@@ -25,7 +22,6 @@ pub fn strip(text: &str, first: char) -> Option<&str>
     if c == first { Some(rest) } else { None }
 }
 
-/// How many bytes a text takes.
 pub fn width(text: &str) -> usize
     ensures bytes { result ≡ length text.now }
     ensures characters { result ≡ width (chars text.now) }

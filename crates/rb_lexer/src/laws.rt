@@ -1,13 +1,13 @@
-//! What the definitions decide.
+//! Laws of the definitions, each the contract of an empty function.
 ghost use Rattle.std.specs.Prelude.{◌≡◌, ◌⊎◌, ℕ, List};
 ghost use Rattle.rb_lexer.specs.declared.token.Token.{Token};
 ghost use Rattle.rb_lexer.specs.declared.fault.SourceKind.{SourceKind};
 ghost use Rattle.rb_lexer.specs.Tokens.{HasTokens, LexesTo};
 ghost use Rattle.rb_lexer.specs.Faults.{HasFault, IsSourceFault};
 
-/// A source has at most one list of tokens, at most one error, never both, and always one of the
-/// two. A text over the limit, which `lex` reports as `TooLong`, has at most one list of tokens
-/// too, and none if it has a lexical error.
+/// Proves that a source has either one list of tokens or one error. A text over the limit, which
+/// `lex` reports as `TooLong`, has at most one list of tokens too, and none if it has a lexical
+/// error.
 pub fn decided()
     ensures answered { (bytes : List ℕ) → ((ts : List Token) × LexesTo bytes ts)
         ⊎ ((kind : SourceKind) × ((line : ℕ) × IsSourceFault bytes kind line)) }

@@ -1,7 +1,8 @@
-//! Tokens of a bundle text.
+//! Lexer of bundle texts.
 #![tactic(auto)]
 
 mod builder;
+mod check;
 mod comment;
 mod escape;
 mod fault;
@@ -9,7 +10,6 @@ mod front;
 pub mod laws;
 mod lexer;
 mod limits;
-mod pass;
 mod pending;
 mod quoted;
 mod reader;

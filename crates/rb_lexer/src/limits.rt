@@ -1,4 +1,2 @@
-//! The limit of a source.
-
-/// The greatest length of a source, in bytes.
+/// The maximum length of a source, in bytes.
 pub const SOURCE_LIMIT: usize = 8_388_608;

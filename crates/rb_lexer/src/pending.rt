@@ -1,12 +1,10 @@
-//! Pending text.
 ghost use Rattle.std.specs.Prelude.{◌≡◌, OnOk};
 ghost use Rattle.rb_lexer.specs.Merging.{joined};
 
 use rb_tree::UnitList;
 use std::alloc::AllocError;
 
-/// A text that the next piece may still join: its units, whether its last piece is quoted, its span
-/// and its line.
+/// A text that the next piece may still join.
 #[derive(Drop)]
 pub struct PendingText {
     pub units: UnitList,
@@ -17,7 +15,6 @@ pub struct PendingText {
 }
 
 impl PendingText {
-    /// Adds a piece with nothing but white space and comments before it.
     pub fn join(&mut self, next: &PendingText) -> Result<(), AllocError>
         ensures { OnOk result (self.new ≡ joined self.old next.now) }
     {

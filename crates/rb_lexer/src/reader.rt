@@ -1,4 +1,3 @@
-//! A source that is read item by item.
 ghost use Rattle.std.specs.Prelude.{◌≡◌, ◌<◌, ◌≤◌, ◌+◌, List, length, OnOk, IfOk, MatchResult};
 ghost use Rattle.std.specs.Prelude.{IsTrue, false};
 ghost use Rattle.std.specs.Str.{chars};
@@ -16,11 +15,11 @@ use crate::text::line_feeds;
 use rb_tree::UnitList;
 use std::alloc::Global;
 
-/// How many tokens wait after reading on, if so many are left.
+/// `fill_buffer` buffers this many tokens, so that most are taken without a call.
 const AHEAD: usize = 16;
 
-/// A source without lexical errors: what of it is not read, the byte and the line where that
-/// begins, and the tokens of what is.
+/// A source without lexical errors: its unread rest, the byte and the line where that begins, and
+/// the tokens before it.
 #[derive(Drop)]
 pub struct Reader<'a> {
     pub alloc: Global,
@@ -32,7 +31,6 @@ pub struct Reader<'a> {
 }
 
 impl<'a> Reader<'a> {
-    /// A source of which nothing is read.
     pub fn new(alloc: Global, text: &'a str) -> Reader<'a>
         ensures { IsAtStart result text.now }
     {
@@ -46,7 +44,7 @@ impl<'a> Reader<'a> {
         }
     }
 
-    /// Reads one item. The answer is whether there was one.
+    /// Reads one item. Returns false at the end.
     fn step(&mut self) -> Result<bool, LexError>
         requires { IsPlaced self.old }
         ensures placed { OnOk result (IsPlaced self.new) }
@@ -57,9 +55,9 @@ impl<'a> Reader<'a> {
         ensures done { IfOk result (λ more. more ≡ false → IsDone self.new) }
     {
         if let Some((mark, after)) = first_mark(self.rest) {
-            let at = self.up_to(after);
+            let at = self.span_to(after);
             self.builder.add_mark(mark, at)?;
-            self.go_on(at.past, after);
+            self.advance(at.past, after);
             return Ok(true);
         }
         let mut units = UnitList::new(self.alloc);
@@ -67,15 +65,15 @@ impl<'a> Reader<'a> {
             self.builder.flush()?;
             return Ok(false);
         };
-        let at = self.up_to(after);
+        let at = self.span_to(after);
         self.builder.add(item, units, at)?;
-        self.go_on(at.past, after);
+        self.advance(at.past, after);
         Ok(true)
     }
 
-    /// The span of the item that the rest begins with, given what follows it.
+    /// Returns the span of the next item, given the text after it.
     #[inline(always)]
-    fn up_to(&self, after: &str) -> Span
+    fn span_to(&self, after: &str) -> Span
         requires placed { IsPlaced self.now }
         requires within { width (chars after.now) ≤ width (chars self.now.rest.now) }
         ensures first { result.first ≡ self.now.first }
@@ -89,9 +87,8 @@ impl<'a> Reader<'a> {
         }
     }
 
-    /// Goes on to what follows an item, at the byte past it.
     #[inline(always)]
-    fn go_on(&mut self, past: usize, after: &'a str)
+    fn advance(&mut self, past: usize, after: &'a str)
         requires placed { IsPlaced self.old }
         requires order { self.old.first ≤ past }
         requires follows { past + width (chars after.now) ≡ length self.old.text.now }
@@ -106,7 +103,7 @@ impl<'a> Reader<'a> {
         self.rest = after;
     }
 
-    /// Sees to it that two tokens wait, or all that are left.
+    /// Buffers two tokens, or all remaining ones.
     #[inline(always)]
     pub fn fill(&mut self) -> Result<(), LexError>
         requires { IsPlaced self.old }
@@ -116,12 +113,12 @@ impl<'a> Reader<'a> {
         if self.builder.count() >= 2 {
             return Ok(());
         }
-        self.read_on()
+        self.fill_buffer()
     }
 
-    /// Reads on until some tokens wait, or all that are left, so that most are taken without a call.
+    /// Buffers `AHEAD` tokens, or all remaining ones.
     #[inline(never)]
-    fn read_on(&mut self) -> Result<(), LexError>
+    fn fill_buffer(&mut self) -> Result<(), LexError>
         requires { IsPlaced self.old }
         ensures same { (ts : List Token) → Gives self.old ts
             → MatchResult result (λ _. Left self.new ts) (λ e. e.kind ≡ Memory) }

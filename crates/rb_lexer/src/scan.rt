@@ -1,4 +1,3 @@
-//! The front of a text.
 ghost use Rattle.rb_lexer.specs.declared.scan.Scanned.TheVariants.{Punctuation, Run};
 ghost use Rattle.std.specs.Prelude.{◌≡◌, ◌<◌, ◌≤◌, ◌∷◌, [], ℕ, List, true, false, MatchOption};
 ghost use Rattle.std.specs.Prelude.{MatchResult, IfOk, IfSome, OnSome, length};
@@ -7,16 +6,16 @@ ghost use Rattle.rb_lexer.specs.Lexeme.{is_punctuation, slash, backslash};
 ghost use Rattle.rb_lexer.specs.Tokens.{punctuation_mark};
 ghost use Rattle.rb_lexer.specs.Atom.{Begins, Stops};
 
-use crate::comment::{past_block, past_line};
+use crate::comment::{skip_block_comment, skip_line_comment};
 use crate::escape::escape;
 use crate::fault::{LexError, SourceKind};
 use crate::front::{split_first, strip, width};
 use crate::quoted::quoted;
 use crate::token::Mark;
 use crate::units::UnitSink;
-use crate::unquoted::{is_white, past_white, run};
+use crate::unquoted::{is_white, run, skip_white};
 
-/// What a text begins with. An unquoted piece is one run or several, with comments between them.
+/// The kind of an item. An unquoted piece has one or more runs, with comments between them.
 #[derive(Drop)]
 pub enum Scanned {
     White,
@@ -26,7 +25,6 @@ pub enum Scanned {
     Run,
 }
 
-/// The mark of a punctuation character.
 fn punctuation(c: char) -> Option<Mark>
     ensures { MatchOption result (is_punctuation c ≡ false)
         (λ mark. (is_punctuation c ≡ true) × (mark ≡ punctuation_mark c)) }
@@ -40,7 +38,7 @@ fn punctuation(c: char) -> Option<Mark>
     }
 }
 
-/// The mark that a text begins with, and what follows it, if that is so.
+/// Returns the punctuation mark that a text begins with, and the remaining text.
 #[inline(always)]
 pub fn first_mark(text: &str) -> Option<(Mark, &str)>
     ensures taken { IfSome result
@@ -52,7 +50,7 @@ pub fn first_mark(text: &str) -> Option<(Mark, &str)>
     Some((mark, after))
 }
 
-/// What follows the run that a backslash begins, given what is after it.
+/// Reads the run that a backslash begins into an empty sink. Returns the remaining text.
 fn escaped<'a, U: UnitSink>(units: &mut U, after: &'a str) -> Result<&'a str, LexError>
     requires { U.has units.old [] }
     ensures taken { MatchResult result
@@ -71,7 +69,7 @@ fn escaped<'a, U: UnitSink>(units: &mut U, after: &'a str) -> Result<&'a str, Le
     Ok(rest)
 }
 
-/// What a slash begins, given what follows it.
+/// Reads what a slash begins: a comment, or a run.
 fn slashed<'a, U: UnitSink>(units: &mut U, after: &'a str) -> Result<(Scanned, &'a str), LexError>
     requires { U.has units.old [] }
     ensures taken { MatchResult result
@@ -81,10 +79,10 @@ fn slashed<'a, U: UnitSink>(units: &mut U, after: &'a str) -> Result<(Scanned, &
     ensures no_longer { IfOk result (λ x. length x.1.now ≤ length after.now) }
 {
     if let Some(inside) = strip(after, '/') {
-        return Ok((Scanned::Comment, past_line(inside)));
+        return Ok((Scanned::Comment, skip_line_comment(inside)));
     }
     if let Some(inside) = strip(after, '*') {
-        let Some(rest) = past_block(inside) else {
+        let Some(rest) = skip_block_comment(inside) else {
             return Err(LexError {
                 kind: SourceKind::OpenComment,
                 left: 0,
@@ -96,8 +94,8 @@ fn slashed<'a, U: UnitSink>(units: &mut U, after: &'a str) -> Result<(Scanned, &
     Ok((Scanned::Run, rest))
 }
 
-/// What a text begins with, and what follows it. The sink, in which nothing is, takes the units of
-/// a piece.
+/// Reads the first item of a text; the units of a piece go into an empty sink. Returns the item and
+/// the remaining text, or None at the end.
 pub fn scan_first<'a, U: UnitSink>(
     units: &mut U,
     text: &'a str,
@@ -113,7 +111,7 @@ pub fn scan_first<'a, U: UnitSink>(
         return Ok(None);
     };
     if is_white(c) {
-        return Ok(Some((Scanned::White, past_white(after))));
+        return Ok(Some((Scanned::White, skip_white(after))));
     }
     if let Some(mark) = punctuation(c) {
         return Ok(Some((Scanned::Punctuation(mark), after)));

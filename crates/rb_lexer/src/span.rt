@@ -1,7 +1,4 @@
-//! Where an item stands.
-
-/// From the first byte of an item in the source to the byte past its last, and the line in which
-/// it begins.
+/// The byte range of an item, and the line in which it begins.
 #[derive(Clone, Copy)]
 pub struct Span {
     pub first: usize,

@@ -1,4 +1,3 @@
-//! Tokens as they are taken.
 ghost use Rattle.std.specs.Prelude.{◌≡◌, ◌∷◌, [], List, IfOk, IfErr, MatchOption, MatchResult};
 ghost use Rattle.std.specs.Prelude.{drop};
 ghost use Rattle.rb_lexer.specs.declared.fault.SourceKind.TheVariants.{Memory};
@@ -6,17 +5,15 @@ ghost use Rattle.rb_lexer.specs.declared.token.Token.{Token};
 ghost use Rattle.rb_lexer.specs.Tokens.{LexesTo};
 ghost use Rattle.rb_lexer.specs.Faults.{IsRefusal};
 
+use crate::check::{good_text, located};
 use crate::fault::{LexError, SourceFault};
-use crate::pass::{good_text, located};
 use crate::reader::Reader;
 use crate::token::Token;
 use std::alloc::{AllocError, Global};
 use std::marker::Model;
 
-/// The tokens of a source that are still to come, seen by contracts as a list. They are read as
-/// they are taken; no more than the next few wait.
-///
-/// The source has no lexical error: it was read for them before the first token.
+/// The remaining tokens of a source without lexical errors; contracts see them as a list. They are
+/// read as they are taken, with a small buffer.
 #[derive(Drop)]
 pub struct Tokens<'a> {
     reader: Reader<'a>,
@@ -36,7 +33,7 @@ impl<'a> Model for Tokens<'a> {
     ghost invariant = { λ a. Left a.reader (left a.reader) };
 }
 
-/// Out of memory, if this is why reading stopped.
+/// Converts an error that can only be out of memory.
 fn memory_error(_error: LexError) -> AllocError
     requires { _error.kind ≡ Memory }
 {
@@ -44,17 +41,11 @@ fn memory_error(_error: LexError) -> AllocError
 }
 
 impl<'a> Tokens<'a> {
-    /// The tokens of a source, none of them taken. The source is read to its end for its errors.
-    ///
-    /// # Errors
-    ///
-    /// Those of `lex`.
+    /// Checks the whole source for errors and returns its tokens. Fails as `lex` does.
     pub fn of(alloc: Global, bytes: &'a [u8]) -> Result<Tokens<'a>, SourceFault>
-        // These are the source's tokens.
         ensures found { IfOk result (λ tokens. LexesTo bytes.now tokens) }
-        // What is reported is an error of the source, with its line, unless memory ran out.
         ensures fault { IfErr result (λ e. IsRefusal bytes.now e) }
-        // A source that has tokens is read, unless memory runs out.
+        // A source that has tokens is accepted, unless memory runs out.
         ensures only { (ts : List Token) → LexesTo bytes.now ts
             → MatchResult result (λ tokens. tokens ≡ ts) (λ e. e.kind ≡ Memory) }
     {
@@ -66,7 +57,6 @@ impl<'a> Tokens<'a> {
         }
     }
 
-    /// No tokens.
     fn none(alloc: Global) -> Tokens<'a>
         ensures { result ≡ [] }
     {
@@ -75,14 +65,12 @@ impl<'a> Tokens<'a> {
         }
     }
 
-    /// The next token, or `None` if all are taken.
     pub fn first(&self) -> Option<&Token>
         ensures { MatchOption result (self.now ≡ []) (λ t. self.now ≡ t.now ∷ drop 1 self.now) }
     {
         self.reader.builder.first()
     }
 
-    /// The token after the next, or `None` if there is none.
     pub fn second(&self) -> Option<&Token>
         ensures { MatchOption result (drop 1 self.now ≡ [])
             (λ t. drop 1 self.now ≡ t.now ∷ drop 1 (drop 1 self.now)) }
@@ -90,12 +78,8 @@ impl<'a> Tokens<'a> {
         self.reader.builder.second()
     }
 
-    /// Takes the next token; `None` if all are taken.
-    ///
-    /// # Errors
-    ///
-    /// `AllocError` if an allocation was refused, as what comes after was read. None are left
-    /// then, and the token is lost.
+    /// Takes the next token, or returns `None` at the end. If the allocation for a later token
+    /// fails, returns `AllocError`; the token is lost then, and no tokens remain.
     pub fn pop(&mut self) -> Result<Option<Token>, AllocError>
         ensures token { IfOk result
             (λ found. MatchOption found (self.old ≡ []) (λ t. self.old ≡ t ∷ self.new)) }
@@ -111,11 +95,7 @@ impl<'a> Tokens<'a> {
         }
     }
 
-    /// Takes the next token, if there is one, and drops it.
-    ///
-    /// # Errors
-    ///
-    /// As of `pop`.
+    /// Takes and drops the next token, if there is one. Fails as `pop` does.
     pub fn skip(&mut self) -> Result<(), AllocError>
         ensures { MatchResult result (λ _. self.new ≡ drop 1 self.old) (λ _. self.new ≡ []) }
     {

@@ -1,4 +1,3 @@
-//! A source as text.
 ghost use Rattle.std.specs.Prelude.{◌≡◌, ◌<◌, ◌≤◌, ◌+◌, ◌==◌, ◌^◌, length, take, count_by, IsUtf8};
 ghost use Rattle.std.specs.Prelude.{MatchResult};
 ghost use Rattle.std.specs.Str.{IsValidUpTo};
@@ -11,7 +10,6 @@ use crate::fault::{SourceFault, SourceKind};
 use crate::limits::SOURCE_LIMIT;
 use bstr::ByteSlice;
 
-/// How many line feeds there are.
 #[tactic(auto, using(std::proofs::lemmas::List::Sums::count_by_more_yes, std::proofs::lemmas::List::Sums::count_by_more_no))]
 fn count_line_feeds(bytes: &[u8]) -> u64
     ensures { result ≡ count_by (λ b. b == 0x0A) bytes.now }
@@ -25,7 +23,7 @@ fn count_line_feeds(bytes: &[u8]) -> u64
     feeds
 }
 
-/// How many line feeds there are from one byte to another.
+/// Counts the line feeds in a byte range.
 pub fn line_feeds(bytes: &[u8], first: usize, past: usize) -> u64
     requires order { first ≤ past }
     requires within { past ≤ length bytes.now }
@@ -34,7 +32,7 @@ pub fn line_feeds(bytes: &[u8], first: usize, past: usize) -> u64
     count_line_feeds(&bytes[first..past])
 }
 
-/// The line of the byte at `at`: 1 and the line feeds before it.
+/// Returns the line of a byte: 1 and the line feeds before it.
 pub fn line_at(bytes: &[u8], at: usize) -> u64
     requires { at ≤ length bytes.now }
     ensures { result ≡ line_of bytes.now at }
@@ -42,7 +40,7 @@ pub fn line_at(bytes: &[u8], at: usize) -> u64
     line_feeds(bytes, 0, at) + 1
 }
 
-/// The source as text. If it is none, the error is at the first byte from which no character reads.
+/// Decodes a source, or returns `NotUtf8` at the first byte at which no character begins.
 pub fn text_of(bytes: &[u8]) -> Result<&str, SourceFault>
     ensures { MatchResult result
         (λ text. (length bytes.now ≤ source_limit) × (text.now ≡ bytes.now) × IsUtf8 bytes.now)

@@ -1,7 +1,5 @@
-//! Tokens.
 use rb_tree::UnitList;
 
-/// A text or a punctuation mark.
 #[derive(Debug, Drop)]
 pub enum Mark {
     Text(UnitList),
@@ -11,8 +9,7 @@ pub enum Mark {
     Comma,
 }
 
-/// A mark, from its first byte in the source to the byte past its last, and the line in which it
-/// begins.
+/// A text or a punctuation mark, its byte range, and the line in which it begins.
 #[derive(Debug, Drop)]
 pub struct Token {
     pub what: Mark,

@@ -1,22 +1,20 @@
-//! Units as they are read.
 ghost use Rattle.std.specs.Prelude.{◌≡◌};
 
 use rb_tree::UnitList;
 use std::alloc::AllocError;
 
-/// Where the units of a piece go as it is read.
+/// A sink for the units of a piece, so that one reader both checks a text and builds it.
 pub trait UnitSink {
     ghost use Rattle.std.specs.Prelude.{◌++◌, ◌∷◌, [], ℕ, List, OnOk};
 
-    /// What went there are these units.
+    /// The units that were pushed.
     ghost has: { Self → List ℕ → Type 0 };
 
-    /// Adds a unit at the end.
     fn push(&mut self, unit: u16) -> Result<(), AllocError>
         ensures { (us : List ℕ) → has self.old us → OnOk result (has self.new (us ++ unit ∷ [])) };
 }
 
-/// A sink that keeps no units and takes no memory: what is read is only gone over.
+/// A sink that drops all units, for checking.
 #[derive(Clone, Copy)]
 pub struct NoUnits;
 

@@ -1,4 +1,3 @@
-//! Unquoted pieces.
 ghost use Rattle.std.specs.Prelude.{◌≡◌, ◌≤◌, ◌∷◌, [], ◌||◌, ◌==◌, ℕ, List, length, IfOk};
 ghost use Rattle.std.specs.Str.{chars};
 ghost use Rattle.rb_lexer.specs.Lexeme.{quote, is_white, is_punctuation, begins_comment, units_of};
@@ -15,8 +14,7 @@ pub fn is_white(c: char) -> bool
     c == '\t' || c == '\n' || c == '\r' || c == ' ' || c == '\u{2029}' || c == '\u{FEFF}'
 }
 
-/// What follows the white space that a text begins with.
-pub fn past_white(text: &str) -> &str
+pub fn skip_white(text: &str) -> &str
     ensures taken { (cs : List ℕ) × (chars text.now ≡ atoms_chars (blanks cs) (chars result.now))
         × AreAtoms (blanks cs) (chars result.now) }
     ensures no_longer { length result.now ≤ length text.now }
@@ -37,15 +35,13 @@ fn is_punctuation(c: char) -> bool
     c == '{' || c == '}' || c == ',' || c == ':'
 }
 
-/// Whether a comment begins with a character, given what follows it.
 fn begins_comment(c: char, after: &str) -> bool
     ensures { result ≡ begins_comment (c ∷ chars after.now) }
 {
     c == '/' && (strip(after, '/').is_some() || strip(after, '*').is_some())
 }
 
-/// Whether a character ends a run of an unquoted piece, given what follows it. It is asked of each
-/// character of such a piece.
+/// Checks whether a character ends a run. Inlined: it is called for each character of a piece.
 #[inline(always)]
 fn ends_run(c: char, after: &str) -> bool
     ensures { result
@@ -57,9 +53,8 @@ fn ends_run(c: char, after: &str) -> bool
     }
 }
 
-/// What follows a run of an unquoted piece, given its first code point and what is after that. The
-/// sink, in which nothing is, takes its units. A run ends if the piece does, before a comment, and
-/// before a backslash that begins no escape.
+/// Reads a run of an unquoted piece into an empty sink, from after its first code point. Returns
+/// the remaining text. A run ends with the piece, before a comment, and before a bad escape.
 pub fn run<'a, U: UnitSink>(units: &mut U, first: u32, text: &'a str) -> Result<&'a str, AllocError>
     requires first { first ≤ 0x10FFFF }
     requires empty { U.has units.old [] }

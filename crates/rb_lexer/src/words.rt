@@ -1,4 +1,3 @@
-//! The words of the kinds of errors in a text.
 ghost use Rattle.std.specs.Prelude.{◌≡◌};
 ghost use Rattle.rb_lexer.specs.Words.{kind_word};
 
@@ -6,7 +5,7 @@ use crate::fault::SourceKind;
 use rb_tree::variant_name;
 
 impl SourceKind {
-    /// The variant's name.
+    /// Returns the variant's name.
     pub fn word(self) -> &'static str
         ensures { result.now ≡ kind_word self }
     {

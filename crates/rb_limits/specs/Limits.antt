@@ -1,4 +1,4 @@
--- When limits of its own refuse what an application calls: this project's own rule.
+-- Defines when a limit rejects a call of an application, a rule of this project.
 use Rattle.std.specs.Prelude.{ℕ, ◌+◌, ◌-◌, ◌^◌, ◌==◌, ◌&&◌, min, length, Bool, false, not, nat_lt, is_some, is_none}
 use Rattle.std.specs.Prelude.{List, Option, Some, None}
 use Rattle.std.specs.Prelude.{if◌then◌else◌, option_map, unwrap_or, Result, Ok, Err}
@@ -28,32 +28,32 @@ abbrev pub is_over : Option ℕ → ℕ → Bool
 is_over None n = false
 is_over (Some most) n = nat_lt most n
 
--- the bytes of a text or a file before it is read
+-- the length of a text or a file before it is read
 abbrev pub payload_len : Payload → ℕ
 payload_len (Text bytes) = length bytes
 payload_len (File bytes) = length bytes
 
--- the bytes of an application's files together, as far as a number of 64 bits can tell
+-- the total length of an application's files, saturating at 64 bits
 abbrev pub used : Files → ℕ
 used files = min (bytes_of files) (2 ^ 64 - 1)
 
--- the length of the file of the bundle at a name, if there is one
+-- the length of the file of the bundle with a name, if there is one
 abbrev pub len_at : List ℕ → Files → Option ℕ
 len_at name files = option_map length (lookup (bytes_eq name) files)
 
--- whether the engine makes a change: an install if there is no bundle and fewer than 4,096 are, a replacement if
--- there is one
+-- the engine makes a change: an install if there is no bundle with the name and fewer than 4,096 bundles, a replacement
+-- if there is one
 abbrev pub takes_place : Change → Option ℕ → ℕ → Bool
 takes_place change.Install held bundles = is_none held && nat_lt bundles bundle_limit
 takes_place change.Replace held bundles = is_some held
 
--- the bytes of an application's files with a file of this length in the place of the one at a name
+-- the total length of an application's files with a file of this length under a name
 abbrev pub used_with : List ℕ → Files → ℕ → ℕ
 used_with name files len = (used files - unwrap_or (len_at name files) 0) + len
 
--- Why limits refuse to put a file at a name, if the application has these files and this many applications have
--- bundles: the file is too long, or the application's files would be, or it would be one application more than there
--- may be. What the engine refuses by itself is left to it.
+-- Why limits reject a file under a name, for an application with these files, while this many applications have
+-- bundles: the file is too long, the application's files would be, or there would be too many applications. Errors of
+-- the engine aren't limits.
 abbrev pub file_refusal : Limits → Change → List ℕ → Files → ℕ → List ℕ → Option Refusal
 file_refusal limits change name files apps file =
     if not (takes_place change (len_at name files) (length files)) then None
@@ -67,8 +67,8 @@ brought_refusal limits kept change p None = None
 brought_refusal limits kept change p (Some file) =
     file_refusal limits change p.name (files_of p.app kept.packages) (apps_of kept.packages) file
 
--- a payload that is too long is refused before it is read; if it has a bundle's file, that is judged. A bad place is
--- left to the engine
+-- a payload that is too long is rejected before it is read, else its bundle's file is checked; invalid names are left
+-- to the engine
 abbrev pub change_refusal : {E : Type 0} → Limits → Kept → Change → Result Place E → Payload → Option (List ℕ)
     → Option Refusal
 change_refusal limits kept change (Err e) payload brought = None
@@ -76,13 +76,14 @@ change_refusal limits kept change (Ok p) payload brought =
     if is_over limits.bundle_bytes (payload_len payload) then Some BundleTooLong
     else brought_refusal limits kept change p brought
 
--- a lookup of more steps than it may take is refused, whatever it would find; a bad place or path is left to the engine
+-- a lookup that takes too many steps is rejected, whatever it would find; invalid names and paths are left to the
+-- engine
 abbrev pub steps_refusal : Option ℕ → Start → Shelf → (app locale path : List ℕ) → Option Refusal
 steps_refusal None start shelf app locale path = None
 steps_refusal (Some steps) start shelf app locale path =
     if takes_more steps start shelf (place_of app locale) path then Some TooManySteps else None
 
--- why limits refuse a call that brings this file of a bundle, if it brings one
+-- the limit that rejects a call with this file, if any
 abbrev pub call_refusal : Limits → Kept → Call → Option (List ℕ) → Option Refusal
 call_refusal limits kept (Requests (request.Install app locale payload)) brought =
     change_refusal limits kept change.Install (place_of app locale) payload brought

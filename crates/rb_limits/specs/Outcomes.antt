@@ -1,4 +1,4 @@
--- What the program answers under limits, as an outcome.
+-- Defines the outcome of a call from the program's answer under limits.
 use Rattle.std.specs.Prelude.{Result}
 use Rattle.rb_tree.specs.Resource.{Resource}
 use Rattle.rb_fallback.specs.declared.found.Found.{Found}

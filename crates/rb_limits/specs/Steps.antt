@@ -1,4 +1,4 @@
--- What a call comes to under limits: this project's own rule.
+-- Defines the outcome of a call under limits, a rule of this project.
 use Rattle.std.specs.Prelude.{◌≡◌, ◌≢◌, ◌⊎◌, ℕ, Bool, true, false, List, Option, Some, None, Result, Ok, Err, MatchBool}
 use Rattle.std.specs.Map.{remove_entry}
 use Rattle.std.specs.Str.{bytes_eq}
@@ -22,7 +22,7 @@ use Rattle.rb_limits.specs.Limits.{is_over, payload_len, call_refusal}
 use Rattle.rb_limits.specs.declared.limits.Limits.{Limits}
 use Rattle.rb_limits.specs.declared.limits.Refusal.{Refusal}
 
--- the engine's answer, or the refusal of a limit
+-- the engine's answer, or a limit's rejection
 pub data Outcome : Type 0 where
   Answers : Response → Outcome
   Refuses : Refusal → Outcome
@@ -32,13 +32,13 @@ abbrev pub Brings : Payload → Option (List ℕ) → Type 0
 Brings payload None = (source : SourceTree) → HasBundle payload source → ⊥
 Brings payload (Some file) = HasBundle payload (source_tree_of file) × IsFileOf payload file
 
--- a payload is read only if its request names a place, and if it is not too long
+-- a payload is read only if the request's names are valid and it isn't too long
 abbrev pub BringsAt : {E : Type 0} → Limits → Result Place E → Payload → Option (List ℕ) → Type 0
 BringsAt limits (Err e) payload brought = brought ≡ None
 BringsAt limits (Ok p) payload brought =
     MatchBool (is_over limits.bundle_bytes (payload_len payload)) (brought ≡ None) (Brings payload brought)
 
--- the file of the bundle that a call brings, if it brings one
+-- the file of the bundle in a call's payload, if any
 abbrev pub CallBrings : Limits → Call → Option (List ℕ) → Type 0
 CallBrings limits (Requests (request.Install app locale payload)) brought =
     BringsAt limits (place_of app locale) payload brought
@@ -74,13 +74,13 @@ files_then call brought response files = files
 
 -- ---- a step
 
--- memory ran out, and nothing changes
+-- out of memory: nothing changes
 pub record Starves (old : Kept) (call : Call) (outcome : Outcome) (new : Kept) : Type 0 where
   pub memory : outcome ≡ Answers (Replies Memory)
   pub may : may_run_out_of_memory call ≡ true
   pub same : new ≡ old
 
--- a limit refuses the call, and nothing changes
+-- a limit rejects the call, and nothing changes
 pub record IsRefused (limits : Limits) (old : Kept) (call : Call) (brought : Option (List ℕ)) (outcome : Outcome)
     (new : Kept) : Type 0 where
   pub refusal : Refusal
@@ -88,7 +88,7 @@ pub record IsRefused (limits : Limits) (old : Kept) (call : Call) (brought : Opt
   pub word : outcome ≡ Refuses refusal
   pub same : new ≡ old
 
--- no limit refuses the call, and the engine answers it; of what is kept only the caller's files change
+-- no limit rejects the call, and the engine answers it; only the caller's files change
 pub record IsAnswered (limits : Limits) (old : Kept) (call : Call) (brought : Option (List ℕ)) (outcome : Outcome)
     (new : Kept) : Type 0 where
   pub free : call_refusal limits old call brought ≡ None
@@ -102,18 +102,18 @@ pub record IsAnswered (limits : Limits) (old : Kept) (call : Call) (brought : Op
   pub parents : new.parents ≡ old.parents
   pub kept : (response ≡ Replies Done → ⊥) → new ≡ old
 
--- a call that brings this file, if it brings one, is refused by a limit or answered by the engine
+-- a limit rejects a call with this file, or the engine answers it
 abbrev pub IsJudged : Limits → Kept → Call → Option (List ℕ) → Outcome → Kept → Type 0
 IsJudged limits old call brought outcome new =
     IsRefused limits old call brought outcome new ⊎ IsAnswered limits old call brought outcome new
 
--- or memory runs out for it, and then it brings nothing
+-- or memory runs out for it, and then it has no file
 abbrev pub LimitedStep : Limits → Kept → Call → Option (List ℕ) → Outcome → Kept → Type 0
 LimitedStep limits old call brought outcome new =
     (Starves old call outcome new × (brought ≡ None))
     ⊎ (CallBrings limits call brought × IsJudged limits old call brought outcome new)
 
--- the same of a call, whatever it brings
+-- a limit rejects a call, or the engine answers it, whatever its file is
 abbrev pub CallIsJudged : Limits → Kept → Call → Outcome → Kept → Type 0
 CallIsJudged limits old call outcome new =
     (brought : Option (List ℕ)) × CallBrings limits call brought × IsJudged limits old call brought outcome new

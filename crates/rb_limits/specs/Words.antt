@@ -1,4 +1,4 @@
--- The words of the refusals of limits: each is its variant's name.
+-- Defines the codes of the limits' rejections: the variant's name.
 use Rattle.std.specs.Prelude.{ℕ, List, codes}
 use Rattle.rb_limits.specs.declared.limits.Refusal.{Refusal}
 use Rattle.rb_limits.specs.declared.limits.Refusal.TheVariants.{BundleTooLong, OverQuota, TooManyApps, TooManySteps}

@@ -1,4 +1,3 @@
-//! Requests under limits.
 ghost use Rattle.std.specs.Prelude.{◌≡◌, ◌≤◌, ◌+◌, ◌-◌, ◌^◌, ℕ, List, Option, Some, None};
 ghost use Rattle.std.specs.Prelude.{length, IsTrue, if◌then◌else◌, unwrap_or};
 ghost use Rattle.rb_packages.specs.Packages.{files_of};
@@ -19,7 +18,6 @@ use rb_packages::BUNDLE_LIMIT;
 use rb_tree::ByteList;
 use std::alloc::Global;
 
-/// Whether a number is above a limit.
 pub(crate) fn is_over(limit: Option<u64>, number: u64) -> bool
     ensures { result ≡ over limit number }
 {
@@ -29,7 +27,6 @@ pub(crate) fn is_over(limit: Option<u64>, number: u64) -> bool
     }
 }
 
-/// Whether the sum of two numbers is above a limit.
 fn is_sum_over(limit: Option<u64>, a: u64, b: u64) -> bool
     ensures { result ≡ over limit (a + b) }
 {
@@ -47,7 +44,7 @@ fn payload_len(payload: &Payload) -> u64
     }
 }
 
-/// Whether a request names a place, and its payload is too long to be read.
+/// Checks for valid names with a payload that is too long to be read.
 fn is_too_long(limits: &Limits, app: &ByteList, locale: &ByteList, payload: &Payload) -> bool
     ensures { result ≡ long_payload limits.now (place_of app.now locale.now) payload.now }
 {
@@ -56,8 +53,8 @@ fn is_too_long(limits: &Limits, app: &ByteList, locale: &ByteList, payload: &Pay
         && Name::read(locale.as_slice()).is_ok()
 }
 
-/// Whether the engine makes a change: where so long a file is at its place, if one is, and there
-/// are this many bundles.
+/// Checks whether the engine would make this change, given the length of the stored file and the
+/// number of bundles.
 fn takes_place(change: Change, held: Option<u64>, bundles: u64) -> bool
     ensures { result ≡ is_made change held bundles }
 {
@@ -67,7 +64,6 @@ fn takes_place(change: Change, held: Option<u64>, bundles: u64) -> bool
     }
 }
 
-/// Whether nothing limits what is kept.
 fn keeps_all(limits: &Limits) -> bool
     ensures { IsTrue result
         → (limits.now.bundle_bytes ≡ None) × (limits.now.app_bytes ≡ None)
@@ -76,7 +72,7 @@ fn keeps_all(limits: &Limits) -> bool
     limits.bundle_bytes.is_none() && limits.app_bytes.is_none() && limits.apps.is_none()
 }
 
-/// Why limits refuse to put a bundle that was brought.
+/// Returns the limit that rejects an incoming bundle, if any.
 fn refused(engine: &Engine, limits: &Limits, change: Change, brought: &Brought) -> Option<Refusal>
     ensures { result ≡ file_refusal limits.now change brought.now.0.name
         (files_of brought.now.0.app engine.now.packages)
@@ -103,7 +99,6 @@ fn refused(engine: &Engine, limits: &Limits, change: Change, brought: &Brought) 
     None
 }
 
-/// A request that brings a bundle.
 fn change(
     engine: &mut Engine,
     alloc: Global,
@@ -130,18 +125,11 @@ fn change(
     }
 }
 
-/// Answers one request under limits.
+/// Handles one request under limits. A rejected request changes nothing.
 ///
-/// A text or a file that is longer than a bundle may be is refused before it is read, unless its
-/// application's name or its locale is invalid. What the engine refuses by itself is its own
-/// refusal. A change that it would make is refused by the first of these: `BundleTooLong`, if the
-/// bundle's file is too long, `OverQuota`, if the application's files would have too many bytes
-/// together, and `TooManyApps`, if it has no bundles yet and there are as many applications with
-/// bundles as there may be. A refused request changes nothing. `Memory` comes as from the engine.
-///
-/// ```rust
-/// handle(&mut engine, alloc, &limits, Request::Install { app, locale, payload }) // Limited::Refused(Refusal::OverQuota)
-/// ```
+/// With valid names, a payload over `bundle_bytes` is rejected before it is read. Errors of the
+/// engine come next. A change that the engine would make is rejected with the first of
+/// `BundleTooLong`, `OverQuota` and `TooManyApps`.
 pub fn handle(
     engine: &mut Engine,
     alloc: Global,

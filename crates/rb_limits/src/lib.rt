@@ -1,5 +1,4 @@
-//! Limits that belong to each application, above the engine: what it may keep, and what one lookup
-//! may take. Without limits each call is the engine's own.
+//! Limits on what each application may store and on each lookup's steps, above the engine.
 #![tactic(auto)]
 
 mod changes;

@@ -1,25 +1,21 @@
-//! Limits, and the refusals of them.
 ghost use Rattle.std.specs.Prelude.{◌≡◌};
 ghost use Rattle.rb_limits.specs.Words.{refusal_word};
 
 use rb_tree::variant_name;
 
-/// What each application may keep, and what one lookup may take. There is no limit if there is
-/// `None`.
+/// The limits; `None` means no limit.
 #[derive(Clone, Copy, Debug, PartialEq, Eq)]
 pub struct Limits {
-    /// The bytes of one bundle's file, and of a text or a file before it is read.
+    /// Of one bundle's file, and of a payload before it is read.
     pub bundle_bytes: Option<u64>,
-    /// The bytes of an application's files together.
+    /// Of all files of an application.
     pub app_bytes: Option<u64>,
-    /// How many applications have bundles at one time. All applications share it.
+    /// Of applications with bundles; all applications share this limit.
     pub apps: Option<u64>,
-    /// The steps of a lookup.
     pub steps: Option<u64>,
 }
 
 impl Limits {
-    /// No limits.
     pub const NONE: Limits = Limits {
         bundle_bytes: None,
         app_bytes: None,
@@ -28,21 +24,15 @@ impl Limits {
     };
 }
 
-/// Why a limit refuses a call.
 #[derive(Clone, Copy, Debug, PartialEq, Eq)]
 pub enum Refusal {
-    /// The text, the file, or the file that the text is compiled to has too many bytes.
     BundleTooLong,
-    /// The application's files would have too many bytes together.
     OverQuota,
-    /// There would be too many applications with bundles.
     TooManyApps,
-    /// The lookup takes too many steps.
     TooManySteps,
 }
 
 impl Refusal {
-    /// The variant's name.
     pub fn word(self) -> &'static str
         ensures { result.now ≡ refusal_word self }
     {
@@ -50,7 +40,7 @@ impl Refusal {
     }
 }
 
-/// The engine's answer, or the refusal of a limit.
+/// The engine's answer, or a limit's rejection.
 #[derive(Debug, Drop)]
 pub enum Limited<T> {
     Answer(T),

@@ -1,4 +1,3 @@
-//! Lookups under limits.
 ghost use Rattle.std.specs.Prelude.{◌≡◌};
 ghost use Rattle.rb_engine.specs.Ask.{LooksUp};
 ghost use Rattle.rb_views.specs.Seen.{tree_seen};
@@ -10,11 +9,8 @@ use rb_engine::{Engine, LookFault};
 use rb_fallback::Found;
 use rb_views::Item;
 
-/// Looks up the item at a path, from a locale on, as `Engine::look` does, if that takes no more
-/// steps than it may. It takes no memory.
-///
-/// `BadApp`, `Reserved`, `BadLocale` and `BadPath` are judged first. A lookup of too many steps is
-/// refused as `TooManySteps`, whatever it would find.
+/// Looks up like `Engine::look`, or returns `TooManySteps`, whatever the lookup would find. Invalid
+/// names and paths are reported first. Allocates nothing.
 pub fn look<'a>(
     engine: &'a Engine,
     limits: &Limits,

@@ -1,4 +1,4 @@
--- Warnings in order, with one more at the end.
+-- Proves that ordered warnings stay ordered with a later one at the end.
 use Rattle.std.proofs.Common.{◌≡◌, ℕ, ◌≤◌, List, [], ◌∷◌, ◌++◌, All, arith}
 use Rattle.std.proofs.lemmas.List.Elements.{All-nil, All-cons, All-append, All-head, All-tail, All-push, All-weaker}
 use Rattle.rb_lint.specs.Warnings.{AreInOrder, AreWithin}
@@ -10,7 +10,7 @@ order_more {A} line (x ∷ xs) w o a =
     let Q : A → Type 0 = λ v. line v ≤ line w in
     (All-append P xs (w ∷ []) o.0 (All-cons P w [] (All-head Q x xs a) (All-nil P)), order_more line xs w o.1 (All-tail Q x xs a))
 
--- what the loop that puts warnings in order keeps, with one more at the end, at a line n
+-- kind the loop that puts warnings in order keeps, with one more at the end, at a line n
 pub one_more : {A : Type 0} (line : A → ℕ) (lines last n : ℕ) (ws us : List A) (w : A) → us ≡ ws ++ w ∷ [] → n ≡ line w → AreInOrder line ws → AreWithin lines line ws
     → All (λ v. line v ≤ last) ws → 1 ≤ last → last ≤ n → n ≤ lines
     → AreInOrder line us × AreWithin lines line us × All (λ v. line v ≤ n) us

@@ -1,13 +1,13 @@
-//! Braces, judged by how far right their lines begin.
-use crate::findings::Findings;
-use crate::piece::{Piece, What};
+//! Finds lost braces by the indentation of lines.
+use crate::collector::WarningCollector;
+use crate::piece::{Piece, PieceKind};
 use crate::warning::Doubt;
 use std::alloc::{AllocError, Global};
 
-/// Of this many braces at the end of a line one may be followed by a line that is no further right.
+/// A text counts as indented if, of the lines that follow a brace, at least this many are indented
+/// further for each one that is not.
 const INDENTED: usize = 9;
 
-/// Whether a text is indented: lines after a brace begin further right than its line.
 fn is_indented(pieces: &[Piece]) -> bool {
     let mut further: usize = 0;
     let mut others: usize = 0;
@@ -15,7 +15,10 @@ fn is_indented(pieces: &[Piece]) -> bool {
         let [brace, next] = pair else {
             return false;
         };
-        if brace.what != What::LeftBrace || !next.leads || next.what == What::RightBrace {
+        if brace.kind != PieceKind::LeftBrace
+            || !next.begins_line
+            || next.kind == PieceKind::RightBrace
+        {
             continue;
         }
         if next.column > brace.column {
@@ -27,40 +30,38 @@ fn is_indented(pieces: &[Piece]) -> bool {
     further > 0 && further / INDENTED >= others
 }
 
-/// A brace that is open, or the whole text.
+/// An open brace, or the whole text with column and line 0.
 #[derive(Clone, Copy, Debug)]
-struct Open {
-    /// The column of the line that opened it; 0 for the text.
+struct OpenBrace {
+    /// The column of the line that opened it.
     column: u64,
-    /// That line; 0 for the text.
     line: u64,
     /// The column of its first entry.
     entries: Option<u64>,
 }
 
-/// The braces that are open, the innermost last.
 #[derive(Drop)]
 struct Braces {
-    open: Vec<Open>,
-    /// The line in which the last quoted piece begins that runs on, and the one in which it ends:
-    /// braces may be lost in it.
-    runs_on: (u64, u64),
+    open: Vec<OpenBrace>,
+    /// The first and the last line of the last quoted piece that spans lines: it may contain lost
+    /// braces.
+    last_spanning: (u64, u64),
 }
 
 impl Braces {
-    /// Takes the braces off that were opened in an earlier line, no further left than a column:
-    /// they should have been closed.
+    /// Closes the braces that an earlier line opened at this column or further right: they lack
+    /// their closing brace.
     fn close_before(
         &mut self,
         line: u64,
         column: u64,
-        findings: &mut Findings,
+        warnings: &mut WarningCollector,
     ) -> Result<(), AllocError> {
         for _ in 0..self.open.len() {
             match self.open.last() {
                 Some(top) if top.line < line && top.column >= column => {
-                    if top.line != self.runs_on.0 {
-                        findings.add(line, Doubt::NotClosed(top.line))?;
+                    if top.line != self.last_spanning.0 {
+                        warnings.add(line, Doubt::NotClosed(top.line))?;
                     }
                 }
                 _ => return Ok(()),
@@ -70,17 +71,20 @@ impl Braces {
         Ok(())
     }
 
-    /// A line begins with something else than a closing brace.
-    fn begin_line(&mut self, piece: &Piece, findings: &mut Findings) -> Result<(), AllocError> {
-        self.close_before(piece.line, piece.column, findings)?;
+    fn begin_line(
+        &mut self,
+        piece: &Piece,
+        warnings: &mut WarningCollector,
+    ) -> Result<(), AllocError> {
+        self.close_before(piece.line, piece.column, warnings)?;
         let Some(top) = self.open.last_mut() else {
             return Ok(());
         };
         match top.entries {
             None => top.entries = Some(piece.column),
-            Some(entries) if piece.what == What::Unquoted && piece.column > entries => {
-                findings.add(piece.line, Doubt::FurtherRight)?;
-                self.open.push(Open {
+            Some(entries) if piece.kind == PieceKind::Unquoted && piece.column > entries => {
+                warnings.add(piece.line, Doubt::FurtherRight)?;
+                self.open.push(OpenBrace {
                     column: entries,
                     line: 0,
                     entries: Some(piece.column),
@@ -91,45 +95,52 @@ impl Braces {
         Ok(())
     }
 
-    /// A closing brace that is the first of its line.
-    fn close_line(&mut self, piece: &Piece, findings: &mut Findings) -> Result<(), AllocError> {
-        self.close_before(piece.line, piece.column.saturating_add(1), findings)?;
+    fn close_line(
+        &mut self,
+        piece: &Piece,
+        warnings: &mut WarningCollector,
+    ) -> Result<(), AllocError> {
+        self.close_before(piece.line, piece.column.saturating_add(1), warnings)?;
         match self.open.last() {
             Some(top) if top.column == piece.column => {
                 let _ = self.open.pop();
                 Ok(())
             }
-            _ => findings.add(piece.line, Doubt::NotOpened),
+            _ => warnings.add(piece.line, Doubt::NotOpened),
         }
     }
 
-    /// A closing brace within a line, whose opening brace should be in the same line.
-    fn close_within(&mut self, piece: &Piece, findings: &mut Findings) -> Result<(), AllocError> {
+    /// Handles a closing brace within a line; the same line should have opened it.
+    fn close_within(
+        &mut self,
+        piece: &Piece,
+        warnings: &mut WarningCollector,
+    ) -> Result<(), AllocError> {
         match self.open.last() {
-            Some(top) if top.line == piece.line || self.runs_on == (top.line, piece.line) => {
+            Some(top) if top.line == piece.line || self.last_spanning == (top.line, piece.line) => {
                 let _ = self.open.pop();
                 Ok(())
             }
-            _ => findings.add(piece.line, Doubt::NotOpened),
+            _ => warnings.add(piece.line, Doubt::NotOpened),
         }
     }
 
-    fn step(&mut self, piece: &Piece, findings: &mut Findings) -> Result<(), AllocError> {
-        if piece.what == What::RightBrace {
-            return if piece.leads {
-                self.close_line(piece, findings)
+    fn step(&mut self, piece: &Piece, warnings: &mut WarningCollector) -> Result<(), AllocError> {
+        if piece.kind == PieceKind::RightBrace {
+            return if piece.begins_line {
+                self.close_line(piece, warnings)
             } else {
-                self.close_within(piece, findings)
+                self.close_within(piece, warnings)
             };
         }
-        if piece.leads {
-            self.begin_line(piece, findings)?;
+        if piece.begins_line {
+            self.begin_line(piece, warnings)?;
         }
-        if piece.runs_on {
-            self.runs_on = (piece.line, piece.last_line);
+        if piece.spans_lines {
+            self.last_spanning = (piece.line, piece.last_line);
         }
-        if piece.what == What::LeftBrace {
-            self.open.push(Open {
+        if piece.kind == PieceKind::LeftBrace {
+            self.open.push(OpenBrace {
                 column: piece.column,
                 line: piece.line,
                 entries: None,
@@ -139,28 +150,28 @@ impl Braces {
     }
 }
 
-/// A warning if a text that is indented has a brace that closes further left or right than the line
-/// that opened it.
+/// Reports braces of an indented text that close at another column than that of the line that
+/// opened them.
 pub(crate) fn find_braces(
     alloc: Global,
     pieces: &[Piece],
-    findings: &mut Findings,
+    warnings: &mut WarningCollector,
 ) -> Result<(), AllocError> {
-    findings.begin();
+    warnings.begin();
     if !is_indented(pieces) {
         return Ok(());
     }
     let mut braces = Braces {
         open: Vec::new(alloc),
-        runs_on: (0, 0),
+        last_spanning: (0, 0),
     };
-    braces.open.push(Open {
+    braces.open.push(OpenBrace {
         column: 0,
         line: 0,
         entries: None,
     })?;
     for piece in pieces {
-        braces.step(piece, findings)?;
+        braces.step(piece, warnings)?;
     }
     Ok(())
 }

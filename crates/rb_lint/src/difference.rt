@@ -1,27 +1,25 @@
-//! How an item of a text differs from the root's.
 use crate::order::AtLine;
 use rb_tree::Kind;
 use std::fmt;
 
-/// How an item differs from the root's.
+/// The differences between an item and the root's.
 #[derive(Debug, Drop)]
 pub enum Difference {
-    /// The root has it, and the text doesn't.
+    /// Only the root has it.
     Absent,
-    /// The text has it, and the root doesn't.
+    /// Only the text has it.
     Additional,
     /// It is of another kind than the root's.
     OtherKind { here: Kind, root: Kind },
-    /// It has no placeholder of this name, and the root's has one.
+    /// It lacks this placeholder of the root's item.
     Lacks(Vec<u8>),
-    /// It has a placeholder of this name, and the root's doesn't.
+    /// It has this placeholder, and the root's item doesn't.
     Adds(Vec<u8>),
 }
 
-/// A difference between a text and the root's, at a line of the text.
 #[derive(Debug, Drop)]
 pub struct RootWarning {
-    /// The line, which line feeds end; the first is 1.
+    /// The line, counted by line feeds from 1.
     pub line: u64,
     /// The keys and indexes of the item, with slashes between them.
     pub path: Vec<u8>,
@@ -36,12 +34,11 @@ impl AtLine for RootWarning {
     }
 }
 
-/// Bytes of plain ASCII as a text.
 fn shown(bytes: &[u8]) -> &str {
     str::from_utf8(bytes).unwrap_or("?")
 }
 
-/// A kind of items, in words, as warnings and traces say it.
+/// Names a kind of items as warnings and traces do.
 pub fn kind_word(kind: Kind) -> &'static str {
     match kind {
         Kind::String => "a string",

@@ -1,11 +1,11 @@
-//! What is valid in a bundle text and most likely not meant, and where an error of a text really
-//! began.
+//! Linter of bundle texts: finds what is valid but probably not meant, and where an error began.
 #![tactic(auto)]
 
+mod adjacent;
 mod beside;
 mod braces;
+mod collector;
 mod difference;
-mod findings;
 mod name;
 mod order;
 mod outline;
@@ -14,7 +14,6 @@ mod placeholders;
 mod quotes;
 mod scan;
 mod search;
-mod sides;
 mod steps;
 mod warning;
 

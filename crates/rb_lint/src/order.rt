@@ -1,22 +1,20 @@
-//! Warnings in the order of their lines.
 ghost use Rattle.std.specs.Prelude.{◌≡◌, ◌≤◌, ℕ, IfOk, vec_len};
 ghost use Rattle.rb_lint.specs.Warnings.{AreInOrder, AreWithin};
 
 use std::alloc::{AllocError, Global};
 
-/// The most warnings of one text.
+/// The maximum number of warnings of one text.
 pub const WARNING_LIMIT: usize = 100;
 
-/// What is found at a line of a text.
+/// A warning with a line.
 pub(crate) trait AtLine: Drop {
-    /// The line.
     ghost line_of: { Self → ℕ };
 
     fn line(&self) -> u64
         ensures { result ≡ line_of self.now };
 }
 
-/// The first of some warnings, in the order of their lines.
+/// Sorts warnings by line, and keeps the first ones.
 pub(crate) fn in_order<W: AtLine>(
     alloc: Global,
     mut found: Vec<W>,
@@ -27,15 +25,15 @@ pub(crate) fn in_order<W: AtLine>(
     ensures few { IfOk result (λ ws. vec_len ws ≤ 100) }
 {
     found.sort_by_key(|warning| warning.line())?;
-    let mut settled = Vec::new(alloc);
+    let mut ordered = Vec::new(alloc);
     let mut last = 1;
     for warning in found {
         let line = warning.line();
-        if line < last || lines < line || settled.len() >= WARNING_LIMIT {
+        if line < last || lines < line || ordered.len() >= WARNING_LIMIT {
             continue;
         }
         last = line;
-        settled.push(warning)?;
+        ordered.push(warning)?;
     }
-    Ok(settled)
+    Ok(ordered)
 }

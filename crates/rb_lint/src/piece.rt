@@ -1,8 +1,5 @@
-//! The pieces of a text.
-
-/// What a piece is.
 #[derive(Clone, Copy, Debug, PartialEq, Eq)]
-pub(crate) enum What {
+pub(crate) enum PieceKind {
     Quoted,
     Unquoted,
     LeftBrace,
@@ -14,25 +11,22 @@ pub(crate) enum What {
 /// A piece of a text or a punctuation character.
 #[derive(Clone, Copy, Debug)]
 pub(crate) struct Piece {
-    pub(crate) what: What,
-    /// Its first byte, and the byte past its last.
+    pub(crate) kind: PieceKind,
+    /// The first byte; `past` is the byte after the last.
     pub(crate) first: usize,
     pub(crate) past: usize,
     /// The line in which it begins, from 1.
     pub(crate) line: u64,
-    /// The line in which it ends.
     pub(crate) last_line: u64,
-    /// The column at which that line's first piece begins, from 1.
+    /// The column of the first piece in that line, from 1.
     pub(crate) column: u64,
-    /// It is the first piece of its line.
-    pub(crate) leads: bool,
-    /// It is quoted and has a line's end.
-    pub(crate) runs_on: bool,
+    pub(crate) begins_line: bool,
+    /// It is quoted and spans lines.
+    pub(crate) spans_lines: bool,
 }
 
 impl Piece {
-    /// Whether it is a text, quoted or not.
     pub(crate) fn is_text(&self) -> bool {
-        matches!(self.what, What::Quoted | What::Unquoted)
+        matches!(self.kind, PieceKind::Quoted | PieceKind::Unquoted)
     }
 }

@@ -1,9 +1,9 @@
-//! Placeholders of messages: `{0}`, `{name}`, also with a format, as `{0,number}` (MessageFormat of
-//! ICU).
+//! Finds placeholders of ICU's MessageFormat: `{0}`, `{name}`, and those with a format, such as
+//! `{0,number}`.
 use std::alloc::{AllocError, Global};
 use std::collections::BTreeSet;
 
-/// Names of placeholders, each once, in the order of the text.
+/// Distinct names of placeholders, in the order of the text.
 #[derive(Drop)]
 pub(crate) struct Names<'a> {
     names: Vec<&'a [u8]>,
@@ -18,7 +18,6 @@ impl<'a> Names<'a> {
         }
     }
 
-    /// Adds a name, unless it is there.
     fn add(&mut self, alloc: Global, name: &'a [u8]) -> Result<(), AllocError> {
         if self.known.insert(name.to_vec(alloc)?)? {
             self.names.push(name)?;
@@ -26,7 +25,7 @@ impl<'a> Names<'a> {
         Ok(())
     }
 
-    /// The names that aren't among others.
+    /// Returns the names that are not among the others.
     pub(crate) fn without(
         &self,
         alloc: Global,
@@ -42,23 +41,22 @@ impl<'a> Names<'a> {
     }
 }
 
-/// The search for placeholders in a text. Within a placeholder's format a brace opens a message
-/// again, in which there may be more.
+/// Finds the placeholders of a text. Inside a placeholder's format, a brace opens another message,
+/// which may have more.
 #[derive(Drop)]
 struct Search<'a> {
     alloc: Global,
     text: &'a [u8],
-    /// The names so far.
     names: Names<'a>,
-    /// How many braces are open; of the odd ones each opened a placeholder.
+    /// The number of open braces; each odd one opened a placeholder.
     open: usize,
-    /// Where a placeholder's name begins, while it isn't ended.
+    /// The start of the current placeholder's name.
     name_at: Option<usize>,
-    /// Within apostrophes braces are ordinary characters.
+    /// Within apostrophes, braces are ordinary characters.
     is_quoted: bool,
 }
 
-/// A name without spaces around it; none if it is no name.
+/// Trims spaces, and returns None if the rest is no name.
 fn name_of(bytes: &[u8]) -> Option<&[u8]> {
     let name = str::from_utf8(bytes).ok()?.trim().as_bytes();
     let is_name = name.iter().all(|byte| byte.is_ascii_alphanumeric()
@@ -73,7 +71,6 @@ fn name_of(bytes: &[u8]) -> Option<&[u8]> {
 }
 
 impl<'a> Search<'a> {
-    /// Ends a placeholder's name, if there is one.
     fn end_name(&mut self, at: usize) -> Result<(), AllocError> {
         let Some(first) = self.name_at.take() else {
             return Ok(());
@@ -84,7 +81,6 @@ impl<'a> Search<'a> {
         self.names.add(self.alloc, name)
     }
 
-    /// The byte at a place, and the one after it.
     fn step(&mut self, at: usize, byte: u8, after: Option<u8>) -> Result<(), AllocError> {
         match byte {
             b'\'' if self.is_quoted => self.is_quoted = false,
@@ -108,7 +104,6 @@ impl<'a> Search<'a> {
     }
 }
 
-/// The names of the placeholders in a text.
 pub(crate) fn placeholders(alloc: Global, text: &[u8]) -> Result<Names<'_>, AllocError> {
     let mut search = Search {
         alloc,

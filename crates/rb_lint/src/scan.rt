@@ -1,28 +1,28 @@
-//! A text, cut into pieces. It may have any errors.
-use crate::findings::Findings;
-use crate::piece::{Piece, What};
+//! Splits a text into pieces. The text may have any errors.
+use crate::collector::WarningCollector;
+use crate::piece::{Piece, PieceKind};
 use crate::warning::Doubt;
 use std::alloc::{AllocError, Global};
 
-/// A byte of the text, and where it is.
+/// A byte of the text, at its offset.
 #[derive(Clone, Copy)]
-struct Here<'a> {
+struct Input<'a> {
     at: usize,
     byte: u8,
     /// The text from the byte on.
     window: &'a [u8],
 }
 
-/// What ends a quoted piece besides a quote.
+/// The ways to end a quoted piece other than by a quote.
 #[derive(Clone, Copy, Debug, PartialEq, Eq)]
 pub(crate) enum Quoting {
-    /// Nothing else, as in bundle texts.
+    /// In no other way, as in bundle texts.
     OverLines,
-    /// The end of the line, so that a missing quote is felt only in its line.
+    /// With its line, so that a missing quote affects only that line.
     WithinLine,
 }
 
-/// What a byte is part of.
+/// The context of a byte.
 #[derive(Clone, Copy, Debug, PartialEq, Eq)]
 enum State {
     Between,
@@ -34,21 +34,20 @@ enum State {
     BlockStart,
     Block,
     BlockEnd,
-    /// This many bytes of a character more.
+    /// The number of bytes of a character that remain.
     Skip(u8),
 }
 
-/// Where white space of more than one byte begins: U+2029 and U+FEFF.
+/// Checks for white space of more than one byte: U+2029 and U+FEFF.
 fn is_wide_white(window: &[u8]) -> bool {
     window.starts_with(b"\xE2\x80\xA9") || window.starts_with(b"\xEF\xBB\xBF")
 }
 
-/// Whether a letter begins an escape of its own after a backslash.
+/// Checks whether a letter has a meaning after a backslash.
 fn is_escape_letter(letter: u8) -> bool {
     b"abefnrtvuUxc".contains(&letter)
 }
 
-/// Whether this many hexadecimal digits follow.
 fn has_digits(window: &[u8], count: usize) -> bool {
     match window.get(..count) {
         Some(digits) => digits.iter().all(|digit| digit.is_ascii_hexdigit()),
@@ -56,8 +55,7 @@ fn has_digits(window: &[u8], count: usize) -> bool {
     }
 }
 
-/// Whether two backslashes are followed by what would be an escape of a character's number after
-/// one.
+/// Checks for two backslashes where one would begin an escape by number.
 fn is_doubled(window: &[u8]) -> bool {
     match window {
         [b'\\', b'\\', b'u', digits @ ..] => has_digits(digits, 4),
@@ -67,14 +65,13 @@ fn is_doubled(window: &[u8]) -> bool {
     }
 }
 
-/// A text that is cut into pieces, byte by byte.
 #[derive(Drop)]
 struct Scan {
     quoting: Quoting,
     state: State,
     line: u64,
     column: u64,
-    leads: bool,
+    begins_line: bool,
     piece: Option<Piece>,
     pieces: Vec<Piece>,
 }
@@ -86,64 +83,62 @@ impl Scan {
             state: State::Between,
             line: 1,
             column: 1,
-            leads: true,
+            begins_line: true,
             piece: None,
             pieces: Vec::new(alloc),
         }
     }
 
-    /// Whether the text ends within a quoted piece.
+    /// Checks whether the text ends inside a quoted piece.
     fn is_open(&self) -> bool {
         matches!(self.state, State::Quoted | State::QuotedEscape)
     }
 
-    /// Begins a piece, and goes on in a state.
-    fn begin(&mut self, what: What, first: usize, state: State) {
+    /// Begins a piece, and continues in a state.
+    fn begin(&mut self, kind: PieceKind, first: usize, state: State) {
         self.piece = Some(Piece {
-            what,
+            kind,
             first,
             past: first,
             line: self.line,
             last_line: self.line,
             column: self.column,
-            leads: self.leads,
-            runs_on: false,
+            begins_line: self.begins_line,
+            spans_lines: false,
         });
-        self.leads = false;
+        self.begins_line = false;
         self.state = state;
     }
 
-    /// Ends the piece, if there is one.
     fn end(&mut self, past: usize) -> Result<(), AllocError> {
         if let Some(mut piece) = self.piece.take() {
             piece.past = past;
             piece.last_line = self.line;
             self.pieces.push(piece)?;
         }
-        self.leads = false;
+        self.begins_line = false;
         self.state = State::Between;
         Ok(())
     }
 
-    /// A punctuation character.
-    fn mark(&mut self, what: What, at: usize) -> Result<(), AllocError> {
-        self.begin(what, at, State::Between);
+    fn mark(&mut self, kind: PieceKind, at: usize) -> Result<(), AllocError> {
+        self.begin(kind, at, State::Between);
         self.end(at.saturating_add(1))
     }
 
     fn next_line(&mut self) {
         self.line = self.line.saturating_add(1);
         self.column = 1;
-        self.leads = true;
+        self.begins_line = true;
     }
 
-    /// White space before a line's first piece moves it to the right; a tab to the next column
-    /// after a multiple of 8.
+    /// Counts columns before a line's first piece; a tab moves to the next column after a multiple
+    /// of 8.
     fn indent(&mut self, byte: u8) {
-        if self.leads && byte == b' ' {
+        if self.begins_line && byte == b' ' {
             self.column = self.column.saturating_add(1);
         }
-        if self.leads && byte == b'\t' {
+        if self.begins_line && byte == b'\t' {
             self.column = (self.column.saturating_sub(1) / 8)
                 .saturating_add(1)
                 .saturating_mul(8)
@@ -151,61 +146,65 @@ impl Scan {
         }
     }
 
-    /// Says what is doubtful of a backslash with what follows it.
-    fn note_escape(&self, window: &[u8], findings: &mut Findings) -> Result<(), AllocError> {
+    fn note_escape(
+        &self,
+        window: &[u8],
+        warnings: &mut WarningCollector,
+    ) -> Result<(), AllocError> {
         if is_doubled(window) {
-            findings.add(self.line, Doubt::TwoBackslashes)?;
+            warnings.add(self.line, Doubt::TwoBackslashes)?;
         }
         match window.get(1) {
             Some(letter) if letter.is_ascii_alphabetic() && !is_escape_letter(*letter) => {
-                findings.add(self.line, Doubt::Escape(char::from(*letter)))
+                warnings.add(self.line, Doubt::Escape(char::from(*letter)))
             }
             _ => Ok(()),
         }
     }
 
-    /// A byte between pieces.
-    fn between(&mut self, here: Here, findings: &mut Findings) -> Result<(), AllocError> {
-        let Here { at, byte, window } = here;
+    fn between(&mut self, input: Input, warnings: &mut WarningCollector) -> Result<(), AllocError> {
+        let Input { at, byte, window } = input;
         match byte {
             b'\n' => self.next_line(),
             b' ' | b'\t' | b'\r' => self.indent(byte),
-            b'"' => self.begin(What::Quoted, at, State::Quoted),
-            b'{' => self.mark(What::LeftBrace, at)?,
-            b'}' => self.mark(What::RightBrace, at)?,
-            b':' => self.mark(What::Colon, at)?,
-            b',' => self.mark(What::Comma, at)?,
+            b'"' => self.begin(PieceKind::Quoted, at, State::Quoted),
+            b'{' => self.mark(PieceKind::LeftBrace, at)?,
+            b'}' => self.mark(PieceKind::RightBrace, at)?,
+            b':' => self.mark(PieceKind::Colon, at)?,
+            b',' => self.mark(PieceKind::Comma, at)?,
             b'\\' => {
-                self.note_escape(window, findings)?;
-                self.begin(What::Unquoted, at, State::UnquotedEscape);
+                self.note_escape(window, warnings)?;
+                self.begin(PieceKind::Unquoted, at, State::UnquotedEscape);
             }
             _ if window.starts_with(b"//") => self.state = State::LineComment,
             _ if window.starts_with(b"/*") => self.state = State::BlockStart,
             _ if is_wide_white(window) => self.state = State::Skip(2),
-            _ => self.begin(What::Unquoted, at, State::Unquoted),
+            _ => self.begin(PieceKind::Unquoted, at, State::Unquoted),
         }
         Ok(())
     }
 
-    /// A byte of an unquoted piece, or the first after it.
-    fn unquoted(&mut self, here: Here, findings: &mut Findings) -> Result<(), AllocError> {
-        let Here { at, byte, window } = here;
+    fn unquoted(
+        &mut self,
+        input: Input,
+        warnings: &mut WarningCollector,
+    ) -> Result<(), AllocError> {
+        let Input { at, byte, window } = input;
         let is_comment = window.starts_with(b"//") || window.starts_with(b"/*");
         if b" \t\r\n\"{}:,".contains(&byte) || is_comment || is_wide_white(window) {
             self.end(at)?;
-            return self.between(here, findings);
+            return self.between(input, warnings);
         }
         if byte == b'\\' {
-            self.note_escape(window, findings)?;
+            self.note_escape(window, warnings)?;
             self.state = State::UnquotedEscape;
         }
         Ok(())
     }
 
-    /// A line's end within a quoted piece.
     fn run_on(&mut self, at: usize) -> Result<(), AllocError> {
         if let Some(mut piece) = self.piece {
-            piece.runs_on = true;
+            piece.spans_lines = true;
             self.piece = Some(piece);
         }
         if self.quoting == Quoting::WithinLine {
@@ -215,54 +214,51 @@ impl Scan {
         Ok(())
     }
 
-    /// A byte of a quoted piece.
-    fn quoted(&mut self, here: Here, findings: &mut Findings) -> Result<(), AllocError> {
-        match here.byte {
-            b'\n' => self.run_on(here.at),
-            b'"' => self.end(here.at.saturating_add(1)),
+    fn quoted(&mut self, input: Input, warnings: &mut WarningCollector) -> Result<(), AllocError> {
+        match input.byte {
+            b'\n' => self.run_on(input.at),
+            b'"' => self.end(input.at.saturating_add(1)),
             b'\\' => {
                 self.state = State::QuotedEscape;
-                self.note_escape(here.window, findings)
+                self.note_escape(input.window, warnings)
             }
             _ => Ok(()),
         }
     }
 
-    /// A byte after a backslash.
-    fn escaped(&mut self, here: Here, after: State) -> Result<(), AllocError> {
+    fn escaped(&mut self, input: Input, after: State) -> Result<(), AllocError> {
         self.state = after;
-        if here.byte != b'\n' {
+        if input.byte != b'\n' {
             return Ok(());
         }
         if after == State::Quoted {
-            return self.run_on(here.at);
+            return self.run_on(input.at);
         }
         self.next_line();
         Ok(())
     }
 
-    /// A byte of a comment.
-    fn comment(&mut self, here: Here) {
-        if here.byte == b'\n' {
+    fn comment(&mut self, input: Input) {
+        if input.byte == b'\n' {
             self.next_line();
         }
         match self.state {
-            State::LineComment if matches!(here.byte, b'\n' | b'\r') => self.state = State::Between,
+            State::LineComment if matches!(input.byte, b'\n' | b'\r') => self.state =
+                State::Between,
             State::BlockStart => self.state = State::Block,
-            State::Block if here.window.starts_with(b"*/") => self.state = State::BlockEnd,
+            State::Block if input.window.starts_with(b"*/") => self.state = State::BlockEnd,
             State::BlockEnd => self.state = State::Between,
             _ => {}
         }
     }
 
-    /// The next byte.
-    fn step(&mut self, here: Here, findings: &mut Findings) -> Result<(), AllocError> {
+    fn step(&mut self, input: Input, warnings: &mut WarningCollector) -> Result<(), AllocError> {
         match self.state {
-            State::Between => self.between(here, findings),
-            State::Quoted => self.quoted(here, findings),
-            State::Unquoted => self.unquoted(here, findings),
-            State::QuotedEscape => self.escaped(here, State::Quoted),
-            State::UnquotedEscape => self.escaped(here, State::Unquoted),
+            State::Between => self.between(input, warnings),
+            State::Quoted => self.quoted(input, warnings),
+            State::Unquoted => self.unquoted(input, warnings),
+            State::QuotedEscape => self.escaped(input, State::Quoted),
+            State::UnquotedEscape => self.escaped(input, State::Unquoted),
             State::Skip(more) if more > 1 => {
                 self.state = State::Skip(more - 1);
                 Ok(())
@@ -272,31 +268,31 @@ impl Scan {
                 Ok(())
             }
             _ => {
-                self.comment(here);
+                self.comment(input);
                 Ok(())
             }
         }
     }
 }
 
-/// The pieces of a text, and whether it ends within a quoted one. What is doubtful of its escapes
-/// is found on the way.
-pub(crate) fn cut(
+/// Splits a text into pieces, and reports its doubtful escapes. Returns also whether the text ends
+/// inside a quoted piece.
+pub(crate) fn split_pieces(
     alloc: Global,
     text: &[u8],
     quoting: Quoting,
-    findings: &mut Findings,
+    warnings: &mut WarningCollector,
 ) -> Result<(Vec<Piece>, bool), AllocError> {
     let mut scan = Scan::new(alloc, quoting);
     for (at, byte) in text.iter().enumerate() {
         let window = &text[at..];
         scan.step(
-            Here {
+            Input {
                 at,
                 byte: *byte,
                 window,
             },
-            findings,
+            warnings,
         )?;
     }
     let is_open = scan.is_open();

@@ -1,17 +1,16 @@
-//! The search for what is doubtful in a text.
 ghost use Rattle.std.specs.Prelude.{◌≤◌, ◌≡◌, IfOk, vec_len};
 ghost use Rattle.rb_lint.specs.Warnings.{AreInOrder, AreWithin, line_count};
 
+use crate::adjacent::find_adjacent;
 use crate::braces::find_braces;
-use crate::findings::Findings;
+use crate::collector::WarningCollector;
 use crate::name::find_name;
 use crate::quotes::find_quotes;
-use crate::scan::{Quoting, cut};
-use crate::sides::find_sides;
+use crate::scan::{Quoting, split_pieces};
 use crate::warning::Warning;
 use std::alloc::{AllocError, Global};
 
-/// How many lines a text has, with the one after its last line feed.
+/// Counts the lines of a text, including the one after its last line feed.
 pub(crate) fn line_count(text: &[u8]) -> u64
     ensures { result ≡ line_count text.now }
 {
@@ -19,34 +18,33 @@ pub(crate) fn line_count(text: &[u8]) -> u64
     feeds as u64 + 1
 }
 
-/// What is doubtful in a bundle text, which may have any errors: at most 100 warnings, in the order
-/// of their lines. `stem` is the name that the bundle should have, if one is known. The rules are
-/// this project's own.
+/// Finds what is doubtful in a bundle text, which may have any errors. Returns at most 100
+/// warnings, ordered by line. `stem` is the name that the bundle should have, if it is known. The
+/// rules are this project's own. `Err` means out of memory.
 ///
-/// If the text ends within a quoted piece, each quoted piece is taken to end with its line, so that
-/// a missing quote is found where it is missing. Braces are judged by how far right their lines
-/// begin, in texts that are indented.
+/// If the text ends inside a quoted piece, each quoted piece is taken to end with its line, so that
+/// a missing quote is found at its line. Lost braces are found by indentation, in texts that are
+/// indented.
 ///
 /// ```rust
 /// lint(alloc, b"de{a{\"b\" \"c\", \"d\"}}", Some(b"de"))? // one warning at line 1: `Doubt::Joined`
 /// ```
 pub fn lint(alloc: Global, text: &[u8], stem: Option<&[u8]>) -> Result<Vec<Warning>, AllocError>
-    // Each is at a line of the text, and none before the one that it follows.
     ensures order { IfOk result (λ ws. AreInOrder (λ w. w.line) ws.items) }
     ensures within { IfOk result (λ ws. AreWithin (line_count text.now) (λ w. w.line) ws.items) }
     ensures few { IfOk result (λ ws. vec_len ws ≤ 100) }
 {
-    let mut findings = Findings::new(alloc);
-    let (mut pieces, is_open) = cut(alloc, text, Quoting::OverLines, &mut findings)?;
+    let mut warnings = WarningCollector::new(alloc);
+    let (mut pieces, is_open) = split_pieces(alloc, text, Quoting::OverLines, &mut warnings)?;
     if is_open {
-        findings = Findings::new(alloc);
-        pieces = cut(alloc, text, Quoting::WithinLine, &mut findings)?.0;
+        warnings = WarningCollector::new(alloc);
+        pieces = split_pieces(alloc, text, Quoting::WithinLine, &mut warnings)?.0;
     }
-    find_quotes(&pieces, &mut findings)?;
-    find_sides(alloc, text, &pieces, &mut findings)?;
-    find_braces(alloc, &pieces, &mut findings)?;
+    find_quotes(&pieces, &mut warnings)?;
+    find_adjacent(alloc, text, &pieces, &mut warnings)?;
+    find_braces(alloc, &pieces, &mut warnings)?;
     if let Some(stem) = stem {
-        find_name(text, &pieces, stem, &mut findings)?;
+        find_name(text, &pieces, stem, &mut warnings)?;
     }
-    findings.settled(alloc, line_count(text))
+    warnings.ordered(alloc, line_count(text))
 }

@@ -1,22 +1,20 @@
-//! Where items are, as the steps that lead to them.
 use std::alloc::{AllocError, Global};
 
-/// What leads from an item to one within it.
 #[derive(Clone, Copy, Debug)]
 pub(crate) enum Segment<'a> {
     Key(&'a [u8]),
     Index(usize),
 }
 
-/// A segment, and the step before it, if it isn't the first.
+/// A segment, and the index of the step before it.
 #[derive(Clone, Copy, Debug)]
 struct Step<'a> {
     before: Option<usize>,
     segment: Segment<'a>,
 }
 
-/// The steps to the items that were met. A path is made of them only if it is shown, since the
-/// paths of all items together may be far longer than the text.
+/// The steps to all visited items. Only the paths of reported items are built: those of all items
+/// may be far longer than the text.
 #[derive(Drop)]
 pub(crate) struct Steps<'a> {
     alloc: Global,
@@ -31,7 +29,7 @@ impl<'a> Steps<'a> {
         }
     }
 
-    /// Adds a step after another one, and gives its place.
+    /// Adds a step after another one, and returns its index.
     pub(crate) fn add(
         &mut self,
         before: Option<usize>,
@@ -42,7 +40,7 @@ impl<'a> Steps<'a> {
         Ok(at)
     }
 
-    /// The segments up to a step, the last one first.
+    /// Returns the segments up to a step, the last one first.
     fn back_from(&self, last: Option<usize>) -> Result<Vec<Segment<'a>>, AllocError> {
         let mut segments = Vec::new(self.alloc);
         let mut at = last;
@@ -56,7 +54,7 @@ impl<'a> Steps<'a> {
         Ok(segments)
     }
 
-    /// The path up to a step: keys and indexes with slashes between them.
+    /// Returns the path up to a step: keys and indexes with slashes between them.
     pub(crate) fn path(&self, last: Option<usize>) -> Result<Vec<u8>, AllocError> {
         let mut path = Vec::new(self.alloc);
         for segment in self.back_from(last)?.iter().rev() {

@@ -1,27 +1,24 @@
-//! Warnings.
 use crate::order::AtLine;
 use std::fmt;
 
-/// What is doubtful.
 #[derive(Clone, Copy, Debug, PartialEq, Eq)]
 pub enum Doubt {
-    /// A quoted piece goes on over a line's end.
+    /// A quoted piece spans lines.
     RunsOn,
-    /// A quoted piece is beside an unquoted one, and a space goes between them.
+    /// A quoted piece is next to an unquoted one, which puts a space between them.
     Mixed,
-    /// Two texts of an array or a vector are side by side, and are one.
+    /// Two adjacent texts of an array or a vector form one item.
     Joined,
-    /// A brace, opened in the line given, isn't closed before a line that is no further right.
+    /// A brace, opened in the given line, isn't closed before a line that is not indented further.
     NotClosed(u64),
-    /// A brace closes none that was opened as far left.
+    /// A brace closes none that was opened at its column.
     NotOpened,
-    /// A line is further right than the entry before it, and no brace was opened.
+    /// A line is indented further than the entry before it, without an open brace.
     FurtherRight,
-    /// A backslash before this ordinary letter, which stands for the letter.
+    /// A backslash precedes this ordinary letter, and has no effect.
     Escape(char),
-    /// Two backslashes before what would be an escape after one.
+    /// Two backslashes are where one would begin an escape.
     TwoBackslashes,
-    /// The bundle's name isn't the file's.
     OtherName,
 }
 
@@ -61,10 +58,9 @@ impl fmt::Display for Doubt {
     }
 }
 
-/// Something doubtful, and its line.
 #[derive(Clone, Copy, Debug, PartialEq, Eq)]
 pub struct Warning {
-    /// The line, which line feeds end; the first is 1.
+    /// The line, counted by line feeds from 1.
     pub line: u64,
     pub doubt: Doubt,
 }

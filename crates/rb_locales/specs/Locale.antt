@@ -1,21 +1,21 @@
--- The canonical names of locales, in this profile of the identifiers of UTS #35 (LDML) and of ICU's
--- `uloc_canonicalize`: parts between underscores, the first a language in lower case, a second part of four letters a
--- script in title case, every other part in upper case; what follows an `@` is no part of the name. That a name has at
--- most 64 bytes is this project's own rule. It speaks of parts, never of indexes in a text.
+-- Defines the canonical names of locales: a profile of the identifiers of UTS #35 (LDML) and of ICU's
+-- `uloc_canonicalize`. Underscores separate the parts: first a language in lower case; second, if it has four letters,
+-- a script in title case; all others in upper case. An `@` and all bytes after it aren't part of the name. The limit of
+-- 64 bytes is a rule of this project.
 use Rattle.std.specs.Prelude.{◌==◌, ◌&&◌, ◌||◌, ℕ, List, [], ◌∷◌, length, Bool, Option, Some, None, option_map, take}
 use Rattle.std.specs.Prelude.{map, if◌then◌else◌, nat_le, codes}
 use Rattle.std.specs.Option.{option_zip}
 use Rattle.std.specs.List.{slice_split, list_all, join_with_byte, position_or_len}
 use Rattle.std.specs.Char.{is_ascii_alphabetic, is_ascii_alphanumeric, to_ascii_lowercase, to_ascii_uppercase}
 
--- what comes before the first `@`
+-- the text before the first `@`
 abbrev pub is_at : ℕ → Bool
 is_at b = b == 64
 
 abbrev pub before_at : List ℕ → List ℕ
 before_at bs = take (position_or_len is_at bs) bs
 
--- the parts of a name are between underscores, and `-` counts as one
+-- underscores separate the parts of a name; `-` counts as one
 abbrev pub is_between : ℕ → Bool
 is_between b = b == 95 || b == 45
 
@@ -49,13 +49,13 @@ title (b ∷ bs) = to_ascii_uppercase b ∷ map to_ascii_lowercase bs
 abbrev pub subtag : List ℕ → Option (List ℕ)
 subtag p = if is_subtag p then Some (map to_ascii_uppercase p) else None
 
--- a part as it is written at its position, if it may be there
+-- a part in the case of its position, if it is allowed there
 abbrev pub part_at : Position → List ℕ → Option (List ℕ)
 part_at first p = if is_language p then Some (map to_ascii_lowercase p) else None
 part_at second p = if is_script p then Some (title p) else subtag p
 part_at later p = subtag p
 
--- one part in front of others
+-- a part before other parts
 abbrev pub in_front : Option (List ℕ) → Option (List (List ℕ)) → Option (List (List ℕ))
 in_front p ps = option_map (λ q. q.0 ∷ q.1) (option_zip p ps)
 
@@ -63,20 +63,20 @@ abbrev pub parts_from : Position → List (List ℕ) → Option (List (List ℕ)
 parts_from position [] = Some []
 parts_from position (p ∷ ps) = in_front (part_at position p) (parts_from (next_position position) ps)
 
--- the parts as they are written, with underscores between them
+-- the parts in their case, separated by underscores
 abbrev pub written : Position → List ℕ → Option (List ℕ)
 written position bs = option_map (join_with_byte 95) (parts_from position (slice_split is_between bs))
 
--- the empty name is that of the root, and a name has at most 64 bytes
+-- the empty name is `root`, and a name has at most 64 bytes
 abbrev pub named : List ℕ → Option (List ℕ)
 named [] = Some (codes "root")
 named (b ∷ bs) = if nat_le (length (b ∷ bs)) 64 then written first (b ∷ bs) else None
 
--- the canonical name of a locale, if a text is one
+-- the canonical name of a locale, if the text is one
 abbrev pub name : List ℕ → Option (List ℕ)
 name bs = named (before_at bs)
 
--- the name without its last part, for a name of two parts or more
+-- the name without its last part, for a name of at least two parts
 abbrev pub is_underscore : ℕ → Bool
 is_underscore b = b == 95
 

@@ -1,4 +1,4 @@
-//! The parts of a name, written in the case of their position.
+//! Writes each part of a name in the case that its position requires.
 ghost use Rattle.std.specs.Prelude.{◌≡◌, ◌<◌, ◌≤◌, length, if◌then◌else◌, Some, None, List, ℕ};
 ghost use Rattle.std.specs.Prelude.{Option};
 ghost use Rattle.std.specs.List.{list_all, position_or_len};
@@ -7,7 +7,7 @@ ghost use Rattle.rb_locales.specs.Locale.{is_between, next_position, part_at, wr
 ghost use Rattle.rb_locales.specs.Locale.{subtag};
 ghost use Rattle.rb_locales.specs.inner.Positions.{position_of};
 
-// The position of a part in its name.
+/// The position of a part in its name.
 #[derive(Clone, Copy)]
 pub(crate) enum Position {
     First,
@@ -67,7 +67,6 @@ fn write_part(position: Position, part: &mut [u8]) -> bool
     }
 }
 
-// Where the first part ends.
 #[tactic(auto, using(std::proofs::lemmas::List::Sums::position_or_len_is))]
 fn part_end(rest: &[u8]) -> usize
     ensures first { result ≡ position_or_len is_between rest.now }
@@ -90,7 +89,7 @@ fn following(position: Position) -> Position
     }
 }
 
-// Writes the parts from here on.
+/// Writes the remaining parts in place, and returns false if one isn't allowed at its position.
 #[tactic(auto, using(crate::proofs::Parts::written_bad, crate::proofs::Parts::written_last))]
 pub(crate) fn write_parts(position: Position, rest: &mut [u8]) -> bool
     ensures { written (position_of position) rest.old ≡ (if result then Some rest.new else None) }

@@ -1,5 +1,3 @@
-//! Why a text is no locale name.
-
-/// A text that is no locale name.
+/// The error of a text that isn't a locale name.
 #[derive(Clone, Copy, Debug, PartialEq, Eq)]
 pub struct BadLocale;

@@ -1,4 +1,4 @@
-//! Names of locales in their canonical form, as UTS #35 writes them with underscores.
+//! Locale names in their canonical form: UTS #35 identifiers with underscores.
 #![tactic(auto)]
 
 mod casing;

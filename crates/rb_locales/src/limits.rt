@@ -1,5 +1,2 @@
-//! The limit of a name. The definitions in specs/ have the same number written out, so that a proof
-//! compares the two.
-
-/// The greatest number of bytes in a name.
+/// The maximum number of bytes in a name. specs/ repeats it, so that the proofs compare the two.
 pub const NAME_LIMIT: usize = 64;

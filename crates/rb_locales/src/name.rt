@@ -1,4 +1,3 @@
-//! The type of names, and how a text is read as one.
 ghost use Rattle.std.specs.Prelude.{◌≡◌, ◌≤◌, ◌++◌, ◌↔◌, ◌-◌, Some, length, drop, take, codes};
 ghost use Rattle.std.specs.Prelude.{IfOk};
 ghost use Rattle.std.specs.Result.{result_ok};
@@ -11,7 +10,7 @@ use crate::fault::BadLocale;
 use crate::limits::NAME_LIMIT;
 use std::marker::Model;
 
-/// The canonical name of a locale: at most 64 bytes, held without memory.
+/// The canonical name of a locale, at most 64 bytes, stored inline.
 #[derive(Clone, Copy, Debug)]
 pub struct Name {
     bytes: [u8; NAME_LIMIT],
@@ -35,7 +34,6 @@ impl Model for Name {
     ghost inverse_ok = { name_fields-view };
 }
 
-// Puts bytes at the front of a field.
 fn put_front(field: &mut [u8], bytes: &[u8])
     requires { length bytes.now ≤ length field.old }
     ensures { field.new ≡ bytes.now ++ drop (length bytes.now) field.old }
@@ -43,7 +41,6 @@ fn put_front(field: &mut [u8], bytes: &[u8])
     field[..bytes.len()].copy_from_slice(bytes);
 }
 
-// Where the name ends: at the first `@`.
 #[tactic(auto, using(std::proofs::lemmas::List::Sums::position_or_len_is))]
 fn name_end(bytes: &[u8]) -> usize
     ensures first { result ≡ position_or_len is_at bytes.now }
@@ -58,7 +55,6 @@ fn name_end(bytes: &[u8]) -> usize
 }
 
 impl Name {
-    /// The name of the root.
     pub fn root() -> Name
         ensures { result ≡ codes "root" }
     {
@@ -70,11 +66,11 @@ impl Name {
         }
     }
 
-    /// The canonical name of a locale identifier (UTS #35, in this project's profile): `de-at@x=y`
-    /// is `de_AT`.
+    /// Converts a locale identifier to its canonical name (a profile of UTS #35): `de-at@x=y` is
+    /// `de_AT`.
     ///
-    /// What follows the first `@` is left out, and the empty name is `root`. `BadLocale`: the text
-    /// is no name, or has more than 64 bytes before the `@`.
+    /// The first `@` and all bytes after it are ignored, and the empty name is `root`. Returns
+    /// `BadLocale` if the text isn't a name or has more than 64 bytes before the `@`.
     ///
     /// ```rust
     /// let name = Name::read(b"ZH-hant-tw@x=y")?; // zh_Hant_TW
@@ -83,7 +79,7 @@ impl Name {
     #[tactic(auto, using(crate::proofs::Canonical::own_name))]
     pub fn read(bytes: &[u8]) -> Result<Name, BadLocale>
         ensures name { result_ok result ≡ name bytes.now }
-        // A canonical name is its own canonical name.
+        // Reading a canonical name returns it unchanged.
         ensures canonical { IfOk result (λ n. name n ≡ Some n) }
     {
         let end = name_end(bytes);
@@ -104,7 +100,6 @@ impl Name {
         })
     }
 
-    /// The name's bytes.
     #[tactic(auto, using(crate::proofs::Canonical::own_name))]
     pub fn as_bytes(&self) -> &[u8]
         ensures bytes { result.now ≡ self.now }
@@ -114,7 +109,7 @@ impl Name {
         &self.bytes[..self.len as usize]
     }
 
-    /// The name without its last part; `None` for a name of one part.
+    /// Returns the name without its last part, or `None` if it has only one part.
     pub fn shorter(&self) -> Option<Name>
         ensures { result ≡ shorter self.now }
     {
@@ -133,7 +128,6 @@ impl Name {
     }
 }
 
-// The index of the last underscore.
 fn last_underscore(bytes: &[u8]) -> Option<usize>
     ensures { IsLastIndex bytes.now result }
 {

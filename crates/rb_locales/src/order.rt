@@ -1,4 +1,4 @@
-//! The order of names, by bytes, what of them is hashed, and the default name.
+//! The order of names by their bytes, their hash, and the default name.
 ghost use Rattle.std.specs.Prelude.{◌≡◌, ◌∷◌, [], codes, nat_eq};
 ghost use Rattle.std.proofs.Common.{rules};
 ghost use Rattle.std.specs.Cmp.{partial_order_from_own_ties};
@@ -48,7 +48,7 @@ impl PartialOrd for Name {
     }
 }
 
-// The bytes are written whole, as a hash of them one by one takes many times as long.
+// Hash the bytes in one call: hashing them one by one takes many times as long.
 impl Hash for Name {
     ghost hash_input = { λ n. n ∷ [] };
 

@@ -1,4 +1,4 @@
-//! Names that are read from units.
+//! Reads names from UTF-16 units.
 ghost use Rattle.std.specs.Prelude.{◌≡◌, ◌≤◌, ◌+◌, ◌-◌, length, take, drop, map, slice_range};
 ghost use Rattle.std.specs.Result.{result_ok};
 ghost use Rattle.std.specs.List.{position_or_len};
@@ -11,7 +11,6 @@ use crate::limits::NAME_LIMIT;
 use crate::name::Name;
 use rb_tree::Node;
 
-// How many units come before an `@`.
 #[tactic(auto, using(crate::proofs::Narrowed::before_here, crate::proofs::Narrowed::before_none))]
 fn units_before_at<N: Node>(node: N, from: usize, past: usize) -> usize
     requires units { HasUnits (kind_of (N.tree node)) }
@@ -29,7 +28,6 @@ fn units_before_at<N: Node>(node: N, from: usize, past: usize) -> usize
     past - from
 }
 
-// Fills a field with units.
 #[tactic(auto, using(crate::proofs::Narrowed::filled))]
 fn fill_units<N: Node>(node: N, from: usize, past: usize, field: &mut [u8])
     requires units { HasUnits (kind_of (N.tree node)) }
@@ -44,7 +42,6 @@ fn fill_units<N: Node>(node: N, from: usize, past: usize, field: &mut [u8])
     }
 }
 
-// Fills the front of a field with units.
 fn fill_front<N: Node>(node: N, from: usize, past: usize, len: usize, field: &mut [u8])
     requires units { HasUnits (kind_of (N.tree node)) }
     requires fits { len ≤ length field.old }
@@ -58,8 +55,7 @@ fn fill_front<N: Node>(node: N, from: usize, past: usize, len: usize, field: &mu
 }
 
 impl Name {
-    /// Reads a name as `read` does, from the units of a String or an Alias from one index up to
-    /// another.
+    /// Reads a name from the units `from..past` of a String or an Alias, like `read`.
     pub fn read_part<N: Node>(node: N, from: usize, past: usize) -> Result<Name, BadLocale>
         requires units { HasUnits (kind_of (N.tree node)) }
         requires order { from ≤ past }
@@ -75,7 +71,7 @@ impl Name {
         Name::read(&field[..len])
     }
 
-    /// Reads a name as `read` does, from the units of a String or an Alias.
+    /// Reads a name from the units of a String or an Alias, like `read`.
     pub fn read_units<N: Node>(node: N) -> Result<Name, BadLocale>
         requires { HasUnits (kind_of (N.tree node)) }
         ensures { result_ok result ≡ name (units_of (N.tree node)) }

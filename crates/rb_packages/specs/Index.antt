@@ -1,11 +1,11 @@
--- For proofs only: the program's index of all applications, read as the files of each.
+-- Defines the model of the program's index: the files of each application, for proofs only.
 use Rattle.std.specs.Prelude.{◌≡◌, ◌≢◌, ℕ, List, [], Option, Some, None, map, option_map}
 use Rattle.std.specs.Map.{lookup}
 use Rattle.std.specs.Str.{bytes_eq}
 use Rattle.indexmap.specs.IndexMap.{IndexMap}
 use Rattle.rb_packages.specs.Packages.{Files}
 
--- applications with their packages, where S is what hashes their names
+-- applications with their packages; S hashes their names
 abbrev pub Rows : Type 0 → Type 0
 Rows S = List (List ℕ × IndexMap (List ℕ) (List ℕ) S)
 
@@ -23,7 +23,7 @@ module _ {S : Type 0} where
   abbrev pub files_by_app : Rows S → List (List ℕ × Files)
   files_by_app rows = map (λ e. (e.0, e.1.entries)) rows
 
-  -- the packages of all other applications stay
+  -- the packages of all other applications are unchanged
   abbrev pub KeepsOthers : List ℕ → Rows S → Rows S → Type 0
   KeepsOthers app old new = (other : List ℕ) → other ≢ app → lookup (bytes_eq other) new ≡ lookup (bytes_eq other) old
 

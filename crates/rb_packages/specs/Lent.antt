@@ -1,4 +1,4 @@
--- What a shelf that packages lend is seen as: the bundles of one package by their names.
+-- Defines the model of a shelf that packages return: the bundles of one package by name.
 use Rattle.std.specs.Prelude.{◌≡◌, ℕ, Bool, List, [], Option, Some, None}
 use Rattle.std.specs.Map.{lookup}
 use Rattle.std.specs.Str.{bytes_eq}
@@ -14,7 +14,7 @@ use Rattle.rb_packages.specs.Shelf.{bundle_at}
 use Rattle.rb_packages.specs.Packages.{Files, shelf_of}
 use Rattle.rb_packages.specs.declared.shelf.AppShelf.{AppShelf}
 
--- no files if no package is lent
+-- no files if there is no package
 abbrev pub files_lent : {S : Type 0} → Option (Bor (IndexMap (List ℕ) (List ℕ) S)) → Files
 files_lent None = []
 files_lent (Some bundles) = bundles.now.entries
@@ -25,7 +25,7 @@ files_in shelf = files_lent shelf.bundles
 abbrev pub bundles_lent : AppShelf → List ℕ → Option SourceTree
 bundles_lent shelf = bundle_at (shelf_of (files_in shelf))
 
--- what is lent at a name is word 0 of the data of the file there
+-- the item returned for a name is word 0 of the data of that name's file
 abbrev pub LendsRoot : Files → List ℕ → Option (LentItem × Bool) → Type 0
 LendsRoot files name None = Unit {0}
 LendsRoot files name (Some lent) = (file : List ℕ) × (lookup (bytes_eq name) files ≡ Some file)

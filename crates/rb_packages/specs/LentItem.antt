@@ -1,5 +1,4 @@
--- What an item that packages lend is seen as: the item of the bundle's file, and the tree that it denotes
--- (`uresdata.h`).
+-- Defines the model of a borrowed item: the item of the bundle's file, and the tree that it denotes (`uresdata.h`).
 use Rattle.rb_tree.specs.Resource.{Resource}
 use Rattle.rb_views.specs.Seen.{tree_seen}
 use Rattle.rb_views.specs.declared.item.Item.{Item}

@@ -1,4 +1,4 @@
--- The words of refusals, this project's own rule: each is its variant's or its type's name.
+-- Defines the error codes of packages, a rule of this project: the name of the variant or the type.
 use Rattle.std.specs.Prelude.{ℕ, List, codes}
 use Rattle.rb_packages.specs.declared.app.AppFault.{AppFault}
 use Rattle.rb_packages.specs.declared.app.AppFault.TheVariants as app

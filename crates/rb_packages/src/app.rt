@@ -6,11 +6,10 @@ ghost use Rattle.rb_packages.specs.App.{app_of, is_app_byte as passes};
 use std::hash::{Hash, Hasher};
 use std::marker::Model;
 
-/// The longest name of an application, in bytes.
+/// The maximum length of an application's name, in bytes.
 pub const APP_LIMIT: usize = 64;
 
-/// The name of an application: 1 to 64 letters, digits, `_`, `-` and `.`, and not `ICUDATA`.
-/// Contracts see it as its bytes.
+/// The name of an application: 1 to 64 letters, digits, `_`, `-` and `.`, except `ICUDATA`.
 #[derive(Clone, Copy, Debug)]
 pub struct App {
     bytes: [u8; APP_LIMIT],
@@ -55,7 +54,7 @@ impl Eq for App {
     ghost laws = { Prim.search (comparing, rules) };
 }
 
-// The bytes are written whole, as a hash of them one by one takes many times as long.
+// Hash the bytes in one call: hashing them one by one takes many times as long.
 impl Hash for App {
     ghost use Rattle.std.specs.Prelude.{◌∷◌, []};
     ghost use Rattle.std.proofs.Common.{rules};
@@ -70,17 +69,17 @@ impl Hash for App {
     }
 }
 
-/// Why bytes are no application's name.
+/// The reason why bytes aren't an application's name.
 #[derive(Clone, Copy, Debug, PartialEq, Eq)]
 pub enum AppFault {
-    /// There are none or more than 64, or one of them isn't allowed in a name.
+    /// The length isn't 1 to 64, or a byte isn't allowed.
     BadApp,
-    /// They are `ICUDATA`, the name of the common bundles.
+    /// The name is `ICUDATA`, which names the common bundles.
     Reserved,
 }
 
 impl App {
-    /// Reads an application's name. It takes no memory.
+    /// Reads an application's name. Allocates nothing.
     pub fn read(bytes: &[u8]) -> Result<App, AppFault>
         ensures { result ≡ app_of bytes.now }
     {
@@ -98,7 +97,6 @@ impl App {
         })
     }
 
-    /// The name's bytes.
     pub fn as_bytes(&self) -> &[u8]
         ensures { result.now ≡ self.now }
     {
@@ -106,7 +104,6 @@ impl App {
     }
 }
 
-/// Whether a byte is allowed in an application's name.
 fn is_app_byte(b: u8) -> bool
     ensures { result ≡ passes b }
 {
@@ -119,7 +116,6 @@ fn are_app_bytes(bytes: &[u8]) -> bool
     bytes.iter().all(|&b| is_app_byte(b))
 }
 
-/// Writes bytes over the front of a field.
 fn put_front(field: &mut [u8], bytes: &[u8])
     requires { length bytes.now ≤ length field.old }
     ensures { field.new ≡ bytes.now ++ drop (length bytes.now) field.old }

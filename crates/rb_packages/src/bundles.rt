@@ -1,4 +1,3 @@
-//! The bundles of one package, in the order of installing.
 ghost use Rattle.std.specs.Prelude.{◌≡◌, ◌-◌, ◌^◌, [], ◌∷◌, ◌++◌, Some, None, IfOk, IfErr, IfNone};
 ghost use Rattle.std.specs.Prelude.{OnOk, OnErr, ◌+◌, length, min, fold, map, option_map};
 ghost use Rattle.std.specs.Map.{lookup, keys_of, values_of, set_value, remove_entry};
@@ -8,8 +7,8 @@ ghost use Rattle.rb_packages.specs.Usage.{bytes_of};
 ghost use Rattle.rb_packages.specs.declared.fault.PackFault.TheVariants as faults;
 
 use crate::fault::{Absent, PackFault};
-use crate::held::Held;
 use crate::limits::BUNDLE_LIMIT;
+use crate::stored_bundle::StoredBundle;
 use crate::usage::Usage;
 use indexmap::IndexMap;
 use rb_locales::Name;
@@ -18,11 +17,11 @@ use std::alloc::{AllocError, Global};
 use std::hash::RandomState;
 use std::mem;
 
-/// The bundles of one package, in the order of installing, each with what lookups ask of it.
-pub(crate) type Bundles = IndexMap<Name, Held, RandomState>;
+/// The bundles of one package in the order of installation.
+pub(crate) type Bundles = IndexMap<Name, StoredBundle, RandomState>;
 
-/// A package of one bundle, with room for no other, since many applications have one. If out of
-/// memory, the bundle comes back.
+/// Creates a package of one bundle without spare capacity, since many applications have only one.
+/// Returns the bundle if out of memory.
 pub(crate) fn of_one(
     alloc: Global,
     state: RandomState,
@@ -40,7 +39,7 @@ pub(crate) fn of_one(
     Ok(bundles)
 }
 
-/// Adds a bundle at the end, under a name that isn't there.
+/// Adds a bundle at the end under a new name.
 pub(crate) fn add(
     bundles: &mut Bundles,
     name: Name,
@@ -51,16 +50,16 @@ pub(crate) fn add(
     ensures error { IfErr result (λ e. e ≡ (faults.Memory, bundle)) }
     ensures stays { OnErr result (bundles.new.entries ≡ bundles.old.entries) }
 {
-    match bundles.insert(name, Held::of(bundle)) {
+    match bundles.insert(name, StoredBundle::of(bundle)) {
         Ok(_) => Ok(()),
         Err(error) => {
-            let (_, held) = error.value;
-            Err((PackFault::Memory, held.into_bundle()))
+            let (_, stored) = error.value;
+            Err((PackFault::Memory, stored.into_bundle()))
         }
     }
 }
 
-/// Adds a bundle at the end, up to the limit.
+/// Adds a bundle at the end, or returns it with `Exists`, `Full` or `Memory`.
 pub(crate) fn install(
     bundles: &mut Bundles,
     name: Name,
@@ -80,7 +79,8 @@ pub(crate) fn install(
     add(bundles, name, bundle)
 }
 
-/// Puts a bundle in the place of the one of its name, and gives that one.
+/// Replaces the bundle with this name and returns the old one, or returns the new one with
+/// `Absent`.
 pub(crate) fn replace(
     bundles: &mut Bundles,
     name: &Name,
@@ -94,42 +94,41 @@ pub(crate) fn replace(
     ensures stays { OnErr result (bundles.new.entries ≡ bundles.old.entries) }
 {
     match bundles.get_mut(name) {
-        Some(held) => Ok(mem::replace(held, Held::of(bundle)).into_bundle()),
+        Some(stored) => Ok(mem::replace(stored, StoredBundle::of(bundle)).into_bundle()),
         None => Err((Absent, bundle)),
     }
 }
 
-/// Takes the bundle of a name out; the others keep their order.
+/// Removes the bundle with this name; the others keep their order.
 pub(crate) fn remove(bundles: &mut Bundles, name: &Name) -> Option<Bundle>
     ensures found { result ≡ lookup (bytes_eq name.now) bundles.old.entries }
     ensures left { bundles.new.entries ≡ remove_entry (bytes_eq name.now) bundles.old.entries }
     ensures stays { IfNone result (bundles.new.entries ≡ bundles.old.entries) }
 {
     match bundles.shift_remove(name) {
-        Some(held) => Some(held.into_bundle()),
+        Some(stored) => Some(stored.into_bundle()),
         None => None,
     }
 }
 
-/// The names, in the order of installing.
+/// Returns the names in the order of installation.
 pub(crate) fn names(alloc: Global, bundles: &Bundles) -> Result<Vec<Name>, AllocError>
     ensures { IfOk result (λ names. names.items ≡ keys_of bundles.now.entries) }
 {
     bundles.keys().map(|name| *name).collect(alloc)
 }
 
-/// The bytes of all files, `u64::MAX` at the most.
+/// Sums the lengths of all files, saturating.
 fn bytes(bundles: &Bundles) -> u64
     ensures { result ≡ fold (λ sum len. min (sum + len) (2 ^ 64 - 1)) 0
         (map length (values_of bundles.now.entries)) }
 {
     bundles
         .values()
-        .map(|held| held.len())
+        .map(|stored| stored.len())
         .fold(0, |sum: u64, len| sum.saturating_add(len))
 }
 
-/// How much a package holds.
 pub(crate) fn usage(bundles: &Bundles) -> Usage
     ensures bytes { result.bytes ≡ min (bytes_of bundles.now.entries) (2 ^ 64 - 1) }
     ensures count { result.bundles ≡ length bundles.now.entries }
@@ -140,12 +139,11 @@ pub(crate) fn usage(bundles: &Bundles) -> Usage
     }
 }
 
-/// The length of the file of a name's bundle.
 pub(crate) fn file_len(bundles: &Bundles, name: &Name) -> Option<u64>
     ensures { result ≡ option_map length (lookup (bytes_eq name.now) bundles.now.entries) }
 {
     match bundles.get(name) {
-        Some(held) => Some(held.len()),
+        Some(stored) => Some(stored.len()),
         None => None,
     }
 }

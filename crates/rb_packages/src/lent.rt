@@ -1,4 +1,3 @@
-//! The items of the bundles that packages lend.
 ghost use Rattle.std.specs.Prelude.{◌≡◌, ◌⊎◌, IsTrue};
 ghost use Rattle.rb_parents.specs.Trail.{alias_key, parent_key};
 ghost use Rattle.rb_views.specs.Seen.{tree_seen};
@@ -7,8 +6,8 @@ ghost use Rattle.rb_packages.specs.inner.Names.{names_nothing};
 use rb_tree::{Kind, Node};
 use rb_views::Item;
 
-/// An item of a bundle that packages lend. It is what its `item` is, but that the root of a bundle
-/// whose table has neither `%%ALIAS` nor `%%Parent` answers so without a look at the file.
+/// An item borrowed from a stored bundle. It behaves like its `item`, but the root of a table
+/// without `%%ALIAS` and `%%Parent` answers for these keys without reading the file.
 #[derive(Clone, Copy)]
 pub struct LentItem<'a> {
     pub(crate) item: Item<'a>,
@@ -16,14 +15,13 @@ pub struct LentItem<'a> {
     ghost noted: { IsTrue lacks_names → IsTrue (names_nothing (tree_seen item)) },
 }
 
-/// Whether a key is one of the two at which a bundle's root names another bundle.
 fn names_bundle(key: &[u8]) -> bool
     ensures { IsTrue result → (key.now ≡ alias_key) ⊎ (key.now ≡ parent_key) }
 {
     key == b"%%ALIAS".as_slice() || key == b"%%Parent".as_slice()
 }
 
-/// An item of which nothing is known beside.
+/// Wraps an item that isn't a root.
 fn below<'a>(item: Item<'a>) -> LentItem<'a>
     ensures { result.item ≡ item.entry }
 {
@@ -36,7 +34,6 @@ fn below<'a>(item: Item<'a>) -> LentItem<'a>
 impl<'a> LentItem<'a> {
     ghost use Rattle.rb_packages.specs.LentItem.{lent_item};
 
-    /// The item, without what is known beside it.
     pub fn item(self) -> Item<'a>
         ensures { result ≡ lent_item self.entry }
     {

@@ -1,16 +1,16 @@
-//! The bundles of many applications and those of ICUDATA, each package a list of its own, in one
-//! index.
+//! Stores the bundles of all applications and of ICUDATA: one index by application, and in it one
+//! list of bundles for each application.
 #![tactic(auto)]
 
 mod app;
 mod bundles;
 mod fault;
-mod held;
 mod lent;
 mod limits;
 mod owned;
 mod packages;
 mod shelf;
+mod stored_bundle;
 mod usage;
 mod words;
 

@@ -1,4 +1,2 @@
-//! The limit on an application's bundles.
-
-/// The greatest number of bundles that an application has at once.
+/// The maximum number of bundles of an application.
 pub const BUNDLE_LIMIT: usize = 4096;

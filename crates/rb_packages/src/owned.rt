@@ -1,4 +1,4 @@
-//! The bundles of all applications, each application's in a list of its own.
+//! The packages of all applications.
 ghost use Rattle.std.specs.Prelude.{◌≡◌, ◌-◌, ◌^◌, ◌+◌, [], ◌∷◌, ◌++◌, Some, None, IfOk, IfErr};
 ghost use Rattle.std.specs.Prelude.{IfNone, OnOk, OnErr, IsTrue, true, false, length, min, is_some};
 ghost use Rattle.std.specs.Prelude.{option_map, if◌then◌else◌};
@@ -19,11 +19,10 @@ use rb_locales::Name;
 use rb_validator::Bundle;
 use std::hash::RandomState;
 
-/// The bundles of all applications. An application without bundles isn't there.
+/// The packages by application. An application without bundles has no entry.
 pub(crate) type Owned = IndexMap<App, Bundles, RandomState>;
 
-/// Installs the first bundle of an application that isn't there. If out of memory, the bundle comes
-/// back.
+/// Installs the first bundle of an application, or returns it if out of memory.
 fn install_first(
     owned: &mut Owned,
     app: &App,
@@ -46,7 +45,6 @@ fn install_first(
     Ok(())
 }
 
-/// Installs a bundle of an application.
 pub(crate) fn install(
     owned: &mut Owned,
     app: &App,
@@ -70,7 +68,7 @@ pub(crate) fn install(
     install_first(owned, app, name, bundle)
 }
 
-/// Puts a bundle in the place of the application's bundle of that name, and gives that one.
+/// Replaces an application's bundle and returns the old one.
 pub(crate) fn replace(
     owned: &mut Owned,
     app: &App,
@@ -94,7 +92,6 @@ pub(crate) fn replace(
     }
 }
 
-/// Takes a bundle out of the application's.
 fn remove_bundle(owned: &mut Owned, app: &App, name: &Name) -> Option<Bundle>
     ensures found { result ≡ lookup (bytes_eq name.now) (files_at app.now owned.old.entries) }
     ensures own { files_at app.now owned.new.entries
@@ -112,7 +109,6 @@ fn remove_bundle(owned: &mut Owned, app: &App, name: &Name) -> Option<Bundle>
     }
 }
 
-/// Whether an application is there without bundles.
 fn is_bare(owned: &Owned, app: &App) -> bool
     ensures bare { IsTrue result → IsBare (lookup (bytes_eq app.now) owned.now.entries) }
     ensures filled { result ≡ false → ¬ IsBare (lookup (bytes_eq app.now) owned.now.entries) }
@@ -123,7 +119,6 @@ fn is_bare(owned: &Owned, app: &App) -> bool
     }
 }
 
-/// Takes an application without bundles out.
 fn remove_if_empty(owned: &mut Owned, app: &App)
     ensures own { files_at app.now owned.new.entries ≡ files_at app.now owned.old.entries }
     ensures others { KeepsOthers app.now owned.old.entries owned.new.entries }
@@ -138,7 +133,7 @@ fn remove_if_empty(owned: &mut Owned, app: &App)
     owned.swap_remove(app);
 }
 
-/// Takes a bundle out of the application's, and the application with its last one.
+/// Removes an application's bundle, and the application's entry with its last bundle.
 pub(crate) fn remove(owned: &mut Owned, app: &App, name: &Name) -> Result<Bundle, Absent>
     ensures found { IfOk result
         (λ b. lookup (bytes_eq name.now) (files_at app.now owned.old.entries) ≡ Some b) }
@@ -161,7 +156,6 @@ pub(crate) fn remove(owned: &mut Owned, app: &App, name: &Name) -> Result<Bundle
     }
 }
 
-/// How much an application holds.
 pub(crate) fn usage(owned: &Owned, app: &App) -> Usage
     ensures bytes { result.bytes
         ≡ min (bytes_of (files_at app.now owned.now.entries)) (2 ^ 64 - 1) }
@@ -176,7 +170,6 @@ pub(crate) fn usage(owned: &Owned, app: &App) -> Usage
     }
 }
 
-/// The length of the file of an application's bundle.
 pub(crate) fn file_len(owned: &Owned, app: &App, name: &Name) -> Option<u64>
     ensures { result
         ≡ option_map length (lookup (bytes_eq name.now) (files_at app.now owned.now.entries)) }

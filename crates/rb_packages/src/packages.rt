@@ -1,4 +1,3 @@
-//! The bundles of ICUDATA and of all applications.
 ghost use Rattle.std.specs.Prelude.{◌≡◌, ◌+◌, ◌-◌, ◌^◌, ℕ, [], ◌∷◌, ◌++◌, List, Some, None, IfOk};
 ghost use Rattle.std.specs.Prelude.{IfErr, OnOk, OnErr, map, length, min, option_map};
 ghost use Rattle.std.specs.Map.{set_value, remove_entry};
@@ -24,12 +23,10 @@ use std::alloc::{AllocError, Global};
 use std::hash::RandomState;
 use std::marker::Model;
 
-/// The bundles of ICUDATA and those of many applications, each package with its bundles by their
-/// names, in the order of installing.
+/// The bundles of ICUDATA and of many applications, by name and in the order of installation.
 ///
-/// One index holds all applications, and each application's bundles are in an index of their own.
-/// So a call takes time only for the caller's bundles. An application without bundles takes no
-/// memory.
+/// Each application has its own index, so a call takes time only for the caller's bundles. An
+/// application without bundles takes no memory.
 #[derive(Drop)]
 pub struct Packages {
     icudata: Bundles,
@@ -56,7 +53,7 @@ impl Model for Packages {
 }
 
 impl Packages {
-    /// Packages without bundles, whose index hashes by `state`. It takes no memory.
+    /// Creates packages without bundles; `state` seeds their hashes. Allocates nothing.
     pub fn new(alloc: Global, state: RandomState) -> Packages
         ensures icudata { icudata_of result ≡ [] }
         ensures lists { (app : List ℕ) → list_of app result ≡ [] }
@@ -70,8 +67,8 @@ impl Packages {
         }
     }
 
-    /// Adds a bundle of ICUDATA, last in its order. `Twice`: there is one of that name. `Memory`:
-    /// out of memory. An error changes nothing and gives the bundle back.
+    /// Adds a bundle of ICUDATA at the end. On an error nothing changes, and the bundle is
+    /// returned: `Twice` if the name exists, or `Memory`.
     pub fn load(&mut self, name: Name, bundle: Bundle) -> Result<(), (PackFault, Bundle)>
         ensures judged { IsJudged (load_fault name (icudata_of self.old)) result }
         ensures file { OnOk result
@@ -90,9 +87,8 @@ impl Packages {
         bundles::add(&mut self.icudata, name, bundle)
     }
 
-    /// Adds a bundle of an application, last in its order. `Exists`: the application has one of
-    /// that name. `Full`: it has 4,096 bundles. `Memory`: out of memory. An error changes nothing
-    /// and gives the bundle back.
+    /// Adds a bundle of an application at the end. On an error nothing changes, and the bundle is
+    /// returned: `Exists` if the name exists, `Full` after 4,096 bundles, or `Memory`.
     ///
     /// ```rust
     /// let mut packages = Packages::new(alloc, RandomState::new(rt)?);
@@ -118,8 +114,8 @@ impl Packages {
         owned::install(&mut self.owned, app, name, bundle)
     }
 
-    /// Puts a bundle in the place of the application's bundle of that name, and gives the old one.
-    /// `Absent`: there is none; nothing is changed, and the bundle comes back. It takes no memory.
+    /// Replaces the application's bundle with this name and returns the old one. If it is missing
+    /// nothing changes, and the new one is returned with `Absent`. Allocates nothing.
     pub fn replace(
         &mut self,
         app: &App,
@@ -142,8 +138,8 @@ impl Packages {
         owned::replace(&mut self.owned, app, name, bundle)
     }
 
-    /// Takes the application's bundle of that name out and gives it. `Absent`: there is none;
-    /// nothing is changed. It takes no memory.
+    /// Removes the application's bundle with this name and returns it, or `Absent`. Allocates
+    /// nothing.
     pub fn remove(&mut self, app: &App, name: &Name) -> Result<Bundle, Absent>
         ensures file { IfOk result (λ b. file_at app.now name.now self.old ≡ Some b) }
         ensures old { IfOk result
@@ -161,8 +157,7 @@ impl Packages {
         owned::remove(&mut self.owned, app, name)
     }
 
-    /// The names of an application's bundles, in the order of installing; none of an application
-    /// without bundles.
+    /// Returns the names of an application's bundles in the order of installation.
     pub fn list(&self, alloc: Global, app: &App) -> Result<Vec<Name>, AllocError>
         ensures { IfOk result (λ names. names.items ≡ map (λ e. e.0) (list_of app.now self.now)) }
     {
@@ -172,8 +167,7 @@ impl Packages {
         }
     }
 
-    /// How much an application holds: nothing if it has no bundles. It takes no memory, and goes
-    /// once through the application's own bundles.
+    /// Returns how much an application stores. Takes time linear in its number of bundles.
     pub fn usage(&self, app: &App) -> Usage
         ensures bytes { result.bytes ≡ min (bytes_of (files_of app.now self.now)) (2 ^ 64 - 1) }
         ensures bundles { result.bundles ≡ length (files_of app.now self.now) }
@@ -181,24 +175,23 @@ impl Packages {
         owned::usage(&self.owned, app)
     }
 
-    /// The length of the file of the application's bundle of that name, if there is one. It takes
-    /// no memory.
+    /// Returns the length of the file of the application's bundle with this name.
     pub fn file_len(&self, app: &App, name: &Name) -> Option<u64>
         ensures { result ≡ option_map length (file_at app.now name.now self.now) }
     {
         owned::file_len(&self.owned, app, name)
     }
 
-    /// How many applications have bundles. It takes no memory.
+    /// Returns how many applications have bundles.
     pub fn apps(&self) -> u64
         ensures count { result ≡ apps_of self.now }
-        // Each of them counts once, and has bundles.
+        // Each application counts once, and has bundles.
         ensures once { AreThereOnce self.now }
     {
         self.owned.len() as u64
     }
 
-    /// The bundles of an application, lent. It takes no memory.
+    /// Returns a reference to the bundles of an application.
     pub fn shelf(&self, app: &App) -> AppShelf<'_>
         ensures bundles { bundles_lent result ≡ bundle_at (list_of app.now self.now) }
         ensures files { files_in result ≡ files_of app.now self.now }
@@ -208,7 +201,6 @@ impl Packages {
         }
     }
 
-    /// The bundles of ICUDATA, lent. It takes no memory.
     pub fn icu_shelf(&self) -> AppShelf<'_>
         ensures bundles { bundles_lent result ≡ bundle_at (icudata_of self.now) }
         ensures files { files_in result ≡ icudata_files self.now }

@@ -1,4 +1,3 @@
-//! The bundles of one package, lent.
 ghost use Rattle.std.specs.Prelude.{◌≡◌, option_map};
 ghost use Rattle.rb_parents.specs.Shelf.{bundle_of};
 ghost use Rattle.rb_packages.specs.Shelf.{bundle_at};
@@ -11,7 +10,7 @@ use crate::lent::LentItem;
 use rb_locales::Name;
 use rb_parents::Shelf;
 
-/// The bundles of ICUDATA or of one application, by their names. It lends the roots of their files.
+/// A reference to the bundles of ICUDATA or of one application, which implements `Shelf`.
 #[derive(Clone, Copy)]
 pub struct AppShelf<'a> {
     pub(crate) bundles: Option<&'a Bundles>,
@@ -33,14 +32,13 @@ impl<'a> Shelf<'a> for AppShelf<'a> {
     }
 }
 
-/// The root of a name's bundle, and whether the bundle has no fallback.
 fn bundle_in<'a>(bundles: &'a Bundles, name: &Name) -> Option<(LentItem<'a>, bool)>
     ensures value { option_map (bundle_of lent_tree) result
         ≡ bundle_at (shelf_of bundles.now.entries) name.now }
     ensures place { LendsRoot bundles.now.entries name.now result }
 {
     match bundles.get(name) {
-        Some(held) => Some((held.root(), held.no_fallback())),
+        Some(stored) => Some((stored.root(), stored.no_fallback())),
         None => None,
     }
 }

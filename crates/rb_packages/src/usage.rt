@@ -1,10 +1,7 @@
-//! How much an application holds.
-
-/// How much an application holds.
+/// The files that an application stores, in total.
 #[derive(Clone, Copy, Debug, PartialEq, Eq)]
 pub struct Usage {
-    /// The bytes of its bundles' files together, `u64::MAX` at the most.
+    /// The total length of its bundles' files, saturating.
     pub bytes: u64,
-    /// The number of its bundles.
     pub bundles: u64,
 }

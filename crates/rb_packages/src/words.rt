@@ -1,4 +1,3 @@
-//! The words of refusals.
 ghost use Rattle.std.specs.Prelude.{◌≡◌};
 ghost use Rattle.rb_packages.specs.Words.{app_word, pack_word};
 
@@ -7,7 +6,7 @@ use crate::fault::PackFault;
 use rb_tree::variant_name;
 
 impl AppFault {
-    /// The variant's name.
+    /// Returns the error code, which is the variant's name.
     pub fn word(self) -> &'static str
         ensures { result.now ≡ app_word self }
     {
@@ -16,7 +15,6 @@ impl AppFault {
 }
 
 impl PackFault {
-    /// The variant's name.
     pub fn word(self) -> &'static str
         ensures { result.now ≡ pack_word self }
     {

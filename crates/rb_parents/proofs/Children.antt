@@ -1,4 +1,4 @@
--- What a child is that has been found by its kind.
+-- Proves what a child is that was found by its kind.
 use Rattle.std.proofs.Common.{◌≡◌, Option, Some, None, Err, IfSome, IfNone, option_map, option_and_then, refl, sym, ap}
 use Rattle.rb_tree.specs.Resource.{Resource, table}
 use Rattle.rb_tree.specs.Parts.{kind_of, units_of}

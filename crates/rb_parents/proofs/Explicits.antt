@@ -134,7 +134,7 @@ pub fault_on : (e : ParentsFault) (part : Read) (P : Type 0) → (part ≡ Err e
 fault_on e part P h (inl m) = inl m
 fault_on e part P h (inr f) = inr (h f)
 
--- an error that a `?` hands on
+-- an error that `?` propagates
 pub err_is : {A E : Type 0} (r : Result A E) (f : E) (P : E → Type 0) → IsErrAnd r (λ e. e ≡ f) → P f → IfErr r P
 err_is (Ok v) f P h p = tt
 err_is (Err e) f P h p = subst P (sym h) p

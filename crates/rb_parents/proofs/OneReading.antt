@@ -1,4 +1,4 @@
--- What a table gives is one map or one error: each is what a reading answers.
+-- Proves that a table gives either one map or one error, which is the result of a reading.
 use Rattle.std.proofs.Common.{◌≡◌, ◌⊎◌, inl, inr, ◌<◌, ℕ, zero, suc, List, [], ◌∷◌, ◌++◌, length, Option, Some, None, Ok, Err, is_some, cond, nat_eq, refl, ap, sym, ◌∙◌}
 use Rattle.std.proofs.Common.{subst, arith, append_assoc, append-nil, length-append, unwrap_or}
 use Rattle.std.proofs.lemmas.Option.{slice_get_within}
@@ -25,7 +25,7 @@ slice_get_mid : {A : Type 0} (xs : List A) (y : A) (ys : List A) → slice_get (
 slice_get_mid [] y ys = refl
 slice_get_mid (x ∷ xs) y ys = slice_get_mid xs y ys
 
--- if all mentions name a child of their own, a reading gives a map
+-- if all mentions name distinct children, a reading gives a map
 names_new : (before ms : Mentions) (s : List ℕ × List ℕ) (m known : ParentsOf) (child parent : List ℕ) → IsNamed (before ++ s ∷ ms) m
     → put_all before no_parents ≡ Ok known → Names (before ++ s ∷ ms) (length before) child parent → known child ≡ None
 names_new before ms s m known child parent valid so_far here = by (known child) refl

@@ -1,4 +1,4 @@
--- What the trails of the program are seen as.
+-- Defines the model of the program's trails.
 use Rattle.std.specs.Prelude.{Result, Ok, Err}
 use Rattle.rb_parents.specs.Trail.{Trail, names, chain, bad_parent}
 use Rattle.rb_parents.specs.declared.fault.TrailFault.{TrailFault}

@@ -1,6 +1,6 @@
--- The explicit parents that a tree gives, as the parent locales of UTS #35 (LDML) are in ICU's `supplementalData`:
--- those that the table at `parentLocales` names. Other entries of the tree say nothing. Where one of its entries is
--- invalid it gives none: the first invalid one is the error.
+-- Defines the explicit parents that a tree gives: those in the table at `parentLocales` (the parent locales of UTS #35
+-- (LDML) in ICU's `supplementalData`). Other entries of the tree don't matter. If an entry of the table is invalid, the
+-- tree gives none, and the first invalid entry is the error.
 use Rattle.std.specs.Prelude.{◌≡◌, ℕ, List, ◌∷◌, ◌++◌, Option, Some, None, codes, slice_get}
 use Rattle.rb_tree.specs.Resource.{Resource}
 use Rattle.rb_tree.specs.Parts.{child_of}
@@ -10,24 +10,24 @@ use Rattle.rb_parents.specs.ParentMap.{Entries, Mentions, Names, IsNamed, entrie
 use Rattle.rb_parents.specs.declared.fault.ParentsFault.{ParentsFault}
 use Rattle.rb_parents.specs.declared.fault.ParentsFault.TheVariants as fault
 
--- the key of an entry is a name, and its value has the shape of one
+-- the key is a name, and the value has a valid shape
 pub record IsEntry (e : List ℕ × Resource) : Type 0 where
   pub parent : List ℕ
   pub texts : List (List ℕ)
   pub parent_is : name e.0 ≡ Some parent
   pub texts_are : texts_in e.1 ≡ Some texts
 
--- all entries are valid, and the map is what they name
+-- all entries are valid, and the map is the one that they name
 pub record GivesMap (es : Entries) (m : ParentsOf) : Type 0 where
   pub entries : (i : ℕ) (e : List ℕ × Resource) → slice_get es i ≡ Some e → IsEntry e
   pub named : IsNamed (mentions es) m
 
--- why a child is invalid after these mentions: it is no name, or one of them names it
+-- the error of a child that follows these mentions: it isn't a name, or one of them names it
 abbrev pub ChildError : Mentions → Option (List ℕ) → ParentsFault → Type 0
 ChildError ms None e = e ≡ fault.BadLocale
 ChildError ms (Some child) e = (e ≡ fault.TwoParents) × ((i : ℕ) × (parent : List ℕ) × Names ms i child parent)
 
--- the first invalid child of an entry after these mentions: those before it are valid
+-- the first invalid child of an entry that follows these mentions: those before it are valid
 pub record IsFirstBadChild (ms : Mentions) (key : List ℕ) (texts : List (List ℕ)) (e : ParentsFault) : Type 0 where
   pub before : List (List ℕ)
   pub text : List ℕ
@@ -37,7 +37,8 @@ pub record IsFirstBadChild (ms : Mentions) (key : List ℕ) (texts : List (List 
   pub valid : IsNamed (ms ++ mentions_by key before) known
   pub error : ChildError (ms ++ mentions_by key before) (name text) e
 
--- why an entry is invalid after these mentions: its key is no name, its value has another shape, or a child is invalid
+-- the error of an entry that follows these mentions: its key isn't a name, its value has another shape, or a child is
+-- invalid
 abbrev pub EntryError : Mentions → List ℕ → Option (List ℕ) → Option (List (List ℕ)) → ParentsFault → Type 0
 EntryError ms key None texts e = e ≡ fault.BadLocale
 EntryError ms key (Some parent) None e = e ≡ fault.Shape
@@ -53,7 +54,7 @@ pub record IsFirstError (es : Entries) (e : ParentsFault) : Type 0 where
   pub valid : GivesMap before known
   pub error : EntryError (mentions before) entry.0 (name entry.0) (texts_in entry.1) e
 
--- what the table at `parentLocales` gives, and what its error is; there must be one
+-- the map that the table at `parentLocales` gives, and its error; the table must exist
 abbrev pub TableGives : Option Entries → ParentsOf → Type 0
 TableGives None m = ⊥
 TableGives (Some es) m = GivesMap es m

@@ -1,4 +1,4 @@
--- What the explicit parents of the program are seen as: a map from children to parents.
+-- Defines the model of the program's explicit parents: a map from children to parents.
 use Rattle.std.specs.Prelude.{ℕ, List, Option}
 use Rattle.std.specs.Ordering.{nat_cmp}
 use Rattle.std.specs.Cmp.Lexicographic.{slice_cmp}
@@ -11,7 +11,7 @@ use Rattle.rb_parents.specs.declared.parents.Parents.{Parents}
 abbrev pub parent_of : Parents → List ℕ → Option (List ℕ)
 parent_of p n = tree_map.get (slice_cmp nat_cmp) p.by_child n
 
--- the children with their parents, in the order of the children, and the parent that they give a name
+-- the pairs of child and parent, in the order of the children, and the parent that they give a name
 abbrev pub family_pairs : Parents → List (List ℕ × List ℕ)
 family_pairs p = p.by_child.entries
 

@@ -1,11 +1,11 @@
--- What the bundles of the program's shelves are seen as.
+-- Defines the model of the bundles of the program's shelves.
 use Rattle.std.specs.Prelude.{ℕ, List, Bool, map}
 use Rattle.rb_tree.specs.Resource.{Resource}
 use Rattle.rb_tree.specs.SourceTree.{SourceTree}
 use Rattle.rb_tree.specs.View.{view_of}
 use Rattle.rb_tree.specs.declared.tree.Tree.{Tree}
 
--- a bundle's root with its flag, where `tree` is what a node is seen as
+-- the tree of a bundle's root, by `tree`, with its flag
 abbrev pub bundle_of : {N : Type 0} → (N → Resource) → N × Bool → SourceTree
 bundle_of tree b = record { tree = tree b.0; no_fallback = b.1 }
 

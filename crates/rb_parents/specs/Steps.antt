@@ -1,4 +1,4 @@
--- For proofs only: what follows a name in the program, and a trail name by name.
+-- Defines a trail step by step, like the program, for proofs only.
 use Rattle.std.specs.Prelude.{◌≡◌, ℕ, zero, suc, List}
 use Rattle.std.proofs.Common.{refl, ap}
 use Rattle.rb_parents.specs.Trail.{Bundles, ParentsOf, Next, goes_to, end, bad, next, chain, begins, onward}
@@ -11,7 +11,7 @@ next_of (step.Name n) = goes_to n
 next_of step.End = end
 next_of step.Bad = bad
 
--- a trail of at most this many names, one name on
+-- a trail of at most this many names is its first name and the trail of its next name
 pub trail_on : (k j : ℕ) (bundles : Bundles) (parents : ParentsOf) (n : List ℕ) → k ≡ suc j
     → trail_within k bundles parents n
     ≡ begins n (onward (λ m. trail_within j bundles parents m) (next bundles parents n))

@@ -1,7 +1,7 @@
--- The trail of a name: the names whose bundles are asked, in the order of locale inheritance of
--- UTS #35 (LDML), with `%%ALIAS` and `%%Parent` as ICU's `ures_open` reads them. This profile has no
--- default locale and no rule for scripts, and a trail of more than 32 names is an error. That a lookup ends at a bundle
--- without fallback is `URES_ATT_NO_FALLBACK` of `uresdata.h`.
+-- Defines the trail of a name: the names whose bundles are searched, in the order of locale inheritance of UTS #35
+-- (LDML), with `%%ALIAS` and `%%Parent` as ICU's `ures_open` reads them. This profile has no default locale and no rule
+-- for scripts, and a trail of more than 32 names is an error. A lookup ends at a bundle without fallback
+-- (`URES_ATT_NO_FALLBACK` of `uresdata.h`).
 use Rattle.std.specs.Prelude.{ℕ, zero, suc, List, [], ◌∷◌, Bool, true, false, Option, Some, None, option_and_then}
 use Rattle.std.specs.Prelude.{option_map, unwrap_or, codes, is_none}
 use Rattle.std.specs.Prelude.{if◌then◌else◌}
@@ -19,7 +19,7 @@ Bundles = List ℕ → Option SourceTree
 abbrev pub ParentsOf : Type 0
 ParentsOf = List ℕ → Option (List ℕ)
 
--- the units of a string, and nothing of another tree
+-- the units of a string, or nothing for another tree
 abbrev pub text_of : Resource → Option (List ℕ)
 text_of (string us) = Some us
 text_of t = None
@@ -47,7 +47,7 @@ abbrev pub named_next : Option (List ℕ) → Next
 named_next None = bad
 named_next (Some n) = goes_to n
 
--- the explicit parent, else the shorter name, else the root; the root has no next name
+-- the explicit parent, else the shorter name, else `root`; nothing follows `root`
 abbrev pub or_else : Option (List ℕ) → List ℕ → List ℕ
 or_else o d = unwrap_or o d
 
@@ -58,12 +58,13 @@ plain_next parents n = by_root (bytes_eq n root)
     by_root true = end
     by_root false = goes_to (or_else (parents n) (or_else (shorter n) root))
 
--- a name that a text gives, else another
+-- the name that a text gives, or else another step
 abbrev pub named_or : Option (List ℕ) → Next → Next
 named_or None other = other
 named_or (Some us) other = named_next (name us)
 
--- after a bundle: its `%%ALIAS`; else the end, if it has no fallback; else its `%%Parent`; else as without a bundle
+-- after a bundle: its `%%ALIAS`; else the end, if it has no fallback; else its `%%Parent`; else the step without a
+-- bundle
 abbrev pub bundle_next : ParentsOf → List ℕ → Option SourceTree → Next
 bundle_next parents n None = plain_next parents n
 bundle_next parents n (Some b) =
@@ -85,7 +86,7 @@ is_stop bundles n = stops_at (bundles n)
 abbrev pub stop_tree : Option SourceTree → Option Resource
 stop_tree o = if stops_at o then option_map (λ b. b.tree) o else None
 
--- the names, or why there is no trail
+-- the names of a trail, or its error
 pub data Trail : Type 0 where
   names : List (List ℕ) → Trail
   chain : Trail
@@ -115,7 +116,7 @@ trail bundles parents n = trail_within 32 bundles parents n
 abbrev pub stops : Bundles → List (List ℕ) → List (List ℕ)
 stops bundles ns = filter (is_stop bundles) ns
 
--- the indices of the names that pass, from k on
+-- the indices from k on of the names that satisfy a condition
 abbrev pub places : (List ℕ → Bool) → ℕ → List (List ℕ) → List ℕ
 places test k [] = []
 places test k (n ∷ ns) = if test n then k ∷ places test (suc k) ns else places test (suc k) ns

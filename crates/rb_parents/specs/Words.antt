@@ -1,4 +1,4 @@
--- The words of the errors, as programs print them.
+-- Defines the error codes of explicit parents and of trails.
 use Rattle.std.specs.Prelude.{ℕ, List, codes}
 use Rattle.rb_parents.specs.declared.fault.ParentsFault.{ParentsFault}
 use Rattle.rb_parents.specs.declared.fault.ParentsFault.TheVariants as parents

@@ -1,11 +1,10 @@
-//! A child of a table, by its key and its kind.
 ghost use Rattle.std.specs.Prelude.{◌≡◌, ◌≢◌, IfSome, IfNone, Some};
 ghost use Rattle.rb_tree.specs.Parts.{child_of, kind_of};
 ghost use Rattle.rb_tree.specs.Resource.{Resource};
 
 use rb_tree::{Kind, Node};
 
-/// The child that a table has at a key, if it is of a kind. No other node has one.
+/// Returns a table's child at a key if it has this kind, or None for any other node.
 pub(crate) fn child_of_kind<N: Node>(node: N, key: &[u8], kind: Kind) -> Option<N>
     ensures child { IfSome result (λ m. child_of key.now (N.tree node) ≡ Some (N.tree m)) }
     ensures kind { IfSome result (λ m. kind_of (N.tree m) ≡ kind) }

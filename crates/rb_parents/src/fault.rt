@@ -1,24 +1,20 @@
-//! The errors of explicit parents and of trails.
-
-/// Why a tree gives no explicit parents.
+/// The reason why a tree gives no explicit parents.
 #[derive(Clone, Copy, Debug, PartialEq, Eq)]
 pub enum ParentsFault {
-    /// No table at `parentLocales`, or a value there that is neither a String nor an Array of
-    /// Strings.
+    /// The tree has no table at `parentLocales`, or a value in it has an unexpected shape.
     Shape,
-    /// A parent or a child that is no locale name.
+    /// A parent or a child isn't a locale name.
     BadLocale,
-    /// A child that an earlier entry or item names.
+    /// A child is named twice.
     TwoParents,
-    /// Out of memory.
     Memory,
 }
 
-/// Why a name has no trail.
+/// The reason why a name has no trail.
 #[derive(Clone, Copy, Debug, PartialEq, Eq)]
 pub enum TrailFault {
-    /// More than 32 names.
+    /// The trail has more than 32 names.
     Chain,
-    /// A `%%ALIAS` or `%%Parent` that is no locale name.
+    /// The text at `%%ALIAS` or `%%Parent` isn't a locale name.
     BadParent,
 }

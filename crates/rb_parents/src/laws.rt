@@ -1,4 +1,3 @@
-//! What holds of explicit parents.
 ghost use Rattle.std.specs.Prelude.{◌≡◌, ◌⊎◌, ℕ, List};
 ghost use Rattle.rb_tree.specs.Resource.{Resource};
 ghost use Rattle.rb_parents.specs.Explicit.{GivesParents, RefusesParents, parent_entries};
@@ -6,15 +5,14 @@ ghost use Rattle.rb_parents.specs.ParentMap.{IsParentMap, mentions_in};
 ghost use Rattle.rb_parents.specs.Trail.{ParentsOf};
 ghost use Rattle.rb_parents.specs.declared.fault.ParentsFault.{ParentsFault};
 
-/// Does nothing: if a tree gives explicit parents, a child has a parent exactly if an entry of the
-/// table at `parentLocales` names it so, and no child is named twice.
+/// A child has a parent if and only if an entry at `parentLocales` names it, and none is named
+/// twice.
 #[tactic(auto, using(crate::proofs::ParentMaps::gives_map))]
 pub fn a_child_has_the_parent_that_names_it()
     ensures { (t : Resource) (m : ParentsOf) → GivesParents t m
         → IsParentMap (mentions_in (parent_entries t)) m }
 {}
 
-/// Does nothing: a tree gives one map of explicit parents or has one error, and not both.
 #[tactic(auto, using(crate::proofs::OneReading::map_or_error))]
 pub fn a_tree_gives_one_map_or_has_one_error()
     ensures answered { (t : Resource)

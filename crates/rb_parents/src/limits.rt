@@ -1,5 +1,2 @@
-//! The limit of a trail. The definitions in specs/ have the same number written out, so that a
-//! proof compares the two.
-
-/// The greatest number of names in a trail.
+/// The maximum number of names in a trail. specs/ repeats it, so that the proofs compare the two.
 pub const TRAIL_LIMIT: usize = 32;

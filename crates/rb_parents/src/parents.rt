@@ -1,4 +1,3 @@
-//! Explicit parents.
 ghost use Rattle.std.specs.Prelude.{◌≡◌, ◌⊎◌, List, ℕ, Ok, Err, None, IfOk, IfErr, IfSome, IfNone};
 ghost use Rattle.std.specs.Prelude.{OnOk, Some, map, if◌then◌else◌};
 ghost use Rattle.rb_tree.specs.Parts.{children_of, kind_of, pairs_of, units_of};
@@ -18,7 +17,7 @@ use rb_tree::{Kind, Node, Tree};
 use std::alloc::Global;
 use std::collections::BTreeMap;
 
-/// The explicit parents of names, which come before shorter names on a trail.
+/// The explicit parents of names, which a trail prefers to shorter names.
 #[derive(Drop)]
 pub struct Parents {
     by_child: BTreeMap<Name, Name>,
@@ -27,7 +26,6 @@ pub struct Parents {
 impl Parents {
     ghost use Rattle.rb_parents.specs.Family.{parent_of};
 
-    /// No explicit parents.
     pub fn none(alloc: Global) -> Parents
         ensures { (n : List ℕ) → parent_of result n ≡ None }
     {
@@ -36,20 +34,10 @@ impl Parents {
         }
     }
 
-    /// The explicit parents that a tree has at `parentLocales`, if each key is a parent and each
-    /// value an Array of Strings, the children, or one String.
-    ///
-    /// The first error in the order of keys and items is answered. `Shape`: the tree has no table
-    /// there, or a value has another shape. `BadLocale`: a key or a child is no locale name.
-    /// `TwoParents`: a child was named before, also under the same parent. `Memory`: out of memory.
-    /// Of an entry the key is read first, then the whole value's shape, then its children. An error
-    /// leaves nothing allocated.
-    ///
-    /// ```rust
-    /// // Of the text `x{parentLocales{root{"zh_Hant"}}}`.
-    /// let parents = Parents::read(alloc, &source.tree)?;
-    /// parents.parent(&zh_hant) // Some(Name::root())
-    /// ```
+    /// Reads the explicit parents at a tree's `parentLocales`: each key is a parent, and each value
+    /// a String or an Array of Strings, its children. Returns the first error in the order of keys
+    /// and items; of one entry, the key is read first, then the shape of its value, then its
+    /// children.
     #[tactic(auto, using(crate::proofs::FirstErrors::table_refuses))]
     pub fn read(alloc: Global, tree: &Tree) -> Result<Parents, ParentsFault>
         ensures parents { IfOk result (λ p. GivesParents (view_of tree.now) (parent_of p)) }
@@ -67,7 +55,6 @@ impl Parents {
         Ok(parents)
     }
 
-    /// The explicit parent of a name.
     pub fn parent(&self, name: &Name) -> Option<Name>
         ensures { result ≡ parent_of self.now name.now }
     {
@@ -75,7 +62,6 @@ impl Parents {
     }
 }
 
-// The table of a tree that has explicit parents.
 fn locales_table(tree: &Tree) -> Option<&Tree>
     ensures kind { IfSome result (λ t. kind_of (view_of t.now) ≡ Kinds.Table) }
     ensures entries { IfSome result
@@ -85,7 +71,6 @@ fn locales_table(tree: &Tree) -> Option<&Tree>
     child_of_kind(tree, b"parentLocales", Kind::Table)
 }
 
-// Whether all items of an array are strings.
 fn are_strings(value: &Tree) -> bool
     requires { kind_of (view_of value.now) ≡ Kinds.Array }
     ensures { texts_in (view_of value.now)
@@ -102,7 +87,6 @@ fn are_strings(value: &Tree) -> bool
 impl Parents {
     ghost use Rattle.rb_parents.specs.Family.{parent_of};
 
-    // Puts in one child more, whose name is a string.
     fn put_child(&mut self, parent: Name, text: &Tree) -> Result<(), ParentsFault>
         requires { kind_of (view_of text.now) ≡ Kinds.String }
         ensures ok { OnOk result (put_child parent (name (units_of (view_of text.now)))
@@ -123,7 +107,6 @@ impl Parents {
         }
     }
 
-    // Puts in the children that a value names.
     fn put_value(&mut self, parent: Name, value: &Tree) -> Result<(), ParentsFault>
         ensures ok { OnOk result (put_value parent (texts_in (view_of value.now))
             (parent_of self.old) ≡ Ok (parent_of self.new)) }
@@ -142,7 +125,6 @@ impl Parents {
         Ok(())
     }
 
-    // Puts in one entry more.
     fn put_entry(&mut self, key: &[u8], value: &Tree) -> Result<(), ParentsFault>
         ensures ok { OnOk result (put_entry (name key.now) (view_of value.now) (parent_of self.old)
             ≡ Ok (parent_of self.new)) }

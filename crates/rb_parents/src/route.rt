@@ -1,4 +1,3 @@
-//! The trail of a name, found before any path is walked.
 ghost use Rattle.std.specs.Prelude.{◌≡◌, ◌++◌, ◌∷◌, [], ◌<◌, if◌then◌else◌, IfOk, IfSome};
 ghost use Rattle.std.specs.Prelude.{option_map, Some, None, map, slice_get};
 ghost use Rattle.rb_tree.specs.Parts.{kind_of, units_of};
@@ -20,25 +19,22 @@ use arrayvec::ArrayVec;
 use rb_locales::Name;
 use rb_tree::{Kind, Node};
 
-/// What follows a name on a trail.
+/// The step that follows a name on a trail.
 #[derive(Clone, Copy)]
 pub enum Next {
-    /// Another name.
     Name(Name),
-    /// Nothing: the trail ends.
     End,
-    /// A `%%ALIAS` or `%%Parent` that is no locale name.
+    /// A `%%ALIAS` or `%%Parent` that isn't a locale name.
     Bad,
 }
 
-/// The names of a trail, and the indices of its stops, which ascend.
+/// The names of a trail, and the indices of its stops in ascending order.
 #[derive(Drop)]
 pub struct Route {
     pub names: ArrayVec<Name, TRAIL_LIMIT>,
     pub stops: ArrayVec<u8, TRAIL_LIMIT>,
 }
 
-// The string that a node has at a key.
 fn text_node<N: Node>(node: N, key: &[u8]) -> Option<N>
     ensures text { option_map (λ m. units_of (N.tree m)) result ≡ text_at key.now (N.tree node) }
     ensures kind { IfSome result (λ m. kind_of (N.tree m) ≡ Kinds.String) }
@@ -46,7 +42,6 @@ fn text_node<N: Node>(node: N, key: &[u8]) -> Option<N>
     child_of_kind(node, key, Kind::String)
 }
 
-// The name that a string gives.
 fn named_parent<N: Node>(text: N) -> Next
     requires { kind_of (N.tree text) ≡ Kinds.String }
     ensures { next_of result ≡ named_next (name (units_of (N.tree text))) }
@@ -57,7 +52,7 @@ fn named_parent<N: Node>(text: N) -> Next
     }
 }
 
-// What follows a name whose bundle, if it has one, names no other.
+/// Returns the step after a name whose bundle, if any, names no other.
 fn plain_step(parents: &Parents, name: &Name) -> Next
     ensures { next_of result ≡ plain_next (parent_of parents.now) name.now }
 {
@@ -73,8 +68,8 @@ fn plain_step(parents: &Parents, name: &Name) -> Next
     }
 }
 
-/// What follows a name on a trail, as `trail` says, and the root of its bundle if it is a stop. The
-/// bundle is asked for once.
+/// Returns the step after a name, and its bundle's root if the name is a stop. Asks for the bundle
+/// once.
 pub fn visit<'a, S: Shelf<'a>>(shelf: S, parents: &Parents, name: &Name) -> (Next, Option<S::N>)
     ensures next { next_of result.0 ≡ next (S.bundles shelf) (parent_of parents.now) name.now }
     ensures stop { option_map S.N.tree result.1 ≡ stop_tree (S.bundles shelf name.now) }
@@ -95,7 +90,6 @@ pub fn visit<'a, S: Shelf<'a>>(shelf: S, parents: &Parents, name: &Name) -> (Nex
     (plain_step(parents, name), Some(root))
 }
 
-// What follows a name, and whether it is a stop.
 #[tactic(auto, using(crate::proofs::Trails::stop_is))]
 fn next_step<'a, S: Shelf<'a>>(shelf: S, parents: &Parents, name: &Name) -> (Next, bool)
     ensures next { next_of result.0 ≡ next (S.bundles shelf) (parent_of parents.now) name.now }
@@ -105,7 +99,6 @@ fn next_step<'a, S: Shelf<'a>>(shelf: S, parents: &Parents, name: &Name) -> (Nex
     (next, stop.is_some())
 }
 
-// Notes the index of a stop.
 fn note_stop(stops: &mut ArrayVec<u8, TRAIL_LIMIT>, i: u8, is_stop: bool)
     requires { array_vec_len stops.old < 32 }
     ensures { stops.new.items ≡ stops.old.items ++ (if is_stop then i ∷ [] else []) }
@@ -115,24 +108,15 @@ fn note_stop(stops: &mut ArrayVec<u8, TRAIL_LIMIT>, i: u8, is_stop: bool)
     }
 }
 
-/// The trail of a name (locale inheritance of UTS #35, with `%%ALIAS` and `%%Parent` as `ures_open`
-/// reads them): the name itself, its next name, and so on to the end, with the indices of the stops
-/// among them. No memory is taken.
+/// Follows locale inheritance (UTS #35; `%%ALIAS` and `%%Parent` like `ures_open`) from a name to
+/// the end of its trail. Returns all names with the indices of the stops, and allocates nothing.
 ///
-/// A bundle with a String at `%%ALIAS` is no stop, and the next name is that text; its flag isn't
-/// looked at. Any other bundle is a stop. After a stop without fallback the trail ends, and its
-/// `%%Parent` isn't looked at. After another the next name is the String at `%%Parent` if there is
-/// one. Everywhere else it is the explicit parent, else the shorter name, else `root`, and none
-/// after `root`.
+/// A bundle with a String at `%%ALIAS` isn't a stop: that text is the next name. Any other bundle
+/// is a stop. The trail ends after a stop without fallback. Otherwise the next name is the stop's
+/// String at `%%Parent`; else there is none after `root`; else it is the explicit parent, else the
+/// shorter name, else `root`.
 ///
-/// `Chain`: there are more than 32 names. `BadParent`: a text that gives the next name is no locale
-/// name. The one that is met first is answered.
-///
-/// ```rust
-/// let bundles = [(de, tree, false)];
-/// let shelf = ListShelf { entries: &bundles };
-/// let route = trail(shelf, &parents, &de_at)?; // three names, de_AT, de and root, and one stop
-/// ```
+/// Returns the first error: `Chain` after 32 names, or `BadParent` for a text that isn't a name.
 #[tactic(auto, using(crate::proofs::Trails::trail_steps))]
 pub fn trail<'a, S: Shelf<'a>>(
     shelf: S,
@@ -142,7 +126,6 @@ pub fn trail<'a, S: Shelf<'a>>(
     ensures names { trail_of result ≡ trail (S.bundles shelf) (parent_of parents.now) name.now }
     ensures stops { IfOk result
         (λ r. r.stops.items ≡ places (is_stop (S.bundles shelf)) 0 r.names.items) }
-    // The names at these indices are those that have a bundle without a String at `%%ALIAS`.
     ensures stop_names { IfOk result (λ r. map (slice_get r.names.items) r.stops.items
         ≡ map Some (stops (S.bundles shelf) r.names.items)) }
 {

@@ -1,4 +1,3 @@
-//! Bundles by their names.
 ghost use Rattle.std.specs.Prelude.{◌≡◌, ℕ, List, Option, option_map, nat_eq};
 ghost use Rattle.std.specs.Map.{lookup};
 ghost use Rattle.std.specs.Cmp.Lexicographic.{pointwise};
@@ -8,21 +7,18 @@ ghost use Rattle.rb_parents.specs.Shelf.{bundle_of, listed_bundles};
 use rb_locales::Name;
 use rb_tree::{Node, Tree};
 
-/// Bundles by their names.
+/// A collection of bundles by name.
 pub trait Shelf<'a>: Copy {
     type N: Node;
 
-    /// The bundles by their names: each one's tree, and whether it has no fallback.
     ghost bundles: { Self → List ℕ → Option SourceTree };
 
-    /// The root of a name's bundle, and whether the bundle has no fallback; `None` for a name
-    /// without a bundle.
+    /// Returns the root of a name's bundle and its no-fallback flag, or `None`.
     fn bundle(self, name: &Name) -> Option<(Self::N, bool)>
         ensures { option_map (bundle_of Self.N.tree) result ≡ bundles self name.now };
 }
 
-/// The bundles of a list, each a name, a tree and whether it has no fallback; of two with one name
-/// the first counts.
+/// A list of names, trees and no-fallback flags; the first entry with a name counts.
 #[derive(Clone, Copy)]
 pub struct ListShelf<'a> {
     pub entries: &'a [(Name, Tree, bool)],

@@ -1,4 +1,3 @@
-//! The words of the errors of explicit parents and of trails.
 ghost use Rattle.std.specs.Prelude.{◌≡◌};
 ghost use Rattle.rb_parents.specs.Words.{parents_word, trail_word};
 
@@ -6,7 +5,6 @@ use crate::fault::{ParentsFault, TrailFault};
 use rb_tree::variant_name;
 
 impl ParentsFault {
-    /// The variant's name.
     pub fn word(self) -> &'static str
         ensures { result.now ≡ parents_word self }
     {
@@ -15,7 +13,6 @@ impl ParentsFault {
 }
 
 impl TrailFault {
-    /// The variant's name.
     pub fn word(self) -> &'static str
         ensures { result.now ≡ trail_word self }
     {

@@ -1,11 +1,11 @@
--- Tokens that are taken out of a text, and what comes next.
+-- Proves how taking a token changes the cursor and its lookahead.
 use Rattle.std.proofs.Common.{◌≡◌, ◌⊎◌, inl, inr, ◌||◌, true, false, ℕ, List, [], ◌∷◌, drop, Some, None, refl}
 use Rattle.rb_lexer.specs.declared.token.Token.{Token}
 use Rattle.rb_lexer.specs.declared.token.Mark.{Mark}
 use Rattle.rb_lexer.specs.declared.token.Mark.TheVariants as mark
 use Rattle.rb_grammar.specs.Reading.{left, colon, begins, is_punctuation, first_text, text_of, tail}
 use Rattle.rb_parser.specs.inner.Views.{next_mark, next_of}
-use Rattle.rb_parser.specs.declared.cursor.Next.TheVariants as next
+use Rattle.rb_parser.specs.declared.cursor.Lookahead.TheVariants as next
 
 pub dropped : (ts : List Token) → drop 1 ts ≡ tail ts
 dropped [] = refl

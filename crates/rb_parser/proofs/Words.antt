@@ -1,4 +1,4 @@
--- Which words of the reading function a type of the program has.
+-- Relates the program's types to the words of the reading function.
 use Rattle.std.proofs.Common.{◌≡◌, Bool, refl}
 use Rattle.rb_grammar.specs.Reading.{Word, string_type, alias_type, binary_type, int_type, ints_type, table_type, array_type}
 use Rattle.rb_parser.specs.inner.Views.{word_of}

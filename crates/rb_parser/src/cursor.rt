@@ -1,4 +1,3 @@
-//! A place in the tokens of a text.
 ghost use Rattle.std.specs.Prelude.{◌≡◌, ◌≢◌, ◌||◌, ◌∷◌, [], ◌<◌, ◌≤◌, length, if◌then◌else◌};
 ghost use Rattle.std.specs.Prelude.{IsTrue, ◌↔◌, is_some};
 ghost use Rattle.std.specs.Prelude.{MatchOption, MatchResult, Some, None, Ok, Err, OnOk, IfOk};
@@ -15,7 +14,6 @@ use rb_lexer::{Mark, SourceFault, SourceKind, Token, Tokens};
 use rb_tree::UnitList;
 use std::alloc::AllocError;
 
-/// A punctuation mark of the bundle syntax.
 #[derive(Clone, Copy)]
 pub enum Punctuation {
     Left,
@@ -24,16 +22,16 @@ pub enum Punctuation {
     Comma,
 }
 
-/// What comes next, of what a value may begin with.
+/// The next token, as far as the start of a value depends on it.
 #[derive(Clone, Copy)]
-pub enum Next {
+pub enum Lookahead {
     Text,
     Left,
     Colon,
     Other,
 }
 
-/// What a body without a type is.
+/// The kind of a body without a type.
 #[derive(Clone, Copy)]
 pub enum Guess {
     Text,
@@ -41,9 +39,8 @@ pub enum Guess {
     Array,
 }
 
-/// The tokens that are still to come, and the line in which the text ends.
-///
-/// No more than the next two are looked at, and they are taken one by one.
+/// The remaining tokens, and the line in which the text ends. Two tokens of lookahead are enough
+/// for the grammar.
 #[derive(Drop)]
 pub struct Cursor<'a> {
     pub rest: Tokens<'a>,
@@ -75,7 +72,6 @@ impl<'a> Cursor<'a> {
         self.rest.pop()
     }
 
-    /// Takes the next token, if there is one, and drops it.
     pub fn skip(&mut self) -> Result<(), AllocError>
         ensures same_end { self.new.end ≡ self.old.end }
         ensures rest { OnOk result (self.new.rest ≡ tail self.old.rest) }
@@ -83,14 +79,13 @@ impl<'a> Cursor<'a> {
         self.rest.skip()
     }
 
-    /// Whether all tokens are taken.
     pub fn is_at_end(&self) -> bool
         ensures { IsTrue result ↔ (self.now.rest ≡ []) }
     {
         self.first().is_none()
     }
 
-    /// The line of the next token, or of the end.
+    /// Returns the line of the next token, or of the end.
     fn line(&self) -> u64
         ensures { result ≡ line_at self.now.end self.now.rest }
     {
@@ -100,7 +95,7 @@ impl<'a> Cursor<'a> {
         }
     }
 
-    /// An error at the next token, or at the end.
+    /// Makes an error at the next token, or at the end.
     pub fn fault(&self, kind: SourceKind) -> SourceFault
         ensures kind { result.kind ≡ kind }
         ensures line { result.line ≡ line_at self.now.end self.now.rest }
@@ -111,7 +106,6 @@ impl<'a> Cursor<'a> {
         }
     }
 
-    /// Whether a punctuation mark comes next.
     pub fn is_at(&self, punctuation: Punctuation) -> bool
         ensures { result ≡ begins (punctuation_of punctuation) self.now.rest }
     {
@@ -121,30 +115,28 @@ impl<'a> Cursor<'a> {
         }
     }
 
-    /// Whether a body comes next: a colon before its type, or its brace.
     pub fn is_at_body(&self) -> bool
         ensures { result ≡ begins colon self.now.rest || begins left self.now.rest }
     {
         self.is_at(Punctuation::Colon) || self.is_at(Punctuation::Left)
     }
 
-    /// What comes next.
-    pub fn next(&self) -> Next
+    pub fn next(&self) -> Lookahead
         ensures { result ≡ next_of self.now.rest }
     {
         let Some(first) = self.first() else {
-            return Next::Other;
+            return Lookahead::Other;
         };
         match first.what {
-            Mark::Text(_) => Next::Text,
-            Mark::LeftBrace => Next::Left,
-            Mark::Colon => Next::Colon,
-            Mark::RightBrace | Mark::Comma => Next::Other,
+            Mark::Text(_) => Lookahead::Text,
+            Mark::LeftBrace => Lookahead::Left,
+            Mark::Colon => Lookahead::Colon,
+            Mark::RightBrace | Mark::Comma => Lookahead::Other,
         }
     }
 
-    /// The error at the next token if no deeper value is allowed: it begins one, or it is out of
-    /// place.
+    /// Makes the error where no deeper value is allowed: `TooDeep` if one begins, else
+    /// `Unexpected`.
     pub fn depth_error(&self) -> SourceFault
         ensures kind { result.kind ≡ (if begins colon self.now.rest || begins left self.now.rest
             then TooDeep else Unexpected) }
@@ -157,7 +149,7 @@ impl<'a> Cursor<'a> {
         }
     }
 
-    /// Takes a punctuation mark, if it comes next.
+    /// Takes a punctuation mark, if it comes next. Returns whether it did.
     pub fn take(&mut self, punctuation: Punctuation) -> Result<bool, AllocError>
         ensures same_end { self.new.end ≡ self.old.end }
         ensures value { IfOk result
@@ -176,7 +168,7 @@ impl<'a> Cursor<'a> {
         Ok(comes)
     }
 
-    /// Takes a punctuation mark, which has to come next.
+    /// Takes a punctuation mark, or fails with `Unexpected`.
     pub fn expect(&mut self, punctuation: Punctuation) -> Result<(), SourceFault>
         ensures same_end { self.new.end ≡ self.old.end }
         ensures exact { MatchResult result
@@ -201,7 +193,6 @@ impl<'a> Cursor<'a> {
         }
     }
 
-    /// Takes a text, if one comes next.
     pub fn take_text(&mut self) -> Result<Option<UnitList>, AllocError>
         ensures same_end { self.new.end ≡ self.old.end }
         ensures text { IfOk result (λ found. first_text self.old.rest ≡ found) }
@@ -225,7 +216,7 @@ impl<'a> Cursor<'a> {
         }
     }
 
-    /// Takes a text, which has to come next.
+    /// Takes a text, or fails with `Unexpected`.
     pub fn text(&mut self) -> Result<UnitList, SourceFault>
         ensures same_end { self.new.end ≡ self.old.end }
         ensures exact { MatchResult result (λ s. text_at self.old.rest ≡ Ok (s, self.new.rest))
@@ -250,7 +241,7 @@ impl<'a> Cursor<'a> {
         }
     }
 
-    /// Takes the text `table(nofallback)`, if it comes next.
+    /// Takes the text `table(nofallback)`, if it comes next. Returns whether it did.
     pub fn take_no_fallback_table(&mut self) -> Result<bool, AllocError>
         ensures same_end { self.new.end ≡ self.old.end }
         ensures value { IfOk result
@@ -266,7 +257,7 @@ impl<'a> Cursor<'a> {
         Ok(comes)
     }
 
-    /// What a body without a type is, whose brace was taken: the next two tokens decide.
+    /// Guesses the kind of a body without a type from the two tokens after its brace.
     pub fn guess(&self) -> Result<Guess, SourceFault>
         ensures { result ≡ guessed self.now.end (guess self.now.rest) }
     {
@@ -299,7 +290,7 @@ impl<'a> Cursor<'a> {
         }
     }
 
-    /// The type of a value that a text names, which has to come next.
+    /// Takes the type of a value, or fails with `Unexpected` or `UnknownType`.
     pub fn word(&mut self) -> Result<Word, SourceFault>
         ensures same_end { self.new.end ≡ self.old.end }
         ensures exact { Reads (λ w v. w ≡ word_of v) self.old.end result self.new.rest

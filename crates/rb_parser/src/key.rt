@@ -1,11 +1,9 @@
-//! Keys of tables.
 ghost use Rattle.std.specs.Prelude.{◌≡◌, ◌≤◌, true, false, take, length, IfOk, MatchOption};
 ghost use Rattle.rb_tree.specs.Keys.{IsKey};
 
 use rb_tree::{Key, key_ok};
 use std::alloc::{AllocError, Global};
 
-/// The bytes of units that are all below 128, or `None`.
 fn ascii_bytes(alloc: Global, units: &[u16]) -> Result<Option<Vec<u8>>, AllocError>
     ensures { IfOk result
         (λ found. MatchOption found (IsKey units.now → ⊥) (λ bytes. bytes.items ≡ units.now)) }
@@ -20,10 +18,10 @@ fn ascii_bytes(alloc: Global, units: &[u16]) -> Result<Option<Vec<u8>>, AllocErr
     Ok(Some(bytes))
 }
 
-/// How many units of a text are copied with no memory for them: most keys are shorter.
+/// Keys of up to this many units are copied without allocating; most are shorter.
 const SHORT: usize = 64;
 
-/// Copies units that are all below 128 to the front of some bytes, or says that one isn't.
+/// Copies the units if all are below 128. Returns whether they are.
 fn copy_ascii(units: &[u16], bytes: &mut [u8]) -> bool
     requires { length units.now ≤ length bytes.old }
     ensures bytes { result ≡ true → take (length units.now) bytes.new ≡ units.now }
@@ -39,7 +37,6 @@ fn copy_ascii(units: &[u16], bytes: &mut [u8]) -> bool
     true
 }
 
-/// The key of these bytes, or `None` if they are no key.
 fn key_of(alloc: Global, bytes: &[u8]) -> Result<Option<Key>, AllocError>
     ensures { IfOk result (λ found. MatchOption found (IsKey bytes.now → ⊥)
         (λ key. IsKey bytes.now × (key ≡ bytes.now))) }
@@ -50,7 +47,7 @@ fn key_of(alloc: Global, bytes: &[u8]) -> Result<Option<Key>, AllocError>
     Ok(Some(Key::copied(alloc, bytes)?))
 }
 
-/// The key that a text spells, or `None` if it is no key.
+/// Reads a key, or returns None if the units are no key.
 pub fn read_key(alloc: Global, units: &[u16]) -> Result<Option<Key>, AllocError>
     ensures { IfOk result (λ found. MatchOption found (IsKey units.now → ⊥)
         (λ key. IsKey units.now × (key ≡ units.now))) }

@@ -1,4 +1,3 @@
-//! Bodies of the types without others inside, between their braces.
 ghost use Rattle.std.specs.Prelude.{◌≡◌, ℕ, List, ◌<◌, ◌≤◌, length, Ok, OnOk, IfOk};
 ghost use Rattle.rb_lexer.specs.declared.fault.SourceKind.TheVariants.{BadInt, BadHex};
 ghost use Rattle.rb_grammar.specs.Good.{text_or_none};
@@ -17,7 +16,6 @@ use rb_lexer::{SourceFault, SourceKind};
 use rb_tree::{ByteList, Int28, NumberList, Tree, UnitList};
 use std::alloc::{AllocError, Global};
 
-/// A text, or no units if none is there.
 fn read_text(alloc: Global, cursor: &mut Cursor) -> Result<UnitList, AllocError>
     ensures same_end { cursor.new.end ≡ cursor.old.end }
     ensures exact { IfOk result (λ found. Reads (λ units t. units ≡ text_or_none t) cursor.old.end
@@ -31,7 +29,6 @@ fn read_text(alloc: Global, cursor: &mut Cursor) -> Result<UnitList, AllocError>
     }
 }
 
-/// The bytes that a text spells, or none if no text is there.
 fn read_binary(alloc: Global, cursor: &mut Cursor) -> Result<ByteList, SourceFault>
     ensures same_end { cursor.new.end ≡ cursor.old.end }
     ensures exact { Reads
@@ -49,7 +46,6 @@ fn read_binary(alloc: Global, cursor: &mut Cursor) -> Result<ByteList, SourceFau
     }
 }
 
-/// The number of an Int.
 fn read_number(cursor: &mut Cursor) -> Result<Int28, SourceFault>
     ensures same_end { cursor.new.end ≡ cursor.old.end }
     ensures exact { Reads (λ n s. IsIntText s n) cursor.old.end result cursor.new.rest
@@ -67,7 +63,6 @@ fn read_number(cursor: &mut Cursor) -> Result<Int28, SourceFault>
     }
 }
 
-/// The numbers of a vector.
 fn read_numbers(alloc: Global, cursor: &mut Cursor) -> Result<Vec<i32>, SourceFault>
     ensures same_end { cursor.new.end ≡ cursor.old.end }
     ensures exact { (n : ℕ) → length cursor.old.rest < n
@@ -90,7 +85,7 @@ fn read_numbers(alloc: Global, cursor: &mut Cursor) -> Result<Vec<i32>, SourceFa
     Ok(found)
 }
 
-/// What is in a body of a type without others inside, up to its closing brace.
+/// Reads the content of a body of a type without children, up to its closing brace.
 pub fn read_leaf(alloc: Global, cursor: &mut Cursor, leaf: Leaf) -> Result<Tree, SourceFault>
     ensures same_end { cursor.new.end ≡ cursor.old.end }
     ensures exact { (w : reading.Word) → word_of w ≡ word.Leaf leaf

@@ -1,4 +1,4 @@
-//! Bundle texts, read as trees.
+//! Parser of bundle texts.
 #![tactic(auto)]
 
 mod cursor;

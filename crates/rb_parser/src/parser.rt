@@ -1,4 +1,3 @@
-//! Bodies, by recursive descent.
 ghost use Rattle.std.specs.Prelude.{◌≡◌, ◌<◌, [], ◌∷◌, ◌++◌, length, OnOk};
 ghost use Rattle.rb_grammar.specs.Reading as reading;
 ghost use Rattle.rb_grammar.specs.Reading.{body, typed_at, untyped_at, guess, table_at, array_at};
@@ -9,7 +8,7 @@ ghost use Rattle.rb_parser.specs.inner.Reads.{IsArrayTree};
 ghost use Rattle.rb_parser.specs.inner.Rows.{AreRead, IsKnown};
 ghost use Rattle.rb_parser.specs.inner.Views.{word_of};
 
-use crate::cursor::{Cursor, Guess, Next, Punctuation};
+use crate::cursor::{Cursor, Guess, Lookahead, Punctuation};
 use crate::key::read_key;
 use crate::leaf::read_leaf;
 use crate::table::Rows;
@@ -18,7 +17,7 @@ use rb_lexer::{SourceFault, SourceKind};
 use rb_tree::{Tree, TreeList};
 use std::alloc::{AllocError, Global};
 
-/// A value, whose height is at most `depth`.
+/// Reads a value of at most `depth` levels.
 #[cycle(body)]
 pub fn read_body(alloc: Global, cursor: &mut Cursor, depth: u64) -> Result<Tree, SourceFault>
     ensures same_end { cursor.new.end ≡ cursor.old.end }
@@ -30,21 +29,21 @@ pub fn read_body(alloc: Global, cursor: &mut Cursor, depth: u64) -> Result<Tree,
         return Err(cursor.depth_error());
     }
     match cursor.next() {
-        Next::Colon => {
+        Lookahead::Colon => {
             cursor.skip()?;
             let word = cursor.word()?;
             cursor.expect(Punctuation::Left)?;
             read_typed(alloc, cursor, word, depth - 1)
         }
-        Next::Left => {
+        Lookahead::Left => {
             cursor.skip()?;
             read_untyped(alloc, cursor, depth - 1)
         }
-        Next::Text | Next::Other => Err(cursor.fault(SourceKind::Unexpected)),
+        Lookahead::Text | Lookahead::Other => Err(cursor.fault(SourceKind::Unexpected)),
     }
 }
 
-/// A body with a type, after its brace. The height of what is inside is at most `depth`.
+/// Reads the rest of a body with a type. Its content has at most `depth` levels.
 #[cycle(body)]
 fn read_typed(
     alloc: Global,
@@ -69,7 +68,7 @@ fn read_typed(
     }
 }
 
-/// A body without a type, after its brace. The height of what is inside is at most `depth`.
+/// Reads the rest of a body without a type. Its content has at most `depth` levels.
 #[cycle(body)]
 fn read_untyped(alloc: Global, cursor: &mut Cursor, depth: u64) -> Result<Tree, SourceFault>
     ensures same_end { cursor.new.end ≡ cursor.old.end }
@@ -88,8 +87,7 @@ fn read_untyped(alloc: Global, cursor: &mut Cursor, depth: u64) -> Result<Tree, 
     }
 }
 
-/// The entries of a table, up to and with its closing brace. The height of what is inside is at
-/// most `depth`.
+/// Reads the entries of a table and its closing brace. Each has at most `depth` levels.
 #[cycle(body)]
 pub fn read_table(alloc: Global, cursor: &mut Cursor, depth: u64) -> Result<Tree, SourceFault>
     ensures same_end { cursor.new.end ≡ cursor.old.end }
@@ -104,7 +102,7 @@ pub fn read_table(alloc: Global, cursor: &mut Cursor, depth: u64) -> Result<Tree
     }
 }
 
-/// The same as rows, in the order in which they are written. A key may come again.
+/// Reads the entries of a table as rows, in the order of the text. Keys may repeat.
 #[cycle(body)]
 fn read_rows(
     alloc: Global,
@@ -138,8 +136,8 @@ fn read_rows(
     Ok(())
 }
 
-/// Adds an element at the end. The first takes room for itself only, since arrays of one element
-/// are those that nest deep.
+/// Appends an element. The first reserves one place: arrays of one element are those that nest
+/// deep.
 #[inline(always)]
 fn add_tree(trees: &mut Vec<Tree>, tree: Tree) -> Result<(), AllocError>
     ensures { OnOk result (trees.new.items ≡ trees.old.items ++ tree ∷ []) }
@@ -151,7 +149,7 @@ fn add_tree(trees: &mut Vec<Tree>, tree: Tree) -> Result<(), AllocError>
     Ok(())
 }
 
-/// The elements of an array, up to and with its closing brace. Each has at most the height `depth`.
+/// Reads the elements of an array and its closing brace. Each has at most `depth` levels.
 #[cycle(body)]
 fn read_array(alloc: Global, cursor: &mut Cursor, depth: u64) -> Result<Tree, SourceFault>
     ensures same_end { cursor.new.end ≡ cursor.old.end }
@@ -162,15 +160,18 @@ fn read_array(alloc: Global, cursor: &mut Cursor, depth: u64) -> Result<Tree, So
     let mut trees = Vec::new(alloc);
     'elements: loop {
         match cursor.next() {
-            Next::Text => {
+            Lookahead::Text => {
                 if depth == 0 {
                     return Err(cursor.fault(SourceKind::TooDeep));
                 }
                 let text = cursor.text()?;
                 add_tree(&mut trees, Tree::String(text))?;
             }
-            Next::Left | Next::Colon => add_tree(&mut trees, read_body(alloc, cursor, depth)?)?,
-            Next::Other => break,
+            Lookahead::Left | Lookahead::Colon => add_tree(
+                &mut trees,
+                read_body(alloc, cursor, depth)?,
+            )?,
+            Lookahead::Other => break,
         }
         cursor.take(Punctuation::Comma)?;
     }

@@ -1,4 +1,3 @@
-//! Whole bundle texts.
 ghost use Rattle.std.specs.Prelude.{◌≡◌, ◌==◌, ◌<◌, ◌≤◌, ℕ, List, suc, count_by, IfOk, IfErr};
 ghost use Rattle.std.specs.Prelude.{MatchResult};
 ghost use Rattle.rb_lexer.specs.declared.fault.SourceKind.TheVariants.{Memory, TooLarge};
@@ -24,16 +23,14 @@ use std::alloc::Global;
 /// A bundle, as a text spells it.
 #[derive(Debug, Drop)]
 pub struct Source {
-    /// The text in front of its brace or type.
+    /// The text before the brace or the type.
     pub name: UnitList,
-    /// Its table.
     pub tree: Tree,
-    /// Whether a lookup stops at this bundle: its type is `table(nofallback)`.
+    /// True if a lookup stops at this bundle: its type is `table(nofallback)`.
     pub no_fallback: bool,
 }
 
-/// The type of a bundle, if one is written: `table`, or `table(nofallback)`, for which the answer
-/// is true.
+/// Reads the optional type of a bundle. Returns true for `table(nofallback)`.
 fn read_type(cursor: &mut Cursor) -> Result<bool, SourceFault>
     ensures same_end { cursor.new.end ≡ cursor.old.end }
     ensures exact { Reads IsFlag cursor.old.end result cursor.new.rest (type_at cursor.old.rest) }
@@ -51,7 +48,7 @@ fn read_type(cursor: &mut Cursor) -> Result<bool, SourceFault>
     }
 }
 
-/// The bundle that all of the tokens spell, apart from its weight.
+/// Reads a whole bundle, without checking its weight.
 fn read_bundle(alloc: Global, cursor: &mut Cursor) -> Result<Source, SourceFault>
     ensures { ReadsBundle cursor.old.end result (bundle the_tests cursor.old.rest) }
 {
@@ -69,7 +66,6 @@ fn read_bundle(alloc: Global, cursor: &mut Cursor) -> Result<Source, SourceFault
     })
 }
 
-/// The line in which a text ends.
 #[tactic(auto, using(std::proofs::lemmas::List::Sums::count_by_more_yes, std::proofs::lemmas::List::Sums::count_by_more_no))]
 fn last_line(bytes: &[u8]) -> u64
     ensures { result ≡ last_line bytes.now }
@@ -83,33 +79,33 @@ fn last_line(bytes: &[u8]) -> u64
     feeds + 1
 }
 
-/// The bundle that a text spells, after the bundle syntax of ICU's genrb: its name, its tree, which
-/// is a table of height at most 64 and weight at most 33,554,432, and whether its type is
+/// Parses a text in the bundle syntax of ICU's genrb. Returns the bundle's name, its tree, which is
+/// a table of height at most 64 and weight at most 33,554,432, and whether its type is
 /// `table(nofallback)`.
 ///
-/// A text that spells none is refused with an error and its line. `TooLong`, `NotUtf8`,
-/// `BadEscape`, `OpenQuote` and `OpenComment` are the lexer's, and come before the others.
-/// `Unexpected` comes at a token that cannot be at its place, so also at `table(nofallback)`
-/// anywhere but at the top, and at the end of a text that ends too early, in the line of that end;
-/// `UnknownType` at a text after a colon that is no type; `BadKey` and `DuplicateKey` at a key;
-/// `BadInt` and `BadHex` at the text of a number or of bytes; `TooDeep` at a value at level 65;
-/// `TrailingText` at the token after the bundle; `TooLarge`, which has line 1, if the tree weighs
-/// too much. `Memory` has line 0: out of memory. If a text has several errors of the parser, one of
-/// them is reported. No memory is kept after an error.
+/// Returns the first error of the lexer (`TooLong`, `NotUtf8`, `BadEscape`, `OpenQuote` or
+/// `OpenComment`), if there is one, else one of these:
+///
+/// - `Unexpected` at a misplaced token (including `table(nofallback)` below the top), and in the last
+///   line of a text that ends too early
+/// - `UnknownType` at a text after a colon that is no type
+/// - `BadKey` and `DuplicateKey` at a key, `BadInt` and `BadHex` at the text of a number or of bytes
+/// - `TooDeep` at a value at level 65, `TrailingText` at the token after the bundle
+/// - `TooLarge` in line 1, if the tree weighs too much, and `Memory` in line 0, if out of memory
+///
+/// If a text has several errors of the parser, one of them is reported.
 ///
 /// ```rust
 /// let source = parse(alloc, b"de{menu{open{\"O\"}}}")?; // the name is `de`, the tree's height 3
 /// parse(alloc, b"de{\na:int{09}}") // Err: BadInt, line 2
 /// ```
 pub fn parse(alloc: Global, bytes: &[u8]) -> Result<Source, SourceFault>
-    // The answer is the source's name, tree and flag.
     ensures found { IfOk result (λ s. IsGoodSource bytes.now s.name (source_tree s)) }
-    // A good source is read, unless memory runs out.
+    // A good source is accepted, unless memory runs out.
     ensures only { (name : List ℕ) (source : SourceTree) → IsGoodSource bytes.now name source
         → MatchResult result (λ s. (s.name ≡ name) × (source_tree s ≡ source))
         (λ e. e.kind ≡ Memory) }
     ensures fits { IfOk result (λ s. Fits (view_of s.tree)) }
-    // What is reported is an error of the source, with its line, unless memory ran out.
     ensures fault { IfErr result (λ e. IsRefusal bytes.now e) }
 {
     let source = match parse_unweighed(alloc, bytes) {
@@ -125,22 +121,19 @@ pub fn parse(alloc: Global, bytes: &[u8]) -> Result<Source, SourceFault>
     Ok(source)
 }
 
-/// The same for who weighs the tree: it is a table of height at most 64, but may weigh too much, at
-/// which the text has the error `TooLarge` in line 1.
+/// Parses as `parse` does, for callers that weigh the tree themselves: it may weigh too much, which
+/// is the error `TooLarge` in line 1.
 pub fn parse_unweighed(alloc: Global, bytes: &[u8]) -> Result<Source, SourceFault>
-    // The answer is the source's name, tree and flag, if the tree isn't too heavy.
     ensures found { IfOk result
         (λ s. Fits (view_of s.tree) → IsGoodSource bytes.now s.name (source_tree s)) }
-    // Else the text has that error.
     ensures heavy { IfOk result
         (λ s. weight_limit < weight (view_of s.tree) → IsFault bytes.now TooLarge 1) }
-    // A good source is read, unless memory runs out.
+    // A good source is accepted, unless memory runs out.
     ensures only { (name : List ℕ) (source : SourceTree) → IsGoodSource bytes.now name source
         → MatchResult result (λ s. (s.name ≡ name) × (source_tree s ≡ source))
         (λ e. e.kind ≡ Memory) }
     ensures table { IfOk result (λ s. kind_of (view_of s.tree) ≡ Kinds.Table) }
     ensures low { IfOk result (λ s. height (view_of s.tree) ≤ height_limit) }
-    // What is reported is an error of the source, with its line, unless memory ran out.
     ensures fault { IfErr result (λ e. IsRefusal bytes.now e) }
 {
     let tokens = Tokens::of(alloc, bytes)?;
@@ -154,7 +147,7 @@ pub fn parse_unweighed(alloc: Global, bytes: &[u8]) -> Result<Source, SourceFaul
     }
 }
 
-/// The error, with line 0 if it is out of memory.
+/// Clears the line if the error is out of memory.
 fn without_memory_line(fault: SourceFault) -> SourceFault
     ensures kind { result.kind ≡ fault.kind }
     ensures line { result.kind ≡ Memory → result.line ≡ 0 }

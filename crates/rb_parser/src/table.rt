@@ -1,4 +1,3 @@
-//! The entries of a table, as they are written.
 ghost use Rattle.std.specs.Prelude.{◌≡◌, ◌≢◌, ◌∷◌, ◌++◌, [], ◌≤◌, length, suc, All, OnOk, IfOk, IfErr};
 ghost use Rattle.rb_lexer.specs.declared.fault.SourceKind.TheVariants.{Memory};
 ghost use Rattle.rb_tree.specs.Keys.{IsKey};
@@ -12,18 +11,16 @@ use rb_lexer::{SourceFault, SourceKind};
 use rb_tree::{Key, TableFault, Tree};
 use std::alloc::{AllocError, Global};
 
-/// The entries that were read of a table.
-///
-/// Their keys are compared once all of them are read, or when an error ends them: a key that comes
-/// again is an error at its line, before all that is read after it.
+/// The entries of a table, in the order of the text. Their keys are compared once all of them are
+/// read, or when an error ends them: a repeated key is an error at its line, before all later
+/// errors.
 #[derive(Drop)]
 pub struct Rows {
     pub pairs: Vec<(Key, Tree)>,
-    /// The line of each key but the first, which repeats none.
+    /// The line of each key except the first, which can't be a repeat.
     pub lines: Vec<u64>,
 }
 
-/// The error at a key that comes again.
 fn repeat(line: u64) -> SourceFault
     ensures { result ≡ twice_at line }
 {
@@ -34,7 +31,6 @@ fn repeat(line: u64) -> SourceFault
 }
 
 impl Rows {
-    /// No entries.
     pub fn new(alloc: Global) -> Rows
         ensures pairs { result.pairs.items ≡ [] }
         ensures lines { result.lines.items ≡ [] }
@@ -45,8 +41,8 @@ impl Rows {
         }
     }
 
-    /// Adds an entry, whose key is in this line. The first takes room for two: in deep texts of
-    /// small tables the room of each is free only once it is read.
+    /// Adds an entry, whose key is in this line. The first reserves two places: in deep texts of
+    /// small tables the spare memory of each table is free only once it is read.
     pub fn add(&mut self, line: u64, key: Key, tree: Tree) -> Result<(), AllocError>
         ensures pairs { OnOk result
             (self.new.pairs.items ≡ self.old.pairs.items ++ (key, tree) ∷ []) }
@@ -63,7 +59,6 @@ impl Rows {
         Ok(())
     }
 
-    /// Whether an entry has this key.
     pub fn has(&self, key: &[u8]) -> bool
         ensures { result ≡ is_among (keys_after self.now.pairs.items []) key.now }
     {
@@ -75,7 +70,8 @@ impl Rows {
         false
     }
 
-    /// The error at a key in this line whose value has an error.
+    /// Returns the error at a key in this line whose value has one: `DuplicateKey`, if the key
+    /// repeats.
     pub fn fault_at(&self, line: u64, key: &[u8], fault: SourceFault) -> SourceFault
         ensures memory { fault.kind ≡ Memory → result.kind ≡ Memory }
         ensures other { fault.kind ≢ Memory
@@ -88,7 +84,7 @@ impl Rows {
         }
     }
 
-    /// The table of the entries, or the error at the first key that comes again.
+    /// Makes the table, or returns the error at the first repeated key.
     pub fn table(self, alloc: Global) -> Result<Tree, SourceFault>
         requires { AreCounted self }
         ensures table { IfOk result
@@ -107,8 +103,7 @@ impl Rows {
         }
     }
 
-    /// The first error, given the one that ended the entries: that, or the error at a key that
-    /// comes again.
+    /// Returns the first error: the one that ended the entries, or that at a repeated key.
     pub fn first_fault(self, alloc: Global, fault: SourceFault) -> SourceFault
         requires { fault.kind ≢ Memory → AreCounted self }
         ensures memory { fault.kind ≡ Memory → result.kind ≡ Memory }

@@ -1,11 +1,10 @@
-//! Type words.
 ghost use Rattle.std.specs.Prelude.{◌≡◌, option_map};
 ghost use Rattle.rb_grammar.specs.Reading.{first_word, all_words, is_no_fallback_word, word_fault};
 ghost use Rattle.rb_parser.specs.inner.Views.{word_of};
 
 use rb_lexer::SourceKind;
 
-/// The type of a value, which is written before its brace.
+/// The type before a value's brace.
 #[derive(Clone, Copy)]
 pub enum Word {
     Leaf(Leaf),
@@ -13,7 +12,7 @@ pub enum Word {
     Array,
 }
 
-/// A type without others inside.
+/// A type without children.
 #[derive(Clone, Copy)]
 pub enum Leaf {
     String,
@@ -48,14 +47,13 @@ const NO_FALLBACK_TABLE: [u16; 17] = [
     0x29,
 ];
 
-/// Whether a text names the type that only a bundle may have.
 pub fn is_no_fallback_table(units: &[u16]) -> bool
     ensures { result ≡ is_no_fallback_word units.now }
 {
     units == NO_FALLBACK_TABLE.as_slice()
 }
 
-/// Why a text that names no type of a value is refused.
+/// Returns the error of a text that names no type of a value.
 pub fn word_fault(units: &[u16]) -> SourceKind
     ensures { result ≡ word_fault units.now }
 {
@@ -67,7 +65,6 @@ pub fn word_fault(units: &[u16]) -> SourceKind
 }
 
 impl Word {
-    /// The type of a value that a text names, if it names one.
     pub fn read(units: &[u16]) -> Option<Word>
         ensures { result ≡ option_map word_of (first_word units.now all_words) }
     {

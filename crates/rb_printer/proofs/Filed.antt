@@ -1,4 +1,4 @@
--- The tree of a file is one of a bundle.
+-- Proves that the tree of an accepted file is a bundle's.
 use Rattle.std.proofs.Common.{◌≡◌, ℕ, zero, suc, ◌+◌, ◌-◌, ◌<◌, ◌≤◌, ◌^◌, Bool, true, false, List, [], ◌∷◌, take, drop, Option, Some, None, Ordering, Less, nat_cmp}
 use Rattle.std.proofs.Common.{refl, sym, ap, subst, ◌∙◌, arith, cond, leb}
 use Rattle.std.specs.Prelude.{option_map, if◌then◌else◌, nat_lt, nat_le, ◌&&◌, ◌*◌, map, not, slice_index, All, position, ◌==◌}

@@ -1,4 +1,4 @@
--- The marks of a page are those of the tree's written form, and no two texts of it stand side by side.
+-- Proves that the marks of a page are those of the tree's written form, and that no two of its texts are adjacent.
 use Rattle.std.proofs.Common.{◌≡◌, ℕ, zero, suc, ◌<◌, ◌^◌, ℤ, pos, negsuc, Bool, true, false, List, [], ◌∷◌, ◌++◌, refl, ap, ◌∙◌, arith, get_or}
 use Rattle.std.specs.Prelude.{nat_lt, not, cond, length, ◌+◌, ◌/◌, ◌%◌, ◌≤◌}
 use Rattle.std.specs.Map.{keys_of}
@@ -14,7 +14,7 @@ use Rattle.rb_tree.specs.Keys.{IsKey, IsTable, pairs}
 use Rattle.rb_grammar.specs.Form.{int_word, ints_word, binary_word, alias_word, array_word, table_word, no_fallback_table_word, body_marks, entries_marks}
 use Rattle.rb_grammar.specs.Form.{Body, Entries, Elements, comma_marks, elements_marks, numbers_marks, bundle_marks}
 use Rattle.rb_printer.specs.Sign.{Sign, feed, left, right, comma, text, pieces, joined, is_name, signs_marks}
-use Rattle.rb_printer.specs.Page.{hex_first, hex_later, is_short, pause, room_after, wraps, number_fits, item_fits, item_room}
+use Rattle.rb_printer.specs.Page.{hex_first, hex_later, is_short, pause, remaining_after, wraps, number_fits, item_fits, remaining_after_item}
 use Rattle.rb_printer.specs.Page.{hex_units, indent, comma_if, are_more, has_items, has_entries, is_guessed, numbers_signs, type_unless, gap, item_signs}
 use Rattle.rb_printer.specs.Page.{head_signs, body_signs, items_signs, entries_signs, page}
 use Rattle.rb_printer.specs.inner.Lexed.{EachUnits, Apart}
@@ -36,18 +36,18 @@ comma_marks_are : (b : Bool) (rest : List Sign) → signs_marks (comma_if b rest
 comma_marks_are true rest = refl
 comma_marks_are false rest = refl
 
-numbers_marks_are : (zs : List ℤ) (w : Bool) (level room : ℕ) (rest : List Sign)
-    → signs_marks (numbers_signs zs w level room rest) ≡ numbers_marks (numbers_form zs) (signs_marks rest)
-numbers_marks_are [] w level room rest = refl
-numbers_marks_are (z ∷ zs) w level room rest =
-    let fits = number_fits w room in
-    let next = room_after fits level room (length (signed_decimal z)) in
+numbers_marks_are : (zs : List ℤ) (w : Bool) (level remaining : ℕ) (rest : List Sign)
+    → signs_marks (numbers_signs zs w level remaining rest) ≡ numbers_marks (numbers_form zs) (signs_marks rest)
+numbers_marks_are [] w level remaining rest = refl
+numbers_marks_are (z ∷ zs) w level remaining rest =
+    let fits = number_fits w remaining in
+    let next = remaining_after fits level remaining (length (signed_decimal z)) in
     pause_marks fits level (text true (signed_decimal z) ∷ comma_if (are_more zs) (numbers_signs zs w level next rest))
     ∙ ap (λ (ms : List Mark). Text (signed_decimal z) ∷ ms)
     (comma_marks_are (are_more zs) (numbers_signs zs w level next rest) ∙ ap (comma_marks (are_more zs)) (numbers_marks_are zs w level next rest))
 
-pub hex_joined : (bs : List ℕ) (room : ℕ) → hex_first bs room ++ joined (hex_later bs room) ≡ hex_units bs
-hex_joined [] room = refl
+pub hex_joined : (bs : List ℕ) (remaining : ℕ) → hex_first bs remaining ++ joined (hex_later bs remaining) ≡ hex_units bs
+hex_joined [] remaining = refl
 hex_joined (b ∷ bs) zero = ap (λ (us : List ℕ). digit_char (b / 16) ∷ digit_char (b % 16) ∷ us) (hex_joined bs 31)
 hex_joined (b ∷ bs) (suc n) = ap (λ (us : List ℕ). digit_char (b / 16) ∷ digit_char (b % 16) ∷ us) (hex_joined bs n)
 
@@ -98,14 +98,14 @@ mutual
       table_marks (has_entries es) (entries_signs (level + 1) es (indent level (right ∷ rest))) (entries_form es) (signs_marks rest)
       (entries_marks_are es (level + 1) (indent level (right ∷ rest)) ∙ ap (entries_marks (entries_form es)) (indent_marks level (right ∷ rest)))
 
-  pub items_marks_are : (ts : Resources) (level room : ℕ) (rest : List Sign)
-      → signs_marks (items_signs level ts room rest) ≡ elements_marks (items_form ts) (signs_marks rest)
-  items_marks_are no_trees level room rest = refl
-  items_marks_are (tree_and t ts) level room rest =
-      let next = item_room level room t in
+  pub items_marks_are : (ts : Resources) (level remaining : ℕ) (rest : List Sign)
+      → signs_marks (items_signs level ts remaining rest) ≡ elements_marks (items_form ts) (signs_marks rest)
+  items_marks_are no_trees level remaining rest = refl
+  items_marks_are (tree_and t ts) level remaining rest =
+      let next = remaining_after_item level remaining t in
       let after = comma ∷ items_signs level ts next rest in
       let later = items_marks_are ts level next rest in
-      pause_marks (item_fits level room t) level (item_signs t (body_signs level t after) after)
+      pause_marks (item_fits level remaining t) level (item_signs t (body_signs level t after) after)
       ∙ item_marks t (body_form t) (items_form ts) (body_signs level t after) after (signs_marks rest)
       (body_marks_are t level after ∙ ap (λ (ms : List Mark). body_marks (body_form t) (Comma ∷ ms)) later) (ap (λ (ms : List Mark). Comma ∷ ms) later)
 
@@ -146,14 +146,14 @@ digit_unit d h = by (nat_lt d 10) where
   by true = omega arith
   by false = omega arith
 
-first_units : (bs : List ℕ) (room : ℕ) → AreBytes bs → AllByRecursion (λ u. u < 65536) (hex_first bs room)
-first_units [] room h = tt
+first_units : (bs : List ℕ) (remaining : ℕ) → AreBytes bs → AllByRecursion (λ u. u < 65536) (hex_first bs remaining)
+first_units [] remaining h = tt
 first_units (b ∷ bs) zero h = tt
 first_units (b ∷ bs) (suc n) h =
     let low : b < 256 = h.0 in (digit_unit (b / 16) (omega arith), (digit_unit (b % 16) (omega arith), first_units bs n h.1))
 
-later_units : (bs : List ℕ) (room : ℕ) → AreBytes bs → EachUnits (hex_later bs room)
-later_units [] room h = tt
+later_units : (bs : List ℕ) (remaining : ℕ) → AreBytes bs → EachUnits (hex_later bs remaining)
+later_units [] remaining h = tt
 later_units (b ∷ bs) zero h =
     let low : b < 256 = h.0 in
     ((digit_unit (b / 16) (omega arith), (digit_unit (b % 16) (omega arith), first_units bs 31 h.1)), later_units bs 31 h.1)
@@ -175,17 +175,17 @@ pause_apart : (b c : Bool) (n : ℕ) (rest : List Sign) → Apart b rest → Apa
 pause_apart b true n rest h = h
 pause_apart b false n rest h = indent_apart b n rest h
 
-comma_apart : (zs : List ℤ) (w : Bool) (level room : ℕ) (rest : List Sign) → ((b : Bool) → Apart b rest) → Apart false (numbers_signs zs w level room rest)
-    → Apart true (comma_if (are_more zs) (numbers_signs zs w level room rest))
-comma_apart [] w level room rest h p = h true
-comma_apart (z ∷ zs) w level room rest h p = p
+comma_apart : (zs : List ℤ) (w : Bool) (level remaining : ℕ) (rest : List Sign) → ((b : Bool) → Apart b rest) → Apart false (numbers_signs zs w level remaining rest)
+    → Apart true (comma_if (are_more zs) (numbers_signs zs w level remaining rest))
+comma_apart [] w level remaining rest h p = h true
+comma_apart (z ∷ zs) w level remaining rest h p = p
 
-numbers_apart : (zs : List ℤ) (w : Bool) (level room : ℕ) (rest : List Sign) → AllByRecursion IsNumber zs → ((b : Bool) → Apart b rest)
-    → Apart false (numbers_signs zs w level room rest)
-numbers_apart [] w level room rest s h = h false
-numbers_apart (z ∷ zs) w level room rest s h =
-    let fits = number_fits w room in
-    let next = room_after fits level room (length (signed_decimal z)) in
+numbers_apart : (zs : List ℤ) (w : Bool) (level remaining : ℕ) (rest : List Sign) → AllByRecursion IsNumber zs → ((b : Bool) → Apart b rest)
+    → Apart false (numbers_signs zs w level remaining rest)
+numbers_apart [] w level remaining rest s h = h false
+numbers_apart (z ∷ zs) w level remaining rest s h =
+    let fits = number_fits w remaining in
+    let next = remaining_after fits level remaining (length (signed_decimal z)) in
     pause_apart false fits level (text true (signed_decimal z) ∷ comma_if (are_more zs) (numbers_signs zs w level next rest))
     (refl, number_units z s.0, comma_apart zs w level next rest h (numbers_apart zs w level next rest s.1 h))
 
@@ -241,13 +241,13 @@ mutual
       unless_apart (has_entries es) b table_word (feed ∷ entries_signs (level + 1) es (indent level (right ∷ rest))) (listed table_word refl)
       (entries_apart es (level + 1) (indent level (right ∷ rest)) (keys_are es s.0) s.1 (indent_apart false level (right ∷ rest) h))
 
-  pub items_apart : (ts : Resources) (level room : ℕ) (rest : List Sign) → AreSound ts → Apart false rest → Apart false (items_signs level ts room rest)
-  items_apart no_trees level room rest s h = h
-  items_apart (tree_and t ts) level room rest s h =
-      let next = item_room level room t in
+  pub items_apart : (ts : Resources) (level remaining : ℕ) (rest : List Sign) → AreSound ts → Apart false rest → Apart false (items_signs level ts remaining rest)
+  items_apart no_trees level remaining rest s h = h
+  items_apart (tree_and t ts) level remaining rest s h =
+      let next = remaining_after_item level remaining t in
       let later = items_apart ts level next rest s.1 h in
       let after = comma ∷ items_signs level ts next rest in
-      pause_apart false (item_fits level room t) level (item_signs t (body_signs level t after) after)
+      pause_apart false (item_fits level remaining t) level (item_signs t (body_signs level t after) after)
       (item_apart t (body_signs level t after) (items_signs level ts next rest) s.0 (body_apart t false level after s.0 later) later)
 
   pub entries_apart : (es : Members) (level : ℕ) (rest : List Sign) → KeysAre es → EachSound es → Apart false rest → Apart false (entries_signs level es rest)

@@ -16,7 +16,7 @@ use Rattle.rb_printer.specs.Sign.{Sign, feed, space, left, right, comma, text, i
 use Rattle.rb_printer.specs.Sign.{pair_chars, first_unit, unit_chars, units_chars}
 use Rattle.rb_printer.specs.Sign.{pieces, joined, spaces, lines_chars, text_chars, sign_chars, signs_chars}
 use Rattle.rb_printer.proofs.Forming.{hex_joined}
-use Rattle.rb_printer.specs.Page.{hex_first, hex_later, is_short, pause, room_after, wraps, number_fits, text_width, item_fits, item_room}
+use Rattle.rb_printer.specs.Page.{hex_first, hex_later, is_short, pause, remaining_after, wraps, number_fits, text_width, item_fits, remaining_after_item}
 use Rattle.rb_printer.specs.Page.{hex_units, indent, comma_if, are_more, has_items, has_entries, is_guessed, numbers_signs, type_unless, gap, item_signs}
 use Rattle.rb_printer.specs.Page.{head_signs, body_signs, items_signs, entries_signs, page}
 use Rattle.rb_lexer.specs.Limits.{source_limit}
@@ -140,12 +140,12 @@ head_least : (b : Bool) (rest : List Sign) → size (signs_chars rest) ≤ size 
 head_least true rest = omega (arith, size_append (sign_chars (text true no_fallback_table_word)) (signs_chars (space ∷ rest)))
 head_least false rest = omega arith
 
-numbers_least : (zs : List ℤ) (w : Bool) (level room : ℕ) (rest : List Sign)
-    → 2 * length zs + size (signs_chars rest) ≤ size (signs_chars (numbers_signs zs w level room rest))
-numbers_least [] w level room rest = omega arith
-numbers_least (z ∷ zs) w level room rest =
-    let fits = number_fits w room in
-    let next = room_after fits level room (length (signed_decimal z)) in
+numbers_least : (zs : List ℤ) (w : Bool) (level budget : ℕ) (rest : List Sign)
+    → 2 * length zs + size (signs_chars rest) ≤ size (signs_chars (numbers_signs zs w level budget rest))
+numbers_least [] w level budget rest = omega arith
+numbers_least (z ∷ zs) w level budget rest =
+    let fits = number_fits w budget in
+    let next = remaining_after fits level budget (length (signed_decimal z)) in
     let after = comma_if (are_more zs) (numbers_signs zs w level next rest) in
     omega (
       arith,
@@ -188,18 +188,18 @@ pieces_least bs level = omega (
   hex_length bs,
 )
 
--- what stands in front of an item, with the comma after it
-lead_least : (t : Resource) (level room : ℕ) (rest : List Sign) → item_lead level t + size (signs_chars rest) ≤ size (signs_chars (pause (item_fits level room t) level rest)) + 1
-lead_least (string us) level room rest = by (nat_le level 12) where
-  by : (b : Bool) → cond b 2 (4 * level) + size (signs_chars rest) ≤ size (signs_chars (pause (b && nat_le (text_width us + 2) room) level rest)) + 1
-  by true = omega (arith, pause_least (nat_le (text_width us + 2) room) level rest)
+-- the characters before an item, with the comma after it
+lead_least : (t : Resource) (level budget : ℕ) (rest : List Sign) → item_lead level t + size (signs_chars rest) ≤ size (signs_chars (pause (item_fits level budget t) level rest)) + 1
+lead_least (string us) level budget rest = by (nat_le level 12) where
+  by : (b : Bool) → cond b 2 (4 * level) + size (signs_chars rest) ≤ size (signs_chars (pause (b && nat_le (text_width us + 2) budget) level rest)) + 1
+  by true = omega (arith, pause_least (nat_le (text_width us + 2) budget) level rest)
   by false = omega (arith, new_line_least level rest)
-lead_least (int n) level room rest = omega (arith, new_line_least level rest)
-lead_least (ints zs) level room rest = omega (arith, new_line_least level rest)
-lead_least (binary bs) level room rest = omega (arith, new_line_least level rest)
-lead_least (alias us) level room rest = omega (arith, new_line_least level rest)
-lead_least (array ts) level room rest = omega (arith, new_line_least level rest)
-lead_least (table es) level room rest = omega (arith, new_line_least level rest)
+lead_least (int n) level budget rest = omega (arith, new_line_least level rest)
+lead_least (ints zs) level budget rest = omega (arith, new_line_least level rest)
+lead_least (binary bs) level budget rest = omega (arith, new_line_least level rest)
+lead_least (alias us) level budget rest = omega (arith, new_line_least level rest)
+lead_least (array ts) level budget rest = omega (arith, new_line_least level rest)
+lead_least (table es) level budget rest = omega (arith, new_line_least level rest)
 
 lead_some : (t : Resource) (level : ℕ) → 1 ≤ level → 2 ≤ item_lead level t
 lead_some (string us) level h = by (nat_le level 12) where
@@ -248,15 +248,15 @@ mutual
         indent_least level (right ∷ rest),
       )
 
-  pub items_least_of : (ts : Resources) (level room : ℕ) (rest : List Sign)
-      → items_least level ts + size (signs_chars rest) ≤ size (signs_chars (items_signs level ts room rest))
-  items_least_of no_trees level room rest = omega arith
-  items_least_of (tree_and t ts) level room rest =
-      let next = item_room level room t in
+  pub items_least_of : (ts : Resources) (level budget : ℕ) (rest : List Sign)
+      → items_least level ts + size (signs_chars rest) ≤ size (signs_chars (items_signs level ts budget rest))
+  items_least_of no_trees level budget rest = omega arith
+  items_least_of (tree_and t ts) level budget rest =
+      let next = remaining_after_item level budget t in
       let after = comma ∷ items_signs level ts next rest in
       omega (
         arith,
-        lead_least t level room (item_signs t (body_signs level t after) after),
+        lead_least t level budget (item_signs t (body_signs level t after) after),
         item_least t level (body_signs level t after) after (body_least t level after),
         items_least_of ts level next rest,
       )
@@ -333,7 +333,7 @@ page_least name b es =
 pub page_frame : (name : List ℕ) (b : Bool) (es : Members) → entries_frame 1 es + 4 ≤ length (encode_utf8_all (signs_chars (page name b es)))
 page_frame name b es = omega (arith, page_least name b es, entries_frame_least es 1)
 
--- a text of more units than there is room for bytes is too long
+-- a text of more units than there is budget for bytes is too long
 pub text_exceeds : (old us : List ℕ) (e : PrintError) → source_limit < length old + length us → Exceeds old (text_chars false us) e
 text_exceeds old us e h = λ _.
     omega (arith, h, size_is (text_chars false us), quoted_least us, length-append old (encode_utf8_all (text_chars false us)))

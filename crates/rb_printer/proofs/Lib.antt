@@ -15,5 +15,5 @@ pub mod Runs
 pub mod Widths
 pub mod Trees
 pub mod Least
-pub mod Rooms
+pub mod Budgets
 pub mod Filed

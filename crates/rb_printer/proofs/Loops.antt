@@ -1,4 +1,4 @@
--- What is still to be written in each loop.
+-- Proves the loops, by the characters that remain to be written.
 use Rattle.std.proofs.Common.{◌≡◌, ℕ, zero, suc, ◌+◌, ◌-◌, ◌/◌, ◌%◌, ◌<◌, ◌≤◌, ℤ, Bool, true, false, cond, List, [], ◌∷◌, ◌++◌, length, get_or, drop, refl, sym, ap, subst, ◌∙◌}
 use Rattle.std.proofs.Common.{arith, append_assoc, add-one, drop-cons, Option, Some, None, encode_utf8_all}
 use Rattle.std.specs.Prelude.{slice_get, take}
@@ -16,7 +16,7 @@ use Rattle.rb_tree.specs.Resource.{Resource, string, int, ints, binary, alias, a
 use Rattle.rb_tree.specs.Parts.{kind_of, len_of, HasUnits, units_of, numbers_of, bytes_of}
 use Rattle.rb_tree.specs.declared.kind.Kind.TheVariants as Kinds
 use Rattle.rb_printer.specs.Sign.{text, is_ascii, is_shown, is_low, escape_chars, pair_chars, first_unit, unit_chars, units_chars, pieces, spaces, lines_chars, text_chars, sign_chars, signs_chars}
-use Rattle.rb_printer.specs.Page.{hex_first, hex_later, indent, pause, room_after, comma_if, are_more, number_fits, numbers_signs}
+use Rattle.rb_printer.specs.Page.{hex_first, hex_later, indent, pause, remaining_after, comma_if, are_more, number_fits, numbers_signs}
 use Rattle.rb_printer.specs.Sound.{AreUnits, AreBytes, IsNumber}
 use Rattle.rb_printer.specs.inner.Growth.{Adds, Owes, break_chars, after_break}
 use Rattle.rb_printer.proofs.Growths.{adds_more, owes_all, owes_step, owes_end}
@@ -124,16 +124,16 @@ units_len (table es) h = absurd h
 
 -- ---- bytes
 
--- what is left of a Binary's text if the present piece has room for so many bytes
+-- the remaining text of a Binary, given how many more bytes fit the current piece
 abbrev pub tail : ℕ → List ℕ → ℕ → List ℕ
-tail level bs room = units_chars (hex_first bs room) false ++ quote ∷ lines_chars (hex_later bs room) level
+tail level bs remaining = units_chars (hex_first bs remaining) false ++ quote ∷ lines_chars (hex_later bs remaining) level
 
 abbrev pub whole : ℕ → List ℕ → List ℕ
 whole level bs = sign_chars (pieces level (hex_first bs 32) (hex_later bs 32))
 
--- the bytes of a Binary, of which i are written, and the piece then has room for so many
-pub record BytesPut (old now bs : List ℕ) (level room i : ℕ) : Type 0 where
-  pub owes : Owes old (whole level bs) now (tail level (drop i bs) room)
+-- the bytes of a Binary, of which i are written, and how many more fit the current piece
+pub record BytesPut (old now bs : List ℕ) (level remaining i : ℕ) : Type 0 where
+  pub owes : Owes old (whole level bs) now (tail level (drop i bs) remaining)
   pub sound : AreBytes (drop i bs) → AreBytes bs
 
 pub bytes_begin : (old now bs : List ℕ) (level : ℕ) → Adds old now (quote ∷ []) → BytesPut old now bs level 32 0
@@ -158,8 +158,8 @@ byte_shown b rest h =
     shown_next (digit_char (b / 16)) (digit_char (b % 16) ∷ rest) false (digit_shown (b / 16) (omega arith))
     ∙ ap (λ (cs : List ℕ). digit_char (b / 16) ∷ cs) (shown_next (digit_char (b % 16)) rest false (digit_shown (b % 16) (omega arith)))
 
-tail_next : (b : ℕ) (bs : List ℕ) (room level : ℕ) → b < 256
-    → tail level (b ∷ bs) room ≡ break_chars room level ++ (digit_char (b / 16) ∷ digit_char (b % 16) ∷ tail level bs (after_break room))
+tail_next : (b : ℕ) (bs : List ℕ) (remaining level : ℕ) → b < 256
+    → tail level (b ∷ bs) remaining ≡ break_chars remaining level ++ (digit_char (b / 16) ∷ digit_char (b % 16) ∷ tail level bs (after_break remaining))
 tail_next b bs (suc n) level h = ap (λ (cs : List ℕ). cs ++ quote ∷ lines_chars (hex_later bs n) level) (byte_shown b (hex_first bs n) h)
 tail_next b bs zero level h =
     let units = digit_char (b / 16) ∷ digit_char (b % 16) ∷ hex_first bs 31 in
@@ -169,25 +169,25 @@ tail_next b bs zero level h =
     (append_assoc (units_chars units false) (quote ∷ []) later ∙ ap (λ (cs : List ℕ). cs ++ quote ∷ later) (byte_shown b (hex_first bs 31) h))
     ∙ ap (λ (cs : List ℕ). quote ∷ 0x0A ∷ cs) (sym (append_assoc (spaces level) (quote ∷ []) after))
 
-pub bytes_put : (old now a new bs : List ℕ) (level room next i b : ℕ) → BytesPut old now bs level room i → i < length bs → b ≡ get_or bs i 0 → b < 256
-    → next ≡ after_break room → Adds now a (break_chars room level) → Adds a new (digit_char (b / 16) ∷ digit_char (b % 16) ∷ [])
+pub bytes_put : (old now a new bs : List ℕ) (level remaining next i b : ℕ) → BytesPut old now bs level remaining i → i < length bs → b ≡ get_or bs i 0 → b < 256
+    → next ≡ after_break remaining → Adds now a (break_chars remaining level) → Adds a new (digit_char (b / 16) ∷ digit_char (b % 16) ∷ [])
     → BytesPut old new bs level next (i + 1)
-bytes_put old now a new bs level room next i b m h e small f p q =
+bytes_put old now a new bs level remaining next i b m h e small f p q =
     let later = drop (i + 1) bs in
     let digits = digit_char (b / 16) ∷ digit_char (b % 16) ∷ [] in
     let there : drop i bs ≡ b ∷ later = dropped bs i h ∙ ap (λ (x : ℕ). x ∷ later) (sym e) in
-    let left : tail level (drop i bs) room ≡ break_chars room level ++ (digits ++ tail level later next) =
-    ap (λ (xs : List ℕ). tail level xs room) there ∙ tail_next b later room level small
-    ∙ ap (λ (n : ℕ). break_chars room level ++ (digits ++ tail level later n)) (sym f) in
+    let left : tail level (drop i bs) remaining ≡ break_chars remaining level ++ (digits ++ tail level later next) =
+    ap (λ (xs : List ℕ). tail level xs remaining) there ∙ tail_next b later remaining level small
+    ∙ ap (λ (n : ℕ). break_chars remaining level ++ (digits ++ tail level later n)) (sym f) in
     record {
       owes = owes_step {xs = digits} (tail level later next) (owes_step (digits ++ tail level later next) (owes_as m.owes left) p) q;
       sound = λ (k : AreBytes later). m.sound (subst AreBytes (sym there) (small, k));
     }
 
-pub bytes_end : (old now new bs : List ℕ) (level room i : ℕ) → BytesPut old now bs level room i → length bs ≤ i → Adds now new (quote ∷ [])
+pub bytes_end : (old now new bs : List ℕ) (level remaining i : ℕ) → BytesPut old now bs level remaining i → length bs ≤ i → Adds now new (quote ∷ [])
     → Adds old new (whole level bs) × AreBytes bs
-bytes_end old now new bs level room i m h a = (
-  owes_end (owes_step [] (owes_as m.owes (ap (λ (xs : List ℕ). tail level xs room) (drop_all i bs h))) a),
+bytes_end old now new bs level remaining i m h a = (
+  owes_end (owes_step [] (owes_as m.owes (ap (λ (xs : List ℕ). tail level xs remaining) (drop_all i bs h))) a),
   m.sound (subst AreBytes (sym (drop_all i bs h)) tt),
 )
 
@@ -205,9 +205,9 @@ bytes_len (table es) h = absurd cc
 abbrev pub AreNumbers : List ℤ → Type 0
 AreNumbers zs = AllByRecursion IsNumber zs
 
--- of numbers from a line with no columns left on, i are written, after which so many columns are left
-pub record NumbersPut (old now : List ℕ) (zs : List ℤ) (wrapped : Bool) (level room i : ℕ) : Type 0 where
-  pub owes : Owes old (signs_chars (numbers_signs zs wrapped level 0 [])) now (signs_chars (numbers_signs (drop i zs) wrapped level room []))
+-- i numbers are written, the first in a new line, after which this many columns remain
+pub record NumbersPut (old now : List ℕ) (zs : List ℤ) (wrapped : Bool) (level remaining i : ℕ) : Type 0 where
+  pub owes : Owes old (signs_chars (numbers_signs zs wrapped level 0 [])) now (signs_chars (numbers_signs (drop i zs) wrapped level remaining []))
   pub sound : AreNumbers (drop i zs) → AreNumbers zs
 
 pub numbers_begin : (old : List ℕ) (zs : List ℤ) (w : Bool) (level : ℕ) → NumbersPut old old zs w level 0 0
@@ -230,21 +230,21 @@ more_there (z ∷ zs) (suc i) = more_there zs i ∙ by (nat_lt i (length zs)) re
   by true e = let h : i < length zs = ltb-true i (length zs) e in e ∙ sym (lt-ltb (suc i) (length (z ∷ zs)) (omega arith))
   by false e = let h : length zs ≤ i = ltb-false i (length zs) e in e ∙ sym (le-ltb (suc i) (length (z ∷ zs)) (omega arith))
 
-pub numbers_put : (old now a b new : List ℕ) (zs : List ℤ) (w : Bool) (level room left i : ℕ) (z : ℤ) → NumbersPut old now zs w level room i
-    → Some z ≡ slice_get zs i → IsNumber z → left ≡ room_after (number_fits w room) level room (length (signed_decimal z))
-    → Adds now a (signs_chars (pause (number_fits w room) level [])) → Adds a b (signed_decimal z)
+pub numbers_put : (old now a b new : List ℕ) (zs : List ℤ) (w : Bool) (level remaining left i : ℕ) (z : ℤ) → NumbersPut old now zs w level remaining i
+    → Some z ≡ slice_get zs i → IsNumber z → left ≡ remaining_after (number_fits w remaining) level remaining (length (signed_decimal z))
+    → Adds now a (signs_chars (pause (number_fits w remaining) level [])) → Adds a b (signed_decimal z)
     → Adds b new (signs_chars (comma_if (nat_lt (i + 1) (length zs)) [])) → NumbersPut old new zs w level left (i + 1)
-numbers_put old now a b new zs w level room left i z m e good f p q r =
+numbers_put old now a b new zs w level remaining left i z m e good f p q r =
     let there = number_there zs i z e in
     let later = drop (i + 1) zs in
-    let fits = number_fits w room in
-    let next = room_after fits level room (length (signed_decimal z)) in
+    let fits = number_fits w remaining in
+    let next = remaining_after fits level remaining (length (signed_decimal z)) in
     let after = signs_chars (numbers_signs later w level left []) in
     let front = signs_chars (pause fits level []) in
     let last = signs_chars (comma_if (are_more later) []) in
     let rest = numbers_signs later w level next [] in
-    let owed : signs_chars (numbers_signs (drop i zs) w level room []) ≡ front ++ (signed_decimal z ++ (last ++ after)) =
-    ap (λ (xs : List ℤ). signs_chars (numbers_signs xs w level room [])) there
+    let owed : signs_chars (numbers_signs (drop i zs) w level remaining []) ≡ front ++ (signed_decimal z ++ (last ++ after)) =
+    ap (λ (xs : List ℤ). signs_chars (numbers_signs xs w level remaining [])) there
     ∙ (pause_splits fits level same).are (text true (signed_decimal z) ∷ comma_if (are_more later) rest)
     ∙ ap (λ (v : Bool). front ++ (text_chars v (signed_decimal z) ++ signs_chars (comma_if (are_more later) rest))) (number_word z good)
     ∙ ap (λ (cs : List ℕ). front ++ (signed_decimal z ++ cs)) ((comma_splits (are_more later) same).are rest)
@@ -255,10 +255,10 @@ numbers_put old now a b new zs w level room left i z m e good f p q r =
       sound = λ (k : AreNumbers (drop (i + 1) zs)). m.sound (subst AreNumbers (sym there) (good, k));
     }
 
-pub numbers_end : (old now : List ℕ) (zs : List ℤ) (w : Bool) (level room i : ℕ) → NumbersPut old now zs w level room i → length zs ≤ i
+pub numbers_end : (old now : List ℕ) (zs : List ℤ) (w : Bool) (level remaining i : ℕ) → NumbersPut old now zs w level remaining i → length zs ≤ i
     → Adds old now (signs_chars (numbers_signs zs w level 0 [])) × AreNumbers zs
-numbers_end old now zs w level room i m h = (
-  owes_end (owes_as m.owes (ap (λ (xs : List ℤ). signs_chars (numbers_signs xs w level room [])) (drop_all i zs h))),
+numbers_end old now zs w level remaining i m h = (
+  owes_end (owes_as m.owes (ap (λ (xs : List ℤ). signs_chars (numbers_signs xs w level remaining [])) (drop_all i zs h))),
   m.sound (subst AreNumbers (sym (drop_all i zs h)) tt),
 )
 
@@ -305,7 +305,7 @@ indent_put old total now new left n row o h fits put =
     record { is = put ∙ ap (λ (t : List ℕ). now ++ t) (row_is ∙ sym (ascii_encoded (spaces n) (spaces_ascii n))) } in
     owes_step (signs_chars (indent (left - n) [])) (owes_as o cut) added
 
-pub break_put : (old a b new : List ℕ) (room level : ℕ) → room ≤ 0 → Adds old a (quote ∷ 0x0A ∷ []) → Adds a b (signs_chars (indent level []))
-    → Adds b new (quote ∷ []) → Adds old new (break_chars room level)
+pub break_put : (old a b new : List ℕ) (remaining level : ℕ) → remaining ≤ 0 → Adds old a (quote ∷ 0x0A ∷ []) → Adds a b (signs_chars (indent level []))
+    → Adds b new (quote ∷ []) → Adds old new (break_chars remaining level)
 break_put old a b new zero level h p q r = adds_more p (adds_more (adds_as q (indent_spaces level)) r)
 break_put old a b new (suc n) level h p q r = absurd (omega arith)

@@ -1,10 +1,10 @@
--- The characters of signs in front of others.
+-- Proves that the characters of signs come before those of the remaining signs.
 use Rattle.std.proofs.Common.{◌≡◌, ℕ, zero, suc, ◌+◌, ℤ, Bool, true, false, not, List, [], ◌∷◌, ◌++◌, length, refl, sym, ap, ◌∙◌, append_assoc}
 use Rattle.std.specs.Fmt.{decimal, signed_decimal}
 use Rattle.rb_tree.specs.Resource.{Resource, string, int, ints, binary, alias, array, table, Resources, no_trees, tree_and, Members, no_entries, entry_and}
 use Rattle.rb_grammar.specs.Form.{alias_word, binary_word, int_word, ints_word, table_word, array_word, no_fallback_table_word}
 use Rattle.rb_printer.specs.Sign.{Sign, feed, space, left, right, colon, comma, text, pieces, is_name, sign_chars, signs_chars}
-use Rattle.rb_printer.specs.Page.{hex_first, hex_later, is_short, pause, room_after, wraps, number_fits, item_fits, item_room}
+use Rattle.rb_printer.specs.Page.{hex_first, hex_later, is_short, pause, remaining_after, wraps, number_fits, item_fits, remaining_after_item}
 use Rattle.rb_printer.specs.Page.{indent, comma_if, are_more, has_items, has_entries, is_guessed, numbers_signs, type_unless, gap, item_signs}
 use Rattle.rb_printer.specs.Page.{head_signs, body_signs, items_signs, entries_signs}
 
@@ -42,12 +42,12 @@ pub comma_splits : {f : List Sign → List Sign} (b : Bool) → Splits f → Spl
 comma_splits true p = front comma p
 comma_splits false p = p
 
-pub numbers_split : (zs : List ℤ) (w : Bool) (level room : ℕ) → Splits (numbers_signs zs w level room)
-numbers_split [] w level room = same
-numbers_split (z ∷ zs) w level room =
-    let fits = number_fits w room in
+pub numbers_split : (zs : List ℤ) (w : Bool) (level remaining : ℕ) → Splits (numbers_signs zs w level remaining)
+numbers_split [] w level remaining = same
+numbers_split (z ∷ zs) w level remaining =
+    let fits = number_fits w remaining in
     pause_splits fits level (front (text true (signed_decimal z)) (comma_splits (are_more zs)
-    (numbers_split zs w level (room_after fits level room (length (signed_decimal z))))))
+    (numbers_split zs w level (remaining_after fits level remaining (length (signed_decimal z))))))
 
 pub unless_splits : {f : List Sign → List Sign} (b : Bool) (word : List ℕ) → Splits f → Splits (λ rest. type_unless b word (f rest))
 unless_splits true word p = p
@@ -95,11 +95,11 @@ mutual
       unless_splits (has_entries es) table_word (front left (front feed
       (then (entries_signs (level + 1) es) (λ rest. indent level (right ∷ rest)) (entries_split es (level + 1)) (end_splits level))))
 
-  pub items_split : (ts : Resources) (level room : ℕ) → Splits (items_signs level ts room)
-  items_split no_trees level room = same
-  items_split (tree_and t ts) level room =
-      let next = item_room level room t in
-      pause_splits (item_fits level room t) level
+  pub items_split : (ts : Resources) (level remaining : ℕ) → Splits (items_signs level ts remaining)
+  items_split no_trees level remaining = same
+  items_split (tree_and t ts) level remaining =
+      let next = remaining_after_item level remaining t in
+      pause_splits (item_fits level remaining t) level
       (item_splits t (body_signs level t) (λ rest. comma ∷ items_signs level ts next rest) (body_splits t level) (front comma (items_split ts level next)))
 
   pub entries_split : (es : Members) (level : ℕ) → Splits (entries_signs level es)

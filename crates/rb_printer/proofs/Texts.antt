@@ -192,7 +192,7 @@ escape_units u h = by (is_cited u) refl where
   by true e = ap units_of (cited_value u e) ∙ one_unit u h
   by false e = ap units_of (four_value u h) ∙ one_unit u h
 
--- the units without the second of a pair whose first stands in front of them
+-- the units without the second of a pair whose first precedes them
 abbrev past : Bool → List ℕ → List ℕ
 past after [] = []
 past after (u ∷ us) = cond (after && is_low_surrogate u) us (u ∷ us)

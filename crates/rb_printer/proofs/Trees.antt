@@ -1,4 +1,4 @@
--- What is still to be written of arrays and tables.
+-- Proves the loops over arrays and tables, by the characters that remain to be written.
 use Rattle.std.proofs.Common.{◌≡◌, ℕ, zero, suc, ◌+◌, ◌<◌, ◌≤◌, Bool, true, false, not, List, [], ◌∷◌, ◌++◌, length, refl, sym, ap, subst, ◌∙◌, arith, add-one, append-nil, Some}
 use Rattle.std.specs.Prelude.{slice_get}
 use Rattle.std.specs.Map.{keys_of, values_of}
@@ -10,7 +10,7 @@ use Rattle.rb_tree.specs.Parts.{kind_of, len_of, children_of, pairs_of, units_of
 use Rattle.rb_tree.specs.declared.kind.Kind.TheVariants as Kinds
 use Rattle.rb_grammar.specs.Form.{array_word, table_word}
 use Rattle.rb_printer.specs.Sign.{Sign, feed, left, right, comma, text, pieces, is_word, is_name, text_chars, sign_chars, signs_chars}
-use Rattle.rb_printer.specs.Page.{hex_first, hex_later, is_short, pause, wraps, item_fits, item_room}
+use Rattle.rb_printer.specs.Page.{hex_first, hex_later, is_short, pause, wraps, item_fits, remaining_after_item}
 use Rattle.rb_printer.specs.Page.{indent, has_items, has_entries, is_guessed, numbers_signs, type_unless, gap, item_signs}
 use Rattle.rb_printer.specs.Page.{body_signs, items_signs, entries_signs, items_of, members_of}
 use Rattle.rb_printer.specs.Sound.{AreUnits, IsSound, AreSound, EachSound, IsWell, AreWell, EachWell}
@@ -44,10 +44,10 @@ trees_out no_trees (suc i) h = refl
 trees_out (tree_and t ts) zero h = absurd (omega arith)
 trees_out (tree_and t ts) (suc i) h = trees_out ts i (omega arith)
 
--- of an array at a level, i items are written, after which so many columns are left
-pub record ItemsPut (old now : List ℕ) (level : ℕ) (t : Resource) (room i : ℕ) : Type 0 where
+-- i items of an array at a level are written, after which this many columns remain
+pub record ItemsPut (old now : List ℕ) (level : ℕ) (t : Resource) (remaining i : ℕ) : Type 0 where
   pub owes : Owes old (signs_chars (body_signs level t [])) now
-      (signs_chars (items_signs (level + 1) (drop_trees i (items_of t)) room (feed ∷ indent level (right ∷ []))))
+      (signs_chars (items_signs (level + 1) (drop_trees i (items_of t)) remaining (feed ∷ indent level (right ∷ []))))
   pub sound : AreSound (drop_trees i (items_of t)) → AreSound (items_of t)
 
 pub items_begin : (old now : List ℕ) (level : ℕ) (t : Resource) → kind_of t ≡ Kinds.Array
@@ -66,40 +66,40 @@ items_begin old now level (array ts) k a =
       sound = λ h. h;
     }
 
-item_left : (level room : ℕ) (u : Resource) (ts : Resources) (rest : List Sign)
-    → signs_chars (items_signs level (tree_and u ts) room rest)
-    ≡ signs_chars (pause (item_fits level room u) level []) ++ (signs_chars (item_signs u (body_signs level u []) [])
-    ++ (0x2C ∷ signs_chars (items_signs level ts (item_room level room u) rest)))
-item_left level room u ts rest =
-    let after = comma ∷ items_signs level ts (item_room level room u) rest in
-    (pause_splits (item_fits level room u) level same).are (item_signs u (body_signs level u after) after)
-    ∙ ap (λ (cs : List ℕ). signs_chars (pause (item_fits level room u) level []) ++ cs)
+item_left : (level remaining : ℕ) (u : Resource) (ts : Resources) (rest : List Sign)
+    → signs_chars (items_signs level (tree_and u ts) remaining rest)
+    ≡ signs_chars (pause (item_fits level remaining u) level []) ++ (signs_chars (item_signs u (body_signs level u []) [])
+    ++ (0x2C ∷ signs_chars (items_signs level ts (remaining_after_item level remaining u) rest)))
+item_left level remaining u ts rest =
+    let after = comma ∷ items_signs level ts (remaining_after_item level remaining u) rest in
+    (pause_splits (item_fits level remaining u) level same).are (item_signs u (body_signs level u after) after)
+    ∙ ap (λ (cs : List ℕ). signs_chars (pause (item_fits level remaining u) level []) ++ cs)
     ((item_splits u (body_signs level u) (λ rest. rest) (body_splits u level) same).are after)
 
 -- what is still to be written begins with the present item
-item_owed : (level room : ℕ) (t u : Resource) (i : ℕ) → Some u ≡ slice_get (items (items_of t)) i
-    → signs_chars (items_signs (level + 1) (drop_trees i (items_of t)) room (feed ∷ indent level (right ∷ [])))
-    ≡ signs_chars (pause (item_fits (level + 1) room u) (level + 1) []) ++ (signs_chars (item_signs u (body_signs (level + 1) u []) [])
-    ++ (0x2C ∷ signs_chars (items_signs (level + 1) (drop_trees (i + 1) (items_of t)) (item_room (level + 1) room u) (feed ∷ indent level (right ∷ [])))))
-item_owed level room t u i e =
+item_owed : (level remaining : ℕ) (t u : Resource) (i : ℕ) → Some u ≡ slice_get (items (items_of t)) i
+    → signs_chars (items_signs (level + 1) (drop_trees i (items_of t)) remaining (feed ∷ indent level (right ∷ [])))
+    ≡ signs_chars (pause (item_fits (level + 1) remaining u) (level + 1) []) ++ (signs_chars (item_signs u (body_signs (level + 1) u []) [])
+    ++ (0x2C ∷ signs_chars (items_signs (level + 1) (drop_trees (i + 1) (items_of t)) (remaining_after_item (level + 1) remaining u) (feed ∷ indent level (right ∷ [])))))
+item_owed level remaining t u i e =
     let end = feed ∷ indent level (right ∷ []) in
-    ap (λ (ts : Resources). signs_chars (items_signs (level + 1) ts room end)) (tree_there (items_of t) i u e)
-    ∙ item_left (level + 1) room u (drop_trees (i + 1) (items_of t)) end
+    ap (λ (ts : Resources). signs_chars (items_signs (level + 1) ts remaining end)) (tree_there (items_of t) i u e)
+    ∙ item_left (level + 1) remaining u (drop_trees (i + 1) (items_of t)) end
 
-pub items_put : (old now a b new : List ℕ) (level room next : ℕ) (t u : Resource) (i : ℕ) (fits : Bool) → ItemsPut old now level t room i
-    → Some u ≡ slice_get (items (items_of t)) i → fits ≡ item_fits (level + 1) room u → next ≡ item_room (level + 1) room u
+pub items_put : (old now a b new : List ℕ) (level remaining next : ℕ) (t u : Resource) (i : ℕ) (fits : Bool) → ItemsPut old now level t remaining i
+    → Some u ≡ slice_get (items (items_of t)) i → fits ≡ item_fits (level + 1) remaining u → next ≡ remaining_after_item (level + 1) remaining u
     → Adds now a (signs_chars (pause fits (level + 1) [])) → Adds a b (signs_chars (item_signs u (body_signs (level + 1) u []) [])) → IsSound u
     → Adds b new (0x2C ∷ []) → ItemsPut old new level t next (i + 1)
-items_put old now a b new level room next t u i fits m e f g p q s r =
+items_put old now a b new level remaining next t u i fits m e f g p q s r =
     let there = tree_there (items_of t) i u e in
     let end = feed ∷ indent level (right ∷ []) in
     let later = drop_trees (i + 1) (items_of t) in
     let after = signs_chars (items_signs (level + 1) later next end) in
     let item = signs_chars (item_signs u (body_signs (level + 1) u []) []) in
     let front = signs_chars (pause fits (level + 1) []) in
-    let owed : signs_chars (items_signs (level + 1) (drop_trees i (items_of t)) room end) ≡ front ++ (item ++ (0x2C ∷ after)) =
-    item_owed level room t u i e
-    ∙ ap (λ (v : Bool). signs_chars (pause v (level + 1) []) ++ (item ++ (0x2C ∷ signs_chars (items_signs (level + 1) later (item_room (level + 1) room u) end)))) (sym f)
+    let owed : signs_chars (items_signs (level + 1) (drop_trees i (items_of t)) remaining end) ≡ front ++ (item ++ (0x2C ∷ after)) =
+    item_owed level remaining t u i e
+    ∙ ap (λ (v : Bool). signs_chars (pause v (level + 1) []) ++ (item ++ (0x2C ∷ signs_chars (items_signs (level + 1) later (remaining_after_item (level + 1) remaining u) end)))) (sym f)
     ∙ ap (λ (n : ℕ). front ++ (item ++ (0x2C ∷ signs_chars (items_signs (level + 1) later n end)))) (sym g) in
     record {
       owes = owes_step {xs = 0x2C ∷ []} after (owes_step (0x2C ∷ after) (owes_step (item ++ (0x2C ∷ after)) (owes_as m.owes owed) p) q) r;
@@ -107,15 +107,15 @@ items_put old now a b new level room next t u i fits m e f g p q s r =
     }
 
 -- an item that is too long makes the array too long
-pub items_exceed : (old now a : List ℕ) (level room : ℕ) (t u : Resource) (i : ℕ) (fits : Bool) (err : PrintError) → ItemsPut old now level t room i
-    → Some u ≡ slice_get (items (items_of t)) i → fits ≡ item_fits (level + 1) room u → Adds now a (signs_chars (pause fits (level + 1) []))
+pub items_exceed : (old now a : List ℕ) (level remaining : ℕ) (t u : Resource) (i : ℕ) (fits : Bool) (err : PrintError) → ItemsPut old now level t remaining i
+    → Some u ≡ slice_get (items (items_of t)) i → fits ≡ item_fits (level + 1) remaining u → Adds now a (signs_chars (pause fits (level + 1) []))
     → Exceeds a (signs_chars (item_signs u (body_signs (level + 1) u []) [])) err → Exceeds old (signs_chars (body_signs level t [])) err
-items_exceed old now a level room t u i fits err m e f p h =
+items_exceed old now a level remaining t u i fits err m e f p h =
     let end = feed ∷ indent level (right ∷ []) in
     let item = signs_chars (item_signs u (body_signs (level + 1) u []) []) in
-    let left = 0x2C ∷ signs_chars (items_signs (level + 1) (drop_trees (i + 1) (items_of t)) (item_room (level + 1) room u) end) in
+    let left = 0x2C ∷ signs_chars (items_signs (level + 1) (drop_trees (i + 1) (items_of t)) (remaining_after_item (level + 1) remaining u) end) in
     let paused = subst (λ (v : Bool). Adds now a (signs_chars (pause v (level + 1) []))) f p in
-    exceeds_in item left err (owes_step (item ++ left) (owes_as m.owes (item_owed level room t u i e)) paused) h
+    exceeds_in item left err (owes_step (item ++ left) (owes_as m.owes (item_owed level remaining t u i e)) paused) h
 
 array_sound : (t : Resource) → kind_of t ≡ Kinds.Array → AreSound (items_of t) → IsSound t
 array_sound (string us) k s = absurd cc
@@ -144,13 +144,13 @@ array_len (alias us) k = absurd cc
 array_len (table es) k = absurd cc
 array_len (array ts) k = refl
 
-pub items_end : (old now new : List ℕ) (level room : ℕ) (t : Resource) (i : ℕ) → ItemsPut old now level t room i → kind_of t ≡ Kinds.Array → len_of t ≤ i
+pub items_end : (old now new : List ℕ) (level remaining : ℕ) (t : Resource) (i : ℕ) → ItemsPut old now level t remaining i → kind_of t ≡ Kinds.Array → len_of t ≤ i
     → Adds now new (signs_chars (feed ∷ indent level (right ∷ []))) → Adds old new (signs_chars (body_signs level t [])) × IsSound t
-items_end old now new level room t i m k h p =
+items_end old now new level remaining t i m k h p =
     let len = array_len t k in
     let out = trees_out (items_of t) i (omega arith) in
     let end = feed ∷ indent level (right ∷ []) in
-    let left = ap (λ (ts : Resources). signs_chars (items_signs (level + 1) ts room end)) out ∙ sym (append-nil (signs_chars end)) in
+    let left = ap (λ (ts : Resources). signs_chars (items_signs (level + 1) ts remaining end)) out ∙ sym (append-nil (signs_chars end)) in
     (owes_end (owes_step [] (owes_as m.owes left) p), array_sound t k (m.sound (subst AreSound (sym out) tt)))
 
 -- ---- an item

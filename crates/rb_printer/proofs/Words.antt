@@ -1,4 +1,4 @@
--- Texts that stand without quotes, numbers among them, are written alike as units of a text with quotes.
+-- Proves that texts without quotes, including numbers, need no escapes.
 use Rattle.std.proofs.Common.{◌≡◌, ℕ, suc, ◌+◌, ◌<◌, ◌≤◌, ◌^◌, ℤ, pos, negsuc, Bool, true, false, not, ◌&&◌, ◌||◌, List, [], ◌∷◌, length, take, get_or, ne_eqb}
 use Rattle.std.proofs.Common.{refl, sym, ap, subst, ◌∙◌, arith}
 use Rattle.std.specs.Prelude.{nat_lt, ◌==◌}

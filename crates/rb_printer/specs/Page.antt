@@ -1,4 +1,5 @@
--- The page of a bundle: the signs that the printer writes for a tree, each in front of what follows it.
+-- Defines the page of a bundle: the signs that the printer writes for a tree, followed by the remaining signs. The
+-- layout is a rule of this project.
 use Rattle.std.specs.Prelude.{ℕ, zero, suc, ◌+◌, ◌-◌, ◌*◌, min, ℤ, ◌/◌, ◌%◌, Bool, true, false, not, ◌&&◌, ◌||◌, nat_lt}
 use Rattle.std.specs.Prelude.{nat_le, List, [], ◌∷◌, length, encode_utf8_all}
 use Rattle.std.specs.Char.{digit_char}
@@ -16,19 +17,19 @@ abbrev pub hex_units : List ℕ → List ℕ
 hex_units [] = []
 hex_units (b ∷ bs) = digit_char (b / 16) ∷ digit_char (b % 16) ∷ hex_units bs
 
--- those of the first bytes, at most this many
+-- the digits of the first bytes, at most this many
 abbrev pub hex_first : List ℕ → ℕ → List ℕ
-hex_first [] room = []
+hex_first [] remaining = []
 hex_first (b ∷ bs) zero = []
 hex_first (b ∷ bs) (suc n) = digit_char (b / 16) ∷ digit_char (b % 16) ∷ hex_first bs n
 
--- those of the others, 32 bytes a piece
+-- the digits of the other bytes, 32 bytes a piece
 abbrev pub hex_later : List ℕ → ℕ → List (List ℕ)
-hex_later [] room = []
+hex_later [] remaining = []
 hex_later (b ∷ bs) zero = (digit_char (b / 16) ∷ digit_char (b % 16) ∷ hex_first bs 31) ∷ hex_later bs 31
 hex_later (b ∷ bs) (suc n) = hex_later bs n
 
--- more than 32 bytes have lines of their own
+-- at most 32 bytes: they need no separate lines
 abbrev pub is_short : List ℕ → Bool
 is_short bs = nat_le (length bs) 32
 
@@ -37,16 +38,16 @@ abbrev pub indent : ℕ → List Sign → List Sign
 indent zero rest = rest
 indent (suc n) rest = space ∷ space ∷ space ∷ space ∷ indent n rest
 
--- behind a space, or in a new line
+-- a space, or a new line
 abbrev pub pause : Bool → ℕ → List Sign → List Sign
 pause true level rest = space ∷ rest
 pause false level rest = feed ∷ indent level rest
 
--- How many of a line's 100 columns are left after something of a width and a comma: behind a space, where this many
--- were left, or in a new line.
-abbrev pub room_after : Bool → ℕ → ℕ → ℕ → ℕ
-room_after true level room width = room - width - 2
-room_after false level room width = 100 - 4 * level - width - 1
+-- The remaining columns of a line of 100 after an item of a width and a comma: the item follows a space, where this
+-- many remained before, or begins a new line.
+abbrev pub remaining_after : Bool → ℕ → ℕ → ℕ → ℕ
+remaining_after true level remaining width = remaining - width - 2
+remaining_after false level remaining width = 100 - 4 * level - width - 1
 
 -- a comma if more follows
 abbrev pub comma_if : Bool → List Sign → List Sign
@@ -57,22 +58,22 @@ abbrev pub are_more : List ℤ → Bool
 are_more [] = false
 are_more (z ∷ zs) = true
 
--- whether numbers at a level have lines of their own: more than four, at most twelve levels deep
+-- the numbers at a level get separate lines: more than four numbers, at most twelve levels deep
 abbrev pub wraps : ℕ → List ℤ → Bool
 wraps level zs = nat_lt 4 (length zs) && nat_le level 12
 
--- a number stands in the present line if the widest would, behind a space and with a comma, or if all have one
--- line
+-- the current line takes another number: there are no separate lines, or the widest number fits with a space and a
+-- comma
 abbrev pub number_fits : Bool → ℕ → Bool
-number_fits wrapped room = not wrapped || nat_le 13 room
+number_fits wrapped remaining = not wrapped || nat_le 13 remaining
 
--- numbers with commas between them, in a line with this many columns left or in lines of a level
+-- numbers with commas between them, in a line with this many remaining columns or in lines of a level
 abbrev pub numbers_signs : List ℤ → Bool → ℕ → ℕ → List Sign → List Sign
-numbers_signs [] wrapped level room rest = rest
-numbers_signs (z ∷ zs) wrapped level room rest =
-    let fits = number_fits wrapped room in
+numbers_signs [] wrapped level remaining rest = rest
+numbers_signs (z ∷ zs) wrapped level remaining rest =
+    let fits = number_fits wrapped remaining in
     pause fits level (text true (signed_decimal z) ∷ comma_if (are_more zs)
-    (numbers_signs zs wrapped level (room_after fits level room (length (signed_decimal z))) rest))
+    (numbers_signs zs wrapped level (remaining_after fits level remaining (length (signed_decimal z))) rest))
 
 abbrev pub has_items : Resources → Bool
 has_items no_trees = false
@@ -82,7 +83,7 @@ abbrev pub has_entries : Members → Bool
 has_entries no_entries = false
 has_entries (entry_and k t es) = true
 
--- a reader guesses a string, and an array or a table with something in it
+-- genrb guesses the type: a string, or an array or a table that is not empty
 abbrev pub is_guessed : Resource → Bool
 is_guessed (string us) = true
 is_guessed (int n) = false
@@ -97,12 +98,12 @@ abbrev pub type_unless : Bool → List ℕ → List Sign → List Sign
 type_unless true word rest = rest
 type_unless false word rest = colon ∷ text true word ∷ space ∷ rest
 
--- between a key and its body: a brace stands behind a space, a type beside the key
+-- the gap between a key and its body: a space before a brace, nothing before a type
 abbrev pub gap : Bool → List Sign → List Sign
 gap true rest = space ∷ rest
 gap false rest = rest
 
--- an item of an array, whose body has these signs: a string stands without its braces
+-- an item of an array, whose body has these signs: a string is written without its braces
 abbrev pub item_signs : Resource → List Sign → List Sign → List Sign
 item_signs (string us) body rest = text false us ∷ rest
 item_signs (int n) body rest = body
@@ -112,30 +113,30 @@ item_signs (alias us) body rest = body
 item_signs (array ts) body rest = body
 item_signs (table es) body rest = body
 
--- the columns of a text between quotes, at most those of a line
+-- the columns of a text with its quotes, at most 100
 abbrev pub text_width : List ℕ → ℕ
 text_width us = min 100 (length (text_chars false us))
 
--- whether an item of an array stands in the present line: a string for which there is room, with a space and a comma,
--- at most twelve levels deep
+-- the current line takes another item of an array: a string that fits with a space and a comma, at most twelve levels
+-- deep
 abbrev pub item_fits : ℕ → ℕ → Resource → Bool
-item_fits level room (string us) = nat_le level 12 && nat_le (text_width us + 2) room
-item_fits level room (int n) = false
-item_fits level room (ints zs) = false
-item_fits level room (binary bs) = false
-item_fits level room (alias us) = false
-item_fits level room (array ts) = false
-item_fits level room (table es) = false
+item_fits level remaining (string us) = nat_le level 12 && nat_le (text_width us + 2) remaining
+item_fits level remaining (int n) = false
+item_fits level remaining (ints zs) = false
+item_fits level remaining (binary bs) = false
+item_fits level remaining (alias us) = false
+item_fits level remaining (array ts) = false
+item_fits level remaining (table es) = false
 
--- how many columns are left after it: none after an item that is no string
-abbrev pub item_room : ℕ → ℕ → Resource → ℕ
-item_room level room (string us) = room_after (item_fits level room (string us)) level room (text_width us)
-item_room level room (int n) = 0
-item_room level room (ints zs) = 0
-item_room level room (binary bs) = 0
-item_room level room (alias us) = 0
-item_room level room (array ts) = 0
-item_room level room (table es) = 0
+-- the remaining columns after it: none after an item that is no string
+abbrev pub remaining_after_item : ℕ → ℕ → Resource → ℕ
+remaining_after_item level remaining (string us) = remaining_after (item_fits level remaining (string us)) level remaining (text_width us)
+remaining_after_item level remaining (int n) = 0
+remaining_after_item level remaining (ints zs) = 0
+remaining_after_item level remaining (binary bs) = 0
+remaining_after_item level remaining (alias us) = 0
+remaining_after_item level remaining (array ts) = 0
+remaining_after_item level remaining (table es) = 0
 
 abbrev mutual
   -- a type, if it isn't guessed, and braces
@@ -155,21 +156,21 @@ abbrev mutual
   body_signs level (table es) rest = type_unless (has_entries es) table_word
       (left ∷ feed ∷ entries_signs (level + 1) es (indent level (right ∷ rest)))
 
-  -- strings several to a line and any other item in lines of its own, each with a comma, after a line with this many
-  -- columns left
+  -- several strings to a line and each other item in separate lines, with commas, after a line with this many remaining
+  -- columns
   pub items_signs : ℕ → Resources → ℕ → List Sign → List Sign
-  items_signs level no_trees room rest = rest
-  items_signs level (tree_and t ts) room rest =
-      let after = comma ∷ items_signs level ts (item_room level room t) rest in
-      pause (item_fits level room t) level (item_signs t (body_signs level t after) after)
+  items_signs level no_trees remaining rest = rest
+  items_signs level (tree_and t ts) remaining rest =
+      let after = comma ∷ items_signs level ts (remaining_after_item level remaining t) rest in
+      pause (item_fits level remaining t) level (item_signs t (body_signs level t after) after)
 
-  -- each entry in lines of its own
+  -- each entry in separate lines
   pub entries_signs : ℕ → Members → List Sign → List Sign
   entries_signs level no_entries rest = rest
   entries_signs level (entry_and k t es) rest =
       indent level (text (is_name k) k ∷ gap (is_guessed t) (body_signs level t (feed ∷ entries_signs level es rest)))
 
--- a bundle's type, which is written if it has a flag, and the space in front of the brace
+-- a bundle's type, which is written if it has a flag, and the space before the brace
 abbrev pub head_signs : Bool → List Sign → List Sign
 head_signs true rest = colon ∷ text true no_fallback_table_word ∷ space ∷ rest
 head_signs false rest = space ∷ rest
@@ -179,12 +180,12 @@ abbrev pub page : List ℕ → Bool → Members → List Sign
 page name no_fallback es = text (is_name name) name
     ∷ head_signs no_fallback (left ∷ feed ∷ entries_signs 1 es (right ∷ feed ∷ []))
 
--- a table's entries
+-- the entries of a table
 abbrev pub members_of : Resource → Members
 members_of (table es) = es
 members_of t = no_entries
 
--- an array's items
+-- the items of an array
 abbrev pub items_of : Resource → Resources
 items_of (array ts) = ts
 items_of t = no_trees

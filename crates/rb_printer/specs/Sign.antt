@@ -1,5 +1,5 @@
--- What the printer writes: signs, and the characters of each. Which keys and names stand without quotes, and which
--- units stand for themselves in a quoted text, is a rule of this project; both are read so by ICU's genrb.
+-- Defines the signs that the printer writes, and their characters. Which keys and names need no quotes, and which units
+-- a quoted text escapes, are rules of this project; ICU's genrb reads both.
 use Rattle.std.specs.Prelude.{ℕ, zero, suc, ◌/◌, ◌%◌, ◌==◌, ◌&&◌, ◌||◌, Bool, true, false, not, cond, nat_lt, nat_le}
 use Rattle.std.specs.Prelude.{List, [], ◌∷◌, ◌++◌, Option, Some, None}
 use Rattle.std.specs.List.{list_all}
@@ -10,8 +10,8 @@ use Rattle.rb_lexer.specs.Tokens.{is_empty}
 use Rattle.rb_lexer.specs.declared.token.Mark.{Mark}
 use Rattle.rb_lexer.specs.declared.token.Mark.TheVariants.{Text, LeftBrace, RightBrace, Colon, Comma}
 
--- A text is bare where it may stand without quotes, if its units allow that. A text in quoted pieces has all but the
--- first in new lines of a level.
+-- A text is bare where it needs no quotes, if its units allow that. A text in quoted pieces has each piece after the
+-- first in a new line of a level.
 pub data Sign : Type 0 where
   feed : Sign
   space : Sign
@@ -37,7 +37,7 @@ abbrev pub is_name_unit : ℕ → Bool
 is_name_unit c = (nat_le 0x30 c && nat_le c 0x39) || (nat_le 0x41 c && nat_le c 0x5A) ||
     (nat_le 0x61 c && nat_le c 0x7A) || (c == 0x5F) || (c == 0x2D)
 
--- a key or a name that stands without quotes
+-- a key or a name that needs no quotes
 abbrev pub is_name : List ℕ → Bool
 is_name us = not (is_empty us) && list_all is_name_unit us
 
@@ -48,7 +48,7 @@ is_control u = nat_lt u 0x20 || (nat_le 0x7F u && nat_lt u 0xA0)
 abbrev pub is_surrogate : ℕ → Bool
 is_surrogate u = nat_le 0xD800 u && nat_lt u 0xE000
 
--- the separators of lines and paragraphs, and the byte order mark
+-- the line separator, the paragraph separator and the byte order mark
 abbrev pub is_mark : ℕ → Bool
 is_mark u = (u == 0x2028) || (u == 0x2029) || (u == 0xFEFF)
 
@@ -56,7 +56,7 @@ is_mark u = (u == 0x2028) || (u == 0x2029) || (u == 0xFEFF)
 abbrev pub is_cited : ℕ → Bool
 is_cited u = (u == quote) || (u == backslash)
 
--- a unit that stands for itself between quotes
+-- a unit that needs no escape between quotes
 abbrev pub is_shown : ℕ → Bool
 is_shown u = not (is_cited u) && not (is_control u || is_surrogate u || is_mark u)
 
@@ -82,19 +82,19 @@ abbrev pub pair_chars : ℕ → Option ℕ → List ℕ
 pair_chars u None = []
 pair_chars u (Some v) = surrogate_pair_char u v ∷ []
 
--- A unit between quotes, after a high surrogate or not, and in front of the next unit. The first unit of a surrogate
--- pair is written as the pair's character, and then the second as nothing. A surrogate without its partner is escaped.
+-- A unit between quotes, given whether a high surrogate precedes it, and the next unit. The first unit of a surrogate
+-- pair is written as the pair's character, the second as nothing. A lone surrogate is escaped.
 abbrev pub unit_chars : Bool → ℕ → Option ℕ → List ℕ
 unit_chars after_high u next = cond (is_shown u) (u ∷ [])
     (cond (is_high_surrogate u && is_low next) (pair_chars u next)
     (cond (after_high && is_low_surrogate u) [] (escape_chars u)))
 
--- units between quotes, after a high surrogate or not
+-- units between quotes, given whether a high surrogate precedes them
 abbrev pub units_chars : List ℕ → Bool → List ℕ
 units_chars [] after_high = []
 units_chars (u ∷ us) after_high = unit_chars after_high u (first_unit us) ++ units_chars us (is_high_surrogate u)
 
--- without quotes, or with them
+-- a text without quotes, or with them
 abbrev pub text_chars : Bool → List ℕ → List ℕ
 text_chars true us = us
 text_chars false us = quote ∷ (units_chars us false ++ quote ∷ [])

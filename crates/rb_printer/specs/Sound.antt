@@ -1,4 +1,4 @@
--- A tree as a bundle can have it: its numbers are those of their types, and its tables are tables.
+-- Defines the trees that a bundle can have: numbers are in the range of their types, and tables are valid.
 use Rattle.std.specs.Prelude.{◌≡◌, ℕ, ℤ, pos, negsuc, ◌<◌, ◌≤◌, ◌^◌, List}
 use Rattle.std.specs.List.{AllByRecursion}
 use Rattle.rb_tree.specs.Parts.{kind_of}
@@ -37,8 +37,7 @@ abbrev mutual
   EachSound no_entries = Unit {0}
   EachSound (entry_and k t es) = IsSound t × EachSound es
 
--- The keys of its tables are keys and ascend, and its Ints have 28 bits: what a reader of a bundle can't see from
--- types.
+-- The keys of its tables are valid and ascend, and its Ints have 28 bits: facts that types don't show.
 abbrev mutual
   pub IsWell : Resource → Type 0
   IsWell (string us) = Unit {0}
@@ -57,7 +56,7 @@ abbrev mutual
   EachWell no_entries = Unit {0}
   EachWell (entry_and k t es) = IsWell t × EachWell es
 
--- the tree of a bundle, whatever its weight: a table of at most 64 levels
+-- the tree of a bundle, of any weight: a table of at most 64 levels
 pub record IsBundleTree (t : Resource) : Type 0 where
   pub is_table : kind_of t ≡ Kinds.Table
   pub low : height t ≤ height_limit

@@ -1,4 +1,4 @@
--- How an error of the printer is called: its variant's name.
+-- Defines the error codes of `PrintError`: the names of its variants.
 use Rattle.std.specs.Prelude.{ℕ, List, codes}
 use Rattle.rb_printer.specs.declared.error.PrintError.{PrintError}
 use Rattle.rb_printer.specs.declared.error.PrintError.TheVariants.{TooLarge, Memory}

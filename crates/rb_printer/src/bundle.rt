@@ -1,4 +1,3 @@
-//! Whole bundles.
 ghost use Rattle.std.specs.Prelude.{◌≡◌, ◌<◌, [], ◌∷◌, length, IfOk, IfErr, OnOk};
 ghost use Rattle.rb_tree.specs.Parts.{kind_of};
 ghost use Rattle.rb_printer.specs.Sign.{signs_chars, left, feed};
@@ -10,9 +9,9 @@ ghost use Rattle.rb_printer.specs.Whole.{IsBundleText};
 ghost use Rattle.rb_printer.specs.declared.error.PrintError.TheVariants as errors;
 ghost use Rattle.rb_lexer.specs.Limits.{source_limit};
 
+use crate::budget::charge_entries;
 use crate::error::PrintError;
-use crate::limit::{LENGTH_LIMIT, has_room};
-use crate::room::after_entries;
+use crate::limit::{LENGTH_LIMIT, fits_limit};
 use crate::text::{put_name, put_str};
 use crate::tree::put_entries;
 use rb_tree::{Node, UnitList};
@@ -20,7 +19,6 @@ use rb_validator::Bundle;
 use rb_views::root;
 use std::alloc::{AllocError, Global};
 
-/// Writes what is between a bundle's name and its first entry.
 fn begin_bundle(out: &mut Vec<u8>, no_fallback: bool) -> Result<(), AllocError>
     ensures { OnOk result (Adds out.old.items out.new.items
         (signs_chars (head_signs no_fallback (left ∷ feed ∷ [])))) }
@@ -32,7 +30,6 @@ fn begin_bundle(out: &mut Vec<u8>, no_fallback: bool) -> Result<(), AllocError>
     }
 }
 
-/// Writes the lines of a bundle.
 fn put_page<N: Node>(
     out: &mut Vec<u8>,
     name: &[u16],
@@ -54,8 +51,8 @@ fn put_page<N: Node>(
     Ok(())
 }
 
-/// The bundle text of a tree, of which as much is expected beside its frame. That changes no byte:
-/// the less is expected, the more often what is written is moved to a larger place.
+/// Prints a tree, with a guess at the length of its keys and texts. The guess changes no byte, but
+/// a low one makes the buffer grow more often.
 fn print_expecting<N: Node>(
     alloc: Global,
     name: &UnitList,
@@ -69,33 +66,34 @@ fn print_expecting<N: Node>(
     ensures text { IfOk result (λ bytes. IsBundleText bytes.items name.now
         (record { tree = N.tree root; no_fallback = no_fallback })) }
 {
-    let Some(left) = after_entries(LENGTH_LIMIT, 1, root) else {
+    let Some(left) = charge_entries(LENGTH_LIMIT, 1, root) else {
         return Err(PrintError::TooLarge);
     };
-    let room = LENGTH_LIMIT - left.saturating_sub(expected);
-    let mut bytes = Vec::with_capacity(alloc, room)?;
+    let capacity = LENGTH_LIMIT - left.saturating_sub(expected);
+    let mut bytes = Vec::with_capacity(alloc, capacity)?;
     put_page(&mut bytes, name.as_slice(), root, no_fallback)?;
-    if !has_room(bytes.as_slice().len(), 0) {
+    if !fits_limit(bytes.as_slice().len(), 0) {
         return Err(PrintError::TooLarge);
     }
     Ok(bytes)
 }
 
-/// The bundle text of a tree, with its name and its flag: `parse` reads just these back. No byte of
-/// it depends on anything else.
+/// Prints a tree, with its name and its flag, as a bundle text, which `parse` reads back. Equal
+/// trees give equal bytes.
 ///
-/// It looks as a person would write it. Each entry of a table stands in lines of its own, with four
-/// spaces a level; the strings of an array and the numbers of a vector of more than four stand
-/// several to a line, of at most 100 columns, and 32 bytes of a Binary in one. A key or a name of
-/// letters, digits, `_` and `-` stands bare, any other between quotes. A type is written if a
-/// reader wouldn't guess it: `:int`, `:intvector`, `:bin`, `:alias`, and `:array` and `:table` of
-/// empty ones. Texts are UTF-8, with a backslash in front of quotes and backslashes; escapes of
-/// four digits stand for control characters, lone surrogates, U+2028, U+2029 and U+FEFF.
+/// Each entry of a table has its own lines, indented by four spaces a level. The strings of an
+/// array, and the numbers of a vector of more than four, share lines of at most 100 columns; a line
+/// has 32 bytes of a Binary. A key or a name of letters, digits, `_` and `-` has no quotes. A type
+/// is written if a reader wouldn't guess it: `:int`, `:intvector`, `:bin`, `:alias`, and `:array`
+/// and `:table` of empty ones. Texts are UTF-8, with a backslash before quotes and backslashes, and
+/// escapes of four digits for control characters, lone surrogates, U+2028, U+2029 and U+FEFF.
 ///
-/// Errors: `TooLarge` if the text would have more than 8,388,608 bytes, as that of each tree above
-/// the limit of weight would; if it would have them without what stands in keys, Strings and
-/// Aliases, before anything is written, in no more steps than that, and else as soon as there are
-/// as many. Else `Memory`, if memory runs out.
+/// # Errors
+///
+/// Returns `TooLarge` if the text would exceed 8,388,608 bytes, as that of each tree above the
+/// limit of weight does. If it exceeds them without its keys, Strings and Aliases, this is found
+/// before anything is written, and else as soon as the text does. Returns `Memory` when out of
+/// memory.
 ///
 /// ```rust
 /// print(alloc, &source.name, &source.tree, source.no_fallback)? // `root {`, a line feed, `}` and a line feed for `root{}`
@@ -115,8 +113,7 @@ pub fn print<N: Node>(
     print_expecting(alloc, name, root, no_fallback, 0)
 }
 
-/// The bundle text of a file, with a name, which a file doesn't have. It looks as that of `print`,
-/// and the errors are the same.
+/// Prints a file under a name, since a file has none, in the layout and with the errors of `print`.
 ///
 /// ```rust
 /// print_bundle(alloc, &name, &accept(alloc, file)?)?
@@ -127,7 +124,7 @@ pub fn print_bundle(alloc: Global, name: &UnitList, bundle: &Bundle) -> Result<V
     ensures error { IfErr result (λ e. e ≡ errors.TooLarge
         → source_limit < length (page_bytes name.now (source_tree_of bundle.now))) }
 {
-    // a text is about as long as its file and the frame
+    // A text is about as long as its file and the frame.
     let expected = bundle.bytes().len();
     print_expecting(alloc, name, root(bundle), bundle.no_fallback(), expected)
 }

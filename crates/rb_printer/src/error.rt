@@ -1,21 +1,20 @@
-//! Why a tree is not printed.
 ghost use Rattle.std.specs.Prelude.{◌≡◌};
 ghost use Rattle.rb_printer.specs.Words.{print_word};
 ghost use Rattle.rb_printer.specs.declared.error.PrintError.TheVariants as errors;
 
 use std::alloc::AllocError;
 
-/// Why a tree is not printed.
+/// The reasons why a tree is not printed.
 #[derive(Clone, Copy, Debug, PartialEq, Eq)]
 pub enum PrintError {
-    /// The text would have more than 8,388,608 bytes, and `parse` would refuse it.
+    /// The text would exceed 8,388,608 bytes, and `parse` would reject it.
     TooLarge,
     /// Out of memory.
     Memory,
 }
 
 impl PrintError {
-    /// The variant's name.
+    /// Returns the variant's name.
     pub fn word(self) -> &'static str
         ensures { result.now ≡ print_word self }
     {

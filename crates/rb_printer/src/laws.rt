@@ -1,4 +1,4 @@
-//! Laws about the definitions: each is the contract of a function that does nothing.
+//! Laws of the definitions, each the contract of an empty function.
 ghost use Rattle.std.specs.Prelude.{◌≡◌, ◌≤◌, ℕ, Bool, List, length, encode_utf8_all};
 ghost use Rattle.rb_tree.specs.Resource.{Members, table, height};
 ghost use Rattle.rb_printer.specs.Sign.{signs_chars};
@@ -7,7 +7,7 @@ ghost use Rattle.rb_printer.specs.Sound.{AreUnits, IsSound};
 ghost use Rattle.rb_printer.specs.Whole.{IsBundleText};
 ghost use Rattle.rb_lexer.specs.Limits.{source_limit};
 
-/// The characters of a page, in UTF-8, are a text of its bundle.
+/// Proves that the characters of a page, in UTF-8, are a text of its bundle.
 pub fn pages_spell()
     ensures { (bytes name : List ℕ) (no_fallback : Bool) (es : Members) → AreUnits name
         → IsSound (table es) → height (table es) ≤ 64

@@ -1,4 +1,3 @@
-//! Trees without children.
 ghost use Rattle.std.specs.Prelude.{◌≡◌, ◌<◌, ◌+◌, ◌^◌, ℕ, List, drop, [], ◌∷◌, ◌++◌, true, false};
 ghost use Rattle.std.specs.Prelude.{length, ◌≤◌, OnOk, IfOk, IfErr, ◌/◌, ◌%◌};
 ghost use Rattle.std.specs.Char.{digit_char};
@@ -15,13 +14,12 @@ ghost use Rattle.rb_printer.specs.inner.Growth.{Adds, Exceeds, after_break, brea
 ghost use Rattle.rb_printer.specs.inner.Run.{IsRun};
 
 use crate::error::PrintError;
-use crate::limit::has_room;
-use crate::line::{number_fits, put_indent, put_pause, room_after};
+use crate::limit::fits_limit;
+use crate::line::{number_fits, put_indent, put_pause, remaining_after};
 use crate::text::{digit_char, is_high, is_plain, put, put_other, put_str, shown};
 use rb_tree::Node;
 use std::alloc::AllocError;
 
-/// The unit after one of a String's or an Alias's.
 pub fn next_of<N: Node>(node: N, i: usize) -> Option<u16>
     requires units { HasUnits (kind_of (N.tree node)) }
     requires in_range { i < len_of (N.tree node) }
@@ -35,7 +33,6 @@ pub fn next_of<N: Node>(node: N, i: usize) -> Option<u16>
     }
 }
 
-/// Writes a unit of a String's or an Alias's text.
 #[inline(always)]
 fn put_unit_of<N: Node>(
     out: &mut Vec<u8>,
@@ -55,11 +52,10 @@ fn put_unit_of<N: Node>(
     }
 }
 
-/// How many plain units are put at a time at the most.
+/// The maximum number of plain units written at a time.
 const RUN: usize = 32;
 
-/// Puts the plain units from an index on at the front of a block, a byte each, and says how many
-/// they are.
+/// Copies the plain units from an index on into a block, a byte each. Returns how many they are.
 #[inline(always)]
 fn plain_run<N: Node>(block: &mut [u8; RUN], node: N, at: usize, len: usize) -> usize
     requires units { HasUnits (kind_of (N.tree node)) }
@@ -107,7 +103,7 @@ fn put_units_of<N: Node>(out: &mut Vec<u8>, node: N) -> Result<(), AllocError>
     put(out, '"')
 }
 
-/// Writes the same, if the text can have that many bytes more.
+/// Writes the text of a String or an Alias, or fails with `TooLarge` if it can't fit.
 pub fn put_text_of<N: Node>(out: &mut Vec<u8>, node: N) -> Result<(), PrintError>
     requires { HasUnits (kind_of (N.tree node)) }
     ensures adds { OnOk result
@@ -116,14 +112,13 @@ pub fn put_text_of<N: Node>(out: &mut Vec<u8>, node: N) -> Result<(), PrintError
     ensures error { IfErr result
         (Exceeds out.old.items (text_chars false (units_of (N.tree node)))) }
 {
-    if !has_room(out.as_slice().len(), node.len()) {
+    if !fits_limit(out.as_slice().len(), node.len()) {
         return Err(PrintError::TooLarge);
     }
     put_units_of(out, node)?;
     Ok(())
 }
 
-/// Writes two hexadecimal digits.
 fn put_byte(out: &mut Vec<u8>, byte: u8) -> Result<(), AllocError>
     ensures { OnOk result
         (Adds out.old.items out.new.items (digit_char (byte / 16) ∷ digit_char (byte % 16) ∷ [])) }
@@ -132,14 +127,14 @@ fn put_byte(out: &mut Vec<u8>, byte: u8) -> Result<(), AllocError>
     put(out, digit_char(byte as u16 % 16))
 }
 
-/// Begins a new piece if the present one, at a level, has no room for another byte. Gives how many
-/// more it has room for after that.
-fn put_break(out: &mut Vec<u8>, level: usize, room: usize) -> Result<usize, AllocError>
-    ensures adds { OnOk result (Adds out.old.items out.new.items (break_chars room level)) }
-    ensures room { IfOk result (λ more. more ≡ after_break room) }
+/// Begins a new piece if the current one, at a level, is full. Returns how many more bytes fit
+/// after the next.
+fn put_break(out: &mut Vec<u8>, level: usize, remaining: usize) -> Result<usize, AllocError>
+    ensures adds { OnOk result (Adds out.old.items out.new.items (break_chars remaining level)) }
+    ensures remaining { IfOk result (λ more. more ≡ after_break remaining) }
 {
-    if room > 0 {
-        return Ok(room - 1);
+    if remaining > 0 {
+        return Ok(remaining - 1);
     }
     put_str(out, "\"\n")?;
     put_indent(out, level)?;
@@ -147,8 +142,7 @@ fn put_break(out: &mut Vec<u8>, level: usize, room: usize) -> Result<usize, Allo
     Ok(31)
 }
 
-/// Writes the bytes of a Binary, with quotes: 32 a piece, each but the first in a new line of a
-/// level.
+/// Writes the bytes of a Binary, with quotes: 32 a piece, each piece after the first in a new line.
 pub fn put_bytes_of<N: Node>(out: &mut Vec<u8>, level: usize, node: N) -> Result<(), AllocError>
     requires { kind_of (N.tree node) ≡ Kinds.Binary }
     ensures adds { OnOk result (Adds out.old.items out.new.items
@@ -157,15 +151,14 @@ pub fn put_bytes_of<N: Node>(out: &mut Vec<u8>, level: usize, node: N) -> Result
     ensures sound { OnOk result (AreBytes (bytes_of (N.tree node))) }
 {
     put(out, '"')?;
-    let mut room = 32;
+    let mut remaining = 32;
     for i in 0..node.len() {
-        room = put_break(out, level, room)?;
+        remaining = put_break(out, level, remaining)?;
         put_byte(out, node.byte(i))?;
     }
     put(out, '"')
 }
 
-/// Writes a number in decimal.
 pub fn put_int(out: &mut Vec<u8>, number: u32) -> Result<(), AllocError>
     ensures { OnOk result (Adds out.old.items out.new.items (decimal number)) }
 {
@@ -173,7 +166,6 @@ pub fn put_int(out: &mut Vec<u8>, number: u32) -> Result<(), AllocError>
     out.extend_from_slice(buffer.format(number).as_bytes())
 }
 
-/// Writes a number with a sign if it is below 0, in decimal.
 fn put_number(out: &mut Vec<u8>, number: i32) -> Result<(), AllocError>
     ensures { OnOk result (Adds out.old.items out.new.items (signed_decimal number)) }
 {
@@ -181,7 +173,7 @@ fn put_number(out: &mut Vec<u8>, number: i32) -> Result<(), AllocError>
     out.extend_from_slice(buffer.format(number).as_bytes())
 }
 
-/// Writes the same, and gives its width.
+/// Writes a signed number and returns its width.
 fn put_wide(out: &mut Vec<u8>, number: i32) -> Result<usize, AllocError>
     ensures adds { OnOk result (Adds out.old.items out.new.items (signed_decimal number)) }
     ensures width { IfOk result (λ width. width ≡ length (signed_decimal number)) }
@@ -191,15 +183,13 @@ fn put_wide(out: &mut Vec<u8>, number: i32) -> Result<usize, AllocError>
     Ok(out.as_slice().len() - start)
 }
 
-/// Writes a comma if more numbers follow.
 fn put_comma(out: &mut Vec<u8>, more: bool) -> Result<(), AllocError>
     ensures { OnOk result (Adds out.old.items out.new.items (signs_chars (comma_if more []))) }
 {
     if more { put(out, ',') } else { Ok(()) }
 }
 
-/// Writes the numbers of a vector, each after a space or in a new line of a level, with commas
-/// between them.
+/// Writes the numbers of a vector, each after a space or in a new line, with commas between them.
 pub fn put_numbers_of<N: Node>(
     out: &mut Vec<u8>,
     wrapped: bool,
@@ -212,13 +202,13 @@ pub fn put_numbers_of<N: Node>(
         (signs_chars (numbers_signs (numbers_of (N.tree node)) wrapped level 0 []))) }
     ensures sound { OnOk result (AllByRecursion IsNumber (numbers_of (N.tree node))) }
 {
-    let mut room = 0;
+    let mut remaining = 0;
     for i in 0..node.len() {
-        let fits = number_fits(wrapped, room);
+        let fits = number_fits(wrapped, remaining);
         put_pause(out, fits, level)?;
         let width = put_wide(out, node.number(i))?;
         put_comma(out, i + 1 < node.len())?;
-        room = room_after(fits, level, room, width);
+        remaining = remaining_after(fits, level, remaining, width);
     }
     Ok(())
 }

@@ -1,13 +1,13 @@
-//! Trees, written as bundle texts that spell them.
+//! Printer of bundle texts.
 #![tactic(auto)]
 
+mod budget;
 mod bundle;
 mod error;
 pub mod laws;
 mod leaf;
 mod limit;
 mod line;
-mod room;
 mod text;
 mod tree;
 

@@ -1,4 +1,3 @@
-//! Lines: their indentation, and what has room in them.
 ghost use Rattle.std.specs.Prelude.{◌≡◌, ◌≤◌, ◌<◌, ◌+◌, false, [], length, drop, OnOk};
 ghost use Rattle.rb_tree.specs.Parts.{HasUnits, kind_of, len_of, units_of, numbers_of, bytes_of};
 ghost use Rattle.rb_tree.specs.declared.kind.Kind.TheVariants as Kinds;
@@ -16,16 +15,15 @@ use std::alloc::AllocError;
 /// The columns of a line.
 const LINE: usize = 100;
 
-/// The deepest level at which lines are filled.
+/// The deepest level at which items share lines.
 pub const DEEPEST: usize = 12;
 
 /// The levels whose spaces are written at once.
 const LEVELS: usize = 16;
 
-/// The spaces of these levels.
 static SPACES: [u8; 4 * LEVELS] = [0x20; 4 * LEVELS];
 
-/// Begins a line: writes four spaces for each level.
+/// Writes four spaces for each level.
 pub fn put_indent(out: &mut Vec<u8>, level: usize) -> Result<(), AllocError>
     ensures { OnOk result (Adds out.old.items out.new.items (signs_chars (indent level []))) }
 {
@@ -38,7 +36,6 @@ pub fn put_indent(out: &mut Vec<u8>, level: usize) -> Result<(), AllocError>
     Ok(())
 }
 
-/// Begins a line of a level after another one.
 #[inline(never)]
 fn begin_line(out: &mut Vec<u8>, level: usize) -> Result<(), AllocError>
     ensures { OnOk result (Adds out.old.items out.new.items (signs_chars (pause false level []))) }
@@ -47,8 +44,7 @@ fn begin_line(out: &mut Vec<u8>, level: usize) -> Result<(), AllocError>
     put_indent(out, level)
 }
 
-/// Writes what stands in front of something: a space, or a line feed and the next line's
-/// indentation.
+/// Writes the gap before an item: a space, or a new line and its indentation.
 #[inline(always)]
 pub fn put_pause(out: &mut Vec<u8>, fits: bool, level: usize) -> Result<(), AllocError>
     ensures { OnOk result (Adds out.old.items out.new.items (signs_chars (pause fits level []))) }
@@ -60,14 +56,14 @@ pub fn put_pause(out: &mut Vec<u8>, fits: bool, level: usize) -> Result<(), Allo
     }
 }
 
-/// How many columns are left after something of a width, behind a space or in a new line, and a
-/// comma.
-pub fn room_after(fits: bool, level: usize, room: usize, width: usize) -> usize
+/// Returns the remaining columns after an item of a width, which follows a space or begins a new
+/// line, and a comma.
+pub fn remaining_after(fits: bool, level: usize, remaining: usize, width: usize) -> usize
     requires { level ≤ 65 }
-    ensures { result ≡ page.room_after fits level room width }
+    ensures { result ≡ page.remaining_after fits level remaining width }
 {
     if fits {
-        room.saturating_sub(width).saturating_sub(2)
+        remaining.saturating_sub(width).saturating_sub(2)
     } else {
         LINE.saturating_sub(4 * level)
             .saturating_sub(width)
@@ -75,7 +71,7 @@ pub fn room_after(fits: bool, level: usize, room: usize, width: usize) -> usize
     }
 }
 
-/// Whether a vector's numbers, at a level, have lines of their own.
+/// Checks whether a vector's numbers, at a level, get separate lines.
 pub fn wraps<N: Node>(level: usize, node: N) -> bool
     requires { kind_of (N.tree node) ≡ Kinds.Ints }
     ensures { result ≡ page.wraps level (numbers_of (N.tree node)) }
@@ -83,7 +79,7 @@ pub fn wraps<N: Node>(level: usize, node: N) -> bool
     4 < node.len() && level <= DEEPEST
 }
 
-/// Whether the bytes of a Binary have no lines of their own.
+/// Checks whether the bytes of a Binary need no separate lines.
 pub fn is_short<N: Node>(node: N) -> bool
     requires { kind_of (N.tree node) ≡ Kinds.Binary }
     ensures { result ≡ page.is_short (bytes_of (N.tree node)) }
@@ -91,14 +87,14 @@ pub fn is_short<N: Node>(node: N) -> bool
     node.len() <= 32
 }
 
-/// Whether a number stands in the present line.
-pub fn number_fits(wrapped: bool, room: usize) -> bool
-    ensures { result ≡ page.number_fits wrapped room }
+/// Checks whether the current line takes another number.
+pub fn number_fits(wrapped: bool, remaining: usize) -> bool
+    ensures { result ≡ page.number_fits wrapped remaining }
 {
-    !wrapped || 13 <= room
+    !wrapped || 13 <= remaining
 }
 
-/// The columns of a unit between quotes that doesn't stand for itself.
+/// Returns the columns of a unit that is escaped or part of a surrogate pair.
 #[inline(never)]
 fn other_width(after_high: bool, unit: u16, next: Option<u16>) -> usize
     requires { Signs.is_shown unit ≡ false }
@@ -114,7 +110,6 @@ fn other_width(after_high: bool, unit: u16, next: Option<u16>) -> usize
     if is_cited(unit) { 2 } else { 6 }
 }
 
-/// The columns of a unit of a String's text.
 #[inline(always)]
 fn width_of<N: Node>(after_high: bool, unit: u16, node: N, i: usize) -> usize
     requires units { HasUnits (kind_of (N.tree node)) }
@@ -130,7 +125,7 @@ fn width_of<N: Node>(after_high: bool, unit: u16, node: N, i: usize) -> usize
     }
 }
 
-/// The columns of a String's text with quotes, at most those of a line.
+/// Returns the columns of a text with its quotes, at most those of a line.
 pub fn text_width<N: Node>(node: N) -> usize
     requires { HasUnits (kind_of (N.tree node)) }
     ensures { result ≡ page.text_width (units_of (N.tree node)) }
@@ -148,29 +143,29 @@ pub fn text_width<N: Node>(node: N) -> usize
     width
 }
 
-/// Whether an item stands in the present line, and how many columns are left after it.
+/// The fit of an item into the current line, and the remaining columns after it.
 #[derive(Clone, Copy)]
-pub struct Place {
+pub struct ItemFit {
     pub fits: bool,
     pub left: usize,
 }
 
-/// The place of an item of an array, after a line with this many columns left.
-pub fn place_of<N: Node>(level: usize, room: usize, node: N) -> Place
+/// Fits an item of an array into a line with this many remaining columns.
+pub fn fit_item<N: Node>(level: usize, remaining: usize, node: N) -> ItemFit
     requires { level ≤ 65 }
-    ensures fits { result.fits ≡ page.item_fits level room (N.tree node) }
-    ensures left { result.left ≡ page.item_room level room (N.tree node) }
+    ensures fits { result.fits ≡ page.item_fits level remaining (N.tree node) }
+    ensures left { result.left ≡ page.remaining_after_item level remaining (N.tree node) }
 {
     if node.kind() != Kind::String {
-        return Place {
+        return ItemFit {
             fits: false,
             left: 0,
         };
     }
     let width = text_width(node);
-    let fits = level <= DEEPEST && width + 2 <= room;
-    Place {
+    let fits = level <= DEEPEST && width + 2 <= remaining;
+    ItemFit {
         fits,
-        left: room_after(fits, level, room, width),
+        left: remaining_after(fits, level, remaining, width),
     }
 }

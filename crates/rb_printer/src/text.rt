@@ -1,4 +1,3 @@
-//! Texts, with quotes and without.
 ghost use Rattle.std.specs.Prelude.{◌≡◌, ◌<◌, ◌+◌, ◌&&◌, ℕ, List, [], ◌∷◌, true, false, None};
 ghost use Rattle.std.specs.Prelude.{length, drop, OnOk, MatchOption, IsTrue};
 ghost use Rattle.std.specs.Char.{digit_char};
@@ -15,7 +14,7 @@ const QUOTE: u16 = 0x22;
 
 const BACKSLASH: u16 = 0x5C;
 
-/// Whether a unit may stand in a key or a name without quotes: a letter, a digit, `_` or `-`.
+/// Checks whether a key or a name may have the unit without quotes.
 fn is_name_unit(unit: u16) -> bool
     ensures { result ≡ sign.is_name_unit unit }
 {
@@ -26,7 +25,7 @@ fn is_name_unit(unit: u16) -> bool
         || unit == 0x2D
 }
 
-/// Whether a name may stand without quotes.
+/// Checks whether a name needs no quotes.
 pub fn is_name(units: &[u16]) -> bool
     ensures { result ≡ sign.is_name units.now }
 {
@@ -38,7 +37,6 @@ pub fn is_name(units: &[u16]) -> bool
     !units.is_empty()
 }
 
-/// The same of a key.
 pub fn is_name_key(key: &[u8]) -> bool
     ensures { result ≡ sign.is_name key.now }
 {
@@ -74,7 +72,7 @@ pub fn is_cited(unit: u16) -> bool
     unit == QUOTE || unit == BACKSLASH
 }
 
-/// Whether a unit is an ASCII character that stands for itself between quotes, as most are.
+/// Checks whether a unit is ASCII and needs no escape between quotes, as most are.
 #[inline(always)]
 pub fn is_plain(unit: u16) -> bool
     ensures shown { result ≡ true → sign.is_shown unit ≡ true }
@@ -83,7 +81,7 @@ pub fn is_plain(unit: u16) -> bool
     0x20 <= unit && unit < 0x7F && !is_cited(unit)
 }
 
-/// Whether a unit stands for itself between quotes.
+/// Checks whether a unit needs no escape between quotes.
 #[inline(always)]
 pub fn is_shown(unit: u16) -> bool
     ensures { result ≡ sign.is_shown unit }
@@ -91,7 +89,7 @@ pub fn is_shown(unit: u16) -> bool
     !is_cited(unit) && !(is_control(unit) || is_surrogate(unit) || is_mark(unit))
 }
 
-/// Whether a unit is the first of a surrogate pair, if the second follows.
+/// Checks whether a unit is a high surrogate.
 pub fn is_high(unit: u16) -> bool
     ensures { result ≡ is_high_surrogate unit }
 {
@@ -104,7 +102,6 @@ pub fn is_low(unit: u16) -> bool
     0xDC00 <= unit && unit < 0xE000
 }
 
-/// The character of a unit that stands for itself.
 #[inline(always)]
 pub fn shown(unit: u16) -> Option<char>
     ensures { MatchOption result (sign.is_shown unit ≡ false)
@@ -120,7 +117,6 @@ pub fn shown(unit: u16) -> Option<char>
     }
 }
 
-/// A digit's character.
 pub fn digit_char(digit: u16) -> char
     requires { digit < 16 }
     ensures { result ≡ digit_char digit }
@@ -133,7 +129,6 @@ pub fn digit_char(digit: u16) -> char
     code as char
 }
 
-/// Writes a character.
 #[inline(always)]
 pub fn put(out: &mut Vec<u8>, c: char) -> Result<(), AllocError>
     ensures { OnOk result (Adds out.old.items out.new.items (c ∷ [])) }
@@ -145,7 +140,6 @@ pub fn put(out: &mut Vec<u8>, c: char) -> Result<(), AllocError>
     put_encoded(out, c)
 }
 
-/// Writes a character in UTF-8.
 #[inline(never)]
 fn put_encoded(out: &mut Vec<u8>, c: char) -> Result<(), AllocError>
     ensures { OnOk result (Adds out.old.items out.new.items (c ∷ [])) }
@@ -154,7 +148,7 @@ fn put_encoded(out: &mut Vec<u8>, c: char) -> Result<(), AllocError>
     out.extend_from_slice(c.encode_utf8(&mut buffer).as_bytes())
 }
 
-/// The character of a surrogate pair, if a unit and the next one are that.
+/// Returns the character of a surrogate pair, if the two units are one.
 pub fn paired(unit: u16, next: Option<u16>) -> Option<char>
     ensures { MatchOption result ((is_high_surrogate unit && sign.is_low next) ≡ false)
         (λ c. ((is_high_surrogate unit && sign.is_low next) ≡ true)
@@ -167,7 +161,6 @@ pub fn paired(unit: u16, next: Option<u16>) -> Option<char>
     char::from_u32(0x1_0000 + (unit as u32 - 0xD800) * 0x400 + (low as u32 - 0xDC00))
 }
 
-/// Writes the digits of a unit's escape.
 fn put_digits(out: &mut Vec<u8>, unit: u16) -> Result<(), AllocError>
     ensures { OnOk result (Adds out.old.items out.new.items (sign.four_digits unit)) }
 {
@@ -177,7 +170,6 @@ fn put_digits(out: &mut Vec<u8>, unit: u16) -> Result<(), AllocError>
     put(out, digit_char(unit % 16))
 }
 
-/// Writes a unit's escape.
 fn put_escape(out: &mut Vec<u8>, unit: u16) -> Result<(), AllocError>
     ensures { OnOk result (Adds out.old.items out.new.items (escape_chars unit)) }
 {
@@ -191,7 +183,7 @@ fn put_escape(out: &mut Vec<u8>, unit: u16) -> Result<(), AllocError>
     put_digits(out, unit)
 }
 
-/// Writes a unit that doesn't stand for itself.
+/// Writes a unit that is escaped or part of a surrogate pair.
 #[inline(never)]
 pub fn put_other(
     out: &mut Vec<u8>,
@@ -211,8 +203,7 @@ pub fn put_other(
     put_escape(out, unit)
 }
 
-/// Writes a unit of a text with quotes, after a high surrogate or not, and in front of the next
-/// unit.
+/// Writes a unit between quotes, given whether a high surrogate precedes it, and the next unit.
 fn put_unit(
     out: &mut Vec<u8>,
     after_high: bool,
@@ -227,7 +218,6 @@ fn put_unit(
     }
 }
 
-/// The unit after one of some.
 fn next_unit(units: &[u16], i: usize) -> Option<u16>
     requires { i < length units.now }
     ensures { result ≡ first_unit (drop (i + 1) units.now) }
@@ -239,7 +229,6 @@ fn next_unit(units: &[u16], i: usize) -> Option<u16>
     }
 }
 
-/// Writes units of a text with quotes.
 fn put_units(out: &mut Vec<u8>, units: &[u16]) -> Result<(), AllocError>
     ensures { OnOk result (Adds out.old.items out.new.items (units_chars units.now false)) }
 {
@@ -252,7 +241,6 @@ fn put_units(out: &mut Vec<u8>, units: &[u16]) -> Result<(), AllocError>
     Ok(())
 }
 
-/// Writes ASCII text as it is.
 pub fn put_str(out: &mut Vec<u8>, text: &str) -> Result<(), AllocError>
     requires { IsTrue (list_all is_ascii text.now) }
     ensures { OnOk result (Adds out.old.items out.new.items text.now) }
@@ -260,7 +248,7 @@ pub fn put_str(out: &mut Vec<u8>, text: &str) -> Result<(), AllocError>
     out.extend_from_slice(text.as_bytes())
 }
 
-/// Writes the name of a bundle, without quotes if they may be left out.
+/// Writes the name of a bundle, without quotes if it needs none.
 pub fn put_name(out: &mut Vec<u8>, units: &[u16]) -> Result<(), AllocError>
     ensures { OnOk result
         (Adds out.old.items out.new.items (sign_chars (text (sign.is_name units.now) units.now))) }
@@ -273,7 +261,7 @@ pub fn put_name(out: &mut Vec<u8>, units: &[u16]) -> Result<(), AllocError>
     put(out, '"')
 }
 
-/// Writes a key, likewise.
+/// Writes a key, without quotes if it needs none.
 pub fn put_key(out: &mut Vec<u8>, key: &[u8]) -> Result<(), AllocError>
     ensures { OnOk result
         (Adds out.old.items out.new.items (sign_chars (text (sign.is_name key.now) key.now))) }
@@ -286,7 +274,6 @@ pub fn put_key(out: &mut Vec<u8>, key: &[u8]) -> Result<(), AllocError>
     put(out, '"')
 }
 
-/// Writes bytes as units of a text with quotes.
 fn put_key_units(out: &mut Vec<u8>, key: &[u8]) -> Result<(), AllocError>
     ensures { OnOk result (Adds out.old.items out.new.items (units_chars key.now false)) }
 {

@@ -1,4 +1,3 @@
-//! Trees, each level indented by four spaces more.
 ghost use Rattle.std.specs.Prelude.{◌≡◌, ◌+◌, ◌≤◌, [], ◌∷◌, OnOk, IfErr};
 ghost use Rattle.rb_grammar.specs.Form.{array_word, table_word};
 ghost use Rattle.rb_tree.specs.Resource.{height};
@@ -13,13 +12,13 @@ ghost use Rattle.rb_printer.specs.inner.Growth.{Adds, Exceeds};
 
 use crate::error::PrintError;
 use crate::leaf::{put_bytes_of, put_int, put_numbers_of, put_text_of};
-use crate::limit::has_room;
-use crate::line::{is_short, place_of, put_indent, put_pause, wraps};
+use crate::limit::fits_limit;
+use crate::line::{fit_item, is_short, put_indent, put_pause, wraps};
 use crate::text::{put_key, put_str};
 use rb_tree::{Kind, Node};
 use std::alloc::AllocError;
 
-/// Whether a reader guesses the type of a tree, so that it needn't be written.
+/// Checks whether a reader guesses the type of a tree, so that it isn't written.
 fn is_guessed<N: Node>(node: N) -> bool
     ensures { result ≡ page.is_guessed (N.tree node) }
 {
@@ -30,7 +29,6 @@ fn is_guessed<N: Node>(node: N) -> bool
     }
 }
 
-/// Writes what is between a key and its body.
 fn put_gap(out: &mut Vec<u8>, guessed: bool) -> Result<(), AllocError>
     ensures { OnOk result (Adds out.old.items out.new.items (signs_chars (gap guessed []))) }
 {
@@ -49,7 +47,7 @@ fn begin_array(out: &mut Vec<u8>, guessed: bool) -> Result<(), AllocError>
     }
 }
 
-/// Begins a table, likewise.
+/// Begins a table, and writes its type if it isn't guessed.
 fn begin_table(out: &mut Vec<u8>, guessed: bool) -> Result<(), AllocError>
     ensures { OnOk result (Adds out.old.items out.new.items
         (signs_chars (type_unless guessed table_word (left ∷ feed ∷ [])))) }
@@ -61,7 +59,6 @@ fn begin_table(out: &mut Vec<u8>, guessed: bool) -> Result<(), AllocError>
     }
 }
 
-/// Ends a table of a level.
 fn end_braces(out: &mut Vec<u8>, level: usize) -> Result<(), AllocError>
     ensures { OnOk result
         (Adds out.old.items out.new.items (signs_chars (indent level (right ∷ [])))) }
@@ -70,7 +67,6 @@ fn end_braces(out: &mut Vec<u8>, level: usize) -> Result<(), AllocError>
     put_str(out, "}")
 }
 
-/// Ends an array of a level.
 fn end_array(out: &mut Vec<u8>, level: usize) -> Result<(), AllocError>
     ensures { OnOk result
         (Adds out.old.items out.new.items (signs_chars (feed ∷ indent level (right ∷ [])))) }
@@ -79,7 +75,7 @@ fn end_array(out: &mut Vec<u8>, level: usize) -> Result<(), AllocError>
     end_braces(out, level)
 }
 
-/// Writes a tree as it is after a key: its type, if it isn't guessed, and braces.
+/// Writes a tree after its key: its type, if it isn't guessed, and braces.
 #[cycle(tree)]
 fn put_body<N: Node>(out: &mut Vec<u8>, level: usize, node: N) -> Result<(), PrintError>
     requires low { level + height (N.tree node) ≤ 64 }
@@ -123,14 +119,14 @@ fn put_body<N: Node>(out: &mut Vec<u8>, level: usize, node: N) -> Result<(), Pri
         }
         Kind::Array => {
             begin_array(out, is_guessed(node))?;
-            let mut room = 0;
+            let mut remaining = 0;
             for i in 0..node.len() {
                 let child = node.at(i);
-                let place = place_of(level + 1, room, child);
-                put_pause(out, place.fits, level + 1)?;
+                let fit = fit_item(level + 1, remaining, child);
+                put_pause(out, fit.fits, level + 1)?;
                 put_item(out, level + 1, child)?;
                 put_str(out, ",")?;
-                room = place.left;
+                remaining = fit.left;
             }
             end_array(out, level)?;
         }
@@ -143,7 +139,6 @@ fn put_body<N: Node>(out: &mut Vec<u8>, level: usize, node: N) -> Result<(), Pri
     Ok(())
 }
 
-/// Writes an item of an array: a string without braces.
 #[cycle(tree)]
 fn put_item<N: Node>(out: &mut Vec<u8>, level: usize, node: N) -> Result<(), PrintError>
     requires low { level + height (N.tree node) ≤ 64 }
@@ -160,7 +155,7 @@ fn put_item<N: Node>(out: &mut Vec<u8>, level: usize, node: N) -> Result<(), Pri
     }
 }
 
-/// Writes the entries of a table, each in lines of its own.
+/// Writes the entries of a table, each in separate lines.
 #[cycle(tree)]
 pub fn put_entries<N: Node>(out: &mut Vec<u8>, level: usize, node: N) -> Result<(), PrintError>
     requires table { kind_of (N.tree node) ≡ Kinds.Table }
@@ -173,7 +168,7 @@ pub fn put_entries<N: Node>(out: &mut Vec<u8>, level: usize, node: N) -> Result<
         (signs_chars (entries_signs level (members_of (N.tree node)) []))) }
 {
     for i in 0..node.len() {
-        if !has_room(out.as_slice().len(), 0) {
+        if !fits_limit(out.as_slice().len(), 0) {
             return Err(PrintError::TooLarge);
         }
         put_indent(out, level)?;

@@ -1,10 +1,10 @@
--- The line that answers a line, a form of this project: a compact object with its members in ascending order, as
+-- Defines the line that answers a line, a form of this project: a compact object with its members in ascending order, as
 -- serde_json writes it, and a line feed.
 use Rattle.std.specs.Prelude.{ℕ, true, List, [], ◌∷◌, ◌++◌, Option, Some, None, codes}
 use Rattle.serde_json.specs.Data.{Data, boolean, number, string, unsigned, object, no_members, member}
 use Rattle.serde_json.specs.Written.{compact_text}
 use Rattle.rb_engine.specs.Answer.{Response, Replies, Finds, Refuses}
-use Rattle.rb_items.specs.Item.{texts_data, found_data}
+use Rattle.rb_json.specs.Item.{texts_data, found_data}
 use Rattle.rb_engine.specs.Words.{reply_word, look_word}
 use Rattle.rb_engine.specs.declared.request.Reply.{Reply}
 use Rattle.rb_engine.specs.declared.request.Reply.TheVariants.{Done, Names, BadApp, Reserved, BadLocale, BadText}
@@ -34,10 +34,10 @@ usage_data bytes bundles =
 
 abbrev pub response_data : Response → Data
 response_data (Replies reply) = reply_data reply
-response_data (Finds hit valid) = found_data hit valid
+response_data (Finds hit valid) = found_data hit.actual valid hit.tree
 response_data (Refuses e) = error (look_word e)
 
--- a line that asks nothing is response so
+-- a line that asks nothing has an error of its own
 abbrev pub line_data : Option Response → Data
 line_data (Some response) = response_data response
 line_data None = error (codes "BadLine")

@@ -1,12 +1,11 @@
-//! Replies as lines of JSON: what an engine answers; and items by themselves, which are rb_items'.
+//! Replies of an engine as lines of JSON, and how long they are.
 #![tactic(auto)]
 
+mod limit;
 mod line;
 mod reply;
-mod stream;
-mod within;
 
+pub use limit::{found_is_above, reply_is_above};
 pub use line::ReplyLine;
-pub use rb_items::item_text;
-pub use stream::{found_is_above, stream_reply};
-pub use within::Told;
+pub use rb_json::item_text;
+pub use reply::{put_error, put_found_line, put_look, put_reply, put_usage};

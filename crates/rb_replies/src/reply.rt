@@ -1,93 +1,120 @@
-//! What an engine answers as JSON.
-ghost use Rattle.std.specs.Prelude.{◌≡◌, [], ◌∷◌, ◌++◌, codes, decimal};
-ghost use Rattle.json.specs.Token.{key, number as number_token};
-ghost use Rattle.rb_items.specs.Item.{texts_data};
-ghost use Rattle.rb_items.specs.Put.{Puts};
-ghost use Rattle.rb_json.specs.Tokens.{data_tokens};
-ghost use Rattle.rb_replies.specs.Replied.{error as error_data, reply_data, response_data};
-ghost use Rattle.rb_replies.specs.Replied.{usage_data};
-ghost use Rattle.rb_engine.specs.declared.request.Reply.TheVariants as replies;
+//! Replies of an engine, written into an outlet: each is a compact JSON object with its members in
+//! ascending order, and a line feed.
+ghost use Rattle.std.specs.Prelude.{◌≡◌, [], ◌∷◌, ◌++◌, Some, encode_utf8_all};
+ghost use Rattle.json.specs.Print.{quoted};
+ghost use Rattle.serde_json.specs.Written.{compact_text};
+ghost use Rattle.rb_engine.specs.Answer.{Finds, Replies};
 ghost use Rattle.rb_engine.specs.LookResponse.{look_response};
+ghost use Rattle.rb_engine.specs.declared.request.Reply.TheVariants as replies;
+ghost use Rattle.rb_fallback.specs.Answers.{hit_of};
+ghost use Rattle.rb_json.specs.Item.{texts_data};
+ghost use Rattle.rb_json.specs.inner.Listed.{listed};
+ghost use Rattle.rb_replies.specs.Replied.{error as error_data, reply_line, usage_data};
 ghost use Rattle.rb_views.specs.Seen.{tree_seen};
 
-use json::Writer;
 use rb_engine::{LookFault, Reply};
 use rb_fallback::Found;
-use rb_items::{put_found, put_text, put_word};
+use rb_json::{Outlet, put_found, put_name, skips_items, spell_bytes, spell_text, spell_unsigned};
 use rb_locales::Name;
 use rb_views::Item;
-use std::alloc::{AllocError, Global};
 
-pub(crate) fn put_error(out: &mut Writer, word: &str) -> Result<(), AllocError>
-    ensures { Puts result out.old out.new (data_tokens (error_data word.now)) }
+/// Writes the line of an error with a code.
+pub fn put_error<O: Outlet>(out: &mut O, code: &str)
+    ensures { O.takes out.old out.new (compact_text (error_data code.now) ++ 10 ∷ []) }
 {
-    out.begin_object()?;
-    put_word(out, "error", word)?;
-    out.end_object()
+    out.put(b"{");
+    put_name(out, false, "error");
+    spell_text(out, code);
+    out.put(b"}");
+    out.put(b"\n")
 }
 
-fn put_names(out: &mut Writer, alloc: Global, names: &[Name]) -> Result<(), AllocError>
-    ensures { Puts result out.old out.new (data_tokens (texts_data names.now)) }
+fn put_done<O: Outlet>(out: &mut O)
+    ensures { O.takes out.old out.new (reply_line (Some (Replies replies.Done))) }
 {
-    out.begin_array()?;
-    for name in names {
-        put_text(out, alloc, name.as_bytes())?;
+    out.put(b"{");
+    put_name(out, false, "ok");
+    out.put(b"true");
+    out.put(b"}");
+    out.put(b"\n")
+}
+
+fn put_name_items<O: Outlet>(out: &mut O, names: &[Name])
+    ensures { O.takes out.old out.new (listed (λ k. quoted (encode_utf8_all k)) names.now) }
+{
+    let len = names.len();
+    for i in 0..len {
+        if skips_items(out, i) {
+            return;
+        }
+        spell_bytes(out, names[i].as_bytes());
     }
-    out.end_array()
 }
 
-fn put_done(out: &mut Writer) -> Result<(), AllocError>
-    ensures { Puts result out.old out.new (data_tokens (reply_data replies.Done)) }
+fn put_name_array<O: Outlet>(out: &mut O, names: &[Name])
+    ensures { O.takes out.old out.new (compact_text (texts_data names.now)) }
 {
-    out.begin_object()?;
-    out.key("ok")?;
-    out.boolean(true)?;
-    out.end_object()
+    out.put(b"[");
+    put_name_items(out, names);
+    out.put(b"]")
 }
 
-pub(crate) fn put_reply(out: &mut Writer, alloc: Global, reply: &Reply) -> Result<(), AllocError>
-    ensures { Puts result out.old out.new (data_tokens (reply_data reply.now)) }
+fn put_names<O: Outlet>(out: &mut O, names: &[Name])
+    ensures { O.takes out.old out.new (reply_line (Some (Replies (replies.Names names.now)))) }
+{
+    out.put(b"{");
+    put_name(out, false, "names");
+    put_name_array(out, names);
+    out.put(b"}");
+    out.put(b"\n")
+}
+
+/// Writes the line of the reply to a request. It takes no memory.
+pub fn put_reply<O: Outlet>(out: &mut O, reply: &Reply)
+    ensures { O.takes out.old out.new (reply_line (Some (Replies reply.now))) }
 {
     match reply {
         Reply::Done => put_done(out),
-        Reply::Names(names) => {
-            out.begin_object()?;
-            out.key("names")?;
-            put_names(out, alloc, names.as_slice())?;
-            out.end_object()
-        }
+        Reply::Names(names) => put_names(out, names.as_slice()),
         refusal => put_error(out, refusal.word()),
     }
 }
 
-/// A member that is a number.
-fn put_number(out: &mut Writer, name: &str, number: u64) -> Result<(), AllocError>
-    ensures { Puts result out.old out.new (key name.now ∷ number_token (decimal number) ∷ []) }
+/// Writes the line that reports an application's usage: how many bytes its bundles have, and how
+/// many bundles there are. It takes no memory.
+pub fn put_usage<O: Outlet>(out: &mut O, bytes: u64, bundles: u64)
+    ensures { O.takes out.old out.new (compact_text (usage_data bytes bundles) ++ 10 ∷ []) }
 {
-    out.key(name)?;
-    out.u64(number)
+    out.put(b"{");
+    put_name(out, false, "app_bytes");
+    spell_unsigned(out, bytes);
+    put_name(out, true, "bundles");
+    spell_unsigned(out, bundles);
+    out.put(b"}");
+    out.put(b"\n")
 }
 
-pub(crate) fn put_usage(out: &mut Writer, bytes: u64, bundles: u64) -> Result<(), AllocError>
-    ensures { Puts result out.old out.new (data_tokens (usage_data bytes bundles)) }
+/// Writes the line of the reply to a lookup that found an item. It takes no memory.
+pub fn put_found_line<O: Outlet>(out: &mut O, found: &Found<Item<'_>>)
+    ensures { O.takes out.old out.new
+        (reply_line (Some (Finds (hit_of tree_seen found.now) found.now.valid))) }
 {
-    out.begin_object()?;
-    put_number(out, "app_bytes", bytes)?;
-    put_number(out, "bundles", bundles)?;
-    out.end_object()
+    put_found(
+        out,
+        found.actual.as_bytes(),
+        found.valid.as_bytes(),
+        found.node,
+    );
+    out.put(b"\n")
 }
 
-pub(crate) fn put_look(
-    out: &mut Writer,
-    text: &mut String,
-    alloc: Global,
-    found: &Result<Found<Item<'_>>, LookFault>,
-) -> Result<(), AllocError>
-    ensures { Puts result out.old out.new
-        (data_tokens (response_data (look_response tree_seen found.now))) }
+/// Writes the line of the reply to a lookup. It takes no memory.
+pub fn put_look<O: Outlet>(out: &mut O, found: &Result<Found<Item<'_>>, LookFault>)
+    ensures { O.takes out.old out.new
+        (reply_line (Some (look_response tree_seen found.now))) }
 {
     match found {
-        Ok(found) => put_found(out, text, alloc, found),
+        Ok(found) => put_found_line(out, found),
         Err(fault) => put_error(out, fault.word()),
     }
 }

@@ -1,5 +1,6 @@
 -- What a line asks, by what was read of it, and what is answered.
 use Rattle.std.proofs.Common.{◌≡◌, ◌≤◌, ◌<◌, ℕ, inl, inr, Bool, true, false, ◌&&◌, List, length, Option, Some, None, option_map, refl, sym, ◌∙◌, ap, arith, nat_lt, codes}
+use Rattle.std.specs.Prelude.{OnOk, Result, Ok, Err}
 use Rattle.std.proofs.lemmas.Bool.{false≢true}
 use Rattle.std.proofs.lemmas.Bool.Decides.{nat_tests}
 use Rattle.serde_json.specs.Data.{Data}
@@ -14,7 +15,7 @@ use Rattle.rb_limits.specs.Limits.{is_over}
 use Rattle.rb_limits.specs.Steps.{Outcome, Answers, Refuses, CallIsJudged, CallComesTo}
 use Rattle.rb_limits.specs.declared.limits.Limits.{Limits}
 use Rattle.rb_replies.specs.Replied.{reply_line}
-use Rattle.rb_replies.specs.Within.{limit_of, IsAtMost, IsAbove}
+use Rattle.rb_replies.specs.Within.{limit_of, IsAbove}
 use Rattle.rb_requests.specs.Asked.{call_in}
 use Rattle.rb_requests.specs.Within.{AnswersRead, outcome_line, may_be_long, error_line}
 use Rattle.rb_requests.specs.declared.answer.Starved.{Starved}
@@ -108,11 +109,11 @@ at_most_over most n h = grind (arith, nat_tests)
 pub above_over : (most n : ℕ) → most < n → nat_lt most n ≡ true
 above_over most n h = grind (arith, nat_tests)
 
-fits : (response : Response) (most : Option ℕ) (n : ℕ) → IsAtMost n (limit_of response most) → (may_be_long response && is_over most n) ≡ false
+fits : (response : Response) (most : Option ℕ) (n : ℕ) → (IsAbove n (limit_of response most) → ⊥) → (may_be_long response && is_over most n) ≡ false
 fits (Finds hit valid) None n h = refl
-fits (Finds hit valid) (Some most) n h = at_most_over most n h
+fits (Finds hit valid) (Some most) n h = at_most_over most n (omega (arith, h))
 fits (Replies (Names names)) None n h = refl
-fits (Replies (Names names)) (Some most) n h = at_most_over most n h
+fits (Replies (Names names)) (Some most) n h = at_most_over most n (omega (arith, h))
 fits other most n h = refl
 
 exceeds : (response : Response) (most : Option ℕ) (n : ℕ) → IsAbove n (limit_of response most) → (may_be_long response && is_over most n) ≡ true
@@ -122,12 +123,15 @@ exceeds (Replies (Names names)) None n h = absurd h
 exceeds (Replies (Names names)) (Some most) n h = above_over most n h
 exceeds other most n h = absurd h
 
-pub told_whole : (limits : LineLimits) (response : Response) (line : List ℕ)
-    → (line ≡ reply_line (Some response)) × IsAtMost (length (reply_line (Some response))) (limit_of response limits.reply_bytes)
-    → line ≡ outcome_line limits (Answers response)
-told_whole limits response line (same, short) = rw (fits response limits.reply_bytes _ short) same
+pub line_whole : (limits : LineLimits) (response : Response) → (IsAbove (length (reply_line (Some response))) (limit_of response limits.reply_bytes) → ⊥)
+    → reply_line (Some response) ≡ outcome_line limits (Answers response)
+line_whole limits response short = rw (fits response limits.reply_bytes _ short) refl
 
-pub told_long : (limits : LineLimits) (response : Response) (line : List ℕ)
-    → IsAbove (length (reply_line (Some response))) (limit_of response limits.reply_bytes) → line ≡ error_line (codes "ReplyTooLong")
-    → line ≡ outcome_line limits (Answers response)
-told_long limits response line long told = rw (exceeds response limits.reply_bytes _ long) told
+pub line_long : (limits : LineLimits) (response : Response) → IsAbove (length (reply_line (Some response))) (limit_of response limits.reply_bytes)
+    → error_line (codes "ReplyTooLong") ≡ outcome_line limits (Answers response)
+line_long limits response long = rw (exceeds response limits.reply_bytes _ long) refl
+
+-- the line is told, or memory ran out
+pub told_as : {E : Type 0} (r : Result (Unit {0}) E) (line text other : List ℕ) → text ≡ other → OnOk r (line ≡ text) → OnOk r (line ≡ other)
+told_as (Ok x) line text other same told = told ∙ same
+told_as (Err e) line text other same told = tt

@@ -1,11 +1,21 @@
--- The words of the errors that end serving: each is its variant's name.
+-- Defines the codes of errors: each is its variant's name.
 use Rattle.std.specs.Prelude.{ℕ, List, codes}
 use Rattle.rb_requests.specs.declared.lines.ServeFault.{ServeFault}
 use Rattle.rb_requests.specs.declared.lines.ServeFault.TheVariants as serve
+use Rattle.rb_requests.specs.declared.words.LineError.{LineError}
+use Rattle.rb_requests.specs.declared.words.LineError.TheVariants as line
 
+-- what ends serving
 abbrev pub serve_word : ServeFault → List ℕ
 serve_word serve.Read = codes "Read"
 serve_word serve.Write = codes "Write"
 serve_word serve.LineLimit = codes "LineLimit"
 serve_word serve.LineTooLong = codes "LineTooLong"
 serve_word serve.Memory = codes "Memory"
+
+-- what a line is answered
+abbrev pub line_error_word : LineError → List ℕ
+line_error_word line.BadLine = codes "BadLine"
+line_error_word line.LineTooLong = codes "LineTooLong"
+line_error_word line.ReplyTooLong = codes "ReplyTooLong"
+line_error_word line.Memory = codes "Memory"

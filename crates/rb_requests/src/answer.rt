@@ -1,5 +1,5 @@
 //! The answer to one line, under limits.
-ghost use Rattle.std.specs.Prelude.{◌≡◌, codes, IfErr, OnOk, None};
+ghost use Rattle.std.specs.Prelude.{◌≡◌, IfErr, OnOk, None};
 ghost use Rattle.serde_json.specs.Data.{Data};
 ghost use Rattle.rb_packages.specs.App.{app_of};
 ghost use Rattle.rb_engine.specs.Ask.{Requests, LooksUp};
@@ -12,6 +12,7 @@ ghost use Rattle.rb_views.specs.Seen.{tree_seen};
 ghost use Rattle.rb_requests.specs.Within.{AnswersRead, ReadReply, asked_usage, error_line};
 ghost use Rattle.rb_requests.specs.Within.{is_limited as limited, outcome_line, usage_in};
 ghost use Rattle.rb_requests.specs.Within.{usage_reply};
+ghost use Rattle.rb_requests.specs.Words.{line_error_word};
 ghost use Rattle.rb_requests.specs.inner.Line.{AreTextsOf};
 ghost use Rattle.rb_requests.specs.inner.Placing.{PlacesReply};
 ghost use Rattle.rb_requests.specs.inner.Putting.{writer};
@@ -21,17 +22,17 @@ use crate::ask::{Line, lent_texts, line_of, usage_app};
 use crate::device::{Failed, Sink};
 use crate::limits::LineLimits;
 use crate::stream::put_found;
+use crate::words::LineError;
 use json::Scratch;
 use rb_engine::{App, AppFault, Engine, LookFault, Reply, Request};
 use rb_fallback::Found;
-use rb_items::found_exceeds;
 use rb_limits::{Limited, handle, look};
 use rb_members::Texts;
-use rb_replies::{ReplyLine, Told, found_is_above};
+use rb_replies::{ReplyLine, found_is_above, reply_is_above};
 use rb_views::Item;
 use std::alloc::{AllocError, Global};
 
-/// Memory ran out for a line.
+/// Out of memory for a line.
 #[derive(Clone, Copy, Debug, PartialEq, Eq)]
 pub(crate) enum Starved {
     /// Nothing has changed.
@@ -50,20 +51,16 @@ impl From<AllocError> for Starved {
     }
 }
 
-/// Where the reply to a line is.
+/// Says where the reply to a line is.
 #[derive(Clone, Copy, Debug, PartialEq, Eq)]
 pub(crate) enum Placed {
-    /// It is the reply line, and nothing is put.
+    /// In the reply line: nothing is written.
     Held,
-    /// It is put, or a part of it if a call of the sink failed.
+    /// Written to the sink, or a part of it if a call of the sink failed.
     Put(Result<(), Failed>),
 }
 
-/// An item with parts of more bytes than this isn't made a line. By the forms of JSON the line of
-/// any other is at most six times as long, but for the names in it.
-const WHOLE: u64 = 10_000;
-
-/// Whether any limit is on.
+/// Checks whether any limit is on.
 pub(crate) fn is_limited(limits: &LineLimits) -> bool
     ensures { result ≡ limited limits.now }
 {
@@ -77,7 +74,8 @@ pub(crate) fn is_limited(limits: &LineLimits) -> bool
         || limits.keep_serving
 }
 
-/// What is known if the reply could not be made: only what is done has changed anything.
+/// Returns what memory ran out before or after if the reply could not be made: only a request that
+/// was done has changed anything.
 fn untold(reply: &Reply) -> Starved
     ensures { result ≡ untold_reply reply.now }
 {
@@ -93,18 +91,22 @@ fn is_memory(reply: &Reply) -> bool
     matches!(reply, Reply::Memory)
 }
 
-/// Makes the line the reply of an error with a word.
+/// Makes the line the reply of an error with a code.
 fn tell_word(alloc: Global, word: &str, reply: &mut ReplyLine) -> Result<(), AllocError>
     ensures { OnOk result (reply.new ≡ error_line word.now) }
 {
     reply.tell_error(alloc, word)
 }
 
-/// The reply to a line that is no request.
-fn bad_line(alloc: Global, reply: &mut ReplyLine) -> Result<(), AllocError>
-    ensures { OnOk result (reply.new ≡ error_line (codes "BadLine")) }
+/// Makes the line the reply of an error that the server itself finds.
+pub(crate) fn tell_line_error(
+    alloc: Global,
+    error: LineError,
+    reply: &mut ReplyLine,
+) -> Result<(), AllocError>
+    ensures { OnOk result (reply.new ≡ error_line (line_error_word error)) }
 {
-    tell_word(alloc, "BadLine", reply)
+    tell_word(alloc, error.word(), reply)
 }
 
 fn answer_request(
@@ -132,7 +134,7 @@ fn answer_request(
     }
 }
 
-/// Makes the line the reply to a request, or says that it would be too long.
+/// Makes the line the reply to a request, or an error if that reply is longer than the limit.
 fn tell_answer(
     alloc: Global,
     limits: &LineLimits,
@@ -141,23 +143,15 @@ fn tell_answer(
 ) -> Result<(), AllocError>
     ensures { OnOk result (reply.new ≡ outcome_line limits.now (Answers (Replies answer.now))) }
 {
-    match reply.tell_reply_within(alloc, answer, limits.reply_bytes)? {
-        Told::Whole => Ok(()),
-        Told::TooLong => tell_word(alloc, "ReplyTooLong", reply),
+    if reply_is_above(answer, limits.reply_bytes) {
+        return tell_line_error(alloc, LineError::ReplyTooLong, reply);
     }
+    reply.tell_reply(alloc, answer)
 }
 
-/// Whether no reply may be so long that it isn't made a line.
-fn is_short(limits: &LineLimits) -> bool {
-    match limits.reply_bytes {
-        Some(most) => most <= WHOLE,
-        None => false,
-    }
-}
-
-/// Puts the reply for an item that was found and is too long to be made a line, or makes the line
-/// say that it would be longer than the limit.
-fn place_long<S: Sink>(
+/// Writes the reply for an item that was found to the sink, or makes the line an error if that
+/// reply is longer than the limit.
+fn place_item<S: Sink>(
     alloc: Global,
     limits: &LineLimits,
     found: &Found<Item<'_>>,
@@ -171,29 +165,13 @@ fn place_long<S: Sink>(
         (Answers (Finds (hit_of tree_seen found.now) found.now.valid))) }
 {
     if found_is_above(found, limits.reply_bytes) {
-        tell_word(alloc, "ReplyTooLong", reply)?;
+        tell_line_error(alloc, LineError::ReplyTooLong, reply)?;
         return Ok(Placed::Held);
     }
     Ok(Placed::Put(put_found(alloc, sink, found)?))
 }
 
-/// Makes the line the reply to a lookup, or says that it would be too long.
-fn tell_found(
-    alloc: Global,
-    limits: &LineLimits,
-    found: &Result<Found<Item<'_>>, LookFault>,
-    reply: &mut ReplyLine,
-) -> Result<(), AllocError>
-    ensures { OnOk result (reply.new
-        ≡ outcome_line limits.now (Answers (look_response tree_seen found.now))) }
-{
-    match reply.tell_look_within(alloc, found, limits.reply_bytes)? {
-        Told::Whole => Ok(()),
-        Told::TooLong => tell_word(alloc, "ReplyTooLong", reply),
-    }
-}
-
-/// Makes the line the reply to a lookup, or puts that reply if it is long.
+/// Writes the reply to a lookup to the sink, or makes the line that reply if nothing was found.
 fn place_found<S: Sink>(
     alloc: Global,
     limits: &LineLimits,
@@ -207,11 +185,9 @@ fn place_found<S: Sink>(
         (λ text. text ≡ outcome_line limits.now (Answers (look_response tree_seen found.now))) }
 {
     if let Ok(item) = found {
-        if !is_short(limits) && found_exceeds(item, WHOLE) {
-            return place_long(alloc, limits, item, reply, sink);
-        }
+        return place_item(alloc, limits, item, reply, sink);
     }
-    tell_found(alloc, limits, found, reply)?;
+    reply.tell_look(alloc, found)?;
     Ok(Placed::Held)
 }
 
@@ -241,7 +217,7 @@ fn answer_look<S: Sink>(
     }
 }
 
-/// The reply to a question for an application's usage.
+/// Makes the line the reply to a question for an application's usage.
 fn answer_usage(
     alloc: Global,
     engine: &Engine,
@@ -261,8 +237,8 @@ fn answer_usage(
     reply.tell_reply(alloc, &fault)
 }
 
-/// The reply to a line that calls nothing: to a question for usage, if any limit is on, and else to
-/// a line that is no request.
+/// Makes the line the reply to a line that calls nothing: to a question for usage, if any limit is
+/// on, and else to a line that is no request.
 fn answer_other(
     alloc: Global,
     engine: &Engine,
@@ -279,10 +255,10 @@ fn answer_other(
             return answer_usage(alloc, engine, app, reply);
         }
     }
-    bad_line(alloc, reply)
+    tell_line_error(alloc, LineError::BadLine, reply)
 }
 
-/// The reply to a line with these texts.
+/// Makes the line the reply to a line with these texts, or writes that reply to the sink.
 fn answer_texts<S: Sink>(
     alloc: Global,
     engine: &mut Engine,
@@ -309,8 +285,8 @@ fn answer_texts<S: Sink>(
     Ok(Placed::Held)
 }
 
-/// Makes the line that answers a line, or puts it if it is long. The scratch may grow to the line's
-/// length.
+/// Makes the line that answers a line, or writes it to the sink if an item was found. The scratch
+/// may grow to the line's length.
 pub(crate) fn reply_of<S: Sink>(
     alloc: Global,
     engine: &mut Engine,
@@ -331,6 +307,6 @@ pub(crate) fn reply_of<S: Sink>(
     if lent_texts(line, scratch, &mut texts)? {
         return answer_texts(alloc, engine, limits, &texts, reply, sink);
     }
-    bad_line(alloc, reply)?;
+    tell_line_error(alloc, LineError::BadLine, reply)?;
     Ok(Placed::Held)
 }

@@ -16,10 +16,11 @@ ghost use Rattle.rb_requests.specs.inner.OneLine.{line_settled};
 ghost use Rattle.rb_requests.specs.inner.Placing.{Finishes, PlacesReply};
 ghost use Rattle.rb_requests.specs.inner.Putting.{writer};
 
-use crate::answer::{Placed, Starved, reply_of};
+use crate::answer::{Placed, Starved, reply_of, tell_line_error};
 use crate::device::{Failed, Feed, Sink};
 use crate::limits::{LINE_LIMIT, LineLimits};
 use crate::reading::{Held, Longest, NextLine, read_line};
+use crate::words::LineError;
 use json::Scratch;
 use rb_engine::Engine;
 use rb_replies::ReplyLine;
@@ -46,7 +47,7 @@ pub enum ServeFault {
     Memory,
 }
 
-/// How many lines were served.
+/// Counts the lines that were served.
 #[derive(Clone, Copy, Debug, PartialEq, Eq)]
 pub struct Served {
     pub lines: u64,
@@ -56,7 +57,7 @@ pub struct Served {
 const KEPT: usize = 65_536;
 
 /// Empties a buffer, and keeps its memory unless that is large. The scratch, which grows with the
-/// lines in the buffer, is kept as long.
+/// lines in the buffer, is kept for as many lines.
 fn empty(alloc: Global, buffer: &mut Vec<u8>, scratch: &mut Scratch)
     ensures { buffer.new.items ≡ [] }
 {
@@ -68,10 +69,10 @@ fn empty(alloc: Global, buffer: &mut Vec<u8>, scratch: &mut Scratch)
     }
 }
 
-/// The most bytes of a piece, which a call of the sink gets.
+/// The most bytes that a call of the sink gets.
 pub(crate) const PIECE: usize = 65_536;
 
-/// The bytes of the next piece.
+/// Returns the bytes for the next call of the sink.
 fn piece(bytes: &[u8]) -> &[u8]
     ensures { result.now ≡ take (min (length bytes.now) 65536) bytes.now }
 {
@@ -115,7 +116,7 @@ fn put_reply<S: Sink>(sink: &mut S, reply: &[u8]) -> Result<(), Failed>
     sink.settle()
 }
 
-/// How long lines may be under limits, and how much of them is kept.
+/// Returns how long lines may be under limits, and how much of them is kept.
 fn longest_of(limits: &LineLimits) -> Longest
     ensures { result ≡ longest limits.now }
 {
@@ -131,8 +132,8 @@ fn longest_of(limits: &LineLimits) -> Longest
     }
 }
 
-/// Makes the reply to a line of which so much is held, or puts it if it is long. `AllocError`:
-/// memory ran out, nothing is put, and serving doesn't go on.
+/// Makes the reply to a line of which this much is stored, or writes it to the sink. `AllocError`:
+/// memory ran out, nothing is written, and serving ends.
 fn tell_line<S: Sink>(
     alloc: Global,
     engine: &mut Engine,
@@ -153,20 +154,20 @@ fn tell_line<S: Sink>(
         → IsHeldUnder limits.now longest whole line.now held
         → MayTakeEffect (LineReplyUpTo longest.kept limits.now) engine.old whole engine.new) }
 {
-    let word = match held {
-        Held::Front => "LineTooLong",
-        Held::Starved => "Memory",
+    let error = match held {
+        Held::Front => LineError::LineTooLong,
+        Held::Starved => LineError::Memory,
         Held::Whole => match reply_of(alloc, engine, limits, scratch, line, reply, sink) {
             Ok(placed) => return Ok(placed),
-            Err(Starved::Before) if limits.keep_serving => "Memory",
+            Err(Starved::Before) if limits.keep_serving => LineError::Memory,
             Err(_) => return Err(AllocError),
         },
     };
-    reply.tell_error(alloc, word)?;
+    tell_line_error(alloc, error, reply)?;
     Ok(Placed::Held)
 }
 
-/// Puts a reply that isn't put yet, and settles.
+/// Writes a reply that isn't written yet, and settles.
 fn put_placed<S: Sink>(sink: &mut S, placed: Placed, line: &[u8]) -> Result<(), Failed>
     ensures { Finishes placed line.now
         (writer (S.written sink.old) (S.faults sink.old) (S.settled sink.old))
@@ -179,7 +180,7 @@ fn put_placed<S: Sink>(sink: &mut S, placed: Placed, line: &[u8]) -> Result<(), 
     }
 }
 
-/// Answers a line of which so much is held.
+/// Answers a line of which this much is stored.
 fn serve_line<S: Sink>(
     alloc: Global,
     engine: &mut Engine,
@@ -211,8 +212,7 @@ fn serve_line<S: Sink>(
     }
 }
 
-/// The end of the input, if as many lines were served as may be. A byte more is read, if there
-/// is one.
+/// Ends serving after the most lines that may be served: reads a byte more, if there is one.
 fn end_after<F: Feed>(feed: &mut F, lines: u64) -> Result<Served, ServeFault>
     ensures end { EndsAfter (F.left feed.old) (F.left feed.new) lines result }
     ensures reads { F.faults feed.new ≡ reads_failed (F.faults feed.old) result }
@@ -224,7 +224,7 @@ fn end_after<F: Feed>(feed: &mut F, lines: u64) -> Result<Served, ServeFault>
     }
 }
 
-/// `serve_limited`, with lines of this many bytes.
+/// Serves as `serve_limited` does, with lines of at most this many bytes.
 #[tactic(auto, using(crate::proofs::Serving::at_first))]
 fn serve_within<F: Feed, S: Sink>(
     alloc: Global,
@@ -293,7 +293,7 @@ fn serve_within<F: Feed, S: Sink>(
 /// settled before the next one is read.
 ///
 /// A line that is longer than it may be is passed over and answered `LineTooLong`, and if serving
-/// is to go on without memory, a line for which memory ran out before it changed anything is
+/// continues without memory, a line for which memory ran out before it changed anything is
 /// answered `Memory`. A call that a limit refuses is answered its word, and a found item or names
 /// whose line would be too long are answered `ReplyTooLong`, before anything of it is written. If
 /// any limit is on, `{"op":"usage","app":..}` is answered with the bytes of the application's files
@@ -355,8 +355,8 @@ pub fn serve_limited<F: Feed, S: Sink>(
 /// taken effect too, and a part of its reply is written. `Memory` comes if memory runs out for
 /// the next line, which may have taken effect.
 ///
-/// The sink gets at most 65,536 bytes by a call. The line of a long item is put as the item is
-/// read, and is never in memory whole.
+/// The sink gets at most 65,536 bytes by a call. The line of an item is written as the item is
+/// read, and no more than one piece of it is in memory.
 ///
 /// ```rust
 /// let lines: &[u8] = b"{\"op\":\"list\",\"app\":\"shop\"}\n";

@@ -1,4 +1,4 @@
-//! A sink that is given a text piece by piece.
+//! Writes a text piece by piece into a sink.
 ghost use Rattle.std.specs.Prelude.{◌≡◌, [], IfErr, IfOk, Some};
 ghost use Rattle.rb_engine.specs.Answer.{Finds};
 ghost use Rattle.rb_fallback.specs.Answers.{hit_of};
@@ -11,11 +11,11 @@ use crate::device::{Failed, Sink};
 use crate::lines::{PIECE, put_all};
 use rb_fallback::Found;
 use rb_json::Outlet;
-use rb_replies::stream_reply;
+use rb_replies::put_found_line;
 use rb_views::Item;
 use std::alloc::{AllocError, Global};
 
-/// Puts bytes, unless a call of the sink has failed. It says whether one has.
+/// Writes bytes, unless a call of the sink has failed. Returns whether one has.
 fn pass<S: Sink>(sink: &mut S, failed: bool, bytes: &[u8]) -> bool
     ensures { Passes failed (writer (S.written sink.old) (S.faults sink.old) (S.settled sink.old))
         result (writer (S.written sink.new) (S.faults sink.new) (S.settled sink.new)) bytes.now }
@@ -29,7 +29,8 @@ fn pass<S: Sink>(sink: &mut S, failed: bool, bytes: &[u8]) -> bool
     }
 }
 
-/// A text on its way to a sink. After a call of the sink has failed, the rest is passed over.
+/// A text on its way to a sink. After a call of the sink has failed, the remaining bytes are passed
+/// over.
 #[derive(Drop)]
 struct Stream<'a, S: Sink> {
     sink: &'a mut S,
@@ -38,7 +39,7 @@ struct Stream<'a, S: Sink> {
 }
 
 impl<'a, S: Sink> Stream<'a, S> {
-    /// Holds bytes, if there is room for them.
+    /// Stores bytes, if the buffer has room for them.
     fn hold(&mut self, bytes: &[u8]) -> bool
         ensures same { (self.new.sink.ghost_name ≡ self.old.sink.ghost_name)
             × (self.new.held.ghost_name ≡ self.old.held.ghost_name) }
@@ -56,7 +57,7 @@ impl<'a, S: Sink> Stream<'a, S> {
         }
     }
 
-    /// Puts what is held.
+    /// Writes what is stored.
     fn pass_on(&mut self)
         ensures same { (self.new.sink.ghost_name ≡ self.old.sink.ghost_name)
             × (self.new.held.ghost_name ≡ self.old.held.ghost_name) }
@@ -113,9 +114,13 @@ impl<'a, S: Sink> Outlet for Stream<'a, S> {
         }
         self.failed = pass(self.sink, self.failed, bytes);
     }
+
+    fn skips(&mut self, _least: u64) -> bool {
+        false
+    }
 }
 
-/// Puts the line of the reply to a lookup that found an item, all of it.
+/// Writes the whole line of the reply to a lookup that found an item.
 fn stream_found<S: Sink>(stream: &mut Stream<'_, S>, found: &Found<Item<'_>>)
     ensures same { (stream.new.sink.ghost_name ≡ stream.old.sink.ghost_name)
         × (stream.new.held.ghost_name ≡ stream.old.held.ghost_name) }
@@ -126,12 +131,12 @@ fn stream_found<S: Sink>(stream: &mut Stream<'_, S>, found: &Found<Item<'_>>)
         (reply_line (Some (Finds (hit_of tree_seen found.now) found.now.valid))) }
     ensures empty { stream.new.held.now.items ≡ [] }
 {
-    stream_reply(stream, found);
+    put_found_line(stream, found);
     stream.pass_on();
 }
 
-/// Puts the line of the reply to a lookup that found an item, piece by piece. `AllocError`: memory
-/// ran out for the buffer, and nothing is put.
+/// Writes the line of the reply to a lookup that found an item, piece by piece. `AllocError`:
+/// memory ran out for the buffer, and nothing is written.
 pub(crate) fn put_found<S: Sink>(
     alloc: Global,
     sink: &mut S,

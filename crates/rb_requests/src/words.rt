@@ -1,12 +1,34 @@
-//! The words of the errors that end serving.
+//! The codes of errors.
 ghost use Rattle.std.specs.Prelude.{◌≡◌};
-ghost use Rattle.rb_requests.specs.Words.{serve_word};
+ghost use Rattle.rb_requests.specs.Words.{line_error_word, serve_word};
 
 use crate::lines::ServeFault;
 use rb_tree::variant_name;
 
+/// An error that the server itself finds in a line or a reply, and answers.
+#[derive(Clone, Copy, Debug, PartialEq, Eq)]
+pub(crate) enum LineError {
+    /// The line is no request.
+    BadLine,
+    /// The line is longer than the limit.
+    LineTooLong,
+    /// The reply is longer than the limit.
+    ReplyTooLong,
+    /// Out of memory for the line.
+    Memory,
+}
+
+impl LineError {
+    /// Returns the code, which is the variant's name.
+    pub(crate) fn word(self) -> &'static str
+        ensures { result.now ≡ line_error_word self }
+    {
+        variant_name!(self: LineError { BadLine, LineTooLong, ReplyTooLong, Memory })
+    }
+}
+
 impl ServeFault {
-    /// The variant's name.
+    /// Returns the code, which is the variant's name.
     pub fn word(self) -> &'static str
         ensures { result.now ≡ serve_word self }
     {

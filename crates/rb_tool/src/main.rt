@@ -1,7 +1,9 @@
 //! `resb`: compiles bundle texts, checks files, prints their items, and serves lookups.
 #![tactic(auto)]
 
+mod batching_writer;
 mod running;
+mod serve;
 
 use crate::running::run_asked;
 use rb_arguments::{asked_by, commands_for};
@@ -11,6 +13,28 @@ use std::process::ExitCode;
 use std::random::RandomSource;
 use std::rt::{Clock, Env, Files};
 use std::{env, io};
+
+/// Prints to a terminal why a command line is refused, or the help that it asks for. The words are
+/// parsed again as the terminal shows them, so that the message has no control character of theirs.
+fn refuse_on_terminal<R: AllocGlobal + Print + Eprint>(
+    rt: &R,
+    console: Console,
+    words: &[String],
+) -> io::Result<ExitCode> {
+    let alloc = rt.alloc();
+    let mut shown = Vec::new(alloc);
+    for word in words {
+        shown.push(format!(in alloc; "{}", console.on_stderr(word))?)?;
+    }
+    let command = commands_for(alloc, shown.get(1).map(|word| word.as_str()))?;
+    match command.try_get_matches_from(shown.as_slice()) {
+        Ok(_) => Ok(ExitCode::from(2)),
+        Err(error) => {
+            error.print(rt)?;
+            Ok(ExitCode::from(error.exit_code() as u8))
+        }
+    }
+}
 
 /// Reads the command line, and runs the command that it asks for.
 fn run<R: Files + RandomSource + Clock + AllocGlobal + Input + Print + Eprint + Env>(
@@ -22,6 +46,7 @@ fn run<R: Files + RandomSource + Clock + AllocGlobal + Input + Print + Eprint + 
     let command = commands_for(alloc, words.get(1).map(|word| word.as_str()))?;
     let matches = match command.try_get_matches_from(words.as_slice()) {
         Ok(matches) => matches,
+        Err(_) if console.is_terminal => return refuse_on_terminal(rt, console, &words),
         Err(error) => {
             error.print(rt)?;
             return Ok(ExitCode::from(error.exit_code() as u8));
@@ -48,6 +73,7 @@ fn main(rt: HostRuntime) -> ExitCode {
     let console = Console {
         is_quiet: false,
         is_terminal: rt.stderr().is_terminal(),
+        is_output_terminal: rt.stdout().is_terminal(),
     };
     match run(&rt, console) {
         Ok(status) => status,

@@ -1,11 +1,13 @@
 //! Running what a command line asks for.
 ghost use Rattle.std.specs.Prelude.{◌≡◌, IfSome};
 
+use crate::serve::serve_files;
 use rb_arguments::{Asked, AskedLimits, AskedLookup};
 use rb_commands::{
-    Change, Console, Layout, Limits, LineLimits, Lookup, check_all, check_on, compile_all,
-    compile_on, explain, get_on, json, lines, lint_all, look_up, serve_limited_on, text,
+    Change, Console, Layout, Lookup, check_all, check_on, compile_all, compile_on, explain_on,
+    get_on, json, lines, lint_all, look_up, text,
 };
+use rb_requests::{Limits, LineLimits};
 use std::process::ExitCode;
 use std::random::RandomSource;
 use std::rt::{Clock, Files};
@@ -15,6 +17,7 @@ fn quieted(console: Console, is_quiet: bool) -> Console {
     Console {
         is_quiet,
         is_terminal: console.is_terminal,
+        is_output_terminal: console.is_output_terminal,
     }
 }
 
@@ -111,7 +114,7 @@ fn run_serve<R: Files + RandomSource + AllocGlobal + Input + Print + Eprint>(
     asked: AskedLimits,
 ) -> ExitCode {
     let limits = limits_of(asked);
-    serve_limited_on(rt, console, parents, bundles, limits.as_ref())
+    serve_files(rt, console, parents, bundles, limits.as_ref())
 }
 
 /// Runs a command.
@@ -140,7 +143,7 @@ pub fn run_asked<R: Files + RandomSource + Clock + AllocGlobal + Input + Print +
         } => { json(rt, console, file, path, layout_of(is_pretty)) }
         Asked::Text { file, name } => text(rt, console, file, name),
         Asked::Lint { root, texts } => lint_all(rt, console, root, &texts),
-        Asked::Explain { word } => explain(rt, word),
+        Asked::Explain { word } => explain_on(rt, console, word),
         Asked::Lines { op, app, files } => run_lines(rt, console, op, app, &files),
         Asked::Look(lookup) => run_look(rt, console, lookup),
         Asked::Serve {

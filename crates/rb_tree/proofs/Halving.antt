@@ -1,4 +1,4 @@
--- A search by halving among the entries of a table.
+-- Proves the binary search among the entries of a table.
 use Rattle.std.proofs.Common.{◌≡◌, ℕ, zero, suc, ◌<◌, ◌≤◌, ◌⊎◌, inl, inr, List, [], ◌∷◌, length, get_or, cond, nat_eq, Some, None, Result, Ok, Err, MatchResult}
 use Rattle.std.proofs.Common.{refl, ap, sym, subst, ◌∙◌, arith}
 use Rattle.std.proofs.Math.Nat.{eq-or-lt_of_le}

@@ -1,4 +1,4 @@
--- Paths by a test and by what holds of them.
+-- Proves that the test of paths decides the definition.
 use Rattle.std.proofs.Common.{◌≡◌, ℕ, ◌<◌, ◌&&◌, Bool, true, false, List, length, get_or, All, refl, arith}
 use Rattle.std.specs.Bool.{Decides}
 use Rattle.std.specs.List.{list_all}

@@ -1,4 +1,4 @@
--- What a key of the program is seen as: its bytes, which are few or a list. How many are few is a rule of this project.
+-- Defines how contracts see a key: as its bytes, stored inline or in a list. The inline size is a rule of this project.
 use Rattle.std.specs.Prelude.{ℕ, ◌≤◌, List, take}
 use Rattle.rb_tree.specs.declared.key.KeyBytes.{KeyBytes}
 use Rattle.rb_tree.specs.declared.key.KeyBytes.TheVariants.{Short, Long}

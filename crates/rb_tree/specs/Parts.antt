@@ -1,5 +1,5 @@
--- The parts of a tree, by the kinds of resources of `uresdata.h`. The limits of height and weight are a rule of this
--- project.
+-- Defines the parts of a tree, by the kinds of resources of `uresdata.h`. The limits of height and weight are rules of
+-- this project.
 use Rattle.std.specs.Prelude.{◌≡◌, ◌≤◌, ℕ, ℤ, List, [], length, Option, nat_eq}
 use Rattle.rb_tree.specs.declared.kind.Kind.{Kind}
 use Rattle.rb_tree.specs.declared.kind.Kind.TheVariants as kind
@@ -18,7 +18,7 @@ kind_of (alias us) = kind.Alias
 kind_of (array ts) = kind.Array
 kind_of (table es) = kind.Table
 
--- how many units, numbers, bytes, items or entries
+-- the number of units, numbers, bytes, items or entries
 abbrev pub len_of : Resource → ℕ
 len_of (string us) = length us
 len_of (int n) = 0
@@ -28,18 +28,18 @@ len_of (alias us) = length us
 len_of (array ts) = length (items ts)
 len_of (table es) = length (pairs es)
 
--- what an array or a table holds, in order
+-- the items of an array or the trees of a table, in order
 abbrev pub children_of : Resource → List Resource
 children_of (array ts) = items ts
 children_of (table es) = values_of (pairs es)
 children_of t = []
 
--- a table's entries
+-- the entries of a table
 abbrev pub pairs_of : Resource → List (List ℕ × Resource)
 pairs_of (table es) = pairs es
 pairs_of t = []
 
--- the child with a key
+-- the child under a key
 abbrev pub child_of : List ℕ → Resource → Option Resource
 child_of k t = lookup (pointwise nat_eq k) (pairs_of t)
 

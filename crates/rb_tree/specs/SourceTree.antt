@@ -1,5 +1,5 @@
--- What a bundle is, whether a text spells it or a file denotes it: its tree, and whether a lookup stops at it (the
--- attribute `URES_ATT_NO_FALLBACK` of ICU's `uresdata.h`, `table(nofallback)` of genrb).
+-- Defines a bundle, whether a text spells it or a file stores it: its tree, and whether a lookup stops at it
+-- (`URES_ATT_NO_FALLBACK` of ICU's `uresdata.h`, `table(nofallback)` of genrb).
 use Rattle.std.specs.Prelude.{Bool}
 use Rattle.rb_tree.specs.Resource.{Resource}
 

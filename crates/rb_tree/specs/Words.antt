@@ -1,4 +1,4 @@
--- The words of the errors: each is its variant's name.
+-- Defines the error codes of `TableFault`: the names of its variants.
 use Rattle.std.specs.Prelude.{ℕ, List, codes}
 use Rattle.rb_tree.specs.declared.table.TableFault.{TableFault}
 use Rattle.rb_tree.specs.declared.table.TableFault.TheVariants as table

@@ -1,4 +1,3 @@
-//! Pairs in the order of their keys.
 ghost use Rattle.std.specs.Prelude.{IsTrue, IfOk, IfSome};
 ghost use Rattle.rb_tree.specs.Table.{keys_in};
 ghost use Rattle.rb_tree.specs.inner.Arranged.{AreNumbered, Rise, IsOrder, AreArranged};
@@ -11,10 +10,8 @@ use std::alloc::{AllocError, Global};
 use std::cmp::Ordering;
 use std::mem;
 
-/// A key with its index among pairs.
-///
-/// Its first bytes come before it, so that most comparisons need not wait for the memory where it
-/// is. This only saves time: the order that comes of it is compared by whole keys.
+/// A key and its index among the pairs. `head` comes first so that most comparisons are decided
+/// without reading the key's own memory; whole keys decide the rest.
 #[derive(Clone, Copy, PartialEq, Eq, PartialOrd, Ord)]
 struct Numbered<'a> {
     head: u64,
@@ -22,7 +19,6 @@ struct Numbered<'a> {
     index: usize,
 }
 
-/// The keys of pairs, each with its index.
 fn with_indices(alloc: Global, pairs: &[(Key, Tree)]) -> Result<Vec<Numbered<'_>>, AllocError>
     ensures { IfOk result (λ v. AreNumbered (keys_in pairs.now) v.items) }
 {
@@ -35,7 +31,6 @@ fn with_indices(alloc: Global, pairs: &[(Key, Tree)]) -> Result<Vec<Numbered<'_>
     Ok(numbered)
 }
 
-/// Whether each key is below the next.
 fn rise(keys: &[Numbered<'_>]) -> bool
     ensures { IsTrue result → Rise keys.now }
 {
@@ -48,7 +43,7 @@ fn rise(keys: &[Numbered<'_>]) -> bool
     true
 }
 
-/// The indices of pairs in the order of their keys, if no key is there twice.
+/// Sorts the indices of the pairs by key, or returns None if a key repeats.
 pub fn order_of(alloc: Global, pairs: &[(Key, Tree)]) -> Result<Option<Vec<usize>>, AllocError>
     ensures { IfOk result (λ found. IfSome found (λ order. IsOrder (keys_in pairs.now) order.items)) }
 {
@@ -61,7 +56,6 @@ pub fn order_of(alloc: Global, pairs: &[(Key, Tree)]) -> Result<Option<Vec<usize
     Ok(Some(order))
 }
 
-/// The pairs of these indices, as entries.
 pub fn arranged(
     alloc: Global,
     pairs: Vec<(Key, Tree)>,

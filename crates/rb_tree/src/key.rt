@@ -1,4 +1,3 @@
-//! Keys of tables, as the program keeps them.
 ghost use Rattle.std.specs.Prelude.{◌≡◌, ◌≤◌, [], nat_eq, length, IfOk};
 ghost use Rattle.std.proofs.Common.{rules};
 ghost use Rattle.std.specs.Cmp.{partial_order_from_own_ties};
@@ -11,13 +10,10 @@ use std::alloc::{AllocError, Global};
 use std::cmp::Ordering;
 use std::marker::Model;
 
-/// How many bytes of a key are kept in place.
 const IN_PLACE: usize = 30;
 
-/// The bytes of a key, seen by contracts as a list.
-///
-/// Few bytes are kept in place: most keys are short, and many blocks of their own would take longer
-/// than all else that is done with them.
+/// The bytes of a table's key. Short keys are stored inline: most keys are short, and a heap block
+/// for each would cost more than all other work on them.
 #[derive(Debug, Drop)]
 pub struct Key {
     bytes: KeyBytes,
@@ -48,7 +44,6 @@ impl Model for Key {
 }
 
 impl Key {
-    /// No bytes.
     pub(crate) fn empty() -> Key
         ensures { result ≡ [] }
     {
@@ -60,7 +55,6 @@ impl Key {
         }
     }
 
-    /// The bytes of a list.
     pub fn of(list: ByteList) -> Key
         ensures { result ≡ list }
     {
@@ -72,7 +66,7 @@ impl Key {
         Key::short(list.as_slice())
     }
 
-    /// These bytes. Few of them take no memory.
+    /// Copies the bytes; allocates only for more than 30. `Err` means out of memory.
     pub fn copied(alloc: Global, bytes: &[u8]) -> Result<Key, AllocError>
         ensures { IfOk result (λ key. key ≡ bytes.now) }
     {
@@ -83,7 +77,6 @@ impl Key {
         Ok(Key::short(bytes))
     }
 
-    /// Bytes that are kept in place.
     fn short(list: &[u8]) -> Key
         requires { length list.now ≤ 30 }
         ensures { result ≡ list.now }
@@ -96,7 +89,6 @@ impl Key {
         }
     }
 
-    /// The bytes, in order.
     pub fn as_slice(&self) -> &[u8]
         ensures { result.now ≡ self.now }
     {

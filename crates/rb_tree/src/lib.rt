@@ -1,4 +1,4 @@
-//! Trees of resource bundles: what a bundle text spells and a bundle file denotes.
+//! Trees of resource bundles: what a bundle text spells and a bundle file stores.
 #![tactic(auto)]
 
 mod arrange;

@@ -1,4 +1,3 @@
-//! Height and weight.
 ghost use Rattle.std.specs.Prelude.{◌≡◌, ◌-◌, ◌^◌, ◌↔◌, min, IsTrue, ◌+◌, ◌*◌, length};
 ghost use Rattle.rb_tree.specs.Resource.{height, trees_height, entries_height, weight};
 ghost use Rattle.rb_tree.specs.Resource.{trees_weight, entries_weight};
@@ -8,8 +7,8 @@ ghost use Rattle.rb_tree.specs.View.{view_of};
 use crate::limits::{HEIGHT_LIMIT, WEIGHT_LIMIT};
 use crate::tree::{Entries, Tree, TreeList};
 
-/// Height and weight, `u64::MAX` at the most. One walk takes both, since a large tree isn't in a
-/// processor's cache.
+/// Height and weight, capped at `u64::MAX`. One walk takes both, since a large tree exceeds the
+/// cache.
 #[derive(Clone, Copy)]
 struct Measures {
     height: u64,
@@ -17,27 +16,27 @@ struct Measures {
 }
 
 impl Tree {
-    /// How many levels the tree has: 1 for a leaf and for an empty array or table, else one more
-    /// than its highest child; `u64::MAX` at the most.
+    /// Returns the number of levels: 1 for a leaf and for an empty array or table, else one more
+    /// than the highest child; at most `u64::MAX`.
     pub fn height(&self) -> u64
         ensures { result ≡ min (height (view_of self.now)) (2 ^ 64 - 1) }
     {
         self.measures().height
     }
 
-    /// The tree's size as the limit of a bundle counts it, in bytes; `u64::MAX` at the most. A
+    /// Returns the tree's size in bytes, as the limit of a bundle counts it; at most `u64::MAX`. A
     /// String or an Alias of n units counts 8 + 2n, an Int nothing, a vector of n numbers 4 + 4n, a
     /// Binary of n bytes 20 + n, an array of n items 4 + 4n and its items, a table of n entries 8 +
-    /// 8n, each key's length and one more, and its items. It is no file's length: a file has a
-    /// header and indexes besides, and may hold a key or an item once for many.
+    /// 8n, each key's length and one more, and its items. A file's length differs: it adds a header
+    /// and indexes, and may share keys and items.
     pub fn weight(&self) -> u64
         ensures { result ≡ min (weight (view_of self.now)) (2 ^ 64 - 1) }
     {
         self.measures().weight
     }
 
-    /// Whether the tree is a table of height at most 64 and weight at most 33,554,432, as a
-    /// bundle's is.
+    /// Checks whether the tree is a table within `HEIGHT_LIMIT` and `WEIGHT_LIMIT`, as a bundle's
+    /// is.
     pub fn fits(&self) -> bool
         ensures { IsTrue result ↔ Fits (view_of self.now) }
     {
@@ -69,7 +68,6 @@ impl Tree {
     }
 }
 
-/// The measures of a tree without children.
 fn leaf(weight: u64) -> Measures
     ensures height { result.height ≡ 1 }
     ensures weight { result.weight ≡ weight }
@@ -77,7 +75,7 @@ fn leaf(weight: u64) -> Measures
     Measures { height: 1, weight }
 }
 
-/// The measures of an array or a table, given those of its children and what it weighs itself.
+/// Returns the measures of an array or a table from those of its children and its own weight.
 fn above(children: Measures, weight: u64) -> Measures
     ensures height { result.height ≡ min (children.height + 1) (2 ^ 64 - 1) }
     ensures weight { result.weight ≡ min (children.weight + weight) (2 ^ 64 - 1) }

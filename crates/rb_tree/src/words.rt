@@ -1,12 +1,11 @@
-//! The words of the errors. In each crate the `word` functions are in its `words.rt`, and what they
-//! give in its `specs/Words.antt`.
+//! Error codes. Each crate has its `word` functions in `words.rt`, and their texts in
+//! `specs/Words.antt`.
 ghost use Rattle.std.specs.Prelude.{◌≡◌};
 ghost use Rattle.rb_tree.specs.Words.{table_word};
 
 use crate::table::TableFault;
 
-/// The name of a value's variant, from its enum with all its variants. `(_)` stands for a variant's
-/// fields.
+/// Names the variant of a value, given its enum with all variants; `(_)` stands for fields.
 ///
 /// ```rust
 /// variant_name!(fault: TableFault { DuplicateKey(_), Memory }) // "DuplicateKey" or "Memory"
@@ -21,7 +20,7 @@ macro_rules! variant_name {
 }
 
 impl TableFault {
-    /// The variant's name.
+    /// Returns the variant's name.
     pub fn word(self) -> &'static str
         ensures { result.now ≡ table_word self }
     {

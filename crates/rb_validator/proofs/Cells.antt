@@ -55,7 +55,7 @@ slot_is Array Alias g h e = absurd cc
 slot_is Array Int g h e = absurd cc
 slot_is Array Ints g h e = absurd cc
 
--- each pair has a cell of its own
+-- each pair has its own cell
 pub cell_is : (j k : ItemKind) (o p : ℕ) → has_children j ≡ true → has_children k ≡ true → cell j o ≡ cell k p → (j ≡ k) × (o ≡ p)
 cell_is j k o p g h e =
     let a = slot_low j in let b = slot_low k in

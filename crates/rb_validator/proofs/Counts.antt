@@ -1,4 +1,4 @@
--- What is counted: the marked cells, which are those of the places.
+-- Proves that the marked cells are those of the places.
 use Rattle.std.proofs.Common.{◌≡◌, ◌≢◌, ℕ, zero, suc, ◌*◌, ◌/◌, ◌<◌, ◌≤◌, true, List, [], ◌∷◌, length, get_or, refl, sym, subst, arith, inl, inr}
 use Rattle.std.proofs.lemmas.Bool.{cases_eq, eq-eqb, ne_eqb}
 use Rattle.rb_format.specs.declared.kind.ItemKind.{ItemKind}

@@ -1,4 +1,4 @@
--- What the steps of the check say, over plain values.
+-- Proves the steps of the check, for plain values.
 use Rattle.std.proofs.Common.{◌≡◌, ◌≢◌, ℕ, suc, ◌+◌, ◌-◌, ◌<◌, ◌≤◌, max, Bool, true, false, cond, eqb, leb, List, length, set, Some, Result, Ok, Err, refl}
 use Rattle.std.proofs.Common.{sym, ap, subst, ◌∙◌, arith}
 use Rattle.std.proofs.lemmas.Bool.{le-leb, lt-leb}
@@ -16,8 +16,8 @@ use Rattle.rb_format.proofs.Steps.{ok_is}
 use Rattle.std.specs.Ordering.{ord_max, nat_cmp}
 use Rattle.rb_format.proofs.Levels.{read_height}
 use Rattle.rb_format.proofs.Faults.{value_there, read_kind}
-use Rattle.rb_validator.specs.declared.children.Children.{Children}
-use Rattle.rb_validator.specs.declared.memo.Mark.TheVariants.{New, Open, Done}
+use Rattle.rb_validator.specs.declared.items.children.Children.{Children}
+use Rattle.rb_validator.specs.declared.items.memo.VisitState.TheVariants.{New, Open, Done}
 use Rattle.rb_validator.specs.inner.Marks.{cell, mark_of, mark_at, children_at, IsKnown, IsDone, Keeps, IsMet, After}
 use Rattle.rb_format.specs.Geometry.{has_children, first_child}
 use Rattle.rb_validator.proofs.Cells.{follows_entry, keeps_set, known_set}

@@ -15,7 +15,7 @@ use Rattle.rb_format.specs.inner.FirstFault.{fault_of, read, result_map, trees, 
 use Rattle.rb_validator.specs.inner.Leaves.{IsLeaf}
 use Rattle.rb_validator.specs.inner.Marks.{IsKnown, IsRunKnown, run_of}
 use Rattle.rb_validator.proofs.Shapes.{height_ok}
-use Rattle.rb_validator.proofs.Spans.{trees_ok}
+use Rattle.rb_validator.proofs.SpanHeights.{trees_ok}
 
 some_same : (j k : ItemKind) → Some j ≡ Some k → j ≡ k
 some_same j k e = cc

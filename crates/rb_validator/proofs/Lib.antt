@@ -5,7 +5,7 @@ pub mod Entering
 pub mod Marked
 pub mod Packing
 pub mod Upwards
-pub mod Spans
+pub mod SpanHeights
 pub mod Shapes
 pub mod Ways
 pub mod Orders

@@ -1,4 +1,4 @@
--- How many cells are marked, and what a written cell changes.
+-- Proves how many cells are marked, and what writing a cell changes.
 use Rattle.std.proofs.Common.{◌≡◌, ◌≢◌, ℕ, zero, suc, ◌<◌, ◌≤◌, Bool, true, false, cond, eqb, List, length, get_or, set, replicate, refl, ap, arith}
 use Rattle.std.proofs.Common.{subst, inl, inr, get_or-set_other, get_or-set_same}
 use Rattle.std.proofs.Math.Nat.{eq-or-lt_of_le}

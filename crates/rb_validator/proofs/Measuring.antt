@@ -214,7 +214,7 @@ length_on run lengths c (suc k) p h =
     let there : get_or lengths (p + 1 + k) 0 ≡ get_or lengths (p + suc k) 0 = ap (λ (x : ℕ). get_or lengths x 0) e in
     omega arith
 
--- what is left of a key after so many bytes
+-- the remaining key after this many bytes
 pub key_on : (run lengths : List ℕ) → AreCounted run lengths → (k p : ℕ) → k < get_or lengths p 0
     → drop k (key_from run lengths p) ≡ key_from run lengths (p + k)
 key_on run lengths c k p h =

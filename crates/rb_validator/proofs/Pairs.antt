@@ -12,7 +12,7 @@ use Rattle.rb_format.specs.declared.geometry.KeyPlaces.{KeyPlaces}
 use Rattle.rb_format.specs.declared.geometry.KeyPlaces.TheVariants.{Halves, Words}
 use Rattle.rb_format.specs.Geometry.{key_offset}
 use Rattle.rb_format.specs.Place.{key, half_at, word_at}
-use Rattle.rb_validator.specs.declared.known_keys.KnownKeys.{KnownKeys}
+use Rattle.rb_validator.specs.declared.keys.known.KnownKeys.{KnownKeys}
 use Rattle.rb_format.specs.inner.FirstFault.{◌>>=◌, fault_of, key_or_fault, next_key, keys}
 use Rattle.rb_format.proofs.Faults.{keys_on, keys_stop, keys_end}
 use Rattle.rb_validator.specs.inner.KnownKeys.{key_run, key_or_none, previous_key, last_key, IsGood, AreGood, AreFrom, IsPair, IsLinked, IsRedirected, IsSound}

@@ -1,4 +1,4 @@
--- What the children of a table or an array say of its tree and its height.
+-- Proves the tree and the height of a table or an array from those of its children.
 use Rattle.std.proofs.Common.{◌≡◌, ℕ, suc, ◌+◌, ◌≤◌, max, Bool, true, false, cond, ltb, List, [], ◌∷◌, length, Result, Ok, Err, None, Some, map, refl, ap}
 use Rattle.std.proofs.Common.{subst, ◌∙◌}
 use Rattle.std.proofs.lemmas.Bool.{ltb-false}
@@ -14,7 +14,7 @@ use Rattle.rb_format.specs.inner.FirstFault.{◌>>=◌, fault_of, units, bytes, 
 use Rattle.rb_format.specs.inner.FirstFault.{table32_at}
 use Rattle.rb_format.proofs.Steps.{bind_ok, ok_is, guard}
 use Rattle.rb_format.proofs.Faults.{keys_count}
-use Rattle.rb_validator.specs.declared.children.Children.{Children}
+use Rattle.rb_validator.specs.declared.items.children.Children.{Children}
 use Rattle.rb_validator.specs.inner.Marks.{children_at, table_children}
 use Rattle.rb_format.specs.Geometry.{has_children, child_count, first_child}
 

@@ -13,7 +13,7 @@ use Rattle.rb_format.specs.inner.FirstFault.{◌>>=◌, result_map, limited, kin
 use Rattle.rb_format.proofs.Steps.{then_ok}
 use Rattle.rb_format.proofs.Faults.{value_there}
 use Rattle.rb_format.proofs.Levels.{read-limited}
-use Rattle.rb_validator.specs.declared.children.Children.{Children}
+use Rattle.rb_validator.specs.declared.items.children.Children.{Children}
 use Rattle.rb_validator.specs.inner.Marks.{cell, mark_at, children_at, IsDone, Leads, IsMet}
 use Rattle.rb_format.specs.Geometry.{has_children, child_count, first_child}
 use Rattle.rb_validator.specs.Visits.{IsPlace}

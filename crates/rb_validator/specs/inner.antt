@@ -1,7 +1,7 @@
 pub mod Accepted
 pub mod Compared
 pub mod KnownKeys
-pub mod KnownRuns
+pub mod CachedSpans
 pub mod Leaves
 pub mod Lengths
 pub mod Marks

@@ -1,4 +1,3 @@
-//! Files that denote a bundle.
 ghost use Rattle.std.specs.Prelude.{◌≡◌, ◌⊎◌, ◌*◌, ◌≤◌, Some, IfOk, IfErr, drop, length};
 ghost use Rattle.rb_format.specs.Place.{half_at, layout_of};
 ghost use Rattle.rb_validator.specs.TextBlocks.{AreSegmentBlocks};
@@ -6,14 +5,14 @@ ghost use Rattle.rb_validator.specs.Visits.{HasVisits};
 ghost use Rattle.rb_format.specs.File.{Denotes, source_tree_of};
 ghost use Rattle.rb_format.specs.Checks.{first_fault};
 
-use crate::file::{Findings, check_file};
+use crate::file::{Counts, check_file};
 use crate::notes::Notes;
 use rb_format::{Attributes, FileFault, MINOR_VERSION_AT, body};
 use std::alloc::Global;
 use std::marker::Model;
 
-/// A file that denotes a bundle: a tree, and whether a lookup stops there. It keeps the bytes of
-/// the file, and takes no more room than six words, as a server has many.
+/// A file that was accepted as a bundle. It owns the bytes of the file and is six words large,
+/// since a server stores many.
 #[derive(Drop)]
 pub struct Bundle {
     bytes: Vec<u8>,
@@ -35,11 +34,13 @@ impl Model for Bundle {
         (looked_noted b.notes) (blocks_noted b.notes) };
 }
 
-/// The bundle of a file that denotes one. Any other file is refused for its first fault, in the
-/// order of a reader's checks: the length, the header, the indexes, the attributes, the root item
-/// and the items, depth first. `Memory` comes in place of an answer if there is no memory for the
-/// marks of the tables and arrays, three bytes for each word of the file, or for what is kept if
-/// they overlap or keys are costly to compare. An error gives the bytes back as they were.
+/// Accepts a file that denotes a bundle, or returns its first fault and the unchanged bytes. The
+/// checks come in this order: the length, the header, the indexes, the attributes, the root item,
+/// and all items depth first.
+///
+/// Returns `Memory` if it can't allocate the marks of the tables and arrays (three bytes for each
+/// word of the file), or what it needs for overlapping tables and for keys that are expensive to
+/// compare.
 ///
 /// ```rust
 /// let bundle = accept(alloc, file)?; // `bundle.visits()` is 1 for `root{a{"b"}}`
@@ -54,7 +55,7 @@ pub fn accept(alloc: Global, bytes: Vec<u8>) -> Result<Bundle, (FileFault, Vec<u
 {
     match check_file(alloc, &bytes) {
         Ok(
-            Findings {
+            Counts {
                 visits,
                 compared,
                 notes,
@@ -70,7 +71,6 @@ pub fn accept(alloc: Global, bytes: Vec<u8>) -> Result<Bundle, (FileFault, Vec<u
 }
 
 impl Bundle {
-    /// The bytes of the file.
     pub fn bytes(&self) -> &[u8]
         ensures bytes { result.now ≡ self.now }
         ensures denoted { Denotes self.now (source_tree_of self.now) }
@@ -78,7 +78,7 @@ impl Bundle {
         &self.bytes
     }
 
-    /// Whether a lookup stops at the bundle, the attribute `URES_ATT_NO_FALLBACK` of `uresdata.h`.
+    /// Returns true if a lookup stops at the bundle (`URES_ATT_NO_FALLBACK` of `uresdata.h`).
     pub fn no_fallback(&self) -> bool
         ensures { result ≡ (source_tree_of self.now).no_fallback }
     {
@@ -86,8 +86,8 @@ impl Bundle {
         Attributes::of(bytes[MINOR_VERSION_AT], body(bytes)).no_fallback()
     }
 
-    /// How many tables and arrays the acceptance entered: each offset and kind of one with data
-    /// that the root item leads to, once. It is at most three for each word of the bundle.
+    /// Returns how many tables and arrays the check entered, each offset and kind once. It is at
+    /// most three for each word of the bundle.
     pub fn visits(&self) -> u64
         ensures counted { HasVisits self.now result }
         ensures few { let body = drop (half_at self.now 0) self.now in result
@@ -96,19 +96,17 @@ impl Bundle {
         self.visits as u64
     }
 
-    /// How many bytes of keys the acceptance compared. If two keys of a table are compared byte by
-    /// byte, all of the later one are counted; if their lengths are known, those that they have in
-    /// common, and the first that differs; if they are compared by their ranks, none here, but in
-    /// `compared_before_ranks`. It is at most 25 for each byte of the file.
+    /// Returns how many bytes of keys were compared, at most 25 for each byte of the file. Without
+    /// known lengths all bytes of the later key count, with them only those up to the first
+    /// difference. Comparisons by rank count in `compared_before_ranks`.
     pub fn compared(&self) -> u64
         ensures { result ≤ 25 * length self.now }
     {
         self.compared as u64
     }
 
-    /// How many bytes of keys the acceptance compared before it compared two keys by the ranks of
-    /// what comes after: fewer than 336 for each two keys, and at most 252 for each byte of the
-    /// file. Few files have keys that are so costly to compare; for all others it is 0.
+    /// Returns how many bytes of keys were compared before their ranks: fewer than 336 for each
+    /// comparison, and at most 252 for each byte of the file. Nearly all files need no ranks.
     pub fn compared_before_ranks(&self) -> u64
         ensures { result ≤ 252 * length self.now }
     {
@@ -118,10 +116,9 @@ impl Bundle {
         }
     }
 
-    /// Marks of the data after the header, one for each whole block of 1,024 half words: if it is
-    /// set, each half word of the block is a unit of a path's segment, printable ASCII and no
-    /// slash. There are none for a file without an Alias as long as a block, so that no other file
-    /// pays for them.
+    /// Returns a mark for each whole block of 1,024 half words of the data. A marked block consists
+    /// of units of path segments: printable ASCII without slashes. A file without an Alias as long
+    /// as a block has no marks, so that it doesn't pay for them.
     pub fn blocks(&self) -> &[bool]
         ensures { AreSegmentBlocks (drop (half_at self.now 0) self.now) result.now }
     {

@@ -1,4 +1,4 @@
-//! The checks of a whole file.
+//! Checks a whole file.
 ghost use Rattle.std.specs.Prelude.{◌≡◌, ◌⊎◌, ◌+◌, ◌*◌, ◌≤◌, ◌<◌, ◌^◌, None, Some, Err, length, drop, IfOk};
 ghost use Rattle.std.specs.Prelude.{IfErr, MatchResult};
 ghost use Rattle.rb_tree.specs.Resource.{height};
@@ -8,15 +8,15 @@ ghost use Rattle.rb_validator.specs.inner.Marks.{marked};
 ghost use Rattle.rb_format.specs.inner.FirstFault.{fault_of, read_data, read_file};
 ghost use Rattle.rb_format.specs.Place as fields;
 ghost use Rattle.rb_validator.specs.TextBlocks.{AreSegmentBlocks};
-ghost use Rattle.rb_validator.specs.inner.KnownRuns.{IsFresh};
+ghost use Rattle.rb_validator.specs.inner.CachedSpans.{IsFresh};
 ghost use Rattle.rb_validator.specs.inner.Noted.{blocks_noted, looked_noted};
 ghost use Rattle.rb_validator.specs.Visits.{IsPlaceAt, IsCount, HasVisits};
 ghost use Rattle.rb_format.specs.Limits.{file_limit};
 
 use crate::body::{Body, Checked};
-use crate::items::check_item;
+use crate::items::state::CheckState;
+use crate::items::walk::check_item;
 use crate::notes::{Notes, noted};
-use crate::state::CheckState;
 use crate::text_blocks::segment_blocks;
 use rb_format::{
     Attributes, FILE_LIMIT, FileFault, Header, Layout, has_valid_indexes, is_table, item_kind,
@@ -25,18 +25,15 @@ use rb_format::{
 use rb_tree::HEIGHT_LIMIT;
 use std::alloc::Global;
 
-/// What an acceptance counted: the places that it entered, and the bytes of keys that it compared,
-/// but for those before ranks; and what is noted of few files.
-pub struct Findings {
+pub struct Counts {
     pub visits: u32,
     pub compared: u32,
     pub notes: Option<Box<Notes>>,
 }
 
-/// How many places a file has, and how many bytes of its keys were compared, or its first fault;
-/// `Memory` may come in place of an answer.
+/// Checks a file, and returns its counts and notes, its first fault, or `Memory`.
 #[tactic(auto, using(rb_format::proofs::Checks::header_is), unfolding(rb_format::specs::inner::FirstFault::read_file))]
-pub fn check_file(alloc: Global, bytes: &[u8]) -> Checked<Findings>
+pub fn check_file(alloc: Global, bytes: &[u8]) -> Checked<Counts>
     ensures answer { MatchResult result (λ _. fault_of (read_file 64 bytes.now) ≡ None)
         (λ e. (e ≡ FileFault.Memory) ⊎ (fault_of (read_file 64 bytes.now) ≡ Some e)) }
     ensures visits { IfOk result (λ n. HasVisits bytes.now n.visits) }
@@ -53,8 +50,7 @@ pub fn check_file(alloc: Global, bytes: &[u8]) -> Checked<Findings>
     check_data(alloc, header.minor, &bytes[header.size as usize..])
 }
 
-/// What was found of data that have no fault.
-fn found_of(alloc: Global, body: Body<'_>, state: &CheckState) -> Checked<Findings>
+fn found_of(alloc: Global, body: Body<'_>, state: &CheckState) -> Checked<Counts>
     requires few_visits { marked state.now.memo (length state.now.memo) < 2 ^ 32 }
     requires few_compared { state.now.keys.known.compared < 2 ^ 32 }
     ensures memory { IfErr result (λ e. e ≡ FileFault.Memory) }
@@ -71,14 +67,14 @@ fn found_of(alloc: Global, body: Body<'_>, state: &CheckState) -> Checked<Findin
     let Ok(notes) = noted(alloc, state.keys.known.looked, blocks) else {
         return Err(FileFault::Memory);
     };
-    Ok(Findings {
+    Ok(Counts {
         visits: state.memo.visits() as u32,
         compared: state.keys.known.compared as u32,
         notes,
     })
 }
 
-/// The checks of the root item and of all below it, if nothing is known but of the keys.
+/// Checks the root item and all items below it.
 fn check_root(body: Body<'_>, state: &mut CheckState, root: u32) -> Checked<u8>
     requires room { 4 * body.layout.now.top ≤ length body.bytes.now }
     requires tops { body.layout.now.keys_top ≤ body.layout.now.top }
@@ -97,8 +93,7 @@ fn check_root(body: Body<'_>, state: &mut CheckState, root: u32) -> Checked<u8>
     Ok(height)
 }
 
-/// The checks of data with these bounds.
-fn check_tree(alloc: Global, body: Body<'_>, root: u32) -> Checked<Findings>
+fn check_tree(alloc: Global, body: Body<'_>, root: u32) -> Checked<Counts>
     requires short { length body.bytes.now ≤ file_limit }
     requires room { 4 * body.layout.now.top ≤ length body.bytes.now }
     requires tops { body.layout.now.keys_top ≤ body.layout.now.top }
@@ -119,9 +114,8 @@ fn check_tree(alloc: Global, body: Body<'_>, root: u32) -> Checked<Findings>
     found_of(alloc, body, &state)
 }
 
-/// The same of the data after the header of a file of a minor version.
 #[tactic(auto, unfolding(rb_format::specs::inner::FirstFault::read_data))]
-fn check_data(alloc: Global, minor: u8, body: &[u8]) -> Checked<Findings>
+fn check_data(alloc: Global, minor: u8, body: &[u8]) -> Checked<Counts>
     requires { length body.now ≤ file_limit }
     ensures answer { MatchResult result (λ _. fault_of (read_data 64 minor body.now) ≡ None)
         (λ e. (e ≡ FileFault.Memory) ⊎ (fault_of (read_data 64 minor body.now) ≡ Some e)) }

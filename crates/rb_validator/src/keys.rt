@@ -1,76 +1,13 @@
-//! A key of a table, compared with the one before it byte by byte. What is compared is counted here
-//! and nowhere else.
-ghost use Rattle.std.specs.Prelude.{◌≡◌, ℕ, ◌+◌, ◌*◌, ◌≤◌, ◌<◌, ◌==◌, ◌^◌, length, IfSome};
-ghost use Rattle.std.specs.List.{common_prefix_len};
-ghost use Rattle.rb_format.specs.inner.FirstFault.{result_map, next_key};
-ghost use Rattle.rb_format.specs.Place.{key as key_at};
-ghost use Rattle.std.specs.Ordering.{is_lt, nat_cmp};
-ghost use Rattle.std.specs.Cmp.Lexicographic.{slice_cmp};
-ghost use Rattle.rb_validator.specs.inner.Compared.{examined};
-
-use crate::body::{Body, Checked};
-use rb_format::{FileFault, key_within};
-
-/// Whether bytes are below others. All of the others are counted, since they were read to find
-/// their end.
-#[inline(always)]
-fn is_below(a: &[u8], b: &[u8], compared: &mut u64) -> bool
-    requires room { compared.old + length b.now < 2 ^ 64 }
-    ensures below { result ≡ is_lt (slice_cmp nat_cmp a.now b.now) }
-    ensures counted { compared.old + examined a.now b.now ≤ compared.new }
-    ensures most { compared.new ≤ compared.old + length b.now }
-{
-    *compared += b.len() as u64;
-    a.cmp(b).is_lt()
-}
-
-/// How many bytes two keys have in common.
-fn count_common(a: &[u8], b: &[u8]) -> usize
-    ensures common { result ≡ common_prefix_len (λ x y. x == y) a.now b.now }
-    ensures first { result ≤ length a.now }
-    ensures second { result ≤ length b.now }
-{
-    let shorter = a.len().min(b.len());
-    for i in 0..shorter {
-        if a[i] != b[i] {
-            return i;
-        }
-    }
-    shorter
-}
-
-/// Whether bytes are below others, of which those are counted that are looked at.
-pub fn is_closely_below(a: &[u8], b: &[u8], compared: &mut u64) -> bool
-    requires room { compared.old + length b.now < 2 ^ 64 }
-    ensures below { result ≡ is_lt (slice_cmp nat_cmp a.now b.now) }
-    ensures counted { compared.new ≡ compared.old + examined a.now b.now }
-{
-    let common = count_common(a, b);
-    let looked = (common + 1).min(a.len()).min(b.len());
-    *compared += looked as u64;
-    a[common..].cmp(&b[common..]).is_lt()
-}
-
-/// The key at an offset, if it is above the last one.
-#[tactic(auto, unfolding(rb_format::specs::inner::FirstFault::next_key))]
-#[inline(always)]
-pub fn next_key<'a>(
-    body: Body<'a>,
-    last: &[u8],
-    offset: u32,
-    compared: &mut u64,
-) -> Checked<&'a [u8]>
-    requires keys { 4 * body.layout.now.keys_top ≤ length body.bytes.now }
-    requires room { compared.old + length body.bytes.now < 2 ^ 64 }
-    ensures value { result_map (λ k. k.now) result
-        ≡ next_key body.entry.layout.now body.entry.bytes.now last.now offset }
-    ensures counted { IfSome (key_at body.entry.layout.now body.entry.bytes.now offset)
-        (λ k. compared.old + examined last.now k ≤ compared.new) }
-    ensures most { compared.new ≤ compared.old + length body.entry.bytes.now }
-{
-    match key_within(body.layout, body.bytes, offset) {
-        Some(key) if is_below(last, key, compared) => Ok(key),
-        Some(_) => Err(FileFault::KeyOrder),
-        None => Err(FileFault::Key),
-    }
-}
+//! Checks the keys of tables: `checker` compares them byte by byte (`plain`), then with known
+//! lengths (`lengths`), then by rank with cached results (`known`, `links`). `ranks` checks the
+//! ranks that `rank_builder` makes with `cover`, `blocks` and `suffixes`.
+mod blocks;
+pub mod checker;
+mod cover;
+mod known;
+mod lengths;
+mod links;
+mod plain;
+mod rank_builder;
+mod ranks;
+mod suffixes;

@@ -1,30 +1,19 @@
-//! Whether a file denotes a tree, and bundles: files that do.
+//! Checks whether a file denotes a bundle: `accept` returns a `Bundle` or the first fault. The work
+//! stays nearly linear in the file's length, even if tables and arrays overlap.
+//!
+//!     bundle ---> file ---> items ---> keys      valid, ascending keys of tables
+//!                   |         '------> spans     heights of spans of items, if tables overlap
+//!                   '-----> text_blocks          marks for lookups, stored in notes
 #![tactic(auto)]
 
-mod blocks;
 mod body;
 mod bundle;
-mod children;
-mod cover;
 mod file;
-mod heights;
 mod items;
-mod key_checker;
 mod keys;
-mod known_keys;
-mod late_bytes;
-mod leaf_runs;
-mod leaves;
-mod lengths;
-mod links;
 mod lists;
-mod memo;
 mod notes;
-mod rank_builder;
-mod ranks;
-mod runs;
-mod state;
-mod suffixes;
+mod spans;
 mod text_blocks;
 
 pub use bundle::{Bundle, accept};

@@ -1,19 +1,16 @@
-//! What an acceptance notes of few files.
 ghost use Rattle.std.specs.Prelude.{◌≡◌, IfOk};
 ghost use Rattle.rb_validator.specs.inner.Noted.{blocks_noted, looked_noted};
 
 use std::alloc::{AllocError, Global};
 
-/// What is noted of few files.
+/// The notes that few files have; they are boxed to keep `Bundle` small.
 #[derive(Drop)]
 pub struct Notes {
-    /// How many bytes of keys were looked at before their ranks.
     pub looked: u64,
-    /// The marks of the blocks.
     pub blocks: Vec<bool>,
 }
 
-/// What is to be kept of these: nothing of most files.
+/// Returns the notes to store, or None if both are empty.
 pub fn noted(
     alloc: Global,
     looked: u64,

@@ -1,4 +1,4 @@
--- What is known of an item that denotes a tree.
+-- Proves properties of an item that denotes a tree.
 use Rattle.std.proofs.Common.{◌≡◌, ℕ, suc, ◌*◌, ◌/◌, ◌<◌, ◌≤◌, ◌⊎◌, Bool, true, false, cond, ltb, leb}
 use Rattle.std.proofs.Common.{List, length, Option, Some, None, refl, sym, ap, subst, ◌∙◌, arith, inl, inr}
 use Rattle.std.specs.Prelude.{IsSome, unwrap_or, ◌&&◌, option_map}

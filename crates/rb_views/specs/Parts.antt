@@ -1,5 +1,5 @@
--- The contents of a tree of each kind, and nothing for a tree of another kind (`ures_getString`, `ures_getInt`,
--- `ures_getUInt`, `ures_getIntVector`, `ures_getBinary` and the iteration of ICU's `uresbund.h`).
+-- Defines the contents of a tree by kind, or nothing for another kind (`ures_getString`, `ures_getInt`, `ures_getUInt`,
+-- `ures_getIntVector`, `ures_getBinary` and the iteration of ICU's `uresbund.h`).
 use Rattle.std.specs.Prelude.{ℕ, ℤ, pos, ◌-ℤ◌, ◌^◌, nat_lt, if◌then◌else◌, List, Option, Some, None}
 use Rattle.rb_tree.specs.Resource.{Resource, string, int, ints, binary, alias, array, table}
 use Rattle.rb_tree.specs.Keys.{items, pairs}
@@ -25,7 +25,7 @@ abbrev pub uint_of : Resource → Option ℕ
 uint_of (int n) = Some n
 uint_of t = None
 
--- a number of 28 bits, the uppermost of which is its sign
+-- a number of 28 bits, the highest of which is its sign
 abbrev pub signed : ℕ → ℤ
 signed n = if nat_lt n (2 ^ 27) then pos n else pos n -ℤ pos (2 ^ 28)
 

@@ -1,5 +1,5 @@
--- Where the root item of a file is (`uresdata.h`): the first half word is the size of the header, and word 0 of the
--- data is the item.
+-- Defines where the root item of a file is (`uresdata.h`): the first half word is the size of the header, and word 0 of
+-- the data is the item.
 use Rattle.std.specs.Prelude.{◌≡◌, ℕ, List}
 use Rattle.rb_format.specs.Place.{word_at, half_at}
 use Rattle.rb_views.specs.Trees.{data_of}

@@ -1,5 +1,5 @@
--- What the views are seen as: an item as the tree that it denotes, and each view of its contents as the list of them,
--- which follow one another in the file (`uresdata.h`, format version 1); and the data of the file that each one reads.
+-- Defines the models of the views (`uresdata.h`, format version 1): an item is the tree that it denotes, and a view of
+-- its contents is their list, in the order of the file. Also defines the data that each view reads.
 use Rattle.std.specs.Prelude.{◌≡◌, ℕ, ℤ, ◌+◌, List, Option, Some, IfSome, drop, slice_get}
 use Rattle.std.specs.Map.{keys_of}
 use Rattle.std.specs.Borrow.{Bor}
@@ -32,11 +32,11 @@ trees_seen array = values (λ i. item_tree array.body.now (word_at array.body.no
 abbrev pub entries_seen : Table → List (List ℕ × Resource)
 entries_seen table = values (λ i. entry_at table.body.now table.parts i) 0 table.parts.count
 
--- what an iterator still gives
+-- the remaining values of an iterator
 abbrev pub rest_seen : Pairs → List (List ℕ × Resource)
 rest_seen pairs = drop pairs.next (entries_seen pairs.table)
 
--- the data of the file that a view reads, and the word of an item, which has its kind and its offset
+-- the data that a view reads, and the word of an item, which has its kind and its offset
 abbrev pub item_data : Item → List ℕ
 item_data item = item.body.now
 
@@ -49,7 +49,7 @@ array_data array = array.body.now
 abbrev pub table_data : Table → List ℕ
 table_data table = table.body.now
 
--- the word at which an array's items begin, and where the parts of a table are
+-- the index of the word at which an array's items begin, and the parts of a table
 abbrev pub first_item : Array → ℕ
 first_item array = array.first
 
@@ -63,7 +63,7 @@ array_word array i = word_at (array_data array) (first_item array + i)
 abbrev pub table_word : Table → ℕ → ℕ
 table_word table i = word_at (table_data table) ((parts_seen table).first + i)
 
--- the key where the table's key offset i points
+-- the key at a table's key offset i
 abbrev pub key_placed : Table → ℕ → Option (List ℕ)
 key_placed table i = key (layout_of (table_data table)) (table_data table)
     (key_offset (table_data table) (parts_seen table).keys i)
@@ -72,14 +72,14 @@ key_placed table i = key (layout_of (table_data table)) (table_data table)
 abbrev pub IsItemOf : Table → ℕ → Item → Type 0
 IsItemOf table i item = (item_data item ≡ table_data table) × (item_word item ≡ table_word table i)
 
--- the same of the entry with a key
+-- the item reads a table's data, and its word is that of the entry with a key
 abbrev pub IsItemWith : Table → List ℕ → Item → Type 0
 IsItemWith table key item = (i : ℕ) × (slice_get (keys_of (entries_seen table)) i ≡ Some key) × IsItemOf table i item
 
 abbrev pub pairs_table : Pairs → Table
 pairs_table pairs = pairs.table
 
--- a step of an iterator gives the first entry of what was left, with its item, and leaves the others
+-- a step of an iterator returns the first of the remaining entries with its item, and leaves the others
 pub record GivesFirst (old : Pairs) (given : Option (Bor (List ℕ) × Item)) (new : Pairs) : Type 0 where
   pub first : YieldsFirstBy (λ e. (e.0.now, tree_seen e.1)) rest_seen old given new
   pub item : IfSome given (λ e. IsItemOf (pairs_table old) old.next e.1)

@@ -1,4 +1,3 @@
-//! Views of arrays.
 ghost use Rattle.std.specs.Prelude.{◌≡◌, ◌<◌, IsTrue, Some, length, slice_get};
 ghost use Rattle.rb_format.specs.File.{has_valid_indexes};
 ghost use Rattle.rb_validator.specs.TextBlocks.{AreSegmentBlocks};
@@ -7,7 +6,7 @@ ghost use Rattle.rb_views.specs.inner.Stands.{AllStand};
 use crate::item::Item;
 use rb_format::word_at;
 
-/// The items of an Array, in the file.
+/// The items of an Array, borrowed from the file.
 #[derive(Clone, Copy)]
 pub struct Array<'a> {
     pub(crate) body: &'a [u8],
@@ -23,7 +22,6 @@ impl<'a> Array<'a> {
     ghost use Rattle.rb_views.specs.Seen.{tree_seen, trees_seen, item_data, item_word, array_data};
     ghost use Rattle.rb_views.specs.Seen.{array_word};
 
-    /// How many items there are.
     #[tactic(auto, using(crate::proofs::Values::values_length))]
     pub fn len(self) -> usize
         ensures { result ≡ length (trees_seen self.entry) }
@@ -31,7 +29,7 @@ impl<'a> Array<'a> {
         self.count as usize
     }
 
-    /// Item i, which is one of `len`.
+    /// Returns item i, where i is less than `len`.
     pub fn item(self, i: usize) -> Item<'a>
         requires { i < length (trees_seen self) }
         ensures tree { Some (tree_seen result) ≡ slice_get (trees_seen self.entry) i }

@@ -1,4 +1,3 @@
-//! The root item of a bundle.
 ghost use Rattle.std.specs.Prelude.{◌≡◌, ◌≤◌, length, drop};
 ghost use Rattle.rb_format.specs.File.{tree_of};
 ghost use Rattle.rb_format.specs.Place.{word_at as word_of};
@@ -11,7 +10,7 @@ use crate::place::RootPlace;
 use rb_format::{body, half_at, word_at};
 use rb_validator::Bundle;
 
-/// What follows a header of this size.
+/// Returns the data after a header of this size.
 fn behind(bytes: &[u8], header: u16) -> &[u8]
     requires { header ≤ length bytes.now }
     ensures { result.now ≡ drop header bytes.now }
@@ -19,7 +18,7 @@ fn behind(bytes: &[u8], header: u16) -> &[u8]
     &bytes[header as usize..]
 }
 
-/// Where the root item of a bundle is.
+/// Returns the position and the word of a bundle's root item, to be stored for `root_at`.
 pub fn root_place(bundle: &Bundle) -> RootPlace
     ensures { IsRootPlace bundle.now result }
 {
@@ -30,8 +29,7 @@ pub fn root_place(bundle: &Bundle) -> RootPlace
     }
 }
 
-/// The root item of a bundle, as `root` gives it, if its place is known. Nothing of the file is
-/// read.
+/// Returns the same item as `root` without reading the file.
 pub fn root_at(bundle: &Bundle, place: RootPlace) -> Item<'_>
     requires { IsRootPlace bundle.now place }
     ensures tree { tree_seen result ≡ tree_of bundle.now }
@@ -45,8 +43,7 @@ pub fn root_at(bundle: &Bundle, place: RootPlace) -> Item<'_>
     }
 }
 
-/// The root item of a bundle, a Table, which is seen as the bundle's tree: word 0 of the file's
-/// data.
+/// Returns the root item of a bundle, a Table: word 0 of the file's data.
 ///
 /// ```rust
 /// let text = root(&bundle).table()?.get(b"a")?.text()?; // of `root{a{"b"}}`

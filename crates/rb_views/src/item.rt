@@ -1,4 +1,3 @@
-//! Items of a bundle.
 ghost use Rattle.std.specs.Prelude.{◌≡◌, ◌+◌, ◌*◌, ◌<◌, ◌≤◌, IsTrue, Some, IfSome, option_map};
 ghost use Rattle.std.specs.Prelude.{length, take, drop};
 ghost use Rattle.std.specs.Option.{option_copied};
@@ -22,12 +21,12 @@ use rb_format::{
 };
 use rb_tree::Kind;
 
-/// An item of a bundle: a resource of `uresdata.h`. It is seen as the tree that it denotes, holds a
-/// slice of the file and one word, and lends all that it gives from the file.
+/// An item of a bundle (a resource of `uresdata.h`), which contracts see as the tree that it
+/// denotes. It is a slice of the file and one word; all values are borrowed from the file.
 #[derive(Clone, Copy)]
 pub struct Item<'a> {
     pub(crate) body: &'a [u8],
-    /// Marks of the file's blocks, as `Bundle::blocks` gives them.
+    /// The marks that `Bundle::blocks` returns.
     pub(crate) blocks: &'a [bool],
     pub(crate) word: u32,
     ghost laid: { IsTrue (has_valid_indexes body.now) },
@@ -35,7 +34,6 @@ pub struct Item<'a> {
     ghost stands: { StandsFor body.now word },
 }
 
-/// The `count` bytes from byte `first` on.
 fn part(body: &[u8], first: usize, count: usize) -> &[u8]
     requires { first + count ≤ length body.now }
     ensures { result.now ≡ take count (drop first body.now) }
@@ -43,7 +41,7 @@ fn part(body: &[u8], first: usize, count: usize) -> &[u8]
     &body[first..first + count]
 }
 
-/// The kind of tree that an item of this kind denotes.
+/// Converts a kind of the file format to a kind of tree.
 fn kind_named(kind: ItemKind) -> Kind
     ensures { result ≡ kind_named kind }
 {
@@ -58,7 +56,7 @@ fn kind_named(kind: ItemKind) -> Kind
     }
 }
 
-/// The number of an Int with its sign, which is the uppermost of its 28 bits.
+/// Sign-extends the 28 bits of an Int.
 fn signed(number: u32) -> i32
     requires { number < 268435456 }
     ensures { result ≡ signed number }
@@ -70,8 +68,8 @@ fn signed(number: u32) -> i32
     }
 }
 
-// The values that follow their count, from an item's offset on; none at offset 0. `$first` says
-// where they begin, `$more` what else the view has of the item.
+// Builds a view of the counted values at an item's offset, or an empty one for offset 0. `$first`
+// is the index of the first value, `$more` the remaining fields of the view.
 macro_rules! counted {
     ($item:ident, $view:ident, $offset:ident => $first:expr $(, $more:ident)*) => {{
         let $offset = item_offset($item.word);
@@ -99,7 +97,6 @@ impl<'a> Item<'a> {
     ghost use Rattle.rb_views.specs.Seen.{parts_seen};
     ghost use Rattle.rb_format.specs.Geometry.{array_first};
 
-    /// The kind of the tree.
     pub(crate) fn kind_here(self) -> Kind
         ensures { result ≡ kind_of (tree_seen self.entry) }
     {
@@ -115,7 +112,7 @@ impl<'a> Item<'a> {
         }
     }
 
-    /// The units of a String, as `ures_getString` gives them; None for an item of another kind.
+    /// Returns the units of a String, like `ures_getString`, or None for any other kind.
     pub fn text(self) -> Option<Units<'a>>
         ensures { option_map units_seen result ≡ text_of (tree_seen self.entry) }
     {
@@ -125,7 +122,7 @@ impl<'a> Item<'a> {
         }
     }
 
-    /// The units of an Alias; None for an item of another kind.
+    /// Returns the units of an Alias, or None for any other kind.
     pub fn alias(self) -> Option<Units<'a>>
         ensures { option_map units_seen result ≡ alias_of (tree_seen self.entry) }
     {
@@ -135,8 +132,8 @@ impl<'a> Item<'a> {
         }
     }
 
-    /// The numbers of an integer vector, as `ures_getIntVector` gives them; None for an item of
-    /// another kind.
+    /// Returns the numbers of an integer vector, like `ures_getIntVector`, or None for any other
+    /// kind.
     pub fn ints(self) -> Option<Ints<'a>>
         ensures { option_map numbers_seen result ≡ ints_of (tree_seen self.entry) }
     {
@@ -146,8 +143,7 @@ impl<'a> Item<'a> {
         }
     }
 
-    /// The bytes of a Binary, lent from the file, as `ures_getBinary` gives them; None for an item
-    /// of another kind.
+    /// Returns the bytes of a Binary, like `ures_getBinary`, or None for any other kind.
     pub fn binary(self) -> Option<&'a [u8]>
         ensures contents { option_copied result ≡ binary_of (tree_seen self.entry) }
         ensures place { IfSome result (λ b. let o = offset_of (item_word self.entry) in 0 < o
@@ -159,8 +155,8 @@ impl<'a> Item<'a> {
         }
     }
 
-    /// The number of an Int, its 28 bits read with a sign, as `ures_getInt` does; None for an item
-    /// of another kind.
+    /// Returns the 28 bits of an Int with their sign, like `ures_getInt`, or None for any other
+    /// kind.
     pub fn int(self) -> Option<i32>
         ensures { result ≡ option_map signed (uint_of (tree_seen self.entry)) }
     {
@@ -170,8 +166,8 @@ impl<'a> Item<'a> {
         }
     }
 
-    /// The number of an Int, its 28 bits read without a sign, as `ures_getUInt` does; None for an
-    /// item of another kind.
+    /// Returns the 28 bits of an Int without a sign, like `ures_getUInt`, or None for any other
+    /// kind.
     pub fn uint(self) -> Option<u32>
         ensures { result ≡ uint_of (tree_seen self.entry) }
     {
@@ -181,7 +177,7 @@ impl<'a> Item<'a> {
         }
     }
 
-    /// The items of an Array; None for an item of another kind.
+    /// Returns the items of an Array, or None for any other kind.
     pub fn array(self) -> Option<Array<'a>>
         ensures items { option_map trees_seen result ≡ array_of (tree_seen self.entry) }
         ensures data { IfSome result (λ a. array_data a ≡ item_data self.entry) }
@@ -194,8 +190,7 @@ impl<'a> Item<'a> {
         }
     }
 
-    /// The entries of a Table, whether its key offsets are half words or words; None for an item of
-    /// another kind.
+    /// Returns the entries of a Table with short or long key offsets, or None for any other kind.
     pub fn table(self) -> Option<Table<'a>>
         ensures entries { option_map entries_seen result ≡ table_of (tree_seen self.entry) }
         ensures data { IfSome result (λ t. table_data t ≡ item_data self.entry) }

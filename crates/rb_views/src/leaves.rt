@@ -1,4 +1,4 @@
-//! Views of texts and of vectors of numbers.
+//! Views of texts and integer vectors.
 ghost use Rattle.std.specs.Prelude.{◌≡◌, ◌+◌, ◌*◌, ◌/◌, ◌<◌, ◌≤◌, ℕ, Some, true, length};
 ghost use Rattle.std.specs.Prelude.{slice_index, slice_get};
 ghost use Rattle.rb_tree.specs.Path.{is_segment_unit};
@@ -6,10 +6,10 @@ ghost use Rattle.rb_validator.specs.TextBlocks.{AreSegmentBlocks};
 
 use rb_format::{half_at, word_at};
 
-/// How many half words a block has that `Bundle::blocks` marks.
+/// The number of half words in a block that `Bundle::blocks` marks.
 const BLOCK: usize = 1024;
 
-/// The UTF-16 units of a String or an Alias, in the file.
+/// The UTF-16 units of a String or an Alias, borrowed from the file.
 #[derive(Clone, Copy)]
 pub struct Units<'a> {
     pub(crate) body: &'a [u8],
@@ -21,7 +21,6 @@ pub struct Units<'a> {
 impl<'a> Units<'a> {
     ghost use Rattle.rb_views.specs.Seen.{units_seen};
 
-    /// How many units there are.
     #[tactic(auto, using(crate::proofs::Values::values_length))]
     pub fn len(self) -> usize
         ensures { result ≡ length (units_seen self.entry) }
@@ -29,7 +28,7 @@ impl<'a> Units<'a> {
         self.count as usize
     }
 
-    /// Unit i, which is one of `len`.
+    /// Returns unit i, where i is less than `len`.
     #[tactic(auto, using(crate::proofs::Values::values_length))]
     pub fn at(self, i: usize) -> u16
         requires { i < length (units_seen self) }
@@ -38,7 +37,7 @@ impl<'a> Units<'a> {
         half_at(self.body, self.first as usize + i)
     }
 
-    /// How many units from one on are in blocks that are marked, up to a block that isn't.
+    /// Counts the units from index `from` up to the first block that isn't marked.
     pub(crate) fn segment_run(self, blocks: &[bool], from: usize) -> usize
         requires marked { AreSegmentBlocks self.body.now blocks.now }
         requires within { from ≤ length (units_seen self) }
@@ -52,7 +51,7 @@ impl<'a> Units<'a> {
     }
 }
 
-/// How many half words from one on are in blocks that are marked, up to a block that isn't.
+/// Counts the half words from index `at` up to the first block that isn't marked.
 fn marked_run(blocks: &[bool], at: usize) -> usize
     ensures { (h : ℕ) → at ≤ h → h < at + result → slice_get blocks.now (h / 1024) ≡ Some true }
 {
@@ -64,7 +63,7 @@ fn marked_run(blocks: &[bool], at: usize) -> usize
     blocks.len().saturating_mul(BLOCK).saturating_sub(at)
 }
 
-/// The numbers of an integer vector, in the file.
+/// The numbers of an integer vector, borrowed from the file.
 #[derive(Clone, Copy)]
 pub struct Ints<'a> {
     pub(crate) body: &'a [u8],
@@ -76,7 +75,6 @@ pub struct Ints<'a> {
 impl<'a> Ints<'a> {
     ghost use Rattle.rb_views.specs.Seen.{numbers_seen};
 
-    /// How many numbers there are.
     #[tactic(auto, using(crate::proofs::Values::values_length))]
     pub fn len(self) -> usize
         ensures { result ≡ length (numbers_seen self.entry) }
@@ -84,7 +82,7 @@ impl<'a> Ints<'a> {
         self.count as usize
     }
 
-    /// Number i, which is one of `len`.
+    /// Returns number i, where i is less than `len`.
     #[tactic(auto, using(crate::proofs::Values::values_length))]
     pub fn at(self, i: usize) -> i32
         requires { i < length (numbers_seen self) }

@@ -1,5 +1,4 @@
-//! Borrowed views of a bundle: its items, each seen as the tree that it denotes. No call takes
-//! memory.
+//! Borrowed views of a bundle's items, which implement `Node`. No call allocates.
 #![tactic(auto)]
 
 mod array;

@@ -1,4 +1,3 @@
-//! An item as a node of its tree.
 use crate::item::Item;
 use rb_format::item_offset;
 use rb_tree::{Kind, Node};

@@ -1,4 +1,3 @@
-//! Views of tables.
 ghost use Rattle.std.specs.Prelude.{◌≡◌, ◌<◌, ◌≤◌, ◌+◌, ◌-◌, ◌/◌, ◌⊎◌, IsTrue, Some, length};
 ghost use Rattle.std.specs.Prelude.{slice_get, option_map, nat_eq, IfSome};
 ghost use Rattle.std.specs.Map.{lookup, keys_of, values_of};
@@ -13,7 +12,7 @@ use crate::item::Item;
 use rb_format::{Layout, TableParts, compare_key, key_within};
 use std::cmp::Ordering;
 
-/// The entries of a Table, in the file, in the order of their keys.
+/// The entries of a Table in the order of their keys, borrowed from the file.
 #[derive(Clone, Copy)]
 pub struct Table<'a> {
     pub(crate) body: &'a [u8],
@@ -25,9 +24,8 @@ pub struct Table<'a> {
     ghost stands: { TableStands body.now parts },
 }
 
-// Which of the keys from low to high a search looks at: the one in the middle, but for ICU's own
-// keys, such as `%%ALIAS`, at first the table's first key, since they come before nearly all
-// others.
+/// Chooses the key to compare next: the middle one. For ICU's own keys, such as `%%ALIAS`, it first
+/// chooses the table's first key, since they sort before nearly all others.
 fn probe(key: &[u8], low: usize, high: usize) -> usize
     requires { low < high }
     ensures from { low ≤ result }
@@ -44,7 +42,6 @@ impl<'a> Table<'a> {
     ghost use Rattle.rb_views.specs.Seen.{tree_seen, entries_seen, rest_seen, pairs_table};
     ghost use Rattle.rb_views.specs.Seen.{key_placed, IsItemOf, IsItemWith};
 
-    /// How many entries there are.
     #[tactic(auto, using(crate::proofs::Values::values_length))]
     pub fn len(self) -> usize
         ensures { result ≡ length (entries_seen self.entry) }
@@ -52,8 +49,7 @@ impl<'a> Table<'a> {
         self.parts.count
     }
 
-    /// The key of entry i, which is one of `len`, lent from the file: its bytes without the NUL
-    /// after them.
+    /// Returns the key of entry i without its NUL, where i is less than `len`.
     pub fn key(self, i: usize) -> &'a [u8]
         requires { i < length (entries_seen self) }
         ensures key { Some result.now ≡ slice_get (keys_of (entries_seen self.entry)) i }
@@ -66,7 +62,7 @@ impl<'a> Table<'a> {
         }
     }
 
-    /// The item of entry i, which is one of `len`.
+    /// Returns the item of entry i, where i is less than `len`.
     pub fn item(self, i: usize) -> Item<'a>
         requires { i < length (entries_seen self) }
         ensures tree { Some (tree_seen result) ≡ slice_get (values_of (entries_seen self.entry)) i }
@@ -79,7 +75,7 @@ impl<'a> Table<'a> {
         }
     }
 
-    /// How a key compares with that of entry i, which is one of `len`.
+    /// Compares a key with that of entry i.
     fn compare(self, key: &[u8], i: usize) -> Ordering
         requires { i < length (entries_seen self) }
         ensures { IfSome (key_placed self.entry i)
@@ -88,8 +84,7 @@ impl<'a> Table<'a> {
         compare_key(key, self.body, self.parts.keys.offset(self.body, i))
     }
 
-    /// The item with a key, by halving over the key offsets, which are in the order of their keys;
-    /// None if the table has no such key.
+    /// Finds the item with a key by binary search, or returns None if the key is missing.
     pub fn get(self, key: &[u8]) -> Option<Item<'a>>
         ensures tree { option_map tree_seen result
             ≡ lookup (pointwise nat_eq key.now) (entries_seen self.entry) }
@@ -109,7 +104,7 @@ impl<'a> Table<'a> {
         None
     }
 
-    /// The entries in order, each a key and its item.
+    /// Returns an iterator over the keys and items in the order of the keys.
     pub fn iter(self) -> Pairs<'a>
         ensures entries { rest_seen result ≡ entries_seen self.entry }
         ensures table { pairs_table result ≡ self.entry }
@@ -121,7 +116,7 @@ impl<'a> Table<'a> {
     }
 }
 
-/// The entries of a Table in order, each a key and its item.
+/// An iterator over the keys and items of a Table.
 #[derive(Clone, Drop)]
 pub struct Pairs<'a> {
     pub(crate) table: Table<'a>,

@@ -20,7 +20,7 @@ use Rattle.rb_writer.specs.KeyList.{key_data, key_place, AreKeysOf}
 use Rattle.rb_writer.specs.Values.{data_of, item_of}
 use Rattle.rb_writer.specs.Written.{index_count, keys_start, front_words, values_start, values_data, root_item, file_of}
 use Rattle.rb_writer.specs.declared.area.KeyArea.{KeyArea}
-use Rattle.rb_writer.specs.declared.keys.KeyPlaces.{KeyPlaces}
+use Rattle.rb_writer.specs.declared.keys.KeyOffsets.{KeyOffsets}
 use Rattle.rb_writer.specs.inner.Collected.{Has, GathersKeys, names}
 use Rattle.rb_writer.specs.inner.Keying.{distinct, KeysWritten}
 use Rattle.rb_writer.specs.inner.Standing.{TreeLaid}
@@ -83,7 +83,7 @@ front_len : (b : Bool) (r c k e m : ℕ) → length (front_words b r c k e m) �
 front_len true r c k e m = refl
 front_len false r c k e m = refl
 
-pub file_is : (b : Bool) (t : Resource) (ks : List (List ℕ)) (old mid out file : List ℕ) (keys : KeyPlaces) (area : KeyArea) (root most : ℕ)
+pub file_is : (b : Bool) (t : Resource) (ks : List (List ℕ)) (old mid out file : List ℕ) (keys : KeyOffsets) (area : KeyArea) (root most : ℕ)
     → IsFile b out root area most file → area.indexes ≡ index_count b → length old ≡ 4 * (1 + area.indexes) → KeysWritten old mid keys ks
     → TreeLaid keys mid out t root → area.top ≡ length mid / 4 → most ≡ longest t → file ≡ file_of (distinct ks) t b
 file_is b t ks old mid out file keys area root most f count start written laid top long =

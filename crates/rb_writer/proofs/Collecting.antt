@@ -100,7 +100,7 @@ pub record Values (old cur : List (Bor (List ℕ))) (ts : List Resource) (i : �
   pub is_key : All (λ r. IsKey r.now) old → All (λ r. IsKey r.now) cur
   pub only : (q : List ℕ) → Has cur q → Has old q ⊎ IsOfOne ts q
 
--- the keys of a table's values were added, and the first j of its own
+-- the keys of a table's values were added, and its first j own keys
 pub record Owned (old cur : List (Bor (List ℕ))) (es : Members) (j : ℕ) : Type 0 where
   pub values : (i : ℕ) (u : Resource) → Some u ≡ slice_get (values_of (pairs es)) i → EachKey (λ k. Has cur k) u
   pub keys : (i : ℕ) (k : List ℕ) → i < j → Some k ≡ slice_get (keys_of (pairs es)) i → Has cur k

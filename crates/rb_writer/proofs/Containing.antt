@@ -27,7 +27,7 @@ use Rattle.rb_format.proofs.Levels.{read_raise}
 use Rattle.rb_writer.specs.inner.Growth.{Adds, IsDraft, draft, Put}
 use Rattle.rb_writer.specs.inner.Most.{data_most, trees_most, members_most}
 use Rattle.rb_writer.specs.inner.Standing.{Stands, ChildrenStand, KeysStand, PlacesAre, PutsArray, PutsShort, PutsLong, WritesTable}
-use Rattle.rb_writer.specs.declared.keys.KeyPlaces.{KeyPlaces}
+use Rattle.rb_writer.specs.declared.keys.KeyOffsets.{KeyOffsets}
 use Rattle.rb_writer.proofs.Puts.{adds_trans, word_stays, half_stays}
 use Rattle.rb_writer.proofs.Values.{drafted_on}
 use Rattle.rb_writer.proofs.Nodes.{keys_stay, stays, array_most, table_most, put_stands}
@@ -192,7 +192,7 @@ empty_array_stands area old mid is n item ts t eq s e none ki oi =
 
 -- ---- tables
 
-short_put : (ps : KeyPlaces) (area : KeyArea) (old mid new is offsets : List ℕ) (n o : ℕ) (es : Members)
+short_put : (ps : KeyOffsets) (area : KeyArea) (old mid new is offsets : List ℕ) (n o : ℕ) (es : Members)
     → ChildrenStand area old mid (values_of (pairs es)) is n → n ≡ length (pairs es) → IsDraft area old → KeysStand area old ps
     → PlacesAre ps (keys_of (pairs es)) offsets (length (pairs es)) → IsTable es → PutsShort mid new offsets is o → o < 2 ^ 28
     → Put area old new (4 + members_most es) (λ y b p. table16_at y b (λ w. read (draft area new) new (entries_height es) w) p) es no_entries o
@@ -232,7 +232,7 @@ short_put ps area old mid new is offsets n o es s e d ks at t p small =
       stands = inr (omega arith, omega arith, rw count all);
     }
 
-long_put : (ps : KeyPlaces) (area : KeyArea) (old mid new is offsets : List ℕ) (n o : ℕ) (es : Members)
+long_put : (ps : KeyOffsets) (area : KeyArea) (old mid new is offsets : List ℕ) (n o : ℕ) (es : Members)
     → ChildrenStand area old mid (values_of (pairs es)) is n → n ≡ length (pairs es) → IsDraft area old → KeysStand area old ps
     → PlacesAre ps (keys_of (pairs es)) offsets (length (pairs es)) → IsTable es → PutsLong mid new offsets is o → o < 2 ^ 28
     → Put area old new (4 + members_most es) (λ y b p. table32_at y b (λ w. read (draft area new) new (entries_height es) w) p) es no_entries o
@@ -268,7 +268,7 @@ long_put ps area old mid new is offsets n o es s e d ks at t p small =
       stands = inr (omega arith, omega arith, rw count all);
     }
 
-pub table_stands : (ps : KeyPlaces) (area : KeyArea) (old mid new is : List ℕ) (n item : ℕ) (es : Members) (t : Tree) → t ≡ trees.Table es
+pub table_stands : (ps : KeyOffsets) (area : KeyArea) (old mid new is : List ℕ) (n item : ℕ) (es : Members) (t : Tree) → t ≡ trees.Table es
     → ChildrenStand area old mid (values_of (pairs es)) is n → n ≡ length (pairs es) → IsDraft area old → KeysStand area old ps
     → WritesTable ps es mid new is item → Stands area old new (view_of t) item
 table_stands ps area old mid new is n item es t eq s e d ks w =

@@ -1,4 +1,4 @@
--- What is put for a value, byte by byte.
+-- Proves which bytes are written for a value.
 use Rattle.std.proofs.Common.{◌≡◌, ℕ, ◌+◌, ◌-◌, ◌/◌, ◌%◌, ◌<◌, ◌≤◌, ℤ, true, false, List, [], ◌∷◌, ◌++◌, length, get_or, take, map, replicate, refl, sym, ap, ◌∙◌, arith, subst, inl, inr}
 use Rattle.std.specs.Int.{cast_unsigned, w32}
 use Rattle.std.proofs.lemmas.Grind.{flat_map-append}
@@ -12,7 +12,7 @@ use Rattle.rb_format.specs.declared.kind.ItemKind.TheVariants as kinds
 use Rattle.rb_format.specs.Item.{offset_of}
 use Rattle.rb_writer.specs.inner.Growth.{PutsWord, PutsWords, PutsNumbers, PutsHalf, PutsHalves, PutsBytes, Laid}
 use Rattle.rb_writer.specs.inner.Standing.{PutsArray, PutsShort, PutsLong, WritesAs, WritesTable, PlacesAre, AreAt}
-use Rattle.rb_writer.specs.declared.keys.KeyPlaces.{KeyPlaces}
+use Rattle.rb_writer.specs.declared.keys.KeyOffsets.{KeyOffsets}
 use Rattle.rb_tree.specs.Resource.{Members}
 use Rattle.rb_tree.specs.Keys.{pairs}
 use Rattle.std.specs.Map.{keys_of}
@@ -131,7 +131,7 @@ long_laid mid new offsets items item w same some =
     }
 
 -- the offsets of keys are where they are
-offsets_are : (keys : KeyPlaces) (at : List ℕ → ℕ) (ks : List (List ℕ)) (offsets : List ℕ) → AreAt keys at → PlacesAre keys ks offsets (length ks)
+offsets_are : (keys : KeyOffsets) (at : List ℕ → ℕ) (ks : List (List ℕ)) (offsets : List ℕ) → AreAt keys at → PlacesAre keys ks offsets (length ks)
     → offsets ≡ map at ks
 offsets_are keys at ks offsets a p =
     let c = p.count in
@@ -139,7 +139,7 @@ offsets_are keys at ks offsets a p =
     let below : j < length ks = omega (arith, c) in
     sym (a (get_or ks j []) (get_or offsets j 0) (p.are j (get_or ks j []) below (sym (slice_get-get_or ks j [] below)))) ∙ sym (get_or-map at ks j [] 0 below))
 
-pub table_laid : (keys : KeyPlaces) (at : List ℕ → ℕ) (es : Members) (mid new items : List ℕ) (item : ℕ) → AreAt keys at
+pub table_laid : (keys : KeyOffsets) (at : List ℕ → ℕ) (es : Members) (mid new items : List ℕ) (item : ℕ) → AreAt keys at
     → WritesTable keys es mid new items item → length items ≡ length (pairs es) → 0 < length items → length mid % 4 ≡ 0
     → Laid mid new (table_data (map at (keys_of (pairs es))) items) (table_item (length mid) (map at (keys_of (pairs es))) items) item
 table_laid keys at es mid new items item a w same some whole =

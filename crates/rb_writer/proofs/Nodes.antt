@@ -25,7 +25,7 @@ use Rattle.rb_format.proofs.Grows.{read_grow, key_same}
 use Rattle.rb_writer.specs.inner.Growth.{Adds, IsDraft, draft, Put, signed_numbers}
 use Rattle.rb_writer.specs.inner.Most.{data_most, trees_most, members_most}
 use Rattle.rb_writer.specs.inner.Standing.{Stands, ChildrenStand, KeysStand, children_most}
-use Rattle.rb_writer.specs.declared.keys.KeyPlaces.{KeyPlaces}
+use Rattle.rb_writer.specs.declared.keys.KeyOffsets.{KeyOffsets}
 use Rattle.rb_writer.proofs.Puts.{adds_refl, adds_trans}
 
 pub grows_draft : (area : KeyArea) (a b : List ℕ) → IsDraft area a → Adds a b → Grows (draft area a) a (draft area b) b
@@ -41,7 +41,7 @@ grows_draft area a b d h = let w = d.whole in let lo = d.low in let hi = d.high 
 }
 
 -- keys stay where they are
-pub keys_stay : (area : KeyArea) (a b : List ℕ) (keys : KeyPlaces) → IsDraft area a → Adds a b → KeysStand area a keys → KeysStand area b keys
+pub keys_stay : (area : KeyArea) (a b : List ℕ) (keys : KeyOffsets) → IsDraft area a → Adds a b → KeysStand area a keys → KeysStand area b keys
 keys_stay area a b keys d h s = λ k o e. key_same (draft area a) (draft area b) a b (grows_draft area a b d h) o ∙ s k o e
 
 pub stays : (area : KeyArea) (a b : List ℕ) (l item : ℕ) (t : Resource) → IsDraft area a → Adds a b → read (draft area a) a l item ≡ Ok t

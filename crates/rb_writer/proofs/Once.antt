@@ -12,7 +12,7 @@ use Rattle.std.proofs.lemmas.List.{append_assoc, append-nil, length-append, leng
 use Rattle.std.specs.List.{AllByRecursion}
 use Rattle.std.specs.Ordering.{is_eq}
 use Rattle.std.proofs.lemmas.Map.Text.{is_eq-slice_cmp}
-use Rattle.rb_writer.specs.declared.keys.KeyPlaces.{KeyPlaces}
+use Rattle.rb_writer.specs.declared.keys.KeyOffsets.{KeyOffsets}
 use Rattle.rb_writer.specs.inner.Collected.{names}
 use Rattle.rb_writer.proofs.Laying.{padded_behind}
 use Rattle.std.proofs.lemmas.Grind.{flat_map-append}
@@ -178,7 +178,7 @@ place_at n (q ∷ known) (suc i) p h s l e =
 pub strict : (ks : List (List ℕ)) → IsSorted (slice_cmp nat_cmp) ks → IsStrictlySortedBy (slice_cmp nat_cmp) (distinct ks)
 strict ks h = IsStrictlySortedBy-dedup nat_list_cmp_total (λ x y. sym (is_eq-slice_cmp x y)) ks h
 
-pub keys_written : (old cur new : List ℕ) (keys : KeyPlaces) (ps : List (Bor (List ℕ) × ℕ)) (i : ℕ)
+pub keys_written : (old cur new : List ℕ) (keys : KeyOffsets) (ps : List (Bor (List ℕ) × ℕ)) (i : ℕ)
     → KeysLaid old keys.known.items (map (λ r. r.now) (names ps)) cur i → length ps ≤ i → new ≡ padded cur → length old % 4 ≡ 0
     → IsSorted (slice_cmp nat_cmp) (map (λ r. r.now) (names ps)) → KeysWritten old new keys (map (λ r. r.now) (names ps))
 keys_written old cur new keys ps i l h p whole sorted =

@@ -1,4 +1,4 @@
--- What is put after data is there, and what was there stays.
+-- Proves that appended data are there, and that the old data stay.
 use Rattle.std.proofs.Common.{◌≡◌, ℕ, zero, suc, ◌+◌, ◌*◌, ◌^◌, ◌<◌, ◌≤◌, ℤ, List, [], ◌∷◌, ◌++◌, length, get_or, take, drop, replicate, refl, sym, ap, ◌∙◌, arith, inl, inr}
 use Rattle.std.specs.Prelude.{All, flat_map, map}
 use Rattle.std.proofs.Math.Seq.{take-suc}

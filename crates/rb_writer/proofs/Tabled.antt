@@ -10,9 +10,9 @@ use Rattle.rb_tree.specs.Parts.{children_of}
 use Rattle.rb_writer.specs.inner.Places.{EachKey, EachKeyIn, EachKeyOf}
 use Rattle.rb_writer.specs.inner.Standing.{PlacesAre, HasPlaces}
 use Rattle.rb_writer.specs.inner.Keyed.{IsPlace, HasPlace}
-use Rattle.rb_writer.specs.declared.keys.KeyPlaces.{KeyPlaces}
+use Rattle.rb_writer.specs.declared.keys.KeyOffsets.{KeyOffsets}
 
-pub places_more : (keys : KeyPlaces) (ks : List (List ℕ)) (offsets : List ℕ) (n o : ℕ) (k : List ℕ) → PlacesAre keys ks offsets n → Some k ≡ slice_get ks n
+pub places_more : (keys : KeyOffsets) (ks : List (List ℕ)) (offsets : List ℕ) (n o : ℕ) (k : List ℕ) → PlacesAre keys ks offsets n → Some k ≡ slice_get ks n
     → IsPlace keys k o → PlacesAre keys ks (offsets ++ o ∷ []) (n + 1)
 places_more keys ks offsets n o k p e f =
     let c = p.count in
@@ -34,7 +34,7 @@ key_in P no_entries i k h e = cc
 key_in P (entry_and q t es) zero k h e = let s : q ≡ k = cc in subst P s h.0
 key_in P (entry_and q t es) (suc i) k h e = key_in P es i k h.2 e
 
-pub has_place : (keys : KeyPlaces) (es : Members) (i : ℕ) (k : List ℕ) → HasPlaces keys (table es) → Some k ≡ slice_get (keys_of (pairs es)) i
+pub has_place : (keys : KeyOffsets) (es : Members) (i : ℕ) (k : List ℕ) → HasPlaces keys (table es) → Some k ≡ slice_get (keys_of (pairs es)) i
     → HasPlace keys k
 has_place keys es i k h e = key_in (λ k. HasPlace keys k) es i k h e
 

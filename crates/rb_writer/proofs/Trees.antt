@@ -15,7 +15,7 @@ use Rattle.rb_writer.specs.Values.{data_of, item_of, trees_data, trees_items, en
 use Rattle.rb_writer.specs.Values.{text_data, numbers_data, binary_data, skipped}
 use Rattle.rb_writer.specs.inner.Growth.{Laid}
 use Rattle.rb_writer.specs.inner.Standing.{ChildrenLaid, children_data, children_items, PutsArray, WritesTable, EachLaid, TreeLaid}
-use Rattle.rb_writer.specs.declared.keys.KeyPlaces.{KeyPlaces}
+use Rattle.rb_writer.specs.declared.keys.KeyOffsets.{KeyOffsets}
 use Rattle.rb_writer.proofs.Laying.{array_laid, table_laid}
 
 data_snoc : (at : List ℕ → ℕ) (n : ℕ) (cs : List Resource) (u : Resource)
@@ -99,32 +99,32 @@ leaf_laid : (old new bytes : List ℕ) (kind : ItemKind) (place offset word : �
     → Laid old new bytes (item_word kind place) word
 leaf_laid old new bytes kind place offset word p e = record { joined = p.joined; place_is = e ∙ ap (item_word kind) p.place_is }
 
-pub string_laid : (keys : KeyPlaces) (old new us : List ℕ) (o word : ℕ) (t : Tree) → t ≡ trees.String us
+pub string_laid : (keys : KeyOffsets) (old new us : List ℕ) (o word : ℕ) (t : Tree) → t ≡ trees.String us
     → Laid old new (text_data us) (place_of (length old) us) o → word ≡ item_word kinds.String o → TreeLaid keys old new (view_of t) word
 string_laid keys old new us o word t is p e =
     rw is (λ at a. leaf_laid old new (text_data us) kinds.String (place_of (length old) us) o word p e)
 
-pub alias_laid : (keys : KeyPlaces) (old new us : List ℕ) (o word : ℕ) (t : Tree) → t ≡ trees.Alias us
+pub alias_laid : (keys : KeyOffsets) (old new us : List ℕ) (o word : ℕ) (t : Tree) → t ≡ trees.Alias us
     → Laid old new (text_data us) (place_of (length old) us) o → word ≡ item_word kinds.Alias o → TreeLaid keys old new (view_of t) word
 alias_laid keys old new us o word t is p e =
     rw is (λ at a. leaf_laid old new (text_data us) kinds.Alias (place_of (length old) us) o word p e)
 
-pub ints_laid : (keys : KeyPlaces) (old new : List ℕ) (zs : List ℤ) (o word : ℕ) (t : Tree) → t ≡ trees.Ints zs
+pub ints_laid : (keys : KeyOffsets) (old new : List ℕ) (zs : List ℤ) (o word : ℕ) (t : Tree) → t ≡ trees.Ints zs
     → Laid old new (numbers_data zs) (place_of (length old) zs) o → word ≡ item_word kinds.Ints o → TreeLaid keys old new (view_of t) word
 ints_laid keys old new zs o word t is p e =
     rw is (λ at a. leaf_laid old new (numbers_data zs) kinds.Ints (place_of (length old) zs) o word p e)
 
-pub binary_laid : (keys : KeyPlaces) (old new bs : List ℕ) (o word : ℕ) (t : Tree) → t ≡ trees.Binary bs
+pub binary_laid : (keys : KeyOffsets) (old new bs : List ℕ) (o word : ℕ) (t : Tree) → t ≡ trees.Binary bs
     → Laid old new (binary_data (length old) bs) (place_of (length old + skipped (length old)) bs) o → word ≡ item_word kinds.Binary o
     → TreeLaid keys old new (view_of t) word
 binary_laid keys old new bs o word t is p e =
     rw is (λ at a. leaf_laid old new (binary_data (length old) bs) kinds.Binary (place_of (length old + skipped (length old)) bs) o word p e)
 
-pub int_laid : (keys : KeyPlaces) (old : List ℕ) (n word : ℕ) (t : Tree) → t ≡ trees.Int n → word ≡ item_word kinds.Int n
+pub int_laid : (keys : KeyOffsets) (old : List ℕ) (n word : ℕ) (t : Tree) → t ≡ trees.Int n → word ≡ item_word kinds.Int n
     → TreeLaid keys old old (view_of t) word
 int_laid keys old n word t is e = rw is (λ at a. record { joined = sym (append-nil old); place_is = e })
 
-pub array_laid_whole : (keys : KeyPlaces) (old mid new is : List ℕ) (n o word : ℕ) (ts : Resources) (t : Tree) → t ≡ trees.Array ts
+pub array_laid_whole : (keys : KeyOffsets) (old mid new is : List ℕ) (n o word : ℕ) (ts : Resources) (t : Tree) → t ≡ trees.Array ts
     → EachLaid keys old mid (items ts) is n → n ≡ length (items ts) → PutsArray mid new is o → 0 < length is → word ≡ item_word kinds.Array o
     → TreeLaid keys old new (view_of t) word
 array_laid_whole keys old mid new is n o word ts t eq each e p some w = rw eq (λ at a.
@@ -140,7 +140,7 @@ array_laid_whole keys old mid new is n o word ts t eq each e p some w = rw eq (�
           ∙ ap (λ m. place_of m (trees_items at (length old) ts)) len);
     })
 
-pub empty_array_laid : (keys : KeyPlaces) (old mid is : List ℕ) (n word : ℕ) (ts : Resources) (t : Tree) → t ≡ trees.Array ts
+pub empty_array_laid : (keys : KeyOffsets) (old mid is : List ℕ) (n word : ℕ) (ts : Resources) (t : Tree) → t ≡ trees.Array ts
     → EachLaid keys old mid (items ts) is n → n ≡ length (items ts) → length is ≡ 0 → word ≡ item_word kinds.Array 0
     → TreeLaid keys old mid (view_of t) word
 empty_array_laid keys old mid is n word ts t eq each e none w = rw eq (λ at a.
@@ -153,7 +153,7 @@ empty_array_laid keys old mid is n word ts t eq each e none w = rw eq (λ at a.
       place_is = rw is_are w;
     })
 
-pub table_laid_whole : (keys : KeyPlaces) (old mid new is : List ℕ) (n word : ℕ) (es : Members) (t : Tree) → t ≡ trees.Table es
+pub table_laid_whole : (keys : KeyOffsets) (old mid new is : List ℕ) (n word : ℕ) (es : Members) (t : Tree) → t ≡ trees.Table es
     → EachLaid keys old mid (values_of (pairs es)) is n → n ≡ length (pairs es) → WritesTable keys es mid new is word → length is ≡ length (pairs es)
     → 0 < length is → length mid % 4 ≡ 0 → TreeLaid keys old new (view_of t) word
 table_laid_whole keys old mid new is n word es t eq each e p len_is some whole = rw eq (λ at a.
@@ -175,7 +175,7 @@ no_offsets : (at : List ℕ → ℕ) (es : Members) → length (pairs es) ≡ 0 
 no_offsets at no_entries h = refl
 no_offsets at (entry_and k t es) h = absurd (omega arith)
 
-pub empty_table_laid : (keys : KeyPlaces) (old mid is : List ℕ) (n word : ℕ) (es : Members) (t : Tree) → t ≡ trees.Table es
+pub empty_table_laid : (keys : KeyOffsets) (old mid is : List ℕ) (n word : ℕ) (es : Members) (t : Tree) → t ≡ trees.Table es
     → EachLaid keys old mid (values_of (pairs es)) is n → n ≡ length (pairs es) → length is ≡ 0 → length is ≡ n → word ≡ item_word kinds.Table 0
     → TreeLaid keys old mid (view_of t) word
 empty_table_laid keys old mid is n word es t eq each e none count w = rw eq (λ at a.

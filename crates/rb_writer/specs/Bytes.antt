@@ -1,5 +1,5 @@
--- Numbers as bytes of a file, the least byte first, and padding (`uresdata.h`). That padding is 0xAA and that an empty
--- list has no data is a rule of this project.
+-- Defines numbers as bytes of a file, low byte first, and padding (`uresdata.h`). That padding is 0xAA and that an
+-- empty list has no data are rules of this project.
 use Rattle.std.specs.Prelude.{ℕ, ◌-◌, ◌/◌, ◌%◌, List, [], ◌∷◌, ◌++◌, length, flat_map, replicate}
 use Rattle.byteorder.specs.Endian.{little_bytes}
 
@@ -9,7 +9,7 @@ words ns = flat_map (λ n. little_bytes 4 n) ns
 abbrev pub halves : List ℕ → List ℕ
 halves ns = flat_map (λ n. little_bytes 2 n) ns
 
--- bytes, and as many of 0xAA as are lacking to a multiple of four
+-- bytes, padded with 0xAA to a multiple of four
 abbrev pub padded : List ℕ → List ℕ
 padded bytes = bytes ++ replicate ((4 - length bytes % 4) % 4) 0xAA
 

@@ -1,6 +1,6 @@
--- The header that is written (ICU's `UDataInfo`): the header's size, the magic bytes, the info block's size,
+-- Defines the header that is written (ICU's `UDataInfo`): the header's size, the magic bytes, the info block's size,
 -- little-endian numbers, ASCII keys, units of two bytes, `ResB`, the format version, and the data version 0. A bundle
--- without fallback has attributes, which came with version 1.2.
+-- without fallback has version 1.2, which added attributes.
 use Rattle.std.specs.Prelude.{Bool, if◌then◌else◌, ℕ, List, [], ◌∷◌}
 
 abbrev pub header : Bool → List ℕ

@@ -1,5 +1,5 @@
--- The keys of a tree as they are written. The NUL after each is `uresdata.h`'s. That each key is there once, that they
--- ascend by bytes, and that none shares the end of another are rules of this project.
+-- Defines the keys of a tree as they are written, each with a NUL (`uresdata.h`). That each key is written once, in the
+-- order of bytes, and that no key shares the end of another are rules of this project.
 use Rattle.std.specs.Prelude.{ℕ, ◌+◌, List, [], ◌∷◌, ◌++◌, length, flat_map, if◌then◌else◌, Contains}
 use Rattle.std.specs.Str.{bytes_eq}
 use Rattle.std.specs.Ordering.{nat_cmp}
@@ -8,7 +8,7 @@ use Rattle.std.specs.List.Sorted.{IsStrictlySortedBy}
 use Rattle.rb_tree.specs.Resource.{Resource, string, int, ints, binary, alias, array, table, Resources, no_trees}
 use Rattle.rb_tree.specs.Resource.{tree_and, Members, no_entries, entry_and}
 
--- the keys of a tree, each as often as it is there
+-- the keys of a tree, with duplicates
 abbrev mutual
   pub all_keys : Resource → List (List ℕ)
   all_keys (string us) = []
@@ -31,12 +31,12 @@ abbrev mutual
 abbrev pub key_data : List (List ℕ) → List ℕ
 key_data ks = flat_map (λ k. k ++ 0 ∷ []) ks
 
--- where a key is among these, behind n bytes
+-- the offset of a key in this list, which follows n bytes
 abbrev pub key_place : ℕ → List (List ℕ) → List ℕ → ℕ
 key_place n [] k = n
 key_place n (q ∷ ks) k = if bytes_eq k q then n else key_place (n + length q + 1) ks k
 
--- the keys of a tree, each once, in the order of their bytes
+-- the distinct keys of a tree, in the order of their bytes
 pub record AreKeysOf (t : Resource) (ks : List (List ℕ)) : Type 0 where
   pub ascend : IsStrictlySortedBy (slice_cmp nat_cmp) ks
   pub all : (k : List ℕ) → Contains (all_keys t) k → Contains ks k

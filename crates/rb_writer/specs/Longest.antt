@@ -1,11 +1,11 @@
--- The length of the longest table (`uresdata.h`, URES_INDEX_MAX_TABLE_LENGTH).
+-- Defines the length of the longest table in a tree (`uresdata.h`, URES_INDEX_MAX_TABLE_LENGTH).
 use Rattle.std.specs.Prelude.{ℕ, max, length}
 use Rattle.rb_tree.specs.Resource.{Resource, string, int, ints, binary, alias, array, table, Resources, no_trees}
 use Rattle.rb_tree.specs.Resource.{tree_and, Members, no_entries, entry_and}
 use Rattle.rb_tree.specs.Keys.{pairs}
 
 abbrev mutual
-  -- of the tables in a tree, 0 if there is none
+  -- 0 if the tree has no table
   pub longest : Resource → ℕ
   longest (string us) = 0
   longest (int n) = 0

@@ -1,5 +1,5 @@
--- The bytes of values and the items that lead to them (`uresdata.h`). What the format leaves open, as the post-order,
--- is settled by rules of this project.
+-- Defines the bytes of values and the items that point to them (`uresdata.h`). What the format leaves open, such as the
+-- post-order, is a rule of this project.
 use Rattle.std.specs.Prelude.{ℕ, ℤ, ◌+◌, ◌*◌, ◌-◌, ◌%◌, ◌^◌, List, [], ◌∷◌, ◌++◌, length, map, replicate}
 use Rattle.std.specs.Prelude.{Bool, true, false, if◌then◌else◌, nat_lt}
 use Rattle.std.specs.Int.{cast_unsigned, w32}
@@ -11,7 +11,7 @@ use Rattle.rb_format.specs.declared.kind.ItemKind.{ItemKind}
 use Rattle.rb_format.specs.declared.kind.ItemKind.TheVariants as kinds
 use Rattle.rb_writer.specs.Bytes.{words, halves, padded, if_any, place_of}
 
--- ---- values without children; where a Binary begins depends on the n bytes before it
+-- ---- values without children; the padding of a Binary depends on the n bytes before it
 
 -- a text: its count, its units and a zero unit
 abbrev pub text_data : List ℕ → List ℕ
@@ -20,7 +20,7 @@ text_data us = if_any us (padded (words (length us ∷ []) ++ halves us ++ halve
 abbrev pub numbers_data : List ℤ → List ℕ
 numbers_data zs = if_any zs (words (length zs ∷ map (cast_unsigned w32) zs))
 
--- what is skipped, so that the bytes of a Binary begin at a multiple of 16
+-- the padding that aligns the bytes of a Binary to a multiple of 16
 abbrev pub skipped : ℕ → ℕ
 skipped n = (28 - n % 16) % 16
 
@@ -44,12 +44,12 @@ type_of kinds.Ints = 14
 abbrev pub item_word : ItemKind → ℕ → ℕ
 item_word kind offset = type_of kind * 2 ^ 28 + offset
 
--- ---- what follows the children of an array or a table, whose items these are
+-- ---- an array or a table, from the items of its children
 
 abbrev pub array_data : List ℕ → List ℕ
 array_data items = if_any items (words (length items ∷ items))
 
--- each number fits a half word
+-- each number fits in a half word
 abbrev pub are_halves : List ℕ → Bool
 are_halves [] = true
 are_halves (n ∷ ns) = if nat_lt n 65536 then are_halves ns else false
@@ -64,8 +64,8 @@ abbrev pub table_item : ℕ → List ℕ → List ℕ → ℕ
 table_item n offsets items =
     item_word (if are_halves (length items ∷ offsets) then kinds.Table else kinds.LongTable) (place_of n items)
 
--- ---- a tree behind n bytes, each value after its children, those of a table in the order of its keys; `at` says where
--- keys are
+-- ---- a tree that follows n bytes, each value after its children, those of a table in the order of its keys; `at`
+-- gives the offsets of keys
 abbrev mutual
   pub data_of : (List ℕ → ℕ) → ℕ → Resource → List ℕ
   data_of at n (string us) = text_data us

@@ -1,5 +1,5 @@
--- The file that `write` makes of a tree, byte by byte (`uresdata.h`). What the format leaves open is settled by rules
--- of this project, which docs/FORMAT.md has in words.
+-- Defines the file that `write` makes of a tree, byte by byte (`uresdata.h`). What the format leaves open is a rule of
+-- this project; docs/FORMAT.md describes these rules.
 use Rattle.std.specs.Prelude.{◌≡◌, ℕ, ◌+◌, ◌*◌, ◌/◌, Bool, if◌then◌else◌, List, [], ◌∷◌, ◌++◌, length, take, drop}
 use Rattle.rb_format.specs.File.{Denotes}
 use Rattle.rb_format.specs.Place.{word_at}
@@ -13,7 +13,7 @@ use Rattle.rb_writer.specs.Values.{data_of, item_of}
 abbrev pub index_count : Bool → ℕ
 index_count no_fallback = if no_fallback then 6 else 5
 
--- where the keys begin: behind the root item and the indexes
+-- where the keys begin: after the root item and the indexes
 abbrev pub keys_start : Bool → ℕ
 keys_start no_fallback = 4 * (1 + index_count no_fallback)
 
@@ -44,14 +44,14 @@ file_of ks t no_fallback =
     (values_start ks no_fallback / 4) (file_end ks t no_fallback) (longest t))
     ++ (padded (key_data ks) ++ values_data ks t no_fallback))
 
--- these bytes are the file of a tree
+-- the bytes are the file of a tree
 pub record IsWriterFile (t : Resource) (no_fallback : Bool) (file : List ℕ) : Type 0 where
   pub keys : List (List ℕ)
   pub are_keys : AreKeysOf t keys
   pub bytes : file ≡ file_of keys t no_fallback
 
--- These bytes are the file of a bundle, and denote it. Its header, its end (`URES_INDEX_BUNDLE_TOP`) and the length of
--- its longest table are where a reader looks for them.
+-- the bytes are the file of a bundle, and denote it; its header, its end (`URES_INDEX_BUNDLE_TOP`) and the length of
+-- its longest table are where a reader expects them
 pub record IsFileOf (t : Resource) (no_fallback : Bool) (file : List ℕ) : Type 0 where
   pub denotes : Denotes file (record { tree = t; no_fallback = no_fallback })
   pub front : take 32 file ≡ header no_fallback

@@ -1,7 +1,4 @@
-//! Where the keys are.
-
-/// The words in which the keys are: after the root item and this many indexes, below the word
-/// `top`.
+/// The span of words that stores the keys: after the root item and the indexes, up to `top`.
 #[derive(Clone, Copy)]
 pub struct KeyArea {
     pub indexes: u32,

@@ -1,4 +1,4 @@
-//! What is written after the children of an array or a table.
+//! Writes arrays and tables whose children are already written.
 ghost use Rattle.std.specs.Prelude.{IfOk, OnOk, All, IsTrue, length, ◌≡◌, ◌+◌, ◌*◌, ◌%◌, ◌^◌, ◌≤◌};
 ghost use Rattle.std.specs.Prelude.{◌<◌, ◌↔◌};
 ghost use Rattle.std.specs.Map.{keys_of};
@@ -9,13 +9,13 @@ ghost use Rattle.rb_writer.specs.inner.Standing.{PutsArray, PutsShort, PutsLong,
 ghost use Rattle.rb_writer.specs.inner.Standing.{PlacesAre};
 
 use crate::data::Data;
-use crate::keys::KeyPlaces;
+use crate::keys::KeyOffsets;
 use crate::put::{pad, put_half, put_word, put_words};
 use crate::spare::Spare;
 use rb_tree::Entries;
 use std::alloc::AllocError;
 
-/// Writes the count and the items of an array, and returns the offset.
+/// Writes the count and the items of an array, and returns its offset.
 #[inline(always)]
 pub fn write_array(out: &mut Data, items: &[u32]) -> Result<u32, AllocError>
     requires whole { length out.old % 4 ≡ 0 }
@@ -29,7 +29,7 @@ pub fn write_array(out: &mut Data, items: &[u32]) -> Result<u32, AllocError>
     Ok(offset as u32)
 }
 
-/// Puts key offsets as half words after the data.
+/// Appends key offsets as half words.
 pub fn put_short_offsets(out: &mut Data, offsets: &[u32]) -> Result<(), AllocError>
     requires { All (λ x. x < 2 ^ 16) offsets.now }
     ensures { OnOk result (PutsHalves out.old out.new offsets.now (length offsets.now)) }
@@ -40,7 +40,6 @@ pub fn put_short_offsets(out: &mut Data, offsets: &[u32]) -> Result<(), AllocErr
     Ok(())
 }
 
-/// Writes a table with short key offsets, and returns its offset.
 pub fn write_short_table(out: &mut Data, offsets: &[u32], items: &[u32]) -> Result<u32, AllocError>
     requires whole { length out.old % 4 ≡ 0 }
     requires room { length out.old + (4 + 8 * length items.now) ≤ 2 ^ 28 }
@@ -58,7 +57,6 @@ pub fn write_short_table(out: &mut Data, offsets: &[u32], items: &[u32]) -> Resu
     Ok(offset as u32)
 }
 
-/// Writes a table with long key offsets, and returns its offset.
 pub fn write_long_table(out: &mut Data, offsets: &[u32], items: &[u32]) -> Result<u32, AllocError>
     requires whole { length out.old % 4 ≡ 0 }
     requires room { length out.old + (4 + 8 * length items.now) ≤ 2 ^ 28 }
@@ -73,18 +71,18 @@ pub fn write_long_table(out: &mut Data, offsets: &[u32], items: &[u32]) -> Resul
     Ok(offset as u32)
 }
 
-/// Whether a table's count and key offsets fit half words.
+/// Checks whether a table's count and key offsets fit in half words.
 pub fn is_short(offsets: &[u32]) -> bool
     ensures { IsTrue result ↔ ((length offsets.now < 2 ^ 16) × All (λ x. x < 2 ^ 16) offsets.now) }
 {
     offsets.len() <= 0xFFFF && offsets.iter().all(|x| *x <= 0xFFFF)
 }
 
-/// The offsets of a table's keys, whose entries are counted.
+/// Looks up the offsets of a table's keys, and advances `entry` past them.
 #[tactic(auto, using(crate::proofs::Tabled::places_more, crate::proofs::Tabled::has_place))]
 pub fn key_offsets(
     spare: &mut Spare,
-    keys: &KeyPlaces<'_>,
+    keys: &KeyOffsets<'_>,
     entry: &mut usize,
     entries: &Entries,
 ) -> Result<Vec<u32>, AllocError>

@@ -1,11 +1,11 @@
-//! The data of a file that is being written.
 ghost use Rattle.std.specs.Prelude.{◌≡◌, ◌+◌, ◌*◌, ◌++◌, ◌≤◌, drop, length, OnOk, IfOk};
 
 use rb_format::HEADER_SIZE;
 use std::alloc::{AllocError, Global};
 use std::marker::Model;
 
-/// The data of a file, seen by contracts as a list, after room for the header.
+/// The data of a file that is being written, in a buffer with space for the header. Contracts see
+/// the data alone.
 #[derive(Drop)]
 pub struct Data {
     file: Vec<u8>,
@@ -22,7 +22,7 @@ impl Model for Data {
 }
 
 impl Data {
-    /// Room for the root item and this many indexes.
+    /// Reserves space for the header, the root item and this many indexes.
     pub fn new(alloc: Global, indexes: u32) -> Result<Data, AllocError>
         requires { indexes ≤ 6 }
         ensures { IfOk result (λ d. length d ≡ 4 * (1 + indexes)) }
@@ -33,14 +33,13 @@ impl Data {
         Ok(Data { file })
     }
 
-    /// The length of the data in bytes.
+    /// Returns the length of the data in bytes, without the header.
     pub fn len(&self) -> usize
         ensures { result ≡ length self.now }
     {
         self.file.len() - HEADER_SIZE as usize
     }
 
-    /// Puts bytes after the data.
     pub fn append(&mut self, bytes: &[u8]) -> Result<(), AllocError>
         ensures { OnOk result (self.new ≡ self.old ++ bytes.now) }
     {
@@ -48,7 +47,7 @@ impl Data {
         Ok(())
     }
 
-    /// The file, whose header, root item and indexes are still to be written.
+    /// Returns the file; its header, root item and indexes are still zero.
     pub fn into_file(self) -> Vec<u8>
         ensures body { drop 32 result.items ≡ self }
         ensures len { length result.items ≡ 32 + length self }

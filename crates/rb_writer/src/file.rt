@@ -1,4 +1,4 @@
-//! A tree as a file.
+//! Writes a tree as a file: the header, the root item, the indexes, the keys and the values.
 ghost use Rattle.std.specs.Prelude.{IfOk, IfSome, IsSome, length, take, drop, ◌≡◌, ◌↔◌, ◌+◌, ◌*◌};
 ghost use Rattle.std.specs.Prelude.{◌≤◌, ◌<◌, ◌^◌};
 ghost use Rattle.rb_format.specs.File.{Denotes};
@@ -26,7 +26,7 @@ use rb_format::{ATTRIBUTES_INDEX_COUNT, HEADER_SIZE, INDEX_COUNT};
 use rb_tree::{Tree, WEIGHT_LIMIT};
 use std::alloc::{AllocError, Global};
 
-/// How many indexes are written: the attributes are the sixth.
+/// Returns the number of indexes to write; the sixth has the attributes.
 fn index_count(no_fallback: bool) -> u32
     ensures { result ≡ written.index_count no_fallback }
 {
@@ -37,7 +37,6 @@ fn index_count(no_fallback: bool) -> u32
     }
 }
 
-/// Replaces word i.
 fn set_word(bytes: &mut [u8], i: usize, word: u32)
     requires { 4 * i + 4 ≤ length bytes.old }
     ensures { SetsWord bytes.old bytes.new i word }
@@ -45,7 +44,6 @@ fn set_word(bytes: &mut [u8], i: usize, word: u32)
     bytes[4 * i..4 * i + 4].copy_from_slice(&word.to_le_bytes());
 }
 
-/// Writes the root item and the indexes at the front of the data.
 fn set_indexes(body: &mut [u8], root: u32, area: KeyArea, longest: u32, no_fallback: bool)
     requires indexes { area.indexes ≡ written.index_count no_fallback }
     requires long { 4 * (1 + area.indexes) ≤ length body.old }
@@ -64,7 +62,6 @@ fn set_indexes(body: &mut [u8], root: u32, area: KeyArea, longest: u32, no_fallb
     }
 }
 
-/// Writes the header, the root item and the indexes.
 fn set_front(file: &mut [u8], root: u32, area: KeyArea, longest: u32, no_fallback: bool)
     requires indexes { area.indexes ≡ written.index_count no_fallback }
     requires long { 32 + 4 * (1 + area.indexes) ≤ length file.old }
@@ -76,7 +73,6 @@ fn set_front(file: &mut [u8], root: u32, area: KeyArea, longest: u32, no_fallbac
     set_indexes(body, root, area, longest, no_fallback);
 }
 
-/// The file of the data, with its header, its root item and its indexes.
 fn finish(out: Data, root: u32, area: KeyArea, longest: u32, no_fallback: bool) -> Vec<u8>
     requires indexes { area.indexes ≡ written.index_count no_fallback }
     requires long { 4 * (1 + area.indexes) ≤ length out }
@@ -88,7 +84,7 @@ fn finish(out: Data, root: u32, area: KeyArea, longest: u32, no_fallback: bool) 
     file
 }
 
-/// The file of a tree that fits, given its keys.
+/// Writes the file of a tree that fits, given its gathered keys.
 fn write_gathered(
     alloc: Global,
     tree: &Tree,
@@ -112,10 +108,9 @@ fn write_gathered(
     Ok(finish(out, root, places.area, gathered.longest as u32, no_fallback))
 }
 
-/// The file of a tree that `fits`, as a bundle with fallback or without. The only error is that
-/// memory runs out.
+/// Writes a tree that `fits` as a file, with fallback or without. The only error is out of memory.
 ///
-/// Each distinct key is there once, in ascending order, and the values follow in post-order;
+/// Each distinct key is written once, in ascending order, and the values follow in post-order;
 /// nothing else is shared. A table has short key offsets if its count and all its offsets are at
 /// most 65,535. All padding is 0xAA.
 ///
@@ -136,8 +131,8 @@ pub fn write(alloc: Global, tree: &Tree, no_fallback: bool) -> Result<Vec<u8>, A
     Ok(file)
 }
 
-/// The same of a tree whose weight isn't known, or `None` if that is above 33,554,432. The walk
-/// that finds the keys also weighs the tree, so it takes one walk less than `fits` and `write`.
+/// Writes a tree of unknown weight, like `write`, or returns `None` if it weighs more than
+/// 33,554,432. The walk that gathers the keys also weighs the tree, which saves the walk of `fits`.
 ///
 /// ```rust
 /// let file = write_if_light(alloc, &source.tree, source.no_fallback)?;

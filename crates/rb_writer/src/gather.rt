@@ -1,4 +1,4 @@
-//! The keys of a tree, each once, and what it weighs.
+//! Gathers the keys of a tree, and weighs it.
 ghost use Rattle.std.specs.Prelude.{◌≡◌, ◌+◌, ◌-◌, ◌^◌, OnOk, IfOk, IsTrue, [], length, max, min};
 ghost use Rattle.rb_tree.specs.Resource.{weight};
 ghost use Rattle.rb_tree.specs.View.{view_of};
@@ -8,30 +8,29 @@ ghost use Rattle.rb_writer.specs.inner.Collected.{Has, Gains, Gathers, GathersKe
 use rb_tree::Tree;
 use std::alloc::{AllocError, Global};
 
-/// How many keys are remembered by their bytes.
+/// The number of slots in the cache of keys.
 const SLOTS: u32 = 1024;
 
-/// The keys of a tree, found as it is walked in the order of writing: a table's own keys after its
-/// values.
+/// The keys of a tree, gathered in the order in which entries are written: a table's own keys after
+/// its values.
 ///
-/// Where a key came before is remembered in a slot that its bytes choose, as long as no other key
-/// takes the slot; a key that is not found there is added again, and the sorted keys show it. This
-/// only saves time: what a slot leads to is compared.
+/// Each key's index is cached in a slot that is chosen by a hash. A key whose slot was taken by
+/// another key is added again; sorting finds such duplicates. The cache only saves time, since a
+/// cached key is always compared.
 #[derive(Drop)]
 pub struct Gathered<'a> {
-    /// The keys as they came first.
+    /// The keys in the order in which they were first found, perhaps with duplicates.
     pub keys: Vec<&'a [u8]>,
-    /// For each entry, in the order of writing, where its key is among them.
+    /// For each entry, in the order of writing, the index of its key in `keys`.
     pub order: Vec<u32>,
-    /// The number of entries of the longest table, 0 if there is none.
+    /// The number of entries in the longest table, or 0.
     pub longest: usize,
-    /// What was walked weighs so much, `u64::MAX` at the most. One walk takes this and the keys,
-    /// since a large tree isn't in a processor's cache.
+    /// The weight of the visited nodes, saturating. It is computed in the walk that gathers the
+    /// keys because a large tree doesn't fit in a processor's cache.
     pub weight: u64,
     slots: Vec<u32>,
 }
 
-/// The slot that a key's bytes choose.
 fn slot_of(key: &[u8]) -> usize {
     let mut hash = 0_u32;
     for byte in key {
@@ -41,7 +40,6 @@ fn slot_of(key: &[u8]) -> usize {
 }
 
 impl<'a> Gathered<'a> {
-    /// No keys.
     pub fn new(alloc: Global) -> Result<Gathered<'a>, AllocError>
         ensures keys { IfOk result (λ g. g.keys.items ≡ []) }
         ensures longest { IfOk result (λ g. g.longest ≡ 0) }
@@ -56,7 +54,7 @@ impl<'a> Gathered<'a> {
         })
     }
 
-    /// Whether this is where a key is.
+    /// Checks whether the key with this index equals `key`.
     #[tactic(auto, using(crate::proofs::Gathered::has_at))]
     fn is_at(&self, id: u32, key: &[u8]) -> bool
         ensures { IsTrue result → Has self.now.keys.items key.now }
@@ -65,7 +63,7 @@ impl<'a> Gathered<'a> {
         i < self.keys.len() && self.keys[i] == key
     }
 
-    /// Adds a key after the others.
+    /// Adds a key and returns its index.
     #[tactic(auto, using(crate::proofs::Gathered::gains_new))]
     fn insert(&mut self, key: &'a [u8]) -> Result<u32, AllocError>
         ensures keys { OnOk result (Gains key.now self.old.keys.items self.new.keys.items) }
@@ -77,7 +75,7 @@ impl<'a> Gathered<'a> {
         Ok(id)
     }
 
-    /// Where a key is. It is added if it isn't in its slot.
+    /// Returns the index of a key, adding it if it isn't in its slot.
     #[tactic(auto, using(crate::proofs::Gathered::gains_none))]
     fn place_of(&mut self, key: &'a [u8]) -> Result<u32, AllocError>
         ensures keys { OnOk result (Gains key.now self.old.keys.items self.new.keys.items) }
@@ -99,7 +97,6 @@ impl<'a> Gathered<'a> {
         Ok(id)
     }
 
-    /// Adds to the weight.
     #[inline(always)]
     fn weigh(&mut self, more: u64)
         ensures keys { self.new.keys.items ≡ self.old.keys.items }
@@ -109,7 +106,7 @@ impl<'a> Gathered<'a> {
         self.weight = self.weight.saturating_add(more);
     }
 
-    /// Adds what an entry weighs beside its value.
+    /// Adds the weight of an entry without its value.
     fn weigh_key(&mut self, key: &[u8])
         ensures keys { self.new.keys.items ≡ self.old.keys.items }
         ensures longest { self.new.longest ≡ self.old.longest }
@@ -130,7 +127,7 @@ impl<'a> Gathered<'a> {
     }
 }
 
-/// The keys of a tree, the length of its longest table, and its weight.
+/// Gathers the keys of a tree, the length of its longest table, and its weight.
 #[tactic(auto, using(crate::proofs::Gathered::gathered))]
 pub fn gather(alloc: Global, tree: &Tree) -> Result<Gathered<'_>, AllocError>
     ensures keys { IfOk result (λ g. GathersKeys (view_of tree.now) g.keys.items) }
@@ -142,7 +139,6 @@ pub fn gather(alloc: Global, tree: &Tree) -> Result<Gathered<'_>, AllocError>
     Ok(gathered)
 }
 
-/// Adds the keys of a tree and its weight, and notes how long its tables are.
 #[tactic(auto, using(rb_tree::specs::inner::Lower::item_low, rb_tree::specs::inner::Lower::value_low))]
 fn collect_keys<'a>(tree: &'a Tree, gathered: &mut Gathered<'a>) -> Result<(), AllocError>
     ensures keys { OnOk result

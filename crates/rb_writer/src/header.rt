@@ -1,4 +1,3 @@
-//! The header of the file.
 ghost use Rattle.std.specs.Prelude.{◌≡◌};
 ghost use Rattle.rb_writer.specs.Header as specified;
 
@@ -7,7 +6,7 @@ use rb_format::{
     MINOR_VERSION, UNIT_SIZE,
 };
 
-/// The header of a bundle with or without fallback.
+/// Returns the header of a bundle with or without fallback.
 pub fn header(no_fallback: bool) -> [u8; 32]
     ensures { result ≡ specified.header no_fallback }
 {

@@ -1,11 +1,10 @@
-//! Item words.
 ghost use Rattle.std.specs.Prelude.{◌≡◌, ◌<◌, ◌^◌, Some};
 ghost use Rattle.rb_format.specs.Item as items;
 ghost use Rattle.rb_writer.specs.Values as values;
 
 use rb_format::ItemKind;
 
-/// The item word of a kind and an offset, or of an Int and its number.
+/// Returns the item word of a kind and an offset, or of an Int and its number.
 pub fn item(kind: ItemKind, offset: u32) -> u32
     requires { offset < 2 ^ 28 }
     ensures kind { items.kind_of result ≡ Some kind }

@@ -1,4 +1,4 @@
-//! The keys and their places.
+//! Writes the keys, and finds their offsets again when the tables are written.
 ghost use Rattle.std.specs.Prelude.{◌≡◌, ◌⊎◌, ◌≤◌, ◌<◌, ◌+◌, ◌*◌, ◌/◌, ◌^◌, ℕ, List, length};
 ghost use Rattle.std.specs.Prelude.{OnOk, IfOk, IfSome, IsTrue, All, map};
 ghost use Rattle.rb_writer.specs.inner.Keyed.{IsStored, IsStoredAt, IsPlace, HasPlace};
@@ -17,12 +17,12 @@ use crate::data::Data;
 use crate::put::{pad, put_bytes};
 use std::alloc::{AllocError, Global};
 
-/// The offset of each key in bytes, and the words in which the keys are.
+/// The offset of each key in bytes, and the span of words that stores the keys.
 ///
-/// Which of them an entry's key is was found as the keys were gathered, so that it need not be
-/// searched for; it is compared.
+/// Gathering recorded each entry's key, so an offset is found by index and confirmed by one
+/// comparison, without a search.
 #[derive(Drop)]
-pub struct KeyPlaces<'a> {
+pub struct KeyOffsets<'a> {
     pub area: KeyArea,
     /// The keys with their offsets, in ascending order.
     pub known: Vec<(&'a [u8], u32)>,
@@ -30,7 +30,7 @@ pub struct KeyPlaces<'a> {
     order: Vec<u32>,
 }
 
-/// The offset of a key among these.
+/// Searches linearly for the offset of a key.
 #[tactic(auto, using(crate::proofs::Placing::not_more, crate::proofs::Placing::not_stored, crate::proofs::Placing::known_at))]
 fn search(known: &[(&[u8], u32)], key: &[u8]) -> u32
     requires { IsStored known.now key.now }
@@ -44,15 +44,15 @@ fn search(known: &[(&[u8], u32)], key: &[u8]) -> u32
     unreachable!()
 }
 
-impl<'a> KeyPlaces<'a> {
-    /// Which of the keys is awaited at an entry.
+impl<'a> KeyOffsets<'a> {
+    /// Returns the index in `known` of the key that was recorded for an entry.
     fn rank(&self, entry: usize) -> Option<usize> {
         let id = *self.order.get(entry)? as usize;
         let rank = *self.ranks.get(id)?;
         Some(rank as usize)
     }
 
-    /// The offset of a key, if it is the one that is awaited at an entry.
+    /// Returns the offset of a key if it is the one recorded for an entry.
     #[tactic(auto, using(crate::proofs::Placing::known_at))]
     fn awaited(&self, entry: usize, key: &[u8]) -> Option<u32>
         ensures { IfSome result (λ o. IsPlace self.now key.now o) }
@@ -65,8 +65,8 @@ impl<'a> KeyPlaces<'a> {
         if known.0 == key { Some(known.1) } else { None }
     }
 
-    /// The offset of the key of an entry, in the order of writing. Only a key that isn't awaited
-    /// would be searched for.
+    /// Returns the offset of an entry's key; entries are numbered in the order of writing. It
+    /// searches only if the key isn't the one recorded, which doesn't happen.
     pub fn offset(&self, entry: usize, key: &[u8]) -> u32
         requires { HasPlace self.now key.now }
         ensures { IsPlace self.now key.now result }
@@ -78,7 +78,6 @@ impl<'a> KeyPlaces<'a> {
     }
 }
 
-/// Whether a key is the last of these.
 #[tactic(auto, using(crate::proofs::Placing::stored_at))]
 fn is_last(known: &[(&[u8], u32)], key: &[u8]) -> bool
     ensures stored { IsTrue result → IsStored known.now key.now }
@@ -88,7 +87,7 @@ fn is_last(known: &[(&[u8], u32)], key: &[u8]) -> bool
     len > 0 && known[len - 1].0 == key
 }
 
-/// Puts a key after the data, if it isn't the one that was put last. Its place is then there.
+/// Appends a key and notes its offset, unless it equals the key that was appended last.
 pub fn place_key<'a>(
     out: &mut Data,
     known: &mut Vec<(&'a [u8], u32)>,
@@ -115,8 +114,7 @@ pub fn place_key<'a>(
     Ok(())
 }
 
-/// Notes, for the key of this number, its rank among the keys that were placed, of which it is the
-/// last.
+/// Records, for the key with this index, that it is the last of `count` written keys.
 fn rank_last(ranks: &mut [u32], id: u32, count: usize) {
     let i = id as usize;
     if i < ranks.len() {
@@ -124,16 +122,15 @@ fn rank_last(ranks: &mut [u32], id: u32, count: usize) {
     }
 }
 
-/// Puts keys after the root item and the indexes, in their order, and returns their places. Keys
-/// that are the same are side by side, and put once. The numbers of the keys are those that `order`
-/// has for the entries.
+/// Appends the keys, which are sorted, after the root item and the indexes, each distinct key once.
+/// `order` has the index of each entry's key.
 pub fn write_keys<'a>(
     alloc: Global,
     out: &mut Data,
     keys: &[(&'a [u8], u32)],
     order: Vec<u32>,
     indexes: u32,
-) -> Result<KeyPlaces<'a>, AllocError>
+) -> Result<KeyOffsets<'a>, AllocError>
     requires keys { All (λ r. IsKey r.now) (names keys.now) }
     requires indexes { indexes ≤ 6 }
     requires start { length out.old ≡ 4 * (1 + indexes) }
@@ -155,7 +152,7 @@ pub fn write_keys<'a>(
         rank_last(&mut ranks, key.1, known.len());
     }
     pad(out)?;
-    Ok(KeyPlaces {
+    Ok(KeyOffsets {
         known,
         ranks,
         order,

@@ -1,4 +1,4 @@
-//! Values without children.
+//! Writes values without children.
 ghost use Rattle.std.specs.Prelude.{IfOk, length, ◌≡◌, ◌⊎◌, ◌+◌, ◌*◌, ◌%◌, ◌^◌, ◌≤◌, ◌<◌, ℕ, []};
 ghost use Rattle.std.specs.Prelude.{map};
 ghost use Rattle.rb_format.specs.inner.FirstFault.{units, bytes};
@@ -11,7 +11,7 @@ use crate::data::Data;
 use crate::put::{PADDING, pad, put_bytes, put_half, put_halves, put_numbers, put_word};
 use std::alloc::AllocError;
 
-/// Writes units with a zero unit after them, and returns the offset.
+/// Writes units and a zero unit, and returns the offset.
 #[tactic(auto, using(crate::proofs::Values::units_put, crate::proofs::Values::nothing_put))]
 pub fn write_units(out: &mut Data, text: &[u16]) -> Result<u32, AllocError>
     requires whole { length out.old % 4 ≡ 0 }
@@ -33,7 +33,6 @@ pub fn write_units(out: &mut Data, text: &[u16]) -> Result<u32, AllocError>
     Ok(offset as u32)
 }
 
-/// Writes signed numbers, and returns the offset.
 #[tactic(auto, using(crate::proofs::Values::numbers_put, crate::proofs::Values::nothing_put))]
 pub fn write_numbers(out: &mut Data, numbers: &[i32]) -> Result<u32, AllocError>
     requires whole { length out.old % 4 ≡ 0 }
@@ -54,7 +53,7 @@ pub fn write_numbers(out: &mut Data, numbers: &[i32]) -> Result<u32, AllocError>
     Ok(offset as u32)
 }
 
-/// Writes bytes that start at a multiple of 16 bytes, and returns the offset.
+/// Writes bytes aligned to a multiple of 16, and returns the offset.
 #[tactic(auto, using(crate::proofs::Values::bytes_put, crate::proofs::Values::nothing_put))]
 pub fn write_bytes(out: &mut Data, binary: &[u8]) -> Result<u32, AllocError>
     requires whole { length out.old % 4 ≡ 0 }

@@ -1,4 +1,4 @@
-//! Writing a tree as a resource bundle's file.
+//! Writes a tree as a resource bundle's file.
 #![tactic(auto)]
 
 mod area;

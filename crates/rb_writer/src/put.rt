@@ -1,4 +1,4 @@
-//! Numbers and bytes after what is there.
+//! Appends numbers and bytes to the data.
 ghost use Rattle.std.specs.Prelude.{OnOk, All, drop, length, ◌≡◌, ◌+◌, ◌<◌, ◌%◌, ◌≤◌, map};
 ghost use Rattle.rb_writer.specs.inner.Growth.{Adds, PutsWord, PutsHalf, PutsBytes, PutsWords};
 ghost use Rattle.rb_writer.specs.inner.Growth.{PutsHalves, PutsNumbers};
@@ -7,10 +7,9 @@ ghost use Rattle.rb_writer.specs.Bytes.{padded};
 use crate::data::Data;
 use std::alloc::AllocError;
 
-/// What is between values.
+/// The byte between values.
 pub const PADDING: u8 = 0xAA;
 
-/// Puts a word after the data.
 #[tactic(auto, using(crate::proofs::Puts::puts_word))]
 pub fn put_word(out: &mut Data, word: u32) -> Result<(), AllocError>
     ensures { OnOk result (PutsWord out.old out.new word) }
@@ -18,7 +17,6 @@ pub fn put_word(out: &mut Data, word: u32) -> Result<(), AllocError>
     out.append(&word.to_le_bytes())
 }
 
-/// Puts a half word after the data.
 #[tactic(auto, using(crate::proofs::Puts::puts_half))]
 pub fn put_half(out: &mut Data, half: u16) -> Result<(), AllocError>
     ensures { OnOk result (PutsHalf out.old out.new half) }
@@ -26,7 +24,6 @@ pub fn put_half(out: &mut Data, half: u16) -> Result<(), AllocError>
     out.append(&half.to_le_bytes())
 }
 
-/// Puts bytes after the data.
 #[tactic(auto, using(crate::proofs::Puts::puts_bytes))]
 pub fn put_bytes(out: &mut Data, bytes: &[u8]) -> Result<(), AllocError>
     ensures { OnOk result (PutsBytes out.old out.new bytes.now) }
@@ -34,7 +31,6 @@ pub fn put_bytes(out: &mut Data, bytes: &[u8]) -> Result<(), AllocError>
     out.append(bytes)
 }
 
-/// Puts words after the data.
 pub fn put_words(out: &mut Data, words: &[u32]) -> Result<(), AllocError>
     ensures { OnOk result (PutsWords out.old out.new words.now (length words.now)) }
 {
@@ -44,7 +40,6 @@ pub fn put_words(out: &mut Data, words: &[u32]) -> Result<(), AllocError>
     Ok(())
 }
 
-/// Puts half words after the data.
 pub fn put_halves(out: &mut Data, halves: &[u16]) -> Result<(), AllocError>
     ensures { OnOk result (PutsHalves out.old out.new halves.now (length halves.now)) }
 {
@@ -54,7 +49,6 @@ pub fn put_halves(out: &mut Data, halves: &[u16]) -> Result<(), AllocError>
     Ok(())
 }
 
-/// Puts signed numbers after the data.
 pub fn put_numbers(out: &mut Data, numbers: &[i32]) -> Result<(), AllocError>
     ensures { OnOk result (PutsNumbers out.old out.new numbers.now (length numbers.now)) }
 {
@@ -64,7 +58,7 @@ pub fn put_numbers(out: &mut Data, numbers: &[i32]) -> Result<(), AllocError>
     Ok(())
 }
 
-/// Pads the data to whole words.
+/// Pads the data to a multiple of 4 bytes.
 pub fn pad(out: &mut Data) -> Result<(), AllocError>
     ensures adds { OnOk result (Adds out.old out.new) }
     ensures whole { OnOk result (length out.new % 4 ≡ 0) }

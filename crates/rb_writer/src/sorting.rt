@@ -1,4 +1,4 @@
-//! The keys of a tree in ascending order.
+//! Sorts the keys of a tree.
 ghost use Rattle.std.specs.Prelude.{◌≡◌, IfOk, map};
 ghost use Rattle.std.specs.List.Sorted.{IsPermutation, IsSorted};
 ghost use Rattle.std.specs.Ordering.{nat_cmp, ordering_then};
@@ -10,10 +10,7 @@ use crate::gather::Gathered;
 use rb_tree::key_head;
 use std::alloc::{AllocError, Global};
 
-/// A key with its first bytes and where it was found.
-///
-/// Keys are sorted by their first bytes before they are sorted by all: of many keys, most then are
-/// where they belong, and each is looked at once or twice where it is.
+/// A key with its first bytes, for sorting, and the index at which it was gathered.
 #[derive(Clone, Copy, PartialEq, Eq, PartialOrd, Ord)]
 struct Headed<'a> {
     head: u64,
@@ -21,7 +18,8 @@ struct Headed<'a> {
     key: &'a [u8],
 }
 
-/// Keys in the order of their first bytes.
+/// Sorts the keys by their first bytes, which orders most of them completely without a look at the
+/// other bytes. The full sort after it then compares each key about once.
 fn by_heads<'a>(alloc: Global, keys: &[&'a [u8]]) -> Result<Vec<Headed<'a>>, AllocError>
     ensures { IfOk result (λ v. IsPermutation keys.now (map (λ h. h.key) v.items)) }
 {
@@ -39,7 +37,6 @@ fn by_heads<'a>(alloc: Global, keys: &[&'a [u8]]) -> Result<Vec<Headed<'a>>, All
     Ok(found)
 }
 
-/// Keys, each with where it was found.
 fn numbered<'a>(alloc: Global, found: &[Headed<'a>]) -> Result<Vec<(&'a [u8], u32)>, AllocError>
     ensures { IfOk result (λ v. v.items ≡ map (λ h. (h.key, h.id)) found.now) }
 {
@@ -49,7 +46,7 @@ fn numbered<'a>(alloc: Global, found: &[Headed<'a>]) -> Result<Vec<(&'a [u8], u3
         .collect(alloc)
 }
 
-/// Keys in ascending order, each with where it was found.
+/// Returns the keys in ascending order, each with the index at which it was gathered.
 pub fn sorted_keys<'a>(
     alloc: Global,
     gathered: &Gathered<'a>,

@@ -1,10 +1,9 @@
-//! Lists that are used again.
 ghost use Rattle.std.specs.Prelude.{◌≡◌, []};
 
 use std::alloc::{AllocError, Global};
 
-/// Lists that are not in use. A text of many small tables and arrays takes memory for those of one
-/// of each level, and not for those of each.
+/// A pool of unused lists, so that a tree with many small tables and arrays allocates lists once
+/// for each level, and not for each table.
 #[derive(Drop)]
 pub struct Spare {
     alloc: Global,
@@ -12,7 +11,6 @@ pub struct Spare {
 }
 
 impl Spare {
-    /// No lists.
     pub fn new(alloc: Global) -> Spare {
         Spare {
             alloc,
@@ -20,7 +18,7 @@ impl Spare {
         }
     }
 
-    /// An empty list.
+    /// Returns an empty list, reused if possible.
     pub fn take(&mut self) -> Vec<u32>
         ensures { result.items ≡ [] }
     {
@@ -34,7 +32,7 @@ impl Spare {
         }
     }
 
-    /// Takes a list that is no longer in use.
+    /// Returns a list to the pool.
     pub fn give(&mut self, list: Vec<u32>) -> Result<(), AllocError> {
         self.lists.push(list)?;
         Ok(())

@@ -1,4 +1,4 @@
-//! A table after its children.
+//! Writes a table whose children are already written.
 ghost use Rattle.std.specs.Prelude.{MatchResult, IfOk, length, ◌≡◌, ◌⊎◌, ◌+◌, ◌*◌, ◌%◌, ◌<◌, ◌^◌};
 ghost use Rattle.std.specs.Prelude.{◌≤◌, ℕ, List, Some};
 ghost use Rattle.std.specs.Map.{keys_of};
@@ -10,13 +10,12 @@ ghost use Rattle.rb_writer.specs.inner.Standing.{HasPlaces, PutsTable, WritesTab
 use crate::containers::{is_short, key_offsets, write_long_table, write_short_table};
 use crate::data::Data;
 use crate::item::item;
-use crate::keys::KeyPlaces;
+use crate::keys::KeyOffsets;
 use crate::spare::Spare;
 use rb_format::ItemKind;
 use rb_tree::Entries;
 use std::alloc::AllocError;
 
-/// Writes a table with these key offsets and items, and returns its item.
 fn put_table(out: &mut Data, offsets: &[u32], items: &[u32]) -> Result<u32, AllocError>
     requires whole { length out.old % 4 ≡ 0 }
     requires room { length out.old + (4 + 8 * length items.now) ≤ 2 ^ 28 }
@@ -31,11 +30,11 @@ fn put_table(out: &mut Data, offsets: &[u32], items: &[u32]) -> Result<u32, Allo
     }
 }
 
-/// Writes a table that isn't empty, with the items of its values, and returns its item.
+/// Writes a table that isn't empty from the items of its values, and returns its item.
 pub fn write_table(
     spare: &mut Spare,
     out: &mut Data,
-    keys: &KeyPlaces<'_>,
+    keys: &KeyOffsets<'_>,
     entry: &mut usize,
     entries: &Entries,
     items: &[u32],

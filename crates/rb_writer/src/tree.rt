@@ -1,4 +1,4 @@
-//! The values of a tree, each after its children.
+//! Writes the values of a tree in post-order.
 ghost use Rattle.std.specs.Prelude.{IfOk, length, ◌+◌, ◌^◌, ◌≤◌};
 ghost use Rattle.rb_tree.specs.Parts.{kind_of, len_of, children_of, HasChildren};
 ghost use Rattle.rb_tree.specs.View.{view_of};
@@ -10,7 +10,7 @@ ghost use Rattle.rb_writer.specs.inner.Standing.{children_most, EachLaid, TreeLa
 use crate::containers::write_array;
 use crate::data::Data;
 use crate::item::item;
-use crate::keys::KeyPlaces;
+use crate::keys::KeyOffsets;
 use crate::leaves::{write_bytes, write_numbers, write_units};
 use crate::spare::Spare;
 use crate::table::write_table;
@@ -18,13 +18,13 @@ use rb_format::ItemKind;
 use rb_tree::{Node, Tree};
 use std::alloc::AllocError;
 
-/// Writes a tree, and returns the item that stands for it.
+/// Writes a tree, and returns its item.
 #[cycle(write)]
 #[tactic(auto, using(rb_tree::specs::inner::Lower::child_lower, crate::proofs::Nodes::children_le))]
 pub fn write_value(
     spare: &mut Spare,
     out: &mut Data,
-    keys: &KeyPlaces<'_>,
+    keys: &KeyOffsets<'_>,
     entry: &mut usize,
     tree: &Tree,
 ) -> Result<u32, AllocError>
@@ -44,7 +44,7 @@ pub fn write_value(
         Tree::Alias(units) => Ok(item(ItemKind::Alias, write_units(out, units.as_slice())?)),
         Tree::Array(trees) if trees.len() == 0 => Ok(item(ItemKind::Array, 0)),
         Tree::Array(trees) if trees.len() == 1 => {
-            // Deep texts are made of such arrays, for which no list is needed.
+            // An array of one item needs no list. Texts with many levels consist of these.
             let only = write_value(spare, out, keys, entry, tree.at(0))?;
             Ok(item(ItemKind::Array, write_array(out, &[only])?))
         }
@@ -64,13 +64,13 @@ pub fn write_value(
     }
 }
 
-/// Writes the children of an array or a table, and returns the items that stand for them.
+/// Writes the children of an array or a table, and returns their items.
 #[cycle(write)]
 #[tactic(auto, using(rb_tree::specs::inner::Lower::child_lower, rb_tree::specs::inner::Lower::children_len, crate::proofs::Nodes::children_none))]
 fn write_children(
     spare: &mut Spare,
     out: &mut Data,
-    keys: &KeyPlaces<'_>,
+    keys: &KeyOffsets<'_>,
     entry: &mut usize,
     tree: &Tree,
 ) -> Result<Vec<u32>, AllocError>

@@ -1,153 +1,112 @@
-//! Command lines that are taken, what they ask for, and those that are refused.
+//! Tests command lines: which are taken, what they ask for, and which are refused.
 use clap::{ArgMatches, Error};
 use rb_arguments::{Asked, AskedLimits, asked_by, commands, commands_for};
-use std::alloc::Global;
+use std::alloc::{AllocError, Global};
 use std::test::Fail;
 
-/// Command lines, with the status of those that are refused.
-const LINES: [(&[&str], i32); 53] = [
-    (&["resb"], 2),
-    (&["resb", "get", "a.res"], 2),
-    (&["resb", "get", "a.res", "a/b"], 0),
-    (&["resb", "get", "a.res", ""], 0),
-    (&["resb", "json"], 2),
-    (&["resb", "json", "a.res"], 0),
-    (&["resb", "json", "a.res", "a/b", "--pretty"], 0),
-    (&["resb", "json", "a.res", "a", "b"], 2),
-    (&["resb", "serve"], 0),
-    (&["resb", "serve", "x"], 0),
-    (
-        &[
-            "resb",
-            "serve",
-            "--parents",
-            "p.txt",
-            "de=a.txt",
-            "root=b.res",
-        ],
-        0,
-    ),
-    (&["resb", "serve", "de=a.txt", "--parents", "p.txt"], 0),
-    (&["resb", "serve", "--parents"], 2),
-    (&["resb", "serve", "--locale", "de"], 2),
-    (&["resb", "serve", "--app-bytes", "1", "de=a.txt"], 0),
-    (&["resb", "serve", "--bundle-bytes=9223372036854775808"], 0),
-    (&["resb", "serve", "--bundle-bytes=9223372036854775809"], 2),
-    (
-        &["resb", "serve", "--line-bytes", "18446744073709551616"],
-        2,
-    ),
-    (&["resb", "serve", "--apps", "0"], 2),
-    (&["resb", "serve", "--apps", "-1"], 2),
-    (&["resb", "serve", "--apps=-1"], 2),
-    (&["resb", "serve", "--apps", ""], 2),
-    (&["resb", "serve", "--apps", "1.0"], 2),
-    (&["resb", "serve", "--apps", "10k"], 2),
-    (&["resb", "serve", "--steps", "0x10"], 2),
-    (&["resb", "serve", "--steps", "1", "--steps", "2"], 2),
-    (&["resb", "serve", "--keep-serving", "--reply-bytes"], 2),
-    (&["resb", "check"], 2),
-    (&["resb", "check", "a.res"], 0),
-    (&["resb", "text"], 2),
-    (&["resb", "text", "a.res"], 0),
-    (&["resb", "text", "a.res", "--name", "de"], 0),
-    (&["resb", "text", "a.res", "--name"], 2),
-    (&["resb", "compile", "a.txt"], 2),
-    (&["resb", "compile", "a.txt", "a.res"], 0),
-    (&["resb", "compile", "-", "-"], 0),
-    (&["resb", "compile", "-q", "a.txt", "a.res"], 0),
-    (&["resb", "compile", "a.txt", "b.txt", "c.txt"], 2),
-    (&["resb", "compile", "--to", "x", "a", "b", "c", "d"], 0),
-    (&["resb", "compile", "--to", "x"], 2),
-    (&["resb", "check", "--quiet", "a.res", "b.res"], 0),
-    (&["resb", "lint"], 2),
-    (&["resb", "lint", "a.txt", "b.txt"], 0),
-    (&["resb", "lint", "--root", "root.txt", "a.txt"], 0),
-    (&["resb", "lint", "--root", "root.txt"], 2),
-    (&["resb", "explain"], 0),
-    (&["resb", "explain", "BadInt", "BadHex"], 2),
-    (&["resb", "lines", "shop"], 2),
-    (&["resb", "lines", "shop", "--op", "replace", "de=a.res"], 0),
-    (&["resb", "look", "de", "a"], 2),
-    (&["resb", "look", "de", "a/b", "a.res", "de_AT=b.txt"], 0),
-    (&["resb", "look", "--parents", "p", "de", "", "a"], 0),
-    (&["resb", "look", "--trace", "de", "", "a"], 0),
-];
+/// Command lines, the words separated by `|`. Before each is its status, 0 if it is taken.
+const LINES: &str = "\
+2|resb
+2|resb|get|a.res
+0|resb|get|a.res|a/b
+0|resb|get|a.res|
+2|resb|json
+0|resb|json|a.res
+0|resb|json|a.res|a/b|--pretty
+2|resb|json|a.res|a|b
+0|resb|serve
+0|resb|serve|x
+0|resb|serve|--parents|p.txt|de=a.txt|root=b.res
+0|resb|serve|de=a.txt|--parents|p.txt
+2|resb|serve|--parents
+2|resb|serve|--locale|de
+0|resb|serve|--app-bytes|1|de=a.txt
+0|resb|serve|--bundle-bytes=9223372036854775808
+2|resb|serve|--bundle-bytes=9223372036854775809
+2|resb|serve|--line-bytes|18446744073709551616
+2|resb|serve|--apps|0
+2|resb|serve|--apps|-1
+2|resb|serve|--apps=-1
+2|resb|serve|--apps|
+2|resb|serve|--apps|1.0
+2|resb|serve|--apps|10k
+2|resb|serve|--steps|0x10
+2|resb|serve|--steps|1|--steps|2
+2|resb|serve|--keep-serving|--reply-bytes
+2|resb|check
+0|resb|check|a.res
+2|resb|text
+0|resb|text|a.res
+0|resb|text|a.res|--name|de
+2|resb|text|a.res|--name
+2|resb|compile|a.txt
+0|resb|compile|a.txt|a.res
+0|resb|compile|-|-
+0|resb|compile|-q|a.txt|a.res
+2|resb|compile|a.txt|b.txt|c.txt
+0|resb|compile|--to|x|a|b|c|d
+2|resb|compile|--to|x
+0|resb|check|--quiet|a.res|b.res
+2|resb|lint
+0|resb|lint|a.txt|b.txt
+0|resb|lint|--root|root.txt|a.txt
+2|resb|lint|--root|root.txt
+0|resb|explain
+2|resb|explain|BadInt|BadHex
+2|resb|lines|shop
+0|resb|lines|shop|--op|replace|de=a.res
+2|resb|look|de|a
+0|resb|look|de|a/b|a.res|de_AT=b.txt
+0|resb|look|--parents|p|de||a
+0|resb|look|--trace|de||a";
 
-fn status_of(alloc: Global, words: &[&str]) -> Result<i32, Fail> {
+/// Splits a command line into its words.
+fn words_of<'a>(alloc: Global, line: &'a str) -> Result<Vec<&'a str>, AllocError> {
+    let mut words = Vec::new(alloc);
+    for word in line.split('|') {
+        words.push(word)?;
+    }
+    Ok(words)
+}
+
+fn status_of(alloc: Global, words: &[&str]) -> Result<i32, AllocError> {
     match commands(alloc)?.try_get_matches_from(words) {
         Ok(_) => Ok(0),
         Err(error) => Ok(error.exit_code()),
     }
 }
 
+/// Checks the status of a row of `LINES`. Returns None if the row can't be read.
+fn has_status(alloc: Global, row: &str) -> Option<bool> {
+    let (status, line) = row.split_once('|')?;
+    let words = words_of(alloc, line).ok()?;
+    let wanted: i32 = status.parse().ok()?;
+    Some(status_of(alloc, words.as_slice()).ok()? == wanted)
+}
+
 #[test]
-fn reads_command_lines(rt: HostRuntime) -> Result<(), Fail> {
-    for (words, status) in LINES {
-        assert_eq!(rt; status_of(rt.alloc(), words)?, status);
+fn reads_command_lines(rt: HostRuntime) {
+    for row in LINES.lines() {
+        assert!(rt; has_status(rt.alloc(), row) == Some(true), "{row}");
     }
-    Ok(())
 }
 
 /// Command lines, with what they ask for.
-const ASKED: [(&[&str], &str); 12] = [
-    (
-        &["resb", "compile", "-", "a.res"],
-        "Compile { input: \"-\", output: \"a.res\", is_quiet: false }",
-    ),
-    (
-        &["resb", "compile", "-q", "--to", "x", "a", "b", "c", "d"],
-        "CompileAll { folder: \"x\", texts: [\"a\", \"b\", \"c\", \"d\"], is_quiet: true }",
-    ),
-    (
-        &["resb", "compile", "--to", "x", "a"],
-        "CompileAll { folder: \"x\", texts: [\"a\"], is_quiet: false }",
-    ),
-    (
-        &["resb", "check", "-q", "a", "b"],
-        "Check { files: [\"a\", \"b\"], is_quiet: true }",
-    ),
-    (
-        &["resb", "get", "a", "b/c"],
-        "Get { file: \"a\", path: \"b/c\" }",
-    ),
-    (
-        &["resb", "json", "a", "--pretty"],
-        "Json { file: \"a\", path: \"\", is_pretty: true }",
-    ),
-    (
-        &["resb", "text", "a", "--name", "de"],
-        "Text { file: \"a\", name: Some(\"de\") }",
-    ),
-    (
-        &["resb", "lint", "--root", "r", "a", "b"],
-        "Lint { root: Some(\"r\"), texts: [\"a\", \"b\"] }",
-    ),
-    (&["resb", "explain"], "Explain { word: None }"),
-    (
-        &["resb", "explain", "BadInt"],
-        "Explain { word: Some(\"BadInt\") }",
-    ),
-    (
-        &["resb", "lines", "shop", "--op", "replace", "a", "b"],
-        "Lines { op: Some(\"replace\"), app: \"shop\", files: [\"a\", \"b\"] }",
-    ),
-    (
-        &[
-            "resb",
-            "look",
-            "--trace",
-            "--parents",
-            "p",
-            "de",
-            "x/y",
-            "a",
-        ],
-        "Look(AskedLookup { parents: Some(\"p\"), locale: \"de\", path: \"x/y\", is_traced: true, files: [\"a\"] })",
-    ),
-];
+const ASKED: &str =
+    r#"resb|compile|-|a.res => Compile { input: "-", output: "a.res", is_quiet: false }
+resb|compile|-q|--to|x|a|b|c|d => CompileAll { folder: "x", texts: ["a", "b", "c", "d"], is_quiet: true }
+resb|compile|--to|x|a => CompileAll { folder: "x", texts: ["a"], is_quiet: false }
+resb|check|-q|a|b => Check { files: ["a", "b"], is_quiet: true }
+resb|get|a|b/c => Get { file: "a", path: "b/c" }
+resb|json|a|--pretty => Json { file: "a", path: "", is_pretty: true }
+resb|text|a|--name|de => Text { file: "a", name: Some("de") }
+resb|lint|--root|r|a|b => Lint { root: Some("r"), texts: ["a", "b"] }
+resb|explain => Explain { word: None }
+resb|explain|BadInt => Explain { word: Some("BadInt") }
+resb|lines|shop|--op|replace|a|b => Lines { op: Some("replace"), app: "shop", files: ["a", "b"] }
+resb|look|--trace|--parents|p|de|x/y|a => Look(AskedLookup { parents: Some("p"), locale: "de", path: "x/y", is_traced: true, files: ["a"] })"#;
 
-/// What a command line asks for, as a text; empty if it asks for nothing.
+/// Returns what a command line asks for, as a text; empty if it asks for nothing.
 fn asked_text(alloc: Global, words: &[&str]) -> Result<String, Fail> {
     let Ok(matches) = commands(alloc)?.try_get_matches_from(words) else {
         return Ok(String::new(alloc));
@@ -158,130 +117,106 @@ fn asked_text(alloc: Global, words: &[&str]) -> Result<String, Fail> {
     }
 }
 
+/// Checks what the command line of a row of `ASKED` asks for.
+fn asks_for(alloc: Global, row: &str) -> Result<bool, Fail> {
+    let (line, text) = row.split_once(" => ").ok_or("no row")?;
+    let words = words_of(alloc, line)?;
+    Ok(asked_text(alloc, words.as_slice())?.as_str() == text)
+}
+
 #[test]
 fn says_what_is_asked_for(rt: HostRuntime) -> Result<(), Fail> {
-    for (words, text) in ASKED {
-        assert_eq!(rt; asked_text(rt.alloc(), words)?.as_str(), text);
+    for row in ASKED.lines() {
+        assert!(rt; asks_for(rt.alloc(), row)?, "{row}");
     }
     Ok(())
 }
 
-/// Command lines of `serve`, with their parents, their bundles and their limits.
-const SERVED: [(&[&str], Option<&str>, &[&str], AskedLimits); 3] = [
-    (
-        &["resb", "serve"],
-        None,
-        &[],
-        AskedLimits {
-            app_bytes: None,
-            bundle_bytes: None,
-            reply_bytes: None,
-            line_bytes: None,
-            apps: None,
-            steps: None,
-            keep_serving: false,
-        },
-    ),
-    (
-        &[
-            "resb",
-            "serve",
-            "de=a",
-            "--parents",
-            "p",
-            "--apps",
-            "12",
-            "fr=b",
-        ],
-        Some("p"),
-        &["de=a", "fr=b"],
-        AskedLimits {
-            app_bytes: None,
-            bundle_bytes: None,
-            reply_bytes: None,
-            line_bytes: None,
-            apps: Some(12),
-            steps: None,
-            keep_serving: false,
-        },
-    ),
-    (
-        &[
-            "resb",
-            "serve",
-            "--app-bytes",
-            "1",
-            "--bundle-bytes",
-            "2",
-            "--reply-bytes",
-            "3",
-            "--line-bytes",
-            "4",
-            "--apps",
-            "5",
-            "--steps",
-            "9223372036854775808",
-            "--keep-serving",
-        ],
-        None,
-        &[],
-        AskedLimits {
-            app_bytes: Some(1),
-            bundle_bytes: Some(2),
-            reply_bytes: Some(3),
-            line_bytes: Some(4),
-            apps: Some(5),
-            steps: Some(9_223_372_036_854_775_808),
-            keep_serving: true,
-        },
-    ),
-];
+/// The limits of a command line that names none.
+const NO_LIMITS: AskedLimits = AskedLimits {
+    app_bytes: None,
+    bundle_bytes: None,
+    reply_bytes: None,
+    line_bytes: None,
+    apps: None,
+    steps: None,
+    keep_serving: false,
+};
+
+/// Limits, each with a different number.
+const ALL_LIMITS: AskedLimits = AskedLimits {
+    app_bytes: Some(1),
+    bundle_bytes: Some(2),
+    reply_bytes: Some(3),
+    line_bytes: Some(4),
+    apps: Some(5),
+    steps: Some(9_223_372_036_854_775_808),
+    keep_serving: true,
+};
+
+/// Checks the parents, the bundles and the limits that a command line of `serve` asks for.
+fn serves(
+    alloc: Global,
+    line: &str,
+    wanted: (Option<&str>, &[&str]),
+    limits_wanted: AskedLimits,
+) -> Result<bool, Fail> {
+    let words = words_of(alloc, line)?;
+    let matches = commands(alloc)?.try_get_matches_from(words.as_slice())?;
+    match asked_by(alloc, &matches)? {
+        Some(
+            Asked::Serve {
+                parents,
+                bundles,
+                limits,
+            },
+        ) => {
+            Ok(parents == wanted.0 && bundles.as_slice() == wanted.1 && limits == limits_wanted)
+        }
+        _ => Ok(false),
+    }
+}
+
+const LIMITED: &str =
+    "resb|serve|--app-bytes|1|--bundle-bytes|2|--reply-bytes|3|--line-bytes|4|--apps|5|--steps|9223372036854775808|--keep-serving";
 
 #[test]
 fn says_what_is_served(rt: HostRuntime) -> Result<(), Fail> {
-    for (words, parents, bundles, limits) in SERVED {
-        let matches = commands(rt.alloc())?.try_get_matches_from(words)?;
-        let Some(
-            Asked::Serve {
-                parents: parents_asked,
-                bundles: bundles_asked,
-                limits: limits_asked,
-            },
-        ) = asked_by(rt.alloc(), &matches)?
-        else {
-            panic!(rt; "it asks for something else");
-        };
-        assert!(rt; parents_asked == parents);
-        assert!(rt; bundles_asked.as_slice() == bundles);
-        assert_eq!(rt; limits_asked, limits);
-    }
+    let alloc = rt.alloc();
+    assert!(rt; serves(alloc, "resb|serve", (None, &[]), NO_LIMITS)?);
+    let twelve = AskedLimits {
+        apps: Some(12),
+        ..NO_LIMITS
+    };
+    let line = "resb|serve|de=a|--parents|p|--apps|12|fr=b";
+    assert!(rt; serves(alloc, line, (Some("p"), &["de=a", "fr=b"]), twelve)?);
+    assert!(rt; serves(alloc, LIMITED, (None, &[]), ALL_LIMITS)?);
     Ok(())
 }
 
 #[test]
 fn has_no_limits_without_arguments(rt: HostRuntime) {
-    assert_eq!(rt; AskedLimits::none(), SERVED[0].3);
+    assert!(rt; AskedLimits::none() == NO_LIMITS);
 }
 
-/// Command lines for which no command is run, and ones with words that are no command's name.
-const OTHERS: [&[&str]; 14] = [
-    &["resb", "--help"],
-    &["resb", "help"],
-    &["resb", "help", "get"],
-    &["resb", "help", "gets"],
-    &["resb", "--version"],
-    &["resb", "-V"],
-    &["resb", "gets", "a.res"],
-    &["resb", "-q", "check", "a.res"],
-    &["resb", ""],
-    &["resb", "get", "--help"],
-    &["resb", "get", "help"],
-    &["resb", "get", "-h", "--version"],
-    &["resb", "text", "json", "a.res"],
-    &["resb", "check", "--pretty", "a.res"],
-];
+/// Command lines for which no command is run, and ones with words that name no command.
+const OTHERS: &str = "\
+resb|--help
+resb|help
+resb|help|get
+resb|help|gets
+resb|--version
+resb|-V
+resb|gets|a.res
+resb|-q|check|a.res
+resb|
+resb|get|--help
+resb|get|help
+resb|get|-h|--version
+resb|text|json|a.res
+resb|check|--pretty|a.res";
 
-/// What a command line asks for, or the message of why no command is run, with its status.
+/// Returns what a command line asks for, or its status and the message of why no command is run.
 fn answer(alloc: Global, taken: Result<ArgMatches<'_>, Error>) -> Result<String, Fail> {
     match taken {
         Ok(matches) => {
@@ -292,14 +227,22 @@ fn answer(alloc: Global, taken: Result<ArgMatches<'_>, Error>) -> Result<String,
     }
 }
 
+/// Checks whether a command alone answers its command line as all commands together do.
+fn answers_alike(alloc: Global, line: &str) -> Result<bool, Fail> {
+    let words = words_of(alloc, line)?;
+    let all = commands(alloc)?.try_get_matches_from(words.as_slice());
+    let one = commands_for(alloc, words.get(1).copied())?.try_get_matches_from(words.as_slice());
+    Ok(answer(alloc, one)?.as_str() == answer(alloc, all)?.as_str())
+}
+
 #[test]
 fn answers_as_among_all_commands(rt: HostRuntime) -> Result<(), Fail> {
-    let alloc = rt.alloc();
-    let lines = LINES.iter().map(|(words, _)| *words);
-    for words in lines.chain(OTHERS.iter().copied()) {
-        let all = commands(alloc)?.try_get_matches_from(words);
-        let one = commands_for(alloc, words.get(1).copied())?.try_get_matches_from(words);
-        assert_eq!(rt; answer(alloc, one)?, answer(alloc, all)?);
+    for row in LINES.lines() {
+        let (_, line) = row.split_once('|').ok_or("no row")?;
+        assert!(rt; answers_alike(rt.alloc(), line)?, "{row}");
+    }
+    for line in OTHERS.lines() {
+        assert!(rt; answers_alike(rt.alloc(), line)?, "{line}");
     }
     Ok(())
 }

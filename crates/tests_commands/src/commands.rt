@@ -1,6 +1,7 @@
 //! The commands over files in memory: what they print, what they leave, and their statuses.
 mod batch;
 mod desk;
+mod faults;
 mod get;
 mod helpers;
 mod root;
@@ -9,9 +10,9 @@ mod traces;
 mod values;
 
 use desk::Desk;
-use rb_console::{Console, StartError, not_started_on};
-use rb_file_commands::{Layout, check, compile, get, json};
-use rb_lookup_commands::start_engine;
+use rb_commands::{
+    Console, Layout, StartError, check, compile, get, json, not_started_on, start_engine,
+};
 use std::alloc::Global;
 use std::process::ExitCode;
 
@@ -179,7 +180,7 @@ const FULL_DISK: [Step<'static>; 10] = [
     Put("older.res", b"older"),
     Compile("in.txt", "older.res", 2, "", "cannot write older.res\n"),
     Has("older.res", b"older"),
-    Keeps("older.res.resb-unfinished", false),
+    Keeps(".resb-unfinished-0000000000000000", false),
     Put("/dev/full", b""),
     Compile("in.txt", "/dev/full", 2, "", "cannot write /dev/full\n"),
     Keeps("/dev/full", true),
@@ -192,7 +193,7 @@ const OLDER: [Step<'static>; 12] = [
     Put("out.res.resb-unfinished", b"half"),
     Compile("in.txt", "out.res", 0, "wrote 56 bytes\n", ""),
     Has("out.res", &EMPTY),
-    Keeps("out.res.resb-unfinished", false),
+    Has("out.res.resb-unfinished", b"half"),
     Put("fr.txt", b"fr{}"),
     Compile(
         "in.txt",

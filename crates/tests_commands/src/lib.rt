@@ -1,5 +1,5 @@
-//! Tests of the commands over files and of lookups over files: `rb_file_commands`,
-//! `rb_lookup_commands`, `rb_console`; and of the explanations of words: `rb_explain`.
+//! Tests of the commands over files in memory: `rb_commands`; and of the explanations of error
+//! codes: `rb_explain`.
 #![tactic(auto)]
 
 #[cfg(test)]

@@ -1,47 +1,35 @@
-//! Two engines, of which one serves another application more: the first application's replies are
-//! the same. And one engine of many applications.
+//! Tests that one engine serves many applications, and that an application's replies don't depend on
+//! the requests of others.
 
-use crate::engine::Step::{Find, Install, List, Remove};
-use crate::engine::{Step, answers, empty_engine, installs, is_answered};
-use crate::payloads::Given::Text;
+use crate::engine::{answers, empty_engine, is_answered};
 use rb_engine::Engine;
 use std::alloc::Global;
 
-const GERMAN: &[u8] = b"de{menu{close{\"C\"}}}";
+/// The five steps of `shop`.
+const SHOP: &str = r#"install|shop|de|text|de{menu{close{"C"}}}|Done
+install|shop|de-at|text|de_AT{menu{open{"O"}}}|Done
+find|shop|de_AT|menu/close|C|de|de_AT
+list|shop|2
+remove|shop|fr|Absent"#;
 
-const AUSTRIAN: &[u8] = b"de_AT{menu{open{\"O\"}}}";
-
-/// What `shop` is answered to each of its five requests.
-const SHOP: [Step<'static>; 5] = [
-    Install((b"shop", b"de"), Text(GERMAN), "Done"),
-    Install((b"shop", b"de-at"), Text(AUSTRIAN), "Done"),
-    Find((b"shop", b"de_AT"), b"menu/close", (b"C", b"de", b"de_AT")),
-    List(b"shop", 2),
-    Remove((b"shop", b"fr"), "Absent"),
-];
-
-const OTHER: &[u8] = b"de{menu{close{\"B\"}}}";
-
-/// What `bank` asks between: installs and removals of the names that `shop` has, refused ones too.
-/// After the first time its answers differ.
-const BANK: [Step<'static>; 6] = [
-    Install((b"bank", b"de"), Text(OTHER), "Done"),
-    Install((b"bank", b"root"), Text(OTHER), "Done"),
-    Remove((b"bank", b"de"), "Done"),
-    Install((b"bank", b"de"), Text(b"de{"), "BadText"),
-    Install((b"bank", b"root"), Text(b"de{"), "BadText"),
-    Remove((b"bank", b"de"), "Absent"),
-];
+/// The steps of `bank` between those of `shop`: it installs and removes the names that `shop` has.
+/// From the second time on its answers differ.
+const BANK: &str = r#"install|bank|de|text|de{menu{close{"B"}}}|Done
+install|bank|root|text|de{menu{close{"B"}}}|Done
+remove|bank|de|Done
+install|bank|de|text|de{|BadText
+install|bank|root|text|de{|BadText
+remove|bank|de|Absent"#;
 
 fn bank_asks(alloc: Global, engine: &mut Engine) {
-    for step in BANK {
+    for step in BANK.lines() {
         let _ = is_answered(alloc, engine, step);
     }
 }
 
-/// Whether `shop` is answered so if `bank` asks before each of its requests.
+/// Checks whether `shop` gets its answers if `bank` asks before each of its steps.
 fn answers_between(alloc: Global, engine: &mut Engine) -> bool {
-    for step in SHOP {
+    for step in SHOP.lines() {
         bank_asks(alloc, engine);
         if !is_answered(alloc, engine, step) {
             return false;
@@ -50,7 +38,7 @@ fn answers_between(alloc: Global, engine: &mut Engine) -> bool {
     true
 }
 
-/// Whether `shop` is answered so by an engine that serves `bank` too, or not.
+/// Checks whether `shop` gets its answers from a new engine, which `bank` uses too if it is busy.
 fn shop_is_served(rt: &HostRuntime, is_busy: bool) -> bool {
     let alloc = rt.alloc();
     match empty_engine(rt) {
@@ -58,7 +46,7 @@ fn shop_is_served(rt: &HostRuntime, is_busy: bool) -> bool {
             if is_busy {
                 answers_between(alloc, &mut engine)
             } else {
-                answers(alloc, &mut engine, &SHOP)
+                answers(alloc, &mut engine, SHOP)
             }
         }
         None => false,
@@ -71,27 +59,23 @@ fn answers_one_application_alike(rt: HostRuntime) {
     assert!(rt; shop_is_served(&rt, true));
 }
 
-/// Whether an application of a number can install a bundle with a text of its own.
+/// Installs a bundle for the application of a number, with a text that has the number.
 fn installs_own(alloc: Global, engine: &mut Engine, number: u32) -> Option<bool> {
-    let app = format!(in alloc; "app_{number}").ok()?;
-    let text = format!(in alloc; "root{{a{{\"text {number}\"}}}}").ok()?;
-    let place: (&[u8], &[u8]) = (app.as_bytes(), b"root");
-    Some(installs(alloc, engine, place, Text(text.as_bytes()), "Done"))
+    let step = format!(in alloc;
+        "install|app_{number}|root|text|root{{a{{\"text {number}\"}}}}|Done"
+    ).ok()?;
+    Some(is_answered(alloc, engine, step.as_str()))
 }
 
-/// Whether it finds this text, and has no other bundle.
+/// Checks whether the application of a number finds its text, and has no other bundle.
 fn finds_own(alloc: Global, engine: &mut Engine, number: u32) -> Option<bool> {
-    let app = format!(in alloc; "app_{number}").ok()?;
-    let text = format!(in alloc; "text {number}").ok()?;
-    let place: (&[u8], &[u8]) = (app.as_bytes(), b"root");
-    let hit: (&[u8], &[u8], &[u8]) = (text.as_bytes(), b"root", b"root");
-    Some(
-        is_answered(alloc, engine, Find(place, b"a", hit))
-            && is_answered(alloc, engine, List(app.as_bytes(), 1)),
-    )
+    let steps = format!(in alloc;
+        "find|app_{number}|root|a|text {number}|root|root\nlist|app_{number}|1"
+    ).ok()?;
+    Some(answers(alloc, engine, steps.as_str()))
 }
 
-/// How many applications one engine serves.
+/// The number of applications on one engine.
 const MANY: u32 = 1_000;
 
 fn all_install(alloc: Global, engine: &mut Engine) -> bool {

@@ -1,7 +1,7 @@
-//! An engine, and what is asked of it step by step.
+//! Runs steps on an engine: requests and lookups, each with the answer that it must get.
 
-use crate::payloads::{Given, payload};
-use rb_engine::{Engine, LookFault, Payload, Reply, Request};
+use crate::payloads::{Given, given_of, payload};
+use rb_engine::{Engine, Payload, Reply, Request};
 use rb_fallback::Found;
 use rb_parents::Parents;
 use rb_tree::ByteList;
@@ -10,38 +10,68 @@ use std::alloc::Global;
 use std::hash::RandomState;
 
 /// An application and a locale.
-pub(crate) type Place<'a> = (&'a [u8], &'a [u8]);
+pub(crate) type Place<'a> = (&'a str, &'a str);
 
-/// A text that a lookup is to find, with the locale that has it and the valid one.
-pub(crate) type Hit<'a> = (&'a [u8], &'a [u8], &'a [u8]);
+/// The text that a lookup finds, the actual locale, and the valid locale.
+pub(crate) type Hit<'a> = (&'a str, &'a str, &'a str);
 
-/// What is asked, and what is answered.
+/// A request or a lookup, with its answer.
 #[derive(Clone, Copy)]
-pub(crate) enum Step<'a> {
+enum Step<'a> {
     /// An install, and the word of the reply.
     Install(Place<'a>, Given<'a>, &'a str),
     /// A removal, and the word of the reply.
     Remove(Place<'a>, &'a str),
-    /// A list of an application's bundles, and how many there are.
-    List(&'a [u8], usize),
+    /// A list of an application's bundles, and the number of names in the reply.
+    List(&'a str, usize),
     /// A lookup of a path, and what it finds.
-    Find(Place<'a>, &'a [u8], Hit<'a>),
-    /// A lookup of a path, and why it finds nothing.
-    Miss(Place<'a>, &'a [u8], LookFault),
+    Find(Place<'a>, &'a str, Hit<'a>),
+    /// A lookup of a path, and the word of its error.
+    Miss(Place<'a>, &'a str, &'a str),
 }
 
-pub(crate) fn bytes(alloc: Global, text: &[u8]) -> Option<ByteList> {
-    Some(ByteList::from_vec(text.to_vec(alloc).ok()?))
+/// Reads a step from its line, whose fields are separated by `|`:
+///
+/// - `install|APP|LOCALE|KIND|OF|WORD`, where `given_of` reads KIND and OF
+/// - `remove|APP|LOCALE|WORD`
+/// - `list|APP|COUNT`
+/// - `find|APP|LOCALE|PATH|TEXT|ACTUAL|VALID`
+/// - `miss|APP|LOCALE|PATH|WORD`
+fn step_of(line: &str) -> Option<Step<'_>> {
+    let mut fields = line.split('|');
+    let op = fields.next()?;
+    let (app, second) = (fields.next()?, fields.next()?);
+    if op == "list" {
+        return Some(Step::List(app, second.parse().ok()?));
+    }
+    let (place, third) = ((app, second), fields.next()?);
+    if op == "remove" {
+        return Some(Step::Remove(place, third));
+    }
+    let fourth = fields.next()?;
+    match op {
+        "install" => Some(Step::Install(place, given_of(third, fourth)?, fields.next()?)),
+        "find" => {
+            let hit = (fourth, fields.next()?, fields.next()?);
+            Some(Step::Find(place, third, hit))
+        }
+        "miss" => Some(Step::Miss(place, third, fourth)),
+        _ => None,
+    }
 }
 
-/// An engine without bundles.
+pub(crate) fn bytes(alloc: Global, text: &str) -> Option<ByteList> {
+    Some(ByteList::from_vec(text.as_bytes().to_vec(alloc).ok()?))
+}
+
+/// Returns an engine without bundles.
 pub(crate) fn empty_engine(rt: &HostRuntime) -> Option<Engine> {
     let alloc = rt.alloc();
     let state = RandomState::new(rt).ok()?;
     Engine::start(alloc, state, Vec::new(alloc), Parents::none(alloc)).ok()
 }
 
-/// The word of the reply to an install.
+/// Installs a payload, and returns the word of the reply.
 fn install_word(
     alloc: Global,
     engine: &mut Engine,
@@ -58,8 +88,8 @@ fn install_word(
     Some(engine.handle(alloc, request).word())
 }
 
-/// Whether an install is answered by this word.
-pub(crate) fn installs(
+/// Checks whether the reply to an install has a word.
+fn installs(
     alloc: Global,
     engine: &mut Engine,
     place: Place<'_>,
@@ -72,15 +102,15 @@ pub(crate) fn installs(
     }
 }
 
-/// The word of the reply to a removal.
+/// Removes a bundle, and returns the word of the reply.
 fn removal_word(alloc: Global, engine: &mut Engine, place: Place<'_>) -> Option<&'static str> {
     let app = bytes(alloc, place.0)?;
     let locale = bytes(alloc, place.1)?;
     Some(engine.handle(alloc, Request::Remove { app, locale }).word())
 }
 
-/// How many bundles an application is told that it has.
-fn count(alloc: Global, engine: &mut Engine, app: &[u8]) -> Option<usize> {
+/// Asks for an application's bundles, and counts the names in the reply.
+fn count(alloc: Global, engine: &mut Engine, app: &str) -> Option<usize> {
     let app = bytes(alloc, app)?;
     match engine.handle(alloc, Request::List { app }) {
         Reply::Names(names) => Some(names.as_slice().len()),
@@ -88,15 +118,15 @@ fn count(alloc: Global, engine: &mut Engine, app: &[u8]) -> Option<usize> {
     }
 }
 
-/// Whether an item is a string with this text, of one unit a byte.
-fn has_text(item: Item<'_>, text: &[u8]) -> bool {
+/// Checks whether an item is a string whose units are the bytes of a text.
+fn has_text(item: Item<'_>, text: &str) -> bool {
     let Some(units) = item.text() else {
         return false;
     };
     if units.len() != text.len() {
         return false;
     }
-    for (i, b) in text.iter().enumerate() {
+    for (i, b) in text.as_bytes().iter().enumerate() {
         if units.at(i) != u16::from(*b) {
             return false;
         }
@@ -107,47 +137,56 @@ fn has_text(item: Item<'_>, text: &[u8]) -> bool {
 fn is_hit(found: &Found<Item<'_>>, hit: Hit<'_>) -> bool {
     let (text, actual, valid) = hit;
     has_text(found.node, text)
-        && found.actual.as_bytes() == actual
-        && found.valid.as_bytes() == valid
+        && found.actual.as_bytes() == actual.as_bytes()
+        && found.valid.as_bytes() == valid.as_bytes()
 }
 
-fn finds(engine: &Engine, place: Place<'_>, path: &[u8], hit: Hit<'_>) -> bool {
-    match engine.look(place.0, place.1, path) {
+fn finds(engine: &Engine, place: Place<'_>, path: &str, hit: Hit<'_>) -> bool {
+    match engine.look(place.0.as_bytes(), place.1.as_bytes(), path.as_bytes()) {
         Ok(found) => is_hit(&found, hit),
         Err(_) => false,
     }
 }
 
-fn misses(engine: &Engine, place: Place<'_>, path: &[u8], fault: LookFault) -> bool {
-    match engine.look(place.0, place.1, path) {
+/// Checks whether a lookup fails with an error of this word.
+pub(crate) fn misses(engine: &Engine, place: Place<'_>, path: &str, word: &str) -> bool {
+    match engine.look(place.0.as_bytes(), place.1.as_bytes(), path.as_bytes()) {
         Ok(_) => false,
-        Err(found) => found == fault,
+        Err(fault) => fault.word() == word,
     }
 }
 
-/// Whether a step is answered so.
-pub(crate) fn is_answered(alloc: Global, engine: &mut Engine, step: Step<'_>) -> bool {
+/// Runs a step, and checks whether it gets its answer.
+fn runs(alloc: Global, engine: &mut Engine, step: Step<'_>) -> bool {
     match step {
         Step::Install(place, given, word) => installs(alloc, engine, place, given, word),
         Step::Remove(place, word) => removal_word(alloc, engine, place) == Some(word),
         Step::List(app, names) => count(alloc, engine, app) == Some(names),
         Step::Find(place, path, hit) => finds(engine, place, path, hit),
-        Step::Miss(place, path, fault) => misses(engine, place, path, fault),
+        Step::Miss(place, path, word) => misses(engine, place, path, word),
     }
 }
 
-/// Whether each step is answered so.
-pub(crate) fn answers(alloc: Global, engine: &mut Engine, steps: &[Step<'_>]) -> bool {
-    for step in steps {
-        if !is_answered(alloc, engine, *step) {
+/// Runs the step of a line. Returns false if the answer differs, or if the line is no step.
+pub(crate) fn is_answered(alloc: Global, engine: &mut Engine, line: &str) -> bool {
+    match step_of(line) {
+        Some(step) => runs(alloc, engine, step),
+        None => false,
+    }
+}
+
+/// Runs the steps of a text, one a line, up to the first whose answer differs.
+pub(crate) fn answers(alloc: Global, engine: &mut Engine, steps: &str) -> bool {
+    for line in steps.lines() {
+        if !is_answered(alloc, engine, line) {
             return false;
         }
     }
     true
 }
 
-/// Whether a new engine answers each step so.
-pub(crate) fn is_served(rt: &HostRuntime, steps: &[Step<'_>]) -> bool {
+/// Runs the steps of a text on a new engine.
+pub(crate) fn is_served(rt: &HostRuntime, steps: &str) -> bool {
     match empty_engine(rt) {
         Some(mut engine) => answers(rt.alloc(), &mut engine, steps),
         None => false,

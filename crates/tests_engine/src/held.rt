@@ -1,94 +1,136 @@
-//! What applications hold, before and after bundles are put.
+//! Tests what an engine says of its applications' bundles, before and after an incoming bundle is put.
 
-use crate::engine::Step::Remove;
 use crate::engine::{Place, bytes, empty_engine, is_answered};
-use crate::payloads::Given::{File, Text};
 use crate::payloads::{Given, payload};
 use rb_engine::{App, Brought, Change, Engine, Usage};
 use std::alloc::Global;
-use std::test::Fail;
 
-/// A bundle that is read and not put yet.
+/// Reads an incoming bundle, without putting it.
 fn brought(alloc: Global, place: Place<'_>, given: Given<'_>) -> Option<Brought> {
     let app = bytes(alloc, place.0)?;
     let locale = bytes(alloc, place.1)?;
     Brought::read(alloc, &app, &locale, payload(alloc, given)?).ok()
 }
 
-/// The length of the file at the place, that of the file that is put there, and the word of the
-/// reply.
-fn put(
+/// The length of the file at the place, the length of the incoming file, and the word of the reply.
+type Put<'a> = (Option<u64>, u64, &'a str);
+
+/// Puts a bundle, and checks the lengths and the reply.
+fn puts(
     alloc: Global,
     engine: &mut Engine,
     change: Change,
-    place: Place<'_>,
-    given: Given<'_>,
-) -> Option<(Option<u64>, u64, &'static str)> {
-    let brought = brought(alloc, place, given)?;
-    let old = engine.file_len(&brought);
-    let new = brought.len();
-    Some((old, new, engine.put(change, brought).word()))
+    (place, text): (Place<'_>, &str),
+    wanted: Put<'_>,
+) -> bool {
+    let Some(brought) = brought(alloc, place, Given::Text(text)) else {
+        return false;
+    };
+    let (old, new) = (engine.file_len(&brought), brought.len());
+    old == wanted.0 && new == wanted.1 && engine.put(change, brought).word() == wanted.2
 }
 
 /// A text whose file has 76 bytes.
-const SHORT: Given<'static> = Text(b"root{a{\"b\"}}");
+const SHORT: &str = "root{a{\"b\"}}";
 
-/// A text whose file has 80 bytes, as its string has two letters more.
-const LONG: Given<'static> = Text(b"root{a{\"bcd\"}}");
+/// A text whose file has 80 bytes, since its string is two letters longer.
+const LONG: &str = "root{a{\"bcd\"}}";
 
-const SHOP: Place<'static> = (b"shop", b"root");
+const SHOP: Place<'static> = ("shop", "root");
 
-/// A file of 60 bytes, of an empty table.
-const EMPTY: Given<'static> = File(1, &[0x20000006, 5, 6, 7, 7, 0, 0]);
+/// Checks whether `shop` has one bundle, whose file has this many bytes.
+fn has_one(engine: &Engine, bytes: u64) -> bool {
+    match App::read(b"shop") {
+        Ok(shop) => engine.usage(&shop) == Usage { bytes, bundles: 1 },
+        Err(_) => false,
+    }
+}
 
-#[test]
-fn holds_what_is_put(rt: HostRuntime) -> Result<(), Fail> {
-    let alloc = rt.alloc();
-    let shop = App::read(b"shop")?;
-    let mut engine = empty_engine(&rt).ok_or("no engine")?;
-    let first = put(alloc, &mut engine, Change::Install, SHOP, SHORT);
-    assert_eq!(rt; first, Some((None, 76, "Done")));
-    let second = put(alloc, &mut engine, Change::Install, SHOP, LONG);
-    assert_eq!(rt; second, Some((Some(76), 80, "Exists")));
-    assert_eq!(rt;
-        engine.usage(&shop),
-        Usage {
-            bytes: 76,
-            bundles: 1
-        }
-    );
-    let third = put(alloc, &mut engine, Change::Replace, SHOP, LONG);
-    assert_eq!(rt; third, Some((Some(76), 80, "Done")));
-    assert_eq!(rt;
-        engine.usage(&shop),
-        Usage {
-            bytes: 80,
-            bundles: 1
-        }
-    );
-    Ok(())
+fn holds(alloc: Global, engine: &mut Engine) -> bool {
+    puts(
+        alloc,
+        engine,
+        Change::Install,
+        (SHOP, SHORT),
+        (None, 76, "Done"),
+    ) && puts(
+        alloc,
+        engine,
+        Change::Install,
+        (SHOP, LONG),
+        (Some(76), 80, "Exists"),
+    ) && has_one(engine, 76)
+        && puts(
+            alloc,
+            engine,
+            Change::Replace,
+            (SHOP, LONG),
+            (Some(76), 80, "Done"),
+        )
+        && has_one(engine, 80)
+}
+
+fn holds_on(rt: &HostRuntime) -> bool {
+    match empty_engine(rt) {
+        Some(mut engine) => holds(rt.alloc(), &mut engine),
+        None => false,
+    }
 }
 
 #[test]
-fn counts_applications_with_bundles(rt: HostRuntime) -> Result<(), Fail> {
-    let alloc = rt.alloc();
-    let mut engine = empty_engine(&rt).ok_or("no engine")?;
-    let bank: Place<'_> = (b"bank", b"de");
-    let absent = put(alloc, &mut engine, Change::Replace, bank, SHORT);
-    assert_eq!(rt; absent, Some((None, 76, "Absent")));
-    assert_eq!(rt; engine.apps(), 0);
-    assert!(rt; put(alloc, &mut engine, Change::Install, bank, SHORT).is_some());
-    assert!(rt; put(alloc, &mut engine, Change::Install, SHOP, LONG).is_some());
-    assert_eq!(rt; engine.apps(), 2);
-    assert!(rt; is_answered(alloc, &mut engine, Remove(bank, "Done")));
-    assert_eq!(rt; engine.apps(), 1);
-    Ok(())
+fn holds_what_is_put(rt: HostRuntime) {
+    assert!(rt; holds_on(&rt));
+}
+
+fn counts(alloc: Global, engine: &mut Engine) -> bool {
+    let bank: Place<'_> = ("bank", "de");
+    puts(
+        alloc,
+        engine,
+        Change::Replace,
+        (bank, SHORT),
+        (None, 76, "Absent"),
+    ) && engine.apps() == 0
+        && puts(
+            alloc,
+            engine,
+            Change::Install,
+            (bank, SHORT),
+            (None, 76, "Done"),
+        )
+        && puts(
+            alloc,
+            engine,
+            Change::Install,
+            (SHOP, LONG),
+            (None, 80, "Done"),
+        )
+        && engine.apps() == 2
+        && is_answered(alloc, engine, "remove|bank|de|Done")
+        && engine.apps() == 1
+}
+
+fn counts_on(rt: &HostRuntime) -> bool {
+    match empty_engine(rt) {
+        Some(mut engine) => counts(rt.alloc(), &mut engine),
+        None => false,
+    }
 }
 
 #[test]
-fn keeps_a_file_as_it_came(rt: HostRuntime) -> Result<(), Fail> {
-    let brought = brought(rt.alloc(), SHOP, EMPTY).ok_or("refused")?;
-    assert_eq!(rt; brought.len(), 60);
-    assert_eq!(rt; brought.app().as_bytes(), b"shop".as_slice());
-    Ok(())
+fn counts_applications_with_bundles(rt: HostRuntime) {
+    assert!(rt; counts_on(&rt));
+}
+
+/// Checks the length and the application of an incoming file of 60 bytes.
+fn keeps_file(alloc: Global) -> bool {
+    match brought(alloc, SHOP, Given::File("empty")) {
+        Some(brought) => brought.len() == 60 && brought.app().as_bytes() == b"shop".as_slice(),
+        None => false,
+    }
+}
+
+#[test]
+fn keeps_a_file_as_it_came(rt: HostRuntime) {
+    assert!(rt; keeps_file(rt.alloc()));
 }

@@ -1,4 +1,4 @@
-//! Tests of the engine of many applications, `rb_engine`, and of their packages, `rb_packages`.
+//! Tests the engine of many applications, `rb_engine`, and its packages, `rb_packages`.
 #![tactic(auto)]
 
 #[cfg(test)]

@@ -1,25 +1,39 @@
-//! Texts and files that are installed.
+//! Makes the texts and files that the tests install.
 
 use rb_engine::Payload;
 use rb_tree::ByteList;
 use std::alloc::Global;
 
-/// What is installed.
+/// A payload, described briefly.
 #[derive(Clone, Copy)]
 pub(crate) enum Given<'a> {
-    Text(&'a [u8]),
-    /// A file of a minor version with these words of data.
-    File(u8, &'a [u32]),
-    /// The same file without its last byte.
-    Cut(u8, &'a [u32]),
-    /// A file of nested arrays, this many of them.
+    Text(&'a str),
+    /// The file of that name in `named`.
+    File(&'a str),
+    /// The named file without its last byte.
+    Cut(&'a str),
+    /// A file with this many nested arrays.
     Nested(u32),
-    /// The text `root{` and this many `a{`.
+    /// The text `root{`, followed by this many `a{`.
     Braces(u32),
-    /// The text of a string at `a`, of this many bytes in all.
+    /// A text of this many bytes, with one string at `a`.
     LongText(usize),
-    /// A file of a Binary at `a`, of this many words of data in all.
+    /// A file with this many words of data, which has one binary at `a`.
     LongFile(u32),
+}
+
+/// Reads the kind of a payload and what that kind needs, as a step's line has them.
+pub(crate) fn given_of<'a>(kind: &str, of: &'a str) -> Option<Given<'a>> {
+    Some(match kind {
+        "text" => Given::Text(of),
+        "file" => Given::File(of),
+        "cut" => Given::Cut(of),
+        "nested" => Given::Nested(of.parse().ok()?),
+        "braces" => Given::Braces(of.parse().ok()?),
+        "long text" => Given::LongText(of.parse().ok()?),
+        "long file" => Given::LongFile(of.parse().ok()?),
+        _ => return None,
+    })
 }
 
 /// The header of a file of format 1.1.
@@ -29,7 +43,32 @@ const HEADER: [u8; 32] = [
 ];
 
 /// The key `a`, which starts at byte 24 of the data, and its padding.
-pub(crate) const KEY: u32 = 0xAAAA0061;
+const KEY: u32 = 0xAAAA0061;
+
+/// The data of a bundle with the string `b` at `a`.
+const SAMPLE: [u32; 11] = [0x20000009, 5, 7, 11, 11, 1, KEY, 1, 0x62, 0x00180001, 7];
+
+/// The data of a bundle without fallback, with the string `b` at `a`.
+const FLAGGED: [u32; 12] = [0x2000000A, 6, 8, 12, 12, 1, 1, KEY, 1, 0x62, 0x001C0001, 8];
+
+/// The data of an empty table.
+const EMPTY: [u32; 7] = [0x20000006, 5, 6, 7, 7, 0, 0];
+
+/// The data of a table whose entry `a` is an array that contains itself.
+const ENDLESS: [u32; 11] = [
+    0x20000009, 5, 7, 11, 11, 1, KEY, 1, 0x80000007, 0x00180001, 0x80000007,
+];
+
+/// Returns the minor version and the data of the file with a name.
+fn named(name: &str) -> Option<(u8, &'static [u32])> {
+    match name {
+        "sample" => Some((1, &SAMPLE)),
+        "flagged" => Some((2, &FLAGGED)),
+        "empty" => Some((1, &EMPTY)),
+        "endless" => Some((1, &ENDLESS)),
+        _ => None,
+    }
+}
 
 fn put(file: &mut Vec<u8>, words: &[u32]) -> Option<()> {
     for word in words {
@@ -47,14 +86,19 @@ fn file(alloc: Global, minor: u8, words: &[u32]) -> Option<Vec<u8>> {
     Some(file)
 }
 
-fn cut_file(alloc: Global, minor: u8, words: &[u32]) -> Option<Vec<u8>> {
-    let mut file = file(alloc, minor, words)?;
+fn named_file(alloc: Global, name: &str) -> Option<Vec<u8>> {
+    let (minor, words) = named(name)?;
+    file(alloc, minor, words)
+}
+
+fn cut_file(alloc: Global, name: &str) -> Option<Vec<u8>> {
+    let mut file = named_file(alloc, name)?;
     let _ = file.pop();
     Some(file)
 }
 
-/// The file of a table that has, at `a`, nested arrays of two items each, both items being the next
-/// array, and Ints in the last.
+/// Builds a file whose entry `a` is nested arrays of two items. Both items of an array are the next
+/// array; those of the last one are integers.
 fn nested_arrays(alloc: Global, count: u32) -> Option<Vec<u8>> {
     let table = 7 + 3 * (count % 100);
     let front = [0x20000000 + table, 5, 7, table + 2, table + 2, 1, KEY];
@@ -97,9 +141,9 @@ fn long_file(alloc: Global, words: u32) -> Option<Vec<u8>> {
 
 pub(crate) fn payload(alloc: Global, given: Given<'_>) -> Option<Payload> {
     let bytes = match given {
-        Given::Text(text) => text.to_vec(alloc).ok()?,
-        Given::File(minor, words) => file(alloc, minor, words)?,
-        Given::Cut(minor, words) => cut_file(alloc, minor, words)?,
+        Given::Text(text) => text.as_bytes().to_vec(alloc).ok()?,
+        Given::File(name) => named_file(alloc, name)?,
+        Given::Cut(name) => cut_file(alloc, name)?,
         Given::Nested(count) => nested_arrays(alloc, count)?,
         Given::Braces(count) => braces(alloc, count)?,
         Given::LongText(length) => long_text(alloc, length)?,

@@ -1,4 +1,4 @@
-//! The fields of sample files.
+//! Tests the fields of sample files.
 use crate::samples::{ONE_STRING, ONE_STRING_WITHOUT_FALLBACK, Sample, bytes_of};
 use rb_format::{
     Attributes, FileFault, Header, ItemKind, half, has_valid_indexes, item_kind, item_offset,
@@ -6,7 +6,7 @@ use rb_format::{
 };
 use std::alloc::Global;
 
-/// Whether a header is read with its size and minor version, or refused so.
+/// Checks whether a header is read with its size and minor version, or refused so.
 fn is_header(file: &[u8], minor: u8, fault: Option<FileFault>) -> bool {
     match Header::read(file) {
         Ok(header) => fault.is_none() && header.size == 32 && header.minor == minor,
@@ -14,8 +14,8 @@ fn is_header(file: &[u8], minor: u8, fault: Option<FileFault>) -> bool {
     }
 }
 
-/// Whether the header of the sample with one string, with another minor version, is read or refused
-/// so.
+/// Checks whether the header of the sample with one string, with another minor version, is read or
+/// refused so.
 fn is_minor(alloc: Global, minor: u8, fault: Option<FileFault>) -> bool {
     let words = ONE_STRING.words;
     match bytes_of(alloc, Sample { minor, words }) {
@@ -35,7 +35,7 @@ fn minor_versions_are_read(rt: HostRuntime) {
 /// Minor versions, and the attributes of data with the flag.
 const VERSIONS: [(u8, u32); 3] = [(1, 0), (2, 1), (3, 1)];
 
-/// Whether data has the flag in each minor version but the first.
+/// Checks whether data has the flag in each minor version but the first.
 fn has_flag(body: &[u8]) -> bool {
     if !has_valid_indexes(body) {
         return false;
@@ -48,7 +48,7 @@ fn has_flag(body: &[u8]) -> bool {
     true
 }
 
-/// Whether the data of a file has the flag.
+/// Checks whether the data of a file has the flag.
 fn is_flagged(file: Option<Vec<u8>>) -> bool {
     match file {
         Some(file) => has_flag(file.get(32..).unwrap_or(&[])),
@@ -105,7 +105,7 @@ fn has_numbers(body: &[u8]) -> bool {
     true
 }
 
-/// Whether there is a key at byte 24 alone, of these four.
+/// Checks whether there is a key at byte 24 alone, of these four.
 fn has_key(body: &[u8]) -> bool {
     key_at(body, 24) == Some(&b"a"[..])
         && key_at(body, 23).is_none()

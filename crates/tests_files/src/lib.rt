@@ -1,4 +1,4 @@
-//! Tests of bundle files: `rb_format`, `rb_writer`, `rb_validator`, `rb_views`.
+//! Tests bundle files: `rb_format`, `rb_writer`, `rb_validator`, `rb_views`.
 #![tactic(auto)]
 
 #[cfg(test)]

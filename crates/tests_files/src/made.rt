@@ -1,4 +1,4 @@
-//! Large files and files that share items, made word by word.
+//! Builds large files and files that share items, word by word.
 ghost use Rattle.std.specs.Prelude.{◌<◌, ◌^◌};
 
 use crate::samples::Draft;
@@ -13,15 +13,15 @@ const INT: u32 = 0x7000_0000;
 
 const ARRAY: u32 = 0x8000_0000;
 
-/// The header, the root item and the indexes.
+/// Returns the header, the root item and the indexes.
 fn front(alloc: Global, root: u32, keys_top: u32, top: u32) -> Draft {
     let mut file = Draft::new(alloc, 1);
     file.words(&[root, 5, keys_top, top, top, 0]);
     file
 }
 
-/// This many arrays from word 7 on, the first of two Ints and each other one of the one before it,
-/// twice.
+/// Returns this many arrays from word 7 on, the first of two Ints and each other one of the one
+/// before it, twice.
 fn put_arrays(file: &mut Draft, arrays: u32)
     requires { arrays < 2 ^ 20 }
 {
@@ -32,7 +32,7 @@ fn put_arrays(file: &mut Draft, arrays: u32)
     }
 }
 
-/// A table whose `a` is the last of this many arrays.
+/// Returns a table whose `a` is the last of this many arrays.
 pub fn chain(alloc: Global, arrays: u32) -> Option<Vec<u8>>
     requires { arrays < 2 ^ 20 }
 {
@@ -44,8 +44,8 @@ pub fn chain(alloc: Global, arrays: u32) -> Option<Vec<u8>>
     file.done()
 }
 
-/// A table whose `a` is the last of this many arrays, and whose `b` is an array of one item, the
-/// same array at first.
+/// Returns a table whose `a` is the last of this many arrays, and whose `b` is an array of one
+/// item, the same array at first.
 pub fn chain_and_more(alloc: Global, arrays: u32) -> Option<Vec<u8>>
     requires { arrays < 2 ^ 20 }
 {
@@ -58,8 +58,8 @@ pub fn chain_and_more(alloc: Global, arrays: u32) -> Option<Vec<u8>>
     file.done()
 }
 
-/// This many arrays of one item each, from a word on, each of the one before it and the first of an
-/// item.
+/// Returns this many arrays of one item each, from a word on, each of the one before it and the
+/// first of an item.
 fn put_wraps(file: &mut Draft, item: u32, first: u32, wraps: u32)
     requires first { first < 2 ^ 24 }
     requires wraps { wraps < 2 ^ 20 }
@@ -71,8 +71,8 @@ fn put_wraps(file: &mut Draft, item: u32, first: u32, wraps: u32)
     }
 }
 
-/// This many arrays from word 7 on, one word apart, each word the count of one and an item of
-/// others, with the string that all of them have; and an array of `word` items, each of these
+/// Returns this many arrays from word 7 on, one word apart, each word the count of one and an item
+/// of others, with the string that all of them have; and an array of `word` items, each of these
 /// arrays in turn.
 fn put_overlapping(file: &mut Draft, arrays: u32, word: u32)
     requires arrays { arrays < 2 ^ 20 }
@@ -89,9 +89,9 @@ fn put_overlapping(file: &mut Draft, arrays: u32, word: u32)
     }
 }
 
-/// A table whose `a` is an array of this many arrays, one word apart, each word the count of one
-/// and an item of others; and whose `b` is an array that begins one word after `a`, below this many
-/// arrays of one item.
+/// Returns a table whose `a` is an array of this many arrays, one word apart, each word the count
+/// of one and an item of others; and whose `b` is an array that begins one word after `a`, below
+/// this many arrays of one item.
 pub fn overlapping(alloc: Global, arrays: u32, above: u32) -> Option<Vec<u8>>
     requires many { arrays < 2 ^ 20 }
     requires deep { above < 2 ^ 20 }
@@ -110,9 +110,9 @@ pub fn overlapping(alloc: Global, arrays: u32, above: u32) -> Option<Vec<u8>>
     file.done()
 }
 
-/// A table whose `a` is an item, and whose `b` is another below this many arrays of one item. At
-/// word 7 are a long table of one key, its item an array of an array of an Int, and an array of a
-/// string; at word 14 are an empty table of either kind, and an empty array.
+/// Returns a table whose `a` is an item, and whose `b` is another below this many arrays of one
+/// item. At word 7 are a long table of one key, its item an array of an array of an Int, and an
+/// array of a string; at word 14 are an empty table of either kind, and an empty array.
 pub fn two_kinds(alloc: Global, a: u32, b: u32, above: u8) -> Option<Vec<u8>> {
     let above = above as u32;
     let table = 26 + 2 * above;
@@ -126,8 +126,8 @@ pub fn two_kinds(alloc: Global, a: u32, b: u32, above: u8) -> Option<Vec<u8>> {
     file.done()
 }
 
-/// A table of this many keys, each the end of one long key, the shortest first. The last key has an
-/// offset of its own.
+/// Returns a table of this many keys, each the end of one long key, the shortest first. The last
+/// key has an offset of its own.
 pub fn suffixes(alloc: Global, keys: u32, last: u32) -> Option<Vec<u8>>
     requires { keys < 2 ^ 20 }
 {
@@ -144,7 +144,7 @@ pub fn suffixes(alloc: Global, keys: u32, last: u32) -> Option<Vec<u8>>
     file.done()
 }
 
-/// A key of seven letters for a number, and its NUL.
+/// Returns a key of seven letters for a number, and its NUL.
 fn put_key(file: &mut Draft, number: u32) {
     for digit in 0..7u32 {
         let letter = (number >> (24 - 4 * digit)) % 16;
@@ -153,7 +153,7 @@ fn put_key(file: &mut Draft, number: u32) {
     file.push(0);
 }
 
-/// A table of this many Ints.
+/// Returns a table of this many Ints.
 pub fn numbers(alloc: Global, count: u32) -> Option<Vec<u8>>
     requires { count < 2 ^ 20 }
 {

@@ -1,4 +1,4 @@
-//! Sample files, word by word.
+//! Defines sample files, word by word.
 use std::alloc::Global;
 
 /// A file by its minor version and the words of its data, which comes after the header.
@@ -110,7 +110,7 @@ pub const AS_WRITTEN: Sample<'static> = Sample {
     ],
 };
 
-/// The bytes of a file in the making; if memory runs out, it isn't whole.
+/// The bytes of a file while it is built. If memory runs out, it isn't whole.
 #[derive(Drop)]
 pub struct Draft {
     bytes: Vec<u8>,
@@ -118,7 +118,7 @@ pub struct Draft {
 }
 
 impl Draft {
-    /// The header of a file of a minor version.
+    /// Returns the header of a file of a minor version.
     pub fn new(alloc: Global, minor: u8) -> Draft {
         let mut draft = Draft {
             bytes: Vec::new(alloc),
@@ -148,14 +148,14 @@ impl Draft {
         }
     }
 
-    /// The same word this many times.
+    /// Adds a word this many times.
     pub fn repeat(&mut self, word: u32, count: u32) {
         for _ in 0..count {
             self.word(word);
         }
     }
 
-    /// The bytes, if the file is whole.
+    /// Returns the bytes, if the file is whole.
     pub fn done(self) -> Option<Vec<u8>> {
         if self.is_whole {
             Some(self.bytes)
@@ -165,7 +165,7 @@ impl Draft {
     }
 }
 
-/// The bytes of a sample.
+/// Returns the bytes of a sample.
 pub fn bytes_of(alloc: Global, sample: Sample<'_>) -> Option<Vec<u8>> {
     let mut draft = Draft::new(alloc, sample.minor);
     draft.words(sample.words);

@@ -1,4 +1,4 @@
-//! The sample files, damaged ones, and files that a plain checker judges beside the code.
+//! Tests the validator over sample files and damaged ones, and beside a plain checker.
 mod plain;
 mod seen;
 
@@ -14,10 +14,10 @@ use rb_views::root;
 use seen::is_seen;
 use std::alloc::Global;
 
-/// What `accept` answers: the number of visits and the flag, or the fault.
+/// The answer of `accept`: the number of visits and the flag, or the fault.
 type Verdict = Result<(u64, bool), FileFault>;
 
-/// What `accept` answers of a file; none if other bytes come back.
+/// Returns what `accept` answers of a file, or None if it returns other bytes.
 fn verdict(alloc: Global, bytes: &[u8]) -> Option<Verdict> {
     let (found, is_same) = match accept(alloc, bytes.to_vec(alloc).ok()?) {
         Ok(bundle) => (
@@ -29,7 +29,7 @@ fn verdict(alloc: Global, bytes: &[u8]) -> Option<Verdict> {
     if is_same { Some(found) } else { None }
 }
 
-/// The bytes with others written over them.
+/// Returns bytes with others written over them.
 fn with(alloc: Global, bytes: &[u8], place: usize, over: &[u8]) -> Option<Vec<u8>> {
     let mut file = bytes.to_vec(alloc).ok()?;
     for (i, byte) in over.iter().enumerate() {
@@ -40,97 +40,114 @@ fn with(alloc: Global, bytes: &[u8], place: usize, over: &[u8]) -> Option<Vec<u8
     Some(file)
 }
 
-/// A sample, bytes that are written over it from a place on, and what is answered then.
-type Case<'a> = (Sample<'a>, usize, &'a [u8], Verdict);
-
-/// Whether a case is answered so.
-fn is_judged(alloc: Global, sample: Sample<'_>, place: usize, over: &[u8], want: Verdict) -> bool {
-    let Some(bytes) = bytes_of(alloc, sample) else {
-        return false;
-    };
-    match with(alloc, bytes.as_slice(), place, over) {
-        Some(file) => verdict(alloc, file.as_slice()) == Some(want),
-        None => false,
+/// Checks a verdict against its text: the number of visits, with `nofallback` if the flag is set, or
+/// the fault's word.
+fn is_verdict(found: Verdict, want: &str) -> bool {
+    match found {
+        Ok((visits, flag)) => {
+            let number = want.strip_suffix(" nofallback");
+            flag == number.is_some() && number.unwrap_or(want).parse::<u64>().ok() == Some(visits)
+        }
+        Err(fault) => fault.word() == want,
     }
 }
 
-/// The first case that is answered otherwise.
-fn first_wrong(alloc: Global, cases: &[Case<'_>]) -> Option<usize> {
-    for (i, (sample, place, over, want)) in cases.iter().enumerate() {
-        if !is_judged(alloc, *sample, *place, over, *want) {
-            return Some(i);
+/// Returns the sample that a row names.
+fn named(name: &str) -> Option<Sample<'static>> {
+    match name {
+        "empty" => Some(EMPTY),
+        "one_string" => Some(ONE_STRING),
+        "flagged" => Some(ONE_STRING_WITHOUT_FALLBACK),
+        "two_numbers" => Some(TWO_NUMBERS),
+        "three_numbers" => Some(THREE_NUMBERS),
+        "two_binaries" => Some(TWO_BINARIES),
+        "every_type" => Some(EVERY_TYPE),
+        "holds_itself" => Some(HOLDS_ITSELF),
+        _ => None,
+    }
+}
+
+/// Returns a file with the bytes of a list written over it.
+fn with_list(alloc: Global, bytes: &[u8], place: usize, list: &str) -> Option<Vec<u8>> {
+    let mut over = Vec::new(alloc);
+    for byte in list.split_whitespace() {
+        over.push(byte.parse().ok()?).ok()?;
+    }
+    with(alloc, bytes, place, over.as_slice())
+}
+
+/// Checks the verdict of a row, `SAMPLE|OFFSET|BYTES|VERDICT`. The bytes are written over the sample
+/// from the offset on. Returns None if the row can't be read.
+fn is_judged(alloc: Global, row: &str) -> Option<bool> {
+    let mut fields = row.split('|');
+    let bytes = bytes_of(alloc, named(fields.next()?)?)?;
+    let place: usize = fields.next()?.parse().ok()?;
+    let file = with_list(alloc, bytes.as_slice(), place, fields.next()?)?;
+    Some(is_verdict(verdict(alloc, file.as_slice())?, fields.next()?))
+}
+
+/// Returns the first row whose verdict differs.
+fn first_wrong<'a>(alloc: Global, rows: &'a str) -> Option<&'a str> {
+    for row in rows.lines() {
+        if is_judged(alloc, row) != Some(true) {
+            return Some(row);
         }
     }
     None
 }
 
-const SAMPLES: [Case<'static>; 7] = [
-    (EMPTY, 0, b"", Ok((0, false))),
-    (ONE_STRING, 0, b"", Ok((1, false))),
-    (TWO_NUMBERS, 0, b"", Ok((1, false))),
-    (THREE_NUMBERS, 0, b"", Ok((1, false))),
-    (TWO_BINARIES, 0, b"", Ok((1, false))),
-    (EVERY_TYPE, 0, b"", Ok((4, false))),
-    (HOLDS_ITSELF, 0, b"", Err(FileFault::TooDeep)),
-];
+const SAMPLES: &str = "\
+empty|0||0
+one_string|0||1
+two_numbers|0||1
+three_numbers|0||1
+two_binaries|0||1
+every_type|0||4
+holds_itself|0||TooDeep";
 
 #[test]
 fn samples_are_accepted(rt: HostRuntime) {
-    assert!(rt; first_wrong(rt.alloc(), &SAMPLES).is_none());
+    assert!(rt; first_wrong(rt.alloc(), SAMPLES).is_none());
 }
 
-const DAMAGED: [Case<'static>; 12] = [
-    (ONE_STRING, 66, &[1], Err(FileFault::NotTerminated)),
-    (ONE_STRING, 35, &[0x80], Err(FileFault::Root)),
-    (ONE_STRING, 16, &[2], Err(FileFault::FormatVersion)),
-    (ONE_STRING, 8, &[1], Err(FileFault::BigEndian)),
-    (ONE_STRING, 9, &[1], Err(FileFault::Family)),
-    (ONE_STRING, 75, &[0x60], Err(FileFault::ItemType)),
-    (ONE_STRING, 72, &[6], Err(FileFault::Offset)),
-    (ONE_STRING, 72, &[11], Err(FileFault::Offset)),
-    (ONE_STRING, 60, &[100], Err(FileFault::Length)),
-    (ONE_STRING, 70, &[0x1C], Err(FileFault::Key)),
-    (
-        TWO_NUMBERS,
-        62,
-        &[0x1A, 0, 0x18, 0],
-        Err(FileFault::KeyOrder),
-    ),
-    (
-        TWO_NUMBERS,
-        62,
-        &[0x18, 0, 0x18, 0],
-        Err(FileFault::KeyOrder),
-    ),
-];
+const DAMAGED: &str = "\
+one_string|66|1|NotTerminated
+one_string|35|128|Root
+one_string|16|2|FormatVersion
+one_string|8|1|BigEndian
+one_string|9|1|Family
+one_string|75|96|ItemType
+one_string|72|6|Offset
+one_string|72|11|Offset
+one_string|60|100|Length
+one_string|70|28|Key
+two_numbers|62|26 0 24 0|KeyOrder
+two_numbers|62|24 0 24 0|KeyOrder";
 
 #[test]
 fn damage_is_named(rt: HostRuntime) {
-    assert!(rt; first_wrong(rt.alloc(), &DAMAGED).is_none());
+    assert!(rt; first_wrong(rt.alloc(), DAMAGED).is_none());
 }
 
-const FLAGGED: Sample<'static> = ONE_STRING_WITHOUT_FALLBACK;
-
-const VERSIONS: [Case<'static>; 11] = [
-    (ONE_STRING, 17, &[0], Err(FileFault::FormatVersion)),
-    (ONE_STRING, 17, &[1], Ok((1, false))),
-    (ONE_STRING, 17, &[2], Ok((1, false))),
-    (ONE_STRING, 17, &[3], Ok((1, false))),
-    (FLAGGED, 17, &[1], Ok((1, false))),
-    (FLAGGED, 17, &[2], Ok((1, true))),
-    (FLAGGED, 56, &[8], Ok((1, false))),
-    (FLAGGED, 56, &[2], Err(FileFault::Attributes)),
-    (FLAGGED, 56, &[3], Err(FileFault::Attributes)),
-    (FLAGGED, 56, &[4], Err(FileFault::Attributes)),
-    (FLAGGED, 56, &[5], Err(FileFault::Attributes)),
-];
+const VERSIONS: &str = "\
+one_string|17|0|FormatVersion
+one_string|17|1|1
+one_string|17|2|1
+one_string|17|3|1
+flagged|17|1|1
+flagged|17|2|1 nofallback
+flagged|56|8|1
+flagged|56|2|Attributes
+flagged|56|3|Attributes
+flagged|56|4|Attributes
+flagged|56|5|Attributes";
 
 #[test]
 fn minor_versions_have_attributes(rt: HostRuntime) {
-    assert!(rt; first_wrong(rt.alloc(), &VERSIONS).is_none());
+    assert!(rt; first_wrong(rt.alloc(), VERSIONS).is_none());
 }
 
-/// Whether a file of this many bytes is too long, and comes back.
+/// Checks whether a file of this many bytes is too long, and is returned.
 fn is_too_long(alloc: Global, length: usize) -> Option<bool> {
     let long = vec![in alloc; 0u8; length].ok()?;
     Some(match accept(alloc, long) {
@@ -144,8 +161,8 @@ fn length_is_limited(rt: HostRuntime) {
     assert!(rt; is_too_long(rt.alloc(), 67_108_865) == Some(true));
 }
 
-/// Whether each front of a file is refused: for its header if that isn't whole, and else for its
-/// indexes.
+/// Checks whether each proper prefix of a file is refused: for its header if that isn't whole, else for
+/// its indexes.
 fn are_fronts_refused(alloc: Global, file: Option<Vec<u8>>) -> bool {
     let Some(file) = file else {
         return false;
@@ -168,9 +185,8 @@ fn cut_files_are_refused(rt: HostRuntime) {
     assert!(rt; are_fronts_refused(rt.alloc(), bytes_of(rt.alloc(), ONE_STRING)));
 }
 
-/// Whether `accept` judges a file as the plain checker does. Of a file that it takes, the views
-/// must give what the plain checker reads, and there are at most three visits for each word of the
-/// bundle.
+/// Checks whether `accept` agrees with the plain checker on a file. If it accepts the file, the views
+/// must give what the plain checker reads, in at most three visits for each word of the bundle.
 fn agrees(alloc: Global, file: &[u8]) -> Option<bool> {
     let fault = plain_fault(file);
     Some(match accept(alloc, file.to_vec(alloc).ok()?) {
@@ -184,7 +200,7 @@ fn agrees(alloc: Global, file: &[u8]) -> Option<bool> {
     })
 }
 
-/// What is written over a word of a file.
+/// Returns what is written over a word of a file.
 fn damages(word: u32) -> [u32; 5] {
     [
         0,
@@ -195,13 +211,13 @@ fn damages(word: u32) -> [u32; 5] {
     ]
 }
 
-/// Whether a file with a damaged word is judged as the plain checker does.
+/// Checks whether both agree on a file with a damaged word.
 fn agrees_with(alloc: Global, file: &[u8], place: usize, word: u32) -> Option<bool> {
     let damaged = with(alloc, file, place, &word.to_le_bytes())?;
     agrees(alloc, damaged.as_slice())
 }
 
-/// Whether each damage of a word of a file is judged as the plain checker does.
+/// Checks whether both agree on each damage of each word of a file.
 fn agrees_on_words(alloc: Global, file: &[u8]) -> bool {
     for i in 0..file.len() / 4 {
         let mut bytes = [0; 4];
@@ -215,7 +231,7 @@ fn agrees_on_words(alloc: Global, file: &[u8]) -> bool {
     true
 }
 
-/// Whether each front of a file is judged as the plain checker does.
+/// Checks whether both agree on each proper prefix of a file.
 fn agrees_on_fronts(alloc: Global, file: &[u8]) -> bool {
     for n in 0..file.len() {
         if agrees(alloc, &file[..n]) != Some(true) {
@@ -225,7 +241,7 @@ fn agrees_on_fronts(alloc: Global, file: &[u8]) -> bool {
     true
 }
 
-/// Whether a file, its damaged words and its fronts are judged as the plain checker does.
+/// Checks whether both agree on a file, its damages and its prefixes.
 fn agrees_on_all(alloc: Global, file: Option<Vec<u8>>) -> bool {
     let Some(file) = file else {
         return false;
@@ -263,38 +279,41 @@ fn a_plain_checker_agrees_on_shared_items(rt: HostRuntime) {
     assert!(rt; agrees_on_all(alloc, numbers(alloc, 6)));
 }
 
-/// The offset of the last of 1,000 keys, and the fault.
-const LAST_KEYS: [(u32, Option<FileFault>); 8] = [
-    (24, None),
-    (28, None),
-    (29, Some(FileFault::KeyOrder)),
-    (30, Some(FileFault::KeyOrder)),
-    (1_027, Some(FileFault::KeyOrder)),
-    (1_028, Some(FileFault::Key)),
-    (1_032, Some(FileFault::Key)),
-    (23, Some(FileFault::Key)),
-];
+/// Offsets of the last of 1,000 keys, each with the fault.
+const LAST_KEYS: &str = "\
+24|none
+28|none
+29|KeyOrder
+30|KeyOrder
+1027|KeyOrder
+1028|Key
+1032|Key
+23|Key";
 
-/// Whether 1,000 keys of which the last is at this offset have this fault, for the plain checker too.
-fn is_ranked(alloc: Global, last: u32, fault: Option<FileFault>) -> bool {
-    let Some(file) = suffixes(alloc, 1_000, last) else {
-        return false;
-    };
-    let found = match verdict(alloc, file.as_slice()) {
-        Some(found) => found.err(),
-        None => return false,
-    };
-    plain_fault(file.as_slice()) == fault && found == fault
+/// Checks a fault against its word, or `none`.
+fn is_fault(found: Option<FileFault>, want: &str) -> bool {
+    match found {
+        Some(fault) => fault.word() == want,
+        None => want == "none",
+    }
+}
+
+/// Checks the fault of 1,000 keys of which the last is at an offset, for the plain checker too.
+fn is_ranked(alloc: Global, row: &str) -> Option<bool> {
+    let (last, fault) = row.split_once('|')?;
+    let file = suffixes(alloc, 1_000, last.parse().ok()?)?;
+    let found = verdict(alloc, file.as_slice())?.err();
+    Some(is_fault(plain_fault(file.as_slice()), fault) && is_fault(found, fault))
 }
 
 #[test]
 fn long_keys_are_ranked(rt: HostRuntime) {
-    for (last, fault) in LAST_KEYS {
-        assert!(rt; is_ranked(rt.alloc(), last, fault));
+    for row in LAST_KEYS.lines() {
+        assert!(rt; is_ranked(rt.alloc(), row) == Some(true), "{row}");
     }
 }
 
-/// Whether a file has this many bytes and is answered so.
+/// Checks the length of a file, and the verdict.
 fn is_visited(alloc: Global, file: Option<Vec<u8>>, length: usize, want: Verdict) -> bool {
     match file {
         Some(file) => file.len() == length && verdict(alloc, file.as_slice()) == Some(want),
@@ -302,21 +321,26 @@ fn is_visited(alloc: Global, file: Option<Vec<u8>>, length: usize, want: Verdict
     }
 }
 
-/// This many arrays in a chain, the file's length, and what is answered.
-const CHAINS: [(u32, usize, Verdict); 4] = [
-    (30, 428, Ok((31, false))),
-    (31, 440, Ok((32, false))),
-    (62, 812, Ok((63, false))),
-    (63, 824, Err(FileFault::TooDeep)),
-];
+/// Checks chains of arrays: the lengths of their files, and the verdicts.
+fn are_chains_visited(alloc: Global) -> bool {
+    is_visited(alloc, chain(alloc, 30), 428, Ok((31, false)))
+        && is_visited(alloc, chain(alloc, 31), 440, Ok((32, false)))
+        && is_visited(alloc, chain(alloc, 62), 812, Ok((63, false)))
+        && is_visited(alloc, chain(alloc, 63), 824, Err(FileFault::TooDeep))
+}
 
-/// The same with one more array.
-const CHAINS_AND_MORE: [(u32, usize, Verdict); 2] = [
-    (30, 444, Ok((32, false))),
-    (62, 828, Err(FileFault::TooDeep)),
-];
+/// Checks chains with one more array.
+fn are_longer_chains_visited(alloc: Global) -> bool {
+    is_visited(alloc, chain_and_more(alloc, 30), 444, Ok((32, false)))
+        && is_visited(
+            alloc,
+            chain_and_more(alloc, 62),
+            828,
+            Err(FileFault::TooDeep),
+        )
+}
 
-/// A chain and an array of the lowest array but one.
+/// Returns a chain and an array of the lowest array but one.
 fn chain_and_lower(alloc: Global) -> Option<Vec<u8>> {
     let file = chain_and_more(alloc, 30)?;
     with(alloc, file.as_slice(), 424, &[0x5B])
@@ -325,12 +349,8 @@ fn chain_and_lower(alloc: Global) -> Option<Vec<u8>> {
 #[test]
 fn places_are_entered_once(rt: HostRuntime) {
     let alloc = rt.alloc();
-    for (arrays, length, want) in CHAINS {
-        assert!(rt; is_visited(alloc, chain(alloc, arrays), length, want));
-    }
-    for (arrays, length, want) in CHAINS_AND_MORE {
-        assert!(rt; is_visited(alloc, chain_and_more(alloc, arrays), length, want));
-    }
+    assert!(rt; are_chains_visited(alloc));
+    assert!(rt; are_longer_chains_visited(alloc));
     assert!(rt; is_visited(alloc, chain_and_lower(alloc), 444, Ok((32, false))));
 }
 
@@ -347,41 +367,60 @@ fn overlapping_arrays_are_entered_once(rt: HostRuntime) {
     assert!(rt; is_visited(alloc, deeper, 1_856, Err(FileFault::TooDeep)));
 }
 
-/// The items `a` and `b` of `two_kinds`, how many arrays `b` is below, and what is answered. The
-/// root is at level 1.
-const TWO_KINDS: [(u32, u32, u8, Verdict); 13] = [
+/// Checks the length and the verdict of a file of `two_kinds`, whose root is at level 1.
+fn is_two_kinds(alloc: Global, items: (u32, u32), above: u8, want: Verdict) -> bool {
+    let length = 152 + 8 * above as usize;
+    is_visited(
+        alloc,
+        two_kinds(alloc, items.0, items.1, above),
+        length,
+        want,
+    )
+}
+
+const TOO_DEEP: Verdict = Err(FileFault::TooDeep);
+
+/// Checks an array and a long table at one offset, below other arrays.
+fn are_array_and_table(alloc: Global) -> bool {
     // the root, the long table with its two arrays, 61 arrays, and the array at level 63 with its
     // string at level 64
-    (0x4000_0007, 0x8000_0007, 61, Ok((66, false))),
-    // the string would be at level 65
-    (0x4000_0007, 0x8000_0007, 62, Err(FileFault::TooDeep)),
-    // the root, the array, 59 arrays, and the long table at level 61 with two arrays and an Int
-    // below it
-    (0x8000_0007, 0x4000_0007, 59, Ok((64, false))),
-    // the Int would be at level 65
-    (0x8000_0007, 0x4000_0007, 60, Err(FileFault::TooDeep)),
-    // the root and two of the three empty containers
-    (0x2000_000E, 0x8000_000E, 0, Ok((3, false))),
-    (0x8000_000E, 0x2000_000E, 0, Ok((3, false))),
-    (0x2000_000E, 0x4000_000E, 0, Ok((3, false))),
-    (0x4000_000E, 0x2000_000E, 0, Ok((3, false))),
-    // the root, one of them, 62 arrays, and another at level 64
-    (0x4000_000E, 0x8000_000E, 62, Ok((65, false))),
-    (0x4000_000E, 0x8000_000E, 63, Err(FileFault::TooDeep)),
+    is_two_kinds(alloc, (0x4000_0007, 0x8000_0007), 61, Ok((66, false)))
+        // the string would be at level 65
+        && is_two_kinds(alloc, (0x4000_0007, 0x8000_0007), 62, TOO_DEEP)
+        // the root, the array, 59 arrays, and the long table at level 61 with two arrays and an
+        // integer below it
+        && is_two_kinds(alloc, (0x8000_0007, 0x4000_0007), 59, Ok((64, false)))
+        // the integer would be at level 65
+        && is_two_kinds(alloc, (0x8000_0007, 0x4000_0007), 60, TOO_DEEP)
+}
+
+/// Checks two of the three empty containers at one offset.
+fn are_empty_ones(alloc: Global) -> bool {
+    // the root and both containers
+    is_two_kinds(alloc, (0x2000_000E, 0x8000_000E), 0, Ok((3, false)))
+        && is_two_kinds(alloc, (0x8000_000E, 0x2000_000E), 0, Ok((3, false)))
+        && is_two_kinds(alloc, (0x2000_000E, 0x4000_000E), 0, Ok((3, false)))
+        && is_two_kinds(alloc, (0x4000_000E, 0x2000_000E), 0, Ok((3, false)))
+        // the root, one container, 62 arrays, and the other container at level 64
+        && is_two_kinds(alloc, (0x4000_000E, 0x8000_000E), 62, Ok((65, false)))
+        && is_two_kinds(alloc, (0x4000_000E, 0x8000_000E), 63, TOO_DEEP)
+}
+
+/// Checks offsets that are valid for another kind of container only.
+fn are_refused_as_other_kinds(alloc: Global) -> bool {
     // as a table, word 7 has one key, at the offset 0
-    (0x4000_0007, 0x2000_0007, 0, Err(FileFault::Key)),
-    // as an array or a long table, the root's first word is the count 0x180002
-    (0x8000_001A, 0x7000_0000, 0, Err(FileFault::Length)),
-    (0x4000_001A, 0x7000_0000, 0, Err(FileFault::Length)),
-];
+    is_two_kinds(alloc, (0x4000_0007, 0x2000_0007), 0, Err(FileFault::Key))
+        // as an array or a long table, the root's first word is the count 0x180002
+        && is_two_kinds(alloc, (0x8000_001A, 0x7000_0000), 0, Err(FileFault::Length))
+        && is_two_kinds(alloc, (0x4000_001A, 0x7000_0000), 0, Err(FileFault::Length))
+}
 
 #[test]
 fn kinds_at_one_offset_are_entered_each_once(rt: HostRuntime) {
     let alloc = rt.alloc();
-    for (a, b, above, want) in TWO_KINDS {
-        let length = 152 + 8 * above as usize;
-        assert!(rt; is_visited(alloc, two_kinds(alloc, a, b, above), length, want));
-    }
+    assert!(rt; are_array_and_table(alloc));
+    assert!(rt; are_empty_ones(alloc));
+    assert!(rt; are_refused_as_other_kinds(alloc));
     assert!(rt; agrees_on_all(alloc, two_kinds(alloc, 0x4000_0007, 0x8000_0007, 2)));
     assert!(rt; agrees_on_all(alloc, two_kinds(alloc, 0x2000_000E, 0x8000_000E, 1)));
 }

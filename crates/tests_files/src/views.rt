@@ -1,4 +1,4 @@
-//! The views of sample files and of made ones.
+//! Tests the views of sample files and of built ones.
 ghost use Rattle.std.specs.Prelude.{◌≤◌};
 
 use crate::made::chain;
@@ -41,7 +41,7 @@ fn gives_both_entries(table: Table<'_>) -> bool {
         && entries.next().is_none()
 }
 
-/// Whether both keys of a table of `ab` and `b` are found, and its entries come in order.
+/// Checks whether both keys of a table of `ab` and `b` are found, and its entries come in order.
 fn has_both_keys(bundle: Option<Bundle>) -> Option<bool> {
     let bundle = bundle?;
     let table = root(&bundle).table()?;
@@ -74,7 +74,7 @@ fn are_numbers(ints: Option<Ints<'_>>, numbers: &[i32]) -> bool {
     }
 }
 
-/// Whether an item has the call that gives this kind's value, and none of the others.
+/// Checks whether an item has the call that gives this kind's value, and none of the others.
 fn is_only(item: Item<'_>, kind: Kind) -> bool {
     let there = [
         item.text().is_some(),
@@ -135,7 +135,8 @@ fn has_numbers(table: Table<'_>) -> Option<bool> {
     Some(d.int() == Some(-3) && d.uint() == Some(0x0FFF_FFFD) && are_numbers(e.ints(), &[1, -1]))
 }
 
-/// Whether the array has two items, the first of them an Int, and the long table two entries.
+/// Checks whether the array has two items, the first of them an Int, and the long table two
+/// entries.
 fn has_children(table: Table<'_>) -> Option<bool> {
     let (f, h) = (table.get(b"f")?.array()?, table.get(b"h")?);
     Some(f.len() == 2 && f.item(0).uint() == Some(5) && h.len() == 2)
@@ -176,7 +177,7 @@ fn each_key_of_a_long_table_is_found(rt: HostRuntime) {
     assert!(rt; has_each_number(bundle, 9_360) == Some(true));
 }
 
-/// The key `a`, and the first item this many times.
+/// Returns the key `a`, and the first item this many times.
 fn path_down(alloc: Global, levels: usize) -> Option<Vec<u8>> {
     let mut path = b"a".to_vec(alloc).ok()?;
     for _ in 0..levels {
@@ -185,7 +186,7 @@ fn path_down(alloc: Global, levels: usize) -> Option<Vec<u8>> {
     Some(path)
 }
 
-/// The Int at which a walk ends, from an item this many levels down.
+/// Returns the integer at which a walk ends, from an item this many levels down.
 fn int_below(alloc: Global, item: Item<'_>, levels: usize) -> Option<i32> {
     let path = path_down(alloc, levels)?;
     if !path_ok(path.as_slice()) {
@@ -197,7 +198,7 @@ fn int_below(alloc: Global, item: Item<'_>, levels: usize) -> Option<i32> {
     }
 }
 
-/// Whether a walk through this many nested arrays ends at an Int, and nothing is below that.
+/// Checks whether a walk through this many nested arrays ends at an Int, and nothing is below that.
 fn walks_down(alloc: Global, arrays: u32) -> bool
     requires { arrays ≤ 100 }
 {
@@ -217,8 +218,8 @@ fn a_walk_goes_through_nested_arrays(rt: HostRuntime) {
     assert!(rt; walks_down(rt.alloc(), 62));
 }
 
-/// How many blocks are marked of a file with an alias of so many letters, and how many of these
-/// needn't be read from one on.
+/// Counts the marked blocks of a file with an alias of this many letters, and those that can be
+/// skipped from one on.
 fn passed_over(alloc: Global, letters: usize, from: usize) -> Option<(usize, usize)> {
     let text = vec![in alloc; 0x78u16; letters].ok()?;
     let bundle = bundle(alloc, file_of_alias(alloc, &text))?;

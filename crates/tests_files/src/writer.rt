@@ -1,4 +1,4 @@
-//! The sample files, and the tables in both their forms.
+//! Tests writing the sample files, and tables in both their forms.
 ghost use Rattle.std.specs.Prelude.{All};
 ghost use Rattle.rb_tree.specs.Keys.{IsKey};
 ghost use Rattle.rb_tree.specs.Table.{keys_in};
@@ -68,7 +68,7 @@ fn table(alloc: Global, rows: &[Row<'_>]) -> Option<Tree> {
     Tree::table(alloc, pairs).ok()
 }
 
-/// The file of a tree.
+/// Returns the file of a tree.
 pub fn file(alloc: Global, tree: Option<Tree>, no_fallback: bool) -> Option<Vec<u8>> {
     let tree = tree?;
     if tree.fits() {
@@ -78,12 +78,12 @@ pub fn file(alloc: Global, tree: Option<Tree>, no_fallback: bool) -> Option<Vec<
     }
 }
 
-/// The file of a table with one alias, at `a`, with this text.
+/// Returns the file of a table with one alias, at `a`, with this text.
 pub fn file_of_alias(alloc: Global, text: &[u16]) -> Option<Vec<u8>> {
     file(alloc, table(alloc, &[(b"a", Leaf::Alias(text))]), false)
 }
 
-/// Whether the tree's file is this one.
+/// Checks whether the tree's file is this one.
 fn is_written(alloc: Global, tree: Option<Tree>, no_fallback: bool, sample: Sample<'_>) -> bool {
     match (file(alloc, tree, no_fallback), bytes_of(alloc, sample)) {
         (Some(file), Some(bytes)) => file.as_slice() == bytes.as_slice(),
@@ -149,7 +149,7 @@ fn add_empty_values(alloc: Global, items: &mut Vec<Tree>) -> Option<()> {
     items.push(table(alloc, &[])?).ok()
 }
 
-/// An array of a table whose key is also one of the root's, and the empty values.
+/// Returns an array of a table whose key is also one of the root's, and the empty values.
 fn nested(alloc: Global) -> Option<Tree> {
     let mut items = Vec::new(alloc);
     items
@@ -182,7 +182,7 @@ fn every_type_is_laid_out(rt: HostRuntime) {
 /// A key of 1,000 bytes.
 const LONG_KEY: [u8; 1_000] = [b'k'; 1_000];
 
-/// A table of the long key, which is an Int.
+/// Returns a table of the long key, which is an Int.
 fn long_key_table(alloc: Global, number: u32) -> Option<Tree> {
     table(alloc, &[(&LONG_KEY, Leaf::Int(number))])
 }
@@ -227,7 +227,7 @@ pub fn numbered_key(number: u32) -> [u8; 6] {
     text
 }
 
-/// The table of the keys `k00000` and so on, this many of them, each with Int 0.
+/// Returns the table of the keys `k00000` and so on, this many of them, each with Int 0.
 pub fn numbered(alloc: Global, count: u32) -> Option<Tree> {
     let zero = Int28::new(0)?;
     let mut pairs = Vec::new(alloc);
@@ -237,7 +237,7 @@ pub fn numbered(alloc: Global, count: u32) -> Option<Tree> {
     Tree::table(alloc, pairs).ok()
 }
 
-/// The highest byte of the root item of a file of this many keys.
+/// Returns the highest byte of the root item of a file of this many keys.
 fn root_type(alloc: Global, count: u32) -> Option<u8> {
     let file = file(alloc, numbered(alloc, count), false)?;
     file.get(35).copied()
@@ -258,7 +258,8 @@ const LONG_WORDS: [(usize, u32); 5] = [
     (16_386, 9_360),
 ];
 
-/// Whether data has the words of a table of 9,360 keys, with each key's offset and each item.
+/// Checks whether data has the words of a table of 9,360 keys, with each key's offset and each
+/// item.
 fn has_long_table(body: &[u8]) -> bool {
     for (i, number) in LONG_WORDS {
         if word(body, i) != Some(number) {
@@ -275,7 +276,7 @@ fn has_long_table(body: &[u8]) -> bool {
     true
 }
 
-/// Whether the file of a table of 9,360 keys has its length and its words.
+/// Checks whether the file of a table of 9,360 keys has its length and its words.
 fn is_long_file(file: Option<Vec<u8>>) -> bool {
     match file {
         Some(file) => file.len() == 32 + 4 * 35_107 && has_long_table(&file[32..]),

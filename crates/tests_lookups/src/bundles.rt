@@ -1,4 +1,7 @@
-//! Bundles of strings and aliases, and explicit parents, made from rows.
+//! Builds bundles of strings and aliases, and explicit parents, from texts.
+//!
+//! A text has a bundle a line, `LOCALE|KEY=TEXT|KEY=TEXT`. A `!` before the locale says that the
+//! bundle has no fallback. A TEXT that begins with `>` is an alias. The KEY of a lone row may be a path.
 ghost use Rattle.std.specs.Prelude.{All, IfSome};
 ghost use Rattle.rb_tree.specs.Keys.{IsKey};
 ghost use Rattle.rb_tree.specs.Parts.{HasUnits, kind_of};
@@ -10,110 +13,112 @@ use rb_parents::Parents;
 use rb_tree::{ByteList, Tree, UnitList, key_ok};
 use std::alloc::Global;
 
-/// A key or a path, and a text.
-pub type Row<'a> = (&'a [u8], &'a [u8]);
-
-/// A bundle: its locale, its rows, and whether it has no fallback.
-pub type Bundle<'a> = (&'a [u8], &'a [Row<'a>], bool);
-
 /// The bundles of a shelf.
 pub type Bundles = Vec<(Name, Tree, bool)>;
 
-fn units(alloc: Global, text: &[u8]) -> Option<UnitList> {
+fn units(alloc: Global, text: &str) -> Option<UnitList> {
     let mut units = Vec::new(alloc);
-    for b in text {
-        units.push(*b as u16).ok()?;
+    for b in text.bytes() {
+        units.push(b as u16).ok()?;
     }
     Some(UnitList::from_vec(units))
 }
 
-pub fn string(alloc: Global, text: &[u8]) -> Option<Tree>
+pub fn string(alloc: Global, text: &str) -> Option<Tree>
     ensures { IfSome result (λ t. HasUnits (kind_of (view_of t))) }
 {
     Some(Tree::String(units(alloc, text)?))
 }
 
-/// A text that begins with `>` is an alias of what follows it, any other a string.
-pub fn leaf(alloc: Global, text: &[u8]) -> Option<Tree> {
-    match text {
-        [b'>', rest @ ..] => Some(Tree::Alias(units(alloc, rest)?)),
-        _ => string(alloc, text),
+/// Returns an alias of what follows a `>`, or a string.
+pub fn leaf(alloc: Global, text: &str) -> Option<Tree> {
+    match text.strip_prefix('>') {
+        Some(target) => Some(Tree::Alias(units(alloc, target)?)),
+        None => string(alloc, text),
     }
 }
 
 /// Adds an entry.
-pub fn put(alloc: Global, pairs: &mut Vec<(ByteList, Tree)>, key: &[u8], tree: Tree) -> Option<()>
+pub fn put(alloc: Global, pairs: &mut Vec<(ByteList, Tree)>, key: &str, tree: Tree) -> Option<()>
     requires { All IsKey (keys_in pairs.old.items) }
     ensures { All IsKey (keys_in pairs.new.items) }
 {
-    let key = ByteList::from_vec(key.to_vec(alloc).ok()?);
+    let key = ByteList::from_vec(key.as_bytes().to_vec(alloc).ok()?);
     if !key_ok(key.as_slice()) {
         return None;
     }
     pairs.push((key, tree)).ok()
 }
 
-/// A table of one entry.
-pub fn one(alloc: Global, key: &[u8], tree: Tree) -> Option<Tree> {
+/// Returns a table of one entry.
+pub fn one(alloc: Global, key: &str, tree: Tree) -> Option<Tree> {
     let mut pairs = Vec::new(alloc);
     put(alloc, &mut pairs, key, tree)?;
     Tree::table(alloc, pairs).ok()
 }
 
-/// A table of leaves.
-pub fn leaves(alloc: Global, rows: &[Row<'_>]) -> Option<Tree> {
+/// Returns a table of leaves, from rows `KEY=TEXT|KEY=TEXT`.
+pub fn leaves(alloc: Global, rows: &str) -> Option<Tree> {
     let mut pairs = Vec::new(alloc);
-    for (key, text) in rows {
+    for row in rows.split('|') {
+        let (key, text) = row.split_once('=')?;
         put(alloc, &mut pairs, key, leaf(alloc, text)?)?;
     }
     Tree::table(alloc, pairs).ok()
 }
 
-/// A tree in which one path leads to a leaf.
-fn branch(alloc: Global, path: &[u8], text: &[u8]) -> Option<Tree> {
+/// Returns a tree in which one path leads to a leaf.
+fn branch(alloc: Global, path: &str, text: &str) -> Option<Tree> {
     let mut tree = leaf(alloc, text)?;
-    for segment in path.split(|b| *b == b'/').rev() {
+    for segment in path.rsplit('/') {
         tree = one(alloc, segment, tree)?;
     }
     Some(tree)
 }
 
-/// The tree of a bundle: of one row that has a path, or of rows that have keys.
-fn tree_of(alloc: Global, rows: &[Row<'_>]) -> Option<Tree> {
-    match rows {
-        [(path, text)] => branch(alloc, path, text),
-        _ => leaves(alloc, rows),
+/// Returns the tree of a bundle, from one row that has a path or from rows that have keys.
+fn tree_of(alloc: Global, rows: &str) -> Option<Tree> {
+    if rows.contains('|') {
+        return leaves(alloc, rows);
     }
+    let (path, text) = rows.split_once('=')?;
+    branch(alloc, path, text)
 }
 
 /// Adds a bundle.
-pub fn add(list: &mut Bundles, locale: &[u8], tree: Tree, no_fallback: bool) -> Option<()> {
-    let name = Name::read(locale).ok()?;
+pub fn add(list: &mut Bundles, locale: &str, tree: Tree, no_fallback: bool) -> Option<()> {
+    let name = Name::read(locale.as_bytes()).ok()?;
     list.push((name, tree, no_fallback)).ok()
 }
 
-pub fn bundles(alloc: Global, rows: &[Bundle<'_>]) -> Option<Bundles> {
+/// Returns the bundles of a text.
+pub fn bundles(alloc: Global, text: &str) -> Option<Bundles> {
     let mut list = Vec::new(alloc);
-    for (locale, rows, no_fallback) in rows {
-        add(&mut list, locale, tree_of(alloc, rows)?, *no_fallback)?;
+    for line in text.lines() {
+        let (locale, rows) = line.split_once('|')?;
+        let tree = tree_of(alloc, rows)?;
+        match locale.strip_prefix('!') {
+            Some(locale) => add(&mut list, locale, tree, true)?,
+            None => add(&mut list, locale, tree, false)?,
+        }
     }
     Some(list)
 }
 
-/// Bundles `qq_0` to `qq_31`, each the next one's child, and the last a child of `root`.
+/// Returns bundles `qq_0` to `qq_31`, each with the next one as parent, and the last with `root`.
 pub fn long_row(alloc: Global) -> Option<Bundles> {
-    let mut list = bundles(alloc, &[(b"qq_31", &[(b"%%Parent", b"root")], false)])?;
+    let mut list = bundles(alloc, "qq_31|%%Parent=root")?;
     for i in 0..31u8 {
         let at = format!(in alloc; "qq_{i}").ok()?;
         let next = format!(in alloc; "qq_{}", i + 1).ok()?;
-        let tree = branch(alloc, b"%%Parent", next.as_bytes())?;
-        add(&mut list, at.as_bytes(), tree, false)?;
+        let tree = branch(alloc, "%%Parent", next.as_str())?;
+        add(&mut list, at.as_str(), tree, false)?;
     }
     Some(list)
 }
 
-/// The parents of a table at `parentLocales`.
+/// Reads the explicit parents of a table at `parentLocales`.
 pub fn parents(alloc: Global, locales: Tree) -> Option<Parents> {
-    let tree = one(alloc, b"parentLocales", locales)?;
+    let tree = one(alloc, "parentLocales", locales)?;
     Parents::read(alloc, &tree).ok()
 }

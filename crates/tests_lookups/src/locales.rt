@@ -1,4 +1,4 @@
-//! Names of locales as texts and units give them.
+//! Tests the names of locales that bytes and units are read as.
 ghost use Rattle.rb_tree.specs.Parts.{HasUnits, kind_of};
 ghost use Rattle.rb_tree.specs.View.{view_of};
 
@@ -7,98 +7,107 @@ use rb_locales::{BadLocale, Name};
 use rb_tree::Tree;
 use std::alloc::Global;
 
-/// Whether a text is read as this name.
-fn reads(text: &[u8], want: &[u8]) -> bool {
-    match Name::read(text) {
-        Ok(name) => name.as_bytes() == want,
+/// Checks whether a text is read as this name.
+fn reads(text: &str, want: &str) -> bool {
+    match Name::read(text.as_bytes()) {
+        Ok(name) => name.as_bytes() == want.as_bytes(),
         Err(_) => false,
     }
 }
 
-/// Whether a tree's units are read as this name.
-fn reads_units(tree: &Tree, want: &[u8]) -> bool
+/// Checks whether a tree's units are read as this name.
+fn reads_units(tree: &Tree, want: &str) -> bool
     requires { HasUnits (kind_of (view_of tree.now)) }
 {
     match Name::read_units(tree) {
-        Ok(name) => name.as_bytes() == want,
+        Ok(name) => name.as_bytes() == want.as_bytes(),
         Err(_) => false,
     }
 }
 
 /// Texts, and the names that they are read as.
-const NAMES: [(&[u8], &[u8]); 11] = [
-    (b"de-at@x=y", b"de_AT"),
-    (b"ZH-hant-tw", b"zh_Hant_TW"),
-    (b"", b"root"),
-    (b"@x", b"root"),
-    (b"root_DE", b"root_DE"),
-    (b"de_1996", b"de_1996"),
-    (b"DE_at_WIEN", b"de_AT_WIEN"),
-    (
-        b"de@12345678901234567890123456789012345678901234567890123456789012345678901234567890",
-        b"de",
-    ),
-    (
-        b"abcdefgh_abcdefgh_abcdefgh_abcdefgh_abcdefgh_abcdefgh_abcdefgh_1",
-        b"abcdefgh_ABCDEFGH_ABCDEFGH_ABCDEFGH_ABCDEFGH_ABCDEFGH_ABCDEFGH_1",
-    ),
-    (b"en_us_posix", b"en_US_POSIX"),
-    (b"sr_latn_hant", b"sr_Latn_HANT"),
-];
+const NAMES: &str = "\
+de-at@x=y|de_AT
+ZH-hant-tw|zh_Hant_TW
+|root
+@x|root
+root_DE|root_DE
+de_1996|de_1996
+DE_at_WIEN|de_AT_WIEN
+de@12345678901234567890123456789012345678901234567890123456789012345678901234567890|de
+abcdefgh_abcdefgh_abcdefgh_abcdefgh_abcdefgh_abcdefgh_abcdefgh_1|abcdefgh_ABCDEFGH_ABCDEFGH_ABCDEFGH_ABCDEFGH_ABCDEFGH_ABCDEFGH_1
+en_us_posix|en_US_POSIX
+sr_latn_hant|sr_Latn_HANT";
 
-/// Whether a text is read as this name, as bytes and as units.
-fn reads_both(alloc: Global, text: &[u8], want: &[u8]) -> bool {
+/// Checks whether a text is read as this name, as bytes and as units.
+fn reads_both(alloc: Global, text: &str, want: &str) -> bool {
     match string(alloc, text) {
         Some(tree) => reads(text, want) && reads_units(&tree, want),
         None => false,
     }
 }
 
-#[test]
-fn names_are_canonical(rt: HostRuntime) {
-    for (text, want) in NAMES {
-        assert!(rt; reads_both(rt.alloc(), text, want));
+fn are_canonical(alloc: Global) -> bool {
+    for row in NAMES.lines() {
+        let Some((text, want)) = row.split_once('|') else {
+            return false;
+        };
+        if !reads_both(alloc, text, want) {
+            return false;
+        }
     }
+    true
 }
 
-/// Whether a tree's units are no name.
+#[test]
+fn names_are_canonical(rt: HostRuntime) {
+    assert!(rt; are_canonical(rt.alloc()));
+}
+
+/// Checks whether a tree's units are no name.
 fn refuses_units(tree: &Tree) -> bool
     requires { HasUnits (kind_of (view_of tree.now)) }
 {
     matches!(Name::read_units(tree), Err(BadLocale))
 }
 
-/// Whether a text is no name, as bytes and as units.
-fn refuses_both(alloc: Global, text: &[u8]) -> bool {
+/// Checks whether a text is no name, as bytes and as units.
+fn refuses_both(alloc: Global, text: &str) -> bool {
     match string(alloc, text) {
-        Some(tree) => matches!(Name::read(text), Err(BadLocale)) && refuses_units(&tree),
+        Some(tree) => matches!(Name::read(text.as_bytes()), Err(BadLocale)) && refuses_units(&tree),
         None => false,
     }
 }
 
 /// Texts that are no names.
-const NO_NAMES: [&[u8]; 10] = [
-    b"de__X",
-    b"d",
-    b"de_DE.UTF-8",
-    b"de-",
-    b"-",
-    b"abcdefghi",
-    b"de_abcdefghi",
-    b"abcdefgh_abcdefgh_abcdefgh_abcdefgh_abcdefgh_abcdefgh_abcdefgh_12",
-    b"d\xC3\xA9",
-    b"?",
-];
+const NO_NAMES: &str = "\
+de__X
+d
+de_DE.UTF-8
+de-
+-
+abcdefghi
+de_abcdefghi
+abcdefgh_abcdefgh_abcdefgh_abcdefgh_abcdefgh_abcdefgh_abcdefgh_12
+dé
+?";
+
+fn are_refused(alloc: Global) -> bool {
+    for text in NO_NAMES.lines() {
+        if !refuses_both(alloc, text) {
+            return false;
+        }
+    }
+    true
+}
 
 #[test]
 fn other_texts_are_refused(rt: HostRuntime) {
-    for text in NO_NAMES {
-        assert!(rt; refuses_both(rt.alloc(), text));
-    }
+    assert!(rt; are_refused(rt.alloc()));
     assert!(rt; BadLocale.word() == "BadLocale");
 }
 
-/// Whether a name's first part is this one, and `None` stands for no shorter name.
+/// Checks the first part of a name; `None` stands for no shorter name.
 fn shortens(text: &[u8], want: Option<&[u8]>) -> bool {
     match (Name::read(text), want) {
         (Ok(name), Some(want)) => name.shorter().is_some_and(|part| part.as_bytes() == want),

@@ -1,12 +1,12 @@
-//! Explicit parents that trees give, and trails over a list of bundles.
-use crate::bundles::{Bundle, Row, bundles, leaves, long_row, one, parents, string};
+//! Tests explicit parents that trees give, and trails over a list of bundles.
+use crate::bundles::{bundles, leaves, long_row, one, parents, string};
 use rb_locales::Name;
 use rb_parents::{ListShelf, Parents, ParentsFault, Route, Shelf, TrailFault, trail};
 use rb_tree::{Kind, Node, Tree, TreeList};
-use std::alloc::Global;
+use std::alloc::{AllocError, Global};
 
-/// An array of strings.
-fn array(alloc: Global, rows: &[&[u8]]) -> Option<Tree> {
+/// Returns an array of strings.
+fn array(alloc: Global, rows: &[&str]) -> Option<Tree> {
     let mut items = Vec::new(alloc);
     for text in rows {
         items.push(string(alloc, text)?).ok()?;
@@ -14,7 +14,7 @@ fn array(alloc: Global, rows: &[&[u8]]) -> Option<Tree> {
     Some(Tree::Array(TreeList::from_vec(items)))
 }
 
-/// The word that `Parents::read` answers for a tree.
+/// Returns the word of what `Parents::read` answers for a tree.
 fn word_of(alloc: Global, tree: &Tree) -> &'static str {
     match Parents::read(alloc, tree) {
         Ok(_) => "Ok",
@@ -22,28 +22,28 @@ fn word_of(alloc: Global, tree: &Tree) -> &'static str {
     }
 }
 
-/// Whether `Parents::read` answers this word for a table at `parentLocales`.
+/// Checks the word of what `Parents::read` answers for a table at `parentLocales`.
 fn reads(alloc: Global, locales: Option<Tree>, word: &str) -> Option<bool> {
-    let tree = one(alloc, b"parentLocales", locales?)?;
+    let tree = one(alloc, "parentLocales", locales?)?;
     Some(word_of(alloc, &tree) == word)
 }
 
-/// Whether a child has this parent, and `None` stands for no parent.
-fn has_parent(parents: &Parents, child: &[u8], parent: Option<&[u8]>) -> bool {
-    let Ok(child) = Name::read(child) else {
+/// Checks the parent of a child; `None` stands for no parent.
+fn has_parent(parents: &Parents, child: &str, parent: Option<&str>) -> bool {
+    let Ok(child) = Name::read(child.as_bytes()) else {
         return false;
     };
     match (parents.parent(&child), parent) {
-        (Some(found), Some(parent)) => found.as_bytes() == parent,
+        (Some(found), Some(parent)) => found.as_bytes() == parent.as_bytes(),
         (None, None) => true,
         _ => false,
     }
 }
 
 /// A child and its parent.
-type Child<'a> = (&'a [u8], Option<&'a [u8]>);
+type Child<'a> = (&'a str, Option<&'a str>);
 
-/// Whether these are the children's parents, of what a table at `parentLocales` gives.
+/// Checks the parents of children, after what a table at `parentLocales` says.
 fn have_parents(alloc: Global, locales: Option<Tree>, children: &[Child<'_>]) -> Option<bool> {
     let parents = parents(alloc, locales?)?;
     for (child, parent) in children {
@@ -54,48 +54,53 @@ fn have_parents(alloc: Global, locales: Option<Tree>, children: &[Child<'_>]) ->
     Some(true)
 }
 
-/// A table of one array of strings.
-fn one_array(alloc: Global, key: &[u8], rows: &[&[u8]]) -> Option<Tree> {
+/// Returns a table of one array of strings.
+fn one_array(alloc: Global, key: &str, rows: &[&str]) -> Option<Tree> {
     one(alloc, key, array(alloc, rows)?)
 }
 
 #[test]
 fn parents_are_read(rt: HostRuntime) {
     let alloc = rt.alloc();
-    let both = one_array(alloc, b"en", &[b"en_GB", b"en-ie@x=y"]);
-    let english: [Child<'_>; 3] = [
-        (b"en_GB", Some(b"en")),
-        (b"en_IE", Some(b"en")),
-        (b"en", None),
-    ];
+    let both = one_array(alloc, "en", &["en_GB", "en-ie@x=y"]);
+    let english: [Child<'_>; 3] = [("en_GB", Some("en")), ("en_IE", Some("en")), ("en", None)];
     assert!(rt; have_parents(alloc, both, &english) == Some(true));
-    let hant = leaves(alloc, &[(b"root", b"zh_Hant")]);
-    assert!(rt; have_parents(alloc, hant, &[(b"zh_Hant", Some(b"root"))]) == Some(true));
-    assert!(rt; has_parent(&Parents::none(alloc), b"en_GB", None));
+    let hant = leaves(alloc, "root=zh_Hant");
+    assert!(rt; have_parents(alloc, hant, &[("zh_Hant", Some("root"))]) == Some(true));
+    assert!(rt; has_parent(&Parents::none(alloc), "en_GB", None));
 }
 
-/// Two entries of explicit parents, and the word of what is read.
-const PAIRS: [([Row<'static>; 2], &str); 7] = [
-    ([(b"en", b"?"), (b"fr", b"fr_CA")], "BadLocale"),
-    ([(b"en", b"en_GB"), (b"en_001", b"en_GB")], "TwoParents"),
-    ([(b"en", b"en-GB"), (b"fr", b"en_GB")], "TwoParents"),
-    ([(b"en", b"en_GB"), (b"en-GB", b"?")], "BadLocale"),
-    ([(b"?", b"en_GB"), (b"en", b"en_GB")], "BadLocale"),
-    ([(b"en", b"en_GB"), (b"?", b"fr_CA")], "BadLocale"),
-    ([(b"en", b"en_GB"), (b"fr", b"fr_CA")], "Ok"),
-];
+/// Entries of explicit parents, after the word of what is read.
+const PAIRS: &str = "\
+BadLocale|en=?|fr=fr_CA
+TwoParents|en=en_GB|en_001=en_GB
+TwoParents|en=en-GB|fr=en_GB
+BadLocale|en=en_GB|en-GB=?
+BadLocale|?=en_GB|en=en_GB
+BadLocale|en=en_GB|?=fr_CA
+Ok|en=en_GB|fr=fr_CA";
+
+fn are_read(alloc: Global) -> bool {
+    for row in PAIRS.lines() {
+        let Some((word, rows)) = row.split_once('|') else {
+            return false;
+        };
+        if reads(alloc, leaves(alloc, rows), word) != Some(true) {
+            return false;
+        }
+    }
+    true
+}
 
 #[test]
 fn parents_are_refused(rt: HostRuntime) {
     let alloc = rt.alloc();
-    for (rows, word) in PAIRS {
-        assert!(rt; reads(alloc, leaves(alloc, &rows), word) == Some(true));
-    }
-    let twice = one_array(alloc, b"en", &[b"en_GB", b"en_GB"]);
+    assert!(rt; are_read(alloc));
+    let twice = one_array(alloc, "en", &["en_GB", "en_GB"]);
     assert!(rt; reads(alloc, twice, "TwoParents") == Some(true));
 }
 
-/// Whether a whole tree has no table of explicit parents.
+/// Checks whether a whole tree has no table of explicit parents.
 fn has_no_parents(alloc: Global, tree: Option<Tree>) -> bool {
     match tree {
         Some(tree) => matches!(Parents::read(alloc, &tree), Err(ParentsFault::Shape)),
@@ -106,16 +111,16 @@ fn has_no_parents(alloc: Global, tree: Option<Tree>) -> bool {
 #[test]
 fn trees_without_parents_are_refused(rt: HostRuntime) {
     let alloc = rt.alloc();
-    assert!(rt; has_no_parents(alloc, leaves(alloc, &[(b"a", b"b")])));
-    assert!(rt; has_no_parents(alloc, string(alloc, b"b")));
+    assert!(rt; has_no_parents(alloc, leaves(alloc, "a=b")));
+    assert!(rt; has_no_parents(alloc, string(alloc, "b")));
 }
 
-/// A table of an array whose first item is no locale name and whose second is no string.
+/// Returns a table of an array whose first item is no locale name and whose second is no string.
 fn mixed(alloc: Global) -> Option<Tree> {
     let mut items = Vec::new(alloc);
-    items.push(string(alloc, b"?")?).ok()?;
+    items.push(string(alloc, "?")?).ok()?;
     items.push(array(alloc, &[])?).ok()?;
-    one(alloc, b"en", Tree::Array(TreeList::from_vec(items)))
+    one(alloc, "en", Tree::Array(TreeList::from_vec(items)))
 }
 
 #[test]
@@ -126,9 +131,6 @@ fn shapes_of_parents_are_refused(rt: HostRuntime) {
     assert!(rt; reads(alloc, mixed(alloc), "Shape") == Some(true));
 }
 
-/// A name and the trail from it, with a star after each stop; or the error's word.
-type Trail<'a> = (&'a [u8], Result<&'a [&'a [u8]], &'a str>);
-
 fn is_stop(stops: &[u8], i: usize) -> bool {
     for stop in stops {
         if *stop as usize == i {
@@ -138,8 +140,8 @@ fn is_stop(stops: &[u8], i: usize) -> bool {
     false
 }
 
-/// Whether a route has these names, with a star after each stop.
-fn is_route(route: &Route, names: &[&[u8]]) -> bool {
+/// Checks whether a route has these names, with a star after each stop.
+fn is_route(route: &Route, names: &[&str]) -> bool {
     for (i, name) in route.names.as_slice().iter().enumerate() {
         let star: &[u8] = if is_stop(route.stops.as_slice(), i) {
             b"*"
@@ -149,102 +151,125 @@ fn is_route(route: &Route, names: &[&[u8]]) -> bool {
         let Some(want) = names.get(i) else {
             return false;
         };
-        if want.strip_prefix(name.as_bytes()) != Some(star) {
+        if want.as_bytes().strip_prefix(name.as_bytes()) != Some(star) {
             return false;
         }
     }
     route.names.len() == names.len()
 }
 
-/// Whether each trail over these bundles is the one beside its first name.
-fn are_trails(entries: &[(Name, Tree, bool)], parents: &Parents, trails: &[Trail<'_>]) -> bool {
-    for (from, want) in trails {
-        let Ok(from) = Name::read(from) else {
+/// Splits a list of words at its spaces.
+fn words_of<'a>(alloc: Global, list: &'a str) -> Result<Vec<&'a str>, AllocError> {
+    let mut words = Vec::new(alloc);
+    for word in list.split(' ') {
+        words.push(word)?;
+    }
+    Ok(words)
+}
+
+/// Checks the trail from a name. It is given by its names, with a star after each stop, or by `error`
+/// and the word.
+fn is_trail(
+    alloc: Global,
+    entries: &[(Name, Tree, bool)],
+    parents: &Parents,
+    from: &Name,
+    want: &str,
+) -> bool {
+    match (
+        trail(ListShelf { entries }, parents, from),
+        want.strip_prefix("error "),
+    ) {
+        (Ok(route), None) => {
+            words_of(alloc, want).is_ok_and(|names| is_route(&route, names.as_slice()))
+        }
+        (Err(fault), Some(word)) => fault.word() == word,
+        _ => false,
+    }
+}
+
+/// Checks each trail of a text, one a line, after its first name.
+fn are_trails(
+    alloc: Global,
+    entries: &[(Name, Tree, bool)],
+    parents: &Parents,
+    trails: &str,
+) -> bool {
+    for line in trails.lines() {
+        let Some((from, want)) = line.split_once('|') else {
             return false;
         };
-        let is_same = match (trail(ListShelf { entries }, parents, &from), want) {
-            (Ok(route), Ok(names)) => is_route(&route, names),
-            (Err(fault), Err(word)) => fault.word() == *word,
-            _ => false,
+        let Ok(from) = Name::read(from.as_bytes()) else {
+            return false;
         };
-        if !is_same {
+        if !is_trail(alloc, entries, parents, &from, want) {
             return false;
         }
     }
     true
 }
 
-/// Whether trails over bundles are those beside their first names, without explicit parents.
-fn are_trails_over(alloc: Global, rows: &[Bundle<'_>], trails: &[Trail<'_>]) -> bool {
-    match bundles(alloc, rows) {
-        Some(list) => are_trails(list.as_slice(), &Parents::none(alloc), trails),
+/// Checks trails over the bundles of a text, without explicit parents.
+fn are_trails_over(alloc: Global, text: &str, trails: &str) -> bool {
+    match bundles(alloc, text) {
+        Some(list) => are_trails(alloc, list.as_slice(), &Parents::none(alloc), trails),
         None => false,
     }
 }
 
-const WITH_PARENTS: [Bundle<'static>; 10] = [
-    (b"en_GB", &[(b"%%Parent", b"en_001")], false),
-    (b"en_001", &[(b"x", b"1")], false),
-    (b"en", &[(b"x", b"E")], false),
-    (b"zh", &[(b"x", b"Z")], false),
-    (b"iw", &[(b"%%ALIAS", b"he")], false),
-    (b"he", &[(b"x", b"H")], false),
-    (b"xd", &[(b"%%Parent", b"")], false),
-    (b"en_IE", &[(b"%%Parent", b"")], false),
-    (b"de", &[(b"x", b"D")], false),
-    (b"de", &[(b"%%ALIAS", b"fr")], false),
-];
+/// Bundles; only the first of the two named `de` counts.
+const WITH_PARENTS: &str = "\
+en_GB|%%Parent=en_001
+en_001|x=1
+en|x=E
+zh|x=Z
+iw|%%ALIAS=he
+he|x=H
+xd|%%Parent=
+en_IE|%%Parent=
+de|x=D
+de|%%ALIAS=fr";
 
-const BY_PARENTS: [Trail<'static>; 6] = [
-    (b"en_GB", Ok(&[b"en_GB*", b"en_001*", b"en*", b"root"])),
-    (b"zh_Hant_TW", Ok(&[b"zh_Hant_TW", b"zh_Hant", b"root"])),
-    (b"iw_IL", Ok(&[b"iw_IL", b"iw", b"he*", b"root"])),
-    (b"xd", Ok(&[b"xd*", b"root"])),
-    (b"en_IE", Ok(&[b"en_IE*", b"root"])),
-    // Of two bundles with one name the first counts.
-    (b"de", Ok(&[b"de*", b"root"])),
-];
+const BY_PARENTS: &str = "\
+en_GB|en_GB* en_001* en* root
+zh_Hant_TW|zh_Hant_TW zh_Hant root
+iw_IL|iw_IL iw he* root
+xd|xd* root
+en_IE|en_IE* root
+de|de* root";
 
-/// Whether trails over bundles, with explicit parents, are those beside their first names.
-fn are_trails_with(
-    alloc: Global,
-    rows: &[Bundle<'_>],
-    locales: &[Row<'_>],
-    trails: &[Trail<'_>],
-) -> Option<bool> {
+/// Checks trails over the bundles of a text, with explicit parents.
+fn are_trails_with(alloc: Global, text: &str, locales: &str, trails: &str) -> Option<bool> {
     let parents = parents(alloc, leaves(alloc, locales)?)?;
-    let list = bundles(alloc, rows)?;
-    Some(are_trails(list.as_slice(), &parents, trails))
+    let list = bundles(alloc, text)?;
+    Some(are_trails(alloc, list.as_slice(), &parents, trails))
 }
 
 #[test]
 fn trails_follow_bundles_and_parents(rt: HostRuntime) {
-    let locales: [Row<'_>; 2] = [(b"en", b"en_GB"), (b"root", b"zh_Hant")];
-    let found = are_trails_with(rt.alloc(), &WITH_PARENTS, &locales, &BY_PARENTS);
+    let locales = "en=en_GB|root=zh_Hant";
+    let found = are_trails_with(rt.alloc(), WITH_PARENTS, locales, BY_PARENTS);
     assert!(rt; found == Some(true));
 }
 
-const FLAGGED: [Bundle<'static>; 5] = [
-    (b"de", &[(b"x", b"D")], true),
-    (b"fr", &[(b"%%Parent", b"?")], true),
-    (b"iw", &[(b"%%ALIAS", b"he")], true),
-    (b"he", &[(b"x", b"H")], false),
-    (b"root", &[(b"%%Parent", b"de")], true),
-];
+const FLAGGED: &str = "\
+!de|x=D
+!fr|%%Parent=?
+!iw|%%ALIAS=he
+he|x=H
+!root|%%Parent=de";
 
-const TO_FLAGS: [Trail<'static>; 5] = [
-    (b"de_AT", Ok(&[b"de_AT", b"de*"])),
-    (b"de", Ok(&[b"de*"])),
-    // Its `%%Parent` isn't looked at.
-    (b"fr", Ok(&[b"fr*"])),
-    // Its `%%ALIAS` comes before its flag.
-    (b"iw", Ok(&[b"iw", b"he*", b"root*"])),
-    (b"es", Ok(&[b"es", b"root*"])),
-];
+/// The `%%Parent` of `fr` isn't looked at. The `%%ALIAS` of `iw` comes before its flag.
+const TO_FLAGS: &str = "\
+de_AT|de_AT de*
+de|de*
+fr|fr*
+iw|iw he* root*
+es|es root*";
 
-/// Whether the shelf of these bundles has a flagged bundle of a name.
-fn has_flagged(alloc: Global, rows: &[Bundle<'_>], locale: &[u8]) -> bool {
-    let (Some(list), Ok(name)) = (bundles(alloc, rows), Name::read(locale)) else {
+/// Checks whether the shelf of a text's bundles has a bundle without fallback of a name.
+fn has_flagged(alloc: Global, text: &str, locale: &str) -> bool {
+    let (Some(list), Ok(name)) = (bundles(alloc, text), Name::read(locale.as_bytes())) else {
         return false;
     };
     let shelf = ListShelf {
@@ -255,13 +280,15 @@ fn has_flagged(alloc: Global, rows: &[Bundle<'_>], locale: &[u8]) -> bool {
 
 #[test]
 fn trails_end_at_bundles_without_fallback(rt: HostRuntime) {
-    assert!(rt; are_trails_over(rt.alloc(), &FLAGGED, &TO_FLAGS));
-    assert!(rt; has_flagged(rt.alloc(), &FLAGGED, b"de"));
+    assert!(rt; are_trails_over(rt.alloc(), FLAGGED, TO_FLAGS));
+    assert!(rt; has_flagged(rt.alloc(), FLAGGED, "de"));
 }
 
-const CHAINS: [Trail<'static>; 2] = [(b"qq_0", Err("Chain")), (b"qq_0_X", Err("Chain"))];
+const CHAINS: &str = "\
+qq_0|error Chain
+qq_0_X|error Chain";
 
-/// Whether a trail from `qq_1` over the long row has an end, and the longer ones have none.
+/// Checks whether a trail from `qq_1` over the long row ends, and the longer ones don't.
 fn ends_at_32_names(alloc: Global) -> bool {
     let (Some(list), Ok(from)) = (long_row(alloc), Name::read(b"qq_1")) else {
         return false;
@@ -270,7 +297,7 @@ fn ends_at_32_names(alloc: Global) -> bool {
     let shelf = ListShelf {
         entries: list.as_slice(),
     };
-    are_trails(list.as_slice(), &parents, &CHAINS) && trail(shelf, &parents, &from).is_ok()
+    are_trails(alloc, list.as_slice(), &parents, CHAINS) && trail(shelf, &parents, &from).is_ok()
 }
 
 #[test]
@@ -278,44 +305,37 @@ fn trails_have_32_names(rt: HostRuntime) {
     assert!(rt; ends_at_32_names(rt.alloc()));
 }
 
-const FAULTY: [Bundle<'static>; 5] = [
-    (b"xa", &[(b"%%Parent", b"xb")], false),
-    (b"xb", &[(b"%%Parent", b"xa")], false),
-    (b"xc", &[(b"%%Parent", b"?")], false),
-    (b"xe", &[(b"%%ALIAS", b"xe")], false),
-    (b"xf", &[(b"%%ALIAS", b"??")], false),
-];
+const FAULTY: &str = "\
+xa|%%Parent=xb
+xb|%%Parent=xa
+xc|%%Parent=?
+xe|%%ALIAS=xe
+xf|%%ALIAS=??";
 
-const FAULTS: [Trail<'static>; 5] = [
-    (b"xa", Err("Chain")),
-    (b"xb_XX", Err("Chain")),
-    (b"xc", Err("BadParent")),
-    (b"xe", Err("Chain")),
-    (b"xf", Err("BadParent")),
-];
+const FAULTS: &str = "\
+xa|error Chain
+xb_XX|error Chain
+xc|error BadParent
+xe|error Chain
+xf|error BadParent";
 
 #[test]
 fn trails_are_refused(rt: HostRuntime) {
-    assert!(rt; are_trails_over(rt.alloc(), &FAULTY, &FAULTS));
+    assert!(rt; are_trails_over(rt.alloc(), FAULTY, FAULTS));
     assert!(rt; TrailFault::Chain.word() == "Chain");
 }
 
-/// A root that goes on to `de` in either way, and `de`, which names no parent.
-const ENDLESS: [[Bundle<'static>; 2]; 2] = [
-    [(b"root", &[(b"%%Parent", b"de")], false), NO_NAME],
-    [(b"root", &[(b"%%ALIAS", b"de")], false), NO_NAME],
-];
+/// Trails over a root that continues to `de`, whose bundle names no parent.
+const FROM_ROOT: &str = "root|error BadParent\nfr|error BadParent";
 
-const NO_NAME: Bundle<'static> = (b"de", &[(b"%%Parent", b"?")], false);
-
+/// The name after the root is `de`, and its bundle is met if it has one.
 #[test]
 fn a_root_with_a_parent_has_no_end(rt: HostRuntime) {
-    let faults: [Trail<'_>; 2] = [(b"root", Err("BadParent")), (b"fr", Err("BadParent"))];
-    for rows in ENDLESS {
-        // The name after the root is `de`, and its bundle is met if it has one.
-        assert!(rt; are_trails_over(rt.alloc(), &rows, &faults));
-        assert!(rt; are_trails_over(rt.alloc(), &rows[..1], &[(b"root", Err("Chain"))]));
-    }
+    let alloc = rt.alloc();
+    assert!(rt; are_trails_over(alloc, "root|%%Parent=de\nde|%%Parent=?", FROM_ROOT));
+    assert!(rt; are_trails_over(alloc, "root|%%ALIAS=de\nde|%%Parent=?", FROM_ROOT));
+    assert!(rt; are_trails_over(alloc, "root|%%Parent=de", "root|error Chain"));
+    assert!(rt; are_trails_over(alloc, "root|%%ALIAS=de", "root|error Chain"));
 }
 
 fn is_table(tree: Option<Tree>) -> bool {
@@ -328,7 +348,6 @@ fn is_table(tree: Option<Tree>) -> bool {
 #[test]
 fn a_table_at_a_parent_is_not_looked_at(rt: HostRuntime) {
     let alloc = rt.alloc();
-    let root: [Bundle<'_>; 1] = [(b"root", &[(b"%%Parent/a", b"de")], false)];
-    assert!(rt; are_trails_over(alloc, &root, &[(b"fr", Ok(&[b"fr", b"root*"]))]));
-    assert!(rt; is_table(leaves(alloc, &[(b"a", b"de")])));
+    assert!(rt; are_trails_over(alloc, "root|%%Parent/a=de", "fr|fr root*"));
+    assert!(rt; is_table(leaves(alloc, "a=de")));
 }

@@ -1,4 +1,4 @@
-//! What is printed is read back as it was.
+//! Proves that the parser reads what the printer prints.
 ghost use Rattle.std.specs.Prelude.{◌≡◌, IfOk, MatchResult};
 ghost use Rattle.rb_format.specs.File.{Denotes, source_tree_of};
 ghost use Rattle.rb_lexer.specs.declared.fault.SourceKind.TheVariants.{Memory};
@@ -14,8 +14,8 @@ use rb_validator::Bundle;
 use rb_writer::write;
 use std::alloc::Global;
 
-/// Prints a tree and parses the text: the name, the tree and the flag are the same, unless memory
-/// runs out.
+/// Prints a tree and parses the text. The name, the tree and the flag are the same, unless memory runs
+/// out.
 pub fn round_trip<N: Node>(
     alloc: Global,
     name: &UnitList,
@@ -31,8 +31,8 @@ pub fn round_trip<N: Node>(
     Ok(parse(alloc, &text))
 }
 
-/// Prints a file, parses the text and writes it: the file that comes of it is one of the same
-/// bundle. If the file that was printed is one that `write` makes, it is that file, byte by byte.
+/// Prints a file, parses the text and writes a file, which has the same bundle. If `write` made the
+/// printed file, both files have the same bytes.
 pub fn again(alloc: Global, name: &UnitList, bundle: &Bundle) -> Result<Vec<u8>, PrintError>
     ensures denotes { IfOk result (λ file. Denotes file.items (source_tree_of bundle.now)) }
     ensures same { IfOk result (λ file. IsWriterFile (source_tree_of bundle.now).tree

@@ -1,4 +1,4 @@
-//! Bundles that are printed, and what the parser reads.
+//! Tests printing bundles, and parsing what is printed.
 use crate::laws::again;
 use rb_parser::parse;
 use rb_printer::{PrintError, print_bundle};
@@ -8,7 +8,7 @@ use rb_writer::write;
 use std::alloc::Global;
 use std::test::Fail;
 
-/// The bundle of a text, in a file, and its name.
+/// Compiles a text, and returns its name and its bundle.
 fn compiled(alloc: Global, text: &[u8]) -> Result<(UnitList, Bundle), Fail> {
     let source = parse(alloc, text)?;
     match accept(alloc, write(alloc, &source.tree, source.no_fallback)?) {
@@ -17,13 +17,13 @@ fn compiled(alloc: Global, text: &[u8]) -> Result<(UnitList, Bundle), Fail> {
     }
 }
 
-/// What is printed of the bundle of a text.
+/// Compiles a text, and returns the text that is printed of it.
 fn printed(alloc: Global, text: &[u8]) -> Result<Vec<u8>, Fail> {
     let (name, bundle) = compiled(alloc, text)?;
     Ok(print_bundle(alloc, &name, &bundle)?)
 }
 
-/// Whether a text and what is printed of it spell one name and one file.
+/// Checks whether a text and the text that is printed of it have the same name and file.
 fn comes_back(alloc: Global, text: &[u8]) -> Result<bool, Fail> {
     let (name, bundle) = compiled(alloc, text)?;
     let (name_again, bundle_again) = compiled(alloc, &print_bundle(alloc, &name, &bundle)?)?;
@@ -34,7 +34,7 @@ fn comes_back(alloc: Global, text: &[u8]) -> Result<bool, Fail> {
 const EACH_KIND: &str =
     "root{s{\"a b\"}n:int{-1}v:intvector{1,-2,0}b:bin{00ff}l:alias{\"/ICUDATA/x\"}a{{\"x\"}{\"y\"}:int{7}}t{\"k k\"{\"\"}}e:table{}w:intvector{}}";
 
-/// How it is printed: the layout as a person would write it.
+/// The text that is printed of it, in the layout that a person would write.
 const EACH_PRINTED: &str = "\
 root {
     a {
@@ -183,8 +183,8 @@ const FRONT: [u8; 32] = [
     0x01, 0x01, 0x00, 0x00, 0x00, 0x00, 0x00, 0x00, 0x00, 0x00, 0x00, 0x00, 0x00, 0x00, 0x00, 0x00,
 ];
 
-/// A file of 812 bytes whose table has 62 arrays, each of two items that are one: Ints in the
-/// first, in each other one the array before.
+/// Returns a file of 812 bytes whose table has 62 arrays, each of two items that are one: Ints in
+/// the first, in each other one the array before.
 fn shared_arrays(alloc: Global) -> Result<Vec<u8>, Fail> {
     let mut file = Vec::new(alloc);
     file.extend_from_slice(&FRONT)?;

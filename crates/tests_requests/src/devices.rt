@@ -1,12 +1,12 @@
-//! Readers and writers of a byte for each call, of which one call fails, and others that take or
-//! give nothing.
+//! Readers and writers of one byte a call, of which one call fails; an endless reader; and writers that
+//! take or flush nothing.
 ghost use Rattle.std.specs.Prelude.{None};
 
 use rb_requests::{Failed, Feed};
 use std::io;
 use std::io::{BufRead, ErrorKind, Read, Write};
 
-/// Calls, of which one is interrupted; those after it go on.
+/// Counts calls, of which one is interrupted; later ones continue.
 #[derive(Drop)]
 struct Calls {
     count: usize,
@@ -25,7 +25,7 @@ impl Calls {
     }
 }
 
-/// A reader of some bytes. It takes no memory.
+/// A reader of some bytes, which allocates nothing.
 #[derive(Drop)]
 pub struct SlowReader<'a> {
     bytes: &'a [u8],
@@ -33,7 +33,7 @@ pub struct SlowReader<'a> {
 }
 
 impl<'a> SlowReader<'a> {
-    /// A reader whose call `failing`, counted from 0, fails.
+    /// Returns a reader whose call `failing`, counted from 0, fails.
     pub fn new(bytes: &'a [u8], failing: usize) -> SlowReader<'a> {
         SlowReader {
             bytes,
@@ -64,7 +64,7 @@ impl<'a> BufRead for SlowReader<'a> {
     }
 }
 
-/// A writer that holds 512 bytes. It takes no memory.
+/// A writer that stores 512 bytes, and allocates nothing.
 #[derive(Drop)]
 pub struct SlowWriter {
     bytes: [u8; 512],
@@ -73,7 +73,7 @@ pub struct SlowWriter {
 }
 
 impl SlowWriter {
-    /// A writer whose call `failing`, counted from 0, fails; a flush is a call too.
+    /// Returns a writer whose call `failing`, counted from 0, fails; a flush is a call too.
     pub fn new(failing: usize) -> SlowWriter {
         SlowWriter {
             bytes: [0; 512],
@@ -82,7 +82,7 @@ impl SlowWriter {
         }
     }
 
-    /// What was written.
+    /// Returns what was written.
     pub fn written(&self) -> &[u8] {
         self.bytes.get(..self.len).unwrap_or(&[])
     }
@@ -106,7 +106,7 @@ impl Write for SlowWriter {
     }
 }
 
-/// Empty lines without an end.
+/// A reader of empty lines without an end.
 #[derive(Drop)]
 pub struct Endless;
 
@@ -120,7 +120,7 @@ impl Feed for Endless {
     }
 }
 
-/// A writer that takes everything and hands nothing on.
+/// A writer that takes everything and flushes nothing.
 #[derive(Drop)]
 pub struct Stuck;
 

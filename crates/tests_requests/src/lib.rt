@@ -1,5 +1,5 @@
-//! Tests of requests by the line: `rb_requests`; of the lines of replies, `rb_replies`; and of the
-//! objects that lines are, `rb_members`.
+//! Tests requests by the line (`rb_requests`), the lines of replies (`rb_replies`), and the objects that
+//! lines are (`rb_members`). `tests/replies.sh` tests more lines through the program.
 #![tactic(auto)]
 
 #[cfg(test)]

@@ -1,12 +1,12 @@
-//! Serving lines of ten bytes at most, over readers by the run and by the byte, of which a call may
-//! fail.
+//! Tests serving lines of at most ten bytes, from a reader of whole inputs and from a reader of single
+//! bytes of which one call may fail.
 ghost use Rattle.std.specs.Prelude.{None};
 
 use crate::lines::empty_engine;
 use rb_requests::{Failed, Feed, LineLimits, ReadFeed, ServeFault, WriteSink, serve_limited};
-use std::test::Fail;
+use std::alloc::{AllocError, Global};
 
-/// A reader of a byte for each call, of which the one numbered `failing`, from 0, fails.
+/// A reader of one byte a call. The call numbered `failing`, from 0, fails.
 #[derive(Drop)]
 struct ByByte<'a> {
     bytes: &'a [u8],
@@ -48,103 +48,118 @@ impl<'a> Feed for ByByte<'a> {
     }
 }
 
-/// Limits of lines alone.
+/// A limit on lines only.
 const LIMITS: LineLimits = LineLimits {
     line_bytes: Some(10),
     ..LineLimits::NONE
 };
 
-/// The reply to a line of ten bytes at most, none of which is a request.
+/// The reply to a line of at most ten bytes, none of which is a request.
 const BAD: &str = "{\"error\":\"BadLine\"}\n";
 
-/// The reply to a longer one.
+/// The reply to a longer line.
 const LONG: &str = "{\"error\":\"LineTooLong\"}\n";
 
-/// Whether serving ends so, with these replies written.
+/// Returns the replies that letters stand for: `B` for `BAD`, `L` for `LONG`.
+fn replies(alloc: Global, letters: &str) -> Result<Vec<u8>, AllocError> {
+    let mut replies = Vec::new(alloc);
+    for letter in letters.bytes() {
+        let reply = if letter == b'L' { LONG } else { BAD };
+        replies.extend_from_slice(reply.as_bytes())?;
+    }
+    Ok(replies)
+}
+
+/// Serves lines, and checks how that ends and what is written.
 fn ends<F: Feed>(
     rt: &HostRuntime,
     feed: &mut F,
     max_lines: u64,
     ended: Result<u64, ServeFault>,
-    replies: &[&str],
-) -> Result<bool, Fail> {
+    wanted: &[u8],
+) -> bool {
     let alloc = rt.alloc();
+    let Some(mut engine) = empty_engine(rt) else {
+        return false;
+    };
     let mut written: Vec<u8> = Vec::new(alloc);
     let mut sink = WriteSink::new(&mut written);
-    let mut engine = empty_engine(rt)?;
     let served = serve_limited(alloc, &mut engine, &LIMITS, feed, &mut sink, max_lines);
-    let mut wanted: Vec<u8> = Vec::new(alloc);
-    for reply in replies {
-        wanted.extend_from_slice(reply.as_bytes())?;
-    }
-    Ok(served.map(|served| served.lines) == ended && written == wanted)
+    served.map(|served| served.lines) == ended && written.as_slice() == wanted
 }
 
 /// More calls than any input here has.
 const NEVER: usize = 1000;
 
-/// Inputs with the most lines that may be served, how serving them ends, and the replies.
-const INPUTS: [(&[u8], u64, Result<u64, ServeFault>, &[&str]); 12] = [
-    (b"", 9, Ok(0), &[]),
-    (b"\n", 9, Ok(1), &[BAD]),
-    (b"0123456789", 9, Ok(1), &[BAD]),
-    (b"0123456789\n", 9, Ok(1), &[BAD]),
-    (b"01234567890", 9, Ok(1), &[LONG]),
-    (b"01234567890\nx", 9, Ok(2), &[LONG, BAD]),
-    (b"0123456789\n01234567890", 9, Ok(2), &[BAD, LONG]),
-    (
-        b"0123456789\n01234567890",
-        1,
-        Err(ServeFault::LineLimit),
-        &[BAD],
-    ),
-    (
-        b"0123456789\n\nx\n9876543210",
-        9,
-        Ok(4),
-        &[BAD, BAD, BAD, BAD],
-    ),
-    (
-        b"0123456789\n\nx\n9876543210",
-        4,
-        Ok(4),
-        &[BAD, BAD, BAD, BAD],
-    ),
-    (
-        b"0123456789\n\nx\n9876543210",
-        3,
-        Err(ServeFault::LineLimit),
-        &[BAD, BAD, BAD],
-    ),
-    (b"x\n", 0, Err(ServeFault::LineLimit), &[]),
-];
+/// Inputs, in which `/` stands for a line feed; the most lines that may be served; the number of
+/// lines that are served, or `LineLimit`; and the letters of the replies.
+const INPUTS: &str = "\
+|9|0|
+/|9|1|B
+0123456789|9|1|B
+0123456789/|9|1|B
+01234567890|9|1|L
+01234567890/x|9|2|LB
+0123456789/01234567890|9|2|BL
+0123456789/01234567890|1|LineLimit|B
+0123456789//x/9876543210|9|4|BBBB
+0123456789//x/9876543210|4|4|BBBB
+0123456789//x/9876543210|3|LineLimit|BBB
+x/|0|LineLimit|";
 
-#[test]
-fn serves_lines_up_to_the_limit(rt: HostRuntime) -> Result<(), Fail> {
-    for (input, max_lines, ended, replies) in INPUTS {
-        let mut by_run = ReadFeed::new(input);
-        assert!(rt; ends(&rt, &mut by_run, max_lines, ended, replies)?);
-        let mut by_byte = ByByte::new(input, NEVER);
-        assert!(rt; ends(&rt, &mut by_byte, max_lines, ended, replies)?);
-    }
-    Ok(())
+/// Serves an input by both readers.
+fn ends_by_both(
+    rt: &HostRuntime,
+    input: &[u8],
+    max_lines: u64,
+    ended: Result<u64, ServeFault>,
+    wanted: &[u8],
+) -> bool {
+    let mut whole = ReadFeed::new(input);
+    let mut by_byte = ByByte::new(input, NEVER);
+    ends(rt, &mut whole, max_lines, ended, wanted)
+        && ends(rt, &mut by_byte, max_lines, ended, wanted)
 }
 
-/// Calls of a reader of lines of which one fails, and the replies that are written before it.
-const FAILING: [(usize, &[&str]); 6] = [
-    (0, &[]),
-    (10, &[]),
-    (11, &[BAD]),
-    (12, &[BAD, BAD]),
-    (14, &[BAD, BAD]),
-    (15, &[BAD, BAD]),
-];
+/// Reads a row of `INPUTS`, and serves its input.
+fn is_served(rt: &HostRuntime, row: &str) -> Option<bool> {
+    let mut fields = row.split('|');
+    let input = fields.next()?.replace(rt.alloc(), '/', "\n").ok()?;
+    let max_lines: u64 = fields.next()?.parse().ok()?;
+    let ended = match fields.next()? {
+        "LineLimit" => Err(ServeFault::LineLimit),
+        lines => Ok(lines.parse().ok()?),
+    };
+    let wanted = replies(rt.alloc(), fields.next()?).ok()?;
+    Some(ends_by_both(rt, input.as_bytes(), max_lines, ended, wanted.as_slice()))
+}
 
 #[test]
-fn ends_at_a_call_that_fails(rt: HostRuntime) -> Result<(), Fail> {
-    for (failing, replies) in FAILING {
-        let mut feed = ByByte::new(b"0123456789\n\nxyz", failing);
-        assert!(rt; ends(&rt, &mut feed, 9, Err(ServeFault::Read), replies)?);
+fn serves_lines_up_to_the_limit(rt: HostRuntime) {
+    for row in INPUTS.lines() {
+        assert!(rt; is_served(&rt, row) == Some(true), "{row}");
     }
-    Ok(())
+}
+
+/// Serves `0123456789//xyz` from a reader of which a call fails.
+fn ends_at(rt: &HostRuntime, failing: usize, letters: &str) -> bool {
+    let Ok(wanted) = replies(rt.alloc(), letters) else {
+        return false;
+    };
+    let mut feed = ByByte::new(b"0123456789\n\nxyz", failing);
+    ends(rt, &mut feed, 9, Err(ServeFault::Read), wanted.as_slice())
+}
+
+fn ends_at_each(rt: &HostRuntime) -> bool {
+    ends_at(rt, 0, "")
+        && ends_at(rt, 10, "")
+        && ends_at(rt, 11, "B")
+        && ends_at(rt, 12, "BB")
+        && ends_at(rt, 14, "BB")
+        && ends_at(rt, 15, "BB")
+}
+
+#[test]
+fn ends_at_a_call_that_fails(rt: HostRuntime) {
+    assert!(rt; ends_at_each(&rt));
 }

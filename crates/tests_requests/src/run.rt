@@ -1,4 +1,4 @@
-//! The program's stored run over devices of which a call fails.
+//! Tests serving the program's stored run over devices of which a call fails.
 use crate::devices::{Endless, Full, SlowReader, SlowWriter, Stuck};
 use crate::lines::empty_engine;
 use rb_requests::{Engine, ReadFeed, ServeFault, WriteSink, serve};
@@ -30,7 +30,7 @@ const REPLIES: &[u8] = b"\
 /// More calls than the run has.
 const NEVER: usize = 100_000;
 
-/// How many line feeds there are.
+/// Counts the line feeds.
 fn feeds(bytes: &[u8]) -> usize {
     let mut count = 0usize;
     for byte in bytes {
@@ -41,12 +41,12 @@ fn feeds(bytes: &[u8]) -> usize {
     count
 }
 
-/// Whether these are the first replies, each of them whole.
+/// Checks whether these are the first replies, each of them whole.
 fn are_whole(replies: &[u8]) -> bool {
     REPLIES.starts_with(replies) && (replies.is_empty() || replies.ends_with(b"\n"))
 }
 
-/// How serving the stored run ends, if a call of the reader fails.
+/// Serves the stored run with a call of the reader that fails, and returns the fault.
 fn ended(
     alloc: Global,
     engine: &mut Engine,
@@ -57,12 +57,12 @@ fn ended(
     serve(alloc, engine, &mut feed, &mut WriteSink::new(writer), 9).err()
 }
 
-/// Whether the lines are answered that ended before a call of the reader that fails.
-fn answers_before_read(rt: &HostRuntime, failing: usize) -> Result<bool, Fail> {
+/// Checks whether exactly the lines are answered that end before a call of the reader that fails.
+fn answers_before_read(rt: &HostRuntime, failing: usize) -> Option<bool> {
     let mut writer = SlowWriter::new(NEVER);
     let fault = ended(rt.alloc(), &mut empty_engine(rt)?, failing, &mut writer);
     let before = RUN.get(..failing).unwrap_or(RUN);
-    Ok(
+    Some(
         fault == Some(ServeFault::Read)
             && are_whole(writer.written())
             && feeds(writer.written()) == feeds(before),
@@ -71,85 +71,104 @@ fn answers_before_read(rt: &HostRuntime, failing: usize) -> Result<bool, Fail> {
 
 /// The last call of the reader reports the end.
 #[test]
-fn answers_the_lines_before_each_failed_read(rt: HostRuntime) -> Result<(), Fail> {
+fn answers_the_lines_before_each_failed_read(rt: HostRuntime) {
     for failing in 0..RUN.len() + 1 {
-        assert!(rt; answers_before_read(&rt, failing)?, "at {failing}");
+        assert!(rt;
+            answers_before_read(&rt, failing) == Some(true),
+            "at {failing}"
+        );
     }
-    Ok(())
 }
 
-/// Whether this many calls of the writer wrote these bytes: each takes a byte or settles a reply,
-/// and the last one may be about to settle.
+/// Checks whether this many calls of the writer wrote these bytes. Each call takes a byte or flushes a
+/// reply, and the next call may be one that flushes.
 fn wrote(calls: usize, replies: &[u8]) -> bool {
     let settled = replies.len().saturating_add(feeds(replies));
     REPLIES.starts_with(replies)
         && (settled == calls || (replies.ends_with(b"\n") && settled == calls.saturating_add(1)))
 }
 
-/// Whether what is written before a call of the writer that fails are the replies up to there.
-fn writes_before_failure(rt: &HostRuntime, failing: usize) -> Result<bool, Fail> {
+/// Checks whether the replies up to a call of the writer that fails are written.
+fn writes_before_failure(rt: &HostRuntime, failing: usize) -> Option<bool> {
     let mut writer = SlowWriter::new(failing);
     let fault = ended(rt.alloc(), &mut empty_engine(rt)?, NEVER, &mut writer);
-    Ok(fault == Some(ServeFault::Write) && wrote(failing, writer.written()))
+    Some(fault == Some(ServeFault::Write) && wrote(failing, writer.written()))
 }
 
 #[test]
-fn writes_a_part_before_each_failed_write(rt: HostRuntime) -> Result<(), Fail> {
+fn writes_a_part_before_each_failed_write(rt: HostRuntime) {
     let calls = REPLIES.len().saturating_add(feeds(REPLIES));
     for failing in 0..calls {
-        assert!(rt; writes_before_failure(&rt, failing)?, "at {failing}");
+        assert!(rt;
+            writes_before_failure(&rt, failing) == Some(true),
+            "at {failing}"
+        );
     }
+}
+
+/// Checks whether whole replies to the first lines are written if memory runs out, and else all.
+fn answers_within_memory(alloc: Global, engine: &mut Engine) -> bool {
+    let mut writer = SlowWriter::new(NEVER);
+    match ended(alloc, engine, NEVER, &mut writer) {
+        None => writer.written() == REPLIES,
+        Some(fault) => fault == ServeFault::Memory && are_whole(writer.written()),
+    }
+}
+
+#[test]
+fn answers_the_lines_before_memory_runs_out(rt: HostRuntime) -> Result<(), Fail> {
+    let mut engine = empty_engine(&rt).ok_or("no engine")?;
+    assert!(rt; answers_within_memory(rt.alloc(), &mut engine));
     Ok(())
 }
 
-/// If an allocation is refused, whole replies to the first lines are written; with memory, all are.
-#[test]
-fn answers_the_lines_before_memory_runs_out(rt: HostRuntime) -> Result<(), Fail> {
-    let mut engine = empty_engine(&rt)?;
-    let mut writer = SlowWriter::new(NEVER);
-    match ended(rt.alloc(), &mut engine, NEVER, &mut writer) {
-        None => assert_eq!(rt; writer.written(), REPLIES),
-        Some(fault) => {
-            assert_eq!(rt; fault, ServeFault::Memory);
-            assert!(rt; are_whole(writer.written()));
-        }
-    }
-    Ok(())
+/// Checks whether serving fails at a writer that takes nothing, and keeps the first bundle.
+fn keeps_a_bundle(alloc: Global, engine: &mut Engine) -> bool {
+    let mut feed = ReadFeed::new(RUN);
+    let ended = serve(alloc, engine, &mut feed, &mut WriteSink::new(Full), 9);
+    ended.err() == Some(ServeFault::Write)
+        && engine.look(b"shop", b"de", b"menu").is_ok()
+        && engine.look(b"shop", b"de_AT", b"menu/open").is_err()
 }
 
 #[test]
 fn keeps_a_bundle_whose_reply_is_not_written(rt: HostRuntime) -> Result<(), Fail> {
-    let alloc = rt.alloc();
-    let mut engine = empty_engine(&rt)?;
-    let mut feed = ReadFeed::new(RUN);
-    let ended = serve(alloc, &mut engine, &mut feed, &mut WriteSink::new(Full), 9);
-    assert_eq!(rt; ended.err(), Some(ServeFault::Write));
-    assert!(rt; engine.look(b"shop", b"de", b"menu").is_ok());
-    assert!(rt; engine.look(b"shop", b"de_AT", b"menu/open").is_err());
+    let mut engine = empty_engine(&rt).ok_or("no engine")?;
+    assert!(rt; keeps_a_bundle(rt.alloc(), &mut engine));
     Ok(())
+}
+
+/// Serves the stored run to a writer that flushes nothing, and returns the fault.
+fn unflushed(alloc: Global, engine: &mut Engine) -> Option<ServeFault> {
+    let mut feed = ReadFeed::new(RUN);
+    serve(alloc, engine, &mut feed, &mut WriteSink::new(Stuck), 9).err()
 }
 
 #[test]
 fn tells_of_a_reply_that_is_not_handed_on(rt: HostRuntime) -> Result<(), Fail> {
-    let alloc = rt.alloc();
-    let mut engine = empty_engine(&rt)?;
-    let mut feed = ReadFeed::new(RUN);
-    let ended = serve(alloc, &mut engine, &mut feed, &mut WriteSink::new(Stuck), 9);
-    assert_eq!(rt; ended.err(), Some(ServeFault::Write));
+    let mut engine = empty_engine(&rt).ok_or("no engine")?;
+    assert!(rt; unflushed(rt.alloc(), &mut engine) == Some(ServeFault::Write));
     Ok(())
+}
+
+/// The replies to three lines that are no requests.
+const THREE: &[u8] = b"\
+{\"error\":\"BadLine\"}
+{\"error\":\"BadLine\"}
+{\"error\":\"BadLine\"}
+";
+
+/// Checks whether serving lines without an end stops at the third one.
+fn stops_at_three(alloc: Global, engine: &mut Engine) -> bool {
+    let mut writer = SlowWriter::new(NEVER);
+    let mut sink = WriteSink::new(&mut writer);
+    let ended = serve(alloc, engine, &mut Endless, &mut sink, 3);
+    ended.err() == Some(ServeFault::LineLimit) && writer.written() == THREE
 }
 
 #[test]
 fn stops_at_lines_without_an_end(rt: HostRuntime) -> Result<(), Fail> {
-    let alloc = rt.alloc();
-    let mut engine = empty_engine(&rt)?;
-    let mut writer = SlowWriter::new(NEVER);
-    let mut sink = WriteSink::new(&mut writer);
-    let ended = serve(alloc, &mut engine, &mut Endless, &mut sink, 3);
-    assert_eq!(rt; ended.err(), Some(ServeFault::LineLimit));
-    assert_eq!(rt;
-        writer.written(),
-        b"{\"error\":\"BadLine\"}\n{\"error\":\"BadLine\"}\n{\"error\":\"BadLine\"}\n".as_slice()
-    );
+    let mut engine = empty_engine(&rt).ok_or("no engine")?;
+    assert!(rt; stops_at_three(rt.alloc(), &mut engine));
     Ok(())
 }

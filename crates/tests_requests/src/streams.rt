@@ -1,4 +1,4 @@
-//! Long replies, which are put piece by piece.
+//! Tests long replies, which are written in pieces.
 use crate::lines::empty_engine;
 use rb_replies::ReplyLine;
 use rb_requests::{
@@ -8,7 +8,6 @@ use rb_tree::ByteList;
 use std::alloc::{AllocError, Global};
 use std::io;
 use std::io::{ErrorKind, Write};
-use std::test::Fail;
 
 /// The most bytes of a piece.
 const PIECE: usize = 65_536;
@@ -22,7 +21,7 @@ struct Pieces {
 }
 
 impl Pieces {
-    /// A writer that takes this many pieces.
+    /// Returns a writer that takes this many pieces.
     fn new(alloc: Global, left: usize) -> Pieces {
         Pieces {
             bytes: Vec::new(alloc),
@@ -50,75 +49,29 @@ impl Write for Pieces {
     }
 }
 
-/// A part of a text, and how often it stands there.
-type Part = (&'static str, usize);
+/// Bundles with one long item, of each kind that can be long: the path of the item, the text before
+/// its parts, a part, the number of parts, and the text after them.
+const ITEMS: &str = r#"s|de{s{"|Hallo, Welt |20000|"}}
+s|de{s{"|a\"b\\c\nd\u0001e|20000|"}}
+s|de{s{"|\u00e4\u20ac\U0001F600x|20000|"}}
+s|de{s{"|ab\uD800 |20000|"}}
+v|de{v:intvector{|2147483647,-1,0,|10000|7}}
+b|de{b:bin{|00ff7a|30000|}}
+s|de{s{"|x|10001|"}}"#;
 
-/// A bundle with one long item: before it, its parts, and after them.
-struct Long {
-    path: &'static str,
-    before: &'static str,
-    part: Part,
-    after: &'static str,
+/// Returns the path of a row's item, and the text of its bundle.
+fn text_of<'a>(alloc: Global, row: &'a str) -> Option<(&'a str, Vec<u8>)> {
+    let mut fields = row.split('|');
+    let (path, before, part) = (fields.next()?, fields.next()?, fields.next()?);
+    let (count, after) = (fields.next()?, fields.next()?);
+    let parts = part.repeat(alloc, count.parse().ok()?).ok()?;
+    let mut text = before.as_bytes().to_vec(alloc).ok()?;
+    text.extend_from_slice(parts.as_bytes()).ok()?;
+    text.extend_from_slice(after.as_bytes()).ok()?;
+    Some((path, text))
 }
 
-/// Long items of each kind that can be.
-const ITEMS: [Long; 7] = [
-    Long {
-        path: "s",
-        before: "de{s{\"",
-        part: ("Hallo, Welt ", 20_000),
-        after: "\"}}",
-    },
-    Long {
-        path: "s",
-        before: "de{s{\"",
-        part: ("a\\\"b\\\\c\\nd\\u0001e", 20_000),
-        after: "\"}}",
-    },
-    Long {
-        path: "s",
-        before: "de{s{\"",
-        part: ("\\u00e4\\u20ac\\U0001F600x", 20_000),
-        after: "\"}}",
-    },
-    Long {
-        path: "s",
-        before: "de{s{\"",
-        part: ("ab\\uD800 ", 20_000),
-        after: "\"}}",
-    },
-    Long {
-        path: "v",
-        before: "de{v:intvector{",
-        part: ("2147483647,-1,0,", 10_000),
-        after: "7}}",
-    },
-    Long {
-        path: "b",
-        before: "de{b:bin{",
-        part: ("00ff7a", 30_000),
-        after: "}}",
-    },
-    Long {
-        path: "s",
-        before: "de{s{\"",
-        part: ("x", 10_001),
-        after: "\"}}",
-    },
-];
-
-/// The text of a bundle.
-fn text_of(alloc: Global, long: &Long) -> Result<Vec<u8>, AllocError> {
-    let mut text = long.before.as_bytes().to_vec(alloc)?;
-    let (part, count) = long.part;
-    for _ in 0..count {
-        text.extend_from_slice(part.as_bytes())?;
-    }
-    text.extend_from_slice(long.after.as_bytes())?;
-    Ok(text)
-}
-
-/// The text of a bundle with a table of this many keys.
+/// Returns the text of a bundle with a table of this many keys.
 fn table_of(alloc: Global, keys: u32) -> Result<Vec<u8>, AllocError> {
     let mut text = "de{t{".as_bytes().to_vec(alloc)?;
     for key in 0..keys {
@@ -129,22 +82,22 @@ fn table_of(alloc: Global, keys: u32) -> Result<Vec<u8>, AllocError> {
     Ok(text)
 }
 
-/// An engine with a bundle.
-fn engine_of(rt: &HostRuntime, text: Vec<u8>) -> Result<Engine, Fail> {
+/// Returns an engine with a bundle.
+fn engine_of(rt: &HostRuntime, text: Vec<u8>) -> Option<Engine> {
     let alloc = rt.alloc();
     let mut engine = empty_engine(rt)?;
     let request = Request::Install {
-        app: ByteList::from_vec(b"shop".to_vec(alloc)?),
-        locale: ByteList::from_vec(b"de".to_vec(alloc)?),
+        app: ByteList::from_vec(b"shop".to_vec(alloc).ok()?),
+        locale: ByteList::from_vec(b"de".to_vec(alloc).ok()?),
         payload: Payload::Text(ByteList::from_vec(text)),
     };
     match engine.handle(alloc, request) {
-        Reply::Done => Ok(engine),
-        reply => Err(reply.word().into()),
+        Reply::Done => Some(engine),
+        _ => None,
     }
 }
 
-/// The whole line of the reply to a lookup.
+/// Returns the line of the reply to a lookup.
 fn whole(alloc: Global, engine: &Engine, path: &str) -> Result<ReplyLine, AllocError> {
     let mut line = ReplyLine::new(alloc);
     line.tell_look(alloc, &engine.look(b"shop", b"de", path.as_bytes()))?;
@@ -171,63 +124,86 @@ fn serve_look(
     Ok(serve_limited(alloc, engine, &limits, &mut feed, &mut sink, 9).err())
 }
 
-/// Whether a lookup is answered by its whole reply in pieces, with limits that it keeps, and else
-/// by the word of the limit; and whether a writer that fails after each number of pieces has the
-/// front of the reply.
-fn is_streamed(rt: &HostRuntime, text: Vec<u8>, path: &str) -> Result<bool, Fail> {
-    let alloc = rt.alloc();
-    let mut engine = engine_of(rt, text)?;
-    let line = whole(alloc, &engine, path)?;
-    let len = line.as_bytes().len();
-    for most in [None, Some(len as u64), Some(u64::MAX)] {
-        let mut pieces = Pieces::new(alloc, usize::MAX);
-        let ended = serve_look(alloc, &mut engine, path, most, &mut pieces)?;
-        let same = pieces.bytes.as_slice() == line.as_bytes();
-        if ended.is_some() || !same || pieces.largest > PIECE {
-            return Ok(false);
-        }
-    }
+/// Checks whether a lookup within a limit gets its reply in pieces of at most `PIECE` bytes.
+fn is_whole(
+    alloc: Global,
+    engine: &mut Engine,
+    path: &str,
+    most: Option<u64>,
+    wanted: &[u8],
+) -> bool {
     let mut pieces = Pieces::new(alloc, usize::MAX);
-    let ended = serve_look(
-        alloc,
-        &mut engine,
-        path,
-        Some((len as u64).saturating_sub(1)),
-        &mut pieces,
-    )?;
-    if ended.is_some() || pieces.bytes.as_slice() != b"{\"error\":\"ReplyTooLong\"}\n".as_slice() {
-        return Ok(false);
-    }
-    breaks_off(alloc, &mut engine, path, line.as_bytes())
+    let ended = serve_look(alloc, engine, path, most, &mut pieces);
+    matches!(ended, Ok(None)) && pieces.bytes.as_slice() == wanted && pieces.largest <= PIECE
 }
 
-/// Whether a writer that fails has the front of a reply.
-fn breaks_off(alloc: Global, engine: &mut Engine, path: &str, line: &[u8]) -> Result<bool, Fail> {
+/// The reply to a lookup that exceeds its limit.
+const TOO_LONG: &[u8] = b"{\"error\":\"ReplyTooLong\"}\n";
+
+/// Checks a reply at limits that it keeps and at one that it exceeds, and at a writer that fails
+/// after each number of pieces.
+fn is_streamed_to(alloc: Global, engine: &mut Engine, path: &str, line: &[u8]) -> bool {
+    let len = line.len() as u64;
+    is_whole(alloc, engine, path, None, line)
+        && is_whole(alloc, engine, path, Some(len), line)
+        && is_whole(alloc, engine, path, Some(u64::MAX), line)
+        && is_whole(alloc, engine, path, Some(len.saturating_sub(1)), TOO_LONG)
+        && breaks_off_at_each(alloc, engine, path, line)
+}
+
+/// Installs a bundle, and checks the reply to a lookup of its long item.
+fn is_streamed(rt: &HostRuntime, text: Vec<u8>, path: &str) -> bool {
+    let Some(mut engine) = engine_of(rt, text) else {
+        return false;
+    };
+    match whole(rt.alloc(), &engine, path) {
+        Ok(line) => is_streamed_to(rt.alloc(), &mut engine, path, line.as_bytes()),
+        Err(_) => false,
+    }
+}
+
+/// Checks whether a writer that takes some pieces and then fails has the start of a reply.
+fn breaks_off(alloc: Global, engine: &mut Engine, path: &str, line: &[u8], taken: usize) -> bool {
+    let mut pieces = Pieces::new(alloc, taken);
+    let ended = serve_look(alloc, engine, path, None, &mut pieces);
+    matches!(ended, Ok(Some(ServeFault::Write)))
+        && line.starts_with(pieces.bytes.as_slice())
+        && pieces.bytes.len() != line.len()
+}
+
+fn breaks_off_at_each(alloc: Global, engine: &mut Engine, path: &str, line: &[u8]) -> bool {
     for taken in 0..line.len() / PIECE + 1 {
-        let mut pieces = Pieces::new(alloc, taken);
-        let ended = serve_look(alloc, engine, path, None, &mut pieces)?;
-        let front = line.starts_with(pieces.bytes.as_slice());
-        if ended != Some(ServeFault::Write) || !front || pieces.bytes.len() == line.len() {
-            return Ok(false);
+        if !breaks_off(alloc, engine, path, line, taken) {
+            return false;
         }
     }
-    Ok(true)
+    true
+}
+
+/// Checks the long item of a row.
+fn is_item_streamed(rt: &HostRuntime, row: &str) -> bool {
+    match text_of(rt.alloc(), row) {
+        Some((path, text)) => is_streamed(rt, text, path),
+        None => false,
+    }
 }
 
 #[test]
-fn puts_long_items_piece_by_piece(rt: HostRuntime) -> Result<(), Fail> {
-    for long in &ITEMS {
-        let text = text_of(rt.alloc(), long)?;
-        assert!(rt; is_streamed(&rt, text, long.path)?, "{}", long.before);
+fn puts_long_items_piece_by_piece(rt: HostRuntime) {
+    for row in ITEMS.lines() {
+        assert!(rt; is_item_streamed(&rt, row), "{row}");
     }
-    Ok(())
+}
+
+fn is_table_streamed(rt: &HostRuntime, keys: u32) -> bool {
+    match table_of(rt.alloc(), keys) {
+        Ok(text) => is_streamed(rt, text, "t"),
+        Err(_) => false,
+    }
 }
 
 #[test]
-fn puts_long_tables_piece_by_piece(rt: HostRuntime) -> Result<(), Fail> {
-    for keys in [2_000, 20_000] {
-        let text = table_of(rt.alloc(), keys)?;
-        assert!(rt; is_streamed(&rt, text, "t")?, "{keys}");
-    }
-    Ok(())
+fn puts_long_tables_piece_by_piece(rt: HostRuntime) {
+    assert!(rt; is_table_streamed(&rt, 2_000));
+    assert!(rt; is_table_streamed(&rt, 20_000));
 }

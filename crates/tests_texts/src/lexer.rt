@@ -1,9 +1,9 @@
-//! Worked sources, with what they must give.
+//! Tests sources: the tokens that they give, and their faults.
 use rb_lexer::{Mark, SourceFault, SourceKind, Token, lex};
 use std::alloc::Global;
 use std::test::Fail;
 
-/// Whether a token is this text.
+/// Checks whether a token is this text.
 fn is_text(token: &Token, units: &[u16]) -> bool {
     match &token.what {
         Mark::Text(text) => text.as_slice() == units,
@@ -11,7 +11,7 @@ fn is_text(token: &Token, units: &[u16]) -> bool {
     }
 }
 
-/// Whether a source is refused with this fault at this line.
+/// Checks whether a source is refused with this fault at this line.
 fn is_refused(alloc: Global, source: &[u8], kind: SourceKind, line: u64) -> bool {
     match lex(alloc, source) {
         Ok(_) => false,
@@ -19,7 +19,7 @@ fn is_refused(alloc: Global, source: &[u8], kind: SourceKind, line: u64) -> bool
     }
 }
 
-/// Whether tokens are `a`, a brace, `b c` and a brace.
+/// Checks whether tokens are `a`, a brace, `b c` and a brace.
 fn are_marks(tokens: &[Token]) -> bool {
     tokens.len() == 4
         && is_text(&tokens[0], &[97])
@@ -28,7 +28,7 @@ fn are_marks(tokens: &[Token]) -> bool {
         && matches!(tokens[3].what, Mark::RightBrace)
 }
 
-/// Whether tokens have these spans, all in line 1.
+/// Checks whether tokens have these spans, all in line 1.
 fn are_at(tokens: &[Token], spans: &[(usize, usize)]) -> bool {
     if tokens.len() != spans.len() {
         return false;
@@ -50,7 +50,7 @@ fn tells_spans(rt: HostRuntime) -> Result<(), Fail> {
     Ok(())
 }
 
-/// Whether tokens begin in these lines.
+/// Checks whether tokens begin in these lines.
 fn are_in(tokens: &[Token], lines: &[u64]) -> bool {
     if tokens.len() != lines.len() {
         return false;
@@ -75,88 +75,124 @@ fn tokens_are_small(rt: HostRuntime) {
     assert!(rt; std::mem::size_of::<Token>() <= 64);
 }
 
-/// How many tokens a source has.
+/// Counts the tokens of a source.
 fn count(alloc: Global, source: &[u8]) -> Result<usize, SourceFault> {
     Ok(lex(alloc, source)?.len())
 }
 
-#[test]
-fn counts_tokens(rt: HostRuntime) -> Result<(), Fail> {
-    let rows = [
-        ("root{a{\"b\"}}", 7),
-        ("root{a{\"b\"},}", 8),
-        ("", 0),
-        (" /* x */ // y", 0),
-        ("\u{FEFF}a\u{FEFF}{\u{2029}}", 3),
-        ("//\u{2029}a//\r{", 2),
-    ];
-    for (source, want) in rows {
-        assert!(rt; count(rt.alloc(), source.as_bytes())? == want);
-    }
-    Ok(())
+/// Checks the number of tokens of a source.
+fn has_tokens(alloc: Global, source: &str, wanted: usize) -> bool {
+    count(alloc, source.as_bytes()) == Ok(wanted)
 }
 
-/// Whether a source is this one text.
+fn are_counted(alloc: Global) -> bool {
+    has_tokens(alloc, "root{a{\"b\"}}", 7)
+        && has_tokens(alloc, "root{a{\"b\"},}", 8)
+        && has_tokens(alloc, "", 0)
+        && has_tokens(alloc, " /* x */ // y", 0)
+        && has_tokens(alloc, "\u{FEFF}a\u{FEFF}{\u{2029}}", 3)
+        && has_tokens(alloc, "//\u{2029}a//\r{", 2)
+}
+
+#[test]
+fn counts_tokens(rt: HostRuntime) {
+    assert!(rt; are_counted(rt.alloc()));
+}
+
+/// Checks whether a source is one text with these units.
 fn is_one_text(alloc: Global, source: &[u8], units: &[u16]) -> Result<bool, SourceFault> {
     let tokens = lex(alloc, source)?;
     Ok(tokens.len() == 1 && is_text(&tokens[0], units))
 }
 
-#[test]
-fn reads_one_text(rt: HostRuntime) -> Result<(), Fail> {
-    let rows: [(&str, &[u16]); 15] = [
-        (
-            "\"a\" b \"c\"\"d\" /* x */ \"e\"",
-            &[97, 32, 98, 32, 99, 100, 101],
-        ),
-        ("\"\" b", &[98]),
-        ("a \"\"", &[97, 32]),
-        ("ab/*x*/cd", &[97, 98, 99, 100]),
-        ("ab//x\ncd", &[97, 98, 99, 100]),
-        ("ab//x\r\ncd", &[97, 98, 32, 99, 100]),
-        ("a/b", &[97, 47, 98]),
-        (
-            "\"\\u00e9\\U0001F600\\uD800\\101\\{\"",
-            &[233, 55357, 56832, 55296, 65, 123],
-        ),
-        ("\\{x", &[123, 120]),
-        ("\\777\\18\\8\\9\\X", &[511, 1, 56, 56, 57, 88]),
-        ("\\x4g\\x41f", &[4, 103, 65, 102]),
-        ("\\a\\b\\e\\f\\n\\r\\t\\v", &[7, 8, 27, 12, 10, 13, 9, 11]),
-        ("\\/*\\\"\\ \\\\", &[47, 42, 34, 32, 92]),
-        ("\u{85}\u{A0}\u{B}", &[133, 160, 11]),
-        ("\u{FEFF}\u{E9}\u{1F600}", &[233, 55357, 56832]),
-    ];
-    for (source, text) in rows {
-        assert!(rt; is_one_text(rt.alloc(), source.as_bytes(), text)?);
+/// Sources of one text, each after its units.
+const TEXTS: &str = r#"97 32 98 32 99 100 101|"a" b "c""d" /* x */ "e"
+98|"" b
+97 32|a ""
+97 98 99 100|ab/*x*/cd
+97 47 98|a/b
+233 55357 56832 55296 65 123|"\u00e9\U0001F600\uD800\101\{"
+123 120|\{x
+511 1 56 56 57 88|\777\18\8\9\X
+4 103 65 102|\x4g\x41f
+7 8 27 12 10 13 9 11|\a\b\e\f\n\r\t\v
+47 42 34 32 92|\/*\"\ \\"#;
+
+/// Reads units from a list of numbers.
+fn units_of(alloc: Global, numbers: &str) -> Option<Vec<u16>> {
+    let mut units = Vec::new(alloc);
+    for number in numbers.split(' ') {
+        units.push(number.parse().ok()?).ok()?;
     }
-    Ok(())
+    Some(units)
+}
+
+/// Checks a row of `TEXTS`. Returns None if the row can't be read.
+fn has_text(alloc: Global, row: &str) -> Option<bool> {
+    let (numbers, source) = row.split_once('|')?;
+    let units = units_of(alloc, numbers)?;
+    is_one_text(alloc, source.as_bytes(), units.as_slice()).ok()
+}
+
+#[test]
+fn reads_one_text(rt: HostRuntime) {
+    for row in TEXTS.lines() {
+        assert!(rt; has_text(rt.alloc(), row) == Some(true), "{row}");
+    }
+}
+
+/// Checks whether a source is one text with these units.
+fn gives(alloc: Global, source: &str, units: &[u16]) -> bool {
+    is_one_text(alloc, source.as_bytes(), units) == Ok(true)
+}
+
+fn reads_line_feeds_and_marks(alloc: Global) -> bool {
+    gives(alloc, "ab//x\ncd", &[97, 98, 99, 100])
+        && gives(alloc, "ab//x\r\ncd", &[97, 98, 32, 99, 100])
+        && gives(alloc, "\u{85}\u{A0}\u{B}", &[133, 160, 11])
+        && gives(alloc, "\u{FEFF}\u{E9}\u{1F600}", &[233, 55357, 56832])
+}
+
+#[test]
+fn reads_one_text_with_line_feeds_or_marks(rt: HostRuntime) {
+    assert!(rt; reads_line_feeds_and_marks(rt.alloc()));
+}
+
+/// Sources that are refused, each after its error code and the line. `~` stands for a line feed.
+const REFUSED: &str = r#"BadEscape|1|"\U00110000"
+BadEscape|1|"\cA"
+BadEscape|1|"\x{41}"
+BadEscape|1|"\x"
+BadEscape|1|"\u12"
+BadEscape|1|a\
+BadEscape|1|root{a{"\x
+OpenQuote|3|x{~"a~
+OpenQuote|1|root{a{"x}
+OpenComment|1|root{/*
+OpenComment|1|/*/"#;
+
+/// Checks the fault of a row of `REFUSED`. Returns None if the row can't be read.
+fn has_fault(alloc: Global, row: &str) -> Option<bool> {
+    let mut fields = row.split('|');
+    let (word, line) = (fields.next()?, fields.next()?.parse::<u64>().ok()?);
+    let source = fields.next()?.replace(alloc, '~', "\n").ok()?;
+    match lex(alloc, source.as_bytes()) {
+        Ok(_) => Some(false),
+        Err(fault) => Some(fault.kind.word() == word && fault.line == line),
+    }
 }
 
 #[test]
 fn refuses(rt: HostRuntime) {
-    let rows = [
-        ("\"\\U00110000\"", SourceKind::BadEscape, 1),
-        ("\"\\cA\"", SourceKind::BadEscape, 1),
-        ("\"\\x{41}\"", SourceKind::BadEscape, 1),
-        ("\"\\x\"", SourceKind::BadEscape, 1),
-        ("\"\\u12\"", SourceKind::BadEscape, 1),
-        ("a\\", SourceKind::BadEscape, 1),
-        ("root{a{\"\\x", SourceKind::BadEscape, 1),
-        ("x{\n\"a\n", SourceKind::OpenQuote, 3),
-        ("root{a{\"x}", SourceKind::OpenQuote, 1),
-        ("root{/*", SourceKind::OpenComment, 1),
-        ("/*/", SourceKind::OpenComment, 1),
-    ];
-    for (source, kind, line) in rows {
-        assert!(rt; is_refused(rt.alloc(), source.as_bytes(), kind, line));
+    for row in REFUSED.lines() {
+        assert!(rt; has_fault(rt.alloc(), row) == Some(true), "{row}");
     }
     assert!(rt; is_refused(rt.alloc(), b"\xFF", SourceKind::NotUtf8, 1));
     assert!(rt; is_refused(rt.alloc(), b"\\c\n\n\xE2\x80", SourceKind::NotUtf8, 3));
     assert!(rt; SourceKind::NotUtf8.word() == "NotUtf8");
 }
 
-/// Whether a token is a text of this many units.
+/// Checks whether a token is a text of this many units.
 fn has_units(token: &Token, count: usize) -> bool {
     match &token.what {
         Mark::Text(text) => text.as_slice().len() == count,

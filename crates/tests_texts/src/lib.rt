@@ -1,4 +1,4 @@
-//! Tests of trees and of bundle texts: `rb_tree`, `rb_lexer`, `rb_grammar`, `rb_parser`, `rb_lint`.
+//! Tests trees and bundle texts: `rb_tree`, `rb_lexer`, `rb_grammar`, `rb_parser`, `rb_lint`.
 #![tactic(auto)]
 
 #[cfg(test)]

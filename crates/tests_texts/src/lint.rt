@@ -1,55 +1,76 @@
-//! Texts with what is doubtful in them, by themselves and beside the root's.
+//! Tests warnings about texts, alone and beside the root's.
 use rb_lint::{Difference, Doubt, RootWarning, Warning, beside_root, lint};
 use rb_parser::{Source, parse};
 use std::alloc::Global;
 use std::test::Fail;
 
-/// Texts, and the warnings that they have.
-const DOUBTFUL: [(&[u8], &[(u64, Doubt)]); 14] = [
-    (b"de{a{\"b\"}}", &[]),
-    (b"", &[]),
-    (
-        b"de {\n a { \"b }\n c { \"d\" }\n}\n",
-        &[(2, Doubt::RunsOn)],
-    ),
-    (b"de {\n a { \"b\n c\" }\n}\n", &[(2, Doubt::RunsOn)]),
-    (b"de{a{\"b\" c}}", &[(1, Doubt::Mixed)]),
-    (b"de{a{\n\"b\"\n\"c\",\n\"d\"}}", &[(2, Doubt::Joined)]),
-    (b"de{a{\"b\" \"c\"}}", &[]),
-    (b"de{a:intvector{1 2}}", &[(1, Doubt::Joined)]),
-    (b"de{a{Guten Tag, Hallo Welt}}", &[]),
-    (b"de{a{\"\\q\" \"\\n\"}}", &[(1, Doubt::Escape('q'))]),
-    (b"de{a{\"\\\\u005c\"}}", &[(1, Doubt::TwoBackslashes)]),
-    (b"fr{a{\"b\"}}", &[(1, Doubt::OtherName)]),
-    (b"de { // \" {\n /* \" { */ a { \"b\" }\n}\n", &[]),
-    (b"\xEF\xBB\xBFde{a{\"b\"}}", &[]),
-];
+/// Texts, each after the line and the doubt of its one warning, or `none`. `~` stands for a line feed.
+const DOUBTFUL: &str = r#"none|de{a{"b"}}
+none|
+2 RunsOn|de {~ a { "b }~ c { "d" }~}~
+2 RunsOn|de {~ a { "b~ c" }~}~
+1 Mixed|de{a{"b" c}}
+2 Joined|de{a{~"b"~"c",~"d"}}
+none|de{a{"b" "c"}}
+1 Joined|de{a:intvector{1 2}}
+none|de{a{Guten Tag, Hallo Welt}}
+1 Escape q|de{a{"\q" "\n"}}
+1 TwoBackslashes|de{a{"\\u005c"}}
+1 OtherName|fr{a{"b"}}
+none|de { // " {~ /* " { */ a { "b" }~}~"#;
 
-fn is_linted(alloc: Global, text: &[u8], wanted: &[(u64, Doubt)]) -> bool {
+/// Reads a doubt from its name.
+fn doubt_of(name: &str) -> Option<Doubt> {
+    match name {
+        "RunsOn" => Some(Doubt::RunsOn),
+        "Mixed" => Some(Doubt::Mixed),
+        "Joined" => Some(Doubt::Joined),
+        "Escape q" => Some(Doubt::Escape('q')),
+        "TwoBackslashes" => Some(Doubt::TwoBackslashes),
+        "OtherName" => Some(Doubt::OtherName),
+        _ => None,
+    }
+}
+
+/// Reads a warning from its line and its doubt.
+fn warning_of(words: &str) -> Option<Warning> {
+    let (line, doubt) = words.split_once(' ')?;
+    Some(Warning {
+        line: line.parse().ok()?,
+        doubt: doubt_of(doubt)?,
+    })
+}
+
+/// Checks the warnings of a text of the bundle `de`.
+fn is_linted(alloc: Global, text: &[u8], wanted: &[Warning]) -> bool {
     match lint(alloc, text, Some(b"de")) {
-        Ok(found) => {
-            found.len() == wanted.len()
-                && found.iter().zip(wanted).all(|(warning, other)| *warning
-                    == Warning {
-                        line: other.0,
-                        doubt: other.1,
-                    })
-        }
+        Ok(found) => found.as_slice() == wanted,
         Err(_) => false,
     }
 }
 
+/// Checks the warnings of a row of `DOUBTFUL`. Returns None if the row can't be read.
+fn has_doubt(alloc: Global, row: &str) -> Option<bool> {
+    let (words, text) = row.split_once('|')?;
+    let text = text.replace(alloc, '~', "\n").ok()?;
+    if words == "none" {
+        return Some(is_linted(alloc, text.as_bytes(), &[]));
+    }
+    Some(is_linted(alloc, text.as_bytes(), &[warning_of(words)?]))
+}
+
 #[test]
 fn finds_what_is_doubtful(rt: HostRuntime) {
-    for (text, wanted) in DOUBTFUL {
-        assert!(rt; is_linted(rt.alloc(), text, wanted));
+    for row in DOUBTFUL.lines() {
+        assert!(rt; has_doubt(rt.alloc(), row) == Some(true), "{row}");
     }
+    assert!(rt; is_linted(rt.alloc(), b"\xEF\xBB\xBFde{a{\"b\"}}", &[]));
 }
 
 const INDENTED: &[u8] =
     b"de {\n    a {\n        b { \"c\" }\n    }\n    d {\n        e { \"f\" }\n    }\n}\n";
 
-/// Bytes that are taken out of the indented text, and a warning that it has then.
+/// Offsets of bytes that are removed from the indented text, each with a warning that it then has.
 const WITHOUT: [(usize, u64, Doubt); 5] = [
     // the brace that opens `a`
     (11, 3, Doubt::FurtherRight),
@@ -62,7 +83,7 @@ const WITHOUT: [(usize, u64, Doubt); 5] = [
     (25, 3, Doubt::RunsOn),
 ];
 
-/// Whether the indented text without a byte has this warning.
+/// Checks whether the indented text without a byte has this warning.
 fn is_found(alloc: Global, without: usize, line: u64, doubt: Doubt) -> bool {
     let Ok(mut text) = INDENTED.to_vec(alloc) else {
         return false;
@@ -84,28 +105,24 @@ fn finds_what_is_missing(rt: HostRuntime) {
     }
 }
 
-/// Texts of messages, and the names of their placeholders.
-const MESSAGES: [(&[u8], &[&[u8]]); 9] = [
-    (b"Guten Tag", &[]),
-    (b"Guten Tag, {name}!", &[b"name"]),
-    (b"{0} von {1}, {0}", &[b"0", b"1"]),
-    (b"{0,number} { 1 }", &[b"0", b"1"]),
-    (
-        b"{n, plural, one{ein Ding} other{{m} Dinge}}",
-        &[b"n", b"m"],
-    ),
-    (b"'{0}' {1}", &[b"1"]),
-    (b"it's {0}", &[b"0"]),
-    (b"{} {a b} { {", &[]),
-    (b"}{0}", &[b"0"]),
-];
+/// Texts of messages, each after the names of its placeholders.
+const MESSAGES: &str = "\
+|Guten Tag
+name|Guten Tag, {name}!
+0 1|{0} von {1}, {0}
+0 1|{0,number} { 1 }
+n m|{n, plural, one{ein Ding} other{{m} Dinge}}
+1|'{0}' {1}
+0|it's {0}
+|{} {a b} { {
+0|}{0}";
 
-/// Whether all warnings are of placeholders that a text lacks, or adds, of these names in order.
-fn are_named(warnings: &[RootWarning], names: &[&[u8]], lacks: bool) -> bool {
+/// Checks whether all warnings are of placeholders that a text lacks, or adds, with these names.
+fn are_named(warnings: &[RootWarning], names: &[&str], lacks: bool) -> bool {
     warnings.len() == names.len()
         && warnings.iter().zip(names).all(|(warning, name)| match &warning.difference {
-            Difference::Lacks(other) => lacks && other.as_slice() == *name,
-            Difference::Adds(other) => !lacks && other.as_slice() == *name,
+            Difference::Lacks(other) => lacks && other.as_slice() == name.as_bytes(),
+            Difference::Adds(other) => !lacks && other.as_slice() == name.as_bytes(),
             _ => false,
         })
 }
@@ -117,28 +134,38 @@ fn source(alloc: Global, text: &[u8]) -> Result<Source, Fail> {
     }
 }
 
-/// The text of a bundle with a message at `a`.
-fn bundle_text(alloc: Global, message: &[u8]) -> Result<Vec<u8>, Fail> {
+/// Returns the text of a bundle with a message at `a`.
+fn bundle_text(alloc: Global, message: &str) -> Result<Vec<u8>, Fail> {
     let mut text = b"de{a{\"".to_vec(alloc)?;
-    text.extend_from_slice(message)?;
+    text.extend_from_slice(message.as_bytes())?;
     text.extend_from_slice(b"\"}}")?;
     Ok(text)
 }
 
-/// Whether a message has placeholders of these names, in order: beside the root's empty text it
-/// adds them, and beside its own in the root an empty text lacks them.
-fn has_placeholders(alloc: Global, message: &[u8], names: &[&[u8]]) -> Result<bool, Fail> {
-    let (with, without) = (bundle_text(alloc, message)?, bundle_text(alloc, b"")?);
+/// Checks whether a message has placeholders with these names, in order. It adds them beside an empty
+/// text in the root, and an empty text lacks them beside the message in the root.
+fn has_placeholders(alloc: Global, message: &str, names: &[&str]) -> Result<bool, Fail> {
+    let (with, without) = (bundle_text(alloc, message)?, bundle_text(alloc, "")?);
     let (full, empty) = (source(alloc, &with)?, source(alloc, &without)?);
     let adds = beside_root(alloc, &with, &full.tree, &empty.tree)?;
     let lacks = beside_root(alloc, &without, &empty.tree, &full.tree)?;
     Ok(are_named(&adds, names, false) && are_named(&lacks, names, true))
 }
 
+/// Checks a row of `MESSAGES`.
+fn has_named_placeholders(alloc: Global, row: &str) -> Result<bool, Fail> {
+    let (list, message) = row.split_once('|').ok_or("no row")?;
+    let mut names = Vec::new(alloc);
+    for name in list.split_whitespace() {
+        names.push(name)?;
+    }
+    has_placeholders(alloc, message, names.as_slice())
+}
+
 #[test]
 fn finds_placeholders(rt: HostRuntime) -> Result<(), Fail> {
-    for (message, names) in MESSAGES {
-        assert!(rt; has_placeholders(rt.alloc(), message, names)?);
+    for row in MESSAGES.lines() {
+        assert!(rt; has_named_placeholders(rt.alloc(), row)?, "{row}");
     }
     Ok(())
 }

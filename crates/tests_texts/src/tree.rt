@@ -1,4 +1,4 @@
-//! Worked examples, each public call among them.
+//! Tests trees: each public call at least once.
 ghost use Rattle.std.specs.Prelude.{All};
 ghost use Rattle.rb_tree.specs.Keys.{IsKey};
 ghost use Rattle.rb_tree.specs.Table.{keys_in};
@@ -63,7 +63,7 @@ fn table(alloc: Global, pairs: Vec<(ByteList, Tree)>) -> Result<Tree, Fail>
     Tree::table(alloc, pairs).map_err(|fault| fault.word().into())
 }
 
-/// The table of the Int 1 under `b` and the Int 2 under `a`.
+/// Returns a table of the integer 1 under `b` and the integer 2 under `a`.
 fn numbers(alloc: Global) -> Result<Tree, Fail> {
     let mut pairs = Vec::new(alloc);
     put_number(alloc, &mut pairs, b"b", 1)?;
@@ -71,12 +71,12 @@ fn numbers(alloc: Global) -> Result<Tree, Fail> {
     table(alloc, pairs)
 }
 
-/// Whether a tree is an Int.
+/// Checks whether a tree is an integer.
 fn is_number(node: &Tree, n: u32) -> bool {
     node.kind() == Kind::Int && node.int() == n
 }
 
-/// Whether a table has a key with an Int.
+/// Checks whether a table has a key with an integer.
 fn has_number(table: &Tree, key: &[u8], n: u32) -> bool {
     table.kind() == Kind::Table && table.child(key).is_some_and(|node| is_number(node, n))
 }
@@ -89,7 +89,7 @@ fn sorts_a_table(rt: HostRuntime) -> Result<(), Fail> {
     Ok(())
 }
 
-/// The table of the String `B` under `b` and the String `A` under `a`.
+/// Returns a table of the string `B` under `b` and the string `A` under `a`.
 fn texts(alloc: Global) -> Result<Tree, Fail> {
     let mut pairs = Vec::new(alloc);
     put_text(alloc, &mut pairs, b"b", 66)?;
@@ -97,7 +97,7 @@ fn texts(alloc: Global) -> Result<Tree, Fail> {
     table(alloc, pairs)
 }
 
-/// Whether a tree is text of one unit, of this kind.
+/// Checks whether a tree is text of one unit, of this kind.
 fn is_text(node: &Tree, kind: Kind, unit: u16) -> bool {
     match node {
         Tree::String(_) | Tree::Alias(_) => node.kind() == kind
@@ -107,7 +107,7 @@ fn is_text(node: &Tree, kind: Kind, unit: u16) -> bool {
     }
 }
 
-/// Whether a table has, at an index, this key and a String of this one unit.
+/// Checks whether a table has, at an index, this key and a string of this one unit.
 fn has_text(table: &Tree, i: usize, key: &[u8], unit: u16) -> bool {
     if table.kind() != Kind::Table || i >= table.len() || table.key_at(i) != key {
         return false;
@@ -123,7 +123,7 @@ fn sorts_a_table_of_texts(rt: HostRuntime) -> Result<(), Fail> {
     Ok(())
 }
 
-/// Three entries, of which the last has the key of the first.
+/// Returns the fault of three entries of which the last has the key of the first.
 fn repeated(alloc: Global) -> Result<Option<TableFault>, Fail> {
     let mut pairs = Vec::new(alloc);
     put_number(alloc, &mut pairs, b"b", 1)?;
@@ -147,7 +147,7 @@ fn push(trees: &mut Vec<Tree>, tree: Tree) -> Result<(), Fail> {
     }
 }
 
-/// An array of the Int 7 and an alias.
+/// Returns an array of the integer 7 and an alias.
 fn pair(alloc: Global) -> Result<Tree, Fail> {
     let mut trees = Vec::new(alloc);
     push(&mut trees, number(7)?)?;
@@ -155,14 +155,14 @@ fn pair(alloc: Global) -> Result<Tree, Fail> {
     Ok(Tree::Array(TreeList::from_vec(trees)))
 }
 
-/// The table of that array under `list`.
+/// Returns a table of that array under `list`.
 fn listed(alloc: Global) -> Result<Tree, Fail> {
     let mut pairs = Vec::new(alloc);
     put(alloc, &mut pairs, b"list", pair(alloc)?)?;
     table(alloc, pairs)
 }
 
-/// A word for where a walk ends.
+/// Returns a word for where a walk ends.
 fn ended(tree: &Tree, path: &[u8]) -> &'static str {
     if !path_ok(path) {
         return "no path";
@@ -180,10 +180,29 @@ fn ended(tree: &Tree, path: &[u8]) -> &'static str {
     }
 }
 
-/// Whether each path ends as its word says.
-fn all_end(tree: &Tree, cases: &[(&[u8], &str)]) -> bool {
-    for (path, wanted) in cases {
-        if ended(tree, path) != *wanted {
+/// Paths, each with the word for where a walk ends.
+const WALKS: &str = "\
+|Table
+list|Array
+list/0|Int
+list/1/x|link 6
+list/01|gone
+list/2|gone
+lis|gone
+list/0/0|gone
+a//b|no path
+/|no path
+a/|no path
+\x1F|no path
+\x7F|no path";
+
+/// Checks whether each path of `WALKS` ends as its word says.
+fn all_end(tree: &Tree) -> bool {
+    for row in WALKS.lines() {
+        let Some((path, wanted)) = row.split_once('|') else {
+            return false;
+        };
+        if ended(tree, path.as_bytes()) != wanted {
             return false;
         }
     }
@@ -192,27 +211,12 @@ fn all_end(tree: &Tree, cases: &[(&[u8], &str)]) -> bool {
 
 #[test]
 fn walks(rt: HostRuntime) -> Result<(), Fail> {
-    let cases: [(&[u8], &str); 13] = [
-        (b"", "Table"),
-        (b"list", "Array"),
-        (b"list/0", "Int"),
-        (b"list/1/x", "link 6"),
-        (b"list/01", "gone"),
-        (b"list/2", "gone"),
-        (b"lis", "gone"),
-        (b"list/0/0", "gone"),
-        (b"a//b", "no path"),
-        (b"/", "no path"),
-        (b"a/", "no path"),
-        (b"\x1F", "no path"),
-        (b"\x7F", "no path"),
-    ];
     let tree = listed(rt.alloc())?;
-    assert!(rt; all_end(&tree, &cases));
+    assert!(rt; all_end(&tree));
     Ok(())
 }
 
-/// An array of the Ints 7 and 8.
+/// Returns an array of the integers 7 and 8.
 fn plain(alloc: Global) -> Result<Tree, Fail> {
     let mut trees = Vec::new(alloc);
     push(&mut trees, number(7)?)?;
@@ -220,7 +224,7 @@ fn plain(alloc: Global) -> Result<Tree, Fail> {
     Ok(Tree::Array(TreeList::from_vec(trees)))
 }
 
-/// Whether a path ends at an Int.
+/// Checks whether a path ends at an integer.
 fn leads_to(tree: &Tree, path: &[u8], n: u32) -> bool {
     path_ok(path)
         && match walk(tree, path) {
@@ -266,7 +270,7 @@ fn keeps_28_bits(rt: HostRuntime) {
     assert!(rt; Int28::new((1 << 28) - 1).is_some());
 }
 
-/// An array with a String, Ints, a Binary and an Alias, each of one element.
+/// Returns an array of a string, integers, a binary and an alias, each of one element.
 fn each_kind(alloc: Global) -> Result<Tree, Fail> {
     let mut trees = Vec::new(alloc);
     push(&mut trees, Tree::String(text(alloc, 9)?))?;
@@ -282,17 +286,17 @@ fn each_kind(alloc: Global) -> Result<Tree, Fail> {
     Ok(Tree::Array(TreeList::from_vec(trees)))
 }
 
-/// Whether a tree is Ints of one number.
+/// Checks whether a tree is a vector of one number.
 fn is_ints(node: &Tree, n: i32) -> bool {
     node.kind() == Kind::Ints && node.len() == 1 && node.number(0) == n
 }
 
-/// Whether a tree is a Binary of one byte.
+/// Checks whether a tree is a binary of one byte.
 fn is_binary(node: &Tree, byte: u8) -> bool {
     node.kind() == Kind::Binary && node.len() == 1 && node.byte(0) == byte
 }
 
-/// Whether a tree is the array above.
+/// Checks whether a tree is the array of `each_kind`.
 fn has_each_kind(node: &Tree) -> bool {
     node.kind() == Kind::Array
         && node.len() == 4

@@ -78,11 +78,13 @@ func newPipe(in io.Writer, limit int) *pipe {
 	return p
 }
 
-// narrow gives the changes the turn of one caller among others.
+// narrow gives the changes the turn of one caller among others. If the program has ended there is nothing to narrow.
 func (p *pipe) narrow() {
 	p.mu.Lock()
 	defer p.mu.Unlock()
-	p.queues[changes].most = inside
+	if q := p.queues[changes]; q != nil {
+		q.most = inside
+	}
 }
 
 // accepts tells whether these lines, with this sum of bytes, may wait for an application.

@@ -108,6 +108,13 @@ func (s stepper) given(t *testing.T) string {
 	return ""
 }
 
+// TestAPipeThatHasEndedIsNarrowed is what happens when the program ends at the last line of a replay.
+func TestAPipeThatHasEndedIsNarrowed(t *testing.T) {
+	p := startEcho(0)
+	<-p.drained
+	p.narrow()
+}
+
 func TestAtMostTwoLinesOfAnotherGoBefore(t *testing.T) {
 	s := startStepper()
 	for k := 0; k < 100; k++ {

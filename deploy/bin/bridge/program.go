@@ -29,6 +29,8 @@ func launch(path string, arguments []string, memory int64, limit int, note func(
 		words = append([]string{"/bin/sh", "-c", limited, strconv.FormatInt(memory/1024, 10)}, words...)
 	}
 	command := exec.Command(words[0], words[1:]...)
+	// so that an application can't fragment the memory of the others (docs/OPERATIONS.md)
+	command.Env = append(os.Environ(), "MALLOC_MMAP_THRESHOLD_=4096")
 	in, err := command.StdinPipe()
 	if err != nil {
 		return nil, err

@@ -6,19 +6,19 @@ use Rattle.rb_tree.specs.Path.{segments, IsPath}
 use Rattle.rb_fallback.specs.Search.{Step, found, goes, is_long}
 use Rattle.rb_fallback.specs.Answers.{hit_of}
 use Rattle.rb_fallback.specs.declared.fault.LookError.{LookError}
-use Rattle.rb_fallback.specs.declared.search.Place.{Place}
+use Rattle.rb_fallback.specs.declared.search.SearchState.{SearchState}
 use Rattle.rb_fallback.specs.declared.search.Outcome.{Outcome}
 use Rattle.rb_fallback.specs.declared.search.Outcome.TheVariants as outcome
 
-abbrev pub place_at : Bool → List ℕ → ArrayVec ℕ → Place
-place_at icudata name path = record { icudata = icudata; name = name; path = path }
+abbrev pub state_at : Bool → List ℕ → ArrayVec ℕ → SearchState
+state_at icudata name path = record { icudata = icudata; name = name; path = path }
 
--- the search goes on at a place
-pub record GoesOn (p : Place) (r : Result Step LookError) : Type 0 where
+-- the search continues from a state
+pub record GoesOn (p : SearchState) (r : Result Step LookError) : Type 0 where
   pub onto : r ≡ Ok (goes p.icudata p.name (segments p.path.items))
   pub path : IsPath p.path.items
 
--- the search goes on with a path that is too long
+-- the search would continue with a path that is too long
 pub record GoesLong (r : Result Step LookError) : Type 0 where
   pub in_icu : Bool
   pub name : List ℕ
@@ -26,7 +26,7 @@ pub record GoesLong (r : Result Step LookError) : Type 0 where
   pub onto : r ≡ Ok (goes in_icu name rest)
   pub long : is_long rest ≡ true
 
-abbrev pub IsFollowed : Result (Option Place) LookError → Result Step LookError → Type 0
+abbrev pub IsFollowed : Result (Option SearchState) LookError → Result Step LookError → Type 0
 IsFollowed (Ok (Some p)) r = GoesOn p r
 IsFollowed (Ok None) r = GoesLong r
 IsFollowed (Err e) r = r ≡ Err e

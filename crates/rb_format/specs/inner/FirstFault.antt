@@ -1,5 +1,5 @@
--- For proofs alone. The reading of a file as code does it, check by check: what is read without a fault is what the
--- file denotes, and a fault is the first of those in `Checks`.
+-- Defines the reading of a file check by check, like the code, for proofs only: a file that is read without a fault
+-- denotes the result, and a fault is the first one of `Checks`.
 use Rattle.std.specs.Prelude.{Bool, true, false, ℕ, zero, suc, ◌+◌, ◌*◌, ◌==◌, nat_lt, nat_le, if◌then◌else◌, List}
 use Rattle.std.specs.Prelude.{[], ◌∷◌, length, take, drop, map, slice_index, Option, Some, None, Result, Ok, Err}
 use Rattle.std.specs.Ordering.{is_lt, nat_cmp}
@@ -52,7 +52,7 @@ numbers y body o =
 
 -- ---- children
 
--- the trees of the n items from place i on
+-- the trees of the n items from index i on
 unfoldable pub trees : (ℕ → Result Resource FileFault) → (ℕ → ℕ) → ℕ → ℕ → Result Resources FileFault
 trees child item i zero = Ok no_trees
 trees child item i (suc n) = do
@@ -64,13 +64,13 @@ abbrev pub key_or_fault : Option (List ℕ) → Result (List ℕ) FileFault
 key_or_fault None = Err Key
 key_or_fault (Some k) = Ok k
 
--- the key at an offset, which is above the last one
+-- the key at an offset, or a fault if it isn't above the last one
 unfoldable pub next_key : Layout → List ℕ → List ℕ → ℕ → Result (List ℕ) FileFault
 next_key y body last offset = do
   k ← key_or_fault (key y body offset)
   if is_lt (slice_cmp nat_cmp last k) then Ok k else Err KeyOrder
 
--- the n keys from place i on, each above the one before
+-- the n keys from index i on, each above the one before
 unfoldable pub keys : Layout → List ℕ → (ℕ → ℕ) → List ℕ → ℕ → ℕ → Result (List (List ℕ)) FileFault
 keys y body place last i zero = Ok []
 keys y body place last i (suc n) = do
@@ -78,7 +78,7 @@ keys y body place last i (suc n) = do
   ks ← keys y body place k (suc i) n
   Ok (k ∷ ks)
 
--- the entries of these keys, with the trees of the items from place i on
+-- the entries with these keys, with the trees of the items from index i on
 unfoldable pub members : (ℕ → Result Resource FileFault) → (ℕ → ℕ) → ℕ → List (List ℕ) → Result Members FileFault
 members child item i [] = Ok no_entries
 members child item i (k ∷ ks) = do
@@ -91,7 +91,7 @@ array_at y body child o =
     let n = array_count body o in
     if nat_lt y.top (array_first o + n) then Err Length else trees child (λ i. word_at body (array_first o + i)) 0 n
 
--- a table of n entries, with its key offsets and the word of its first item; all keys before the first child
+-- a table of n entries, with its key offsets and its first item's word; all keys are read before the first child
 unfoldable pub table_of : Layout → List ℕ → (ℕ → Result Resource FileFault) → (ℕ → ℕ) → ℕ → ℕ → Result Members FileFault
 table_of y body child place from n =
     if nat_lt y.top (from + n) then Err Length else (do
@@ -114,13 +114,13 @@ abbrev pub result_map : {A B : Type 0} → (A → B) → Result A FileFault → 
 result_map f (Ok x) = Ok (f x)
 result_map f (Err e) = Err e
 
--- whether there are data, which lie between the keys and the top
+-- whether an item has data, which then are between the keys and the top
 abbrev pub within : Layout → ItemKind → ℕ → Result Bool FileFault
 within y k o =
     if has_data k o then (if nat_lt o y.keys_top then Err Offset else (if nat_lt o y.top then Ok true else Err Offset))
     else Ok false
 
--- the value of the data, where child gives what an item in it denotes
+-- the value of the data, where `child` gives the tree of an item in them
 unfoldable pub contents : Layout → List ℕ → (ℕ → Result Resource FileFault) → ℕ → ItemKind → Result Resource FileFault
 contents y body child o String = result_map string (units y body o)
 contents y body child o Binary = result_map binary (bytes y body o)
@@ -140,7 +140,7 @@ abbrev pub kind_or_fault : Option ItemKind → Result ItemKind FileFault
 kind_or_fault None = Err ItemType
 kind_or_fault (Some k) = Ok k
 
--- an item, where child gives what its children denote
+-- an item, where `child` gives the trees of its children
 unfoldable pub node : Layout → List ℕ → (ℕ → Result Resource FileFault) → ℕ → Result Resource FileFault
 node y body child item = kind_or_fault (kind_of item) >>= λ k. value y body child (offset_of item) k
 
@@ -149,7 +149,7 @@ unfoldable pub read : Layout → List ℕ → ℕ → ℕ → Result Resource Fi
 read y body zero item = Err TooDeep
 read y body (suc d) item = node y body (λ w. read y body d w) item
 
--- what was refused, if anything
+-- the fault, if there is one
 abbrev pub fault_of : {A : Type 0} → Result A FileFault → Option FileFault
 fault_of (Ok x) = None
 fault_of (Err e) = Some e
@@ -160,7 +160,7 @@ limited d height x = if nat_le height d then Ok x else Err TooDeep
 
 -- ---- files
 
--- the header, its checks in their order
+-- the header, with its checks in order
 unfoldable pub header : List ℕ → Result Header FileFault
 header bytes =
     if nat_lt (length bytes) 24 then Err faults.Header else
@@ -175,7 +175,7 @@ header bytes =
     else Err BigEndian)
     else Err faults.Header)
 
--- the data of a file of a minor version, whose tree has a height of at most d
+-- the data of a file with this minor version, whose tree has a height of at most d
 unfoldable pub read_data : ℕ → ℕ → List ℕ → Result SourceTree FileFault
 read_data d minor body =
     if has_valid_indexes body then

@@ -1,4 +1,4 @@
--- For the contracts of this crate's own functions: what a builder adds.
+-- For private contracts: defines what a builder adds.
 use Rattle.std.specs.Prelude.{◌≡◌, ℕ, ◌+◌, List, [], ◌++◌}
 use Rattle.rb_lexer.specs.declared.builder.Builder.{Builder}
 use Rattle.rb_lexer.specs.declared.scan.Scanned.{Scanned}
@@ -6,8 +6,7 @@ use Rattle.rb_lexer.specs.declared.span.Span.{Span}
 use Rattle.rb_lexer.specs.Tokens.{width, line_of}
 use Rattle.rb_lexer.specs.Atom.{Atom, atoms_chars, atoms_tokens, Shows}
 
--- The item of these units stands there, with others after it. What its characters give is added, so that the tokens of all
--- are the same.
+-- Adding the item of these units at this span gives the tokens that the item's characters and all that follows spell.
 abbrev pub Adds : Builder → Builder → Scanned → List ℕ → Span → Type 0
 Adds old new item units at = (bytes : List ℕ) (xs rest : List Atom) → Shows item units xs
     → at.line ≡ line_of bytes at.first → at.past ≡ at.first + width (atoms_chars xs [])

@@ -1,4 +1,4 @@
--- For the contracts of this crate's own functions: whether a text has an error, by the second reading.
+-- For private contracts: defines whether a text has an error, by the second reading.
 use Rattle.std.specs.Prelude.{◌≡◌, ℕ, List, []}
 use Rattle.rb_lexer.specs.declared.fault.SourceKind.TheVariants.{Memory}
 use Rattle.rb_lexer.specs.declared.fault.LexError.{LexError}
@@ -10,7 +10,7 @@ use Rattle.rb_lexer.specs.Atom.{Atom, atoms_chars, AreAtoms}
 abbrev pub IsUnbroken : List ℕ → Type 0
 IsUnbroken cs = (xs : List Atom) × (cs ≡ atoms_chars xs []) × AreAtoms xs []
 
--- The characters are broken in this way, unless memory ran out.
+-- The characters have this error, unless memory ran out.
 abbrev pub BreaksSo : LexError → List ℕ → Type 0
 BreaksSo stop cs =
     (stop.kind ≡ Memory → ⊥) → (xs : List Atom) × ((b : Broken) ×

@@ -1,11 +1,11 @@
--- For proofs only: a name and its fields, which follow from it.
+-- Defines the invariant of a name's fields, for proofs only.
 use Rattle.std.specs.Prelude.{◌≡◌, List, ℕ, length, take, Some}
 use Rattle.rb_locales.specs.Locale.{written, first}
 use Rattle.rb_locales.specs.inner.Padded.{IsPadded, padded, padded-take}
 use Rattle.rb_locales.specs.declared.limits.TheConstants.{NAME_LIMIT}
 use Rattle.rb_locales.specs.declared.name.Name.TheInside.{Inside}
 
--- zeros after the end, and a name that is canonical
+-- the bytes after the end are 0, and the name is canonical
 pub record IsNameFields (n : Inside) : Type 0 where
   pub short : IsPadded NAME_LIMIT n.len n.bytes
   pub canonical : written first (take n.len n.bytes) ≡ Some (take n.len n.bytes)

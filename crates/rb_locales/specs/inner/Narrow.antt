@@ -1,6 +1,6 @@
--- For proofs only: units as bytes.
+-- Defines the conversion of units to bytes, for proofs only.
 use Rattle.std.specs.Prelude.{ℕ, if◌then◌else◌, nat_lt}
 
--- a unit below 128, and 0 for any other, which is in no name
+-- the unit if it is below 128, else 0, which no name has
 abbrev pub narrow : ℕ → ℕ
 narrow u = if nat_lt u 128 then u else 0

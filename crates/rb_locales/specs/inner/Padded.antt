@@ -1,10 +1,9 @@
--- For proofs only: a short text in an array of bytes. The bytes after its end are zero, so the array follows from the
--- text.
+-- Defines a short text in an array of bytes with zeros after its end, for proofs only.
 use Rattle.std.specs.Prelude.{◌≡◌, ℕ, ◌≤◌, ◌-◌, List, ◌++◌, length, take, drop, replicate}
 use Rattle.std.proofs.Common.{arith, ◌∙◌, ap, take-append-drop, length-append}
 use Rattle.std.proofs.lemmas.List.{drop_at, drop-replicate, length-replicate, length-take-le}
 
--- the first len of this many bytes, and zeros after them
+-- the first `len` bytes, with zeros after them
 pub record IsPadded (most len : ℕ) (bytes : List ℕ) : Type 0 where
   pub fits : len ≤ most
   pub all : length bytes ≡ most
@@ -14,7 +13,7 @@ pub record IsPadded (most len : ℕ) (bytes : List ℕ) : Type 0 where
 abbrev pub padded : ℕ → List ℕ → List ℕ
 padded most bs = bs ++ replicate (most - length bs) 0
 
--- what is made of the padded text and its length is made of the array and the length
+-- a function of the padded text and its length equals that function of the array and the length
 pub padded-take : {A : Type 0} (most len : ℕ) (bytes : List ℕ) (make : List ℕ → ℕ → A) → IsPadded most len bytes
     → make (padded most (take len bytes)) (length (take len bytes)) ≡ make bytes len
 padded-take most len bytes make h =

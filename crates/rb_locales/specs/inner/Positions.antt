@@ -1,4 +1,4 @@
--- For proofs only: what the positions of parts in the program are seen as.
+-- Defines the model of the program's positions of parts, for proofs only.
 use Rattle.rb_locales.specs.Locale.{first, second, later}
 use Rattle.rb_locales.specs.Locale as locale
 use Rattle.rb_locales.specs.declared.casing.Position.{Position}

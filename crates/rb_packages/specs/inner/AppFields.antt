@@ -1,4 +1,4 @@
--- For proofs only: an application's name and its fields, which follow from it.
+-- Defines the fields of an application's name, for proofs only.
 use Rattle.std.specs.Prelude.{◌≡◌, List, ℕ, length, take}
 use Rattle.rb_locales.specs.inner.Padded.{IsPadded, padded, padded-take}
 use Rattle.rb_packages.specs.declared.app.App.TheInside.{Inside}

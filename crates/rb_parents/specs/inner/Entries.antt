@@ -1,4 +1,4 @@
--- For proofs only: explicit parents as the program reads them, entry by entry and child by child.
+-- Defines the reading of explicit parents entry by entry and child by child, like the program, for proofs only.
 use Rattle.std.specs.Prelude.{ℕ, List, [], ◌∷◌, Option, Some, None, Result, Ok, Err, codes, is_some, if◌then◌else◌}
 use Rattle.std.specs.Prelude.{nat_eq}
 use Rattle.std.specs.Cmp.Lexicographic.{pointwise}
@@ -11,7 +11,7 @@ use Rattle.rb_parents.specs.ParentMap.{Entries, texts_in, entries_in}
 use Rattle.rb_parents.specs.declared.fault.ParentsFault.{ParentsFault}
 use Rattle.rb_parents.specs.declared.fault.ParentsFault.TheVariants as fault
 
--- a map from children to parents, or the first error that is met
+-- a map from children to parents, or the first error
 abbrev pub Read : Type 0
 Read = Result ParentsOf ParentsFault
 
@@ -19,12 +19,12 @@ abbrev pub and_then : (ParentsOf → Read) → Read → Read
 and_then go (Ok known) = go known
 and_then go (Err e) = Err e
 
--- each of a list in order, up to the first error
+-- each element of a list in order, up to the first error
 abbrev pub put_each : {A : Type 0} → (A → ParentsOf → Read) → List A → ParentsOf → Read
 put_each put [] known = Ok known
 put_each put (x ∷ xs) known = and_then (λ more. put_each put xs more) (put x known)
 
--- one child more, which must have a name and no parent yet
+-- adds a child, which must be a name without a parent
 abbrev pub put_child : List ℕ → Option (List ℕ) → ParentsOf → Read
 put_child parent None known = Err fault.BadLocale
 put_child parent (Some child) known =
@@ -33,7 +33,7 @@ put_child parent (Some child) known =
 abbrev pub put_children : List ℕ → List (List ℕ) → ParentsOf → Read
 put_children parent uss known = put_each (λ us k. put_child parent (name us) k) uss known
 
--- one entry more: its key is read first, then the shape of its value, then its children
+-- adds an entry: its key is read first, then the shape of its value, then its children
 abbrev pub put_value : List ℕ → Option (List (List ℕ)) → ParentsOf → Read
 put_value parent None known = Err fault.Shape
 put_value parent (Some uss) known = put_children parent uss known

@@ -1,5 +1,4 @@
--- For the contracts of this crate's own functions: that a function returns the bundle that the grammar's reading
--- function gives.
+-- For private contracts: defines when a function returns the bundle that the grammar's reading function gives.
 use Rattle.std.specs.Prelude.{◌≡◌, ◌≢◌, ℕ, List, Result, Ok, Err}
 use Rattle.rb_lexer.specs.declared.fault.SourceKind.TheVariants.{Memory}
 use Rattle.rb_lexer.specs.declared.fault.SourceFault.{SourceFault}

@@ -1,5 +1,5 @@
--- For the contracts of this crate's own functions: the program's punctuation, what comes next, guesses and types beside
--- those of the grammar's reading function.
+-- For private contracts: relates the program's punctuation, lookahead, guesses and types to those of the grammar's
+-- reading function.
 use Rattle.std.specs.Prelude.{ℕ, List, [], ◌∷◌, Result, Ok, Err}
 use Rattle.rb_lexer.specs.declared.fault.SourceKind.TheVariants.{Unexpected}
 use Rattle.rb_lexer.specs.declared.fault.SourceFault.{SourceFault}
@@ -10,8 +10,8 @@ use Rattle.rb_parser.specs.declared.cursor.Punctuation.TheVariants.{Left, Right,
 use Rattle.rb_lexer.specs.declared.token.Token.{Token}
 use Rattle.rb_lexer.specs.declared.token.Mark.{Mark}
 use Rattle.rb_lexer.specs.declared.token.Mark.TheVariants as mark
-use Rattle.rb_parser.specs.declared.cursor.Next.{Next}
-use Rattle.rb_parser.specs.declared.cursor.Next.TheVariants as next
+use Rattle.rb_parser.specs.declared.cursor.Lookahead.{Lookahead}
+use Rattle.rb_parser.specs.declared.cursor.Lookahead.TheVariants as next
 use Rattle.rb_parser.specs.declared.cursor.Guess.{Guess}
 use Rattle.rb_parser.specs.declared.cursor.Guess.TheVariants.{Text, Table, Array}
 use Rattle.rb_parser.specs.declared.word.Word.{Word}
@@ -24,25 +24,25 @@ punctuation_of Right = reading.right
 punctuation_of Colon = reading.colon
 punctuation_of Comma = reading.comma
 
-abbrev pub next_mark : Mark → Next
+abbrev pub next_mark : Mark → Lookahead
 next_mark (mark.Text s) = next.Text
 next_mark mark.LeftBrace = next.Left
 next_mark mark.Colon = next.Colon
 next_mark mark.RightBrace = next.Other
 next_mark mark.Comma = next.Other
 
-abbrev pub next_of : List Token → Next
+abbrev pub next_of : List Token → Lookahead
 next_of [] = next.Other
 next_of (t ∷ ts) = next_mark t.what
 
--- what is guessed, or the error at the token that decides
+-- the guess, or the error at the token that decides
 abbrev pub guessed : ℕ → reading.Guess → Result Guess SourceFault
 guessed end reading.as_text = Ok Text
 guessed end reading.as_table = Ok Table
 guessed end reading.as_array = Ok Array
 guessed end (reading.none_at rest) = Err (record { kind = Unexpected; line = line_at end rest })
 
--- the long and the short words are one
+-- the long and the short words give the same type
 abbrev pub word_of : reading.Word → Word
 word_of reading.string_type = word.Leaf leaf.String
 word_of reading.alias_type = word.Leaf leaf.Alias

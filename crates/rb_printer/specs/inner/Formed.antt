@@ -1,4 +1,4 @@
--- For proofs: the written form of a tree, in the grammar's words.
+-- For proofs: defines the written form of a tree, in the grammar's terms.
 use Rattle.std.specs.Prelude.{ℕ, ℤ, Bool, true, false, List, [], ◌∷◌, Some}
 use Rattle.std.specs.Fmt.{decimal, signed_decimal}
 use Rattle.rb_tree.specs.Resource.{Resource, string, int, ints, binary, alias, array, table, Resources, no_trees}
@@ -11,7 +11,7 @@ abbrev pub numbers_form : List ℤ → List (List ℕ × Bool)
 numbers_form [] = []
 numbers_form (z ∷ zs) = (signed_decimal z, are_more zs) ∷ numbers_form zs
 
--- what the guess makes of an array or a table with something in it; else its type is written
+-- the body that genrb guesses for an array or a table that is not empty; else the type is written
 abbrev pub array_form : Bool → Elements → Body
 array_form true xs = form.listed xs
 array_form false xs = form.array xs

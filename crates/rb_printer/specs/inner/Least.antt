@@ -1,10 +1,10 @@
--- For the contracts of this crate's own functions: characters that the text of a tree has at least. It weighs at most
--- four times as many, so a text within its limit is one of a tree within its own.
+-- For private contracts: defines a lower bound of the characters that the text of a tree has. The tree weighs at most
+-- four times as much, so a text within its limit has a tree within its own.
 use Rattle.std.specs.Prelude.{◌≡◌, ◌<◌, ℕ, ◌+◌, ◌*◌, cond, nat_le, length, MatchOption, Option}
 use Rattle.rb_tree.specs.Resource.{Resource, string, int, ints, binary, alias, array, table, Resources, no_trees}
 use Rattle.rb_tree.specs.Resource.{tree_and, Members, no_entries, entry_and}
 
--- what stands in front of an item and after it: spaces or commas alone if it may have company in its line
+-- the least characters before and after an item: only a space and a comma if it may share a line
 abbrev pub item_lead : ℕ → Resource → ℕ
 item_lead level (string us) = cond (nat_le level 12) 2 (4 * level)
 item_lead level (int n) = 4 * level
@@ -32,7 +32,7 @@ abbrev mutual
   entries_least level no_entries = 0
   entries_least level (entry_and k t es) = 4 * level + length k + least level t + entries_least level es
 
--- ---- the same without what stands in keys, Strings and Aliases, which a count of it needn't look at
+-- ---- the bound without the characters of keys, Strings and Aliases, so that counting needn't read them
 
 abbrev mutual
   pub frame : ℕ → Resource → ℕ
@@ -52,6 +52,6 @@ abbrev mutual
   entries_frame level no_entries = 0
   entries_frame level (entry_and k t es) = 4 * level + frame level t + entries_frame level es
 
--- this many of some characters are taken, or there aren't as many
+-- the number minus the charge, or None if the charge is greater
 abbrev pub Takes : ℕ → ℕ → Option ℕ → Type 0
-Takes room count left = MatchOption left (room < count) (λ l. l + count ≡ room)
+Takes budget count left = MatchOption left (budget < count) (λ l. l + count ≡ budget)

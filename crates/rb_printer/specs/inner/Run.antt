@@ -1,9 +1,9 @@
--- For the contracts of this crate's own functions: plain units as bytes.
+-- For private contracts: defines plain units as bytes.
 use Rattle.std.specs.Prelude.{◌≡◌, ◌&&◌, ℕ, Bool, true, List, take, drop}
 use Rattle.std.specs.List.{list_all}
 use Rattle.rb_printer.specs.Sign.{is_shown, is_ascii}
 
--- an ASCII unit that stands for itself between quotes
+-- an ASCII unit that needs no escape between quotes
 abbrev pub is_plain : ℕ → Bool
 is_plain u = is_shown u && is_ascii u
 

@@ -1,4 +1,4 @@
--- Pairs in the order of their keys. Only private contracts and proofs read this.
+-- Defines pairs sorted by their keys. Only private contracts and proofs use this page.
 use Rattle.std.specs.Prelude.{◌≡◌, ◌<◌, ℕ, suc, List, [], length, get_or, map}
 use Rattle.std.specs.Cmp.Lexicographic.{slice_cmp}
 use Rattle.std.specs.Ordering.{nat_cmp}
@@ -16,7 +16,7 @@ pub record AreNumbered (ks : List (List ℕ)) (ns : List Numbered) : Type 0 wher
 abbrev pub Rise : List Numbered → Type 0
 Rise ns = (k : ℕ) (d : Numbered) → suc k < length ns → slice_cmp nat_cmp (get_or ns k d).key.now (get_or ns (suc k) d).key.now ≡ Less
 
--- all indices, by which keys rise strictly
+-- all indices, in the order in which the keys ascend strictly
 pub record IsOrder (ks : List (List ℕ)) (order : List ℕ) : Type 0 where
   pub same_length : length order ≡ length ks
   pub within : (k : ℕ) → k < length order → get_or order k 0 < length ks
@@ -26,7 +26,7 @@ pub record IsOrder (ks : List (List ℕ)) (order : List ℕ) : Type 0 where
 abbrev pub pair_of : Entry → List ℕ × Tree
 pair_of e = (e.key, e.tree)
 
--- the pairs of these indices, as entries
+-- the pairs at these indices, as entries
 pub record AreArranged (ps : List (List ℕ × Tree)) (order : List ℕ) (es : List Entry) : Type 0 where
   pub same_length : length es ≡ length order
   pub each : (k : ℕ) (d : List ℕ × Tree) → k < length order → get_or (map pair_of es) k d ≡ get_or ps (get_or order k 0) d

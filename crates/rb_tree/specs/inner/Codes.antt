@@ -1,4 +1,4 @@
--- For proofs only: trees as trees of numbers, by which a proof distinguishes two of them.
+-- For proofs only: encodes trees as trees of numbers, so that a proof can tell two trees apart.
 use Rattle.std.specs.Prelude.{◌≡◌, ◌==◌, ℕ, ℤ, pos, negsuc, List, [], ◌∷◌, cond, refl}
 use Rattle.std.specs.Coded.{Coded, code_by}
 use mathlib.Core.Path.{ap}

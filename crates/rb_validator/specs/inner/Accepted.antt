@@ -1,12 +1,12 @@
--- For proofs only: what each bundle keeps.
+-- Defines the invariant of a bundle, for proofs only.
 use Rattle.std.specs.Prelude.{ℕ, ◌*◌, ◌≤◌, List, Bool, length, drop}
 use Rattle.rb_format.specs.File.{Denotes, source_tree_of}
 use Rattle.rb_format.specs.Place.{half_at}
 use Rattle.rb_validator.specs.TextBlocks.{AreSegmentBlocks}
 use Rattle.rb_validator.specs.Visits.{HasVisits}
 
--- its bytes denote a bundle and have this many places; this many bytes of its keys were compared, and this many before
--- ranks; and these are marks of its blocks
+-- the bytes denote a bundle with this many places; the counts of compared bytes are within their limits; and the marks
+-- of blocks are valid
 pub record IsAccepted (bytes : List ℕ) (visits compared looked : ℕ) (blocks : List Bool) : Type 0 where
   pub denoted : Denotes bytes (source_tree_of bytes)
   pub counted : HasVisits bytes visits

@@ -1,4 +1,4 @@
--- For proofs only: what the memo of an acceptance keeps.
+-- Defines the marks of an acceptance and their invariants, for proofs only.
 use Rattle.std.specs.Prelude.{◌≡◌, ◌≢◌, true, ℕ, zero, suc, ◌+◌, ◌*◌, ◌≤◌, ◌<◌, ◌==◌, if◌then◌else◌, nat_lt, List, []}
 use Rattle.std.specs.Prelude.{length, slice_index, Some, Result}
 use Rattle.std.specs.Prelude.{Ok, Err}
@@ -11,10 +11,10 @@ use Rattle.rb_format.specs.declared.fault.FileFault.TheVariants.{Length, TooDeep
 use Rattle.rb_format.specs.Place.{word_at}
 use Rattle.rb_format.specs.Item.{kind_of, offset_of}
 use Rattle.rb_format.specs.inner.FirstFault.{◌>>=◌, read, contents, keys, trees}
-use Rattle.rb_validator.specs.declared.children.Children.{Children}
-use Rattle.rb_validator.specs.declared.memo.Mark.{Mark}
-use Rattle.rb_validator.specs.declared.runs.Run.{Run}
-use Rattle.rb_validator.specs.declared.memo.Mark.TheVariants.{New, Open, Done}
+use Rattle.rb_validator.specs.declared.items.children.Children.{Children}
+use Rattle.rb_validator.specs.declared.items.memo.VisitState.{VisitState}
+use Rattle.rb_validator.specs.declared.spans.cache.CachedSpan.{CachedSpan}
+use Rattle.rb_validator.specs.declared.items.memo.VisitState.TheVariants.{New, Open, Done}
 use Rattle.rb_format.specs.declared.geometry.TableParts.{TableParts}
 use Rattle.rb_format.specs.Geometry.{key_offset, table_parts, long_table_parts, array_first, array_count, has_children}
 use Rattle.rb_format.specs.Geometry.{child_count, first_child}
@@ -26,11 +26,11 @@ abbrev pub table_children : Layout → List ℕ → (ℕ → ℕ) → ℕ → �
 table_children y body place from n = if nat_lt y.top (from + n) then Err Length else
     (keys y body place [] 0 n >>= λ ks. Ok (record { first = from; count = n }))
 
--- the same of the table with these parts
+-- the children of the table with these parts
 abbrev pub children_with : Layout → List ℕ → TableParts → Result Children FileFault
 children_with y body p = table_children y body (key_offset body p.keys) p.first p.count
 
--- all of the kinds without children have none, and no fault
+-- other kinds have no children and no fault
 unfoldable pub children_at : Layout → List ℕ → ItemKind → ℕ → Result Children FileFault
 children_at y body Table o = children_with y body (table_parts body o)
 children_at y body LongTable o = children_with y body (long_table_parts body o)
@@ -49,7 +49,7 @@ slot k = 2
 abbrev pub cell : ItemKind → ℕ → ℕ
 cell k o = 3 * o + slot k
 
-abbrev pub mark_of : ℕ → Mark
+abbrev pub mark_of : ℕ → VisitState
 mark_of x = if x == 0 then New else (if x == 65 then Open else Done x)
 
 abbrev pub mark_at : List ℕ → ItemKind → ℕ → ℕ
@@ -73,20 +73,19 @@ pub record IsDone (y : Layout) (body cells : List ℕ) (k : ItemKind) (o h : ℕ
   pub high : height tree ≡ h
   pub known : (i : ℕ) → i < child_count body k o → IsKnown cells (word_at body (first_child body k o + i))
 
--- what is true of the marks at all times
+-- the invariant of the marks
 pub record Keeps (y : Layout) (body cells : List ℕ) : Type 0 where
   pub long : length cells ≡ 3 * y.top
   pub done : (k : ItemKind) (o : ℕ) → has_children k ≡ true → mark_at cells k o ≢ 0 → mark_at cells k o ≢ 65
       → IsDone y body cells k o (mark_at cells k o)
   pub place : (k : ItemKind) (o : ℕ) → has_children k ≡ true → mark_at cells k o ≢ 0 → IsPlace body k o
 
--- what is marked stays so, and what is opened is finished
+-- marks that are set stay, and those opened in between are finished
 pub record Follows (cells after : List ℕ) : Type 0 where
   pub stays : (n : ℕ) → slice_index cells n ≢ 0 → slice_index after n ≡ slice_index cells n
   pub closes : (n : ℕ) → slice_index cells n ≡ 0 → slice_index after n ≢ 65
 
--- each open pair is too deep at a level wherever Q holds at some level that is no higher: all that is before it on the
--- way there has no other fault
+-- each open pair is too deep at each level e if Q holds at some level d ≤ e: no other fault comes first
 pub record Leads (y : Layout) (body cells : List ℕ) (Q : ℕ → Type 0) : Type 0 where
   pub at : (k : ItemKind) (o : ℕ) → has_children k ≡ true → mark_at cells k o ≡ 65 → (e : ℕ)
       → (d : ℕ) × (d ≤ e) × (Q d → contents y body (λ w. read y body e w) o k ≡ Err TooDeep)
@@ -100,9 +99,9 @@ pub record After (y : Layout) (body cells after : List ℕ) : Type 0 where
   pub keeps : Keeps y body after
   pub follows : Follows cells after
 
--- ---- runs of items
+-- ---- spans of items
 
--- the trees of the n items whose words begin at one
+-- the trees of n consecutive items
 abbrev pub run_of : Layout → List ℕ → ℕ → ℕ → ℕ → Result Resources FileFault
 run_of y body e from n = trees (λ w. read y body e w) (word_at body) from n
 
@@ -117,5 +116,5 @@ pub record IsRun (y : Layout) (body cells : List ℕ) (from n h : ℕ) : Type 0 
   pub high : trees_height items ≡ h
   pub known : IsRunKnown body cells from n
 
-abbrev pub IsRunOf : Layout → List ℕ → List ℕ → Run → Type 0
+abbrev pub IsRunOf : Layout → List ℕ → List ℕ → CachedSpan → Type 0
 IsRunOf y body cells r = IsRun y body cells r.first r.count r.height

@@ -1,4 +1,4 @@
--- For proofs only: what is noted of few files.
+-- Defines the notes that few files have, for proofs only.
 use Rattle.std.specs.Prelude.{ℕ, Bool, List, [], Option, Some, None, Box}
 use Rattle.std.specs.declared.alloc.Global.{Global}
 use Rattle.rb_validator.specs.declared.notes.Notes.{Notes}

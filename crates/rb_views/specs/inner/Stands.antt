@@ -1,4 +1,4 @@
--- For proofs only: what each view keeps of the data of its file.
+-- Defines the invariants of the views, for proofs only.
 use Rattle.std.specs.Prelude.{◌≡◌, ℕ, ◌+◌, ◌*◌, ◌≤◌, List, Bool, IsTrue, is_some, nat_le}
 use Rattle.rb_tree.specs.Limits.{height_limit}
 use Rattle.rb_tree.specs.Parts.{pairs_of}
@@ -21,7 +21,7 @@ stands_for body item = is_some (tree_at (layout_of body) body height_limit item)
 abbrev pub StandsFor : List ℕ → ℕ → Type 0
 StandsFor body item = IsTrue (stands_for body item)
 
--- each of the items from a word on denotes a tree, one level lower
+-- each of the items from a word on denotes a tree, at one level less
 unfoldable pub all_stand : List ℕ → ℕ → ℕ → Bool
 all_stand body first count =
     is_some (where_holds (nat_le (first + count) (layout_of body).top)
@@ -30,7 +30,7 @@ all_stand body first count =
 abbrev pub AllStand : List ℕ → ℕ → ℕ → Type 0
 AllStand body first count = IsTrue (all_stand body first count)
 
--- the parts of a table have keys that ascend, and items that stand for trees
+-- the parts of a table have ascending keys, and items that denote trees
 unfoldable pub table_stands : List ℕ → TableParts → Bool
 table_stands body p = is_some
     (table_at (layout_of body) body (λ w. tree_at (layout_of body) body 63 w) (key_offset body p.keys) p.first p.count)
@@ -49,7 +49,7 @@ kind_named Int = named.Int
 kind_named Array = named.Array
 kind_named Ints = named.Ints
 
--- the parts are those of a table with the entries of a tree
+-- the parts are those of a table with a tree's entries
 pub record HasEntriesAt (body : List ℕ) (p : TableParts) (t : Resource) : Type 0 where
   pub below : keys_end p.keys p.count ≤ 4 * (layout_of body).top
   pub stand : TableStands body p

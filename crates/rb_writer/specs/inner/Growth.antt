@@ -1,4 +1,4 @@
--- How data grow while they are written. Only private contracts and proofs read this.
+-- Defines how the data grow while they are written, for private contracts and proofs only.
 use Rattle.rb_writer.specs.declared.area.KeyArea.{KeyArea}
 use Rattle.std.specs.Prelude.{◌≡◌, ◌⊎◌, ℕ, ℤ, ◌+◌, ◌*◌, ◌/◌, ◌^◌, ◌<◌, ◌≤◌, List, ◌++◌, length, get_or}
 use Rattle.std.specs.Prelude.{take, drop, Result, Ok, map}
@@ -10,26 +10,26 @@ use Rattle.rb_format.specs.inner.FirstFault.{result_map, numbers}
 use Rattle.rb_format.specs.Place.{word_at, half_at}
 use Rattle.rb_format.specs.declared.layout.Layout.{Layout}
 
--- new data keep all of the old
+-- the new data begin with the old
 pub record Adds (old new : List ℕ) : Type 0 where
   pub longer : length old ≤ length new
   pub same : (i : ℕ) → i < length old → get_or new i 0 ≡ get_or old i 0
 
--- a word was put after data of whole words
+-- a word was appended to data of whole words
 pub record PutsWord (old new : List ℕ) (word : ℕ) : Type 0 where
   pub adds : Adds old new
   pub len : length new ≡ length old + 4
   pub word_is : (i : ℕ) → length old ≡ 4 * i → word_at new i ≡ word
   pub bytes : new ≡ old ++ little_bytes 4 word
 
--- the first n words of a list were put after data of whole words
+-- the first n words of a list were appended to data of whole words
 pub record PutsWords (old new ws : List ℕ) (n : ℕ) : Type 0 where
   pub adds : Adds old new
   pub len : length new ≡ length old + 4 * n
   pub words_are : (i j : ℕ) → length old ≡ 4 * i → j < n → word_at new (i + j) ≡ get_or ws j 0
   pub bytes : new ≡ old ++ words (take n ws)
 
--- the same of signed numbers
+-- the first n signed numbers of a list were appended to data of whole words
 pub record PutsNumbers (old new : List ℕ) (numbers : List ℤ) (n : ℕ) : Type 0 where
   pub adds : Adds old new
   pub len : length new ≡ length old + 4 * n
@@ -37,32 +37,32 @@ pub record PutsNumbers (old new : List ℕ) (numbers : List ℤ) (n : ℕ) : Typ
       → cast_signed w32 (word_at new (i + j)) ≡ get_or numbers j d
   pub bytes : new ≡ old ++ words (map (cast_unsigned w32) (take n numbers))
 
--- a half word was put after data of whole half words
+-- a half word was appended to data of whole half words
 pub record PutsHalf (old new : List ℕ) (half : ℕ) : Type 0 where
   pub adds : Adds old new
   pub len : length new ≡ length old + 2
   pub half_is : (i : ℕ) → length old ≡ 2 * i → half_at new i ≡ half
   pub bytes : new ≡ old ++ little_bytes 2 half
 
--- the first n half words of a list
+-- the first n half words of a list were appended
 pub record PutsHalves (old new hs : List ℕ) (n : ℕ) : Type 0 where
   pub adds : Adds old new
   pub len : length new ≡ length old + 2 * n
   pub halves_are : (i j : ℕ) → length old ≡ 2 * i → j < n → half_at new (i + j) ≡ get_or hs j 0
   pub bytes : new ≡ old ++ halves (take n hs)
 
--- bytes were put after data
+-- bytes were appended
 pub record PutsBytes (old new : List ℕ) (bytes : List ℕ) : Type 0 where
   pub adds : Adds old new
   pub len : length new ≡ length old + length bytes
   pub bytes_are : drop (length old) new ≡ bytes
   pub joined : new ≡ old ++ bytes
 
--- the bounds of data that are being written: all that is there so far
+-- the bounds of data that are being written: all data so far
 abbrev pub draft : KeyArea → List ℕ → Layout
 draft area body = record { indexes = area.indexes; keys_top = area.top; top = length body / 4 }
 
--- whole words, with the root item, the indexes and the keys in front
+-- whole words, beginning with the root item, the indexes and the keys
 pub record IsDraft (area : KeyArea) (body : List ℕ) : Type 0 where
   pub words : ℕ
   pub whole : length body ≡ 4 * words
@@ -84,7 +84,7 @@ pub record Put {A : Type 0} (area : KeyArea) (old new : List ℕ) (most : ℕ)
 abbrev pub signed_numbers : Layout → List ℕ → ℕ → Result (List ℤ) FileFault
 signed_numbers y body o = result_map (λ ns. map (cast_signed w32) ns) (numbers y body o)
 
--- bytes were put after data, and this is their place
+-- bytes were appended, and this is their position
 pub record Laid (old new bytes : List ℕ) (place offset : ℕ) : Type 0 where
   pub joined : new ≡ old ++ bytes
   pub place_is : offset ≡ place

@@ -1,9 +1,9 @@
--- Where the keys of a tree are. Only private contracts and proofs read this.
+-- Defines that all keys of a tree have a property, for private contracts and proofs only.
 use Rattle.std.specs.Prelude.{ℕ, List}
 use Rattle.rb_tree.specs.Resource.{Resource, string, int, ints, binary, alias, array, table, Resources, no_trees}
 use Rattle.rb_tree.specs.Resource.{tree_and, Members, no_entries, entry_and}
 
--- each key of the tree is one of P
+-- each key of the tree has the property P
 abbrev mutual
   pub EachKey : (List ℕ → Type 0) → Resource → Type 0
   EachKey P (string us) = Unit {0}

@@ -1,4 +1,4 @@
--- The file of what was written. Only private contracts and proofs read this.
+-- Defines the file that is assembled from the written data, for private contracts and proofs only.
 use Rattle.std.specs.Prelude.{◌≡◌, Bool, true, ℕ, ◌+◌, ◌*◌, ◌/◌, ◌<◌, ◌≤◌, List, ◌++◌, length, get_or, take}
 use Rattle.std.specs.Prelude.{drop}
 use Rattle.rb_format.specs.Place.{word_at}
@@ -16,11 +16,11 @@ pub record SetsWord (old new : List ℕ) (i word : ℕ) : Type 0 where
   pub after : (j : ℕ) → 4 * i + 4 ≤ j → get_or new j 0 ≡ get_or old j 0
   pub bytes : new ≡ take (4 * i) old ++ (little_bytes 4 word ++ drop 4 (drop (4 * i) old))
 
--- the first words of data were replaced by these
+-- the first words of the data were replaced by these
 abbrev pub StartsWith : List ℕ → List ℕ → List ℕ → Type 0
 StartsWith ws old new = new ≡ words ws ++ drop (4 * length ws) old
 
--- the root item and the indexes were written at the front of data
+-- the root item and the indexes were written at the front of the data
 pub record IsIndexed (no_fallback : Bool) (old : List ℕ) (root : ℕ) (area : KeyArea) (most : ℕ)
     (new : List ℕ) : Type 0 where
   pub len : length new ≡ length old
@@ -34,7 +34,7 @@ pub record IsIndexed (no_fallback : Bool) (old : List ℕ) (root : ℕ) (area : 
   pub same : (i : ℕ) → 4 * (1 + area.indexes) ≤ i → get_or new i 0 ≡ get_or old i 0
   pub bytes : StartsWith (front_words no_fallback root area.indexes area.top (length old / 4) most) old new
 
--- the file of these data
+-- the file of the data
 pub record IsFile (no_fallback : Bool) (out : List ℕ) (root : ℕ) (area : KeyArea) (most : ℕ)
     (file : List ℕ) : Type 0 where
   pub long : 32 ≤ length file

@@ -1,22 +1,24 @@
 //! Many texts and files at once.
 use super::desk::Desk;
 use super::{EMPTY, HOLDS_ITSELF, ONE_STRING, desk_of, ended};
-use rb_console::{Console, stem};
-use rb_file_commands::{check_all, check_on, compile_all};
+use rb_commands::{Console, check_all, check_on, compile_all, stem};
 
 const PLAIN: Console = Console {
     is_quiet: false,
     is_terminal: false,
+    is_output_terminal: false,
 };
 
 const QUIET: Console = Console {
     is_quiet: true,
     is_terminal: false,
+    is_output_terminal: false,
 };
 
 const TERMINAL: Console = Console {
     is_quiet: false,
     is_terminal: true,
+    is_output_terminal: false,
 };
 
 /// Two texts, one that is refused, and two files, of which one is refused.

@@ -1,9 +1,7 @@
 //! Warnings, explanations, request lines and lookups over files in memory.
 use super::desk::Desk;
 use super::{desk_of, ended};
-use rb_console::Console;
-use rb_file_commands::{explain, lint_all};
-use rb_lookup_commands::{Change, Lookup, lines, look_up};
+use rb_commands::{Change, Console, Lookup, explain, lines, lint_all, look_up};
 
 /// Texts, one that isn't UTF-8, a file, and random bytes.
 const FILES: [(&str, &[u8]); 5] = [

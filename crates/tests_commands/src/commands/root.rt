@@ -1,8 +1,7 @@
 //! Texts in memory beside that of the root locale.
 use super::desk::Desk;
 use super::{desk_of, ended};
-use rb_console::Console;
-use rb_file_commands::lint_all;
+use rb_commands::{Console, lint_all};
 
 const ROOT: &[u8] =
     b"root{\n a{\"Hello {name}\"}\n b{\"B\"}\n c{x{\"X\"} y{\"Y\"}}\n d{\n  \"1\",\n  \"2 {n}\"\n }\n f{\"F\"}\n}\n";

@@ -1,8 +1,7 @@
 //! Files in memory, printed as bundle texts.
 use super::desk::Desk;
 use super::{HOLDS_ITSELF, ROOM};
-use rb_console::Console;
-use rb_file_commands::{compile, name_of, text};
+use rb_commands::{Console, compile, name_of, text};
 use std::process::ExitCode;
 
 #[test]

@@ -2,7 +2,7 @@
 use super::Step::{Close, Json, Put};
 use super::get::are_steps_with;
 use super::{HOLDS_ITSELF, ROOM, Step, are_steps};
-use rb_file_commands::Layout;
+use rb_commands::Layout;
 
 /// A bundle with an item of each kind.
 const KINDS: &[u8] =

@@ -1,5 +1,5 @@
-//! A checker of files, written from the format's description alone and apart from the code that it
-//! judges.
+//! Checks files with plain code, which is written from the format's description only, and without the
+//! code that it judges.
 ghost use Rattle.std.specs.Prelude.{◌+◌, ◌<◌, ◌^◌};
 
 use rb_format::FileFault;
@@ -13,7 +13,7 @@ pub struct Data<'a> {
     pub top: u32,
 }
 
-/// The data after a header of this many bytes; the whole file if it is shorter.
+/// Returns the data after a header of this many bytes; the whole file if it is shorter.
 pub fn data_after(file: &[u8], size: u64) -> Data<'_> {
     let bytes = if size <= file.len() as u64 {
         &file[size as usize..]
@@ -57,7 +57,7 @@ pub fn word(bytes: &[u8], at: u64) -> u64
     half(bytes, at) + 65_536 * half(bytes, at + 2)
 }
 
-/// The first fault of a file.
+/// Returns the first fault of a file.
 pub fn plain_fault(file: &[u8]) -> Option<FileFault> {
     let length = file.len() as u64;
     if length > 67_108_864 {
@@ -85,7 +85,7 @@ pub fn plain_fault(file: &[u8]) -> Option<FileFault> {
     data_fault(byte(file, 17), data_after(file, size))
 }
 
-/// The first fault of the data of a file of a minor version.
+/// Returns the first fault of the data of a file of a minor version.
 fn data_fault(minor: u64, data: Data<'_>) -> Option<FileFault> {
     let bytes = data.bytes;
     let words = bytes.len() as u64 / 4;
@@ -112,7 +112,7 @@ fn data_fault(minor: u64, data: Data<'_>) -> Option<FileFault> {
     item_fault(data, root, 64)
 }
 
-/// The first fault of an item below which this many levels are left.
+/// Returns the first fault of an item below which this many levels are left.
 #[cycle(plain)]
 fn item_fault(data: Data<'_>, item: u64, left: u64) -> Option<FileFault>
     requires { item < 2 ^ 32 }
@@ -163,7 +163,7 @@ fn item_fault(data: Data<'_>, item: u64, left: u64) -> Option<FileFault>
     }
 }
 
-/// The first fault of the items from a byte on.
+/// Returns the first fault of the items from a byte on.
 #[cycle(plain)]
 fn items_fault(data: Data<'_>, first: u64, count: u64, left: u64) -> Option<FileFault>
     requires first { first < 2 ^ 40 }
@@ -213,7 +213,7 @@ fn is_key(data: Data<'_>, offset: u64) -> bool
     false
 }
 
-/// Whether the key at one place is greater than the one at another.
+/// Checks whether the key at one place is greater than the one at another.
 fn is_above(bytes: &[u8], key: u64, other: u64) -> bool
     requires key { key < 2 ^ 32 }
     requires other { other < 2 ^ 32 }

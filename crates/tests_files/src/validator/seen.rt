@@ -1,11 +1,10 @@
-//! What the views give of a bundle, beside what is read of its bytes by the format's description
-//! alone.
+//! Compares what the views give of a bundle with what its bytes say by the format's description.
 ghost use Rattle.std.specs.Prelude.{◌<◌, ◌^◌};
 
 use super::plain::{Data, byte, data_after, half, word};
 use rb_views::{Array, Ints, Item, Table, Units};
 
-/// The count at a place in bytes, of 16 bits in a short table; an offset of 0 has no data.
+/// Returns the count at a place in bytes, of 16 bits in a short table; an offset of 0 has no data.
 fn count_at(data: Data<'_>, at: u64, short: bool) -> u64
     requires { at < 2 ^ 28 }
     ensures { result < 2 ^ 32 }
@@ -53,7 +52,7 @@ fn are_numbers(data: Data<'_>, at: u64, ints: Option<Ints<'_>>) -> bool
     true
 }
 
-/// Whether the bytes from a place on are these.
+/// Checks whether the bytes from a place on are these.
 fn are_bytes(data: Data<'_>, first: u64, bytes: &[u8]) -> bool
     requires { first < 2 ^ 40 }
 {
@@ -79,7 +78,7 @@ fn is_binary(data: Data<'_>, at: u64, bytes: Option<&[u8]>) -> bool
     }
 }
 
-/// Whether a key is at an offset, with its NUL.
+/// Checks whether a key is at an offset, with its NUL.
 fn is_key(data: Data<'_>, offset: u64, key: &[u8]) -> bool
     requires { offset < 2 ^ 32 }
 {
@@ -88,7 +87,7 @@ fn is_key(data: Data<'_>, offset: u64, key: &[u8]) -> bool
         && byte(data.bytes, offset + key.len() as u64) == 0
 }
 
-/// Whether the views give of an item, and of all below it, what its word and the bytes say.
+/// Checks whether the views give of an item, and of all below it, what its word and the bytes say.
 #[cycle(seen)]
 fn is_item_seen(data: Data<'_>, item: u64, view: Item<'_>, left: u64) -> bool
     requires { item < 2 ^ 32 }
@@ -159,7 +158,7 @@ fn is_table_seen(data: Data<'_>, at: u64, short: bool, table: Option<Table<'_>>,
     true
 }
 
-/// Whether the views give of a bundle what its bytes say.
+/// Checks whether the views give of a bundle what its bytes say.
 pub fn is_seen(file: &[u8], root: Item<'_>) -> bool {
     let data = data_after(file, half(file, 0));
     is_item_seen(data, word(data.bytes, 0), root, 64)

@@ -9,11 +9,11 @@ use Rattle.rb_fallback.specs.Search.{follow}
 use Rattle.rb_fallback.specs.inner.Steps.{IsFollowed}
 use Rattle.rb_fallback.proofs.Texts.{alias_units}
 use Rattle.rb_fallback.proofs.Paths.{aim_is_filled}
-use Rattle.rb_fallback.proofs.Follows.{filled_some, path_leads, same_leads, place_follows}
+use Rattle.rb_fallback.proofs.Follows.{filled_some, path_leads, same_leads, state_follows}
 use Rattle.rb_fallback.proofs.search.follow_alias.Goals as goal
 
-pub replaced-requires-clause-within : goal.replaced-requires-clause-within
-replaced-requires-clause-within g c =
+pub replaced-path-requires-clause-within : goal.replaced-path-requires-clause-within
+replaced-path-requires-clause-within g c =
     let t = g.N.Node.tree c.args.node in
     let us = units_of t in
     let to = c.in-Ok.target in
@@ -31,8 +31,8 @@ returns-in-None g c = λ walked rest whole left.
     let aimed : aim us valid ≡ aims to.icudata to.name None =
     sym c.read_alias.ensures ∙ ap (aim_of us) c.in-Ok.is ∙ ap (λ o. aims to.icudata to.name (option_map (segments_from us) o)) c.in-None.is in
     let leads = same_leads us valid to.name to.icudata c.args.icudata c.args.path.now walked rest c.requires.path whole aimed in
-    subst (λ x. IsFollowed (Ok x) (follow rest (target us c.args.icudata valid walked))) (sym c.place_of.ensures)
-    (place_follows c.short_path.result leads c.short_path.ensures.some c.short_path.ensures.none)
+    subst (λ x. IsFollowed (Ok x) (follow rest (target us c.args.icudata valid walked))) (sym c.state_of.ensures)
+    (state_follows c.short_path.result leads c.short_path.ensures.some c.short_path.ensures.none)
 
 pub returns : goal.returns
 returns g c = λ walked rest whole left.
@@ -43,6 +43,6 @@ returns g c = λ walked rest whole left.
     let aimed : aim us valid ≡ aims to.icudata to.name (Some (segments_from us at)) =
     sym c.read_alias.ensures ∙ ap (aim_of us) c.in-Ok.is ∙ ap (λ o. aims to.icudata to.name (option_map (segments_from us) o)) c.in-Some.is in
     let with_path = path_leads us valid to.name to.icudata c.args.icudata c.args.path.now walked rest c.requires.path whole in
-    let leads = with_path at c.args.cut c.rest_behind.result.now aimed c.rest_behind.ensures left in
-    subst (λ x. IsFollowed (Ok x) (follow rest (target us c.args.icudata valid walked))) (sym c.place_of-2.ensures)
-    (place_follows c.replaced.result leads c.replaced.ensures.some c.replaced.ensures.none)
+    let leads = with_path at c.args.cut c.rest_behind-rest.result.now aimed c.rest_behind-rest.ensures left in
+    subst (λ x. IsFollowed (Ok x) (follow rest (target us c.args.icudata valid walked))) (sym c.state_of-2.ensures)
+    (state_follows c.replaced-path.result leads c.replaced-path.ensures.some c.replaced-path.ensures.none)

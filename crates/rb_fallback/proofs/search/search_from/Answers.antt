@@ -54,7 +54,7 @@ returns-in-Next-clause-answer g c = λ is_path.
     let r : List ℕ → Result Step LookError = λ v. step false v (level own ps n (segments c.args.path.now)) in
     let at = start c.args.left own icu ps n c.args.path.now is_path in
     let v = valid_of None (first_stop own ps n) n in
-    let q = c.in-Next.place in
+    let q = c.in-Next.state in
     let met : GoesOn q (r v) × (c.in-Next.valid ≡ v) =
     subst (λ o. IsOutcome g.S.N.Node.tree (Ok o) v r) c.in-Next.is c.in_ok-found.ensures.outcome in
     let on = next_level at (omega arith) (omega (arith, c.if-path-gt-PATH_LIMIT.false)) c.step-outcome.ensures.names refl c.in_ok-left.ensures in
@@ -66,7 +66,7 @@ pub returns-in-Next-clause-bad_path : goal.returns-in-Next-clause-bad_path
 returns-in-Next-clause-bad_path g c =
     let own = g.S.Shelf.bundles c.args.own in
     let icu = g.I.Shelf.bundles c.args.icu in
-    let q = c.in-Next.place in
+    let q = c.in-Next.state in
     let s = setting_of own icu (parent_of c.args.parents.now) c.in-Next.valid in
     let never = answer_never g.S.N.Node.tree c.search_on.result c.in_ok-left.left 255 s q.icudata q.name (segments q.path.items) in (
       λ e _. never c.search_on.ensures.answer e,

@@ -5,7 +5,7 @@ use Rattle.rb_lexer.proofs.scan.scan_first.Goals as goal
 
 pub returns-then-is_white-clause-taken : goal.returns-then-is_white-clause-taken
 returns-then-is_white-clause-taken g c =
-    ([], c.requires, white_item _ _ _ c.in-Some.ensures.taken [] _ (sym c.is_white.ensures ∙ c.if-is_white.true) c.past_white.ensures.taken)
+    ([], c.requires, white_item _ _ _ c.in-Some.ensures.taken [] _ (sym c.is_white.ensures ∙ c.if-is_white.true) c.skip_white.ensures.taken)
 
 pub returns-in-Some-punctuation-clause-taken : goal.returns-in-Some-punctuation-clause-taken
 returns-in-Some-punctuation-clause-taken g c = (

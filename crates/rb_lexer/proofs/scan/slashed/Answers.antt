@@ -5,13 +5,13 @@ use Rattle.rb_lexer.proofs.Items.{line_item, block_item, block_stop, slash_item,
 use Rattle.rb_lexer.proofs.scan.slashed.Goals as goal
 
 pub returns-in-Some-clause-taken : goal.returns-in-Some-clause-taken
-returns-in-Some-clause-taken g c = ([], c.requires, line_item _ _ [] _ c.in-Some.ensures.taken c.past_line.ensures.taken)
+returns-in-Some-clause-taken g c = ([], c.requires, line_item _ _ [] _ c.in-Some.ensures.taken c.skip_line_comment.ensures.taken)
 
-pub returns-in_default-past_block-clause-taken : goal.returns-in_default-past_block-clause-taken
-returns-in_default-past_block-clause-taken g c = block_stop _ _ c.in-Some-strip.ensures.taken c.in_default-past_block.ensures.taken _ refl refl
+pub returns-in_default-skip_block_comment-clause-taken : goal.returns-in_default-skip_block_comment-clause-taken
+returns-in_default-skip_block_comment-clause-taken g c = block_stop _ _ c.in-Some-strip.ensures.taken c.in_default-skip_block_comment.ensures.taken _ refl refl
 
 pub returns-in-Some-strip-clause-taken : goal.returns-in-Some-strip-clause-taken
-returns-in-Some-strip-clause-taken g c = ([], c.requires, block_item _ _ [] _ c.in-Some-strip.ensures.taken c.in-Some-past_block.ensures.taken)
+returns-in-Some-strip-clause-taken g c = ([], c.requires, block_item _ _ [] _ c.in-Some-strip.ensures.taken c.in-Some-skip_block_comment.ensures.taken)
 
 pub returns-clause-taken : goal.returns-clause-taken
 returns-clause-taken g c =

@@ -19,10 +19,10 @@ put_body-put_item-requires g t c κs within =
 pub put_body-loop-i-preserved : goal.put_body-loop-i-preserved
 put_body-loop-i-preserved g t c =
     let tree = g.N.Node.tree in
-    items_put _ _ _ _ _ c.args.level c.loop-i.room c.place_of-place.result.left (tree c.args.node) (tree c.at-child.result) c.loop-i.i
-    c.place_of-place.result.fits c.loop-i.invariant
+    items_put _ _ _ _ _ c.args.level c.loop-i.remaining c.fit_item-fit.result.left (tree c.args.node) (tree c.at-child.result) c.loop-i.i
+    c.fit_item-fit.result.fits c.loop-i.invariant
     (subst (λ (xs : List Resource). Some (tree c.at-child.result) ≡ slice_get xs c.loop-i.i) (array_children (tree c.args.node) (sym c.in-Array.ensures))
-    c.at-child.ensures) c.place_of-place.ensures.fits c.place_of-place.ensures.left c.in_ok-put_pause-in-Array.ensures c.in_ok-put_item-in-Array.ensures.adds c.in_ok-put_item-in-Array.ensures.sound c.in_ok-put_str-in-Array.ensures
+    c.at-child.ensures) c.fit_item-fit.ensures.fits c.fit_item-fit.ensures.left c.in_ok-put_pause-in-Array.ensures c.in_ok-put_item-in-Array.ensures.adds c.in_ok-put_item-in-Array.ensures.sound c.in_ok-put_str-in-Array.ensures
 
 pub put_body-returns-in_ok-put_str-in-String-2-clause-adds : goal.put_body-returns-in_ok-put_str-in-String-2-clause-adds
 put_body-returns-in_ok-put_str-in-String-2-clause-adds g t c =
@@ -54,12 +54,12 @@ put_body-returns-in_ok-put_str-in-Alias-2-clause-adds g t c =
 
 pub put_body-returns-in_ok-end_array-in-Array-clause-adds : goal.put_body-returns-in_ok-end_array-in-Array-clause-adds
 put_body-returns-in_ok-end_array-in-Array-clause-adds g t c =
-    (items_end _ _ _ c.args.level c.loop-i.room (g.N.Node.tree c.args.node) c.loop-i.i c.loop-i.invariant (sym c.in-Array.ensures) (omega arith)
+    (items_end _ _ _ c.args.level c.loop-i.remaining (g.N.Node.tree c.args.node) c.loop-i.i c.loop-i.invariant (sym c.in-Array.ensures) (omega arith)
     c.in_ok-end_array-in-Array.ensures).0
 
 pub put_body-returns-in_ok-end_array-in-Array-clause-sound : goal.put_body-returns-in_ok-end_array-in-Array-clause-sound
 put_body-returns-in_ok-end_array-in-Array-clause-sound g t c =
-    (items_end _ _ _ c.args.level c.loop-i.room (g.N.Node.tree c.args.node) c.loop-i.i c.loop-i.invariant (sym c.in-Array.ensures) (omega arith)
+    (items_end _ _ _ c.args.level c.loop-i.remaining (g.N.Node.tree c.args.node) c.loop-i.i c.loop-i.invariant (sym c.in-Array.ensures) (omega arith)
     c.in_ok-end_array-in-Array.ensures).1
 
 pub put_body-returns-in_ok-end_braces-in-Table-clause-adds : goal.put_body-returns-in_ok-end_braces-in-Table-clause-adds
@@ -113,10 +113,10 @@ put_body-returns-in_err-put_item-in-Array-clause-error g t c =
     let tree = g.N.Node.tree in
     let p = err_from_is_err_and c.from_residual-in_err-put_item-in-Array.result c.from_residual-in_err-put_item-in-Array.ensures.1 in
     rw (p.1, p.2)
-    (items_exceed _ _ _ c.args.level c.loop-i.room (tree c.args.node) (tree c.at-child.result) c.loop-i.i c.place_of-place.result.fits
+    (items_exceed _ _ _ c.args.level c.loop-i.remaining (tree c.args.node) (tree c.at-child.result) c.loop-i.i c.fit_item-fit.result.fits
     c.in_err-put_item-in-Array.field-0.0 c.loop-i.invariant
     (subst (λ (xs : List Resource). Some (tree c.at-child.result) ≡ slice_get xs c.loop-i.i) (array_children (tree c.args.node) (sym c.in-Array.ensures))
-    c.at-child.ensures) c.place_of-place.ensures.fits c.in_ok-put_pause-in-Array.ensures c.in_err-put_item-in-Array.ensures.error)
+    c.at-child.ensures) c.fit_item-fit.ensures.fits c.in_ok-put_pause-in-Array.ensures c.in_err-put_item-in-Array.ensures.error)
 
 pub put_body-returns-in_err-put_entries-in-Table-clause-error : goal.put_body-returns-in_err-put_entries-in-Table-clause-error
 put_body-returns-in_err-put_entries-in-Table-clause-error g t c =

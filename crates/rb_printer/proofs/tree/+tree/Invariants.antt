@@ -13,7 +13,7 @@ abbrev pub decreases-put_entries : goal.decreases-put_entries
 decreases-put_entries g l = 3 * height (g.N.Node.tree l.node)
 
 abbrev pub invariant-put_body-loop-i : goal.invariant-put_body-loop-i
-invariant-put_body-loop-i g l = ItemsPut l.fn.out.items l.out.items l.level (g.N.Node.tree l.node) l.room l.i
+invariant-put_body-loop-i g l = ItemsPut l.fn.out.items l.out.items l.level (g.N.Node.tree l.node) l.remaining l.i
 
 abbrev pub invariant-put_entries-loop-i : goal.invariant-put_entries-loop-i
 invariant-put_entries-loop-i g l = EntriesPut l.fn.out.items l.out.items l.level (g.N.Node.tree l.node) l.i

@@ -1,12 +1,9 @@
-use Rattle.std.proofs.Common.{◌≡◌, ◌∙◌, take, arith}
-use Rattle.std.proofs.lemmas.List.{take_all}
-use Rattle.rb_items.proofs.Tokens.{puts_texts}
+use Rattle.std.proofs.Common.{codes}
+use Rattle.rb_json.specs.Item.{texts_data}
+use Rattle.rb_replies.proofs.Lines.{one_taken}
 use Rattle.rb_replies.proofs.reply.put_names.Goals as goal
 
 pub returns : goal.returns
-returns c =
-    let names = c.args.names.now in
-    let l = c.loop-name in
-    let end = c.end_array in
-    let all : take l.name-index names ≡ names = take_all l.name-index names (omega arith) in
-    puts_texts end.result c.args.out.now l.out end.new.self names (l.invariant.written ∙ rw all) l.invariant.kept end.ensures
+returns g c =
+    one_taken g.O.Outlet.takes g.met.O.Outlet.joined c.args.out.now c.put.new.self c.put_name.new.out c.put_name_array.new.out c.put-2.new.self c.put-3.new.self
+    (codes "names") (texts_data c.args.names.now) c.put.ensures c.put_name.ensures c.put_name_array.ensures c.put-2.ensures c.put-3.ensures

@@ -13,4 +13,4 @@ returns-clause-takes g c =
     let last = c.pass_on.new.self in
     let sink = last.sink.now in
     λ before text h. subst (λ (all : List ℕ). Streams last.failed before (writer (g.S.Sink.written sink) (g.S.Sink.faults sink) (g.S.Sink.settled sink)) last.held.now.items all)
-    (append-nil (text ++ line)) (c.pass_on.ensures.takes before (text ++ line) (c.stream_reply.ensures.2 before text h))
+    (append-nil (text ++ line)) (c.pass_on.ensures.takes before (text ++ line) (c.put_found_line.ensures.2 before text h))

@@ -4,7 +4,7 @@ use Rattle.rb_format.specs.Place.{word_at}
 use Rattle.rb_validator.specs.Visits.{IsCount, IsPlaceAt}
 use Rattle.rb_validator.specs.inner.Marks.{IsKnown, marked}
 use Rattle.rb_validator.proofs.Counts.{count_places}
-use Rattle.rb_validator.proofs.Spans.{runs_none}
+use Rattle.rb_validator.proofs.SpanHeights.{runs_none}
 use Rattle.rb_validator.proofs.file.check_root.Goals as goal
 
 pub check_item-requires-clause-holds : goal.check_item-requires-clause-holds

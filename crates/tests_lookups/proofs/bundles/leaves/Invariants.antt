@@ -3,5 +3,5 @@ use Rattle.rb_tree.specs.Keys.{IsKey}
 use Rattle.rb_tree.specs.Table.{keys_in}
 use Rattle.tests_lookups.proofs.bundles.leaves.Given as goal
 
-abbrev pub invariant-loop-key : goal.invariant-loop-key
-invariant-loop-key l = All IsKey (keys_in l.pairs.items)
+abbrev pub invariant-loop-row : goal.invariant-loop-row
+invariant-loop-row l = All IsKey (keys_in l.pairs.items)

@@ -19,28 +19,28 @@ returns-in_default-2-clause-same c = λ ts g.
 
 pub returns-in-Some-clause-same : goal.returns-in-Some-clause-same
 returns-in-Some-clause-same c = λ ts g.
-    let a = c.up_to-at.ensures in
-    let n = c.go_on.ensures in
+    let a = c.span_to-at.ensures in
+    let n = c.advance.ensures in
     let w = rw c.in-Some.is at c.first_mark.ensures.taken in
-    taken c.args.self.now c.go_on.new.self ts (Punctuation c.in-Some.mark) [] c.up_to-at.result c.requires (rw n.rest w)
+    taken c.args.self.now c.advance.new.self ts (Punctuation c.in-Some.mark) [] c.span_to-at.result c.requires (rw n.rest w)
     (rw n.same_builder (c.in_ok-add_mark.ensures.added [])) a.first a.line (rw n.rest a.past) n.first n.same_text g
 
-pub up_to-at-requires-2-clause-within : goal.up_to-at-requires-2-clause-within
-up_to-at-requires-2-clause-within c =
+pub span_to-at-requires-2-clause-within : goal.span_to-at-requires-2-clause-within
+span_to-at-requires-2-clause-within c =
     let s = rw c.in-Some-2.is at c.in_ok-item.ensures.taken in
     follows_within (chars c.args.self.now.rest.now) (chars c.in-Some-2.after.now) s.0 c.in-Some-2.item s.2
 
-pub go_on-requires-2-clause-order : goal.go_on-requires-2-clause-order
-go_on-requires-2-clause-order c =
+pub advance-requires-2-clause-order : goal.advance-requires-2-clause-order
+advance-requires-2-clause-order c =
     let s = rw c.in-Some-2.is at c.in_ok-item.ensures.taken in
     let f = follows_within (chars c.args.self.now.rest.now) (chars c.in-Some-2.after.now) s.0 c.in-Some-2.item s.2 in
-    omega (arith, f, c.requires.at, c.up_to-at-2.ensures.past)
+    omega (arith, f, c.requires.at, c.span_to-at-2.ensures.past)
 
 pub returns-clause-same : goal.returns-clause-same
 returns-clause-same c = λ ts g.
-    let a = c.up_to-at-2.ensures in
-    let n = c.go_on-2.ensures in
+    let a = c.span_to-at-2.ensures in
+    let n = c.advance-2.ensures in
     let s = rw c.in-Some-2.is at c.in_ok-item.ensures.taken in
     let w = subst (λ (us : List ℕ). Begins (chars c.args.self.now.rest.now) c.in-Some-2.item us (chars c.in-Some-2.after.now)) (sym s.1) s.2 in
-    taken c.args.self.now c.go_on-2.new.self ts c.in-Some-2.item c.scan_first.new.units c.up_to-at-2.result c.requires (rw n.rest w)
+    taken c.args.self.now c.advance-2.new.self ts c.in-Some-2.item c.scan_first.new.units c.span_to-at-2.result c.requires (rw n.rest w)
     (rw n.same_builder c.in_ok-add.ensures.added) a.first a.line (rw n.rest a.past) n.first n.same_text g

@@ -1,10 +1,5 @@
-use Rattle.rb_replies.specs.Replied.{reply_data}
-use Rattle.rb_replies.proofs.Written.{line_told}
+use Rattle.rb_replies.proofs.Lines.{line_told}
 use Rattle.rb_replies.proofs.line.ReplyLine.tell_reply.Goals as goal
 
 pub returns : goal.returns
-returns c =
-    let out = c.begin-out in
-    let put = c.in_ok-put_reply.ensures in
-    let told = reply_data c.args.reply.now in
-    line_told c.end.result told out.result c.put_reply.new.out c.end.new.self out.ensures.before out.ensures.tokens put.0 put.1 c.end.ensures
+returns c = line_told c.end.result c.begin-out.result c.put_reply.new.out c.end.new.self _ c.begin-out.ensures c.put_reply.ensures c.end.ensures

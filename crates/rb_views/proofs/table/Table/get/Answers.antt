@@ -21,7 +21,7 @@ name body p i = key_from body (key_offset body p.keys i)
 abbrev tree : List ℕ → TableParts → ℕ → Resource
 tree body p i = item_tree body (word_at body (p.first + i))
 
--- how the key of entry i is ordered, told by a comparison with the key where its offset points
+-- the order of entry i's key, from a comparison with the key at its offset
 ordered : (o : Ordering) (body : List ℕ) (p : TableParts) (i : ℕ) (wanted : List ℕ) → TableStands body p → i < p.count
     → IfSome (key (layout_of body) body (key_offset body p.keys i)) (λ stored. o ≡ slice_cmp nat_cmp wanted stored)
     → slice_cmp nat_cmp wanted (name body p i) ≡ o

@@ -1,0 +1,12 @@
+-- Defines how a file is written that is no bundle text, no text that the command reads, and not standard output: this
+-- project's own rule.
+use Rattle.rb_commands.specs.declared.output.Decision.{Decision}
+use Rattle.rb_commands.specs.declared.output.Decision.TheVariants.{Refuse, WriteThrough, Create, Replace}
+use Rattle.rb_commands.specs.declared.output.Kind.{Kind}
+use Rattle.rb_commands.specs.declared.output.Kind.TheVariants.{Missing, Ordinary, Device, Other}
+
+abbrev pub plain_decision : Kind → Decision
+plain_decision Missing = Create
+plain_decision Ordinary = Replace
+plain_decision Device = WriteThrough
+plain_decision Other = Refuse

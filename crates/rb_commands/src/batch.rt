@@ -1,0 +1,203 @@
+//! `resb compile --to` and `resb check` of many files.
+use crate::commands::{accepted, chosen_output, compile_read};
+use crate::console::Console;
+use crate::files::{printed, read_file, refused_on};
+use crate::given::stem;
+use crate::output::{are_same_file, id_of};
+use crate::progress::Progress;
+use std::alloc::{AllocError, Global};
+use std::collections::{BTreeMap, BTreeSet};
+use std::process::ExitCode;
+use std::random::RandomSource;
+use std::rt::{Clock, Files};
+
+/// The first text whose stem an earlier one has, and that one.
+fn same_stems<'a>(
+    alloc: Global,
+    texts: &[&'a str],
+) -> Result<Option<(&'a str, &'a str)>, AllocError> {
+    let mut by_stem = BTreeMap::new(alloc);
+    for text in texts {
+        if let Some(earlier) = by_stem.insert(stem(text), *text)? {
+            return Ok(Some((earlier, *text)));
+        }
+    }
+    Ok(None)
+}
+
+/// The ordinary files that texts are in, each by its device and its number there.
+#[derive(Drop)]
+struct Inputs(BTreeSet<(u64, u64)>);
+
+impl Inputs {
+    /// Looks at each text. A text that can't be looked at is left out.
+    fn of<R: Files + AllocGlobal>(rt: &R, texts: &[&str]) -> Result<Inputs, AllocError> {
+        let mut ids = BTreeSet::new(rt.alloc());
+        for text in texts {
+            if let Some(id) = rt.metadata(text).ok().and_then(|seen| id_of(&seen)) {
+                ids.insert(id)?;
+            }
+        }
+        Ok(Inputs(ids))
+    }
+
+    /// Checks whether a file, links followed, is one of the texts.
+    fn has<R: Files>(&self, rt: &R, file: &str) -> bool {
+        match rt.metadata(file) {
+            Ok(seen) => id_of(&seen).is_some_and(|id| self.0.contains(&id)),
+            Err(_) => false,
+        }
+    }
+}
+
+/// The file in a folder to which a text is compiled.
+fn output_in(alloc: Global, folder: &str, text: &str) -> Result<String, AllocError> {
+    let stem = stem(text);
+    if folder.ends_with('/') {
+        format!(in alloc; "{folder}{stem}.res")
+    } else {
+        format!(in alloc; "{folder}/{stem}.res")
+    }
+}
+
+/// Compiles the bundle text `text` to the file `output`, and returns how many bytes that has. Else
+/// that there is none is said, and the status is given.
+fn compile_file<R: Files + RandomSource + AllocGlobal + Eprint>(
+    rt: &R,
+    console: Console,
+    inputs: &Inputs,
+    text: &str,
+    output: &str,
+) -> Result<usize, ExitCode> {
+    let is_input = inputs.has(rt, output) || are_same_file(rt, text, output);
+    let chosen = chosen_output(rt, console, output, is_input)?;
+    compile_read(rt, console, text, read_file(rt, text), output, &chosen)
+}
+
+/// Compiles one text of many.
+fn compile_one<R: Files + RandomSource + AllocGlobal + Print + Eprint>(
+    rt: &R,
+    console: Console,
+    inputs: &Inputs,
+    folder: &str,
+    text: &str,
+) -> ExitCode {
+    let Ok(output) = output_in(rt.alloc(), folder, text) else {
+        let hint = console.hint("Memory");
+        let _ = eprintln!(rt; "{}:0: Memory{hint}", console.on_stderr(text));
+        return ExitCode::from(1);
+    };
+    match compile_file(rt, console, inputs, text, output.as_str()) {
+        Err(_) => ExitCode::from(1),
+        Ok(_) if console.is_quiet => ExitCode::SUCCESS,
+        Ok(count) => {
+            let output = console.on_stdout(output.as_str());
+            printed(rt, println!(rt; "{output}: wrote {count} bytes"))
+        }
+    }
+}
+
+/// What many files end with: the last status that isn't 0.
+fn after(status: ExitCode, one: ExitCode) -> ExitCode {
+    if one == ExitCode::SUCCESS {
+        status
+    } else {
+        one
+    }
+}
+
+/// Refuses a folder without a name, and two texts with one stem.
+fn refuse_batch<R: AllocGlobal + Eprint>(
+    rt: &R,
+    console: Console,
+    folder: &str,
+    texts: &[&str],
+) -> Result<(), ExitCode> {
+    if folder.is_empty() {
+        let _ = eprintln!(rt; "resb: DIR is empty");
+        return Err(ExitCode::from(2));
+    }
+    match same_stems(rt.alloc(), texts) {
+        Ok(None) => Ok(()),
+        Ok(Some((a, b))) => {
+            let (stem, a, b) = (
+                console.on_stderr(stem(a)),
+                console.on_stderr(a),
+                console.on_stderr(b),
+            );
+            let _ = eprintln!(rt; "resb: two texts are named {stem}: {a} and {b}");
+            Err(ExitCode::from(2))
+        }
+        Err(_) => Err(refused_on(rt, console, folder, "Memory")),
+    }
+}
+
+/// Compiles each of many bundle texts to the file in `folder` that has its stem and ends in `.res`,
+/// and says so, a line each. An error is a line, as of `compile`, and the other texts are compiled.
+/// If two texts have one stem, or `folder` is empty, nothing is compiled. A file that is one of the
+/// texts, or standard output, isn't written.
+///
+/// The status is 0; 1 if a text is refused or can't be read, or its file can't be written; 2 if two
+/// texts have one stem or `folder` is empty, and as soon as standard output can't be written.
+pub fn compile_all<R: Files + RandomSource + Clock + AllocGlobal + Print + Eprint>(
+    rt: &R,
+    console: Console,
+    folder: &str,
+    texts: &[&str],
+) -> ExitCode {
+    if let Err(status) = refuse_batch(rt, console, folder, texts) {
+        return status;
+    }
+    let Ok(inputs) = Inputs::of(rt, texts) else {
+        return refused_on(rt, console, folder, "Memory");
+    };
+    let mut progress = Progress::new(rt, console, texts.len());
+    let mut status = ExitCode::SUCCESS;
+    for text in texts {
+        progress.clear();
+        status = after(status, compile_one(rt, console, &inputs, folder, text));
+        if status == ExitCode::from(2) {
+            return status;
+        }
+        progress.step();
+    }
+    progress.clear();
+    status
+}
+
+/// Checks one file of many.
+fn check_one<R: Files + AllocGlobal + Print + Eprint>(
+    rt: &R,
+    console: Console,
+    name: &str,
+) -> ExitCode {
+    match accepted(rt, console, name) {
+        Err(_) => ExitCode::from(1),
+        Ok(_) if console.is_quiet => ExitCode::SUCCESS,
+        Ok(bundle) => {
+            let (name, visits) = (console.on_stdout(name), bundle.visits());
+            printed(rt, println!(rt; "{name}: ok, {visits} visits"))
+        }
+    }
+}
+
+/// Checks many files, each as `check` does; each line begins with the file's name. The status is 0;
+/// 1 if a file is refused or can't be read; 2 as soon as standard output can't be written.
+pub fn check_all<R: Files + Clock + AllocGlobal + Print + Eprint>(
+    rt: &R,
+    console: Console,
+    names: &[&str],
+) -> ExitCode {
+    let mut progress = Progress::new(rt, console, names.len());
+    let mut status = ExitCode::SUCCESS;
+    for name in names {
+        progress.clear();
+        status = after(status, check_one(rt, console, name));
+        if status == ExitCode::from(2) {
+            return status;
+        }
+        progress.step();
+    }
+    progress.clear();
+    status
+}

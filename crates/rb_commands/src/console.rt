@@ -1,0 +1,117 @@
+//! How a command speaks: what it leaves out, and what it adds if standard error is a terminal.
+ghost use Rattle.std.specs.Prelude.{◌≡◌, ◌↔◌, IfSome, IsSome, IsTrue, false};
+
+use std::fmt;
+
+/// How a command speaks to whoever called it.
+#[derive(Clone, Copy, Debug, PartialEq, Eq)]
+pub struct Console {
+    /// No line on success.
+    pub is_quiet: bool,
+    /// Standard error is a terminal: errors name `resb explain`, and what takes longer than a
+    /// second says how far it is.
+    pub is_terminal: bool,
+    /// Standard output is a terminal.
+    pub is_output_terminal: bool,
+}
+
+impl Console {
+    /// All lines on success, and no terminal.
+    pub fn plain() -> Console
+        ensures quiet { result.is_quiet ≡ false }
+        ensures terminal { result.is_terminal ≡ false }
+        ensures output { result.is_output_terminal ≡ false }
+    {
+        Console {
+            is_quiet: false,
+            is_terminal: false,
+            is_output_terminal: false,
+        }
+    }
+
+    /// Returns a name or an argument as it is printed to standard error.
+    pub fn on_stderr(self, text: &str) -> ShownName<'_>
+        ensures escaped { result.is_escaped ≡ self.is_terminal }
+        ensures text { result.text.now ≡ text.now }
+    {
+        ShownName {
+            text,
+            is_escaped: self.is_terminal,
+        }
+    }
+
+    /// Returns a name or an argument as it is printed to standard output.
+    pub fn on_stdout(self, text: &str) -> ShownName<'_>
+        ensures escaped { result.is_escaped ≡ self.is_output_terminal }
+        ensures text { result.text.now ≡ text.now }
+    {
+        ShownName {
+            text,
+            is_escaped: self.is_output_terminal,
+        }
+    }
+
+    /// What ends the line of an error with this name.
+    pub fn hint(self, word: &str) -> Hint<'_>
+        ensures shown { IsSome result.word ↔ IsTrue self.is_terminal }
+        ensures word { IfSome result.word (λ w. w.now ≡ word.now) }
+    {
+        Hint {
+            word: if self.is_terminal { Some(word) } else { None },
+        }
+    }
+}
+
+/// Where to read of an error: ` (resb explain WORD)` on a terminal, and nothing elsewhere.
+#[derive(Clone, Copy, Debug)]
+pub struct Hint<'a> {
+    word: Option<&'a str>,
+}
+
+impl<'a> fmt::Display for Hint<'a> {
+    fn fmt<W: fmt::Write>(&self, f: &mut fmt::Formatter<W>) -> fmt::Result {
+        match self.word {
+            Some(word) => write!(f, " (resb explain {word})"),
+            None => Ok(()),
+        }
+    }
+}
+
+/// A name or an argument in a message. On a terminal a character that could move the cursor, end
+/// the line or turn the order of the text is escaped, as in `\u{1b}`; elsewhere none is.
+#[derive(Clone, Copy, Debug)]
+pub struct ShownName<'a> {
+    text: &'a str,
+    is_escaped: bool,
+}
+
+/// Checks whether a terminal acts on a character in place of showing it: a control character, or
+/// one that controls the direction of text.
+fn is_control(c: char) -> bool {
+    matches!(
+        c,
+        '\0'..='\u{1f}'
+            | '\u{7f}'..='\u{9f}'
+            | '\u{61c}'
+            | '\u{200e}'..='\u{200f}'
+            | '\u{202a}'..='\u{202e}'
+            | '\u{2066}'..='\u{2069}'
+    )
+}
+
+impl<'a> fmt::Display for ShownName<'a> {
+    fn fmt<W: fmt::Write>(&self, f: &mut fmt::Formatter<W>) -> fmt::Result {
+        if !self.is_escaped {
+            return f.write_str(self.text);
+        }
+        for c in self.text.chars() {
+            if is_control(c) {
+                let code = u32::from(c);
+                write!(f, "\\u{{{code:x}}}")?;
+            } else {
+                f.write_char(c)?;
+            }
+        }
+        Ok(())
+    }
+}

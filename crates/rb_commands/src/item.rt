@@ -1,0 +1,76 @@
+//! One item of a file, as JSON.
+ghost use Rattle.std.specs.Prelude.{◌≡◌, ◌⊎◌, Ok, Err, IfOk, IfErr, string_bytes};
+ghost use Rattle.serde_json.specs.Data.{Data};
+ghost use Rattle.serde_json.specs.Written.{compact_text};
+ghost use Rattle.rb_tree.specs.Path.{IsPath, segments};
+ghost use Rattle.rb_tree.specs.Walk.{walk};
+ghost use Rattle.rb_json.specs.Item.{item_data};
+ghost use Rattle.rb_commands.specs.declared.item.ItemError.TheVariants as errors;
+ghost use Rattle.rb_commands.specs.Got.{got, shown};
+
+use rb_fallback::{PATH_LIMIT, rest_behind};
+use rb_json::item_text;
+use rb_tree::{Ending, Node, path_ok, walk};
+use std::alloc::Global;
+
+/// Why there is no item to print.
+#[derive(Clone, Copy, Debug, PartialEq, Eq)]
+pub enum ItemError {
+    /// The path has an empty segment, or a byte that is no plain ASCII character.
+    BadPath,
+    /// The path has more bytes than a path may have.
+    PathTooLong,
+    /// The path leads nowhere.
+    Missing,
+    /// Out of memory.
+    Memory,
+}
+
+/// The text of an item, with the rest of a path behind it.
+fn text_of<N: Node>(alloc: Global, node: N, rest: &[u8]) -> Result<String, ItemError>
+    requires { IsPath rest.now }
+    ensures text { IfOk result
+        (λ text. string_bytes text ≡ compact_text (item_data (N.tree node) rest.now)) }
+    ensures error { IfErr result (λ e. e ≡ errors.Memory) }
+{
+    match item_text(alloc, node, rest) {
+        Ok(text) => Ok(text),
+        Err(_) => Err(ItemError::Memory),
+    }
+}
+
+/// The item to which a path leads.
+fn shown_text<N: Node>(alloc: Global, root: N, path: &[u8]) -> Result<String, ItemError>
+    requires { IsPath path.now }
+    ensures text { IfOk result (λ text. (d : Data) × (shown
+        (walk (N.tree root) (segments path.now)) ≡ Ok d) × (string_bytes text ≡ compact_text d)) }
+    ensures error { IfErr result
+        (λ e. (e ≡ errors.Memory) ⊎ (shown (walk (N.tree root) (segments path.now)) ≡ Err e)) }
+{
+    match walk(root, path) {
+        Ending::End(node) => Ok(text_of(alloc, node, b"")?),
+        Ending::Link(node, cut) => Ok(text_of(alloc, node, rest_behind(path, cut))?),
+        Ending::Gone => Err(ItemError::Missing),
+    }
+}
+
+/// The item at a path within one tree as JSON, without fallback. An alias on the way is not
+/// followed: it is the item, with the rest of the path. Errors: `BadPath`, then `PathTooLong`, then
+/// `Missing` if the path leads nowhere; `Memory` if memory runs out.
+///
+/// ```rust
+/// text_at(alloc, &tree, b"a/1")? // {"type":"string","value":"y"}
+/// ```
+pub fn text_at<N: Node>(alloc: Global, root: N, path: &[u8]) -> Result<String, ItemError>
+    ensures text { IfOk result (λ text. (d : Data) × (got (N.tree root) path.now ≡ Ok d)
+        × (string_bytes text ≡ compact_text d)) }
+    ensures error { IfErr result (λ e. (e ≡ errors.Memory) ⊎ (got (N.tree root) path.now ≡ Err e)) }
+{
+    if !path_ok(path) {
+        return Err(ItemError::BadPath);
+    }
+    if path.len() > PATH_LIMIT {
+        return Err(ItemError::PathTooLong);
+    }
+    shown_text(alloc, root, path)
+}

@@ -1,0 +1,156 @@
+//! `resb lines`: request lines that install files.
+use crate::console::Console;
+use crate::contents::{made_of_each, text_refused};
+use crate::error::{StartError, not_started_on};
+use crate::files::{printed, refused_on};
+use crate::given::{Form, Given, all_given, is_text};
+use json::Writer;
+use rb_engine::{App, Change};
+use rb_format::is_short_enough;
+use rb_lexer::Tokens;
+use std::alloc::{AllocError, Global};
+use std::io;
+use std::io::{BufWriter, Write};
+use std::process::ExitCode;
+use std::rt::Files;
+
+/// The member `op` of a line that asks for a change.
+fn op_of(change: Change) -> &'static str {
+    match change {
+        Change::Install => "install",
+        Change::Replace => "replace",
+    }
+}
+
+/// Refuses a text that can't be in a line, as its bytes aren't UTF-8, or that no server takes, as
+/// it is too long; and such a file.
+fn refuse_content<R: AllocGlobal + Eprint>(
+    rt: &R,
+    console: Console,
+    file: &str,
+    bytes: &[u8],
+) -> Result<(), ExitCode> {
+    if !is_text(file) {
+        return if is_short_enough(bytes) {
+            Ok(())
+        } else {
+            Err(refused_on(rt, console, file, "TooLong"))
+        };
+    }
+    if str::from_utf8(bytes).is_ok() && bytes.len() <= rb_lexer::SOURCE_LIMIT {
+        return Ok(());
+    }
+    match Tokens::of(rt.alloc(), bytes) {
+        Ok(_) => Ok(()),
+        Err(fault) => Err(text_refused(rt, console, file, fault)),
+    }
+}
+
+/// The contents of the files.
+fn contents<R: Files + AllocGlobal + Eprint>(
+    rt: &R,
+    console: Console,
+    bundles: &[Given<'_>],
+) -> Result<Vec<Vec<u8>>, ExitCode> {
+    made_of_each(rt, console, bundles, |file, bytes| {
+        refuse_content(rt, console, file, &bytes)?;
+        Ok(bytes)
+    })
+}
+
+/// The member of a line that has a bundle: `text`, or `file` in hexadecimal.
+fn put_content(
+    out: &mut Writer,
+    alloc: Global,
+    file: &str,
+    bytes: &[u8],
+) -> Result<(), AllocError> {
+    match str::from_utf8(bytes) {
+        Ok(text) if is_text(file) => {
+            out.key("text")?;
+            out.string(text)
+        }
+        _ => {
+            let digits = hex::encode(alloc, bytes)?;
+            out.key("file")?;
+            out.string(digits.as_str())
+        }
+    }
+}
+
+/// The line that puts a bundle in place.
+fn line_of(
+    alloc: Global,
+    change: Change,
+    app: &str,
+    bundle: &Given<'_>,
+    bytes: &[u8],
+) -> Result<Vec<u8>, AllocError> {
+    let mut out = Writer::new(Vec::new(alloc));
+    out.begin_object()?;
+    out.key("op")?;
+    out.string(op_of(change))?;
+    out.key("app")?;
+    out.string(app)?;
+    out.key("locale")?;
+    out.string(bundle.locale)?;
+    put_content(&mut out, alloc, bundle.file, bytes)?;
+    out.end_object()?;
+    let mut line = out.into_inner();
+    line.push(b'\n')?;
+    Ok(line)
+}
+
+/// Writes the lines, each made when it is written.
+fn write_lines<R: AllocGlobal + Print>(
+    rt: &R,
+    change: Change,
+    app: &str,
+    bundles: &[Given<'_>],
+    contents: &[Vec<u8>],
+) -> io::Result<()> {
+    let alloc = rt.alloc();
+    let mut out = BufWriter::new(alloc, io::writer(rt))?;
+    for (bundle, bytes) in bundles.iter().zip(contents) {
+        let line = line_of(alloc, change, app, bundle, bytes)?;
+        out.write_all(&line)?;
+    }
+    out.flush()
+}
+
+/// Prints a request line for each file, which installs its bundle for `app`, or puts it in the
+/// place of another: by its text if the file's name ends in `.txt`, and else as a file. An argument
+/// is `LOCALE=FILE`, or `FILE`, whose stem is the locale.
+///
+/// All files are read before anything is printed. The status is 0; 1 if `app` is no application's
+/// name, a text isn't UTF-8, a text or a file is too long, or out of memory, with the error's name;
+/// 2 for an argument without a locale's name, and if a file or standard output can't be read or
+/// written.
+pub fn lines<R: Files + AllocGlobal + Print + Eprint>(
+    rt: &R,
+    console: Console,
+    change: Change,
+    app: &str,
+    arguments: &[&str],
+) -> ExitCode {
+    if let Err(fault) = App::read(app.as_bytes()) {
+        return refused_on(rt, console, app, fault.word());
+    }
+    let bundles = match all_given(rt.alloc(), Form::ByStem, arguments) {
+        Ok(bundles) => bundles,
+        Err(error) => return not_started_on(rt, console, error),
+    };
+    let contents = match contents(rt, console, &bundles) {
+        Ok(contents) => contents,
+        Err(status) => return status,
+    };
+    match write_lines(rt, change, app, &bundles, &contents) {
+        Ok(()) => ExitCode::SUCCESS,
+        Err(error) => {
+            if error.kind() == io::ErrorKind::OutOfMemory {
+                return not_started_on(rt, console, StartError::Memory);
+            }
+            printed(rt, Err(error))
+        }
+    }
+}

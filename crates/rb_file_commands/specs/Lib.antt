@@ -1,3 +1,0 @@
-pub mod Got
-pub mod Whole
-pub mod Words

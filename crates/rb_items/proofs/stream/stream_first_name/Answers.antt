@@ -1,4 +1,0 @@
-use Rattle.rb_items.proofs.stream.stream_first_name.Goals as goal
-
-pub returns : goal.returns
-returns g c = g.met.O.Outlet.joined c.args.out.now c.spell_text.new.out c.put.new.self _ _ c.spell_text.ensures c.put.ensures

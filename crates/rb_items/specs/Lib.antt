@@ -1,4 +1,0 @@
-pub mod Item
-pub mod Least
-pub mod Put
-pub mod inner

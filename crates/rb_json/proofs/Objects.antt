@@ -1,0 +1,166 @@
+-- The texts of objects, member by member.
+use Rattle.std.proofs.Common.{◌≡◌, ℕ, List, [], ◌∷◌, ◌++◌, Bool, true, false, cond, Option, Some, None, codes, encode_utf8_all, refl, ap, sym, subst, ◌∙◌, append_assoc}
+use Rattle.std.specs.Char.Utf16.{has_unpaired_surrogate, utf16_lossy_chars}
+use Rattle.std.specs.Prelude.{not}
+use Rattle.json.specs.Print.{quoted}
+use Rattle.serde_json.specs.Data.{Data, Members, member, no_members, object, put, string}
+use Rattle.serde_json.specs.Written.{comma_if, compact_text, members_text}
+use Rattle.rb_tree.specs.Resource.{Resource, int, ints, binary, alias, array, table}
+use Rattle.rb_tree.specs.Resource as tree
+use Rattle.rb_tree.specs.Parts.{kind_of}
+use Rattle.rb_tree.specs.declared.kind.Kind.TheVariants as Kinds
+use Rattle.rb_json.specs.Item.{found_data, item_data, item_members, of_type, text_data, units_data, with_text}
+use Rattle.rb_json.specs.Parts.{name_text, rest_text, valid_text, with_valid}
+
+-- ---- the order of members
+
+-- `valid` before others, if it is given
+abbrev pub before : Option (List ℕ) → Members → Members
+before None ms = ms
+before (Some valid) ms = member (codes "valid") (text_data valid) ms
+
+pub type_members : (valid : Option (List ℕ)) (word : List ℕ) → with_valid valid (of_type word) ≡ member (codes "type") (string word) (before valid no_members)
+type_members None word = refl
+type_members (Some valid) word = refl
+
+pub units_members : (valid : Option (List ℕ)) (d : Data) (word : List ℕ) → with_valid valid (put (codes "units") d (of_type word))
+    ≡ member (codes "type") (string word) (member (codes "units") d (before valid no_members))
+units_members None d word = refl
+units_members (Some valid) d word = refl
+
+pub value_members : (valid : Option (List ℕ)) (d : Data) (word : List ℕ) → with_valid valid (put (codes "value") d (of_type word))
+    ≡ member (codes "type") (string word) (before valid (member (codes "value") d no_members))
+value_members None d word = refl
+value_members (Some valid) d word = refl
+
+pub values_members : (valid : Option (List ℕ)) (d : Data) (word : List ℕ) → with_valid valid (put (codes "values") d (of_type word))
+    ≡ member (codes "type") (string word) (before valid (member (codes "values") d no_members))
+values_members None d word = refl
+values_members (Some valid) d word = refl
+
+pub int_members : (valid : Option (List ℕ)) (s u : Data) (word : List ℕ) → with_valid valid (put (codes "signed") s (put (codes "unsigned") u (of_type word)))
+    ≡ member (codes "signed") s (member (codes "type") (string word) (member (codes "unsigned") u (before valid no_members)))
+int_members None s u word = refl
+int_members (Some valid) s u word = refl
+
+pub hex_members : (valid : Option (List ℕ)) (d : Data) (word : List ℕ) → with_valid valid (put (codes "hex") d (of_type word))
+    ≡ member (codes "hex") d (with_valid valid (of_type word))
+hex_members None d word = refl
+hex_members (Some valid) d word = refl
+
+pub len_members : (valid : Option (List ℕ)) (d : Data) (word : List ℕ) → with_valid valid (put (codes "len") d (of_type word))
+    ≡ member (codes "len") d (with_valid valid (of_type word))
+len_members None d word = refl
+len_members (Some valid) d word = refl
+
+pub keys_members : (valid : Option (List ℕ)) (d : Data) (word : List ℕ) → with_valid valid (put (codes "keys") d (of_type word))
+    ≡ member (codes "keys") d (with_valid valid (of_type word))
+keys_members None d word = refl
+keys_members (Some valid) d word = refl
+
+-- `actual` comes before all other members of an item
+abbrev with_actual : List ℕ → List ℕ → Members → Members
+with_actual a v ms = member (codes "actual") (text_data a) (put (codes "valid") (text_data v) ms)
+
+text_after : (b : Bool) (a v : List ℕ) (u s : Data) (word : List ℕ)
+    → put (codes "actual") (text_data a) (put (codes "valid") (text_data v) (cond b (put (codes "units") u (of_type word)) (put (codes "value") s (of_type word))))
+    ≡ with_actual a v (cond b (put (codes "units") u (of_type word)) (put (codes "value") s (of_type word)))
+text_after true a v u s word = refl
+text_after false a v u s word = refl
+
+units_after : (a v us word : List ℕ)
+    → put (codes "actual") (text_data a) (put (codes "valid") (text_data v) (with_text us (of_type word))) ≡ with_actual a v (with_text us (of_type word))
+units_after a v us word = text_after (has_unpaired_surrogate us) a v (units_data us) (string (encode_utf8_all (utf16_lossy_chars us))) word
+
+actual_first : (a v : List ℕ) (t : Resource) → put (codes "actual") (text_data a) (put (codes "valid") (text_data v) (item_members t)) ≡ with_actual a v (item_members t)
+actual_first a v (tree.string us) = units_after a v us (codes "string")
+actual_first a v (int n) = refl
+actual_first a v (ints zs) = refl
+actual_first a v (binary bs) = refl
+actual_first a v (alias us) = units_after a v us (codes "alias")
+actual_first a v (array ts) = refl
+actual_first a v (table es) = refl
+
+-- `rest` comes before the members of an alias
+text_rest : (b : Bool) (rest u s : Data) (word : List ℕ)
+    → put (codes "rest") rest (cond b (put (codes "units") u (of_type word)) (put (codes "value") s (of_type word)))
+    ≡ member (codes "rest") rest (cond b (put (codes "units") u (of_type word)) (put (codes "value") s (of_type word)))
+text_rest true rest u s word = refl
+text_rest false rest u s word = refl
+
+rest_first : (rest us word : List ℕ)
+    → put (codes "rest") (text_data rest) (with_text us (of_type word)) ≡ member (codes "rest") (text_data rest) (with_text us (of_type word))
+rest_first rest us word = text_rest (has_unpaired_surrogate us) (text_data rest) (units_data us) (string (encode_utf8_all (utf16_lossy_chars us))) word
+
+pub alias_item : (t : Resource) (rest : List ℕ) → kind_of t ≡ Kinds.Alias → item_data t rest ≡ object (member (codes "rest") (text_data rest) (item_members t))
+alias_item (alias us) rest h = ap (λ (ms : Members). object ms) (rest_first rest us (codes "alias"))
+alias_item _ rest h = absurd cc
+
+pub other_item : (t : Resource) (rest : List ℕ) → (kind_of t ≡ Kinds.Alias → ⊥) → item_data t rest ≡ object (item_members t)
+other_item (alias us) rest h = absurd (h refl)
+other_item (tree.string us) rest h = refl
+other_item (int n) rest h = refl
+other_item (ints zs) rest h = refl
+other_item (binary bs) rest h = refl
+other_item (array ts) rest h = refl
+other_item (table es) rest h = refl
+
+pub well_formed : (us word : List ℕ) → true ≡ not (has_unpaired_surrogate us)
+    → with_text us (of_type word) ≡ put (codes "value") (string (encode_utf8_all (utf16_lossy_chars us))) (of_type word)
+well_formed us word h = by (has_unpaired_surrogate us) h
+  where
+    by : (b : Bool) → true ≡ not b → cond b (put (codes "units") (units_data us) (of_type word)) (put (codes "value") (string (encode_utf8_all (utf16_lossy_chars us))) (of_type word))
+        ≡ put (codes "value") (string (encode_utf8_all (utf16_lossy_chars us))) (of_type word)
+    by true e = absurd cc
+    by false e = refl
+
+pub ill_formed : (us word : List ℕ) → false ≡ not (has_unpaired_surrogate us) → with_text us (of_type word) ≡ put (codes "units") (units_data us) (of_type word)
+ill_formed us word h = by (has_unpaired_surrogate us) h
+  where
+    by : (b : Bool) → false ≡ not b → cond b (put (codes "units") (units_data us) (of_type word)) (put (codes "value") (string (encode_utf8_all (utf16_lossy_chars us))) (of_type word))
+        ≡ put (codes "units") (units_data us) (of_type word)
+    by true e = refl
+    by false e = absurd cc
+
+-- ---- what is taken of them
+
+module _ {S : Type 0} (Takes : S → S → List ℕ → Type 0) (joined : (x y z : S) (a b : List ℕ) → Takes x y a → Takes y z b → Takes x z (a ++ b)) where
+  -- a member's name, its value, and the members after it
+  pub member_taken : (w x y z : S) (later : Bool) (k : List ℕ) (d : Data) (ms : Members) → Takes w x (name_text later k) → Takes x y (compact_text d)
+      → Takes y z (members_text true ms) → Takes w z (members_text later (member k d ms))
+  member_taken w x y z later k d ms name value rest =
+      let tail = compact_text d ++ members_text true ms in
+      subst (Takes w z) (append_assoc (comma_if later) (quoted k ++ 58 ∷ []) tail ∙ ap (λ (t : List ℕ). comma_if later ++ t) (append_assoc (quoted k) (58 ∷ []) tail))
+      (joined w x z (name_text later k) tail name (joined x y z (compact_text d) (members_text true ms) value rest))
+
+  -- `valid`, if it is given, and the members after it
+  pub valid_taken : (x y z : S) (valid : Option (List ℕ)) (ms : Members) → Takes x y (valid_text valid) → Takes y z (members_text true ms)
+      → Takes x z (members_text true (before valid ms))
+  valid_taken x y z None ms h k = joined x y z [] (members_text true ms) h k
+  valid_taken x y z (Some valid) ms h k =
+      let name = name_text true (codes "valid") in
+      let value = compact_text (text_data valid) in
+      let rest = members_text true ms in
+      let all : valid_text (Some valid) ++ rest ≡ members_text true (member (codes "valid") (text_data valid) ms) =
+      append_assoc name value rest ∙ ap (λ (t : List ℕ). 44 ∷ t) (append_assoc (quoted (codes "valid")) (58 ∷ []) (value ++ rest)) in
+      subst (Takes x z) all (joined x y z (valid_text (Some valid)) rest h k)
+
+  pub found_taken : (w x y z s : S) (actual valid : List ℕ) (t : Resource) → Takes w x (123 ∷ []) → Takes x y (name_text false (codes "actual"))
+      → Takes y z (compact_text (text_data actual)) → Takes z s (rest_text true (Some valid) (item_members t)) → Takes w s (compact_text (found_data actual valid t))
+  found_taken w x y z s actual valid t brace name value rest =
+      let ms = put (codes "valid") (text_data valid) (item_members t) in
+      let all = member (codes "actual") (text_data actual) ms in
+      let told = joined w x s (123 ∷ []) (members_text false all) brace (member_taken x y z s false (codes "actual") (text_data actual) ms name value rest) in
+      subst (λ (m : Members). Takes w s (123 ∷ members_text false m)) (sym (actual_first actual valid t)) told
+
+  pub alias_taken : (w x y z s : S) (t : Resource) (path : List ℕ) → kind_of t ≡ Kinds.Alias → Takes w x (123 ∷ []) → Takes x y (name_text false (codes "rest"))
+      → Takes y z (compact_text (text_data path)) → Takes z s (rest_text true None (item_members t)) → Takes w s (compact_text (item_data t path))
+  alias_taken w x y z s t path h brace name value rest =
+      let all = member (codes "rest") (text_data path) (item_members t) in
+      let told = joined w x s (123 ∷ []) (members_text false all) brace (member_taken x y z s false (codes "rest") (text_data path) (item_members t) name value rest) in
+      subst (λ (d : Data). Takes w s (compact_text d)) (sym (alias_item t path h)) told
+
+  pub item_taken : (w x s : S) (t : Resource) (path : List ℕ) → (kind_of t ≡ Kinds.Alias → ⊥) → Takes w x (123 ∷ [])
+      → Takes x s (rest_text false None (item_members t)) → Takes w s (compact_text (item_data t path))
+  item_taken w x s t path h brace rest =
+      subst (λ (d : Data). Takes w s (compact_text d)) (sym (other_item t path h)) (joined w x s (123 ∷ []) (members_text false (item_members t)) brace rest)

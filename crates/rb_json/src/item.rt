@@ -1,0 +1,384 @@
+//! Items as JSON, written piece by piece into an outlet: no text is in memory whole.
+ghost use Rattle.std.specs.Prelude.{◌≡◌, Some, codes, decimal, encode_utf8_all, false, true};
+ghost use Rattle.std.specs.Prelude.{IfOk, option_map, string_bytes};
+ghost use Rattle.std.specs.Char.Utf16.{utf16_lossy_chars};
+ghost use Rattle.std.specs.Map.{keys_of};
+ghost use Rattle.json.specs.Print.{quoted};
+ghost use Rattle.serde_json.specs.Data.{put, string};
+ghost use Rattle.serde_json.specs.Find.{of_integer};
+ghost use Rattle.serde_json.specs.Written.{comma_if, compact_text, number_text};
+ghost use Rattle.rb_tree.specs.Path.{IsPath};
+ghost use Rattle.rb_tree.specs.Parts.{HasUnits, kind_of, numbers_of, pairs_of, units_of};
+ghost use Rattle.rb_tree.specs.declared.kind.Kind.TheVariants as Kinds;
+ghost use Rattle.rb_tree.specs.Resource.{int};
+ghost use Rattle.rb_json.specs.Item.{found_data, item_data, item_members, numbers_data, of_type};
+ghost use Rattle.rb_json.specs.Item.{texts_data, units_data, with_text};
+ghost use Rattle.rb_json.specs.inner.Listed.{listed};
+ghost use Rattle.rb_json.specs.Parts.{SkipsItems, comma_before, name_text, rest_text};
+ghost use Rattle.rb_json.specs.Parts.{valid_text};
+
+use crate::buffer::Buffer;
+use crate::leaf::signed;
+use crate::outlet::Outlet;
+use crate::spell::{
+    is_well_formed, spell_bytes, spell_hex, spell_integer, spell_text, spell_units, spell_unsigned,
+};
+use rb_tree::{Kind, Node};
+use std::alloc::{AllocError, Global};
+
+/// Writes a comma before any item of an array except the first.
+fn put_item_comma<O: Outlet>(out: &mut O, i: usize)
+    ensures { O.takes out.old out.new (comma_before i) }
+{
+    if i > 0 {
+        out.put(b",")
+    }
+}
+
+/// Returns true if the outlet needs no more items of an array. If not, the next item may follow:
+/// the comma before it is written.
+pub fn skips_items<O: Outlet>(out: &mut O, i: usize) -> bool
+    ensures { SkipsItems (O.takes out.old out.new) i result }
+{
+    if out.skips(0) {
+        return true;
+    }
+    put_item_comma(out, i);
+    false
+}
+
+fn put_unit_items<O: Outlet, N: Node>(out: &mut O, node: N)
+    requires { HasUnits (kind_of (N.tree node)) }
+    ensures { O.takes out.old out.new (listed decimal (units_of (N.tree node))) }
+{
+    let len = node.len();
+    for i in 0..len {
+        if skips_items(out, i) {
+            return;
+        }
+        spell_unsigned(out, u64::from(node.unit(i)));
+    }
+}
+
+/// Writes the units of a text that isn't well-formed UTF-16.
+fn put_units<O: Outlet, N: Node>(out: &mut O, node: N)
+    requires { HasUnits (kind_of (N.tree node)) }
+    ensures { O.takes out.old out.new (compact_text (units_data (units_of (N.tree node)))) }
+{
+    out.put(b"[");
+    put_unit_items(out, node);
+    out.put(b"]")
+}
+
+fn put_number_items<O: Outlet, N: Node>(out: &mut O, node: N)
+    requires { kind_of (N.tree node) ≡ Kinds.Ints }
+    ensures { O.takes out.old out.new
+        (listed (λ z. number_text (of_integer z)) (numbers_of (N.tree node))) }
+{
+    let len = node.len();
+    for i in 0..len {
+        if skips_items(out, i) {
+            return;
+        }
+        spell_integer(out, i64::from(node.number(i)));
+    }
+}
+
+fn put_numbers<O: Outlet, N: Node>(out: &mut O, node: N)
+    requires { kind_of (N.tree node) ≡ Kinds.Ints }
+    ensures { O.takes out.old out.new (compact_text (numbers_data (numbers_of (N.tree node)))) }
+{
+    out.put(b"[");
+    put_number_items(out, node);
+    out.put(b"]")
+}
+
+fn put_key_items<O: Outlet, N: Node>(out: &mut O, node: N)
+    requires { kind_of (N.tree node) ≡ Kinds.Table }
+    ensures { O.takes out.old out.new
+        (listed (λ k. quoted (encode_utf8_all k)) (keys_of (pairs_of (N.tree node)))) }
+{
+    let len = node.len();
+    for i in 0..len {
+        if skips_items(out, i) {
+            return;
+        }
+        spell_bytes(out, node.key_at(i));
+    }
+}
+
+fn put_keys<O: Outlet, N: Node>(out: &mut O, node: N)
+    requires { kind_of (N.tree node) ≡ Kinds.Table }
+    ensures { O.takes out.old out.new
+        (compact_text (texts_data (keys_of (pairs_of (N.tree node))))) }
+{
+    out.put(b"[");
+    put_key_items(out, node);
+    out.put(b"]")
+}
+
+/// Writes a comma if other members precede the next one.
+fn put_comma_if<O: Outlet>(out: &mut O, later: bool)
+    ensures { O.takes out.old out.new (comma_if later) }
+{
+    if later {
+        out.put(b",")
+    }
+}
+
+/// Writes a member's name with its colon.
+fn put_member_name<O: Outlet>(out: &mut O, name: &str)
+    ensures { O.takes out.old out.new (name_text false name.now) }
+{
+    spell_text(out, name);
+    out.put(b":")
+}
+
+/// Writes a member's name, after a comma if other members precede it.
+pub fn put_name<O: Outlet>(out: &mut O, later: bool, name: &str)
+    ensures { O.takes out.old out.new (name_text later name.now) }
+{
+    put_comma_if(out, later);
+    put_member_name(out, name)
+}
+
+/// Writes the member `valid`.
+fn put_valid_name<O: Outlet>(out: &mut O, valid: &[u8])
+    ensures { O.takes out.old out.new (valid_text (Some valid.now)) }
+{
+    put_name(out, true, "valid");
+    spell_bytes(out, valid)
+}
+
+/// Writes the member `valid`, if it is given.
+fn put_valid<O: Outlet>(out: &mut O, valid: Option<&[u8]>)
+    ensures { O.takes out.old out.new (valid_text (option_map (λ v. v.now) valid.entry)) }
+{
+    match valid {
+        Some(valid) => put_valid_name(out, valid),
+        None => {}
+    }
+}
+
+/// Writes the members of a text that isn't well-formed UTF-16.
+fn put_ill_formed<O: Outlet, N: Node>(
+    out: &mut O,
+    later: bool,
+    node: N,
+    word: &str,
+    valid: Option<&[u8]>,
+)
+    requires { HasUnits (kind_of (N.tree node)) }
+    ensures { O.takes out.old out.new (rest_text later (option_map (λ v. v.now) valid.entry)
+        (put (codes "units") (units_data (units_of (N.tree node))) (of_type word.now))) }
+{
+    put_name(out, later, "type");
+    spell_text(out, word);
+    put_name(out, true, "units");
+    put_units(out, node);
+    put_valid(out, valid);
+    out.put(b"}")
+}
+
+/// Writes the members of a text that is well-formed UTF-16.
+fn put_well_formed<O: Outlet, N: Node>(
+    out: &mut O,
+    later: bool,
+    node: N,
+    word: &str,
+    valid: Option<&[u8]>,
+)
+    requires { HasUnits (kind_of (N.tree node)) }
+    ensures { O.takes out.old out.new (rest_text later (option_map (λ v. v.now) valid.entry)
+        (put (codes "value") (string (encode_utf8_all (utf16_lossy_chars (units_of (N.tree node)))))
+        (of_type word.now))) }
+{
+    put_name(out, later, "type");
+    spell_text(out, word);
+    put_valid(out, valid);
+    put_name(out, true, "value");
+    spell_units(out, node);
+    out.put(b"}")
+}
+
+/// Writes the members of a text, by its characters or else its units.
+fn put_text_members<O: Outlet, N: Node>(
+    out: &mut O,
+    later: bool,
+    node: N,
+    word: &str,
+    valid: Option<&[u8]>,
+)
+    requires { HasUnits (kind_of (N.tree node)) }
+    ensures { O.takes out.old out.new (rest_text later (option_map (λ v. v.now) valid.entry)
+        (with_text (units_of (N.tree node)) (of_type word.now))) }
+{
+    if is_well_formed(node) {
+        put_well_formed(out, later, node, word, valid)
+    } else {
+        put_ill_formed(out, later, node, word, valid)
+    }
+}
+
+/// Writes the members of a text, of which not even a unit is read if the outlet has no room for
+/// one byte for each.
+fn put_text<O: Outlet, N: Node>(out: &mut O, later: bool, node: N, word: &str, valid: Option<&[u8]>)
+    requires { HasUnits (kind_of (N.tree node)) }
+    ensures { O.takes out.old out.new (rest_text later (option_map (λ v. v.now) valid.entry)
+        (with_text (units_of (N.tree node)) (of_type word.now))) }
+{
+    if out.skips(node.len() as u64) {
+        return;
+    }
+    put_text_members(out, later, node, word, valid)
+}
+
+/// Writes the last members of an item whose own precede its type, and the closing brace.
+fn put_type_last<O: Outlet>(out: &mut O, word: &str, valid: Option<&[u8]>)
+    ensures { O.takes out.old out.new
+        (rest_text true (option_map (λ v. v.now) valid.entry) (of_type word.now)) }
+{
+    put_name(out, true, "type");
+    spell_text(out, word);
+    put_valid(out, valid);
+    out.put(b"}")
+}
+
+fn put_int<O: Outlet>(out: &mut O, later: bool, bits: u32, valid: Option<&[u8]>)
+    ensures { O.takes out.old out.new
+        (rest_text later (option_map (λ v. v.now) valid.entry) (item_members (int bits))) }
+{
+    put_name(out, later, "signed");
+    spell_integer(out, signed(bits));
+    put_name(out, true, "type");
+    spell_text(out, "int");
+    put_name(out, true, "unsigned");
+    spell_unsigned(out, u64::from(bits));
+    put_valid(out, valid);
+    out.put(b"}")
+}
+
+fn put_ints<O: Outlet, N: Node>(out: &mut O, later: bool, node: N, valid: Option<&[u8]>)
+    requires { kind_of (N.tree node) ≡ Kinds.Ints }
+    ensures { O.takes out.old out.new
+        (rest_text later (option_map (λ v. v.now) valid.entry) (item_members (N.tree node))) }
+{
+    put_name(out, later, "type");
+    spell_text(out, "intvector");
+    put_valid(out, valid);
+    put_name(out, true, "values");
+    put_numbers(out, node);
+    out.put(b"}")
+}
+
+fn put_binary<O: Outlet, N: Node>(out: &mut O, later: bool, node: N, valid: Option<&[u8]>)
+    requires { kind_of (N.tree node) ≡ Kinds.Binary }
+    ensures { O.takes out.old out.new
+        (rest_text later (option_map (λ v. v.now) valid.entry) (item_members (N.tree node))) }
+{
+    put_name(out, later, "hex");
+    spell_hex(out, node);
+    put_type_last(out, "bin", valid)
+}
+
+fn put_array<O: Outlet, N: Node>(out: &mut O, later: bool, node: N, valid: Option<&[u8]>)
+    requires { kind_of (N.tree node) ≡ Kinds.Array }
+    ensures { O.takes out.old out.new
+        (rest_text later (option_map (λ v. v.now) valid.entry) (item_members (N.tree node))) }
+{
+    put_name(out, later, "len");
+    spell_unsigned(out, node.len() as u64);
+    put_type_last(out, "array", valid)
+}
+
+fn put_table<O: Outlet, N: Node>(out: &mut O, later: bool, node: N, valid: Option<&[u8]>)
+    requires { kind_of (N.tree node) ≡ Kinds.Table }
+    ensures { O.takes out.old out.new
+        (rest_text later (option_map (λ v. v.now) valid.entry) (item_members (N.tree node))) }
+{
+    put_name(out, later, "keys");
+    put_keys(out, node);
+    put_type_last(out, "table", valid)
+}
+
+/// Writes the members of an item in ascending order, with `valid` if it is given, and the closing
+/// brace.
+fn put_members<O: Outlet, N: Node>(out: &mut O, later: bool, node: N, valid: Option<&[u8]>)
+    ensures { O.takes out.old out.new
+        (rest_text later (option_map (λ v. v.now) valid.entry) (item_members (N.tree node))) }
+{
+    match node.kind() {
+        Kind::String => put_text(out, later, node, "string", valid),
+        Kind::Int => put_int(out, later, node.int(), valid),
+        Kind::Ints => put_ints(out, later, node, valid),
+        Kind::Binary => put_binary(out, later, node, valid),
+        Kind::Alias => put_text(out, later, node, "alias", valid),
+        Kind::Array => put_array(out, later, node, valid),
+        Kind::Table => put_table(out, later, node, valid),
+    }
+}
+
+/// Writes an item that a lookup found as the compact text of a JSON object: the members of
+/// `put_item` except `rest`, and the names of the bundle that has the item, `actual`, and of the
+/// one that decided, `valid`. It takes no memory.
+///
+/// ```rust
+/// put_found(out, b"de", b"de_AT", &tree) // {"actual":"de","keys":["a"],"type":"table","valid":"de_AT"}
+/// ```
+pub fn put_found<O: Outlet, N: Node>(out: &mut O, actual: &[u8], valid: &[u8], node: N)
+    ensures { O.takes out.old out.new
+        (compact_text (found_data actual.now valid.now (N.tree node))) }
+{
+    out.put(b"{");
+    put_member_name(out, "actual");
+    spell_bytes(out, actual);
+    put_members(out, true, node, Some(valid))
+}
+
+/// Writes an alias by itself, with the rest of a path.
+fn put_alias<O: Outlet, N: Node>(out: &mut O, node: N, rest: &[u8])
+    requires { kind_of (N.tree node) ≡ Kinds.Alias }
+    ensures { O.takes out.old out.new (compact_text (item_data (N.tree node) rest.now)) }
+{
+    out.put(b"{");
+    put_member_name(out, "rest");
+    spell_bytes(out, rest);
+    put_members(out, true, node, None)
+}
+
+/// Writes an item by itself as the compact text of a JSON object with its members in ascending
+/// order: `type`, and by its kind `value` (or `units`, if a text isn't well-formed UTF-16),
+/// `signed` and `unsigned`, `values`, `hex`, `len` or `keys`. An alias also has `rest`, what
+/// remains of a path that leads over it. It takes no memory. A form of this project.
+///
+/// ```rust
+/// put_item(out, &tree, b"") // {"keys":["a"],"type":"table"}
+/// ```
+pub fn put_item<O: Outlet, N: Node>(out: &mut O, node: N, rest: &[u8])
+    ensures { O.takes out.old out.new (compact_text (item_data (N.tree node) rest.now)) }
+{
+    if node.kind() == Kind::Alias {
+        return put_alias(out, node, rest);
+    }
+    out.put(b"{");
+    put_members(out, false, node, None)
+}
+
+/// Returns what `put_item` writes. An error comes only if memory runs out.
+///
+/// ```rust
+/// item_text(alloc, &tree, b"")? // {"keys":["a"],"type":"table"}
+/// ```
+pub fn item_text<N: Node>(alloc: Global, node: N, rest: &[u8]) -> Result<String, AllocError>
+    requires { IsPath rest.now }
+    ensures { IfOk result
+        (λ text. string_bytes text ≡ compact_text (item_data (N.tree node) rest.now)) }
+{
+    let mut out = Buffer::new(alloc);
+    put_item(&mut out, node, rest);
+    let bytes = out.into_bytes()?;
+    match String::from_utf8(bytes) {
+        Ok(text) => Ok(text),
+        Err(_) => Err(AllocError),
+    }
+}

@@ -1,0 +1,99 @@
+ghost use Rattle.std.specs.Prelude.{◌≡◌, IsTrue, length};
+ghost use Rattle.rb_format.specs.File.{source_tree_of, tree_of};
+ghost use Rattle.rb_format.specs.Place.{word_at};
+ghost use Rattle.rb_views.specs.Seen.{tree_seen, item_data, item_word};
+ghost use Rattle.rb_views.specs.Trees.{data_of};
+ghost use Rattle.rb_packages.specs.LentItem.{lent_item, lent_tree};
+ghost use Rattle.rb_packages.specs.inner.Names.{names_nothing};
+
+use crate::lent::LentItem;
+use rb_validator::Bundle;
+use rb_views::{Item, RootPlace, root, root_at, root_place};
+use std::marker::Model;
+
+/// A bundle, and what each lookup needs of it: where its root is, whether it has no fallback, and
+/// whether its root names another bundle. These are cached when the bundle is stored, since reading
+/// them from the file costs each lookup a cache miss.
+///
+/// The fields of the root's place are separate, so that both flags fit in the same word: a server
+/// stores many bundles.
+#[derive(Drop)]
+pub(crate) struct StoredBundle {
+    bundle: Bundle,
+    root_word: u32,
+    header: u16,
+    no_fallback: bool,
+    lacks_names: bool,
+}
+
+impl Model for StoredBundle {
+    ghost use Rattle.std.specs.Prelude.{List, ℕ};
+    ghost use Rattle.rb_packages.specs.inner.Names.{IsStoredBundle};
+
+    ghost Value = { List ℕ };
+
+    ghost view = { λ h. h.bundle };
+
+    ghost invariant = { λ h. IsStoredBundle h.bundle h.header h.root_word h.no_fallback h.lacks_names };
+}
+
+/// Checks that a table has neither `%%ALIAS` nor `%%Parent`.
+fn lacks_names(root: Item<'_>) -> bool
+    ensures { IsTrue result → IsTrue (names_nothing (tree_seen root.entry)) }
+{
+    match root.table() {
+        Some(table) => table.get(b"%%ALIAS").is_none() && table.get(b"%%Parent").is_none(),
+        None => false,
+    }
+}
+
+impl StoredBundle {
+    /// Wraps a bundle, and reads what lookups need from its file.
+    pub(crate) fn of(bundle: Bundle) -> StoredBundle
+        ensures { result ≡ bundle }
+    {
+        let place = root_place(&bundle);
+        StoredBundle {
+            root_word: place.word,
+            header: place.header,
+            no_fallback: bundle.no_fallback(),
+            lacks_names: lacks_names(root(&bundle)),
+            bundle,
+        }
+    }
+
+    pub(crate) fn into_bundle(self) -> Bundle
+        ensures { result ≡ self }
+    {
+        self.bundle
+    }
+
+    /// Returns the length of the bundle's file.
+    pub(crate) fn len(&self) -> u64
+        ensures { result ≡ length self.now }
+    {
+        self.bundle.bytes().len() as u64
+    }
+
+    /// Returns the root of the bundle without reading its file.
+    pub(crate) fn root(&self) -> LentItem<'_>
+        ensures tree { lent_tree result ≡ tree_of self.now }
+        ensures data { item_data (lent_item result) ≡ data_of self.now }
+        ensures word { item_word (lent_item result) ≡ word_at (data_of self.now) 0 }
+    {
+        let place = RootPlace {
+            header: self.header,
+            word: self.root_word,
+        };
+        LentItem {
+            item: root_at(&self.bundle, place),
+            lacks_names: self.lacks_names,
+        }
+    }
+
+    pub(crate) fn no_fallback(&self) -> bool
+        ensures { result ≡ (source_tree_of self.now).no_fallback }
+    {
+        self.no_fallback
+    }
+}

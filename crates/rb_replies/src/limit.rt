@@ -1,0 +1,84 @@
+//! Whether a reply is longer than a limit.
+ghost use Rattle.std.specs.Prelude.{◌↔◌, IsTrue, Some, length};
+ghost use Rattle.rb_engine.specs.Answer.{Finds, Replies};
+ghost use Rattle.rb_fallback.specs.Answers.{hit_of};
+ghost use Rattle.rb_replies.specs.Replied.{reply_line};
+ghost use Rattle.rb_replies.specs.Within.{IsAbove, limit_of};
+ghost use Rattle.rb_views.specs.Seen.{tree_seen};
+
+use crate::reply::{put_found_line, put_reply};
+use rb_engine::Reply;
+use rb_fallback::Found;
+use rb_json::Outlet;
+use rb_views::Item;
+
+/// Counts down how many bytes more a text may have, and stops at the byte past the limit: then
+/// there is `None`.
+#[derive(Clone, Copy)]
+struct Room {
+    left: Option<u64>,
+}
+
+impl Outlet for Room {
+    ghost use Rattle.rb_replies.specs.inner.Counted.{IsRoomAfter, room_joined, room_nothing};
+
+    ghost takes = { λ old new bytes. IsRoomAfter old.left new.left bytes };
+
+    ghost nothing = { λ room. room_nothing room.left };
+
+    ghost joined = { λ x y z first second. room_joined x.left y.left z.left first second };
+
+    fn put(&mut self, bytes: &[u8]) {
+        if let Some(left) = self.left {
+            self.left = left.checked_sub(bytes.len() as u64);
+        }
+    }
+
+    fn skips(&mut self, least: u64) -> bool {
+        match self.left {
+            Some(left) if least <= left => false,
+            _ => {
+                self.left = None;
+                true
+            }
+        }
+    }
+}
+
+/// Checks whether the line of the reply to a lookup that found an item, with its line feed, is
+/// longer than a limit. It takes no memory, and no more of the item is spelled than has the
+/// limit's length.
+pub fn found_is_above(found: &Found<Item<'_>>, limit: Option<u64>) -> bool
+    ensures { IsTrue result ↔ IsAbove
+        (length (reply_line (Some (Finds (hit_of tree_seen found.now) found.now.valid)))) limit }
+{
+    let Some(most) = limit else {
+        return false;
+    };
+    let mut room = Room { left: Some(most) };
+    put_found_line(&mut room, found);
+    room.left.is_none()
+}
+
+fn line_is_above(reply: &Reply, limit: Option<u64>) -> bool
+    ensures { IsTrue result ↔ IsAbove (length (reply_line (Some (Replies reply.now)))) limit }
+{
+    let Some(most) = limit else {
+        return false;
+    };
+    let mut room = Room { left: Some(most) };
+    put_reply(&mut room, reply);
+    room.left.is_none()
+}
+
+/// Checks whether the line of the reply to a request, with its line feed, is longer than a limit,
+/// which only names have. It takes no memory.
+pub fn reply_is_above(reply: &Reply, limit: Option<u64>) -> bool
+    ensures { IsTrue result ↔ IsAbove (length (reply_line (Some (Replies reply.now))))
+        (limit_of (Replies reply.now) limit) }
+{
+    match reply {
+        Reply::Names(_) => line_is_above(reply, limit),
+        _ => false,
+    }
+}

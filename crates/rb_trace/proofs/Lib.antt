@@ -1,7 +1,0 @@
-pub mod Causing
-pub mod Finding
-pub mod Leading
-pub mod Reaching
-pub mod Reading
-pub mod Searching
-pub mod Stopping

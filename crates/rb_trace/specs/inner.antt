@@ -1,4 +1,0 @@
-pub mod Causes
-pub mod Has
-pub mod Places
-pub mod Stops

@@ -1,0 +1,20 @@
+use Rattle.std.proofs.Common.{sym, arith}
+use Rattle.rb_validator.proofs.Comparing.{key_low, examined_low}
+use Rattle.rb_validator.proofs.keys.lengths.next_measured.Goals as goal
+
+pub is_closely_below-requires : goal.is_closely_below-requires
+is_closely_below-requires c =
+    let l = key_low c.args.body.layout.now c.args.body.bytes.now c.in-Some.key.now c.args.offset (sym c.in-Some.ensures) in
+    record { room = omega arith }
+
+pub returns-in-Some-clause-most : goal.returns-in-Some-clause-most
+returns-in-Some-clause-most c =
+    let l = key_low c.args.body.layout.now c.args.body.bytes.now c.in-Some.key.now c.args.offset (sym c.in-Some.ensures) in
+    let counted = c.is_closely_below.ensures.counted in
+    omega (arith, counted, examined_low c.args.last.now c.in-Some.key.now)
+
+pub returns-in-Some-2-clause-most : goal.returns-in-Some-2-clause-most
+returns-in-Some-2-clause-most c =
+    let l = key_low c.args.body.layout.now c.args.body.bytes.now c.in-Some.key.now c.args.offset (sym c.in-Some.ensures) in
+    let counted = c.is_closely_below.ensures.counted in
+    omega (arith, counted, examined_low c.args.last.now c.in-Some.key.now)

@@ -1,0 +1,120 @@
+package api
+
+import (
+	"bufio"
+	"bytes"
+	"context"
+	"net/http"
+	"time"
+
+	"luvdregan.example/resb/deploy/internal/child"
+)
+
+// Of the lookups of one request some are asked together, and more are asked while fewer than `ahead` are on their way.
+const (
+	together = 64
+	ahead    = 128
+)
+
+// looks answers many lookups: a line each, and a line of the reply each, in order.
+func (c *call) looks() {
+	c.kind = "looks"
+	body, p := c.body(c.options.LookBytes)
+	if p != nil {
+		c.refuse(*p)
+		return
+	}
+	if err := c.Backend.Ready(); err != nil {
+		c.refuse(problemOf(err))
+		return
+	}
+	h := c.w.Header()
+	h.Set("Content-Type", "application/x-ndjson")
+	h.Set("Cache-Control", "no-store")
+	c.wrote = http.StatusOK
+	c.w.WriteHeader(http.StatusOK)
+	c.stream(body)
+}
+
+// stream asks the lines, some ahead, and writes the replies.
+func (c *call) stream(lines []byte) {
+	out := bufio.NewWriterSize(c.w, 1<<15)
+	defer out.Flush()
+	ctx, cancel := context.WithCancel(c.r.Context())
+	defer cancel()
+	var waiting []<-chan *child.Call
+	defer func() { freeAll(waiting) }()
+	for len(lines) > 0 || len(waiting) > 0 {
+		if len(lines) > 0 && len(waiting) < ahead {
+			var some [][]byte
+			some, lines = take(lines, together)
+			waiting = append(waiting, c.askSome(ctx, some)...)
+			continue
+		}
+		if !c.first(waiting[0], out) {
+			return
+		}
+		waiting = waiting[1:]
+	}
+}
+
+// freeAll frees replies that nobody reads any more, as they come.
+func freeAll(waiting []<-chan *child.Call) {
+	if len(waiting) == 0 {
+		return
+	}
+	go func() {
+		for _, reply := range waiting {
+			(<-reply).Free()
+		}
+	}()
+}
+
+// take takes the first lines, at most this many.
+func take(from []byte, most int) (lines [][]byte, rest []byte) {
+	for len(from) > 0 && len(lines) < most {
+		line, rest, _ := bytes.Cut(from, []byte("\n"))
+		lines, from = append(lines, line), rest
+	}
+	return lines, from
+}
+
+// askSome asks some lines, and returns where the reply to each will be.
+func (c *call) askSome(ctx context.Context, given [][]byte) (replies []<-chan *child.Call) {
+	var asked [][]byte
+	var answers []chan<- *child.Call
+	for _, one := range given {
+		reply := make(chan *child.Call, 1)
+		replies = append(replies, reply)
+		line, own := child.JudgeLook(c.app, one)
+		if own != "" {
+			reply <- &child.Call{Reply: []byte(own)}
+			continue
+		}
+		asked, answers = append(asked, line), append(answers, reply)
+	}
+	c.Backend.AskMany(ctx, c.app, asked, func(index int, reply *child.Call) { answers[index] <- reply })
+	return replies
+}
+
+// first writes the next reply, and returns false if the caller no longer reads.
+func (c *call) first(waiting <-chan *child.Call, out *bufio.Writer) bool {
+	late := time.NewTimer(c.options.Patience)
+	defer late.Stop()
+	reply := &child.Call{Err: child.ErrTimeout}
+	select {
+	case reply = <-waiting:
+	case <-late.C:
+		freeAll([]<-chan *child.Call{waiting})
+	}
+	line := reply.Reply
+	if reply.Err != nil {
+		line = problemOf(reply.Err).reply()
+	}
+	_, err := out.Write(line)
+	if err == nil {
+		err = out.WriteByte('\n')
+	}
+	reply.Free()
+	return err == nil
+}

@@ -1,0 +1,88 @@
+package api
+
+import (
+	"bytes"
+	"net/http"
+
+	"luvdregan.example/resb/deploy/internal/prom"
+)
+
+// page answers what is no application's.
+func (c *call) page(name string) {
+	var do func()
+	switch name {
+	case "":
+		do = func() {
+			c.w.Header().Set("Content-Security-Policy", c.policy)
+			c.w.Header().Set("Referrer-Policy", "no-referrer")
+			c.fixed("text/html; charset=utf-8", c.options.Try)
+		}
+	case "openapi.json":
+		do = func() { c.fixed("application/json", c.options.OpenAPI) }
+	case "healthz":
+		do = func() { c.now(http.StatusOK, "ok\n") }
+	case "readyz":
+		do = c.readyz
+	case "metrics":
+		if !c.options.Inside {
+			do = c.measured
+		}
+	}
+	switch {
+	case do == nil:
+		c.refuse(noPage)
+	case c.r.Method == http.MethodGet, c.r.Method == http.MethodHead:
+		do()
+	default:
+		c.w.Header().Set("Allow", "GET, HEAD")
+		c.refuse(notAllowed)
+	}
+}
+
+// fixed writes a page that stays the same as long as the gateway runs.
+func (c *call) fixed(kind string, content []byte) {
+	tag := tagOf(content)
+	c.w.Header().Set("ETag", tag)
+	c.w.Header().Set("Cache-Control", "no-cache")
+	if matches(c.r.Header.Values("If-None-Match"), tag) {
+		c.write(http.StatusNotModified, "", nil)
+		return
+	}
+	c.write(http.StatusOK, kind, content)
+}
+
+// now writes a text that is true for the moment.
+func (c *call) now(status int, text string) {
+	c.w.Header().Set("Cache-Control", "no-store")
+	if status == http.StatusServiceUnavailable {
+		c.w.Header().Set("Retry-After", "1")
+	}
+	c.write(status, "text/plain; charset=utf-8", []byte(text))
+}
+
+// readyz tells whether lookups are answered.
+func (c *call) readyz() {
+	if c.options.Leaving.Err() != nil {
+		c.now(http.StatusServiceUnavailable, "it ends\n")
+	} else if c.Backend.Ready() != nil {
+		c.now(http.StatusServiceUnavailable, "not ready\n")
+	} else {
+		c.now(http.StatusOK, "ready\n")
+	}
+}
+
+// measured writes the metrics.
+func (c *call) measured() {
+	var text bytes.Buffer
+	c.Metrics.write(&text)
+	requests, held := c.Limits.Now()
+	value := func(name, help string, value float64) {
+		prom.Value(&text, "resb_gateway_"+name, help, "gauge", "", value)
+	}
+	value("requests_now", "Requests of applications on their way.", float64(requests))
+	value("body_bytes_now", "Bytes of bodies on their way.", float64(held))
+	value("tokens_file_bad", "Whether the file of tokens could not be read again: 1 or 0.", float64(c.Tokens.Bad()))
+	c.Backend.Measures(&text)
+	c.w.Header().Set("Cache-Control", "no-store")
+	c.write(http.StatusOK, "text/plain; version=0.0.4; charset=utf-8", text.Bytes())
+}

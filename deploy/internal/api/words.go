@@ -1,0 +1,101 @@
+package api
+
+import (
+	"bytes"
+	"encoding/json"
+	"errors"
+	"net/http"
+
+	"luvdregan.example/resb/deploy/internal/child"
+	"luvdregan.example/resb/deploy/internal/replica"
+)
+
+// A problem is the gateway's own refusal: its status, and its word in the reply {"error":"WORD"}.
+type problem struct {
+	status int
+	word   string
+}
+
+var (
+	badPath      = problem{http.StatusBadRequest, "BadPath"}
+	badText      = problem{http.StatusBadRequest, "BadText"}
+	cutOff       = problem{http.StatusBadRequest, "CutOff"}
+	unauthorized = problem{http.StatusUnauthorized, "Unauthorized"}
+	forbidden    = problem{http.StatusForbidden, "Forbidden"}
+	noPage       = problem{http.StatusNotFound, "NotFound"}
+	notAllowed   = problem{http.StatusMethodNotAllowed, "NotAllowed"}
+	slow         = problem{http.StatusRequestTimeout, "Slow"}
+	tooLong      = problem{http.StatusRequestEntityTooLarge, "TooLarge"}
+	badType      = problem{http.StatusUnsupportedMediaType, "BadType"}
+	tooMany      = problem{http.StatusTooManyRequests, "TooMany"}
+	failed       = problem{http.StatusInternalServerError, "Failed"}
+	busy         = problem{http.StatusServiceUnavailable, "Busy"}
+	replaying    = problem{http.StatusServiceUnavailable, "Replaying"}
+	ended        = problem{http.StatusServiceUnavailable, "ShardEnded"}
+	unreached    = problem{http.StatusServiceUnavailable, "Unreached"}
+	notKept      = problem{http.StatusServiceUnavailable, "NotKept"}
+	timeout      = problem{http.StatusGatewayTimeout, "Timeout"}
+	noRoom       = problem{http.StatusInsufficientStorage, "NoRoom"}
+)
+
+// What a backend over NATS answers in the place of a reply.
+var (
+	ErrTooLarge  = errors.New("too long for the way to the server")
+	ErrUnreached = errors.New("NATS is not reached, or doesn't know the application")
+)
+
+// problems say what each error is to a caller.
+var problems = []struct {
+	err error
+	problem
+}{
+	{child.ErrReplaying, replaying}, {child.ErrEnded, ended}, {child.ErrBusy, tooMany}, {errFull, busy}, {errTooMany, tooMany},
+	{child.ErrTooMany, tooMany}, {replica.ErrNotKept, notKept}, {replica.ErrNoRoom, noRoom}, {child.ErrTimeout, timeout},
+	{ErrTooLarge, tooLong}, {ErrUnreached, unreached},
+}
+
+// problemOf gives the problem of an error.
+func problemOf(err error) problem {
+	for _, p := range problems {
+		if errors.Is(err, p.err) {
+			return p.problem
+		}
+	}
+	return failed
+}
+
+// reply is the text of a problem.
+func (p problem) reply() []byte { return []byte(`{"error":"` + p.word + `"}`) }
+
+// statuses are those of the refusals of the server and of a shard's bridge; every other one is 400.
+var statuses = map[string]int{
+	"NoBundle": http.StatusNotFound, "Missing": http.StatusNotFound, "Absent": http.StatusNotFound,
+	"Exists": http.StatusConflict, "Full": http.StatusConflict,
+	"OtherApp":      http.StatusForbidden,
+	"ReplyTooLarge": http.StatusRequestEntityTooLarge, "ReplyTooLong": http.StatusRequestEntityTooLarge,
+	"BundleTooLong": http.StatusRequestEntityTooLarge, "LineTooLong": http.StatusRequestEntityTooLarge,
+	"OverQuota": http.StatusInsufficientStorage, "TooManyApps": http.StatusInsufficientStorage,
+	"ShardEnded": http.StatusServiceUnavailable, "Memory": http.StatusServiceUnavailable,
+}
+
+// refusal gives the word of a reply, where it is a refusal.
+func refusal(reply []byte) (word string, ok bool) {
+	if !bytes.HasPrefix(reply, []byte(`{"error":`)) {
+		return "", false
+	}
+	var members struct{ Error string }
+	err := json.Unmarshal(reply, &members)
+	return members.Error, err == nil && members.Error != ""
+}
+
+// statusOf gives the status of a reply, where that of one which is no refusal is given.
+func statusOf(reply []byte, success int) int {
+	word, ok := refusal(reply)
+	if !ok {
+		return success
+	}
+	if status := statuses[word]; status != 0 {
+		return status
+	}
+	return http.StatusBadRequest
+}

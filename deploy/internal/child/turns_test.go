@@ -1,0 +1,155 @@
+package child
+
+import (
+	"context"
+	"errors"
+	"os"
+	"strings"
+	"syscall"
+	"testing"
+	"time"
+
+	"luvdregan.example/resb/deploy/internal/standin"
+	"luvdregan.example/resb/deploy/internal/store"
+)
+
+// This test, run as a program, is a stand-in for the server.
+func TestMain(m *testing.M) {
+	if len(os.Args) > 1 && os.Args[1] == "serve" {
+		standin.Serve()
+		return
+	}
+	os.Exit(m.Run())
+}
+
+// begin starts a stand-in where `shop` has a bundle, and gives turns to it.
+func begin(t *testing.T) (*Turns, *Child) {
+	t.Helper()
+	c, err := Start(os.Args[0], nil, 0)
+	if err != nil {
+		t.Fatal(err)
+	}
+	body := `de{a{"A"} dear{"D"} long{"` + strings.Repeat("x", 1<<14) + `"}}`
+	for _, app := range []string{"shop", "bank"} {
+		line := ChangeLine(store.Change{Op: store.Install, App: app, Locale: "de", Form: store.Text, Body: []byte(body)})
+		if replies, err := c.Ask([][]byte{line}, time.Minute, nil); err != nil || string(replies[0]) != `{"ok":true}` {
+			t.Fatal(err, replies)
+		}
+	}
+	turns := NewTurns()
+	stopped := make(chan struct{})
+	go func() {
+		turns.Run(func(ended *Child) *Child {
+			if ended != nil {
+				return nil
+			}
+			return c
+		})
+		close(stopped)
+	}()
+	t.Cleanup(func() {
+		turns.Close()
+		<-stopped
+		c.Finish(time.Second)
+	})
+	return turns, c
+}
+
+// TestOneOfManyLinesGoesBefore asks 100 expensive lookups of one application, and then one of another.
+func TestOneOfManyLinesGoesBefore(t *testing.T) {
+	turns, _ := begin(t)
+	left := make(chan *Call, 100)
+	for i := 0; i < cap(left); i++ {
+		turns.Go(context.Background(), "shop", LookLine("shop", "de", "dear"), func(c *Call) { left <- c })
+	}
+	if c := turns.Ask(context.Background(), "bank", LookLine("bank", "de", "a")); !strings.Contains(string(c.Reply), `"A"`) {
+		t.Fatal(c.Err, string(c.Reply))
+	}
+	if done := len(left); done > 80 {
+		t.Errorf("%d of the other's were before it", done)
+	}
+	for i := 0; i < cap(left); i++ {
+		if c := <-left; !strings.Contains(string(c.Reply), `"D"`) {
+			t.Fatal(c.Err, string(c.Reply))
+		}
+	}
+}
+
+// TestRepliesThatAreNotFreed stop the turns of their application, and not those of others; once they are freed the turns go on.
+func TestRepliesThatAreNotFreed(t *testing.T) {
+	turns, _ := begin(t)
+	turns.mu.Lock()
+	turns.sure, turns.most, turns.all = 128<<10, 1<<20, 4<<20
+	turns.mu.Unlock()
+	const asked = 100 // of 16 KB each
+	all := make(chan *Call, asked)
+	for i := 0; i < asked; i++ {
+		turns.Go(context.Background(), "shop", LookLine("shop", "de", "long"), func(c *Call) { all <- c })
+	}
+	time.Sleep(time.Second)
+	if got := len(all); got > 70 {
+		t.Errorf("%d replies of 16 KB are held", got)
+	}
+	other := turns.Ask(context.Background(), "bank", LookLine("bank", "de", "a"))
+	if !strings.Contains(string(other.Reply), `"A"`) {
+		t.Fatal(other.Err, string(other.Reply))
+	}
+	other.Free()
+	for i := 0; i < asked; i++ {
+		c := <-all
+		if c.Err != nil && !errors.Is(c.Err, ErrTooMany) {
+			t.Fatal(c.Err)
+		}
+		c.Free()
+	}
+	if turns.bytes != 0 || turns.queues["shop"].bytes != 0 {
+		t.Errorf("%d bytes are still counted", turns.bytes)
+	}
+}
+
+// TestACallerThatGaveUp has its waiting line left out, after a while.
+func TestACallerThatGaveUp(t *testing.T) {
+	turns, c := begin(t)
+	if err := syscall.Kill(c.PID(), syscall.SIGSTOP); err != nil {
+		t.Fatal(err)
+	}
+	ctx, cancel := context.WithCancel(context.Background())
+	answers := make(chan *Call, 50)
+	for i := 0; i < cap(answers); i++ {
+		turns.Go(ctx, "shop", LookLine("shop", "de", "a"), func(c *Call) { answers <- c })
+	}
+	cancel()
+	time.Sleep(2 * forgive)
+	if err := syscall.Kill(c.PID(), syscall.SIGCONT); err != nil {
+		t.Fatal(err)
+	}
+	late := 0
+	for i := 0; i < cap(answers); i++ {
+		if c := <-answers; errors.Is(c.Err, ErrTimeout) {
+			late++
+		}
+	}
+	if late < 40 {
+		t.Errorf("%d of %d were left out", late, cap(answers))
+	}
+}
+
+// TestAServerThatEnds has the lines that it hasn't answered end.
+func TestAServerThatEnds(t *testing.T) {
+	turns, c := begin(t)
+	answers := make(chan *Call, 20)
+	for i := 0; i < cap(answers); i++ {
+		turns.Go(context.Background(), "shop", LookLine("shop", "de", "dear"), func(c *Call) { answers <- c })
+	}
+	c.Kill()
+	for i := 0; i < cap(answers); i++ {
+		select {
+		case c := <-answers:
+			if c.Err != nil && !errors.Is(c.Err, ErrEnded) && !errors.Is(c.Err, ErrReplaying) {
+				t.Error(c.Err)
+			}
+		case <-time.After(20 * time.Second):
+			t.Fatal("no answer")
+		}
+	}
+}

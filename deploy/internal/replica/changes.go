@@ -1,0 +1,113 @@
+package replica
+
+import (
+	"context"
+	"sync"
+
+	"luvdregan.example/resb/deploy/internal/child"
+	"luvdregan.example/resb/deploy/internal/store"
+)
+
+// The most changes, and the most bytes of them if it is more than one, that are stored together.
+const (
+	mostChanges = 256
+	mostBytes   = 1 << 20
+)
+
+// An answer to a change is the server's reply or an error.
+type answer struct {
+	reply []byte
+	err   error
+}
+
+// A pending change waits to be judged and stored.
+type pending struct {
+	store.Change
+	ctx    context.Context
+	line   []byte
+	reply  []byte
+	answer chan answer
+}
+
+// Changes wait in a queue for each application.
+type changes struct {
+	mu     sync.Mutex
+	queues map[string][]*pending
+	apps   []string // with changes, in the order of their turns
+	count  uint64   // of changes that a server answered
+}
+
+func newChanges() *changes { return &changes{queues: map[string][]*pending{}} }
+
+// add has a change wait.
+func (c *changes) add(p *pending) {
+	c.mu.Lock()
+	defer c.mu.Unlock()
+	if len(c.queues[p.App]) == 0 {
+		c.apps = append(c.apps, p.App)
+	}
+	c.queues[p.App] = append(c.queues[p.App], p)
+}
+
+// drop removes a change that waits; it returns false if it doesn't wait any more.
+func (c *changes) drop(p *pending) bool {
+	c.mu.Lock()
+	defer c.mu.Unlock()
+	for _, waits := range c.queues[p.App] {
+		if waits == p {
+			return p.ctx.Err() != nil // it is left to take, which leaves it out
+		}
+	}
+	return false
+}
+
+// any returns true if a change waits.
+func (c *changes) any() bool {
+	c.mu.Lock()
+	defer c.mu.Unlock()
+	return len(c.apps) > 0
+}
+
+func (c *changes) answered() uint64 {
+	c.mu.Lock()
+	defer c.mu.Unlock()
+	return c.count
+}
+
+// take removes the changes that are made next: one of each application after the other, and none of a bundle that has one
+// among them already.
+func (c *changes) take() (batch []*pending) {
+	c.mu.Lock()
+	defer c.mu.Unlock()
+	taken := map[bundle]bool{}
+	size := 0
+	for passed := 0; passed < len(c.apps) && len(batch) < mostChanges; {
+		app := c.apps[0]
+		c.apps = c.apps[1:]
+		queue := c.queues[app]
+		p := queue[0]
+		name := bundle{app, store.Canonical(p.Locale)}
+		given := p.ctx.Err() != nil
+		if !given && (taken[name] || len(batch) > 0 && size+len(p.line) > mostBytes) {
+			c.apps = append(c.apps, app)
+			passed++
+			continue
+		}
+		queue[0] = nil
+		if c.queues[app] = queue[1:]; len(queue) == 1 {
+			delete(c.queues, app)
+		} else {
+			c.apps = append(c.apps, app)
+		}
+		if given {
+			p.answer <- answer{nil, child.ErrTimeout}
+			continue
+		}
+		passed = 0
+		taken[name] = true
+		size += len(p.line)
+		batch = append(batch, p)
+	}
+	c.count += uint64(len(batch))
+	return batch
+}

@@ -1,0 +1,280 @@
+package replica
+
+import (
+	"context"
+	"errors"
+	"flag"
+	"fmt"
+	"io"
+	"log"
+	"os"
+	"strings"
+	"syscall"
+	"testing"
+	"time"
+
+	"luvdregan.example/resb/deploy/internal/child"
+	"luvdregan.example/resb/deploy/internal/standin"
+	"luvdregan.example/resb/deploy/internal/store"
+	"luvdregan.example/resb/deploy/internal/store/sqlite"
+)
+
+// This test, run as a program, is a stand-in for the server.
+func TestMain(m *testing.M) {
+	if len(os.Args) > 1 && os.Args[1] == "serve" {
+		standin.Serve()
+		return
+	}
+	flag.Parse()
+	if !testing.Verbose() {
+		log.SetOutput(io.Discard)
+	}
+	os.Exit(m.Run())
+}
+
+// open starts a replica over a folder.
+func open(t *testing.T, folder string, options sqlite.Options) *Replica {
+	t.Helper()
+	options.Create = true
+	s, err := sqlite.Open(folder, options)
+	if err != nil {
+		t.Fatal(err)
+	}
+	program := os.Getenv("RESB")
+	if program == "" {
+		program = os.Args[0]
+	}
+	r := Open(s, Settings{Program: program})
+	t.Cleanup(r.Close)
+	r.awaitBoth(t)
+	return r
+}
+
+func (r *Replica) awaitBoth(t *testing.T) {
+	t.Helper()
+	for end := time.Now().Add(20 * time.Second); !r.isWhole(); time.Sleep(time.Millisecond) {
+		if time.Now().After(end) {
+			t.Fatal("there aren't two servers")
+		}
+	}
+}
+
+func soon() (context.Context, context.CancelFunc) {
+	return context.WithTimeout(context.Background(), 20*time.Second)
+}
+
+// put installs or replaces a bundle, and returns the reply or the error.
+func (r *Replica) put(app, locale, body string) string {
+	c := store.Change{Op: store.Install, App: app, Locale: locale, Form: store.Text, Body: []byte(body)}
+	if r.Has(app, locale) {
+		c.Op = store.Replace
+	}
+	return r.made(c)
+}
+
+func (r *Replica) made(c store.Change) string {
+	ctx, cancel := soon()
+	defer cancel()
+	reply, err := r.Change(ctx, c)
+	if err != nil {
+		return err.Error()
+	}
+	return string(reply)
+}
+
+func (r *Replica) remove(app, locale string) string {
+	return r.made(store.Change{Op: store.Remove, App: app, Locale: locale})
+}
+
+func (r *Replica) look(app, locale, path string) string {
+	ctx, cancel := soon()
+	defer cancel()
+	reply := r.Ask(ctx, app, child.LookLine(app, locale, path))
+	defer reply.Free()
+	if reply.Err != nil {
+		return reply.Err.Error()
+	}
+	return string(reply.Reply)
+}
+
+func (r *Replica) list(app string) string {
+	ctx, cancel := soon()
+	defer cancel()
+	reply := r.Ask(ctx, app, child.ListLine(app))
+	defer reply.Free()
+	return string(reply.Reply)
+}
+
+func text(locale, value string) string { return fmt.Sprintf(`%s{a{"%s"}}`, locale, value) }
+
+// TestALookupAfterAChangeFindsIt makes many changes one after the other, over both servers.
+func TestALookupAfterAChangeFindsIt(t *testing.T) {
+	r := open(t, t.TempDir(), sqlite.Options{})
+	for i := 0; i < 100; i++ {
+		value := fmt.Sprint(i)
+		if got := r.put("shop", "de", text("de", value)); got != done {
+			t.Fatal(got)
+		}
+		if got := r.look("shop", "de", "a"); !strings.Contains(got, `"value":"`+value+`"`) {
+			t.Fatalf("%d: %s", i, got)
+		}
+	}
+}
+
+// smallDisk mounts a disk of 8 MB, if that is allowed.
+func smallDisk(t *testing.T) string {
+	t.Helper()
+	folder := t.TempDir()
+	if err := syscall.Mount("tmpfs", folder, "tmpfs", 0, "size=8m"); err != nil {
+		t.Skipf("skipped: no disk can be mounted: %v", err)
+	}
+	t.Cleanup(func() { _ = syscall.Unmount(folder, syscall.MNT_DETACH) })
+	return folder
+}
+
+// TestADiskThatBecomesFull has writes fail: the change isn't made, lookups never stop, all that was acknowledged is there, and
+// removals are made. Then there is space again.
+func TestADiskThatBecomesFull(t *testing.T) {
+	folder := smallDisk(t)
+	r := open(t, folder, sqlite.Options{Spare: -1 << 40}) // as if the space went away after it was looked for
+	serves, _ := r.PIDs()
+	stop, stopped := make(chan bool), make(chan int)
+	r.put("bank", "de", text("de", "B"))
+	go func() {
+		wrong := 0
+		for {
+			select {
+			case <-stop:
+				stopped <- wrong
+				return
+			default:
+			}
+			if !strings.Contains(r.look("bank", "de", "a"), `"value":"B"`) {
+				wrong++
+			}
+			time.Sleep(time.Millisecond)
+		}
+	}()
+	bundles := 0
+	name := func(i int) string { return fmt.Sprintf("l%c%c", 'a'+i/26, 'a'+i%26) }
+	body := func(i, of int) string {
+		return fmt.Sprintf(`x{a{"%d %d"} b{"%s"}}`, i, of, strings.Repeat("y", 200<<10))
+	}
+	for ; bundles < 200; bundles++ {
+		if got := r.put("shop", name(bundles), body(bundles, 0)); got != done {
+			if got != ErrNoRoom.Error() {
+				t.Fatal(got)
+			}
+			break
+		}
+	}
+	if bundles < 8 || bundles == 200 {
+		t.Fatalf("%d bundles", bundles)
+	}
+	for i := 0; i < 20; i++ { // replacements and installations that fail
+		if got := r.put("shop", name(i%(bundles+2)), body(i, 1)); got != ErrNoRoom.Error() && got != done {
+			t.Fatal(got)
+		}
+	}
+	if got := r.look("shop", name(bundles+1), "a"); strings.Contains(got, "value") {
+		t.Errorf("it was refused: %s", got)
+	}
+	for i := 0; i < bundles; i++ {
+		if got := r.remove("shop", name(i)); got != done {
+			t.Errorf("removal %d: %s", i, got)
+		}
+	}
+	if got := r.put("shop", "de", text("de", "again")); got != done {
+		t.Error(got)
+	}
+	close(stop)
+	if wrong := <-stopped; wrong > 0 {
+		t.Errorf("%d lookups of another application were wrong", wrong)
+	}
+	if first, second := r.PIDs(); first != serves && second != serves {
+		t.Error("a server was replaced")
+	}
+}
+
+// TestAChangeThatIsntStored takes back what the judging server made, in each way.
+func TestAChangeThatIsntStored(t *testing.T) {
+	r := open(t, t.TempDir(), sqlite.Options{})
+	r.put("shop", "de", text("de", "old"))
+	r.put("shop", "fr", text("fr", "F"))
+	fails := errors.New("it fails")
+	for _, at := range []struct {
+		change func() string
+		fills  int
+	}{
+		{func() string { return r.put("shop", "de", text("de", "new")) }, 0},
+		{func() string { return r.put("shop", "nl", text("nl", "N")) }, 0},
+		{func() string { return r.remove("shop", "de") }, 1},
+	} {
+		fills := r.filled()
+		r.fail(fails)
+		if got := at.change(); !strings.Contains(got, ErrNotKept.Error()) {
+			t.Fatal(got)
+		}
+		r.fail(nil)
+		r.awaitBoth(t)
+		for round := 0; round < 2; round++ { // by both servers
+			if got := r.list("shop"); got != `{"names":["de","fr"]}` {
+				t.Error(got)
+			}
+			if got := r.look("shop", "de", "a"); !strings.Contains(got, `"old"`) {
+				t.Error(got)
+			}
+			r.put("bank", "de", text("de", "B"))
+		}
+		if got := r.filled() - fills; got != at.fills {
+			t.Errorf("%d servers were filled in the place of %d", got, at.fills)
+		}
+	}
+}
+
+// fail has appending fail with an error, or succeed again.
+func (r *Replica) fail(err error) {
+	r.mu.Lock()
+	defer r.mu.Unlock()
+	r.append = r.store.AppendAll
+	if err != nil {
+		r.append = func(context.Context, []store.Change) (store.Revision, error) { return 0, err }
+	}
+}
+
+func (r *Replica) filled() int {
+	r.mu.Lock()
+	defer r.mu.Unlock()
+	return r.fills
+}
+
+// TestChangesOfOneApplicationDontDelayLookups has expensive texts installed all the time.
+func TestChangesOfOneApplicationDontDelayLookups(t *testing.T) {
+	r := open(t, t.TempDir(), sqlite.Options{})
+	r.put("bank", "de", text("de", "B"))
+	body := `de{a{"dear"}}`
+	if os.Getenv("RESB") != "" {
+		body = `de{a{"` + strings.Repeat("x", 7<<20) + `"}}`
+	}
+	end := time.Now().Add(2 * time.Second)
+	finished := make(chan int)
+	go func() {
+		n := 0
+		for ; time.Now().Before(end); n++ {
+			r.put("shop", "de", body)
+		}
+		finished <- n
+	}()
+	var longest time.Duration
+	for time.Now().Before(end) {
+		began := time.Now()
+		if got := r.look("bank", "de", "a"); !strings.Contains(got, `"B"`) {
+			t.Fatal(got)
+		}
+		if took := time.Since(began); took > longest {
+			longest = took
+		}
+		time.Sleep(time.Millisecond)
+	}
+	t.Logf("%d texts; the longest lookup took %v", <-finished, longest)
+}

@@ -1,0 +1,141 @@
+// Package standin is a small stand-in for `resb serve`, with which the tests run where the program isn't built.
+package standin
+
+import (
+	"bufio"
+	"encoding/json"
+	"fmt"
+	"os"
+	"regexp"
+	"strings"
+	"time"
+
+	"luvdregan.example/resb/deploy/internal/store"
+)
+
+// Replies that several requests have.
+const (
+	done    = `{"ok":true}`
+	memory  = `{"error":"Memory"}`
+	badLine = `{"error":"BadLine"}`
+)
+
+// A request is a line.
+type request struct{ Op, App, Locale, Path, Text, File string }
+
+// An application has an application's bundles, by name, and the names in the order of installing.
+type application struct {
+	names   []string
+	bundles map[string]string
+}
+
+// Serve answers lines for bundles whose texts are as `de{a{"A"} b{"B"}}`. It ends at a text with `end`, takes 50 ms for one with
+// `dear`, 5 ms for a path with it, and with the last argument `short` it has no memory for a text with `much`.
+func Serve() {
+	apps := map[string]*application{}
+	lines := bufio.NewReaderSize(os.Stdin, 1<<20)
+	for {
+		line, err := lines.ReadString('\n')
+		if err != nil {
+			return
+		}
+		var r request
+		if json.Unmarshal([]byte(line), &r) != nil || r.App == "" {
+			fmt.Println(badLine)
+			continue
+		}
+		if apps[r.App] == nil {
+			apps[r.App] = &application{bundles: map[string]string{}}
+		}
+		fmt.Println(apps[r.App].answer(r))
+	}
+}
+
+func (a *application) answer(r request) string {
+	if strings.ContainsAny(r.Locale, ".\x00/\uFFFD") {
+		return `{"error":"BadLocale"}`
+	}
+	name := store.Canonical(r.Locale)
+	_, there := a.bundles[name]
+	switch r.Op {
+	case "list":
+		text, _ := json.Marshal(map[string][]string{"names": append([]string{}, a.names...)})
+		return string(text)
+	case "look":
+		return a.look(name, r.Path)
+	case "remove":
+		if !there {
+			return `{"error":"Absent"}`
+		}
+		delete(a.bundles, name)
+		for i := range a.names {
+			if a.names[i] == name {
+				a.names = append(a.names[:i], a.names[i+1:]...)
+				break
+			}
+		}
+		return done
+	}
+	if strings.Contains(r.Text, "dear") {
+		time.Sleep(50 * time.Millisecond)
+	}
+	switch {
+	case strings.Contains(r.Text, "end"):
+		fmt.Fprintln(os.Stderr, "Memory")
+		os.Exit(1)
+	case strings.Contains(r.Text, "much") && os.Args[len(os.Args)-1] == "short":
+		return memory
+	case strings.Contains(r.Text, "bad"):
+		return `{"error":"BadText"}`
+	case r.Op == "install" && there:
+		return `{"error":"Exists"}`
+	case r.Op == "replace" && !there:
+		return `{"error":"Absent"}`
+	case !there:
+		a.names = append(a.names, name)
+	}
+	a.bundles[name] = r.Text + r.File
+	return done
+}
+
+// look goes from a locale to its shorter names and root.
+func (a *application) look(name, path string) string {
+	if len(path) > 1024 {
+		return `{"error":"PathTooLong"}`
+	}
+	if strings.Contains(path, "dear") {
+		time.Sleep(5 * time.Millisecond)
+	}
+	valid := ""
+	for _, at := range append(trail(name), "root") {
+		text, there := a.bundles[at]
+		if !there {
+			continue
+		}
+		if valid == "" {
+			valid = at
+		}
+		if path == "" {
+			return fmt.Sprintf(`{"actual":%q,"keys":[],"type":"table","valid":%q}`, at, valid)
+		}
+		if path == strings.ToValidUTF8(path, "") && !strings.ContainsAny(path, "\x00") {
+			if found := regexp.MustCompile(`\b` + regexp.QuoteMeta(path) + `\{"(.*?)"\}`).FindStringSubmatch(text); found != nil {
+				return fmt.Sprintf(`{"actual":%q,"type":"string","valid":%q,"value":%q}`, at, valid, found[1])
+			}
+		}
+	}
+	switch {
+	case strings.IndexFunc(path, func(r rune) bool { return r < ' ' || r > '~' }) >= 0 || strings.Contains("/"+path+"/", "//"):
+		return `{"error":"BadPath"}`
+	case valid == "":
+		return `{"error":"NoBundle"}`
+	}
+	return `{"error":"Missing"}`
+}
+
+func trail(name string) (names []string) {
+	for parts := strings.Split(name, "_"); len(parts) > 0; parts = parts[:len(parts)-1] {
+		names = append(names, strings.Join(parts, "_"))
+	}
+	return names
+}

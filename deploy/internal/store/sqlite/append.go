@@ -1,0 +1,370 @@
+package sqlite
+
+import (
+	"context"
+	"crypto/sha256"
+	"errors"
+	"fmt"
+	"os"
+	"path/filepath"
+	"syscall"
+	"time"
+
+	"github.com/mattn/go-sqlite3"
+
+	"luvdregan.example/resb/deploy/internal/store"
+)
+
+// The history keeps this many changes of an application, and some more until it is pruned again.
+const (
+	mostHistory = 1000
+	pruneAfter  = 64
+)
+
+// A batch is a transaction: what it makes of the bundles is kept in memory once it is committed.
+type batch struct {
+	*Store
+	ctx     context.Context
+	changed map[key]*store.Bundle // nil where the bundle was removed
+	last    store.Revision
+	sum     int64
+	count   int
+	at      time.Time
+}
+
+// Append stores one change.
+func (s *Store) Append(ctx context.Context, change store.Change, expected store.Revision) (store.Revision, error) {
+	s.writing.Lock()
+	defer s.writing.Unlock()
+	if expected != store.Any {
+		var last store.Revision
+		const query = "select coalesce(max(revision), 0) from history where application = ? and locale = ?"
+		name := store.Canonical(change.Locale)
+		if err := s.writer.QueryRowContext(ctx, query, change.App, name).Scan(&last); err != nil {
+			return 0, err
+		}
+		if last != expected {
+			return 0, store.ErrConflict
+		}
+	}
+	return s.append([]store.Change{change})
+}
+
+// AppendAll stores changes in one transaction: all of them, or none if it returns an error. It returns the last revision.
+func (s *Store) AppendAll(_ context.Context, changes []store.Change) (store.Revision, error) {
+	s.writing.Lock()
+	defer s.writing.Unlock()
+	return s.append(changes)
+}
+
+func (s *Store) append(changes []store.Change) (store.Revision, error) {
+	if err := s.Failure(); err != nil {
+		return 0, err
+	}
+	err := s.commit(changes)
+	if errors.Is(err, store.ErrNoSpace) && onlyRemovals(changes) {
+		s.withReserve(func() { err = s.commit(changes) })
+	}
+	s.mu.Lock()
+	defer s.mu.Unlock()
+	s.failed = err != nil
+	return s.last, err
+}
+
+func onlyRemovals(changes []store.Change) bool {
+	for _, c := range changes {
+		if c.Op != store.Remove {
+			return false
+		}
+	}
+	return true
+}
+
+// commit writes changes in one transaction.
+func (s *Store) commit(changes []store.Change) error {
+	b := &batch{Store: s, ctx: context.Background(), changed: map[key]*store.Bundle{}, last: s.last, at: time.Now()}
+	if err := b.run(changes); err != nil {
+		_, _ = s.writer.ExecContext(b.ctx, "rollback")
+		return s.judge(err)
+	}
+	if err := s.mark(b.last); err != nil {
+		return s.breakDown(err)
+	}
+	b.take()
+	return nil
+}
+
+// run writes all changes and commits them.
+func (b *batch) run(changes []store.Change) error {
+	if _, err := b.exec("begin immediate"); err != nil {
+		return err
+	}
+	for _, c := range changes {
+		if err := b.apply(c); err != nil {
+			return err
+		}
+	}
+	const update = "update state set revision = ?, bundles = bundles + ?, checksum = ? where one = 1"
+	var sum int64
+	if err := b.writer.QueryRowContext(b.ctx, "select checksum from state where one = 1").Scan(&sum); err != nil {
+		return err
+	}
+	if _, err := b.exec(update, b.last, b.count, sum^b.sum); err != nil {
+		return err
+	}
+	_, err := b.exec("commit")
+	return err
+}
+
+func (b *batch) exec(statement string, arguments ...any) (int64, error) {
+	result, err := b.writer.ExecContext(b.ctx, statement, arguments...)
+	if err != nil {
+		return 0, err
+	}
+	return result.RowsAffected()
+}
+
+// now returns what the bundle is at this point of the transaction, or nil.
+func (b *batch) now(k key) *store.Bundle {
+	if changed, there := b.changed[k]; there {
+		return changed
+	}
+	if stored, there := b.bundle(k.app, k.locale); there {
+		return &stored
+	}
+	return nil
+}
+
+// apply writes one change.
+func (b *batch) apply(c store.Change) error {
+	k := key{c.App, store.Canonical(c.Locale)}
+	old := b.now(k)
+	b.last++
+	var made *store.Bundle
+	var digest []byte
+	if c.Op != store.Remove {
+		sum := sha256.Sum256(c.Body)
+		digest = sum[:]
+		made = &store.Bundle{App: k.app, Locale: k.locale, Form: c.Form, Bytes: len(c.Body), Digest: digest, Order: b.last,
+			Revision: b.last, Who: c.Who, At: b.at}
+		if old != nil && c.Op == store.Replace {
+			made.Order = old.Order
+		}
+	}
+	if err := b.put(k, old, made, c.Body); err != nil {
+		return err
+	}
+	_, err := b.exec("insert into history values (?, ?, ?, ?, ?, ?, ?, ?)", b.last, k.app, k.locale, c.Op.String(), len(c.Body),
+		digest, c.Who, b.at.UnixNano())
+	if err != nil {
+		return err
+	}
+	b.changed[k] = made
+	return b.prune(c.App)
+}
+
+// put writes the row and the body of a bundle in the place of the old ones.
+func (b *batch) put(k key, old, made *store.Bundle, body []byte) error {
+	if made != nil {
+		if _, err := b.exec("insert or ignore into bodies values (?, ?)", made.Digest, notNil(body)); err != nil {
+			return err
+		}
+		_, err := b.exec("insert or replace into bundles ("+columns+") values (?, ?, ?, ?, ?, ?, ?, ?, ?)", k.app, k.locale,
+			made.Order, made.Revision, made.Form, made.Bytes, made.Digest, made.Who, made.At.UnixNano())
+		if err != nil {
+			return err
+		}
+		b.sum ^= checksum(*made)
+		b.count++
+	} else if _, err := b.exec("delete from bundles where application = ? and locale = ?", k.app, k.locale); err != nil {
+		return err
+	}
+	if old == nil {
+		return nil
+	}
+	b.sum ^= checksum(*old)
+	b.count--
+	const unused = "delete from bodies where digest = ?1 and not exists (select 1 from bundles where digest = ?1)"
+	_, err := b.exec(unused, old.Digest)
+	return err
+}
+
+// notNil makes an empty body an empty value and not a missing one.
+func notNil(body []byte) []byte {
+	if body == nil {
+		return []byte{}
+	}
+	return body
+}
+
+// prune removes old changes of an application from the history, now and then.
+func (b *batch) prune(app string) error {
+	b.unpruned[app]++
+	if b.unpruned[app] < pruneAfter {
+		return nil
+	}
+	b.unpruned[app] = 0
+	var last store.Revision
+	const oldest = "select coalesce(min(revision), 0) from (select revision from history where application = ? " +
+		"order by revision desc limit ?)"
+	if err := b.writer.QueryRowContext(b.ctx, oldest, app, mostHistory).Scan(&last); err != nil {
+		return err
+	}
+	gone, err := b.exec("delete from history where application = ? and revision < ?", app, last)
+	if err == nil && gone > 0 {
+		_, err = b.exec("update state set pruned = max(pruned, ?) where one = 1", last-1)
+	}
+	return err
+}
+
+// take makes what was committed visible.
+func (b *batch) take() {
+	b.mu.Lock()
+	defer b.mu.Unlock()
+	b.Store.last = b.last
+	for k, made := range b.changed {
+		b.bytes -= int64(b.bundles[k].Bytes)
+		delete(b.bundles, k)
+		if made != nil {
+			b.bundles[k] = *made
+			b.bytes += int64(made.Bytes)
+		}
+	}
+}
+
+// judge returns what an error of SQLite means. After a failed sync it isn't known what the disk has.
+func (s *Store) judge(err error) error {
+	var of sqlite3.Error
+	switch {
+	case !errors.As(err, &of):
+		return err
+	case of.Code == sqlite3.ErrFull:
+		return fmt.Errorf("%w: %v", store.ErrNoSpace, err)
+	case of.ExtendedCode == sqlite3.ErrIoErrFsync || of.ExtendedCode == sqlite3.ErrIoErrDirFsync:
+		return s.breakDown(err)
+	}
+	return err
+}
+
+// breakDown has no more changes stored; the first reason stays.
+func (s *Store) breakDown(err error) error {
+	s.mu.Lock()
+	defer s.mu.Unlock()
+	if s.broken == nil {
+		s.broken = fmt.Errorf("%w: %v", store.ErrBroken, err)
+	}
+	return s.broken
+}
+
+// Failure returns why no more changes are stored, or nil.
+func (s *Store) Failure() error {
+	s.mu.Lock()
+	defer s.mu.Unlock()
+	return s.broken
+}
+
+// Changes returns of each bundle the last change after a revision, in order.
+func (s *Store) Changes(ctx context.Context, after store.Revision) ([]store.Entry, error) {
+	var pruned store.Revision
+	if err := s.db.QueryRowContext(ctx, "select pruned from state where one = 1").Scan(&pruned); err != nil {
+		return nil, err
+	}
+	if after < pruned {
+		return nil, store.ErrTooOld
+	}
+	const query = "select revision, application, locale, operation, who from history as h where revision > ? and revision = " +
+		"(select max(revision) from history where application = h.application and locale = h.locale) order by revision"
+	rows, err := s.db.QueryContext(ctx, query, after)
+	if err != nil {
+		return nil, err
+	}
+	defer rows.Close()
+	var all []store.Entry
+	for rows.Next() {
+		var e store.Entry
+		var operation string
+		if err := rows.Scan(&e.Revision, &e.App, &e.Locale, &operation, &e.Who); err != nil {
+			return nil, err
+		}
+		for _, op := range []store.Operation{store.Install, store.Replace, store.Remove} {
+			if op.String() == operation {
+				e.Op = op
+			}
+		}
+		all = append(all, e)
+	}
+	if err := rows.Err(); err != nil {
+		return nil, err
+	}
+	return all, s.addBodies(all)
+}
+
+// addBodies reads the body of each entry.
+func (s *Store) addBodies(entries []store.Entry) error {
+	for i, e := range entries {
+		if e.Op == store.Remove {
+			continue
+		}
+		c, _, err := s.Stored(e.App, e.Locale)
+		if err != nil {
+			return err
+		}
+		entries[i].Form, entries[i].Body = c.Form, c.Body
+	}
+	return nil
+}
+
+// disk returns the bytes that are free on the disk, and its size.
+func (s *Store) disk() (free, size int64, ok bool) {
+	var of syscall.Statfs_t
+	if syscall.Statfs(s.folder, &of) != nil {
+		return 0, 0, false
+	}
+	return int64(of.Bavail) * of.Bsize, int64(of.Blocks) * of.Bsize, true
+}
+
+// Fits returns true if the disk has space for a change of this many bytes: in the WAL, in the database except where that has
+// free pages, and what is to be left.
+func (s *Store) Fits(bytes int) bool {
+	free, _, ok := s.disk()
+	if !ok || free > 2*int64(bytes)+s.spare {
+		return true
+	}
+	var pages, page int64
+	err := s.db.QueryRow("select freelist_count, page_size from pragma_freelist_count, pragma_page_size").Scan(&pages, &page)
+	if err != nil {
+		return false
+	}
+	grows := int64(bytes) - pages*page
+	if grows < 0 {
+		grows = 0
+	}
+	return free > int64(bytes)+grows+s.spare
+}
+
+// reserve fills a file, so that removals have space on a full disk: for the WAL, and for what is in the WAL and not yet in the
+// database.
+func (s *Store) reserve() {
+	_, size, ok := s.disk()
+	bytes := int64(4 << 20)
+	if ok && size/4 < bytes {
+		bytes = size / 4
+	}
+	if s.spare == 0 {
+		s.spare = bytes / 4
+	}
+	f, err := os.OpenFile(filepath.Join(s.folder, "reserve"), os.O_CREATE|os.O_RDWR, 0o600)
+	if err != nil {
+		return
+	}
+	defer f.Close()
+	_ = syscall.Fallocate(int(f.Fd()), 0, 0, bytes)
+}
+
+// withReserve calls a function with the space of the reserve, moves the WAL into the database, and takes the space again.
+func (s *Store) withReserve(do func()) {
+	_ = os.Truncate(filepath.Join(s.folder, "reserve"), 0)
+	do()
+	_, _ = s.writer.ExecContext(context.Background(), "pragma wal_checkpoint(truncate)")
+	s.reserve()
+}

@@ -1,0 +1,100 @@
+#!/usr/bin/env bash
+# Serves lines of requests with a built program, each file of them by a new process, and compares the replies.
+#
+# Each NAME.jsonl in replies/ has its replies in NAME.replies.jsonl. Requests that are too long to store are made here: the
+# longest text and one byte more, the longest file, and a string of 200,000 units that is found before and after lookups that fail.
+#
+# usage: replies.sh PROGRAM
+# Ends with status 0 if all agree, with 1 if one differs; says `skipped` if there is no such program.
+set -u
+program=${1:?usage: replies.sh PROGRAM}
+if [ ! -x "$program" ]; then
+    echo "skipped: $program is not there"
+    exit 0
+fi
+program=$(realpath "$program")
+cd "$(dirname "$0")/replies" || exit 2
+made=$(mktemp -d) || exit 2
+trap 'rm -rf "$made"' EXIT
+failed=0
+
+# Serves a file of requests, and compares the status, the replies and standard error.
+answers() {
+    if "$program" serve <"$2" >"$made/output" 2>"$made/errors" &&
+        cmp "$made/output" "$3" && [ ! -s "$made/errors" ]; then
+        echo "ok: $1"
+    else
+        echo "differs: $1"
+        failed=1
+    fi
+}
+
+# Prints a character many times.
+repeat() {
+    head -c "$2" /dev/zero | tr '\0' "$1"
+}
+
+# Prints the install of root{a{".."}}, a text of this many bytes.
+install_text() {
+    printf '{"op":"install","app":"shop","locale":"root","text":"root{a{\\"'
+    repeat x $(($1 - 11))
+    printf '\\"}}"}\n'
+}
+
+# Prints the install of the longest file, which has at `a` a binary of 67,108,792 zeros.
+install_file() {
+    printf '{"op":"install","app":"shop","locale":"de","file":"'
+    printf '2000DA271400000000000200526573420101000000000000000000000000000007000020050000000700000'
+    printf '0F8FFFF00F8FFFF00010000006100AAAA0100180009000010B8FFFF03'
+    repeat 0 134217584
+    printf '"}\n'
+}
+
+# Prints a lookup by shop from root.
+look() {
+    printf '{"op":"look","app":"shop","locale":"root","path":"%s"}\n' "$1"
+}
+
+# Prints the reply to a lookup that finds a string, whose text is standard input.
+found() {
+    printf '{"actual":"root","type":"string","valid":"root","value":"'
+    cat
+    printf '"}\n'
+}
+
+for requests in *.jsonl; do
+    case $requests in
+        *.replies.jsonl) ;;
+        *) answers "$requests" "$requests" "${requests%.jsonl}.replies.jsonl" ;;
+    esac
+done
+
+{
+    install_text 8388609
+    install_text 8388608
+} >"$made/requests"
+printf '{"error":"BadText"}\n{"ok":true}\n' >"$made/replies"
+answers 'the longest text' "$made/requests" "$made/replies"
+
+install_file >"$made/requests"
+printf '{"ok":true}\n' >"$made/replies"
+answers 'the longest file' "$made/requests" "$made/replies"
+
+{
+    printf '{"op":"install","app":"shop","locale":"root","text":"root{a{\\"'
+    repeat x 200000
+    printf '\\"} c{\\"C\\"}}"}\n'
+    for path in a b c b a; do
+        look "$path"
+    done
+} >"$made/requests"
+{
+    printf '{"ok":true}\n'
+    repeat x 200000 | found
+    printf '{"error":"Missing"}\n'
+    printf C | found
+    printf '{"error":"Missing"}\n'
+    repeat x 200000 | found
+} >"$made/replies"
+answers 'a long string around lookups that fail' "$made/requests" "$made/replies"
+exit "$failed"
