@@ -25,9 +25,14 @@ type attack func(s *site, stop <-chan struct{})
 func TestAnotherApplicationsLookups(t *testing.T) {
 	s := open(t, "-read-time", "30s")
 	long := strings.Repeat("x", 7<<20)
-	s.ask("PUT", "/v1/bank/de.txt", bankWrites, `de{a{"B"}}`)
-	s.ask("PUT", "/v1/shop/de.txt", shopWrites, `de{a{"A"} long{"`+long+`"}}`)
-	s.ask("PUT", "/v1/shop/fr.txt", shopWrites, expensive())
+	for _, put := range [][3]string{
+		{"/v1/bank/de.txt", bankWrites, `de{a{"B"}}`}, {"/v1/shop/de.txt", shopWrites, `de{a{"A"} long{"` + long + `"}}`},
+		{"/v1/shop/fr.txt", shopWrites, expensive()},
+	} {
+		if got := s.ask("PUT", put[0], put[1], put[2]); got.StatusCode != 201 {
+			t.Fatalf("%s: %d %s", put[0], got.StatusCode, got.body)
+		}
+	}
 	alone := s.victim(t, nil)
 	t.Logf("alone: %v", alone)
 	const most = 50 * time.Millisecond
@@ -89,7 +94,7 @@ func (s *site) victim(t *testing.T, a attack) time.Duration {
 		}()
 		time.Sleep(200 * time.Millisecond)
 	}
-	client := &http.Client{Transport: &http.Transport{}, Timeout: 20 * time.Second}
+	client := &http.Client{Transport: &http.Transport{}, Timeout: generous}
 	defer client.CloseIdleConnections()
 	var took []time.Duration
 	for end := time.Now().Add(attackTime); time.Now().Before(end); time.Sleep(2 * time.Millisecond) {
@@ -192,11 +197,8 @@ func TestBodiesThatStop(t *testing.T) {
 		go halfABody(s, stop)
 	}
 	s.held(8 << 20)
-	for end := time.Now().Add(25 * time.Second); ; time.Sleep(100 * time.Millisecond) {
-		if _, bytes := s.Limits.Now(); bytes == 0 {
-			return
-		} else if time.Now().After(end) {
-			t.Fatalf("%d bytes are still held", bytes)
-		}
-	}
+	eventually(t, "no bytes are held", func() bool {
+		_, bytes := s.Limits.Now()
+		return bytes == 0
+	})
 }

@@ -107,7 +107,7 @@ func (b *browser) run(script string) string {
 func (b *browser) until(script, part string) {
 	b.t.Helper()
 	got := ""
-	for end := time.Now().Add(20 * time.Second); time.Now().Before(end); time.Sleep(20 * time.Millisecond) {
+	for end := time.Now().Add(generous); time.Now().Before(end); time.Sleep(20 * time.Millisecond) {
 		if got = b.run(script); strings.Contains(got, part) {
 			return
 		}

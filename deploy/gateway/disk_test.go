@@ -38,8 +38,7 @@ func (s *site) holds(bundles int) {
 	for i := 0; i < bundles; i++ {
 		path := fmt.Sprintf("/v1/shop/l%c%c/a", 'a'+i/26, 'a'+i%26)
 		got := s.ask("GET", path, shopReads, "")
-		for got.StatusCode == 503 {
-			time.Sleep(5 * time.Millisecond)
+		for end := time.Now().Add(generous); got.StatusCode == 503 && time.Now().Before(end); time.Sleep(5 * time.Millisecond) {
 			got = s.ask("GET", path, shopReads, "")
 		}
 		if !strings.Contains(got.body, fmt.Sprintf(`"value":"%d"`, i)) {
@@ -70,6 +69,7 @@ func TestADiskThatIsNearlyFull(t *testing.T) {
 // TestServersThatStand stops both servers for a while: lookups are 504, and afterwards as before; nothing ends.
 func TestServersThatStand(t *testing.T) {
 	s := withBundle(t, "-patience", "300ms")
+	s.awaitBoth()
 	serves, judges := s.servers()
 	signal := func(what syscall.Signal) {
 		for _, pid := range []int{serves, judges} {
@@ -88,5 +88,5 @@ func TestServersThatStand(t *testing.T) {
 		t.Errorf("%d %s", got.StatusCode, got.body)
 	}
 	signal(syscall.SIGCONT)
-	s.alive()
+	s.settled()
 }

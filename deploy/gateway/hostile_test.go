@@ -7,6 +7,7 @@ import (
 	"net"
 	"net/http"
 	"os"
+	"sort"
 	"strings"
 	"sync"
 	"testing"
@@ -41,17 +42,19 @@ func (s *site) alive() {
 }
 
 // replays gives how often the bundles of each shard were installed again.
-func (s *site) replays() (lines string) {
+func (s *site) replays() string {
 	s.t.Helper()
-	for _, line := range strings.Split(s.ask("GET", "/metrics", "", "").body, "\n") {
-		if strings.HasPrefix(line, "resb_shard_replays_total{") {
-			lines += line + "\n"
+	var all []string
+	for name, value := range s.measuredOfAll() {
+		if strings.HasPrefix(name, "resb_shard_replays_total{") {
+			all = append(all, fmt.Sprintln(name, value))
 		}
 	}
-	if lines == "" {
+	if len(all) == 0 {
 		s.t.Fatal("it isn't told how often bundles were installed again")
 	}
-	return lines
+	sort.Strings(all)
+	return strings.Join(all, "")
 }
 
 // withBundle gives a gateway where `shop` has one bundle.
@@ -61,11 +64,25 @@ func withBundle(t *testing.T, options ...string) *site {
 	return s
 }
 
-// fill installs the bundle, from when on no server may end.
+// fill installs the bundle, from when on no server may end. Where the limits of a test are tight it may be refused at first.
 func (s *site) fill() {
 	s.t.Helper()
-	s.ask("PUT", "/v1/shop/de.txt", shopWrites, `de{a{"A"}}`)
+	eventually(s.t, "the bundle is installed", func() bool {
+		status := s.ask("PUT", "/v1/shop/de.txt", shopWrites, `de{a{"A"}}`).StatusCode
+		return status == 200 || status == 201
+	})
 	s.before = s.replays()
+}
+
+// settled is alive after tight limits, which lookups on a busy machine may be over for a while.
+func (s *site) settled() {
+	s.t.Helper()
+	eventually(s.t, "a lookup is answered", func() bool {
+		return s.ask("GET", "/v1/shop/de/a", shopReads, "").StatusCode == 200
+	})
+	if now := s.replays(); now != s.before {
+		s.t.Fatalf("a server was started again: %q, and %q before", now, s.before)
+	}
 }
 
 func TestBytesThatAreNoRequests(t *testing.T) { withBundle(t).noRequests() }
@@ -103,7 +120,6 @@ func (s *site) noRequests() {
 		begins("PUT", "/v1/shop/f%00r.txt", "Content-Length: 4\r\nConnection: close\r\n\r\nfr{}"):      "400",
 		begins("DELETE", "/v1/shop/d%00e", "Connection: close\r\n\r\n"):                                "400",
 		begins("GET", "*", "Connection: close\r\n\r\n"):                                                "400",
-		begins("GET", "http://other/v1/shop/de/a", "Connection: close\r\n\r\n"):                        "200",
 		put("Content-Length: 20\r\n", "fr{a"):                                                          "400", // cut off
 		put("Content-Length: -1\r\n", "fr{}"):                                                          "400",
 		put("Content-Length: 4\r\nContent-Length: 5\r\n", "fr{}"):                                      "400",
@@ -123,6 +139,10 @@ func (s *site) noRequests() {
 		if got := s.raw(bytes); statusOfText(got) != want {
 			s.t.Errorf("%.90q: %.120q", bytes, got)
 		}
+	}
+	other := begins("GET", "http://other/v1/shop/de/a", "Connection: close\r\n\r\n")
+	if got := s.exchange(other, false); statusOfText(got) != "200" {
+		s.t.Errorf("%.90q: %.120q", other, got)
 	}
 	s.alive()
 }
@@ -209,26 +229,35 @@ func TestBodiesAtOnce(t *testing.T) {
 	}
 	first.Close()
 	third.Close()
-	for end := time.Now().Add(10 * time.Second); ; time.Sleep(5 * time.Millisecond) {
-		if requests, bytes := s.Limits.Now(); requests == 0 && bytes == 0 {
-			break
-		} else if time.Now().After(end) {
-			t.Fatalf("%d requests with %d bytes are left", requests, bytes)
-		}
-	}
+	eventually(t, "no request is left", func() bool {
+		requests, bytes := s.Limits.Now()
+		return requests == 0 && bytes == 0
+	})
 	s.alive()
 }
 
 // held waits until this number of bytes of bodies is held.
 func (s *site) held(least int64) {
 	s.t.Helper()
-	for end := time.Now().Add(10 * time.Second); ; time.Sleep(5 * time.Millisecond) {
-		if _, bytes := s.Limits.Now(); bytes >= least {
-			return
-		} else if time.Now().After(end) {
-			s.t.Fatalf("%d bytes are held", bytes)
-		}
-	}
+	eventually(s.t, fmt.Sprintf("%d bytes are held", least), func() bool {
+		_, bytes := s.Limits.Now()
+		return bytes >= least
+	})
+}
+
+// onTheirWay waits until this number of requests is on its way.
+func (s *site) onTheirWay(number int) {
+	s.t.Helper()
+	eventually(s.t, fmt.Sprintf("%d requests are on their way", number), func() bool {
+		requests, _ := s.Limits.Now()
+		return requests == number
+	})
+}
+
+// connected waits until there is this number of connections.
+func (s *site) connected(number int64) {
+	s.t.Helper()
+	eventually(s.t, fmt.Sprintf("there are %d connections", number), func() bool { return s.Metrics.Connect(0) == number })
 }
 
 // TestRequestsAtOnce has slow bodies take all places of an application: others of it are 429, and bank's go on.
@@ -244,12 +273,7 @@ func TestRequestsAtOnce(t *testing.T) {
 		fmt.Fprint(c, begins("PUT", "/v1/shop/fr.txt", "Content-Length: 10\r\n\r\nfr"))
 		slow = append(slow, c)
 	}
-	s.held(3)
-	for end := time.Now().Add(10 * time.Second); ; time.Sleep(5 * time.Millisecond) {
-		if requests, _ := s.Limits.Now(); requests == 3 || time.Now().After(end) {
-			break
-		}
-	}
+	s.onTheirWay(3)
 	if got := s.ask("GET", "/v1/shop/de/a", shopReads, ""); got.StatusCode != 429 || got.Header.Get("Retry-After") == "" {
 		t.Errorf("past the application's: %d %v", got.StatusCode, got.Header)
 	}
@@ -259,28 +283,20 @@ func TestRequestsAtOnce(t *testing.T) {
 	c, _ := net.Dial("tcp", strings.TrimPrefix(s.url, "http://"))
 	defer c.Close()
 	fmt.Fprintf(c, "PUT /v1/bank/fr.txt HTTP/1.1\r\nHost: x\r\nAuthorization: Bearer %s\r\nContent-Length: 10\r\n\r\nfr", bankWrites)
-	for end := time.Now().Add(10 * time.Second); ; time.Sleep(5 * time.Millisecond) {
-		if requests, _ := s.Limits.Now(); requests == 4 || time.Now().After(end) {
-			break
-		}
-	}
+	s.onTheirWay(4)
 	if got := s.ask("GET", "/v1/bank/de/a", bankWrites, ""); got.StatusCode != 503 || got.Header.Get("Retry-After") == "" {
 		t.Errorf("past all: %d %v", got.StatusCode, got.Header)
 	}
 	for _, one := range append(slow, c) {
 		one.Close()
 	}
-	for end := time.Now().Add(10 * time.Second); time.Now().Before(end); time.Sleep(5 * time.Millisecond) {
-		if requests, _ := s.Limits.Now(); requests == 0 {
-			break
-		}
-	}
+	s.onTheirWay(0)
 	s.alive()
 }
 
 // TestSlowSenders has headers and bodies not come in time: each sender is told so.
 func TestSlowSenders(t *testing.T) {
-	s := withBundle(t, "-header-time", "300ms", "-read-time", "600ms", "-idle-time", "300ms")
+	s := withBundle(t, "-header-time", "2s", "-read-time", "4s", "-idle-time", "2s") // a whole header has this time too
 	var all sync.WaitGroup
 	for bytes, want := range map[string]string{
 		"GET /v1/sh": "408", "GET / HTTP/1.1\r\nHost: x\r\nA: b": "408", "": "",
@@ -298,7 +314,7 @@ func TestSlowSenders(t *testing.T) {
 				return
 			}
 			defer c.Close()
-			_ = c.SetDeadline(time.Now().Add(10 * time.Second))
+			_ = c.SetDeadline(time.Now().Add(generous))
 			for _, b := range []byte(bytes) { // a byte at a time
 				_, _ = c.Write([]byte{b})
 			}
@@ -312,7 +328,7 @@ func TestSlowSenders(t *testing.T) {
 		}(bytes, want)
 	}
 	all.Wait()
-	s.alive()
+	s.settled()
 }
 
 // TestARefusalDoesntWaitForTheBody sends the beginning of a body alone: who may not, or asks in vain, is told so at once.
@@ -332,7 +348,7 @@ func TestARefusalDoesntWaitForTheBody(t *testing.T) {
 			t.Fatal(err)
 		}
 		fmt.Fprint(c, bytes)
-		_ = c.SetReadDeadline(time.Now().Add(10 * time.Second))
+		_ = c.SetReadDeadline(time.Now().Add(generous))
 		if line, err := bufio.NewReader(c).ReadString('\n'); statusOfText(line) != want {
 			t.Errorf("%q: %q, %v", bytes, line, err)
 		}
@@ -345,12 +361,10 @@ func TestARefusalDoesntWaitForTheBody(t *testing.T) {
 func TestConnectionsPastTheLimit(t *testing.T) {
 	s := withBundle(t, "-connections", "20")
 	http.DefaultClient.CloseIdleConnections()
-	for end := time.Now().Add(5 * time.Second); !strings.Contains(s.ask("GET", "/metrics", "", "", "Connection", "close").body, "resb_gateway_connections 1\n"); time.Sleep(5 * time.Millisecond) {
-		if time.Now().After(end) {
-			t.Fatal("connections aren't counted")
-		}
-	}
-	time.Sleep(50 * time.Millisecond)
+	eventually(t, "connections are counted", func() bool {
+		return strings.Contains(s.ask("GET", "/metrics", "", "", "Connection", "close").body, "resb_gateway_connections 1\n")
+	})
+	s.connected(0)
 	var some []net.Conn
 	for i := 0; i < 20; i++ {
 		c, err := net.Dial("tcp", strings.TrimPrefix(s.url, "http://"))
@@ -370,13 +384,13 @@ func TestConnectionsPastTheLimit(t *testing.T) {
 	for _, c := range some {
 		c.Close()
 	}
-	time.Sleep(50 * time.Millisecond)
+	s.connected(0)
 	s.alive()
 }
 
 // TestManyIdleConnections opens 10,000 connections to a gateway in a process of its own, and asks over a further one.
 func TestManyIdleConnections(t *testing.T) {
-	g := launchGateway(t, t.TempDir())
+	g := launchGateway(t, t.TempDir(), "-header-time", "10m")
 	defer g.kill()
 	g.put("shop", "de", `de{a{"A"}}`)
 	const many = 10000
@@ -442,14 +456,20 @@ func TestGracefulEnd(t *testing.T) {
 	}
 	defer c.Close()
 	fmt.Fprint(c, begins("PUT", "/v1/shop/de.txt", "Content-Length: 10\r\n\r\nde{a"))
-	time.Sleep(200 * time.Millisecond)
+	eventually(t, "the upload is on its way", func() bool {
+		_, text := g.get("/metrics")
+		return strings.Contains(text, "resb_gateway_requests_now 1\n")
+	})
 	if err := g.command.Process.Signal(os.Interrupt); err != nil {
 		t.Fatal(err)
 	}
-	time.Sleep(200 * time.Millisecond)
-	if _, err := net.Dial("tcp", g.address); err == nil {
-		t.Error("it takes more connections")
-	}
+	eventually(t, "it takes no more connections", func() bool {
+		more, err := net.Dial("tcp", g.address)
+		if err == nil {
+			more.Close()
+		}
+		return err != nil
+	})
 	fmt.Fprint(c, `{"A"}}`)
 	if got, _ := io.ReadAll(c); statusOfText(string(got)) != "201" {
 		t.Errorf("%q", got)

@@ -53,6 +53,7 @@ type site struct {
 	leave context.CancelFunc
 	ended chan error
 
+	pair   *pair  // the certificate, or nil
 	before string // how often bundles were installed again, when the test began
 }
 
@@ -90,7 +91,7 @@ func openUnreached(t *testing.T, s settings) *site {
 	if err != nil {
 		t.Fatal(err)
 	}
-	at := &site{gateway: g, t: t, url: "http://" + l.Addr().String(), leave: leave, ended: make(chan error, 1)}
+	at := &site{gateway: g, t: t, url: "http://" + l.Addr().String(), leave: leave, ended: make(chan error, 1), pair: p}
 	go g.refresh(leaving, p)
 	go func() { at.ended <- g.listenOn(l, p) }()
 	t.Cleanup(func() {
@@ -107,11 +108,7 @@ func openUnreached(t *testing.T, s settings) *site {
 // await waits until the backend answers.
 func (s *site) await() {
 	s.t.Helper()
-	for end := time.Now().Add(20 * time.Second); s.Backend.Ready() != nil; time.Sleep(2 * time.Millisecond) {
-		if time.Now().After(end) {
-			s.t.Fatal(s.Backend.Ready())
-		}
-	}
+	eventually(s.t, "lookups are answered", func() bool { return s.Backend.Ready() == nil })
 }
 
 // servers returns the processes of the server that answers and of the one that judges changes, 0 for one that is missing.
@@ -130,14 +127,10 @@ func (s *site) killServer() {
 // awaitBoth waits until there are two servers.
 func (s *site) awaitBoth() {
 	s.t.Helper()
-	for end := time.Now().Add(20 * time.Second); ; time.Sleep(2 * time.Millisecond) {
-		if serves, judges := s.servers(); serves != 0 && judges != 0 {
-			return
-		}
-		if time.Now().After(end) {
-			s.t.Fatal("there aren't two servers")
-		}
-	}
+	eventually(s.t, "there are two servers", func() bool {
+		serves, judges := s.servers()
+		return serves != 0 && judges != 0
+	})
 }
 
 // An answer is a response with its body.
@@ -202,19 +195,28 @@ func (s *site) described(method, path string, status int) {
 	}
 }
 
-// raw sends bytes over a connection of their own, and gives all that comes back.
+// raw sends bytes over a connection of their own, and gives all that comes back. Then no more is sent, which the gateway takes
+// for a caller that has gone: it may leave out a lookup that waits.
 func (s *site) raw(bytes string) string {
+	s.t.Helper()
+	return s.exchange(bytes, true)
+}
+
+// exchange sends bytes, says that no more come if that is asked for, and gives all that comes back.
+func (s *site) exchange(bytes string, cut bool) string {
 	s.t.Helper()
 	c, err := net.Dial("tcp", strings.TrimPrefix(s.url, "http://"))
 	if err != nil {
 		s.t.Fatal(err)
 	}
 	defer c.Close()
-	_ = c.SetDeadline(time.Now().Add(20 * time.Second))
+	_ = c.SetDeadline(time.Now().Add(generous))
 	if _, err := io.WriteString(c, bytes); err != nil {
 		s.t.Fatal(err)
 	}
-	_ = c.(*net.TCPConn).CloseWrite()
+	if cut {
+		_ = c.(*net.TCPConn).CloseWrite()
+	}
 	text, _ := io.ReadAll(c)
 	return string(text)
 }
@@ -331,7 +333,8 @@ func TestWhoHasNoRightReachesNothing(t *testing.T) { open(t).noRights() }
 func (s *site) noRights() {
 	s.t.Helper()
 	lines := func() (all float64) {
-		for name, value := range s.measured() {
+		s.t.Helper()
+		for name, value := range s.measuredOfAll() {
 			if strings.HasPrefix(name, "resb_shard_lines_total{") {
 				all += value
 			}
@@ -390,11 +393,7 @@ func TestTheTokensFileIsReadAgain(t *testing.T) {
 	if err := os.WriteFile(s.tokenFile, []byte(tokenLine("shop", "read", "last")), 0o600); err != nil {
 		t.Fatal(err)
 	}
-	for end := time.Now().Add(5 * time.Second); status("last") != 200; time.Sleep(50 * time.Millisecond) {
-		if time.Now().After(end) {
-			t.Fatal("the file isn't read again by itself")
-		}
-	}
+	eventually(t, "the file is read again by itself", func() bool { return status("last") == 200 })
 }
 
 func TestTagsAndHeads(t *testing.T) {

@@ -22,17 +22,37 @@ type process struct {
 	t       *testing.T
 	command *exec.Cmd
 	address string
-	log     bytes.Buffer
+	log     record
 }
 
-// launchGateway starts a gateway over a folder with its changes, and waits until it answers. A port that it had is its own again.
+// A record stores what a process prints, while others read it.
+type record struct {
+	mu   sync.Mutex
+	text bytes.Buffer
+}
+
+// Write stores more.
+func (r *record) Write(b []byte) (int, error) {
+	r.mu.Lock()
+	defer r.mu.Unlock()
+	return r.text.Write(b)
+}
+
+// String returns what was stored.
+func (r *record) String() string {
+	r.mu.Lock()
+	defer r.mu.Unlock()
+	return r.text.String()
+}
+
+// launchGateway starts a gateway over a folder with its changes, and waits until it answers, at a port that was free.
 func launchGateway(t *testing.T, folder string, options ...string) *process {
 	t.Helper()
 	tokens := filepath.Join(folder, "tokens")
 	if err := os.WriteFile(tokens, []byte(tokenLine("shop", "write", shopWrites)+tokenLine("bank", "write", bankWrites)), 0o600); err != nil {
 		t.Fatal(err)
 	}
-	p := &process{t: t, address: freeAddress(t)}
+	p := &process{t: t}
 	p.start(folder, tokens, options...)
 	return p
 }
@@ -49,26 +69,38 @@ func freeAddress(t *testing.T) string {
 
 func (p *process) start(folder, tokens string, options ...string) {
 	p.t.Helper()
-	arguments := append([]string{"-listen", p.address, "-serve", "-init", "-program", server(), "-state", folder, "-tokens", tokens}, options...)
+	arguments := append([]string{"-listen", "127.0.0.1:0", "-serve", "-init", "-program", server(), "-state", folder, "-tokens", tokens}, options...)
 	p.command = exec.Command(os.Args[0], arguments...)
 	p.command.Env = append(os.Environ(), asGateway+"=1")
 	p.command.Stderr = &p.log
+	before := strings.Count(p.log.String(), answersAt)
 	if err := p.command.Start(); err != nil {
 		p.t.Fatal(err)
 	}
-	for end := time.Now().Add(30 * time.Second); ; time.Sleep(2 * time.Millisecond) {
-		got, err := http.Get("http://" + p.address + "/readyz")
-		if err == nil {
-			got.Body.Close()
-			if got.StatusCode == 200 {
-				return
-			}
-		}
-		if time.Now().After(end) {
+	ready := false
+	defer func() {
+		if !ready {
 			p.kill()
-			p.t.Fatalf("the gateway isn't ready: %v\n%s", err, p.log.String())
+			p.t.Log(p.log.String())
 		}
-	}
+	}()
+	eventually(p.t, "the gateway says where it answers", func() bool { return strings.Count(p.log.String(), answersAt) > before })
+	said := p.log.String()
+	p.address, _, _ = strings.Cut(said[strings.LastIndex(said, answersAt)+len(answersAt):], "\n")
+	p.awaitReady()
+	ready = true
+}
+
+// answersAt is what the log has before the gateway's address.
+const answersAt = "gateway: answers at "
+
+// awaitReady waits until lookups are answered.
+func (p *process) awaitReady() {
+	p.t.Helper()
+	eventually(p.t, "the gateway is ready", func() bool {
+		status, _ := p.get("/readyz")
+		return status == 200
+	})
 }
 
 func (p *process) kill() {
@@ -137,11 +169,12 @@ func (w *writer) step(p *process, value int) {
 // check compares what stands with what was told; a change of which nothing was told may be done or not.
 func (w *writer) check(p *process) error {
 	token := map[string]string{"shop": shopWrites, "bank": bankWrites}[w.app]
-	status, body := p.send("GET", "/v1/"+w.app+"/"+w.locale+"/v", token, "")
-	for status == 503 { // a server that was killed is noticed a little later
-		time.Sleep(5 * time.Millisecond)
+	var status int
+	var body string
+	eventually(p.t, "the lookup is answered", func() bool { // a server that was killed is noticed a little later
 		status, body = p.send("GET", "/v1/"+w.app+"/"+w.locale+"/v", token, "")
-	}
+		return status != 503
+	})
 	is := func(value int) bool {
 		if value <= 0 {
 			return status == 404
@@ -195,13 +228,7 @@ func TestNothingToldIsLost(t *testing.T) {
 		if round%3 != 2 {
 			p.start(folder, filepath.Join(folder, "tokens"))
 		}
-		for end := time.Now().Add(20 * time.Second); ; time.Sleep(5 * time.Millisecond) {
-			if status, _ := p.get("/readyz"); status == 200 {
-				break
-			} else if time.Now().After(end) {
-				t.Fatal("not ready")
-			}
-		}
+		p.awaitReady()
 		for _, w := range writers {
 			if err := w.check(p); err != nil {
 				t.Errorf("round %d: %v", round, err)

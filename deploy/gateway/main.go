@@ -71,11 +71,11 @@ func run(s settings) error {
 	defer g.Backend.Close()
 	go g.refresh(leaving, pair)
 	if s.inside != "" {
-		inner, err := g.openInside()
+		inner, err := net.Listen("tcp", s.inside)
 		if err != nil {
 			return err
 		}
-		defer inner.Close()
+		defer g.openInside(inner).Close()
 	}
 	return g.listenOn(outer, pair)
 }
@@ -173,12 +173,8 @@ func (g *gateway) listenOn(outer net.Listener, p *pair) error {
 }
 
 // openInside answers the metrics, and whether the gateway is ready, at an address of their own.
-func (g *gateway) openInside() (*http.Server, error) {
-	l, err := net.Listen("tcp", g.inside)
-	if err != nil {
-		return nil, err
-	}
+func (g *gateway) openInside(l net.Listener) *http.Server {
 	server := g.server(g.Handler.Inside())
 	go func() { _ = server.Serve(l) }()
-	return server, nil
+	return server
 }

@@ -6,6 +6,7 @@ import (
 	"log"
 	"os"
 	"testing"
+	"time"
 
 	"luvdregan.example/resb/deploy/internal/standin"
 )
@@ -25,6 +26,19 @@ func TestMain(m *testing.M) {
 			log.SetOutput(io.Discard)
 		}
 		os.Exit(m.Run())
+	}
+}
+
+// generous is how long tests wait for what must happen. It is no limit on anything: on a busy machine all may take long.
+const generous = 2 * time.Minute
+
+// eventually waits until a condition is true, and fails if it doesn't become so.
+func eventually(t *testing.T, what string, is func() bool) {
+	t.Helper()
+	for end := time.Now().Add(generous); !is(); time.Sleep(2 * time.Millisecond) {
+		if time.Now().After(end) {
+			t.Fatalf("after %v this isn't so: %s", generous, what)
+		}
 	}
 }
 

@@ -3,6 +3,7 @@ package main
 import (
 	"fmt"
 	"io"
+	"net"
 	"net/http"
 	"regexp"
 	"strconv"
@@ -49,6 +50,23 @@ func (s *site) measured() map[string]float64 {
 	return values
 }
 
+// measuredOfAll reads the metrics when each shard tells how it does: a bridge on a busy machine may be late.
+func (s *site) measuredOfAll() (values map[string]float64) {
+	s.t.Helper()
+	eventually(s.t, "all shards tell how they do", func() bool {
+		values = s.measured()
+		shards, serve := 0, 0
+		for name, value := range values {
+			if strings.HasPrefix(name, "resb_shard_serves{") {
+				shards, serve = shards+1, serve+int(value)
+			}
+		}
+		seen, overNATS := values["resb_gateway_shards_seen"]
+		return shards > 0 && serve == shards && (!overNATS || int(seen) == shards)
+	})
+	return values
+}
+
 // TestMetrics counts some requests; the buckets go up to the count.
 func TestMetrics(t *testing.T) {
 	s := open(t)
@@ -91,12 +109,12 @@ func TestMetrics(t *testing.T) {
 
 // TestMetricsOfTheirOwn has an address for the metrics, which are then at no other.
 func TestMetricsOfTheirOwn(t *testing.T) {
-	s := open(t, "-inside", freeAddress(t))
-	inner, err := s.openInside()
+	l, err := net.Listen("tcp", "127.0.0.1:0")
 	if err != nil {
 		t.Fatal(err)
 	}
-	defer inner.Close()
+	s := open(t, "-inside", l.Addr().String())
+	defer s.openInside(l).Close()
 	if got := s.ask("GET", "/metrics", "", ""); got.StatusCode != 404 {
 		t.Errorf("outside: %d", got.StatusCode)
 	}

@@ -14,6 +14,7 @@ type pair struct {
 	mu        sync.Mutex
 	now       *tls.Certificate
 	changed   time.Time
+	failed    string // why the files could not be read again, or empty
 }
 
 // openPair reads the files; without files there is no pair.
@@ -37,7 +38,8 @@ func lastChange(files ...string) (last time.Time) {
 	return last
 }
 
-// again reads the files again, if they have changed. Where they don't fit each other, the earlier ones stay.
+// again reads the files again, if they have changed. Where they don't fit each other the earlier ones stay, and the files are read
+// once more the next time: one of them may have been written just before the other.
 func (p *pair) again() {
 	if p == nil {
 		return
@@ -46,15 +48,17 @@ func (p *pair) again() {
 	if changed.Equal(p.changed) {
 		return
 	}
-	p.changed = changed
 	now, err := tls.LoadX509KeyPair(p.cert, p.key)
-	if err != nil {
-		log.Printf("certificates: %v; the earlier ones stay", err)
-		return
-	}
 	p.mu.Lock()
 	defer p.mu.Unlock()
-	p.now = &now
+	if err != nil {
+		if p.failed != err.Error() {
+			log.Printf("certificates: %v; the earlier ones stay", err)
+		}
+		p.failed = err.Error()
+		return
+	}
+	p.now, p.changed, p.failed = &now, changed, ""
 	log.Print("certificates: read again")
 }
 

@@ -16,6 +16,7 @@ import (
 	"os"
 	"path/filepath"
 	"strings"
+	"sync"
 	"testing"
 	"time"
 )
@@ -48,7 +49,7 @@ func writePair(t *testing.T, folder string, serial int64, at time.Time) {
 func TestTLS(t *testing.T) {
 	folder := t.TempDir()
 	writePair(t, folder, 1, time.Now().Add(-time.Hour))
-	s := open(t, "-cert", filepath.Join(folder, "cert"), "-key", filepath.Join(folder, "key"), "-header-time", "1s", "-read-time", "2s")
+	s := open(t, "-cert", filepath.Join(folder, "cert"), "-key", filepath.Join(folder, "key"), "-header-time", "3s", "-read-time", "4s")
 	address := strings.TrimPrefix(s.url, "http://")
 	get := func(h2 bool) (*http.Response, error) {
 		transport := &http.Transport{TLSClientConfig: &tls.Config{InsecureSkipVerify: true}, ForceAttemptHTTP2: h2}
@@ -74,18 +75,18 @@ func TestTLS(t *testing.T) {
 	s.raw("\x16\x03\x01") // a handshake that is cut off
 	slowOverTLS(t, address)
 	writePair(t, folder, 2, time.Now())
-	for end := time.Now().Add(10 * time.Second); ; time.Sleep(100 * time.Millisecond) {
+	eventually(t, "the certificate is read again", func() bool {
 		got, err := get(true)
-		if err == nil && got.TLS.PeerCertificates[0].SerialNumber.Int64() == 2 {
-			break
-		} else if time.Now().After(end) {
-			t.Fatalf("the certificate isn't read again: %v", err)
-		}
-	}
+		return err == nil && got.TLS.PeerCertificates[0].SerialNumber.Int64() == 2
+	})
 	if err := os.WriteFile(filepath.Join(folder, "cert"), []byte("half"), 0o600); err != nil {
 		t.Fatal(err)
 	}
-	time.Sleep(1200 * time.Millisecond)
+	eventually(t, "the wrong certificate is read", func() bool {
+		s.pair.mu.Lock()
+		defer s.pair.mu.Unlock()
+		return s.pair.failed != ""
+	})
 	if got, err := get(true); err != nil || got.StatusCode != 200 {
 		t.Errorf("with a wrong certificate in the file: %v", err)
 	}
@@ -95,23 +96,30 @@ func TestTLS(t *testing.T) {
 // told why.
 func slowOverTLS(t *testing.T, address string) {
 	t.Helper()
+	var all sync.WaitGroup
+	defer all.Wait()
 	for bytes, want := range map[string]string{"\x16\x03\x01\x02": "", "": "", "GET /v1/sh": "408", "GET / HTTP/1.1\r\nHost: x\r\nA: b": "408",
 		begins("PUT", "/v1/shop/fr.txt", "Content-Length: 20\r\n\r\nfr{"): "408"} {
-		c, err := net.Dial("tcp", address)
-		if err != nil {
-			t.Fatal(err)
-		}
-		if !strings.HasPrefix(bytes, "\x16") {
-			c = tls.Client(c, &tls.Config{InsecureSkipVerify: true})
-		}
-		_ = c.SetDeadline(time.Now().Add(10 * time.Second))
-		if _, err := io.WriteString(c, bytes); err != nil {
-			t.Error(err)
-		}
-		text, err := io.ReadAll(c)
-		if statusOfText(string(text)) != want || strings.Count(string(text), "HTTP/1.1 ") > 1 || errors.Is(err, os.ErrDeadlineExceeded) {
-			t.Errorf("%q: %q, %v", bytes, text, err)
-		}
-		c.Close()
+		all.Add(1)
+		go func(bytes, want string) {
+			defer all.Done()
+			c, err := net.Dial("tcp", address)
+			if err != nil {
+				t.Error(err)
+				return
+			}
+			defer c.Close()
+			if !strings.HasPrefix(bytes, "\x16") {
+				c = tls.Client(c, &tls.Config{InsecureSkipVerify: true})
+			}
+			_ = c.SetDeadline(time.Now().Add(generous))
+			if _, err := io.WriteString(c, bytes); err != nil {
+				t.Error(err)
+			}
+			text, err := io.ReadAll(c)
+			if statusOfText(string(text)) != want || strings.Count(string(text), "HTTP/1.1 ") > 1 || errors.Is(err, os.ErrDeadlineExceeded) {
+				t.Errorf("%q: %q, %v", bytes, text, err)
+			}
+		}(bytes, want)
 	}
 }

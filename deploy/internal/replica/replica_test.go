@@ -50,9 +50,12 @@ func open(t *testing.T, folder string, options sqlite.Options) *Replica {
 	return r
 }
 
+// generous is how long tests wait for what must happen: on a busy machine all may take long.
+const generous = 2 * time.Minute
+
 func (r *Replica) awaitBoth(t *testing.T) {
 	t.Helper()
-	for end := time.Now().Add(20 * time.Second); !r.isWhole(); time.Sleep(time.Millisecond) {
+	for end := time.Now().Add(generous); !r.isWhole(); time.Sleep(time.Millisecond) {
 		if time.Now().After(end) {
 			t.Fatal("there aren't two servers")
 		}
@@ -60,7 +63,7 @@ func (r *Replica) awaitBoth(t *testing.T) {
 }
 
 func soon() (context.Context, context.CancelFunc) {
-	return context.WithTimeout(context.Background(), 20*time.Second)
+	return context.WithTimeout(context.Background(), generous)
 }
 
 // put installs or replaces a bundle, and returns the reply or the error.
