@@ -1,5 +1,5 @@
 #!/usr/bin/env python3
-"""Runs the commands that README.md and the pages of docs/ and tests/notes/ show, and compares what they print with what is written there.
+"""Runs the commands that README.md, the pages of docs/ and tests/notes/ and the files of tests/console/ show, and compares what they print with what is written there.
 
 A block that begins with ```console has commands, as they are typed: a line that begins with `$ ` is a command, lines after it
 that begin with `> ` are more of it, and all other lines up to the next command are what it prints, on standard output and
@@ -371,6 +371,7 @@ def main():
         print("".join(f"{line}\n" for line in differ), end="")
         wrong += len(differ)
         shown = [name for name in pages() if name.startswith(("docs/", "tests/notes/")) and "\n```console" in text_of(name)]
+        shown += sorted(os.path.relpath(file, TOP) for file in glob.glob(os.path.join(TOP, "tests", "console", "*.txt")))
         wrong += run_readme(chosen.program) + sum(run_page(name, chosen.program, chosen.given) for name in shown)
     else:
         print(f"skipped: {chosen.program} is not there")
