@@ -127,7 +127,7 @@ lookup_not_memory start shelf (Ok p) path =
     valid_path_not_memory (first_stop (bundle_at shelf) start.parents p.name)
     (look_up (bundle_at shelf) (bundle_at start.icudata) start.parents p.name (segments path)) (is_path path)
 
-answer_not_memory : (start : Start) (shelf : Shelf) (ask : Ask) → is_memory (answer_over start shelf ask) ≡ false
+pub answer_not_memory : (start : Start) (shelf : Shelf) (ask : Ask) → is_memory (answer_over start shelf ask) ≡ false
 answer_not_memory start shelf (Installs a l c) = install_not_memory (place_of a l) c shelf
 answer_not_memory start shelf (Replaces a l c) = replace_not_memory (place_of a l) c shelf
 answer_not_memory start shelf (Removes a l) = remove_not_memory (place_of a l) shelf

@@ -1,7 +1,7 @@
 -- Proves the steps of a request, by which of its checks pass.
 use Rattle.std.proofs.Common.{◌≡◌, ℕ, inl, inr, Bool, true, false, not, cond, List, [], ◌∷◌, ◌++◌, Option, Some, None, Result, Ok, Err, is_some}
 use Rattle.std.proofs.Common.{refl, sym, ap, subst}
-use Rattle.std.specs.Prelude.{codes, nat_eq, ◌⊎◌}
+use Rattle.std.specs.Prelude.{codes, is_ok, nat_eq, ◌⊎◌}
 use Rattle.std.specs.Cmp.Lexicographic.{pointwise}
 use Rattle.std.specs.Str.{bytes_eq}
 use Rattle.rb_tree.specs.SourceTree.{SourceTree}
@@ -128,14 +128,14 @@ brings_none changes.Replace app locale payload content reply s h n =
     unchanged (request.Replace app locale payload) (Replaces app locale content) reply s (content, h, refl)
     (λ start. n.replace (list_of app s)) (n.replaced_none (list_of app s))
 
-no_memory : (change : Change) (app locale : List ℕ) (payload : Payload) (s : Stored)
+no_memory : (change : Change) (app locale : List ℕ) (payload : Payload) (s : Stored) → is_ok (place_of app locale) ≡ true
     → Handles (change_request change app locale payload) Memory s s
-no_memory changes.Install app locale payload s = out_of_memory (request.Install app locale payload) s refl
-no_memory changes.Replace app locale payload s = out_of_memory (request.Replace app locale payload) s refl
+no_memory changes.Install app locale payload s h = out_of_memory (request.Install app locale payload) s h
+no_memory changes.Replace app locale payload s h = out_of_memory (request.Replace app locale payload) s h
 
 no_content : (change : Change) (app locale : List ℕ) (payload : Payload) (p : Place) (e : PayloadFault) (s : Stored)
     → place_of app locale ≡ Ok p → HasNone payload e → Handles (change_request change app locale payload) (unread_reply e) s s
-no_content change app locale payload p fault.Memory s h k = no_memory change app locale payload s
+no_content change app locale payload p fault.Memory s h k = no_memory change app locale payload s (rw h refl)
 no_content change app locale (Text bytes) p fault.BadText s h k =
     brings_none change app locale (Text bytes) (spelled None) BadText s (rw h k) (rw h (no_text p))
 no_content change app locale (File bytes) p fault.BadFile s h k =
@@ -210,7 +210,7 @@ pub not_installed : (app locale : List ℕ) (payload : Payload) (p : Place) (fil
     → (e ≡ pack.Memory) ⊎ (install_fault p.name (list_of p.app s) ≡ Some e)
     → Handles (request.Install app locale payload) (not_installed_reply e) s s
 not_installed app locale payload p file s e here k (inl m) =
-    rw m (out_of_memory (request.Install app locale payload) s refl)
+    rw m (out_of_memory (request.Install app locale payload) s (rw here refl))
 not_installed app locale payload p file s e here k (inr judged) =
     at_place app locale p (λ a. Handles (request.Install a locale payload) (not_installed_reply e) s s) here (λ h.
     by h (holds p.name (list_of p.app s)) (is_full (list_of p.app s)) refl refl judged)

@@ -1,10 +1,12 @@
 -- Defines histories of many applications on one engine, and states that no application sees another's bundles, a rule
 -- of this project.
-use Rattle.std.specs.Prelude.{◌≡◌, ◌≢◌, ℕ, Bool, true, false, List, [], ◌∷◌, ◌++◌, not, map, filter, ◌⊎◌}
+use Rattle.std.specs.Prelude.{◌≡◌, ◌≢◌, ℕ, Bool, true, false, List, [], ◌∷◌, ◌++◌, not, map, filter, ◌⊎◌, is_ok}
 use Rattle.std.specs.Str.{bytes_eq}
+use Rattle.rb_packages.specs.App.{app_of}
 use Rattle.rb_packages.specs.Shelf.{Shelf}
 use Rattle.rb_engine.specs.Ask.{Call, Requests, LooksUp, caller, Ask, Means}
 use Rattle.rb_engine.specs.Answer.{Start, Response, Replies, Finds, Refuses, answer_over, answer, bundles_after}
+use Rattle.rb_engine.specs.Place.{place_of}
 use Rattle.rb_engine.specs.declared.request.Request.TheVariants as request
 use Rattle.rb_engine.specs.declared.request.Reply.{Reply}
 use Rattle.rb_engine.specs.declared.request.Reply.TheVariants.{Memory}
@@ -32,12 +34,12 @@ is_memory (Replies reply) = is_memory_reply reply
 is_memory (Finds hit valid) = false
 is_memory (Refuses e) = false
 
--- the calls that may run out of memory: all except removals and lookups
+-- the calls that may run out of memory: changes with a payload, and lists, whose names are valid
 abbrev pub may_run_out_of_memory : Call → Bool
-may_run_out_of_memory (Requests (request.Install app locale payload)) = true
-may_run_out_of_memory (Requests (request.Replace app locale payload)) = true
+may_run_out_of_memory (Requests (request.Install app locale payload)) = is_ok (place_of app locale)
+may_run_out_of_memory (Requests (request.Replace app locale payload)) = is_ok (place_of app locale)
 may_run_out_of_memory (Requests (request.Remove app locale)) = false
-may_run_out_of_memory (Requests (request.List app)) = true
+may_run_out_of_memory (Requests (request.List app)) = is_ok (app_of app)
 may_run_out_of_memory (LooksUp app locale path) = false
 
 -- out of memory: nothing changes

@@ -82,8 +82,8 @@ impl Engine {
     /// the file as a bundle.
     ///
     /// Checks in this order: `BadApp`, `Reserved`, `BadLocale`, `BadText`, `BadFile`, `Exists`,
-    /// `Absent`, `Full`. `Memory` may come before any of them, except for a removal. A rejected
-    /// request changes nothing, and its payload is dropped.
+    /// `Absent`, `Full`. `Memory` may come once the names are checked, before any of the others,
+    /// except for a removal. A rejected request changes nothing, and its payload is dropped.
     ///
     /// ```rust
     /// engine.handle(alloc, Request::Install { app, locale, payload }) // Reply::Done

@@ -1,13 +1,17 @@
 -- Histories under limits, as one application sees them.
 use Rattle.std.proofs.Common.{◌≡◌, ◌≢◌, ◌⊎◌, ◌+◌, ◌&&◌, ℕ, inl, inr, Bool, true, false, not, cond, eqb, List, [], ◌∷◌, length, map, Option, Some, None}
 use Rattle.std.proofs.Common.{Result, Ok, Err, refl, sym, ◌∙◌, ap, subst}
+use Rattle.std.specs.Prelude.{MatchBool}
 use Rattle.std.specs.Str.{bytes_eq}
 use Rattle.std.proofs.lemmas.Slice.Eq.{bytes_eq-Decides}
 use Rattle.std.proofs.lemmas.Bool.{false≢true}
+use Rattle.rb_format.specs.File.{source_tree_of}
+use Rattle.rb_compiler.proofs.Compiling.{one_compiled}
 use Rattle.rb_packages.specs.Packages.{Files, files_of, list_of, shelf_of}
 use Rattle.rb_packages.specs.Usage.{apps_of}
 use Rattle.rb_engine.specs.Ask.{Call, Requests, LooksUp, Ask, caller}
 use Rattle.rb_engine.specs.Answer.{Start, Response, answer_over}
+use Rattle.rb_engine.specs.Change.{IsFileOf}
 use Rattle.rb_engine.specs.History.{AsksOne}
 use Rattle.rb_engine.specs.Kept.{Kept, state_of}
 use Rattle.rb_engine.specs.Place.{place_of}
@@ -15,15 +19,45 @@ use Rattle.rb_engine.specs.declared.handle.Change.{Change}
 use Rattle.rb_engine.specs.declared.handle.Change.TheVariants as made
 use Rattle.rb_engine.specs.declared.place.Place.{Place}
 use Rattle.rb_engine.specs.declared.request.Payload.{Payload}
+use Rattle.rb_engine.specs.declared.request.Payload.TheVariants.{Text, File}
 use Rattle.rb_engine.specs.declared.request.Request.TheVariants as request
 use Rattle.rb_engine.proofs.StepLemmas.{app-place_of}
 use Rattle.rb_limits.specs.Limits.{is_over, payload_len, len_at, takes_place, used_with}
 use Rattle.rb_limits.specs.Limits.{file_refusal, brought_refusal, change_refusal, steps_refusal, call_refusal}
-use Rattle.rb_limits.specs.Steps.{Outcome, Answers, Refuses, Starves, IsRefused, IsAnswered, LimitedStep, files_then}
+use Rattle.rb_limits.specs.Steps.{Outcome, Answers, Refuses, Brings, BringsAt, CallBrings, Starves, IsRefused, IsAnswered, IsJudged, CallComesTo, files_then}
 use Rattle.rb_limits.specs.History.{Turn, Run, turns_of, asked_by, outcomes_to, ran_out_of_memory, was_one_too_many, IsIsolatedWithin}
 use Rattle.rb_limits.specs.declared.limits.Limits.{Limits}
 use Rattle.rb_limits.specs.declared.limits.Refusal.{Refusal}
 use Rattle.rb_limits.specs.declared.limits.Refusal.TheVariants.{BundleTooLong, OverQuota, TooManyApps, TooManySteps}
+
+-- ---- a call has at most one file
+
+one_file : (payload : Payload) (file other : List ℕ) → IsFileOf payload file → IsFileOf payload other → file ≡ other
+one_file (Text bytes) file other f g = one_compiled bytes file other f g
+one_file (File bytes) file other f g = f ∙ sym g
+
+one_brought : (payload : Payload) (a b : Option (List ℕ)) → Brings payload a → Brings payload b → a ≡ b
+one_brought payload None None f g = refl
+one_brought payload None (Some other) f g = absurd (f (source_tree_of other) g.0)
+one_brought payload (Some file) None f g = absurd (g (source_tree_of file) f.0)
+one_brought payload (Some file) (Some other) f g = ap (λ (x : List ℕ). Some x) (one_file payload file other f.1 g.1)
+
+one_if_read : (long : Bool) (payload : Payload) (a b : Option (List ℕ)) → MatchBool long (a ≡ None) (Brings payload a)
+    → MatchBool long (b ≡ None) (Brings payload b) → a ≡ b
+one_if_read true payload a b f g = f ∙ sym g
+one_if_read false payload a b f g = one_brought payload a b f g
+
+one_at : {E : Type 0} (limits : Limits) (r : Result Place E) (payload : Payload) (a b : Option (List ℕ)) → BringsAt limits r payload a
+    → BringsAt limits r payload b → a ≡ b
+one_at limits (Err e) payload a b f g = f ∙ sym g
+one_at limits (Ok p) payload a b f g = one_if_read (is_over limits.bundle_bytes (payload_len payload)) payload a b f g
+
+one_of_call : (limits : Limits) (call : Call) (a b : Option (List ℕ)) → CallBrings limits call a → CallBrings limits call b → a ≡ b
+one_of_call limits (Requests (request.Install app locale payload)) a b f g = one_at limits (place_of app locale) payload a b f g
+one_of_call limits (Requests (request.Replace app locale payload)) a b f g = one_at limits (place_of app locale) payload a b f g
+one_of_call limits (Requests (request.Remove app locale)) a b f g = f ∙ sym g
+one_of_call limits (Requests (request.List app)) a b f g = f ∙ sym g
+one_of_call limits (LooksUp app locale path) a b f g = f ∙ sym g
 
 -- ---- one call from two states that are the same to its caller
 
@@ -173,40 +207,37 @@ answers_same one limits k k' l l' call brought a b h p q =
           ∙ ap (files_then call brought q.response) h.files ∙ sym q.own;
     }
 
-starves_flag : (k : Kept) (call : Call) (o : Outcome) (k' : Kept) → Starves k call o k' → ran_out_of_memory o ≡ true
-starves_flag k call o k' h = ap ran_out_of_memory h.memory
+starves_flag : (limits : Limits) (k : Kept) (call : Call) (o : Outcome) (k' : Kept) → Starves limits k call o k' → ran_out_of_memory o ≡ true
+starves_flag limits k call o k' h = ap ran_out_of_memory h.memory
 
-refused_flag : (limits : Limits) (k : Kept) (call : Call) (brought : Option (List ℕ)) (o : Outcome) (k' : Kept) → IsRefused limits k call brought o k'
+judged_flag : (limits : Limits) (k : Kept) (call : Call) (brought : Option (List ℕ)) (o : Outcome) (k' : Kept) → IsJudged limits k call brought o k'
     → ran_out_of_memory o ≡ false
-refused_flag limits k call brought o k' h = ap ran_out_of_memory h.word
+judged_flag limits k call brought o k' (inl h) = ap ran_out_of_memory h.word
+judged_flag limits k call brought o k' (inr h) = ap ran_out_of_memory h.answer ∙ h.told
 
-answered_flag : (limits : Limits) (k : Kept) (call : Call) (brought : Option (List ℕ)) (o : Outcome) (k' : Kept) → IsAnswered limits k call brought o k'
-    → ran_out_of_memory o ≡ false
-answered_flag limits k call brought o k' h = ap ran_out_of_memory h.answer ∙ h.told
+judged_same : AsksOne → (limits : Limits) (k k' l l' : Kept) (call : Call) (brought : Option (List ℕ)) (a b : Outcome)
+    → IsSame (caller call) k l → IsJudged limits k call brought a k' → IsJudged limits l call brought b l'
+    → was_one_too_many a ≡ was_one_too_many b → ComesToSame (caller call) a b k' l'
+judged_same one limits k k' l l' call brought a b h (inl p) (inl q) g = refusals_same limits k k' l l' call brought a b h g p q
+judged_same one limits k k' l l' call brought a b h (inl p) (inr q) g = absurd (not_both limits k k' l l' call brought a b h g p q)
+judged_same one limits k k' l l' call brought a b h (inr p) (inl q) g =
+    absurd (not_both limits l l' k k' call brought b a (record { start = sym h.start; files = sym h.files }) (sym g) q p)
+judged_same one limits k k' l l' call brought a b h (inr p) (inr q) g = answers_same one limits k k' l l' call brought a b h p q
 
-step_same : AsksOne → (limits : Limits) (k k' l l' : Kept) (call : Call) (brought : Option (List ℕ)) (a b : Outcome)
-    → IsSame (caller call) k l → LimitedStep limits k call brought a k' → LimitedStep limits l call brought b l'
+step_same : AsksOne → (limits : Limits) (k k' l l' : Kept) (call : Call) (a b : Outcome)
+    → IsSame (caller call) k l → CallComesTo limits k call a k' → CallComesTo limits l call b l'
     → ran_out_of_memory a ≡ ran_out_of_memory b → was_one_too_many a ≡ was_one_too_many b → ComesToSame (caller call) a b k' l'
-step_same one limits k k' l l' call brought a b h (inl (p, x)) (inl (q, y)) f g = record {
+step_same one limits k k' l l' call a b h (inl p) (inl q) f g = record {
   outcome = p.memory ∙ sym q.memory;
   files = ap (λ (x : Kept). files_of (caller call) x.packages) p.same ∙ h.files ∙ ap (λ (x : Kept). files_of (caller call) x.packages) (sym q.same);
 }
-step_same one limits k k' l l' call brought a b h (inl (p, x)) (inr (y, inl q)) f g =
-    absurd (false≢true (sym (refused_flag limits l call brought b l' q) ∙ sym f ∙ starves_flag k call a k' p))
-step_same one limits k k' l l' call brought a b h (inl (p, x)) (inr (y, inr q)) f g =
-    absurd (false≢true (sym (answered_flag limits l call brought b l' q) ∙ sym f ∙ starves_flag k call a k' p))
-step_same one limits k k' l l' call brought a b h (inr (x, inl p)) (inl (q, y)) f g =
-    absurd (false≢true (sym (refused_flag limits k call brought a k' p) ∙ f ∙ starves_flag l call b l' q))
-step_same one limits k k' l l' call brought a b h (inr (x, inr p)) (inl (q, y)) f g =
-    absurd (false≢true (sym (answered_flag limits k call brought a k' p) ∙ f ∙ starves_flag l call b l' q))
-step_same one limits k k' l l' call brought a b h (inr (x, inl p)) (inr (y, inl q)) f g =
-    refusals_same limits k k' l l' call brought a b h g p q
-step_same one limits k k' l l' call brought a b h (inr (x, inl p)) (inr (y, inr q)) f g =
-    absurd (not_both limits k k' l l' call brought a b h g p q)
-step_same one limits k k' l l' call brought a b h (inr (x, inr p)) (inr (y, inl q)) f g =
-    absurd (not_both limits l l' k k' call brought b a (record { start = sym h.start; files = sym h.files }) (sym g) q p)
-step_same one limits k k' l l' call brought a b h (inr (x, inr p)) (inr (y, inr q)) f g =
-    answers_same one limits k k' l l' call brought a b h p q
+step_same one limits k k' l l' call a b h (inl p) (inr (x, brings, q)) f g =
+    absurd (false≢true (sym (judged_flag limits l call x b l' q) ∙ sym f ∙ starves_flag limits k call a k' p))
+step_same one limits k k' l l' call a b h (inr (x, brings, p)) (inl q) f g =
+    absurd (false≢true (sym (judged_flag limits k call x a k' p) ∙ f ∙ starves_flag limits l call b l' q))
+step_same one limits k k' l l' call a b h (inr (x, brings, p)) (inr (y, brings', q)) f g =
+    judged_same one limits k k' l l' call x a b h p
+    (subst (λ (z : Option (List ℕ)). IsJudged limits l call z b l') (one_of_call limits call y x brings' brings) q) g
 
 -- ---- an application's own turns, each a step from a state with the files that the one before it left
 
@@ -214,37 +245,36 @@ abbrev Comes : Limits → List ℕ → Start → Files → Files → List Turn �
 Comes limits app start files last [] = files ≡ last
 Comes limits app start files last (turn ∷ turns) =
     (k k' : Kept) × (caller turn.call ≡ app) × ((state_of k).start ≡ start) × (files_of app k.packages ≡ files)
-    × LimitedStep limits k turn.call turn.brought turn.outcome k' × Comes limits app start (files_of app k'.packages) last turns
+    × CallComesTo limits k turn.call turn.outcome k' × Comes limits app start (files_of app k'.packages) last turns
 
 moved : (limits : Limits) (app : List ℕ) (last : Files) (turns : List Turn) (s t : Start) (x y : Files) → s ≡ t → x ≡ y
     → Comes limits app s x last turns → Comes limits app t y last turns
 moved limits app last turns s t x y e f h =
     subst (λ (z : Files). Comes limits app t z last turns) f (subst (λ (z : Start). Comes limits app z x last turns) e h)
 
-step_start : (limits : Limits) (k k' : Kept) (call : Call) (brought : Option (List ℕ)) (o : Outcome) → LimitedStep limits k call brought o k'
-    → (state_of k').start ≡ (state_of k).start
-step_start limits k k' call brought o (inl (p, x)) = ap (λ (z : Kept). (state_of z).start) p.same
-step_start limits k k' call brought o (inr (x, inl p)) = ap (λ (z : Kept). (state_of z).start) p.same
-step_start limits k k' call brought o (inr (x, inr p)) = p.answered.start
+step_start : (limits : Limits) (k k' : Kept) (call : Call) (o : Outcome) → CallComesTo limits k call o k' → (state_of k').start ≡ (state_of k).start
+step_start limits k k' call o (inl p) = ap (λ (z : Kept). (state_of z).start) p.same
+step_start limits k k' call o (inr (x, y, inl p)) = ap (λ (z : Kept). (state_of z).start) p.same
+step_start limits k k' call o (inr (x, y, inr p)) = p.answered.start
 
-pub step_others : (limits : Limits) (k k' : Kept) (call : Call) (brought : Option (List ℕ)) (o : Outcome) (app : List ℕ)
-    → LimitedStep limits k call brought o k' → app ≢ caller call → files_of app k'.packages ≡ files_of app k.packages
-step_others limits k k' call brought o app (inl (p, x)) n = ap (λ (z : Kept). files_of app z.packages) p.same
-step_others limits k k' call brought o app (inr (x, inl p)) n = ap (λ (z : Kept). files_of app z.packages) p.same
-step_others limits k k' call brought o app (inr (x, inr p)) n = p.others app n
+step_others : (limits : Limits) (k k' : Kept) (call : Call) (o : Outcome) (app : List ℕ) → CallComesTo limits k call o k' → app ≢ caller call
+    → files_of app k'.packages ≡ files_of app k.packages
+step_others limits k k' call o app (inl p) n = ap (λ (z : Kept). files_of app z.packages) p.same
+step_others limits k k' call o app (inr (x, y, inl p)) n = ap (λ (z : Kept). files_of app z.packages) p.same
+step_others limits k k' call o app (inr (x, y, inr p)) n = p.others app n
 
 one_turn : (limits : Limits) (app : List ℕ) (last : Files) (s mid : Kept) (turn : Turn) (rest : List Turn) (b : Bool)
-    → bytes_eq (caller turn.call) app ≡ b → LimitedStep limits s turn.call turn.brought turn.outcome mid
+    → bytes_eq (caller turn.call) app ≡ b → CallComesTo limits s turn.call turn.outcome mid
     → Comes limits app (state_of mid).start (files_of app mid.packages) last (turns_of app rest)
     → Comes limits app (state_of s).start (files_of app s.packages) last (turns_of app (turn ∷ rest))
 one_turn limits app last s mid turn rest true e step later =
     let own : caller turn.call ≡ app = (bytes_eq-Decides (caller turn.call) app).0 e in
-    let start = step_start limits s mid turn.call turn.brought turn.outcome step in
+    let start = step_start limits s mid turn.call turn.outcome step in
     rw e (s, mid, own, refl, refl, step, moved limits app last (turns_of app rest) _ _ _ _ start refl later)
 one_turn limits app last s mid turn rest false e step later =
     let other : app ≢ caller turn.call = λ h. false≢true (sym e ∙ (bytes_eq-Decides (caller turn.call) app).1 (sym h)) in
-    let start = step_start limits s mid turn.call turn.brought turn.outcome step in
-    let files = step_others limits s mid turn.call turn.brought turn.outcome app step other in
+    let start = step_start limits s mid turn.call turn.outcome step in
+    let files = step_others limits s mid turn.call turn.outcome app step other in
     rw e (moved limits app last (turns_of app rest) _ _ _ _ start files later)
 
 run_comes : (limits : Limits) (app : List ℕ) (s end : Kept) (history : List Turn) → Run limits s history end
@@ -254,10 +284,10 @@ run_comes limits app s end (turn ∷ rest) (mid, step, r) =
     one_turn limits app (files_of app end.packages) s mid turn rest (bytes_eq (caller turn.call) app) refl step (run_comes limits app mid end rest r)
 
 abbrev Asked : Type 0
-Asked = Call × Option (List ℕ) × Bool × Bool
+Asked = Call × Bool × Bool
 
 abbrev asked : Turn → Asked
-asked turn = (turn.call, turn.brought, ran_out_of_memory turn.outcome, was_one_too_many turn.outcome)
+asked turn = (turn.call, ran_out_of_memory turn.outcome, was_one_too_many turn.outcome)
 
 abbrev outcomes : List Turn → List Outcome
 outcomes turns = map (λ (t : Turn). t.outcome) turns
@@ -273,16 +303,14 @@ turns_same one limits app start files files' last last' (t ∷ ts) (u ∷ us) f 
     let same : asked t ≡ asked u = cc in
     let rest : map asked ts ≡ map asked us = cc in
     let call : u.call ≡ t.call = sym (ap (λ (a : Asked). a.0) same) in
-    let brought : u.brought ≡ t.brought = sym (ap (λ (a : Asked). a.1) same) in
-    let flag : ran_out_of_memory t.outcome ≡ ran_out_of_memory u.outcome = ap (λ (a : Asked). a.2) same in
-    let many : was_one_too_many t.outcome ≡ was_one_too_many u.outcome = ap (λ (a : Asked). a.3) same in
-    let other = subst (λ (c : Call). LimitedStep limits l c t.brought u.outcome l') call
-    (subst (λ (b : Option (List ℕ)). LimitedStep limits l u.call b u.outcome l') brought step') in
+    let flag : ran_out_of_memory t.outcome ≡ ran_out_of_memory u.outcome = ap (λ (a : Asked). a.1) same in
+    let many : was_one_too_many t.outcome ≡ was_one_too_many u.outcome = ap (λ (a : Asked). a.2) same in
+    let other = subst (λ (c : Call). CallComesTo limits l c u.outcome l') call step' in
     let begun : IsSame (caller t.call) k l = record {
       start = s ∙ sym s';
       files = subst (λ (a : List ℕ). files_of a k.packages ≡ files_of a l.packages) (sym own) (w ∙ f ∙ sym w');
     } in
-    let done = step_same one limits k k' l l' t.call t.brought t.outcome u.outcome begun step other flag many in
+    let done = step_same one limits k k' l l' t.call t.outcome u.outcome begun step other flag many in
     let left = subst (λ (a : List ℕ). files_of a k'.packages ≡ files_of a l'.packages) own done.files in
     let more = turns_same one limits app start (files_of app k'.packages) (files_of app l'.packages) last last' ts us left later later' rest in
     (ap (λ (o : Outcome). o ∷ outcomes ts) done.outcome ∙ ap (λ os. u.outcome ∷ os) more.0, more.1)

@@ -30,7 +30,7 @@ use Rattle.rb_engine.specs.declared.request.Reply.TheVariants as reply
 use Rattle.rb_engine.specs.declared.request.Request.TheVariants as request
 use Rattle.rb_engine.proofs.StepLemmas.{app-place_of}
 use Rattle.rb_limits.specs.Limits.{is_over, payload_len, len_at, takes_place, used_with, file_refusal, change_refusal, call_refusal}
-use Rattle.rb_limits.specs.Steps.{Outcome, Starves, IsRefused, IsAnswered, LimitedStep, put_file, taken_out, files_done, files_then}
+use Rattle.rb_limits.specs.Steps.{Outcome, Starves, IsRefused, IsAnswered, CallComesTo, put_file, taken_out, files_done, files_then}
 use Rattle.rb_limits.specs.History.{Turn, Run, IsWithinQuota}
 use Rattle.rb_limits.specs.declared.limits.Limits.{Limits}
 use Rattle.rb_limits.specs.declared.limits.Refusal.{Refusal}
@@ -252,12 +252,11 @@ answered_within limits most k k' call brought o l m h a =
       | inr same ↦ rw same h
     ])
 
-step_within : (limits : Limits) (most : ℕ) (app : List ℕ) (k k' : Kept) (call : Call) (brought : Option (List ℕ)) (o : Outcome)
-    → limits.app_bytes ≡ Some most → most ≤ 2 ^ 64 - 1 → LimitedStep limits k call brought o k' → bytes_of (files_of app k.packages) ≤ most
-    → bytes_of (files_of app k'.packages) ≤ most
-step_within limits most app k k' call brought o l m (inl (p, x)) h = rw p.same h
-step_within limits most app k k' call brought o l m (inr (x, inl p)) h = rw p.same h
-step_within limits most app k k' call brought o l m (inr (x, inr p)) h = by (bytes_eq (caller call) app) refl
+step_within : (limits : Limits) (most : ℕ) (app : List ℕ) (k k' : Kept) (call : Call) (o : Outcome) → limits.app_bytes ≡ Some most → most ≤ 2 ^ 64 - 1
+    → CallComesTo limits k call o k' → bytes_of (files_of app k.packages) ≤ most → bytes_of (files_of app k'.packages) ≤ most
+step_within limits most app k k' call o l m (inl p) h = rw p.same h
+step_within limits most app k k' call o l m (inr (x, y, inl p)) h = rw p.same h
+step_within limits most app k k' call o l m (inr (brought, y, inr p)) h = by (bytes_eq (caller call) app) refl
   where
     by : (b : Bool) → bytes_eq (caller call) app ≡ b → bytes_of (files_of app k'.packages) ≤ most
     by true e =
@@ -271,4 +270,4 @@ step_within limits most app k k' call brought o l m (inr (x, inr p)) h = by (byt
 pub within_quota : IsWithinQuota
 within_quota limits most app s end [] l m h r = rw r h
 within_quota limits most app s end (turn ∷ turns) l m h (mid, step, r) =
-    within_quota limits most app mid end turns l m (step_within limits most app s mid turn.call turn.brought turn.outcome l m step h) r
+    within_quota limits most app mid end turns l m (step_within limits most app s mid turn.call turn.outcome l m step h) r

@@ -2,7 +2,7 @@
 use Rattle.std.proofs.Common.{◌≡◌, ◌≢◌, ◌⊎◌, ℕ, inl, inr, Bool, true, false, not, cond, List, length, Option, Some, None, Result, Ok, Err, refl, sym, ◌∙◌, ap, subst}
 use Rattle.std.specs.Map.{remove_entry}
 use Rattle.std.specs.Str.{bytes_eq}
-use Rattle.std.specs.Prelude.{MatchBool}
+use Rattle.std.specs.Prelude.{MatchBool, is_ok}
 use Rattle.std.proofs.lemmas.Bool.{false≢true}
 use Rattle.rb_tree.specs.Resource.{Resource}
 use Rattle.rb_tree.specs.SourceTree.{SourceTree}
@@ -29,10 +29,12 @@ use Rattle.rb_engine.specs.declared.request.Payload.TheVariants.{Text, File}
 use Rattle.rb_engine.specs.declared.request.Reply.{Reply}
 use Rattle.rb_engine.specs.declared.request.Reply.TheVariants as reply
 use Rattle.rb_engine.specs.declared.request.Request.TheVariants as request
+use Rattle.rb_engine.proofs.Histories.{answer_not_memory}
 use Rattle.rb_engine.proofs.StepLemmas.{app-place_of}
 use Rattle.rb_engine.proofs.Unread.{none_brought}
 use Rattle.rb_limits.specs.Limits.{is_over, payload_len, file_refusal, change_refusal, call_refusal}
-use Rattle.rb_limits.specs.Steps.{Outcome, Answers, Refuses, Brings, BringsAt, CallBrings, Starves, IsRefused, IsAnswered, CallComesTo, put_file, taken_out, files_then}
+use Rattle.rb_limits.specs.Steps.{Outcome, Answers, Refuses, Brings, BringsAt, CallBrings, is_read, may_starve, Starves, IsRefused, IsAnswered, CallComesTo}
+use Rattle.rb_limits.specs.Steps.{put_file, taken_out, files_then}
 use Rattle.rb_limits.specs.inner.LongPayload.{long_payload}
 use Rattle.rb_limits.specs.declared.limits.Limits.{Limits}
 use Rattle.rb_limits.specs.declared.limits.Refusal.{Refusal}
@@ -57,9 +59,15 @@ refusal_is : (limits : Limits) (k : Kept) (made : Change) (app locale : List ℕ
 refusal_is limits k change.Install app locale payload brought = refl
 refusal_is limits k change.Replace app locale payload brought = refl
 
-may_run_out : (made : Change) (app locale : List ℕ) (payload : Payload) → may_run_out_of_memory (asks made app locale payload) ≡ true
-may_run_out change.Install app locale payload = refl
-may_run_out change.Replace app locale payload = refl
+read_starves : (limits : Limits) (made : Change) (app locale : List ℕ) (payload : Payload) → is_read limits (place_of app locale) payload ≡ true
+    → may_starve limits (asks made app locale payload) ≡ true
+read_starves limits change.Install app locale payload h = h
+read_starves limits change.Replace app locale payload h = h
+
+named_place : (made : Change) (app locale : List ℕ) (payload : Payload) → may_run_out_of_memory (asks made app locale payload) ≡ true
+    → is_ok (place_of app locale) ≡ true
+named_place change.Install app locale payload h = h
+named_place change.Replace app locale payload h = h
 
 files_put : (made : Change) (app locale : List ℕ) (payload : Payload) (brought : Option (List ℕ)) (files : Files)
     → files_then (asks made app locale payload) brought (Replies reply.Done) files ≡ put_file made (place_of app locale) brought files
@@ -92,6 +100,14 @@ not_memory : (k k' : Kept) (call : Call) (r : Reply) → Step (state_of k) call 
 not_memory k k' call r (inl s) m = let e : is_memory (Replies r) ≡ true = ap is_memory s.memory in absurd (false≢true (sym m ∙ e))
 not_memory k k' call r (inr s) m = s
 
+-- memory runs out only where the engine says so
+starved_may : (k k' : Kept) (call : Call) (r : Reply) → Step (state_of k) call (Replies r) (state_of k') → r ≡ reply.Memory
+    → may_run_out_of_memory call ≡ true
+starved_may k k' call r (inl s) m = s.may
+starved_may k k' call r (inr s) m =
+    let answered : is_memory (Replies r) ≡ false = ap is_memory s.right ∙ answer_not_memory _ _ s.ask in
+    absurd (false≢true (sym answered ∙ ap is_memory_reply m))
+
 same_answered : (limits : Limits) (k : Kept) (call : Call) (brought : Option (List ℕ)) (response : Response) → call_refusal limits k call brought ≡ None
     → Answered (state_of k) call response (state_of k) → is_memory response ≡ false
     → files_then call brought response (files_of (caller call) k.packages) ≡ files_of (caller call) k.packages
@@ -111,7 +127,7 @@ same_answered limits k call brought response free answered told files = record {
 
 -- a call that changes nothing
 pub unchanged : (limits : Limits) (k : Kept) (call : Call) (brought : Option (List ℕ)) (r : Reply) → CallBrings limits call brought
-    → call_refusal limits k call brought ≡ None → may_run_out_of_memory call ≡ true → Step (state_of k) call (Replies r) (state_of k)
+    → call_refusal limits k call brought ≡ None → (r ≡ reply.Memory → may_starve limits call ≡ true) → Step (state_of k) call (Replies r) (state_of k)
     → (r ≡ reply.Done → files_then call brought (Replies reply.Done) (files_of (caller call) k.packages) ≡ files_of (caller call) k.packages)
     → CallComesTo limits k call (Answers (Replies r)) k
 unchanged limits k call brought r brings free may step files = by (told call brought r)
@@ -121,7 +137,7 @@ unchanged limits k call brought r brings free may step files = by (told call bro
         let answered = not_memory k k call r step (ap is_memory_reply e) in
         let kept = subst (λ (x : Reply). files_then call brought (Replies x) (files_of (caller call) k.packages) ≡ files_of (caller call) k.packages) (sym e) (files e) in
         inr (brought, brings, inr (same_answered limits k call brought (Replies r) free answered (ap is_memory_reply e) kept))
-    by (memory e) = inl (record { memory = ap (λ (x : Reply). Answers (Replies x)) e; may = may; same = refl })
+    by (memory e) = inl (record { memory = ap (λ (x : Reply). Answers (Replies x)) e; may = may e; same = refl })
     by (other n m f) = inr (brought, brings, inr (same_answered limits k call brought (Replies r) free (not_memory k k call r step m) m (f _)))
 
 -- ---- payloads
@@ -130,6 +146,21 @@ is_place : {E : Type 0} (limits : Limits) (r : Result Place E) (payload : Payloa
     → (p : Place) × (r ≡ Ok p) × (is_over limits.bundle_bytes (payload_len payload) ≡ true)
 is_place limits (Err e) payload h = absurd (false≢true h)
 is_place limits (Ok p) payload h = (p, refl, h)
+
+-- a payload that isn't too long is read under valid names
+pub read_short : {E : Type 0} (limits : Limits) (r : Result Place E) (payload : Payload) → is_ok r ≡ true → long_payload limits r payload ≡ false
+    → is_read limits r payload ≡ true
+read_short limits (Err e) payload is h = absurd (false≢true is)
+read_short limits (Ok p) payload is h = rw h refl
+
+not_true : (b : Bool) → not b ≡ true → b ≡ false
+not_true true h = absurd (false≢true h)
+not_true false h = refl
+
+pub short_read : {E : Type 0} (limits : Limits) (r : Result Place E) (payload : Payload) → is_read limits r payload ≡ true
+    → long_payload limits r payload ≡ false
+short_read limits (Err e) payload h = refl
+short_read limits (Ok p) payload h = not_true (is_over limits.bundle_bytes (payload_len payload)) h
 
 -- a payload that is too long
 pub too_long : (limits : Limits) (k : Kept) (made : Change) (app locale : List ℕ) (payload : Payload)
@@ -165,14 +196,26 @@ read_nothing limits app locale payload r long (inr (p, e, is, none, x)) = elim (
   | inr brings ↦ let short = rw is at long in inr (rw (is, short) brings)
 ]
 
+-- if memory ran out for a payload, it was read
+out_if_read : (limits : Limits) (k : Kept) (made : Change) (app locale : List ℕ) (payload : Payload) (r : Reply)
+    → long_payload limits (place_of app locale) payload ≡ false → Step (state_of k) (asks made app locale payload) (Replies r) (state_of k)
+    → r ≡ reply.Memory → may_starve limits (asks made app locale payload) ≡ true
+out_if_read limits k made app locale payload r long step m =
+    let named = named_place made app locale payload (starved_may k k (asks made app locale payload) r step m) in
+    read_starves limits made app locale payload (read_short limits (place_of app locale) payload named long)
+
 pub not_read : (limits : Limits) (k : Kept) (made : Change) (app locale : List ℕ) (payload : Payload) (r : Reply)
     → long_payload limits (place_of app locale) payload ≡ false → Reads app locale payload (Err r)
     → Step (state_of k) (asks made app locale payload) (Replies r) (state_of k) → CallComesTo limits k (asks made app locale payload) (Answers (Replies r)) k
 not_read limits k made app locale payload r long reads step = elim (read_nothing limits app locale payload r long reads) [
-  | inl m ↦ inl (record { memory = ap (λ (x : Reply). Answers (Replies x)) m; may = may_run_out made app locale payload; same = refl })
+  | inl m ↦ inl (record {
+    memory = ap (λ (x : Reply). Answers (Replies x)) m;
+    may = out_if_read limits k made app locale payload r long step m;
+    same = refl;
+  })
   | inr brings ↦ unchanged limits k (asks made app locale payload) None r (brings_is limits made app locale payload None brings)
-      (refusal_is limits k made app locale payload None ∙ unread_free limits k made (place_of app locale) payload long) (may_run_out made app locale payload)
-      step (λ e. files_put made app locale payload None _ ∙ put_nothing made (place_of app locale) _)
+      (refusal_is limits k made app locale payload None ∙ unread_free limits k made (place_of app locale) payload long)
+      (out_if_read limits k made app locale payload r long step) step (λ e. files_put made app locale payload None _ ∙ put_nothing made (place_of app locale) _)
 ]
 
 -- ---- a bundle that was read
@@ -233,12 +276,24 @@ module _ (limits : Limits) (k : Kept) (made : Change) (app locale : List ℕ) (p
           (inr (Some file, read_brings, inr (put_done k' free answered (own e) others parents)))
       by (memory e) =
           let not_done : r ≢ reply.Done = λ d. let x : reply.Memory ≡ reply.Done = sym e ∙ d in cc in
-          inl (record { memory = ap (λ (x : Reply). Answers (Replies x)) e; may = may_run_out made app locale payload; same = same not_done })
+          inl (record {
+            memory = ap (λ (x : Reply). Answers (Replies x)) e;
+            may = read_starves limits made app locale payload (read_short limits (place_of app locale) payload (ap is_ok reads.0) long);
+            same = same not_done;
+          })
       by (other n m f) =
           let at_k = subst (λ (x : Kept). Step (state_of k) (asks made app locale payload) (Replies r) (state_of x)) (same n) step in
           let answered = not_memory k k (asks made app locale payload) r at_k m in
           subst (λ (x : Kept). CallComesTo limits k (asks made app locale payload) (Answers (Replies r)) x) (sym (same n))
           (inr (Some file, read_brings, inr (same_answered limits k (asks made app locale payload) (Some file) (Replies r) (read_refusal ∙ sym free) answered m (f _))))
+
+-- a replacement that is put doesn't run out of memory
+pub install_alone : (made : Change) (r : Reply) → (made ≡ change.Replace → r ≢ reply.Memory) → r ≡ reply.Memory → made ≡ change.Install
+install_alone change.Install r never m = refl
+install_alone change.Replace r never m = absurd (never refl m)
+
+pub is_reply : (a b : Reply) → Answers (Replies a) ≡ Answers (Replies b) → a ≡ b
+is_reply a b h = cc
 
 -- ---- the other calls
 
@@ -307,7 +362,8 @@ removed limits k k' app locale r step h parents same never = by (told (Requests 
 
 pub listed : (limits : Limits) (k : Kept) (app : List ℕ) (r : Reply) → Step (state_of k) (Requests (request.List app)) (Replies r) (state_of k)
     → CallComesTo limits k (Requests (request.List app)) (Answers (Replies r)) k
-listed limits k app r step = unchanged limits k (Requests (request.List app)) None r refl refl refl step (λ e. refl)
+listed limits k app r step =
+    unchanged limits k (Requests (request.List app)) None r refl refl (starved_may k k (Requests (request.List app)) r step) step (λ e. refl)
 
 look_answered : (k : Kept) (app locale path : List ℕ) (response : Response)
     → response ≡ answer_over (state_of k).start ((state_of k).lists app) (Looks app locale path) → Answered (state_of k) (LooksUp app locale path) response (state_of k)

@@ -1,27 +1,26 @@
 -- Defines histories of many applications under limits, and states that the applications are isolated, a rule of this
 -- project.
-use Rattle.std.specs.Prelude.{◌≡◌, ◌≤◌, ◌^◌, ◌-◌, ℕ, Bool, true, false, List, [], ◌∷◌, Option, Some, None, map, filter}
+use Rattle.std.specs.Prelude.{◌≡◌, ◌≤◌, ◌^◌, ◌-◌, ℕ, Bool, true, false, List, [], ◌∷◌, Some, map, filter}
 use Rattle.std.specs.Str.{bytes_eq}
 use Rattle.rb_packages.specs.Packages.{files_of}
 use Rattle.rb_packages.specs.Usage.{bytes_of}
 use Rattle.rb_engine.specs.Ask.{Call, caller}
 use Rattle.rb_engine.specs.History.{is_memory}
 use Rattle.rb_engine.specs.Kept.{Kept, state_of}
-use Rattle.rb_limits.specs.Steps.{Outcome, Answers, Refuses, LimitedStep}
+use Rattle.rb_limits.specs.Steps.{Outcome, Answers, Refuses, CallComesTo}
 use Rattle.rb_limits.specs.declared.limits.Limits.{Limits}
 use Rattle.rb_limits.specs.declared.limits.Refusal.TheVariants.{TooManyApps}
 
--- a call with the file of its payload's bundle, if any, and its outcome
+-- a call and its outcome
 pub record Turn : Type 0 where
   pub call : Call
-  pub brought : Option (List ℕ)
   pub outcome : Outcome
 
 -- a sequence of steps
 abbrev pub Run : Limits → Kept → List Turn → Kept → Type 0
 Run limits old [] new = new ≡ old
 Run limits old (turn ∷ turns) new =
-    (mid : Kept) × LimitedStep limits old turn.call turn.brought turn.outcome mid × Run limits mid turns new
+    (mid : Kept) × CallComesTo limits old turn.call turn.outcome mid × Run limits mid turns new
 
 abbrev pub ran_out_of_memory : Outcome → Bool
 ran_out_of_memory (Answers response) = is_memory response
@@ -37,11 +36,10 @@ was_one_too_many (Answers response) = false
 was_one_too_many (Refuses TooManyApps) = true
 was_one_too_many (Refuses other) = false
 
--- the application's calls with their files, whether memory ran out, and whether it was one application too many
-abbrev pub asked_by : List ℕ → List Turn → List (Call × Option (List ℕ) × Bool × Bool)
+-- the application's calls, each with whether memory ran out, and whether it was one application too many
+abbrev pub asked_by : List ℕ → List Turn → List (Call × Bool × Bool)
 asked_by app history =
-    map (λ turn. (turn.call, turn.brought, ran_out_of_memory turn.outcome, was_one_too_many turn.outcome))
-    (turns_of app history)
+    map (λ turn. (turn.call, ran_out_of_memory turn.outcome, was_one_too_many turn.outcome)) (turns_of app history)
 
 -- the outcomes of these calls
 abbrev pub outcomes_to : List ℕ → List Turn → List Outcome
@@ -50,8 +48,8 @@ outcomes_to app history = map (λ turn. turn.outcome) (turns_of app history)
 -- ---- properties of every history
 
 -- Two histories with the same start and the same files of an application have the same outcomes for it, and leave it
--- the same files, if its calls and their files are the same, and the same ones run out of memory or are one application
--- too many, whatever the others do.
+-- the same files, if its calls are the same, and the same ones run out of memory or are one application too many,
+-- whatever the others do.
 abbrev pub IsIsolatedWithin : Type 0
 IsIsolatedWithin =
     (limits : Limits) (app : List ℕ) (s t end end' : Kept) (first second : List Turn)

@@ -1,13 +1,15 @@
 -- Defines the outcome of a call under limits, a rule of this project.
-use Rattle.std.specs.Prelude.{◌≡◌, ◌≢◌, ◌⊎◌, ℕ, Bool, true, false, List, Option, Some, None, Result, Ok, Err, MatchBool}
+use Rattle.std.specs.Prelude.{◌≡◌, ◌≢◌, ◌⊎◌, ℕ, Bool, true, false, not, List, Option, Some, None, Result, Ok, Err}
+use Rattle.std.specs.Prelude.{MatchBool, is_ok}
 use Rattle.std.specs.Map.{remove_entry}
 use Rattle.std.specs.Str.{bytes_eq}
 use Rattle.rb_tree.specs.SourceTree.{SourceTree}
 use Rattle.rb_format.specs.File.{source_tree_of}
+use Rattle.rb_packages.specs.App.{app_of}
 use Rattle.rb_packages.specs.Packages.{Files, files_of, icudata_files}
 use Rattle.rb_engine.specs.Ask.{Call, Requests, LooksUp, caller}
 use Rattle.rb_engine.specs.Answer.{Response, Replies}
-use Rattle.rb_engine.specs.History.{Answered, may_run_out_of_memory, is_memory}
+use Rattle.rb_engine.specs.History.{Answered, is_memory}
 use Rattle.rb_engine.specs.Kept.{Kept, state_of}
 use Rattle.rb_engine.specs.Change.{IsFileOf, files_after}
 use Rattle.rb_engine.specs.Place.{place_of}
@@ -74,10 +76,23 @@ files_then call brought response files = files
 
 -- ---- a step
 
+-- a payload is read, with valid names and no more bytes than the limit
+abbrev pub is_read : {E : Type 0} → Limits → Result Place E → Payload → Bool
+is_read limits (Err e) payload = false
+is_read limits (Ok p) payload = not (is_over limits.bundle_bytes (payload_len payload))
+
+-- the calls that may run out of memory: changes whose payload is read, and lists with a valid name
+abbrev pub may_starve : Limits → Call → Bool
+may_starve limits (Requests (request.Install app locale payload)) = is_read limits (place_of app locale) payload
+may_starve limits (Requests (request.Replace app locale payload)) = is_read limits (place_of app locale) payload
+may_starve limits (Requests (request.Remove app locale)) = false
+may_starve limits (Requests (request.List app)) = is_ok (app_of app)
+may_starve limits (LooksUp app locale path) = false
+
 -- out of memory: nothing changes
-pub record Starves (old : Kept) (call : Call) (outcome : Outcome) (new : Kept) : Type 0 where
+pub record Starves (limits : Limits) (old : Kept) (call : Call) (outcome : Outcome) (new : Kept) : Type 0 where
   pub memory : outcome ≡ Answers (Replies Memory)
-  pub may : may_run_out_of_memory call ≡ true
+  pub may : may_starve limits call ≡ true
   pub same : new ≡ old
 
 -- a limit rejects the call, and nothing changes
@@ -107,16 +122,11 @@ abbrev pub IsJudged : Limits → Kept → Call → Option (List ℕ) → Outcome
 IsJudged limits old call brought outcome new =
     IsRefused limits old call brought outcome new ⊎ IsAnswered limits old call brought outcome new
 
--- or memory runs out for it, and then it has no file
-abbrev pub LimitedStep : Limits → Kept → Call → Option (List ℕ) → Outcome → Kept → Type 0
-LimitedStep limits old call brought outcome new =
-    (Starves old call outcome new × (brought ≡ None))
-    ⊎ (CallBrings limits call brought × IsJudged limits old call brought outcome new)
-
--- a limit rejects a call, or the engine answers it, whatever its file is
+-- the same of the call with its one file, or with none
 abbrev pub CallIsJudged : Limits → Kept → Call → Outcome → Kept → Type 0
 CallIsJudged limits old call outcome new =
     (brought : Option (List ℕ)) × CallBrings limits call brought × IsJudged limits old call brought outcome new
 
+-- or memory runs out for it
 abbrev pub CallComesTo : Limits → Kept → Call → Outcome → Kept → Type 0
-CallComesTo limits old call outcome new = Starves old call outcome new ⊎ CallIsJudged limits old call outcome new
+CallComesTo limits old call outcome new = Starves limits old call outcome new ⊎ CallIsJudged limits old call outcome new

@@ -1,13 +1,15 @@
-ghost use Rattle.std.specs.Prelude.{◌≡◌, ◌≤◌, ◌+◌, ◌-◌, ◌^◌, ℕ, List, Option, Some, None};
-ghost use Rattle.std.specs.Prelude.{length, IsTrue, if◌then◌else◌, unwrap_or};
+ghost use Rattle.std.specs.Prelude.{◌≡◌, ◌+◌, ℕ, List, Ok, None, true, IsTrue};
 ghost use Rattle.rb_packages.specs.Packages.{files_of};
 ghost use Rattle.rb_packages.specs.Usage.{apps_of};
 ghost use Rattle.rb_engine.specs.Ask.{Requests};
+ghost use Rattle.rb_engine.specs.Answer.{Replies};
+ghost use Rattle.rb_engine.specs.Change.{IsFileOf};
 ghost use Rattle.rb_engine.specs.Place.{place_of};
-ghost use Rattle.rb_engine.specs.Source.{change_request};
+ghost use Rattle.rb_engine.specs.Source.{Reads, change_request};
+ghost use Rattle.rb_engine.specs.declared.request.Payload.{Payload};
 ghost use Rattle.rb_limits.specs.Limits.{is_over as over, payload_len as payload_length};
 ghost use Rattle.rb_limits.specs.Limits.{takes_place as is_made, file_refusal};
-ghost use Rattle.rb_limits.specs.Steps.{CallComesTo};
+ghost use Rattle.rb_limits.specs.Steps.{Answers, CallComesTo, is_read};
 ghost use Rattle.rb_limits.specs.Outcomes.{reply_outcome};
 ghost use Rattle.rb_limits.specs.inner.LongPayload.{long_payload};
 
@@ -99,6 +101,27 @@ fn refused(engine: &Engine, limits: &Limits, change: Change, brought: &Brought) 
     None
 }
 
+/// Stores an incoming bundle under limits: the part of `handle` after reading the payload. A bundle
+/// that a limit rejects changes nothing, and is never answered `Memory`: only an install that no
+/// limit rejects may run out of memory here.
+pub fn put(engine: &mut Engine, limits: &Limits, change: Change, brought: Brought) -> Limited<Reply>
+    ensures step { (app locale : List ℕ) → (payload : Payload)
+        → Reads app locale payload (Ok brought)
+        → IsFileOf payload brought.1
+        → is_read limits.now (place_of app locale) payload ≡ true
+        → CallComesTo limits.now engine.old
+        (Requests (change_request change app locale payload)) (reply_outcome result) engine.new }
+    ensures memory { reply_outcome result ≡ Answers (Replies Reply.Memory)
+        → (change ≡ Change.Install) × (file_refusal limits.now change brought.0.name
+        (files_of brought.0.app engine.old.packages)
+        (apps_of engine.old.packages) brought.1 ≡ None) }
+{
+    match refused(engine, limits, change, &brought) {
+        Some(refusal) => Limited::Refused(refusal),
+        None => Limited::Answer(engine.put(change, brought)),
+    }
+}
+
 fn change(
     engine: &mut Engine,
     alloc: Global,
@@ -119,10 +142,7 @@ fn change(
         Ok(brought) => brought,
         Err(reply) => return Limited::Answer(reply),
     };
-    match refused(engine, limits, change, &brought) {
-        Some(refusal) => Limited::Refused(refusal),
-        None => Limited::Answer(engine.put(change, brought)),
-    }
+    put(engine, limits, change, brought)
 }
 
 /// Handles one request under limits. A rejected request changes nothing.
@@ -130,6 +150,9 @@ fn change(
 /// With valid names, a payload over `bundle_bytes` is rejected before it is read. Errors of the
 /// engine come next. A change that the engine would make is rejected with the first of
 /// `BundleTooLong`, `OverQuota` and `TooManyApps`.
+///
+/// `Memory` may come only for a list, and for a payload that is read: never for invalid names of a
+/// change, a payload over `bundle_bytes`, or a removal.
 pub fn handle(
     engine: &mut Engine,
     alloc: Global,

@@ -6,6 +6,6 @@ pub mod laws;
 mod limits;
 mod lookups;
 
-pub use changes::handle;
+pub use changes::{handle, put};
 pub use limits::{Limited, Limits, Refusal};
 pub use lookups::look;

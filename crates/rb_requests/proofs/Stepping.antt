@@ -6,13 +6,13 @@ use Rattle.std.proofs.lemmas.Bool.Decides.{nat_tests}
 use Rattle.serde_json.specs.Data.{Data}
 use Rattle.rb_engine.specs.Ask.{Call}
 use Rattle.rb_engine.specs.Answer.{Response, Replies, Finds}
-use Rattle.rb_engine.specs.History.{is_memory, may_run_out_of_memory}
+use Rattle.rb_engine.specs.History.{is_memory}
 use Rattle.rb_engine.specs.Kept.{Kept}
 use Rattle.rb_engine.specs.declared.request.Reply.{Reply}
 use Rattle.rb_engine.specs.declared.request.Reply.TheVariants.{Names, Done}
 use Rattle.rb_members.specs.declared.texts.Texts.{Texts}
 use Rattle.rb_limits.specs.Limits.{is_over}
-use Rattle.rb_limits.specs.Steps.{Outcome, Answers, Refuses, CallIsJudged, CallComesTo}
+use Rattle.rb_limits.specs.Steps.{Outcome, Answers, Refuses, CallIsJudged, CallComesTo, may_starve}
 use Rattle.rb_limits.specs.declared.limits.Limits.{Limits}
 use Rattle.rb_replies.specs.Replied.{reply_line}
 use Rattle.rb_replies.specs.Within.{limit_of, IsAbove}
@@ -74,7 +74,7 @@ judged limits old call outcome new e h = elim h [
 ]
 
 -- a call for which memory can't run out
-pub judged_always : (limits : Limits) (old : Kept) (call : Call) (outcome : Outcome) (new : Kept) → may_run_out_of_memory call ≡ false
+pub judged_always : (limits : Limits) (old : Kept) (call : Call) (outcome : Outcome) (new : Kept) → may_starve limits call ≡ false
     → CallComesTo limits old call outcome new → CallIsJudged limits old call outcome new
 judged_always limits old call outcome new e h = elim h [
   | inl starved ↦ absurd (false≢true (sym e ∙ starved.may))
