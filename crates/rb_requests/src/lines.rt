@@ -13,6 +13,8 @@ ghost use Rattle.rb_requests.specs.inner.Longest.{longest};
 ghost use Rattle.rb_requests.specs.declared.reading.Longest.{Longest};
 ghost use Rattle.rb_requests.specs.inner.OneLine.{Wrote, WrotePart, MayTakeEffect, FailsLine};
 ghost use Rattle.rb_requests.specs.inner.OneLine.{line_settled};
+ghost use Rattle.rb_requests.specs.inner.Starving.{held_error as error_if_held};
+ghost use Rattle.rb_requests.specs.inner.Starving.{starved_error as error_if_starved};
 ghost use Rattle.rb_requests.specs.inner.Placing.{Finishes, PlacesReply};
 ghost use Rattle.rb_requests.specs.inner.Putting.{writer};
 
@@ -132,6 +134,28 @@ fn longest_of(limits: &LineLimits) -> Longest
     }
 }
 
+/// Returns the error that a line is answered of which this much is stored; none if all of it is.
+fn held_error(held: Held) -> Option<LineError>
+    ensures { result ≡ error_if_held held }
+{
+    match held {
+        Held::Whole => None,
+        Held::Front => Some(LineError::LineTooLong),
+        Held::Starved => Some(LineError::Memory),
+    }
+}
+
+/// Returns the error that is answered if memory ran out for a line that is stored whole; none if
+/// serving ends.
+fn starved_error(limits: &LineLimits, starved: Starved) -> Option<LineError>
+    ensures { result ≡ error_if_starved limits.now starved }
+{
+    match starved {
+        Starved::Before if limits.keep_serving => Some(LineError::Memory),
+        _ => None,
+    }
+}
+
 /// Makes the reply to a line of which this much is stored, or writes it to the sink. `AllocError`:
 /// memory ran out, nothing is written, and serving ends.
 fn tell_line<S: Sink>(
@@ -154,13 +178,14 @@ fn tell_line<S: Sink>(
         → IsHeldUnder limits.now longest whole line.now held
         → MayTakeEffect (LineReplyUpTo longest.kept limits.now) engine.old whole engine.new) }
 {
-    let error = match held {
-        Held::Front => LineError::LineTooLong,
-        Held::Starved => LineError::Memory,
-        Held::Whole => match reply_of(alloc, engine, limits, scratch, line, reply, sink) {
+    let error = match held_error(held) {
+        Some(error) => error,
+        None => match reply_of(alloc, engine, limits, scratch, line, reply, sink) {
             Ok(placed) => return Ok(placed),
-            Err(Starved::Before) if limits.keep_serving => LineError::Memory,
-            Err(_) => return Err(AllocError),
+            Err(starved) => match starved_error(limits, starved) {
+                Some(error) => error,
+                None => return Err(AllocError),
+            },
         },
     };
     tell_line_error(alloc, error, reply)?;

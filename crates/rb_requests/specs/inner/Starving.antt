@@ -1,6 +1,6 @@
 -- For what is private. The text of the reply to what a line calls or asks, under limits, and what is left if memory
 -- runs out.
-use Rattle.std.specs.Prelude.{◌≡◌, ◌⊎◌, ℕ, List}
+use Rattle.std.specs.Prelude.{◌≡◌, ◌⊎◌, ℕ, List, Option, Some, None, if◌then◌else◌}
 use Rattle.rb_engine.specs.Ask.{Call}
 use Rattle.rb_engine.specs.Kept.{Kept}
 use Rattle.rb_engine.specs.declared.request.Reply.{Reply}
@@ -12,6 +12,10 @@ use Rattle.rb_requests.specs.Within.{AnswersRead, asked_usage, usage_in, outcome
 use Rattle.rb_requests.specs.declared.answer.Starved.{Starved}
 use Rattle.rb_requests.specs.declared.answer.Starved.TheVariants.{Before, After}
 use Rattle.rb_requests.specs.declared.limits.LineLimits.{LineLimits}
+use Rattle.rb_requests.specs.declared.reading.Held.{Held}
+use Rattle.rb_requests.specs.declared.reading.Held.TheVariants as held
+use Rattle.rb_requests.specs.declared.words.LineError.{LineError}
+use Rattle.rb_requests.specs.declared.words.LineError.TheVariants.{LineTooLong, Memory}
 
 -- a call is judged, and this is its reply
 abbrev pub CallReply : LineLimits → Kept → Call → List ℕ → Kept → Type 0
@@ -31,3 +35,14 @@ LeavesOf Replies After old new = (new ≡ old) ⊎ ((text : List ℕ) × Replies
 abbrev pub untold_reply : Reply → Starved
 untold_reply Done = After
 untold_reply other = Before
+
+-- the error that a line is answered by what is held of it: none if all of it is
+abbrev pub held_error : Held → Option LineError
+held_error held.Whole = None
+held_error held.Front = Some LineTooLong
+held_error held.Starved = Some Memory
+
+-- the error that is answered if memory ran out for a line that is held whole: none if serving ends
+abbrev pub starved_error : LineLimits → Starved → Option LineError
+starved_error limits Before = if limits.keep_serving then Some Memory else None
+starved_error limits After = None
