@@ -47,7 +47,7 @@ chosen_app bs a true w h = absurd cc
 chosen_app bs a false true h = absurd cc
 chosen_app bs a false false h = cc
 
-app_is : (bs a : List ℕ) → app_of bs ≡ Ok a → a ≡ bs
+pub app_is : (bs a : List ℕ) → app_of bs ≡ Ok a → a ≡ bs
 app_is bs a h = chosen_app bs a (not (is_app bs)) (bytes_eq bs (codes "ICUDATA")) h
 
 app_by : (r : Result (List ℕ) AppFault) (n : Option (List ℕ)) (p : Place) → place_by r n ≡ Ok p → r ≡ Ok p.app

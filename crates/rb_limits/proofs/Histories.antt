@@ -24,7 +24,7 @@ use Rattle.rb_engine.specs.declared.request.Request.TheVariants as request
 use Rattle.rb_engine.proofs.StepLemmas.{app-place_of}
 use Rattle.rb_limits.specs.Limits.{is_over, payload_len, len_at, takes_place, used_with}
 use Rattle.rb_limits.specs.Limits.{file_refusal, brought_refusal, change_refusal, steps_refusal, call_refusal}
-use Rattle.rb_limits.specs.Steps.{Outcome, Answers, Refuses, Brings, BringsAt, CallBrings, Starves, IsRefused, IsAnswered, IsJudged, CallComesTo, files_then}
+use Rattle.rb_limits.specs.Steps.{Outcome, Answers, Refuses, Brings, BringsAt, CallBrings, Starves, IsRefused, IsAnswered, IsJudged, CallIsJudged, CallComesTo, files_then}
 use Rattle.rb_limits.specs.History.{Turn, Run, turns_of, asked_by, outcomes_to, ran_out_of_memory, was_one_too_many, IsIsolatedWithin}
 use Rattle.rb_limits.specs.declared.limits.Limits.{Limits}
 use Rattle.rb_limits.specs.declared.limits.Refusal.{Refusal}
@@ -62,9 +62,9 @@ one_of_call limits (LooksUp app locale path) a b f g = f ∙ sym g
 -- ---- one call from two states that are the same to its caller
 
 -- two states with the same start, and with the same files of one application
-record IsSame (app : List ℕ) (k l : Kept) : Type 0 where
-  start : (state_of k).start ≡ (state_of l).start
-  files : files_of app k.packages ≡ files_of app l.packages
+pub record IsSame (app : List ℕ) (k l : Kept) : Type 0 where
+  pub start : (state_of k).start ≡ (state_of l).start
+  pub files : files_of app k.packages ≡ files_of app l.packages
 
 -- two judgements that are the same, but for the number of applications
 abbrev Agree : Option Refusal → Option Refusal → Type 0
@@ -131,9 +131,9 @@ refusals_agree limits k l (LooksUp app locale path) brought h = inl (
     )
 
 -- the same outcome, and the same files of the caller after it
-record ComesToSame (app : List ℕ) (a b : Outcome) (k l : Kept) : Type 0 where
-  outcome : a ≡ b
-  files : files_of app k.packages ≡ files_of app l.packages
+pub record ComesToSame (app : List ℕ) (a b : Outcome) (k l : Kept) : Type 0 where
+  pub outcome : a ≡ b
+  pub files : files_of app k.packages ≡ files_of app l.packages
 
 too_many : (r : Refusal) → was_one_too_many (Refuses r) ≡ true → r ≡ TooManyApps
 too_many BundleTooLong h = absurd (false≢true h)
@@ -224,6 +224,14 @@ judged_same one limits k k' l l' call brought a b h (inr p) (inl q) g =
     absurd (not_both limits l l' k k' call brought b a (record { start = sym h.start; files = sym h.files }) (sym g) q p)
 judged_same one limits k k' l l' call brought a b h (inr p) (inr q) g = answers_same one limits k k' l l' call brought a b h p q
 
+-- the same of judged calls, each with its own file
+pub calls_same : AsksOne → (limits : Limits) (k k' l l' : Kept) (call : Call) (a b : Outcome)
+    → IsSame (caller call) k l → CallIsJudged limits k call a k' → CallIsJudged limits l call b l'
+    → was_one_too_many a ≡ was_one_too_many b → ComesToSame (caller call) a b k' l'
+calls_same one limits k k' l l' call a b h (x, brings, p) (y, brings', q) g =
+    judged_same one limits k k' l l' call x a b h p
+    (subst (λ (z : Option (List ℕ)). IsJudged limits l call z b l') (one_of_call limits call y x brings' brings) q) g
+
 step_same : AsksOne → (limits : Limits) (k k' l l' : Kept) (call : Call) (a b : Outcome)
     → IsSame (caller call) k l → CallComesTo limits k call a k' → CallComesTo limits l call b l'
     → ran_out_of_memory a ≡ ran_out_of_memory b → was_one_too_many a ≡ was_one_too_many b → ComesToSame (caller call) a b k' l'
@@ -235,9 +243,7 @@ step_same one limits k k' l l' call a b h (inl p) (inr (x, brings, q)) f g =
     absurd (false≢true (sym (judged_flag limits l call x b l' q) ∙ sym f ∙ starves_flag limits k call a k' p))
 step_same one limits k k' l l' call a b h (inr (x, brings, p)) (inl q) f g =
     absurd (false≢true (sym (judged_flag limits k call x a k' p) ∙ f ∙ starves_flag limits l call b l' q))
-step_same one limits k k' l l' call a b h (inr (x, brings, p)) (inr (y, brings', q)) f g =
-    judged_same one limits k k' l l' call x a b h p
-    (subst (λ (z : Option (List ℕ)). IsJudged limits l call z b l') (one_of_call limits call y x brings' brings) q) g
+step_same one limits k k' l l' call a b h (inr p) (inr q) f g = calls_same one limits k k' l l' call a b h p q g
 
 -- ---- an application's own turns, each a step from a state with the files that the one before it left
 

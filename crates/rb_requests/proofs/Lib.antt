@@ -9,3 +9,4 @@ pub mod LinesRead
 pub mod Unlimited
 pub mod Serving
 pub mod LineIsolation
+pub mod LimitedLines

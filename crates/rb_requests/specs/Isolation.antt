@@ -1,10 +1,15 @@
 -- What one application is answered by the lines of a text, whatever the other lines are: this project's own rule.
-use Rattle.std.specs.Prelude.{◌≡◌, ℕ, Bool, false, List, [], ◌∷◌, if◌then◌else◌, Option, Some, None}
+use Rattle.std.specs.Prelude.{◌≡◌, ℕ, Bool, false, List, [], ◌∷◌, ◌||◌, if◌then◌else◌, length, map, nat_lt, codes}
+use Rattle.std.specs.Prelude.{Option, Some, None, option_and_then}
 use Rattle.std.specs.Str.{bytes_eq}
 use Rattle.rb_engine.specs.Ask.{Call, caller}
 use Rattle.rb_engine.specs.History.{State}
-use Rattle.rb_requests.specs.Asked.{call_of}
-use Rattle.rb_requests.specs.Lines.{RepliesByLine}
+use Rattle.rb_engine.specs.Kept.{Kept, state_of}
+use Rattle.rb_packages.specs.Packages.{files_of}
+use Rattle.rb_requests.specs.Asked.{call_of, data_of}
+use Rattle.rb_requests.specs.Lines.{RepliesBy, RepliesByLine}
+use Rattle.rb_requests.specs.Within.{LineReplyWithin, longest_kept, asked_usage, usage_in, error_line}
+use Rattle.rb_requests.specs.declared.limits.LineLimits.{LineLimits}
 
 -- whether a line is a call of the application
 abbrev pub is_of : List ℕ → Option Call → Bool
@@ -40,3 +45,61 @@ AreLinesIsolated =
     → RepliesByLine t second replies' end'
     → calls_of app first ≡ calls_of app second
     → replies_to app first replies ≡ replies_to app second replies'
+
+-- ---- the same under limits
+
+-- what a line asks: a call, or for the usage of an application
+pub data Question : Type 0 where
+  Calls : Call → Question
+  AsksUsage : (app : List ℕ) → Question
+
+abbrev pub asker : Question → List ℕ
+asker (Calls call) = caller call
+asker (AsksUsage app) = app
+
+abbrev pub question_in : Option Call → (usage : Option (List ℕ)) → Option Question
+question_in (Some call) usage = Some (Calls call)
+question_in None (Some app) = Some (AsksUsage app)
+question_in None None = None
+
+-- nothing, if the line is too long or no request
+abbrev pub question_of : LineLimits → List ℕ → Option Question
+question_of limits line =
+    if nat_lt (longest_kept limits) (length line) then None
+    else question_in (call_of line) (asked_usage limits (option_and_then usage_in (data_of line)))
+
+abbrev pub with_turn : List ℕ → Option Question → List ℕ → List (Question × List ℕ) → List (Question × List ℕ)
+with_turn app None reply turns = turns
+with_turn app (Some question) reply turns =
+    if bytes_eq (asker question) app then (question, reply) ∷ turns else turns
+
+-- the application's questions among lines, each with its reply
+abbrev pub turns_of : LineLimits → List ℕ → List (List ℕ) → List (List ℕ) → List (Question × List ℕ)
+turns_of limits app [] replies = []
+turns_of limits app (line ∷ rest) [] = []
+turns_of limits app (line ∷ rest) (reply ∷ more) =
+    with_turn app (question_of limits line) reply (turns_of limits app rest more)
+
+-- a reply that depends on more than the application's own lines: out of memory, or one application too many
+abbrev pub is_shared : List ℕ → Bool
+is_shared reply = bytes_eq reply (error_line (codes "Memory")) || bytes_eq reply (error_line (codes "TooManyApps"))
+
+abbrev pub shared : List ℕ → Option (List ℕ)
+shared reply = if is_shared reply then Some reply else None
+
+-- a question, with its reply if that is shared
+abbrev pub asked : Question × List ℕ → Question × Option (List ℕ)
+asked turn = (turn.0, shared turn.1)
+
+-- Lines with the same questions of one application, of which the same ones run out of memory or are one application too
+-- many, over the same start and the same files of it, reply the same to it, and leave it the same files.
+abbrev pub AreLinesIsolatedWithin : Type 0
+AreLinesIsolatedWithin =
+    (limits : LineLimits) (app : List ℕ) (s t end end' : Kept) (first second replies replies' : List (List ℕ))
+    → (state_of s).start ≡ (state_of t).start
+    → files_of app s.packages ≡ files_of app t.packages
+    → RepliesBy (LineReplyWithin limits) s first replies end
+    → RepliesBy (LineReplyWithin limits) t second replies' end'
+    → map asked (turns_of limits app first replies) ≡ map asked (turns_of limits app second replies')
+    → (turns_of limits app first replies ≡ turns_of limits app second replies')
+    × (files_of app end.packages ≡ files_of app end'.packages)

@@ -1,6 +1,6 @@
 //! What holds of every history, and of the lines of every text.
 ghost use Rattle.rb_engine.specs.History.{AsksOne, AnswersOwn, IsIsolated};
-ghost use Rattle.rb_requests.specs.Isolation.{AreLinesIsolated};
+ghost use Rattle.rb_requests.specs.Isolation.{AreLinesIsolated, AreLinesIsolatedWithin};
 
 /// Does nothing: whatever the applications ask in whatever order, each is answered over its own
 /// bundles, those of ICUDATA and the explicit parents, and so are the lines of a text.
@@ -14,6 +14,8 @@ pub fn isolated()
     ensures alone { IsIsolated }
     // The replies to an application's lines depend only on these lines.
     ensures lines { AreLinesIsolated }
+    // Under limits too, questions for usage included, except for `Memory` and `TooManyApps`.
+    ensures within { AreLinesIsolatedWithin }
 {
     rb_engine::laws::isolated();
 }
