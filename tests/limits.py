@@ -1,7 +1,8 @@
 #!/usr/bin/env python3
 """The limits of `resb serve`, after docs/SERVER.md: each at its value, one below and one above; the order of refusals; a quota under
 replacements and removals; an application that is at its limits all the time beside another, whose replies are those of a server that has
-it alone; a line of 300 MB; 100,000 applications; memory under an attack; a lack of memory; and command lines that are invalid.
+it alone; a line of 300 MB; 100,000 applications; memory under an attack; a lack of memory, also while replies wait to be written; and
+command lines that are invalid.
 
 usage: limits.py PROGRAM [--seconds S] [--all]
   --seconds S  how long the attack lasts (3)
@@ -14,8 +15,10 @@ import json
 import os
 import random
 import resource
+import signal
 import subprocess
 import sys
+import tempfile
 import threading
 import time
 
@@ -23,6 +26,7 @@ from model import files, texts
 
 WAIT = 600
 MEGABYTE = 1 << 20
+READER = 8192  # the bytes of the reader's buffer
 MOST = 1 << 63
 NUMBERS = ("--app-bytes", "--bundle-bytes", "--reply-bytes", "--line-bytes", "--apps", "--steps")
 
@@ -462,6 +466,45 @@ def without_memory(program):
     expect("without memory, with --keep-serving", (0, wanted, ""), (status, replies, errors))
 
 
+def over_a_file(program, source, prepare):
+    """Runs a server over a file of lines, which it reads in buffers that are full: its status, its replies and its standard error."""
+    with tempfile.TemporaryFile() as lines, tempfile.TemporaryFile() as replies:
+        lines.write(source)
+        lines.seek(0)
+        done = subprocess.run([program, "serve"], stdin=lines, stdout=replies, stderr=subprocess.PIPE, timeout=WAIT, check=False, preexec_fn=prepare)
+        replies.seek(0)
+        return done.returncode, replies.read().splitlines(keepends=True), done.stderr
+
+
+def limited_output(size, most):
+    """What a process does before it begins, so that it has so much address space, and can write so many bytes to a file."""
+
+    def prepare():
+        limited_memory(size)()
+        signal.signal(signal.SIGXFSZ, signal.SIG_IGN)
+        resource.setrlimit(resource.RLIMIT_FSIZE, (most, most))
+
+    return prepare
+
+
+def waiting_replies(program):
+    """Replies that wait to be written, as the reader's buffer holds further lines, are written before serving ends without memory. If they
+    can't be, the code is `Write`."""
+    source = b"".join(line_of(install(f"app{number:08}", "de")) + b"\n" for number in range(100000))
+    flushed = [source.count(b"\n", 0, end) for end in range(0, len(source), READER)]
+    least = least_memory(program)
+    for spare in (4, 5, 6):
+        size = least + spare * MEGABYTE
+        status, replies, errors = over_a_file(program, source, limited_memory(size))
+        expect("without memory for one of many lines", (1, {reply_of(OK)}, b"Memory\n"), (status, set(replies), errors))
+        before = max(count for count in flushed if count <= len(replies))
+        if before < len(replies):
+            break
+    assert before < len(replies), f"replies that waited are lost: {len(replies)} were written"
+    status, replies, errors = over_a_file(program, source, limited_output(size, before * len(reply_of(OK))))
+    expect("waiting replies that can't be written", (1, before, b"Write\n"), (status, len(replies), errors))
+
+
 def bad_command_lines(program):
     """Limits that are no number from 1 to 2^63 are refused before anything is read or written."""
     values = ("0", "00", "", "-1", "1.0", "1e3", "0x10", "10k", " 1", "1 ", "one", "1_000", str(MOST + 1), str(1 << 64), "9" * 40)
@@ -491,7 +534,7 @@ def main():
         print(f"limits: skipped, as {given.program} isn't built")
         return
     program = os.path.realpath(given.program)
-    for check in (bad_command_lines, at_values, not_refused, at_the_quota, beside_another, long_line, longest_line, many_apps, without_memory):
+    for check in (bad_command_lines, at_values, not_refused, at_the_quota, beside_another, long_line, longest_line, many_apps, without_memory, waiting_replies):
         check(program)
     peak, most, sent = under_attack(program, given.seconds)
     if peak is None:
