@@ -87,7 +87,8 @@ pub trait Sink {
         ensures count { faults self.new ≡ counted (faults self.old) result }
         ensures settled { settled self.new ≡ settled self.old };
 
-    /// Hands on what was taken.
+    /// Flushes what was taken. The clauses say only that the bytes stay as they are and that
+    /// successful calls are counted: none says that bytes have left the sink.
     fn settle(&mut self) -> Result<(), Failed>
         ensures bytes { Keeps (written self.old) (written self.new) }
         ensures count { faults self.new ≡ counted (faults self.old) result }
