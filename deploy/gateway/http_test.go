@@ -509,7 +509,7 @@ func TestPages(t *testing.T) {
 	if got := s.ask("GET", "/", "", ""); got.StatusCode != 200 || !strings.Contains(got.Header.Get("Content-Security-Policy"), "script-src 'sha256-") {
 		t.Errorf("%d %v", got.StatusCode, got.Header)
 	}
-	if got := s.ask("GET", "/healthz", "", ""); got.StatusCode != 200 || got.body != "ok\n" {
+	if got := s.ask("GET", "/healthz", "", ""); got.StatusCode != 200 || !strings.HasPrefix(got.body, `{"ok":true,"version":`) {
 		t.Errorf("%d %q", got.StatusCode, got.body)
 	}
 	if got := s.ask("GET", "/readyz", "", ""); got.StatusCode != 200 || got.body != "ready\n" {

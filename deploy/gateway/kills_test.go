@@ -10,6 +10,7 @@ import (
 	"os"
 	"os/exec"
 	"path/filepath"
+	"regexp"
 	"strings"
 	"sync"
 	"sync/atomic"
@@ -73,7 +74,7 @@ func (p *process) start(folder, tokens string, options ...string) {
 	p.command = exec.Command(os.Args[0], arguments...)
 	p.command.Env = append(os.Environ(), asGateway+"=1")
 	p.command.Stderr = &p.log
-	before := strings.Count(p.log.String(), answersAt)
+	before := len(p.addresses())
 	if err := p.command.Start(); err != nil {
 		p.t.Fatal(err)
 	}
@@ -84,15 +85,19 @@ func (p *process) start(folder, tokens string, options ...string) {
 			p.t.Log(p.log.String())
 		}
 	}()
-	eventually(p.t, "the gateway says where it answers", func() bool { return strings.Count(p.log.String(), answersAt) > before })
-	said := p.log.String()
-	p.address, _, _ = strings.Cut(said[strings.LastIndex(said, answersAt)+len(answersAt):], "\n")
+	eventually(p.t, "the gateway says where it answers", func() bool { return len(p.addresses()) > before })
+	p.address = p.addresses()[before]
 	p.awaitReady()
 	ready = true
 }
 
-// answersAt is what the log has before the gateway's address.
-const answersAt = "gateway: answers at "
+// addresses returns where the gateway has answered since its first start, by its log.
+func (p *process) addresses() (all []string) {
+	for _, found := range regexp.MustCompile(`answers at ([0-9.]+:[0-9]+)["\n]`).FindAllStringSubmatch(p.log.String(), -1) {
+		all = append(all, found[1])
+	}
+	return all
+}
 
 // awaitReady waits until lookups are answered.
 func (p *process) awaitReady() {

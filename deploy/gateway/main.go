@@ -23,6 +23,9 @@ import (
 	"luvdregan.example/resb/deploy/internal/store/sqlite"
 )
 
+// What the gateway was built from; `-ldflags "-X main.version=.. -X main.commit=.."` sets them.
+var version, commit = "unknown", "unknown"
+
 //go:embed try.html
 var tryPage []byte
 
@@ -38,6 +41,9 @@ func main() {
 	}
 	if len(os.Args) > 1 && os.Args[1] == "state" {
 		os.Exit(stateCommand(os.Args[2:], os.Stdout, os.Stderr))
+	}
+	if len(os.Args) > 1 && operatorCommands[os.Args[1]] != nil {
+		os.Exit(operatorCommand(os.Args[1], os.Args[2:], os.Stdout, os.Stderr))
 	}
 	s, err := readSettings(os.Args[1:], os.Stderr)
 	if errors.Is(err, flag.ErrHelp) {
@@ -70,6 +76,13 @@ func run(s settings) error {
 	}
 	defer g.Backend.Close()
 	go g.refresh(leaving, pair)
+	if of, can := g.Backend.(upgrader); can && s.serve {
+		end, err := openControl(s.state, of)
+		if err != nil {
+			return err
+		}
+		defer end()
+	}
 	if s.inside != "" {
 		inner, err := net.Listen("tcp", s.inside)
 		if err != nil {
@@ -98,6 +111,7 @@ func newGateway(leaving context.Context, s settings) (*gateway, error) {
 		return nil, err
 	}
 	options := s.options
+	options.Version, options.Commit = version, commit
 	options.Try, options.OpenAPI, options.Leaving, options.Inside = tryPage, openAPI, leaving, s.inside != ""
 	return &gateway{s, api.New(b, known, options), leaving}, nil
 }

@@ -2,6 +2,7 @@ package main
 
 import (
 	"flag"
+	"fmt"
 	"io"
 	"log"
 	"os"
@@ -18,6 +19,8 @@ func TestMain(m *testing.M) {
 	switch {
 	case len(os.Args) > 1 && os.Args[1] == "serve":
 		standin.Serve()
+	case len(os.Args) > 1 && os.Args[1] == "--version":
+		fmt.Println("stand-in")
 	case os.Getenv(asGateway) != "":
 		main()
 	default:

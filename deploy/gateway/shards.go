@@ -343,6 +343,9 @@ func (b *shards) Close() {
 	}
 }
 
+// Program returns nothing: the bridges don't tell which programs they run.
+func (b *shards) Program() string { return "" }
+
 // Measures writes how many connections there are, and how each shard does.
 func (b *shards) Measures(to io.Writer) {
 	b.mu.Lock()

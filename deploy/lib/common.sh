@@ -105,3 +105,9 @@ keeper() {
     pid=$(cat "$1")
     [ -n "$pid" ] && tr '\0' '\n' 2>/dev/null <"/proc/$pid/cmdline" | grep -Fqx "${1%.keep}.pid" && echo "$pid"
 }
+
+# does a command of the operator over the state of `single`: operate COMMAND ARGUMENT
+operate() {
+    [ -x "$out/bin/gateway" ] || "$here/gateway/build" "$out/bin/gateway"
+    "$out/bin/gateway" "$1" -state "${RESB_STATE:-${states:-$out}/single}" -- "$2"
+}

@@ -31,6 +31,8 @@ type Backend interface {
 	Has(app, locale string) bool
 	// Ready returns an error if no lookups are answered now.
 	Ready() error
+	// Program returns what the program that answers says of its version, or "" if that isn't known.
+	Program() string
 	// Measures writes the backend's metrics in Prometheus' text form.
 	Measures(to io.Writer)
 	// Close ends what the backend began, once no request is on its way.
@@ -44,6 +46,7 @@ type Options struct {
 	Each, All                       int
 	ReadTime, Patience              time.Duration
 	Inside                          bool            // the metrics are at another address
+	Version, Commit                 string          // of the gateway
 	Try, OpenAPI                    []byte          // the pages
 	Leaving                         context.Context // is done when the gateway ends
 }

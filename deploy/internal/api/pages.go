@@ -2,6 +2,7 @@ package api
 
 import (
 	"bytes"
+	"encoding/json"
 	"net/http"
 
 	"luvdregan.example/resb/deploy/internal/prom"
@@ -20,7 +21,7 @@ func (c *call) page(name string) {
 	case "openapi.json":
 		do = func() { c.fixed("application/json", c.options.OpenAPI) }
 	case "healthz":
-		do = func() { c.now(http.StatusOK, "ok\n") }
+		do = c.healthz
 	case "readyz":
 		do = c.readyz
 	case "metrics":
@@ -58,6 +59,21 @@ func (c *call) now(status int, text string) {
 		c.w.Header().Set("Retry-After", "1")
 	}
 	c.write(status, "text/plain; charset=utf-8", []byte(text))
+}
+
+// healthz answers that the gateway runs, and names its version and that of the program.
+func (c *call) healthz() {
+	text, err := json.Marshal(struct {
+		OK      bool   `json:"ok"`
+		Version string `json:"version"`
+		Commit  string `json:"commit"`
+		Program string `json:"program,omitempty"`
+	}{true, c.options.Version, c.options.Commit, c.Backend.Program()})
+	if err != nil {
+		panic(err)
+	}
+	c.w.Header().Set("Cache-Control", "no-store")
+	c.write(http.StatusOK, "application/json", append(text, '\n'))
 }
 
 // readyz tells whether lookups are answered.

@@ -12,12 +12,16 @@ import (
 	"luvdregan.example/resb/deploy/internal/store/sqlite"
 )
 
+// startPatience is how long a new server may take for its first reply.
+const startPatience = 30 * time.Second
+
 // fillBytes is how many bytes of bundles are read and installed at once.
 const fillBytes = 4 << 20
 
 // A filling installs the stored bundles in a new server.
 type filling struct {
 	*Replica
+	began   time.Time
 	to      *child.Child
 	bundles []store.Bundle
 	left    map[bundle]string
@@ -25,42 +29,86 @@ type filling struct {
 
 // fill starts a server with the stored bundles, which answers lookups if no other does, and else judges changes.
 func (r *Replica) fill(ctx context.Context) error {
-	began := time.Now()
-	bundles, err := r.store.Standing(ctx)
+	r.mu.Lock()
+	program, first := r.program, r.version == ""
+	r.mu.Unlock()
+	f, err := r.filled(ctx, program)
 	if err != nil {
 		return err
 	}
-	c, err := child.Start(r.settings.Program, r.settings.Arguments, r.settings.Memory)
-	if err != nil {
-		return err
+	r.use(f, nil)
+	if first {
+		r.identify(program)
 	}
-	f := &filling{Replica: r, to: c, bundles: bundles, left: map[bundle]string{}}
-	if err := f.run(ctx); err != nil {
-		c.Kill()
-		return fmt.Errorf("process %d: %w; %s", c.PID(), err, c.Finish(0))
-	}
-	go func() {
-		<-c.Ended()
-		r.lost(c)
-	}()
-	r.use(f)
-	log.Printf("server: process %d serves after %v: %d bundles, %d left out", c.PID(), time.Since(began).Round(time.Millisecond),
-		len(bundles)-len(f.left), len(f.left))
 	return nil
 }
 
-// use gives a filled server its task. What one of the two servers left out, both do without.
-func (r *Replica) use(f *filling) {
-	r.mu.Lock()
-	other := r.serves
-	if other == nil {
-		other, r.serves = nil, f.to
-	} else {
-		r.judges = f.to
+// filled starts a server of a program with the stored bundles.
+func (r *Replica) filled(ctx context.Context, program string) (*filling, error) {
+	bundles, err := r.store.Standing(ctx)
+	if err != nil {
+		return nil, err
 	}
+	f := &filling{Replica: r, began: time.Now(), bundles: bundles, left: map[bundle]string{}}
+	if f.to, err = child.Start(program, r.settings.Arguments, r.settings.Memory); err != nil {
+		return nil, err
+	}
+	if err := f.run(ctx); err != nil {
+		return nil, f.drop(err)
+	}
+	return f, nil
+}
+
+// drop ends the server, and adds to an error how it ended.
+func (f *filling) drop(err error) error {
+	f.to.Kill()
+	return fmt.Errorf("process %d: %w; %s", f.to.PID(), err, f.to.Finish(0))
+}
+
+// identify asks a program for its version.
+func (r *Replica) identify(program string) {
+	version := child.Version(program)
+	if version == "" {
+		version = "unknown"
+	}
+	r.mu.Lock()
+	defer r.mu.Unlock()
+	r.version = version
+}
+
+// place gives a filled server the task of one that is missing or outdated. It returns the other server, and the one that has lost
+// its task.
+func (r *Replica) place(f *filling, outdated map[*child.Child]bool) (other, ends *child.Child) {
+	r.mu.Lock()
+	defer r.mu.Unlock()
+	switch {
+	case r.serves == nil:
+		r.serves, other = f.to, r.judges
+	case r.judges == nil, outdated[r.judges]:
+		other, ends, r.judges = r.serves, r.judges, f.to
+	default:
+		other, ends, r.serves = r.judges, r.serves, f.to
+	}
+	r.fills++
+	return other, ends
+}
+
+// use gives a filled server its task. What one of the two servers left out, both do without.
+func (r *Replica) use(f *filling, outdated map[*child.Child]bool) {
+	go func() {
+		<-f.to.Ended()
+		r.lost(f.to)
+	}()
+	var other, ends *child.Child
+	r.turns.Between(func() { other, ends = r.place(f, outdated) })
+	log.Printf("server: process %d serves after %v: %d bundles, %d left out", f.to.PID(),
+		time.Since(f.began).Round(time.Millisecond), len(f.bundles)-len(f.left), len(f.left))
+	if ends != nil {
+		log.Printf("server: process %d ended: %s", ends.PID(), ends.Finish(10*time.Second))
+	}
+	r.mu.Lock()
 	before := r.left
 	r.left = f.left
-	r.fills++
 	r.mu.Unlock()
 	var lines [][]byte
 	for name := range f.left {
@@ -94,7 +142,7 @@ func (r *Replica) note(left map[bundle]string) {
 // run installs all bundles. An application for which memory ran out gets the bundles from there on once more, as others may have
 // taken less than was in use meanwhile; what is refused then is left out.
 func (f *filling) run(ctx context.Context) error {
-	if replies, err := f.ask(f.to, [][]byte{nil}); err != nil || string(replies[0]) != badLine {
+	if replies, err := f.to.Ask([][]byte{nil}, startPatience, nil); err != nil || string(replies[0]) != badLine {
 		return fmt.Errorf("it doesn't answer an empty line as a server does (%v)", err)
 	}
 	r := f.Replica

@@ -52,6 +52,9 @@ type Replica struct {
 
 	mu      sync.Mutex
 	wake    *sync.Cond
+	program string       // of servers that are started
+	version string       // what the program says of its version
+	wanted  *upgrade     // another program that is asked for, or nil
 	serves  *child.Child // answers lookups, or nil
 	judges  *child.Child // judges changes, or nil
 	writing bool         // the judging one has, perhaps, what isn't stored
@@ -67,7 +70,7 @@ type bundle struct{ app, locale string }
 // Open starts servers for the bundles of a store, which the replica closes.
 func Open(s *sqlite.Store, settings Settings) *Replica {
 	ctx, stop := context.WithCancel(context.Background())
-	r := &Replica{settings: settings, store: s, turns: child.NewTurns(), changes: newChanges(), stop: stop,
+	r := &Replica{settings: settings, program: settings.Program, store: s, turns: child.NewTurns(), changes: newChanges(), stop: stop,
 		left: map[bundle]string{}, append: s.AppendAll}
 	r.wake = sync.NewCond(&r.mu)
 	r.stopped.Add(2)
@@ -115,10 +118,15 @@ func (r *Replica) lost(c *child.Child) {
 	r.wake.Broadcast()
 }
 
-// run keeps two servers, and has changes made, until the context ends.
+// run keeps two servers, and has changes and upgrades made, until the context ends.
 func (r *Replica) run(ctx context.Context) {
+	defer r.endUpgrades()
 	pause := time.Duration(0)
 	for ctx.Err() == nil {
+		if u := r.takeUpgrade(); u != nil {
+			u.done <- r.upgrade(ctx, u.program)
+			continue
+		}
 		if r.isWhole() {
 			pause = 0
 			if batch := r.await(); len(batch) > 0 {
@@ -152,14 +160,16 @@ func (r *Replica) isWhole() bool {
 	return r.serves != nil && r.judges != nil
 }
 
-// await waits for changes, and returns some of them; none if a server has ended or the replica is closed.
+// await waits for changes, and returns some of them; none if a server has ended, another program is asked for, or the replica is
+// closed.
 func (r *Replica) await() []*pending {
 	r.mu.Lock()
 	defer r.mu.Unlock()
-	for !r.ending && r.serves != nil && r.judges != nil && !r.changes.any() {
+	stays := func() bool { return !r.ending && r.serves != nil && r.judges != nil && r.wanted == nil }
+	for stays() && !r.changes.any() {
 		r.wake.Wait()
 	}
-	if r.ending || r.serves == nil || r.judges == nil {
+	if !stays() {
 		return nil
 	}
 	batch := r.changes.take()
@@ -213,6 +223,13 @@ func (r *Replica) Ready() error {
 		return child.ErrReplaying
 	}
 	return nil
+}
+
+// Program returns what the servers' program says of its version, or "" if it isn't known yet.
+func (r *Replica) Program() string {
+	r.mu.Lock()
+	defer r.mu.Unlock()
+	return r.version
 }
 
 // Close stores what was accepted, and ends the servers.

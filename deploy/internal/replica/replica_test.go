@@ -213,7 +213,7 @@ func TestAChangeThatIsntStored(t *testing.T) {
 		{func() string { return r.put("shop", "nl", text("nl", "N")) }, 0},
 		{func() string { return r.remove("shop", "de") }, 1},
 	} {
-		fills := r.filled()
+		fills := r.fillsNow()
 		r.fail(fails)
 		if got := at.change(); !strings.Contains(got, ErrNotKept.Error()) {
 			t.Fatal(got)
@@ -229,7 +229,7 @@ func TestAChangeThatIsntStored(t *testing.T) {
 			}
 			r.put("bank", "de", text("de", "B"))
 		}
-		if got := r.filled() - fills; got != at.fills {
+		if got := r.fillsNow() - fills; got != at.fills {
 			t.Errorf("%d servers were filled in the place of %d", got, at.fills)
 		}
 	}
@@ -245,7 +245,7 @@ func (r *Replica) fail(err error) {
 	}
 }
 
-func (r *Replica) filled() int {
+func (r *Replica) fillsNow() int {
 	r.mu.Lock()
 	defer r.mu.Unlock()
 	return r.fills
