@@ -37,7 +37,7 @@ func main() {
 	if os.Getenv("GOGC") == "" {
 		// Requests leave much garbage and little is kept, so memory is collected less often as long as there is little of it.
 		debug.SetGCPercent(400)
-		debug.SetMemoryLimit(1 << 30)
+		debug.SetMemoryLimit(least(1<<30, machineMemory()/4))
 	}
 	if len(os.Args) > 1 && os.Args[1] == "state" {
 		os.Exit(stateCommand(os.Args[2:], os.Stdout, os.Stderr))
@@ -48,14 +48,35 @@ func main() {
 	s, err := readSettings(os.Args[1:], os.Stderr)
 	if errors.Is(err, flag.ErrHelp) {
 		return
-	} else if err != nil {
-		fmt.Fprintln(os.Stderr, "gateway:", err)
-		os.Exit(2)
 	}
-	if err := run(s); err != nil {
-		fmt.Fprintln(os.Stderr, "gateway:", err)
-		os.Exit(1)
+	if s.log == "json" {
+		logJSON(os.Stderr)
 	}
+	switch {
+	case err != nil:
+		s.fail(err, 2)
+	case s.version:
+		fmt.Printf("resb-gateway %s (%s)\n", version, commit)
+	case s.checkOnly:
+		if err := s.checkFiles(); err != nil {
+			s.fail(err, 2)
+		}
+		fmt.Println("the configuration can be used")
+	default:
+		if err := run(s); err != nil {
+			s.fail(err, 1)
+		}
+	}
+}
+
+// fail reports an error in the form of the log, and ends the process.
+func (s settings) fail(err error, status int) {
+	if s.log == "json" {
+		log.Print(err)
+	} else {
+		fmt.Fprintln(os.Stderr, "gateway:", err)
+	}
+	os.Exit(status)
 }
 
 // run serves until a signal ends it.
@@ -171,12 +192,18 @@ func (g *gateway) listenOn(outer net.Listener, p *pair) error {
 	ended := make(chan error, 1)
 	go func() { ended <- server.Serve(l) }()
 	log.Printf("gateway: answers at %s", outer.Addr())
+	go func() {
+		if err := announce(g.leaving, g.Backend.Ready, 200*time.Millisecond); err != nil {
+			log.Printf("gateway: NOTIFY_SOCKET: %v", err)
+		}
+	}()
 	select {
 	case err := <-ended:
 		return err
 	case <-g.leaving.Done():
 	}
 	log.Print("gateway: ends")
+	_ = notify(stopping)
 	late, cancel := context.WithTimeout(context.Background(), g.leave)
 	defer cancel()
 	if err := server.Shutdown(late); err != nil {

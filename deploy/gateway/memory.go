@@ -4,6 +4,7 @@ import (
 	"bytes"
 	"fmt"
 	"os"
+	"path/filepath"
 	"strconv"
 	"strings"
 )
@@ -30,11 +31,18 @@ func (b *bytesValue) Set(text string) error {
 	if factor == 1 {
 		n, err = strconv.ParseInt(text, 10, 64)
 	}
-	if err == nil && n <= 0 {
+	if err == nil && n < 0 {
 		err = fmt.Errorf("not a number of bytes")
 	}
 	*b = bytesValue(n * factor)
 	return err
+}
+
+func least(a, b int64) int64 {
+	if a < b {
+		return a
+	}
+	return b
 }
 
 // machineMemory returns the memory of the machine, or of the control group if that has less.
@@ -47,13 +55,38 @@ func machineMemory() int64 {
 			}
 		}
 	}
-	if content, err := os.ReadFile("/sys/fs/cgroup/memory.max"); err == nil {
-		if most, err := strconv.ParseInt(strings.TrimSpace(string(content)), 10, 64); err == nil && most < memory {
-			memory = most
-		}
+	groups, err := os.ReadFile("/proc/self/cgroup")
+	if err != nil {
+		groups = nil
+	}
+	if most := groupMemory("/sys/fs/cgroup", string(groups)); most > 0 && most < memory {
+		memory = most
 	}
 	if memory < 2*leastMemory {
 		return 2 * leastMemory
 	}
 	return memory
+}
+
+// groupMemory returns the least limit on the memory of a process's control group and of the groups around it, or 0 if there is none.
+func groupMemory(mount, groups string) (limit int64) {
+	group := "/"
+	for _, line := range strings.Split(groups, "\n") {
+		if path := strings.TrimPrefix(line, "0::"); path != line {
+			group = path
+		}
+	}
+	for {
+		content, err := os.ReadFile(filepath.Join(mount, group, "memory.max"))
+		if err == nil {
+			most, err := strconv.ParseInt(strings.TrimSpace(string(content)), 10, 64)
+			if err == nil && (limit == 0 || most < limit) {
+				limit = most
+			}
+		}
+		if group == "/" || group == "." {
+			return limit
+		}
+		group = filepath.Dir(group)
+	}
 }

@@ -10,8 +10,10 @@ import (
 	"luvdregan.example/resb/deploy/internal/child"
 )
 
-// Settings are what the command line says.
+// Settings are what the command line and the file of the configuration say.
 type settings struct {
+	version, checkOnly        bool
+	config, log               string
 	listen, inside, tokenFile string
 	cert, key                 string
 	serve, create             bool
@@ -26,11 +28,37 @@ type settings struct {
 	headerTime, writeTime, idleTime, leave time.Duration
 }
 
-// readSettings reads the command line. Its errors and the usage are also printed to `said`.
+// readSettings reads the command line, and the file that it names for what it doesn't say. Errors of the command line and the
+// usage are also printed to `said`.
 func readSettings(arguments []string, said io.Writer) (settings, error) {
 	s := settings{}
-	f := flag.NewFlagSet("gateway", flag.ContinueOnError)
+	f := s.flags()
 	f.SetOutput(said)
+	if err := f.Parse(arguments); err != nil {
+		return s, err
+	}
+	s.arguments = f.Args()
+	if s.version {
+		return s, nil
+	}
+	if s.config != "" {
+		if err := s.readConfig(f); err != nil {
+			return s, err
+		}
+	}
+	if s.memory == 0 {
+		s.memory = machineMemory() / 2
+	}
+	return s, s.check()
+}
+
+// flags returns the options, which set the settings.
+func (s *settings) flags() *flag.FlagSet {
+	f := flag.NewFlagSet("gateway", flag.ContinueOnError)
+	f.BoolVar(&s.version, "version", false, "print the version and the commit, and end")
+	f.StringVar(&s.config, "config", "", "a `file` of JSON with further options, and the arguments of `resb serve` under \"arguments\"; those of the command line win")
+	f.BoolVar(&s.checkOnly, "check-config", false, "check the options and the files that they name, and end with status 0 or 2")
+	f.StringVar(&s.log, "log", "text", "the `form` of the log: text, or json for a JSON object in each line")
 	f.StringVar(&s.listen, "listen", "127.0.0.1:6422", "the `address` to answer at")
 	f.StringVar(&s.inside, "inside", "", "an `address` for the metrics, which are then at no other")
 	f.StringVar(&s.tokenFile, "tokens", "", "the `file` of tokens: lines of APP, read or write, and the token's SHA-256")
@@ -40,7 +68,7 @@ func readSettings(arguments []string, said io.Writer) (settings, error) {
 	f.StringVar(&s.program, "program", "resb", "with -serve: the `program`")
 	f.StringVar(&s.state, "state", "", "with -serve: the `folder` of the accepted changes")
 	f.BoolVar(&s.create, "init", false, "with -serve: make the store if the folder has none")
-	f.Var((*bytesValue)(&s.memory), "memory", "with -serve: the memory of both servers, in `bytes` or as 512M or 4G, from which their limits follow; by default half of the machine's")
+	f.Var((*bytesValue)(&s.memory), "memory", "with -serve: the memory of both servers, in `bytes` or as 512M or 4G, from which their limits follow; 0 is half of the machine's, or of the control group's")
 	f.IntVar(&s.apps, "apps", 64, "with -serve: the most applications with bundles, which share the memory")
 	f.Int64Var(&s.replyBytes, "reply-bytes", 8<<20, "with -serve: the most bytes of a reply")
 	f.StringVar(&s.nats, "nats", "", "serve by the shards behind this `URL`")
@@ -59,20 +87,15 @@ func readSettings(arguments []string, said io.Writer) (settings, error) {
 	f.DurationVar(&s.idleTime, "idle-time", 2*time.Minute, "how long a connection may wait for its next request")
 	f.DurationVar(&s.options.Patience, "patience", 30*time.Second, "how long a reply of the server is waited for")
 	f.DurationVar(&s.leave, "leave", 30*time.Second, "how long requests on their way may take when the gateway ends")
-	if err := f.Parse(arguments); err != nil {
-		return s, err
-	}
-	s.arguments = f.Args()
-	if s.memory == 0 {
-		s.memory = machineMemory() / 2
-	}
-	return s, s.check()
+	return f
 }
 
 // check finds what doesn't go together.
 func (s settings) check() error {
 	o := s.options
 	switch {
+	case s.log != "text" && s.log != "json":
+		return errors.New("-log is text or json")
 	case s.serve == (s.nats != ""):
 		return errors.New("say either -serve or -nats")
 	case s.serve && s.state == "":
