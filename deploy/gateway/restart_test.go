@@ -181,3 +181,33 @@ func TestAChangeWithoutMemory(t *testing.T) {
 		t.Errorf("%d %s", got.StatusCode, got.body)
 	}
 }
+
+// TestAStateOfVersion110 starts over the journal that version 1.1.0 wrote: its bundles are found, and a backup has them.
+func TestAStateOfVersion110(t *testing.T) {
+	journal, err := os.ReadFile("../internal/store/sqlite/testdata/changes-1.1.0")
+	if err != nil {
+		t.Fatal(err)
+	}
+	folder := t.TempDir()
+	if err := os.WriteFile(filepath.Join(folder, "changes"), journal, 0o600); err != nil {
+		t.Fatal(err)
+	}
+	found := func(state string) {
+		t.Helper()
+		p := launchGateway(t, state)
+		defer p.kill()
+		if status, body := p.get("/v1/shop/de/a"); status != 200 || !strings.Contains(body, `"value":"five"`) {
+			t.Errorf("%d %s", status, body)
+		}
+	}
+	found(folder)
+	found(folder)
+	file, again := filepath.Join(t.TempDir(), "copy"), filepath.Join(t.TempDir(), "again")
+	if status, text := operate("backup", folder, file); status != 0 {
+		t.Fatal(text)
+	}
+	if status, text := operate("restore", again, file); status != 0 {
+		t.Fatal(text)
+	}
+	found(again)
+}
