@@ -2,6 +2,7 @@ package sqlite
 
 import (
 	"context"
+	"database/sql"
 	"errors"
 	"fmt"
 	"os"
@@ -193,5 +194,29 @@ func TestADamagedCopyIsRefused(t *testing.T) {
 		bad := append([]byte(nil), content...)
 		bad[at] ^= 0x10
 		try(fmt.Sprint("byte ", at), bad, false)
+	}
+}
+
+// TestAStoreOfAnotherVersion is neither opened nor restored.
+func TestAStoreOfAnotherVersion(t *testing.T) {
+	folder, file := filledFolder(t)
+	for _, path := range []string{filepath.Join(folder, database), file} {
+		db, err := sql.Open("sqlite3", path)
+		if err != nil {
+			t.Fatal(err)
+		}
+		if _, err := db.Exec("pragma user_version = 2"); err != nil {
+			t.Fatal(err)
+		}
+		if err := db.Close(); err != nil {
+			t.Fatal(err)
+		}
+	}
+	const want = "no store of version 1"
+	if _, err := Open(folder, Options{}); err == nil || !strings.Contains(err.Error(), want) {
+		t.Error(err)
+	}
+	if _, err := Restore(t.TempDir(), file); err == nil || !strings.Contains(err.Error(), want) {
+		t.Error(err)
 	}
 }
