@@ -154,9 +154,16 @@ func TestTwentyUpgradesUnderLoad(t *testing.T) {
 	p := launchGateway(t, folder)
 	defer func() { p.kill() }()
 	l := &load{process: p, last: map[string]int{}}
+	for i := 0; i < 200; i++ { // what each server is filled with
+		locale := fmt.Sprintf("p%c%c", 'a'+i/26, 'a'+i%26)
+		if status := p.put("bank", locale, fmt.Sprintf(`%s{v{"%s"}}`, locale, strings.Repeat("x", 10<<10))); status != 201 {
+			t.Fatal(status)
+		}
+	}
 	l.begin(3, 2)
 	bin := t.TempDir()
 	programs := []string{copyProgram(t, filepath.Join(bin, "one")), copyProgram(t, filepath.Join(bin, "two"))}
+	began := time.Now()
 	for round := 0; round < 20; round++ {
 		program := programs[round%2]
 		status, text := operate("upgrade", folder, program)
@@ -167,6 +174,7 @@ func TestTwentyUpgradesUnderLoad(t *testing.T) {
 			t.Errorf("after upgrade %d the servers run %q", round, got)
 		}
 	}
+	t.Logf("an upgrade took %v", time.Since(began)/20)
 	l.end()
 	if _, text := p.get("/metrics"); !strings.Contains(text, "resb_shard_replays_total{shard=\"0\"} 42\n") {
 		t.Error("a server was started again")
