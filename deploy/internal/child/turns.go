@@ -163,17 +163,18 @@ func (t *Turns) Close() {
 	t.more.Broadcast()
 }
 
-// Run gives turns until it is closed. Serving returns the child that answers now, or nil; it is given the child that has just
-// ended, if one has.
-func (t *Turns) Run(serving func(ended *Child) *Child) {
+// Run gives turns until it is closed. Await is given the child that has just ended, if one has, and waits if another one is about
+// to answer. Serving returns the child that answers now, or nil.
+func (t *Turns) Run(await func(ended *Child), serving func() *Child) {
 	var ended *Child
 	for {
 		burst := t.next()
 		if burst == nil {
 			return
 		}
+		await(ended)
 		t.giving.Lock()
-		c := serving(ended)
+		c := serving()
 		if ended = nil; c == nil {
 			t.fail(burst, ErrReplaying)
 		} else if !t.turn(c, burst) {

@@ -39,12 +39,12 @@ func begin(t *testing.T) (*Turns, *Child) {
 	turns := NewTurns()
 	stopped := make(chan struct{})
 	go func() {
-		turns.Run(func(ended *Child) *Child {
+		serves := c
+		turns.Run(func(ended *Child) {
 			if ended != nil {
-				return nil
+				serves = nil
 			}
-			return c
-		})
+		}, func() *Child { return serves })
 		close(stopped)
 	}()
 	t.Cleanup(func() {

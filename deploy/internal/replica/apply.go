@@ -34,7 +34,12 @@ func (r *Replica) apply(batch []*pending) {
 		p.answer <- answer{p.reply, nil}
 	}
 	if before != nil {
+		r.mu.Lock()
+		pause := r.pause
+		r.mu.Unlock()
+		pause()
 		r.repeat(before, accepted)
+		r.caughtUp()
 	}
 }
 
@@ -146,14 +151,26 @@ func (r *Replica) takeBack(judges *child.Child, p *pending) bool {
 func (r *Replica) swap(judges *child.Child, changed bool) (before *child.Child) {
 	r.mu.Lock()
 	defer r.mu.Unlock()
+	defer r.wake.Broadcast()
 	r.writing = false
 	if changed && r.judges == judges {
 		before = r.serves
-		r.serves, r.judges = judges, before
+		r.serves, r.judges, r.behind = judges, before, before != nil
 	} else if r.serves == nil {
 		r.serves, r.judges = r.judges, nil
 	}
 	return before
+}
+
+// caughtUp notes that the judging server, if it is still there, has all changes. It answers lookups if the other one has ended.
+func (r *Replica) caughtUp() {
+	r.mu.Lock()
+	defer r.mu.Unlock()
+	r.behind = false
+	if r.serves == nil {
+		r.serves, r.judges = r.judges, nil
+	}
+	r.wake.Broadcast()
 }
 
 // repeat makes the changes at the server that didn't judge them. One that answers otherwise is given up.

@@ -58,10 +58,12 @@ type Replica struct {
 	serves  *child.Child // answers lookups, or nil
 	judges  *child.Child // judges changes, or nil
 	writing bool         // the judging one has, perhaps, what isn't stored
+	behind  bool         // the judging one lacks, perhaps, what is stored
 	ending  bool
 	fills   int
 	left    map[bundle]string // bundles that servers don't have, and why
 	append  func(context.Context, []store.Change) (store.Revision, error)
+	pause   func() // called before the server that is behind makes the changes, in tests
 }
 
 // A bundle is named by its application and its canonical locale.
@@ -71,12 +73,12 @@ type bundle struct{ app, locale string }
 func Open(s *sqlite.Store, settings Settings) *Replica {
 	ctx, stop := context.WithCancel(context.Background())
 	r := &Replica{settings: settings, program: settings.Program, store: s, turns: child.NewTurns(), changes: newChanges(), stop: stop,
-		left: map[bundle]string{}, append: s.AppendAll}
+		left: map[bundle]string{}, append: s.AppendAll, pause: func() {}}
 	r.wake = sync.NewCond(&r.mu)
 	r.stopped.Add(2)
 	go func() {
 		defer r.stopped.Done()
-		r.turns.Run(r.serving)
+		r.turns.Run(r.awaitServing, r.serving)
 	}()
 	go func() {
 		defer r.stopped.Done()
@@ -92,24 +94,34 @@ func Open(s *sqlite.Store, settings Settings) *Replica {
 	return r
 }
 
-// serving returns the server that answers lookups, or nil. It is told of one that has just ended.
-func (r *Replica) serving(ended *child.Child) *child.Child {
-	if ended != nil {
-		r.lost(ended)
-	}
+// serving returns the server that answers lookups, or nil.
+func (r *Replica) serving() *child.Child {
 	r.mu.Lock()
 	defer r.mu.Unlock()
 	return r.serves
 }
 
-// lost notes that a server has ended. The other one answers lookups, unless it has what isn't stored.
+// awaitServing is told of a server that has just ended. It waits while the other one has what isn't stored, or lacks what is: then
+// that one answers.
+func (r *Replica) awaitServing(ended *child.Child) {
+	if ended != nil {
+		r.lost(ended)
+	}
+	r.mu.Lock()
+	defer r.mu.Unlock()
+	for r.serves == nil && r.judges != nil && (r.writing || r.behind) && !r.ending {
+		r.wake.Wait()
+	}
+}
+
+// lost notes that a server has ended. The other one answers lookups, unless it has what isn't stored, or lacks what is.
 func (r *Replica) lost(c *child.Child) {
 	r.mu.Lock()
 	defer r.mu.Unlock()
 	switch c {
 	case r.serves:
 		r.serves = nil
-		if !r.writing {
+		if !r.writing && !r.behind {
 			r.serves, r.judges = r.judges, nil
 		}
 	case r.judges:
@@ -219,7 +231,7 @@ func (r *Replica) Has(app, locale string) bool { return r.store.Has(app, locale)
 
 // Ready returns an error if no server answers lookups.
 func (r *Replica) Ready() error {
-	if r.serving(nil) == nil {
+	if r.serving() == nil {
 		return child.ErrReplaying
 	}
 	return nil

@@ -281,3 +281,87 @@ func TestChangesOfOneApplicationDontDelayLookups(t *testing.T) {
 	}
 	t.Logf("%d texts; the longest lookup took %v", <-finished, longest)
 }
+
+// awaitSame waits until both servers have all changes.
+func (r *Replica) awaitSame(t *testing.T) {
+	t.Helper()
+	for end := time.Now().Add(generous); ; time.Sleep(time.Millisecond) {
+		r.mu.Lock()
+		same := !r.behind && !r.writing
+		r.mu.Unlock()
+		if same {
+			break
+		} else if time.Now().After(end) {
+			t.Fatal("a server lacks changes")
+		}
+	}
+	r.awaitBoth(t)
+}
+
+// killServing kills the server that answers lookups, and waits until that is known.
+func (r *Replica) killServing(t *testing.T) {
+	t.Helper()
+	c := r.serving()
+	c.Kill()
+	<-c.Ended()
+	r.lost(c)
+}
+
+// TestAServerThatEndsBeforeTheOtherHasTheChange has the only server with an acknowledged change end: a lookup waits until the other one
+// has it.
+func TestAServerThatEndsBeforeTheOtherHasTheChange(t *testing.T) {
+	r := open(t, t.TempDir(), sqlite.Options{})
+	r.put("shop", "de", text("de", "0"))
+	r.awaitSame(t)
+	found := make(chan string, 1)
+	r.mu.Lock()
+	r.pause = func() {
+		r.killServing(t)
+		go func() { found <- r.look("shop", "de", "a") }()
+		time.Sleep(50 * time.Millisecond)
+	}
+	r.mu.Unlock()
+	for i := 1; i <= 10; i++ {
+		value := fmt.Sprint(i)
+		if got := r.put("shop", "de", text("de", value)); got != done {
+			t.Fatal(got)
+		}
+		if got := <-found; !strings.Contains(got, `"value":"`+value+`"`) {
+			t.Errorf("after %s: %s", value, got)
+		}
+	}
+	r.awaitBoth(t)
+}
+
+// TestAServerThatEndsWhileAChangeIsStored has lookups wait for the other server, which has the change already.
+func TestAServerThatEndsWhileAChangeIsStored(t *testing.T) {
+	r := open(t, t.TempDir(), sqlite.Options{})
+	r.put("shop", "de", text("de", "0"))
+	r.awaitSame(t)
+	found := make(chan string, 1)
+	for i := 1; i <= 10; i++ {
+		value := fmt.Sprint(i)
+		kept := i%2 == 1
+		r.mu.Lock()
+		r.append = func(ctx context.Context, all []store.Change) (store.Revision, error) {
+			r.killServing(t)
+			go func() { found <- r.look("shop", "de", "a") }()
+			time.Sleep(50 * time.Millisecond)
+			if !kept {
+				return 0, errors.New("it fails")
+			}
+			return r.store.AppendAll(ctx, all)
+		}
+		r.mu.Unlock()
+		if got := r.put("shop", "de", text("de", value)); (got == done) != kept {
+			t.Fatal(got)
+		}
+		if !kept {
+			value = fmt.Sprint(i - 1)
+		}
+		if got := <-found; !strings.Contains(got, `"value":"`+value+`"`) {
+			t.Errorf("after %s: %s", value, got)
+		}
+		r.awaitBoth(t)
+	}
+}
