@@ -3,7 +3,9 @@ package main
 import (
 	"errors"
 	"flag"
+	"fmt"
 	"io"
+	"strings"
 	"time"
 
 	"luvdregan.example/resb/deploy/internal/api"
@@ -55,6 +57,11 @@ func readSettings(arguments []string, said io.Writer) (settings, error) {
 // flags returns the options, which set the settings.
 func (s *settings) flags() *flag.FlagSet {
 	f := flag.NewFlagSet("gateway", flag.ContinueOnError)
+	f.Usage = func() {
+		others := strings.ReplaceAll(operatorUsage+stateUsage, "usage:", "      ")
+		fmt.Fprintf(f.Output(), "usage: gateway OPTIONS [-- ARGUMENTS of resb serve]\n%s\nOptions:\n", others)
+		f.PrintDefaults()
+	}
 	f.BoolVar(&s.version, "version", false, "print the version and the commit, and end")
 	f.StringVar(&s.config, "config", "", "a `file` of JSON with further options, and the arguments of `resb serve` under \"arguments\"; those of the command line win")
 	f.BoolVar(&s.checkOnly, "check-config", false, "check the options and the files that they name, and end with status 0 or 2")
