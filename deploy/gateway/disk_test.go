@@ -2,6 +2,8 @@ package main
 
 import (
 	"fmt"
+	"os"
+	"path/filepath"
 	"strings"
 	"syscall"
 	"testing"
@@ -66,19 +68,35 @@ func TestADiskThatIsNearlyFull(t *testing.T) {
 	}
 }
 
+// halt stops a process, and returns once all its threads stand: until then some of them go on.
+func halt(t *testing.T, pid int) {
+	t.Helper()
+	if err := syscall.Kill(pid, syscall.SIGSTOP); err != nil {
+		t.Fatal(err)
+	}
+	eventually(t, "it stands", func() bool { return stands(pid) })
+}
+
+// stands returns true if all threads of a process are stopped.
+func stands(pid int) bool {
+	threads, _ := filepath.Glob(fmt.Sprintf("/proc/%d/task/*/stat", pid))
+	for _, thread := range threads {
+		content, _ := os.ReadFile(thread)
+		if _, after, found := strings.Cut(string(content), ") "); !found || !strings.HasPrefix(after, "T") {
+			return false
+		}
+	}
+	return len(threads) > 0
+}
+
 // TestServersThatStand stops both servers for a while: lookups are 504, and afterwards as before; nothing ends.
 func TestServersThatStand(t *testing.T) {
 	s := withBundle(t, "-patience", "300ms")
 	s.awaitBoth()
 	serves, judges := s.servers()
-	signal := func(what syscall.Signal) {
-		for _, pid := range []int{serves, judges} {
-			if err := syscall.Kill(pid, what); err != nil {
-				t.Error(err)
-			}
-		}
+	for _, pid := range []int{serves, judges} {
+		halt(t, pid)
 	}
-	signal(syscall.SIGSTOP)
 	for method, path := range map[string]string{"GET": "/v1/shop/de/a", "PUT": "/v1/shop/de.txt", "DELETE": "/v1/shop/fr"} {
 		if got := s.ask(method, path, shopWrites, `de{a{"A"}}`); got.StatusCode != 504 || got.body != "{\"error\":\"Timeout\"}\n" {
 			t.Errorf("%s: %d %s", method, got.StatusCode, got.body)
@@ -87,6 +105,10 @@ func TestServersThatStand(t *testing.T) {
 	if got := s.ask("POST", "/v1/shop/look", shopReads, `{"locale":"de","path":"a"}`); got.StatusCode != 200 || got.body != "{\"error\":\"Timeout\"}\n" {
 		t.Errorf("%d %s", got.StatusCode, got.body)
 	}
-	signal(syscall.SIGCONT)
+	for _, pid := range []int{serves, judges} {
+		if err := syscall.Kill(pid, syscall.SIGCONT); err != nil {
+			t.Error(err)
+		}
+	}
 	s.settled()
 }

@@ -3,7 +3,9 @@ package child
 import (
 	"context"
 	"errors"
+	"fmt"
 	"os"
+	"path/filepath"
 	"strings"
 	"syscall"
 	"testing"
@@ -55,13 +57,36 @@ func begin(t *testing.T) (*Turns, *Child) {
 	return turns, c
 }
 
+// halt stops a process, and returns once all its threads stand: until then some of them go on.
+func halt(t *testing.T, pid int) {
+	t.Helper()
+	if err := syscall.Kill(pid, syscall.SIGSTOP); err != nil {
+		t.Fatal(err)
+	}
+	for end := time.Now().Add(2 * time.Minute); !stands(pid); time.Sleep(time.Millisecond) {
+		if time.Now().After(end) {
+			t.Fatal("it doesn't stop")
+		}
+	}
+}
+
+// stands returns true if all threads of a process are stopped.
+func stands(pid int) bool {
+	threads, _ := filepath.Glob(fmt.Sprintf("/proc/%d/task/*/stat", pid))
+	for _, thread := range threads {
+		content, _ := os.ReadFile(thread)
+		if _, after, found := strings.Cut(string(content), ") "); !found || !strings.HasPrefix(after, "T") {
+			return false
+		}
+	}
+	return len(threads) > 0
+}
+
 // TestOneOfManyLinesGoesBefore asks 100 expensive lookups of one application, and then one of another, of a server that goes on once
 // all are asked.
 func TestOneOfManyLinesGoesBefore(t *testing.T) {
 	turns, server := begin(t)
-	if err := syscall.Kill(server.PID(), syscall.SIGSTOP); err != nil {
-		t.Fatal(err)
-	}
+	halt(t, server.PID())
 	left := make(chan *Call, 100)
 	for i := 0; i < cap(left); i++ {
 		turns.Go(context.Background(), "shop", LookLine("shop", "de", "dear"), func(c *Call) { left <- c })
@@ -120,9 +145,7 @@ func TestRepliesThatAreNotFreed(t *testing.T) {
 // TestACallerThatGaveUp has its waiting line left out, after a while.
 func TestACallerThatGaveUp(t *testing.T) {
 	turns, c := begin(t)
-	if err := syscall.Kill(c.PID(), syscall.SIGSTOP); err != nil {
-		t.Fatal(err)
-	}
+	halt(t, c.PID())
 	ctx, cancel := context.WithCancel(context.Background())
 	answers := make(chan *Call, 50)
 	for i := 0; i < cap(answers); i++ {
