@@ -24,7 +24,7 @@ use Rattle.rb_validator.proofs.Measuring.{key_at}
 
 pub counted_more : (y : Layout) (body : List ℕ) (m : KnownKeys) (n : ℕ) → IsSound y body m → n ≤ 25 * length body → IsSound y body (record m { compared = n })
 counted_more y body m n s l =
-    record { lengths = s.lengths; ranks = s.ranks; halves = s.halves; words = s.words; few = l; looked = s.looked; short = s.short }
+    record { lengths = s.lengths; ranks = s.ranks; halves = s.halves; words = s.words; few = l; short = s.short }
 
 -- ---- one key
 

@@ -5,7 +5,7 @@ ghost use Rattle.rb_validator.specs.Visits.{HasVisits};
 ghost use Rattle.rb_format.specs.File.{Denotes, source_tree_of};
 ghost use Rattle.rb_format.specs.Checks.{first_fault};
 
-use crate::file::{Counts, check_file};
+use crate::file::{Found, check_file};
 use crate::notes::Notes;
 use rb_format::{Attributes, FileFault, MINOR_VERSION_AT, body};
 use std::alloc::Global;
@@ -17,21 +17,19 @@ use std::marker::Model;
 pub struct Bundle {
     bytes: Vec<u8>,
     visits: u32,
-    compared: u32,
     notes: Option<Box<Notes>>,
 }
 
 impl Model for Bundle {
     ghost use Rattle.std.specs.Prelude.{List, ℕ};
     ghost use Rattle.rb_validator.specs.inner.Accepted.{IsAccepted};
-    ghost use Rattle.rb_validator.specs.inner.Noted.{blocks_noted, looked_noted};
+    ghost use Rattle.rb_validator.specs.inner.Noted.{blocks_noted};
 
     ghost Value = { List ℕ };
 
     ghost view = { λ b. b.bytes.items };
 
-    ghost invariant = { λ b. IsAccepted b.bytes.items b.visits b.compared
-        (looked_noted b.notes) (blocks_noted b.notes) };
+    ghost invariant = { λ b. IsAccepted b.bytes.items b.visits (blocks_noted b.notes) };
 }
 
 /// Accepts a file that denotes a bundle, or returns its first fault and the unchanged bytes. The
@@ -54,16 +52,9 @@ pub fn accept(alloc: Global, bytes: Vec<u8>) -> Result<Bundle, (FileFault, Vec<u
     ensures back { IfErr result (λ e. e.1.items ≡ bytes.items) }
 {
     match check_file(alloc, &bytes) {
-        Ok(
-            Counts {
-                visits,
-                compared,
-                notes,
-            },
-        ) => Ok(Bundle {
+        Ok(Found { visits, notes }) => Ok(Bundle {
             bytes,
             visits,
-            compared,
             notes,
         }),
         Err(fault) => Err((fault, bytes)),
@@ -86,34 +77,14 @@ impl Bundle {
         Attributes::of(bytes[MINOR_VERSION_AT], body(bytes)).no_fallback()
     }
 
-    /// Returns how many tables and arrays the check entered, each offset and kind once. It is at
-    /// most three for each word of the bundle.
+    /// Returns the number of tables and arrays that have data, each offset and kind counted once.
+    /// It is at most three for each word of the bundle.
     pub fn visits(&self) -> u64
         ensures counted { HasVisits self.now result }
         ensures few { let body = drop (half_at self.now 0) self.now in result
             ≤ 3 * (layout_of body).top }
     {
         self.visits as u64
-    }
-
-    /// Returns how many bytes of keys were compared, at most 25 for each byte of the file. Without
-    /// known lengths all bytes of the later key count, with them only those up to the first
-    /// difference. Comparisons by rank count in `compared_before_ranks`.
-    pub fn compared(&self) -> u64
-        ensures { result ≤ 25 * length self.now }
-    {
-        self.compared as u64
-    }
-
-    /// Returns how many bytes of keys were compared before their ranks: fewer than 336 for each
-    /// comparison, and at most 252 for each byte of the file. Nearly all files need no ranks.
-    pub fn compared_before_ranks(&self) -> u64
-        ensures { result ≤ 252 * length self.now }
-    {
-        match &self.notes {
-            Some(notes) => notes.looked,
-            None => 0,
-        }
     }
 
     /// Returns a mark for each whole block of 1,024 half words of the data. A marked block consists

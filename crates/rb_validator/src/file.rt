@@ -9,7 +9,7 @@ ghost use Rattle.rb_format.specs.inner.FirstFault.{fault_of, read_data, read_fil
 ghost use Rattle.rb_format.specs.Place as fields;
 ghost use Rattle.rb_validator.specs.TextBlocks.{AreSegmentBlocks};
 ghost use Rattle.rb_validator.specs.inner.CachedSpans.{IsFresh};
-ghost use Rattle.rb_validator.specs.inner.Noted.{blocks_noted, looked_noted};
+ghost use Rattle.rb_validator.specs.inner.Noted.{blocks_noted};
 ghost use Rattle.rb_validator.specs.Visits.{IsPlaceAt, IsCount, HasVisits};
 ghost use Rattle.rb_format.specs.Limits.{file_limit};
 
@@ -25,20 +25,17 @@ use rb_format::{
 use rb_tree::HEIGHT_LIMIT;
 use std::alloc::Global;
 
-pub struct Counts {
+pub struct Found {
     pub visits: u32,
-    pub compared: u32,
     pub notes: Option<Box<Notes>>,
 }
 
-/// Checks a file, and returns its counts and notes, its first fault, or `Memory`.
+/// Checks a file, and returns its number of visits and its notes, its first fault, or `Memory`.
 #[tactic(auto, using(rb_format::proofs::Checks::header_is), unfolding(rb_format::specs::inner::FirstFault::read_file))]
-pub fn check_file(alloc: Global, bytes: &[u8]) -> Checked<Counts>
+pub fn check_file(alloc: Global, bytes: &[u8]) -> Checked<Found>
     ensures answer { MatchResult result (λ _. fault_of (read_file 64 bytes.now) ≡ None)
         (λ e. (e ≡ FileFault.Memory) ⊎ (fault_of (read_file 64 bytes.now) ≡ Some e)) }
     ensures visits { IfOk result (λ n. HasVisits bytes.now n.visits) }
-    ensures compared { IfOk result (λ n. n.compared ≤ 25 * length bytes.now) }
-    ensures looked { IfOk result (λ n. looked_noted n.notes ≤ 252 * length bytes.now) }
     ensures blocks { IfOk result
         (λ n. AreSegmentBlocks (drop (fields.half_at bytes.now 0) bytes.now)
         (blocks_noted n.notes)) }
@@ -50,26 +47,22 @@ pub fn check_file(alloc: Global, bytes: &[u8]) -> Checked<Counts>
     check_data(alloc, header.minor, &bytes[header.size as usize..])
 }
 
-fn found_of(alloc: Global, body: Body<'_>, state: &CheckState) -> Checked<Counts>
-    requires few_visits { marked state.now.memo (length state.now.memo) < 2 ^ 32 }
-    requires few_compared { state.now.keys.known.compared < 2 ^ 32 }
+fn found_of(alloc: Global, body: Body<'_>, state: &CheckState) -> Checked<Found>
+    requires { marked state.now.memo (length state.now.memo) < 2 ^ 32 }
     ensures memory { IfErr result (λ e. e ≡ FileFault.Memory) }
     ensures visits { IfOk result
         (λ n. n.visits ≡ marked state.now.memo (length state.now.memo)) }
-    ensures compared { IfOk result (λ n. n.compared ≡ state.now.keys.known.compared) }
-    ensures looked { IfOk result (λ n. looked_noted n.notes ≡ state.now.keys.known.looked) }
     ensures blocks { IfOk result
         (λ n. AreSegmentBlocks body.entry.bytes.now (blocks_noted n.notes)) }
 {
     let Ok(blocks) = segment_blocks(alloc, body.bytes, state.has_long_alias) else {
         return Err(FileFault::Memory);
     };
-    let Ok(notes) = noted(alloc, state.keys.known.looked, blocks) else {
+    let Ok(notes) = noted(alloc, blocks) else {
         return Err(FileFault::Memory);
     };
-    Ok(Counts {
+    Ok(Found {
         visits: state.memo.visits() as u32,
-        compared: state.keys.known.compared as u32,
         notes,
     })
 }
@@ -93,7 +86,7 @@ fn check_root(body: Body<'_>, state: &mut CheckState, root: u32) -> Checked<u8>
     Ok(height)
 }
 
-fn check_tree(alloc: Global, body: Body<'_>, root: u32) -> Checked<Counts>
+fn check_tree(alloc: Global, body: Body<'_>, root: u32) -> Checked<Found>
     requires short { length body.bytes.now ≤ file_limit }
     requires room { 4 * body.layout.now.top ≤ length body.bytes.now }
     requires tops { body.layout.now.keys_top ≤ body.layout.now.top }
@@ -103,8 +96,6 @@ fn check_tree(alloc: Global, body: Body<'_>, root: u32) -> Checked<Counts>
         ≡ fault_of (read body.entry.layout.now body.entry.bytes.now 64 root)) }
     ensures visits { IfOk result (λ n. IsCount (IsPlaceAt body.entry.bytes.now)
         (3 * fields.word_at body.entry.bytes.now 4) n.visits) }
-    ensures compared { IfOk result (λ n. n.compared ≤ 25 * length body.entry.bytes.now) }
-    ensures looked { IfOk result (λ n. looked_noted n.notes ≤ 252 * length body.entry.bytes.now) }
     ensures blocks { IfOk result (λ n. AreSegmentBlocks body.entry.bytes.now (blocks_noted n.notes)) }
 {
     let Ok(mut state) = CheckState::new(alloc, body) else {
@@ -115,14 +106,12 @@ fn check_tree(alloc: Global, body: Body<'_>, root: u32) -> Checked<Counts>
 }
 
 #[tactic(auto, unfolding(rb_format::specs::inner::FirstFault::read_data))]
-fn check_data(alloc: Global, minor: u8, body: &[u8]) -> Checked<Counts>
+fn check_data(alloc: Global, minor: u8, body: &[u8]) -> Checked<Found>
     requires { length body.now ≤ file_limit }
     ensures answer { MatchResult result (λ _. fault_of (read_data 64 minor body.now) ≡ None)
         (λ e. (e ≡ FileFault.Memory) ⊎ (fault_of (read_data 64 minor body.now) ≡ Some e)) }
     ensures visits { IfOk result
         (λ n. IsCount (IsPlaceAt body.now) (3 * fields.word_at body.now 4) n.visits) }
-    ensures compared { IfOk result (λ n. n.compared ≤ 25 * length body.now) }
-    ensures looked { IfOk result (λ n. looked_noted n.notes ≤ 252 * length body.now) }
     ensures blocks { IfOk result (λ n. AreSegmentBlocks body.now (blocks_noted n.notes)) }
 {
     if !has_valid_indexes(body) {

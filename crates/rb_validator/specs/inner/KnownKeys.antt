@@ -70,5 +70,4 @@ pub record IsSound (y : Layout) (body : List ℕ) (m : KnownKeys) : Type 0 where
   pub halves : IsLinked y body (λ p. half_at body (2 * y.keys_top + p)) m.halves.items
   pub words : IsLinked y body (λ p. word_at body (y.keys_top + p)) m.words.items
   pub few : m.compared ≤ 25 * length body
-  pub looked : m.looked ≤ 252 * length body
   pub short : length body ≤ file_limit

@@ -96,6 +96,7 @@ fn check_inner(
     ensures holds { IfOk result
         (λ _. AreRuns body.entry.layout.now body.entry.bytes.now state.new.memo state.new.runs) }
     ensures known { IfOk result (λ _. mark_at state.new.memo kind (offset_of item) ≢ 0) }
+    ensures shared { mark_at state.old.memo kind (offset_of item) ≢ 0 → state.new ≡ state.old }
 {
     let offset = item_offset(item);
     match state.memo.mark(kind, offset) {

@@ -1,8 +1,8 @@
-use Rattle.std.proofs.Common.{◌≡◌, ◌*◌, ◌≤◌, List, length, ℕ, Some, None, sym, ◌∙◌, inl, inr}
+use Rattle.std.proofs.Common.{◌≡◌, List, ℕ, Some, None, sym, ◌∙◌, inl, inr}
 use Rattle.std.specs.Prelude.{◌⊎◌, drop}
 use Rattle.rb_format.specs.Place.{half_at}
 use Rattle.rb_validator.specs.TextBlocks.{AreSegmentBlocks}
-use Rattle.rb_validator.specs.inner.Noted.{blocks_noted, looked_noted}
+use Rattle.rb_validator.specs.inner.Noted.{blocks_noted}
 use Rattle.rb_format.specs.declared.fault.FileFault.{FileFault}
 use Rattle.rb_format.specs.declared.fault.FileFault.TheVariants.{Memory}
 use Rattle.rb_format.specs.inner.FirstFault.{fault_of, read_file}
@@ -22,10 +22,8 @@ invariant_of-result c =
     let bytes = c.args.bytes.items in
     let none : fault_of (read_file 64 bytes) ≡ None = rw (← c.deref.ensures.value) c.in-Ok.ensures.answer in
     let counted : HasVisits bytes c.in-Ok.field-0.visits = rw (← c.deref.ensures.value) c.in-Ok.ensures.visits in
-    let few : c.in-Ok.field-0.compared ≤ 25 * length bytes = rw (← c.deref.ensures.value) c.in-Ok.ensures.compared in
     let marked : AreSegmentBlocks (drop (half_at bytes 0) bytes) (blocks_noted c.in-Ok.field-0.notes) = rw (← c.deref.ensures.value) c.in-Ok.ensures.blocks in
-    let looked : looked_noted c.in-Ok.field-0.notes ≤ 252 * length bytes = rw (← c.deref.ensures.value) c.in-Ok.ensures.looked in
-    record { denoted = fault_free bytes (sym (file_first bytes) ∙ none); counted = counted; few = few; few_looked = looked; marked = marked }
+    record { denoted = fault_free bytes (sym (file_first bytes) ∙ none); counted = counted; marked = marked }
 
 pub returns-in-Ok-clause-tree : goal.returns-in-Ok-clause-tree
 returns-in-Ok-clause-tree c =

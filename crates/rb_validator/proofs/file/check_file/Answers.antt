@@ -8,7 +8,7 @@ use Rattle.rb_format.specs.declared.fault.FileFault.TheVariants.{Memory}
 use Rattle.rb_format.specs.declared.header.Header.{Header}
 use Rattle.rb_format.specs.Checks.{header_of}
 use Rattle.rb_format.specs.inner.FirstFault.{fault_of, read_data, read_file}
-use Rattle.rb_validator.specs.declared.file.Counts.{Counts}
+use Rattle.rb_validator.specs.declared.file.Found.{Found}
 use Rattle.rb_format.specs.Place.{word_at, half_at}
 use Rattle.rb_validator.specs.TextBlocks.{AreSegmentBlocks}
 use Rattle.rb_validator.specs.inner.Noted.{blocks_noted}
@@ -24,7 +24,7 @@ data_is bytes size e =
     all ∙ ap (λ (x : ℕ). drop x bytes) e
 
 -- what is found of the rest is found of the data
-after_header : (bytes : List ℕ) (size : ℕ) (r : Result Counts FileFault) (P : List ℕ → Counts → Type 0) → size ≡ half_at bytes 0
+after_header : (bytes : List ℕ) (size : ℕ) (r : Result Found FileFault) (P : List ℕ → Found → Type 0) → size ≡ half_at bytes 0
     → IfOk r (λ n. P (take (length bytes - size) (drop size bytes)) n) → IfOk r (λ n. P (drop (half_at bytes 0) bytes) n)
 after_header bytes size r P e h = IfOk-weaker r _ _ (λ n p. subst (λ (body : List ℕ). P body n) (data_is bytes size e) p) h
 
@@ -37,7 +37,7 @@ read_after bytes h l e =
     let short : ltb 67108864 (length bytes) ≡ false = grind (arith, nat_tests) in
     rw (all, short, header_is bytes, e) refl
 
-answer_after : (o p : Option FileFault) (r : Result Counts FileFault) → o ≡ p
+answer_after : (o p : Option FileFault) (r : Result Found FileFault) → o ≡ p
     → MatchResult r (λ _. o ≡ None) (λ e. (e ≡ Memory) ⊎ (o ≡ Some e))
     → MatchResult r (λ _. p ≡ None) (λ e. (e ≡ Memory) ⊎ (p ≡ Some e))
 answer_after o p r e h = subst (λ (x : Option FileFault). MatchResult r (λ _. x ≡ None) (λ d. (d ≡ Memory) ⊎ (x ≡ Some d))) e h

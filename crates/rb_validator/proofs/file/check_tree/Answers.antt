@@ -12,7 +12,7 @@ few_places body top visits short room is counted =
     let few = count_le (IsPlaceAt body) (3 * word_at body 4) visits counted in
     omega (arith, few)
 
-pub found_of-requires-clause-few_visits : goal.found_of-requires-clause-few_visits
-found_of-requires-clause-few_visits c =
+pub found_of-requires : goal.found_of-requires
+found_of-requires c =
     few_places c.args.body.bytes.now c.args.body.layout.now.top _ c.requires.short c.requires.room (ap (λ y. y.top) c.requires.layout)
     c.in_ok-check_root.ensures.visits

@@ -22,7 +22,6 @@ returns-in-Some-Halves c = λ body s g.
           (offset_in body c.args.places) first c.args.good at s.halves g d);
       words = s.words;
       few = s.few;
-      looked = s.looked;
       short = s.short;
     }
 
@@ -43,6 +42,5 @@ returns-in-Some-Words c = λ body s g.
       words = rw is (redirected_linked c.args.layout.now body old c.link-in-Some-Words.new.links (λ p. word_at body (c.args.layout.now.keys_top + p))
           (offset_in body c.args.places) first c.args.good at s.words g d);
       few = s.few;
-      looked = s.looked;
       short = s.short;
     }
