@@ -177,6 +177,28 @@ def overlapping_tables(count, is_mixed=False):
     return made.file_of_one(item(ARRAY, made.add([count] + items)))
 
 
+def overlapping_half_tables(size):
+    """Tables with key offsets of 16 bits, met in random order. Each word of a falling list of numbers is the count of one
+    table, and a key offset of those before it. All tables of a list end where it ends; their items are arrays without
+    items, at random words. There are as many lists as the size allows."""
+    letters = 65_400
+    last = FIRST_KEY + letters + FIRST_KEY
+    # n keys follow each number n: the ends of `aaa..` whose offsets are below n, and for those below the first key, ends of `bbb..`
+    made = Builder(b"a" * letters + b"\0" + b"b" * FIRST_KEY + b"\0")
+    numbers = [*range(FIRST_KEY + letters - 1, FIRST_KEY - 1, -1), *range(last, last - FIRST_KEY, -1)]
+    run, items, dice = array("H", numbers).tobytes(), [], random.Random(7)
+    lists = max(1, size // (9 * letters))
+    empties = lists * letters // 4
+    empty = made.add([0] * empties)
+    for _ in range(lists):
+        at = made.here()
+        made.data += run + b"\0" * (-len(run) % 4)
+        made.add([item(ARRAY, empty + dice.randrange(empties)) for _ in numbers])
+        items += [item(TABLE, at + i) for i in range(letters // 2)]
+    random.Random(3).shuffle(items)
+    return made.file_of_one(item(ARRAY, made.add([len(items)] + items)))
+
+
 def plain_table(size):
     """A long table of Ints with keys of eight letters, of about `size` bytes."""
     count = max(1, size // 17)
@@ -318,10 +340,11 @@ CHECKED = [
     ("2 copies of `aaa..`, 100 tables", copies(repeated(b"a"), 2, 100), 60),
     ("2 copies of runs of one letter, 100 tables", copies(runs, 2, 100), 60),
 ]
-# The last two were found by looking for what is dearer than the first two, and are allowed what README.md names of them.
+# The last three were found by looking for what is dearer than the first two, and are allowed what README.md names of them.
 OVERLAPPING = [
     ("arrays that overlap, in random order", mixed_arrays, 30),
     ("tables that overlap, in random order", mixed_tables, 30),
+    ("tables of 16-bit offsets that overlap, in random order", overlapping_half_tables, 120),
     ("arrays that overlap over other arrays", overlapping_over_arrays, 90),
     ("arrays that overlap over others, to the ends of groups", overlapping_ends, 180),
 ]
