@@ -1,4 +1,4 @@
--- What decides on the next name says the truth of it.
+-- The cause that a trace reports for the next name is the true one.
 use Rattle.std.proofs.Common.{◌≡◌, ℕ, List, Bool, true, false, cond, Option, Some, None, is_some, option_map}
 use Rattle.std.proofs.Common.{refl, ap, sym}
 use Rattle.std.proofs.Common.{subst, inl, inr}

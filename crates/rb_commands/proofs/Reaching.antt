@@ -1,4 +1,4 @@
--- How far a path leads.
+-- The longest front of a path that leads somewhere.
 use Rattle.std.proofs.Common.{◌≡◌, ◌+◌, ◌<◌, ◌≤◌, ◌⊎◌, ℕ, zero, suc, List, [], ◌∷◌, ◌++◌, Bool, true, false, nat_lt}
 use Rattle.std.proofs.Common.{length, slice_index, take, Option, Some, None, inl, inr, arith, refl, ap, sym, ◌∙◌, subst}
 use Rattle.std.proofs.lemmas.Bool.{ltb-true, ltb-false}
@@ -67,7 +67,7 @@ front_leads t (b ∷ bs) ys e =
     (sym (ap (λ ss. is_somewhere (walk t ss)) cut) ∙ path.1) in
     rw (plain, filled, there) refl
 
--- the first k bytes go on after the first i of them
+-- the first k bytes are the first i, the byte at i and further bytes
 front_of : (i k : ℕ) (p : List ℕ) → i < k → k < length p
     → (ys : List ℕ) × (take k p ≡ take i p ++ slice_index p i ∷ ys)
 front_of i k [] h l = absurd (omega arith)

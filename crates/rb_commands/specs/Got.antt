@@ -1,5 +1,5 @@
--- What one tree has at a path, a rule of this project: the item as JSON; an alias on the way is given itself, with the
--- rest of the path.
+-- Defines the item of one tree at a path, a rule of this project: the item as JSON; an alias on the way is given
+-- itself, with the remaining path.
 use Rattle.std.specs.Prelude.{ℕ, List, [], length, nat_lt, if◌then◌else◌, Result, Ok, Err}
 use Rattle.std.specs.List.{join_with_byte}
 use Rattle.serde_json.specs.Data.{Data}

@@ -1,5 +1,5 @@
--- Which item of one tree is printed whole at a path, a rule of this project: an alias at its end is itself, and a path
--- that leads on from an alias leads nowhere.
+-- Defines the item of one tree that is printed whole at a path, a rule of this project: an alias at the path's end is
+-- printed itself, and a path through an alias leads nowhere.
 use Rattle.std.specs.Prelude.{ℕ, List, [], ◌∷◌, length, nat_lt, if◌then◌else◌, Option, Some, None, Result, Ok, Err}
 use Rattle.rb_tree.specs.Resource.{Resource, alias}
 use Rattle.rb_tree.specs.Path.{is_path, segments}

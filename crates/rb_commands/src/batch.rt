@@ -11,7 +11,7 @@ use std::process::ExitCode;
 use std::random::RandomSource;
 use std::rt::{Clock, Files};
 
-/// The first text whose stem an earlier one has, and that one.
+/// Returns the first pair of texts with one stem, the earlier text first.
 fn same_stems<'a>(
     alloc: Global,
     texts: &[&'a str],
@@ -30,7 +30,7 @@ fn same_stems<'a>(
 struct Inputs(BTreeSet<(u64, u64)>);
 
 impl Inputs {
-    /// Looks at each text. A text that can't be looked at is left out.
+    /// Looks up each text's metadata. A text whose metadata can't be read is left out.
     fn of<R: Files + AllocGlobal>(rt: &R, texts: &[&str]) -> Result<Inputs, AllocError> {
         let mut ids = BTreeSet::new(rt.alloc());
         for text in texts {
@@ -50,7 +50,7 @@ impl Inputs {
     }
 }
 
-/// The file in a folder to which a text is compiled.
+/// Returns the file in a folder to which a text is compiled.
 fn output_in(alloc: Global, folder: &str, text: &str) -> Result<String, AllocError> {
     let stem = stem(text);
     if folder.ends_with('/') {
@@ -60,8 +60,8 @@ fn output_in(alloc: Global, folder: &str, text: &str) -> Result<String, AllocErr
     }
 }
 
-/// Compiles the bundle text `text` to the file `output`, and returns how many bytes that has. Else
-/// that there is none is said, and the status is given.
+/// Compiles the bundle text `text` to the file `output`, and returns the file's length. If it
+/// can't, reports the error and returns the status.
 fn compile_file<R: Files + RandomSource + AllocGlobal + Eprint>(
     rt: &R,
     console: Console,
@@ -97,7 +97,7 @@ fn compile_one<R: Files + RandomSource + AllocGlobal + Print + Eprint>(
     }
 }
 
-/// What many files end with: the last status that isn't 0.
+/// Combines the statuses of files: the last one that isn't 0.
 fn after(status: ExitCode, one: ExitCode) -> ExitCode {
     if one == ExitCode::SUCCESS {
         status
@@ -132,10 +132,10 @@ fn refuse_batch<R: AllocGlobal + Eprint>(
     }
 }
 
-/// Compiles each of many bundle texts to the file in `folder` that has its stem and ends in `.res`,
-/// and says so, a line each. An error is a line, as of `compile`, and the other texts are compiled.
-/// If two texts have one stem, or `folder` is empty, nothing is compiled. A file that is one of the
-/// texts, or standard output, isn't written.
+/// Compiles each bundle text to the file in `folder` that has its stem and ends in `.res`, and
+/// prints a line for each. An error is a line like that of `compile`, and the other texts are
+/// compiled. If two texts have one stem, or `folder` is empty, nothing is compiled. A file that is
+/// one of the texts, or standard output, isn't written.
 ///
 /// The status is 0; 1 if a text is refused or can't be read, or its file can't be written; 2 if two
 /// texts have one stem or `folder` is empty, and as soon as standard output can't be written.
@@ -181,8 +181,8 @@ fn check_one<R: Files + AllocGlobal + Print + Eprint>(
     }
 }
 
-/// Checks many files, each as `check` does; each line begins with the file's name. The status is 0;
-/// 1 if a file is refused or can't be read; 2 as soon as standard output can't be written.
+/// Checks each file as `check` does; each line begins with the file's name. The status is 0; 1 if a
+/// file is refused or can't be read; 2 as soon as standard output can't be written.
 pub fn check_all<R: Files + Clock + AllocGlobal + Print + Eprint>(
     rt: &R,
     console: Console,

@@ -12,11 +12,11 @@ use std::process::ExitCode;
 use std::random::RandomSource;
 use std::rt::Files;
 
-/// The name by which a command's standard input is looked at.
+/// The name under which the metadata of standard input are read.
 const STANDARD_INPUT: &str = "/dev/stdin";
 
-/// The file of a text that was read from `input`. Where there is none, that is said, and the status
-/// is given.
+/// Compiles a text that was read from `input`. If it can't, reports the error and returns the
+/// status.
 fn file_of<R: AllocGlobal + Eprint>(
     rt: &R,
     console: Console,
@@ -38,9 +38,8 @@ fn file_of<R: AllocGlobal + Eprint>(
     }
 }
 
-/// Decides how the file `output` is written. If it is refused as a bundle text or as one of the
-/// texts that are read, that is said, and the status is given. `is_input` says whether it is one of
-/// these.
+/// Decides how the file `output` is written. If it is a bundle text or one of the texts that are
+/// read (`is_input`), reports that and returns the status.
 pub(crate) fn chosen_output<R: Files + AllocGlobal + Eprint>(
     rt: &R,
     console: Console,
@@ -57,8 +56,8 @@ pub(crate) fn chosen_output<R: Files + AllocGlobal + Eprint>(
     Err(ExitCode::from(2))
 }
 
-/// Compiles the bundle text `input`, which was read, to the file `output`, as it was decided. The
-/// answer is how many bytes the file has; else that there is none is said, and the status is given.
+/// Compiles the bundle text `input`, which was read, to the file `output`, as `chosen` says, and
+/// returns the file's length. If it can't, reports the error and returns the status.
 pub(crate) fn compile_read<R: Files + RandomSource + AllocGlobal + Eprint>(
     rt: &R,
     console: Console,
@@ -88,8 +87,8 @@ fn print_compiled<R: AllocGlobal + Print + Eprint>(
     }
 }
 
-/// Compiles the bundle text `input`, which was read, to the file `output`, as it was decided, and
-/// says how many bytes were written, unless they were written to standard output.
+/// Compiles the bundle text `input`, which was read, to the file `output`, as `chosen` says, and
+/// prints the number of bytes, unless they were written to standard output.
 fn compile_chosen<R: Files + RandomSource + AllocGlobal + Print + Eprint>(
     rt: &R,
     console: Console,
@@ -108,7 +107,7 @@ fn compile_chosen<R: Files + RandomSource + AllocGlobal + Print + Eprint>(
     }
 }
 
-/// Compiles the bundle text `input` to the file `output`, and says how many bytes it has. The text
+/// Compiles the bundle text `input` to the file `output`, and prints the file's length. The text
 /// is compiled before anything is written. The status is 0; 1 if the text is refused, with its line
 /// and the fault's name on standard error, or out of memory; 2 if `output` is a bundle text by its
 /// name (`.txt`) or the text itself, and if a file or standard output can't be read or written.
@@ -128,7 +127,7 @@ pub fn compile<R: Files + RandomSource + AllocGlobal + Print + Eprint>(
     }
 }
 
-/// What standard input has, but no more than one byte past the largest file.
+/// Reads standard input, at most one byte past the largest file.
 fn read_input<R: Input + AllocGlobal>(rt: &R) -> io::Result<Vec<u8>> {
     let mut bytes = Vec::new(rt.alloc());
     rt.reader()
@@ -137,7 +136,7 @@ fn read_input<R: Input + AllocGlobal>(rt: &R) -> io::Result<Vec<u8>> {
     Ok(bytes)
 }
 
-/// A bundle text: of standard input if its name is `-`.
+/// Reads a bundle text, from standard input if its name is `-`.
 fn read_text<R: Files + Input + AllocGlobal>(rt: &R, input: &str) -> io::Result<Vec<u8>> {
     if input == "-" {
         read_input(rt)
@@ -147,7 +146,7 @@ fn read_text<R: Files + Input + AllocGlobal>(rt: &R, input: &str) -> io::Result<
 }
 
 /// Compiles as `compile`, on a console, where `input` may be `-` for standard input and `output`
-/// `-` for standard output. Nothing but the file is printed to standard output then.
+/// `-` for standard output, to which only the file is then printed.
 pub fn compile_on<R: Files + RandomSource + Input + AllocGlobal + Print + Eprint>(
     rt: &R,
     console: Console,
@@ -164,7 +163,7 @@ pub fn compile_on<R: Files + RandomSource + Input + AllocGlobal + Print + Eprint
     }
 }
 
-/// The bundle in the file `name`. Where there is none, that is printed, and the status is given.
+/// Reads the bundle in the file `name`. If it can't, reports the error and returns the status.
 pub(crate) fn accepted<R: Files + AllocGlobal + Eprint>(
     rt: &R,
     console: Console,
@@ -180,8 +179,8 @@ pub(crate) fn accepted<R: Files + AllocGlobal + Eprint>(
     }
 }
 
-/// Checks the file `name`, and prints `ok` and how many of its tables and arrays were entered if it
-/// is accepted. The status is 0; 1 if the file is refused, with the error's name on standard error;
+/// Checks the file `name`, and prints `ok` and the number of tables and arrays entered if it is
+/// accepted. The status is 0; 1 if the file is refused, with the error's name on standard error;
 /// 2 if it can't be read or standard output can't be written.
 pub fn check<R: Files + AllocGlobal + Print + Eprint>(rt: &R, name: &str) -> ExitCode {
     check_on(rt, Console::plain(), name)
@@ -203,8 +202,8 @@ pub fn check_on<R: Files + AllocGlobal + Print + Eprint>(
     }
 }
 
-/// Prints the item of the file `name` at a path as JSON, without fallback; of an alias on the way
-/// what it is, with the rest of the path. The status is 0; 1 if the file is refused or has no such
+/// Prints the item of the file `name` at a path as JSON, without fallback, or an alias on the way
+/// with the remaining path. The status is 0; 1 if the file is refused or has no such
 /// item, with the file or the path and the error's name on standard error; 2 if the file can't be
 /// read or standard output can't be written.
 pub fn get<R: Files + AllocGlobal + Print + Eprint>(rt: &R, name: &str, path: &str) -> ExitCode {

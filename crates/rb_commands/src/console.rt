@@ -1,22 +1,22 @@
-//! How a command speaks: what it leaves out, and what it adds if standard error is a terminal.
+//! The settings of a command's output: quiet or not, and on a terminal or not.
 ghost use Rattle.std.specs.Prelude.{◌≡◌, ◌↔◌, IfSome, IsSome, IsTrue, false};
 
 use std::fmt;
 
-/// How a command speaks to whoever called it.
+/// The settings of a command's output.
 #[derive(Clone, Copy, Debug, PartialEq, Eq)]
 pub struct Console {
-    /// No line on success.
+    /// The command prints no line on success.
     pub is_quiet: bool,
-    /// Standard error is a terminal: errors name `resb explain`, and what takes longer than a
-    /// second says how far it is.
+    /// Standard error is a terminal: errors name `resb explain`, and a command that takes longer
+    /// than a second reports its progress.
     pub is_terminal: bool,
     /// Standard output is a terminal.
     pub is_output_terminal: bool,
 }
 
 impl Console {
-    /// All lines on success, and no terminal.
+    /// Returns a console that prints all lines on success and is no terminal.
     pub fn plain() -> Console
         ensures quiet { result.is_quiet ≡ false }
         ensures terminal { result.is_terminal ≡ false }
@@ -51,7 +51,7 @@ impl Console {
         }
     }
 
-    /// What ends the line of an error with this name.
+    /// Returns the end of the line of an error with this name.
     pub fn hint(self, word: &str) -> Hint<'_>
         ensures shown { IsSome result.word ↔ IsTrue self.is_terminal }
         ensures word { IfSome result.word (λ w. w.now ≡ word.now) }
@@ -62,7 +62,7 @@ impl Console {
     }
 }
 
-/// Where to read of an error: ` (resb explain WORD)` on a terminal, and nothing elsewhere.
+/// A hint to the explanation of an error: ` (resb explain WORD)` on a terminal, otherwise empty.
 #[derive(Clone, Copy, Debug)]
 pub struct Hint<'a> {
     word: Option<&'a str>,
@@ -77,8 +77,8 @@ impl<'a> fmt::Display for Hint<'a> {
     }
 }
 
-/// A name or an argument in a message. On a terminal a character that could move the cursor, end
-/// the line or turn the order of the text is escaped, as in `\u{1b}`; elsewhere none is.
+/// A name or an argument in a message. On a terminal, characters that could move the cursor, end
+/// the line or reverse the text are escaped, such as `\u{1b}`; elsewhere none are.
 #[derive(Clone, Copy, Debug)]
 pub struct ShownName<'a> {
     text: &'a str,

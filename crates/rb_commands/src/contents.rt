@@ -1,4 +1,4 @@
-//! What is made of the files of bundles.
+//! Reads the files of bundles, and transforms each.
 use crate::console::Console;
 use crate::error::{StartError, not_started_on};
 use crate::given::{Given, read_given};
@@ -6,7 +6,7 @@ use rb_lexer::SourceFault;
 use std::process::ExitCode;
 use std::rt::Files;
 
-/// What is made of each bundle's file, by its name and its bytes, in order. A file is read when
+/// Applies `make` to each bundle's file, by its name and its bytes, in order. A file is read when
 /// those before it are done.
 pub(crate) fn made_of_each<R: Files + AllocGlobal + Eprint, F>(
     rt: &R,
@@ -29,7 +29,7 @@ where
     Ok(made)
 }
 
-/// Says at which line a bundle text is refused, and why.
+/// Reports the line at which a bundle text is refused, and the error.
 pub(crate) fn text_refused<R: Eprint>(
     rt: &R,
     console: Console,

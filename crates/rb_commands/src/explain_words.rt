@@ -5,7 +5,7 @@ use rb_explain::Of;
 use std::io;
 use std::process::ExitCode;
 
-/// What errors are of, in the order in which they are explained.
+/// The kinds of errors, in the order in which they are explained.
 const KINDS: [Of; 10] = [
     Of::Text,
     Of::File,
@@ -19,7 +19,7 @@ const KINDS: [Of; 10] = [
     Of::Memory,
 ];
 
-/// The words of one kind of errors, each with its meaning.
+/// Prints the codes of one kind of errors, each with its meaning.
 fn list_kind<R: Print>(rt: &R, of: Of) -> io::Result<()> {
     println!(rt; "{of}:")?;
     for explanation in of.explanations() {

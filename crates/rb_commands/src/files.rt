@@ -12,10 +12,10 @@ use std::process::ExitCode;
 use std::rt::Files;
 use std::{fs, io};
 
-/// How many bytes are read of a file: no more than one past the largest.
+/// The most bytes that are read of a file: one past the largest.
 const MOST_READ: u64 = FILE_LIMIT as u64 + 1;
 
-/// Reads a file, but no more than one byte past the largest.
+/// Reads a file, at most one byte past the largest.
 pub fn read_file<R: Files + AllocGlobal>(rt: &R, name: &str) -> io::Result<Vec<u8>> {
     let file = fs::open(rt, name)?;
     let room = file.metadata().map_or(0, |told| told.len());
@@ -24,8 +24,8 @@ pub fn read_file<R: Files + AllocGlobal>(rt: &R, name: &str) -> io::Result<Vec<u
     Ok(bytes)
 }
 
-/// Says that a file could not be read: out of memory, which is reported after the name and `line`,
-/// or for another cause. `line` is `:0` for a text, whose errors have a line, and else empty.
+/// Reports that a file could not be read: out of memory, which is printed after the name and
+/// `line`, or another cause. `line` is `:0` for a text, whose errors have a line, otherwise empty.
 pub fn cannot_read_on<R: Eprint>(
     rt: &R,
     console: Console,
@@ -44,7 +44,7 @@ pub fn cannot_read_on<R: Eprint>(
     ExitCode::from(2)
 }
 
-/// Says that a file or a path is refused, by the error's name.
+/// Reports that a file or a path is refused, by the error's name.
 pub fn refused_on<R: Eprint>(rt: &R, console: Console, place: &str, word: &str) -> ExitCode
     ensures status { exit_status result ≡ refused_status }
 {
@@ -53,7 +53,7 @@ pub fn refused_on<R: Eprint>(rt: &R, console: Console, place: &str, word: &str) 
     ExitCode::from(1)
 }
 
-/// Ends a command whose output was written, or not.
+/// Returns the status of a command by whether its output was written.
 pub fn printed<R: Eprint>(rt: &R, written: io::Result<()>) -> ExitCode
     ensures status { exit_status result ≡ printed_status written }
 {

@@ -1,4 +1,4 @@
-//! Bundles as the arguments of a command name them.
+//! Reads the bundles that the arguments of a command name.
 use crate::console::Console;
 use crate::error::StartError;
 use crate::files::{cannot_read_on, read_file};
@@ -7,7 +7,7 @@ use std::alloc::Global;
 use std::process::ExitCode;
 use std::rt::Files;
 
-/// How an argument names a bundle.
+/// The form in which an argument names a bundle.
 #[derive(Clone, Copy, Debug)]
 pub enum Form {
     /// `LOCALE=FILE`.
@@ -16,7 +16,7 @@ pub enum Form {
     ByStem,
 }
 
-/// A file, and the locale of its bundle as it was given.
+/// A file, and its bundle's locale as the argument gives it.
 #[derive(Clone, Copy, Debug)]
 pub struct Given<'a> {
     pub locale: &'a str,
@@ -24,7 +24,7 @@ pub struct Given<'a> {
     pub file: &'a str,
 }
 
-/// The name of a file without its folder and without its last ending: `de` of `texts/de.txt`.
+/// Returns a file's name without its folder and its last ending: `de` for `texts/de.txt`.
 pub fn stem(file: &str) -> &str {
     let name = match file.rsplit_once('/') {
         Some((_, name)) => name,
@@ -36,7 +36,7 @@ pub fn stem(file: &str) -> &str {
     }
 }
 
-/// An argument, split at its first `=`.
+/// Splits an argument at its first `=`.
 fn split(form: Form, argument: &str) -> Option<Given<'_>> {
     let (locale, file) = match (argument.split_once('='), form) {
         (Some(parts), _) => parts,
@@ -47,8 +47,8 @@ fn split(form: Form, argument: &str) -> Option<Given<'_>> {
     Some(Given { locale, name, file })
 }
 
-/// The arguments, each split at its first `=`. Errors: `BadArgument` with the first that isn't of
-/// the form, or whose locale is no locale's name; `Memory` if memory runs out.
+/// Splits each argument at its first `=`. Errors: `BadArgument` with the first that isn't of the
+/// form, or whose locale is no locale's name; `Memory` if memory runs out.
 pub fn all_given<'a>(
     alloc: Global,
     form: Form,
@@ -66,13 +66,13 @@ pub fn all_given<'a>(
     Ok(bundles)
 }
 
-/// Whether a file is a bundle text by its name.
+/// Checks whether a file is a bundle text by its name.
 pub fn is_text(file: &str) -> bool {
     file.ends_with(".txt")
 }
 
-/// The bytes of a file, as `read_file`. Where they can't be read, that is said, out of memory at
-/// line 0 of a text, and the status is given.
+/// Reads a file as `read_file` does. If it can't, reports the error (out of memory at line 0 of a
+/// text) and returns the status.
 pub fn read_given<R: Files + AllocGlobal + Eprint>(
     rt: &R,
     console: Console,

@@ -10,7 +10,7 @@ use std::io;
 use std::process::ExitCode;
 use std::rt::Files;
 
-/// Prints the warnings of a text that was read; whether there are any.
+/// Prints the warnings of a text that was read. Returns true if there are any.
 fn print_warnings<R: AllocGlobal + Print>(
     rt: &R,
     console: Console,
@@ -26,7 +26,7 @@ fn print_warnings<R: AllocGlobal + Print>(
     Ok(!warnings.is_empty())
 }
 
-/// Whether a text is compiled; its error is said.
+/// Checks whether a text compiles, and reports its error.
 fn is_compiled<R: AllocGlobal + Eprint>(rt: &R, console: Console, name: &str, text: &[u8]) -> bool {
     match compile(rt.alloc(), text) {
         Ok(_) => true,
@@ -39,7 +39,7 @@ fn is_compiled<R: AllocGlobal + Eprint>(rt: &R, console: Console, name: &str, te
     }
 }
 
-/// Says that warnings could not be made, out of memory, or not be printed.
+/// Reports that memory ran out for the warnings, or that they could not be printed.
 fn not_warned<R: Eprint>(rt: &R, console: Console, name: &str, error: io::Error) -> ExitCode {
     if error.kind() == io::ErrorKind::OutOfMemory {
         return refused_on(rt, console, name, "Memory");
@@ -47,7 +47,7 @@ fn not_warned<R: Eprint>(rt: &R, console: Console, name: &str, error: io::Error)
     printed(rt, Err(error))
 }
 
-/// Prints how a text that was compiled differs from the root's; whether it does.
+/// Prints how a text that compiles differs from the root's. Returns true if it does.
 fn print_differences<R: AllocGlobal + Print>(
     rt: &R,
     console: Console,
@@ -67,7 +67,7 @@ fn print_differences<R: AllocGlobal + Print>(
     Ok(!warnings.is_empty())
 }
 
-/// Says what is doubtful in a text that was read; whether nothing is.
+/// Reports what is doubtful in a text that was read. Returns true if nothing is.
 fn lint_read<R: AllocGlobal + Print + Eprint>(
     rt: &R,
     console: Console,
@@ -88,7 +88,7 @@ fn lint_read<R: AllocGlobal + Print + Eprint>(
     }
 }
 
-/// Says what is doubtful in one text.
+/// Reports what is doubtful in one text.
 fn lint_one<R: Files + AllocGlobal + Print + Eprint>(
     rt: &R,
     console: Console,
@@ -109,7 +109,7 @@ fn lint_one<R: Files + AllocGlobal + Print + Eprint>(
     }
 }
 
-/// Says what is doubtful in each of many texts.
+/// Reports what is doubtful in each text.
 fn lint_each<R: Files + AllocGlobal + Print + Eprint>(
     rt: &R,
     console: Console,
@@ -129,7 +129,7 @@ fn lint_each<R: Files + AllocGlobal + Print + Eprint>(
     status
 }
 
-/// The tree of the root's text. Where there is none, that is said.
+/// Reads the tree of the root's text, or reports the error.
 fn root_tree<R: Files + AllocGlobal + Eprint>(
     rt: &R,
     console: Console,

@@ -25,18 +25,18 @@ use std::rt::Files;
 /// The application that the bundles of a lookup are installed for.
 const APP: &str = "look";
 
-/// A lookup, as it is asked for on the command line.
+/// The arguments of a lookup.
 #[derive(Clone, Copy, Debug)]
 pub struct Lookup<'a> {
     /// The file of explicit parents, if there is one.
     pub parents: Option<&'a str>,
     pub locale: &'a str,
     pub path: &'a str,
-    /// Whether standard error says why the answer is what it is.
+    /// The steps of the search are written to standard error.
     pub is_traced: bool,
 }
 
-/// The file of a bundle: a text is compiled.
+/// Returns the file of a bundle, compiled if it is a text.
 fn file_of<R: AllocGlobal + Eprint>(
     rt: &R,
     console: Console,
@@ -52,7 +52,7 @@ fn file_of<R: AllocGlobal + Eprint>(
     }
 }
 
-/// A request that installs a file.
+/// Makes a request that installs a file.
 fn request(alloc: Global, name: &Name, file: &[u8]) -> Result<Request, AllocError> {
     Ok(Request::Install {
         app: ByteList::from_vec(APP.as_bytes().to_vec(alloc)?),
@@ -61,7 +61,7 @@ fn request(alloc: Global, name: &Name, file: &[u8]) -> Result<Request, AllocErro
     })
 }
 
-/// Installs the files. The first that is refused is said: `Twice` if its locale was given before.
+/// Installs the files. Reports the first that is refused: `Twice` if its locale was given before.
 fn install_all<R: AllocGlobal + Eprint>(
     rt: &R,
     console: Console,
@@ -84,7 +84,7 @@ fn install_all<R: AllocGlobal + Eprint>(
     Ok(())
 }
 
-/// Prints the reply to a lookup; the status is 0 if something is found, and else 1.
+/// Prints the reply to a lookup; the status is 0 if something is found, otherwise 1.
 fn answer<R: AllocGlobal + Print + Eprint>(
     rt: &R,
     console: Console,
@@ -117,7 +117,7 @@ fn install_file(
     packages.install(app, name, bundle).ok()
 }
 
-/// The bundles of files, for `APP`; none if one of them is refused.
+/// Installs the files as bundles of `APP`; returns `None` if one of them is refused.
 fn packages_of<R: RandomSource + AllocGlobal>(
     rt: &R,
     app: &App,
@@ -132,7 +132,7 @@ fn packages_of<R: RandomSource + AllocGlobal>(
     Some(packages)
 }
 
-/// What an error word of a lookup means.
+/// Returns the meaning of a lookup's error code.
 fn meaning(word: &str) -> &'static str {
     for of in [Of::Lookup, Of::Request, Of::Memory] {
         if let Some(explanation) = of.explanation(word) {
@@ -142,7 +142,7 @@ fn meaning(word: &str) -> &'static str {
     ""
 }
 
-/// Says how a traced lookup ends that has no answer.
+/// Reports the error of a traced lookup.
 fn say_fault<R: Eprint>(rt: &R, console: Console, word: &str) {
     let (meaning, hint) = (meaning(word), console.hint(word));
     let _ = eprintln!(rt; "{word}: {meaning}{hint}");
@@ -179,7 +179,7 @@ fn say_search<'a, R: Eprint>(
     }
 }
 
-/// The same as `say_search` of a lookup over files; nothing if one of them is refused.
+/// Traces a lookup over files by `say_search`; writes nothing if one of them is refused.
 fn say_trace<R: RandomSource + AllocGlobal + Eprint>(
     rt: &R,
     console: Console,
@@ -201,7 +201,7 @@ fn say_trace<R: RandomSource + AllocGlobal + Eprint>(
     say_search(rt, console, bundles, parents, (&packages, &app), asked);
 }
 
-/// The same lookup as `look_up`, over arguments that are split.
+/// Looks up as `look_up` does, over arguments that are split.
 fn look_over<R: Files + RandomSource + AllocGlobal + Print + Eprint>(
     rt: &R,
     console: Console,
@@ -232,12 +232,12 @@ fn look_over<R: Files + RandomSource + AllocGlobal + Print + Eprint>(
     Ok(answer(rt, console, &engine, lookup))
 }
 
-/// Looks a path up from a locale on over the bundles of files, with fallback, and prints the reply
-/// that `serve` would give. An argument is `LOCALE=FILE`, or `FILE`, whose stem is the locale; a
-/// file whose name ends in `.txt` is bundle text, any other a `.res` file. There are no common
-/// bundles. A traced lookup says on standard error before its reply, and if no file is refused,
-/// which names were asked at each level, what decided on the next name, how far the path was
-/// walked, and where an alias leads.
+/// Looks up a path in the bundles of files, beginning at a locale and with fallback, and prints the
+/// reply that `serve` would give. An argument is `LOCALE=FILE`, or `FILE`, whose stem is the
+/// locale; a file whose name ends in `.txt` is bundle text, any other a `.res` file. There are no
+/// common bundles. A traced lookup, if no file is refused, first writes to standard error which
+/// names were asked at each level, what decided on the next name, how far the path was walked, and
+/// where an alias leads.
 ///
 /// The status is 0 if something is found; 1 if nothing is, and if a file is refused, with its
 /// error; 2 for an argument without a locale's name, a file that can't be read, and if standard

@@ -1,4 +1,4 @@
-//! The file that a command writes: what may be written to it, and how.
+//! Decides how a command's output file is written, and writes it.
 ghost use Rattle.std.specs.Prelude.{◌≡◌, false, true};
 ghost use Rattle.rb_commands.specs.inner.Writing.{plain_decision};
 ghost use Rattle.rb_commands.specs.declared.output.Decision.TheVariants as Decisions;
@@ -11,16 +11,16 @@ use std::random::RandomSource;
 use std::rt::Files;
 use std::{fs, io};
 
-/// The name by which a command's standard output is looked at.
+/// The name under which the metadata of standard output are read.
 const STANDARD_OUTPUT: &str = "/dev/stdout";
 
-/// How many links are followed from a name.
+/// The most links that are followed from a name.
 const MAX_LINKS: usize = 40;
 
-/// How many names are tried for a file that isn't whole yet.
+/// The most names that are tried for a file that isn't whole yet.
 const MAX_TRIES: u64 = 16;
 
-/// What a name leads to, its links followed.
+/// The kind of file that a name leads to, its links followed.
 #[derive(Clone, Copy, Debug, PartialEq, Eq)]
 pub enum Kind {
     /// Nothing is there yet.
@@ -33,7 +33,7 @@ pub enum Kind {
     Other,
 }
 
-/// What is seen of the file to write before anything is written.
+/// The properties of the file to write, before anything is written.
 #[derive(Clone, Copy, Debug)]
 pub struct Seen {
     pub kind: Kind,
@@ -47,7 +47,7 @@ pub struct Seen {
     pub is_output: bool,
 }
 
-/// How a file is written, or why it isn't.
+/// The way in which a file is written, or the reason why it isn't.
 #[derive(Clone, Copy, Debug, PartialEq, Eq)]
 pub enum Decision {
     /// Refuse it as a bundle text.
@@ -222,8 +222,8 @@ pub fn output_of<R: Files + AllocGlobal>(rt: &R, name: &str, is_input: bool) -> 
     }
 }
 
-/// Draws a number for a name. A source that fails costs nothing but that the name can be guessed:
-/// the file is created only if no file has its name.
+/// Draws a number for a name. If the source fails, the name can be guessed, which does no harm: the
+/// file is created only if no file has its name.
 fn drawn<R: RandomSource>(rt: &R) -> u64 {
     let mut bytes = [0u8; 8];
     match rt.fill_bytes(&mut bytes) {

@@ -1,13 +1,13 @@
-//! How far a command is that has many files.
+//! Reports the progress of a command over many files.
 use crate::console::Console;
 use std::rt::Clock;
 use std::time::Duration;
 
-/// After this many seconds it is said how far a command is.
+/// The seconds after which progress is reported.
 const PATIENCE: u64 = 1;
 
-/// How far a command is: `412 of 879` on a line of standard error, if that is a terminal and a
-/// second has gone by.
+/// The progress of a command: `412 of 879` on a line of standard error, if that is a terminal and a
+/// second has passed.
 #[derive(Drop)]
 pub struct Progress<'a, R: Clock + Eprint> {
     rt: &'a R,
@@ -18,7 +18,7 @@ pub struct Progress<'a, R: Clock + Eprint> {
 }
 
 impl<'a, R: Clock + Eprint> Progress<'a, R> {
-    /// Nothing is done of `total` files. Nothing will be said if there is no terminal or no clock.
+    /// Starts at 0 of `total` files. Without a terminal or a clock nothing is reported.
     pub fn new(rt: &'a R, console: Console, total: usize) -> Self {
         let began = if console.is_terminal {
             rt.monotonic().ok()
@@ -34,7 +34,7 @@ impl<'a, R: Clock + Eprint> Progress<'a, R> {
         }
     }
 
-    /// Takes the line away, before another is printed and at the end.
+    /// Erases the line, before another is printed and at the end.
     pub fn clear(&mut self) {
         if self.is_shown {
             let _ = self.rt.eprint("\r\u{1b}[K");
@@ -42,7 +42,7 @@ impl<'a, R: Clock + Eprint> Progress<'a, R> {
         }
     }
 
-    /// Whether a second has gone by.
+    /// Checks whether a second has passed.
     fn is_due(&self) -> bool {
         match (self.began, self.rt.monotonic()) {
             (Some(began), Ok(now)) => now.saturating_sub(began).as_secs() >= PATIENCE,
@@ -50,7 +50,7 @@ impl<'a, R: Clock + Eprint> Progress<'a, R> {
         }
     }
 
-    /// One file more is done.
+    /// Counts a file, and reports the progress.
     pub fn step(&mut self) {
         self.done = self.done.saturating_add(1);
         if self.began.is_some() && self.is_due() {

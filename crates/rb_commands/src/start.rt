@@ -17,7 +17,7 @@ use std::io::ErrorKind;
 use std::random::RandomSource;
 use std::rt::Files;
 
-/// The error of a file that can't be read.
+/// Returns the error of a file that can't be read.
 fn reading_error(file: &str, kind: ErrorKind) -> StartError<'_> {
     match kind {
         ErrorKind::OutOfMemory => StartError::Memory,
@@ -25,7 +25,7 @@ fn reading_error(file: &str, kind: ErrorKind) -> StartError<'_> {
     }
 }
 
-/// The error of a bundle text.
+/// Returns the error of a bundle text.
 fn text_error(file: &str, kind: SourceKind) -> StartError<'_> {
     match kind {
         SourceKind::Memory => StartError::Memory,
@@ -33,7 +33,7 @@ fn text_error(file: &str, kind: SourceKind) -> StartError<'_> {
     }
 }
 
-/// The error of explicit parents.
+/// Returns the error of explicit parents.
 fn parents_error(file: &str, fault: ParentsFault) -> StartError<'_> {
     match fault {
         ParentsFault::Memory => StartError::Memory,
@@ -41,7 +41,7 @@ fn parents_error(file: &str, fault: ParentsFault) -> StartError<'_> {
     }
 }
 
-/// The error of an engine's start, whose entries are the files of these bundles.
+/// Returns the error of an engine's start, whose entries are the files of these bundles.
 fn engine_error<'a>(bundles: &[Given<'a>], fault: StartFault) -> StartError<'a>
     requires { IsIndexed (length bundles.now) fault }
 {
@@ -53,7 +53,7 @@ fn engine_error<'a>(bundles: &[Given<'a>], fault: StartFault) -> StartError<'a>
     }
 }
 
-/// The bytes of a file.
+/// Reads a file.
 fn bytes_of<'a, R: Files + AllocGlobal>(rt: &R, file: &'a str) -> Result<Vec<u8>, StartError<'a>> {
     match read_file(rt, file) {
         Ok(bytes) => Ok(bytes),
@@ -61,7 +61,7 @@ fn bytes_of<'a, R: Files + AllocGlobal>(rt: &R, file: &'a str) -> Result<Vec<u8>
     }
 }
 
-/// The explicit parents that a file has, a bundle text.
+/// Reads explicit parents from a bundle text.
 fn read_parents<'a, R: Files + AllocGlobal>(
     rt: &R,
     file: &'a str,
@@ -71,7 +71,7 @@ fn read_parents<'a, R: Files + AllocGlobal>(
     Parents::read(rt.alloc(), &source.tree).map_err(|fault| parents_error(file, fault))
 }
 
-/// The explicit parents of a file, if one is given, and else none.
+/// Reads the explicit parents of a file, or returns none if no file is given.
 pub(crate) fn parents_of<'a, R: Files + AllocGlobal>(
     rt: &R,
     file: Option<&'a str>,
@@ -82,7 +82,7 @@ pub(crate) fn parents_of<'a, R: Files + AllocGlobal>(
     }
 }
 
-/// What a file has for a bundle: a bundle text if its name ends in `.txt`, and else a `.res` file.
+/// Makes the payload of a file: a bundle text if its name ends in `.txt`, otherwise a `.res` file.
 fn payload_of(file: &str, bytes: Vec<u8>) -> Payload {
     let bytes = ByteList::from_vec(bytes);
     if is_text(file) {
@@ -92,7 +92,7 @@ fn payload_of(file: &str, bytes: Vec<u8>) -> Payload {
     }
 }
 
-/// The bundles' files, read in order.
+/// Reads the bundles' files in order.
 fn read_all<'a, R: Files + AllocGlobal>(
     rt: &R,
     bundles: &[Given<'a>],
@@ -109,12 +109,11 @@ fn read_all<'a, R: Files + AllocGlobal>(
     Ok(entries)
 }
 
-/// An engine with the explicit parents of a file, if one is given, and ICUDATA made of the
+/// Starts an engine with the explicit parents of a file, if one is given, and ICUDATA made of the
 /// arguments, each `LOCALE=FILE`.
 ///
-/// First all arguments are split, then the parents are read and judged, then the other files are
-/// read, then the runtime is asked for a random state, and then the engine starts; the first error
-/// is reported.
+/// Splits all arguments, reads and checks the parents, reads the other files, asks the runtime for
+/// a random state and starts the engine, in this order; returns the first error.
 pub fn start_engine<'a, R: Files + AllocGlobal + RandomSource>(
     rt: &R,
     parents: Option<&'a str>,

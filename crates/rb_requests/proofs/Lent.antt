@@ -1,4 +1,4 @@
--- What was lent out of a line, beside the object that the line is.
+-- The texts that are borrowed from a line agree with the object that the line is.
 use Rattle.std.proofs.Common.{◌≡◌, ℕ, List, Option, Some, None, is_some, if◌then◌else◌, option_map, option_and_then, codes, refl, ap, ◌∙◌}
 use Rattle.serde_json.specs.Data.{Data, null, boolean, number, string, array, Members, object}
 use Rattle.serde_json.specs.Find.{get_member, as_str}

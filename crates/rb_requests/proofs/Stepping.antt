@@ -1,4 +1,4 @@
--- What a line asks, by what was read of it, and what is answered.
+-- The request of a line, by its texts, and its answer.
 use Rattle.std.proofs.Common.{◌≡◌, ◌≤◌, ◌<◌, ℕ, inl, inr, Bool, true, false, ◌&&◌, List, length, Option, Some, None, option_map, refl, sym, ◌∙◌, ap, arith, nat_lt, codes}
 use Rattle.std.specs.Prelude.{OnOk, Result, Ok, Err}
 use Rattle.std.proofs.lemmas.Bool.{false≢true}
@@ -25,7 +25,7 @@ use Rattle.rb_requests.specs.declared.limits.LineLimits.{LineLimits}
 use Rattle.rb_requests.specs.inner.Line.{line_view, AreTextsOf}
 use Rattle.rb_requests.specs.inner.Starving.{CallReply, LeavesOf, untold_reply}
 
--- what a line calls, by what it was read as
+-- the call of a line, by its texts
 pub call_read : {o : Option Line} (texts : Texts) (line : Line) → ((d : Data) → AreTextsOf texts d → option_map line_view o ≡ call_in d)
     → o ≡ Some line → (d : Data) → AreTextsOf texts d → call_in d ≡ Some (line_view line)
 call_read texts line h e d t = sym (h d t) ∙ ap (option_map line_view) e
@@ -40,7 +40,7 @@ pub asked_none : {o : Option Line} (texts : Texts) → ((d : Data) → AreTextsO
     → o ≡ None → (d : Data) → AreTextsOf texts d → call_in d ≡ None
 asked_none texts h e d t = sym (h d t) ∙ ap (option_map line_view) e
 
--- what is left if memory runs out, of what says more
+-- the state if memory runs out, under a weaker statement on the reply
 pub leaves_more : (P Q : List ℕ → Kept → Type 0) (s : Starved) (old new : Kept) → ((text : List ℕ) → P text new → Q text new)
     → LeavesOf P s old new → LeavesOf Q s old new
 leaves_more P Q Before old new f same = same
@@ -49,7 +49,7 @@ leaves_more P Q After old new f left = elim left [
   | inr (text, told) ↦ inr (text, f text told)
 ]
 
--- ---- what a call comes to
+-- ---- the outcome of a call
 
 -- memory ran out for the call
 abbrev starved_by : Outcome → Bool
@@ -92,7 +92,7 @@ unchanged limits old call outcome new e (brought, brings, judged) = elim judged 
   | inr answered ↦ answered.kept (λ d. false≢true (sym e ∙ ap done_by (answered.answer ∙ ap (λ (r : Response). Answers r) d)))
 ]
 
--- what is left of a call whose reply could not be made
+-- the state after a call whose reply could not be made
 pub left_by : (limits : LineLimits) (old : Kept) (call : Call) (reply : Reply) (new : Kept) → is_memory (Replies reply) ≡ false
     → CallComesTo limits.calls old call (Answers (Replies reply)) new → LeavesOf (CallReply limits old call) (untold_reply reply) old new
 left_by limits old call Done new e h =
@@ -131,7 +131,7 @@ pub line_long : (limits : LineLimits) (response : Response) → IsAbove (length 
     → error_line (codes "ReplyTooLong") ≡ outcome_line limits (Answers response)
 line_long limits response long = rw (exceeds response limits.reply_bytes _ long) refl
 
--- the line is told, or memory ran out
+-- the line is made, or memory ran out
 pub told_as : {E : Type 0} (r : Result (Unit {0}) E) (line text other : List ℕ) → text ≡ other → OnOk r (line ≡ text) → OnOk r (line ≡ other)
 told_as (Ok x) line text other same told = told ∙ same
 told_as (Err e) line text other same told = tt

@@ -1,4 +1,4 @@
--- What is read from a line, by whether it is text.
+-- The value that is read from a line, if the line is text and if it is not.
 use Rattle.std.proofs.Common.{◌≡◌, ℕ, List, Option, None, false, refl}
 use Rattle.std.specs.Str.{is_utf8, IsUtf8}
 use Rattle.std.proofs.lemmas.Str.{is_utf8-from_IsUtf8, IsUtf8-from_is_utf8}

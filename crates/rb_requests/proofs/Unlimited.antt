@@ -1,4 +1,4 @@
--- Serving without limits: what is answered under none is what the engine answers.
+-- Serving without limits: each line is answered as the engine answers it.
 use Rattle.std.proofs.Common.{ℕ, inl, inr, List, [], ◌∷◌, Option, Some, None, ap}
 use Rattle.std.specs.Prelude.{All}
 use Rattle.std.proofs.lemmas.List.Elements.{All-head, All-tail}
@@ -7,7 +7,7 @@ use Rattle.rb_requests.specs.Served.{Moment, where_known, IsShort, Answers, Answ
 use Rattle.rb_requests.specs.declared.lines.ServeFault.{ServeFault}
 use Rattle.rb_requests.specs.declared.lines.ServeFault.TheVariants.{Read, Write, LineLimit, LineTooLong, Memory}
 
--- What is held is seen in another way, and so are the replies to lines that are short enough.
+-- The state is mapped to another type, and so are the replies to lines that are short enough.
 module _ {S T : Type 0} (see : S → T) (Reply : S → List ℕ → List ℕ → S → Type 0) (Seen : T → List ℕ → List ℕ → T → Type 0) (limit : ℕ)
     (seen : (old new : S) (line text : List ℕ) → IsShort limit line → Reply old line text new → Seen (see old) line text (see new)) where
   abbrev pub moment : Moment S → Moment T

@@ -1,5 +1,5 @@
--- What a line asks, in a form of this project. A line is read as a `Value` of serde_json; an object of one of the forms
--- below is a request, and further members count for nothing.
+-- Defines the requests of lines, in a form of this project. A line is read as a `Value` of serde_json; an object of one
+-- of the forms below is a request, and its other members are ignored.
 use Rattle.std.specs.Prelude.{ℕ, Bool, List, is_some, if◌then◌else◌, Option, Some, None, codes, option_and_then}
 use Rattle.std.specs.Prelude.{option_map, Result, Ok, Err}
 use Rattle.std.specs.Str.{bytes_eq, is_utf8}
@@ -62,10 +62,10 @@ call_by op d =
 abbrev pub call_in : Data → Option Call
 call_in d = with_text (codes "op") d (λ op. call_by op d)
 
--- what is read from a line: a text that is JSON
+-- the value that is read from a line: a text that is JSON
 abbrev pub data_of : List ℕ → Option Data
 data_of line = if is_utf8 line then read line else None
 
--- what a line calls; nothing, if it is no request
+-- the call of a line; none if the line is no request
 abbrev pub call_of : List ℕ → Option Call
 call_of line = option_and_then call_in (data_of line)

@@ -1,5 +1,5 @@
--- What calls of a reader and a writer do to the bytes, as std's `Read` and `Write` have it, and to the counts of failed
--- calls and of settled ones.
+-- Defines the effect of a reader's and a writer's calls on the bytes, as in std's `Read` and `Write`, and on the counts
+-- of failed calls and of flushes.
 use Rattle.std.specs.Prelude.{ℕ, zero, suc, ◌+◌, ◌-◌, ◌^◌, min, List, [], ◌∷◌, Option, Some, None, Result, Ok, Err}
 use Rattle.std.specs.Io.KnownBytes.{Keeps, Consumes, IsAtEnd}
 use Rattle.rb_requests.specs.declared.device.Failed.{Failed}

@@ -1,4 +1,4 @@
--- What one application is answered by the lines of a text, whatever the other lines are: this project's own rule.
+-- Defines that the replies to one application's lines don't depend on the other lines of a text: this project's rule.
 use Rattle.std.specs.Prelude.{◌≡◌, ℕ, Bool, false, List, [], ◌∷◌, ◌||◌, if◌then◌else◌, length, map, nat_lt, codes}
 use Rattle.std.specs.Prelude.{Option, Some, None, option_and_then}
 use Rattle.std.specs.Str.{bytes_eq}
@@ -11,7 +11,7 @@ use Rattle.rb_requests.specs.Lines.{RepliesBy, RepliesByLine}
 use Rattle.rb_requests.specs.Within.{LineReplyWithin, longest_kept, asked_usage, usage_in, error_line}
 use Rattle.rb_requests.specs.declared.limits.LineLimits.{LineLimits}
 
--- whether a line is a call of the application
+-- a line is a call of the application
 abbrev pub is_of : List ℕ → Option Call → Bool
 is_of app None = false
 is_of app (Some call) = bytes_eq (caller call) app
@@ -25,14 +25,14 @@ abbrev pub calls_of : List ℕ → List (List ℕ) → List Call
 calls_of app [] = []
 calls_of app (line ∷ rest) = with_call app (call_of line) (calls_of app rest)
 
--- the replies to these
+-- the replies to the application's calls
 abbrev pub replies_to : List ℕ → List (List ℕ) → List (List ℕ) → List (List ℕ)
 replies_to app [] replies = []
 replies_to app (line ∷ rest) [] = []
 replies_to app (line ∷ rest) (reply ∷ more) = if is_of app (call_of line) then reply ∷ replies_to app rest more
     else replies_to app rest more
 
--- ---- what holds of every text
+-- ---- every text
 
 -- lines with the same calls of one application, in the same order, over the same start and the same bundles of it,
 -- reply the same to it

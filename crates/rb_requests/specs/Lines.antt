@@ -11,12 +11,12 @@ abbrev pub onto_first : ℕ → List (List ℕ) → List (List ℕ)
 onto_first b [] = (b ∷ []) ∷ []
 onto_first b (l ∷ ls) = (b ∷ l) ∷ ls
 
--- what stands before each line feed, and the rest if it isn't empty
+-- the bytes before each line feed, and the remaining bytes if there are any
 abbrev pub lines_of : List ℕ → List (List ℕ)
 lines_of [] = []
 lines_of (b ∷ bs) = if b == 10 then [] ∷ lines_of bs else onto_first b (lines_of bs)
 
--- how many line feeds a text has
+-- the number of line feeds in a text
 abbrev pub feeds : List ℕ → ℕ
 feeds [] = 0
 feeds (b ∷ bs) = (if b == 10 then 1 else 0) + feeds bs
@@ -28,7 +28,7 @@ AnswersAsked s None (Some response) new = ⊥
 AnswersAsked s (Some call) None new = ⊥
 AnswersAsked s (Some call) (Some response) new = Answered s call response new
 
--- the text of the reply to a line, and what is then
+-- the text of the reply to a line, and the state after it
 abbrev pub LineReply : State → List ℕ → List ℕ → State → Type 0
 LineReply s line text new = (response : Option Response) × AnswersAsked s (call_of line) response new
     × (text ≡ reply_line response)
@@ -43,6 +43,6 @@ RepliesBy Reply s (line ∷ rest) [] end = ⊥
 RepliesBy {S} Reply s (line ∷ rest) (reply ∷ more) end =
     (mid : S) × Reply s line reply mid × RepliesBy Reply mid rest more end
 
--- the same if each line is answered as its call is
+-- `RepliesBy` where each line is answered as its call is
 abbrev pub RepliesByLine : State → List (List ℕ) → List (List ℕ) → State → Type 0
 RepliesByLine s lines replies end = RepliesBy LineReply s lines replies end

@@ -1,4 +1,4 @@
--- What is read of an input if a run of bytes is taken from it: the bytes that calls of `pull` would give one by one.
+-- Defines the effect of reading a span of bytes from an input: the bytes that calls of `pull` would read one by one.
 use Rattle.std.specs.Prelude.{◌≡◌, ◌<◌, ◌≤◌, ℕ, length, List, [], ◌∷◌, ◌++◌, Option, Result, Ok, Err}
 use Rattle.std.specs.Io.KnownBytes.{Consumes, Keeps, IsAtEnd}
 use Rattle.rb_requests.specs.Lines.{feeds}
@@ -6,7 +6,7 @@ use Rattle.rb_requests.specs.declared.device.Failed.{Failed}
 use Rattle.rb_requests.specs.declared.device.Run.{Run}
 use Rattle.rb_requests.specs.declared.device.Run.TheVariants.{Feed, Part, End, Memory}
 
--- some bytes without a line feed are read, and these last ones after them; the first ones now follow a line
+-- some bytes without a line feed are read and appended to the line, and `last` is read after them
 pub record Moves (old new : Option (List ℕ)) (line line' : List ℕ) (most : ℕ) (last : List ℕ) : Type 0 where
   pub bytes : List ℕ
   pub read : Consumes old new (bytes ++ last)

@@ -1,5 +1,5 @@
--- What serving comes to at the end of the input, and what stands if it ends earlier, this project's own rule: each
--- line is answered before the next is read.
+-- Defines the result of serving at the end of the input, and the state if it ends earlier, this project's own rule:
+-- each line is answered before the next is read.
 use Rattle.std.specs.Prelude.{◌≡◌, ◌≤◌, ◌<◌, ◌+◌, ◌++◌, ◌⊎◌, ℕ, List, [], ◌∷◌, length, All, ⊤, Option, Some, None}
 use Rattle.std.specs.Prelude.{Result, Ok, Err}
 use Rattle.std.specs.List.{concat}
@@ -11,8 +11,8 @@ use Rattle.rb_requests.specs.declared.lines.ServeFault.{ServeFault}
 use Rattle.rb_requests.specs.declared.lines.ServeFault.TheVariants.{Read, Write, LineLimit, LineTooLong, Memory}
 use Rattle.rb_requests.specs.Limits.{line_limit}
 
--- a server at a moment: what it holds, the bytes that are left to read and those that are written, where they are
--- known, and how many replies have been settled
+-- a server at a moment: its state, the bytes that remain to be read and those that are written, where they are known,
+-- and the number of flushed replies
 pub record Moment (S : Type 0) : Type 0 where
   pub state : S
   pub left : Option (List ℕ)
@@ -22,7 +22,7 @@ pub record Moment (S : Type 0) : Type 0 where
 abbrev pub at : {S : Type 0} → S → Option (List ℕ) → Option (List ℕ) → ℕ → Moment S
 at state left written settled = record { state = state; left = left; written = written; settled = settled }
 
--- if the bytes that are left are known, before and after
+-- if the remaining bytes are known, before and after
 abbrev pub where_known : (List ℕ → List ℕ → Type 0) → Option (List ℕ) → Option (List ℕ) → Type 0
 where_known Holds None left = ⊤
 where_known Holds (Some input) None = ⊥
@@ -32,7 +32,7 @@ where_known Holds (Some input) (Some left) = Holds input left
 abbrev pub IsShort : ℕ → List ℕ → Type 0
 IsShort limit line = length line ≤ limit
 
--- as many replies are settled as lines are answered
+-- as many replies are flushed as lines are answered
 abbrev pub IsSettled : {S : Type 0} → Moment S → Moment S → List (List ℕ) → Type 0
 IsSettled before after lines = after.settled ≡ risen_by before.settled (length lines)
 
@@ -42,11 +42,11 @@ pub record IsNext (limit : ℕ) (begun left line : List ℕ) : Type 0 where
   pub whole : lines_of (begun ++ left) ≡ line ∷ lines_of left
   pub short : IsShort limit line
 
--- of a line nothing is read, or a part without its line feed that is shorter than a line may be
+-- no byte of a line is read, or a part without its line feed that is shorter than a line may be
 abbrev pub IsBegun : ℕ → List ℕ → Type 0
 IsBegun limit begun = (feeds begun ≡ 0) × (length begun < limit)
 
--- `Reply` says what the reply to a line is, and what is held after it.
+-- `Reply` gives the reply to a line and the state after it.
 module _ {S : Type 0} (Reply : S → List ℕ → List ℕ → S → Type 0) where
   -- ---- the whole input
 

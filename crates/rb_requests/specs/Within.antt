@@ -28,18 +28,18 @@ line_of d = compact_text d ++ 10 ∷ []
 abbrev pub error_line : List ℕ → List ℕ
 error_line word = line_of (error word)
 
--- ---- how long a line may be
+-- ---- the length of a line
 
--- a line with at most this many bytes is read as what it asks
+-- a line with at most this many bytes is read as a request
 abbrev pub longest_kept : LineLimits → ℕ
 longest_kept limits = min (unwrap_or limits.line_bytes line_limit) line_limit
 
--- a line with more bytes than this ends serving: without a limit of its own 268,435,456, and with one as many as 64
--- bits can tell
+-- a line with more bytes than this ends serving: 268,435,456 without a limit on lines, and with one the largest number
+-- of 64 bits
 abbrev pub longest_read : LineLimits → ℕ
 longest_read limits = if is_some limits.line_bytes then 2 ^ 64 - 1 else line_limit
 
--- ---- what a line asks
+-- ---- questions for usage
 
 -- any limit is on
 abbrev pub is_limited : LineLimits → Bool
@@ -54,7 +54,7 @@ usage_in d =
     option_and_then (λ op. if bytes_eq op (codes "usage") then text_at (codes "app") d else None)
     (text_at (codes "op") d)
 
--- it is asked only if any limit is on
+-- the question counts only if any limit is on
 abbrev pub asked_usage : LineLimits → Option (List ℕ) → Option (List ℕ)
 asked_usage limits app = if is_limited limits then app else None
 
@@ -74,7 +74,7 @@ outcome_line limits (Answers response) =
     if is_too_long limits response then error_line (codes "ReplyTooLong") else reply_line (Some response)
 outcome_line limits (Refuses refusal) = error_line (refusal_word refusal)
 
--- an application's usage: the bytes of its files, and how many they are
+-- an application's usage: the bytes of its files, and their number
 abbrev pub usage_line : Files → List ℕ
 usage_line files = line_of (usage_data (used files) (length files))
 
@@ -85,7 +85,7 @@ usage_reply kept (Ok app) = usage_line (files_of app kept.packages)
 -- ---- the reply to a line
 
 -- a line that is read: a call is refused by a limit or answered by the engine; a question for usage is answered; any
--- other line is none
+-- other line is no request
 abbrev pub AnswersRead : LineLimits → Kept → Option Call → Option (List ℕ) → List ℕ → Kept → Type 0
 AnswersRead limits old (Some call) usage text new =
     (outcome : Outcome) × CallIsJudged limits.calls old call outcome new × (text ≡ outcome_line limits outcome)
@@ -96,8 +96,8 @@ abbrev pub ReadReply : LineLimits → Kept → List ℕ → List ℕ → Kept �
 ReadReply limits old line text new =
     AnswersRead limits old (call_of line) (asked_usage limits (option_and_then usage_in (data_of line))) text new
 
--- A line with more than this many bytes is not read. Where serving goes on without memory, any other may be answered
--- `Memory`, and has changed nothing.
+-- A line with more than this many bytes is not read. With `keep_serving`, any other may be answered `Memory`, and has
+-- then changed nothing.
 abbrev pub LineReplyUpTo : ℕ → LineLimits → Kept → List ℕ → List ℕ → Kept → Type 0
 LineReplyUpTo most limits old line text new =
     ((nat_lt most (length line) ≡ true) × (text ≡ error_line (codes "LineTooLong")) × (new ≡ old))

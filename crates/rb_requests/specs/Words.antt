@@ -5,7 +5,7 @@ use Rattle.rb_requests.specs.declared.lines.ServeFault.TheVariants as serve
 use Rattle.rb_requests.specs.declared.words.LineError.{LineError}
 use Rattle.rb_requests.specs.declared.words.LineError.TheVariants as line
 
--- what ends serving
+-- the code of an error that ends serving
 abbrev pub serve_word : ServeFault → List ℕ
 serve_word serve.Read = codes "Read"
 serve_word serve.Write = codes "Write"
@@ -13,7 +13,7 @@ serve_word serve.LineLimit = codes "LineLimit"
 serve_word serve.LineTooLong = codes "LineTooLong"
 serve_word serve.Memory = codes "Memory"
 
--- what a line is answered
+-- the code of an error that a line is answered with
 abbrev pub line_error_word : LineError → List ℕ
 line_error_word line.BadLine = codes "BadLine"
 line_error_word line.LineTooLong = codes "LineTooLong"

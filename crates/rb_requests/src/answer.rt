@@ -37,7 +37,7 @@ use std::alloc::{AllocError, Global};
 pub(crate) enum Starved {
     /// Nothing has changed.
     Before,
-    /// What the line asks has taken effect, or has not.
+    /// The line's request may have taken effect.
     After,
 }
 
@@ -51,7 +51,7 @@ impl From<AllocError> for Starved {
     }
 }
 
-/// Says where the reply to a line is.
+/// The place where the reply to a line is.
 #[derive(Clone, Copy, Debug, PartialEq, Eq)]
 pub(crate) enum Placed {
     /// In the reply line: nothing is written.
@@ -74,8 +74,8 @@ pub(crate) fn is_limited(limits: &LineLimits) -> bool
         || limits.keep_serving
 }
 
-/// Returns what memory ran out before or after if the reply could not be made: only a request that
-/// was done has changed anything.
+/// Classifies a reply that could not be made for lack of memory: only a request that was done has
+/// changed anything.
 fn untold(reply: &Reply) -> Starved
     ensures { result ≡ untold_reply reply.now }
 {
@@ -237,8 +237,8 @@ fn answer_usage(
     reply.tell_reply(alloc, &fault)
 }
 
-/// Makes the line the reply to a line that calls nothing: to a question for usage, if any limit is
-/// on, and else to a line that is no request.
+/// Makes the line the reply to a line that calls nothing: the usage, if the line asks for it and
+/// any limit is on, or else `BadLine`.
 fn answer_other(
     alloc: Global,
     engine: &Engine,

@@ -1,7 +1,7 @@
-//! What a line asks.
+//! Reads a line as a request.
 //!
-//! The texts at the names that count are lent out of the line, or out of a scratch if they have
-//! escapes. Of the line's other values nothing is kept.
+//! The texts at the names that count are borrowed from the line, or from a scratch if they have
+//! escapes. The line's other values are not stored.
 ghost use Rattle.std.specs.Prelude.{◌≡◌, IfOk, IsTrue, option_map, Some, false};
 ghost use Rattle.serde_json.specs.Data.{Data};
 ghost use Rattle.hex.specs.Hex.{decode_of};
@@ -20,7 +20,7 @@ use rb_members::{Member, Texts, read_texts};
 use rb_tree::ByteList;
 use std::alloc::{AllocError, Global};
 
-/// What a line asks. The texts of a lookup are lent out of the line.
+/// A request that was read from a line. The texts of a lookup are borrowed from the line.
 #[derive(Drop)]
 pub(crate) enum Line<'a> {
     Request(Request),
@@ -37,7 +37,7 @@ fn bytes_of(alloc: Global, text: &str) -> Result<ByteList, AllocError>
     Ok(ByteList::from_vec(text.as_bytes().to_vec(alloc)?))
 }
 
-/// The payload of an install or a replacement, if there is one.
+/// Returns the payload of an install or a replacement, if there is one.
 fn payload_of(alloc: Global, texts: &Texts<'_>) -> Result<Option<Payload>, AllocError>
     ensures { IfOk result (λ o. o ≡ payload_by texts.now.text texts.now.file) }
 {
@@ -48,7 +48,7 @@ fn payload_of(alloc: Global, texts: &Texts<'_>) -> Result<Option<Payload>, Alloc
     }
 }
 
-/// The file that hexadecimal digits write, if they write one.
+/// Decodes a file from hexadecimal digits, or returns `None` if they are malformed.
 fn decode(alloc: Global, digits: &str) -> Result<Option<Payload>, AllocError>
     ensures { IfOk result (λ o. o ≡ decoded (decode_of digits.now)) }
 {
@@ -118,7 +118,7 @@ fn look_of<'a>(texts: &Texts<'a>) -> Option<Line<'a>>
     }
 }
 
-/// What a line with these texts asks, if it is a request.
+/// Returns the request of a line with these texts, or `None` if it is no request.
 pub(crate) fn line_of<'a>(alloc: Global, texts: &Texts<'a>) -> Result<Option<Line<'a>>, AllocError>
     ensures { IfOk result
         (λ o. (d : Data) → AreTextsOf texts.now d → option_map line_view o ≡ call_in d) }
@@ -141,7 +141,7 @@ pub(crate) fn line_of<'a>(alloc: Global, texts: &Texts<'a>) -> Result<Option<Lin
     }
 }
 
-/// The application whose usage a line with these texts asks for, if it asks for that.
+/// Returns the application whose usage a line with these texts asks for, if it asks for usage.
 pub(crate) fn usage_app<'a>(texts: &Texts<'a>) -> Option<&'a str>
     ensures { (d : Data) → AreTextsOf texts.now d → option_map (λ s. s.now) result ≡ usage_in d }
 {
@@ -151,8 +151,8 @@ pub(crate) fn usage_app<'a>(texts: &Texts<'a>) -> Option<&'a str>
     }
 }
 
-/// Whether a line is an object; if so, what it has at the names that count is in `texts`. Any other
-/// line is no request.
+/// Checks whether a line is an object, and if so stores its texts at the names that count in
+/// `texts`. Any other line is no request.
 pub(crate) fn lent_texts<'a>(
     line: &'a [u8],
     scratch: &'a mut Scratch,

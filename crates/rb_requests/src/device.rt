@@ -1,5 +1,5 @@
-//! Readers by the byte and by the run, writers, and the wrappers that make them of any `BufRead`
-//! and `Write`.
+//! Readers by single bytes and by spans, writers, and the wrappers that implement them over any
+//! `BufRead` and `Write`.
 
 ghost use Rattle.std.specs.Prelude.{◌≡◌, ◌<◌, ◌≤◌, ℕ, List, Option, length, IfOk};
 ghost use Rattle.std.specs.Io.KnownBytes.{Keeps, WriteAppends};
@@ -8,43 +8,42 @@ ghost use Rattle.rb_requests.specs.Device.{risen};
 use memchr::memchr;
 use std::io::{BufRead, Write};
 
-/// A call of a reader or a writer failed.
+/// The error of a reader's or a writer's call that failed.
 #[derive(Clone, Copy, Debug, PartialEq, Eq)]
 pub struct Failed;
 
-/// How a run of bytes ended.
+/// The way in which a span of bytes ended.
 #[derive(Clone, Copy, Debug, PartialEq, Eq)]
 pub enum Run {
-    /// At a line feed, which is taken too.
+    /// At a line feed, which is consumed too.
     Feed,
     /// Within a line.
     Part,
     /// At the end of the input.
     End,
-    /// Out of memory for the line; nothing is taken.
+    /// Out of memory for the line; nothing is consumed.
     Memory,
 }
 
-/// What gives bytes, one by one or by the run.
+/// A reader of bytes, one by one or by spans.
 pub trait Feed {
     ghost use Rattle.rb_requests.specs.Device.{Pulls, counted};
     ghost use Rattle.rb_requests.specs.Runs.{RunRead};
 
-    /// The bytes that are left, if they are known.
+    /// The remaining bytes, if they are known.
     ghost left: { Self → Option (List ℕ) };
 
-    /// How many calls have failed, up to the largest `u64`.
+    /// The number of calls that have failed, up to the largest `u64`.
     ghost faults: { Self → ℕ };
 
-    /// The next byte, or `None` at the end.
+    /// Reads the next byte, or returns `None` at the end.
     fn pull(&mut self) -> Result<Option<u8>, Failed>
         ensures bytes { Pulls (left self.old) (left self.new) result }
         ensures count { faults self.new ≡ counted (faults self.old) result };
 
-    /// Moves the next bytes onto the end of a line, at least one and at most this many: up to a
-    /// line feed, which is taken and not moved, or a part of the line. They are those that calls of
-    /// `pull` would give. After an error nothing is taken, and if memory runs out for the line
-    /// neither.
+    /// Appends the next bytes to a line, at least one and at most `most`: up to a line feed, which
+    /// is consumed and not appended, or a part of the line. Calls of `pull` would read the same
+    /// bytes. After an error, or if memory runs out for the line, nothing is consumed.
     fn pull_run(&mut self, line: &mut Vec<u8>, most: usize) -> Result<Run, Failed>
         requires { 0 < most }
         ensures bytes { RunRead (left self.old)
@@ -66,20 +65,20 @@ pub trait Feed {
     }
 }
 
-/// What takes bytes.
+/// A writer of bytes.
 pub trait Sink {
     ghost use Rattle.rb_requests.specs.Device.{counted, settles};
 
     /// The bytes that were written, if they are known.
     ghost written: { Self → Option (List ℕ) };
 
-    /// How many calls have failed, up to the largest `u64`.
+    /// The number of calls that have failed, up to the largest `u64`.
     ghost faults: { Self → ℕ };
 
-    /// How many calls of `settle` have succeeded, up to the largest `u64`.
+    /// The number of calls of `settle` that have succeeded, up to the largest `u64`.
     ghost settled: { Self → ℕ };
 
-    /// Takes bytes from the front, at least one if there is one, and says how many.
+    /// Writes bytes from the front, at least one if there is one, and returns their number.
     fn put(&mut self, bytes: &[u8]) -> Result<usize, Failed>
         ensures most { IfOk result (λ n. n ≤ length bytes.now) }
         ensures some { 0 < length bytes.now → IfOk result (λ n. 0 < n) }
@@ -103,7 +102,7 @@ struct Device<D> {
 }
 
 impl<D> Device<D> {
-    /// No call has failed.
+    /// Wraps a device of which no call has failed.
     fn new(inner: D) -> Self
         ensures { result ≡ record { inner = inner; failed = 0 } }
     {
@@ -119,14 +118,14 @@ impl<D> Device<D> {
     }
 }
 
-/// A reader as a feed.
+/// A feed over a `BufRead`.
 #[derive(Drop)]
 pub struct ReadFeed<R: BufRead> {
     device: Device<R>,
 }
 
 impl<R: BufRead> ReadFeed<R> {
-    /// A feed of what a reader has left. No call has failed.
+    /// Makes a feed of a reader's remaining bytes. No call has failed.
     pub fn new(inner: R) -> Self
         ensures left { ⟦<ReadFeed<R> as Feed>⟧.left result ≡ R.remaining inner }
         ensures faults { ⟦<ReadFeed<R> as Feed>⟧.faults result ≡ 0 }
@@ -136,7 +135,7 @@ impl<R: BufRead> ReadFeed<R> {
         }
     }
 
-    /// The reader.
+    /// Returns a reference to the reader.
     pub fn get_ref(&self) -> &R
         ensures { ⟦<ReadFeed<R> as Feed>⟧.left self.now ≡ R.remaining result.now }
     {
@@ -187,7 +186,7 @@ impl<R: BufRead> Feed for ReadFeed<R> {
     }
 }
 
-/// A writer as a sink.
+/// A sink over a `Write`.
 #[derive(Drop)]
 pub struct WriteSink<W: Write> {
     device: Device<W>,
@@ -195,7 +194,7 @@ pub struct WriteSink<W: Write> {
 }
 
 impl<W: Write> WriteSink<W> {
-    /// A sink over what a writer holds. No call has failed, and none has settled.
+    /// Makes a sink over a writer. No call has failed, and none has flushed.
     pub fn new(inner: W) -> Self
         ensures written { ⟦<WriteSink<W> as Sink>⟧.written result ≡ W.contents inner }
         ensures faults { ⟦<WriteSink<W> as Sink>⟧.faults result ≡ 0 }

@@ -1,7 +1,7 @@
-//! Requests and replies by the line: what a line asks of an engine, the line that answers it, and
-//! the loop that serves them.
+//! Requests and replies by the line: reads a line as a request to an engine, writes the line that
+//! answers it, and loops over the lines of an input.
 //!
-//! The engine itself is rb_engine's; all its public items are here too.
+//! The engine itself is in rb_engine, whose public items are exported here too.
 #![tactic(auto)]
 
 mod answer;

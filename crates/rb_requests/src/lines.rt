@@ -29,7 +29,7 @@ use rb_replies::ReplyLine;
 use std::alloc::{AllocError, Global};
 use thiserror::Error;
 
-/// Why serving ended before the end of the input.
+/// The reason why serving ended before the end of the input.
 #[derive(Clone, Copy, Debug, PartialEq, Eq, Error)]
 pub enum ServeFault {
     /// A call of the reader failed.
@@ -49,7 +49,7 @@ pub enum ServeFault {
     Memory,
 }
 
-/// Counts the lines that were served.
+/// The number of lines that were served.
 #[derive(Clone, Copy, Debug, PartialEq, Eq)]
 pub struct Served {
     pub lines: u64,
@@ -81,7 +81,7 @@ fn piece(bytes: &[u8]) -> &[u8]
     &bytes[..bytes.len().min(PIECE)]
 }
 
-/// Writes bytes by pieces, of which the sink may take parts.
+/// Writes bytes in pieces; the sink may write a piece in parts.
 #[tactic(auto, using(crate::proofs::Putting::at_first, crate::proofs::Putting::put_part))]
 pub(crate) fn put_all<S: Sink>(sink: &mut S, bytes: &[u8]) -> Result<(), Failed>
     ensures bytes { OnOk result (Appends (S.written sink.old) (S.written sink.new) bytes.now) }
@@ -106,7 +106,7 @@ fn after(bytes: &[u8], n: usize) -> &[u8]
     &bytes[n..]
 }
 
-/// Writes a reply, and settles.
+/// Writes a reply, and flushes.
 #[tactic(auto, using(crate::proofs::Serving::settled, crate::proofs::Putting::put_whole))]
 fn put_reply<S: Sink>(sink: &mut S, reply: &[u8]) -> Result<(), Failed>
     ensures bytes { OnOk result (Appends (S.written sink.old) (S.written sink.new) reply.now) }
@@ -118,7 +118,7 @@ fn put_reply<S: Sink>(sink: &mut S, reply: &[u8]) -> Result<(), Failed>
     sink.settle()
 }
 
-/// Returns how long lines may be under limits, and how much of them is kept.
+/// Returns the lengths under limits up to which lines are read, and up to which they are stored.
 fn longest_of(limits: &LineLimits) -> Longest
     ensures { result ≡ longest limits.now }
 {
@@ -192,7 +192,7 @@ fn tell_line<S: Sink>(
     Ok(Placed::Held)
 }
 
-/// Writes a reply that isn't written yet, and settles.
+/// Writes a reply if it isn't written yet, and flushes.
 fn put_placed<S: Sink>(sink: &mut S, placed: Placed, line: &[u8]) -> Result<(), Failed>
     ensures { Finishes placed line.now
         (writer (S.written sink.old) (S.faults sink.old) (S.settled sink.old))
@@ -314,18 +314,17 @@ fn serve_within<F: Feed, S: Sink>(
     end_after(feed, max_lines)
 }
 
-/// Answers the lines of an input under limits, each with one line: a line is read, answered and
-/// settled before the next one is read.
+/// Answers the lines of an input under limits, each with one line. A line is read, answered and
+/// flushed before the next one is read.
 ///
-/// A line that is longer than it may be is passed over and answered `LineTooLong`, and if serving
-/// continues without memory, a line for which memory ran out before it changed anything is
-/// answered `Memory`. A call that a limit refuses is answered its word, and a found item or names
-/// whose line would be too long are answered `ReplyTooLong`, before anything of it is written. If
-/// any limit is on, `{"op":"usage","app":..}` is answered with the bytes of the application's files
-/// and their number.
+/// A line above its limit is skipped and answered `LineTooLong`. With `keep_serving`, a line for
+/// which memory ran out before it changed anything is answered `Memory`. A call that a limit
+/// refuses is answered with the limit's error code. A found item or names whose line would be too
+/// long are answered `ReplyTooLong`, before any part of that line is written. If any limit is on,
+/// `{"op":"usage","app":..}` is answered with the bytes of the application's files and their
+/// number.
 ///
-/// What stands after an error is as for `serve`; without a limit on lines `LineTooLong` comes as
-/// there.
+/// Errors are those of `serve`; `LineTooLong` is one only without a limit on lines.
 ///
 /// ```rust
 /// let limits = LineLimits { line_bytes: Some(1000), ..LineLimits::NONE };
@@ -346,15 +345,15 @@ pub fn serve_limited<F: Feed, S: Sink>(
         (at engine.old (F.left feed.old) (S.written sink.old) (S.settled sink.old))
         (at engine.new (F.left feed.new) (S.written sink.new) (S.settled sink.new)) served.lines) }
     ensures most { IfOk result (λ served. served.lines ≤ max_lines) }
-    // Each reply is settled.
+    // Each reply is flushed.
     ensures settled { IfOk result
         (λ served. S.settled sink.new ≡ risen_by (S.settled sink.old) served.lines) }
-    // The first lines are answered, and their replies settled; this is how far the next one came.
+    // The first lines are answered and their replies flushed; the fault says how far the next came.
     ensures fault { IfErr result (λ fault. AfterFaultWithin
         (LineReplyWithin limits.now) (longest_read limits.now) fault
         (at engine.old (F.left feed.old) (S.written sink.old) (S.settled sink.old))
         (at engine.new (F.left feed.new) (S.written sink.new) (S.settled sink.new)) max_lines) }
-    // A count of failed calls rises by one at its device's fault, and else stays.
+    // A count of failed calls rises by one at its device's fault, and otherwise stays.
     ensures reads { F.faults feed.new ≡ reads_failed (F.faults feed.old) result }
     ensures writes { S.faults sink.new ≡ writes_failed (S.faults sink.old) result }
 {
@@ -369,19 +368,19 @@ pub fn serve_limited<F: Feed, S: Sink>(
     )
 }
 
-/// Answers the lines of an input, each with one line: a line is read, answered and settled before
+/// Answers the lines of an input, each with one line. A line is read, answered and flushed before
 /// the next one is read.
 ///
-/// At `Ok` all the input is read, and what is written is the replies to its lines. After an error
-/// the replies to the first lines are written, and these have taken effect. `Read` comes if a
-/// call of the reader failed: the lines are answered whose line feeds were read. `LineTooLong`
-/// comes at the byte past a line's limit, and `LineLimit` at a byte after `max_lines` lines; all
-/// lines before it are answered. `Write` comes if a call of the writer failed: the next line has
-/// taken effect too, and a part of its reply is written. `Memory` comes if memory runs out for
-/// the next line, which may have taken effect.
+/// At `Ok` all the input is read, and the replies to its lines are written. After an error the
+/// replies to the first lines are written, and these have taken effect. `Read`: a call of the
+/// reader failed; the lines whose line feeds were read are answered. `LineTooLong` comes at the
+/// byte past a line's limit, and `LineLimit` at a byte after `max_lines` lines; all lines before it
+/// are answered. `Write`: a call of the writer failed; the next line has taken effect too, and a
+/// part of its reply is written. `Memory`: memory ran out for the next line, which may have taken
+/// effect.
 ///
-/// The sink gets at most 65,536 bytes by a call. The line of an item is written as the item is
-/// read, and no more than one piece of it is in memory.
+/// The sink gets at most 65,536 bytes in a call. The line of an item is written while the item is
+/// read, with at most one piece of it in memory.
 ///
 /// ```rust
 /// let lines: &[u8] = b"{\"op\":\"list\",\"app\":\"shop\"}\n";
@@ -403,15 +402,15 @@ pub fn serve<F: Feed, S: Sink>(
         (at (state_of engine.new) (F.left feed.new) (S.written sink.new)
         (S.settled sink.new)) served.lines) }
     ensures most { IfOk result (λ served. served.lines ≤ max_lines) }
-    // Each reply is settled.
+    // Each reply is flushed.
     ensures settled { IfOk result
         (λ served. S.settled sink.new ≡ risen_by (S.settled sink.old) served.lines) }
-    // The first lines are answered, and their replies settled; this is how far the next one came.
+    // The first lines are answered and their replies flushed; the fault says how far the next came.
     ensures fault { IfErr result (λ fault. AfterFault fault
         (at (state_of engine.old) (F.left feed.old) (S.written sink.old) (S.settled sink.old))
         (at (state_of engine.new) (F.left feed.new) (S.written sink.new)
         (S.settled sink.new)) max_lines) }
-    // A count of failed calls rises by one at its device's fault, and else stays.
+    // A count of failed calls rises by one at its device's fault, and otherwise stays.
     ensures reads { F.faults feed.new ≡ reads_failed (F.faults feed.old) result }
     ensures writes { S.faults sink.new ≡ writes_failed (S.faults sink.old) result }
 {

@@ -8,43 +8,43 @@ ghost use Rattle.rb_requests.specs.inner.Taken.{Holds, IsSoFar, ReadsLine, Reads
 use crate::device::{Failed, Feed, Run};
 use std::alloc::Global;
 
-/// How long a line may be, and how much of it is kept.
+/// The lengths up to which a line is read, and up to which it is stored.
 #[derive(Clone, Copy, Debug, PartialEq, Eq)]
 pub(crate) struct Longest {
-    /// The most bytes of a line that is kept whole. What a line has beyond is passed over.
+    /// The most bytes of a line that is stored whole. Its bytes beyond them are skipped.
     pub(crate) kept: usize,
     /// The most bytes of a line.
     pub(crate) limit: usize,
-    /// Whether a line for which memory runs out is passed over.
+    /// A line for which memory runs out is skipped.
     pub(crate) passes_starved: bool,
 }
 
-/// What is held of a line that was read.
+/// The part that is stored of a line that was read.
 #[derive(Clone, Copy, Debug, PartialEq, Eq)]
 pub(crate) enum Held {
     /// All of it.
     Whole,
-    /// No more than its front: it has more bytes than are kept.
+    /// At most its front: the line is longer than `kept`.
     Front,
-    /// A part: memory ran out for it, though it has no more bytes than are kept.
+    /// A part: memory ran out for the line, though it is no longer than `kept`.
     Starved,
 }
 
-/// How much of a line was read, and whether memory ran out for it.
+/// The number of a line's bytes that were read, and whether memory ran out for it.
 #[derive(Clone, Copy, Debug, PartialEq, Eq)]
 pub(crate) struct Progress {
     pub(crate) count: usize,
     pub(crate) starved: bool,
 }
 
-/// What is read of an input for a line.
+/// The result of reading a line from an input.
 #[derive(Clone, Copy, Debug, PartialEq, Eq)]
 pub(crate) enum NextLine {
     /// A line; its line feed is read too.
     Ended(Held),
-    /// The rest of the input, which ends in no line feed.
+    /// The remaining input, which ends in no line feed.
     Last(Held),
-    /// Nothing was left.
+    /// The input was at its end.
     End,
     /// A part, one byte longer than a line may be.
     TooLong,
@@ -52,7 +52,7 @@ pub(crate) enum NextLine {
     Memory,
 }
 
-/// What is held of a line that was read to its end.
+/// Classifies the stored part of a line that was read to its end.
 fn held_of(longest: Longest, progress: Progress) -> Held
     ensures { Holds longest progress result }
 {
@@ -65,7 +65,7 @@ fn held_of(longest: Longest, progress: Progress) -> Held
     }
 }
 
-/// Empties what is held of a line of which not all will be held.
+/// Empties the buffer if it won't store the whole line.
 fn let_go(line: &mut Vec<u8>, longest: Longest, progress: Progress)
     ensures { progress.starved ≡ false → progress.count ≤ longest.kept
         → line.new.items ≡ line.old.items }
@@ -75,8 +75,8 @@ fn let_go(line: &mut Vec<u8>, longest: Longest, progress: Progress)
     }
 }
 
-/// The most bytes of the next run of a line of which this many were read: up to one byte more than
-/// is kept, and from there what the buffer has room for.
+/// Returns the most bytes to read next from a line of which `count` bytes were read: up to one byte
+/// more than is stored, and past that the buffer's capacity.
 fn run_len(longest: Longest, count: usize, room: usize) -> usize
     requires { count < longest.limit }
     ensures some { 0 < result }
@@ -90,9 +90,9 @@ fn run_len(longest: Longest, count: usize, room: usize) -> usize
     most.min(longest.limit - count)
 }
 
-/// Reads the next line, without its line feed, onto an empty one. Of a line with more bytes than
-/// are kept the others are passed over, and so is, if it may be, a line for which memory runs out,
-/// whose buffer is given back first. The byte past the limit is read, and no more.
+/// Reads the next line, without its line feed, into an empty buffer. The bytes of a line past
+/// `kept` are skipped. With `passes_starved`, a line for which memory runs out is skipped too, and
+/// its buffer freed first. At most one byte past the limit is read.
 pub(crate) fn read_line<F: Feed>(
     alloc: Global,
     feed: &mut F,
@@ -130,7 +130,7 @@ pub(crate) fn read_line<F: Feed>(
     after_longest(feed, longest, progress.starved)
 }
 
-/// How far a line is read after a run of this many bytes.
+/// Adds the bytes of a span to those of the line that were read.
 fn after_run(progress: Progress, bytes: usize) -> Progress
     ensures { result ≡ record {
       count = min (progress.count + bytes) (2 ^ 64 - 1);
@@ -143,7 +143,7 @@ fn after_run(progress: Progress, bytes: usize) -> Progress
     }
 }
 
-/// Reads what follows the most bytes that a line may have.
+/// Reads the byte after the most bytes that a line may have.
 #[tactic(auto, using(crate::proofs::LinesRead::after_longest))]
 fn after_longest<F: Feed>(feed: &mut F, longest: Longest, starved: bool) -> Result<NextLine, Failed>
     ensures line { (first : Option (List ℕ)) → (line held : List ℕ)
@@ -165,7 +165,7 @@ fn after_longest<F: Feed>(feed: &mut F, longest: Longest, starved: bool) -> Resu
     }
 }
 
-/// A rest with no line feed is a line, if it isn't empty.
+/// Ends the input: remaining bytes without a line feed are a line, if there are any.
 #[tactic(auto, using(crate::proofs::LinesRead::last_of, crate::proofs::LinesRead::end_of))]
 fn last_line(longest: Longest, progress: Progress) -> NextLine
     ensures { (old left new : Option (List ℕ)) → (line held : List ℕ)

@@ -15,7 +15,7 @@ use rb_replies::put_found_line;
 use rb_views::Item;
 use std::alloc::{AllocError, Global};
 
-/// Writes bytes, unless a call of the sink has failed. Returns whether one has.
+/// Writes bytes, unless a call of the sink has failed. Returns true if one has.
 fn pass<S: Sink>(sink: &mut S, failed: bool, bytes: &[u8]) -> bool
     ensures { Passes failed (writer (S.written sink.old) (S.faults sink.old) (S.settled sink.old))
         result (writer (S.written sink.new) (S.faults sink.new) (S.settled sink.new)) bytes.now }
@@ -29,8 +29,8 @@ fn pass<S: Sink>(sink: &mut S, failed: bool, bytes: &[u8]) -> bool
     }
 }
 
-/// A text on its way to a sink. After a call of the sink has failed, the remaining bytes are passed
-/// over.
+/// A buffered text that is written to a sink. After a call of the sink has failed, the remaining
+/// bytes are dropped.
 #[derive(Drop)]
 struct Stream<'a, S: Sink> {
     sink: &'a mut S,
@@ -39,7 +39,7 @@ struct Stream<'a, S: Sink> {
 }
 
 impl<'a, S: Sink> Stream<'a, S> {
-    /// Stores bytes, if the buffer has room for them.
+    /// Stores bytes, if the buffer has the capacity.
     fn hold(&mut self, bytes: &[u8]) -> bool
         ensures same { (self.new.sink.ghost_name ≡ self.old.sink.ghost_name)
             × (self.new.held.ghost_name ≡ self.old.held.ghost_name) }
@@ -57,7 +57,7 @@ impl<'a, S: Sink> Stream<'a, S> {
         }
     }
 
-    /// Writes what is stored.
+    /// Writes the stored bytes.
     fn pass_on(&mut self)
         ensures same { (self.new.sink.ghost_name ≡ self.old.sink.ghost_name)
             × (self.new.held.ghost_name ≡ self.old.held.ghost_name) }

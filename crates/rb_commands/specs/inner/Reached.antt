@@ -20,13 +20,13 @@ is_somewhere gone = false
 abbrev pub leads : Resource → List ℕ → Bool
 leads t path = is_path path && is_somewhere (walk t (segments path))
 
--- so many first bytes lead somewhere, up to a slash
+-- the first `r` bytes, up to a slash, lead somewhere
 pub record IsFront (t : Resource) (path : List ℕ) (r : ℕ) : Type 0 where
   pub within : r < length path
   pub slash : slice_index path r ≡ 47
   pub leads : leads t (take r path) ≡ true
 
--- the longest front that leads somewhere; if there is none it is nothing
+-- the longest front that leads somewhere, or the empty one
 pub record IsReach (t : Resource) (path : List ℕ) (r : ℕ) : Type 0 where
   pub front : (r ≡ 0) ⊎ IsFront t path r
   pub longest : (k : ℕ) → r < k → IsFront t path k → ⊥

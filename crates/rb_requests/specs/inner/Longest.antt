@@ -1,4 +1,4 @@
--- For what is private. How long lines may be under limits, as the program has it.
+-- For what is private. Defines the lengths of lines under limits in the program's type.
 use Rattle.rb_requests.specs.Within.{longest_kept, longest_read}
 use Rattle.rb_requests.specs.declared.limits.LineLimits.{LineLimits}
 use Rattle.rb_requests.specs.declared.reading.Longest.{Longest}

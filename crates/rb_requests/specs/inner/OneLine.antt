@@ -1,4 +1,4 @@
--- For what is private. What answering one line comes to; `Reply` says what its reply is, and what is held after it.
+-- For what is private. Defines the results of answering one line; `Reply` gives its reply and the state after it.
 use Rattle.std.specs.Prelude.{◌≡◌, ◌++◌, ◌⊎◌, ℕ, List, [], Option, Result, Ok, Err}
 use Rattle.std.specs.Io.KnownBytes.{Appends}
 use Rattle.rb_requests.specs.Device.{risen}
@@ -28,7 +28,7 @@ module _ {S : Type 0} (Reply : S → List ℕ → List ℕ → S → Type 0) whe
   abbrev pub MayTakeEffect : S → List ℕ → S → Type 0
   MayTakeEffect old line new = (new ≡ old) ⊎ TakesEffect Reply old line new
 
-  -- the same, and nothing is written
+  -- a line has taken effect or has not, and nothing is written
   pub record WroteNone (old : S) (line : List ℕ) (written written' : Option (List ℕ)) (new : S) : Type 0 where
     pub effect : MayTakeEffect old line new
     pub kept : Appends written written' []
@@ -38,7 +38,7 @@ module _ {S : Type 0} (Reply : S → List ℕ → List ℕ → S → Type 0) whe
   FailsLine fault old line written written' new = ((fault ≡ Memory) × WroteNone old line written written' new)
       ⊎ ((fault ≡ Write) × WroteSome old line written written' new)
 
--- a line that is answered raises the count of settled replies
+-- a line that is answered raises the count of flushed replies
 abbrev pub line_settled : {T : Type 0} → ℕ → Result T ServeFault → ℕ
 line_settled count (Ok x) = risen count
 line_settled count (Err fault) = count

@@ -1,4 +1,4 @@
--- For what is private. Where the reply to a line is.
+-- For what is private. Defines the place of the reply to a line.
 use Rattle.std.specs.Prelude.{◌≡◌, ℕ, List, Result, Ok, Err}
 use Rattle.std.specs.Io.KnownBytes.{Appends}
 use Rattle.rb_requests.specs.Device.{risen}
@@ -13,20 +13,20 @@ abbrev pub Places : Placed → (line : List ℕ) → (before now : Writer) → (
 Places placed.Held line before now text = (line ≡ text) × (now ≡ before)
 Places (placed.Put put) line before now text = Puts put before now text
 
--- the same of a text that is a reply; without memory nothing is put
+-- `Places` for a text that is a reply; if memory runs out nothing is put
 abbrev pub PlacesReply : {E : Type 0} → Result Placed E → (line : List ℕ) → (before now : Writer)
     → (List ℕ → Type 0) → Type 0
 PlacesReply (Ok at) line before now Is = (text : List ℕ) × Is text × Places at line before now text
 PlacesReply (Err e) line before now Is = now ≡ before
 
--- a reply is put whole and settled, or a part of it is put and a call has failed
+-- a reply is put whole and flushed, or a part of it is put and a call has failed
 abbrev pub Done : (text : List ℕ) → (before now : Writer) → Result (Unit {0}) Failed → Type 0
 Done text before now (Ok x) =
     Appends before.written now.written text × (now.faults ≡ before.faults) × (now.settled ≡ risen before.settled)
 Done text before now (Err e) =
     WrotePart before.written now.written text × (now.faults ≡ risen before.faults) × (now.settled ≡ before.settled)
 
--- from where a reply was placed on
+-- a reply that was placed is finished
 abbrev pub Finishes : Placed → (line : List ℕ) → (mid now : Writer) → Result (Unit {0}) Failed → Type 0
 Finishes at line mid now result =
     (before : Writer) (text : List ℕ) → Places at line before mid text → Done text before now result

@@ -1,4 +1,4 @@
--- For what is private. The bytes of a text that were put so far, and the rest.
+-- For what is private. Defines the bytes of a text that were put so far, and the remaining ones.
 use Rattle.std.specs.Prelude.{◌≡◌, ℕ, List, [], ◌++◌, Option, Bool, true, false, Result, Ok, Err}
 use Rattle.std.specs.Io.KnownBytes.{Appends}
 use Rattle.rb_requests.specs.Device.{risen}
@@ -28,7 +28,7 @@ pub record Broke (before now : Writer) (bytes : List ℕ) : Type 0 where
   pub fault : now.faults ≡ risen before.faults
   pub held : now.settled ≡ before.settled
 
--- what was put of a text by a stream that has failed or not, and holds the rest
+-- the part of a text that was put by a stream, which has failed or not and stores the remaining bytes
 abbrev pub Streams : (failed : Bool) → (before now : Writer) → (rest bytes : List ℕ) → Type 0
 Streams false before now rest bytes = PutSoFar before now rest bytes
 Streams true before now rest bytes = Broke before now bytes

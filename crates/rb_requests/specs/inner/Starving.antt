@@ -1,5 +1,4 @@
--- For what is private. The text of the reply to what a line calls or asks, under limits, and what is left if memory
--- runs out.
+-- For what is private. Defines the text of the reply to a line under limits, and the state if memory runs out.
 use Rattle.std.specs.Prelude.{◌≡◌, ◌⊎◌, ℕ, List, Option, Some, None, if◌then◌else◌}
 use Rattle.rb_engine.specs.Ask.{Call}
 use Rattle.rb_engine.specs.Kept.{Kept}
@@ -26,12 +25,12 @@ CallReply limits old call text new =
 abbrev pub DataReply : LineLimits → Kept → Data → List ℕ → Kept → Type 0
 DataReply limits old d text new = AnswersRead limits old (call_in d) (asked_usage limits (usage_in d)) text new
 
--- what is left if memory runs out: what there was; or that, or what a reply that wasn't made would have told
+-- the state if memory runs out: the old one; or either the old one or that after a reply that was not made
 abbrev pub LeavesOf : (List ℕ → Kept → Type 0) → Starved → Kept → Kept → Type 0
 LeavesOf Replies Before old new = new ≡ old
 LeavesOf Replies After old new = (new ≡ old) ⊎ ((text : List ℕ) × Replies text new)
 
--- what is known of what is left if a reply could not be made: only what is done has changed anything
+-- the state that a reply leaves if its line could not be made: only `Done` has changed anything
 abbrev pub untold_reply : Reply → Starved
 untold_reply Done = After
 untold_reply other = Before

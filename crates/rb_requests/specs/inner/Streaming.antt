@@ -1,9 +1,9 @@
--- For what is private. What a stream takes.
+-- For what is private. Defines the effect of writing bytes to a stream.
 use Rattle.std.specs.Prelude.{◌≡◌, ℕ, List, [], ◌++◌, Bool, true, false}
 use Rattle.std.proofs.Common.{sym, subst, append_assoc, append-nil}
 use Rattle.rb_requests.specs.inner.Putting.{Writer, Streams}
 
--- bytes are held after what there was, or there was no room
+-- bytes are appended to the stored ones, or the buffer had no capacity
 abbrev pub Holds : Bool → (old now bytes : List ℕ) → Type 0
 Holds true old now bytes = now ≡ old ++ bytes
 Holds false old now bytes = now ≡ old

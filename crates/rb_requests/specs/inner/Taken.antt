@@ -1,4 +1,4 @@
--- For what is private. What is read of an input if a line is taken from it, which has this many bytes at most.
+-- For what is private. Defines the effect of reading a line of at most this many bytes from an input.
 use Rattle.std.specs.Prelude.{◌≡◌, ◌<◌, ◌≤◌, ◌+◌, ℕ, true, false, List, length, ◌∷◌, ◌++◌, []}
 use Rattle.std.specs.Prelude.{Option, IfSome, Result, Ok, Err}
 use Rattle.std.specs.Io.KnownBytes.{Consumes, Keeps, IsAtEnd}
@@ -45,33 +45,33 @@ pub record ReadsEnded (limit : ℕ) (line : List ℕ) (old new : Option (List �
   pub plain : feeds line ≡ 0
   pub short : IsShort limit line
 
--- all that is left is read, a line without a line feed
+-- all remaining bytes are read, a line without a line feed
 pub record ReadsLast (limit : ℕ) (line : List ℕ) (old new : Option (List ℕ)) : Type 0 where
   pub part : ReadsPlain old new line
   pub some : 0 < length line
   pub all : IfSome old (λ xs. line ≡ xs)
   pub short : IsShort limit line
 
--- nothing was left
+-- the input was at its end
 abbrev pub ReadsEnd : Option (List ℕ) → Option (List ℕ) → Type 0
 ReadsEnd old new = IsAtEnd old × Keeps old new
 
--- of a line so much is read, no more than a line may have, and all of it is held, unless memory ran out or it is more
--- than is kept
+-- `progress` bytes of a line are read, no more than a line may have, and all of them are stored, unless memory ran out
+-- or they are more than are kept
 pub record IsSoFar (longest : Longest) (progress : Progress) (line held : List ℕ) : Type 0 where
   pub many : length line ≡ progress.count
   pub short : progress.count ≤ longest.limit
   pub whole : progress.starved ≡ false → progress.count ≤ longest.kept → held ≡ line
   pub passed : progress.starved ≡ true → longest.passes_starved ≡ true
 
--- what is held of a line: no more than its front, if it has more bytes than are kept, else all of it; or a part, if
+-- the stored part of a line: at most its front, if it has more bytes than are kept, otherwise all of it; or a part, if
 -- memory ran out
 abbrev pub IsHeld : Longest → List ℕ → List ℕ → Held → Type 0
 IsHeld longest line held Whole = (held ≡ line) × IsShort longest.kept line
 IsHeld longest line held Front = longest.kept < length line
 IsHeld longest line held Starved = (longest.passes_starved ≡ true) × IsShort longest.kept line
 
--- the same for serving that goes on if a line may be passed over for which memory runs out
+-- `IsHeld` under limits: a line for which memory runs out is skipped only with `keep_serving`
 abbrev pub IsHeldUnder : LineLimits → Longest → List ℕ → List ℕ → Held → Type 0
 IsHeldUnder limits longest line held what =
     IsHeld longest line held what × (longest.passes_starved ≡ true → limits.keep_serving ≡ true)
@@ -79,13 +79,13 @@ IsHeldUnder limits longest line held what =
 abbrev pub Holds : Longest → Progress → Held → Type 0
 Holds longest progress what = (line held : List ℕ) → IsSoFar longest progress line held → IsHeld longest line held what
 
--- a line is read, with what is held of it
+-- a line is read, and a part of it is stored
 abbrev pub ReadsHeld : (ℕ → List ℕ → Option (List ℕ) → Option (List ℕ) → Type 0) → Longest → List ℕ → Held
     → Option (List ℕ) → Option (List ℕ) → Type 0
 ReadsHeld Reads longest held what old new =
     (line : List ℕ) × Reads longest.limit line old new × IsHeld longest line held what
 
--- what is read, with what is held of the line
+-- the effect of reading a line, and its stored part
 abbrev pub ReadsLine : Longest → List ℕ → Option (List ℕ) → Option (List ℕ) → Result NextLine Failed → Type 0
 ReadsLine longest held old new (Ok (Ended what)) = ReadsHeld ReadsEnded longest held what old new
 ReadsLine longest held old new (Ok (Last what)) = ReadsHeld ReadsLast longest held what old new
