@@ -1,4 +1,4 @@
--- How many steps a lookup of a path takes at most.
+-- The most steps that a lookup of a path takes.
 use Rattle.std.proofs.Common.{◌≡◌, ◌+◌, ◌*◌, ◌<◌, ◌≤◌, ℕ, zero, suc, List, [], ◌∷◌, ◌++◌, length, drop, Bool, true, false, cond, Some, None}
 use Rattle.std.proofs.Common.{All, Result, Ok, Err, refl, ap, sym, ◌∙◌, subst, arith, length-append}
 use Rattle.std.proofs.Math.Nat.{mul-le-mul}
@@ -48,7 +48,7 @@ first_filled s ss h = h 0 [] (omega arith)
 rest_filled : (s : List ℕ) (ss : List (List ℕ)) → AreFilled (s ∷ ss) → AreFilled ss
 rest_filled s ss h = All-drop (λ p. 0 < length p) 1 (s ∷ ss) h
 
--- a segment takes two bytes at least, with the slash before it
+-- a segment takes at least two bytes, with the slash before it
 joined_length : (ss : List (List ℕ)) → AreFilled ss → 2 * length ss ≤ length (join_with_byte 47 ss) + 1
 joined_length [] h = omega arith
 joined_length (s ∷ []) h = let some = first_filled s [] h in omega arith

@@ -1,4 +1,4 @@
--- Where an alias leads: its path, and what is left of the path that led to it.
+-- The target of an alias: its path, and the remainder of the path that led to it.
 use Rattle.std.proofs.Common.{◌≡◌, ◌≢◌, ◌+◌, ◌<◌, ◌||◌, ℕ, zero, suc, List, [], ◌∷◌, ◌++◌, length, drop, Bool, true, nat_lt, Option, Some, None, All}
 use Rattle.std.proofs.Common.{refl, ap, sym, ◌∙◌, arith, subst, Result, Ok, option_map, IfSome, IfNone, append-nil, slice_index_or}
 use Rattle.std.proofs.lemmas.Bool.{ltb-true, leb-true, lt-ltb}
@@ -59,7 +59,7 @@ pub record LeadsTo (r : Result Step LookError) (in_icu : Bool) (n q : List ℕ) 
   pub path : IsPath q
 
 module _ (us valid n : List ℕ) (icu in_icu : Bool) (p : List ℕ) (walked rest : List (List ℕ)) (path : IsPath p) (whole : walked ++ rest ≡ segments p) where
-  -- if the text has a path, what is left of the other path follows it
+  -- if the text has a path, the remainder of the other path follows it
   pub path_leads : (at cut : ℕ) (left : List ℕ) → aim us valid ≡ aims icu n (Some (segments_from us at)) → left ≡ drop (behind cut) p
       → rest ≡ segments (drop (behind cut) p) → LeadsTo (follow rest (target us in_icu valid walked)) (icu || in_icu) n (joined_path (drop at us) left)
   path_leads at cut left aimed is rest_is =

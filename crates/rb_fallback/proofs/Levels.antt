@@ -43,7 +43,7 @@ search_end (suc k) s in_icu n ss e = cc
 short_is : (p : List ℕ) → length p ≤ 1024 → is_long (segments p) ≡ false
 short_is p h = long_is p ∙ le-ltb 1024 (length p) h
 
--- a search with so many steps left that has come to a level has this answer
+-- a search that has reached a level, with `left` steps remaining, has this answer
 pub record ComesTo (left : Option ℕ) (most i : ℕ) (s : Setting) (in_icu : Bool) (n p : List ℕ) (answer : Result Hit BoundedError) : Type 0 where
   pub path : IsPath p
   pub same : search_within left (most - i) s in_icu n (segments p) ≡ answer
@@ -132,19 +132,19 @@ within_long left k j s in_icu n ss e f =
     ∙ ap (within left 0) (search_long k j s in_icu n ss e f)
     ∙ within_none left (Err fault.PathTooLong)
 
--- an error that a `?` hands on
+-- an error that a `?` returns
 pub answer_err : {N : Type 0} (tree : N → Resource) (x : Result (Found N) BoundedError) (f : BoundedError) → IsErrAnd x (λ e. e ≡ f)
     → bounded_answer_of tree x ≡ Err f
 answer_err tree (Ok y) f h = absurd h
 answer_err tree (Err e) f h = ap Err h
 
--- the valid name of the first level is that of a search that goes on
+-- the valid name of the first level is that of a search that continues
 pub valid_on : {N : Type 0} (x : Result (Found N) BoundedError) (first : Option (List ℕ)) (v : List ℕ) → first ≡ Some v → IfOk x (λ f. f.valid ≡ v)
     → IfOk x (λ f. first ≡ Some f.valid)
 valid_on (Ok f) first v e h = e ∙ ap Some (sym h)
 valid_on (Err e) first v f h = tt
 
--- an error of a level that a `?` hands on
+-- an error of a level that a `?` returns
 pub outcome_err : {N : Type 0} (tree : N → Resource) (x : Result (Outcome N) LookError) (f : LookError) (valid : List ℕ)
     (step : List ℕ → Result Step LookError) → IsErrAnd x (λ e. e ≡ f) → step valid ≡ Err f → IsOutcome tree x valid step
 outcome_err tree (Ok y) f valid step h k = absurd h

@@ -66,7 +66,7 @@ search_never (suc k) s in_icu n ss e = by (λ p m ts f. search_never k s p m ts 
         let no_level = trail_never bundles (trail bundles s.parents n) ss in
         go_never (λ p m ts. search k s p m ts) (step_at s in_icu n ss) g (step_never in_icu s.valid (level bundles s.parents n ss) no_level) f
 
--- nor does one with so many steps
+-- nor does a search with a limit on its steps
 pub answer_never : {N : Type 0} (tree : N → Resource) (x : Result (Found N) BoundedError) (left : Option ℕ) (k : ℕ) (s : Setting) (in_icu : Bool)
     (n : List ℕ) (ss : List (List ℕ)) → bounded_answer_of tree x ≡ search_within left k s in_icu n ss → x ≡ Err (bounded.Search fault.BadPath) → ⊥
 answer_never tree x left k s in_icu n ss e f =

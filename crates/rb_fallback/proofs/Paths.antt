@@ -1,4 +1,4 @@
--- Walks, paths and aims: what a search that goes on needs.
+-- Lemmas on walks, paths and aims for a search that continues.
 use Rattle.std.proofs.Common.{◌≡◌, ℕ, List, [], ◌∷◌, ◌++◌, length, Bool, true, false, cond, codes, nat_lt, Option, Some, None, refl, ap, subst}
 use Rattle.std.specs.List.{slice_split, list_all, join_with_byte}
 use Rattle.std.specs.Str.{bytes_eq}
@@ -38,7 +38,7 @@ segments_joined (b ∷ bs) = join_with_byte-slice_split 47 (b ∷ bs)
 pub long_is : (p : List ℕ) → is_long (segments p) ≡ nat_lt 1024 (length p)
 long_is p = ap (λ l. nat_lt 1024 (length l)) (segments_joined p)
 
--- ---- what an aim says of its text
+-- ---- an aim and its text
 pub aim_is_plain : (us valid n : List ℕ) (icu : Bool) (o : Option (List (List ℕ))) → aim us valid ≡ aims icu n o → list_all is_plain us ≡ true
 aim_is_plain us valid n icu o e = by (list_all is_plain us) refl
   where

@@ -1,4 +1,4 @@
--- What is left of a limit of weight, child by child.
+-- The remainder of a limit of weight, child by child.
 use Rattle.std.proofs.Common.{◌≡◌, ◌≤◌, ◌<◌, ◌+◌, ℕ, zero, suc, max, List, [], ◌∷◌, Some, drop, length, refl, ap, sym, ◌∙◌, arith}
 use Rattle.std.proofs.lemmas.List.{drop_all}
 use Rattle.std.specs.List.{slice_get}
@@ -16,7 +16,7 @@ abbrev pub total : {A : Type 0} → (A → ℕ) → List A → ℕ
 total f [] = 0
 total f (x ∷ xs) = f x + total f xs
 
--- what an item of an array, and what an entry of a table weighs there
+-- the weight of an array's item, and of a table's entry
 abbrev pub item_weight : Resource → ℕ
 item_weight t = 4 + weight t
 

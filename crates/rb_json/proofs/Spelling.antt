@@ -1,4 +1,4 @@
--- What stands in a string of JSON, piece by piece.
+-- The contents of a JSON string, piece by piece.
 use Rattle.std.proofs.Common.{◌≡◌, ◌≤◌, ◌<◌, ◌+◌, ◌/◌, ◌%◌, ℕ, suc, List, [], ◌∷◌, ◌++◌, length, take, drop, get_or, refl, ap, sym, subst, ◌∙◌, append_assoc, append-nil, arith, zero-le}
 use Rattle.std.proofs.Common.{encode_utf8, encode_utf8_all}
 use Rattle.std.proofs.lemmas.Bool.{lt-ltb, le-ltb}
@@ -32,7 +32,7 @@ escape-append a b = flat_map-append escape_byte a b
 pub escape-one : (x : ℕ) → escape (x ∷ []) ≡ escape_byte x
 escape-one x = append-nil (escape_byte x)
 
--- one byte more stands for itself
+-- one byte more is written as it is
 pub plain_more : (bytes : List ℕ) (i : ℕ) → escape (take i bytes) ≡ take i bytes → i < length bytes → escape_byte (get_or bytes i 0) ≡ get_or bytes i 0 ∷ []
     → escape (take (i + 1) bytes) ≡ take (i + 1) bytes
 plain_more bytes i so_far h one =

@@ -1,4 +1,4 @@
--- What JSON has no form for, and the text of a whole value.
+-- The values that JSON has no form for, and the text of a whole value.
 use Rattle.std.proofs.Common.{◌≡◌, ℕ, List, [], ◌∷◌, ◌++◌, Result, Ok, Err, codes, refl, ap, sym, ◌∙◌, append_assoc}
 use Rattle.json.specs.Token.{Token, begin_object, end_object, key}
 use Rattle.json.specs.Print.{print}

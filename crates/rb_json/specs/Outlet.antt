@@ -1,4 +1,4 @@
--- Defines when an outlet needs no more of a text, so that whoever writes the text may stop.
+-- Defines when an outlet needs no more of a text, so that the writer may stop.
 use Rattle.std.specs.Prelude.{ℕ, List, [], ◌≤◌, length, Bool, true, false}
 
 -- it needs no text of at least this many bytes, whatever they are; or it has taken nothing

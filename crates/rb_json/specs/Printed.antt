@@ -1,4 +1,4 @@
--- Which items are printed, and how: the limits of a bundle's tree are rules of this project.
+-- Defines which items are printed, and their text: the limits of a bundle's tree are rules of this project.
 use Rattle.std.specs.Prelude.{ℕ, List, Bool, ◌&&◌, nat_le, if◌then◌else◌}
 use Rattle.json.specs.Layout.{pretty}
 use Rattle.serde_json.specs.Data.{Data}
@@ -15,7 +15,7 @@ use Rattle.rb_tree.specs.Limits.{height_limit, weight_limit}
 abbrev pub is_within : Resource → Bool
 is_within t = nat_le (height t) height_limit && nat_le (weight t) weight_limit
 
--- why an item isn't printed
+-- the reason why an item isn't printed
 abbrev pub refusal : Resource → JsonError
 refusal t = if is_within t then Memory else TooLarge
 

@@ -1,6 +1,6 @@
-//! How a JSON value is laid out.
+//! The layouts of JSON values.
 
-/// How a JSON value is laid out. Its tokens are the same in each.
+/// The layout of a JSON value, whose tokens are the same in each.
 #[derive(Clone, Copy, Debug, PartialEq, Eq)]
 pub enum Layout {
     /// One line, with no space.

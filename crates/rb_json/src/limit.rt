@@ -1,4 +1,4 @@
-//! Whether an item is within the limits of a bundle's tree.
+//! Checks whether an item is within the limits of a bundle's tree.
 ghost use Rattle.std.specs.Prelude.{◌≡◌, ◌+◌, ◌<◌, ◌≤◌};
 ghost use Rattle.rb_tree.specs.Parts.{kind_of};
 ghost use Rattle.rb_tree.specs.declared.kind.Kind.TheVariants as Kinds;
@@ -8,7 +8,8 @@ ghost use Rattle.rb_tree.specs.Limits.{weight_limit};
 
 use rb_tree::{HEIGHT_LIMIT, Kind, Node, WEIGHT_LIMIT};
 
-/// The room that a tree of at most this many levels leaves, if it has as many and its weight fits.
+/// Subtracts a tree's weight from `room`, or returns `None` if the tree has more than `levels`
+/// levels or weighs more than `room`.
 #[cycle(room)]
 fn room_after<N: Node>(node: N, levels: u64, room: u64) -> Option<u64>
     requires levels { levels ≤ 64 }
@@ -51,8 +52,8 @@ fn room_after_entries<N: Node>(node: N, levels: u64, room: u64) -> Option<u64>
     Some(left)
 }
 
-/// Whether an item has at most 64 levels and a weight of at most 33,554,432. It takes no memory,
-/// and reads of an item that is heavier no more than such a weight has.
+/// Checks whether an item has at most 64 levels and a weight of at most 33,554,432. It takes no
+/// memory, and reads no more of a heavier item than has that weight.
 pub(crate) fn is_within<N: Node>(node: N) -> bool
     ensures { result ≡ is_within (N.tree node) }
 {

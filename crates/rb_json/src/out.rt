@@ -1,4 +1,4 @@
-//! What takes the tokens of a JSON value, in either layout.
+//! Writes the tokens of a JSON value, in either layout.
 ghost use Rattle.std.specs.Prelude.{◌≡◌, [], ◌∷◌, ◌++◌, List, OnOk};
 ghost use Rattle.std.specs.Str.{IsUtf8};
 ghost use Rattle.json.specs.Token.{Token as SpecToken};
@@ -9,11 +9,11 @@ use json::{Pretty, Token, Writer};
 use std::alloc::{AllocError, Global};
 use std::marker::Model;
 
-/// A text of JSON that grows by its tokens, which contracts see. Nesting is the caller's.
+/// A JSON text that grows by its tokens, which contracts see. The caller nests them.
 pub(crate) trait Out {
     ghost tokens: { Self → List SpecToken };
 
-    /// Writes a token. An error only if memory runs out.
+    /// Writes a token. Fails only if memory runs out.
     fn token(&mut self, token: Token<'_>) -> Result<(), AllocError>
         requires { IsPrintable (token_of token) }
         ensures { OnOk result (tokens self.new ≡ tokens self.old ++ token_of token.entry ∷ []) };
@@ -39,7 +39,7 @@ impl Model for Compact {
 }
 
 impl Compact {
-    /// An empty text, which takes no memory.
+    /// Returns an empty text, which takes no memory.
     pub(crate) fn new(alloc: Global) -> Compact
         ensures { result ≡ [] }
     {
@@ -48,7 +48,7 @@ impl Compact {
         }
     }
 
-    /// The text.
+    /// Returns the text.
     pub(crate) fn into_inner(self) -> Vec<u8>
         ensures text { result.items ≡ print self }
         ensures utf8 { IsUtf8 result.items }

@@ -1,4 +1,4 @@
-//! What a text is written into, piece by piece.
+//! The trait that texts are written into, piece by piece.
 ghost use Rattle.std.specs.Prelude.{List, ℕ};
 
 /// Takes the bytes of a text in their order, and writes, stores or counts them. No call fails: an

@@ -122,7 +122,7 @@ fn put_character<O: Outlet>(out: &mut O, character: char)
     put_escaped(out, character.encode_utf8(&mut buffer).as_bytes())
 }
 
-/// What stands in a string for the characters that bytes are.
+/// Writes bytes, a character each.
 fn put_each<O: Outlet>(out: &mut O, bytes: &[u8])
     ensures { O.takes out.old out.new (escape (encode_utf8_all bytes.now)) }
 {

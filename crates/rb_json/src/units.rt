@@ -7,7 +7,7 @@ ghost use Rattle.rb_json.specs.inner.Run.{IsRun};
 
 use rb_tree::Node;
 
-/// A hexadecimal digit.
+/// Returns a hexadecimal digit.
 pub(crate) fn digit(n: u8) -> char
     requires { n < 16 }
     ensures is { result ≡ slice_index lower_digits n }
@@ -16,8 +16,8 @@ pub(crate) fn digit(n: u8) -> char
     char::from(b"0123456789abcdef"[n as usize])
 }
 
-/// The character whose units begin at an index, unless that unit is a surrogate without a partner,
-/// and where the next one begins.
+/// Returns the character whose units begin at an index, or `None` for a surrogate without a
+/// partner, and the index at which the next one begins.
 pub(crate) fn character_at<N: Node>(node: N, at: usize, len: usize) -> (Option<char>, usize)
     requires units { HasUnits (kind_of (N.tree node)) }
     requires len { len ≡ len_of (N.tree node) }
@@ -41,11 +41,11 @@ pub(crate) fn character_at<N: Node>(node: N, at: usize, len: usize) -> (Option<c
     (char::from_u32(code), at + 2)
 }
 
-/// How many ASCII units are put at a time at the most.
+/// The most ASCII units that are written at a time.
 pub(crate) const RUN: usize = 64;
 
-/// Puts the ASCII units from an index on at the front of a block, a byte each, and says how many
-/// they are.
+/// Copies the ASCII units from an index on to the front of a block, a byte each, and returns their
+/// number.
 #[inline(always)]
 pub(crate) fn ascii_run<N: Node>(block: &mut [u8; RUN], node: N, at: usize, len: usize) -> usize
     requires units { HasUnits (kind_of (N.tree node)) }

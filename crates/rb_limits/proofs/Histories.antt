@@ -66,7 +66,7 @@ pub record IsSame (app : List ℕ) (k l : Kept) : Type 0 where
   pub start : (state_of k).start ≡ (state_of l).start
   pub files : files_of app k.packages ≡ files_of app l.packages
 
--- two judgements that are the same, but for the number of applications
+-- two judgements that are equal, except for the number of applications
 abbrev Agree : Option Refusal → Option Refusal → Type 0
 Agree x y = (x ≡ y) ⊎ ((x ≡ Some TooManyApps) ⊎ (y ≡ Some TooManyApps))
 
@@ -130,7 +130,7 @@ refusals_agree limits k l (LooksUp app locale path) brought h = inl (
     ∙ ap (λ files. steps_refusal limits.steps (state_of l).start (shelf_of files) app locale path) h.files
     )
 
--- the same outcome, and the same files of the caller after it
+-- equal outcomes, and equal files of the caller after them
 pub record ComesToSame (app : List ℕ) (a b : Outcome) (k l : Kept) : Type 0 where
   pub outcome : a ≡ b
   pub files : files_of app k.packages ≡ files_of app l.packages

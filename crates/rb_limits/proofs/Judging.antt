@@ -1,4 +1,4 @@
--- What limits refuse, by which of them there are.
+-- The refusals of limits, by which limits are on.
 use Rattle.std.proofs.Common.{◌≡◌, ℕ, Bool, true, false, eqb, List, length, Option, None, refl}
 use Rattle.rb_packages.specs.Packages.{Files}
 use Rattle.rb_engine.specs.declared.handle.Change.{Change}
@@ -6,7 +6,7 @@ use Rattle.rb_limits.specs.Limits.{len_at, takes_place, file_refusal}
 use Rattle.rb_limits.specs.declared.limits.Limits.{Limits}
 use Rattle.rb_limits.specs.declared.limits.Refusal.{Refusal}
 
--- no limit on what is kept refuses anything
+-- without limits on stored files no file is refused
 pub keeps_nothing : (limits : Limits) (made : Change) (name : List ℕ) (files : Files) (apps : ℕ) (file : List ℕ) → limits.bundle_bytes ≡ None
     → limits.app_bytes ≡ None → limits.apps ≡ None → None ≡ file_refusal limits made name files apps file
 keeps_nothing limits made name files apps file b q a =

@@ -1,4 +1,4 @@
--- What the engine's parts come to as one call under limits.
+-- The results of the engine's parts, as one call under limits.
 use Rattle.std.proofs.Common.{◌≡◌, ◌≢◌, ◌⊎◌, ℕ, inl, inr, Bool, true, false, not, cond, List, length, Option, Some, None, Result, Ok, Err, refl, sym, ◌∙◌, ap, subst}
 use Rattle.std.specs.Map.{remove_entry}
 use Rattle.std.specs.Str.{bytes_eq}
@@ -187,7 +187,7 @@ put_nothing : {E : Type 0} (made : Change) (r : Result Place E) (files : Files) 
 put_nothing made (Err e) files = refl
 put_nothing made (Ok p) files = refl
 
--- what is brought if nothing is read, or memory ran out for it
+-- the incoming file if nothing is read, or memory ran out for it
 read_nothing : (limits : Limits) (app locale : List ℕ) (payload : Payload) (r : Reply) → long_payload limits (place_of app locale) payload ≡ false
     → Reads app locale payload (Err r) → (r ≡ reply.Memory) ⊎ BringsAt limits (place_of app locale) payload None
 read_nothing limits app locale payload r long (inl (e, is, x)) = inr (rw is refl)
@@ -297,7 +297,7 @@ is_reply a b h = cc
 
 -- ---- the other calls
 
--- what holds of a result in each of its cases
+-- a statement on a result from its cases
 by_result : {A E : Type 0} (r : Result A E) (Holds : Result A E → Type 0) → ((a : A) → r ≡ Ok a → Holds (Ok a)) → ((e : E) → r ≡ Err e → Holds (Err e))
     → Holds r
 by_result (Ok a) Holds ok err = ok a refl

@@ -6,11 +6,11 @@ use rb_tree::variant_name;
 /// The limits; `None` means no limit.
 #[derive(Clone, Copy, Debug, PartialEq, Eq)]
 pub struct Limits {
-    /// Of one bundle's file, and of a payload before it is read.
+    /// The most bytes of one bundle's file, and of a payload before it is read.
     pub bundle_bytes: Option<u64>,
-    /// Of all files of an application.
+    /// The most bytes of all files of an application.
     pub app_bytes: Option<u64>,
-    /// Of applications with bundles; all applications share this limit.
+    /// The most applications with bundles; all applications share this limit.
     pub apps: Option<u64>,
     pub steps: Option<u64>,
 }

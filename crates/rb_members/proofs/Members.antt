@@ -1,4 +1,4 @@
--- What a text is that begins with no brace, and items that were passed over.
+-- A text that begins with no brace, and items that were skipped.
 use Rattle.std.proofs.Common.{◌≡◌, ℕ, Bool, true, false, not, is_some, List, [], ◌∷◌, length, Option, Result, Ok, Err, OnErr, Some, None, option_map, refl, ap, sym, ◌∙◌, arith}
 use Rattle.std.proofs.lemmas.Bool.{false≢true}
 use Rattle.json.specs.Token.{Token}
@@ -13,7 +13,7 @@ use Rattle.serde_json.specs.Find.{as_str}
 use Rattle.rb_members.specs.Texts.{BeginsWithNoBrace}
 use Rattle.rb_members.proofs.Reading.{whole, converted-object}
 
--- one item more stands before those to come
+-- one item more precedes the remaining ones
 pub one_more_before : (before : Items → Items) (d : Data) (r : Option (Items × List Token))
     → parse_map before (parse_map (item d) r) ≡ parse_map (λ ds. before (item d ds)) r
 one_more_before before d None = refl
@@ -23,7 +23,7 @@ pub none_before : (r : Option (Items × List Token)) → r ≡ parse_map (λ ds.
 none_before None = refl
 none_before (Some p) = refl
 
--- what holds in any case, if there is an error
+-- a statement that holds of every value holds if there is an error
 pub at_an_error : {T E P : Type 0} (r : Result T E) → P → OnErr r P
 at_an_error (Ok x) p = tt
 at_an_error (Err e) p = p

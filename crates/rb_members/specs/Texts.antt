@@ -1,4 +1,4 @@
--- What an object has at the names that count, beside the members that serde_json reads.
+-- Defines an object's members at the names that count, by the members that serde_json reads.
 use Rattle.std.specs.Prelude.{◌≡◌, List, ◌∷◌, Option, Some, None, codes}
 use Rattle.json.specs.Token.{Token}
 use Rattle.serde_json.specs.Data.{Data, Members, string}
@@ -12,12 +12,12 @@ abbrev pub IsMember : Member → Data → Type 0
 IsMember (Text s) d = d ≡ string s.now
 IsMember Other d = as_str d ≡ None
 
--- what is there at a name, or that nothing is
+-- the member at a name, or that there is none
 abbrev pub IsAt : Option Member → Option Data → Type 0
 IsAt None held = held ≡ None
 IsAt (Some m) held = (d : Data) × (held ≡ Some d) × IsMember m d
 
--- at each name that counts the members have this
+-- `texts` are the members at the names that count
 pub record Holds (texts : Texts) (found : Members) : Type 0 where
   pub op : IsAt texts.op (get_member (codes "op") found)
   pub app : IsAt texts.app (get_member (codes "app") found)

@@ -1,5 +1,5 @@
-//! What an object of JSON has at the names that count, read with no copy: texts are lent out of
-//! what is read, or out of a scratch if they have escapes. Of all other values nothing is kept.
+//! Reads a JSON object's members at the names that count, without copies: texts are borrowed from
+//! the input, or from a scratch if they have escapes. No other value is stored.
 #![tactic(auto)]
 
 mod member;

@@ -1,4 +1,4 @@
-//! Values of members, of which nothing is kept but a text.
+//! Reads the values of members, and stores only texts.
 ghost use Rattle.std.specs.Prelude.{◌≡◌, ◌<◌, length, Some, None, IfOk, OnOk, OnErr};
 ghost use Rattle.json.specs.Json.{items as items_of, members as members_of, value as value_of};
 ghost use Rattle.serde_json.specs.Data.{Data, Items, Members, no_members};
@@ -8,16 +8,16 @@ ghost use Rattle.rb_members.specs.Texts.{IsMember};
 use crate::number::is_in_range;
 use json::{Invalid, Reader, Token};
 
-/// What an object has at a name.
+/// The value that an object has at a name.
 #[derive(Clone, Copy, Debug, PartialEq, Eq)]
 pub enum Member<'a> {
     /// A text.
     Text(&'a str),
-    /// Any other value, of which nothing is kept.
+    /// Any other value, which is not stored.
     Other,
 }
 
-/// Reads a value, in which arrays and objects nest so deep at most.
+/// Reads a value whose arrays and objects nest at most `depth` deep.
 #[cycle(read_value)]
 #[inline(always)]
 pub(crate) fn read_value<'a>(reader: &mut Reader<'a>, depth: usize) -> Result<Member<'a>, Invalid>
@@ -55,7 +55,7 @@ pub(crate) fn read_value<'a>(reader: &mut Reader<'a>, depth: usize) -> Result<Me
     }
 }
 
-/// Passes over the items of an array and its closing bracket.
+/// Skips the items of an array and its closing bracket.
 #[cycle(read_value)]
 #[inline(never)]
 fn pass_items(reader: &mut Reader<'_>, depth: usize) -> Result<(), Invalid>
@@ -71,7 +71,7 @@ fn pass_items(reader: &mut Reader<'_>, depth: usize) -> Result<(), Invalid>
     Ok(())
 }
 
-/// Passes over the members of an object and its closing brace.
+/// Skips the members of an object and its closing brace.
 #[cycle(read_value)]
 #[inline(never)]
 fn pass_members(reader: &mut Reader<'_>, depth: usize) -> Result<(), Invalid>

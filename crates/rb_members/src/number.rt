@@ -1,4 +1,4 @@
-//! Numbers that `serde_json` takes.
+//! Numbers that `serde_json` accepts.
 ghost use Rattle.std.specs.Prelude.{◌≡◌, ◌==◌, ◌<◌, ◌≤◌, is_some, IsTrue, length, slice_index};
 ghost use Rattle.std.specs.Prelude.{true, false, All};
 ghost use Rattle.std.specs.Char.{IsAsciiDigit};
@@ -34,8 +34,8 @@ fn is_negative(numeral: &Numeral<'_>) -> bool
     }
 }
 
-/// Whether bytes are decimal digits, and so few that they write an integer of 64 bits. Most numbers
-/// are such, and need no reading.
+/// Checks whether bytes are few enough decimal digits to write an integer of 64 bits. Most numbers
+/// are, and need no parsing.
 #[inline(always)]
 fn is_short_integer(bytes: &[u8]) -> bool
     ensures digits { IsTrue result → All IsAsciiDigit bytes.now }
@@ -45,8 +45,8 @@ fn is_short_integer(bytes: &[u8]) -> bool
     !bytes.is_empty() && bytes.len() <= 19 && bytes.iter().all(|byte| byte.is_ascii_digit())
 }
 
-/// Whether the number that a token writes is in range: an integer of 64 bits, or one with a finite
-/// nearest float.
+/// Checks whether a token's number is in range: an integer of 64 bits, or a number whose nearest
+/// float is finite.
 #[inline(always)]
 pub(crate) fn is_in_range(text: &str) -> bool
     ensures { result ≡ is_some (number_of text.now) }
@@ -54,7 +54,7 @@ pub(crate) fn is_in_range(text: &str) -> bool
     is_short_integer(text.as_bytes()) || is_read_in_range(text)
 }
 
-/// The same, by reading the number.
+/// Checks whether a token's number is in range by parsing it.
 #[inline(never)]
 fn is_read_in_range(text: &str) -> bool
     ensures { result ≡ is_some (number_of text.now) }

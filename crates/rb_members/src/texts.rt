@@ -1,4 +1,4 @@
-//! What an object has at the names that count.
+//! Reads an object's members at the names that count.
 ghost use Rattle.std.specs.Prelude.{◌≡◌, ◌∷◌, Some, None, IfOk, IsTrue, length};
 ghost use Rattle.std.specs.Bool.{MatchBool};
 ghost use Rattle.json.specs.Json.{members as members_of, value as value_of};
@@ -12,8 +12,8 @@ use crate::member::{Member, read_value};
 use json::{Reader, Scratch, Token};
 use std::alloc::AllocError;
 
-/// What an object has at the names that count for a request, if it has something. Of two members
-/// with one name the last counts.
+/// An object's members at the names that count for a request. Of two members with one name the last
+/// counts.
 #[derive(Clone, Copy, Debug, PartialEq, Eq)]
 pub struct Texts<'a> {
     pub op: Option<Member<'a>>,
@@ -25,7 +25,7 @@ pub struct Texts<'a> {
 }
 
 impl<'a> Texts<'a> {
-    /// Those of an object without members.
+    /// Returns the texts of an object without members.
     pub fn none() -> Self
         ensures { Holds result no_members }
     {
@@ -39,7 +39,7 @@ impl<'a> Texts<'a> {
         }
     }
 
-    /// Those after one member more.
+    /// Adds a member.
     fn with(self, key: &str, member: Member<'a>) -> Self
         ensures { (found : Members) (d : Data) → IsMember member.entry d → Holds self.entry found
             → Holds result (put key.now d found) }
@@ -55,7 +55,7 @@ impl<'a> Texts<'a> {
     }
 }
 
-/// What a name has after one member more.
+/// Returns the member at a name after another member was read.
 fn after<'a>(
     key: &str,
     name: &str,
@@ -69,7 +69,7 @@ fn after<'a>(
     if key == name { Some(member) } else { held }
 }
 
-/// Whether an opening brace comes next, which is taken.
+/// Reads a token, and checks whether it is an opening brace.
 fn opens_object(reader: &mut Reader<'_>) -> bool
     ensures { MatchBool result (reader.old ≡ Tokens.begin_object ∷ reader.new)
         (BeginsWithNoBrace reader.old) }
@@ -77,7 +77,7 @@ fn opens_object(reader: &mut Reader<'_>) -> bool
     matches!(reader.next(), Some(Token::BeginObject))
 }
 
-/// Reads the members after an opening brace, and says whether they are an object's.
+/// Reads the members after an opening brace. Returns false if they are malformed.
 fn read_members<'a>(reader: &mut Reader<'a>, texts: &mut Texts<'a>) -> bool
     requires { Holds texts.old no_members }
     ensures { MatchBool result ((found : Members) × Holds texts.new found
@@ -98,11 +98,11 @@ fn read_members<'a>(reader: &mut Reader<'a>, texts: &mut Texts<'a>) -> bool
     }
 }
 
-/// Whether a text is a JSON object, as `serde_json` reads it. If so, what it has at the names that
-/// count is in `texts`; else what is there counts for nothing. Texts without escapes are lent out
-/// of the text, the others out of the scratch, which grows to the length of the text; of other
-/// members and of values that are no texts nothing is kept. The error comes if there is no memory
-/// for the scratch.
+/// Checks whether a text is a JSON object, as `serde_json` reads it. If it is, `texts` has its
+/// members at the names that count; otherwise the contents of `texts` mean nothing. Texts without
+/// escapes are borrowed from `text`, the others from the scratch, which grows to the length of the
+/// text; no other member or value is stored. Returns an error if there is no memory for the
+/// scratch.
 pub fn read_texts<'a>(
     text: &'a str,
     scratch: &'a mut Scratch,

@@ -26,7 +26,7 @@ reply_data Absent = error (reply_word Absent)
 reply_data Full = error (reply_word Full)
 reply_data Memory = error (reply_word Memory)
 
--- how many bytes an application's bundles have, and how many bundles there are
+-- the number of an application's bundles, and of their bytes
 abbrev pub usage_data : (bytes bundles : ℕ) → Data
 usage_data bytes bundles =
     object (member (codes "app_bytes") (number (unsigned bytes))
@@ -37,7 +37,7 @@ response_data (Replies reply) = reply_data reply
 response_data (Finds hit valid) = found_data hit.actual valid hit.tree
 response_data (Refuses e) = error (look_word e)
 
--- a line that asks nothing has an error of its own
+-- a line that is no request is answered `BadLine`
 abbrev pub line_data : Option Response → Data
 line_data (Some response) = response_data response
 line_data None = error (codes "BadLine")

@@ -1,4 +1,4 @@
-//! Replies of an engine as lines of JSON, and how long they are.
+//! Writes the replies of an engine as lines of JSON, and counts their bytes.
 #![tactic(auto)]
 
 mod limit;

@@ -1,4 +1,4 @@
-//! Whether a reply is longer than a limit.
+//! Checks whether a reply is longer than a limit.
 ghost use Rattle.std.specs.Prelude.{◌↔◌, IsTrue, Some, length};
 ghost use Rattle.rb_engine.specs.Answer.{Finds, Replies};
 ghost use Rattle.rb_fallback.specs.Answers.{hit_of};
@@ -12,8 +12,7 @@ use rb_fallback::Found;
 use rb_json::Outlet;
 use rb_views::Item;
 
-/// Counts down how many bytes more a text may have, and stops at the byte past the limit: then
-/// there is `None`.
+/// An outlet that counts down the bytes that a text may still have; `None` once the text is longer.
 #[derive(Clone, Copy)]
 struct Room {
     left: Option<u64>,
@@ -46,8 +45,7 @@ impl Outlet for Room {
 }
 
 /// Checks whether the line of the reply to a lookup that found an item, with its line feed, is
-/// longer than a limit. It takes no memory, and no more of the item is spelled than has the
-/// limit's length.
+/// longer than a limit. It takes no memory, and spells no more of the item than the limit's length.
 pub fn found_is_above(found: &Found<Item<'_>>, limit: Option<u64>) -> bool
     ensures { IsTrue result ↔ IsAbove
         (length (reply_line (Some (Finds (hit_of tree_seen found.now) found.now.valid)))) limit }

@@ -1,4 +1,4 @@
-//! Running what a command line asks for.
+//! Runs the command of a command line.
 ghost use Rattle.std.specs.Prelude.{◌≡◌, IfSome};
 
 use crate::serve::serve_files;
@@ -12,7 +12,7 @@ use std::process::ExitCode;
 use std::random::RandomSource;
 use std::rt::{Clock, Files};
 
-/// A console that says nothing on success if `--quiet` was given.
+/// Returns a console that prints nothing on success if `--quiet` was given.
 fn quieted(console: Console, is_quiet: bool) -> Console {
     Console {
         is_quiet,
@@ -29,7 +29,7 @@ fn layout_of(is_pretty: bool) -> Layout {
     }
 }
 
-/// What `--op` says: `install` if it isn't given.
+/// Reads `--op`, which is `install` if it isn't given.
 fn change_of(op: Option<&str>) -> Option<Change> {
     match op {
         None => Some(Change::Install),
@@ -81,7 +81,7 @@ fn run_look<R: Files + RandomSource + AllocGlobal + Print + Eprint>(
     look_up(rt, console, lookup, &asked.files)
 }
 
-/// The limits that were asked for, if any were.
+/// Returns the limits that the options give, or `None` if there are none.
 fn limits_of(asked: AskedLimits) -> Option<LineLimits>
     ensures calls { IfSome result (λ l. (l.calls.bundle_bytes ≡ asked.bundle_bytes)
         × (l.calls.app_bytes ≡ asked.app_bytes)

@@ -1,4 +1,4 @@
--- Answers in the place of which `Memory` may come.
+-- Answers that `Memory` may replace.
 use Rattle.std.proofs.Common.{◌≡◌, ◌∙◌, Ok, Err, Option, Some, None, inl, inr}
 use Rattle.std.specs.Prelude.{◌⊎◌, Result}
 use Rattle.rb_format.specs.declared.fault.FileFault.{FileFault}
@@ -15,12 +15,12 @@ pub passed : {A B : Type 0} (d : FileFault) (v : Result A FileFault) (w : Result
 passed d v w f (inl z) = inl cc
 passed d v w f (inr e) = inr (f e)
 
--- the same of an answer as it is
+-- an answer is passed on unchanged
 pub onward : {A : Type 0} (r v w : Result A FileFault) → (r ≡ Err Memory) ⊎ (r ≡ v) → v ≡ w → (r ≡ Err Memory) ⊎ (r ≡ w)
 onward r v w (inl z) e = inl z
 onward r v w (inr p) e = inr (p ∙ e)
 
--- the same of what has no value
+-- an accepted value means that there is no fault
 pub agreed : {A : Type 0} (x : A) {f : Option FileFault} → (Ok x ≡ Err Memory) ⊎ (None ≡ f) → None ≡ f
 agreed x (inl z) = absurd cc
 agreed x (inr e) = e

@@ -1,4 +1,4 @@
--- For proofs only: what the program says of one level, and of its stops so far.
+-- For proofs only. Defines the program's results at one level, and at its stops so far.
 use Rattle.std.specs.Prelude.{◌≡◌, ℕ, List, Option, Some, None, Result, Ok, Err}
 use Rattle.rb_tree.specs.Resource.{Resource}
 use Rattle.rb_tree.specs.Path.{segments}
@@ -12,7 +12,7 @@ use Rattle.rb_fallback.specs.declared.fault.LookError.{LookError}
 use Rattle.rb_fallback.specs.declared.level.LevelState.{LevelState}
 use Rattle.rb_fallback.specs.declared.level.LevelResult.{LevelResult}
 
--- the walk that decides among stops, as the program has it
+-- the walk that decides among stops, in the program's types
 pub record DecidingWalk {N : Type 0} (tree : N → Resource) (b : Bundles) (path : List ℕ) (ending : Ending N)
     (actual : List ℕ) (all : List (List ℕ))
     : Type 0 where
@@ -33,7 +33,7 @@ pub record IsLevelState {N : Type 0} (tree : N → Resource) (b : Bundles) (path
   pub first : state.first ≡ first_of all
   pub ending : IsEnding tree b path state.ending state.actual all
 
--- the walk that decides at a level and the first stop, as the program has them
+-- the walk that decides at a level and the first stop, in the program's types
 pub record IsLevelResult {N : Type 0} (tree : N → Resource) (h : LevelResult N) (path : List ℕ)
     (r : Result Decided LookError) (head : Option (List ℕ))
     : Type 0 where

@@ -1,4 +1,4 @@
--- For what is private. The characters of units, from an index on up to another, are taken as they stand in a string.
+-- For what is private. Defines that the characters of the units between two indices are written, escaped for a string.
 use Rattle.std.specs.Prelude.{◌≡◌, ℕ, List, ◌++◌, drop, encode_utf8_all}
 use Rattle.std.specs.Char.Utf16.{utf16_lossy_chars}
 use Rattle.json.specs.Print.{escape}

@@ -1,8 +1,8 @@
--- For what is private. How many bytes more a text may have, as its bytes are counted.
+-- For what is private. Defines the number of bytes that a text may still have, as its bytes are counted.
 use Rattle.std.specs.Prelude.{◌≡◌, ◌+◌, ◌<◌, ℕ, List, [], ◌++◌, length, Option, Some, None}
 use Rattle.std.proofs.Common.{length-append, arith}
 
--- there was room for these bytes, and so much is left; or there was too little, before or now
+-- the room sufficed for these bytes, and `left` remains; or it was too small, before or now
 abbrev pub IsRoomAfter : (old new : Option ℕ) → List ℕ → Type 0
 IsRoomAfter None None bytes = Unit {0}
 IsRoomAfter None (Some left) bytes = ⊥

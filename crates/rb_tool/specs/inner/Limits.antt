@@ -1,6 +1,6 @@
--- The limit on one run of `resb serve`, this project's own rule.
+-- Defines the limit on one run of `resb serve`, a rule of this project.
 use Rattle.std.specs.Prelude.{ℕ}
 
--- this many lines are served at most, whoever sends them
+-- the most lines that are served
 abbrev pub most_lines : ℕ
 most_lines = 1099511627776

@@ -13,7 +13,7 @@ decreases-pass_items l = 2 * l.depth + 1
 abbrev pub decreases-pass_members : goal.decreases-pass_members
 decreases-pass_members l = 2 * l.depth + 1
 
--- the items that were passed over stand before those to come, which take at most so many turns
+-- `before` prepends the items that were skipped to the remaining ones, which take at most `turns` turns
 abbrev pub invariant-pass_items-items : goal.invariant-pass_items-items
 invariant-pass_items-items l = record {
   turns : ℕ;
@@ -27,7 +27,7 @@ invariant-pass_items-items l = record {
 abbrev pub decreases-pass_items-items : goal.decreases-pass_items-items
 decreases-pass_items-items l = length l.reader
 
--- `found` has the members that were passed over, and the rest takes at most so many turns
+-- `found` has the members that were skipped, and the remaining tokens take at most `turns` turns
 abbrev pub invariant-pass_members-members : goal.invariant-pass_members-members
 invariant-pass_members-members l = record {
   turns : ℕ;

@@ -5,7 +5,7 @@ use Rattle.serde_json.specs.Read.{converted, of_members}
 use Rattle.rb_members.specs.Texts.{Holds}
 use Rattle.rb_members.proofs.texts.read_members.Given as goal
 
--- `found` has the members that were read, and the rest takes at most so many turns
+-- `found` has the members that were read, and the remaining tokens take at most `turns` turns
 abbrev pub invariant-members : goal.invariant-members
 invariant-members l = record {
   found : Members;
