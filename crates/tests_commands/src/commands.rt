@@ -50,34 +50,33 @@ const EMPTY_WITHOUT_FALLBACK: [u8; 60] = [
     0x07, 0x00, 0x00, 0x00, 0x00, 0x00, 0x00, 0x00, 0x01, 0x00, 0x00, 0x00,
 ];
 
-/// How many bytes a file of a desk may have.
+/// The most bytes of a file of a desk.
 const ROOM: usize = 1000;
 
-/// What is done with a desk, and what is seen then.
+/// An action on a desk with its expected result, or a check of a file.
 #[derive(Clone, Copy)]
 pub(crate) enum Step<'a> {
-    /// A file is put there.
+    /// Puts a file on the desk.
     Put(&'a str, &'a [u8]),
-    /// Nothing can be printed to standard output any more.
+    /// Closes standard output: later prints to it fail.
     Close,
-    /// A text is compiled to a file; the status, and what is printed to standard output and to
-    /// standard error.
+    /// Compiles a text to a file; then the status and the texts on standard output and error.
     Compile(&'a str, &'a str, u8, &'a str, &'a str),
-    /// A file is checked; the same.
+    /// Checks a file; then the status and both outputs.
     Check(&'a str, u8, &'a str, &'a str),
-    /// The item at a path of a file is printed; the same.
+    /// Prints the item at a path of a file; then the status and both outputs.
     Get(&'a str, &'a str, u8, &'a str, &'a str),
-    /// The whole item at a path of a file is printed as one value; the same.
+    /// Prints the whole item at a path of a file as one value; then the status and both outputs.
     Json(&'a str, &'a str, Layout, u8, &'a str, &'a str),
-    /// There is a file with these bytes.
+    /// Checks that a file has these bytes.
     Has(&'a str, &'a [u8]),
-    /// There is such a file, or there is none.
+    /// Checks that a file exists, or that it doesn't.
     Keeps(&'a str, bool),
 }
 
 use Step::{Check, Close, Compile, Get, Has, Json, Keeps, Put};
 
-/// Whether a command ended with this status, and printed this.
+/// Checks that a command ended with this status, and printed these texts.
 fn ended(desk: &Desk, found: ExitCode, status: u8, output: &str, errors: &str) -> bool {
     found == ExitCode::from(status) && desk.said(output, errors)
 }
@@ -112,7 +111,7 @@ fn is_step(desk: &Desk, step: Step<'_>) -> bool {
     }
 }
 
-/// Whether each step on a desk is as it says.
+/// Checks that each step on a desk has its expected result.
 pub(crate) fn all_steps(desk: &Desk, steps: &[Step<'_>]) -> bool {
     for step in steps {
         if !is_step(desk, *step) {
@@ -122,7 +121,7 @@ pub(crate) fn all_steps(desk: &Desk, steps: &[Step<'_>]) -> bool {
     true
 }
 
-/// A desk with files. If memory runs out some aren't there, and the test fails by that.
+/// Makes a desk with files. If memory runs out some are missing, and the test fails.
 pub(crate) fn desk_of(alloc: Global, files: &[(&str, &[u8])]) -> Desk {
     let desk = Desk::new(alloc, ROOM);
     for (name, bytes) in files {
@@ -131,7 +130,7 @@ pub(crate) fn desk_of(alloc: Global, files: &[(&str, &[u8])]) -> Desk {
     desk
 }
 
-/// Whether each step on a new desk is as it says.
+/// Checks that each step on a new desk has its expected result.
 pub(crate) fn are_steps(alloc: Global, room: usize, steps: &[Step<'_>]) -> bool {
     all_steps(&Desk::new(alloc, room), steps)
 }
@@ -186,7 +185,7 @@ const FULL_DISK: [Step<'static>; 10] = [
     Keeps("/dev/full", true),
 ];
 
-/// An older file, what a command that was killed left, and files that aren't overwritten.
+/// An older file, one that a killed command left behind, and files that aren't overwritten.
 const OLDER: [Step<'static>; 12] = [
     Put("in.txt", b"root{}"),
     Put("out.res", b"older"),
@@ -244,7 +243,7 @@ fn checks_files(rt: HostRuntime) {
     assert!(rt; are_steps(rt.alloc(), ROOM, &CHECKED));
 }
 
-/// The files that starts are given.
+/// The files that the starts read.
 const GIVEN: [(&str, &[u8]); 9] = [
     ("a.txt", b"x{}"),
     ("b.txt", b"x{}"),
@@ -257,7 +256,7 @@ const GIVEN: [(&str, &[u8]); 9] = [
     ("text.TXT", b"x{}"),
 ];
 
-/// Starts that are refused: the file of explicit parents, the arguments, what is said, and the
+/// Starts that are refused: the file of explicit parents, the arguments, the message, and the
 /// status.
 const REFUSED: [(Option<&str>, &[&str], &str, u8); 15] = [
     (None, &["de"], "bad bundle argument: de\n", 2),
@@ -282,7 +281,7 @@ const REFUSED: [(Option<&str>, &[&str], &str, u8); 15] = [
     ),
 ];
 
-/// The status of a start that is refused, or none.
+/// Returns the status of a start that is refused, or `None` if it starts.
 fn refusal(desk: &Desk, parents: Option<&str>, arguments: &[&str]) -> Option<ExitCode> {
     match start_engine(desk, parents, arguments) {
         Ok(_) => None,
@@ -290,7 +289,7 @@ fn refusal(desk: &Desk, parents: Option<&str>, arguments: &[&str]) -> Option<Exi
     }
 }
 
-/// Whether each start with random bytes is refused so.
+/// Checks that each start in `REFUSED` is refused, with random bytes.
 fn are_refused(desk: &Desk) -> bool {
     if !desk.put("/dev/random", b"") {
         return false;
@@ -309,7 +308,7 @@ fn refuses_to_start(rt: HostRuntime) {
     assert!(rt; are_refused(&desk_of(rt.alloc(), &GIVEN)));
 }
 
-/// Whether there is no start without random bytes, and one with them.
+/// Checks that an engine starts only with random bytes.
 fn wants_random_bytes(desk: &Desk) -> bool {
     let arguments = ["root=good.res", "de-at=a.txt"];
     let (parents, status) = (Some("good.txt"), ExitCode::from(2));
@@ -325,7 +324,7 @@ fn starts_with_a_random_state(rt: HostRuntime) {
     assert!(rt; wants_random_bytes(&desk_of(rt.alloc(), &GIVEN)));
 }
 
-/// Whether a start for which there is no memory is answered so.
+/// Checks the report of a start for which there is no memory.
 fn says_memory(desk: &Desk) -> bool {
     let status = not_started_on(desk, Console::plain(), StartError::Memory);
     ended(desk, status, 1, "", "Memory\n")

@@ -127,7 +127,7 @@ pub fn two_kinds(alloc: Global, a: u32, b: u32, above: u8) -> Option<Vec<u8>> {
 }
 
 /// Returns a table of this many keys, each the end of one long key, the shortest first. The last
-/// key has an offset of its own.
+/// key's offset is `last`.
 pub fn suffixes(alloc: Global, keys: u32, last: u32) -> Option<Vec<u8>>
     requires { keys < 2 ^ 20 }
 {
@@ -144,7 +144,7 @@ pub fn suffixes(alloc: Global, keys: u32, last: u32) -> Option<Vec<u8>>
     file.done()
 }
 
-/// Returns a key of seven letters for a number, and its NUL.
+/// Writes a key of seven letters for a number, and its NUL.
 fn put_key(file: &mut Draft, number: u32) {
     for digit in 0..7u32 {
         let letter = (number >> (24 - 4 * digit)) % 16;

@@ -1,4 +1,4 @@
--- What is printed is a good source.
+-- The printed text is a good source.
 use Rattle.std.proofs.Common.{List, ℕ}
 use Rattle.rb_tree.specs.SourceTree.{SourceTree}
 use Rattle.rb_parser.specs.Source.{IsGoodSource}

@@ -30,7 +30,7 @@ const FILES: [(&str, &[u8]); 5] = [
     ("bad.res", &HOLDS_ITSELF),
 ];
 
-/// Whether texts compiled to a folder end with this status, and print this.
+/// Checks that compiling texts to a folder ends with this status, and prints these texts.
 fn compiles(
     desk: &Desk,
     console: Console,
@@ -99,8 +99,8 @@ fn files_are_checked_by_name(rt: HostRuntime) {
     assert!(rt; names_each_file(&desk_of(rt.alloc(), &FILES)));
 }
 
-/// On a terminal it is said how far a command is, once a second has gone by, and an error names the
-/// command that explains it.
+/// Checks that on a terminal a command reports its progress once a second has passed, and an error
+/// names the command that explains it.
 fn tells_a_terminal(desk: &Desk) -> bool {
     let output = "good.res: ok, 1 visits\n";
     let errors =

@@ -90,9 +90,9 @@ impl OpenFile for Paper {
     }
 }
 
-/// A desk with files, a disk that takes `room` bytes a file, and what was printed. Files below
-/// `/dev/` are devices, and there are random bytes only if there is a `/dev/random`. Each look at
-/// the clock takes a second.
+/// Files on a disk that takes `room` bytes a file, and the text that was printed. Files below
+/// `/dev/` are devices, and there are random bytes only if there is a `/dev/random`. Each reading
+/// of the clock takes a second.
 #[derive(Drop)]
 pub struct Desk {
     alloc: Global,
@@ -117,7 +117,7 @@ impl Desk {
         }
     }
 
-    /// Where a file stands.
+    /// Returns the index of a file.
     fn find(&self, path: &str) -> Option<usize> {
         match self.files.try_borrow() {
             Ok(files) => files.iter().position(|file| file.0.as_str() == path),
@@ -125,7 +125,7 @@ impl Desk {
         }
     }
 
-    /// A file's bytes, shared.
+    /// Returns a shared handle to a file's bytes.
     fn shared(&self, path: &str) -> Option<Bytes> {
         let files = self.files.try_borrow().ok()?;
         let file = files.iter().find(|file| file.0.as_str() == path)?;
@@ -145,12 +145,12 @@ impl Desk {
         Ok(held)
     }
 
-    /// Puts a file on the desk; whether there was memory.
+    /// Puts a file on the desk. Returns false if memory ran out.
     pub fn put(&self, path: &str, bytes: &[u8]) -> bool {
         self.place(path, bytes).is_ok()
     }
 
-    /// Whether a file is there and has these bytes.
+    /// Checks whether a file exists and has these bytes.
     pub fn has(&self, path: &str, bytes: &[u8]) -> bool {
         match self.shared(path) {
             Some(shared) => match shared.try_borrow() {
@@ -161,17 +161,18 @@ impl Desk {
         }
     }
 
-    /// Whether there is such a file.
+    /// Checks whether a file exists.
     pub fn keeps(&self, path: &str) -> bool {
         self.find(path).is_some()
     }
 
-    /// From now on nothing can be printed to standard output.
+    /// Closes standard output: later prints to it fail.
     pub fn close_output(&self) {
         self.output_is_closed.set(true);
     }
 
-    /// Whether this was printed to standard output and to standard error since the last call.
+    /// Checks whether these texts were printed to standard output and standard error since the last
+    /// call.
     pub fn said(&self, output: &str, errors: &str) -> bool {
         let printed = taken(self.alloc, &self.output);
         let complained = taken(self.alloc, &self.errors);
@@ -192,7 +193,7 @@ impl Desk {
     }
 }
 
-/// What was printed since the last call.
+/// Takes the text that was printed since the last call.
 fn taken(alloc: Global, said: &RefCell<String>) -> String {
     said.try_replace(String::new(alloc))
         .unwrap_or(String::new(alloc))

@@ -217,8 +217,8 @@ impl<'a> Files for Faulty<'a> {
     }
 }
 
-/// Compiles a text of a new desk to a file while the call `call` fails; the desk, and whether the
-/// command succeeded.
+/// Compiles a text of a new desk to a file while the call `call` fails. Returns the desk, and
+/// whether the command succeeded.
 fn compiled(alloc: Global, call: u64, output: &str) -> (Desk, bool) {
     let desk = Desk::new(alloc, 1000);
     for (name, bytes) in [
@@ -238,8 +238,8 @@ fn compiled(alloc: Global, call: u64, output: &str) -> (Desk, bool) {
     (desk, status == ExitCode::SUCCESS)
 }
 
-/// Checks that no file is there but those of the start and a whole new one, and that a command that
-/// succeeded wrote it.
+/// Checks that there are only the files of the start and at most a whole new one, and that a
+/// command that succeeded wrote it.
 fn is_whole(desk: &Desk, target: &str, is_written: bool) -> bool {
     let is_older = if target == "out.res" {
         desk.has(target, b"older")
@@ -253,7 +253,7 @@ fn is_whole(desk: &Desk, target: &str, is_written: bool) -> bool {
     is_target && are_others && is_clean && are_links
 }
 
-/// What is compiled to, and what that leads to.
+/// Output names, and the files that they lead to.
 const OUTPUTS: [(&str, &str); 4] = [
     ("out.res", "out.res"),
     ("new.res", "new.res"),

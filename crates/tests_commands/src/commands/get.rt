@@ -30,7 +30,7 @@ const FOUND: [(&[u8], &str, &str); 5] = [
     ),
 ];
 
-/// A desk with the file of a bundle text; none if the text isn't compiled.
+/// Makes a desk with the file of a bundle text, or returns `None` if the text doesn't compile.
 pub(crate) fn desk_with(alloc: Global, text: &[u8]) -> Option<Desk> {
     let desk = Desk::new(alloc, ROOM);
     if !desk.put("in.txt", text) || compile(&desk, "in.txt", "a.res") != ExitCode::SUCCESS {
@@ -40,7 +40,7 @@ pub(crate) fn desk_with(alloc: Global, text: &[u8]) -> Option<Desk> {
     Some(desk)
 }
 
-/// Whether each step on a desk with the file of a bundle text is as it says.
+/// Checks that each step on a desk with the file of a bundle text has its expected result.
 pub(crate) fn are_steps_with(alloc: Global, text: &[u8], steps: &[Step<'_>]) -> bool {
     match desk_with(alloc, text) {
         Some(desk) => all_steps(&desk, steps),

@@ -9,7 +9,7 @@ const ROOT: &[u8] =
 const TEXT: &[u8] =
     b"de{\n a{\"Hallo {nmae}\"}\n c{x{\"X\"}}\n d{\n  \"1\",\n  \"2\"\n }\n e{\"E\"}\n f{\"F\",}\n %%Parent{\"root\"}\n}\n";
 
-/// What is said of the text.
+/// The warnings for the text.
 const DIFFERENCES: &str =
     "de.txt:1: warning: the root has 'b', and this text doesn't\nde.txt:2: warning: 'a' has no {name}, which it has in the root\nde.txt:2: warning: 'a' has {nmae}, which it hasn't in the root\nde.txt:3: warning: the root has 'c/y', and this text doesn't\nde.txt:6: warning: 'd/1' has no {n}, which it has in the root\nde.txt:8: warning: 'e' isn't in the root\nde.txt:9: warning: 'f' is an array, and a string in the root\n";
 
@@ -24,7 +24,7 @@ const TEXTS: [(&str, &[u8]); 4] = [
     ("bad.txt", b"bad{\n a:int{x}\n}"),
 ];
 
-/// Whether texts beside a root end with this status, and print this.
+/// Checks that linting texts beside a root ends with this status, and prints these texts.
 fn lints(
     desk: &Desk,
     root: Option<&str>,

@@ -81,7 +81,7 @@ const FILES: [&str; 6] = [
     "xx.txt",
 ];
 
-/// Whether a lookup gives this reply, and with a trace also this.
+/// Checks that a lookup gives this reply, and with `is_traced` also this trace.
 fn is_traced<'a>(desk: &Desk, locale: &'a str, path: &'a str, reply: &str, trace: &str) -> bool {
     let plain = Lookup {
         parents: Some("parents.txt"),
@@ -113,7 +113,7 @@ fn lookups_are_traced(rt: HostRuntime) {
     assert!(rt; are_traced(&desk_of(rt.alloc(), &TEXTS)));
 }
 
-/// If a file is refused nothing is traced.
+/// Checks that nothing is traced if a file is refused.
 fn says_refusals_alone(desk: &Desk) -> bool {
     let lookup = Lookup {
         parents: None,
