@@ -1,8 +1,8 @@
 #!/usr/bin/env python3
-"""Inputs that are made to be dear. Each is valid unless its docstring says otherwise, and is measured beside plain
+"""Inputs that are built to be expensive. Each is valid unless its docstring says otherwise, and is measured beside plain
 input of its size in the same run: files by `resb check`, texts by `resb compile` and `resb lint --root`, requests by
 `resb serve`.
-Prints the times, the ratio and what is allowed. The status is 1 where a ratio or an amount of memory is over
+Prints the times, the ratio and what is allowed. The status is 1 if a ratio or an amount of memory is over
 what is allowed.
 
 usage: hostile.py [--large] [--store FILE] [PROGRAM] [NAME..]
@@ -143,8 +143,8 @@ def overlapping_over_arrays(size):
 
 
 def overlapping_ends(size):
-    """The same, but each length is also a String at a random word whose zero unit is at another random word, and each run
-    ends at the last word of a group of 32, so that what stands at its end is checked item by item."""
+    """Overlapping arrays whose lengths are also Strings at random words with zero units at other random words, and each run
+    ends at the last word of a group of 32, so that the items at its end are checked one by one."""
     words_in_all, made, dice = size // 4, Builder(b"a\0"), random.Random(7)
     texts, empties = words_in_all * 12 // 100, words_in_all // 10
     first = made.here()
@@ -234,7 +234,7 @@ def periodic(count):
 
 
 def by_turns(count):
-    """Low and high letters in turn, so that half of the places are sorted again, and not a third."""
+    """Alternating low and high letters, so that half of the places are sorted again, and not a third."""
     dice, half = random.Random(1), count // 2 + 1
     text = bytearray(2 * half)
     text[0::2] = dice.randbytes(half).translate(bytes(33 + i % 47 for i in range(256)))
@@ -254,7 +254,7 @@ def repeated(text):
     return lambda count: (text * (count // len(text) + 1))[:count]
 
 
-# ---- files of about so many bytes
+# ---- files of about `size` bytes
 
 
 def one_key(letters, tables=12):
@@ -274,7 +274,7 @@ def random_ends(size):
 
 
 def many_tables(size):
-    """Half of the file is one key, and the rest tables of that key."""
+    """Half of the file is one key, and the other half tables of that key."""
     return Builder(random_letters(size // 2) + b"\0").file_of_tables([[i] for i in range(size // 32)])
 
 
@@ -305,8 +305,8 @@ def mixed_tables(size):
     return overlapping_tables(size // 88, True)
 
 
-# files of one size: what they are, how they are made, the status of their check, and how many times the time of a plain
-# table is allowed
+# files of one size: the name, the function that makes them, the status of their check, and the allowed multiple of the
+# time of a plain table
 FORMS = [
     ("62 shared arrays", lambda: shared_arrays(62), 0, 25),
     ("90 levels of 1,000 shared items", lambda: shared_items(90, 1000), 1, 25),
@@ -317,8 +317,8 @@ FORMS = [
     ("16 MB of one periodic key", lambda: periodic_key(16_000_000, 1_000), 0, 60),
 ]
 
-# files that are made to be dear to check: what they are, how one of about so many bytes is made, and how many times the
-# time of a plain table is allowed. The last ones are made by someone who knows how keys are compared.
+# files that are built to be expensive to check: the name, the function that makes one of about a size, and the allowed
+# multiple of the time of a plain table. The last ones exploit the way in which keys are compared.
 CHECKED = [
     ("one key of random letters in 12 tables", one_key(random_letters), 20),
     ("one key of Thue and Morse in 12 tables", one_key(thue_morse), 20),
@@ -340,7 +340,7 @@ CHECKED = [
     ("2 copies of `aaa..`, 100 tables", copies(repeated(b"a"), 2, 100), 60),
     ("2 copies of runs of one letter, 100 tables", copies(runs, 2, 100), 60),
 ]
-# The last three were found by looking for what is dearer than the first two, and are allowed what README.md names of them.
+# The last three were found in a search for more expensive files than the first two; notes/hostile.md states their allowance.
 OVERLAPPING = [
     ("arrays that overlap, in random order", mixed_arrays, 30),
     ("tables that overlap, in random order", mixed_tables, 30),
@@ -378,7 +378,7 @@ def random_keys(size):
 
 
 def random_keys_with_one_again(size):
-    """The same, with the first key once more at the end: refused as DuplicateKey."""
+    """`random_keys` with the first key once more at the end: refused as DuplicateKey."""
     text = random_keys(size - 6)
     return text[:-1] + text[5:9] + b"{}}"
 
@@ -401,8 +401,8 @@ def keys_of_one_slot(size):
     return b"root{a{" + b"".join(tables) + b"}}"
 
 
-# what they are, how they are made, the status of their compilation, and how many times the time of plain text is allowed. The
-# last ones were found by looking for what is dearer than the first two, and are allowed what README.md names of them.
+# the name, the function that makes them, the status of their compilation, and the allowed multiple of the time of plain text.
+# The last ones were found in a search for more expensive texts than the first two; README.md states their allowance.
 TEXTS = [
     ("texts `k{a{}}..`", small_tables, 0, 5),
     ("texts `{{{}}}` of 59 levels", nested_arrays, 0, 5),
@@ -412,11 +412,11 @@ TEXTS = [
     ("texts of keys that share a place", keys_of_one_slot, 0, 8),
 ]
 
-# ---- texts that are compared with the root's, here with themselves
+# ---- texts that are compared with the root's text, here with themselves
 
 
 def placeholders(size):
-    """A string of placeholders, each with a name of its own."""
+    """A string of placeholders with different names."""
     return b'root{a{"' + b"".join(b"{%07d}" % i for i in range(size // 9)) + b'"}}'
 
 
@@ -431,14 +431,14 @@ def long_key(size):
     return b"root{" + b"k" * (size // 2) + b"{" + entries + b"}}"
 
 
-# what they are, how they are made, and how many times their length the memory may be; that of one array is named in README.md
+# the name, the function that makes them, and the allowed memory as a multiple of their length; README.md states that of one array
 COMPARED = [
     ("`lint --root` of a string of placeholders", placeholders, 80),
     ("`lint --root` of one array", one_array, 110),
     ("`lint --root` under a long key", long_key, 80),
 ]
 
-# ---- requests: the lines that prepare, and the line that is dear
+# ---- requests: the lines that prepare, and the expensive line
 
 
 def install(locale, text):
@@ -524,11 +524,11 @@ def shared_keys(size):
 
 
 def other_members(size):
-    """A line with a list that nobody asked for."""
+    """A line with a list that isn't part of the request."""
     return b"", b'{"op":"list","app":"a","x":[' + b"0," * (size // 2) + b"0]}\n"
 
 
-# ---- what is measured
+# ---- measurements
 
 MB = 1_000_000
 LONG = 5  # seconds
@@ -556,12 +556,12 @@ class Report:
         print(f"{name}, {size / MB:.2f} MB: {text}{': OVER' if over else ''}", flush=True)
 
     def best(self, words, runs=3, source=os.devnull):
-        """The least of some runs, or the first if it is long."""
+        """Returns the least time of some runs, or the first if it is long."""
         first = measured([self.program, *words], source)
         return min([first, *(measured([self.program, *words], source) for _ in range(runs - 1) if first[0] < LONG)])
 
     def by_turns(self, plain, made, runs=5):
-        """Of some runs of two commands by turns the turn whose ratio is the middle one, as a machine's speed changes from second to second."""
+        """Alternates two commands and returns the turn with the median ratio, as a machine's speed changes from second to second."""
         turns = [(measured([self.program, *plain]), measured([self.program, *made]))]
         while len(turns) < runs and turns[0][1][0] < LONG:
             turns.append((measured([self.program, *plain]), measured([self.program, *made])))
@@ -576,7 +576,7 @@ class Report:
             self.checked("file", name, make(size), self.plain_file(size), (start, size / MB * 1e-3), (allowed, 0))
 
     def form(self, name, make, status, allowed):
-        """A file of a fixed size; as small ones take as long as a program's start, that is in both times."""
+        """Measures a file of a fixed size; as small ones take as long as a program's start, both times include it."""
         if self.is_asked(name):
             data = make()
             path = self.file("plain.res", plain_table(len(data)))
@@ -588,7 +588,7 @@ class Report:
         return self.plain[size]
 
     def checked(self, kind, name, data, plain_path, less, wanted):
-        """Of the plain file's time the start is taken away, but for a least time; the status is wanted, and the ratio allowed."""
+        """Measures a file beside a plain one, whose time is counted without the start, and as at least `least`."""
         (start, least), (allowed, right) = less, wanted
         made = self.file("made.res", data)
         (whole, _, _), (seconds, memory, status) = self.by_turns(["check", plain_path], ["check", made], runs=3)
@@ -623,7 +623,7 @@ class Report:
             self.say("text", name, size, text, over, seconds=seconds, plain=plain, allowed=5, MB=memory)
 
     def serve(self, prepared, line, count, limits=(), runs=4):
-        """Seconds for one more line, and the memory that it takes besides, in MB."""
+        """Returns the seconds for one more line, and the memory that it adds, in MB."""
         files = self.file("before.jsonl", prepared), self.file("after.jsonl", prepared + line * count)
         before, after = (self.best(["serve", *limits], runs, file) for file in files)
         return max(0.0, after[0] - before[0]) / count, after[1] - before[1]

@@ -3,8 +3,8 @@ import os
 import subprocess
 import sys
 
-# run by an interpreter of its own, as a child's peak memory is at least that of the process that starts it; reads a command a line,
-# its words between NULs
+# runs in a separate interpreter, as a child's peak memory is at least that of the process that starts it; reads a command a line,
+# its words separated by NULs
 MEASURE = """
 import os, sys
 seconds = memory = status = 0

@@ -127,12 +127,12 @@ TABLES = {
 }
 
 
-# of the tables that aren't of the figures of their own name alone, those that they are of
+# the figures of each table that isn't made from those of its own name alone
 SOURCES = {"goals": ["compile", "cldr", "serve", "daily"], "requests": ["hostile"]}
 
 
 def filled(page):
-    """A page with its tables made anew, but those whose figures aren't stored."""
+    """Returns a page with its tables made anew, except those whose figures aren't stored."""
     def block(match):
         if not all(stored(name) for name in SOURCES.get(match[1], [match[1]])):
             return match[0]

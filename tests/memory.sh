@@ -1,13 +1,13 @@
 #!/usr/bin/env bash
-# Each allocation refused in turn. The program programs/memory.rt.in starts an engine, makes requests of each kind, and loads, installs
-# and lists bundles; after a call that is answered out of memory it compares all that is kept, and calls once more. The program
-# programs/lines.rt.in serves lines of each kind; if memory runs out, the replies before are whole, and serving goes on with the line.
-# The program programs/acceptance.rt.in accepts a file of each kind that is dear to check, which Python writes: out of memory the file is
-# given back, and within three times what its acceptance takes with memory.
+# Refuses each allocation in turn. The program programs/memory.rt.in starts an engine, makes requests of each kind, and loads, installs
+# and lists bundles; after a call that is answered out of memory it compares the whole state, and calls once more. The program
+# programs/lines.rt.in serves lines of each kind; if memory runs out, the replies before are whole, and serving continues with the line.
+# The program programs/acceptance.rt.in accepts a file of each kind that is expensive to check, which Python writes: out of memory the
+# file is returned, and within three times what its acceptance takes with memory.
 #
-# The toolchain refuses one allocation of a run, by its number. So each run first takes and frees some blocks, fewer each time, down to
-# a run in which no allocation of the calls is refused and the next ones are given until the number is reached. A last run of the first
-# program makes lookups, replacements and removals besides, and as many more are given: these calls take none.
+# The toolchain refuses one allocation of a run, by its number. So each run first allocates and frees some blocks, fewer each time, down
+# to a run in which no allocation of the calls is refused, and allocates after them until the number is reached. A last run of the first
+# program also makes lookups, replacements and removals, after which as many allocations remain: these calls make none.
 #
 # usage: memory.sh      (the variable RT names the command `rt`, if it is another)
 set -eu
@@ -23,11 +23,11 @@ fails() {
     echo "$1"
     exit 1
 }
-# How many blocks were given after the calls of a run.
+# Prints the number of blocks that were allocated after the calls of a run.
 left() {
     grep -A 2 "^== $1\$" "$said" | sed -n 's/^\([0-9]*\) left$/\1/p'
 }
-# The first case of a run without the line `kept`, and what it printed.
+# Prints the output of the first case of a run without the line `kept`.
 first_not_kept() {
     awk '/^== / { if (begun && !kept) exit; begun = 1; kept = 0; text = "" }
         /^kept$/ { kept = 1 }
@@ -61,7 +61,7 @@ refuse() {
     [ -n "$(left "$fewest")" ] || fails 'not every allocation was refused in some run'
     echo "ok: each of $((refused - fewest - 1 - $(left "$fewest"))) allocations refused in turn"
 }
-# The files that are dear to check, behind as many blocks, in cases NUMBER-BLOCKS; prints the fewest blocks of each.
+# Writes the files that are expensive to check, each after its number of blocks, as cases NUMBER-BLOCKS; prints the fewest blocks of each.
 dear_files() {
     python3 - "$tests/../bench" "$@" <<'END'
 import sys
@@ -82,7 +82,7 @@ for number, (data, most) in enumerate(files):
 print(*(refused - most for _, most in files))
 END
 }
-# refuse_files REFUSED: the acceptance of each dear file, with each of its allocations refused.
+# refuse_files REFUSED: accepts each expensive file with each of its allocations refused.
 refuse_files() {
     local name=acceptance refused=$1 number=0 fewest all sum=0
     said=$made/$name/said

@@ -1,6 +1,6 @@
 #!/usr/bin/env bash
-# A replacement while a lookup's item is held doesn't compile: the item is lent out of the engine. The program programs/held.rt.in does
-# so, and is refused for this borrow; without the two lines that hold the item, marked `held`, it compiles and runs.
+# Checks that a replacement while a lookup's item is in use doesn't compile, as the item borrows from the engine. The program
+# programs/held.rt.in is rejected for this borrow; without the two lines that use the item, marked `held`, it compiles and runs.
 #
 # usage: no_change_while_lent.sh      (the variable RT names the command `rt`, if it is another)
 set -eu

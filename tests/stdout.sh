@@ -1,5 +1,5 @@
 #!/usr/bin/env bash
-# What resb says if standard output can't be written: `cannot write stdout` and status 2, or `Write` and status 1 of `serve`.
+# Checks the errors of resb if standard output can't be written: `cannot write stdout` and status 2, or `Write` and status 1 of `serve`.
 #
 # usage: stdout.sh PROGRAM
 # Ends with status 0 if it is said, with 1 if not; says `skipped` if there is no such program or no /dev/full.
@@ -15,7 +15,7 @@ made=$(mktemp -d) || exit 2
 trap 'rm -rf "$made"' EXIT
 failed=0
 
-# Compares a status and the lines of standard error with those that are wanted.
+# Compares a status and the lines of standard error with the expected ones.
 agrees() {
     if [ "$2" = "$3" ] && [ "$(cat "$made/errors")" = "$4" ]; then
         echo "ok: $1"
@@ -41,7 +41,7 @@ refuses 2 'cannot write stdout' check "$made/de.res"
 refuses 2 'cannot write stdout' get "$made/de.res" months/0
 refuses 1 Write serve
 
-# the file is there though nothing could be said, and holds what it holds else
+# the file is written though nothing could be printed, and has its usual bytes
 if cmp -s "$made/de.res" "$made/again.res"; then
     echo "ok: the file is written"
 else
