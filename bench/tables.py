@@ -127,7 +127,7 @@ TABLES = {
 }
 
 
-# the figures of each table that isn't made from those of its own name alone
+# the stored figures of each table that needs others than those of its name
 SOURCES = {"goals": ["compile", "cldr", "serve", "daily"], "requests": ["hostile"]}
 
 

@@ -20,7 +20,7 @@ import (
 // Patience is how long a caller asks again before it gives up.
 const Patience = time.Minute
 
-// What a bridge answers in the place of the shard, so that it is worth asking again.
+// The errors that a bridge answers in place of the shard, after which the caller may ask again.
 var (
 	// ErrShardEnded says that the shard ended under a lookup.
 	ErrShardEnded = errors.New("the shard ended")
@@ -46,7 +46,7 @@ type Client struct {
 	together together
 }
 
-// What an answer says: the text, and the place of its change in the stream.
+// told is an answer: its text, and the place of its change in the stream.
 type told struct{ text, place string }
 
 // A Pending change is stored in the stream of its shard, and its answer will come.

@@ -151,7 +151,7 @@ func TestWhatTheBridgeAnswersIsTold(t *testing.T) {
 	if _, err := c.OnceMany([]string{"a\nb"}, time.Second); err != ErrReplies {
 		t.Errorf("a line feed: %v", err)
 	}
-	// What doesn't fit together with others is asked alone.
+	// lines that don't fit into one message together are asked alone
 	reply = "large"
 	batch := []*asking{{"a", time.Now().Add(time.Second), make(chan replied, 1)}, {"b", time.Now().Add(time.Second), make(chan replied, 1)}}
 	c.send(batch)

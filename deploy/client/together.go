@@ -132,7 +132,7 @@ func (c *Client) send(batch []*asking) {
 	}
 }
 
-// alone asks a line in a message of its own.
+// alone asks a line in a separate message.
 func (c *Client) alone(line string, wait time.Duration) (string, error) {
 	m, err := c.nc.Request(subjects.Ask(c.app), []byte(line), wait)
 	if err != nil {

@@ -141,7 +141,7 @@ func many(callers int, one attack) attack {
 	}
 }
 
-// send sends a request over a connection of its own, which is closed when the attack stops.
+// send sends a request over a separate connection, which is closed when the attack stops.
 func (s *site) send(stop <-chan struct{}, request string, reads bool) {
 	c, err := net.Dial("tcp", strings.TrimPrefix(s.url, "http://"))
 	if err != nil {

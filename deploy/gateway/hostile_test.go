@@ -260,7 +260,7 @@ func (s *site) connected(number int64) {
 	eventually(s.t, fmt.Sprintf("there are %d connections", number), func() bool { return s.Metrics.Connect(0) == number })
 }
 
-// TestRequestsAtOnce has slow bodies take all places of an application: others of it are 429, and bank's go on.
+// TestRequestsAtOnce has slow bodies take all places of an application: its other requests are 429, and bank's are answered.
 func TestRequestsAtOnce(t *testing.T) {
 	s := withBundle(t, "-each", "3", "-all", "4")
 	var slow []net.Conn
@@ -294,7 +294,7 @@ func TestRequestsAtOnce(t *testing.T) {
 	s.alive()
 }
 
-// TestSlowSenders has headers and bodies not come in time: each sender is told so.
+// TestSlowSenders sends headers and bodies too slowly: each sender gets an error.
 func TestSlowSenders(t *testing.T) {
 	s := withBundle(t, "-header-time", "2s", "-read-time", "4s", "-idle-time", "2s") // a whole header has this time too
 	var all sync.WaitGroup
@@ -331,7 +331,7 @@ func TestSlowSenders(t *testing.T) {
 	s.settled()
 }
 
-// TestARefusalDoesntWaitForTheBody sends the beginning of a body alone: who may not, or asks in vain, is told so at once.
+// TestARefusalDoesntWaitForTheBody sends only the beginning of a body: a request that is forbidden or fails is answered at once.
 func TestARefusalDoesntWaitForTheBody(t *testing.T) {
 	s := withBundle(t)
 	for bytes, want := range map[string]string{
@@ -357,7 +357,7 @@ func TestARefusalDoesntWaitForTheBody(t *testing.T) {
 	s.alive()
 }
 
-// TestConnectionsPastTheLimit opens more than may be: those are told 503, and the others go on.
+// TestConnectionsPastTheLimit opens connections past the limit: these get 503, and the others are served.
 func TestConnectionsPastTheLimit(t *testing.T) {
 	s := withBundle(t, "-connections", "20")
 	http.DefaultClient.CloseIdleConnections()
@@ -388,7 +388,7 @@ func TestConnectionsPastTheLimit(t *testing.T) {
 	s.alive()
 }
 
-// TestManyIdleConnections opens 10,000 connections to a gateway in a process of its own, and asks over a further one.
+// TestManyIdleConnections opens 10,000 connections to a gateway in a separate process, and asks over a further one.
 func TestManyIdleConnections(t *testing.T) {
 	g := launchGateway(t, t.TempDir(), "-header-time", "10m")
 	defer g.kill()

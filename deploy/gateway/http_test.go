@@ -57,7 +57,7 @@ type site struct {
 	before string // how often bundles were installed again, when the test began
 }
 
-// open begins a gateway over a server of its own, with settings like those of the command line.
+// open starts a gateway with its own server, with settings like those of the command line.
 func open(t *testing.T, options ...string) *site {
 	t.Helper()
 	arguments := append([]string{"-serve", "-init", "-program", server(), "-state", t.TempDir(), "-tokens", tokenFile(t)}, options...)
@@ -195,7 +195,7 @@ func (s *site) described(method, path string, status int) {
 	}
 }
 
-// raw sends bytes over a connection of their own, and gives all that comes back. Then no more is sent, which the gateway takes
+// raw sends bytes over a separate connection, and returns the whole response. Then no more is sent, which the gateway takes
 // for a caller that has gone: it may leave out a lookup that waits.
 func (s *site) raw(bytes string) string {
 	s.t.Helper()

@@ -18,7 +18,7 @@ import (
 	"time"
 )
 
-// A process is a gateway in a process of its own.
+// A process is a gateway in a separate process.
 type process struct {
 	t       *testing.T
 	command *exec.Cmd
@@ -141,15 +141,15 @@ func (p *process) put(app, locale, text string) (status int) {
 	return status
 }
 
-// A writer changes one locale of an application over and over, and knows what may stand.
+// A writer changes one locale of an application over and over, and knows the values that it may have.
 type writer struct {
 	app, locale string
-	told        int // the last value that was told to be done; 0 is no bundle
-	tried       int // a later one that was tried since, of which nothing was told
+	told        int // the last value that was acknowledged; 0 is no bundle
+	tried       int // a later one that was tried since, without an acknowledgement
 	changes     int
 }
 
-// step changes the bundle: the values go up, and every seventh change takes it out.
+// step changes the bundle: the values go up, and every seventh change removes it.
 func (w *writer) step(p *process, value int) {
 	w.changes++
 	token := map[string]string{"shop": shopWrites, "bank": bankWrites}[w.app]
@@ -171,7 +171,7 @@ func (w *writer) step(p *process, value int) {
 	}
 }
 
-// check compares what stands with what was told; a change of which nothing was told may be done or not.
+// check compares the bundle with the last acknowledged change; one that was not acknowledged may be done or not.
 func (w *writer) check(p *process) error {
 	token := map[string]string{"shop": shopWrites, "bank": bankWrites}[w.app]
 	var status int
@@ -192,8 +192,8 @@ func (w *writer) check(p *process) error {
 	return fmt.Errorf("%s, %s: %d %s, where %d was told and then %d tried", w.app, w.locale, status, strings.TrimSpace(body), w.told, w.tried)
 }
 
-// TestNothingToldIsLost kills the gateway, and its server, again and again under changes and lookups, with the file being
-// rewritten meanwhile; after each kill all that was told to be done is there.
+// TestNothingToldIsLost kills the gateway, and its server, again and again under changes and lookups, while the file is
+// rewritten; after each kill all acknowledged changes are there.
 func TestNothingToldIsLost(t *testing.T) {
 	folder := t.TempDir()
 	p := launchGateway(t, folder)

@@ -64,15 +64,15 @@ func (c *conn) Close() error {
 	return c.Conn.Close()
 }
 
-// A caller is a connection over which HTTP/1.1 is spoken, within TLS where that is.
+// A caller is a connection for HTTP/1.1, within TLS if that is on.
 type caller struct {
 	net.Conn
 	begun int32 // a part of a header has come
 	asked int32 // a whole header has come, and its response isn't done
-	late  int32 // the caller was told that it is too slow
+	late  int32 // the caller got the error that it is too slow
 }
 
-// Read takes bytes of the caller. Where they don't come in time, and a header is begun, the caller is told so.
+// Read reads bytes of the caller. If they don't come in time, and a header is begun, the caller gets an error.
 func (c *caller) Read(b []byte) (int, error) {
 	n, err := c.Conn.Read(b)
 	if n > 0 {
@@ -86,7 +86,7 @@ func (c *caller) Read(b []byte) (int, error) {
 	return n, err
 }
 
-// Write gives bytes to the caller, unless it was told that it is too slow: net/http takes what came of a line for the whole.
+// Write writes bytes to the caller, unless it got the error for being slow: net/http mistakes the part of a line for the whole.
 func (c *caller) Write(b []byte) (int, error) {
 	if atomic.LoadInt32(&c.late) == 1 {
 		return 0, os.ErrDeadlineExceeded
@@ -94,7 +94,7 @@ func (c *caller) Write(b []byte) (int, error) {
 	return c.Conn.Write(b)
 }
 
-// state is told by the server how a connection goes on.
+// state is called by the server when a connection changes its state.
 func state(of net.Conn, to http.ConnState) {
 	c, ok := of.(*caller)
 	if !ok {

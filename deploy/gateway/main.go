@@ -1,4 +1,4 @@
-// The gateway answers HTTP for applications, over one `resb serve` of its own or over the shards behind NATS. README.md says how
+// The gateway answers HTTP for applications, over its own `resb serve` or over the shards behind NATS. README.md says how
 // it is used and what it promises.
 package main
 
@@ -213,7 +213,7 @@ func (g *gateway) listenOn(outer net.Listener, p *pair) error {
 	return nil
 }
 
-// openInside answers the metrics, and whether the gateway is ready, at an address of their own.
+// openInside answers the metrics, and whether the gateway is ready, at a separate address.
 func (g *gateway) openInside(l net.Listener) *http.Server {
 	server := g.server(g.Handler.Inside())
 	go func() { _ = server.Serve(l) }()

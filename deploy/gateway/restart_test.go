@@ -109,8 +109,8 @@ func TestCompiledFiles(t *testing.T) {
 	}
 }
 
-// TestABundleWithoutMemory is left out at a start; the others are there, and it is again where there is memory, unless it was
-// removed. Only the stand-in lacks memory when it is told to.
+// TestABundleWithoutMemory leaves out a bundle at a start for lack of memory; the others are there, and it is again once there is
+// memory, unless it was removed. Only the stand-in can be made to lack memory.
 func TestABundleWithoutMemory(t *testing.T) {
 	if os.Getenv("RESB") != "" {
 		t.Skip("the real server has the memory")
@@ -168,7 +168,7 @@ func TestABundleWithoutMemory(t *testing.T) {
 	})
 }
 
-// TestAChangeWithoutMemory is 503, and serving goes on.
+// TestAChangeWithoutMemory is 503, and the server keeps running.
 func TestAChangeWithoutMemory(t *testing.T) {
 	if os.Getenv("RESB") != "" {
 		t.Skip("the real server has the memory")

@@ -20,7 +20,7 @@ type secure struct {
 	closing       sync.Once
 }
 
-// needsTLS is told to a caller who speaks HTTP without TLS.
+// needsTLS is the response to a caller who speaks HTTP without TLS.
 const needsTLS = "HTTP/1.0 400 Bad Request\r\nContent-Type: application/json\r\nConnection: close\r\n\r\n{\"error\":\"NeedsTLS\"}\n"
 
 func newSecure(over net.Listener, configuration *tls.Config, patience time.Duration) *secure {

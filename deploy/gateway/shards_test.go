@@ -47,7 +47,7 @@ func TestOneSessionOverNATS(t *testing.T) {
 	s.session()
 }
 
-// TestBadInputOverNATS sends what the tests over a server of its own send: the statuses are the same, and no `resb serve` ends.
+// TestBadInputOverNATS sends the same requests as the tests without NATS: the statuses are the same, and no `resb serve` ends.
 func TestBadInputOverNATS(t *testing.T) {
 	s := openShards(t)
 	s.clear()
@@ -59,7 +59,7 @@ func TestBadInputOverNATS(t *testing.T) {
 	s.alive()
 }
 
-// TestTwoGateways change and ask by two at once: what one has told is found by the other.
+// TestTwoGateways changes and asks through two gateways at once: each finds the changes that the other has acknowledged.
 func TestTwoGateways(t *testing.T) {
 	one, two := openShards(t), openShards(t)
 	one.clear()
@@ -137,8 +137,8 @@ func TestMetricsOverNATS(t *testing.T) {
 	}
 }
 
-// TestShardsAreKilled kills each `resb serve` under changes and lookups: a request is 503 or as it would be, and what was told to
-// be done is there afterwards.
+// TestShardsAreKilled kills each `resb serve` under changes and lookups: a request is 503 or answered as usual, and acknowledged
+// changes are there afterwards.
 func TestShardsAreKilled(t *testing.T) {
 	s := openShards(t)
 	s.clear()

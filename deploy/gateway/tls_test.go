@@ -92,8 +92,8 @@ func TestTLS(t *testing.T) {
 	}
 }
 
-// slowOverTLS begins a handshake, and headers after one, and doesn't go on: each connection is ended, and who began a header is
-// told why.
+// slowOverTLS begins a handshake, and headers after one, and stops: each connection is ended, with an error if a header was
+// begun.
 func slowOverTLS(t *testing.T, address string) {
 	t.Helper()
 	var all sync.WaitGroup

@@ -19,17 +19,17 @@ import (
 	"luvdregan.example/resb/deploy/internal/subjects"
 )
 
-// asked is how long the bridges are waited for.
+// asked is the time for which the watcher waits for the bridges.
 const asked = time.Second
 
-// A watcher asks the bridges how their shards do, as a user of its own.
+// A watcher asks the bridges for the status of their shards, as a separate NATS user.
 type watcher struct {
 	url, passwords, name string
 
 	mu   sync.Mutex
 	nc   *nats.Conn
-	most int    // how many shards there are, as far as it was told
-	said string // why nothing was seen the last time
+	most int    // the largest number of shards that a status gave
+	said string // the last error
 }
 
 // connection gives the watcher's connection, which is made where there is none or the last one was lost.

@@ -1,4 +1,5 @@
-# What the commands of deploy/ have in common. Sourced with `here` set to that folder. A name that a function here sets is set in the script.
+# The functions that the commands of deploy/ share. Sourced with `here` set to that folder. A name that a function here sets is set in
+# the script.
 # shellcheck shell=sh disable=SC2034
 
 top=$(CDPATH='' cd -- "$here/.." && pwd)
@@ -87,8 +88,8 @@ build() {
     done
 }
 
-# prints the limits of a `resb serve` that may take so many bytes of memory, for so many applications: limits_of BYTES APPS.
-# OPERATIONS.md has the formula.
+# limits_of BYTES APPS: prints the limits of a `resb serve` with this much memory and this many applications. OPERATIONS.md has the
+# formula.
 limits_of() {
     awk -v memory="$1" -v apps="$2" '
         function part(of, most) { of = int(memory / of); return of < 1 ? 1 : of > most ? most : of }

@@ -1,4 +1,4 @@
-# What start, add and drop say to nats-server: its users and its files. Sourced after lib/common.sh.
+# The functions with which start, add and drop configure nats-server: its users and its files. Sourced after lib/common.sh.
 # shellcheck shell=sh disable=SC2154
 
 # the token of an application's name: internal/subjects has the same rule

@@ -76,7 +76,7 @@ func (a *answers) to(n uint64) (string, bool) {
 	return a.given[n-a.base-1].text, true
 }
 
-// told gives the answer to an application's change n, or to its last one where n is 0; else the text is an error.
+// told returns the answer to an application's change n, or to its last one if n is 0. The text is an error if there is none.
 func (a *answers) told(token string, n uint64) ending {
 	a.mu.Lock()
 	defer a.mu.Unlock()

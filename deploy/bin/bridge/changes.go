@@ -80,8 +80,8 @@ func fetch(ctx context.Context, nc *nats.Conn, js nats.JetStreamContext, from *p
 	return ctx.Err()
 }
 
-// hand hands a batch over, which must go on at the next message, and counts what the consumer delivered. It tells how many to
-// fetch next: as many as there are, since a fetch of more would wait for them.
+// hand passes each message of a batch, which must continue at the next message, to a function, and counts the deliveries. It
+// returns how many messages to fetch next: as many as there are, since a fetch of more would wait for them.
 func hand(batch []*nats.Msg, from *part, delivered *uint64, each func(n uint64, m *nats.Msg) error) (there int, err error) {
 	there = 1
 	for _, message := range batch {

@@ -9,9 +9,9 @@ import (
 	"unsafe"
 )
 
-// A direct file is read and written by system calls that Go's scheduler isn't told of, as they never block: one that would is made
-// again when the file is ready. The first call that the scheduler is told of after all of a process slept wakes a thread that
-// watches calls, which costs more than the call; a lookup by itself has two such calls.
+// A direct file is read and written by system calls that bypass Go's scheduler, as they never block: one that would is repeated
+// when the file is ready. The first call through the scheduler after a process slept wakes a thread that watches calls, which
+// costs more than the call; a lookup by itself has two such calls.
 type direct struct {
 	file syscall.RawConn
 }

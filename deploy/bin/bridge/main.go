@@ -19,7 +19,7 @@ import (
 const streamTime = 2 * time.Second
 
 func main() {
-	runtime.GOMAXPROCS(1) // one thread: what has come is handed on together, and no thread is woken for a line
+	runtime.GOMAXPROCS(1) // one thread: lines that have come are passed on together, and no thread is woken for one line
 	log.SetFlags(log.LstdFlags | log.Lmicroseconds)
 	s := read()
 	log.SetPrefix(fmt.Sprintf("shard %d: ", s.shard))
@@ -29,7 +29,7 @@ func main() {
 	}
 }
 
-// start makes the streams, or serves until it is told to end.
+// start makes the streams, or serves until a signal ends it.
 func start(s settings) error {
 	nc, err := connect(s)
 	if err != nil {

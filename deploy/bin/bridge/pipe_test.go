@@ -76,7 +76,7 @@ func TestEachWaiterIsCalledOnceWhenTheProgramEnds(t *testing.T) {
 	}
 }
 
-// A stepper is a program that answers one line whenever it is told to, and tells which lines it was given.
+// A stepper is a program that answers one line for each step of the test, and reports the lines that it was sent.
 type stepper struct {
 	*pipe
 	lines chan string

@@ -16,7 +16,7 @@ import (
 	"luvdregan.example/resb/deploy/internal/subjects"
 )
 
-// A record has what is told of the shard: the life that goes on, and what earlier ones left.
+// A record is the shard's part of a status: the current life, and the counts of earlier ones.
 type record struct {
 	mu          sync.Mutex
 	now         *life // or nil

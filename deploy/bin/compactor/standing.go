@@ -13,7 +13,8 @@ type place struct {
 	n      uint64
 }
 
-// A bundle is one that stands: when it was installed, and the change or the older bundle that brought what it is now.
+// A bundle is one that is installed: its rank by the time of installing, and the place of the change or the older bundle with its
+// current text.
 type bundle struct {
 	rank uint64
 	from place

@@ -1,5 +1,5 @@
-// The example installs a bundle, looks an item of it up and prints the reply: example URL APP PASSWORD. ../../test builds it in
-// a module of its own, outside this one.
+// The example installs a bundle, looks up an item of it and prints the reply: example URL APP PASSWORD. ../../test builds it in
+// a separate module, outside this one.
 package main
 
 import (

@@ -10,7 +10,7 @@ import (
 	"time"
 )
 
-// A body must come at a least rate: so many bytes in each interval, or be whole.
+// A body must come at a least rate: leastBytes in each leastInterval, unless it is whole.
 const (
 	leastBytes    = 256 << 10
 	leastInterval = 10 * time.Second

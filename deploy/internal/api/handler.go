@@ -296,7 +296,7 @@ func (c *call) refuse(p problem) {
 	h := c.w.Header()
 	h.Set("Cache-Control", "no-store")
 	if c.r.ContentLength != 0 && !c.whole {
-		h.Set("Connection", "close") // so that the caller is told at once, and not after the rest of its body
+		h.Set("Connection", "close") // so that the caller gets the error at once, and not after the rest of its body
 	}
 	if p.status == http.StatusServiceUnavailable || p.status == http.StatusTooManyRequests {
 		h.Set("Retry-After", "1")

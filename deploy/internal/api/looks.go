@@ -10,7 +10,7 @@ import (
 	"luvdregan.example/resb/deploy/internal/child"
 )
 
-// Of the lookups of one request some are asked together, and more are asked while fewer than `ahead` are on their way.
+// The lookups of one request are asked in groups of `together`, as long as fewer than `ahead` are on their way.
 const (
 	together = 64
 	ahead    = 128

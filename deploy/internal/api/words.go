@@ -38,13 +38,13 @@ var (
 	noRoom       = problem{http.StatusInsufficientStorage, "NoRoom"}
 )
 
-// What a backend over NATS answers in the place of a reply.
+// The errors of a backend over NATS in place of a reply.
 var (
 	ErrTooLarge  = errors.New("too long for the way to the server")
 	ErrUnreached = errors.New("NATS is not reached, or doesn't know the application")
 )
 
-// problems say what each error is to a caller.
+// problems maps each error to the problem that a caller gets.
 var problems = []struct {
 	err error
 	problem

@@ -168,8 +168,8 @@ func (t *Tokens) Find(token string) (h Holder, ok bool) {
 	return h, subtle.ConstantTimeCompare(h.digest[:], d[:]) == 1 && there
 }
 
-// isApp tells whether a text is the name of an application: 1 to 64 ASCII letters, digits, `_`, `-` and `.`. A name of full
-// stops alone can't stand in an address.
+// isApp returns true if a text is the name of an application: 1 to 64 ASCII letters, digits, `_`, `-` and `.`. A name of full
+// stops alone can't be used in an address.
 func isApp(name string) bool {
 	const others = "_-."
 	for _, b := range []byte(name) {

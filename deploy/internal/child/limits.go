@@ -8,8 +8,8 @@ const (
 	MostFile = 64 << 20
 )
 
-// Limits returns arguments of `resb serve` for a server that may take so much memory, for so many applications
-// (docs/SERVER.md has what the memory is needed for).
+// Limits returns arguments of `resb serve` for a server with this much memory and this many applications
+// (docs/SERVER.md says what the memory is needed for).
 func Limits(memory int64, apps int, reply int64) []string {
 	least := func(of ...int64) int64 {
 		m := of[0]

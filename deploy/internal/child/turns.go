@@ -15,7 +15,7 @@ var (
 	ErrTimeout   = errors.New("no reply in time")
 )
 
-// How applications share a child.
+// The rules by which applications share a child.
 const (
 	quantum     = time.Millisecond      // of the child's time in one turn
 	mostLines   = 32                    // in one turn, as each may have a long reply
@@ -273,7 +273,7 @@ func (t *Turns) admit(c *Call, bytes int64) bool {
 	return true
 }
 
-// mayHave returns true if the application may have so many more bytes of replies.
+// mayHave returns true if the application may have this many more bytes of replies.
 func (t *Turns) mayHave(q *queue, bytes int64) bool {
 	has := q.bytes + bytes
 	return has <= t.sure || has <= t.most && t.bytes+bytes <= t.all

@@ -110,7 +110,7 @@ func TestOneOfManyLinesGoesBefore(t *testing.T) {
 	}
 }
 
-// TestRepliesThatAreNotFreed stop the turns of their application, and not those of others; once they are freed the turns go on.
+// TestRepliesThatAreNotFreed stop the turns of their application, and not those of others; once they are freed the turns continue.
 func TestRepliesThatAreNotFreed(t *testing.T) {
 	turns, _ := begin(t)
 	turns.mu.Lock()

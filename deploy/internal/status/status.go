@@ -8,7 +8,7 @@ import (
 	"strconv"
 )
 
-// A Status is how a shard does. What is counted is counted since its bridge began.
+// A Status is the state of a shard. Its counts begin with its bridge.
 type Status struct {
 	Shard        int      `json:"shard"`
 	Shards       int      `json:"shards"`        // how many there are
@@ -16,11 +16,11 @@ type Status struct {
 	Lines        uint64   `json:"lines"`         // that `resb serve` answered
 	Replays      uint64   `json:"replays"`       // that were done
 	Differences  uint64   `json:"differences"`   // changes that a replay answered otherwise than they were answered first
-	Left         uint64   `json:"left"`          // lines of the replay that goes on
+	Left         uint64   `json:"left"`          // remaining lines of the current replay
 	Waiting      int      `json:"waiting"`       // lines that have no reply yet
 	Memory       int64    `json:"memory"`        // bytes that `resb serve` has in use
 	BridgeMemory int64    `json:"bridge_memory"` // bytes that the bridge has in use
-	Streams      []Stream `json:"streams"`       // those whose length nats-server told in time
+	Streams      []Stream `json:"streams"`       // those whose length nats-server reported in time
 }
 
 // A Stream is the length of one of the shard's streams.

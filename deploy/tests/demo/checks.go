@@ -149,7 +149,7 @@ func plants(t *tally, nc *nats.Conn, our string, theirs *application) {
 }
 
 // guesses stores changes under names that the other application then uses: its changes are stored and answered all the same, and
-// nothing but these answers reaches it.
+// only these answers reach it.
 func guesses(t *tally, nc *nats.Conn, ours, theirs *application) {
 	other, _, err := theirs.cluster.raw(theirs.name)
 	if err != nil {
@@ -235,8 +235,8 @@ func repeats(t *tally, nc *nats.Conn, ours *application) {
 	}
 }
 
-// turns has one application of a shard ask a dear lookup without pause, 64 at once, and checks that another's lookups there wait
-// for a few of them and not for all.
+// turns has one application of a shard ask an expensive lookup without pause, 64 at once, and checks that another's lookups there
+// wait for a few of them and not for all.
 func (c *cluster) turns(t *tally, theirs *application) error {
 	const greedy, atOnce = "greedy", 64
 	if err := c.run("add", greedy); err != nil {
@@ -395,7 +395,7 @@ func (c *cluster) once(t *tally) error {
 	return nil
 }
 
-// full checks that a full stream refuses a change and says so, and that lookups go on.
+// full checks that a full stream refuses a change and says so, and that lookups are still answered.
 func full(t *tally, scripts, state, program string) error {
 	port, err := freePort()
 	if err != nil {

@@ -84,7 +84,7 @@ func (c *cluster) killBridges(shard int) {
 	}
 }
 
-// compact shortens the streams, but for the changes of the last moments; after the given time, where it isn't 0, the compactor
+// compact shortens the streams, except for the changes of the last moments; after the given time, if it isn't 0, the compactor
 // is killed.
 func (c *cluster) compact(t *tally, kill time.Duration) {
 	command := exec.Command(filepath.Join(c.scripts, "compact"))

@@ -16,7 +16,7 @@ import (
 	"luvdregan.example/resb/deploy/internal/subjects"
 )
 
-// A cluster is nats-server with shards, as deploy/start starts them, in a folder of its own.
+// A cluster is nats-server with shards, as deploy/start starts them, in a separate folder.
 type cluster struct {
 	scripts string
 	state   string

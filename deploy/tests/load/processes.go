@@ -8,10 +8,10 @@ import (
 	"time"
 )
 
-// tick is the unit in which Linux tells processor times.
+// tick is the unit in which Linux reports processor times.
 const tick = 10 * time.Millisecond
 
-// A process is one whose processor time is told.
+// A process is one whose processor time is measured.
 type process struct {
 	name string
 	id   int
