@@ -90,7 +90,7 @@ func over(nc *nats.Conn, app string) (*Client, error) {
 // Close ends the connection.
 func (c *Client) Close() { c.nc.Close() }
 
-// Connected tells whether NATS is reached now.
+// Connected reports whether NATS is reached now.
 func (c *Client) Connected() bool { return c.nc.IsConnected() }
 
 // take gets the answer to a change of this client, or of another one of the same application.
@@ -105,7 +105,7 @@ func (c *Client) take(m *nats.Msg) {
 	}
 }
 
-// name gives a name of a change that nobody guesses.
+// name returns a name for a change that nobody can guess.
 func name() string {
 	var bytes [16]byte
 	if _, err := rand.Read(bytes[:]); err != nil {
@@ -156,10 +156,10 @@ func (p *Pending) publish() error {
 	}
 }
 
-// Shard gives the stream that has the change.
+// Shard returns the stream that has the change.
 func (p *Pending) Shard() string { return p.stream }
 
-// Wait gives the answer to a change. The shard is asked for one that doesn't come, as it may have come while the connection was
+// Wait returns the answer to a change. The shard is asked for one that doesn't come, as it may have come while the connection was
 // lost.
 func (p *Pending) Wait() (string, error) {
 	defer p.forget()
@@ -188,7 +188,7 @@ func (p *Pending) stored() (told, error) {
 	return told{string(m.Data), m.Header.Get(subjects.AnswerTo)}, nil
 }
 
-// Ask gives the reply to a lookup or a list, which is asked again where no shard replied; it tells how often it was.
+// Ask returns the reply to a lookup or a list, which is asked again if no shard replied, and how often it was asked again.
 func (c *Client) Ask(line string) (reply string, again int, err error) {
 	for end := time.Now().Add(Patience); time.Now().Before(end); again++ {
 		if reply, err := c.Once(line, time.Second); err == nil {

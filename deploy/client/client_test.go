@@ -16,7 +16,7 @@ import (
 	"luvdregan.example/resb/deploy/internal/subjects"
 )
 
-// serve gives a client, and a connection of who answers it.
+// serve returns a client, and the connection that answers it.
 func serve(t *testing.T) (*Client, *nats.Conn) {
 	listener, err := net.Listen("tcp", "127.0.0.1:0")
 	if err != nil {

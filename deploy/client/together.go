@@ -65,7 +65,7 @@ func (c *Client) join(a *asking) replied {
 	}
 }
 
-// lead tells whether nothing of the application is on its way; else the line waits.
+// lead reports whether nothing of the application is on its way; otherwise the line waits.
 func (t *together) lead(line string, wait time.Duration) (a *asking, alone bool) {
 	t.mu.Lock()
 	defer t.mu.Unlock()

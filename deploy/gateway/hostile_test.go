@@ -21,7 +21,7 @@ func begins(method, path, rest string) string {
 	return method + " " + path + " HTTP/1.1\r\nHost: x\r\nAuthorization: Bearer " + shopWrites + "\r\n" + rest
 }
 
-// statusLine gives the first status of some responses.
+// statusLine returns the first status of some responses.
 func statusOfText(text string) string {
 	words := strings.Fields(text)
 	if len(words) < 2 {
@@ -57,7 +57,7 @@ func (s *site) replays() string {
 	return strings.Join(all, "")
 }
 
-// withBundle gives a gateway where `shop` has one bundle.
+// withBundle returns a gateway where `shop` has one bundle.
 func withBundle(t *testing.T, options ...string) *site {
 	s := open(t, options...)
 	s.fill()

@@ -113,7 +113,7 @@ func (p *process) kill() {
 	_ = p.command.Wait()
 }
 
-// send gives the status and the body of a response; the status is 0 where none came.
+// send returns the status and the body of a response; the status is 0 if none came.
 func (p *process) send(method, path, token, body string) (status int, text string) {
 	r, err := http.NewRequest(method, "http://"+p.address+path, strings.NewReader(body))
 	if err != nil {
@@ -249,7 +249,7 @@ func TestNothingToldIsLost(t *testing.T) {
 	t.Logf("%d changes, %d kills, %d times rewritten", changes, rounds, strings.Count(p.log.String(), "rewritten"))
 }
 
-// now gives the value that stands.
+// now returns the current value.
 func now(p *process, w *writer) (value int) {
 	token := map[string]string{"shop": shopWrites, "bank": bankWrites}[w.app]
 	_, body := p.send("GET", "/v1/"+w.app+"/"+w.locale+"/v", token, "")

@@ -27,7 +27,7 @@ const (
 		"{\"error\":\"Slow\"}\n"
 )
 
-// Accept gives the next connection that is within the limit.
+// Accept returns the next connection that is within the limit.
 func (l *listener) Accept() (net.Conn, error) {
 	for {
 		c, err := l.Listener.Accept()

@@ -168,7 +168,7 @@ func (g *gateway) refresh(ctx context.Context, p *pair) {
 	}
 }
 
-// server gives a server with the limits of the settings.
+// server returns a server with the limits of the settings.
 func (g *gateway) server(handler http.Handler) *http.Server {
 	return &http.Server{
 		Handler: handler, ReadHeaderTimeout: g.headerTime, ReadTimeout: g.options.ReadTime, WriteTimeout: g.writeTime,

@@ -46,7 +46,7 @@ func TestListsAndRepliesStay(t *testing.T) {
 	}
 }
 
-// seen gives what is listed and found.
+// seen returns the names that are listed and the items that are found.
 func (s *site) seen(names []string) string {
 	s.t.Helper()
 	text := s.ask("GET", "/v1/shop", shopReads, "").body

@@ -68,7 +68,7 @@ func (s *secure) agree(c net.Conn) {
 	}
 }
 
-// isHTTP tells whether an agreement failed since the caller began with a request.
+// isHTTP reports whether an agreement failed because the caller began with a request.
 func isHTTP(err error) bool {
 	var wrong tls.RecordHeaderError
 	if !errors.As(err, &wrong) || wrong.Conn == nil {
@@ -81,7 +81,7 @@ func isHTTP(err error) bool {
 	return false
 }
 
-// Accept gives the next connection.
+// Accept returns the next connection.
 func (s *secure) Accept() (net.Conn, error) {
 	select {
 	case c := <-s.agreed:

@@ -32,7 +32,7 @@ type watcher struct {
 	said string // the last error
 }
 
-// connection gives the watcher's connection, which is made where there is none or the last one was lost.
+// connection returns the watcher's connection, which is made if there is none or the last one was lost.
 func (w *watcher) connection() (*nats.Conn, error) {
 	w.mu.Lock()
 	defer w.mu.Unlock()
@@ -51,7 +51,7 @@ func (w *watcher) connection() (*nats.Conn, error) {
 	return nc, err
 }
 
-// reaches tells whether the watcher has a password, and whether it reaches NATS.
+// reaches returns whether the watcher has a password, and whether it reaches NATS.
 func (w *watcher) reaches() (has, reaches bool) {
 	if _, err := passwords.Find(w.passwords, w.name); err != nil {
 		return false, false
@@ -68,7 +68,8 @@ func (w *watcher) close() {
 	}
 }
 
-// see gives how each shard does, nothing of one that no bridge tells in time. Where nothing can be asked the reason is logged once.
+// see returns the status of each shard, or nil for one that no bridge reports in time. If it can ask nothing it logs the reason
+// once.
 func (w *watcher) see() []*status.Status {
 	told, err := w.ask()
 	w.mu.Lock()
@@ -91,7 +92,7 @@ func (w *watcher) see() []*status.Status {
 	return shards
 }
 
-// ask asks all bridges, and gives what they tell; nothing where the watcher has no name.
+// ask asks all bridges, and returns their answers, or nothing if the watcher has no name.
 func (w *watcher) ask() (told []*status.Status, err error) {
 	if w.name == "" {
 		return nil, nil
@@ -131,7 +132,7 @@ func max(of ...int) (most int) {
 	return most
 }
 
-// A measure is what is written of a status.
+// A measure is a metric that is written from a status.
 type measure struct {
 	name, help, kind string
 	of               func(s *status.Status) float64
@@ -147,7 +148,8 @@ var measures = []measure{
 	{"resb_shard_bridge_memory_bytes", "Memory of the shard's bridge.", "gauge", func(s *status.Status) float64 { return float64(s.BridgeMemory) }},
 }
 
-// writeShards writes how the shards do in Prometheus' text form. Of a shard that no bridge tells only that it doesn't serve is known.
+// writeShards writes the status of the shards in Prometheus' text form. A shard that no bridge reports has only the metric that it
+// doesn't serve.
 func writeShards(to io.Writer, shards []*status.Status) {
 	seen := 0
 	prom.Head(to, "resb_shard_serves", "Whether the shard answers: 1 or 0.", "gauge")

@@ -1,4 +1,4 @@
-//! Why a command doesn't start.
+//! The errors with which a command doesn't start.
 ghost use Rattle.std.specs.Prelude.{◌≡◌};
 ghost use Rattle.std.specs.Process.{exit_status};
 ghost use Rattle.rb_commands.specs.Status.{start_status};
@@ -6,7 +6,7 @@ ghost use Rattle.rb_commands.specs.Status.{start_status};
 use crate::console::Console;
 use std::process::ExitCode;
 
-/// Why serving, or a lookup, doesn't start.
+/// The reason why serving, or a lookup, doesn't start.
 #[derive(Clone, Copy, Debug)]
 pub enum StartError<'a> {
     /// An argument that names no bundle.
@@ -21,8 +21,8 @@ pub enum StartError<'a> {
     Memory,
 }
 
-/// Says why a command doesn't start, on a line of standard error. The status is 1 if a file is
-/// refused or memory runs out, and else 2.
+/// Reports why a command doesn't start, on a line of standard error. The status is 1 if a file is
+/// refused or memory runs out, otherwise 2.
 pub fn not_started_on<R: Eprint>(rt: &R, console: Console, error: StartError<'_>) -> ExitCode
     ensures status { exit_status result ≡ start_status error.entry }
 {

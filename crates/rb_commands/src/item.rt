@@ -1,4 +1,4 @@
-//! One item of a file, as JSON.
+//! `resb get`: prints one item of a file as JSON.
 ghost use Rattle.std.specs.Prelude.{◌≡◌, ◌⊎◌, Ok, Err, IfOk, IfErr, string_bytes};
 ghost use Rattle.serde_json.specs.Data.{Data};
 ghost use Rattle.serde_json.specs.Written.{compact_text};
@@ -13,7 +13,7 @@ use rb_json::item_text;
 use rb_tree::{Ending, Node, path_ok, walk};
 use std::alloc::Global;
 
-/// Why there is no item to print.
+/// The reason why there is no item to print.
 #[derive(Clone, Copy, Debug, PartialEq, Eq)]
 pub enum ItemError {
     /// The path has an empty segment, or a byte that is no plain ASCII character.
@@ -26,7 +26,7 @@ pub enum ItemError {
     Memory,
 }
 
-/// The text of an item, with the rest of a path behind it.
+/// Returns the text of an item, with the remaining path.
 fn text_of<N: Node>(alloc: Global, node: N, rest: &[u8]) -> Result<String, ItemError>
     requires { IsPath rest.now }
     ensures text { IfOk result
@@ -39,7 +39,7 @@ fn text_of<N: Node>(alloc: Global, node: N, rest: &[u8]) -> Result<String, ItemE
     }
 }
 
-/// The item to which a path leads.
+/// Returns the text of the item to which a path leads.
 fn shown_text<N: Node>(alloc: Global, root: N, path: &[u8]) -> Result<String, ItemError>
     requires { IsPath path.now }
     ensures text { IfOk result (λ text. (d : Data) × (shown
@@ -54,8 +54,8 @@ fn shown_text<N: Node>(alloc: Global, root: N, path: &[u8]) -> Result<String, It
     }
 }
 
-/// The item at a path within one tree as JSON, without fallback. An alias on the way is not
-/// followed: it is the item, with the rest of the path. Errors: `BadPath`, then `PathTooLong`, then
+/// Returns the item at a path within one tree as JSON, without fallback. An alias on the way is not
+/// followed: it is the item, with the remaining path. Errors: `BadPath`, then `PathTooLong`, then
 /// `Missing` if the path leads nowhere; `Memory` if memory runs out.
 ///
 /// ```rust

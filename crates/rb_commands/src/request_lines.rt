@@ -14,7 +14,7 @@ use std::io::{BufWriter, Write};
 use std::process::ExitCode;
 use std::rt::Files;
 
-/// The member `op` of a line that asks for a change.
+/// Returns the member `op` of a line that asks for a change.
 fn op_of(change: Change) -> &'static str {
     match change {
         Change::Install => "install",
@@ -22,8 +22,8 @@ fn op_of(change: Change) -> &'static str {
     }
 }
 
-/// Refuses a text that can't be in a line, as its bytes aren't UTF-8, or that no server takes, as
-/// it is too long; and such a file.
+/// Refuses a text that isn't UTF-8, which a line can't have, and a text or a file that is too long
+/// for any server.
 fn refuse_content<R: AllocGlobal + Eprint>(
     rt: &R,
     console: Console,
@@ -46,7 +46,7 @@ fn refuse_content<R: AllocGlobal + Eprint>(
     }
 }
 
-/// The contents of the files.
+/// Reads the files.
 fn contents<R: Files + AllocGlobal + Eprint>(
     rt: &R,
     console: Console,
@@ -78,7 +78,7 @@ fn put_content(
     }
 }
 
-/// The line that puts a bundle in place.
+/// Makes the line that installs or replaces a bundle.
 fn line_of(
     alloc: Global,
     change: Change,
@@ -118,9 +118,9 @@ fn write_lines<R: AllocGlobal + Print>(
     out.flush()
 }
 
-/// Prints a request line for each file, which installs its bundle for `app`, or puts it in the
-/// place of another: by its text if the file's name ends in `.txt`, and else as a file. An argument
-/// is `LOCALE=FILE`, or `FILE`, whose stem is the locale.
+/// Prints a request line for each file, which installs its bundle for `app`, or replaces one: by
+/// its text if the file's name ends in `.txt`, otherwise as a file. An argument is `LOCALE=FILE`,
+/// or `FILE`, whose stem is the locale.
 ///
 /// All files are read before anything is printed. The status is 0; 1 if `app` is no application's
 /// name, a text isn't UTF-8, a text or a file is too long, or out of memory, with the error's name;

@@ -9,7 +9,7 @@ use std::alloc::Global;
 use std::process::ExitCode;
 use std::rt::Files;
 
-/// The name of a bundle if none is given: that of its file, without the folders, up to the first
+/// Returns a bundle's name if none is given: that of its file, without the folders, up to the first
 /// full stop.
 pub fn name_of(file: &str) -> &str {
     let last = match file.rsplit_once('/') {
@@ -22,13 +22,13 @@ pub fn name_of(file: &str) -> &str {
     }
 }
 
-/// The text of a bundle with a name.
+/// Returns the text of a bundle with a name.
 fn bundle_text(alloc: Global, name: &str, bundle: &Bundle) -> Result<Vec<u8>, PrintError> {
     let units: Vec<u16> = name.encode_utf16().collect(alloc)?;
     print_bundle(alloc, &UnitList::from_vec(units), bundle)
 }
 
-/// Prints the file `file` as a bundle text, whose name is `name`, and if none is given that of the
+/// Prints the file `file` as a bundle text, whose name is `name`, or if none is given that of the
 /// file up to its first full stop. The status is 0; 1 if the file is refused or its text would be
 /// too large, with the error's name on standard error, and then nothing is printed; 2 if the file
 /// can't be read or standard output can't be written.

@@ -17,14 +17,14 @@ use std::io;
 use std::process::ExitCode;
 use std::rt::Files;
 
-/// Why there is no value to print.
+/// The reason why there is no value to print.
 #[derive(Clone, Copy, Debug, PartialEq, Eq)]
 pub enum ValueError {
     /// The path has an empty segment, or a byte that is no plain ASCII character.
     BadPath,
     /// The path has more bytes than a path may have.
     PathTooLong,
-    /// The path leads nowhere, or on from an alias.
+    /// The path leads nowhere, or through an alias.
     Missing,
     /// The item has more levels or more weight than a bundle's tree may have.
     TooLarge,
@@ -32,7 +32,7 @@ pub enum ValueError {
     Memory,
 }
 
-/// The item to which a path leads; none if it leads nowhere, or on from an alias.
+/// Returns the item to which a path leads, or `None` if it leads nowhere or through an alias.
 #[tactic(auto, using(crate::proofs::Shown::reached_end, crate::proofs::Shown::reached_link, crate::proofs::Shown::led_on, crate::proofs::Shown::reached_gone))]
 fn item_at<N: Node>(root: N, path: &[u8]) -> Option<N>
     requires { IsPath path.now }
@@ -51,7 +51,7 @@ fn item_at<N: Node>(root: N, path: &[u8]) -> Option<N>
     }
 }
 
-/// The text of the item to which a path leads.
+/// Returns the text of the item to which a path leads.
 #[tactic(auto, using(crate::proofs::Shown::text_ok, crate::proofs::Shown::text_large, crate::proofs::Shown::text_none))]
 fn whole_text<N: Node>(
     alloc: Global,
@@ -75,8 +75,8 @@ fn whole_text<N: Node>(
     }
 }
 
-/// The whole item at a path within one tree as one JSON value, without fallback. An alias that the
-/// path leads to is printed, and none is followed: the path must not lead on from one. Errors:
+/// Returns the whole item at a path within one tree as one JSON value, without fallback. An alias
+/// at the path's end is printed, and none is followed: the path must not lead through one. Errors:
 /// `BadPath`, then `PathTooLong`, then `Missing` if the path leads nowhere, then `TooLarge` if the
 /// item has more than 64 levels or a weight above 33,554,432; `Memory` if memory runs out.
 ///

@@ -1,4 +1,4 @@
-//! The words of the errors of one item.
+//! The codes of the errors of one item.
 ghost use Rattle.std.specs.Prelude.{◌≡◌};
 ghost use Rattle.rb_commands.specs.Words.{item_word, value_word};
 
@@ -7,7 +7,7 @@ use crate::value::ValueError;
 use rb_tree::variant_name;
 
 impl ValueError {
-    /// The variant's name.
+    /// Returns the code, which is the variant's name.
     pub fn word(self) -> &'static str
         ensures { result.now ≡ value_word self }
     {
@@ -16,7 +16,7 @@ impl ValueError {
 }
 
 impl ItemError {
-    /// The variant's name.
+    /// Returns the code, which is the variant's name.
     pub fn word(self) -> &'static str
         ensures { result.now ≡ item_word self }
     {

@@ -66,7 +66,7 @@ func (a *answers) trim(base uint64) {
 // through is the last change that is answered.
 func (a *answers) through() uint64 { return a.base + uint64(len(a.given)) }
 
-// to gives the answer that change n was given, if any is known.
+// to returns the answer to change n, if it is known.
 func (a *answers) to(n uint64) (string, bool) {
 	a.mu.Lock()
 	defer a.mu.Unlock()
@@ -197,7 +197,7 @@ func (a *answers) give(n uint64, token, id, text string) error {
 	}
 }
 
-// isBehind tells that the stream has a message which wasn't expected.
+// isBehind reports whether the stream has a message which wasn't expected.
 func isBehind(err error) bool {
 	var refused *nats.APIError
 	return errors.As(err, &refused) && refused.ErrorCode == 10071

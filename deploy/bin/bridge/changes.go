@@ -108,7 +108,7 @@ func hand(batch []*nats.Msg, from *part, delivered *uint64, each func(n uint64, 
 	return there, nil
 }
 
-// within gives a number from 1 to the window.
+// within returns a number from 1 to the window.
 func within(pending uint64) int {
 	switch {
 	case pending == 0:

@@ -18,7 +18,7 @@ type direct struct {
 
 var errBlocks = errors.New("a file that can't be read and written directly")
 
-// directly gives what reads and writes a pipe or a connection of the net package.
+// directly returns a direct file for a pipe or a connection of the net package.
 func directly(file any) (direct, error) {
 	of, ok := file.(syscall.Conn)
 	if !ok {
@@ -89,7 +89,7 @@ type dialer struct{}
 // dialTime is how long a connection may take to come about.
 const dialTime = 2 * time.Second
 
-// Dial gives a connection that is read and written directly.
+// Dial returns a connection that is read and written directly.
 func (dialer) Dial(network, address string) (net.Conn, error) {
 	c, err := net.DialTimeout(network, address, dialTime)
 	if err != nil {

@@ -21,7 +21,7 @@ func echo(in io.Reader, out io.WriteCloser, n int) {
 	out.Close()
 }
 
-// startEcho gives a pipe to a program of n lines.
+// startEcho returns a pipe to a program of n lines.
 func startEcho(n int) *pipe {
 	inRead, inWrite := io.Pipe()
 	outRead, outWrite := io.Pipe()

@@ -57,7 +57,7 @@ func (r *record) differs() {
 	r.differences++
 }
 
-// status gives how the shard does now.
+// status returns the current status of the shard.
 func (r *record) status() status.Status {
 	r.mu.Lock()
 	defer r.mu.Unlock()

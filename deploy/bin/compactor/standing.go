@@ -52,7 +52,7 @@ func (s *standing) do(token, op, name string, from place) error {
 	return nil
 }
 
-// ordered gives where an application's bundles come from, in the order of installing.
+// ordered returns the places that an application's bundles come from, in the order of installing.
 func (s *standing) ordered(token string) []place {
 	all := make([]bundle, 0, len(s.of[token]))
 	for _, b := range s.of[token] {

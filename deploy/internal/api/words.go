@@ -54,7 +54,7 @@ var problems = []struct {
 	{ErrTooLarge, tooLong}, {ErrUnreached, unreached},
 }
 
-// problemOf gives the problem of an error.
+// problemOf returns the problem of an error.
 func problemOf(err error) problem {
 	for _, p := range problems {
 		if errors.Is(err, p.err) {
@@ -78,7 +78,7 @@ var statuses = map[string]int{
 	"ShardEnded": http.StatusServiceUnavailable, "Memory": http.StatusServiceUnavailable,
 }
 
-// refusal gives the word of a reply, where it is a refusal.
+// refusal returns the error code of a reply, if it is a refusal.
 func refusal(reply []byte) (word string, ok bool) {
 	if !bytes.HasPrefix(reply, []byte(`{"error":`)) {
 		return "", false
@@ -88,7 +88,7 @@ func refusal(reply []byte) (word string, ok bool) {
 	return members.Error, err == nil && members.Error != ""
 }
 
-// statusOf gives the status of a reply, where that of one which is no refusal is given.
+// statusOf returns the status of a reply: success for one that is no refusal.
 func statusOf(reply []byte, success int) int {
 	word, ok := refusal(reply)
 	if !ok {

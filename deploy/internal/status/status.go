@@ -1,4 +1,4 @@
-// Package status has what a bridge tells of the shard that it feeds.
+// Package status has the status that a bridge reports of its shard.
 package status
 
 import (
@@ -30,7 +30,7 @@ type Stream struct {
 	Messages uint64 `json:"messages"`
 }
 
-// MemoryOf gives the bytes of memory that a process has in use, or 0 where the system doesn't say.
+// MemoryOf returns the bytes of memory that a process has in use, or 0 where the system doesn't say.
 func MemoryOf(pid int) int64 {
 	content, err := os.ReadFile(fmt.Sprintf("/proc/%d/statm", pid))
 	words := bytes.Fields(content)

@@ -16,7 +16,7 @@ import (
 	"luvdregan.example/resb/deploy/internal/subjects"
 )
 
-// raw gives a connection of an application's user, with a count of what NATS forbade it.
+// raw returns a connection of an application's user, with a count of what NATS forbade it.
 func (c *cluster) raw(app string) (*nats.Conn, func() int, error) {
 	password, err := c.password(app)
 	if err != nil {
@@ -310,7 +310,7 @@ func (c *cluster) turns(t *tally, theirs *application) error {
 	return c.run("drop", greedy)
 }
 
-// inShard gives an application of the shard, or the given one where none is known.
+// inShard returns an application of the shard, or the given one if none is known.
 func (c *cluster) inShard(shard string, other *application) *application {
 	for _, a := range c.all {
 		if a.shard == shard {

@@ -133,7 +133,7 @@ func (c *cluster) messages() (n int, err error) {
 	return n, nil
 }
 
-// locale gives the name of a locale, in one of the ways to write it.
+// locale returns the name of a locale, in one of the ways to write it.
 func locale(k, way int) string {
 	name := fmt.Sprintf("%c%c_%c%c", 'a'+k/26, 'a'+k%26, 'A'+k%26, 'B')
 	if way%2 == 1 {

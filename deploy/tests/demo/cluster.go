@@ -52,7 +52,7 @@ func (c *cluster) run(script string, arguments ...string) error {
 	return command.Run()
 }
 
-// url gives the address of each server.
+// url returns the address of each server.
 func (c *cluster) url() string {
 	all := []string{fmt.Sprintf("nats://127.0.0.1:%d", c.port)}
 	for k := 1; k < c.servers; k++ {
@@ -61,7 +61,7 @@ func (c *cluster) url() string {
 	return strings.Join(all, ",")
 }
 
-// bridges gives the names of the files of a shard's bridges.
+// bridges returns the names of the files of a shard's bridges.
 func (c *cluster) bridges(shard int) []string {
 	name := fmt.Sprintf("shard-%d", shard)
 	if c.servers == 0 {
@@ -74,7 +74,7 @@ func (c *cluster) bridges(shard int) []string {
 	return all
 }
 
-// files gives the names of the files of the nats-servers.
+// files returns the names of the files of the nats-servers.
 func (c *cluster) files() []string {
 	if c.servers == 0 {
 		return []string{"nats"}
@@ -91,7 +91,7 @@ func (c *cluster) password(app string) (string, error) {
 	return passwords.Find(filepath.Join(c.state, "passwords"), subjects.User(app))
 }
 
-// dial gives a caller for an application.
+// dial returns a caller for an application.
 func (c *cluster) dial(app string) (*client.Client, error) {
 	password, err := c.password(app)
 	if err != nil {

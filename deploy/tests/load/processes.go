@@ -32,7 +32,7 @@ func parseProcesses(text string) (all processes, err error) {
 	return all, nil
 }
 
-// times gives the processor times so far.
+// times returns the processor times so far.
 func (all processes) times() (times []time.Duration) {
 	for _, p := range all {
 		times = append(times, timeOf(p.id))
@@ -55,7 +55,7 @@ func timeOf(id int) time.Duration {
 	return time.Duration(user+system) * tick
 }
 
-// since gives a text about the processor times a request since an earlier reading, of processes with one name together.
+// since returns a text about the processor times a request since an earlier reading, of processes with one name together.
 func (all processes) since(before []time.Duration, requests int) (text string) {
 	var names []string
 	took := map[string]time.Duration{}
