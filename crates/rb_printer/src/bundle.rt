@@ -78,8 +78,8 @@ fn print_expecting<N: Node>(
     Ok(bytes)
 }
 
-/// Prints a tree, with its name and its flag, as a bundle text, which `parse` reads back. Equal
-/// trees give equal bytes.
+/// Prints a file as a bundle text under a name, since a file has none. `parse` reads the name, the
+/// tree and the flag back. Files of equal trees give equal bytes.
 ///
 /// Each entry of a table has its own lines, indented by four spaces a level. The strings of an
 /// array, and the numbers of a vector of more than four, share lines of at most 100 columns; a line
@@ -96,27 +96,7 @@ fn print_expecting<N: Node>(
 /// memory.
 ///
 /// ```rust
-/// print(alloc, &source.name, &source.tree, source.no_fallback)? // `root {`, a line feed, `}` and a line feed for `root{}`
-/// ```
-pub fn print<N: Node>(
-    alloc: Global,
-    name: &UnitList,
-    root: N,
-    no_fallback: bool,
-) -> Result<Vec<u8>, PrintError>
-    requires { IsBundleTree (N.tree root) }
-    ensures text { IfOk result (λ bytes. IsBundleText bytes.items name.now
-        (record { tree = N.tree root; no_fallback = no_fallback })) }
-    ensures error { IfErr result (λ e. e ≡ errors.TooLarge → source_limit
-        < length (page_bytes name.now (record { tree = N.tree root; no_fallback = no_fallback }))) }
-{
-    print_expecting(alloc, name, root, no_fallback, 0)
-}
-
-/// Prints a file under a name, since a file has none, in the layout and with the errors of `print`.
-///
-/// ```rust
-/// print_bundle(alloc, &name, &accept(alloc, file)?)?
+/// print_bundle(alloc, &name, &accept(alloc, file)?)? // `root {`, a line feed, `}` and a line feed for `root{}`
 /// ```
 pub fn print_bundle(alloc: Global, name: &UnitList, bundle: &Bundle) -> Result<Vec<u8>, PrintError>
     ensures text { IfOk result

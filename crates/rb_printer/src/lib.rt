@@ -11,5 +11,5 @@ mod line;
 mod text;
 mod tree;
 
-pub use bundle::{print, print_bundle};
+pub use bundle::print_bundle;
 pub use error::PrintError;

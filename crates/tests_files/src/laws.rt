@@ -3,43 +3,39 @@ ghost use Rattle.std.specs.Prelude.{◌≡◌, IfOk, MatchResult};
 ghost use Rattle.rb_format.specs.File.{Denotes, source_tree_of};
 ghost use Rattle.rb_lexer.specs.declared.fault.SourceKind.TheVariants.{Memory};
 ghost use Rattle.rb_parser.specs.Source.{source_tree};
-ghost use Rattle.rb_printer.specs.Sound.{IsBundleTree};
 ghost use Rattle.rb_writer.specs.Written.{IsWriterFile};
 
 use rb_lexer::SourceFault;
 use rb_parser::{Source, parse};
-use rb_printer::{PrintError, print, print_bundle};
-use rb_tree::{Node, UnitList};
+use rb_printer::{PrintError, print_bundle};
+use rb_tree::UnitList;
 use rb_validator::Bundle;
 use rb_writer::write;
 use std::alloc::Global;
 
-/// Prints a tree and parses the text. The name, the tree and the flag are the same, unless memory runs
-/// out.
-pub fn round_trip<N: Node>(
+/// Prints a file and parses the text. The name, the tree and the flag are the same, unless memory
+/// runs out.
+pub fn round_trip(
     alloc: Global,
     name: &UnitList,
-    root: N,
-    no_fallback: bool,
+    bundle: &Bundle,
 ) -> Result<Result<Source, SourceFault>, PrintError>
-    requires { IsBundleTree (N.tree root) }
-    ensures { IfOk result (λ read. MatchResult read (λ s. (s.name ≡ name.now)
-        × (source_tree s ≡ record { tree = N.tree root; no_fallback = no_fallback }))
+    ensures { IfOk result (λ read. MatchResult read
+        (λ s. (s.name ≡ name.now) × (source_tree s ≡ source_tree_of bundle.now))
         (λ e. e.kind ≡ Memory)) }
 {
-    let text = print(alloc, name, root, no_fallback)?;
+    let text = print_bundle(alloc, name, bundle)?;
     Ok(parse(alloc, &text))
 }
 
-/// Prints a file, parses the text and writes a file, which has the same bundle. If `write` made the
-/// printed file, both files have the same bytes.
+/// Prints a file, parses the text and writes a file. It has the same tree and the same flag. If
+/// `write` made the printed file, both files have the same bytes.
 pub fn again(alloc: Global, name: &UnitList, bundle: &Bundle) -> Result<Vec<u8>, PrintError>
     ensures denotes { IfOk result (λ file. Denotes file.items (source_tree_of bundle.now)) }
     ensures same { IfOk result (λ file. IsWriterFile (source_tree_of bundle.now).tree
         (source_tree_of bundle.now).no_fallback bundle.now → file.items ≡ bundle.now) }
 {
-    let text = print_bundle(alloc, name, bundle)?;
-    match parse(alloc, &text) {
+    match round_trip(alloc, name, bundle)? {
         Ok(source) => Ok(write(alloc, &source.tree, source.no_fallback)?),
         Err(_) => Err(PrintError::Memory),
     }

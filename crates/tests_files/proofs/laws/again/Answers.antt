@@ -4,8 +4,8 @@ use Rattle.rb_parser.specs.Source.{IsGoodSource, source_tree}
 use Rattle.rb_tree.specs.SourceTree.{SourceTree}
 use Rattle.rb_writer.specs.Written.{IsWriterFile}
 use Rattle.rb_writer.proofs.Sole.{one_file}
-use Rattle.tests_printer.proofs.Read.{good}
-use Rattle.tests_printer.proofs.laws.again.Goals as goal
+use Rattle.tests_files.proofs.Read.{good}
+use Rattle.tests_files.proofs.laws.again.Goals as goal
 
 pub returns-in-Ok : goal.returns-in-Ok
 returns-in-Ok c =
