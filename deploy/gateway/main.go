@@ -14,6 +14,7 @@ import (
 	"os"
 	"os/signal"
 	"runtime/debug"
+	"strings"
 	"syscall"
 	"time"
 
@@ -34,6 +35,9 @@ var openAPI []byte
 
 func main() {
 	log.SetFlags(log.LstdFlags | log.Lmicroseconds)
+	if len(os.Args) > 1 && strings.TrimLeft(os.Args[1], "-") == "healthcheck" {
+		os.Exit(healthCommand(os.Args[2:], os.Stderr))
+	}
 	if os.Getenv("GOGC") == "" {
 		// Requests leave much garbage and little is kept, so memory is collected less often as long as there is little of it.
 		debug.SetGCPercent(400)
