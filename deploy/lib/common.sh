@@ -3,10 +3,20 @@
 # shellcheck shell=sh disable=SC2034
 
 top=$(CDPATH='' cd -- "$here/.." && pwd)
-out=$here/out
-state=${RESB_STATE:-$out/state}
+if [ -f "$here/bin/bridge" ]; then
+    # tools/package laid the programs there, where a checkout has their sources; nothing is built, and the state is the user's
+    installed=1
+    out=$here
+    states=${XDG_STATE_HOME:-${HOME:-/root}/.local/state}/resb
+    program=${RESB:-$(CDPATH='' cd -- "$top/../../bin" && pwd)/resb}
+else
+    installed=
+    out=$here/out
+    states=$out
+    program=${RESB:-$top/crates/rb_tool/out/rb_tool}
+fi
+state=${RESB_STATE:-$states/state}
 port=${RESB_PORT:-4422} # Debian runs its own nats-server on 4222
-program=${RESB:-$top/crates/rb_tool/out/rb_tool}
 libraries=/usr/share/gocode
 PATH=$PATH:/usr/sbin # where nats-server is
 
@@ -20,6 +30,7 @@ missing_for_gateway() {
 # prints the Debian packages that are missing
 missing_packages() {
     command -v nats-server >/dev/null || printf ' nats-server'
+    [ -z "$installed" ] || return 0
     command -v go >/dev/null || printf ' golang-go'
     [ -d "$libraries/src/github.com/nats-io/nats.go" ] || printf ' golang-github-nats-io-go-nats-dev'
 }
@@ -39,7 +50,7 @@ need_packages() {
 
 need_program() {
     [ -x "$program" ] || {
-        echo "$0: no program at $program; bin/resb --help proves and builds it" >&2
+        echo "$0: no program at $program; in a checkout bin/resb --help proves and builds it" >&2
         exit 1
     }
 }
@@ -63,24 +74,33 @@ debian_module() {
     printf 'replace (\n%s)\n' "$replaced"
 }
 
-# runs Go in the folder, only over Debian's libraries: in_go FOLDER ARGUMENTS..
-in_go() {
-    go_folder=$1
-    shift
+# writes the file of modules over Debian's libraries for a folder: write_module FOLDER
+write_module() {
     mkdir -p "$out/nuid"
     if [ -f "$libraries/src/github.com/nats-io/nuid/nuid.go" ]; then
         cp "$libraries/src/github.com/nats-io/nuid/nuid.go" "$out/nuid/nuid.go"
         printf 'module github.com/nats-io/nuid\n' >"$out/nuid/go.mod"
     fi
-    debian_module "$go_folder/go.mod" >"$out/debian.mod.$$"
+    debian_module "$1/go.mod" >"$out/debian.mod.$$"
     mv "$out/debian.mod.$$" "$out/debian.mod"
+}
+
+# runs Go in the folder, only over Debian's libraries: in_go FOLDER ARGUMENTS..
+in_go() {
+    go_folder=$1
+    shift
+    write_module "$go_folder"
     (cd "$go_folder" && GO111MODULE=on GOFLAGS="-modfile=$out/debian.mod -tags=${go_tags:-libsqlite3}" GOCACHE="$out/go" GOPROXY=off go "$@")
 }
 
 run_go() { in_go "$here" "$@"; }
 
+# builds the gateway that runs its own server
+build_gateway() { [ -n "$installed" ] || "$here/gateway/build" "$out/bin/gateway"; }
+
 # builds programs of this folder: those of bin/ by their names, others by their folders
 build() {
+    [ -z "$installed" ] || return 0
     for part in "$@"; do
         built_from=$part
         [ -d "$here/$part" ] || built_from=bin/$part
