@@ -156,24 +156,31 @@ def run_page(name, program, given):
 
 def readme_commands(page):
     """Returns the commands of README.md's indented blocks, each with its line and what it should print."""
-    found = []
+    found, is_shown = [], False  # whether the lines are of a block with a command
     for number, line in enumerate(page.splitlines(), 1):
         if line.startswith("    $ "):
+            is_shown = True
             found.append([number, line[6:], []])
         elif line.startswith('    {"op"') and found[-1][1].startswith("resb serve"):
             end = "" if "<<" in found[-1][1] else " <<'END'"
             found[-1][1] = found[-1][1].removesuffix("\nEND") + f"{end}\n{line[4:]}\nEND"
-        elif line.startswith("    ") and found and page.splitlines()[number - 2].startswith("    "):
+        elif not line.startswith("    "):
+            is_shown = False
+        elif is_shown:
             found[-1][2].append(line[4:])
     return found
 
 
+def readme_asked(page):
+    """Returns the commands of README.md's indented blocks after one that makes the files that it names."""
+    files = re.findall(r"`(\w+\.txt)` is `([^`]+)`", page)
+    made = [0, "\n".join(f"printf '%s\\n' '{text}' > {name}" for name, text in files) or ":", []]
+    return [made, *readme_commands(page)]
+
+
 def run_readme(program):
     """Prints what differs in README.md, and returns how many commands did."""
-    page = text_of("README.md")
-    files = re.findall(r"`(\w+\.txt)` is `([^`]+)`", page)
-    made = [[0, "\n".join(f"printf '%s\\n' '{text}' > {name}" for name, text in files), []]]
-    asked = [*made, *readme_commands(page)]
+    asked = readme_asked(text_of("README.md"))
     differ = count_differences("README.md", asked, printed(program, [], [asked], [])[0])
     print(f"README.md: {len(asked) - 1 - differ} commands agree, {differ} differ")
     return differ

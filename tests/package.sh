@@ -1,6 +1,7 @@
 #!/usr/bin/env bash
-# Packages a built program twice, compares the packages byte by byte, and installs one into an empty root: the first session, the
-# manual page and a completion are tried from there.
+# Packages a built program twice, compares the packages byte by byte, and checks what is in them. Then clean_root.sh installs,
+# upgrades and removes them. If the crates are built in this checkout the program is built with the commit of the checkout, and
+# else PROGRAM is packaged as it is.
 #
 # usage: package.sh PROGRAM
 # Ends with status 0 if all is as it should be, and says `skipped` if a tool, the program or the history isn't there.
@@ -23,21 +24,52 @@ fi
 made=$(mktemp -d)
 trap 'rm -rf "$made"' EXIT
 
-"$top/tools/package" --program "$program" "$made/first" >/dev/null
-"$top/tools/package" --program "$program" "$made/second" >/dev/null
+fail() {
+    echo "FAILED: $1" >&2
+    exit 1
+}
+
+only_resb=
+if ! command -v go >/dev/null || ! command -v gcc >/dev/null || [ ! -d /usr/share/gocode/src/github.com/mattn/go-sqlite3 ] ||
+    [ ! -d /usr/share/gocode/src/github.com/nats-io/nats.go ]; then
+    echo 'skipped: resb-gateway: packages are missing to build it'
+    only_resb=--only-resb
+fi
+
+# Packages the program, built with the commit if the crates are built here.
+make_first() {
+    local commit began=$SECONDS
+    if [ ! -d "$top/crates/rb_commands/out" ] || ! command -v rt >/dev/null; then
+        "$top/tools/package" --program "$program" $only_resb "$made/first" >/dev/null
+        echo 'skipped: the commit that resb --version names: the crates are not built here'
+        return 0
+    fi
+    "$top/tools/package" $only_resb "$made/first" >/dev/null
+    dpkg-deb -x "$made"/first/resb_*.deb "$made/built"
+    program=$made/built/usr/bin/resb
+    commit=$(git -C "$top" rev-parse HEAD)
+    "$program" --version | grep -qx "resb [0-9.]* ($commit)" || fail "resb --version names not $commit"
+    echo "ok: resb --version names version and commit; built in $((SECONDS - began)) s"
+}
+
+make_first
+"$top/tools/package" --program "$program" $only_resb "$made/second" >/dev/null
 diff -r "$made/first" "$made/second"
 echo 'ok: two runs give the same bytes'
 
-mkdir -p "$made/root/var/lib/dpkg/info" "$made/root/var/lib/dpkg/updates"
+mkdir -p "$made/root/var/lib/dpkg/info" "$made/root/var/lib/dpkg/updates" "$made/unpacked"
 touch "$made/root/var/lib/dpkg/status" "$made/root/var/lib/dpkg/available"
-dpkg --root="$made/root" --force-depends --force-not-root --log=/dev/null -i "$made"/first/*.deb >"$made/said" 2>&1 || {
+dpkg --root="$made/root" --force-depends --force-not-root --log=/dev/null -i "$made"/first/resb_*.deb >"$made/said" 2>&1 || {
     cat "$made/said"
     exit 1
 }
-mkdir "$made/unpacked"
-tar -C "$made/unpacked" -xzf "$made"/first/*.tar.gz
+tar -C "$made/unpacked" -xzf "$made"/first/resb_*.tar.gz
 diff -r "$made/unpacked/usr" "$made/root/usr"
 echo 'ok: it is installed, and the archive has the same files'
+if command -v python3 >/dev/null; then
+    "$top/tests/installed.py" links "$made/unpacked/usr/share/doc/resb"
+    echo 'ok: links of pages lead to files of the package'
+fi
 
 examples=$made/root/usr/share/doc/resb/examples
 "$made/root/usr/bin/resb" serve <"$examples/first-run.jsonl" | diff - "$examples/first-run.replies.jsonl"
@@ -48,3 +80,39 @@ if command -v mandoc >/dev/null; then
 fi
 bash -c '. "$1" && complete -p resb' - "$made/root/usr/share/bash-completion/completions/resb" >/dev/null
 echo 'ok: a completion'
+[ -z "$only_resb" ] || exit 0
+
+# The files of the gateway's package are those of its archive, and none is of the other package.
+mkdir "$made/gateway" "$made/archive"
+dpkg-deb -x "$made"/first/resb-gateway_*.deb "$made/gateway"
+tar -C "$made/archive" -xzf "$made"/first/resb-gateway_*.tar.gz
+diff -r --no-dereference "$made/gateway/usr" "$made/archive/usr"
+# shellcheck disable=SC2016
+same=$(cd "$made/gateway" && find . ! -type d -exec sh -c '[ ! -e "$1/$2" ] || echo "$2"' - "$made/root" {} \;)
+[ -z "$same" ] || fail "both packages have $same"
+echo 'ok: the files of resb-gateway'
+
+# Makes the package of version 1.1.0, by the commit before the first that has changes below "Unreleased", or else from the new one.
+make_old() {
+    local commit
+    mkdir "$made/old" "$made/old.root"
+    printf '#!/bin/sh\necho "resb 1.1.0"\n' >"$made/old.program"
+    chmod 755 "$made/old.program"
+    commit=$(git -C "$top" rev-parse -q --verify 'v1.1.0^{commit}') ||
+        commit=$(git -C "$top" rev-parse -q --verify "$(git -C "$top" log --reverse --format=%H -S'## Unreleased' -- CHANGELOG.md | head -n 1)^") || commit=
+    if [ -n "$commit" ] && git -C "$top" show "$commit:CHANGELOG.md" | grep -m 1 '^## ' | grep -qx '## 1.1.0'; then
+        git clone -q --no-checkout "$top" "$made/old.clone"
+        git -C "$made/old.clone" checkout -q "$commit"
+        "$made/old.clone/tools/package" --program "$made/old.program" "$made/old" >/dev/null
+        echo "ok: version 1.1.0 is packaged from its commit"
+    else
+        dpkg-deb -R "$made"/first/resb_*.deb "$made/old.root"
+        sed -i 's/^Version: .*/Version: 1.1.0/' "$made/old.root/DEBIAN/control"
+        dpkg-deb --root-owner-group -Zgzip --build "$made/old.root" "$made/old/resb_1.1.0_amd64.deb" >/dev/null
+        echo 'ok: version 1.1.0 is the new package under that version, as its commit is not in the history'
+    fi
+}
+
+make_old
+dpkg --compare-versions "$(dpkg-deb -f "$made"/first/resb_*.deb Version)" gt 1.1.0 || fail 'the packages are not later than 1.1.0'
+"$top/tests/clean_root.sh" "$made/old" "$made/first"

@@ -1,0 +1,247 @@
+#!/usr/bin/env bash
+# Tries packages in Debian roots that `debootstrap` makes: they are installed, upgraded and removed by the commands of
+# docs/INSTALL.md; the commands of README.md and of the pages on the gateway and the shards are run as they are written; and the
+# steps of deploy/Containerfile are done, with the root read-only.
+#
+# usage: clean_root.sh OLD NEW
+# OLD and NEW are folders with packages: of version 1.1.0, and those to try.
+# Says `skipped` if it isn't root, or if debootstrap or Debian's mirror isn't there.
+set -eu
+here=$(cd "$(dirname "$0")" && pwd -P)
+top=$(dirname "$here")
+suite=bookworm
+docs=/usr/share/doc/resb
+lib=/usr/lib/resb-gateway
+
+say() { echo "ok: $1"; }
+fail() {
+    echo "FAILED: $1" >&2
+    exit 1
+}
+skip() {
+    echo "skipped: a clean root: $1"
+    exit 0
+}
+
+# apart OPTION FUNCTION ARGUMENTS..: runs a function of this file with mounts and processes that end with it; --net gives it a
+# network without other machines, so that no port is taken
+apart() {
+    local network=$1
+    shift
+    # shellcheck disable=SC2086
+    unshare --mount --pid --fork --kill-child $network "$here/clean_root.sh" --within "$@" </dev/null
+}
+
+# in_root ROOT FOLDER COMMAND: runs a command in a folder of a root; with run=exec, in place of this process
+in_root() {
+    ${run-} chroot "$1" /usr/bin/env -i PATH=/usr/local/sbin:/usr/local/bin:/usr/sbin:/usr/bin:/sbin:/bin HOME=/root LC_ALL=C.UTF-8 \
+        DEBIAN_FRONTEND=noninteractive sh -c "cd '$2' && $3"
+}
+
+# quietly COMMAND..: runs a command, and prints what it printed if it fails
+quietly() {
+    "$@" >"$log" 2>&1 || {
+        tail -n 40 "$log" >&2
+        fail "$*"
+    }
+}
+
+# The mirror of Debian that apt uses here.
+mirror() {
+    # shellcheck disable=SC2016
+    apt-get indextargets --format '$(CODENAME) $(ORIGIN) $(REPO_URI)' 'Created-By: Packages' 2>/dev/null | sed -n "s/^$suite Debian //p" | head -n 1
+}
+
+make_root() {
+    mount -t proc proc /proc
+    debootstrap --variant=minbase "$suite" "$1" "$2" >"$log" 2>&1
+    echo 'APT::Get::Assume-Yes "true";' >"$1/etc/apt/apt.conf.d/90yes"
+    echo force-unsafe-io >"$1/etc/dpkg/dpkg.cfg.d/90quick"
+    printf '#!/bin/sh\nexit 101\n' >"$1/usr/sbin/policy-rc.d"
+    chmod 755 "$1/usr/sbin/policy-rc.d"
+    quietly in_root "$1" / 'apt-get update'
+}
+
+installed() { in_root "$1" / "dpkg-query -W -f '\${Version} \${Status}\n' resb resb-gateway 2>/dev/null | uniq"; }
+
+version_of() { dpkg-deb -f "$1" Version; }
+
+# Installs the older version, then the packages over it.
+install_packages() {
+    local root=$1 command
+    mount -t proc proc "$root/proc"
+    command=$("$here/installed.py" block "$top/docs/INSTALL.md" Debian)
+    quietly in_root "$root" /packages/old 'apt-get install ./resb_*_amd64.deb'
+    [ "$(installed "$root")" = "$old_version install ok installed" ] || fail 'the older version is not installed'
+    quietly in_root "$root" /packages/new "$command"
+    [ "$(installed "$root")" = "$new_version install ok installed" ] || fail "not both packages are installed in version $new_version"
+    in_root "$root" / 'dpkg -V resb resb-gateway'
+    say "1.1.0 is installed, and $new_version over it"
+    in_root "$root" / 'resb --help && icu2text --help && resb-exchange --help && resb-gateway -help 2>/dev/null' >/dev/null
+    [ "$(in_root "$root" / 'resb --version')" = "$("$program" --version)" ] || fail 'resb --version is not that of the program'
+    for folder in resb resb-gateway; do "$here/installed.py" links "$root/usr/share/doc/$folder"; done
+    say 'each program starts, and links of pages lead to files of the packages'
+    quietly in_root "$root" / 'apt-get install curl nats-server'
+}
+
+# serve COMMAND..: starts a gateway, the process $gateway, and waits until it serves
+serve() {
+    local tries=0
+    : >"$log"
+    run='exec' "$@" >"$log" 2>&1 &
+    gateway=$!
+    until grep -q 'serves after' "$log"; do
+        tries=$((tries + 1))
+        if [ "$tries" -gt 600 ] || ! kill -0 "$gateway"; then
+            cat "$log" >&2
+            fail 'the gateway serves nothing'
+        fi
+        sleep 0.1
+    done
+}
+
+# Ends the gateway, which must answer what is on its way and end with status 0.
+end() {
+    kill "$gateway"
+    wait "$gateway" || fail "the gateway ends with status $?"
+}
+
+# check_commit TEXT: checks that a text that names a commit names that of the packages
+check_commit() {
+    case $1 in
+        *commit*"$(git -C "$top" rev-parse HEAD)"*) say 'the gateway names its commit' ;;
+        *commit*) fail "the gateway names another commit: $1" ;;
+    esac
+}
+
+# Runs what the unit for systemd runs, if the package has one, as its user over the installed configuration and file of tokens.
+run_unit() {
+    local root=$1 unit=$1/usr/lib/systemd/system/resb-gateway.service user
+    [ -f "$unit" ] || return 0
+    user=$(sed -n 's/^User=//p' "$unit")
+    quietly in_root "$root" / "install -d -o $user -g $user -m 700 /var/lib/$(sed -n 's/^StateDirectory=//p' "$unit")"
+    as_user() { ${run-} chroot --userspec="$user:$user" "$root" /usr/bin/env -i PATH=/usr/bin:/bin sh -c "$1"; }
+    quietly as_user "$(sed -n 's/^ExecStart=//p' "$unit") -check-config"
+    serve as_user "exec $(sed -n 's/^ExecStart=//p' "$unit")"
+    as_user 'resb-gateway -healthcheck 127.0.0.1:6422'
+    end
+    say "the command of the unit runs as $user"
+}
+
+# Runs the commands of the pages.
+run_pages() {
+    local root=$1
+    mount -t proc proc "$root/proc"
+    "$here/installed.py" loopback
+    "$here/installed.py" run "$root" $docs/README.md
+    serve in_root "$root" $lib "exec $("$here/installed.py" block "$root$docs/deploy/gateway/README.md" Start)"
+    "$here/installed.py" run "$root" $docs/deploy/gateway/README.md Start
+    in_root "$root" / 'resb-gateway -healthcheck 127.0.0.1:6422'
+    check_commit "$(in_root "$root" / 'curl -s http://127.0.0.1:6422/healthz')"
+    end
+    run_unit "$root"
+    quietly in_root "$root" $lib "$("$here/installed.py" block "$root$docs/deploy/README.md" Start)"
+    "$here/installed.py" run "$root" $docs/deploy/README.md Start
+}
+
+# Removes the packages, and unpacks the archives elsewhere, over which the bundles are still there.
+remove_packages() {
+    local root=$1 files left
+    mount -t proc proc "$root/proc"
+    "$here/installed.py" loopback
+    files=$(in_root "$root" / 'dpkg -L resb resb-gateway' | grep -v '^/etc/') # dpkg keeps the configuration
+    sed -n 's/^    \(apt-get remove .*\)/\1/p' "$top/docs/INSTALL.md" >"$log.command"
+    [ "$(wc -l <"$log.command")" = 1 ] || fail 'the page has no command that removes'
+    quietly in_root "$root" / "$(cat "$log.command")"
+    left=$(for file in $files; do [ -d "$root$file" ] && [ ! -L "$root$file" ] || [ ! -e "$root$file" ] || echo "$file"; done)
+    if [ -n "$left" ] || [ -e "$root$lib" ] || [ -e "$root$docs" ]; then fail "still there: $left"; fi
+    [ -f "$root/root/.local/state/resb/single/changes.db" ] || fail 'the bundles are gone'
+    quietly in_root "$root" / 'dpkg --purge resb-gateway resb'
+    [ ! -e "$root/etc/resb" ] || fail 'the purge leaves /etc/resb'
+    say 'the packages are removed, and the bundles stay'
+    quietly in_root "$root" /packages/new "$(sed -n 's/^    \(for archive in .*\)/\1/p' "$top/docs/INSTALL.md")"
+    serve in_root "$root" /usr/local/lib/resb-gateway 'exec deploy/single shop'
+    grep -q 'token to write' "$log" && fail 'the tokens are gone'
+    in_root "$root" / 'curl -sf -H "Authorization: Bearer TOKEN" http://127.0.0.1:6422/v1/shop/de_AT/menu/open' | grep -qF '"Öffnen"' ||
+        fail 'the bundle is not found'
+    say 'the archives work in /usr/local, over the same bundles'
+}
+
+# Builds a root by the steps of the container file.
+build_image() {
+    local root=$1
+    mount -t proc proc "$root/proc"
+    quietly in_root "$root" / "$("$here/installed.py" step "$top/deploy/Containerfile" RUN)"
+}
+
+# Runs what the container file says, as its user, in a root that is read-only except for the volume.
+run_image() {
+    local image=$1 file=$top/deploy/Containerfile root=$1.run volume user check option
+    volume=$("$here/installed.py" step "$file" VOLUME)
+    user=$(in_root "$image" / "id -u $("$here/installed.py" step "$file" USER)"):$(in_root "$image" / "id -g $("$here/installed.py" step "$file" USER)")
+    mkdir -p "$root" "$image.volume"
+    # an engine gives a new volume the owner that the folder has in the image
+    chown --reference="$image$volume" "$image.volume"
+    mount --bind "$image" "$root"
+    mount -o remount,ro,bind "$root"
+    mount -t proc proc "$root/proc"
+    mount -t tmpfs tmpfs "$root/tmp"
+    mount --bind "$image.volume" "$root$volume"
+    "$here/installed.py" loopback
+    contained() { ${run-} chroot --userspec="$user" --groups='' "$root" /usr/bin/env -i PATH=/usr/bin:/bin HOME="$volume" sh -c "cd $volume && $1"; }
+    [ "$(contained 'id -u')" != 0 ] || fail 'the user of the image is root'
+    if contained 'touch /usr/x /etc/x /x' 2>/dev/null; then fail 'the root is not read-only'; fi
+    check=$("$here/installed.py" step "$file" HEALTHCHECK)
+    if contained "$check" 2>/dev/null; then fail 'the health check passes without a gateway'; fi
+    echo "shop write $(printf TOKEN | sha256sum | cut -d ' ' -f 1)" | contained 'cat >tokens'
+    for option in -init ''; do
+        serve contained "exec $("$here/installed.py" step "$file" ENTRYPOINT) $option"
+        contained "$check"
+        if [ -n "$option" ]; then
+            curl -sf -H 'Authorization: Bearer TOKEN' -X PUT --data-binary 'de{a{"A"}}' http://127.0.0.1:6422/v1/shop/de.txt >/dev/null
+        fi
+        curl -sf -H 'Authorization: Bearer TOKEN' http://127.0.0.1:6422/v1/shop/de/a | grep -qF '"A"' ||
+            fail "the bundle is not found, with option $option"
+        end
+    done
+    say 'the image: its user, a read-only root, the health check, and bundles that stay in the volume'
+}
+
+if [ "${1-}" = --within ]; then
+    shift
+    "$@"
+    exit 0
+fi
+
+[ "$(id -u)" = 0 ] || skip 'this is not root'
+for tool in debootstrap unshare chroot python3 curl apt-get; do
+    PATH=$PATH:/usr/sbin command -v "$tool" >/dev/null || skip "$tool is not there"
+done
+made=$(mktemp -d)
+trap 'rm -rf "$made"' EXIT
+old_version=$(version_of "$1"/resb_*.deb)
+new_version=$(version_of "$2"/resb_*.deb)
+log=$made/log
+program=$made/program/usr/bin/resb
+export log old_version new_version program
+dpkg-deb -x "$2"/resb_*_amd64.deb "$made/program"
+mirror=$(mirror)
+began=$SECONDS
+apart '' make_root "$made/image" "${mirror:-http://deb.debian.org/debian}" || {
+    tail -n 3 "$log" >&2
+    skip "debootstrap failed, perhaps as Debian's mirror is not reached"
+}
+cp -a "$made/image" "$made/root"
+say "a root by debootstrap, $((SECONDS - began)) s"
+mkdir "$made/root/packages" "$made/image/packages"
+cp -r "$1" "$made/root/packages/old"
+cp -r "$2" "$made/root/packages/new"
+cp "$2"/*.deb "$made/image/packages"
+for step in install_packages run_pages remove_packages; do
+    network=
+    [ $step = install_packages ] || network=--net
+    apart "$network" $step "$made/root"
+done
+apart '' build_image "$made/image"
+rm -r "$made/image/packages"
+apart --net run_image "$made/image"
