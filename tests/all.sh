@@ -98,7 +98,7 @@ if [ -n "$quick" ] && [ ! -x "$program" ]; then
 fi
 lacks=$(tools/need) || printf 'These packages are missing, so tests are skipped (tools/need --install):\n%s\n' "$lacks"
 start launcher tests/launcher.sh
-start_if mandoc manual mandoc -T lint -W warning docs/resb.1
+start_if mandoc manual mandoc -T lint -W warning docs/resb.1 docs/icu2text.1 docs/resb-exchange.1
 start_if python3 definitions tests/trusted.py --inner
 start_if python3 pictures bench/draw.py --check
 start_if python3 first_build bench/first_build.py --self-test

@@ -74,9 +74,17 @@ fi
 examples=$made/root/usr/share/doc/resb/examples
 "$made/root/usr/bin/resb" serve <"$examples/first-run.jsonl" | diff - "$examples/first-run.replies.jsonl"
 echo 'ok: the first session'
-if command -v mandoc >/dev/null; then
-    gunzip -c "$made/root/usr/share/man/man1/resb.1.gz" | mandoc -T utf8 | grep -q 'resb'
-    echo 'ok: the manual page'
+# page_of NAME: prints a manual page of the package
+page_of() { gunzip -c "$made/root/usr/share/man/man1/$1.1.gz" | mandoc -T ascii | col -b; }
+if command -v mandoc >/dev/null && command -v col >/dev/null && command -v python3 >/dev/null; then
+    page_of resb | grep -q 'resb'
+    for call in icu2text 'resb-exchange export' 'resb-exchange import'; do
+        # shellcheck disable=SC2086
+        for option in $("$made/root/usr/bin/"$call --help | grep -o -e '--[a-z-]*' | sort -u); do
+            page_of "${call%% *}" | grep -q -e "$option" || fail "the manual page of $call lacks $option"
+        done
+    done
+    echo 'ok: the manual pages have all options'
 fi
 bash -c '. "$1" && complete -p resb' - "$made/root/usr/share/bash-completion/completions/resb" >/dev/null
 echo 'ok: a completion'
