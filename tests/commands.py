@@ -2,7 +2,7 @@
 """Runs commands with a built program, and compares the status, standard output and standard error.
 
 Each NAME.json in commands/ has "files" (texts) and "binaries" (hexadecimal digits), which are written to a folder, and "cases", which are
-run there. A case has "args"; "text", a bundle text that is compiled first, to "file" (a.res if left out); "closed", if standard output is closed; and what is
+run there. A case has "args"; "stdin", the text of standard input (none if left out); "text", a bundle text that is compiled first, to "file" (a.res if left out); "closed", if standard output is closed; and what is
 expected: "status" (0 if left out), "stdout" and "stderr" (empty if left out).
 
 usage: commands.py PROGRAM
@@ -17,20 +17,21 @@ import tempfile
 
 
 def run(program, folder, arguments, **options):
-    return subprocess.run([program, *arguments], cwd=folder, stdin=subprocess.DEVNULL, stderr=subprocess.PIPE, timeout=60, check=False, **options)
+    return subprocess.run([program, *arguments], cwd=folder, stderr=subprocess.PIPE, timeout=60, check=False, **options)
 
 
 def outcome(program, folder, case):
     """The status, standard output and standard error of a case."""
+    given = {"input": case["stdin"].encode()} if "stdin" in case else {"stdin": subprocess.DEVNULL}
     if "text" in case:
         (folder / "in.txt").write_text(case["text"], encoding="utf-8")
-        compiled = run(program, folder, ["compile", "in.txt", case.get("file", "a.res")], stdout=subprocess.DEVNULL)
+        compiled = run(program, folder, ["compile", "in.txt", case.get("file", "a.res")], stdout=subprocess.DEVNULL, stdin=subprocess.DEVNULL)
         if compiled.returncode != 0:
             return "not compiled", "", compiled.stderr.decode()
     if case.get("closed"):
-        done = run(program, folder, case["args"], preexec_fn=lambda: os.close(1))
+        done = run(program, folder, case["args"], preexec_fn=lambda: os.close(1), **given)
     else:
-        done = run(program, folder, case["args"], stdout=subprocess.PIPE)
+        done = run(program, folder, case["args"], stdout=subprocess.PIPE, **given)
     return done.returncode, (done.stdout or b"").decode(), done.stderr.decode()
 
 

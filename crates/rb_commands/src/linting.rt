@@ -10,6 +10,15 @@ use std::io;
 use std::process::ExitCode;
 use std::rt::Files;
 
+/// Returns the name that a text's bundle should have, or None for standard input, whose name says
+/// nothing of the text.
+fn bundle_name(name: &str) -> Option<&str> {
+    match name {
+        "/dev/stdin" | "/dev/fd/0" | "/proc/self/fd/0" => None,
+        _ => Some(stem(name)),
+    }
+}
+
 /// Prints the warnings of a text that was read. Returns true if there are any.
 fn print_warnings<R: AllocGlobal + Print>(
     rt: &R,
@@ -17,7 +26,11 @@ fn print_warnings<R: AllocGlobal + Print>(
     name: &str,
     text: &[u8],
 ) -> io::Result<bool> {
-    let warnings = lint(rt.alloc(), text, Some(stem(name).as_bytes()))?;
+    let stem = match bundle_name(name) {
+        Some(stem) => Some(stem.as_bytes()),
+        None => None,
+    };
+    let warnings = lint(rt.alloc(), text, stem)?;
     let name = console.on_stdout(name);
     for warning in &warnings {
         let (line, doubt) = (warning.line, warning.doubt);
@@ -58,7 +71,8 @@ fn print_differences<R: AllocGlobal + Print>(
     let Ok(source) = parse(rt.alloc(), text) else {
         return Err(io::Error::from(io::ErrorKind::OutOfMemory));
     };
-    let warnings = beside_root(rt.alloc(), text, &source.tree, root)?;
+    let locale = bundle_name(name).unwrap_or("").as_bytes();
+    let warnings = beside_root(rt.alloc(), text, &source.tree, root, locale)?;
     let name = console.on_stdout(name);
     for warning in &warnings {
         let line = warning.line;

@@ -1,5 +1,5 @@
 use crate::collector::WarningCollector;
-use crate::piece::{Piece, PieceKind};
+use crate::piece::{Piece, PieceKind, narrow};
 use crate::warning::Doubt;
 use std::alloc::{AllocError, Global};
 
@@ -11,38 +11,53 @@ struct OpenBody {
     /// It is a vector, whose numbers aren't quoted.
     is_vector: bool,
     /// The length of `noted` before it.
-    noted: usize,
+    noted: u32,
 }
 
+/// Reports each quoted piece next to an unquoted one, and adjacent texts in an array or a vector.
 #[derive(Drop)]
-struct AdjacentSearch {
+pub(crate) struct AdjacentSearch {
     open: Vec<OpenBody>,
     /// The lines of adjacent texts within open braces.
     noted: Vec<u64>,
+    warnings: WarningCollector,
 }
 
 impl AdjacentSearch {
+    pub(crate) fn new(alloc: Global) -> AdjacentSearch {
+        AdjacentSearch {
+            open: Vec::new(alloc),
+            noted: Vec::new(alloc),
+            warnings: WarningCollector::new(alloc),
+        }
+    }
+
+    pub(crate) fn found(self) -> WarningCollector {
+        self.warnings
+    }
+
     fn enter(&mut self, of_type: &[u8]) -> Result<(), AllocError> {
         let is_vector = of_type == b"intvector".as_slice();
         self.open.push(OpenBody {
             is_list: is_vector || of_type == b"array".as_slice(),
             is_vector,
-            noted: self.noted.len(),
+            noted: narrow(self.noted.len() as u64),
         })?;
         Ok(())
     }
 
     /// Closes a body. Only in a list are adjacent texts doubtful.
-    fn leave(&mut self, warnings: &mut WarningCollector) -> Result<(), AllocError> {
+    fn leave(&mut self) -> Result<(), AllocError> {
         let Some(open) = self.open.pop() else {
             return Ok(());
         };
+        let first = open.noted as usize;
         if open.is_list {
-            for line in self.noted.get(open.noted..).unwrap_or(&[]) {
-                warnings.add(*line, Doubt::Joined)?;
+            for line in self.noted.get(first..).unwrap_or(&[]) {
+                self.warnings.add(*line, Doubt::Joined)?;
             }
         }
-        self.noted.truncate(open.noted);
+        self.noted.truncate(first);
         Ok(())
     }
 
@@ -52,17 +67,12 @@ impl AdjacentSearch {
         }
     }
 
-    fn meet(
-        &mut self,
-        a: &Piece,
-        b: &Piece,
-        warnings: &mut WarningCollector,
-    ) -> Result<(), AllocError> {
+    fn meet(&mut self, a: &Piece, b: &Piece) -> Result<(), AllocError> {
         if a.spans_lines || b.spans_lines {
             return Ok(());
         }
         if a.kind != b.kind {
-            return warnings.add(b.line, Doubt::Mixed);
+            return self.warnings.add(b.line, Doubt::Mixed);
         }
         let is_vector = match self.open.last() {
             Some(open) => open.is_vector,
@@ -74,48 +84,26 @@ impl AdjacentSearch {
         Ok(())
     }
 
-    fn step(
+    /// Takes the next piece, and the one before it.
+    pub(crate) fn step(
         &mut self,
         text: &[u8],
         before: &Piece,
         piece: &Piece,
-        warnings: &mut WarningCollector,
     ) -> Result<(), AllocError> {
         match piece.kind {
             PieceKind::LeftBrace if before.is_text() => {
                 self.enter(text.get(before.first..before.past).unwrap_or(&[]))
             }
             PieceKind::LeftBrace => self.enter(b""),
-            PieceKind::RightBrace => self.leave(warnings),
+            PieceKind::RightBrace => self.leave(),
             PieceKind::Comma => {
                 self.comma();
                 Ok(())
             }
             PieceKind::Colon => Ok(()),
-            PieceKind::Quoted | PieceKind::Unquoted if before.is_text() => self.meet(
-                before, piece, warnings,
-            ),
+            PieceKind::Quoted | PieceKind::Unquoted if before.is_text() => self.meet(before, piece),
             PieceKind::Quoted | PieceKind::Unquoted => Ok(()),
         }
     }
-}
-
-/// Reports each quoted piece next to an unquoted one, and adjacent texts in an array or a vector.
-pub(crate) fn find_adjacent(
-    alloc: Global,
-    text: &[u8],
-    pieces: &[Piece],
-    warnings: &mut WarningCollector,
-) -> Result<(), AllocError> {
-    warnings.begin();
-    let mut search = AdjacentSearch {
-        open: Vec::new(alloc),
-        noted: Vec::new(alloc),
-    };
-    for pair in pieces.windows(2) {
-        if let [before, piece] = pair {
-            search.step(text, before, piece, warnings)?;
-        }
-    }
-    Ok(())
 }

@@ -1,12 +1,12 @@
 ghost use Rattle.std.specs.Prelude.{◌≤◌, IfOk, vec_len};
 ghost use Rattle.rb_lint.specs.Warnings.{AreInOrder, AreWithin, line_count};
 
-use crate::collector::WarningCollector;
 use crate::difference::{Difference, RootWarning};
 use crate::order::{AtLine, in_order};
 use crate::outline::{Outline, find_position};
+use crate::parent::Parent;
+use crate::path::{SHOWN_NAME, shortened};
 use crate::placeholders::placeholders;
-use crate::scan::{Quoting, split_pieces};
 use crate::search::line_count;
 use crate::steps::{Segment, Steps};
 use rb_tree::{Entries, Kind, Node, Tree, TreeList, UnitList};
@@ -57,6 +57,12 @@ fn ascii_bytes(alloc: Global, units: &[u16]) -> Result<Vec<u8>, AllocError> {
     Ok(bytes)
 }
 
+/// Checks whether an item has text to translate. A locale inherits the others, such as numbers, from
+/// the root.
+fn is_translated(tree: &Tree) -> bool {
+    matches!(tree, Tree::String(_) | Tree::Array(_) | Tree::Table(_))
+}
+
 /// Checks whether a key is one of ICU's, such as `%%ALIAS`, which each bundle has for itself.
 fn is_icu_key(key: &[u8]) -> bool {
     key.starts_with(b"%%")
@@ -66,8 +72,8 @@ fn is_icu_key(key: &[u8]) -> bool {
 #[derive(Drop)]
 struct Comparison<'a> {
     alloc: Global,
-    text: &'a [u8],
-    outline: Outline,
+    outline: &'a Outline,
+    parent: Parent,
     steps: Steps<'a>,
     /// The items that are still to be compared.
     pairs: Vec<Pair<'a>>,
@@ -90,6 +96,12 @@ impl<'a> Comparison<'a> {
         Ok(())
     }
 
+    /// Checks whether an item of the root that the text doesn't have is missing: neither inherited from
+    /// another locale nor the same in all languages.
+    fn is_missing(&self, key: &[u8], root: &Tree) -> bool {
+        self.parent == Parent::Root && is_translated(root) && !is_icu_key(key)
+    }
+
     /// Compares the value of one key of the root's table with the text's, if it has one.
     fn entry(
         &mut self,
@@ -99,7 +111,7 @@ impl<'a> Comparison<'a> {
         both: (&'a Tree, Option<&'a Tree>),
     ) -> Result<(), AllocError> {
         let (root, tree) = both;
-        if tree.is_none() && is_icu_key(key) {
+        if tree.is_none() && !self.is_missing(key, root) {
             return Ok(());
         }
         let at = Some(self.steps.add(pair.at, Segment::Key(key))?);
@@ -157,8 +169,8 @@ impl<'a> Comparison<'a> {
     }
 
     fn tables(&mut self, pair: &Pair<'a>, both: &Both<'a, Entries>) -> Result<(), AllocError> {
-        let text = self.text;
-        let positions = self.outline.keys(self.alloc, text, pair.position)?;
+        let outline = self.outline;
+        let positions = outline.keys(self.alloc, pair.position)?;
         self.entries(pair, &positions, both.root, both.tree)?;
         self.additions(pair, &positions, both.root, both.tree)
     }
@@ -192,7 +204,7 @@ impl<'a> Comparison<'a> {
     /// Reports placeholders that only one of two Strings has.
     fn names(&mut self, pair: &Pair<'a>, names: &[&[u8]], side: Side) -> Result<(), AllocError> {
         for name in names {
-            let name = name.to_vec(self.alloc)?;
+            let name = shortened(self.alloc, name, SHOWN_NAME)?;
             let difference = match side {
                 Side::Root => Difference::Lacks(name),
                 Side::Text => Difference::Adds(name),
@@ -246,35 +258,33 @@ impl<'a> Comparison<'a> {
 /// Compares a bundle text with that of the root locale. Reports keys that only one of them has,
 /// items of another kind, and placeholders of messages, such as `{0}` and `{name}`, that only one
 /// of two Strings has: at most 100 warnings, ordered by line. `tree` is the bundle that the text
-/// spells. The rules are this project's own.
+/// spells, and `name` the name of its locale. The rules are this project's own.
 ///
-/// A missing key is reported at the line of its table. Keys that begin with `%%` and aliases are
-/// skipped, and of arrays only the items that both have are compared. `Err` means out of memory.
+/// A missing key is reported at the line of its table, if its parent is the root and
+/// the root's item has text: a String, an array or a table. Keys that begin with `%%` and aliases are
+/// skipped, and of arrays only the items that both have are compared. Of a long path and a long name
+/// a warning has the first and the last bytes. `Err` means out of memory.
 ///
 /// ```rust
 /// // Of the text `de{a{"Hallo {nmae}"}}` beside `root{a{"Hello {name}"} b{"B"}}`:
-/// beside_root(alloc, text, &tree, &root)? // three warnings at line 1
+/// beside_root(alloc, text, &tree, &root, b"de")? // three warnings at line 1
 /// ```
 pub fn beside_root(
     alloc: Global,
     text: &[u8],
     tree: &Tree,
     root: &Tree,
+    name: &[u8],
 ) -> Result<Vec<RootWarning>, AllocError>
     ensures order { IfOk result (λ ws. AreInOrder (λ w. w.line) ws.items) }
     ensures within { IfOk result (λ ws. AreWithin (line_count text.now) (λ w. w.line) ws.items) }
     ensures few { IfOk result (λ ws. vec_len ws ≤ 100) }
 {
-    let (pieces, _) = split_pieces(
-        alloc,
-        text,
-        Quoting::OverLines,
-        &mut WarningCollector::new(alloc),
-    )?;
+    let outline = Outline::of(alloc, text)?;
     let mut comparison = Comparison {
         alloc,
-        text,
-        outline: Outline::of(alloc, &pieces)?,
+        outline: &outline,
+        parent: Parent::of(name, tree),
         steps: Steps::new(alloc),
         pairs: Vec::new(alloc),
         found: Vec::new(alloc),

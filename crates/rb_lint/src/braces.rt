@@ -1,67 +1,57 @@
 //! Finds lost braces by the indentation of lines.
 use crate::collector::WarningCollector;
-use crate::piece::{Piece, PieceKind};
+use crate::piece::{Piece, PieceKind, narrow};
+use crate::scan::Visit;
 use crate::warning::Doubt;
 use std::alloc::{AllocError, Global};
 
-/// A text counts as indented if, of the lines that follow a brace, at least this many are indented
-/// further for each one that is not.
-const INDENTED: usize = 9;
-
-fn is_indented(pieces: &[Piece]) -> bool {
-    let mut further: usize = 0;
-    let mut others: usize = 0;
-    for pair in pieces.windows(2) {
-        let [brace, next] = pair else {
-            return false;
-        };
-        if brace.kind != PieceKind::LeftBrace
-            || !next.begins_line
-            || next.kind == PieceKind::RightBrace
-        {
-            continue;
-        }
-        if next.column > brace.column {
-            further = further.saturating_add(1);
-        } else {
-            others = others.saturating_add(1);
-        }
-    }
-    further > 0 && further / INDENTED >= others
-}
+/// The column of the entries of a brace whose line has the first one: further lines may be indented
+/// by any amount, and one of them may close the brace at its end.
+const HANGING: u32 = u32::MAX;
 
 /// An open brace, or the whole text with column and line 0.
 #[derive(Clone, Copy, Debug)]
 struct OpenBrace {
     /// The column of the line that opened it.
-    column: u64,
-    line: u64,
-    /// The column of its first entry.
-    entries: Option<u64>,
+    column: u32,
+    line: u32,
+    /// The column of its first entry; 0 before that.
+    entries: u32,
 }
 
 #[derive(Drop)]
-struct Braces {
+pub(crate) struct BraceSearch {
     open: Vec<OpenBrace>,
     /// The first and the last line of the last quoted piece that spans lines: it may contain lost
     /// braces.
-    last_spanning: (u64, u64),
+    last_spanning: (u32, u32),
+    pub(crate) warnings: WarningCollector,
 }
 
-impl Braces {
+impl BraceSearch {
+    pub(crate) fn new(alloc: Global) -> Result<BraceSearch, AllocError> {
+        let mut open = Vec::new(alloc);
+        open.push(OpenBrace {
+            column: 0,
+            line: 0,
+            entries: 0,
+        })?;
+        Ok(BraceSearch {
+            open,
+            last_spanning: (0, 0),
+            warnings: WarningCollector::new(alloc),
+        })
+    }
+
     /// Closes the braces that an earlier line opened at this column or further right: they lack
     /// their closing brace.
-    fn close_before(
-        &mut self,
-        line: u64,
-        column: u64,
-        warnings: &mut WarningCollector,
-    ) -> Result<(), AllocError> {
+    fn close_before(&mut self, line: u64, column: u32) -> Result<(), AllocError> {
         for _ in 0..self.open.len() {
             match self.open.last() {
-                Some(top) if top.line < line && top.column >= column => {
+                Some(top) if u64::from(top.line) < line && top.column >= column => {
                     if top.line != self.last_spanning.0 {
-                        warnings.add(line, Doubt::NotClosed(top.line))?;
+                        self.warnings
+                            .add(line, Doubt::NotClosed(u64::from(top.line)))?;
                     }
                 }
                 _ => return Ok(()),
@@ -71,107 +61,94 @@ impl Braces {
         Ok(())
     }
 
-    fn begin_line(
-        &mut self,
-        piece: &Piece,
-        warnings: &mut WarningCollector,
-    ) -> Result<(), AllocError> {
-        self.close_before(piece.line, piece.column, warnings)?;
+    fn begin_line(&mut self, piece: &Piece) -> Result<(), AllocError> {
+        let column = narrow(piece.column);
+        self.close_before(piece.line, column)?;
         let Some(top) = self.open.last_mut() else {
             return Ok(());
         };
-        match top.entries {
-            None => top.entries = Some(piece.column),
-            Some(entries) if piece.kind == PieceKind::Unquoted && piece.column > entries => {
-                warnings.add(piece.line, Doubt::FurtherRight)?;
-                self.open.push(OpenBrace {
-                    column: entries,
-                    line: 0,
-                    entries: Some(piece.column),
-                })?;
-            }
-            Some(_) => {}
+        if top.entries == 0 {
+            top.entries = column;
+            return Ok(());
         }
+        if piece.kind != PieceKind::Unquoted || column <= top.entries {
+            return Ok(());
+        }
+        let brace = OpenBrace {
+            column: top.entries,
+            line: 0,
+            entries: column,
+        };
+        self.warnings.add(piece.line, Doubt::FurtherRight)?;
+        self.open.push(brace)?;
         Ok(())
     }
 
-    fn close_line(
-        &mut self,
-        piece: &Piece,
-        warnings: &mut WarningCollector,
-    ) -> Result<(), AllocError> {
-        self.close_before(piece.line, piece.column.saturating_add(1), warnings)?;
+    fn close_line(&mut self, piece: &Piece) -> Result<(), AllocError> {
+        let column = narrow(piece.column);
+        self.close_before(piece.line, column.saturating_add(1))?;
         match self.open.last() {
-            Some(top) if top.column == piece.column => {
+            Some(top) if top.column == column => {
                 let _ = self.open.pop();
                 Ok(())
             }
-            _ => warnings.add(piece.line, Doubt::NotOpened),
+            _ => self.warnings.add(piece.line, Doubt::NotOpened),
         }
     }
 
-    /// Handles a closing brace within a line; the same line should have opened it.
-    fn close_within(
-        &mut self,
-        piece: &Piece,
-        warnings: &mut WarningCollector,
-    ) -> Result<(), AllocError> {
+    /// Checks whether a closing brace within a line may close an open one: the same line should have
+    /// opened it, or have continued its entries.
+    fn closes(&self, piece: &Piece, top: &OpenBrace) -> bool {
+        let line = narrow(piece.line);
+        top.line == line
+            || self.last_spanning == (top.line, line)
+            || top.entries == HANGING && top.column < narrow(piece.column)
+    }
+
+    fn close_within(&mut self, piece: &Piece) -> Result<(), AllocError> {
         match self.open.last() {
-            Some(top) if top.line == piece.line || self.last_spanning == (top.line, piece.line) => {
+            Some(top) if self.closes(piece, top) => {
                 let _ = self.open.pop();
                 Ok(())
             }
-            _ => warnings.add(piece.line, Doubt::NotOpened),
+            _ => self.warnings.add(piece.line, Doubt::NotOpened),
         }
     }
 
-    fn step(&mut self, piece: &Piece, warnings: &mut WarningCollector) -> Result<(), AllocError> {
+    /// Notes whether a brace has its first entry in its own line.
+    fn continue_line(&mut self, piece: &Piece) {
+        if let Some(top) = self.open.last_mut() {
+            if top.entries == 0 && top.line == narrow(piece.line) {
+                top.entries = HANGING;
+            }
+        }
+    }
+}
+
+impl Visit for BraceSearch {
+    fn visit(&mut self, piece: &Piece) -> Result<(), AllocError> {
         if piece.kind == PieceKind::RightBrace {
             return if piece.begins_line {
-                self.close_line(piece, warnings)
+                self.close_line(piece)
             } else {
-                self.close_within(piece, warnings)
+                self.close_within(piece)
             };
         }
         if piece.begins_line {
-            self.begin_line(piece, warnings)?;
+            self.begin_line(piece)?;
+        } else {
+            self.continue_line(piece);
         }
         if piece.spans_lines {
-            self.last_spanning = (piece.line, piece.last_line);
+            self.last_spanning = (narrow(piece.line), narrow(piece.last_line));
         }
         if piece.kind == PieceKind::LeftBrace {
             self.open.push(OpenBrace {
-                column: piece.column,
-                line: piece.line,
-                entries: None,
+                column: narrow(piece.column),
+                line: narrow(piece.line),
+                entries: 0,
             })?;
         }
         Ok(())
     }
-}
-
-/// Reports braces of an indented text that close at another column than that of the line that
-/// opened them.
-pub(crate) fn find_braces(
-    alloc: Global,
-    pieces: &[Piece],
-    warnings: &mut WarningCollector,
-) -> Result<(), AllocError> {
-    warnings.begin();
-    if !is_indented(pieces) {
-        return Ok(());
-    }
-    let mut braces = Braces {
-        open: Vec::new(alloc),
-        last_spanning: (0, 0),
-    };
-    braces.open.push(OpenBrace {
-        column: 0,
-        line: 0,
-        entries: None,
-    })?;
-    for piece in pieces {
-        braces.step(piece, warnings)?;
-    }
-    Ok(())
 }

@@ -5,32 +5,30 @@ use crate::order::{WARNING_LIMIT, in_order};
 use crate::warning::{Doubt, Warning};
 use std::alloc::{AllocError, Global};
 
-/// Collects the warnings of several searches, and only the first ones of each.
+/// Collects the first warnings of a search.
 #[derive(Drop)]
 pub(crate) struct WarningCollector {
     found: Vec<Warning>,
-    remaining: usize,
 }
 
 impl WarningCollector {
     pub(crate) fn new(alloc: Global) -> WarningCollector {
         WarningCollector {
             found: Vec::new(alloc),
-            remaining: WARNING_LIMIT,
         }
-    }
-
-    /// Begins another search, with its own limit.
-    pub(crate) fn begin(&mut self) {
-        self.remaining = WARNING_LIMIT;
     }
 
     /// Adds a warning, unless the search has reached its limit.
     pub(crate) fn add(&mut self, line: u64, doubt: Doubt) -> Result<(), AllocError> {
-        if self.remaining > 0 {
-            self.remaining -= 1;
+        if self.found.len() < WARNING_LIMIT {
             self.found.push(Warning { line, doubt })?;
         }
+        Ok(())
+    }
+
+    /// Appends the warnings of another search.
+    pub(crate) fn append(&mut self, other: &WarningCollector) -> Result<(), AllocError> {
+        self.found.extend_from_slice(&other.found)?;
         Ok(())
     }
 

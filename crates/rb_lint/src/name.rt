@@ -1,10 +1,7 @@
-use crate::collector::WarningCollector;
 use crate::piece::{Piece, PieceKind};
-use crate::warning::Doubt;
-use std::alloc::AllocError;
 
 /// Returns the characters of a piece, or None if it has escapes.
-pub(crate) fn characters<'a>(text: &'a [u8], piece: &Piece) -> Option<&'a [u8]> {
+fn characters<'a>(text: &'a [u8], piece: &Piece) -> Option<&'a [u8]> {
     let bytes = text.get(piece.first..piece.past)?;
     if bytes.contains(&b'\\') {
         return None;
@@ -16,21 +13,10 @@ pub(crate) fn characters<'a>(text: &'a [u8], piece: &Piece) -> Option<&'a [u8]> 
     }
 }
 
-/// Reports a bundle's name, if it is a single piece, that differs from its file's.
-pub(crate) fn find_name(
-    text: &[u8],
-    pieces: &[Piece],
-    stem: &[u8],
-    warnings: &mut WarningCollector,
-) -> Result<(), AllocError> {
-    warnings.begin();
-    let [name, next, ..] = pieces else {
-        return Ok(());
-    };
+/// Checks whether a bundle's name, if the first piece is all of it, differs from its file's.
+pub(crate) fn is_other_name(text: &[u8], name: &Piece, next: &Piece, stem: &[u8]) -> bool {
     match characters(text, name) {
-        Some(bytes) if bytes != stem && !next.is_text() => {
-            warnings.add(name.line, Doubt::OtherName)
-        }
-        _ => Ok(()),
+        Some(bytes) => bytes != stem && !next.is_text(),
+        None => false,
     }
 }

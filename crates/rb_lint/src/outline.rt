@@ -1,12 +1,11 @@
-use crate::name::characters;
-use crate::piece::{Piece, PieceKind};
+use rb_lexer::{Mark, SourceFault, SourceKind, Token, Tokens};
 use std::alloc::{AllocError, Global};
 
 /// The position of an entry of a table or an item of an array. The positions inside it follow it.
 #[derive(Clone, Copy, Debug)]
 pub(crate) struct SourcePos {
-    /// Its key, if that is a single piece.
-    key: Option<Piece>,
+    /// The range of its key in the bytes of all keys.
+    key: Option<(usize, usize)>,
     pub(crate) line: u64,
     /// The index after the last position inside it.
     past: usize,
@@ -15,74 +14,92 @@ pub(crate) struct SourcePos {
 /// The keys of a table, ascending, each with the index of its position.
 pub(crate) type Keys<'a> = Vec<(&'a [u8], usize)>;
 
-/// Adjacent texts, which form a key or an item.
-#[derive(Clone, Copy, Debug)]
-struct AdjacentTexts {
-    line: u64,
-    key: Option<Piece>,
-}
-
 /// The positions of the entries and items of a valid text, in order; the first is the bundle.
 #[derive(Drop)]
 pub(crate) struct Outline {
     positions: Vec<SourcePos>,
     open: Vec<usize>,
-    texts: Option<AdjacentTexts>,
+    /// The bytes of all keys.
+    keys: Vec<u8>,
+    /// The last text, which is a key if a colon or a brace comes next, and else an item.
+    text: Option<Token>,
     /// A colon precedes: the next text is a type, and no key.
     is_type: bool,
 }
 
+/// Checks whether a text could not be split because memory ran out.
+fn is_memory(fault: &SourceFault) -> bool {
+    matches!(fault.kind, SourceKind::Memory)
+}
+
 impl Outline {
-    pub(crate) fn of(alloc: Global, pieces: &[Piece]) -> Result<Outline, AllocError> {
+    /// Reads the positions of a text. A text that can't be split into tokens has none.
+    pub(crate) fn of(alloc: Global, text: &[u8]) -> Result<Outline, AllocError> {
         let mut outline = Outline {
             positions: Vec::new(alloc),
             open: Vec::new(alloc),
-            texts: None,
+            keys: Vec::new(alloc),
+            text: None,
             is_type: false,
         };
-        for piece in pieces {
-            outline.step(piece)?;
+        match Tokens::of(alloc, text) {
+            Ok(mut tokens) => outline.read(&mut tokens)?,
+            Err(fault) if is_memory(&fault) => return Err(AllocError),
+            Err(_) => {}
         }
         Ok(outline)
     }
 
-    fn text(&mut self, piece: &Piece) {
-        if self.is_type {
-            return;
+    fn read(&mut self, tokens: &mut Tokens<'_>) -> Result<(), AllocError> {
+        for _ in 0..u64::MAX {
+            let Some(token) = tokens.pop()? else {
+                return Ok(());
+            };
+            self.step(token)?;
         }
-        self.texts = Some(match self.texts {
-            None => AdjacentTexts {
-                line: piece.line,
-                key: Some(*piece),
-            },
-            Some(texts) => AdjacentTexts {
-                line: texts.line,
-                key: None,
-            },
-        });
-    }
-
-    fn enter(&mut self, piece: &Piece) -> Result<(), AllocError> {
-        self.open.push(self.positions.len())?;
-        let (line, key) = match self.texts {
-            Some(texts) => (texts.line, texts.key),
-            None => (piece.line, None),
-        };
-        self.texts = None;
-        self.is_type = false;
-        self.positions.push(SourcePos { key, line, past: 0 })?;
         Ok(())
     }
 
+    /// Appends the characters of a text to the keys.
+    fn add_key(&mut self, token: &Token) -> Result<(usize, usize), AllocError> {
+        let first = self.keys.len();
+        if let Mark::Text(units) = &token.what {
+            for unit in units.as_slice() {
+                self.keys.push(u8::try_from(*unit).unwrap_or(b'?'))?;
+            }
+        }
+        Ok((first, self.keys.len()))
+    }
+
+    /// Begins a body at a brace; the text before it, if there is one, is its key.
+    fn enter(&mut self, brace: &Token) -> Result<(), AllocError> {
+        self.open.push(self.positions.len())?;
+        self.is_type = false;
+        let position = match self.text.take() {
+            Some(token) => SourcePos {
+                key: Some(self.add_key(&token)?),
+                line: token.line,
+                past: 0,
+            },
+            None => SourcePos {
+                key: None,
+                line: brace.line,
+                past: 0,
+            },
+        };
+        self.positions.push(position)?;
+        Ok(())
+    }
+
+    /// Ends an item that is a text.
     fn end_text(&mut self) -> Result<(), AllocError> {
-        let Some(texts) = self.texts else {
+        let Some(token) = self.text.take() else {
             return Ok(());
         };
-        self.texts = None;
         let past = self.positions.len().saturating_add(1);
         self.positions.push(SourcePos {
             key: None,
-            line: texts.line,
+            line: token.line,
             past,
         })?;
         Ok(())
@@ -97,19 +114,20 @@ impl Outline {
         }
     }
 
-    fn step(&mut self, piece: &Piece) -> Result<(), AllocError> {
-        match piece.kind {
-            PieceKind::Quoted | PieceKind::Unquoted => {
-                self.text(piece);
+    fn step(&mut self, token: Token) -> Result<(), AllocError> {
+        match &token.what {
+            Mark::Text(_) if self.is_type => Ok(()),
+            Mark::Text(_) => {
+                self.text = Some(token);
                 Ok(())
             }
-            PieceKind::Colon => {
+            Mark::Colon => {
                 self.is_type = true;
                 Ok(())
             }
-            PieceKind::LeftBrace => self.enter(piece),
-            PieceKind::Comma => self.end_text(),
-            PieceKind::RightBrace => {
+            Mark::LeftBrace => self.enter(&token),
+            Mark::Comma => self.end_text(),
+            Mark::RightBrace => {
                 self.end_text()?;
                 self.leave();
                 Ok(())
@@ -125,13 +143,8 @@ impl Outline {
         }
     }
 
-    /// Returns the keys of a table, without those of several pieces and those with escapes.
-    pub(crate) fn keys<'a>(
-        &self,
-        alloc: Global,
-        text: &'a [u8],
-        table: Option<usize>,
-    ) -> Result<Keys<'a>, AllocError> {
+    /// Returns the keys of a table.
+    pub(crate) fn keys(&self, alloc: Global, table: Option<usize>) -> Result<Keys<'_>, AllocError> {
         let mut keys = Vec::new(alloc);
         let end = self.past(table);
         let mut at = table.unwrap_or(end).saturating_add(1);
@@ -142,8 +155,8 @@ impl Outline {
             let Some(position) = self.positions.get(at) else {
                 break;
             };
-            if let Some(key) = key_of(text, position) {
-                keys.push((key, at))?;
+            if let Some((first, past)) = position.key {
+                keys.push((self.keys.get(first..past).unwrap_or(&[]), at))?;
             }
             at = position.past;
         }
@@ -172,14 +185,6 @@ impl Outline {
             Some(position) => position.past,
             None => 0,
         }
-    }
-}
-
-/// Returns the key at a position, if it is a single piece without escapes.
-fn key_of<'a>(text: &'a [u8], position: &SourcePos) -> Option<&'a [u8]> {
-    match &position.key {
-        Some(piece) => characters(text, piece),
-        None => None,
     }
 }
 

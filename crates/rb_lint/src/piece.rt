@@ -30,3 +30,9 @@ impl Piece {
         matches!(self.kind, PieceKind::Quoted | PieceKind::Unquoted)
     }
 }
+
+/// Converts a number to a narrow one, or to the largest: what is stored for each open brace is kept
+/// small.
+pub(crate) fn narrow(number: u64) -> u32 {
+    u32::try_from(number).unwrap_or(u32::MAX)
+}

@@ -73,7 +73,8 @@ struct Scan {
     column: u64,
     begins_line: bool,
     piece: Option<Piece>,
-    pieces: Vec<Piece>,
+    /// The pieces that ended at this byte: at most two.
+    ended: Vec<Piece>,
 }
 
 impl Scan {
@@ -85,8 +86,17 @@ impl Scan {
             column: 1,
             begins_line: true,
             piece: None,
-            pieces: Vec::new(alloc),
+            ended: Vec::new(alloc),
         }
+    }
+
+    /// Passes the ended pieces to a visitor.
+    fn flush<V: Visit>(&mut self, visitor: &mut V) -> Result<(), AllocError> {
+        for piece in &self.ended {
+            visitor.visit(piece)?;
+        }
+        self.ended.clear();
+        Ok(())
     }
 
     /// Checks whether the text ends inside a quoted piece.
@@ -114,7 +124,7 @@ impl Scan {
         if let Some(mut piece) = self.piece.take() {
             piece.past = past;
             piece.last_line = self.line;
-            self.pieces.push(piece)?;
+            self.ended.push(piece)?;
         }
         self.begins_line = false;
         self.state = State::Between;
@@ -275,14 +285,20 @@ impl Scan {
     }
 }
 
-/// Splits a text into pieces, and reports its doubtful escapes. Returns also whether the text ends
-/// inside a quoted piece.
-pub(crate) fn split_pieces(
+/// Takes the pieces of a text, one by one.
+pub(crate) trait Visit {
+    fn visit(&mut self, piece: &Piece) -> Result<(), AllocError>;
+}
+
+/// Passes the pieces of a text to a visitor, and reports its doubtful escapes. Returns whether the
+/// text ends inside a quoted piece. No piece is stored: a text can have as many as it has bytes.
+pub(crate) fn visit_pieces<V: Visit>(
     alloc: Global,
     text: &[u8],
     quoting: Quoting,
-    warnings: &mut WarningCollector,
-) -> Result<(Vec<Piece>, bool), AllocError> {
+    escapes: &mut WarningCollector,
+    visitor: &mut V,
+) -> Result<bool, AllocError> {
     let mut scan = Scan::new(alloc, quoting);
     for (at, byte) in text.iter().enumerate() {
         let window = &text[at..];
@@ -292,10 +308,12 @@ pub(crate) fn split_pieces(
                 byte: *byte,
                 window,
             },
-            warnings,
+            escapes,
         )?;
+        scan.flush(visitor)?;
     }
     let is_open = scan.is_open();
     scan.end(text.len())?;
-    Ok((scan.pieces, is_open))
+    scan.flush(visitor)?;
+    Ok(is_open)
 }

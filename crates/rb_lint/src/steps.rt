@@ -1,3 +1,4 @@
+use crate::path::{SHOWN_PATH, shortened};
 use std::alloc::{AllocError, Global};
 
 #[derive(Clone, Copy, Debug)]
@@ -54,7 +55,8 @@ impl<'a> Steps<'a> {
         Ok(segments)
     }
 
-    /// Returns the path up to a step: keys and indexes with slashes between them.
+    /// Returns the path up to a step: keys and indexes with slashes between them. Of a long key, and of
+    /// a long path, it has the first and the last bytes.
     pub(crate) fn path(&self, last: Option<usize>) -> Result<Vec<u8>, AllocError> {
         let mut path = Vec::new(self.alloc);
         for segment in self.back_from(last)?.iter().rev() {
@@ -62,13 +64,15 @@ impl<'a> Steps<'a> {
                 path.push(b'/')?;
             }
             match segment {
-                Segment::Key(key) => path.extend_from_slice(key)?,
+                Segment::Key(key) => {
+                    path.extend_from_slice(&shortened(self.alloc, key, SHOWN_PATH)?)?;
+                }
                 Segment::Index(index) => {
                     let index = format!(in self.alloc; "{index}")?;
                     path.extend_from_slice(index.as_bytes())?;
                 }
             }
         }
-        Ok(path)
+        shortened(self.alloc, &path, SHOWN_PATH)
     }
 }

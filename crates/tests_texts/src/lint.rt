@@ -17,7 +17,13 @@ none|de{a{Guten Tag, Hallo Welt}}
 1 Escape q|de{a{"\q" "\n"}}
 1 TwoBackslashes|de{a{"\\u005c"}}
 1 OtherName|fr{a{"b"}}
-none|de { // " {~ /* " { */ a { "b" }~}~"#;
+none|de { // " {~ /* " { */ a { "b" }~}~
+none|de {~  days { "Mo",~         "Tu" }~  a { "x"~        "y" }~  b { "z" }~}~
+none|de {~  a:int { z }~  days { "Mo",~         "Tu" }~}~
+none|de {~  a {~    b { "x" }~    c { "y" } }~  d { "z" } }~
+none|de~{~  a~  {~    b { "x" }~  }~}~
+none|de{a{b{"x"}~c{"y"}}d{"z"}}~
+3 NotOpened|de {~  days { "Mo",~         "Tu" } }~  a { "x" }~}~"#;
 
 /// Reads a doubt from its name.
 fn doubt_of(name: &str) -> Option<Doubt> {
@@ -28,6 +34,7 @@ fn doubt_of(name: &str) -> Option<Doubt> {
         "Escape q" => Some(Doubt::Escape('q')),
         "TwoBackslashes" => Some(Doubt::TwoBackslashes),
         "OtherName" => Some(Doubt::OtherName),
+        "NotOpened" => Some(Doubt::NotOpened),
         _ => None,
     }
 }
@@ -147,8 +154,8 @@ fn bundle_text(alloc: Global, message: &str) -> Result<Vec<u8>, Fail> {
 fn has_placeholders(alloc: Global, message: &str, names: &[&str]) -> Result<bool, Fail> {
     let (with, without) = (bundle_text(alloc, message)?, bundle_text(alloc, "")?);
     let (full, empty) = (source(alloc, &with)?, source(alloc, &without)?);
-    let adds = beside_root(alloc, &with, &full.tree, &empty.tree)?;
-    let lacks = beside_root(alloc, &without, &empty.tree, &full.tree)?;
+    let adds = beside_root(alloc, &with, &full.tree, &empty.tree, b"de")?;
+    let lacks = beside_root(alloc, &without, &empty.tree, &full.tree, b"de")?;
     Ok(are_named(&adds, names, false) && are_named(&lacks, names, true))
 }
 

@@ -1,0 +1,44 @@
+use rb_tree::{Entries, Tree};
+
+/// The locale that a text inherits from.
+#[derive(Clone, Copy, Debug, PartialEq, Eq)]
+pub(crate) enum Parent {
+    /// The root: what the text lacks is missing in its language.
+    Root,
+    /// Another locale, which may have what the text lacks.
+    Other,
+}
+
+const ROOT: &[u8] = b"root";
+
+fn is_root(units: &[u16]) -> bool {
+    units.len() == ROOT.len()
+        && units
+            .iter()
+            .zip(ROOT)
+            .all(|(unit, byte)| *unit == u16::from(*byte))
+}
+
+/// Returns the parent that an explicit `%%Parent` names, if there is one.
+fn explicit_parent(entries: &Entries) -> Option<Parent> {
+    match entries.get(b"%%Parent")? {
+        Tree::String(units) if is_root(units.as_slice()) => Some(Parent::Root),
+        _ => Some(Parent::Other),
+    }
+}
+
+impl Parent {
+    /// Returns the parent of a bundle with this name: the one that its `%%Parent` names, else the
+    /// root if the name has one part, as `de`, and another locale if it has more, as `de_AT`.
+    pub(crate) fn of(name: &[u8], tree: &Tree) -> Parent {
+        let explicit = match tree {
+            Tree::Table(entries) => explicit_parent(entries),
+            _ => None,
+        };
+        match explicit {
+            Some(parent) => parent,
+            None if name.contains(&b'_') || name.contains(&b'-') => Parent::Other,
+            None => Parent::Root,
+        }
+    }
+}
