@@ -6,6 +6,7 @@ mod beside;
 mod braces;
 mod collector;
 mod difference;
+mod direction;
 mod layout;
 mod name;
 mod order;

@@ -23,6 +23,8 @@ pub(crate) struct Piece {
     pub(crate) begins_line: bool,
     /// It is quoted and spans lines.
     pub(crate) spans_lines: bool,
+    /// It has a control of the writing direction that it doesn't close.
+    pub(crate) is_turned: bool,
 }
 
 impl Piece {

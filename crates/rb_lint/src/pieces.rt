@@ -20,6 +20,7 @@ struct PieceSearch<'a> {
     quotes: WarningCollector,
     adjacent: AdjacentSearch,
     names: WarningCollector,
+    turns: WarningCollector,
 }
 
 impl<'a> PieceSearch<'a> {
@@ -33,6 +34,7 @@ impl<'a> PieceSearch<'a> {
             quotes: WarningCollector::new(alloc),
             adjacent: AdjacentSearch::new(alloc),
             names: WarningCollector::new(alloc),
+            turns: WarningCollector::new(alloc),
         }
     }
 
@@ -50,6 +52,9 @@ impl<'a> Visit for PieceSearch<'a> {
     fn visit(&mut self, piece: &Piece) -> Result<(), AllocError> {
         if piece.spans_lines {
             self.quotes.add(piece.line, Doubt::RunsOn)?;
+        }
+        if piece.is_turned {
+            self.turns.add(piece.line, Doubt::Direction)?;
         }
         let before = self.before;
         self.layout.step(before.as_ref(), piece);
@@ -69,6 +74,7 @@ pub(crate) struct Found {
     pub(crate) quotes: WarningCollector,
     pub(crate) adjacent: WarningCollector,
     pub(crate) names: WarningCollector,
+    pub(crate) turns: WarningCollector,
     pub(crate) layout: Layout,
     pub(crate) quoting: Quoting,
     /// The text ends inside a quoted piece.
@@ -90,6 +96,7 @@ pub(crate) fn search_pieces<'a>(
         quotes: search.quotes,
         adjacent: search.adjacent.found(),
         names: search.names,
+        turns: search.turns,
         layout: search.layout,
         quoting,
         is_open,

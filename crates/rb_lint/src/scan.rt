@@ -1,5 +1,6 @@
 //! Splits a text into pieces. The text may have any errors.
 use crate::collector::WarningCollector;
+use crate::direction::Direction;
 use crate::piece::{Piece, PieceKind};
 use crate::warning::Doubt;
 use std::alloc::{AllocError, Global};
@@ -73,6 +74,7 @@ struct Scan {
     column: u64,
     begins_line: bool,
     piece: Option<Piece>,
+    direction: Direction,
     /// The pieces that ended at this byte: at most two.
     ended: Vec<Piece>,
 }
@@ -86,6 +88,7 @@ impl Scan {
             column: 1,
             begins_line: true,
             piece: None,
+            direction: Direction::new(),
             ended: Vec::new(alloc),
         }
     }
@@ -115,14 +118,17 @@ impl Scan {
             column: self.column,
             begins_line: self.begins_line,
             spans_lines: false,
+            is_turned: false,
         });
         self.begins_line = false;
+        self.direction = Direction::new();
         self.state = state;
     }
 
     fn end(&mut self, past: usize) -> Result<(), AllocError> {
         if let Some(mut piece) = self.piece.take() {
             piece.past = past;
+            piece.is_turned = self.direction.is_open();
             piece.last_line = self.line;
             self.ended.push(piece)?;
         }
@@ -189,7 +195,10 @@ impl Scan {
             _ if window.starts_with(b"//") => self.state = State::LineComment,
             _ if window.starts_with(b"/*") => self.state = State::BlockStart,
             _ if is_wide_white(window) => self.state = State::Skip(2),
-            _ => self.begin(PieceKind::Unquoted, at, State::Unquoted),
+            _ => {
+                self.begin(PieceKind::Unquoted, at, State::Unquoted);
+                self.direction.step(window);
+            }
         }
         Ok(())
     }
@@ -209,6 +218,7 @@ impl Scan {
             self.note_escape(window, warnings)?;
             self.state = State::UnquotedEscape;
         }
+        self.direction.step(window);
         Ok(())
     }
 
@@ -232,7 +242,10 @@ impl Scan {
                 self.state = State::QuotedEscape;
                 self.note_escape(input.window, warnings)
             }
-            _ => Ok(()),
+            _ => {
+                self.direction.step(input.window);
+                Ok(())
+            }
         }
     }
 

@@ -71,5 +71,6 @@ pub fn lint<'a>(
     warnings.append(&found.adjacent)?;
     warnings.append(&braces)?;
     warnings.append(&found.names)?;
+    warnings.append(&found.turns)?;
     warnings.ordered(alloc, line_count(text))
 }

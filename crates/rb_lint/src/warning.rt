@@ -20,6 +20,8 @@ pub enum Doubt {
     /// Two backslashes are where one would begin an escape.
     TwoBackslashes,
     OtherName,
+    /// A control of the writing direction isn't closed in its piece.
+    Direction,
 }
 
 impl fmt::Display for Doubt {
@@ -54,6 +56,9 @@ impl fmt::Display for Doubt {
                 "two backslashes are one backslash, and what follows is no escape"
             }
             Doubt::OtherName => "the bundle's name isn't the file's",
+            Doubt::Direction => {
+                "a control of the writing direction isn't closed in this text, which is shown in another order; is it meant?"
+            }
         })
     }
 }

@@ -74,6 +74,29 @@ fn finds_what_is_doubtful(rt: HostRuntime) {
     assert!(rt; is_linted(rt.alloc(), b"\xEF\xBB\xBFde{a{\"b\"}}", &[]));
 }
 
+/// Texts with controls of the writing direction, and whether one of them isn't closed in its piece.
+const DIRECTED: [(&str, bool); 7] = [
+    ("de{a{\"x \u{202E} y\"}}", true),
+    ("de{a{\u{2067}y}}", true),
+    ("de{a{\"\u{2066}y\u{202C}\"}}", true),
+    ("de{a{\"\u{202A}x\u{202C}\"}}", false),
+    ("de{a{\"\u{202E}x\u{202C} \u{2066}{0}\u{2069}\"}}", false),
+    ("de{a{\"\\u202E\"} // \u{202E}\n}", false),
+    ("de{a{\"\u{200E}x\u{200F}\"}}", false),
+];
+
+#[test]
+fn finds_open_directions(rt: HostRuntime) {
+    let doubtful = [Warning {
+        line: 1,
+        doubt: Doubt::Direction,
+    }];
+    for (text, is_open) in DIRECTED {
+        let wanted = if is_open { doubtful.as_slice() } else { &[] };
+        assert!(rt; is_linted(rt.alloc(), text.as_bytes(), wanted), "{text}");
+    }
+}
+
 const INDENTED: &[u8] =
     b"de {\n    a {\n        b { \"c\" }\n    }\n    d {\n        e { \"f\" }\n    }\n}\n";
 
