@@ -1,6 +1,7 @@
 #!/usr/bin/env python3
 """Many texts at once, mistakes in a text, and request lines: `resb compile --to` beside one genrb process, what
-`resb lint` finds of mistakes, and the time of `resb lines`, over the bundles of CLDR in ICU's data.
+`resb lint` finds of mistakes and says of good texts in other layouts, and the time of `resb lines`, over the bundles of
+CLDR in ICU's data.
 
 usage: daily.py [--store FILE] [--package DATA] [PROGRAM], or daily.py --self-test [PROGRAM]
     (PROGRAM is by default crates/rb_tool/out/rb_tool)
@@ -8,9 +9,10 @@ usage: daily.py [--store FILE] [--package DATA] [PROGRAM], or daily.py --self-te
 DATA is the package icudt*l.dat of ICU's data; without it that of the installed libicudata is taken
 (docs/ICU.md), and tools/icu2text makes texts of it. A mistake is one character taken out of de.txt, of MISTAKES
 for each of `"`, `{` and `}`, chosen by a fixed seed; it is found where a line that lint names is within NEAR
-lines of it. Times are of one process, processor time and time on the clock, the middle of RUNS runs, and behind
-it the least and the greatest, those of genrb (Debian's icu-devtools) in turn with those of resb; without genrb
-its goal is left out. At the end comes each goal, and whether it holds; --store FILE keeps the figures as JSON.
+lines of it. One of EVERY texts is laid out in the styles of layouts.py, and lint must say nothing of them. Times
+are of one process, processor time and time on the clock, the middle of RUNS runs, and behind it the least and the
+greatest, those of genrb (Debian's icu-devtools) in turn with those of resb; without genrb its goal is left out. At
+the end comes each goal, and whether it holds; --store FILE keeps the figures as JSON.
 
 --self-test runs all of it over a few small texts of its own, and ends with status 1 where something is not as
 it must be.
@@ -25,10 +27,12 @@ import tempfile
 import time
 
 import icu
+import layouts
 from figures import store
 from turns import RUNS, Goal, Spread, by_turns, command_line, ratio, seconds, spread, tool
 
 MISTAKES, NEAR, SEED = 60, 2, 27
+EVERY = 30
 SHARE, LINES_SECONDS = 0.6, 1.0
 FOUND = {'"': 55, "{": 30, "}": 30}
 SMALL = """de {
@@ -103,6 +107,21 @@ def found(program, text, name, folder, character, count):
     return hits, len(tried)
 
 
+def false_alarms(program, texts, folder):
+    """How many of some good texts, each in all styles, lint says something of, and how many there are."""
+    alarms, tried = 0, 0
+    for path in texts[::EVERY]:
+        with open(path, encoding="utf-8") as file:
+            styles = layouts.laid_out(file.read())
+        for text in styles.values():
+            laid = os.path.join(folder, os.path.basename(path))
+            with open(laid, "w", encoding="utf-8") as file:
+                file.write(text)
+            alarms += bool(lint_lines(program, laid))
+            tried += 1
+    return alarms, tried
+
+
 def lines_runs(program, files, runs):
     """The times of `lines` over files."""
     return columns(timed([program, "lines", "cldr", *files]) for _ in range(runs))
@@ -122,25 +141,28 @@ def report(program, texts, text, folder, runs, count):
     hits = {character: found(program, text, "de.txt", folder, character, count) for character in FOUND}
     for character, (hit, tried) in hits.items():
         print(f"lint, one {character} taken out: {hit} of {tried} found within {NEAR} lines")
+    alarms = false_alarms(program, texts, fresh(folder, "laid"))
+    print(f"lint, good texts in {len(layouts.STYLES)} layouts: {alarms[0]} of {alarms[1]} with a warning")
     files = made_by(folder)
     lines = lines_runs(program, named(files), runs)
     print(f"lines, {len(files)} files: {spread(lines[0])} s of processor time, {spread(lines[1])} s on the clock")
-    return ours, theirs, hits, lines
+    return ours, theirs, hits, alarms, lines
 
 
-def goals(ours, theirs, hits, lines):
+def goals(ours, theirs, hits, alarms, lines):
     if theirs:
         yield Goal("time of `compile --to` beside one genrb", ratio(ours[0], theirs[0]), SHARE)
     for character, bound in FOUND.items():
         hit = hits[character][0]
         yield Goal(f"mistakes found of {MISTAKES} `{character}` taken out", Spread(hit, hit, hit), bound, True)
+    yield Goal("good texts in other layouts with a warning", Spread(alarms[0], alarms[0], alarms[0]), 0)
     yield Goal("seconds of `lines` on the clock", spread(lines[1]), LINES_SECONDS)
 
 
-def rows(count, ours, theirs, hits, lines):
+def rows(count, ours, theirs, hits, alarms, lines):
     kinds = {"compile --to": ours, "genrb": theirs, "lines": lines}
     times = {name: {"processor": found[0], "clock": found[1]} for name, found in kinds.items() if found}
-    return {"texts": count, **times, "mistakes": {character: list(pair) for character, pair in hits.items()}}
+    return {"texts": count, **times, "mistakes": {character: list(pair) for character, pair in hits.items()}, "layouts": list(alarms)}
 
 
 def cldr(data, program, path):
@@ -158,13 +180,15 @@ def cldr(data, program, path):
 
 def wrong_of(told, files):
     """What of the figures over small texts isn't as it must be."""
-    ours, theirs, hits, lines = told
+    ours, theirs, hits, alarms, lines = told
     if mistakes('a\n"b\n"c"', '"', 9) != [(2, 2), (5, 3), (7, 3)]:
         yield "the lines of mistakes"
     if len(files) != 3:
         yield f"{len(files)} files of 3 texts"
     if any(tried != 4 or hit < 3 for hit, tried in hits.values()):
         yield f"mistakes found: {hits}"
+    if alarms != (0, len(layouts.STYLES)):
+        yield f"good texts in other layouts with a warning: {alarms}"
     if not all(used >= 0 for times in (*ours, *(theirs or ()), *lines) for used in times):
         yield "times"
 
