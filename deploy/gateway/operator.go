@@ -155,8 +155,11 @@ func askUpgrade(folder, program string, out io.Writer) error {
 	}
 	client := http.Client{Transport: &http.Transport{DialContext: dial}}
 	response, err := client.Post("http://gateway/upgrade", "text/plain", strings.NewReader(path))
-	if err != nil {
-		return fmt.Errorf("no gateway answers in %s: %w", folder, err)
+	var unreached *net.OpError
+	if errors.As(err, &unreached) {
+		return fmt.Errorf("no gateway answers in %s: %w", folder, unreached.Err)
+	} else if err != nil {
+		return err
 	}
 	defer response.Body.Close()
 	text, err := io.ReadAll(response.Body)
