@@ -483,3 +483,33 @@ func TestGracefulEnd(t *testing.T) {
 		t.Errorf("%d %s", status, body)
 	}
 }
+
+// TestCallersThatLeaveTheirReplies has callers of many long replies go once the application may have no more of them: what was
+// counted for them is free again, and the application is answered.
+func TestCallersThatLeaveTheirReplies(t *testing.T) {
+	s := open(t)
+	if got := s.ask("PUT", "/v1/shop/de.txt", shopWrites, `de{a{"A"} long{"`+strings.Repeat("x", 1<<20)+`"}}`); got.StatusCode != 201 {
+		t.Fatalf("%d %s", got.StatusCode, got.body)
+	}
+	lines := func() float64 { return s.measured()[`resb_shard_lines_total{shard="0"}`] }
+	body := strings.Repeat(`{"locale":"de","path":"long"}`+"\n", 120)
+	request := begins("POST", "/v1/shop/look", fmt.Sprintf("Content-Length: %d\r\n\r\n%s", len(body), body))
+	for i := 0; i < 3; i++ {
+		before := lines()
+		c, err := net.Dial("tcp", strings.TrimPrefix(s.url, "http://"))
+		if err != nil {
+			t.Fatal(err)
+		}
+		if _, err := io.WriteString(c, request); err != nil {
+			t.Fatal(err)
+		}
+		eventually(t, "the application has 40 MB of replies", func() bool { return lines() >= before+40 })
+		c.Close()
+		s.onTheirWay(0)
+	}
+	for _, path := range []string{"long", "a"} {
+		if got := s.ask("GET", "/v1/shop/de/"+path, shopReads, ""); got.StatusCode != 200 {
+			t.Errorf("%s: %d %s", path, got.StatusCode, got.body)
+		}
+	}
+}

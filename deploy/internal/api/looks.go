@@ -51,10 +51,11 @@ func (c *call) stream(lines []byte) {
 			waiting = append(waiting, c.askSome(ctx, some)...)
 			continue
 		}
-		if !c.first(waiting[0], out) {
+		next := waiting[0]
+		waiting = waiting[1:] // first takes what is in it, so that nobody may wait for it again
+		if !c.first(next, out) {
 			return
 		}
-		waiting = waiting[1:]
 	}
 }
 
