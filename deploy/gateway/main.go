@@ -24,7 +24,7 @@ import (
 	"luvdregan.example/resb/deploy/internal/store/sqlite"
 )
 
-// What the gateway was built from; `-ldflags "-X main.version=.. -X main.commit=.."` sets them.
+// version and commit name the sources of the gateway; `-ldflags "-X main.version=.. -X main.commit=.."` sets them.
 var version, commit = "unknown", "unknown"
 
 //go:embed try.html

@@ -26,7 +26,7 @@ func notify(state string) error {
 	return err
 }
 
-// What the service manager is told. Filling a server may take long, so the time for the start is extended as long as it goes on.
+// Messages to the service manager. Filling a server may take long, so the time for the start is extended until it is done.
 const (
 	serving  = "READY=1\nSTATUS=serves"
 	filling  = "STATUS=fills the servers\nEXTEND_TIMEOUT_USEC=30000000"

@@ -57,7 +57,7 @@ func begin(t *testing.T) (*Turns, *Child) {
 	return turns, c
 }
 
-// halt stops a process, and returns once all its threads stand: until then some of them go on.
+// halt stops a process, and returns once all its threads have stopped: until then some of them run.
 func halt(t *testing.T, pid int) {
 	t.Helper()
 	if err := syscall.Kill(pid, syscall.SIGSTOP); err != nil {

@@ -101,7 +101,7 @@ func (r *Replica) serving() *child.Child {
 	return r.serves
 }
 
-// awaitServing is told of a server that has just ended. It waits while the other one has what isn't stored, or lacks what is: then
+// awaitServing takes a server that has just ended, or nil. It waits while the other one has what isn't stored, or lacks what is: then
 // that one answers.
 func (r *Replica) awaitServing(ended *child.Child) {
 	if ended != nil {
