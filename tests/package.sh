@@ -1,13 +1,18 @@
 #!/usr/bin/env bash
 # Packages a built program twice, compares the packages byte by byte, and checks what is in them. Then clean_root.sh installs,
-# upgrades and removes them. If the crates are built in this checkout the program is built with the commit of the checkout, and
-# else PROGRAM is packaged as it is.
+# upgrades and removes them. PROGRAM is packaged as it is, unless --build is given.
 #
-# usage: package.sh PROGRAM
+# usage: package.sh [--build] PROGRAM
+#   --build  builds the program with the commit of this checkout, which proves two crates once more (before a release)
 # Ends with status 0 if all is as it should be, and says `skipped` if a tool, the program or the history isn't there.
 set -eu
 top=$(cd "$(dirname "$0")/.." && pwd -P)
-program=$(realpath "${1:?usage: package.sh PROGRAM}")
+build=
+if [ "${1-}" = --build ]; then
+    build=1
+    shift
+fi
+program=$(realpath "${1:?usage: package.sh [--build] PROGRAM}")
 for tool in git dpkg dpkg-deb tar gzip; do
     command -v "$tool" >/dev/null || {
         echo "skipped: $tool is not there"
@@ -36,12 +41,11 @@ if ! command -v go >/dev/null || ! command -v gcc >/dev/null || [ ! -d /usr/shar
     only_resb=--only-resb
 fi
 
-# Packages the program, built with the commit if the crates are built here.
+# Packages the program, built with the commit if that is asked for.
 make_first() {
     local commit began=$SECONDS
-    if [ ! -d "$top/crates/rb_commands/out" ] || ! command -v rt >/dev/null; then
+    if [ -z "$build" ]; then
         "$top/tools/package" --program "$program" $only_resb "$made/first" >/dev/null
-        echo 'skipped: the commit that resb --version names: the crates are not built here'
         return 0
     fi
     "$top/tools/package" $only_resb "$made/first" >/dev/null
