@@ -35,7 +35,8 @@ pub fn again(alloc: Global, name: &UnitList, bundle: &Bundle) -> Result<Vec<u8>,
     ensures same { IfOk result (λ file. IsWriterFile (source_tree_of bundle.now).tree
         (source_tree_of bundle.now).no_fallback bundle.now → file.items ≡ bundle.now) }
 {
-    match round_trip(alloc, name, bundle)? {
+    let text = print_bundle(alloc, name, bundle)?;
+    match parse(alloc, &text) {
         Ok(source) => Ok(write(alloc, &source.tree, source.no_fallback)?),
         Err(_) => Err(PrintError::Memory),
     }
