@@ -113,6 +113,14 @@ const WITHOUT: [(usize, u64, Doubt); 5] = [
     (25, 3, Doubt::RunsOn),
 ];
 
+/// Checks whether a text has a warning.
+fn has_warning(alloc: Global, text: &[u8], line: u64, doubt: Doubt) -> bool {
+    match lint(alloc, text, None) {
+        Ok(found) => found.contains(&Warning { line, doubt }),
+        Err(_) => false,
+    }
+}
+
 /// Checks whether the indented text without a byte has this warning.
 fn is_found(alloc: Global, without: usize, line: u64, doubt: Doubt) -> bool {
     let Ok(mut text) = INDENTED.to_vec(alloc) else {
@@ -121,10 +129,7 @@ fn is_found(alloc: Global, without: usize, line: u64, doubt: Doubt) -> bool {
     if without < text.len() {
         let _ = text.remove(without);
     }
-    match lint(alloc, &text, None) {
-        Ok(found) => found.contains(&Warning { line, doubt }),
-        Err(_) => false,
-    }
+    has_warning(alloc, &text, line, doubt)
 }
 
 #[test]
