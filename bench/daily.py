@@ -1,7 +1,7 @@
 #!/usr/bin/env python3
 """Many texts at once, mistakes in a text, and request lines: `resb compile --to` beside one genrb process, what
-`resb lint` finds of mistakes and says of good texts in other layouts, and the time of `resb lines`, over the bundles of
-CLDR in ICU's data.
+`resb lint` finds of mistakes and says of good texts, and the time of `resb lines`, over the bundles of CLDR in ICU's
+data.
 
 usage: daily.py [--store FILE] [--package DATA] [PROGRAM], or daily.py --self-test [PROGRAM]
     (PROGRAM is by default crates/rb_tool/out/rb_tool)
@@ -9,8 +9,9 @@ usage: daily.py [--store FILE] [--package DATA] [PROGRAM], or daily.py --self-te
 DATA is the package icudt*l.dat of ICU's data; without it that of the installed libicudata is taken
 (docs/ICU.md), and tools/icu2text makes texts of it. A mistake is one character taken out of de.txt, of MISTAKES
 for each of `"`, `{` and `}`, chosen by a fixed seed; it is found where a line that lint names is within NEAR
-lines of it. One of EVERY texts is laid out in the styles of layouts.py, and lint must say nothing of them. Times
-are of one process, processor time and time on the clock, the middle of RUNS runs, and behind it the least and the
+lines of it. The mistakes of mistakes.py are made in a text written by hand, beside its root's: how many pass in
+silence, and of how many the first line that lint names is within FIRST_NEAR lines; so are those in its messages, of which none should. One of EVERY texts is laid out in the
+styles of layouts.py, and lint must say nothing of them, nor of a root's text and its translations to LOCALES. Times are of one process, processor time and time on the clock, the middle of RUNS runs, and behind it the least and the
 greatest, those of genrb (Debian's icu-devtools) in turn with those of resb; without genrb its goal is left out. At
 the end comes each goal, and whether it holds; --store FILE keeps the figures as JSON.
 
@@ -28,6 +29,7 @@ import time
 
 import icu
 import layouts
+import mistakes as planted_mistakes
 from figures import store
 from turns import RUNS, Goal, Spread, by_turns, command_line, ratio, seconds, spread, tool
 
@@ -35,6 +37,10 @@ MISTAKES, NEAR, SEED = 60, 2, 27
 EVERY = 30
 SHARE, LINES_SECONDS = 0.6, 1.0
 FOUND = {'"': 55, "{": 30, "}": 30}
+FIRST_NEAR, SILENT, FIRST = 1, 3, 46
+LOCALES = ("ar", "de", "de_AT", "en_GB", "es", "fr", "ja", "pt", "ru", "th", "zh", "zh_Hant")
+# The plural categories of the languages that have others than German.
+PLURALS = {"ar": "zero one two few many other", "ru": "one few many other", "ja": "other", "th": "other", "zh": "other"}
 SMALL = """de {
     greeting { "Guten Tag" }
     menu {
@@ -89,11 +95,48 @@ def mistakes(text, character, count):
     return [(place, text.count("\n", 0, place) + 1) for place in sorted(chosen)]
 
 
-def lint_lines(program, path):
-    """The lines that lint names of a text, in warnings and in the error."""
-    run = subprocess.run([program, "lint", path], stdout=subprocess.PIPE, stderr=subprocess.STDOUT, check=False)
-    lines = re.findall(r"^%s:(\d+): " % re.escape(path), run.stdout.decode("utf-8", "replace"), flags=re.M)
+def lint_lines(program, path, *options):
+    """The lines that lint names of a text, in warnings and in the error, in the order of the output."""
+    run = subprocess.run([program, "lint", *options, path], stdout=subprocess.PIPE, stderr=subprocess.STDOUT, check=False)
+    lines = re.findall(r"^%s:(\d+):\d+: " % re.escape(path), run.stdout.decode("utf-8", "replace"), flags=re.M)
     return [int(line) for line in lines]
+
+
+def written(folder, name, data):
+    """The path of a file with these bytes."""
+    path = os.path.join(folder, name)
+    with open(path, "wb") as file:
+        file.write(data)
+    return path
+
+
+def planted(program, folder, kinds=planted_mistakes.MISTAKES):
+    """The names of the mistakes in a text written by hand that pass in silence, of those whose first line is too far, and how many there are."""
+    root = written(folder, "root.txt", planted_mistakes.ROOT.encode())
+    silent, far, count = [], [], 0
+    for name, text, line in planted_mistakes.planted(kinds):
+        lines = lint_lines(program, written(folder, "de.txt", text), "--against", root)
+        count += 1
+        if not lines:
+            silent.append(name)
+        elif abs(lines[0] - line) > FIRST_NEAR:
+            far.append(name)
+    return silent, far, count
+
+
+def good_alarms(program, folder):
+    """The locales of which lint says something of a good text beside its root, and how many there are. A locale that inherits has
+    only some keys."""
+    root = written(folder, "root.txt", planted_mistakes.ROOT.encode())
+    alarms = []
+    for locale in LOCALES:
+        plurals = " ".join(f"{category} {{#}}" for category in PLURALS.get(locale, "one other").split())
+        text = planted_mistakes.TEXT.replace("de {", f"{locale} {{", 1).replace("one {# Datei} other {# Dateien}", plurals)
+        if "_" in locale:
+            text = f'{locale} {{\n    title {{ "{locale}" }}\n    menu {{ open {{ "Öffnen" }} }}\n}}\n'
+        if lint_lines(program, written(folder, f"{locale}.txt", text.encode()), "--against", root):
+            alarms.append(locale)
+    return alarms, len(LOCALES)
 
 
 def found(program, text, name, folder, character, count):
@@ -141,28 +184,44 @@ def report(program, texts, text, folder, runs, count):
     hits = {character: found(program, text, "de.txt", folder, character, count) for character in FOUND}
     for character, (hit, tried) in hits.items():
         print(f"lint, one {character} taken out: {hit} of {tried} found within {NEAR} lines")
+    silent, far, count = planted(program, fresh(folder, "planted"))
+    print(f"lint, mistakes in a text written by hand: {len(silent)} of {count} pass in silence: {', '.join(silent) or 'none'}")
+    print(f"their first line is further than {FIRST_NEAR} line: {', '.join(far) or 'none'}")
+    said = planted(program, fresh(folder, "messages"), planted_mistakes.MESSAGE_MISTAKES)
+    print(f"lint, mistakes in messages: {len(said[0])} of {said[2]} pass in silence: {', '.join(said[0]) or 'none'}")
+    good = good_alarms(program, fresh(folder, "good"))
+    print(f"lint, good translations beside their root: {len(good[0])} of {good[1]} with a warning")
     alarms = false_alarms(program, texts, fresh(folder, "laid"))
     print(f"lint, good texts in {len(layouts.STYLES)} layouts: {alarms[0]} of {alarms[1]} with a warning")
     files = made_by(folder)
     lines = lines_runs(program, named(files), runs)
     print(f"lines, {len(files)} files: {spread(lines[0])} s of processor time, {spread(lines[1])} s on the clock")
-    return ours, theirs, hits, alarms, lines
+    return ours, theirs, hits, (silent, far, count), said, good, alarms, lines
 
 
-def goals(ours, theirs, hits, alarms, lines):
+def exact(number):
+    return Spread(number, number, number)
+
+
+def goals(ours, theirs, hits, hand, said, good, alarms, lines):
     if theirs:
         yield Goal("time of `compile --to` beside one genrb", ratio(ours[0], theirs[0]), SHARE)
     for character, bound in FOUND.items():
         hit = hits[character][0]
-        yield Goal(f"mistakes found of {MISTAKES} `{character}` taken out", Spread(hit, hit, hit), bound, True)
-    yield Goal("good texts in other layouts with a warning", Spread(alarms[0], alarms[0], alarms[0]), 0)
+        yield Goal(f"mistakes found of {MISTAKES} `{character}` taken out", exact(hit), bound, True)
+    silent, far, count = hand
+    yield Goal(f"mistakes of {count} in a text written by hand that pass in silence", exact(len(silent)), SILENT)
+    yield Goal(f"mistakes of {count} whose first line is near", exact(count - len(silent) - len(far)), FIRST, True)
+    yield Goal(f"mistakes of {said[2]} in messages that pass in silence", exact(len(said[0])), 0)
+    yield Goal("good translations beside their root with a warning", exact(len(good[0])), 0)
+    yield Goal("good texts in other layouts with a warning", exact(alarms[0]), 0)
     yield Goal("seconds of `lines` on the clock", spread(lines[1]), LINES_SECONDS)
 
 
-def rows(count, ours, theirs, hits, alarms, lines):
+def rows(count, ours, theirs, hits, hand, said, good, alarms, lines):
     kinds = {"compile --to": ours, "genrb": theirs, "lines": lines}
     times = {name: {"processor": found[0], "clock": found[1]} for name, found in kinds.items() if found}
-    return {"texts": count, **times, "mistakes": {character: list(pair) for character, pair in hits.items()}, "layouts": list(alarms)}
+    return {"texts": count, **times, "mistakes": {character: list(pair) for character, pair in hits.items()}, "layouts": list(alarms), "by hand": {"silent": hand[0], "far": hand[1], "count": hand[2]}, "messages": {"silent": said[0], "count": said[2]}, "translations": [len(good[0]), good[1]]}
 
 
 def cldr(data, program, path):
@@ -180,13 +239,19 @@ def cldr(data, program, path):
 
 def wrong_of(told, files):
     """What of the figures over small texts isn't as it must be."""
-    ours, theirs, hits, alarms, lines = told
+    ours, theirs, hits, hand, said, good, alarms, lines = told
     if mistakes('a\n"b\n"c"', '"', 9) != [(2, 2), (5, 3), (7, 3)]:
         yield "the lines of mistakes"
     if len(files) != 3:
         yield f"{len(files)} files of 3 texts"
     if any(tried != 4 or hit < 3 for hit, tried in hits.values()):
         yield f"mistakes found: {hits}"
+    if hand[2] != len(planted_mistakes.MISTAKES) or len(hand[0]) > hand[2] // 4:
+        yield f"mistakes in a text written by hand: {hand}"
+    if said[0]:
+        yield f"mistakes in messages: {said}"
+    if good[0]:
+        yield f"good translations with a warning: {good}"
     if alarms != (0, len(layouts.STYLES)):
         yield f"good texts in other layouts with a warning: {alarms}"
     if not all(used >= 0 for times in (*ours, *(theirs or ()), *lines) for used in times):

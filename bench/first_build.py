@@ -35,7 +35,7 @@ def uses_by(text):
     for line in text.splitlines():
         name, colon, words = line.partition("#")[0].partition(":")
         if colon:
-            uses[name.strip()] = words.split()
+            uses[name.split()[0]] = words.split()
     return uses
 
 

@@ -344,9 +344,9 @@ CHECKED = [
 OVERLAPPING = [
     ("arrays that overlap, in random order", mixed_arrays, 30),
     ("tables that overlap, in random order", mixed_tables, 30),
-    ("tables of 16-bit offsets that overlap, in random order", overlapping_half_tables, 120),
+    ("tables of 16-bit offsets that overlap, in random order", overlapping_half_tables, 90),
     ("arrays that overlap over other arrays", overlapping_over_arrays, 90),
-    ("arrays that overlap over others, to the ends of groups", overlapping_ends, 180),
+    ("arrays that overlap over others, to the ends of groups", overlapping_ends, 130),
 ]
 
 # ---- texts
@@ -514,6 +514,27 @@ def deep_trail(size):
         lines.append(install(name, name + b'{%%Parent{"' + parent + b'"}' + deep + b"}"))
     lines.append(install(b"root", b"root{" + b"k{" * 59 + b'k:alias{"baa/' + path + b'"}' + b"}" * 59 + b"}"))
     return b"".join(lines), look(b"baa", path)
+
+
+def deep_random_trail(size):
+    """A trail of 32 names and 256 levels as in `deep_trail`, over tables of random keys, so that each halving of a table
+    waits for memory. The texts have about so many bytes together."""
+    dice, letters = random.Random(2), b"abcdefghijklmnopqrstuvwxyz"
+    names = [b"root"] + [b"b%c%c" % (97 + i // 26, 97 + i % 26) for i in range(30)]
+    path = [bytes(dice.choices(letters, k=13)) for _ in range(60)]
+    count, lines = size // 31 // 59 // 15, []
+
+    def nested(last):
+        for key in path[-2::-1]:
+            others = b"".join(bytes(dice.choices(letters, k=13)) + b"{}" for _ in range(count))
+            last = key + b"{" + others + last + b"}"
+        return last
+
+    for name, parent in zip(names[1:], names[2:] + [b"root"]):
+        lines.append(install(name, name + b'{%%Parent{"' + parent + b'"}' + nested(b"") + b"}"))
+    alias = path[-1] + b':alias{"baa/' + b"/".join(path) + b'"}'
+    lines.append(install(b"root", b"root{" + nested(alias) + b"}"))
+    return b"".join(lines), look(b"baa", b"/".join(path))
 
 
 def shared_keys(size):
@@ -687,6 +708,9 @@ def measure(report, is_large):
                   ["--reply-bytes", "1000"])
     sizes = [MB // 100, MB, 7 * MB, 20 * MB]
     report.lookup("a trail of 32 names, 256 levels", deep_trail, sizes, 100, 20)
+    longer = "a trail of 32 names, 256 levels, random keys"
+    report.lookup(longer, deep_random_trail, [MB, 19 * MB, 60 * MB], 1500, 3)
+    report.lookup("that trail within 100,000 steps", deep_random_trail, [60 * MB], 60, 20, ["--steps", "100000"])
     report.reply("a reply whose keys share their bytes", [MB // 20, MB // 10, MB * 3 // 10])
     report.line("members that nobody asked for", [MB, 8 * MB, 48 * MB])
     report.applications("applications of one small bundle", [1_000, 10_000, 100_000])

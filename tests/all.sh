@@ -39,7 +39,7 @@ part() {
     return "$status"
 }
 
-# failures LOG: the lines of a log that say what failed, and its end
+# failures LOG: prints the lines of a log that say what failed, and its end
 failures() {
     grep -E -A 8 '^ *(--- FAIL|panic:|FAILED|AssertionError|Traceback)' "$1" | head -n 80
     echo '-- the last lines:'
@@ -65,12 +65,12 @@ start_if() {
     fi
 }
 
-# proofs LANES: the gate; one job for each proof, since a second one costs half as much processor time again for little gain
+# proofs LANES: runs the gate with one job for each proof: a second one costs half as much processor time again for little gain
 proofs() {
     RT_JOBS=$1 rt ci
 }
 
-# lanes: how many proofs run side by side: one a processor, and each has 4 GB of memory
+# lanes: prints how many proofs run side by side: one a processor, each with 4 GB of memory
 lanes() {
     local memory
     memory=$(sed -n 's/^MemAvailable: *\([0-9]*\) kB/\1/p' /proc/meminfo)
@@ -116,21 +116,28 @@ if [ -z "$quick" ]; then
         tail -n 1 "$logs/mutants.log"
     fi
 fi
-for script in examples replies stdout files clients package; do
+for script in examples replies stdout files clients project package; do
     start "$script" "tests/$script.sh" "$program"
 done
-for script in commands documents completions traces pipe ignored_members icu2text json_values parents exchange; do
+for script in commands lint_formats messages terminals documents completions traces pipe ignored_members icu2text json_values parents exchange; do
     start_if python3 "$script" "tests/$script.py" "$program"
 done
 start_if python3 pages tools/pages --check "$program"
 start_if python3 daily bench/daily.py --self-test "$program"
 start_if python3 printing bench/text.py --self-test "$program"
 start_if genrb icu tests/icu.sh "$program" brkitr translit
+# `rt ci` proves the library and builds no archive, and to build one proves all crates below it once more, for half an hour of a processor
+if [ -e crates/resb/out/libresb.a ]; then
+    start_if gcc library tests/library.sh --built
+else
+    echo 'library: skipped: crates/resb/out/libresb.a is not built (tools/library builds it)' | tee "$logs/library.skipped"
+fi
 wait
 # what measures memory or time, or starts many processes, has the machine to itself
 if command -v python3 >/dev/null; then
     part limits tests/limits.py "$program"
+    part costs tests/costs.py "$program"
 fi
-part shards deploy/test "$program"
+part gateways deploy/test "$program"
 part gateway deploy/gateway/test "$program"
 summary

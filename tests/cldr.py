@@ -34,7 +34,7 @@ class Skipped(Exception):
 
 
 def reader():
-    """The reader of files of tests/genrb.py, which shares nothing with resb."""
+    """Returns the reader of files of tests/genrb.py, which shares nothing with resb."""
     spec = importlib.util.spec_from_file_location("genrb", os.path.join(TOP, "tests", "genrb.py"))
     module = importlib.util.module_from_spec(spec)
     spec.loader.exec_module(module)
@@ -48,7 +48,7 @@ def need(*tools):
 
 
 def package(folder):
-    """The package of ICU's data, which libicudata holds as it is, in its one section of constants."""
+    """Returns the package of ICU's data, which libicudata holds as it is, in its one section of constants."""
     if os.environ.get("ICU_PACKAGE"):
         return os.environ["ICU_PACKAGE"]
     need("objcopy", "ldconfig")
@@ -63,7 +63,7 @@ def package(folder):
 
 
 def icu_server(folder):
-    """The C server, built."""
+    """Returns the C server, built."""
     need("cc", "pkg-config")
     flags = subprocess.run(["pkg-config", "--cflags", "--libs", "icu-uc"], capture_output=True, text=True)
     if flags.returncode:
@@ -74,7 +74,7 @@ def icu_server(folder):
 
 
 def strings(item, path=""):
-    """The paths of strings in a tree, which have no key that a path can't name."""
+    """Yields the paths of strings in a tree, which have no key that a path can't name."""
     kind, value = item
     if kind == "string":
         yield path
@@ -85,7 +85,7 @@ def strings(item, path=""):
 
 
 def bundles(program, data, tree, folder):
-    """The texts of a tree's bundles of locales and their files, by name."""
+    """Returns the texts of a tree's bundles of locales and their files, by name."""
     texts = os.path.join(folder, tree)
     subprocess.run([os.path.join(TOP, "tools", "icu2text"), "--package", data, "--tree", tree, "--to", texts], check=True)
     files = {}
@@ -108,7 +108,7 @@ def replies(command, lines):
 
 
 def answers(command, lines):
-    """The replies, without what libicu isn't asked for: the keys of a table and the length of an array."""
+    """Returns the replies, without what libicu isn't asked for: the keys of a table and the length of an array."""
     return [{name: value for name, value in reply.items() if name not in ("keys", "len")} for reply in replies(command, lines)]
 
 
@@ -154,7 +154,7 @@ def reason(our, their, begun, ended, alone):
 
 
 def compare(tree, names, count):
-    """Counts of lookups by what came of them."""
+    """Returns counts of lookups by what came of them."""
     paths, chosen = tree.paths(), random.Random(tree.name)
     asked = [(chosen.choice(names), chosen.choice(paths)) for _ in range(count)]
     both = list(zip(asked, tree.ours(asked), tree.theirs(asked)))

@@ -21,7 +21,7 @@ def run(program, folder, arguments, **options):
 
 
 def outcome(program, folder, case):
-    """The status, standard output and standard error of a case."""
+    """Returns the status, standard output and standard error of a case."""
     given = {"input": case["stdin"].encode()} if "stdin" in case else {"stdin": subprocess.DEVNULL}
     if "text" in case:
         (folder / "in.txt").write_text(case["text"], encoding="utf-8")
@@ -36,7 +36,7 @@ def outcome(program, folder, case):
 
 
 def differences(program, stored):
-    """The cases of a file that end otherwise, each with what is expected and what came."""
+    """Yields the cases of a file that end otherwise, each with what is expected and what came."""
     with tempfile.TemporaryDirectory() as name:
         folder = pathlib.Path(name)
         for path, text in stored.get("files", {}).items():

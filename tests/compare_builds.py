@@ -1,5 +1,5 @@
 #!/usr/bin/env python3
-"""Whether two builds of `resb` answer the same: 100,000 made lines, the same to both, and their replies compared byte for byte.
+"""Compares two builds of `resb`: sends 100,000 made lines to both, and compares the replies byte for byte.
 
 usage: compare_builds.py OLD NEW [SEED]
 

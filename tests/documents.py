@@ -40,7 +40,7 @@ FULL = "/dev/full"
 
 
 def blocks(page):
-    """The fenced blocks of a page: what follows the fence on its line, the number of the line after it, and its lines."""
+    """Yields the fenced blocks of a page: what follows the fence on its line, the number of the line after it, and its lines."""
     info, first, lines = None, 0, []
     for number, line in enumerate(page.splitlines(), 1):
         if not line.startswith("```"):
@@ -53,7 +53,7 @@ def blocks(page):
 
 
 def commands(first, lines):
-    """The commands of a block, each with its line and what it should print."""
+    """Returns the commands of a block, each with its line and what it should print."""
     found = []
     for number, line in enumerate(lines, first):
         if line.startswith("$ "):
@@ -68,12 +68,12 @@ def commands(first, lines):
 
 
 def script_of(asked):
-    """A script of commands, with a mark after what each prints."""
+    """Returns a script of commands, with a mark after what each prints."""
     return "".join(f"{command}\nstatus_of_it=$?\nprintf '%s\\n' '{MARK}'\n(exit $status_of_it)\n" for _, command, _ in asked)
 
 
 def run_script(script, folder, variables):
-    """What a script prints, run by a shell in a folder."""
+    """Returns what a script prints, run by a shell in a folder."""
     with tempfile.NamedTemporaryFile("w", encoding="utf-8", suffix=".sh") as file:
         file.write(script)
         file.flush()
@@ -91,12 +91,12 @@ def run_script(script, folder, variables):
 
 
 def answers_in(text):
-    """What each command of a script printed."""
+    """Returns what each command of a script printed."""
     return [part.splitlines() for part in text.split(MARK + "\n")[:-1]]
 
 
 def printed(program, first, groups, given):
-    """What each command of some blocks prints: if there is a first block, each is run by a shell of its own after it, and else all
+    """Returns what each command of some blocks prints: if there is a first block, each is run by a separate shell after it, and else all
     by one shell."""
     with tempfile.TemporaryDirectory() as folder:
         for name in ("bin", "tools", "run"):
@@ -195,19 +195,19 @@ def long_readme():
 
 
 def anchor(heading):
-    """The name that a link has for a heading."""
+    """Returns the name that a link has for a heading."""
     return re.sub(r"[^\w\- ]", "", heading.strip().lower()).replace(" ", "-")
 
 
 def anchors(path):
-    """The names of a page's headings."""
+    """Returns the names of a page's headings."""
     with open(path, encoding="utf-8") as file:
         page = re.sub(r"^```.*?^```", "", file.read(), flags=re.M | re.S)
     return {anchor(heading) for heading in re.findall(r"^#+ (.*)$", page, flags=re.M)}
 
 
 def bad_links(name):
-    """The relative links of a page that lead nowhere."""
+    """Yields the relative links of a page that lead nowhere."""
     path = os.path.join(TOP, name)
     with open(path, encoding="utf-8") as file:
         links = re.findall(r"\]\(([^)\s]+)\)", file.read())
@@ -221,18 +221,18 @@ def bad_links(name):
 
 
 def pages():
-    """The pages whose links are followed."""
+    """Returns the pages whose links are followed."""
     found = [page for place in ("*.md", "*/*.md", "*/*/*.md") for page in glob.glob(os.path.join(TOP, place))]
     return sorted(os.path.relpath(page, TOP) for page in found)
 
 
 def named_on(name):
-    """What a page names between backticks, outside its blocks."""
+    """Returns what a page names between backticks, outside its blocks."""
     return re.findall(r"`([^`\n]+)`", re.sub(r"^```.*?^```", "", text_of(name), flags=re.M | re.S))
 
 
 def missing_files():
-    """The files that a page names and that aren't there: paths from the top or the page's folder, and sources of any crate."""
+    """Yields the files that a page names and that aren't there: paths from the top or the page's folder, and sources of any crate."""
     places = "bin|tools|tests|docs|deploy|bench|examples|crates"
     files = [os.path.relpath(file, TOP) for file in glob.glob(os.path.join(TOP, "crates", "*", "[!o]*", "**"), recursive=True)]
     for page in pages():
@@ -245,7 +245,7 @@ def missing_files():
 
 
 def missing_items():
-    """The items of crates that a page names, as `rb_tree::walk`, and that aren't there."""
+    """Yields the items of crates that a page names, as `rb_tree::walk`, and that aren't there."""
     for page in pages():
         for crate, item in (found for named in named_on(page) for found in re.findall(r"^(rb_\w+)::([\w:]+)$", named)):
             if crate not in crates() or not is_named(item, [crate]):
@@ -253,7 +253,7 @@ def missing_items():
 
 
 def text_of(*names):
-    """The texts of some files, one after the other."""
+    """Returns the texts of some files, one after the other."""
     texts = []
     for name in sorted(names):
         with open(os.path.join(TOP, name), encoding="utf-8") as file:
@@ -262,19 +262,19 @@ def text_of(*names):
 
 
 def sources(crate):
-    """The code of a crate, without the tests in it."""
+    """Returns the code of a crate, without the tests in it."""
     names = glob.glob(os.path.join(TOP, "crates", crate, "src", "*.rt"))
     return text_of(*(name for name in names if os.path.basename(name) != "tests.rt"))
 
 
 def crates():
-    """The crates of crates.txt, each with what it uses."""
+    """Returns the crates of crates.txt, each with what it uses."""
     lines = [line.partition(":") for line in text_of("crates.txt").splitlines() if ":" in line]
-    return {name.strip(): uses.split() for name, _, uses in lines}
+    return {name.split()[0]: uses.split() for name, _, uses in lines}
 
 
 def error_words():
-    """The words that the calls `word` of the crates give for errors."""
+    """Returns the words that the calls `word` of the crates give for errors."""
     code = "".join(sources(crate) for crate in crates())
     bodies = "".join(re.findall(r"fn word\(&?self\).*?\n    }\n", code, flags=re.S))
     variants = "".join(re.findall(r"variant_name!\(self: \w+ \{(.*?)\}\)", bodies, flags=re.S))
@@ -282,8 +282,13 @@ def error_words():
     return set(words) - {"Done", "Names"} | {"BadLine"}
 
 
+def gateway_words():
+    """Returns the error codes of the gateway itself."""
+    return set(re.findall(r'problem\{http\.\w+, "(\w+)"\}', text_of("deploy/internal/api/words.go"))) | {"BadRelease", "NeedsTLS"}
+
+
 def missing_words():
-    """The error words that a page doesn't have."""
+    """Yields the error words that a page doesn't have."""
     for name, form in (("docs/TROUBLESHOOTING.md", r"`(FILE: )?%s`"), ("docs/resb.1", r"\bQl %s\b")):
         page = text_of(name)
         for word in sorted(error_words()):
@@ -292,22 +297,34 @@ def missing_words():
 
 
 def plain(cell):
-    """A cell of a table without the marks of code and links."""
+    """Returns a cell of a table without the marks of code and links."""
     return re.sub(r"\[([^\]]*)\]\([^)]*\)", r"\1", cell).replace("`", "").strip()
 
 
+def explanation_rows():
+    """Yields the rows on error words of the page on errors: each word, its cause and its remedy."""
+    known = error_words() | gateway_words() | {"Memory"}
+    for words, cause, remedy in re.findall(r"^\| (`[^|]*) \| ([^|]*) \| ([^|]*)\|$", text_of("docs/TROUBLESHOOTING.md"), flags=re.M):
+        if not cause.startswith(("[", "as for any request")):
+            yield from ((word, plain(cause), plain(remedy)) for word in re.findall(r"`(?:FILE: )?([A-Z]\w*)`", words) if word in known)
+
+
+def misquoted():
+    """Yields the rows of the page on errors that the table of explanations has in other words; this needs no program."""
+    table = re.sub(r'\\(["\\])', r"\1", text_of("crates/rb_explain/src/words.rt"))
+    for word, cause, remedy in explanation_rows():
+        if f'cause: "{cause}",\n' not in table or f'remedy: "{remedy}",\n' not in table:
+            yield f"docs/TROUBLESHOOTING.md: crates/rb_explain/src/words.rt says something else of {word}"
+
+
 def unexplained(program):
-    """The rows on error words of the page on errors that the program doesn't explain in the same words."""
-    rows = re.findall(r"^\| (`[^|]*) \| ([^|]*) \| ([^|]*)\|$", text_of("docs/TROUBLESHOOTING.md"), flags=re.M)
-    for words, cause, remedy in rows:
-        for word in re.findall(r"`(?:FILE: )?([A-Z]\w*)`", words):
-            if word not in error_words() | {"Memory"} or cause.startswith("[") or cause.startswith("as for any request"):
-                continue
-            explained = subprocess.run([program, "explain", word], stdout=subprocess.PIPE, check=False).stdout.decode()
-            if f"  likely cause: {plain(cause)}\n  what to do: {plain(remedy)}\n" not in explained:
-                yield f"docs/TROUBLESHOOTING.md: resb explain {word} says something else"
+    """Yields the rows on error words of the page on errors that the program doesn't explain in the same words."""
+    for word, cause, remedy in explanation_rows():
+        explained = subprocess.run([program, "explain", word], stdout=subprocess.PIPE, check=False).stdout.decode()
+        if f"  likely cause: {cause}\n  what to do: {remedy}\n" not in explained:
+            yield f"docs/TROUBLESHOOTING.md: resb explain {word} says something else"
     listed = subprocess.run([program, "explain"], stdout=subprocess.PIPE, check=False).stdout.decode()
-    yield from (f"resb explain: {word} isn't listed" for word in sorted(error_words()) if f"  {word}: " not in listed)
+    yield from (f"resb explain: {word} isn't listed" for word in sorted(error_words() | gateway_words()) if f"  {word}: " not in listed)
 
 
 def wrong_rows():
@@ -324,7 +341,7 @@ def wrong_rows():
 
 
 def wrong_uses():
-    """The crates of crates.txt that name others than those that their sources, definitions and proofs cite."""
+    """Yields the crates of crates.txt that name others than those that their sources, definitions and proofs cite."""
     known = {*crates(), *(name for uses in crates().values() for name in uses)}
     for name, uses in crates().items():
         files = glob.glob(os.path.join(TOP, "crates", name, "[!o]*", "**"), recursive=True)
@@ -336,7 +353,7 @@ def wrong_uses():
 
 
 def is_named(name, named):
-    """Whether crates have a definition, law, function, type or clause of this name."""
+    """Returns whether crates have a definition, law, function, type or clause of this name."""
     word = re.escape(name.rpartition("::")[2])
     forms = (rf"\bfn {word}\b", rf"\b(struct|enum|trait|const) {word}\b", rf"\bensures {word} ")
     for crate in named:
@@ -352,7 +369,7 @@ def is_named(name, named):
 
 
 def wrong_proofs():
-    """The page on proofs, if it isn't as tools/proofs writes it."""
+    """Yields the page on proofs, if it isn't as tools/proofs writes it."""
     run = subprocess.run([os.path.join(TOP, "tools/proofs"), "--check"], capture_output=True, text=True, check=False)
     if run.returncode:
         yield run.stderr.strip()
@@ -361,7 +378,7 @@ def wrong_proofs():
 def compare_code():
     """Prints where a page isn't what the code is, and tells how often."""
     wrong = [f"{name}: the link {link} leads nowhere" for name in pages() for link in bad_links(name)]
-    wrong += [*missing_files(), *missing_items(), *missing_words(), *wrong_rows(), *wrong_uses(), *wrong_proofs()]
+    wrong += [*missing_files(), *missing_items(), *missing_words(), *misquoted(), *wrong_rows(), *wrong_uses(), *wrong_proofs()]
     wrong += long_readme()
     print("".join(f"{line}\n" for line in wrong), end="")
     return len(wrong)

@@ -65,7 +65,7 @@ class Function:
     last: int
 
     def is_named(self, path):
-        """Whether a path as `tree::Entries::get` or `tree::fn::Entries::get::map` names the function or a closure in it."""
+        """Returns whether a path as `tree::Entries::get` or `tree::fn::Entries::get::map` names the function or a closure in it."""
         names = [it for it in path if it != "fn"]
         if self.owner:
             # a type's own functions are in the module of the type
@@ -84,7 +84,7 @@ class Edit:
 
 
 def functions_of(path, text):
-    """The functions of a file in the layout of `rt fmt`, where a function ends at a brace as far in as its first line."""
+    """Returns the functions of a file in the layout of `rt fmt`, where a function ends at a brace as far in as its first line."""
     module = tuple(it for it in re.sub(r"^src/|\.rt$", "", path).split("/") if it not in ("lib", "main"))
     lines, found, owner, owner_end = text.split("\n"), [], "", -1
     for at, line in enumerate(lines):
@@ -101,7 +101,7 @@ def functions_of(path, text):
 
 
 def closing(lines, at, indent):
-    """The line at which an item that begins at a line ends."""
+    """Returns the line at which an item that begins at a line ends."""
     if lines[at].rstrip().endswith((";", "}")) and lines[at].count("{") == lines[at].count("}"):
         return at
     for i in range(at + 1, len(lines)):
@@ -284,7 +284,7 @@ class Bare(Mutated):
 
 
 def reached(said):
-    """Whether a check came to a verdict on the functions, with every text read."""
+    """Returns whether a check came to a verdict on the functions, with every text read."""
     unread = any(re.match(r"(\./)?src/\S+:\d+:\d+: error: (`[^`]*`: )?.*", it) and NAMES.search(it) for it in said.split("\n"))
     return not unread and bool(re.search(r"^(logic=(not-)?proved|only=\d+ proved=)", said, re.M))
 
@@ -299,7 +299,7 @@ def answered(names, error):
 
 
 def refusals(said, crate):
-    """What is refused at goals of its own: (paths of functions, places in the source), each with the line that says so."""
+    """Returns what is refused at a goal itself: (paths of functions, places in the source), each with the line that says so."""
     paths, places = {}, {}
     for line in said.split("\n"):
         function = re.match(r"fn (\S+): (?:no proof|not proved)(.*)", line)
@@ -458,7 +458,7 @@ def try_crate(crate, edits, listed, how):
 
 
 def edits_in(crate, name):
-    """The edits of a crate that are in one of its folders."""
+    """Returns the edits of a crate that are in one of its folders."""
     folder = f"{TOP}/crates/{crate}/{name}"
     names = sorted(os.listdir(folder)) if os.path.isdir(folder) else []
     return [read_edit(f"{crate}/{name}/{it}", f"{folder}/{it}", f"{TOP}/crates/{crate}") for it in names if it.endswith(".edit")]
@@ -488,7 +488,7 @@ def main():
     given = parsed()
     with open(f"{TOP}/crates.txt") as it:
         lines = [line.split("#")[0].partition(":") for line in it if ":" in line.split("#")[0]]
-    listed = {name.strip(): libraries.split() for name, _, libraries in lines}
+    listed = {name.split()[0]: libraries.split() for name, _, libraries in lines}
     unknown = [it for it in given.crates if it not in listed]
     if unknown:
         sys.exit(f"edits: no crate {unknown[0]}")

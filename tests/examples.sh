@@ -57,6 +57,7 @@ serves() {
 while IFS= read -r file; do
     case $file in
         clients/*) ;; # tests/clients.sh runs them
+        project/*) ;; # tests/project.sh runs it
         README.md | */README.md | *.replies.jsonl | */replies.jsonl) ;;
         *.txt) accepts "$file" ;;
         */requests.jsonl) ;;

@@ -1,15 +1,21 @@
 #!/usr/bin/python3
 """Tests `tools/resb-exchange`: strings go out and come in again without a change of the tree, over generated bundles and some of ICU's;
-refused files leave nothing; and other readers (lxml, polib, javaproperties, json, csv, msgfmt, xmllint) read what it writes.
+refused files leave nothing; and other readers (lxml, polib, javaproperties, json, csv, msgfmt, xmllint, translate-toolkit and Java's
+Properties) read what it writes. genrb's XLIFF has the same strings.
 
-usage: exchange.py [PROGRAM]   (default: crates/rb_tool/out/rb_tool)
+usage: exchange.py [--icu[=TREE,..]] [PROGRAM]   (default: crates/rb_tool/out/rb_tool)
+With --icu it takes every bundle of ICU's package, or of these trees, through each format instead, in some minutes.
 Says `skipped` of formats and readers whose packages are missing.
 """
+import argparse
 import csv
+import functools
+import importlib.machinery
 import importlib.util
 import json
 import os
 import random
+import re
 import shutil
 import subprocess
 import sys
@@ -18,6 +24,8 @@ import unittest
 
 TOP = os.path.dirname(os.path.dirname(os.path.abspath(__file__)))
 TOOL = os.path.join(TOP, "tools", "resb-exchange")
+TREES_OF_ICU = [tree for word in sys.argv[1:] if word.startswith("--icu") for tree in (word[6:] or "main,curr,lang,region,unit,zone").split(",")]
+sys.argv = [word for word in sys.argv if not word.startswith("--icu")]
 PROGRAM = os.path.abspath(sys.argv.pop(1)) if len(sys.argv) > 1 else os.path.join(TOP, "crates", "rb_tool", "out", "rb_tool")
 MODULES = {"xliff1": "lxml", "xliff2": "lxml", "po": "polib", "properties": "javaproperties", "json": "json", "csv": "csv"}
 FORMATS = [name for name, module in MODULES.items() if importlib.util.find_spec(module)]
@@ -36,6 +44,26 @@ ALLOWED = {
     "json": PLAIN + EMPTY + CONTROL + LONE,
     "csv": PLAIN + EMPTY + [one for one in CONTROL if "\0" not in one],
 }
+ICU_DATA = "/usr/lib/x86_64-linux-gnu/libicudata.so.72"
+# prints the properties of a file, each key and value in hexadecimal digits of their units
+JAVA_READER = """
+public class Reader {
+    static String units(String text) {
+        return text.chars().mapToObj(unit -> String.format("%04x", unit)).collect(java.util.stream.Collectors.joining());
+    }
+    public static void main(String[] args) throws Exception {
+        var properties = new java.util.Properties();
+        try (var reader = new java.io.InputStreamReader(new java.io.FileInputStream(args[0]), "UTF-8")) {
+            properties.load(reader);
+        }
+        properties.forEach((key, value) -> System.out.println(units((String) key) + " " + units((String) value)));
+        var bundle = new java.util.PropertyResourceBundle(new java.io.FileInputStream(args[0]));
+        if (!bundle.keySet().equals(properties.stringPropertyNames())) {
+            throw new Exception("a ResourceBundle has other keys");
+        }
+    }
+}
+"""
 REFUSED = {"xliff1": ["\x01", "\ud800", "\uffff"], "po": ["", "\r", "\ud800", "\x01"], "csv": ["\0", "\udc00"]}
 
 for skipped in MODULES.keys() - set(FORMATS):
@@ -43,7 +71,7 @@ for skipped in MODULES.keys() - set(FORMATS):
 
 
 def escaped(text):
-    """A quoted text in which each unit is an escape."""
+    """Returns a quoted text in which each unit is an escape."""
     data = text.encode("utf-16-be", "surrogatepass")
     return '"' + "".join(f"\\u{data[at]:02x}{data[at + 1]:02x}" for at in range(0, len(data), 2)) + '"'
 
@@ -75,7 +103,7 @@ def generated(pick, texts, depth):
 
 
 def changed(pick, texts, item):
-    """A translation of an item: some entries are missing, some strings are others, some items have another type."""
+    """Returns a translation of an item: some entries are missing, some strings are others, some items have another type."""
     if isinstance(item, dict):
         kept = {key: changed(pick, texts, one) for key, one in item.items() if pick.random() < 0.7}
         return kept | ({"own": pick.choice(texts)} if pick.random() < 0.3 else {})
@@ -85,7 +113,7 @@ def changed(pick, texts, item):
 
 
 def listed_strings(item, path=()):
-    """The strings of a tree by their ids, as docs/EXCHANGE.md defines these."""
+    """Returns the strings of a tree by their ids, as docs/EXCHANGE.md defines these."""
     if isinstance(item, str) and not (len(path) == 1 and path[0].startswith("%%")):
         return {"/".join(key.replace("~", "~0").replace("/", "~1") for key in path): item}
     found = {}
@@ -96,7 +124,7 @@ def listed_strings(item, path=()):
 
 
 def read_by_others(kind, path):
-    """The translations in a file, by its own format's reader."""
+    """Returns the translations in a file, by its own format's reader."""
     with open(path, encoding="utf-8", newline="") as file:
         if kind == "json":
             return {one["id"]: one["target"] for one in json.load(file)}
@@ -116,6 +144,29 @@ def read_by_others(kind, path):
         target = element.find(".//{*}target")
         found[element.get(name)] = None if target is None else xml_text(target, data)
     return found
+
+
+# what translate-toolkit's reader of properties changes: it leaves the escapes of control characters, and ends lines at U+2028 and U+2029
+UNREAD_BY_TOOLKIT = re.compile("[\0-\x08\x0b\x0e-\x1f\u2028\u2029]")
+
+
+def read_by_toolkit(kind, path):
+    """Returns the translations in a file, by translate-toolkit's reader of its format."""
+    from translate.storage import csvl10n, properties, pypo, xliff
+    if kind == "po":
+        return {unit.getcontext(): unit.target for unit in pypo.pofile.parsefile(path).units if not unit.isheader()}
+    if kind == "xliff1":
+        units = xliff.xlifffile.parsefile(path).units
+        return {unit.xmlelement.get("id"): unit.target for unit in units}
+    if kind == "properties":
+        store = properties.javautf8file()
+        with open(path, "rb") as file:
+            store.parse(file.read())
+        # it leaves the escapes of keys
+        return {re.sub(r"\\(.)", r"\1", unit.name): unit.source for unit in store.units if unit.name}
+    header, *units = csvl10n.csvfile.parsefile(path).units
+    assert header.id == "id"
+    return {unit.id: unit.target for unit in units}
 
 
 def xml_text(element, data):
@@ -162,6 +213,20 @@ class Case(unittest.TestCase):
     def bring(self, kind, *more, source="en.txt", into="de.txt", file="out"):
         return self.run_tool("import", "--format", kind, "--source", source, "--into", into, file, *more)
 
+    def unpack_icu(self, tree, *names):
+        """Writes the texts of ICU's own bundles, and returns whether they are there."""
+        if not (os.path.exists(ICU_DATA) and shutil.which("objcopy")):
+            print("ICU's bundles: skipped: libicu72 or objcopy is missing")
+            return False
+        self.save("package", b"")
+        subprocess.run(["objcopy", "-O", "binary", "-j", ".rodata", ICU_DATA, self.path("package")], check=True)
+        file = self.read("package")
+        self.save("package", file[file.find(b"CmnD") - 12 :])
+        made = [sys.executable, os.path.join(TOP, "tools", "icu2text"), "--to", self.folder.name, "--package", self.path("package")]
+        done = subprocess.run([*made, "--tree", tree, *names], capture_output=True, check=False)
+        self.assertEqual((done.returncode, done.stderr), (0, b""))
+        return True
+
     def round_trip(self, kind, source, target):
         self.export(kind, source, target)
         status, _, said = self.bring(kind, "-o", "back.txt", source=source, into=target)
@@ -203,20 +268,60 @@ class RoundTrips(Case):
                 self.assertRegex(self.read("out").decode(), "inherited")
 
     def test_icu(self):
-        data = "/usr/lib/x86_64-linux-gnu/libicudata.so.72"
-        if not (os.path.exists(data) and shutil.which("objcopy") and shutil.which("python3")):
-            print("ICU's bundles: skipped: libicu72 or objcopy is missing")
+        if not self.unpack_icu("unit", "en", "de", "ja"):
             return
-        self.save("package", b"")
-        subprocess.run(["objcopy", "-O", "binary", "-j", ".rodata", data, self.path("package")], check=True)
-        file = self.read("package")
-        self.save("package", file[file.find(b"CmnD") - 12 :])
-        made = [sys.executable, os.path.join(TOP, "tools", "icu2text"), "--to", self.folder.name, "--package", self.path("package")]
-        done = subprocess.run([*made, "--tree", "unit", "en", "de", "ja"], capture_output=True, check=False)
-        self.assertEqual((done.returncode, done.stderr), (0, b""))
         for kind in FORMATS:
             with self.subTest(kind=kind):
                 self.round_trip(kind, "en.txt", "ja.txt" if kind == "json" else "de.txt")
+
+    def test_translate_toolkit(self):
+        if not importlib.util.find_spec("translate"):
+            print("translate-toolkit: skipped: python3-translate is missing")
+            return
+        for kind in ("po", "xliff1", "properties", "csv"):
+            if kind in FORMATS:
+                with self.subTest(kind=kind):
+                    texts = [one for one in ALLOWED[kind] if kind != "properties" or not UNREAD_BY_TOOLKIT.search(one)]
+                    tree = {"all": texts, "t": {key: "v" for key in KEYS}}
+                    self.save("both.txt", bundle_text("de", tree))
+                    self.export(kind, "both.txt", "both.txt")
+                    self.assertEqual(read_by_toolkit(kind, self.path("out")), listed_strings(tree))
+
+    def test_java(self):
+        if not shutil.which("java") or "properties" not in FORMATS:
+            print("Java: skipped: java or the module javaproperties is missing")
+            return
+        tree = {"all": ALLOWED["properties"], "t": {key: "v" for key in KEYS}}
+        self.save("both.txt", bundle_text("de", tree))
+        self.export("properties", "both.txt", "both.txt")
+        self.save("Reader.java", JAVA_READER)
+        done = subprocess.run(["java", "Reader.java", "out"], cwd=self.folder.name, capture_output=True, check=False)
+        self.assertEqual((done.returncode, done.stderr), (0, b""))
+        read = (line.split(" ") for line in done.stdout.decode().splitlines())
+        found = {key: value for key, value in ([bytes.fromhex(one).decode("utf-16-be", "surrogatepass") for one in line] for line in read)}
+        self.assertEqual(found, listed_strings(tree))
+
+    def test_genrb(self):
+        """genrb's XLIFF has a source for each string; numbers, aliases and vectors have a restype. It reads an escaped backslash, as the
+        texts here have it, as one that begins an escape."""
+        if not shutil.which("genrb") or "xliff1" not in FORMATS:
+            print("genrb's XLIFF: skipped: genrb or the module lxml is missing")
+            return
+        from lxml import etree
+        texts = [one for one in PLAIN if not re.search("[\r\n\t\\\\]", one)]
+        tree = {"all": texts, "m": {"open": "Open", "sub": {"a": "A", "n": 5}}, "deep": [["x", "y"], {"z": "Z"}], "b": ("bin", "00ff")}
+        tree |= {"v": ("intvector", "1,-2"), "l": ("alias", '"/LOCALE/x"'), "empty": {}}
+        self.save("en.txt", bundle_text("en", tree))
+        self.export("xliff1", "en.txt", "en.txt")
+        subprocess.run(["genrb", "-q", "-x", "-l", "en", "en.txt"], cwd=self.folder.name, check=True)
+        theirs = [
+            unit.findtext("{*}source")
+            for unit in etree.parse(self.path("en.xlf")).iter("{*}trans-unit")
+            if unit.get("restype") not in ("x-icu-integer", "x-icu-alias")
+        ]
+        ours = read_by_others("xliff1", self.path("out"))
+        self.assertEqual(ours, listed_strings(tree))
+        self.assertEqual(sorted(theirs), sorted(ours.values()))
 
     def test_programs(self):
         for kind, program in (("po", ["msgfmt", "-c", "-o", os.devnull]), ("xliff1", ["xmllint", "--noout"]), ("xliff2", ["xmllint", "--noout"])):
@@ -307,8 +412,50 @@ class Refusals(Case):
         self.assertEqual(self.bring("json", "--any-arguments", file="in.json")[0], 0)
 
 
+class EveryBundle(Case):
+    """Takes each bundle of ICU's package out and in again, in the same process, since it is thousands of calls."""
+
+    def test_icu(self):
+        os.environ["RESB"] = PROGRAM
+        loader = importlib.machinery.SourceFileLoader("resb_exchange", TOOL)
+        tool = importlib.util.module_from_spec(importlib.util.spec_from_loader("resb_exchange", loader))
+        sys.modules["resb_exchange"] = tool
+        loader.exec_module(tool)
+        tool.tree_of = functools.lru_cache(maxsize=8)(tool.tree_of)
+        for tree in TREES_OF_ICU:
+            if not self.unpack_icu(tree):
+                return
+            names = sorted(name for name in os.listdir(self.folder.name) if name.endswith(".txt"))
+            counts = dict.fromkeys(FORMATS, 0)
+            for name, kind in ((name, kind) for name in names for kind in FORMATS):
+                with self.subTest(tree=tree, name=name, kind=kind):
+                    counts[kind] += self.out_and_in(tool, kind, self.path(name))
+                self.delete("out", "back")
+            print(tree, len(names), "bundles;", ", ".join(f"{kind}: {count} round trips" for kind, count in counts.items()), flush=True)
+            self.delete(*names)
+
+    def delete(self, *names):
+        for name in names:
+            if os.path.exists(self.path(name)):
+                os.remove(self.path(name))
+
+    def out_and_in(self, tool, kind, path):
+        """Returns 1, or 0 if the format can't have a string of the bundle and says so."""
+        common = {"format": kind, "source": path, "any_arguments": False, "values": False}
+        try:
+            tool.export(argparse.Namespace(**common, target=path, base=[], out=self.path("out")))
+        except tool.Failure as failure:
+            self.assertRegex(str(failure), f"can't have (an empty string|U\\+[0-9A-F]+)$")
+            return 0
+        tool.import_strings(argparse.Namespace(**common, into=path, out=self.path("back"), file=self.path("out")))
+        with open(path, "rb") as before, open(self.path("back"), "rb") as after:
+            self.assertEqual(tool.tree_of(after.read(), "back"), tool.tree_of(before.read(), path))
+        return 1
+
+
 if __name__ == "__main__":
     if not os.path.exists(PROGRAM):
         print(f"exchange: skipped: {PROGRAM} is not there")
         sys.exit(0)
-    unittest.main()
+    others = [name for name, one in list(globals().items()) if isinstance(one, type) and issubclass(one, Case) and one is not Case]
+    unittest.main(defaultTest=["EveryBundle"] if TREES_OF_ICU else [name for name in others if name != "EveryBundle"])

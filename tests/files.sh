@@ -1,10 +1,10 @@
 #!/usr/bin/env bash
-# Checks what resb compile leaves of files: that an older one stays whole, that links stay links and devices are written through,
-# that no text is overwritten, and standard input and output; names on a terminal; and the commands on many files, through a built
-# program.
+# Checks which files `resb compile` changes: after an error an older file stays whole, links stay links, devices are written through,
+# and no text is overwritten. Also checks standard input and output, names on a terminal, and the commands on many files. All of it
+# with a built program.
 #
 # usage: files.sh PROGRAM
-# Ends with status 0 if all is as it should be, with 1 if not; says `skipped` if there is no such program.
+# Ends with status 0 if all checks pass, with 1 if not; says `skipped` if there is no such program.
 set -u
 program=${1:?usage: files.sh PROGRAM}
 if [ ! -x "$program" ]; then
@@ -12,12 +12,13 @@ if [ ! -x "$program" ]; then
     exit 0
 fi
 program=$(realpath "$program")
+here=$(cd "$(dirname "$0")" && pwd)
 made=$(mktemp -d) || exit 2
 trap 'rm -rf "$made"' EXIT
 cd "$made" || exit 2
 failed=0
 
-# holds NAME COMMAND..: the command succeeds.
+# holds NAME COMMAND..: checks that the command succeeds
 holds() {
     local name=$1
     shift
@@ -29,7 +30,7 @@ holds() {
     fi
 }
 
-# says NAME STATUS WANTED COMMAND..: what the command prints, and its status.
+# says NAME STATUS WANTED COMMAND..: compares what the command prints, and its status
 says() {
     local name=$1 status=$2 wanted=$3 found code
     shift 3
@@ -58,7 +59,7 @@ cp de.res older.res
 (ulimit -f 8; "$program" compile big.txt de.res) >/dev/null 2>&1
 holds 'a file that grows too large leaves the older one' cmp -s de.res older.res
 "$program" compile -q fr.txt de.res
-# full COMMAND..: a command whose files may have 8,192 bytes; what it writes beyond fails, as on a full disk.
+# full COMMAND..: runs a command whose files may have 8,192 bytes; a longer write fails, as on a full disk
 full() (
     trap '' XFSZ
     ulimit -f 8
@@ -69,7 +70,7 @@ holds 'leaves the older file' cmp -s de.res <("$program" compile fr.txt -)
 says 'a full disk, and no older file' 2 'cannot write none.res' full "$program" compile big.txt none.res
 holds 'leaves nothing' test ! -e none.res
 
-# unfinished FOLDER: what is left in a folder of files that aren't whole.
+# unfinished FOLDER: lists the unfinished files in a folder
 unfinished() {
     find "$1" -maxdepth 1 -name '.resb-unfinished-*'
 }
@@ -107,7 +108,7 @@ says 'a folder' 2 'cannot write elsewhere' "$program" compile de.txt elsewhere
 says 'a file in a file' 2 'cannot write de.res/x.res' "$program" compile de.txt de.res/x.res
 says 'no name' 2 'cannot write ' "$program" compile de.txt ''
 
-# user COMMAND..: a command without the rights of root, who may write everywhere.
+# user COMMAND..: runs a command without the rights of root, who may write everywhere
 cp "$program" resb
 chmod 755 . resb
 chmod 644 ./*.txt
@@ -198,11 +199,50 @@ says 'a lookup that finds nothing' 1 '{"error":"NoBundle"}' "$program" look it a
 says 'lines that serve takes' 0 '{"ok":true}
 {"ok":true}' sh -c "'$program' lines shop out/de.res fr_FR=fr.txt | '$program' serve"
 says 'a file without a name' 2 'cannot read ' "$program" lines shop '='
-says 'a missing comma' 1 'list.txt:1: warning: two texts side by side are joined into one; is a comma missing?' \
+says 'a missing comma' 0 'list.txt:1:11: warning: two texts side by side are joined into one; is a comma missing? [joined-strings]' \
     sh -c "printf 'list{a{\"A\" \"B\",\"C\"}}' >list.txt; '$program' lint list.txt"
 says 'nothing doubtful' 0 '' "$program" lint de.txt
 
-# terminal COMMAND..: a command on a terminal, without the returns that that adds.
+# small SCRIPT: runs a script in a new mount namespace, where the folder `disk` is a disk of 64 KB and /dev is a copy
+small() {
+    mkdir -p disk
+    unshare -m sh -euc "
+        mount -t tmpfs -o size=64k tmpfs disk
+        mount -t tmpfs tmpfs /dev
+        mknod -m 666 /dev/null c 1 3
+        mknod -m 666 /dev/urandom c 1 9
+        ln -s /proc/self/fd /dev/fd
+        ln -s /proc/self/fd/0 /dev/stdin
+        ln -s /proc/self/fd/1 /dev/stdout
+        $1"
+}
+if small true 2>/dev/null; then
+    says 'a disk that is full' 0 'cannot write disk/de.res
+2' small "cp older.res disk/de.res; '$program' compile big.txt disk/de.res || echo \$?
+        cmp -s disk/de.res older.res; test -z \"\$(find disk -name '.resb-*')\""
+    says 'a disk that is full, and a link to it' 0 'cannot write to-disk
+2' small "cp older.res disk/de.res; ln -s disk/de.res to-disk; '$program' compile big.txt to-disk || echo \$?
+        cmp -s disk/de.res older.res; test -L to-disk; rm to-disk; test -z \"\$(find . -name '.resb-unf*')\""
+    says 'a disk that has no room for a name' 0 'cannot write disk/de.res
+2' small "mount -o remount,size=64k,nr_inodes=2 disk; cp older.res disk/de.res; '$program' compile fr.txt disk/de.res || echo \$?
+        cmp -s disk/de.res older.res"
+    says 'many texts, and a disk that is full' 0 'cannot write disk/big.res
+disk/de.res: wrote 76 bytes
+disk/fr.res: wrote 76 bytes
+1' small "'$program' compile --to disk big.txt de.txt fr.txt || echo \$?
+        test ! -e disk/big.res; test -z \"\$(find disk -name '.resb-*')\""
+    says 'a disk that is full behind /dev/stdout' 0 'cannot write stdout
+2' small "'$program' compile big.txt /dev/stdout >disk/f || echo \$?; test -L /dev/stdout; test -f disk/f"
+else
+    echo 'files: skipped: a full disk, which only root can make'
+fi
+
+# Random folders, command lines, limits and signals.
+if command -v python3 >/dev/null; then
+    holds 'five seconds of attack' "$here/attack_files.py" "$program" 5 "$RANDOM"
+fi
+
+# terminal COMMAND..: runs a command on a terminal, and removes the carriage returns that the terminal adds
 terminal() {
     python3 -c 'import pty, sys; sys.exit(pty.spawn(sys.argv[1:]) >> 8)' "$@" </dev/null | tr -d '\r'
 }
@@ -216,4 +256,24 @@ $escaped: ok, 1 visits" terminal "$program" check "$forged" "$forged"
 holds 'an option on a terminal' grep -qF -- '--x\u{1b}[31m' <(terminal "$program" check "$(printf -- '--x\033[31m')")
 says 'an argument on a terminal' 0 "resb: \u{7f} is no error word: resb explain lists them" \
     terminal "$program" explain "$(printf '\177')"
+
+# Characters that a terminal acts on, in JSON and in texts.
+printf 'root{a{"x\302\233\342\200\256y"}}' >acts.txt
+"$program" compile -q acts.txt acts.res
+raw=$(printf 'x\302\233\342\200\256y')
+shown='x\u009b\u202ey'
+line='{"op":"look","app":"shop","locale":"de","path":"a"}'
+says 'an item in a pipe' 0 '{"type":"string","value":"'"$raw"'"}' "$program" get acts.res a
+says 'an item on a terminal' 0 '{"type":"string","value":"'"$shown"'"}' terminal "$program" get acts.res a
+says 'a lookup on a terminal' 0 '{"actual":"root","type":"string","valid":"root","value":"'"$shown"'"}' \
+    terminal "$program" look de a root=acts.res
+says 'replies on a terminal' 0 '{"ok":true}
+{"actual":"root","type":"string","valid":"root","value":"'"$shown"'"}' \
+    terminal sh -c "{ '$program' lines shop root=acts.txt; echo '$line'; } | '$program' serve"
+says 'lines on a terminal' 0 '{"op":"install","app":"shop","locale":"root","text":"root{a{\"'"$shown"'\"}}"}' \
+    terminal "$program" lines shop root=acts.txt
+says 'a value, everywhere' 0 '{"a":"'"$shown"'"}' "$program" json acts.res
+says 'a text, everywhere' 0 'root {
+    a { "'"$shown"'" }
+}' "$program" text --name root acts.res
 exit "$failed"

@@ -77,7 +77,7 @@ class Reader:
 
 
 def bytes_of(path):
-    """The bytes of a file, or None where it isn't there."""
+    """Returns the bytes of a file, or None where it isn't there."""
     try:
         with open(path, "rb") as file:
             return file.read()
@@ -86,7 +86,7 @@ def bytes_of(path):
 
 
 def same_tree(first, second):
-    """Whether two files have one tree."""
+    """Returns whether two files have one tree."""
     a, b = bytes_of(first), bytes_of(second)
     return a == b or Reader(a).tree() == Reader(b).tree()
 
@@ -96,7 +96,7 @@ def stem(path):
 
 
 def lines_of(words, **options):
-    """The lines of standard error of a command, whatever its status."""
+    """Returns the lines of standard error of a command, whatever its status."""
     done = subprocess.run(words, stdout=subprocess.PIPE, stderr=subprocess.PIPE, check=False, **options)
     return done.stderr.decode(errors="replace").splitlines()
 
@@ -127,7 +127,7 @@ class Batch:
         return os.path.join(self.folder(folder), name + end)
 
     def names(self):
-        """The texts that both compile and that have no fault so far."""
+        """Returns the texts that both compile and that have no fault so far."""
         return [name for name in self.texts if name not in self.faults and name not in self.left_out]
 
     def genrb(self, texts, folder):
@@ -223,7 +223,7 @@ def compared(program, texts):
 
 
 def compare_in(program, folder, jobs):
-    """How many texts of a folder failed, of those that both compile."""
+    """Returns how many texts of a folder failed, of those that both compile."""
     texts = sorted(glob.glob(os.path.join(folder, "*.txt")))
     with ThreadPoolExecutor(jobs) as pool:
         batches = list(pool.map(lambda at: compared(program, texts[at:at + BATCH]), range(0, len(texts), BATCH)))
@@ -248,7 +248,7 @@ def compare_examples(program):
 
 
 def compare_package(program, package, jobs):
-    """How many texts of a package failed, of all its trees."""
+    """Returns how many texts of a package failed, of all its trees."""
     failed = 0
     for tree in TREES:
         with tempfile.TemporaryDirectory() as work:

@@ -1,7 +1,7 @@
 #!/usr/bin/env bash
-# Holds tools/icu2text beside ICU's own tools, over ICU's own bundles: each is read out of the package of ICU's data, and its text is
-# compiled by `resb compile` and by genrb to the formats 1, 2 and 3, that of 3 with a pool bundle. What icu2text makes of these must
-# compile to the same bytes, and derb must print ICU's file and ours alike. Then the texts in ICU's source, if it is there: genrb's
+# Compares tools/icu2text with ICU's own tools over ICU's bundles. It reads each bundle from the package of ICU's data, and compiles the
+# text by `resb compile` and by genrb to the formats 1, 2 and 3, that of 3 with a pool bundle. The texts that icu2text writes of these
+# must compile to the same bytes, and derb must print ICU's file and ours alike. Then the texts in ICU's source, if it is there: genrb's
 # files of three formats must compile to the bytes of the text itself. The last line counts the differences; they are listed before it.
 #
 # usage: icu.sh [PROGRAM [TREE..]]   (default: crates/rb_tool/out/rb_tool and all trees, which takes some minutes: by hand)
@@ -27,7 +27,7 @@ for tool in genrb derb icupkg python3; do
 done
 [ -x "$program" ] || skip "$program"
 
-# differ WHAT: counts a difference, and says which
+# differ WHAT: counts a difference, and prints it
 differ() {
     echo "difference: $1"
     differences=$((differences + 1))
@@ -38,7 +38,7 @@ reason() {
     reasons=$((reasons + 1))
 }
 
-# package: where the package of ICU's data is; libicudata holds it as it is, in its one section of constants
+# package: prints where the package of ICU's data is; libicudata has it unchanged in its one section of constants
 package() {
     if [ -n "${ICU_PACKAGE:-}" ]; then
         data=$(realpath "$ICU_PACKAGE")
@@ -60,19 +60,19 @@ compile() {
     done
 }
 
-# convert FROM TO WHAT: the texts of the files in a folder
+# convert FROM TO WHAT: writes the texts of the files in a folder
 convert() {
     "$icu2text" --to "$2" "$1"/*.res 2>"$work/error" || differ "$3: $(cat "$work/error")"
 }
 
-# genrb_as TEXTS FILES NAMES OPTION..: what genrb makes of the texts with these names in a folder
+# genrb_as TEXTS FILES NAMES OPTION..: compiles the texts with these names in a folder by genrb
 genrb_as() {
     mkdir -p "$2"
     # shellcheck disable=SC2086 # the names are a pattern
     (cd "$1" && genrb -q -e UTF-8 "${@:4}" -d "$2" $3) >"$work/error" 2>&1
 }
 
-# formats TEXTS FILES NAMES: the texts in the formats 1, 2 and 3, in folders of these names; those of 3 share a pool bundle
+# formats TEXTS FILES NAMES: compiles the texts to the formats 1, 2 and 3, in folders of these names; those of 3 share a pool bundle
 formats() {
     if ! {
         genrb_as "$1" "$2/1" "$3" --formatVersion 1 &&
@@ -84,7 +84,7 @@ formats() {
     fi
 }
 
-# same_bytes TEXTS OTHERS WHAT: that each text and its other compile to the same bytes, which those of the same characters do
+# same_bytes TEXTS OTHERS WHAT: checks that each text and its other compile to the same bytes, as equal texts do
 same_bytes() {
     local text other
     for text in "$1"/*.txt; do
@@ -96,7 +96,7 @@ same_bytes() {
     done
 }
 
-# printed FOLDER OUT: what derb prints of the files in a folder, without its comments
+# printed FOLDER OUT: writes what derb prints of the files in a folder, without its comments
 printed() {
     mkdir -p "$2"
     # shellcheck disable=SC2035 # no bundle has a name with a dash in front
@@ -104,7 +104,7 @@ printed() {
     sed -i '/^\/\//d; 1s/^\xEF\xBB\xBF//' "$2"/*.txt
 }
 
-# tree NAME: all checks of a tree of the package
+# tree NAME: makes all checks of a tree of the package
 tree() {
     local at=$work/$1 format pattern=$1/
     [ "$1" != main ] || pattern=
@@ -136,8 +136,8 @@ tree() {
     rm -rf "$at"
 }
 
-# sources FOLDER: the texts of a folder that genrb takes. Those that resb compiles too are compared with their files in three formats;
-# of the others, which import or include something, the three files are compared with each other
+# sources FOLDER: checks the texts of a folder that genrb compiles. Those that resb compiles too are compared with their files in three
+# formats; of the others, which import or include something, the three files are compared with each other
 sources() {
     local text name format taken=0 compiled=0 at
     for text in "$1"/*.txt; do

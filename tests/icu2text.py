@@ -1,5 +1,5 @@
 #!/usr/bin/env python3
-"""Holds `tools/icu2text` against files that are made here, word by word, as ICU's `uresdata.h` describes them: each format, both byte
+"""Tests `tools/icu2text` over files that are made here, word by word, as ICU's `uresdata.h` describes them: each format, both byte
 orders, each type of item, pools, packages, each refusal, and 400 files with random damage, whose texts `resb compile` must take.
 
 usage: icu2text.py [PROGRAM]   (default: bin/resb)
@@ -57,7 +57,7 @@ class File:
         return 1 + self.indexes + (len(self.keys) + len(self.units) + len(self.values)) // 4
 
     def put(self, kind, *parts):
-        """An item with these bytes."""
+        """Returns an item with these bytes."""
         item = kind << 28 | self.words()
         data = b"".join(parts)
         self.values += data + b"\xaa" * (-len(data) % 4)
@@ -78,7 +78,7 @@ class File:
         return self.put(ARRAY, self.pack("I", len(items), *items))
 
     def end(self, root, **changed):
-        """The bytes, with this root; of the indexes some may be changed."""
+        """Returns the bytes, with this root; of the indexes some may be changed."""
         tops = {"keys": 1 + self.indexes + len(self.keys) // 4}
         tops["units"] = tops["keys"] + len(self.units) // 4
         tops |= {"values": self.words(), "bundle": self.words()} | changed
@@ -94,7 +94,7 @@ def head(order, version, kind=b"ResB"):
 
 
 def everything(version, order):
-    """A file with each type of format 1."""
+    """Returns a file with each type of format 1."""
     file = File(version, order, "a b c d e f g h i j k")
     items = {
         "a": file.string('x"\\\U0001F600\ud800'),
@@ -143,14 +143,14 @@ de {
 
 
 def pool(order="<", checksum=0xC0FFEE):
-    """A pool bundle with the keys x and yy and the string "pooled" at unit 1."""
+    """Returns a pool bundle with the keys x and yy and the string "pooled" at unit 1."""
     file = File((3, 0), order, "x yy", [0, *units_of("pooled"), 0])
     file.attributes, file.checksum = IS_POOL | NO_FALLBACK, checksum
     return file.end(TABLE << 28)
 
 
 def user(order="<", limit=8, limit16=8, string=1):
-    """A bundle that uses it: the key b and the string "mine" at unit 1 are its own."""
+    """Returns a bundle that uses it: the key b and the string "mine" at unit 1 are its own."""
     file = File((3, 0), order, "b", [0, *units_of("mine"), 0, 2, 24 + 14, 0, 1, limit16 + 1])
     limit_of_keys = 4 * (1 + file.indexes + len(file.keys) // 4)
     file.units = file.pack("H", 0, *units_of("mine"), 0, 2, limit_of_keys, limit_of_keys + 2, string, limit16 + 1, 0xAAAA)
@@ -173,7 +173,7 @@ de {
 
 
 class Case(unittest.TestCase):
-    """Runs the tool in a folder of its own."""
+    """Runs the tool in a separate folder."""
 
     def setUp(self):
         self.folder = tempfile.TemporaryDirectory()
@@ -189,7 +189,7 @@ class Case(unittest.TestCase):
         return self.path(name)
 
     def run_tool(self, *args):
-        """The status, what is printed to standard error, and the texts that are written."""
+        """Returns the status, what is printed to standard error, and the texts that are written."""
         printed = io.StringIO()
         sys.argv = [TOOL, "--to", self.path("texts"), *args]
         icu2text.read_pool.cache_clear()
@@ -199,9 +199,10 @@ class Case(unittest.TestCase):
             except SystemExit as end:
                 status = end.code
         texts = {}
-        for name in os.listdir(self.path("texts")) if os.path.isdir(self.path("texts")) else []:
-            with open(self.path("texts", name), encoding="utf-8") as file:
-                texts[name] = file.read()
+        for folder, _, names in os.walk(self.path("texts")):
+            for name in (os.path.join(folder, name) for name in names):
+                with open(name, encoding="utf-8") as file:
+                    texts[os.path.relpath(name, self.path("texts"))] = file.read()
         return status, printed.getvalue(), texts
 
     def text(self, data):
@@ -425,7 +426,7 @@ class Refusals(Case):
 
 
 def package(items, order="<", version=(1, 0)):
-    """A package of these items, which are named with the package's own name in front."""
+    """Returns a package of these items, which are named with the package's own name in front."""
     count = len(items)
     names = b"".join(b"icudt/" + name.encode() + b"\0" for name in items)
     starts, names_at, data_at = [], 4 + 8 * count, 4 + 8 * count + len(names)
@@ -446,7 +447,25 @@ class Packages(Case):
             self.assertEqual(self.run_tool("--package", path, "--tree", "curr"), (0, "", {"de.txt": USER}))
             self.assertEqual(self.run_tool("--package", path, "--tree", "curr", "fr")[:2], (2, "cannot read curr/fr.res\n"))
             self.assertEqual(self.run_tool("--package", path, "--tree", "lang")[:2], (1, "lang/de.res: no header of ICU data ResB (byte 0)\n"))
-            self.assertEqual(self.run_tool("--package", path, "--tree", "none")[0], 1)
+            trees = f"{path}: no bundles in the tree none; --tree may be curr, lang, main\n"
+            self.assertEqual(self.run_tool("--package", path, "--tree", "none")[:2], (1, trees))
+
+    def test_a_missing_main_lists_the_trees(self):
+        path = self.save("icudt.dat", package({name: data for name, data in ITEMS.items() if name != "de.res"}))
+        trees = f"{path}: no bundles in the tree main; --tree may be curr, lang\n"
+        self.assertEqual(self.run_tool("--package", path), (1, trees, {}))
+        empty = self.save("empty.dat", package({"cnvalias.icu": b"none"}))
+        self.assertEqual(self.run_tool("--package", empty), (1, f"{empty}: no bundles in the tree main\n", {}))
+        self.assertEqual(self.run_tool("--package", empty, "--all"), (1, f"{empty}: no bundles in the tree main\n", {}))
+
+    def test_all_trees_into_folders(self):
+        path = self.save("icudt.dat", package(ITEMS))
+        status, printed, texts = self.run_tool("--package", path, "--all")
+        self.assertEqual((status, printed), (1, "lang/de.res: no header of ICU data ResB (byte 0)\n"))
+        self.assertEqual(texts, {"de.txt": EVERYTHING, "curr/de.txt": USER})
+        for args in (("--tree", "curr"), ("de",), ("--from", ".")):
+            self.assertEqual(self.run_tool("--package", path, "--all", *args)[0], 2)
+        self.assertEqual(self.run_tool("--all", "de.res")[0], 2)
 
     def test_damaged(self):
         good, many, most = package(ITEMS), b"\xff\xff\xff\xff", len(ITEMS)
@@ -490,8 +509,18 @@ class Runs(Case):
         status, printed, texts = self.run_tool(*paths)
         self.assertEqual((status, sorted(texts)), (2, ["b.txt"]))
         self.assertEqual(len(printed.splitlines()), 3)
-        self.assertIn("b.txt is the text of another file already", printed)
+        self.assertIn("b.txt is the text of another file already; --from SRC keeps folders", printed)
         self.assertEqual(self.run_tool(self.path("none.res"))[:2], (2, f"cannot read {self.path('none.res')}\n"))
+
+    def test_two_modules_into_folders(self):
+        good = everything((1, 3), "<")
+        paths = [self.save(name, good) for name in ("in/shop/de.res", "in/bank/old/de.res", "in/de.res")]
+        status, printed, texts = self.run_tool("--from", self.path("in"), *paths)
+        self.assertEqual((status, printed), (0, ""))
+        self.assertEqual(texts, dict.fromkeys(("shop/de.txt", "bank/old/de.txt", "de.txt"), EVERYTHING))
+        outside = self.save("other/de.res", good)
+        wanted = f"{outside} isn't below {self.path('in')}\n"
+        self.assertEqual(self.run_tool("--from", self.path("in"), outside)[:2], (2, wanted))
 
     def test_what_cannot_be_written(self):
         path = self.save("de.res", everything((1, 3), "<"))

@@ -1,6 +1,6 @@
 #!/usr/bin/env python3
-"""Whether `resb serve` answers a line the same with a member that counts for nothing: 100,000 made lines, served as they are and with
-such a member more, and their replies compared byte for byte.
+"""Checks that `resb serve` ignores members without a meaning: serves 100,000 made lines as they are and with one more member each, and
+compares the replies byte for byte.
 
 usage: ignored_members.py PROGRAM [SEED]
 
@@ -23,7 +23,7 @@ MEMBERS = [
 
 
 def with_member(line, member):
-    """The line with one member more at the front of its object, if it has a brace."""
+    """Returns the line with one member more at the front of its object, if it has a brace."""
     front, brace, rest = line.partition(b"{")
     if not brace:
         return line

@@ -4,8 +4,8 @@
 usage: tests/json_values.py PROGRAM [COUNT [SEED]]
 
 A tree is made at random and written as a text with every escape that it needs; its value is built by the rules of docs/JSON.md.
-The compact line is compared byte for byte with what `json.dumps` writes of the value without spaces, the indented text as a value,
-and each child of the root also by its path. Each tree has one value of its own: two trees of one value must be equal.
+The compact line is compared byte for byte with what `json.dumps` writes of the value without spaces, the indented text with what it writes
+with an indentation, each with more characters escaped, and each child of the root also by its path. Two trees with one value must be equal.
 """
 
 import json
@@ -19,6 +19,9 @@ import tempfile
 KINDS = ["string", "int", "intvector", "bin", "alias", "array", "table"]
 UNITS = [0, 1, 9, 10, 13, 0x1F, 0x20, 0x22, 0x2F, 0x3A, 0x41, 0x5C, 0x7B, 0x7F, 0x85, 0xA0, 0xE9, 0x2028, 0x4E2D, 0xD7FF]
 UNITS += [0xD800, 0xDBFF, 0xDC00, 0xDFFF, 0xE000, 0xFEFF, 0xFFFD, 0xFFFF]
+UNITS += [0x9B, 0x9F, 0x200F, 0x202A, 0x202E, 0x202F, 0x2065, 0x2066, 0x2069, 0x206A]
+# what a terminal acts on, and the controls of the writing direction: they are escaped
+ESCAPED = [*range(0x7F, 0xA0), *range(0x202A, 0x202F), *range(0x2066, 0x206A)]
 KEY_BYTES = "abcXYZ019 :_-/\\{}\"~!,"
 INTS = [0, 1, 5, 2**27 - 1, 2**27, 2**28 - 1]
 NUMBERS = [0, 1, -1, 2**31 - 1, -(2**31), 268435455]
@@ -41,7 +44,7 @@ def random_key(rng):
 
 
 def random_tree(rng, levels):
-    """A tree, as a pair of its kind and what it holds."""
+    """Returns a tree, as a pair of its kind and what it holds."""
     kind = rng.choice(KINDS if levels > 1 else KINDS[:5])
     if kind in ("string", "alias"):
         return kind, tuple(random_units(rng))
@@ -62,7 +65,7 @@ def random_table(rng, levels):
 
 
 def quoted(units):
-    """Units as a quoted piece of a bundle text, each as an escape."""
+    """Returns units as a quoted piece of a bundle text, each as an escape."""
     return '"' + "".join("\\u%04X" % unit for unit in units) + '"'
 
 
@@ -82,7 +85,7 @@ def text_of(tree):
 
 
 def text_value(units):
-    """The text of units, or the units if they are not well-formed UTF-16."""
+    """Returns the text of units, or the units if they are not well-formed UTF-16."""
     data = b"".join(unit.to_bytes(2, "little") for unit in units)
     try:
         return data.decode("utf-16-le")
@@ -108,8 +111,16 @@ def value_of(tree):
     return {(":" + key if key.startswith(":") else key): value_of(child) for key, child in held}
 
 
+def escaped(text):
+    return text.translate({code: "\\u%04x" % code for code in ESCAPED}).encode()
+
+
 def compact(value):
-    return json.dumps(value, ensure_ascii=False, separators=(",", ":")).encode()
+    return escaped(json.dumps(value, ensure_ascii=False, separators=(",", ":")))
+
+
+def indented(value):
+    return escaped(json.dumps(value, ensure_ascii=False, indent=2))
 
 
 def run(*words):
@@ -133,8 +144,8 @@ def check_bundle(program, folder, tree):
     same("the line", (printed.returncode, printed.stderr, printed.stdout), (0, b"", compact(value) + b"\n"), text)
     same("what Python reads", json.loads(printed.stdout), value, text)
     pretty = run(program, "json", "--pretty", file).stdout
-    same("the indented value", json.loads(pretty), value, text)
-    same("its order", compact(json.loads(pretty)), compact(value), text)
+    same("the indented value", pretty, indented(value) + b"\n", text)
+    same("what Python reads of it", json.loads(pretty), value, text)
     for key, child in tree[1]:
         if "/" not in key and not key.startswith("-"):
             found = run(program, "json", file, key).stdout
@@ -143,7 +154,7 @@ def check_bundle(program, folder, tree):
 
 
 def shared_file(levels):
-    """The file of a table with one key, under which arrays of two items each share their items: it spells 2**levels Ints."""
+    """Returns the file of a table with one key, under which arrays of two items each share their items: it spells 2**levels Ints."""
     keys_at, keys = 4 * (1 + 5), b"a\0\xAA\xAA"
     first = (keys_at + len(keys)) // 4
     words, item, top = [], (7 << 28) | 1, first

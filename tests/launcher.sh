@@ -1,13 +1,13 @@
 #!/usr/bin/env bash
-# Tries the launcher bin/resb in checkouts that are made for it, with a program and a toolchain that only say what they were given.
-# Ends with status 0 if each trial is as it should be, and else with 1.
+# Tries the launcher bin/resb in checkouts that are made for it, with a program and a toolchain that only print their arguments.
+# Ends with status 0 if each trial passes, and else with 1.
 set -u
 top=$(cd "$(dirname "$0")/.." && pwd -P)
 made=$(mktemp -d) || exit 2
 trap 'rm -rf "$made"' EXIT
 failed=0
 
-# checkout FOLDER: a checkout in which the program is built.
+# checkout FOLDER: makes a checkout in which the program is built.
 checkout() {
     mkdir -p "$1/bin" "$1/crates/rb_tool/src" "$1/crates/rb_tool/specs" "$1/crates/rb_tool/proofs" "$1/crates/rb_tool/out"
     mkdir "$1/crates/rb_arguments" "$1/crates/rb_commands" "$1/crates/rb_requests"
@@ -18,13 +18,13 @@ checkout() {
     program "$1/crates/rb_tool/out/rb_tool"
 }
 
-# program FILE: a program that prints its arguments.
+# program FILE: writes a program that prints its arguments.
 program() {
     printf '#!/bin/sh\necho "ran: $*"\n' >"$1"
     chmod +x "$1"
 }
 
-# trial NAME WANTED COMMAND..: what the command prints, on standard output and standard error, and its status.
+# trial NAME WANTED COMMAND..: compares what the command prints, on standard output and standard error, and its status.
 trial() {
     local name=$1 wanted=$2 found
     shift 2
@@ -77,7 +77,7 @@ mv "$second/crates/rb_tool/out/rb_tool" "$made/rb_tool"
 trial 'no program and no toolchain' "resb: not built, and $missing; 2" without serve
 trial 'no program and no toolchain, unproved' "resb: $missing; 2" without --unproved serve
 
-# rt LINE..: a toolchain that says what it was given, and then does what the lines say.
+# rt LINE..: writes a toolchain that prints its arguments, and then does what the lines say.
 rt() {
     printf '%s\n' '#!/bin/sh' 'echo "of rt: $*"' "$@" >"$tools/rt"
     chmod +x "$tools/rt"

@@ -75,12 +75,12 @@ def used(size, count):
 
 
 def line_of(request):
-    """A request as a line, without its line feed; bytes are a line already."""
+    """Returns a request as a line, without its line feed; bytes are a line already."""
     return request if isinstance(request, bytes) else json.dumps(request, separators=(",", ":")).encode()
 
 
 def reply_of(answer):
-    """The line of a reply, whose members ascend."""
+    """Returns the line of a reply, whose members ascend."""
     return json.dumps(answer, separators=(",", ":"), sort_keys=True).encode() + b"\n"
 
 
@@ -190,12 +190,12 @@ def at_the_quota(program):
 
 
 def big_text(count, size=20):
-    """A text of this many entries."""
+    """Returns a text of this many entries."""
     return "x{" + "".join(f"k{i}{{\"{'v' * size}\"}}" for i in range(count)) + "}"
 
 
 def fair_request(chosen):
-    """A request of an application that keeps its limits."""
+    """Returns a request of an application that keeps its limits."""
     locale = chosen.choice(("root", "de", "de_AT", "fr"))
     number = chosen.random()
     if number < 0.1:
@@ -210,7 +210,7 @@ def fair_request(chosen):
 
 
 def greedy_line(chosen):
-    """A line of an application that is at its limits all the time."""
+    """Returns a line of an application that is at its limits all the time."""
     locale = f"aa_{chosen.randrange(60)}"
     return chosen.choice((
         lambda: line_of(install("greedy", locale, big_text(chosen.randrange(1, 40)))),
@@ -276,13 +276,13 @@ class Server:
         self.process.stdin.write(data)
 
     def await_replies(self, count):
-        """Waits until there are so many replies."""
+        """Waits until there are `count` replies."""
         self.process.stdin.flush()
         with self.lock:
             assert self.lock.wait_for(lambda: self.count >= count, WAIT), f"{self.count} of {count} replies came"
 
     def peak(self):
-        """The most bytes of memory that the process had, or None if the system doesn't tell."""
+        """Returns the most bytes of memory that the process had, or None if the system doesn't tell."""
         try:
             with open(f"/proc/{self.process.pid}/status", encoding="ascii") as file:
                 return next(int(line.split()[1]) * 1024 for line in file if line.startswith("VmHWM:"))
@@ -333,14 +333,14 @@ LIMITS = {"--app-bytes": MEGABYTE, "--bundle-bytes": 262144, "--reply-bytes": 65
 
 
 def bound(limits):
-    """The most memory that a server is to have under these limits: the sum of docs/SERVER.md."""
+    """Returns the most memory that a server is to have under these limits: the sum of docs/SERVER.md."""
     bundles = min(4096, limits["--app-bytes"] // 56)
     return (24 * MEGABYTE + limits["--apps"] * (2 * limits["--app-bytes"] + 512 * (bundles + 1))
             + 60 * min(limits["--bundle-bytes"], 8388608) + 4 * limits["--line-bytes"] + 4 * limits["--reply-bytes"])
 
 
 def attacks(chosen):
-    """Lines of twenty applications that fill what there is, each kind until its application is full, and then at random."""
+    """Yields lines of twenty applications that fill what there is, each kind until its application is full, and then at random."""
     apps = [f"app{number}" for number in range(20)]
     for number in range(4096):
         for app in apps[:8]:
@@ -367,7 +367,7 @@ def attacks(chosen):
 
 
 def under_attack(program, seconds):
-    """The most memory under an attack, in bytes, beside what it is to be at the most, and how many lines were sent."""
+    """Returns the most memory under an attack, in bytes, beside the most that it may be, and how many lines were sent."""
     chosen = random.Random(11)
     server = Server(program, [word for name, value in LIMITS.items() for word in (name, str(value))] + ["--keep-serving"])
     server.keeps = False
@@ -441,12 +441,12 @@ def fragmented(program, apps, quota, largest):
 
 
 def limited_memory(size):
-    """What a process does before it begins, so that it has so much address space."""
+    """Returns a function that gives a new process at most this much address space."""
     return lambda: resource.setrlimit(resource.RLIMIT_AS, (size, size))
 
 
 def least_memory(program):
-    """The least address space in which the program starts."""
+    """Returns the least address space in which the program starts."""
     low, high = 0, 512 * MEGABYTE
     while high - low > MEGABYTE // 8:
         middle = (low + high) // 2
@@ -455,7 +455,7 @@ def least_memory(program):
 
 
 def without_memory(program):
-    """A text for which there is no memory is answered by `--keep-serving`, and serving goes on; without it, serving ends."""
+    """A text for which there is no memory is answered by `--keep-serving`, and the server continues; without it, serving ends."""
     size = least_memory(program) + 40 * MEGABYTE
     requests = [install("shop", "de"), install("shop", "fr", big_text(250000)), look("shop", "fr", "a"), look("shop", "de", "a"), usage("shop")]
     lines = [line_of(request) for request in requests[:4]]
@@ -477,7 +477,7 @@ def over_a_file(program, source, prepare):
 
 
 def limited_output(size, most):
-    """What a process does before it begins, so that it has so much address space, and can write so many bytes to a file."""
+    """Returns a function that gives a new process at most this much address space, and files of at most `most` bytes."""
 
     def prepare():
         limited_memory(size)()

@@ -34,7 +34,7 @@ class Server:
         self.process.stdin.write(data)
 
     def reply(self):
-        """The next reply."""
+        """Returns the next reply."""
         while b"\n" not in self.held:
             ready, _, _ = select.select([self.process.stdout], [], [], SECONDS)
             assert ready, "no reply came"
@@ -49,13 +49,13 @@ class Server:
         return not ready and not self.held
 
     def ends(self):
-        """What is written after the input has ended, and the status."""
+        """Returns what is written after the input has ended, and the status."""
         self.process.stdin.close()
         rest = self.held + self.process.stdout.read()
         return rest, self.process.wait()
 
     def writes(self):
-        """How many calls have written so far, if the system tells."""
+        """Returns how many calls have written so far, if the system tells."""
         try:
             with open(f"/proc/{self.process.pid}/io", encoding="ascii") as file:
                 counts = dict(line.split(": ") for line in file.read().splitlines())

@@ -64,7 +64,7 @@ class Soak:
         return Ended(done.returncode, done.stdout, done.stderr)
 
     def least_memory(self):
-        """The least address space in which the program starts."""
+        """Returns the least address space in which the program starts."""
         low, high = 0, 512 * MEGABYTE
         while high - low > MEGABYTE // 8:
             middle = (low + high) // 2
@@ -95,12 +95,12 @@ class Soak:
 
 
 def limited(size):
-    """What a process does before it begins, so that it has so much address space."""
+    """Returns a function that gives a new process at most this much address space."""
     return lambda: resource.setrlimit(resource.RLIMIT_AS, (size, size))
 
 
 def short_file(size):
-    """What a process does before it begins, so that its files have at most this many bytes."""
+    """Returns a function that gives a new process files of at most this many bytes."""
     def limit():
         signal.signal(signal.SIGXFSZ, signal.SIG_IGN)
         resource.setrlimit(resource.RLIMIT_FSIZE, (size, size))
@@ -108,7 +108,7 @@ def short_file(size):
 
 
 def first_difference(replies, output):
-    """The number of the first reply that isn't the wanted one, the wanted one and what is there."""
+    """Returns the number of the first reply that isn't the wanted one, the wanted one and what is there."""
     given = output.splitlines(keepends=True)
     for number, wanted in enumerate(replies):
         there = given[number] if number < len(given) else b""
@@ -118,7 +118,7 @@ def first_difference(replies, output):
 
 
 def start_arguments(soak, start):
-    """The arguments of `serve` for a start, whose files are written."""
+    """Returns the arguments of `serve` for a start, whose files are written."""
     arguments = ["serve"]
     if start.parents_text:
         arguments += ["--parents", soak.path("parents.txt", start.parents_text)]
@@ -269,7 +269,7 @@ def refuse_reads(soak, arguments, _history):
 
 
 def big_text(count):
-    """A text of about this many times 30 bytes."""
+    """Returns a text of about this many times 30 bytes."""
     return "x{" + "".join(f"k{i}{{\"{'v' * 20}\"}}" for i in range(count)) + "}"
 
 
@@ -315,7 +315,7 @@ def lack_memory_and_serve(soak, start, start_words, history):
 
 @functools.lru_cache
 def big_files():
-    """A text of about 600,000 bytes, and its file."""
+    """Returns a text of about 600,000 bytes, and its file."""
     text = big_text(20000).encode()
     return text, files.write(texts.read(text))
 
@@ -407,7 +407,7 @@ def get_item(soak, generator, path, tree):
 
 
 def start_error(start):
-    """The word and the file with which a start is refused, or None; and whether the word is the only one that may come."""
+    """Returns the word and the file with which a start is refused, or None; and whether the word is the only one that may come."""
     names = set()
     for locale, is_text, content, _ in start.entries:
         try:

@@ -2,7 +2,7 @@
 # Checks the errors of resb if standard output can't be written: `cannot write stdout` and status 2, or `Write` and status 1 of `serve`.
 #
 # usage: stdout.sh PROGRAM
-# Ends with status 0 if it is said, with 1 if not; says `skipped` if there is no such program or no /dev/full.
+# Ends with status 0 if all agree, with 1 if not; says `skipped` if there is no such program or no /dev/full.
 set -u
 program=${1:?usage: stdout.sh PROGRAM}
 if [ ! -x "$program" ] || [ ! -c /dev/full ]; then

@@ -24,14 +24,14 @@ def path(chance, most):
 
 
 def alias(chance):
-    """The text of an alias, at times one that leads nowhere."""
+    """Returns the text of an alias, at times one that leads nowhere."""
     head = chance.choice(("/LOCALE", "/ICUDATA/de", "/other", "?", *LOCALES[:5], *LOCALES[:5]))
     tail = path(chance, 2)
     return f"{head}/{tail}" if tail else head
 
 
 def item(chance, depth):
-    """A body of a random item, with its type."""
+    """Returns a body of a random item, with its type."""
     kind = chance.random()
     if depth < 3 and kind < 0.4:
         return ":table{" + entries(chance, depth + 1) + "}"
@@ -47,7 +47,7 @@ def entries(chance, depth):
 
 
 def bundle(chance, locale):
-    """A text of a random bundle."""
+    """Returns a text of a random bundle."""
     body = entries(chance, 0)
     if chance.random() < 0.1:
         body += f' %%ALIAS{{"{chance.choice(LOCALES + ("?",))}"}}'
@@ -62,7 +62,7 @@ def looked(program, words):
 
 
 def differs(plain, traced, locale_of):
-    """What is wrong with a traced lookup, or nothing."""
+    """Returns what is wrong with a traced lookup, or nothing."""
     (reply, errors, status), (other, trace, traced_status) = plain, traced
     if errors or (reply, status) != (other, traced_status):
         return "another reply"
@@ -76,7 +76,7 @@ def differs(plain, traced, locale_of):
 
 
 def long_alias(program, folder):
-    """What is wrong with the trace of an alias with a long text that leads to itself, or nothing: of the text 1,000 characters
+    """Returns what is wrong with the trace of an alias with a long text that leads to itself, or nothing: of the text 1,000 characters
     are shown, at each of 255 levels and more."""
     file = os.path.join(folder, "long.txt")
     with open(file, "w", encoding="utf-8") as text:

@@ -3,12 +3,14 @@
 
 usage: tests/trusted.py [--inner]
 
-Prints for each crate, and at last for all, how many lines the contracts of its calls reach, and how many more those of its laws. With
---inner it prints the files of specs/ that are in the wrong place, with status 1 if there is any: what no public contract reaches serves
-only proofs and private functions, and is in specs/inner/.
+Prints three numbers for each crate, and at last for all: how many lines the contracts of the core's calls reach, how many more those of
+all other calls, and how many more those of laws. The core is texts, files, items, names, lookups, requests and the lines of `serve`
+without limits; the rest is in BEYOND. With --inner it prints the files of specs/ that are in the wrong place, with status 1 if there is
+any: what no public contract reaches serves only proofs and private functions, and is in specs/inner/.
 
 A line counts if it is not blank, no comment and no `use`. Public are the items that a crate's lib.rt names, with the methods of its types
-and traits. Definitions of the toolchain's library aren't counted.
+and traits. Of a `module _` block its head counts, and those of its definitions that are reached. Not counted are definitions of the
+toolchain's library, and those that only say why a recursion ends.
 """
 
 import collections
@@ -18,6 +20,27 @@ import sys
 
 CRATES = pathlib.Path(__file__).resolve().parent.parent / "crates"
 
+# Parts of crates beyond the core: all, or some types, functions and clauses (FUNCTION.CLAUSE).
+BEYOND = {
+    "rb_arguments": "all",
+    "rb_commands": "all",
+    "rb_engine": {"compile", "one_compiled", "put", "usage", "file_len", "apps", "look_within"},
+    "rb_explain": "all",
+    "rb_fallback": {"look_watched", "look_within"},
+    "rb_handle": "all",
+    "rb_json": {"json_text", "characters", "ascii", "Outlet"},
+    "rb_lexer": {"Tokens"},
+    "rb_lint": "all",
+    "rb_packages": {"usage", "file_len", "apps"},
+    "rb_parser": {"parse_unweighed"},
+    "rb_printer": "all",
+    "rb_replies": {"found_is_above", "reply_is_above", "tell_usage", "put_usage"},
+    "rb_requests": {"serve_limited", "handle", "put", "look", "limited"},
+    "rb_validator": {"blocks"},
+    "resb": "all",
+    "rb_writer": {"write.front", "write.end", "write.longest", "write.bytes", "write_if_light"},
+}
+
 HEAD = re.compile(r"(abbrev|unfoldable|pub|data|record|mutual)\b")
 NAMED = re.compile(r"^\s*(?:(?:abbrev|unfoldable|pub|data|record)\s+)+(\S+)")
 BOUND = re.compile(r"^\s+(?:pub\s+)?([^\s:(){}]+) :(?:\s|$)")
@@ -26,14 +49,15 @@ IMPORT = re.compile(r"Rattle\.(\w+)\.specs\.([\w.]+?)(?:\.\{([^}]*)\}| as (\S+))
 
 
 class Definition:
-    """One definition, or several that are mutual: its lines, and the words in them."""
+    """One definition, or several that are mutual: its lines, the head of the block that it is in, and the words in them."""
 
-    def __init__(self, file, lines):
+    def __init__(self, file, lines, head):
         self.file = file
+        self.head = head
         self.lines = [line for line in lines if line.strip() and not line.strip().startswith("--")]
         self.names = {match[1] for match in map(NAMED.match, self.lines) if match}
         self.names |= {match[1] for match in map(BOUND.match, self.lines) if match}
-        self.words = set(WORD.findall("\n".join(self.lines)))
+        self.words = set(WORD.findall("\n".join(head + self.lines)))
 
 
 class Scope:
@@ -59,7 +83,7 @@ class Scope:
                 self.names[word] = (crate, module, name)
 
     def finds(self, word):
-        """The place of what a word cites: crate, module and name."""
+        """Returns the place of what a word cites: crate, module and name."""
         if word in self.names:
             return self.names[word]
         front, dot, rest = word.partition(".")
@@ -71,14 +95,14 @@ class Scope:
 
 
 def symbols(name):
-    """The words by which a name is written: an operator's parts stand between its places."""
+    """Returns the words by which a name is written: an operator's parts stand between its places."""
     return [part for part in name.split("◌") if part]
 
 
 def read_specs():
-    """All definitions by crate, module and name, and the scopes of their files."""
+    """Returns all definitions by crate, module and name, and the scopes of their files."""
     found, scopes, files = {}, {}, []
-    for file in sorted(CRATES.glob("rb_*/specs/**/*.antt")):
+    for file in sorted(CRATES.glob("r*b*/specs/**/*.antt")):
         if file.name in ("Lib.antt", "inner.antt"):
             continue
         crate, module = place_of(file)
@@ -92,20 +116,25 @@ def read_specs():
 
 
 def blocks(file, text):
-    lines = []
+    """Yields the definitions of a file: those at its left edge, and those within a `module _` block, each with the block's head."""
+    lines, head = [], []
     for line in text.splitlines():
-        if line.startswith("use ") or HEAD.match(line):
+        inner = line.removeprefix("  ") if head else line
+        if line and not line.startswith(" "):
+            head = [line] if line.startswith("module _") else []
+            inner = line
+        if line.startswith(("use ", "module _")) or HEAD.match(inner):
             if lines:
-                yield Definition(file, lines)
-            lines = []
-        if lines or HEAD.match(line):
-            lines.append(line)
+                yield Definition(file, lines, started)
+            lines, started = [], head
+        if lines or HEAD.match(inner):
+            lines.append(inner)
     if lines:
-        yield Definition(file, lines)
+        yield Definition(file, lines, started)
 
 
 def exported(crate):
-    """The names that lib.rt makes public, and its public modules."""
+    """Returns the names that lib.rt makes public, and its public modules."""
     text = (CRATES / crate / "src" / "lib.rt").read_text()
     names = set()
     for group in re.findall(r"^pub use ([^;]*);", text, re.M):
@@ -113,8 +142,14 @@ def exported(crate):
     return names, set(re.findall(r"^pub mod (\w+);", text, re.M))
 
 
-def contracts(crate, of_laws):
-    """The text of each contract of a crate's public calls, or of its laws, with the scope of its file."""
+def is_beyond(crate, owner, function, clause):
+    """Returns whether a clause is beyond the core."""
+    beyond = BEYOND.get(crate, set())
+    return beyond == "all" or bool({owner, function, f"{function}.{clause}"} & set(beyond))
+
+
+def contracts(crate, of_laws, with_private):
+    """Each clause of a crate's public calls, or of its laws: its text, the scope of its file, and whether it is beyond the core."""
     names, modules = exported(crate)
     for file in sorted((CRATES / crate / "src").glob("**/*.rt")):
         if (file.stem in modules) != of_laws:
@@ -131,19 +166,21 @@ def contracts(crate, of_laws):
                 is_inherent = block[1] == "impl" and not block[2]
             elif line.startswith("}"):
                 owner = None
-            signature = re.match(r"\s*(pub |)(?:const |unsafe )*fn (\w+)", line)
+            signature = re.match(r"\s*(pub |pub\(crate\) |)(const |unsafe |extern \"C\" )*fn (\w+)", line)
             if signature:
+                name = signature[3]
                 function = is_public(signature, owner, is_inherent, file.stem, names, modules)
-            clause = re.match(r"\s*(ensures|requires)\b(.*)", line)
+                function = function or (with_private and signature[1] == "pub(crate) ")
+            clause = re.match(r"\s*(ensures|requires)\*? *(\w*)(.*)", line)
             shown = re.match(r"\s*ghost (?!use|invariant|inverse|coded)(\w+)(.*)", line)
             if clause and function:
-                yield clause[2], scope
-            elif shown and owner in names:
-                yield shown[2], scope
+                yield clause[3], scope, is_beyond(crate, owner, name, clause[2])
+            elif shown and owner in names and (with_private or shown[1] != "size_decreases"):
+                yield shown[2], scope, is_beyond(crate, owner, None, None)
 
 
 def clauses_joined(text):
-    """The lines of a source, with each clause in one line."""
+    """Yields the lines of a source, with each clause in one line."""
     held = ""
     for line in text.splitlines():
         held = f"{held} {line.strip()}" if held else line
@@ -154,14 +191,15 @@ def clauses_joined(text):
 
 
 def is_public(signature, owner, is_inherent, module, names, modules):
-    """Whether a function can be called from outside: one of a trait without a word, any other only if it is `pub`."""
+    """Whether a function can be called from outside: one of a trait without a word, an export to C, any other only if it is `pub`."""
     if owner:
-        return owner in names and (bool(signature[1]) or not is_inherent)
-    return bool(signature[1]) and (signature[2] in names or module in modules)
+        return owner in names and (signature[1] == "pub " or not is_inherent)
+    is_export = signature[2] == 'extern "C" '
+    return signature[1] == "pub " and (is_export or signature[3] in names or module in modules)
 
 
 def cited(words, scope, own, found):
-    """The definitions that words cite, in a scope and a module of its own."""
+    """Yields the definitions that words cite, in a scope and a module."""
     for word in words:
         place = scope.finds(word) or (*own, word.partition(".")[0])
         if place in found:
@@ -169,17 +207,18 @@ def cited(words, scope, own, found):
 
 
 def place_of(file):
-    """The crate and the module of a file of specs/."""
+    """Returns the crate and the module of a file of specs/."""
     crate = file.relative_to(CRATES).parts[0]
     return crate, ".".join(file.relative_to(CRATES / crate / "specs").with_suffix("").parts)
 
 
-def reach(of_laws, found, scopes):
-    """The definitions that the contracts of calls, or those of laws, reach."""
+def reach(of_laws, found, scopes, is_core=False, with_private=False):
+    """Returns the definitions that the contracts of calls, of the core's calls, or of laws, reach."""
     seen, todo = set(), []
-    for crate in sorted(path.parts[-3] for path in CRATES.glob("rb_*/src/lib.rt")):
-        for text, scope in contracts(crate, of_laws):
-            todo += cited(WORD.findall(text), scope, (crate, ""), found)
+    for crate in sorted(path.parts[-3] for path in CRATES.glob("r*b*/src/lib.rt")):
+        for text, scope, beyond in contracts(crate, of_laws, with_private):
+            if not (is_core and beyond):
+                todo += cited(WORD.findall(text), scope, (crate, ""), found)
     while todo:
         definition = todo.pop()
         if definition not in seen:
@@ -192,24 +231,29 @@ def counted(definitions):
     counts = collections.Counter()
     for definition in definitions:
         counts[place_of(definition.file)[0]] += len(definition.lines)
+    for file, head in {(definition.file, *definition.head) for definition in definitions if definition.head}:
+        counts[place_of(file)[0]] += 1
     return counts
 
 
-def print_count(calls, laws):
-    calls, laws = counted(calls), counted(laws - calls)
-    for crate in sorted(calls | laws):
-        print(f"{crate} {calls[crate]} {laws[crate]}")
-    print(f"all {calls.total()} {laws.total()}")
+def print_count(core, calls, laws):
+    core, calls, laws = counted(core), counted(calls - core), counted(laws - calls)
+    for crate in sorted(core | calls | laws):
+        print(f"{crate} {core[crate]} {calls[crate]} {laws[crate]}")
+    print(f"all {core.total()} {calls.total()} {laws.total()}")
 
 
-def print_inner(reached, files):
+def print_inner(reached, private, files):
+    """Prints the files in the wrong place. What only measures and calls within the crate reach may be in either place."""
     reached = {definition.file for definition in reached}
+    private = {definition.file for definition in private}
     wrong = False
     for file in files:
-        if file in reached and "inner" in file.relative_to(CRATES).parts:
+        is_inner = "inner" in file.relative_to(CRATES).parts
+        if file in reached and is_inner:
             print(f"reached: {file.relative_to(CRATES)}")
             wrong = True
-        elif file not in reached and "inner" not in file.relative_to(CRATES).parts:
+        elif file not in reached | private and not is_inner:
             print(f"not reached: {file.relative_to(CRATES)}")
             wrong = True
     return wrong
@@ -219,8 +263,9 @@ def main():
     found, scopes, files = read_specs()
     calls, laws = reach(False, found, scopes), reach(True, found, scopes)
     if sys.argv[1:] == ["--inner"]:
-        sys.exit(1 if print_inner(calls | laws, files) else 0)
-    print_count(calls, laws)
+        private = reach(False, found, scopes, with_private=True)
+        sys.exit(1 if print_inner(calls | laws, private, files) else 0)
+    print_count(reach(False, found, scopes, is_core=True), calls, laws)
 
 
 main()

@@ -5,10 +5,13 @@ package main
 import (
 	"errors"
 
-	"luvdregan.example/resb/deploy/internal/api"
+	"luvdregan.example/resb/deploy/internal/replica"
 )
 
-// newShards is there where the gateway is built with NATS' library.
-func newShards(settings) (api.Backend, error) {
+// openLog is there if the gateway is built with NATS' library.
+func openLog(s settings) (replica.SharedLog, error) {
+	if s.nats == "" {
+		return nil, nil
+	}
 	return nil, errors.New("built without NATS: deploy/gateway/build builds it with its library, where that is installed")
 }

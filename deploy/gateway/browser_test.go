@@ -14,14 +14,15 @@ import (
 
 // A browser is a headless chromium, spoken to by its pipe.
 type browser struct {
-	t       *testing.T
-	to      *os.File
-	from    *bufio.Reader
-	id      int
-	session string
+	t          *testing.T
+	to         *os.File
+	from       *bufio.Reader
+	id         int
+	session    string
+	complaints []string // errors of scripts and of the policy
 }
 
-// openBrowser starts chromium, where it is there.
+// openBrowser starts chromium, if it is installed.
 func openBrowser(t *testing.T) *browser {
 	t.Helper()
 	path, err := exec.LookPath("chromium")
@@ -29,7 +30,7 @@ func openBrowser(t *testing.T) *browser {
 		t.Skip("skipped: chromium is not there")
 	}
 	command := exec.Command(path, "--headless", "--no-sandbox", "--disable-gpu", "--disable-dev-shm-usage", "--no-first-run",
-		"--user-data-dir="+t.TempDir(), "--remote-debugging-pipe", "--window-size=900,900", "about:blank")
+		"--user-data-dir="+t.TempDir(), "--remote-debugging-pipe", "--window-size=1100,1300", "about:blank")
 	theirs, to, err := os.Pipe()
 	if err != nil {
 		t.Fatal(err)
@@ -43,27 +44,32 @@ func openBrowser(t *testing.T) *browser {
 		t.Fatal(err)
 	}
 	_, _ = theirs.Close(), ours.Close()
-	late := time.AfterFunc(2*time.Minute, func() { _ = command.Process.Kill() })
+	late := time.AfterFunc(5*generous, func() { _ = command.Process.Kill() })
 	b := &browser{t: t, to: to, from: bufio.NewReader(from)}
 	t.Cleanup(func() {
+		b.session = ""
 		b.call("Browser.close", nil)
 		_ = command.Wait()
 		late.Stop()
 	})
 	var made struct{ TargetID string }
-	b.ask("Target.createTarget", map[string]interface{}{"url": "about:blank"}, &made)
+	b.ask("Target.createTarget", map[string]any{"url": "about:blank"}, &made)
 	var attached struct{ SessionID string }
-	b.ask("Target.attachToTarget", map[string]interface{}{"targetId": made.TargetID, "flatten": true}, &attached)
+	b.ask("Target.attachToTarget", map[string]any{"targetId": made.TargetID, "flatten": true}, &attached)
 	b.session = attached.SessionID
+	for _, part := range []string{"Page", "Runtime", "Log"} {
+		b.call(part+".enable", nil)
+	}
 	return b
 }
 
-func (b *browser) call(method string, parameters interface{}) json.RawMessage {
+func (b *browser) call(method string, parameters any) json.RawMessage {
 	b.id++
-	message, _ := json.Marshal(map[string]interface{}{"id": b.id, "method": method, "params": parameters, "sessionId": b.session})
-	if b.session == "" {
-		message, _ = json.Marshal(map[string]interface{}{"id": b.id, "method": method, "params": parameters})
+	members := map[string]any{"id": b.id, "method": method, "params": parameters}
+	if b.session != "" {
+		members["sessionId"] = b.session
 	}
+	message, _ := json.Marshal(members)
 	if _, err := b.to.Write(append(message, 0)); err != nil {
 		return nil
 	}
@@ -74,10 +80,21 @@ func (b *browser) call(method string, parameters interface{}) json.RawMessage {
 		}
 		var got struct {
 			ID     int
+			Method string
+			Params struct {
+				Entry struct{ Level, Source string }
+			}
 			Result json.RawMessage
 			Error  json.RawMessage
 		}
-		if json.Unmarshal(text[:len(text)-1], &got) == nil && got.ID == b.id {
+		if json.Unmarshal(text[:len(text)-1], &got) != nil {
+			continue
+		}
+		entry := got.Params.Entry
+		if got.Method == "Runtime.exceptionThrown" || entry.Level == "error" && entry.Source != "network" {
+			b.complaints = append(b.complaints, string(text))
+		}
+		if got.ID == b.id {
 			if got.Error != nil {
 				b.t.Errorf("%s: %s", method, got.Error)
 			}
@@ -86,24 +103,28 @@ func (b *browser) call(method string, parameters interface{}) json.RawMessage {
 	}
 }
 
-func (b *browser) ask(method string, parameters, result interface{}) {
+func (b *browser) ask(method string, parameters, result any) {
 	b.t.Helper()
 	if err := json.Unmarshal(b.call(method, parameters), result); err != nil {
 		b.t.Fatalf("%s: %v", method, err)
 	}
 }
 
-// run gives the text that a script of the page gives.
+// run returns the value of an expression of the page as a text.
 func (b *browser) run(script string) string {
 	b.t.Helper()
 	var got struct {
-		Result struct{ Value interface{} }
+		Result           struct{ Value any }
+		ExceptionDetails json.RawMessage
 	}
-	b.ask("Runtime.evaluate", map[string]interface{}{"expression": script, "awaitPromise": true, "returnByValue": true}, &got)
+	b.ask("Runtime.evaluate", map[string]any{"expression": script, "awaitPromise": true, "returnByValue": true}, &got)
+	if got.ExceptionDetails != nil {
+		b.t.Errorf("%s: %s", script, got.ExceptionDetails)
+	}
 	return fmt.Sprint(got.Result.Value)
 }
 
-// until waits until a script gives a text that has a part.
+// until waits until the value of an expression has a part.
 func (b *browser) until(script, part string) {
 	b.t.Helper()
 	got := ""
@@ -112,17 +133,97 @@ func (b *browser) until(script, part string) {
 			return
 		}
 	}
-	b.t.Fatalf("%s: %q, and no %q in it", script, got, part)
+	b.picture("failed")
+	b.t.Fatalf("%s: %.500q, and no %q in it", script, got, part)
 }
 
-// picture writes what is seen to a file, where the variable GATEWAY_PICTURES names a folder.
+// keys has the keys that the tests press beside letters, with their codes and what they type.
+var keys = map[string]struct {
+	code int
+	text string
+}{"Tab": {9, ""}, "Enter": {13, "\r"}, "Escape": {27, ""}, " ": {32, " "}, "End": {35, ""}, "Home": {36, ""}, "a": {65, ""}}
+
+// The modifiers of a key.
+const (
+	withControl = 2
+	withShift   = 8
+)
+
+// press presses a key.
+func (b *browser) press(key string, modifiers int) {
+	b.t.Helper()
+	for _, kind := range []string{"keyDown", "keyUp"} {
+		event := map[string]any{"type": kind, "key": key, "code": key, "windowsVirtualKeyCode": keys[key].code, "modifiers": modifiers}
+		if kind == "keyDown" && keys[key].text != "" {
+			event["text"] = keys[key].text
+		}
+		if key == "a" && modifiers == withControl {
+			event["commands"] = []string{"selectAll"}
+		}
+		b.call("Input.dispatchKeyEvent", event)
+	}
+}
+
+// write types a text into what has the focus, in the place of what is there.
+func (b *browser) write(text string) {
+	b.t.Helper()
+	b.press("a", withControl)
+	b.call("Input.insertText", map[string]any{"text": text})
+}
+
+// focused names what has the focus by its id or text.
+const focused = `(e => e.id || e.hash || (e.ariaLabel ?? e.textContent).slice(0, 40) || e.localName)(document.activeElement)`
+
+// tab presses Tab until something has the focus, as somebody does who has no mouse.
+func (b *browser) tab(to string) {
+	b.t.Helper()
+	var passed []string
+	for i := 0; i < 80; i++ {
+		now := b.run(focused)
+		if now == to {
+			return
+		}
+		passed = append(passed, now)
+		b.press("Tab", 0)
+	}
+	b.t.Fatalf("Tab doesn't reach %s: %q", to, passed)
+}
+
+// fill types into a field that it reaches by Tab.
+func (b *browser) fill(id, text string) {
+	b.t.Helper()
+	b.tab(id)
+	b.write(text)
+}
+
+// activate presses a key on something that it reaches by Tab.
+func (b *browser) activate(id string) {
+	b.t.Helper()
+	b.tab(id)
+	b.press("Enter", 0)
+}
+
+// click clicks with a script.
+func (b *browser) click(selector string) {
+	b.t.Helper()
+	b.run(fmt.Sprintf("document.querySelector(%q).click(); ''", selector))
+}
+
+// visit opens the page of a gateway.
+func (b *browser) visit(s *site) {
+	b.t.Helper()
+	b.call("Page.navigate", map[string]any{"url": s.url + "/"})
+	b.until("document.documentElement?.dataset.ready", "yes")
+}
+
+// picture writes what is seen to a file if the variable GATEWAY_PICTURES names a folder.
 func (b *browser) picture(name string) {
 	folder := os.Getenv("GATEWAY_PICTURES")
 	if folder == "" {
 		return
 	}
 	var got struct{ Data string }
-	b.ask("Page.captureScreenshot", map[string]interface{}{"format": "png"}, &got)
+	b.ask("Page.captureScreenshot", map[string]any{"format": "png"}, &got)
 	image, err := base64.StdEncoding.DecodeString(got.Data)
 	if err == nil {
 		err = os.WriteFile(folder+"/"+name+".png", image, 0o600)
@@ -132,57 +233,10 @@ func (b *browser) picture(name string) {
 	}
 }
 
-// TestThePageInABrowser looks an item up by hand: fills the fields in, presses the buttons, and reads what is shown.
-func TestThePageInABrowser(t *testing.T) {
-	b := openBrowser(t)
-	s := open(t)
-	s.ask("PUT", "/v1/shop/de.txt", shopWrites, `de{a{"<b>Gr\u00fc\u00dfe</b>"} m{"M"}}`)
-	s.ask("PUT", "/v1/shop/de_AT.txt", shopWrites, `de_AT{m{"Z"}}`)
-	b.call("Page.enable", nil)
-	b.call("Page.navigate", map[string]interface{}{"url": s.url + "/"})
-	b.until("document.readyState + !!document.getElementById('form')", "completetrue")
-	fill := func(app, token, locale, path string) {
-		for id, value := range map[string]string{"app": app, "token": token, "locale": locale, "path": path} {
-			b.run(fmt.Sprintf("document.getElementById(%q).value = %q; ''", id, value))
-		}
-		b.run("document.querySelector('button.main').click(); ''")
-	}
-	const status, value, reply = "document.getElementById('status').textContent", "document.getElementById('value').textContent", "document.getElementById('reply').textContent"
-	b.picture("empty")
-	fill("shop", shopReads, "de_AT", "a")
-	b.until(status, "GET /v1/shop/de_AT/a → 200")
-	b.until(value, "Gr")
-	if got := b.run("document.querySelectorAll('#value b').length"); got != "0" {
-		t.Error("a text became a part of the page")
-	}
-	b.until(reply, `"actual": "de"`)
-	b.picture("found")
-	fill("shop", shopReads, "de_AT", "none")
-	b.until(status, "404")
-	b.until(value, "Missing: no such item")
-	b.picture("missing")
-	fill("bank", shopReads, "de_AT", "a")
-	b.until(value, "Forbidden")
-	fill("shop", "wrong", "de_AT", "a")
-	b.until(value, "Unauthorized")
-	fill("shop", shopReads, "de", "a/..")
-	b.until(status, " → ")
-	fill("shop", shopReads, "de", "ä%")
-	b.until(value, "BadPath")
-	b.run("document.getElementById('list').click(); ''")
-	b.until(value, "2 bundles")
-	b.picture("list")
-	b.run("document.querySelectorAll('#items button')[1].click(); ''")
-	b.until(status, "GET /v1/shop/de_AT → 200")
-	if os.Getenv("RESB") != "" { // the fake server's tables have no keys
-		b.until("document.getElementById('items').textContent", "m")
-		b.picture("table")
-		b.run("document.querySelector('#items button').click(); ''")
-		b.until(value, "Z")
-		b.run("document.getElementById('up').click(); ''")
-		b.until(status, "GET /v1/shop/de_AT → 200")
-	}
-	if made := b.run("{ const s = document.createElement('script'); s.textContent = 'window.made = 1'; document.body.append(s); String(window.made) }"); made != "undefined" {
-		t.Error("the page's policy lets scripts be put in")
+// fine fails if a script failed or the policy was broken.
+func (b *browser) fine() {
+	b.t.Helper()
+	for _, complaint := range b.complaints {
+		b.t.Error(complaint)
 	}
 }

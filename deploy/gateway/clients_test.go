@@ -33,7 +33,9 @@ menu/close Zumachen
 menu/none None
 Öffnen
 Öffnen Schließen NoBundle
-400 BadText
+400 BadText in line 1
+412 PreconditionFailed
+True
 None
 `
 			if got := strings.ReplaceAll(string(text), "null", "None"); err != nil || got != want {

@@ -178,8 +178,7 @@ func (s settings) checkFiles() error {
 			return err
 		}
 	}
-	if s.nats != "" {
-		_, err := os.ReadFile(s.passwords)
+	if _, err := s.login(); err != nil {
 		return err
 	}
 	if _, err := exec.LookPath(s.program); err != nil {

@@ -86,8 +86,8 @@ func TestTheCommandLineWins(t *testing.T) {
 	}
 }
 
-// TestTheExampleHasEveryOption reads deploy/gateway.example.json: each option is there, with its default except where a package has
-// files and folders of its own.
+// TestTheExampleHasEveryOption reads deploy/gateway.example.json: each option is there, with its default, except where a package has
+// other files and folders.
 func TestTheExampleHasEveryOption(t *testing.T) {
 	const path = "../gateway.example.json"
 	if _, err := readSettings([]string{"-config", path}, io.Discard); err != nil {

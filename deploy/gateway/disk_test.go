@@ -68,6 +68,21 @@ func TestADiskThatIsNearlyFull(t *testing.T) {
 	}
 }
 
+// TestEarlierVersionsMakeSpace replaces a bundle more often than the disk has space for its versions.
+func TestEarlierVersionsMakeSpace(t *testing.T) {
+	s := open(t, "-state", smallDisk(t))
+	for i := 0; i < 60; i++ {
+		got := s.ask("PUT", "/v1/shop/de.txt", shopWrites, fmt.Sprintf(`de{a{"%d"} b{"%s"}}`, i, strings.Repeat("y", 300<<10)))
+		if got.StatusCode != 200 && got.StatusCode != 201 {
+			t.Fatalf("%d: %d %s", i, got.StatusCode, got.body)
+		}
+	}
+	all := s.past("")
+	if len(all) != 60 || !all[0].Kept || all[59].Kept {
+		t.Errorf("%d, %v, %v", len(all), all[0].Kept, all[len(all)-1].Kept)
+	}
+}
+
 // halt stops a process, and returns once all its threads have stopped: until then some of them run.
 func halt(t *testing.T, pid int) {
 	t.Helper()

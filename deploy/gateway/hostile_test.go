@@ -129,6 +129,8 @@ func (s *site) noRequests() {
 		put("Transfer-Encoding: chunked\r\n", "4\r\nfr{}"):                                             "400",
 		put("Transfer-Encoding: chunked\r\n", "zz\r\nfr{}\r\n0\r\n\r\n"):                               "400",
 		put("Transfer-Encoding: chunked\r\n", "ffffffffffffffffff\r\nfr{}\r\n0\r\n\r\n"):               "400",
+		put("Content-Length: 4\r\nTransfer-Encoding: chunked\r\n", "4\r\nfr{}\r\n0\r\n\r\n"):           "400",
+		put("transfer-encoding: chunked\r\nCONTENT-LENGTH: 14\r\n", "4\r\nfr{}\r\n0\r\n\r\n"):          "400",
 		put("Transfer-Encoding: gzip\r\n", "fr{}"):                                                     "501",
 		put("Content-Length: 4\r\nContent-Encoding: gzip\r\nConnection: close\r\n", "fr{}"):            "415",
 		put("Content-Length: 4\r\nExpect: 200-ok\r\nConnection: close\r\n", "fr{}"):                    "417",
@@ -145,6 +147,51 @@ func (s *site) noRequests() {
 		s.t.Errorf("%.90q: %.120q", other, got)
 	}
 	s.alive()
+}
+
+// TestTwoLengths sends requests of which a proxy may see another end, each with a further request hidden in it or behind it: that one
+// isn't answered.
+func TestTwoLengths(t *testing.T) {
+	s := withBundle(t)
+	const chunks = "4\r\nfr{}\r\n0\r\n\r\n"
+	hidden := begins("DELETE", "/v1/shop/de", "\r\n")
+	for name, c := range map[string]struct{ fields, status string }{
+		"both":      {fmt.Sprintf("Content-Length: %d\r\nTransfer-Encoding: chunked\r\n", len(chunks+hidden)), "400"},
+		"reversed":  {"Transfer-Encoding: chunked\r\nContent-Length: 4\r\n", "400"},
+		"chunked":   {"Transfer-Encoding: chunked\r\n", "201"},
+		"bare feed": {"Transfer-Encoding: chunked\r\n", ""},
+	} {
+		body := chunks
+		if name == "bare feed" {
+			body = strings.Replace(chunks, "4\r\n", "4\n", 1) // as CVE-2025-22871 has it; later Go refuses it
+		}
+		got := s.raw(begins("POST", "/v1/shop/fr.txt", c.fields+"\r\n"+body+hidden))
+		if c.status != "" && statusOfText(got) != c.status || strings.Count(got, "HTTP/1.1 ") != 1 || !strings.Contains(got, "Connection: close\r\n") {
+			t.Errorf("%s: %q", name, got)
+		}
+		s.ask("DELETE", "/v1/shop/fr", shopWrites, "")
+	}
+	first := begins("GET", "/v1/shop", "\r\n") // the connection was used before
+	got := s.raw(first + begins("PUT", "/v1/shop/fr.txt", "Content-Length: 4\r\nTransfer-Encoding: chunked\r\n\r\n"+chunks+hidden))
+	if strings.Count(got, "HTTP/1.1 ") != 2 {
+		t.Errorf("%q", got)
+	}
+	if got := s.ask("GET", "/v1/shop/de", shopReads, ""); got.StatusCode != 200 {
+		t.Error("a hidden request was answered")
+	}
+	for header, want := range map[string]bool{
+		"PUT / HTTP/1.1\r\nContent-Length: 1\r\nTransfer-Encoding: chunked\r\n\r\n": true, "PUT / HTTP/1.1\ncontent-length: 1\ntransfer-encoding:x\n\n": true,
+		"PUT / HTTP/1.1\r\nContent-Length: 1\r\n\r\nTransfer-Encoding: chunked\r\n\r\n": false, "X-Content-Length: 1\r\nTransfer-Encoding: y": false,
+	} {
+		for cut := range header { // in whatever pieces it comes
+			var found lengths
+			found.take([]byte(header[:cut]))
+			found.take([]byte(header[cut:]))
+			if (found.content && found.encoding) != want {
+				t.Errorf("%q", header)
+			}
+		}
+	}
 }
 
 // TestLookupsOfTornJSON asks the beginnings of a line, and lines with each byte in a place: each has a reply, in order.

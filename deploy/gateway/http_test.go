@@ -18,15 +18,14 @@ import (
 	"time"
 
 	"luvdregan.example/resb/deploy/internal/auth"
-	"luvdregan.example/resb/deploy/internal/replica"
 )
 
 // The tokens of the tests: shop has one to write and one to read, bank has one to write, and one reads both.
 const (
-	shopWrites = "shop-writes"
-	shopReads  = "shop-reads"
-	bankWrites = "bank-writes"
-	bothReads  = "both-read"
+	shopWrites = "shop-writes-0123456789"
+	shopReads  = "shop-reads-0123456789"
+	bankWrites = "bank-writes-0123456789"
+	bothReads  = "both-read-0123456789"
 )
 
 func tokenLine(app, may, token string) string {
@@ -112,7 +111,7 @@ func (s *site) await() {
 }
 
 // servers returns the processes of the server that answers and of the one that judges changes, 0 for one that is missing.
-func (s *site) servers() (serves, judges int) { return s.Backend.(*replica.Replica).PIDs() }
+func (s *site) servers() (serves, judges int) { return s.Backend.PIDs() }
 
 // killServer kills the server that answers, once there are two.
 func (s *site) killServer() {
@@ -179,20 +178,46 @@ func (s *site) described(method, path string, status int) {
 		s.t.Fatal(err)
 	}
 	path, _, _ = strings.Cut(path, "?")
+	if strings.HasPrefix(path, "/page/") {
+		path = "/page/{part}"
+	}
 	if parts := strings.SplitN(path, "/", 5); len(parts) > 2 && parts[1] == "v1" {
 		path = []string{"/v1/{app}", "/v1/{app}/{locale}", "/v1/{app}/{locale}/{path}"}[len(parts)-3]
 		if len(parts) == 4 && parts[3] == "look" && method == "POST" {
 			path = "/v1/{app}/look"
 		}
+		if len(parts) > 3 && strings.HasPrefix(parts[3], "_") {
+			path = "/v1/{app}/" + parts[3]
+			if last := filepath.Base(parts[len(parts)-1]); len(parts) == 5 && (last == "restore" || last == "diff") {
+				path += "/{id}/" + last
+			} else if len(parts) == 5 && parts[3] == "_check" {
+				path += "/{locale}"
+			} else if len(parts) == 5 {
+				path += "/{id}" + filepath.Ext(last)
+			}
+		} else if ending := filepath.Ext(parts[len(parts)-1]); len(parts) == 4 && (method == "GET" || method == "HEAD") &&
+			strings.Contains(" .txt .res .json ", " "+ending+" ") {
+			path += ending
+		}
 	}
 	method = strings.ToLower(strings.Replace(method, "HEAD", "GET", 1))
 	var at struct{ Responses map[string]json.RawMessage }
 	if page.Paths[path][method] == nil {
+		if status < 400 && method != "options" {
+			s.t.Errorf("openapi.json has no %s %s, which is answered %d", method, path, status)
+		}
 		return // a method or an address that isn't there
 	}
 	if err := json.Unmarshal(page.Paths[path][method], &at); err != nil || at.Responses[fmt.Sprint(status)] == nil {
 		s.t.Errorf("openapi.json has no status %d of %s %s: %v", status, method, path, err)
 	}
+}
+
+// errorOf returns the error code of a reply.
+func errorOf(body string) string {
+	var reply struct{ Error string }
+	_ = json.Unmarshal([]byte(body), &reply)
+	return reply.Error
 }
 
 // raw sends bytes over a separate connection, and returns the whole response. Then no more is sent, which the gateway takes
@@ -279,6 +304,9 @@ func (s *site) session() {
 		{"GET", "/v1/%2e/de/a", shopReads, "", "", 400, no("BadPath")},
 	} {
 		got := s.ask(step.method, step.path, step.token, step.body, "Content-Type", step.kind)
+		if step.want == no("BadText") { // the reason has its own test
+			got.body = no(errorOf(got.body))
+		}
 		if got.StatusCode != step.status || got.body != step.want {
 			t.Errorf("%d: %s %s: %d %s", n, step.method, step.path, got.StatusCode, got.body)
 		}
@@ -299,7 +327,7 @@ func TestTokensPart(t *testing.T) {
 	s := open(t)
 	for token, may := range map[string]map[string]auth.Right{
 		shopWrites: {"shop": auth.Write}, shopReads: {"shop": auth.Read}, bankWrites: {"bank": auth.Write}, bothReads: {"shop": auth.Read, "bank": auth.Read},
-		"": {}, "other": {}, "shop-write": {}, "shop-writesx": {}, strings.Repeat("x", 5000): {},
+		"": {}, "other": {}, shopWrites[:21]: {}, shopWrites + "x": {}, strings.Repeat("x", 5000): {},
 	} {
 		for _, app := range []string{"shop", "bank", "none", "SHOP", "ICUDATA", "a%00b", "%ff"} {
 			for method, needed := range map[string]auth.Right{"GET": auth.Read, "HEAD": auth.Read, "PUT": auth.Write, "POST": auth.Write, "DELETE": auth.Write} {
@@ -362,9 +390,10 @@ func (s *site) noRights() {
 	}
 }
 
-// TestTheTokensFileIsReadAgain changes the file: tokens come and go, and a file that is wrong changes nothing.
+// TestTheTokensFileIsReadAgain changes the file: tokens come and go, and a wrong line is left out.
 func TestTheTokensFileIsReadAgain(t *testing.T) {
 	s := open(t)
+	const fresh, newer, last = "fresh-0123456789-0123456789", "newer-0123456789-0123456789", "last-0123456789-0123456789"
 	status := func(token string) int { return s.ask("GET", "/v1/shop", token, "").StatusCode }
 	set := func(text string) {
 		if err := os.WriteFile(s.tokenFile, []byte(text), 0o600); err != nil {
@@ -372,28 +401,28 @@ func TestTheTokensFileIsReadAgain(t *testing.T) {
 		}
 		s.Tokens.Reload(true)
 	}
-	if status(shopReads) != 200 || status("new") != 401 {
+	if status(shopReads) != 200 || status(fresh) != 401 {
 		t.Error("before")
 	}
-	set(tokenLine("shop", "read", "new"))
-	if status(shopReads) != 401 || status("new") != 200 {
+	set(tokenLine("shop", "read", fresh))
+	if status(shopReads) != 401 || status(fresh) != 200 {
 		t.Error("after a change")
 	}
 	for _, wrong := range []string{"shop read abc\n", "shop", tokenLine("shop", "own", "x"), tokenLine("..", "read", "x"), tokenLine("a/b", "read", "x")} {
-		set(tokenLine("shop", "write", "newer") + wrong)
-		if status("new") != 200 || status("newer") != 401 || !strings.Contains(s.ask("GET", "/metrics", "", "").body, "resb_gateway_tokens_file_bad 1\n") {
+		set(tokenLine("shop", "write", newer) + wrong)
+		if status(fresh) != 401 || status(newer) != 200 || !strings.Contains(s.ask("GET", "/metrics", "", "").body, "resb_gateway_tokens_file_bad 1\n") {
 			t.Errorf("after %q", wrong)
 		}
 	}
 	_ = os.Remove(s.tokenFile)
 	s.Tokens.Reload(true)
-	if status("new") != 200 {
+	if status(newer) != 200 {
 		t.Error("after the file went")
 	}
-	if err := os.WriteFile(s.tokenFile, []byte(tokenLine("shop", "read", "last")), 0o600); err != nil {
+	if err := os.WriteFile(s.tokenFile, []byte(tokenLine("shop", "read", last)), 0o600); err != nil {
 		t.Fatal(err)
 	}
-	eventually(t, "the file is read again by itself", func() bool { return status("last") == 200 })
+	eventually(t, "the file is read again by itself", func() bool { return status(last) == 200 })
 }
 
 func TestTagsAndHeads(t *testing.T) {
@@ -439,9 +468,9 @@ func (s *site) wrongMethods() {
 		status       int
 		allow        string
 	}{
-		{"PUT", "/v1/shop", 405, "GET, HEAD, OPTIONS"}, {"PATCH", "/v1/shop/de", 405, "GET, HEAD, PUT, POST, DELETE, OPTIONS"},
+		{"PUT", "/v1/shop", 405, "GET, HEAD, DELETE, OPTIONS"}, {"PATCH", "/v1/shop/de", 405, "GET, HEAD, PUT, POST, DELETE, OPTIONS"},
 		{"DELETE", "/v1/shop/de/a", 405, "GET, HEAD, OPTIONS"}, {"POST", "/v1/shop/de/a", 405, "GET, HEAD, OPTIONS"},
-		{"FROB", "/v1/shop", 405, "GET, HEAD, OPTIONS"}, {"OPTIONS", "/v1/shop/de", 204, "GET, HEAD, PUT, POST, DELETE, OPTIONS"},
+		{"FROB", "/v1/shop", 405, "GET, HEAD, DELETE, OPTIONS"}, {"OPTIONS", "/v1/shop/de", 204, "GET, HEAD, PUT, POST, DELETE, OPTIONS"},
 		{"POST", "/", 405, "GET, HEAD"}, {"PUT", "/metrics", 405, "GET, HEAD"}, {"GET", "/v1", 404, ""}, {"GET", "/v2/shop", 404, ""},
 		{"GET", "/index.html", 404, ""}, {"GET", "/v1/", 403, ""}, {"GET", "//v1/shop", 404, ""}, {"GET", "/healthz/x", 404, ""},
 	} {
@@ -496,7 +525,7 @@ broken
 func TestFiles(t *testing.T) {
 	s := open(t)
 	if got := s.ask("PUT", "/v1/shop/de", shopWrites, "no bundle", "Content-Type", "application/octet-stream"); os.Getenv("RESB") != "" {
-		if got.StatusCode != 400 || got.body != "{\"error\":\"BadFile\"}\n" {
+		if got.StatusCode != 400 || errorOf(got.body) != "BadFile" {
 			t.Errorf("%d %s", got.StatusCode, got.body)
 		}
 	} else if got.StatusCode != 201 {
@@ -506,7 +535,7 @@ func TestFiles(t *testing.T) {
 
 func TestPages(t *testing.T) {
 	s := open(t)
-	if got := s.ask("GET", "/", "", ""); got.StatusCode != 200 || !strings.Contains(got.Header.Get("Content-Security-Policy"), "script-src 'sha256-") {
+	if got := s.ask("GET", "/", "", ""); got.StatusCode != 200 || !strings.Contains(got.Header.Get("Content-Security-Policy"), "script-src 'self';") {
 		t.Errorf("%d %v", got.StatusCode, got.Header)
 	}
 	if got := s.ask("GET", "/healthz", "", ""); got.StatusCode != 200 || !strings.HasPrefix(got.body, `{"ok":true,"version":`) {
@@ -524,7 +553,7 @@ func TestPages(t *testing.T) {
 	}
 	for path, methods := range map[string]string{
 		"/v1/{app}": "get", "/v1/{app}/{locale}": "get put post delete", "/v1/{app}/{locale}/{path}": "get", "/v1/{app}/look": "post",
-		"/healthz": "get", "/readyz": "get", "/metrics": "get", "/openapi.json": "get",
+		"/healthz": "get", "/readyz": "get", "/writez": "get", "/metrics": "get", "/openapi.json": "get",
 	} {
 		for _, method := range strings.Fields(methods) {
 			if page.Paths[path][method] == nil {

@@ -5,6 +5,7 @@ import (
 	"net"
 	"net/http"
 	"os"
+	"strings"
 	"sync"
 	"sync/atomic"
 	"time"
@@ -70,6 +71,41 @@ type caller struct {
 	begun int32 // a part of a header has come
 	asked int32 // a whole header has come, and its response isn't done
 	late  int32 // the caller got the error that it is too slow
+
+	next lengths // of the header that comes
+	both bool    // the last header has two lengths
+}
+
+// HasTwoLengths returns true if the header of the request has both Content-Length and Transfer-Encoding, of which net/http drops the
+// first. Another program before this one may have gone by the other. A header that came with an earlier request's body isn't seen.
+func (c *caller) HasTwoLengths() bool { return c.both }
+
+// Lengths are the fields of a header that say where a body ends. Of a line only the begin is stored.
+type lengths struct {
+	line              [len("transfer-encoding:")]byte
+	used              int
+	content, encoding bool
+	over              bool // the header has ended
+}
+
+// take reads the next bytes of a header, and what follows it.
+func (l *lengths) take(bytes []byte) {
+	for _, b := range bytes {
+		switch {
+		case l.over:
+			return
+		case b != '\n':
+			if l.used < len(l.line) && b != '\r' {
+				l.line[l.used] = b
+				l.used++
+			}
+		default:
+			name, _, _ := strings.Cut(string(l.line[:l.used]), ":")
+			l.content = l.content || strings.EqualFold(name, "Content-Length")
+			l.encoding = l.encoding || strings.EqualFold(name, "Transfer-Encoding")
+			l.over, l.used = l.used == 0, 0
+		}
+	}
 }
 
 // Read reads bytes of the caller. If they don't come in time, and a header is begun, the caller gets an error.
@@ -77,6 +113,9 @@ func (c *caller) Read(b []byte) (int, error) {
 	n, err := c.Conn.Read(b)
 	if n > 0 {
 		atomic.StoreInt32(&c.begun, 1)
+		if atomic.LoadInt32(&c.asked) == 0 {
+			c.next.take(b[:n])
+		}
 	}
 	late := errors.Is(err, os.ErrDeadlineExceeded) && atomic.LoadInt32(&c.begun) == 1 && atomic.LoadInt32(&c.asked) == 0
 	if late && atomic.CompareAndSwapInt32(&c.late, 0, 1) {
@@ -103,6 +142,7 @@ func state(of net.Conn, to http.ConnState) {
 	switch to {
 	case http.StateActive:
 		atomic.StoreInt32(&c.asked, 1)
+		c.both, c.next = c.next.content && c.next.encoding, lengths{}
 	case http.StateIdle:
 		atomic.StoreInt32(&c.begun, 0)
 		atomic.StoreInt32(&c.asked, 0)

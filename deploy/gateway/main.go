@@ -1,10 +1,10 @@
-// The gateway answers HTTP for applications, over its own `resb serve` or over the shards behind NATS. README.md says how
-// it is used and what it promises.
+// The gateway answers HTTP for applications by its own `resb serve`, and stores their bundles: in a database of this machine, or
+// in a log in NATS that several gateways share. README.md says how it is used and what it promises.
 package main
 
 import (
 	"context"
-	_ "embed" // for the pages
+	_ "embed" // for the description
 	"errors"
 	"flag"
 	"fmt"
@@ -27,9 +27,6 @@ import (
 // version and commit name the sources of the gateway; `-ldflags "-X main.version=.. -X main.commit=.."` sets them.
 var version, commit = "unknown", "unknown"
 
-//go:embed try.html
-var tryPage []byte
-
 //go:embed openapi.json
 var openAPI []byte
 
@@ -42,6 +39,9 @@ func main() {
 		// Requests leave much garbage and little is kept, so memory is collected less often as long as there is little of it.
 		debug.SetGCPercent(400)
 		debug.SetMemoryLimit(least(1<<30, machineMemory()/4))
+	}
+	if len(os.Args) > 1 && os.Args[1] == "token" {
+		os.Exit(tokenCommand(os.Args[2:], os.Stdout, os.Stderr))
 	}
 	if len(os.Args) > 1 && os.Args[1] == "state" {
 		os.Exit(stateCommand(os.Args[2:], os.Stdout, os.Stderr))
@@ -87,6 +87,9 @@ func (s settings) fail(err error, status int) {
 func run(s settings) error {
 	leaving, stop := signal.NotifyContext(context.Background(), os.Interrupt, syscall.SIGTERM)
 	defer stop()
+	if s.addTokens != "" {
+		defer os.Remove(s.addTokens) // of a gateway that fails to start
+	}
 	pair, err := openPair(s.cert, s.key)
 	if err != nil {
 		return err
@@ -101,13 +104,11 @@ func run(s settings) error {
 	}
 	defer g.Backend.Close()
 	go g.refresh(leaving, pair)
-	if of, can := g.Backend.(upgrader); can && s.serve {
-		end, err := openControl(s.state, of)
-		if err != nil {
-			return err
-		}
-		defer end()
+	end, err := openControl(s.state, g.Backend)
+	if err != nil {
+		return err
 	}
+	defer end()
 	if s.inside != "" {
 		inner, err := net.Listen("tcp", s.inside)
 		if err != nil {
@@ -123,6 +124,8 @@ type gateway struct {
 	settings
 	*api.Handler
 	leaving context.Context // is done when the gateway ends
+	access  *journal
+	audit   *journal
 }
 
 // newGateway reads the tokens and begins with the backend.
@@ -131,26 +134,60 @@ func newGateway(leaving context.Context, s settings) (*gateway, error) {
 	if err != nil {
 		return nil, err
 	}
+	if s.addTokens != "" {
+		if err := known.Add(s.addTokens); err != nil {
+			return nil, err
+		}
+	}
+	access, err := openJournal(s.accessLog)
+	if err != nil {
+		return nil, err
+	}
+	audit, err := openJournal(s.auditLog)
+	if err != nil {
+		return nil, err
+	}
 	b, err := connect(s)
 	if err != nil {
 		return nil, err
 	}
 	options := s.options
+	options.Origins = s.originList()
+	options.Access, options.Audit = journalOf(access), journalOf(audit)
 	options.Version, options.Commit = version, commit
-	options.Try, options.OpenAPI, options.Leaving, options.Inside = tryPage, openAPI, leaving, s.inside != ""
-	return &gateway{s, api.New(b, known, options), leaving}, nil
+	options.OpenAPI, options.Leaving, options.Inside = openAPI, leaving, s.inside != ""
+	return &gateway{s, api.New(b, known, options), leaving, access, audit}, nil
 }
 
-// connect returns the backend that the settings ask for.
-func connect(s settings) (api.Backend, error) {
-	if s.nats != "" {
-		return newShards(s)
-	}
-	changes, err := sqlite.Open(s.state, sqlite.Options{Create: s.create, Logf: log.Printf})
+// connect returns the replica that the settings ask for.
+func connect(s settings) (*replica.Replica, error) {
+	shared, err := openLog(s)
 	if err != nil {
 		return nil, err
 	}
-	return replica.Open(changes, replica.Settings{Program: s.program, Arguments: s.serverArguments(), Memory: s.memory / 2}), nil
+	create := s.create || shared != nil // the store is only a copy of what the log has
+	changes, err := sqlite.Open(s.state, sqlite.Options{Create: create, Logf: log.Printf, Follow: shared != nil})
+	if err != nil {
+		return nil, err
+	}
+	return replica.Open(changes, replica.Settings{
+		Program: s.program, Arguments: s.serverArguments(), Memory: s.memory / 2, Log: shared,
+	}), nil
+}
+
+// login returns the name and the password for NATS, or "".
+func (s settings) login() (string, error) {
+	if s.natsLogin == "" {
+		return "", nil
+	}
+	text, err := os.ReadFile(s.natsLogin)
+	if err != nil {
+		return "", err
+	}
+	if len(strings.Fields(string(text))) != 2 {
+		return "", fmt.Errorf("%s: a user and a password are missing", s.natsLogin)
+	}
+	return strings.Join(strings.Fields(string(text)), " "), nil
 }
 
 // refresh reads the file of tokens and the certificates again when they change.
@@ -158,6 +195,8 @@ func (g *gateway) refresh(ctx context.Context, p *pair) {
 	hangups := make(chan os.Signal, 1)
 	signal.Notify(hangups, syscall.SIGHUP)
 	ticks := time.NewTicker(time.Second)
+	soon := time.NewTicker(50 * time.Millisecond) // new tokens are stored at once, as the gateway may end soon
+	defer soon.Stop()
 	defer ticks.Stop()
 	for {
 		select {
@@ -165,11 +204,30 @@ func (g *gateway) refresh(ctx context.Context, p *pair) {
 			return
 		case <-ticks.C:
 			g.Tokens.Reload(false)
+		case <-soon.C:
+			if g.keepTokens(); g.addTokens == "" {
+				soon.Stop()
+			}
 		case <-hangups:
 			g.Tokens.Reload(true)
+			g.access.again()
+			g.audit.again()
 		}
 		p.again()
 	}
+}
+
+// keepTokens stores the tokens of -add-tokens once lookups are answered, so that a gateway that fails to start leaves none.
+func (g *gateway) keepTokens() {
+	if g.addTokens == "" || g.Backend.Ready() != nil {
+		return
+	}
+	if err := g.Tokens.Keep(); err != nil {
+		log.Printf("tokens: %v", err)
+		return
+	}
+	_ = os.Remove(g.addTokens)
+	g.addTokens = ""
 }
 
 // server returns a server with the limits of the settings.
@@ -208,6 +266,11 @@ func (g *gateway) listenOn(outer net.Listener, p *pair) error {
 	}
 	log.Print("gateway: ends")
 	_ = notify(stopping)
+	select {
+	case err := <-ended:
+		return err
+	case <-time.After(g.drain):
+	}
 	late, cancel := context.WithTimeout(context.Background(), g.leave)
 	defer cancel()
 	if err := server.Shutdown(late); err != nil {

@@ -5,6 +5,7 @@ import (
 	"fmt"
 	"io"
 	"log"
+	"net/http"
 	"os"
 	"testing"
 	"time"
@@ -23,8 +24,10 @@ func TestMain(m *testing.M) {
 		fmt.Println("stand-in")
 	case os.Getenv(asGateway) != "":
 		main()
+	case standin.Command(os.Args[1:]):
 	default:
 		flag.Parse()
+		http.DefaultTransport.(*http.Transport).DisableCompression = true // tests see what is sent
 		if !testing.Verbose() {
 			log.SetOutput(io.Discard)
 		}

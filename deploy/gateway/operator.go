@@ -17,6 +17,7 @@ import (
 	"path/filepath"
 	"strings"
 
+	"luvdregan.example/resb/deploy/internal/replica"
 	"luvdregan.example/resb/deploy/internal/store/sqlite"
 )
 
@@ -75,14 +76,8 @@ func socketIn(folder string, do func(path string) error) error {
 	return do(fmt.Sprintf("/proc/self/fd/%d/%s", opened.Fd(), controlSocket))
 }
 
-// An upgrader has its servers replaced by servers of another program.
-type upgrader interface {
-	Upgrade(program string) error
-	Program() string
-}
-
 // openControl answers the commands of the operator, until the function that it returns is called. The folder has no other gateway.
-func openControl(folder string, of upgrader) (end func(), err error) {
+func openControl(folder string, of *replica.Replica) (end func(), err error) {
 	var l net.Listener
 	err = socketIn(folder, func(path string) (err error) {
 		if err := os.Remove(path); err != nil && !errors.Is(err, fs.ErrNotExist) {
@@ -113,7 +108,7 @@ type controlAnswer struct {
 }
 
 // control answers one command: `POST /upgrade` with the path of the program.
-func control(w http.ResponseWriter, r *http.Request, of upgrader) {
+func control(w http.ResponseWriter, r *http.Request, of *replica.Replica) {
 	body, err := io.ReadAll(io.LimitReader(r.Body, 1<<16))
 	program := string(body)
 	switch {

@@ -2,8 +2,10 @@ package main
 
 import (
 	"crypto/tls"
+	"fmt"
 	"log"
 	"os"
+	"runtime"
 	"sync"
 	"time"
 )
@@ -62,10 +64,21 @@ func (p *pair) again() {
 	log.Print("certificates: read again")
 }
 
+// protocols returns those that are offered over TLS. HTTP/2 is one of them if Go limits the streams that a caller opens and resets
+// (CVE-2023-44487), as 1.20.10 and 1.21.3 do.
+func protocols(version string) []string {
+	var minor, patch int
+	_, _ = fmt.Sscanf(version, "go1.%d.%d", &minor, &patch)
+	if minor > 21 || minor == 21 && patch >= 3 || minor == 20 && patch >= 10 {
+		return []string{"h2", "http/1.1"}
+	}
+	return []string{"http/1.1"}
+}
+
 func (p *pair) configuration() *tls.Config {
 	return &tls.Config{
 		MinVersion: tls.VersionTLS12,
-		NextProtos: []string{"h2", "http/1.1"},
+		NextProtos: protocols(runtime.Version()),
 		GetCertificate: func(*tls.ClientHelloInfo) (*tls.Certificate, error) {
 			p.mu.Lock()
 			defer p.mu.Unlock()

@@ -85,7 +85,7 @@ func TestCompiledFiles(t *testing.T) {
 				if got := s.ask("POST", "/v1/shop/de.res", shopWrites, string(file)); got.StatusCode != 201 {
 					t.Fatalf("%d %s", got.StatusCode, got.body)
 				}
-				if got := s.ask("PUT", "/v1/shop/de", shopWrites, string(file[:len(file)-1]), "Content-Type", "application/octet-stream"); got.body != "{\"error\":\"BadFile\"}\n" {
+				if got := s.ask("PUT", "/v1/shop/de", shopWrites, string(file[:len(file)-1]), "Content-Type", "application/octet-stream"); errorOf(got.body) != "BadFile" {
 					t.Errorf("%d %s", got.StatusCode, got.body)
 				}
 				if got := s.ask("PUT", "/v1/shop/fr", shopWrites, string(file), "Content-Type", "application/octet-stream"); got.StatusCode != 201 {

@@ -5,6 +5,7 @@ import (
 	"flag"
 	"fmt"
 	"io"
+	"net/url"
 	"strings"
 	"time"
 
@@ -16,18 +17,23 @@ import (
 type settings struct {
 	version, checkOnly        bool
 	config, log               string
+	accessLog, auditLog       string
 	listen, inside, tokenFile string
+	addTokens, origins        string
 	cert, key                 string
 	serve, create             bool
 	program, state            string
 	arguments                 []string
 	memory, replyBytes        int64
 	apps                      int
-	nats, passwords, watcher  string
+	nats, natsLogin, natsCA   string
+	natsReplicas              int
+	natsBytes                 int64
 
 	options                                api.Options
 	connections                            int64
 	headerTime, writeTime, idleTime, leave time.Duration
+	drain                                  time.Duration
 }
 
 // readSettings reads the command line, and the file that it names for what it doesn't say. Errors of the command line and the
@@ -58,7 +64,7 @@ func readSettings(arguments []string, said io.Writer) (settings, error) {
 func (s *settings) flags() *flag.FlagSet {
 	f := flag.NewFlagSet("gateway", flag.ContinueOnError)
 	f.Usage = func() {
-		others := strings.ReplaceAll(operatorUsage+stateUsage, "usage:", "      ")
+		others := strings.ReplaceAll(operatorUsage+stateUsage+tokenUsage, "usage:", "      ")
 		fmt.Fprintf(f.Output(), "usage: gateway OPTIONS [-- ARGUMENTS of resb serve]\n%s\nOptions:\n", others)
 		f.PrintDefaults()
 	}
@@ -66,9 +72,12 @@ func (s *settings) flags() *flag.FlagSet {
 	f.StringVar(&s.config, "config", "", "a `file` of JSON with further options, and the arguments of `resb serve` under \"arguments\"; those of the command line win")
 	f.BoolVar(&s.checkOnly, "check-config", false, "check the options and the files that they name, and end with status 0 or 2")
 	f.StringVar(&s.log, "log", "text", "the `form` of the log: text, or json for a JSON object in each line")
+	f.StringVar(&s.accessLog, "access-log", "", "a `file` to append a line of JSON to for each request, or - for standard error")
+	f.StringVar(&s.auditLog, "audit-log", "", "a `file` to append a line of JSON to for each change that is asked for, or -")
 	f.StringVar(&s.listen, "listen", "127.0.0.1:6422", "the `address` to answer at")
 	f.StringVar(&s.inside, "inside", "", "an `address` for the metrics, which are then at no other")
 	f.StringVar(&s.tokenFile, "tokens", "", "the `file` of tokens: lines of APP, read or write, and the token's SHA-256")
+	f.StringVar(&s.addTokens, "add-tokens", "", "a `file` of more lines, which are added to the file of tokens once lookups are answered; it is removed then, or when the gateway ends")
 	f.StringVar(&s.cert, "cert", "", "a `file` with the certificates, for TLS")
 	f.StringVar(&s.key, "key", "", "a `file` with their key")
 	f.BoolVar(&s.serve, "serve", false, "serve by one `resb serve` of its own, with what follows the options as its arguments")
@@ -78,21 +87,28 @@ func (s *settings) flags() *flag.FlagSet {
 	f.Var((*bytesValue)(&s.memory), "memory", "with -serve: the memory of both servers, in `bytes` or as 512M or 4G, from which their limits follow; 0 is half of the machine's, or of the control group's")
 	f.IntVar(&s.apps, "apps", 64, "with -serve: the most applications with bundles, which share the memory")
 	f.Int64Var(&s.replyBytes, "reply-bytes", 8<<20, "with -serve: the most bytes of a reply")
-	f.StringVar(&s.nats, "nats", "", "serve by the shards behind this `URL`")
-	f.StringVar(&s.passwords, "passwords", "", "with -nats: the `file` of passwords that deploy/start writes")
-	f.StringVar(&s.watcher, "watcher", "watcher", "with -nats: the `user` of NATS that may ask how the shards do, for the metrics; none where it is empty")
+	f.StringVar(&s.nats, "nats", "", "with -serve: the `URLS` of nats-servers, with commas between them, whose log this gateway shares with others")
+	f.StringVar(&s.natsLogin, "nats-login", "", "with -nats: a `file` with a user and a password, with a blank between them")
+	f.StringVar(&s.natsCA, "nats-ca", "", "with -nats: a `file` with the certificates of the servers' authority, for TLS")
+	f.IntVar(&s.natsReplicas, "nats-replicas", 3, "with -nats: on how many servers the log is, if it is made now: 1, 3 or 5")
+	f.Var((*bytesValue)(&s.natsBytes), "nats-bytes", "with -nats: the most `bytes` of the log, if it is made now; 0 is no limit")
 	f.Int64Var(&s.options.TextBytes, "text-bytes", child.MostText, "the most bytes of a bundle text")
 	f.Int64Var(&s.options.FileBytes, "file-bytes", child.MostFile, "the most bytes of a bundle's file")
 	f.Int64Var(&s.options.LookBytes, "look-bytes", 8<<20, "the most bytes of the lookups in one request")
+	f.Int64Var(&s.options.ReleaseBytes, "release-bytes", 64<<20, "the most bytes of a release, and of what is in it")
 	f.Int64Var(&s.options.BodyBytes, "body-bytes", 512<<20, "the most bytes of all bodies at once; one application may have half of what others leave")
 	f.IntVar(&s.options.Each, "each", 512, "the most requests of an application at once")
 	f.IntVar(&s.options.All, "all", 4096, "the most requests of all applications at once")
+	f.IntVar(&s.options.Rate, "rate", 0, "the most requests and lookups of an application a second; 0 is no limit")
+	f.Int64Var(&s.options.DayBytes, "day-bytes", 0, "the most bytes of requests and replies of an application in a day of UTC; 0 is no limit")
+	f.StringVar(&s.origins, "origins", "", "the `origins` whose scripts may ask, such as https://shop.example, with commas between them; * is all")
 	f.Int64Var(&s.connections, "connections", 16384, "the most connections")
 	f.DurationVar(&s.headerTime, "header-time", 10*time.Second, "how long a header may take to come")
 	f.DurationVar(&s.options.ReadTime, "read-time", 2*time.Minute, "how long a request may take to come")
 	f.DurationVar(&s.writeTime, "write-time", 5*time.Minute, "how long a request may take altogether")
 	f.DurationVar(&s.idleTime, "idle-time", 2*time.Minute, "how long a connection may wait for its next request")
 	f.DurationVar(&s.options.Patience, "patience", 30*time.Second, "how long a reply of the server is waited for")
+	f.DurationVar(&s.drain, "drain", 0, "how long the gateway still answers after it was told to end, while /readyz says that it ends")
 	f.DurationVar(&s.leave, "leave", 30*time.Second, "how long requests on their way may take when the gateway ends")
 	return f
 }
@@ -103,16 +119,18 @@ func (s settings) check() error {
 	switch {
 	case s.log != "text" && s.log != "json":
 		return errors.New("-log is text or json")
-	case s.serve == (s.nats != ""):
-		return errors.New("say either -serve or -nats")
-	case s.serve && s.state == "":
+	case !s.serve:
+		return errors.New("-serve is missing")
+	case s.state == "":
 		return errors.New("-serve needs -state")
-	case s.nats != "" && s.passwords == "":
-		return errors.New("-nats needs -passwords")
-	case !s.serve && len(s.arguments) > 0:
-		return errors.New("only -serve has arguments")
-	case s.serve && (s.memory < leastMemory || s.apps < 1 || s.replyBytes < 1):
+	case s.natsReplicas < 1 || s.natsReplicas > 5:
+		return errors.New("-nats-replicas is 1 to 5")
+	case (s.memory < leastMemory || s.apps < 1 || s.replyBytes < 1):
 		return errors.New("-memory is at least 256M, -apps and -reply-bytes at least 1")
+	case o.Rate < 0 || o.DayBytes < 0:
+		return errors.New("-rate and -day-bytes are at least 0")
+	case wrongOrigin(s.originList()) != "":
+		return fmt.Errorf("-origins: %q is no origin as https://shop.example", wrongOrigin(s.originList()))
 	case s.tokenFile == "":
 		return errors.New("-tokens is missing")
 	case o.TextBytes > child.MostText || o.FileBytes > child.MostFile || o.LookBytes > child.MostFile:
@@ -146,4 +164,20 @@ func merge(limits, arguments []string) []string {
 		i += width - 1
 	}
 	return append(all, arguments...)
+}
+
+// originList returns the origins whose scripts may ask.
+func (s settings) originList() []string {
+	return strings.FieldsFunc(s.origins, func(r rune) bool { return r == ',' || r == ' ' })
+}
+
+// wrongOrigin returns the first that is no origin, which has a scheme and a host and no path, or "".
+func wrongOrigin(origins []string) string {
+	for _, one := range origins {
+		u, err := url.Parse(one)
+		if one != "*" && (err != nil || u.Host == "" || u.Scheme+"://"+u.Host != one) {
+			return one
+		}
+	}
+	return ""
 }

@@ -2,6 +2,7 @@ package main
 
 import (
 	"context"
+	"errors"
 	"flag"
 	"fmt"
 	"io"
@@ -17,21 +18,21 @@ while no gateway runs over the folder
 `
 
 // stateCommand lists or changes the bundles of a folder over which no gateway runs, and returns the status.
-func stateCommand(arguments []string, out, errors io.Writer) int {
+func stateCommand(arguments []string, out, said io.Writer) int {
 	if len(arguments) == 0 {
-		fmt.Fprint(errors, stateUsage)
+		fmt.Fprint(said, stateUsage)
 		return 2
 	}
 	f := flag.NewFlagSet("gateway state "+arguments[0], flag.ContinueOnError)
-	f.SetOutput(errors)
+	f.SetOutput(said)
 	folder := f.String("state", "", "the `folder`")
 	if f.Parse(arguments[1:]) != nil || *folder == "" {
-		fmt.Fprint(errors, stateUsage)
+		fmt.Fprint(said, stateUsage)
 		return 2
 	}
-	s, err := sqlite.Open(*folder, sqlite.Options{})
+	s, err := sqlite.Open(*folder, sqlite.Options{Either: true})
 	if err != nil {
-		fmt.Fprintln(errors, "gateway:", err)
+		fmt.Fprintln(said, "gateway:", err)
 		return 1
 	}
 	defer s.Close()
@@ -43,11 +44,11 @@ func stateCommand(arguments []string, out, errors io.Writer) int {
 	case arguments[0] == "remove" && f.NArg() == 2:
 		err = removeFromState(s, f.Arg(0), f.Arg(1))
 	default:
-		fmt.Fprint(errors, stateUsage)
+		fmt.Fprint(said, stateUsage)
 		return 2
 	}
 	if err != nil {
-		fmt.Fprintln(errors, "gateway:", err)
+		fmt.Fprintln(said, "gateway:", err)
 		return 1
 	}
 	return 0
@@ -74,10 +75,13 @@ func listState(s *sqlite.Store, out io.Writer) error {
 }
 
 func removeFromState(s *sqlite.Store, app, locale string) error {
+	if s.IsCopy() {
+		return errors.New("this folder has a copy of a log in NATS; remove the bundle by DELETE at a gateway")
+	}
 	if !s.Has(app, locale) {
 		return fmt.Errorf("%s has no bundle of %s", app, locale)
 	}
 	removal := store.Change{Op: store.Remove, App: app, Locale: locale, Who: "operator"}
-	_, err := s.Append(context.Background(), removal, store.Any)
+	_, err := s.AppendAll(context.Background(), []store.Change{removal})
 	return err
 }

@@ -15,6 +15,7 @@ import (
 	"net/http"
 	"os"
 	"path/filepath"
+	"runtime"
 	"strings"
 	"sync"
 	"testing"
@@ -45,7 +46,16 @@ func writePair(t *testing.T, folder string, serial int64, at time.Time) {
 	}
 }
 
-// TestTLS speaks HTTP/2 and HTTP/1.1 over TLS, and changes the certificate meanwhile.
+func TestHTTP2IsOfferedWhereResetsAreLimited(t *testing.T) {
+	for version, want := range map[string]bool{"go1.19.8": false, "go1.20.9": false, "go1.20.10": true, "go1.21.2": false, "go1.21.3": true,
+		"go1.22": true, "go1.23.1 X:x": true, "devel": false} {
+		if got := protocols(version); (got[0] == "h2") != want || got[len(got)-1] != "http/1.1" {
+			t.Errorf("%s: %v", version, got)
+		}
+	}
+}
+
+// TestTLS speaks HTTP/2, if it is offered, and HTTP/1.1 over TLS, and changes the certificate meanwhile.
 func TestTLS(t *testing.T) {
 	folder := t.TempDir()
 	writePair(t, folder, 1, time.Now().Add(-time.Hour))
@@ -63,9 +73,10 @@ func TestTLS(t *testing.T) {
 		}
 		return got, err
 	}
+	offered := protocols(runtime.Version())[0] == "h2"
 	for _, h2 := range []bool{true, false} {
 		got, err := get(h2)
-		if err != nil || got.StatusCode != 200 || (got.ProtoMajor == 2) != h2 || got.TLS.PeerCertificates[0].SerialNumber.Int64() != 1 {
+		if err != nil || got.StatusCode != 200 || (got.ProtoMajor == 2) != (h2 && offered) || got.TLS.PeerCertificates[0].SerialNumber.Int64() != 1 {
 			t.Fatalf("%v, %v", err, got)
 		}
 	}

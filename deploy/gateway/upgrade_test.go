@@ -14,7 +14,7 @@ import (
 	"time"
 )
 
-// copyProgram copies the server to a path of its own.
+// copyProgram copies the server to another path.
 func copyProgram(t *testing.T, path string) string {
 	t.Helper()
 	from, err := os.Open(server())

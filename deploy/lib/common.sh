@@ -3,7 +3,7 @@
 # shellcheck shell=sh disable=SC2034
 
 top=$(CDPATH='' cd -- "$here/.." && pwd)
-if [ -f "$here/bin/bridge" ]; then
+if [ -f "$here/bin/gateway" ]; then
     # tools/package laid the programs there, where a checkout has their sources; nothing is built, and the state is the user's
     installed=1
     out=$here
@@ -15,8 +15,6 @@ else
     states=$out
     program=${RESB:-$top/crates/rb_tool/out/rb_tool}
 fi
-state=${RESB_STATE:-$states/state}
-port=${RESB_PORT:-4422} # Debian runs its own nats-server on 4222
 libraries=/usr/share/gocode
 PATH=$PATH:/usr/sbin # where nats-server is
 
@@ -27,25 +25,11 @@ missing_for_gateway() {
     [ -d "$libraries/src/github.com/mattn/go-sqlite3" ] || printf ' golang-github-mattn-go-sqlite3-dev'
 }
 
-# prints the Debian packages that are missing
+# prints the Debian packages that are missing for gateways that share a log
 missing_packages() {
+    missing_for_gateway
     command -v nats-server >/dev/null || printf ' nats-server'
-    [ -z "$installed" ] || return 0
-    command -v go >/dev/null || printf ' golang-go'
     [ -d "$libraries/src/github.com/nats-io/nats.go" ] || printf ' golang-github-nats-io-go-nats-dev'
-}
-
-# has the packages that are missing installed by root; says to others how
-need_packages() {
-    missing=$(missing_packages)
-    [ -n "$missing" ] || return 0
-    if [ "$(id -u)" -ne 0 ]; then
-        echo "$0: packages are missing; install them by: apt-get install$missing" >&2
-        exit 1
-    fi
-    echo "$0: apt-get install$missing" >&2
-    # shellcheck disable=SC2086
-    apt-get install -y $missing >&2
 }
 
 need_program() {
@@ -98,33 +82,46 @@ run_go() { in_go "$here" "$@"; }
 # builds the gateway that runs its own server
 build_gateway() { [ -n "$installed" ] || "$here/gateway/build" "$out/bin/gateway"; }
 
-# builds programs of this folder: those of bin/ by their names, others by their folders
-build() {
-    [ -z "$installed" ] || return 0
-    for part in "$@"; do
-        built_from=$part
-        [ -d "$here/$part" ] || built_from=bin/$part
-        run_go build -o "$out/bin/${part##*/}" "./$built_from"
+# adds a line to the file of tokens, unless it is there
+allow() {
+    if [ "${#3}" -lt 20 ]; then
+        echo "${0##*/}: the token for $1 is too short: it must have at least 20 characters; '$1' without one makes one" >&2
+        exit 2
+    fi
+    line="$1 $2 $(printf %s "$3" | sha256sum | cut -d ' ' -f 1)"
+    grep -Fqx -e "$line" "$state/tokens" || echo "$line" >>"$state/tokens"
+}
+
+# makes a token, if the application has none for it
+make_token() {
+    if ! grep -q "^$(printf %s "$1" | sed 's/\./\\./g') $2 " "$state/tokens"; then
+        made=$(od -An -N24 -v -tx1 /dev/urandom | tr -d ' \n')
+        allow "$1" "$2" "$made"
+        echo "${0##*/}: the token to $2 for $1 is $made"
+    fi
+}
+
+# writes what the arguments of a command give into the file of tokens; a script that uses it has `state` and `usage`
+give_tokens() {
+    touch "$state/tokens"
+    for given in "$@"; do
+        app=${given%%=*}
+        may='write'
+        case $app in
+        *:read)
+            app=${app%:read}
+            may='read'
+            ;;
+        esac
+        case $app in
+        '' | *[!A-Za-z0-9_.-]*) usage ;;
+        esac
+        case $given in
+        *=) usage ;;
+        *=*) allow "$app" "$may" "${given#*=}" ;;
+        *) make_token "$app" "$may" ;;
+        esac
     done
-}
-
-# limits_of BYTES APPS: prints the limits of a `resb serve` with this much memory and this many applications. OPERATIONS.md has the
-# formula.
-limits_of() {
-    awk -v memory="$1" -v apps="$2" '
-        function part(of, most) { of = int(memory / of); return of < 1 ? 1 : of > most ? most : of }
-        BEGIN {
-            longest = 8388608
-            printf "--app-bytes %.0f --bundle-bytes %.0f --reply-bytes %.0f --line-bytes %.0f --apps %.0f --steps 100000 --keep-serving\n",
-                part(4 * apps, memory), part(4 * apps, longest), part(32, longest), part(32, longest) + 4096, apps
-        }'
-}
-
-# the process of a keeper, if it is one of this state
-keeper() {
-    [ -f "$1" ] || return 1
-    pid=$(cat "$1")
-    [ -n "$pid" ] && tr '\0' '\n' 2>/dev/null <"/proc/$pid/cmdline" | grep -Fqx "${1%.keep}.pid" && echo "$pid"
 }
 
 # does a command of the operator over the state of `single`: operate COMMAND ARGUMENT

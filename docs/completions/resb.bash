@@ -10,7 +10,7 @@ _resb() {
         compile) flags='--to --quiet --help' ;;
         check) flags='--quiet --help' ;;
         get) flags='--help' ;;
-        lint) flags='--root --help' ;;
+        lint) flags='--against --root --allow --deny --strict --all --format --name --list --help' ;;
         explain) flags='--help' ;;
         lines) flags='--op --help' ;;
         look) flags='--parents --trace --help' ;;

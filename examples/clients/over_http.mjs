@@ -11,12 +11,13 @@
 const PATIENCE = 30_000; // milliseconds in which a request that can't be answered now is asked again
 const SAMPLES = { de: 'de{menu{open{"Öffnen"} close{"Schließen"}}}', de_AT: 'de_AT{menu{close{"Zumachen"}}}' };
 
-/** A refusal: its HTTP status and its error code. */
+/** A refusal: its HTTP status, its error code, and the whole reply, which may have a code, a line and a message. */
 export class Refused extends Error {
-  constructor(status, word) {
-    super(`${status} ${word}`);
+  constructor(status, reply) {
+    super(`${status} ${reply.error}`);
     this.status = status;
-    this.word = word;
+    this.word = reply.error;
+    this.reply = reply;
   }
 }
 
@@ -60,25 +61,34 @@ export class Bundles {
     return (await this.#get(this.#address())).names;
   }
 
-  /** Installs a bundle, a text or the bytes of a .res file; refused with 409 Exists if there is one for the locale. */
+  /** Installs a bundle, a text or the bytes of a .res file, and returns its tag; refused with 409 Exists if there is one for the locale. */
   async add(locale, bundle) {
-    await this.#send("POST", locale, bundle);
+    return (await this.#send("POST", locale, bundle)).headers.get("ETag");
   }
 
-  /** Installs a bundle, or replaces the one of the locale: a text, or the bytes of a .res file. */
-  async put(locale, bundle) {
-    await this.#send("PUT", locale, bundle);
+  /** Installs a bundle, or replaces the one of the locale: a text, or the bytes of a .res file. Returns its tag. With a tag it is
+   * refused with 412 if the bundle isn't the one that has it. */
+  async put(locale, bundle, tag) {
+    return (await this.#send("PUT", locale, bundle, tag ? { "If-Match": tag } : {})).headers.get("ETag");
   }
 
-  /** Removes the bundle of a locale. */
-  async remove(locale) {
-    await (await this.#ask("DELETE", this.#address(locale))).text();
+  /** Returns the text of the bundle of a locale, and its tag for `put`. */
+  async bundle(locale) {
+    const response = await this.#ask("GET", this.#address(locale + ".txt"));
+    return { text: await response.text(), tag: response.headers.get("ETag") };
+  }
+
+  /** Removes the bundle of a locale. With a tag it is refused with 412 if the bundle isn't the one that has it. */
+  async remove(locale, tag) {
+    await (await this.#ask("DELETE", this.#address(locale), { headers: tag ? { "If-Match": tag } : {} })).text();
   }
 
   /** Sends a bundle with the type of its body. */
-  async #send(method, locale, bundle) {
+  async #send(method, locale, bundle, headers = {}) {
     const type = typeof bundle === "string" ? "text/plain; charset=utf-8" : "application/octet-stream";
-    await (await this.#ask(method, this.#address(locale), { body: bundle, headers: { "Content-Type": type } })).text();
+    const response = await this.#ask(method, this.#address(locale), { body: bundle, headers: { ...headers, "Content-Type": type } });
+    await response.text();
+    return response;
   }
 
   #address(...parts) {
@@ -110,8 +120,8 @@ export class Bundles {
         continue;
       }
       if (response.ok || response.status === 304) return response;
-      const word = JSON.parse(await response.text()).error;
-      if (![429, 503].includes(response.status) || Date.now() > end) throw new Refused(response.status, word);
+      const reply = JSON.parse(await response.text());
+      if (![429, 503].includes(response.status) || Date.now() > end) throw new Refused(response.status, reply);
       await new Promise((wake) => setTimeout(wake, 1000 * Number(response.headers.get("Retry-After") ?? 1)));
     }
   }
@@ -127,22 +137,26 @@ async function tryLookups(bundles) {
   try {
     await bundles.add("fr", "fr{");
   } catch (error) {
+    console.log(error.message, "in line", error.reply?.line);
+  }
+  const { text, tag } = await bundles.bundle("de");
+  try {
+    await bundles.put("de", text, '"other"');
+  } catch (error) {
     console.log(error.message);
   }
+  console.log((await bundles.put("de", text, tag)) === tag ? "True" : "False");
 }
 
 /** Installs the samples where the application has no bundles, looks items up, and removes the samples. */
 async function session(url, app, token) {
   const bundles = new Bundles(url, app, token);
-  const added = [];
+  const tags = new Map();
   try {
-    for (const [locale, text] of Object.entries(SAMPLES)) {
-      await bundles.add(locale, text);
-      added.push(locale);
-    }
+    for (const [locale, text] of Object.entries(SAMPLES)) tags.set(locale, await bundles.add(locale, text));
     await tryLookups(bundles);
   } finally {
-    for (const locale of added) await bundles.remove(locale);
+    for (const [locale, tag] of tags) await bundles.remove(locale, tag); // refused if somebody else has replaced it
   }
   console.log(await bundles.look("de", "menu/open"));
 }

@@ -19,11 +19,11 @@ SAMPLES = {"de": 'de{menu{open{"Öffnen"} close{"Schließen"}}}', "de_AT": 'de_A
 
 
 class Refused(Exception):
-    """A refusal: its HTTP status and its error code."""
+    """A refusal: its HTTP status, its error code, and the whole reply, which may have a code, a line and a message."""
 
-    def __init__(self, status, word):
-        super().__init__(f"{status} {word}")
-        self.status, self.word = status, word
+    def __init__(self, status, reply):
+        super().__init__(f"{status} {reply['error']}")
+        self.status, self.word, self.reply = status, reply["error"], reply
 
 
 class Bundles:
@@ -59,20 +59,28 @@ class Bundles:
         return self._get(self._address())["names"]
 
     def add(self, locale, text):
-        """Installs a bundle text; refused with 409 Exists if there is a bundle for the locale."""
-        self._ask("POST", self._address(locale), text.encode(), "text/plain; charset=utf-8")
+        """Installs a bundle text, and returns its tag; refused with 409 Exists if there is a bundle for the locale."""
+        headers = {"Content-Type": "text/plain; charset=utf-8"}
+        return self._ask("POST", self._address(locale), text.encode(), **headers)[1].get("ETag")
 
-    def put(self, locale, text):
-        """Installs a bundle text, or replaces the bundle of the locale."""
-        self._ask("PUT", self._address(locale), text.encode(), "text/plain; charset=utf-8")
+    def put(self, locale, text, tag=None):
+        """Installs a bundle text, or replaces the bundle of the locale, and returns its tag. With a tag it is refused with 412 if the
+        bundle isn't the one that has it."""
+        headers = {"Content-Type": "text/plain; charset=utf-8", **({"If-Match": tag} if tag else {})}
+        return self._ask("PUT", self._address(locale), text.encode(), **headers)[1].get("ETag")
+
+    def bundle(self, locale):
+        """Returns the text of the bundle of a locale, and its tag for `put`."""
+        _, headers, body = self._ask("GET", self._address(locale + ".txt"))
+        return body.decode(), headers.get("ETag")
 
     def put_file(self, locale, data):
         """Installs the bytes of a .res file, or replaces the bundle of the locale."""
-        self._ask("PUT", self._address(locale), data, "application/octet-stream")
+        self._ask("PUT", self._address(locale), data, **{"Content-Type": "application/octet-stream"})
 
-    def remove(self, locale):
-        """Removes the bundle of a locale."""
-        self._ask("DELETE", self._address(locale))
+    def remove(self, locale, tag=None):
+        """Removes the bundle of a locale. With a tag it is refused with 412 if the bundle isn't the one that has it."""
+        self._ask("DELETE", self._address(locale), **({"If-Match": tag} if tag else {}))
 
     def _address(self, *parts):
         return "/".join([self.url.path.rstrip("/"), "v1", *(quote(part, safe="") for part in (self.app, *parts))])
@@ -80,19 +88,19 @@ class Bundles:
     def _get(self, address):
         """Returns a reply; the server sends it again only if it has changed."""
         tag, reply = self.known.get(address, (None, None))
-        status, headers, body = self._ask("GET", address, tag=tag)
+        status, headers, body = self._ask("GET", address, **({"If-None-Match": tag} if tag else {}))
         if status == 304:
             return reply
         reply = json.loads(body)
         self.known[address] = headers.get("ETag"), reply
         return reply
 
-    def _ask(self, method, address, body=None, kind=None, tag=None):
+    def _ask(self, method, address, body=None, **headers):
         """Returns status, headers and body of a response; asks again while the server can't answer."""
         end = time.monotonic() + PATIENCE
         while True:
             try:
-                status, headers, reply = self._once(method, address, body, kind, tag)
+                status, got, reply = self._once(method, address, body, headers)
             except (OSError, HTTPException):
                 # A change may have been done, though its answer was lost: a PUT may be asked again, others are left to the caller.
                 self.connection = None
@@ -101,19 +109,16 @@ class Bundles:
                 time.sleep(0.1)
                 continue
             if status < 400:
-                return status, headers, reply
+                return status, got, reply
             if status not in (429, 503) or time.monotonic() > end:
-                raise Refused(status, json.loads(reply)["error"])
-            time.sleep(float(headers.get("Retry-After", "1")))
+                raise Refused(status, json.loads(reply))
+            time.sleep(float(got.get("Retry-After", "1")))
 
-    def _once(self, method, address, body, kind, tag):
+    def _once(self, method, address, body, headers):
         if self.connection is None:
             kinds = {"http": HTTPConnection, "https": HTTPSConnection}
             self.connection = kinds[self.url.scheme](self.url.hostname, self.url.port, timeout=PATIENCE)
-        headers = {"Authorization": "Bearer " + self.token}
-        headers.update({"Content-Type": kind} if kind else {})
-        headers.update({"If-None-Match": tag} if tag else {})
-        self.connection.request(method, address, body, headers)
+        self.connection.request(method, address, body, {"Authorization": "Bearer " + self.token, **headers})
         response = self.connection.getresponse()
         return response.status, response.headers, response.read()
 
@@ -129,20 +134,25 @@ def try_lookups(bundles):
     try:
         bundles.add("fr", "fr{")
     except Refused as refused:
+        print(refused, "in line", refused.reply.get("line"))
+    text, tag = bundles.bundle("de")
+    try:
+        bundles.put("de", text, '"other"')
+    except Refused as refused:
         print(refused)
+    print(bundles.put("de", text, tag) == tag)
 
 
 def session(url, app, token):
     """Installs the samples where the application has no bundles, looks items up, and removes the samples."""
-    bundles, added = Bundles(url, app, token), []
+    bundles, tags = Bundles(url, app, token), {}
     try:
         for locale, text in SAMPLES.items():
-            bundles.add(locale, text)
-            added.append(locale)
+            tags[locale] = bundles.add(locale, text)
         try_lookups(bundles)
     finally:
-        for locale in added:
-            bundles.remove(locale)
+        for locale, tag in tags.items():
+            bundles.remove(locale, tag)  # refused if somebody else has replaced it
     print(bundles.look("de", "menu/open"))
 
 

@@ -13,7 +13,7 @@ use rb_tree::ByteList;
 use std::alloc::Global;
 use std::hash::RandomState;
 
-/// The install of a bundle text.
+/// Returns the install of a bundle text.
 fn install(alloc: Global, app: &str, locale: &str, text: &str) -> anyhow::Result<Request> {
     Ok(Request::Install {
         app: ByteList::from_vec(app.as_bytes().to_vec(alloc)?),
@@ -34,7 +34,7 @@ fn answer(engine: &mut Engine, alloc: Global, request: Request) -> Reply
     engine.handle(alloc, request)
 }
 
-/// The greeting of `shop` for a visitor, as JSON.
+/// Returns the greeting of `shop` for a visitor, as JSON.
 fn greeting(alloc: Global, engine: &Engine, locale: &str) -> anyhow::Result<String> {
     match engine.look(b"shop", locale.as_bytes(), b"greeting") {
         Ok(found) => Ok(item_text(alloc, found.node, b"")?),

@@ -1,6 +1,7 @@
 -- Defines the command that a command line asks for, by the rows of values that clap returned for it.
 use Rattle.std.specs.Prelude.{◌≡◌, ◌++◌, ◌∷◌, [], Bool, false, List, Option, Some, None, codes, option_map}
 use Rattle.std.specs.List.{list_any}
+use Rattle.std.specs.Option.{option_or}
 use Rattle.std.specs.Str.{bytes_eq}
 use Rattle.clap.specs.Words.{Row, Text, first_of}
 use Rattle.clap.specs.Walk.{texts}
@@ -23,6 +24,10 @@ is_command name = list_any (bytes_eq name) names
 abbrev pub texts_in : List Row → List Text
 texts_in rows =
     alone (first_of (codes "IN") rows) ++ alone (first_of (codes "OUT") rows) ++ words_in rows (codes "TEXT")
+
+-- the root's text of `lint`: that of `--against`, or else that of `--root`
+abbrev pub root_in : List Row → Option Text
+root_in rows = option_or (first_of (codes "against") rows) (first_of (codes "root") rows)
 
 -- the command of this name, with these rows, asks for this
 abbrev pub AsksFor : Text → List Row → Asked → Type 0
@@ -54,10 +59,17 @@ AsksFor name rows (ToText file bundle) =
     (name ≡ codes "text")
     × (file.now ≡ word_in rows (codes "FILE"))
     × (option_map (λ s. s.now) bundle ≡ first_of (codes "name") rows)
-AsksFor name rows (Lint root files) =
+AsksFor name rows (Lint asked) =
     (name ≡ codes "lint")
-    × (option_map (λ s. s.now) root ≡ first_of (codes "root") rows)
-    × (texts files.items ≡ words_in rows (codes "TEXT"))
+    × (option_map (λ s. s.now) asked.root ≡ root_in rows)
+    × (option_map (λ s. s.now) asked.name ≡ first_of (codes "name") rows)
+    × (texts asked.allow.items ≡ words_in rows (codes "allow"))
+    × (texts asked.deny.items ≡ words_in rows (codes "deny"))
+    × (option_map (λ s. s.now) asked.format ≡ first_of (codes "format") rows)
+    × IsFlagIn rows (codes "strict") asked.is_strict
+    × IsFlagIn rows (codes "all") asked.is_all
+    × IsFlagIn rows (codes "list") asked.is_list
+    × (texts asked.texts.items ≡ words_in rows (codes "TEXT"))
 AsksFor name rows (Explain word) =
     (name ≡ codes "explain")
     × (option_map (λ s. s.now) word ≡ first_of (codes "WORD") rows)

@@ -1,3 +1,4 @@
 pub mod Rows
 pub mod Limits
 pub mod Asking
+pub mod inner

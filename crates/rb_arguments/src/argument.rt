@@ -1,3 +1,6 @@
+ghost use Rattle.std.specs.Prelude.{◌≡◌, IfOk};
+ghost use Rattle.rb_arguments.specs.inner.Made.{IsMade};
+
 use clap::builder::ValueParser;
 use clap::{Arg, ArgAction};
 use std::alloc::{AllocError, Global};
@@ -14,12 +17,17 @@ pub enum Kind {
     WordUnless(&'static str),
     /// At least one word; the help shows them by this name.
     Words(&'static str),
+    /// At least one word, which may be missing only with an option; the help shows them by the first
+    /// name.
+    WordsUnless(&'static str, &'static str),
     /// Any number of words; the help shows them by this name.
     AnyWords(&'static str),
     /// Any number of words, only with this option.
     WordsWith(&'static str),
     /// `--NAME VALUE`; the help shows the value by this name.
     Option(&'static str),
+    /// `--NAME VALUE`, any number of times; the help shows the value by this name.
+    Options(&'static str),
     /// `--NAME N`, with a number from 1 to 2^63.
     Limit,
     /// `--NAME`
@@ -34,7 +42,10 @@ pub struct Argument(pub &'static str, pub Kind, pub &'static str);
 
 impl Argument {
     /// Makes clap's argument.
-    pub fn made<'a>(self, alloc: Global) -> Result<Arg<'a>, AllocError> {
+    pub fn made<'a>(self, alloc: Global) -> Result<Arg<'a>, AllocError>
+        ensures name { IfOk result (λ arg. arg.id.now ≡ self.0.now) }
+        ensures kind { IfOk result (IsMade self.0.now self.1) }
+    {
         let Argument(name, kind, help) = self;
         let made = Arg::new(alloc, name).help(help);
         Ok(match kind {
@@ -42,9 +53,14 @@ impl Argument {
             Kind::OptionalWord => made,
             Kind::WordUnless(option) => made.required_unless_present(option)?,
             Kind::Words(shown) => made.required(true).num_args(1..).value_name(shown),
+            Kind::WordsUnless(shown, option) => made
+                .num_args(1..)
+                .value_name(shown)
+                .required_unless_present(option)?,
             Kind::AnyWords(shown) => made.num_args(0..).value_name(shown),
             Kind::WordsWith(option) => made.num_args(0..).requires_arg(option)?,
             Kind::Option(shown) => made.long(name).value_name(shown),
+            Kind::Options(shown) => made.long(name).value_name(shown).action(ArgAction::Append),
             Kind::Limit => made
                 .long(name)
                 .value_name("N")
@@ -61,11 +77,7 @@ pub const PARENTS: Argument = Argument(
     "a bundle text with the explicit parents, at parentLocales",
 );
 
-pub const ROOT: Argument = Argument(
-    "root",
-    Kind::Option("ROOT"),
-    "the bundle text of the root locale, to compare with",
-);
+pub const ROOT: Argument = Argument("root", Kind::Option("ROOT"), "the same as --against");
 
 pub const PATH: Argument = Argument(
     "PATH",

@@ -4,7 +4,7 @@ ghost use Rattle.clap.specs.Words.{first_of, found_of, rows_of, subcommand_rows_
 ghost use Rattle.rb_arguments.specs.Rows.{IsFlagIn, IsNumberIn, alone, word_in, words_in};
 ghost use Rattle.rb_arguments.specs.Limits.{AreGiven};
 ghost use Rattle.rb_arguments.specs.Asking.{AsksFor, EntersFor, enters_command, is_command};
-ghost use Rattle.rb_arguments.specs.Asking.{texts_in};
+ghost use Rattle.rb_arguments.specs.Asking.{root_in, texts_in};
 
 use clap::ArgMatches;
 use std::alloc::{AllocError, Global};
@@ -46,10 +46,7 @@ pub enum Asked<'a> {
         name: Option<&'a str>,
     },
     /// `lint TEXT..`
-    Lint {
-        root: Option<&'a str>,
-        texts: Vec<&'a str>,
-    },
+    Lint(AskedLint<'a>),
     /// `explain [WORD]`
     Explain {
         word: Option<&'a str>,
@@ -68,6 +65,20 @@ pub enum Asked<'a> {
         bundles: Vec<&'a str>,
         limits: AskedLimits,
     },
+}
+
+#[derive(Debug, Drop)]
+pub struct AskedLint<'a> {
+    /// The root's text: that of `--against`, or that of `--root`.
+    pub root: Option<&'a str>,
+    pub name: Option<&'a str>,
+    pub allow: Vec<&'a str>,
+    pub deny: Vec<&'a str>,
+    pub format: Option<&'a str>,
+    pub is_strict: bool,
+    pub is_all: bool,
+    pub is_list: bool,
+    pub texts: Vec<&'a str>,
 }
 
 #[derive(Debug, Drop)]
@@ -192,13 +203,30 @@ fn check_asked<'a>(alloc: Global, given: &ArgMatches<'a>) -> Result<Asked<'a>, A
     })
 }
 
+/// Returns the root's text of `lint`: that of `--against`, or that of `--root`.
+fn root_of<'a>(given: &ArgMatches<'a>) -> Option<&'a str>
+    ensures { option_map (λ s. s.now) result ≡ root_in (rows_of (found_of given.now)) }
+{
+    match optional_of(given, "against") {
+        Some(root) => Some(root),
+        None => optional_of(given, "root"),
+    }
+}
+
 fn lint_asked<'a>(alloc: Global, given: &ArgMatches<'a>) -> Result<Asked<'a>, AllocError>
     ensures { IfOk result (AsksFor (codes "lint") (rows_of (found_of given.now))) }
 {
-    Ok(Asked::Lint {
-        root: optional_of(given, "root"),
+    Ok(Asked::Lint(AskedLint {
+        root: root_of(given),
+        name: optional_of(given, "name"),
+        allow: words_of(alloc, given, "allow")?,
+        deny: words_of(alloc, given, "deny")?,
+        format: optional_of(given, "format"),
+        is_strict: flag_of(given, "strict"),
+        is_all: flag_of(given, "all"),
+        is_list: flag_of(given, "list"),
         texts: words_of(alloc, given, "TEXT")?,
-    })
+    }))
 }
 
 fn look_asked<'a>(alloc: Global, given: &ArgMatches<'a>) -> Result<Asked<'a>, AllocError>

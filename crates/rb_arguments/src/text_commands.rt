@@ -4,23 +4,62 @@ use crate::description::Description;
 const LINT_HELP: &str = "\
 Examples:
   resb lint texts/*.txt
-  resb lint --root texts/root.txt texts/de.txt
+  resb lint --strict --allow bundle-name --deny joined-strings texts/*.txt
+  resb lint --against texts/root.txt texts/de.txt
+  resb lint --name texts/de.txt - < unsaved.txt
 
-With --root it is also said which keys only one of a text and the root's has, and where an item has
-another type or other placeholders, as {0} and {name}.
+TEXT - is standard input. With --against it is also said which keys only one of a text and the root's
+has, and where an item has another type or other placeholders, as {0} and {name}. A comment
+// resb-lint: allow NAME leaves warnings out of the next entry.
 
 Status:
-  0  each text is compiled, and nothing in it is doubtful
-  1  there is a warning, as de.txt:3: warning: .., or an error of a text, as of compile
+  0  each text is compiled; there may be warnings, as de.txt:3:9: warning: .. [joined-strings]
+  1  a text has an error, as de.txt:3:9: error: .., or can't be read; with --strict, or a warning
   2  the command line is invalid, or standard output can't be written";
 
-/// `lint [--root ROOT] TEXT..`
+/// `lint [OPTIONS] TEXT..`
 pub const LINT: Description = Description {
     name: "lint",
     about: "Says what is doubtful in bundle texts, and where an error really began",
     arguments: &[
+        Argument(
+            "against",
+            Kind::Option("ROOT"),
+            "the bundle text of the root locale, to compare with",
+        ),
         ROOT,
-        Argument("TEXT", Kind::Words("TEXT"), "a bundle text, in UTF-8"),
+        Argument(
+            "allow",
+            Kind::Options("NAME"),
+            "leave out the warnings with this name",
+        ),
+        Argument(
+            "deny",
+            Kind::Options("NAME"),
+            "take the warnings with this name for errors",
+        ),
+        Argument("strict", Kind::Flag, "status 1 also for a warning"),
+        Argument(
+            "all",
+            Kind::Flag,
+            "print all warnings of a text, not only the first 100",
+        ),
+        Argument(
+            "format",
+            Kind::Option("FORMAT"),
+            "text, json, sarif or github; text by default",
+        ),
+        Argument(
+            "name",
+            Kind::Option("FILE"),
+            "the name of the text on standard input",
+        ),
+        Argument("list", Kind::Flag, "print the names of all warnings"),
+        Argument(
+            "TEXT",
+            Kind::WordsUnless("TEXT", "list"),
+            "a bundle text, in UTF-8",
+        ),
     ],
     end: LINT_HELP,
 };

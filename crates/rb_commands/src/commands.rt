@@ -1,13 +1,14 @@
 //! `resb compile`, `resb check` and `resb get`.
 use crate::console::Console;
 use crate::files::{cannot_read_on, printed, read_file, refused_on};
-use crate::item::{ItemError, text_at};
+use crate::item::put_at;
 use crate::output::{Decision, Output, are_same_file, output_of, write_output};
+use crate::printing::Printing;
 use rb_format::FILE_LIMIT;
 use rb_validator::{Bundle, accept};
 use rb_views::root;
 use std::io;
-use std::io::Read;
+use std::io::{BufWriter, Read};
 use std::process::ExitCode;
 use std::random::RandomSource;
 use std::rt::Files;
@@ -27,7 +28,7 @@ fn file_of<R: AllocGlobal + Eprint>(
         Ok(text) => text,
         Err(error) => return Err(cannot_read_on(rt, console, input, ":0", error)),
     };
-    match rb_compiler::compile(rt.alloc(), &text) {
+    match rb_engine::compile(rt.alloc(), &text) {
         Ok(file) => Ok(file),
         Err(fault) => {
             let word = fault.kind.word();
@@ -137,7 +138,10 @@ fn read_input<R: Input + AllocGlobal>(rt: &R) -> io::Result<Vec<u8>> {
 }
 
 /// Reads a bundle text, from standard input if its name is `-`.
-fn read_text<R: Files + Input + AllocGlobal>(rt: &R, input: &str) -> io::Result<Vec<u8>> {
+pub(crate) fn read_text<R: Files + Input + AllocGlobal>(
+    rt: &R,
+    input: &str,
+) -> io::Result<Vec<u8>> {
     if input == "-" {
         read_input(rt)
     } else {
@@ -210,7 +214,7 @@ pub fn get<R: Files + AllocGlobal + Print + Eprint>(rt: &R, name: &str, path: &s
     get_on(rt, Console::plain(), name, path)
 }
 
-/// Prints as `get`, on a console.
+/// Prints as `get`, on a console. If standard output is a terminal, control characters are escaped.
 pub fn get_on<R: Files + AllocGlobal + Print + Eprint>(
     rt: &R,
     console: Console,
@@ -221,9 +225,12 @@ pub fn get_on<R: Files + AllocGlobal + Print + Eprint>(
         Ok(bundle) => bundle,
         Err(status) => return status,
     };
-    match text_at(rt.alloc(), root(&bundle), path.as_bytes()) {
-        Ok(text) => printed(rt, println!(rt; "{text}")),
-        Err(ItemError::Memory) => refused_on(rt, console, name, "Memory"),
+    let Ok(writer) = BufWriter::new(rt.alloc(), io::writer(rt)) else {
+        return refused_on(rt, console, name, "Memory");
+    };
+    let mut out = Printing::new(writer, console.is_output_terminal);
+    match put_at(&mut out, root(&bundle), path.as_bytes()) {
+        Ok(()) => printed(rt, out.end_line()),
         Err(error) => refused_on(rt, console, path, error.word()),
     }
 }

@@ -9,7 +9,7 @@ ghost use Rattle.rb_commands.specs.declared.item.ItemError.TheVariants as errors
 ghost use Rattle.rb_commands.specs.Got.{got, shown};
 
 use rb_fallback::{PATH_LIMIT, rest_behind};
-use rb_json::item_text;
+use rb_json::{Outlet, item_text, put_item};
 use rb_tree::{Ending, Node, path_ok, walk};
 use std::alloc::Global;
 
@@ -24,6 +24,43 @@ pub enum ItemError {
     Missing,
     /// Out of memory.
     Memory,
+}
+
+/// Writes the item to which a path leads.
+fn put_shown<O: Outlet, N: Node>(out: &mut O, root: N, path: &[u8]) -> Result<(), ItemError>
+    requires { IsPath path.now }
+    ensures text { IfOk result (λ _. (d : Data) × (shown
+        (walk (N.tree root) (segments path.now)) ≡ Ok d)
+        × (O.takes out.old out.new (compact_text d))) }
+    ensures error { IfErr result
+        (λ e. shown (walk (N.tree root) (segments path.now)) ≡ Err e) }
+{
+    match walk(root, path) {
+        Ending::End(node) => put_item(out, node, b""),
+        Ending::Link(node, cut) => put_item(out, node, rest_behind(path, cut)),
+        Ending::Gone => return Err(ItemError::Missing),
+    }
+    Ok(())
+}
+
+/// Writes the item at a path within one tree as JSON, as `text_at` returns it, piece by piece.
+/// Errors: `BadPath`, then `PathTooLong`, then `Missing`; nothing is written then.
+///
+/// ```rust
+/// put_at(&mut out, &tree, b"a/1")? // {"type":"string","value":"y"}
+/// ```
+pub fn put_at<O: Outlet, N: Node>(out: &mut O, root: N, path: &[u8]) -> Result<(), ItemError>
+    ensures text { IfOk result (λ _. (d : Data) × (got (N.tree root) path.now ≡ Ok d)
+        × (O.takes out.old out.new (compact_text d))) }
+    ensures error { IfErr result (λ e. got (N.tree root) path.now ≡ Err e) }
+{
+    if !path_ok(path) {
+        return Err(ItemError::BadPath);
+    }
+    if PATH_LIMIT < path.len() {
+        return Err(ItemError::PathTooLong);
+    }
+    put_shown(out, root, path)
 }
 
 /// Returns the text of an item, with the remaining path.

@@ -1,138 +1,113 @@
 //! `resb lint`.
+use crate::commands::read_text;
 use crate::console::Console;
 use crate::files::{cannot_read_on, printed, read_file, refused_on};
 use crate::given::stem;
-use rb_compiler::compile;
-use rb_lint::{beside_root, lint};
+use crate::lint_output::LintOutput;
+use crate::lint_words::{Format, LintWords, levels_of};
+use rb_lint::{Levels, Rule, Settings, Severity, WARNING_LIMIT, find_all};
 use rb_parser::parse;
 use rb_tree::Tree;
 use std::io;
 use std::process::ExitCode;
 use std::rt::Files;
 
-/// Returns the name that a text's bundle should have, or None for standard input, whose name says
-/// nothing of the text.
-fn bundle_name(name: &str) -> Option<&str> {
+/// What is the same for all texts of a command.
+#[derive(Clone, Copy)]
+struct Common<'a> {
+    console: Console,
+    levels: Levels,
+    limit: usize,
+    is_strict: bool,
+    /// The name of standard input's text.
+    name: Option<&'a str>,
+    root: Option<&'a Tree>,
+}
+
+/// Returns the name that a text's bundle should have, or None for standard input without a name, whose
+/// name says nothing of the text.
+fn bundle_name(name: &str) -> Option<&[u8]> {
     match name {
-        "/dev/stdin" | "/dev/fd/0" | "/proc/self/fd/0" => None,
-        _ => Some(stem(name)),
+        "-" | "/dev/stdin" | "/dev/fd/0" | "/proc/self/fd/0" => None,
+        _ => Some(stem(name).as_bytes()),
     }
 }
 
-/// Prints the warnings of a text that was read. Returns true if there are any.
-fn print_warnings<R: AllocGlobal + Print>(
+/// Prints the findings of a text that was read. Returns true if there are none that count.
+fn lint_read<R: AllocGlobal + Print>(
     rt: &R,
-    console: Console,
+    common: Common<'_>,
+    output: &mut LintOutput,
     name: &str,
     text: &[u8],
 ) -> io::Result<bool> {
-    let stem = match bundle_name(name) {
-        Some(stem) => Some(stem.as_bytes()),
-        None => None,
+    let settings = Settings {
+        name: bundle_name(name),
+        levels: common.levels,
+        limit: common.limit,
+        root: common.root,
     };
-    let warnings = lint(rt.alloc(), text, stem)?;
-    let name = console.on_stdout(name);
-    for warning in &warnings {
-        let (line, doubt) = (warning.line, warning.doubt);
-        println!(rt; "{name}:{line}: warning: {doubt}")?;
-    }
-    Ok(!warnings.is_empty())
-}
-
-/// Checks whether a text compiles, and reports its error.
-fn is_compiled<R: AllocGlobal + Eprint>(rt: &R, console: Console, name: &str, text: &[u8]) -> bool {
-    match compile(rt.alloc(), text) {
-        Ok(_) => true,
-        Err(fault) => {
-            let word = fault.kind.word();
-            let (name, line, hint) = (console.on_stderr(name), fault.line, console.hint(word));
-            let _ = eprintln!(rt; "{name}:{line}: {word}{hint}");
-            false
+    let report = find_all(rt.alloc(), text, &settings)?;
+    let mut is_good = true;
+    for finding in &report.findings {
+        output.finding(rt, name, finding)?;
+        if common.is_strict || finding.severity == Severity::Error {
+            is_good = false;
         }
     }
+    output.left_out(rt, name, report.left_out)?;
+    Ok(is_good)
 }
 
-/// Reports that memory ran out for the warnings, or that they could not be printed.
-fn not_warned<R: Eprint>(rt: &R, console: Console, name: &str, error: io::Error) -> ExitCode {
-    if error.kind() == io::ErrorKind::OutOfMemory {
-        return refused_on(rt, console, name, "Memory");
-    }
-    printed(rt, Err(error))
-}
-
-/// Prints how a text that compiles differs from the root's. Returns true if it does.
-fn print_differences<R: AllocGlobal + Print>(
+/// Returns the status of a text by its findings. Out of memory is an error of the text.
+fn text_status<R: Eprint>(
     rt: &R,
     console: Console,
     name: &str,
-    text: &[u8],
-    root: &Tree,
-) -> io::Result<bool> {
-    let Ok(source) = parse(rt.alloc(), text) else {
-        return Err(io::Error::from(io::ErrorKind::OutOfMemory));
-    };
-    let locale = bundle_name(name).unwrap_or("").as_bytes();
-    let warnings = beside_root(rt.alloc(), text, &source.tree, root, locale)?;
-    let name = console.on_stdout(name);
-    for warning in &warnings {
-        let line = warning.line;
-        println!(rt; "{name}:{line}: warning: {warning}")?;
-    }
-    Ok(!warnings.is_empty())
-}
-
-/// Reports what is doubtful in a text that was read. Returns true if nothing is.
-fn lint_read<R: AllocGlobal + Print + Eprint>(
-    rt: &R,
-    console: Console,
-    name: &str,
-    text: &[u8],
-    root: Option<&Tree>,
-) -> io::Result<bool> {
-    if text.len() > rb_lexer::SOURCE_LIMIT {
-        return Ok(is_compiled(rt, console, name, text));
-    }
-    let is_doubtful = print_warnings(rt, console, name, text)?;
-    if !is_compiled(rt, console, name, text) {
-        return Ok(false);
-    }
-    match root {
-        Some(root) => Ok(!print_differences(rt, console, name, text, root)? && !is_doubtful),
-        None => Ok(!is_doubtful),
-    }
-}
-
-/// Reports what is doubtful in one text.
-fn lint_one<R: Files + AllocGlobal + Print + Eprint>(
-    rt: &R,
-    console: Console,
-    name: &str,
-    root: Option<&Tree>,
+    outcome: io::Result<bool>,
 ) -> ExitCode {
-    let text = match read_file(rt, name) {
+    match outcome {
+        Ok(true) => ExitCode::SUCCESS,
+        Ok(false) => ExitCode::from(1),
+        Err(error) if error.kind() == io::ErrorKind::OutOfMemory => {
+            refused_on(rt, console, name, "Memory")
+        }
+        Err(error) => printed(rt, Err(error)),
+    }
+}
+
+/// Prints the findings of one text.
+fn lint_one<R: Files + Input + AllocGlobal + Print + Eprint>(
+    rt: &R,
+    common: Common<'_>,
+    output: &mut LintOutput,
+    file: &str,
+) -> ExitCode {
+    let name = match common.name {
+        Some(name) if file == "-" => name,
+        _ => file,
+    };
+    let text = match read_text(rt, file) {
         Ok(text) => text,
         Err(error) => {
-            let _ = cannot_read_on(rt, console, name, ":0", error);
+            let _ = cannot_read_on(rt, common.console, name, ":0", error);
             return ExitCode::from(1);
         }
     };
-    match lint_read(rt, console, name, &text, root) {
-        Ok(true) => ExitCode::SUCCESS,
-        Ok(false) => ExitCode::from(1),
-        Err(error) => not_warned(rt, console, name, error),
-    }
+    let outcome = lint_read(rt, common, output, name, &text);
+    text_status(rt, common.console, name, outcome)
 }
 
-/// Reports what is doubtful in each text.
-fn lint_each<R: Files + AllocGlobal + Print + Eprint>(
+/// Prints the findings of each text.
+fn lint_each<R: Files + Input + AllocGlobal + Print + Eprint>(
     rt: &R,
-    console: Console,
-    root: Option<&Tree>,
-    names: &[&str],
+    common: Common<'_>,
+    output: &mut LintOutput,
+    files: &[&str],
 ) -> ExitCode {
     let mut status = ExitCode::SUCCESS;
-    for name in names {
-        let one = lint_one(rt, console, name, root);
+    for file in files {
+        let one = lint_one(rt, common, output, file);
         if one == ExitCode::from(2) {
             return one;
         }
@@ -167,23 +142,82 @@ fn root_tree<R: Files + AllocGlobal + Eprint>(
     }
 }
 
-/// Prints what is doubtful in bundle texts, a line each, as `TEXT:LINE: warning: ..`, and to
-/// standard error the error of each text that isn't compiled, as `compile` does. If `root` names
-/// the root locale's text, it is also printed how each text that is compiled differs from it. The
-/// status is 0; 1 if there is a warning or an error of a text, if one can't be read, and if the
-/// root's text is refused or can't be read, before anything is printed; 2 as soon as standard
-/// output can't be written.
-pub fn lint_all<R: Files + AllocGlobal + Print + Eprint>(
+/// Prints the findings of all texts in a format.
+fn lint_in<R: Files + Input + AllocGlobal + Print + Eprint>(
+    rt: &R,
+    common: Common<'_>,
+    format: Format,
+    files: &[&str],
+) -> ExitCode {
+    let mut output = LintOutput::new(format, common.console);
+    if let Err(error) = output.begin(rt) {
+        return printed(rt, Err(error));
+    }
+    let status = lint_each(rt, common, &mut output, files);
+    if status == ExitCode::from(2) {
+        return status;
+    }
+    match output.end(rt) {
+        Ok(()) => status,
+        Err(error) => printed(rt, Err(error)),
+    }
+}
+
+/// Prints what is doubtful in bundle texts, and the error of each text that isn't compiled, in the order
+/// of each text, as `TEXT:LINE:COLUMN: warning: ..`, or in another format. If a root's text is
+/// given, prints also how each text that is compiled differs from it. The status is 0; 1 if a text has an
+/// error or can't be read, with `is_strict` also if there is a warning, and if the root's text is refused
+/// or can't be read, before anything is printed; 2 if a word is no name of a warning or no format,
+/// and as soon as standard output can't be written.
+pub fn lint_all<R: Files + Input + AllocGlobal + Print + Eprint>(
     rt: &R,
     console: Console,
-    root: Option<&str>,
-    names: &[&str],
+    words: &LintWords<'_>,
 ) -> ExitCode {
-    let Some(root) = root else {
-        return lint_each(rt, console, None, names);
+    let Some(format) = Format::named(words.format) else {
+        let _ = eprintln!(rt; "resb: --format is text, json, sarif or github");
+        return ExitCode::from(2);
+    };
+    let Some(levels) = levels_of(rt, console, words) else {
+        return ExitCode::from(2);
+    };
+    let common = Common {
+        console,
+        levels,
+        limit: if words.is_all {
+            usize::MAX
+        } else {
+            WARNING_LIMIT
+        },
+        is_strict: words.is_strict,
+        name: words.name,
+        root: None,
+    };
+    let Some(root) = words.root else {
+        return lint_in(rt, common, format, words.texts);
     };
     match root_tree(rt, console, root) {
-        Some(tree) => lint_each(rt, console, Some(&tree), names),
+        Some(tree) => {
+            let common = Common {
+                root: Some(&tree),
+                ..common
+            };
+            lint_in(rt, common, format, words.texts)
+        }
         None => ExitCode::from(1),
     }
+}
+
+/// Prints the names of all rules, each with what it warns of.
+fn list<R: Print>(rt: &R) -> io::Result<()> {
+    for rule in Rule::ALL {
+        let (name, about) = (rule.name(), rule.about());
+        println!(rt; "{name}: {about}")?;
+    }
+    Ok(())
+}
+
+/// Prints the names of all warnings. The status is 0, or 2 if standard output can't be written.
+pub fn list_rules<R: Print + Eprint>(rt: &R) -> ExitCode {
+    printed(rt, list(rt))
 }

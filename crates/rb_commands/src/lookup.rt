@@ -4,20 +4,22 @@ use crate::contents::{made_of_each, text_refused};
 use crate::error::{StartError, not_started_on};
 use crate::files::{printed, refused_on};
 use crate::given::{Form, Given, all_given, is_text};
+use crate::printing::Printing;
 use crate::start::parents_of;
 use crate::trace::{Trace, file_named};
-use rb_compiler::compile;
-use rb_engine::{App, Engine, Payload, Reply, Request};
+use rb_engine::{App, Engine, Payload, Reply, Request, compile};
 use rb_explain::Of;
 use rb_fallback::look_watched;
 use rb_locales::Name;
 use rb_packages::Packages;
 use rb_parents::Parents;
-use rb_replies::ReplyLine;
+use rb_replies::put_look;
 use rb_tree::ByteList;
 use rb_validator::accept;
 use std::alloc::{AllocError, Global};
 use std::hash::RandomState;
+use std::io;
+use std::io::BufWriter;
 use std::process::ExitCode;
 use std::random::RandomSource;
 use std::rt::Files;
@@ -84,21 +86,21 @@ fn install_all<R: AllocGlobal + Eprint>(
     Ok(())
 }
 
-/// Prints the reply to a lookup; the status is 0 if something is found, otherwise 1.
+/// Prints the reply to a lookup, piece by piece; the status is 0 if something is found, otherwise 1.
 fn answer<R: AllocGlobal + Print + Eprint>(
     rt: &R,
     console: Console,
     engine: &Engine,
     lookup: Lookup<'_>,
 ) -> ExitCode {
-    let alloc = rt.alloc();
     let (locale, path) = (lookup.locale.as_bytes(), lookup.path.as_bytes());
     let found = engine.look(APP.as_bytes(), locale, path);
-    let mut line = ReplyLine::new(alloc);
-    if line.tell_look(alloc, &found).is_err() {
+    let Ok(writer) = BufWriter::new(rt.alloc(), io::writer(rt)) else {
         return not_started_on(rt, console, StartError::Memory);
-    }
-    let status = printed(rt, rt.write_all(line.as_bytes()));
+    };
+    let mut out = Printing::new(writer, console.is_output_terminal);
+    put_look(&mut out, &found);
+    let status = printed(rt, out.end());
     if status == ExitCode::SUCCESS && found.is_err() {
         return ExitCode::from(1);
     }

@@ -2,7 +2,7 @@
 ghost use Rattle.std.specs.Prelude.{◌≡◌, false, true};
 ghost use Rattle.rb_commands.specs.inner.Writing.{plain_decision};
 ghost use Rattle.rb_commands.specs.declared.output.Decision.TheVariants as Decisions;
-ghost use Rattle.rb_commands.specs.declared.output.Kind.TheVariants as Kinds;
+ghost use Rattle.rb_commands.specs.declared.output.FileKind.TheVariants as Kinds;
 
 use std::fs::{File, Metadata, OpenFile, OpenOptions, Permissions};
 use std::io::{ErrorKind, Write};
@@ -22,7 +22,7 @@ const MAX_TRIES: u64 = 16;
 
 /// The kind of file that a name leads to, its links followed.
 #[derive(Clone, Copy, Debug, PartialEq, Eq)]
-pub enum Kind {
+pub enum FileKind {
     /// Nothing is there yet.
     Missing,
     /// An ordinary file.
@@ -36,7 +36,7 @@ pub enum Kind {
 /// The properties of the file to write, before anything is written.
 #[derive(Clone, Copy, Debug)]
 pub struct Seen {
-    pub kind: Kind,
+    pub kind: FileKind,
     /// Its name is the name of a bundle text.
     pub is_text: bool,
     /// The name that its links lead to is the name of a bundle text.
@@ -93,10 +93,10 @@ pub fn decide(seen: Seen) -> Decision
         return Decision::RefuseText;
     }
     match seen.kind {
-        Kind::Missing => Decision::Create,
-        Kind::Ordinary => Decision::Replace,
-        Kind::Device => Decision::WriteThrough,
-        Kind::Other => Decision::Refuse,
+        FileKind::Missing => Decision::Create,
+        FileKind::Ordinary => Decision::Replace,
+        FileKind::Device => Decision::WriteThrough,
+        FileKind::Other => Decision::Refuse,
     }
 }
 
@@ -168,13 +168,14 @@ fn target_of<R: Files + AllocGlobal>(rt: &R, name: &str) -> io::Result<String> {
 }
 
 /// Looks at what a name leads to.
-fn kind_of<R: Files>(rt: &R, name: &str) -> Kind {
+fn kind_of<R: Files>(rt: &R, name: &str) -> FileKind {
     match rt.metadata(name) {
-        Ok(seen) if seen.is_file() => Kind::Ordinary,
-        Ok(seen) if seen.is_dir() => Kind::Other,
-        Ok(_) => Kind::Device,
-        Err(error) if error.kind() == ErrorKind::NotFound && !name.ends_with('/') => Kind::Missing,
-        Err(_) => Kind::Other,
+        Ok(seen) if seen.is_file() => FileKind::Ordinary,
+        Ok(seen) if seen.is_dir() => FileKind::Other,
+        Ok(_) => FileKind::Device,
+        Err(error) if error.kind() == ErrorKind::NotFound && !name.ends_with('/') =>
+            FileKind::Missing,
+        Err(_) => FileKind::Other,
     }
 }
 
@@ -190,14 +191,14 @@ fn is_target<R: Files>(rt: &R, name: &str, target: &str) -> bool {
 
 /// Looks at the kind of a file to write, and finds the name that its links lead to. A device keeps
 /// its own name, and so does what can't be written.
-fn located<R: Files + AllocGlobal>(rt: &R, name: &str) -> io::Result<(Kind, String)> {
+fn located<R: Files + AllocGlobal>(rt: &R, name: &str) -> io::Result<(FileKind, String)> {
     let kind = kind_of(rt, name);
-    if kind == Kind::Ordinary || kind == Kind::Missing {
+    if kind == FileKind::Ordinary || kind == FileKind::Missing {
         let target = target_of(rt, name)?;
         if !target.is_empty() && is_target(rt, name, target.as_str()) {
             return Ok((kind, target));
         }
-        return Ok((Kind::Other, target));
+        return Ok((FileKind::Other, target));
     }
     Ok((kind, String::from_str(rt.alloc(), name)?))
 }
@@ -207,7 +208,7 @@ fn located<R: Files + AllocGlobal>(rt: &R, name: &str) -> io::Result<(Kind, Stri
 pub fn output_of<R: Files + AllocGlobal>(rt: &R, name: &str, is_input: bool) -> Output {
     let (kind, target) = match located(rt, name) {
         Ok(located) => located,
-        Err(_) => (Kind::Other, String::new(rt.alloc())),
+        Err(_) => (FileKind::Other, String::new(rt.alloc())),
     };
     let seen = Seen {
         kind,

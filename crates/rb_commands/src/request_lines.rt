@@ -4,6 +4,7 @@ use crate::contents::{made_of_each, text_refused};
 use crate::error::{StartError, not_started_on};
 use crate::files::{printed, refused_on};
 use crate::given::{Form, Given, all_given, is_text};
+use crate::printing::JsonWriter;
 use json::Writer;
 use rb_engine::{App, Change};
 use rb_format::is_short_enough;
@@ -104,13 +105,15 @@ fn line_of(
 /// Writes the lines, each made when it is written.
 fn write_lines<R: AllocGlobal + Print>(
     rt: &R,
+    console: Console,
     change: Change,
     app: &str,
     bundles: &[Given<'_>],
     contents: &[Vec<u8>],
 ) -> io::Result<()> {
     let alloc = rt.alloc();
-    let mut out = BufWriter::new(alloc, io::writer(rt))?;
+    let buffer = BufWriter::new(alloc, io::writer(rt))?;
+    let mut out = JsonWriter::new(buffer, console.is_output_terminal);
     for (bundle, bytes) in bundles.iter().zip(contents) {
         let line = line_of(alloc, change, app, bundle, bytes)?;
         out.write_all(&line)?;
@@ -144,7 +147,7 @@ pub fn lines<R: Files + AllocGlobal + Print + Eprint>(
         Ok(contents) => contents,
         Err(status) => return status,
     };
-    match write_lines(rt, change, app, &bundles, &contents) {
+    match write_lines(rt, console, change, app, &bundles, &contents) {
         Ok(()) => ExitCode::SUCCESS,
         Err(error) => {
             if error.kind() == io::ErrorKind::OutOfMemory {

@@ -8,12 +8,15 @@ ghost use Rattle.rb_commands.specs.Whole.{reached, text_of, valued};
 use crate::commands::accepted;
 use crate::console::Console;
 use crate::files::{printed, refused_on};
+use crate::pretty::put_value;
+use crate::printing::Printing;
 use rb_fallback::{PATH_LIMIT, rest_behind};
-use rb_json::{JsonError, Layout, json_text};
+use rb_json::{JsonError, Layout, Outlet, is_within, json_text};
 use rb_tree::{Ending, Node, path_ok, walk};
 use rb_views::root;
 use std::alloc::Global;
 use std::io;
+use std::io::BufWriter;
 use std::process::ExitCode;
 use std::rt::Files;
 
@@ -103,16 +106,37 @@ pub fn value_at<N: Node>(
     whole_text(alloc, root, path, layout)
 }
 
-/// Prints a text and a line feed.
-fn print_line<R: Print>(rt: &R, text: &str) -> io::Result<()> {
-    rt.write_all(text.as_bytes())?;
-    rt.write_all(b"\n")
+/// Returns the whole item at a path, if it is one that `value_at` has a text of.
+fn light_item<N: Node>(root: N, path: &[u8]) -> Result<N, ValueError> {
+    if !path_ok(path) {
+        return Err(ValueError::BadPath);
+    }
+    if path.len() > PATH_LIMIT {
+        return Err(ValueError::PathTooLong);
+    }
+    match item_at(root, path) {
+        Some(node) if is_within(node) => Ok(node),
+        Some(_) => Err(ValueError::TooLarge),
+        None => Err(ValueError::Missing),
+    }
+}
+
+/// Writes the text of `value_at` piece by piece, as it may be far longer than the file.
+fn put_text_at<O: Outlet, N: Node>(
+    out: &mut O,
+    alloc: Global,
+    root: N,
+    path: &[u8],
+    layout: Layout,
+) -> Result<(), ValueError> {
+    put_value(out, alloc, light_item(root, path)?, layout)
 }
 
 /// Prints the whole item of the file `name` at a path as one JSON value and a line feed, in a
-/// layout. Aliases are printed and not followed. The status is 0; 1 if the file is refused or has
-/// no such item, or one that is too large, with the file or the path and the error's name on
-/// standard error; 2 if the file can't be read or standard output can't be written.
+/// layout. Aliases are printed and not followed, and control characters are escaped. The status is
+/// 0; 1 if the file is refused or has no such item, or one that is too large, with the file or the
+/// path and the error's name on standard error; 2 if the file can't be read or standard output
+/// can't be written.
 pub fn json<R: Files + AllocGlobal + Print + Eprint>(
     rt: &R,
     console: Console,
@@ -124,8 +148,12 @@ pub fn json<R: Files + AllocGlobal + Print + Eprint>(
         Ok(bundle) => bundle,
         Err(status) => return status,
     };
-    match value_at(rt.alloc(), root(&bundle), path.as_bytes(), layout) {
-        Ok(text) => printed(rt, print_line(rt, &text)),
+    let Ok(writer) = BufWriter::new(rt.alloc(), io::writer(rt)) else {
+        return refused_on(rt, console, name, "Memory");
+    };
+    let mut out = Printing::new(writer, true);
+    match put_text_at(&mut out, rt.alloc(), root(&bundle), path.as_bytes(), layout) {
+        Ok(()) => printed(rt, out.end_line()),
         Err(ValueError::Memory) => refused_on(rt, console, name, "Memory"),
         Err(ValueError::TooLarge) => refused_on(rt, console, name, "TooLarge"),
         Err(error) => refused_on(rt, console, path, error.word()),

@@ -1,3 +1,4 @@
+pub mod OneFile
 pub mod Histories
 pub mod StepLemmas
 pub mod Lookups

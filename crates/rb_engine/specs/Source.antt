@@ -19,6 +19,8 @@ use Rattle.rb_engine.specs.declared.handle.Change.{Change}
 use Rattle.rb_engine.specs.declared.handle.Change.TheVariants as changes
 use Rattle.rb_engine.specs.declared.place.Place.{Place}
 use Rattle.rb_engine.specs.declared.place.PlaceFault.{PlaceFault}
+use Rattle.rb_engine.specs.declared.request.BundleSource.{BundleSource}
+use Rattle.rb_engine.specs.declared.request.BundleSource.TheVariants as sources
 use Rattle.rb_engine.specs.declared.request.Payload.{Payload}
 use Rattle.rb_engine.specs.declared.request.Payload.TheVariants.{Text, File}
 use Rattle.rb_engine.specs.declared.payload.PayloadFault.{PayloadFault}
@@ -31,6 +33,11 @@ use Rattle.rb_engine.specs.declared.request.Reply.{Reply}
 use Rattle.rb_engine.specs.declared.request.Reply.TheVariants as reply
 use Rattle.rb_engine.specs.declared.start.StartFault.{StartFault}
 use Rattle.rb_engine.specs.declared.start.StartFault.TheVariants as start
+
+-- the payload, whose text is borrowed
+abbrev pub payload_of : BundleSource → Payload
+payload_of (sources.Text text) = Text text.now
+payload_of (sources.File file) = File file
 
 -- a payload without a bundle
 abbrev pub HasNone : Payload → PayloadFault → Type 0

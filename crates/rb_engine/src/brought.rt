@@ -1,12 +1,11 @@
 ghost use Rattle.std.specs.Prelude.{◌≡◌, IfOk, length};
-ghost use Rattle.rb_engine.specs.Source.{Reads};
+ghost use Rattle.rb_engine.specs.Source.{Reads, payload_of};
 ghost use Rattle.rb_engine.specs.Change.{IsFileOf};
 
-use crate::payload::bundle_of;
+use crate::payload::{bundle_of, payload_bundle};
 use crate::place::{Place, place_of};
-use crate::request::{Payload, Reply};
+use crate::request::{BundleSource, Payload, Reply};
 use rb_packages::App;
-use rb_tree::ByteList;
 use rb_validator::Bundle;
 use std::alloc::Global;
 use std::marker::Model;
@@ -36,15 +35,28 @@ impl Brought {
     /// `Memory`. An error keeps nothing of the payload.
     pub fn read(
         alloc: Global,
-        app: &ByteList,
-        locale: &ByteList,
+        app: &[u8],
+        locale: &[u8],
+        source: BundleSource<'_>,
+    ) -> Result<Brought, Reply>
+        ensures read { Reads app.now locale.now (payload_of source.entry) result }
+        ensures file { IfOk result (λ brought. IsFileOf (payload_of source.entry) brought.1) }
+    {
+        let place = place_of(app, locale)?;
+        let bundle = bundle_of(alloc, source)?;
+        Ok(Brought { place, bundle })
+    }
+
+    pub(crate) fn read_payload(
+        alloc: Global,
+        app: &[u8],
+        locale: &[u8],
         payload: Payload,
     ) -> Result<Brought, Reply>
         ensures read { Reads app.now locale.now payload result }
-        ensures file { IfOk result (λ brought. IsFileOf payload brought.1) }
     {
-        let place = place_of(app.as_slice(), locale.as_slice())?;
-        let bundle = bundle_of(alloc, payload)?;
+        let place = place_of(app, locale)?;
+        let bundle = payload_bundle(alloc, payload)?;
         Ok(Brought { place, bundle })
     }
 

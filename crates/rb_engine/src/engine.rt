@@ -30,7 +30,6 @@ use rb_fallback::{BoundedError, Found, LookError};
 use rb_locales::Name;
 use rb_packages::{App, Packages, Usage};
 use rb_parents::Parents;
-use rb_tree::ByteList;
 use rb_views::Item;
 use std::alloc::Global;
 use std::hash::RandomState;
@@ -98,14 +97,26 @@ impl Engine {
                 app,
                 locale,
                 payload,
-            } => self.read_and_put(alloc, Change::Install, &app, &locale, payload),
+            } => self.read_and_put(
+                alloc,
+                Change::Install,
+                app.as_slice(),
+                locale.as_slice(),
+                payload,
+            ),
             Request::Replace {
                 app,
                 locale,
                 payload,
-            } => self.read_and_put(alloc, Change::Replace, &app, &locale, payload),
-            Request::Remove { app, locale } => self.remove(&app, &locale),
-            Request::List { app } => self.list(alloc, &app),
+            } => self.read_and_put(
+                alloc,
+                Change::Replace,
+                app.as_slice(),
+                locale.as_slice(),
+                payload,
+            ),
+            Request::Remove { app, locale } => self.remove(app.as_slice(), locale.as_slice()),
+            Request::List { app } => self.list(alloc, app.as_slice()),
         }
     }
 
@@ -113,8 +124,8 @@ impl Engine {
         &mut self,
         alloc: Global,
         change: Change,
-        app: &ByteList,
-        locale: &ByteList,
+        app: &[u8],
+        locale: &[u8],
         payload: Payload,
     ) -> Reply
         ensures step { Step (state_of self.old)
@@ -122,7 +133,7 @@ impl Engine {
             (state_of self.new) }
         ensures unchanged { result ≢ Reply.Done → self.new ≡ self.old }
     {
-        match Brought::read(alloc, app, locale, payload) {
+        match Brought::read_payload(alloc, app, locale, payload) {
             Ok(brought) => self.put(change, brought),
             Err(reply) => reply,
         }
@@ -156,7 +167,7 @@ impl Engine {
 
     /// Removes a bundle, like `handle`. Any reply other than `Done` changes nothing: `BadApp`,
     /// `Reserved`, `BadLocale` or `Absent`. Allocates nothing.
-    pub fn remove(&mut self, app: &ByteList, locale: &ByteList) -> Reply
+    pub fn remove(&mut self, app: &[u8], locale: &[u8]) -> Reply
         ensures step { Step (state_of self.old) (Requests (Removal app.now locale.now))
             (Replies result) (state_of self.new) }
         ensures removed { Removes
@@ -170,7 +181,7 @@ impl Engine {
 
     /// Lists the names of an application's bundles, like `handle`: `Names`, `BadApp`, `Reserved` or
     /// `Memory`.
-    pub fn list(&self, alloc: Global, app: &ByteList) -> Reply
+    pub fn list(&self, alloc: Global, app: &[u8]) -> Reply
         ensures { Step (state_of self.now) (Requests (Listing app.now)) (Replies result)
             (state_of self.now) }
     {
@@ -203,8 +214,8 @@ impl Engine {
         self.packages.apps()
     }
 
-    /// Looks up the item at a path along the trail of locale inheritance, and borrows it from its
-    /// bundle's file. Allocates nothing.
+    /// Looks up the item at a path along the trail of locale inheritance. Borrows it from its
+    /// bundle's file, and allocates nothing.
     ///
     /// Checks `BadApp`, `Reserved`, `BadLocale` and `BadPath` in this order; then the search
     /// returns its first error.
@@ -217,8 +228,8 @@ impl Engine {
         look_at(&self.packages, &self.parents, &place, path)
     }
 
-    /// Looks up like `look`, or returns `TooManySteps` if the lookup would take more than this many
-    /// steps, whatever it would find. An invalid application, locale or path is reported first.
+    /// Looks up like `look`, or returns `TooManySteps` if the lookup takes more than this many
+    /// steps. An invalid application, locale or path is reported first.
     ///
     /// Each level of the search counts the names of its trail times one more than the segments of
     /// its path. No lookup takes more than 4,202,496 steps.

@@ -5,15 +5,14 @@ ghost use Rattle.rb_packages.specs.Packages.{files_of, OthersStay};
 ghost use Rattle.rb_packages.specs.Usage.{apps_of, more_apps};
 ghost use Rattle.rb_engine.specs.Change.{Removes};
 ghost use Rattle.rb_engine.specs.Place.{place_of as place_at};
-ghost use Rattle.rb_engine.specs.Source.{Reads, Handles, change_request};
+ghost use Rattle.rb_engine.specs.Source.{Reads, Handles};
 ghost use Rattle.rb_engine.specs.declared.request.Payload.{Payload};
 ghost use Rattle.rb_engine.specs.declared.request.Request.TheVariants.{Install, Replace, Remove};
 ghost use Rattle.rb_engine.specs.declared.request.Request.TheVariants.{List as Lists};
 
 use crate::place::{Place, PlaceFault, place_of};
-use crate::request::{NameList, Payload, Reply, Request};
+use crate::request::{NameList, Reply};
 use rb_packages::{App, PackFault, Packages};
-use rb_tree::ByteList;
 use rb_validator::Bundle;
 use std::alloc::Global;
 
@@ -22,25 +21,6 @@ use std::alloc::Global;
 pub enum Change {
     Install,
     Replace,
-}
-
-impl Change {
-    pub fn request(self, app: ByteList, locale: ByteList, payload: Payload) -> Request
-        ensures { result ≡ change_request self app locale payload }
-    {
-        match self {
-            Change::Install => Request::Install {
-                app,
-                locale,
-                payload,
-            },
-            Change::Replace => Request::Replace {
-                app,
-                locale,
-                payload,
-            },
-        }
-    }
 }
 
 impl From<PackFault> for Reply {
@@ -96,13 +76,13 @@ pub(crate) fn replace(packages: &mut Packages, place: &Place, bundle: Bundle) ->
     }
 }
 
-pub(crate) fn remove(packages: &mut Packages, app: &ByteList, locale: &ByteList) -> Reply
+pub(crate) fn remove(packages: &mut Packages, app: &[u8], locale: &[u8]) -> Reply
     ensures step { Handles (Remove app.now locale.now) result packages.old packages.new }
     ensures removed { Removes (place_at app.now locale.now) result packages.old packages.new }
     ensures unchanged { result ≢ Reply.Done → packages.new ≡ packages.old }
     ensures memory { result ≢ Reply.Memory }
 {
-    let place = match place_of(app.as_slice(), locale.as_slice()) {
+    let place = match place_of(app, locale) {
         Ok(place) => place,
         Err(fault) => return Reply::from(fault),
     };
@@ -112,10 +92,10 @@ pub(crate) fn remove(packages: &mut Packages, app: &ByteList, locale: &ByteList)
     }
 }
 
-pub(crate) fn list(packages: &Packages, alloc: Global, app: &ByteList) -> Reply
+pub(crate) fn list(packages: &Packages, alloc: Global, app: &[u8]) -> Reply
     ensures { Handles (Lists app.now) result packages.now packages.now }
 {
-    let app = match App::read(app.as_slice()) {
+    let app = match App::read(app) {
         Ok(app) => app,
         Err(fault) => return Reply::from(PlaceFault::from(fault)),
     };

@@ -1,9 +1,10 @@
-//! Properties of all histories, as contracts of functions that do nothing.
+ghost use Rattle.std.specs.Prelude.{◌≡◌, ℕ, List};
+ghost use Rattle.rb_engine.specs.Compiled.{IsCompiled};
 ghost use Rattle.rb_engine.specs.History.{AsksOne, AnswersOwn, IsIsolated};
 ghost use Rattle.rb_engine.specs.Kept.{KeepsTexts, KeepsCommonTexts, KeepsTrees};
 
-/// Applications are isolated: each is answered from its own bundles, those of ICUDATA and the
-/// explicit parents, whatever the others ask.
+/// Proves that applications are isolated: each is answered from its own bundles, those of ICUDATA
+/// and the explicit parents, whatever the others ask.
 pub fn isolated()
     // A call asks one thing, since a payload has at most one tree.
     ensures one { AsksOne }
@@ -15,10 +16,16 @@ pub fn isolated()
     rb_parser::laws::one_source();
 }
 
-/// A text that is parsed, written and accepted keeps its tree: the root of the file is that tree,
-/// and a lookup over the file is the search over the text's bundle.
+/// Proves that a text that is parsed, written and accepted keeps its tree: the root of the file is
+/// that tree, and a lookup over the file is the search over the text's bundle.
 pub fn a_text_is_kept_as_its_bundle()
     ensures tree { KeepsTrees }
     ensures lookups { KeepsTexts }
     ensures icudata { KeepsCommonTexts }
+{}
+
+/// Proves, by its contract, that a text compiles to at most one file.
+pub fn one_compiled()
+    ensures { (text file other : List ℕ) → IsCompiled text file → IsCompiled text other
+        → file ≡ other }
 {}

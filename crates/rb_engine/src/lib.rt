@@ -1,7 +1,9 @@
-//! The engine: handles requests and lookups of many applications over their bundles.
+//! Compiles a bundle text to a file, and handles requests and lookups of many applications over
+//! their bundles.
 #![tactic(auto)]
 
 mod brought;
+mod compiling;
 mod engine;
 mod handle;
 pub mod laws;
@@ -13,8 +15,9 @@ mod start;
 mod words;
 
 pub use brought::Brought;
+pub use compiling::compile;
 pub use engine::Engine;
 pub use handle::Change;
 pub use rb_packages::{App, AppFault, BUNDLE_LIMIT, Usage};
-pub use request::{LookFault, NameList, Payload, Reply, Request, TooManySteps};
+pub use request::{BundleSource, LookFault, NameList, Payload, Reply, Request, TooManySteps};
 pub use start::StartFault;

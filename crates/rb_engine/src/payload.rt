@@ -1,12 +1,12 @@
 ghost use Rattle.std.specs.Prelude.{◌≡◌, IfOk};
-ghost use Rattle.rb_compiler.specs.Compiled.{IsCompiled};
-ghost use Rattle.rb_engine.specs.Source.{BundleOrFault};
+ghost use Rattle.rb_engine.specs.Compiled.{IsCompiled};
+ghost use Rattle.rb_engine.specs.Source.{BundleOrFault, payload_of};
 ghost use Rattle.rb_engine.specs.Change.{IsFileOf};
 ghost use Rattle.rb_engine.specs.declared.request.Payload.TheVariants.{Text, File};
 
-use crate::request::{Payload, Reply};
+use crate::compiling::compile;
+use crate::request::{BundleSource, Payload, Reply};
 use crate::same_name::same_name;
-use rb_compiler::compile;
 use rb_format::FileFault;
 use rb_lexer::{SourceFault, SourceKind};
 use rb_tree::ByteList;
@@ -68,12 +68,12 @@ impl From<PayloadFault> for Reply {
 }
 
 /// Parses a text, writes it as a file and accepts that.
-fn text_bundle(alloc: Global, text: ByteList) -> Result<Bundle, PayloadFault>
-    ensures bundle { BundleOrFault (Text text) result }
-    ensures file { IfOk result (λ file. IsCompiled text file) }
+fn text_bundle(alloc: Global, text: &[u8]) -> Result<Bundle, PayloadFault>
+    ensures bundle { BundleOrFault (Text text.now) result }
+    ensures file { IfOk result (λ file. IsCompiled text.now file) }
 {
     rb_format::laws::a_tree_or_a_fault();
-    let file = compile(alloc, text.as_slice())?;
+    let file = compile(alloc, text)?;
     match accept(alloc, file) {
         Ok(bundle) => Ok(bundle),
         Err((fault, _)) => {
@@ -95,13 +95,23 @@ fn file_bundle(alloc: Global, file: ByteList) -> Result<Bundle, PayloadFault>
     }
 }
 
-/// Reads a payload's bundle, or returns `BadText`, `BadFile` or `Memory`.
-pub(crate) fn bundle_of(alloc: Global, payload: Payload) -> Result<Bundle, PayloadFault>
+/// Reads a bundle, or returns `BadText`, `BadFile` or `Memory`.
+pub(crate) fn bundle_of(alloc: Global, source: BundleSource<'_>) -> Result<Bundle, PayloadFault>
+    ensures bundle { BundleOrFault (payload_of source.entry) result }
+    ensures file { IfOk result (IsFileOf (payload_of source.entry)) }
+{
+    match source {
+        BundleSource::Text(text) => text_bundle(alloc, text),
+        BundleSource::File(file) => file_bundle(alloc, file),
+    }
+}
+
+pub(crate) fn payload_bundle(alloc: Global, payload: Payload) -> Result<Bundle, PayloadFault>
     ensures bundle { BundleOrFault payload result }
     ensures file { IfOk result (IsFileOf payload) }
 {
     match payload {
-        Payload::Text(text) => text_bundle(alloc, text),
+        Payload::Text(text) => text_bundle(alloc, text.as_slice()),
         Payload::File(file) => file_bundle(alloc, file),
     }
 }

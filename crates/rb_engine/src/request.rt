@@ -11,6 +11,13 @@ pub enum Payload {
     File(ByteList),
 }
 
+/// The payload that a bundle is read from. A text is borrowed; a file becomes the bundle.
+#[derive(Drop)]
+pub enum BundleSource<'a> {
+    Text(&'a [u8]),
+    File(ByteList),
+}
+
 /// A request of an application, with unchecked names.
 #[derive(Debug, Drop)]
 pub enum Request {

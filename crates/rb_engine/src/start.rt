@@ -3,7 +3,7 @@ ghost use Rattle.rb_packages.specs.Packages.{icudata_of, list_of};
 ghost use Rattle.rb_engine.specs.Start.{Loads, IsRefused};
 ghost use Rattle.rb_engine.specs.Source.{Adds};
 
-use crate::payload::{PayloadFault, bundle_of};
+use crate::payload::{PayloadFault, payload_bundle};
 use crate::request::Payload;
 use rb_locales::Name;
 use rb_packages::{PackFault, Packages};
@@ -35,7 +35,7 @@ fn load(
         (icudata_of packages.new) }
     ensures lists { (app : List ℕ) → list_of app packages.new ≡ list_of app packages.old }
 {
-    let bundle = match bundle_of(alloc, payload) {
+    let bundle = match payload_bundle(alloc, payload) {
         Ok(bundle) => bundle,
         Err(PayloadFault::BadText) => return Err(StartFault::BadText(index)),
         Err(PayloadFault::BadFile) => return Err(StartFault::BadFile(index)),

@@ -138,12 +138,6 @@ pub answer_err : {N : Type 0} (tree : N → Resource) (x : Result (Found N) Boun
 answer_err tree (Ok y) f h = absurd h
 answer_err tree (Err e) f h = ap Err h
 
--- the valid name of the first level is that of a search that continues
-pub valid_on : {N : Type 0} (x : Result (Found N) BoundedError) (first : Option (List ℕ)) (v : List ℕ) → first ≡ Some v → IfOk x (λ f. f.valid ≡ v)
-    → IfOk x (λ f. first ≡ Some f.valid)
-valid_on (Ok f) first v e h = e ∙ ap Some (sym h)
-valid_on (Err e) first v f h = tt
-
 -- an error of a level that a `?` returns
 pub outcome_err : {N : Type 0} (tree : N → Resource) (x : Result (Outcome N) LookError) (f : LookError) (valid : List ℕ)
     (step : List ℕ → Result Step LookError) → IsErrAnd x (λ e. e ≡ f) → step valid ≡ Err f → IsOutcome tree x valid step

@@ -58,16 +58,6 @@ pub walk_of_whole : (o : Option SourceTree) (ss : List (List ℕ)) → Whole (wa
 walk_of_whole None ss = tt
 walk_of_whole (Some b) ss = walk_whole b.tree ss
 
--- ---- a deciding walk that ends at an item
-ends_at : (w : Walked) (t : Resource) → end t ≡ stop_of w → w ≡ ends t
-ends_at (ends u) t e = cc
-ends_at w t e = cc
-
--- a deciding walk does not end nowhere, and if one did, the step would be an error
-gone_at : (w : Walked) → nowhere ≡ stop_of w → w ≡ gone
-gone_at gone e = refl
-gone_at w e = cc
-
 -- ---- a deciding walk that ends at an alias
 record IsLink (t : Resource) (path : List ℕ) (cut : ℕ) (w : Walked) : Type 0 where
   us : List ℕ
@@ -92,18 +82,6 @@ link_of t path cut (links us walked rest) e r h = record {
   whole = h;
 }
 
-module _ {N : Type 0} {tree : N → Resource} {h : LevelResult N} {path : List ℕ} {r : Result Decided LookError} {head : Option (List ℕ)}
-    (in_icu : Bool) (valid : List ℕ) (decided : IsLevelResult tree h path r head) where
-  pub step_end : {node : N} → h.ending ≡ End node → step in_icu valid r ≡ step_of in_icu valid h.actual (ends (tree node))
-  step_end {node = node} e =
-      ap (step in_icu valid) decided.decides
-      ∙ ap (step_of in_icu valid h.actual) (ends_at decided.walked (tree node) (sym (ap (stop_at tree) e) ∙ decided.stop))
-
-  pub step_gone : h.ending ≡ Gone → step in_icu valid r ≡ Err fault.Missing
-  step_gone e =
-      ap (step in_icu valid) decided.decides
-      ∙ ap (step_of in_icu valid h.actual) (gone_at decided.walked (sym (ap (stop_at tree) e) ∙ decided.stop))
-
 -- the deciding walk of a level goes through the whole path
 module _ (bundles : Bundles) (parents : ParentsOf) (n : List ℕ) {N : Type 0} {tree : N → Resource} {h : LevelResult N} {path : List ℕ}
     {head : Option (List ℕ)} {node : N} {cut : ℕ} (decided : IsLevelResult tree h path (level bundles parents n (segments path)) head)
@@ -116,9 +94,6 @@ module _ (bundles : Bundles) (parents : ParentsOf) (n : List ℕ) {N : Type 0} {
       link_of (tree node) path cut decided.walked (sym (ap (stop_at tree) ending) ∙ decided.stop)
       (subst (λ x. RestIs x path (rest_of decided.walked)) ending decided.rest)
       (subst (λ w. Whole w (segments path)) level_walk (walk_of_whole (bundles h.actual) (segments path)))
-
-  pub link_kind : kind_of (tree node) ≡ Kinds.Alias
-  link_kind = ap kind_of level_link.same
 
   -- what `follow_alias` gives, whatever was walked to the alias and is left, is the step of the level
   pub follow_link : {q : List ℕ} (in_icu : Bool) (valid : List ℕ) (x : Result (Option SearchState) LookError) → q ≡ path

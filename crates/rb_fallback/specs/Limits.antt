@@ -1,4 +1,4 @@
--- The limits of a lookup, rules of this project.
+-- Defines the limits of a lookup, rules of this project.
 use Rattle.std.specs.Prelude.{ℕ}
 
 -- the greatest length of a path, in bytes

@@ -1,4 +1,4 @@
--- Counts the steps of a search, and defines what a lookup with a limit on its steps gives.
+-- Defines the steps of a search, and what a lookup with a limit on its steps gives.
 use Rattle.std.specs.Prelude.{◌+◌, ◌*◌, ◌≤◌, ℕ, zero, suc, List, length, Bool, false, nat_lt}
 use Rattle.std.specs.Prelude.{Result, Ok, Err, if◌then◌else◌}
 use Rattle.rb_tree.specs.Path.{IsPath, segments}

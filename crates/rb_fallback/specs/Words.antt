@@ -1,4 +1,4 @@
--- The words of the errors, as programs print them.
+-- Defines the error codes of lookups and aliases: the names of the variants.
 use Rattle.std.specs.Prelude.{ℕ, List, codes}
 use Rattle.rb_fallback.specs.declared.fault.AliasFault.{AliasFault}
 use Rattle.rb_fallback.specs.declared.fault.AliasFault.TheVariants as alias

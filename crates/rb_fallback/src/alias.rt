@@ -1,4 +1,3 @@
-//! Reading the texts of aliases.
 ghost use Rattle.std.specs.Prelude.{◌≡◌, ◌≤◌, ◌<◌, true, false, slice_index, slice_range};
 ghost use Rattle.std.specs.Prelude.{IfNone, IfSome};
 ghost use Rattle.std.specs.List.{list_all};
@@ -45,7 +44,6 @@ fn are_plain<N: Node>(node: N, from: usize, past: usize) -> bool
     true
 }
 
-/// Returns true if each unit is printable ASCII.
 fn units_plain<N: Node>(node: N) -> bool
     requires { HasUnits (kind_of (N.tree node)) }
     ensures { result ≡ list_all is_plain (units_of (N.tree node)) }

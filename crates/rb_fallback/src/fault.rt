@@ -1,4 +1,3 @@
-//! The errors of lookups and of alias texts.
 ghost use Rattle.std.specs.Prelude.{◌≡◌};
 ghost use Rattle.rb_fallback.specs.declared.fault.BoundedError.TheVariants as bounded;
 

@@ -1,4 +1,3 @@
-//! The result of a lookup.
 ghost use Rattle.std.specs.Prelude.{◌≡◌};
 
 use rb_locales::Name;
@@ -17,7 +16,7 @@ pub struct Found<N> {
 impl<N> Found<N> {
     ghost use Rattle.rb_fallback.specs.Answers.{with_node};
 
-    /// Returns a copy with another node in place of the one that was found, such as a view of it.
+    /// Returns a copy with another node, such as a view of the one that was found.
     pub fn with_node<M>(&self, node: M) -> Found<M>
         ensures { result ≡ with_node self.now node }
     {

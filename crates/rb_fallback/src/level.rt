@@ -1,5 +1,4 @@
-//! One level of a search: one pass over a trail, which asks for each name's bundle once and stores
-//! no name.
+//! One level of a search: one pass over a trail, which stores no name.
 ghost use Rattle.std.specs.Prelude.{◌≡◌, ◌++◌, ◌∷◌, [], List, ℕ, Some, option_map};
 ghost use Rattle.rb_tree.specs.SourceTree.{SourceTree};
 ghost use Rattle.rb_tree.specs.Path.{IsPath, segments};
@@ -16,8 +15,7 @@ use rb_locales::Name;
 use rb_parents::{Next, Parents, Shelf, TRAIL_LIMIT, visit};
 use rb_tree::{Ending, Node, walk};
 
-/// Stores what the stops of a level have given so far: the first stop, and the walk that decides
-/// with its stop.
+/// Stores the first stop of a level so far, and the walk that decides with its stop.
 #[derive(Clone, Copy)]
 pub(crate) struct LevelState<N> {
     pub(crate) first: Option<Name>,

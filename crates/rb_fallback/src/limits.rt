@@ -1,5 +1,4 @@
-//! The limits of a lookup. The definitions in specs/ repeat these numbers, so that a proof compares
-//! the two.
+//! The limits of a lookup. specs/ repeats them, so that the proofs compare the two.
 
 /// The maximum number of levels of a lookup.
 pub const LEVEL_LIMIT: u16 = 256;

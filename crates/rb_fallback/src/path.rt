@@ -1,4 +1,3 @@
-//! Paths of a bounded length, and the path after an alias.
 ghost use Rattle.std.specs.Prelude.{◌≡◌, ◌<◌, ◌≤◌, ◌+◌, ◌++◌, ◌↔◌, IfNone, IfSome, IsTrue, length};
 ghost use Rattle.std.specs.Prelude.{drop, true};
 ghost use Rattle.std.specs.Bool.{OnTrue};

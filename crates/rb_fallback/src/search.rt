@@ -1,4 +1,3 @@
-//! The search of a path from a name, level by level.
 ghost use Rattle.std.specs.Prelude.{◌≡◌, ◌↔◌, ◌≤◌, ◌==◌, option_map, length, ◌+◌, ◌++◌, ℕ, List};
 ghost use Rattle.std.specs.Prelude.{Err, IfOk, IsSome, Ok, Some, take, drop, false, if◌then◌else◌};
 ghost use Rattle.rb_tree.specs.Parts.{kind_of, units_of};
@@ -92,8 +91,7 @@ fn follow_alias<N: Node, W: Watch>(
     Ok(state_of(icudata, target.name, path))
 }
 
-/// Describes how a level of a search ends: at an item, at an alias that leads on, or at one whose
-/// path is too long.
+/// The end of a level: an item, an alias that leads on, or one whose path is too long.
 #[derive(Drop)]
 pub(crate) enum Outcome<N> {
     Found(Found<N>),
@@ -250,9 +248,9 @@ fn search_from<'a, S: Shelf<'a>, I: Shelf<'a, N = S::N>, W: Watch>(
     }
 }
 
-/// Looks a path up from a name, in the bundles `own` and, where an alias leads there, in `icu` (the
-/// lookup with fallback of ICU's `ures_*` calls). A path is segments of printable ASCII with
-/// slashes between them; the empty path is the root.
+/// Looks a path up from a name, in the bundles `own` and, where an alias leads there, in `icu`.
+/// This is the lookup with fallback of ICU's `ures_*` calls. A path is segments of printable ASCII
+/// with slashes between them; the empty path is the root.
 ///
 /// The bundles of the name's trail are searched in order; the first in which the path leads
 /// somewhere decides. If it leads to an alias, the search continues with the alias's locale and
@@ -284,8 +282,7 @@ pub fn look<'a, S: Shelf<'a>, I: Shelf<'a, N = S::N>>(
     look_watched(own, icu, parents, name, path, &mut ())
 }
 
-/// Looks a path up as `look` does, and reports each level, name and alias to an observer when the
-/// search gets there.
+/// Looks a path up as `look` does, and reports each level, name and alias to an observer.
 ///
 /// ```rust
 /// let found = look_watched(shelf, shelf, &parents, &de_at, b"menu/open", &mut trace)?;

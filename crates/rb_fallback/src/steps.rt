@@ -1,4 +1,3 @@
-//! Counting the steps of a search.
 ghost use Rattle.std.specs.Prelude.{◌≡◌, ◌≤◌, ◌+◌, ◌*◌, count_by, length};
 ghost use Rattle.rb_tree.specs.Path.{is_slash, segments};
 ghost use Rattle.rb_fallback.specs.inner.Budget.{spend};
@@ -6,14 +5,12 @@ ghost use Rattle.rb_fallback.specs.Limits.{path_limit};
 
 use crate::fault::BoundedError;
 
-/// Counts the slashes of a path.
 fn slash_count(path: &[u8]) -> usize
     ensures { result ≡ count_by is_slash path.now }
 {
     path.iter().filter(|b| **b == b'/').count()
 }
 
-/// Counts the segments of a path.
 fn segment_count(path: &[u8]) -> usize
     ensures count { result ≡ length (segments path.now) }
     ensures within { result ≤ length path.now + 1 }

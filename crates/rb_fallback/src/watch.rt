@@ -1,4 +1,3 @@
-//! Observers of a search.
 ghost use Rattle.std.specs.Prelude.{◌≡◌};
 ghost use Rattle.rb_tree.specs.Parts.{kind_of};
 ghost use Rattle.rb_tree.specs.declared.kind.Kind.TheVariants as Kinds;

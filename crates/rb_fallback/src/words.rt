@@ -1,4 +1,3 @@
-//! The error codes of lookups and of aliases.
 ghost use Rattle.std.specs.Prelude.{◌≡◌};
 ghost use Rattle.rb_fallback.specs.Words.{alias_word, look_word};
 

@@ -31,8 +31,8 @@ impl Attributes {
         self.has(0)
     }
 
-    /// Returns true for a pool bundle (`URES_ATT_IS_POOL_BUNDLE`) and for one that uses a pool
-    /// bundle's keys (`URES_ATT_USES_POOL_BUNDLE`).
+    /// Returns true for a pool bundle and for one whose keys are in one (`URES_ATT_IS_POOL_BUNDLE`,
+    /// `URES_ATT_USES_POOL_BUNDLE`).
     pub fn has_pool(self) -> bool
         ensures { result ≡ specified.has_pool self.bits }
     {

@@ -1,4 +1,3 @@
-//! Properties of the definitions, as contracts of functions that do nothing.
 ghost use Rattle.std.specs.Prelude.{◌≡◌, ◌≤◌, ℕ, List, Some, None, MatchOption, is_none, nat_le};
 ghost use Rattle.std.specs.Prelude.{if◌then◌else◌};
 ghost use Rattle.rb_format.specs.declared.layout.Layout.{Layout};
@@ -22,7 +21,8 @@ pub fn at_most_one_tree()
     ensures { (bytes : List ℕ) (s r : SourceTree) → Denotes bytes s → Denotes bytes r → s ≡ r }
 {}
 
-/// An item denotes one tree at all levels from its height up; at lower levels it is too deep.
+/// Proves that an item denotes one tree at all levels from its height up; at lower levels it is too
+/// deep.
 pub fn same_at_every_level()
     ensures tree { (y : Layout) (body : List ℕ) (d e item : ℕ) (t : Resource)
         → tree_at y body d item ≡ Some t
@@ -33,8 +33,8 @@ pub fn same_at_every_level()
         ≡ (if nat_le (height t) e then None else Some TooDeep) }
 {}
 
-/// A file accepted under one limit of heights denotes the same bundle under every greater limit. So
-/// files accepted under the earlier limit of 32 levels keep their meaning.
+/// Proves that a file accepted under one limit of heights denotes the same bundle under every
+/// greater limit. So files accepted under the earlier limit of 32 levels keep their meaning.
 pub fn old_files_keep_their_meaning()
     ensures all { (h k : ℕ) (bytes : List ℕ) (s : SourceTree) → h ≤ k → DenotesWithin h bytes s
         → DenotesWithin k bytes s }

@@ -27,8 +27,8 @@ impl Layout {
     }
 }
 
-/// Checks that the indexes are present, and that the keys, the resources and the bundle end in this
-/// order within the data.
+/// Checks that the indexes are present, and their ends in order: the keys, the resources and the
+/// bundle end in this order within the data.
 pub fn has_valid_indexes(body: &[u8]) -> bool
     ensures { result ≡ files.has_valid_indexes body.now }
 {

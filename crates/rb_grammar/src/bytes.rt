@@ -10,7 +10,7 @@ fn is_gap(unit: u16) -> bool
     unit == 0x09 || unit == 0x0A || unit == 0x0D || unit == 0x20
 }
 
-/// Reads the bytes that a text spells by two hexadecimal digits each, ignoring tabs, line feeds,
+/// Reads the bytes that a text spells by two hexadecimal digits each. Ignores tabs, line feeds,
 /// carriage returns and spaces. Returns `None` for any other unit and for an odd number of digits.
 /// `Err` means out of memory.
 ///

@@ -1,5 +1,4 @@
-//! The limits of numbers in a text. specs/ spells the same numbers out, so that a proof compares
-//! the two.
+//! The limits of numbers in a text. specs/ repeats them, so that the proofs compare the two.
 
 /// An Int is below this, and is stored modulo this.
 pub const INT_MODULUS: u64 = 1 << 28;

@@ -1,26 +1,12 @@
 -- Items by their kinds.
-use Rattle.std.proofs.Common.{◌≡◌, codes, length, refl}
-use Rattle.std.proofs.lemmas.List.{length-map}
+use Rattle.std.proofs.Common.{◌≡◌, codes, refl}
 use Rattle.std.specs.Map.{keys_of}
-use Rattle.rb_tree.specs.Resource.{Resource, string, ints, binary, alias, array, table}
-use Rattle.rb_tree.specs.Keys.{pairs}
-use Rattle.rb_tree.specs.Parts.{bytes_of, kind_of, len_of, numbers_of, pairs_of, units_of}
+use Rattle.rb_tree.specs.Resource.{Resource, ints, binary, array, table}
+use Rattle.rb_tree.specs.Parts.{bytes_of, kind_of, len_of, numbers_of, pairs_of}
 use Rattle.hex.specs.Hex.{encode_lower}
 use Rattle.serde_json.specs.Data.{number, put, string as string_data, unsigned}
-use Rattle.rb_json.specs.Item.{item_members, numbers_data, of_type, texts_data, with_text}
+use Rattle.rb_json.specs.Item.{item_members, numbers_data, of_type, texts_data}
 use Rattle.rb_tree.specs.declared.kind.Kind.TheVariants as Kinds
-
-pub as_many_keys : (t : Resource) → kind_of t ≡ Kinds.Table → length (keys_of (pairs_of t)) ≡ len_of t
-as_many_keys (table es) h = length-map (pairs es) (λ p. p.0)
-as_many_keys _ h = absurd cc
-
-pub string_members : (t : Resource) → kind_of t ≡ Kinds.String → item_members t ≡ with_text (units_of t) (of_type (codes "string"))
-string_members (string us) h = refl
-string_members _ h = absurd cc
-
-pub alias_members : (t : Resource) → kind_of t ≡ Kinds.Alias → item_members t ≡ with_text (units_of t) (of_type (codes "alias"))
-alias_members (alias us) h = refl
-alias_members _ h = absurd cc
 
 pub ints_members : (t : Resource) → kind_of t ≡ Kinds.Ints
     → item_members t ≡ put (codes "values") (numbers_data (numbers_of t)) (of_type (codes "intvector"))

@@ -1,7 +1,6 @@
 -- The texts of objects, member by member.
 use Rattle.std.proofs.Common.{◌≡◌, ℕ, List, [], ◌∷◌, ◌++◌, Bool, true, false, cond, Option, Some, None, codes, encode_utf8_all, refl, ap, sym, subst, ◌∙◌, append_assoc}
 use Rattle.std.specs.Char.Utf16.{has_unpaired_surrogate, utf16_lossy_chars}
-use Rattle.std.specs.Prelude.{not}
 use Rattle.json.specs.Print.{quoted}
 use Rattle.serde_json.specs.Data.{Data, Members, member, no_members, object, put, string}
 use Rattle.serde_json.specs.Written.{comma_if, compact_text, members_text}
@@ -104,23 +103,6 @@ other_item (ints zs) rest h = refl
 other_item (binary bs) rest h = refl
 other_item (array ts) rest h = refl
 other_item (table es) rest h = refl
-
-pub well_formed : (us word : List ℕ) → true ≡ not (has_unpaired_surrogate us)
-    → with_text us (of_type word) ≡ put (codes "value") (string (encode_utf8_all (utf16_lossy_chars us))) (of_type word)
-well_formed us word h = by (has_unpaired_surrogate us) h
-  where
-    by : (b : Bool) → true ≡ not b → cond b (put (codes "units") (units_data us) (of_type word)) (put (codes "value") (string (encode_utf8_all (utf16_lossy_chars us))) (of_type word))
-        ≡ put (codes "value") (string (encode_utf8_all (utf16_lossy_chars us))) (of_type word)
-    by true e = absurd cc
-    by false e = refl
-
-pub ill_formed : (us word : List ℕ) → false ≡ not (has_unpaired_surrogate us) → with_text us (of_type word) ≡ put (codes "units") (units_data us) (of_type word)
-ill_formed us word h = by (has_unpaired_surrogate us) h
-  where
-    by : (b : Bool) → false ≡ not b → cond b (put (codes "units") (units_data us) (of_type word)) (put (codes "value") (string (encode_utf8_all (utf16_lossy_chars us))) (of_type word))
-        ≡ put (codes "units") (units_data us) (of_type word)
-    by true e = refl
-    by false e = absurd cc
 
 -- ---- what is taken of them
 

@@ -1,6 +1,5 @@
 -- The remainder of a limit of weight, child by child.
 use Rattle.std.proofs.Common.{◌≡◌, ◌≤◌, ◌<◌, ◌+◌, ℕ, zero, suc, max, List, [], ◌∷◌, Some, drop, length, refl, ap, sym, ◌∙◌, arith}
-use Rattle.std.proofs.lemmas.List.{drop_all}
 use Rattle.std.specs.List.{slice_get}
 use Rattle.rb_tree.specs.Resource.{Resource, height, weight, trees_height, trees_weight, entries_height, entries_weight, string, int, ints, binary, alias, array, table, Resources, no_trees, tree_and, Members, no_entries, entry_and}
 use Rattle.rb_tree.specs.Keys.{items, pairs}
@@ -96,12 +95,3 @@ left_less f g xs i x h w levels room left so_far at out low light =
     let high : most f (drop i xs) ≡ max (f x) (most f (drop (i + 1) xs)) = ap (most f) here in
     let heavy : total g (drop i xs) ≡ g x + total g (drop (i + 1) xs) = ap (total g) here in
     out (omega (arith, so_far.high)) (omega (arith, so_far.room_is))
-
--- no child is left
-pub left_none : {A : Type 0} (f g : A → ℕ) (xs : List A) (i h w levels room left : ℕ)
-    → IsLeft h w (most f (drop i xs)) (total g (drop i xs)) levels room left → length xs ≤ i → (h ≤ levels + 1) × (w + left ≡ room)
-left_none f g xs i h w levels room left so_far past =
-    let none = drop_all i xs past in
-    let high : most f (drop i xs) ≡ 0 = ap (most f) none in
-    let heavy : total g (drop i xs) ≡ 0 = ap (total g) none in
-    (so_far.low (omega arith), omega (arith, so_far.room_is))

@@ -3,7 +3,6 @@ use Rattle.std.proofs.Common.{◌≡◌, ◌≤◌, ◌<◌, ◌+◌, ◌/◌, �
 use Rattle.std.proofs.Common.{encode_utf8, encode_utf8_all}
 use Rattle.std.proofs.lemmas.Bool.{lt-ltb, le-ltb}
 use Rattle.std.proofs.lemmas.Grind.{flat_map-append}
-use Rattle.std.proofs.lemmas.List.{take_more}
 use Rattle.std.proofs.Math.Seq.{take-add}
 use Rattle.std.specs.Char.{digit_char}
 use Rattle.std.specs.Char.Utf16.{utf16_lossy_chars}
@@ -28,18 +27,6 @@ by_itself x e h = rw (e, le-ltb x 32 h)
 
 pub escape-append : (a b : List ℕ) → escape (a ++ b) ≡ escape a ++ escape b
 escape-append a b = flat_map-append escape_byte a b
-
-pub escape-one : (x : ℕ) → escape (x ∷ []) ≡ escape_byte x
-escape-one x = append-nil (escape_byte x)
-
--- one byte more is written as it is
-pub plain_more : (bytes : List ℕ) (i : ℕ) → escape (take i bytes) ≡ take i bytes → i < length bytes → escape_byte (get_or bytes i 0) ≡ get_or bytes i 0 ∷ []
-    → escape (take (i + 1) bytes) ≡ take (i + 1) bytes
-plain_more bytes i so_far h one =
-    let x = get_or bytes i 0 in
-    let cut = take_more bytes i 0 h in
-    ap escape cut ∙ (escape-append (take i bytes) (x ∷ []) ∙ (ap (λ (ys : List ℕ). ys ++ escape (x ∷ [])) so_far
-    ∙ (ap (λ (ys : List ℕ). take i bytes ++ ys) (escape-one x ∙ one) ∙ sym cut)))
 
 module _ {S : Type 0} (Takes : S → S → List ℕ → Type 0) (joined : (x y z : S) (a b : List ℕ) → Takes x y a → Takes y z b → Takes x z (a ++ b)) where
   pub then_escaped : (x y z : S) (a b : List ℕ) → Takes x y (escape a) → Takes y z (escape b) → Takes x z (escape (a ++ b))

@@ -1,5 +1,5 @@
 -- Characters of UTF-16, unit by unit.
-use Rattle.std.proofs.Common.{◌≡◌, ◌+◌, ◌<◌, ◌≤◌, ℕ, suc, List, [], ◌∷◌, ◌++◌, true, false, Option, Some, None, drop, length, get_or, encode_utf8}
+use Rattle.std.proofs.Common.{◌≡◌, ◌+◌, ◌<◌, ◌≤◌, ℕ, suc, List, [], ◌∷◌, ◌++◌, true, Option, Some, None, drop, length, get_or, encode_utf8}
 use Rattle.std.proofs.Common.{encode_utf8_all, ap, sym, ◌∙◌, subst, append_assoc, append-nil, arith}
 use Rattle.std.specs.Prelude.{IsSome, not}
 use Rattle.std.specs.Option.{SomeIff}
@@ -52,10 +52,6 @@ ascii_read text (b ∷ bs) rest us r h =
 pub read_more : (text more us : List ℕ) (at next c : ℕ) → ReadSoFar text us at → utf16_chars (drop at us) ≡ Some c ∷ utf16_chars (drop next us)
     → more ≡ text ++ encode_utf8 c → ReadSoFar more us next
 read_more text more us at next c so_far step pushed = (rw (pushed, append_assoc) (rw step at so_far.0), rw step at so_far.1)
-
-pub not_read : (text us : List ℕ) (at next : ℕ) → ReadSoFar text us at → utf16_chars (drop at us) ≡ None ∷ utf16_chars (drop next us)
-    → false ≡ not (has_unpaired_surrogate us)
-not_read text us at next so_far step = ap not (rw step at so_far.1)
 
 pub all_read : (text us : List ℕ) (at : ℕ) → ReadSoFar text us at → length us ≤ at
     → (true ≡ not (has_unpaired_surrogate us)) × (text ≡ encode_utf8_all (utf16_lossy_chars us))

@@ -1,4 +1,3 @@
-//! An outlet in memory.
 ghost use Rattle.std.specs.Prelude.{◌≡◌, IfErr, IfOk, None, Some, []};
 
 use crate::outlet::Outlet;
@@ -41,7 +40,7 @@ impl Buffer {
         }
     }
 
-    /// Returns all the bytes that the buffer took, or an error if memory ran out for one of them.
+    /// Returns all the bytes that the buffer took, or an error if memory ran out.
     pub fn into_bytes(self) -> Result<Vec<u8>, AllocError>
         ensures bytes { IfOk result (λ v. self ≡ Some v.items) }
         ensures none { IfErr result (λ _. self ≡ None) }

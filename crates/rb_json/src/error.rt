@@ -1,10 +1,9 @@
-//! Why an item isn't printed.
 ghost use Rattle.std.specs.Prelude.{◌≡◌};
 ghost use Rattle.rb_json.specs.declared.error.JsonError.TheVariants as errors;
 
 use std::alloc::AllocError;
 
-/// Why an item isn't printed as JSON.
+/// The reason why an item isn't printed as JSON.
 #[derive(Clone, Copy, Debug, PartialEq, Eq)]
 pub enum JsonError {
     /// The item has more levels or more weight than a bundle's tree may have.

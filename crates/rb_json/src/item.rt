@@ -60,7 +60,6 @@ fn put_unit_items<O: Outlet, N: Node>(out: &mut O, node: N)
     }
 }
 
-/// Writes the units of a text that isn't well-formed UTF-16.
 fn put_units<O: Outlet, N: Node>(out: &mut O, node: N)
     requires { HasUnits (kind_of (N.tree node)) }
     ensures { O.takes out.old out.new (compact_text (units_data (units_of (N.tree node)))) }
@@ -117,7 +116,6 @@ fn put_keys<O: Outlet, N: Node>(out: &mut O, node: N)
     out.put(b"]")
 }
 
-/// Writes a comma if other members precede the next one.
 fn put_comma_if<O: Outlet>(out: &mut O, later: bool)
     ensures { O.takes out.old out.new (comma_if later) }
 {
@@ -126,7 +124,6 @@ fn put_comma_if<O: Outlet>(out: &mut O, later: bool)
     }
 }
 
-/// Writes a member's name with its colon.
 fn put_member_name<O: Outlet>(out: &mut O, name: &str)
     ensures { O.takes out.old out.new (name_text false name.now) }
 {
@@ -142,7 +139,6 @@ pub fn put_name<O: Outlet>(out: &mut O, later: bool, name: &str)
     put_member_name(out, name)
 }
 
-/// Writes the member `valid`.
 fn put_valid_name<O: Outlet>(out: &mut O, valid: &[u8])
     ensures { O.takes out.old out.new (valid_text (Some valid.now)) }
 {
@@ -150,7 +146,6 @@ fn put_valid_name<O: Outlet>(out: &mut O, valid: &[u8])
     spell_bytes(out, valid)
 }
 
-/// Writes the member `valid`, if it is given.
 fn put_valid<O: Outlet>(out: &mut O, valid: Option<&[u8]>)
     ensures { O.takes out.old out.new (valid_text (option_map (λ v. v.now) valid.entry)) }
 {
@@ -180,7 +175,6 @@ fn put_ill_formed<O: Outlet, N: Node>(
     out.put(b"}")
 }
 
-/// Writes the members of a text that is well-formed UTF-16.
 fn put_well_formed<O: Outlet, N: Node>(
     out: &mut O,
     later: bool,
@@ -301,8 +295,7 @@ fn put_table<O: Outlet, N: Node>(out: &mut O, later: bool, node: N, valid: Optio
     put_type_last(out, "table", valid)
 }
 
-/// Writes the members of an item in ascending order, with `valid` if it is given, and the closing
-/// brace.
+/// Writes the members of an item ascending, with `valid` if it is given, and the closing brace.
 fn put_members<O: Outlet, N: Node>(out: &mut O, later: bool, node: N, valid: Option<&[u8]>)
     ensures { O.takes out.old out.new
         (rest_text later (option_map (λ v. v.now) valid.entry) (item_members (N.tree node))) }

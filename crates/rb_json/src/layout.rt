@@ -1,5 +1,3 @@
-//! The layouts of JSON values.
-
 /// The layout of a JSON value, whose tokens are the same in each.
 #[derive(Clone, Copy, Debug, PartialEq, Eq)]
 pub enum Layout {

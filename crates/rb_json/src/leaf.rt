@@ -1,4 +1,3 @@
-//! Items without children, and keys.
 ghost use Rattle.std.specs.Prelude.{◌≡◌, [], ◌∷◌, ◌++◌, OnOk};
 ghost use Rattle.json.specs.Token.{Token as SpecToken, key};
 ghost use Rattle.serde_json.specs.Data.{number, string};
@@ -21,7 +20,7 @@ use std::alloc::{AllocError, Global};
 /// An error comes only if memory runs out.
 pub(crate) type PutResult = Result<(), AllocError>;
 
-/// A key as a text, with one colon more if it begins with one.
+/// Writes a key as a text, with one more colon if it begins with one.
 pub(crate) fn put_key<O: Out>(out: &mut O, alloc: Global, name: &[u8]) -> PutResult
     ensures { Adds result (O.tokens out.old) (O.tokens out.new) (key (key_text name.now) ∷ []) }
 {
@@ -78,7 +77,7 @@ fn begin_tagged<O: Out>(out: &mut O, name: &str) -> PutResult
     out.token(Token::Key(name))
 }
 
-/// A String, by its units if it isn't well-formed UTF-16.
+/// Writes a String, by its units if it isn't well-formed UTF-16.
 pub(crate) fn put_string<O: Out, N: Node>(out: &mut O, text: &mut String, node: N) -> PutResult
     requires { kind_of (N.tree node) ≡ Kinds.String }
     ensures { Adds result (O.tokens out.old) (O.tokens out.new)
@@ -92,7 +91,6 @@ pub(crate) fn put_string<O: Out, N: Node>(out: &mut O, text: &mut String, node: 
     out.token(Token::EndObject)
 }
 
-/// A text as a string, or its units if it isn't well-formed UTF-16.
 fn put_text_or_units<O: Out, N: Node>(out: &mut O, text: &mut String, node: N) -> PutResult
     requires { HasUnits (kind_of (N.tree node)) }
     ensures { Adds result (O.tokens out.old) (O.tokens out.new)
@@ -104,7 +102,6 @@ fn put_text_or_units<O: Out, N: Node>(out: &mut O, text: &mut String, node: N) -
     put_units(out, node)
 }
 
-/// An Alias.
 pub(crate) fn put_alias<O: Out, N: Node>(out: &mut O, text: &mut String, node: N) -> PutResult
     requires { kind_of (N.tree node) ≡ Kinds.Alias }
     ensures { Adds result (O.tokens out.old) (O.tokens out.new)
@@ -115,7 +112,7 @@ pub(crate) fn put_alias<O: Out, N: Node>(out: &mut O, text: &mut String, node: N
     out.token(Token::EndObject)
 }
 
-/// A number of 28 bits with its sign, as `ures_getInt` of ICU has it.
+/// Returns a number of 28 bits with its sign, like ICU's `ures_getInt`.
 pub fn signed(bits: u32) -> i64
     ensures { result ≡ signed_of bits }
 {
@@ -127,7 +124,6 @@ pub fn signed(bits: u32) -> i64
     }
 }
 
-/// An Int with its sign.
 pub(crate) fn put_int<O: Out>(out: &mut O, bits: u32) -> PutResult
     ensures { Adds result (O.tokens out.old) (O.tokens out.new)
         (data_tokens (value_of (int bits))) }
@@ -135,7 +131,6 @@ pub(crate) fn put_int<O: Out>(out: &mut O, bits: u32) -> PutResult
     put_integer(out, signed(bits))
 }
 
-/// A vector of numbers.
 pub(crate) fn put_ints<O: Out, N: Node>(out: &mut O, node: N) -> PutResult
     requires { kind_of (N.tree node) ≡ Kinds.Ints }
     ensures { Adds result (O.tokens out.old) (O.tokens out.new)
@@ -146,7 +141,7 @@ pub(crate) fn put_ints<O: Out, N: Node>(out: &mut O, node: N) -> PutResult
     out.token(Token::EndObject)
 }
 
-/// A Binary, in hexadecimal.
+/// Writes a Binary in hexadecimal.
 pub(crate) fn put_binary<O: Out, N: Node>(out: &mut O, text: &mut String, node: N) -> PutResult
     requires { kind_of (N.tree node) ≡ Kinds.Binary }
     ensures { Adds result (O.tokens out.old) (O.tokens out.new)

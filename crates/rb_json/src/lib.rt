@@ -21,6 +21,7 @@ pub use error::JsonError;
 pub use item::{item_text, put_found, put_item, put_name, skips_items};
 pub use layout::Layout;
 pub use leaf::signed;
+pub use limit::is_within;
 pub use outlet::Outlet;
 pub use spell::{
     is_well_formed, spell_bytes, spell_hex, spell_integer, spell_text, spell_units, spell_unsigned,

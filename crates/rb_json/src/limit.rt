@@ -1,4 +1,3 @@
-//! Checks whether an item is within the limits of a bundle's tree.
 ghost use Rattle.std.specs.Prelude.{◌≡◌, ◌+◌, ◌<◌, ◌≤◌};
 ghost use Rattle.rb_tree.specs.Parts.{kind_of};
 ghost use Rattle.rb_tree.specs.declared.kind.Kind.TheVariants as Kinds;
@@ -52,9 +51,9 @@ fn room_after_entries<N: Node>(node: N, levels: u64, room: u64) -> Option<u64>
     Some(left)
 }
 
-/// Checks whether an item has at most 64 levels and a weight of at most 33,554,432. It takes no
-/// memory, and reads no more of a heavier item than has that weight.
-pub(crate) fn is_within<N: Node>(node: N) -> bool
+/// Checks whether an item is within the limits of `json_text`: at most 64 levels and a weight of at
+/// most 33,554,432. It takes no memory, and reads no more of a heavier item than has that weight.
+pub fn is_within<N: Node>(node: N) -> bool
     ensures { result ≡ is_within (N.tree node) }
 {
     room_after(node, HEIGHT_LIMIT, WEIGHT_LIMIT).is_some()

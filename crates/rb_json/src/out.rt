@@ -1,4 +1,3 @@
-//! Writes the tokens of a JSON value, in either layout.
 ghost use Rattle.std.specs.Prelude.{◌≡◌, [], ◌∷◌, ◌++◌, List, OnOk};
 ghost use Rattle.std.specs.Str.{IsUtf8};
 ghost use Rattle.json.specs.Token.{Token as SpecToken};
@@ -48,7 +47,6 @@ impl Compact {
         }
     }
 
-    /// Returns the text.
     pub(crate) fn into_inner(self) -> Vec<u8>
         ensures text { result.items ≡ print self }
         ensures utf8 { IsUtf8 result.items }

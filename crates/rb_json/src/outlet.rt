@@ -1,4 +1,3 @@
-//! The trait that texts are written into, piece by piece.
 ghost use Rattle.std.specs.Prelude.{List, ℕ};
 
 /// Takes the bytes of a text in their order, and writes, stores or counts them. No call fails: an
@@ -14,8 +13,8 @@ pub trait Outlet {
     fn put(&mut self, bytes: &[u8])
         ensures { takes self.old self.new bytes.now };
 
-    /// Returns true if the outlet needs no more of a text that has at least this many bytes left,
-    /// so that the caller may stop: the outlet is then as if it had taken them.
+    /// Returns true if the outlet needs no more of a text with at least this many bytes left. The
+    /// caller may then stop: the outlet is as if it had taken them.
     fn skips(&mut self, least: u64) -> bool
         ensures { Skips (takes self.old self.new) least result };
 

@@ -1,4 +1,3 @@
-//! Strings and numbers of JSON, written piece by piece into an outlet.
 ghost use Rattle.std.specs.Prelude.{◌≡◌, ◌<◌, ◌≤◌, ◌∷◌, [], MatchOption, take, length, true};
 ghost use Rattle.std.specs.Prelude.{decimal, encode_utf8, encode_utf8_all, not};
 ghost use Rattle.std.specs.Char.{digit_char};
@@ -104,7 +103,6 @@ fn put_front<O: Outlet>(out: &mut O, bytes: &[u8]) -> usize
     put_first(out, bytes)
 }
 
-/// Writes bytes, each as a string of JSON has it.
 fn put_escaped<O: Outlet>(out: &mut O, bytes: &[u8])
     ensures { O.takes out.old out.new (escape bytes.now) }
 {
@@ -114,7 +112,6 @@ fn put_escaped<O: Outlet>(out: &mut O, bytes: &[u8])
     }
 }
 
-/// Writes a character as a string of JSON has it.
 fn put_character<O: Outlet>(out: &mut O, character: char)
     ensures { O.takes out.old out.new (escape (encode_utf8 character)) }
 {
@@ -201,8 +198,7 @@ pub fn is_well_formed<N: Node>(node: N) -> bool
     true
 }
 
-/// Writes the next characters, which are a run of ASCII units or one character, and returns the
-/// index of the next unit.
+/// Writes a span of ASCII units or one character, and returns the index of the next unit.
 fn put_next<O: Outlet, N: Node>(out: &mut O, node: N, at: usize, len: usize) -> usize
     requires units { HasUnits (kind_of (N.tree node)) }
     requires len { len ≡ len_of (N.tree node) }
@@ -236,7 +232,6 @@ fn put_run<O: Outlet, N: Node>(out: &mut O, node: N, at: usize, len: usize) -> u
     put_next(out, node, at, len)
 }
 
-/// Writes the characters of a String or an Alias.
 fn put_runs<O: Outlet, N: Node>(out: &mut O, node: N)
     requires { HasUnits (kind_of (N.tree node)) }
     ensures { O.takes out.old out.new
@@ -249,8 +244,7 @@ fn put_runs<O: Outlet, N: Node>(out: &mut O, node: N)
     }
 }
 
-/// Writes the characters of a String or an Alias as a string, with U+FFFD for a surrogate without
-/// its partner.
+/// Writes a String or an Alias as a string, with U+FFFD for a surrogate without its partner.
 pub fn spell_units<O: Outlet, N: Node>(out: &mut O, node: N)
     requires { HasUnits (kind_of (N.tree node)) }
     ensures { O.takes out.old out.new

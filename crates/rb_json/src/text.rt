@@ -1,4 +1,3 @@
-//! Texts as JSON, made in a buffer that is kept.
 ghost use Rattle.std.specs.Prelude.{◌≡◌, IfOk, OnOk, MatchOption, true, not};
 ghost use Rattle.std.specs.Prelude.{string_bytes, encode_utf8_all};
 ghost use Rattle.std.specs.Char.Utf16.{has_unpaired_surrogate, utf16_lossy_chars};
@@ -11,8 +10,7 @@ use crate::units::{RUN, ascii_run, character_at, digit};
 use rb_tree::Node;
 use std::alloc::{AllocError, Global};
 
-/// Bytes as a text, a character each: byte b is the character U+00b. An error comes only if memory
-/// runs out.
+/// Makes a text of bytes, with the character U+00b for byte b. Fails only if out of memory.
 pub fn characters(alloc: Global, bytes: &[u8]) -> Result<String, AllocError>
     ensures { IfOk result (λ text. string_bytes text ≡ encode_utf8_all bytes.now) }
 {
@@ -23,7 +21,6 @@ pub fn characters(alloc: Global, bytes: &[u8]) -> Result<String, AllocError>
     Ok(text)
 }
 
-/// ASCII bytes as a text.
 #[tactic(auto, using(crate::proofs::Latin::is_utf8))]
 fn ascii_text(bytes: &[u8]) -> &str
     requires { IsAscii bytes.now }
@@ -33,7 +30,7 @@ fn ascii_text(bytes: &[u8]) -> &str
     unsafe { str::from_utf8_unchecked(bytes) }
 }
 
-/// Bytes as a text without a copy, a character each, if they are ASCII; else `None`.
+/// Returns ASCII bytes as a text without a copy, or `None` for other bytes.
 #[tactic(auto, using(crate::proofs::Latin::ascii_text))]
 pub fn ascii(bytes: &[u8]) -> Option<&str>
     ensures { MatchOption result (IsNotAscii bytes.now)
@@ -61,9 +58,9 @@ pub fn read_hex<N: Node>(text: &mut String, node: N) -> Result<(), AllocError>
     Ok(())
 }
 
-/// Makes a text the characters of a String or an Alias, and says whether its units are well-formed
-/// UTF-16; if they aren't, nothing is known of the text, nor after an error, which comes only if
-/// memory runs out.
+/// Makes a text the characters of a String or an Alias, or returns false if it isn't well-formed
+/// UTF-16. After that, and after an error, which comes only if out of memory, nothing is known of
+/// the text.
 pub fn read_units<N: Node>(text: &mut String, node: N) -> Result<bool, AllocError>
     requires { HasUnits (kind_of (N.tree node)) }
     ensures whole { IfOk result

@@ -1,4 +1,3 @@
-//! Trees, a token after another.
 ghost use Rattle.std.specs.Prelude.{◌≡◌};
 ghost use Rattle.rb_tree.specs.Parts.{kind_of};
 ghost use Rattle.rb_tree.specs.declared.kind.Kind.TheVariants as Kinds;
@@ -11,7 +10,7 @@ use json::Token;
 use rb_tree::{Kind, Node};
 use std::alloc::Global;
 
-/// A tree as one value. It goes down one call a level; `text` is kept from item to item.
+/// Writes a tree as one value, with one call a level. `text` is reused for each item.
 #[cycle(tree)]
 pub(crate) fn put_tree<O: Out, N: Node>(
     out: &mut O,
@@ -39,7 +38,6 @@ pub(crate) fn put_tree<O: Out, N: Node>(
     }
 }
 
-/// A table, its entries in their order.
 #[cycle(tree)]
 fn put_entries<O: Out, N: Node>(out: &mut O, text: &mut String, alloc: Global, node: N) -> PutResult
     requires { kind_of (N.tree node) ≡ Kinds.Table }

@@ -1,4 +1,3 @@
-//! The units of texts, and the digits of bytes.
 ghost use Rattle.std.specs.Prelude.{◌≡◌, ◌+◌, ◌<◌, ◌≤◌, ◌∷◌, drop, slice_index};
 ghost use Rattle.std.specs.Char.Utf16.{utf16_chars};
 ghost use Rattle.hex.specs.Hex.{lower_digits};

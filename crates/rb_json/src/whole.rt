@@ -1,4 +1,3 @@
-//! The text of an item.
 ghost use Rattle.std.specs.Prelude.{◌≡◌, IfOk, IfErr, IsTrue, string_bytes};
 ghost use Rattle.std.specs.Str.{IsUtf8};
 ghost use Rattle.json.specs.Layout.{pretty};
@@ -16,7 +15,6 @@ use json::Pretty;
 use rb_tree::Node;
 use std::alloc::{AllocError, Global};
 
-/// The text of an item without space.
 fn compact_bytes<N: Node>(alloc: Global, node: N) -> Result<Vec<u8>, AllocError>
     ensures text { IfOk result (λ bytes. bytes.items ≡ compact_text (value_of (N.tree node))) }
     ensures utf8 { IfOk result (λ bytes. IsUtf8 bytes.items) }
@@ -27,7 +25,6 @@ fn compact_bytes<N: Node>(alloc: Global, node: N) -> Result<Vec<u8>, AllocError>
     Ok(out.into_inner())
 }
 
-/// The text of an item, with a line for each item and member.
 fn pretty_bytes<N: Node>(alloc: Global, node: N) -> Result<Vec<u8>, AllocError>
     ensures text { IfOk result
         (λ bytes. bytes.items ≡ pretty (data_tokens (value_of (N.tree node)))) }
@@ -39,11 +36,11 @@ fn pretty_bytes<N: Node>(alloc: Global, node: N) -> Result<Vec<u8>, AllocError>
     Ok(out.into_inner())
 }
 
-/// A whole item as one JSON value: a table as an object with its keys ascending, an array as an
-/// array, a String as a string, an Int as its signed number; an Alias as `{":alias":".."}`, a
-/// Binary as `{":bin":"00ff"}`, a vector as `{":intvector":[..]}`, and a String that isn't
-/// well-formed UTF-16 as `{":units":[..]}`. A key that begins with a colon has one colon more.
-/// Aliases are not followed. A form of this project.
+/// Returns a whole item as one JSON value, in a form of this project: a table as an object with its
+/// keys ascending, an array as an array, a String as a string, an Int as its signed number; an
+/// Alias as `{":alias":".."}`, a Binary as `{":bin":"00ff"}`, a vector as `{":intvector":[..]}`,
+/// and a String that isn't well-formed UTF-16 as `{":units":[..]}`. A key that begins with a colon
+/// has one more. Aliases are not followed.
 ///
 /// Errors: `TooLarge` if the item has more than 64 levels or a weight above 33,554,432, which is
 /// found out before anything is built and without memory; else `Memory` if memory runs out.

@@ -71,8 +71,7 @@ fn letter(c: char) -> u32
     }
 }
 
-/// Reads the escape after a backslash. Returns its value and the remaining text, or None if it is
-/// bad.
+/// Reads the escape after a backslash: its value and the remaining text, or None if it is bad.
 pub fn escape(text: &str) -> Option<(u32, &str)>
     ensures taken { MatchOption result (escape_at (chars text.now) ≡ None)
         (λ x. (x.0 ≤ 0x10FFFF) × ((e : Escape)

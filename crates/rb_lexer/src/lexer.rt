@@ -10,9 +10,8 @@ use crate::stream::Tokens;
 use crate::token::Token;
 use std::alloc::Global;
 
-/// Splits a source in the syntax of ICU's `genrb` into tokens, with their spans in bytes and their
-/// lines. A text token has the UTF-16 units of all pieces that only white space and comments
-/// separate.
+/// Splits a source in the syntax of ICU's `genrb` into tokens with their spans and lines. A text
+/// token has the UTF-16 units of all pieces that only white space and comments separate.
 ///
 /// # Errors
 ///

@@ -1,4 +1,4 @@
-use crate::collector::WarningCollector;
+use crate::collector::Collector;
 use crate::piece::{Piece, PieceKind, narrow};
 use crate::warning::Doubt;
 use std::alloc::{AllocError, Global};
@@ -18,9 +18,8 @@ struct OpenBody {
 #[derive(Drop)]
 pub(crate) struct AdjacentSearch {
     open: Vec<OpenBody>,
-    /// The lines of adjacent texts within open braces.
-    noted: Vec<u64>,
-    warnings: WarningCollector,
+    /// The ends of texts that another one follows, within open braces.
+    noted: Vec<u32>,
 }
 
 impl AdjacentSearch {
@@ -28,12 +27,7 @@ impl AdjacentSearch {
         AdjacentSearch {
             open: Vec::new(alloc),
             noted: Vec::new(alloc),
-            warnings: WarningCollector::new(alloc),
         }
-    }
-
-    pub(crate) fn found(self) -> WarningCollector {
-        self.warnings
     }
 
     fn enter(&mut self, of_type: &[u8]) -> Result<(), AllocError> {
@@ -47,14 +41,14 @@ impl AdjacentSearch {
     }
 
     /// Closes a body. Only in a list are adjacent texts doubtful.
-    fn leave(&mut self) -> Result<(), AllocError> {
+    fn leave(&mut self, warnings: &mut Collector<'_>) -> Result<(), AllocError> {
         let Some(open) = self.open.pop() else {
             return Ok(());
         };
         let first = open.noted as usize;
         if open.is_list {
-            for line in self.noted.get(first..).unwrap_or(&[]) {
-                self.warnings.add(*line, Doubt::Joined)?;
+            for past in self.noted.get(first..).unwrap_or(&[]) {
+                warnings.add(*past as usize, Doubt::Joined)?;
             }
         }
         self.noted.truncate(first);
@@ -67,19 +61,24 @@ impl AdjacentSearch {
         }
     }
 
-    fn meet(&mut self, a: &Piece, b: &Piece) -> Result<(), AllocError> {
+    fn meet(
+        &mut self,
+        a: &Piece,
+        b: &Piece,
+        warnings: &mut Collector<'_>,
+    ) -> Result<(), AllocError> {
         if a.spans_lines || b.spans_lines {
             return Ok(());
         }
         if a.kind != b.kind {
-            return self.warnings.add(b.line, Doubt::Mixed);
+            return warnings.add(b.first, Doubt::Mixed);
         }
         let is_vector = match self.open.last() {
             Some(open) => open.is_vector,
             None => false,
         };
         if a.kind == PieceKind::Quoted || is_vector {
-            self.noted.push(a.line)?;
+            self.noted.push(narrow(a.past as u64))?;
         }
         Ok(())
     }
@@ -90,19 +89,22 @@ impl AdjacentSearch {
         text: &[u8],
         before: &Piece,
         piece: &Piece,
+        warnings: &mut Collector<'_>,
     ) -> Result<(), AllocError> {
         match piece.kind {
             PieceKind::LeftBrace if before.is_text() => {
                 self.enter(text.get(before.first..before.past).unwrap_or(&[]))
             }
             PieceKind::LeftBrace => self.enter(b""),
-            PieceKind::RightBrace => self.leave(),
+            PieceKind::RightBrace => self.leave(warnings),
             PieceKind::Comma => {
                 self.comma();
                 Ok(())
             }
             PieceKind::Colon => Ok(()),
-            PieceKind::Quoted | PieceKind::Unquoted if before.is_text() => self.meet(before, piece),
+            PieceKind::Quoted | PieceKind::Unquoted if before.is_text() => self.meet(
+                before, piece, warnings,
+            ),
             PieceKind::Quoted | PieceKind::Unquoted => Ok(()),
         }
     }

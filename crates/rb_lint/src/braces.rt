@@ -1,5 +1,5 @@
 //! Finds lost braces by the indentation of lines.
-use crate::collector::WarningCollector;
+use crate::collector::Collector;
 use crate::piece::{Piece, PieceKind, narrow};
 use crate::scan::Visit;
 use crate::warning::Doubt;
@@ -20,16 +20,19 @@ struct OpenBrace {
 }
 
 #[derive(Drop)]
-pub(crate) struct BraceSearch {
+pub(crate) struct BraceSearch<'a> {
     open: Vec<OpenBrace>,
     /// The first and the last line of the last quoted piece that spans lines: it may contain lost
     /// braces.
     last_spanning: (u32, u32),
-    pub(crate) warnings: WarningCollector,
+    pub(crate) warnings: Collector<'a>,
 }
 
-impl BraceSearch {
-    pub(crate) fn new(alloc: Global) -> Result<BraceSearch, AllocError> {
+impl<'a> BraceSearch<'a> {
+    pub(crate) fn new(
+        alloc: Global,
+        warnings: Collector<'a>,
+    ) -> Result<BraceSearch<'a>, AllocError> {
         let mut open = Vec::new(alloc);
         open.push(OpenBrace {
             column: 0,
@@ -39,19 +42,18 @@ impl BraceSearch {
         Ok(BraceSearch {
             open,
             last_spanning: (0, 0),
-            warnings: WarningCollector::new(alloc),
+            warnings,
         })
     }
 
     /// Closes the braces that an earlier line opened at this column or further right: they lack
     /// their closing brace.
-    fn close_before(&mut self, line: u64, column: u32) -> Result<(), AllocError> {
+    fn close_before(&mut self, piece: &Piece, column: u32) -> Result<(), AllocError> {
         for _ in 0..self.open.len() {
             match self.open.last() {
-                Some(top) if u64::from(top.line) < line && top.column >= column => {
+                Some(top) if u64::from(top.line) < piece.line && top.column >= column => {
                     if top.line != self.last_spanning.0 {
-                        self.warnings
-                            .add(line, Doubt::NotClosed(u64::from(top.line)))?;
+                        self.warnings.add(piece.first, Doubt::NotClosed(top.line))?;
                     }
                 }
                 _ => return Ok(()),
@@ -63,7 +65,7 @@ impl BraceSearch {
 
     fn begin_line(&mut self, piece: &Piece) -> Result<(), AllocError> {
         let column = narrow(piece.column);
-        self.close_before(piece.line, column)?;
+        self.close_before(piece, column)?;
         let Some(top) = self.open.last_mut() else {
             return Ok(());
         };
@@ -79,20 +81,20 @@ impl BraceSearch {
             line: 0,
             entries: column,
         };
-        self.warnings.add(piece.line, Doubt::FurtherRight)?;
+        self.warnings.add(piece.first, Doubt::FurtherRight)?;
         self.open.push(brace)?;
         Ok(())
     }
 
     fn close_line(&mut self, piece: &Piece) -> Result<(), AllocError> {
         let column = narrow(piece.column);
-        self.close_before(piece.line, column.saturating_add(1))?;
+        self.close_before(piece, column.saturating_add(1))?;
         match self.open.last() {
             Some(top) if top.column == column => {
                 let _ = self.open.pop();
                 Ok(())
             }
-            _ => self.warnings.add(piece.line, Doubt::NotOpened),
+            _ => self.warnings.add(piece.first, Doubt::NotOpened),
         }
     }
 
@@ -111,7 +113,7 @@ impl BraceSearch {
                 let _ = self.open.pop();
                 Ok(())
             }
-            _ => self.warnings.add(piece.line, Doubt::NotOpened),
+            _ => self.warnings.add(piece.first, Doubt::NotOpened),
         }
     }
 
@@ -125,8 +127,8 @@ impl BraceSearch {
     }
 }
 
-impl Visit for BraceSearch {
-    fn visit(&mut self, piece: &Piece) -> Result<(), AllocError> {
+impl<'a> Visit for BraceSearch<'a> {
+    fn piece(&mut self, piece: &Piece) -> Result<(), AllocError> {
         if piece.kind == PieceKind::RightBrace {
             return if piece.begins_line {
                 self.close_line(piece)

@@ -1,43 +1,88 @@
-ghost use Rattle.std.specs.Prelude.{◌≤◌, IfOk, vec_len};
-ghost use Rattle.rb_lint.specs.Warnings.{AreInOrder, AreWithin};
-
-use crate::order::{WARNING_LIMIT, in_order};
-use crate::warning::{Doubt, Warning};
+use crate::allowed::Allowances;
+use crate::finding::Message;
+use crate::rule::{Levels, Rule};
+use crate::warning::Doubt;
 use std::alloc::{AllocError, Global};
 
-/// Collects the first warnings of a search.
+/// A finding at a byte of the text.
 #[derive(Drop)]
-pub(crate) struct WarningCollector {
-    found: Vec<Warning>,
+pub(crate) struct Found {
+    pub(crate) at: usize,
+    pub(crate) rule: Rule,
+    pub(crate) message: Message,
 }
 
-impl WarningCollector {
-    pub(crate) fn new(alloc: Global) -> WarningCollector {
-        WarningCollector {
+/// Collects the first findings of a text, by their places, and counts all.
+#[derive(Drop)]
+pub(crate) struct Collector<'a> {
+    levels: Levels,
+    allowances: &'a Allowances,
+    limit: usize,
+    found: Vec<Found>,
+    count: u64,
+}
+
+impl<'a> Collector<'a> {
+    pub(crate) fn new(
+        alloc: Global,
+        levels: Levels,
+        allowances: &'a Allowances,
+        limit: usize,
+    ) -> Collector<'a> {
+        Collector {
+            levels,
+            allowances,
+            limit,
             found: Vec::new(alloc),
+            count: 0,
         }
     }
 
-    /// Adds a warning, unless the search has reached its limit.
-    pub(crate) fn add(&mut self, line: u64, doubt: Doubt) -> Result<(), AllocError> {
-        if self.found.len() < WARNING_LIMIT {
-            self.found.push(Warning { line, doubt })?;
+    pub(crate) fn add(&mut self, at: usize, doubt: Doubt) -> Result<(), AllocError> {
+        self.push(at, doubt.rule(), Message::Doubt(doubt))
+    }
+
+    /// Checks whether warnings of a rule are left out at a place.
+    pub(crate) fn is_allowed(&self, at: usize, rule: Rule) -> bool {
+        self.levels.allowed.has(rule) || self.allowances.at(at).has(rule)
+    }
+
+    pub(crate) fn push(
+        &mut self,
+        at: usize,
+        rule: Rule,
+        message: Message,
+    ) -> Result<(), AllocError> {
+        if self.is_allowed(at, rule) {
+            return Ok(());
+        }
+        self.count = self.count.saturating_add(1);
+        self.found.push(Found { at, rule, message })?;
+        if self.found.len() / 2 >= self.limit {
+            self.keep_first()?;
         }
         Ok(())
     }
 
-    /// Appends the warnings of another search.
-    pub(crate) fn append(&mut self, other: &WarningCollector) -> Result<(), AllocError> {
-        self.found.extend_from_slice(&other.found)?;
+    pub(crate) fn limit(&self) -> usize {
+        self.limit
+    }
+
+    /// Counts a finding that comes after more than the limit.
+    pub(crate) fn skip(&mut self) {
+        self.count = self.count.saturating_add(1);
+    }
+
+    /// Keeps the first findings, in the order of the text.
+    fn keep_first(&mut self) -> Result<(), AllocError> {
+        self.found.sort_by_key(|found| found.at)?;
+        self.found.truncate(self.limit);
         Ok(())
     }
 
-    /// Returns the first warnings, ordered by line; `lines` is the number of lines of the text.
-    pub(crate) fn ordered(self, alloc: Global, lines: u64) -> Result<Vec<Warning>, AllocError>
-        ensures order { IfOk result (λ ws. AreInOrder (λ w. w.line) ws.items) }
-        ensures within { IfOk result (λ ws. AreWithin lines (λ w. w.line) ws.items) }
-        ensures few { IfOk result (λ ws. vec_len ws ≤ 100) }
-    {
-        in_order(alloc, self.found, lines)
+    /// Returns the first findings in the order of the text, and the number of all.
+    pub(crate) fn ordered(mut self) -> Result<(Vec<Found>, u64), AllocError> {
+        self.keep_first()?;
+        Ok((self.found, self.count))
     }
 }

@@ -1,9 +1,13 @@
 use crate::adjacent::AdjacentSearch;
-use crate::collector::WarningCollector;
+use crate::allowed::Allowances;
+use crate::collector::Collector;
+use crate::escapes::escape_doubt;
+use crate::keys::KeySearch;
 use crate::layout::Layout;
 use crate::name::is_other_name;
 use crate::piece::Piece;
-use crate::scan::{Quoting, Visit, visit_pieces};
+use crate::report::Settings;
+use crate::scan::{Open, Quoting, Visit, visit_pieces};
 use crate::warning::Doubt;
 use std::alloc::{AllocError, Global};
 
@@ -17,88 +21,80 @@ struct PieceSearch<'a> {
     /// The number of pieces before this one, up to 2.
     count: u8,
     layout: Layout,
-    quotes: WarningCollector,
     adjacent: AdjacentSearch,
-    names: WarningCollector,
-    turns: WarningCollector,
+    keys: KeySearch,
+    found: Collector<'a>,
 }
 
 impl<'a> PieceSearch<'a> {
-    fn new(alloc: Global, text: &'a [u8], stem: Option<&'a [u8]>) -> PieceSearch<'a> {
-        PieceSearch {
-            text,
-            stem,
-            before: None,
-            count: 0,
-            layout: Layout::new(),
-            quotes: WarningCollector::new(alloc),
-            adjacent: AdjacentSearch::new(alloc),
-            names: WarningCollector::new(alloc),
-            turns: WarningCollector::new(alloc),
-        }
-    }
-
     fn compare(&mut self, before: &Piece, piece: &Piece) -> Result<(), AllocError> {
         if let (1, Some(stem)) = (self.count, self.stem) {
             if is_other_name(self.text, before, piece, stem) {
-                self.names.add(before.line, Doubt::OtherName)?;
+                self.found.add(before.first, Doubt::OtherName)?;
             }
         }
-        self.adjacent.step(self.text, before, piece)
+        self.adjacent
+            .step(self.text, before, piece, &mut self.found)
     }
 }
 
 impl<'a> Visit for PieceSearch<'a> {
-    fn visit(&mut self, piece: &Piece) -> Result<(), AllocError> {
+    fn piece(&mut self, piece: &Piece) -> Result<(), AllocError> {
         if piece.spans_lines {
-            self.quotes.add(piece.line, Doubt::RunsOn)?;
+            self.found.add(piece.first, Doubt::RunsOn)?;
         }
         if piece.is_turned {
-            self.turns.add(piece.line, Doubt::Direction)?;
+            self.found.add(piece.first, Doubt::Direction)?;
         }
         let before = self.before;
         self.layout.step(before.as_ref(), piece);
         if let Some(before) = before {
             self.compare(&before, piece)?;
         }
+        self.keys.step(self.text, piece, &mut self.found)?;
         self.count = self.count.saturating_add(1).min(2);
         self.before = Some(*piece);
         Ok(())
     }
+
+    fn escape(&mut self, at: usize, window: &[u8]) -> Result<(), AllocError> {
+        match escape_doubt(window) {
+            Some(doubt) => self.found.add(at, doubt),
+            None => Ok(()),
+        }
+    }
 }
 
-/// The warnings of a text, by the search, and how it was split into pieces.
+/// The findings of a text, and how it was split into pieces.
 #[derive(Drop)]
-pub(crate) struct Found {
-    pub(crate) escapes: WarningCollector,
-    pub(crate) quotes: WarningCollector,
-    pub(crate) adjacent: WarningCollector,
-    pub(crate) names: WarningCollector,
-    pub(crate) turns: WarningCollector,
+pub(crate) struct Searched<'a> {
+    pub(crate) found: Collector<'a>,
     pub(crate) layout: Layout,
-    pub(crate) quoting: Quoting,
-    /// The text ends inside a quoted piece.
-    pub(crate) is_open: bool,
+    pub(crate) open: Open,
 }
 
 /// Searches a text, split in one way, for what is doubtful in any layout.
 pub(crate) fn search_pieces<'a>(
     alloc: Global,
     text: &'a [u8],
-    stem: Option<&'a [u8]>,
+    settings: &Settings<'a>,
+    allowances: &'a Allowances,
     quoting: Quoting,
-) -> Result<Found, AllocError> {
-    let mut escapes = WarningCollector::new(alloc);
-    let mut search = PieceSearch::new(alloc, text, stem);
-    let is_open = visit_pieces(alloc, text, quoting, &mut escapes, &mut search)?;
-    Ok(Found {
-        escapes,
-        quotes: search.quotes,
-        adjacent: search.adjacent.found(),
-        names: search.names,
-        turns: search.turns,
+) -> Result<Searched<'a>, AllocError> {
+    let mut search = PieceSearch {
+        text,
+        stem: settings.name,
+        before: None,
+        count: 0,
+        layout: Layout::new(),
+        adjacent: AdjacentSearch::new(alloc),
+        keys: KeySearch::new(alloc),
+        found: Collector::new(alloc, settings.levels, allowances, settings.limit),
+    };
+    let open = visit_pieces(alloc, text, quoting, &mut search)?;
+    Ok(Searched {
+        found: search.found,
         layout: search.layout,
-        quoting,
-        is_open,
+        open,
     })
 }

@@ -1,8 +1,6 @@
 //! Splits a text into pieces. The text may have any errors.
-use crate::collector::WarningCollector;
 use crate::direction::Direction;
 use crate::piece::{Piece, PieceKind};
-use crate::warning::Doubt;
 use std::alloc::{AllocError, Global};
 
 /// A byte of the text, at its offset.
@@ -44,26 +42,11 @@ fn is_wide_white(window: &[u8]) -> bool {
     window.starts_with(b"\xE2\x80\xA9") || window.starts_with(b"\xEF\xBB\xBF")
 }
 
-/// Checks whether a letter has a meaning after a backslash.
-fn is_escape_letter(letter: u8) -> bool {
-    b"abefnrtvuUxc".contains(&letter)
-}
-
-fn has_digits(window: &[u8], count: usize) -> bool {
-    match window.get(..count) {
-        Some(digits) => digits.iter().all(|digit| digit.is_ascii_hexdigit()),
-        None => false,
-    }
-}
-
-/// Checks for two backslashes where one would begin an escape by number.
-fn is_doubled(window: &[u8]) -> bool {
-    match window {
-        [b'\\', b'\\', b'u', digits @ ..] => has_digits(digits, 4),
-        [b'\\', b'\\', b'U', digits @ ..] => has_digits(digits, 8),
-        [b'\\', b'\\', b'x', digits @ ..] => has_digits(digits, 2),
-        _ => false,
-    }
+/// What begins at a byte besides pieces.
+#[derive(Clone, Copy, Debug, PartialEq, Eq)]
+enum Event {
+    Escape,
+    LineComment,
 }
 
 #[derive(Drop)]
@@ -75,6 +58,9 @@ struct Scan {
     begins_line: bool,
     piece: Option<Piece>,
     direction: Direction,
+    event: Option<Event>,
+    /// The place of the last comment that began.
+    comment_at: usize,
     /// The pieces that ended at this byte: at most two.
     ended: Vec<Piece>,
 }
@@ -89,6 +75,8 @@ impl Scan {
             begins_line: true,
             piece: None,
             direction: Direction::new(),
+            event: None,
+            comment_at: 0,
             ended: Vec::new(alloc),
         }
     }
@@ -96,15 +84,28 @@ impl Scan {
     /// Passes the ended pieces to a visitor.
     fn flush<V: Visit>(&mut self, visitor: &mut V) -> Result<(), AllocError> {
         for piece in &self.ended {
-            visitor.visit(piece)?;
+            visitor.piece(piece)?;
         }
         self.ended.clear();
         Ok(())
     }
 
-    /// Checks whether the text ends inside a quoted piece.
-    fn is_open(&self) -> bool {
-        matches!(self.state, State::Quoted | State::QuotedEscape)
+    /// Passes what began at a byte besides pieces to a visitor.
+    fn pass_event<V: Visit>(&mut self, input: Input, visitor: &mut V) -> Result<(), AllocError> {
+        match self.event.take() {
+            Some(Event::Escape) => visitor.escape(input.at, input.window),
+            Some(Event::LineComment) => visitor.comment(input.at, input.window),
+            None => Ok(()),
+        }
+    }
+
+    /// Returns what isn't closed at the end of the text.
+    fn open(&self) -> Open {
+        match (self.state, self.piece) {
+            (State::Quoted | State::QuotedEscape, Some(piece)) => Open::Quote(piece.first),
+            (State::BlockStart | State::Block, _) => Open::Comment(self.comment_at),
+            _ => Open::Nothing,
+        }
     }
 
     /// Begins a piece, and continues in a state.
@@ -162,23 +163,7 @@ impl Scan {
         }
     }
 
-    fn note_escape(
-        &self,
-        window: &[u8],
-        warnings: &mut WarningCollector,
-    ) -> Result<(), AllocError> {
-        if is_doubled(window) {
-            warnings.add(self.line, Doubt::TwoBackslashes)?;
-        }
-        match window.get(1) {
-            Some(letter) if letter.is_ascii_alphabetic() && !is_escape_letter(*letter) => {
-                warnings.add(self.line, Doubt::Escape(char::from(*letter)))
-            }
-            _ => Ok(()),
-        }
-    }
-
-    fn between(&mut self, input: Input, warnings: &mut WarningCollector) -> Result<(), AllocError> {
+    fn between(&mut self, input: Input) -> Result<(), AllocError> {
         let Input { at, byte, window } = input;
         match byte {
             b'\n' => self.next_line(),
@@ -189,11 +174,17 @@ impl Scan {
             b':' => self.mark(PieceKind::Colon, at)?,
             b',' => self.mark(PieceKind::Comma, at)?,
             b'\\' => {
-                self.note_escape(window, warnings)?;
+                self.event = Some(Event::Escape);
                 self.begin(PieceKind::Unquoted, at, State::UnquotedEscape);
             }
-            _ if window.starts_with(b"//") => self.state = State::LineComment,
-            _ if window.starts_with(b"/*") => self.state = State::BlockStart,
+            _ if window.starts_with(b"//") => {
+                self.event = Some(Event::LineComment);
+                self.state = State::LineComment;
+            }
+            _ if window.starts_with(b"/*") => {
+                self.comment_at = at;
+                self.state = State::BlockStart;
+            }
             _ if is_wide_white(window) => self.state = State::Skip(2),
             _ => {
                 self.begin(PieceKind::Unquoted, at, State::Unquoted);
@@ -203,19 +194,15 @@ impl Scan {
         Ok(())
     }
 
-    fn unquoted(
-        &mut self,
-        input: Input,
-        warnings: &mut WarningCollector,
-    ) -> Result<(), AllocError> {
+    fn unquoted(&mut self, input: Input) -> Result<(), AllocError> {
         let Input { at, byte, window } = input;
         let is_comment = window.starts_with(b"//") || window.starts_with(b"/*");
         if b" \t\r\n\"{}:,".contains(&byte) || is_comment || is_wide_white(window) {
             self.end(at)?;
-            return self.between(input, warnings);
+            return self.between(input);
         }
         if byte == b'\\' {
-            self.note_escape(window, warnings)?;
+            self.event = Some(Event::Escape);
             self.state = State::UnquotedEscape;
         }
         self.direction.step(window);
@@ -234,13 +221,14 @@ impl Scan {
         Ok(())
     }
 
-    fn quoted(&mut self, input: Input, warnings: &mut WarningCollector) -> Result<(), AllocError> {
+    fn quoted(&mut self, input: Input) -> Result<(), AllocError> {
         match input.byte {
             b'\n' => self.run_on(input.at),
             b'"' => self.end(input.at.saturating_add(1)),
             b'\\' => {
                 self.state = State::QuotedEscape;
-                self.note_escape(input.window, warnings)
+                self.event = Some(Event::Escape);
+                Ok(())
             }
             _ => {
                 self.direction.step(input.window);
@@ -275,11 +263,11 @@ impl Scan {
         }
     }
 
-    fn step(&mut self, input: Input, warnings: &mut WarningCollector) -> Result<(), AllocError> {
+    fn step(&mut self, input: Input) -> Result<(), AllocError> {
         match self.state {
-            State::Between => self.between(input, warnings),
-            State::Quoted => self.quoted(input, warnings),
-            State::Unquoted => self.unquoted(input, warnings),
+            State::Between => self.between(input),
+            State::Quoted => self.quoted(input),
+            State::Unquoted => self.unquoted(input),
             State::QuotedEscape => self.escaped(input, State::Quoted),
             State::UnquotedEscape => self.escaped(input, State::Unquoted),
             State::Skip(more) if more > 1 => {
@@ -300,33 +288,48 @@ impl Scan {
 
 /// Takes the pieces of a text, one by one.
 pub(crate) trait Visit {
-    fn visit(&mut self, piece: &Piece) -> Result<(), AllocError>;
+    fn piece(&mut self, piece: &Piece) -> Result<(), AllocError>;
+
+    /// Takes the backslash of an escape, and the text from it on.
+    fn escape(&mut self, _at: usize, _window: &[u8]) -> Result<(), AllocError> {
+        Ok(())
+    }
+
+    /// Takes the start of a comment of one line, and the text from it on.
+    fn comment(&mut self, _at: usize, _window: &[u8]) -> Result<(), AllocError> {
+        Ok(())
+    }
 }
 
-/// Passes the pieces of a text to a visitor, and reports its doubtful escapes. Returns whether the
-/// text ends inside a quoted piece. No piece is stored: a text can have as many as it has bytes.
+/// What isn't closed at the end of a text, and where it begins.
+#[derive(Clone, Copy, Debug, PartialEq, Eq)]
+pub(crate) enum Open {
+    Nothing,
+    Quote(usize),
+    Comment(usize),
+}
+
+/// Passes the pieces, escapes and comments of a text to a visitor. Returns what the text leaves open. No
+/// piece is stored: a text can have as many as it has bytes.
 pub(crate) fn visit_pieces<V: Visit>(
     alloc: Global,
     text: &[u8],
     quoting: Quoting,
-    escapes: &mut WarningCollector,
     visitor: &mut V,
-) -> Result<bool, AllocError> {
+) -> Result<Open, AllocError> {
     let mut scan = Scan::new(alloc, quoting);
     for (at, byte) in text.iter().enumerate() {
-        let window = &text[at..];
-        scan.step(
-            Input {
-                at,
-                byte: *byte,
-                window,
-            },
-            escapes,
-        )?;
+        let input = Input {
+            at,
+            byte: *byte,
+            window: &text[at..],
+        };
+        scan.step(input)?;
         scan.flush(visitor)?;
+        scan.pass_event(input, visitor)?;
     }
-    let is_open = scan.is_open();
+    let open = scan.open();
     scan.end(text.len())?;
     scan.flush(visitor)?;
-    Ok(is_open)
+    Ok(open)
 }

@@ -1,76 +1,60 @@
-ghost use Rattle.std.specs.Prelude.{◌≤◌, ◌≡◌, IfOk, vec_len};
-ghost use Rattle.rb_lint.specs.Warnings.{AreInOrder, AreWithin, line_count};
-
+use crate::allowed::Allowances;
 use crate::braces::BraceSearch;
-use crate::collector::WarningCollector;
-use crate::pieces::{Found, search_pieces};
-use crate::scan::{Quoting, visit_pieces};
-use crate::warning::Warning;
+use crate::collector::Collector;
+use crate::layout::Layout;
+use crate::pieces::{Searched, search_pieces};
+use crate::report::Settings;
+use crate::scan::{Open, Quoting, visit_pieces};
+use crate::warning::Doubt;
 use std::alloc::{AllocError, Global};
 
-/// Counts the lines of a text, including the one after its last line feed.
-pub(crate) fn line_count(text: &[u8]) -> u64
-    ensures { result ≡ line_count text.now }
-{
-    let feeds = text.iter().filter(|byte| **byte == b'\n').count();
-    feeds as u64 + 1
-}
-
-/// Searches a text for what is doubtful in any layout. If it ends inside a quoted piece, each quoted
-/// piece is taken to end with its line.
-fn search_text<'a>(
-    alloc: Global,
-    text: &'a [u8],
-    stem: Option<&'a [u8]>,
-) -> Result<Found, AllocError> {
-    let found = search_pieces(alloc, text, stem, Quoting::OverLines)?;
-    if !found.is_open {
-        return Ok(found);
-    }
-    search_pieces(alloc, text, stem, Quoting::WithinLine)
-}
-
 /// Finds lost braces of a text by its layout.
-fn search_braces(
+fn search_braces<'a>(
     alloc: Global,
     text: &[u8],
-    found: &Found,
-) -> Result<WarningCollector, AllocError> {
-    let mut search = BraceSearch::new(alloc)?;
-    if found.layout.lacks_brace() && found.layout.is_indented() {
-        let mut escapes = WarningCollector::new(alloc);
-        visit_pieces(alloc, text, found.quoting, &mut escapes, &mut search)?;
+    quoting: Quoting,
+    layout: &Layout,
+    found: Collector<'a>,
+) -> Result<Collector<'a>, AllocError> {
+    let mut search = BraceSearch::new(alloc, found)?;
+    if layout.lacks_brace() && layout.is_indented() {
+        visit_pieces(alloc, text, quoting, &mut search)?;
     }
     Ok(search.warnings)
 }
 
-/// Finds what is doubtful in a bundle text, which may have any errors. Returns at most 100
-/// warnings, ordered by line. `stem` is the name that the bundle should have, if it is known. The
-/// rules are this project's own. `Err` means out of memory.
-///
-/// If the text ends inside a quoted piece, each quoted piece is taken to end with its line, so that
-/// a missing quote is found at its line. If a brace is missing, it is found by indentation, in texts
-/// that are indented. In a text with as many braces of each kind, no layout is doubtful.
-///
-/// ```rust
-/// lint(alloc, b"de{a{\"b\" \"c\", \"d\"}}", Some(b"de"))? // one warning at line 1: `Doubt::Joined`
-/// ```
-pub fn lint<'a>(
+/// Returns how to split a text into pieces: if it ends inside a quoted piece, each quoted piece is taken
+/// to end with its line.
+fn quoting_of(open: Open) -> Quoting {
+    match open {
+        Open::Quote(_) => Quoting::WithinLine,
+        Open::Nothing | Open::Comment(_) => Quoting::OverLines,
+    }
+}
+
+/// Searches a text for what is doubtful, without comparing it with the root's. Returns the findings, and
+/// what the text leaves open.
+pub(crate) fn search_text<'a>(
     alloc: Global,
     text: &'a [u8],
-    stem: Option<&'a [u8]>,
-) -> Result<Vec<Warning>, AllocError>
-    ensures order { IfOk result (λ ws. AreInOrder (λ w. w.line) ws.items) }
-    ensures within { IfOk result (λ ws. AreWithin (line_count text.now) (λ w. w.line) ws.items) }
-    ensures few { IfOk result (λ ws. vec_len ws ≤ 100) }
-{
-    let found = search_text(alloc, text, stem)?;
-    let braces = search_braces(alloc, text, &found)?;
-    let mut warnings = found.escapes;
-    warnings.append(&found.quotes)?;
-    warnings.append(&found.adjacent)?;
-    warnings.append(&braces)?;
-    warnings.append(&found.names)?;
-    warnings.append(&found.turns)?;
-    warnings.ordered(alloc, line_count(text))
+    settings: &Settings<'a>,
+    allowances: &'a Allowances,
+) -> Result<(Collector<'a>, Open), AllocError> {
+    let whole = search_pieces(alloc, text, settings, allowances, Quoting::OverLines)?;
+    let open = whole.open;
+    let quoting = quoting_of(open);
+    let searched = match quoting {
+        Quoting::OverLines => whole,
+        Quoting::WithinLine => search_pieces(alloc, text, settings, allowances, quoting)?,
+    };
+    let Searched {
+        mut found,
+        layout,
+        ..
+    } = searched;
+    for at in allowances.unknown() {
+        found.add(*at, Doubt::UnknownAllowed)?;
+    }
+    let found = search_braces(alloc, text, quoting, &layout, found)?;
+    Ok((found, open))
 }

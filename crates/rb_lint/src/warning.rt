@@ -1,6 +1,7 @@
-use crate::order::AtLine;
+use crate::rule::Rule;
 use std::fmt;
 
+/// What a text may have that is valid and probably not meant.
 #[derive(Clone, Copy, Debug, PartialEq, Eq)]
 pub enum Doubt {
     /// A quoted piece spans lines.
@@ -10,7 +11,7 @@ pub enum Doubt {
     /// Two adjacent texts of an array or a vector form one item.
     Joined,
     /// A brace, opened in the given line, isn't closed before a line that is not indented further.
-    NotClosed(u64),
+    NotClosed(u32),
     /// A brace closes none that was opened at its column.
     NotOpened,
     /// A line is indented further than the entry before it, without an open brace.
@@ -22,11 +23,42 @@ pub enum Doubt {
     OtherName,
     /// A control of the writing direction isn't closed in its piece.
     Direction,
+    /// A line begins like the conflict markers of Git.
+    Conflict,
+    /// A key that isn't quoted has this character.
+    KeyWith(char),
+    /// A key has several pieces with white space between them.
+    KeyWithSpace,
+    /// A text precedes a brace in an array.
+    EntryInArray,
+    /// A value begins and ends with quotes of another kind.
+    OtherQuotes,
+    /// A comment allows a warning that doesn't exist.
+    UnknownAllowed,
 }
 
-impl fmt::Display for Doubt {
-    fn fmt<W: fmt::Write>(&self, f: &mut fmt::Formatter<W>) -> fmt::Result {
-        f.write_str(match self {
+impl Doubt {
+    pub fn rule(self) -> Rule {
+        match self {
+            Doubt::RunsOn => Rule::OpenQuote,
+            Doubt::Mixed => Rule::MixedQuotes,
+            Doubt::Joined => Rule::JoinedStrings,
+            Doubt::NotClosed(_) => Rule::MissingCloseBrace,
+            Doubt::NotOpened | Doubt::FurtherRight => Rule::MissingOpenBrace,
+            Doubt::Escape(_) => Rule::UnknownEscape,
+            Doubt::TwoBackslashes => Rule::DoubledBackslash,
+            Doubt::OtherName => Rule::BundleName,
+            Doubt::Direction => Rule::OpenDirection,
+            Doubt::Conflict => Rule::ConflictMarker,
+            Doubt::KeyWith(_) | Doubt::KeyWithSpace => Rule::SuspiciousKey,
+            Doubt::EntryInArray => Rule::EntryInArray,
+            Doubt::OtherQuotes => Rule::OtherQuotes,
+            Doubt::UnknownAllowed => Rule::UnknownAllowed,
+        }
+    }
+
+    fn fixed_text(self) -> &'static str {
+        match self {
             Doubt::RunsOn => {
                 "a quoted text goes on over the end of this line; is its closing quote missing?"
             }
@@ -34,24 +66,14 @@ impl fmt::Display for Doubt {
                 "a quoted and an unquoted text side by side are joined with a space; is a quote missing?"
             }
             Doubt::Joined => "two texts side by side are joined into one; is a comma missing?",
-            Doubt::NotClosed(line) => {
-                return write!(
-                    f,
-                    "the brace that opens in line {line} isn't closed before this line; is a closing brace missing?"
-                );
-            }
+            Doubt::NotClosed(_) => "a brace isn't closed; is a closing brace missing?",
             Doubt::NotOpened => {
                 "this brace closes none that is opened as far left; is an opening brace missing?"
             }
             Doubt::FurtherRight => {
                 "this line is further right than the entry before it; is an opening brace missing?"
             }
-            Doubt::Escape(letter) => {
-                return write!(
-                    f,
-                    "\\{letter} is the letter {letter} alone; is another escape meant, or \\\\{letter}?"
-                );
-            }
+            Doubt::Escape(_) => "a backslash has no effect before this letter",
             Doubt::TwoBackslashes => {
                 "two backslashes are one backslash, and what follows is no escape"
             }
@@ -59,21 +81,40 @@ impl fmt::Display for Doubt {
             Doubt::Direction => {
                 "a control of the writing direction isn't closed in this text, which is shown in another order; is it meant?"
             }
-        })
+            Doubt::Conflict =>
+                "this line looks like a conflict marker of Git; is a merge unfinished?",
+            Doubt::KeyWith(_) => "this key has a character that is seldom meant in a key",
+            Doubt::KeyWithSpace => {
+                "this key has a space; is a brace missing before it? A key with a space is written in quotes"
+            }
+            Doubt::EntryInArray => {
+                "this is an array, in which a text and the braces after it are two items; is a table meant?"
+            }
+            Doubt::OtherQuotes => { "the quotes around this value are part of it; is \" meant?" }
+            Doubt::UnknownAllowed => {
+                "this comment allows a warning that doesn't exist; resb lint --list has the names"
+            }
+        }
     }
 }
 
-#[derive(Clone, Copy, Debug, PartialEq, Eq)]
-pub struct Warning {
-    /// The line, counted by line feeds from 1.
-    pub line: u64,
-    pub doubt: Doubt,
-}
-
-impl AtLine for Warning {
-    ghost line_of = { λ w. w.line };
-
-    fn line(&self) -> u64 {
-        self.line
+impl fmt::Display for Doubt {
+    fn fmt<W: fmt::Write>(&self, f: &mut fmt::Formatter<W>) -> fmt::Result {
+        match self {
+            Doubt::NotClosed(line) => write!(
+                f,
+                "the brace that opens in line {line} isn't closed before this line; is a closing brace missing?"
+            ),
+            Doubt::Escape(letter) => write!(
+                f,
+                "\\{letter} is the letter {letter} alone; is another escape meant, or \\\\{letter}?"
+            ),
+            Doubt::KeyWith('\0') => f.write_str("this key has a NUL; is the file damaged?"),
+            Doubt::KeyWith(sign) => write!(
+                f,
+                "this key has a {sign}; is it meant? A key with a {sign} is written in quotes"
+            ),
+            other => f.write_str(other.fixed_text()),
+        }
     }
 }

@@ -1,4 +1,3 @@
-//! Reads names from UTF-16 units.
 ghost use Rattle.std.specs.Prelude.{◌≡◌, ◌≤◌, ◌+◌, ◌-◌, length, take, drop, map, slice_range};
 ghost use Rattle.std.specs.Result.{result_ok};
 ghost use Rattle.std.specs.List.{position_or_len};

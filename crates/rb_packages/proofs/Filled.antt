@@ -35,10 +35,6 @@ module _ {S : Type 0} where
   bare_files None h = refl
   bare_files (Some bundles) h = cc
 
-  pub bare_is_there : (o : Option (IndexMap (List ℕ) (List ℕ) S)) → IsBare o → is_some o ≡ true
-  bare_is_there None h = absurd cc
-  bare_is_there (Some bundles) h = refl
-
   -- if one application's package changes, and has files then, all that are there have some
   pub all_after : (app : List ℕ) (old new : Rows S) → AllHaveBundles (files_by_app old) → KeepsOthers app old new
       → ¬ IsBare (lookup (bytes_eq app) new) → AllHaveBundles (files_by_app new)

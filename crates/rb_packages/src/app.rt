@@ -1,4 +1,3 @@
-//! The names of applications.
 ghost use Rattle.std.specs.Prelude.{◌≡◌, ◌≤◌, ◌++◌, drop, length};
 ghost use Rattle.std.specs.List.{list_all};
 ghost use Rattle.rb_packages.specs.App.{app_of, is_app_byte as passes};

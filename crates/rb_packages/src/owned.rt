@@ -1,4 +1,3 @@
-//! The packages of all applications.
 ghost use Rattle.std.specs.Prelude.{◌≡◌, ◌-◌, ◌^◌, ◌+◌, [], ◌∷◌, ◌++◌, Some, None, IfOk, IfErr};
 ghost use Rattle.std.specs.Prelude.{IfNone, OnOk, OnErr, IsTrue, true, false, length, min, is_some};
 ghost use Rattle.std.specs.Prelude.{option_map, if◌then◌else◌};
@@ -68,7 +67,6 @@ pub(crate) fn install(
     install_first(owned, app, name, bundle)
 }
 
-/// Replaces an application's bundle and returns the old one.
 pub(crate) fn replace(
     owned: &mut Owned,
     app: &App,

@@ -68,7 +68,6 @@ impl StoredBundle {
         self.bundle
     }
 
-    /// Returns the length of the bundle's file.
     pub(crate) fn len(&self) -> u64
         ensures { result ≡ length self.now }
     {

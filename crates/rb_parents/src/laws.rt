@@ -5,8 +5,8 @@ ghost use Rattle.rb_parents.specs.ParentMap.{IsParentMap, mentions_in};
 ghost use Rattle.rb_parents.specs.Trail.{ParentsOf};
 ghost use Rattle.rb_parents.specs.declared.fault.ParentsFault.{ParentsFault};
 
-/// A child has a parent if and only if an entry at `parentLocales` names it, and none is named
-/// twice.
+/// Proves that a child has a parent if and only if an entry at `parentLocales` names it, and none
+/// is named twice.
 #[tactic(auto, using(crate::proofs::ParentMaps::gives_map))]
 pub fn a_child_has_the_parent_that_names_it()
     ensures { (t : Resource) (m : ParentsOf) → GivesParents t m

@@ -108,8 +108,9 @@ fn note_stop(stops: &mut ArrayVec<u8, TRAIL_LIMIT>, i: u8, is_stop: bool)
     }
 }
 
-/// Follows locale inheritance (UTS #35; `%%ALIAS` and `%%Parent` like `ures_open`) from a name to
-/// the end of its trail. Returns all names with the indices of the stops, and allocates nothing.
+/// Follows locale inheritance from a name to the end of its trail (UTS #35; `%%ALIAS` and
+/// `%%Parent` like `ures_open`). Returns all names with the indices of the stops, and allocates
+/// nothing.
 ///
 /// A bundle with a String at `%%ALIAS` isn't a stop: that text is the next name. Any other bundle
 /// is a stop. The trail ends after a stop without fallback. Otherwise the next name is the stop's

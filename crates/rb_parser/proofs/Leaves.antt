@@ -184,22 +184,10 @@ module _ (end : ℕ) (ts rest : List Token) (w : Word) where
       → Reads IsLeafTree end (Ok (Binary bytes)) rest (leaf_at w ts)
   binary_reads bytes is r = let long = is_binary w is in rw long.1 (binary long.0 r.0, rw r.1 refl, (bytes, r.2, refl))
 
-  pub binary_stops : (e : SourceFault) → word_of w ≡ word.Leaf leaf.Binary → located end (maybe_at BadHex the_tests.is_hex ts) ≡ Err e
-      → located end (leaf_at w ts) ≡ Err e
-  binary_stops e is h = let long = is_binary w is in rw long.1 (located_bind end (maybe_at BadHex the_tests.is_hex ts) (λ x. Ok (binary long.0 x.0, x.1)) e h)
-
   pub int_reads : (n : ℕ) → word_of w ≡ word.Leaf leaf.Int → Reads (λ (n : ℕ) (s : List ℕ). IsIntText s n) end (Ok n) rest
       (checked_at BadInt the_tests.is_int ts) → Reads IsLeafTree end (Ok (Int n)) rest (leaf_at w ts)
   int_reads n is r = let long = is_int w is in rw long.1 (int long.0 r.0, rw r.1 refl, (n, r.2, refl))
 
-  pub int_stops : (e : SourceFault) → word_of w ≡ word.Leaf leaf.Int → located end (checked_at BadInt the_tests.is_int ts) ≡ Err e
-      → located end (leaf_at w ts) ≡ Err e
-  int_stops e is h = let long = is_int w is in rw long.1 (located_bind end (checked_at BadInt the_tests.is_int ts) (λ x. Ok (int long.0 x.0, x.1)) e h)
-
   pub ints_reads : (zs : List ℤ) → word_of w ≡ word.Leaf leaf.Ints → Reads AreNumbers end (Ok zs) rest (numbers the_tests.is_element (suc (length ts)) ts)
       → Reads IsLeafTree end (Ok (Ints zs)) rest (leaf_at w ts)
   ints_reads zs is r = rw (is_ints w is) (ints r.0, rw r.1 refl, (zs, r.2, refl))
-
-  pub ints_stop : (e : SourceFault) → word_of w ≡ word.Leaf leaf.Ints → located end (numbers the_tests.is_element (suc (length ts)) ts) ≡ Err e
-      → located end (leaf_at w ts) ≡ Err e
-  ints_stop e is h = rw (is_ints w is) (located_bind end (numbers the_tests.is_element (suc (length ts)) ts) (λ x. Ok (ints x.0, x.1)) e h)

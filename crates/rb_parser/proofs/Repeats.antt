@@ -107,9 +107,6 @@ module _ (ps : List Pair) (k : List ℕ) (t : Tree) where
       ⊎ ((i ≡ length ps) × (0 < length ps) × NoRepeat (keys_in ps) × (is_among (keys_after ps []) k ≡ true))
   repeat_push i r = repeats i (subst (λ (ks : List (List ℕ)). IsFirstRepeat ks i) (keys_push ps k t) r)
 
-pub no_repeat_none : NoRepeat (keys_in [])
-no_repeat_none i j h l = absurd (omega arith)
-
 pub first_none : (i : ℕ) → IsFirstRepeat (keys_in []) i → ⊥
 first_none i r = let w = r.within in omega arith
 

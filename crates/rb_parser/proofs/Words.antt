@@ -49,21 +49,3 @@ is_ints (int_type long) e = absurd cc
 is_ints ints_type e = refl
 is_ints table_type e = absurd cc
 is_ints array_type e = absurd cc
-
-pub is_table : (w : Word) → word_of w ≡ word.Table → w ≡ table_type
-is_table string_type e = absurd cc
-is_table alias_type e = absurd cc
-is_table (binary_type long) e = absurd cc
-is_table (int_type long) e = absurd cc
-is_table ints_type e = absurd cc
-is_table table_type e = refl
-is_table array_type e = absurd cc
-
-pub is_array : (w : Word) → word_of w ≡ word.Array → w ≡ array_type
-is_array string_type e = absurd cc
-is_array alias_type e = absurd cc
-is_array (binary_type long) e = absurd cc
-is_array (int_type long) e = absurd cc
-is_array ints_type e = absurd cc
-is_array table_type e = absurd cc
-is_array array_type e = refl

@@ -135,8 +135,7 @@ impl<'a> Cursor<'a> {
         }
     }
 
-    /// Makes the error where no deeper value is allowed: `TooDeep` if one begins, else
-    /// `Unexpected`.
+    /// Makes the error where no deeper value is allowed: `TooDeep` if one begins, or `Unexpected`.
     pub fn depth_error(&self) -> SourceFault
         ensures kind { result.kind ≡ (if begins colon self.now.rest || begins left self.now.rest
             then TooDeep else Unexpected) }

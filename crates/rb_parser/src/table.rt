@@ -70,8 +70,7 @@ impl Rows {
         false
     }
 
-    /// Returns the error at a key in this line whose value has one: `DuplicateKey`, if the key
-    /// repeats.
+    /// Returns the error at a key whose value has this fault: `DuplicateKey` if the key repeats.
     pub fn fault_at(&self, line: u64, key: &[u8], fault: SourceFault) -> SourceFault
         ensures memory { fault.kind ≡ Memory → result.kind ≡ Memory }
         ensures other { fault.kind ≢ Memory

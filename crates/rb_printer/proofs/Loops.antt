@@ -1,25 +1,25 @@
 -- Proves the loops, by the characters that remain to be written.
 use Rattle.std.proofs.Common.{◌≡◌, ℕ, zero, suc, ◌+◌, ◌-◌, ◌/◌, ◌%◌, ◌<◌, ◌≤◌, ℤ, Bool, true, false, cond, List, [], ◌∷◌, ◌++◌, length, get_or, drop, refl, sym, ap, subst, ◌∙◌}
-use Rattle.std.proofs.Common.{arith, append_assoc, add-one, drop-cons, Option, Some, None, encode_utf8_all}
+use Rattle.std.proofs.Common.{arith, append_assoc, add-one, drop-cons, Option, Some, encode_utf8_all}
 use Rattle.std.specs.Prelude.{slice_get, take}
 use Rattle.std.proofs.Common.{replicate, ◌*◌}
 use Rattle.std.specs.List.{AllByRecursion, list_all}
 use Rattle.std.specs.Char.{digit_char}
-use Rattle.std.specs.Char.Utf16.{is_high_surrogate, is_low_surrogate}
+use Rattle.std.specs.Char.Utf16.{is_high_surrogate}
 use Rattle.std.specs.Fmt.{signed_decimal}
-use Rattle.std.proofs.lemmas.List.{drop_all, take-replicate, replicate-append-replicate}
-use Rattle.std.proofs.lemmas.Bool.{lt-ltb, le-ltb, lt-leb, ltb-true, ltb-false}
+use Rattle.std.proofs.lemmas.List.{take-replicate, replicate-append-replicate}
+use Rattle.std.proofs.lemmas.Bool.{lt-ltb, le-ltb, ltb-true, ltb-false}
 use Rattle.std.proofs.Common.{ne_eqb}
-use Rattle.std.specs.Prelude.{nat_lt, ◌&&◌}
+use Rattle.std.specs.Prelude.{nat_lt}
 use Rattle.rb_lexer.specs.Lexeme.{quote}
 use Rattle.rb_tree.specs.Resource.{Resource, string, int, ints, binary, alias, array, table}
 use Rattle.rb_tree.specs.Parts.{kind_of, len_of, HasUnits, units_of, numbers_of, bytes_of}
 use Rattle.rb_tree.specs.declared.kind.Kind.TheVariants as Kinds
-use Rattle.rb_printer.specs.Sign.{text, is_ascii, is_shown, is_low, escape_chars, pair_chars, first_unit, unit_chars, units_chars, pieces, spaces, lines_chars, text_chars, sign_chars, signs_chars}
+use Rattle.rb_printer.specs.Sign.{text, is_ascii, is_shown, first_unit, unit_chars, units_chars, pieces, spaces, lines_chars, text_chars, sign_chars, signs_chars}
 use Rattle.rb_printer.specs.Page.{hex_first, hex_later, indent, pause, remaining_after, comma_if, are_more, number_fits, numbers_signs}
 use Rattle.rb_printer.specs.Sound.{AreUnits, AreBytes, IsNumber}
 use Rattle.rb_printer.specs.inner.Growth.{Adds, Owes, break_chars, after_break}
-use Rattle.rb_printer.proofs.Growths.{adds_more, owes_all, owes_step, owes_end}
+use Rattle.rb_printer.proofs.Growths.{adds_more, owes_step}
 use Rattle.rb_printer.proofs.Puts.{adds_as, ascii_encoded}
 use Rattle.rb_printer.proofs.Splits.{same, pause_splits, comma_splits}
 use Rattle.rb_printer.proofs.Texts.{shown_next}
@@ -39,57 +39,10 @@ pub units_next : (us : List ℕ) (i : ℕ) (after : Bool) → i < length us
     ≡ unit_chars after (get_or us i 0) (first_unit (drop (i + 1) us)) ++ units_chars (drop (i + 1) us) (is_high_surrogate (get_or us i 0))
 units_next us i after h = ap (λ (xs : List ℕ). units_chars xs after) (dropped us i h)
 
-pub units_last : (us : List ℕ) (i : ℕ) (after : Bool) → length us ≤ i → units_chars (drop i us) after ≡ []
-units_last us i after h = ap (λ (xs : List ℕ). units_chars xs after) (drop_all i us h)
-
-pub first_there : (us : List ℕ) (i u : ℕ) → i < length us → u ≡ get_or us i 0 → Some u ≡ first_unit (drop i us)
-first_there us i u h e = ap (λ (x : ℕ). Some x) e ∙ ap first_unit (sym (dropped us i h))
-
-pub first_none : (us : List ℕ) (i : ℕ) → length us ≤ i → ◌≡◌ {A = Option ℕ} None (first_unit (drop i us))
-first_none us i h = ap first_unit (sym (drop_all i us h))
-
--- a unit of some is written
-pub unit_put : (old total now new us : List ℕ) (i u : ℕ) (next : Option ℕ) (after high : Bool) → Owes old total now (units_chars (drop i us) after) → i < length us
-    → u ≡ get_or us i 0 → next ≡ first_unit (drop (i + 1) us) → high ≡ is_high_surrogate u → Adds now new (unit_chars after u next)
-    → Owes old total new (units_chars (drop (i + 1) us) high)
-unit_put old total now new us i u next after high o h e f g a =
-    let later = units_chars (drop (i + 1) us) high in
-    let left : units_chars (drop i us) after ≡ unit_chars after u next ++ later =
-    units_next us i after h ∙ ap (λ (x : ℕ). unit_chars after x (first_unit (drop (i + 1) us)) ++ units_chars (drop (i + 1) us) (is_high_surrogate x)) (sym e)
-    ∙ ap (λ (b : Bool). unit_chars after u (first_unit (drop (i + 1) us)) ++ units_chars (drop (i + 1) us) b) (sym g)
-    ∙ ap (λ (o : Option ℕ). unit_chars after u o ++ later) (sym f) in
-    owes_step later (owes_as o left) a
-
--- a byte stands for no surrogate
-byte_high : (u : ℕ) → u < 256 → is_high_surrogate u ≡ false
-byte_high u h = rw (lt-leb 0xD800 u (omega arith)) refl
-
-byte_chars : (after : Bool) (u : ℕ) (next : Option ℕ) → u < 256 → unit_chars after u next ≡ unit_chars false u None
-byte_chars after u next h = by (is_shown u) after (is_high_surrogate u) (is_low_surrogate u) (byte_high u h) (rw (lt-leb 0xDC00 u (omega arith)) refl) where
-  by : (a after high low : Bool) → high ≡ false → low ≡ false
-      → cond a (u ∷ []) (cond (high && is_low next) (pair_chars u next) (cond (after && low) [] (escape_chars u)))
-      ≡ cond a (u ∷ []) (cond (high && false) [] (escape_chars u))
-  by true after high low e f = refl
-  by false after true low e f = cc
-  by false after false true e f = cc
-  by false true false false e f = refl
-  by false false false false e f = refl
-
--- a byte of a key is written
-pub key_put : (old total now new ks : List ℕ) (i u : ℕ) → Owes old total now (units_chars (drop i ks) false) → i < length ks → u ≡ get_or ks i 0 → u < 256
-    → Adds now new (unit_chars false u None) → Owes old total new (units_chars (drop (i + 1) ks) false)
-key_put old total now new ks i u o h e small a =
-    let next = first_unit (drop (i + 1) ks) in
-    unit_put old total now new ks i u next false false o h e refl (sym (byte_high u small))
-    (subst (λ (cs : List ℕ). Adds now new cs) (sym (byte_chars false u next small)) a)
-
 -- the units of a text with quotes, of which i are written, the last of them a high surrogate or not
 pub record UnitsPut (old now us : List ℕ) (i : ℕ) (after : Bool) : Type 0 where
   pub owes : Owes old (text_chars false us) now (units_chars (drop i us) after ++ quote ∷ [])
   pub sound : AreUnits (drop i us) → AreUnits us
-
-pub units_begin : (old now us : List ℕ) → Adds old now (quote ∷ []) → UnitsPut old now us 0 false
-units_begin old now us a = record { owes = owes_step (units_chars us false ++ quote ∷ []) (owes_all old (text_chars false us)) a; sound = λ h. h }
 
 pub units_put : (old now new us : List ℕ) (i u : ℕ) (next : Option ℕ) (after high : Bool) → UnitsPut old now us i after → i < length us → u ≡ get_or us i 0
     → u < 65536 → next ≡ first_unit (drop (i + 1) us) → high ≡ is_high_surrogate u → Adds now new (unit_chars after u next)
@@ -105,13 +58,6 @@ units_put old now new us i u next after high m h e small f g a =
       owes = owes_step (later ++ quote ∷ []) (owes_as m.owes left) a;
       sound = λ (k : AreUnits (drop (i + 1) us)). m.sound (subst AreUnits (sym (dropped us i h)) (subst (λ (x : ℕ). x < 65536) e small, k));
     }
-
-pub units_end : (old now new us : List ℕ) (i : ℕ) (after : Bool) → UnitsPut old now us i after → length us ≤ i → Adds now new (quote ∷ [])
-    → Adds old new (text_chars false us) × AreUnits us
-units_end old now new us i after m h a = (
-  owes_end (owes_step [] (owes_as m.owes (ap (λ (cs : List ℕ). cs ++ quote ∷ []) (units_last us i after h))) a),
-  m.sound (subst AreUnits (sym (drop_all i us h)) tt),
-)
 
 pub units_len : (t : Resource) → HasUnits (kind_of t) → len_of t ≡ length (units_of t)
 units_len (string us) h = refl
@@ -135,13 +81,6 @@ whole level bs = sign_chars (pieces level (hex_first bs 32) (hex_later bs 32))
 pub record BytesPut (old now bs : List ℕ) (level remaining i : ℕ) : Type 0 where
   pub owes : Owes old (whole level bs) now (tail level (drop i bs) remaining)
   pub sound : AreBytes (drop i bs) → AreBytes bs
-
-pub bytes_begin : (old now bs : List ℕ) (level : ℕ) → Adds old now (quote ∷ []) → BytesPut old now bs level 32 0
-bytes_begin old now bs level a = record {
-  owes = owes_step (tail level bs 32) (owes_as (owes_all old (whole level bs))
-      (ap (λ (cs : List ℕ). quote ∷ cs) (append_assoc (units_chars (hex_first bs 32) false) (quote ∷ []) (lines_chars (hex_later bs 32) level)))) a;
-  sound = λ h. h;
-}
 
 digit_shown : (d : ℕ) → d < 16 → is_shown (digit_char d) ≡ true
 digit_shown d h = by (nat_lt d 10) refl where
@@ -184,13 +123,6 @@ bytes_put old now a new bs level remaining next i b m h e small f p q =
       sound = λ (k : AreBytes later). m.sound (subst AreBytes (sym there) (small, k));
     }
 
-pub bytes_end : (old now new bs : List ℕ) (level remaining i : ℕ) → BytesPut old now bs level remaining i → length bs ≤ i → Adds now new (quote ∷ [])
-    → Adds old new (whole level bs) × AreBytes bs
-bytes_end old now new bs level remaining i m h a = (
-  owes_end (owes_step [] (owes_as m.owes (ap (λ (xs : List ℕ). tail level xs remaining) (drop_all i bs h))) a),
-  m.sound (subst AreBytes (sym (drop_all i bs h)) tt),
-)
-
 pub bytes_len : (t : Resource) → kind_of t ≡ Kinds.Binary → len_of t ≡ length (bytes_of t)
 bytes_len (string us) h = absurd cc
 bytes_len (int n) h = absurd cc
@@ -209,9 +141,6 @@ AreNumbers zs = AllByRecursion IsNumber zs
 pub record NumbersPut (old now : List ℕ) (zs : List ℤ) (wrapped : Bool) (level remaining i : ℕ) : Type 0 where
   pub owes : Owes old (signs_chars (numbers_signs zs wrapped level 0 [])) now (signs_chars (numbers_signs (drop i zs) wrapped level remaining []))
   pub sound : AreNumbers (drop i zs) → AreNumbers zs
-
-pub numbers_begin : (old : List ℕ) (zs : List ℤ) (w : Bool) (level : ℕ) → NumbersPut old old zs w level 0 0
-numbers_begin old zs w level = record { owes = owes_all old (signs_chars (numbers_signs zs w level 0 [])); sound = λ h. h }
 
 number_at : (zs : List ℤ) (i : ℕ) (z : ℤ) → Some z ≡ slice_get zs i → drop i zs ≡ z ∷ drop (suc i) zs
 number_at [] i z e = absurd cc
@@ -254,13 +183,6 @@ numbers_put old now a b new zs w level remaining left i z m e good f p q r =
       owes = owes_step after (owes_step (last ++ after) (owes_step (signed_decimal z ++ (last ++ after)) (owes_as m.owes owed) p) q) more;
       sound = λ (k : AreNumbers (drop (i + 1) zs)). m.sound (subst AreNumbers (sym there) (good, k));
     }
-
-pub numbers_end : (old now : List ℕ) (zs : List ℤ) (w : Bool) (level remaining i : ℕ) → NumbersPut old now zs w level remaining i → length zs ≤ i
-    → Adds old now (signs_chars (numbers_signs zs w level 0 [])) × AreNumbers zs
-numbers_end old now zs w level remaining i m h = (
-  owes_end (owes_as m.owes (ap (λ (xs : List ℤ). signs_chars (numbers_signs xs w level remaining [])) (drop_all i zs h))),
-  m.sound (subst AreNumbers (sym (drop_all i zs h)) tt),
-)
 
 pub numbers_len : (t : Resource) → kind_of t ≡ Kinds.Ints → len_of t ≡ length (numbers_of t)
 numbers_len (string us) h = absurd cc

@@ -1,9 +1,7 @@
 -- Proves which characters writing a text adds.
-use Rattle.std.proofs.Common.{◌≡◌, ℕ, ◌/◌, ◌%◌, ◌<◌, ℤ, Bool, true, false, ◌&&◌, List, [], ◌∷◌, ◌++◌, Option, Result, Ok, Err, OnOk, is_ok, encode_utf8, encode_utf8_all, append-nil, refl, sym, ap, subst, ◌∙◌}
+use Rattle.std.proofs.Common.{◌≡◌, ℕ, ◌<◌, ℤ, Bool, true, false, ◌&&◌, List, [], ◌∷◌, ◌++◌, Result, Ok, Err, OnOk, is_ok, encode_utf8, encode_utf8_all, append-nil, refl, sym, ap, subst, ◌∙◌}
 use Rattle.std.specs.Prelude.{if◌then◌else◌}
 use Rattle.std.specs.List.{list_all}
-use Rattle.std.specs.Char.{digit_char}
-use Rattle.std.specs.Char.Utf16.{is_high_surrogate, is_low_surrogate}
 use Rattle.std.specs.Str.{IsAscii}
 use Rattle.std.specs.Fmt.{decimal, signed_decimal}
 use Rattle.std.proofs.lemmas.Fmt.{IsAscii-decimal, IsAscii-signed}
@@ -11,10 +9,10 @@ use Rattle.std.proofs.Common.{arith, ◌+◌, ◌-◌, length, length-append, �
 use Rattle.std.proofs.lemmas.Int.{to_z-of_z}
 use mir.Val.{SFits}
 use Rattle.rb_printer.specs.Sound.{IsNumber}
-use Rattle.std.proofs.lemmas.Bool.{ltb-true, lt-ltb}
+use Rattle.std.proofs.lemmas.Bool.{ltb-true}
 use Rattle.std.proofs.lemmas.Str.{encodes-IsAscii, encode_ascii}
-use Rattle.rb_lexer.specs.Lexeme.{quote, backslash}
-use Rattle.rb_printer.specs.Sign.{is_ascii, is_word, is_name, is_shown, is_cited, is_low, escape_chars, pair_chars, unit_chars, units_chars, text, text_chars, sign_chars}
+use Rattle.rb_lexer.specs.Lexeme.{quote}
+use Rattle.rb_printer.specs.Sign.{is_ascii, is_word, is_name, units_chars, text, text_chars, sign_chars}
 use Rattle.rb_printer.specs.inner.Growth.{Adds}
 use Rattle.rb_printer.proofs.Tests.{and_left, and_right}
 use Rattle.rb_printer.proofs.Growths.{adds_more}
@@ -22,26 +20,6 @@ use Rattle.rb_printer.proofs.Words.{word_chars, name_word, name_ascii}
 
 pub adds_as : {old now xs ys : List ℕ} → Adds old now xs → xs ≡ ys → Adds old now ys
 adds_as {old} {now} {xs} {ys} a e = record { is = a.is ∙ ap (λ (t : List ℕ). old ++ encode_utf8_all t) e }
-
-pub cited_chars : (u c : ℕ) → is_cited u ≡ true → c ≡ u → (backslash ∷ c ∷ []) ≡ escape_chars u
-cited_chars u c e p = rw (e, p) refl
-
-pub digits_chars : (u a b c d : ℕ) → is_cited u ≡ false → a ≡ digit_char (u / 4096) → b ≡ digit_char (u / 256 % 16) → c ≡ digit_char (u / 16 % 16)
-    → d ≡ digit_char (u % 16) → (backslash ∷ 0x75 ∷ a ∷ b ∷ c ∷ d ∷ []) ≡ escape_chars u
-digits_chars u a b c d e p q r s = rw (e, p, q, r, s) refl
-
--- what stands for a unit, by what it is
-pub pair_put : (after : Bool) (u : ℕ) (next : Option ℕ) → is_shown u ≡ false → (is_high_surrogate u && is_low next) ≡ true
-    → pair_chars u next ≡ unit_chars after u next
-pair_put after u next e f = rw (e, f) refl
-
-pub none_put : (after : Bool) (u : ℕ) (next : Option ℕ) → is_shown u ≡ false → (is_high_surrogate u && is_low next) ≡ false
-    → (after && is_low_surrogate u) ≡ true → [] ≡ unit_chars after u next
-none_put after u next e f g = rw (e, f, g) refl
-
-pub escape_put : (after : Bool) (u : ℕ) (next : Option ℕ) → is_shown u ≡ false → (is_high_surrogate u && is_low next) ≡ false
-    → (after && is_low_surrogate u) ≡ false → escape_chars u ≡ unit_chars after u next
-escape_put after u next e f g = rw (e, f, g) refl
 
 pub ascii_encoded : (cs : List ℕ) → list_all is_ascii cs ≡ true → encode_utf8_all cs ≡ cs
 ascii_encoded [] e = refl
@@ -67,10 +45,6 @@ name_put r us old new b is holds put =
     let name : is_name us ≡ true = sym is ∙ holds in
     let bare : (is_name us && is_word us) ≡ true = ap (λ (w : Bool). w && is_word us) name ∙ name_word us name in
     subst (λ (w : Bool). OnOk r (Adds old new (text_chars w us))) (sym bare) (ascii_put r old new us (ascii_encoded us (name_ascii us name)) put)
-
--- an ASCII character is its own byte
-pub byte_put : (old new : List ℕ) (c : ℕ) → c < 128 → new ≡ old ++ c ∷ [] → Adds old new (c ∷ [])
-byte_put old new c low put = record { is = put ∙ ap (λ (t : List ℕ). old ++ t) (sym (ascii_encoded (c ∷ []) (rw (lt-ltb c 128 low) refl))) }
 
 -- the bytes of a character
 pub encoded_put : {E : Type 0} (r : Result (Unit {0}) E) (old new bytes : List ℕ) (c : ℕ) → bytes ≡ encode_utf8 c

@@ -8,16 +8,15 @@ use Rattle.rb_tree.specs.Resource.{Resource, string, int, ints, binary, alias, a
 use Rattle.rb_tree.specs.Keys.{IsTable, items, pairs}
 use Rattle.rb_tree.specs.Parts.{kind_of, len_of, children_of, pairs_of, units_of, numbers_of, bytes_of, int_of}
 use Rattle.rb_tree.specs.declared.kind.Kind.TheVariants as Kinds
-use Rattle.rb_grammar.specs.Form.{array_word, table_word}
+use Rattle.rb_grammar.specs.Form.{table_word}
 use Rattle.rb_printer.specs.Sign.{Sign, feed, left, right, comma, text, pieces, is_word, is_name, text_chars, sign_chars, signs_chars}
 use Rattle.rb_printer.specs.Page.{hex_first, hex_later, is_short, pause, wraps, item_fits, remaining_after_item}
-use Rattle.rb_printer.specs.Page.{indent, has_items, has_entries, is_guessed, numbers_signs, type_unless, gap, item_signs}
+use Rattle.rb_printer.specs.Page.{indent, has_entries, is_guessed, numbers_signs, type_unless, gap, item_signs}
 use Rattle.rb_printer.specs.Page.{body_signs, items_signs, entries_signs, items_of, members_of}
-use Rattle.rb_printer.specs.Sound.{AreUnits, IsSound, AreSound, EachSound, IsWell, AreWell, EachWell}
+use Rattle.rb_printer.specs.Sound.{IsSound, AreSound, EachSound, IsWell, AreWell, EachWell}
 use Rattle.rb_printer.specs.inner.Growth.{Adds, Owes, Exceeds}
 use Rattle.rb_printer.specs.declared.error.PrintError.{PrintError}
-use Rattle.rb_lexer.specs.Limits.{source_limit}
-use Rattle.rb_printer.proofs.Growths.{adds_more, owes_all, owes_step, owes_end, exceeds_in, exceeds_now}
+use Rattle.rb_printer.proofs.Growths.{adds_more, owes_all, owes_step, owes_end, exceeds_in}
 use Rattle.rb_printer.proofs.Puts.{adds_as}
 use Rattle.rb_printer.proofs.Words.{decimal_word}
 use Rattle.rb_printer.proofs.Loops.{owes_as}
@@ -49,22 +48,6 @@ pub record ItemsPut (old now : List ℕ) (level : ℕ) (t : Resource) (remaining
   pub owes : Owes old (signs_chars (body_signs level t [])) now
       (signs_chars (items_signs (level + 1) (drop_trees i (items_of t)) remaining (feed ∷ indent level (right ∷ []))))
   pub sound : AreSound (drop_trees i (items_of t)) → AreSound (items_of t)
-
-pub items_begin : (old now : List ℕ) (level : ℕ) (t : Resource) → kind_of t ≡ Kinds.Array
-    → Adds old now (signs_chars (type_unless (is_guessed t) array_word (left ∷ []))) → ItemsPut old now level t 0 0
-items_begin old now level (string us) k a = absurd cc
-items_begin old now level (int n) k a = absurd cc
-items_begin old now level (ints zs) k a = absurd cc
-items_begin old now level (binary bs) k a = absurd cc
-items_begin old now level (alias us) k a = absurd cc
-items_begin old now level (table es) k a = absurd cc
-items_begin old now level (array ts) k a =
-    let inner = items_signs (level + 1) ts 0 (feed ∷ indent level (right ∷ [])) in
-    record {
-      owes = owes_step (signs_chars inner) (owes_as (owes_all old (signs_chars (body_signs level (array ts) [])))
-          ((unless_splits (has_items ts) array_word (front left same)).are inner)) a;
-      sound = λ h. h;
-    }
 
 item_left : (level remaining : ℕ) (u : Resource) (ts : Resources) (rest : List Sign)
     → signs_chars (items_signs level (tree_and u ts) remaining rest)
@@ -153,51 +136,6 @@ items_end old now new level remaining t i m k h p =
     let left = ap (λ (ts : Resources). signs_chars (items_signs (level + 1) ts remaining end)) out ∙ sym (append-nil (signs_chars end)) in
     (owes_end (owes_step [] (owes_as m.owes left) p), array_sound t k (m.sound (subst AreSound (sym out) tt)))
 
--- ---- an item
-
-item_string : (t : Resource) (level : ℕ) → kind_of t ≡ Kinds.String → signs_chars (item_signs t (body_signs level t []) []) ≡ text_chars false (units_of t)
-item_string (string us) level k = append-nil (text_chars false us)
-item_string (int n) level k = absurd cc
-item_string (ints zs) level k = absurd cc
-item_string (binary bs) level k = absurd cc
-item_string (alias us) level k = absurd cc
-item_string (array ts) level k = absurd cc
-item_string (table es) level k = absurd cc
-
-item_other : (t : Resource) (level : ℕ) → (kind_of t ≡ Kinds.String → ⊥) → signs_chars (item_signs t (body_signs level t []) []) ≡ signs_chars (body_signs level t [])
-item_other (string us) level k = absurd (k refl)
-item_other (int n) level k = refl
-item_other (ints zs) level k = refl
-item_other (binary bs) level k = refl
-item_other (alias us) level k = refl
-item_other (array ts) level k = refl
-item_other (table es) level k = refl
-
-pub string_item : (old new : List ℕ) (level : ℕ) (t : Resource) → kind_of t ≡ Kinds.String → Adds old new (text_chars false (units_of t))
-    → Adds old new (signs_chars (item_signs t (body_signs level t []) []))
-string_item old new level t k p = adds_as p (sym (item_string t level k))
-
-pub other_item : (old new : List ℕ) (level : ℕ) (t : Resource) → (kind_of t ≡ Kinds.String → ⊥) → Adds old new (signs_chars (body_signs level t []))
-    → Adds old new (signs_chars (item_signs t (body_signs level t []) []))
-other_item old new level t k p = adds_as p (sym (item_other t level k))
-
-pub string_item_exceeds : (old : List ℕ) (level : ℕ) (t : Resource) (err : PrintError) → kind_of t ≡ Kinds.String → Exceeds old (text_chars false (units_of t)) err
-    → Exceeds old (signs_chars (item_signs t (body_signs level t []) [])) err
-string_item_exceeds old level t err k h = subst (λ (cs : List ℕ). Exceeds old cs err) (sym (item_string t level k)) h
-
-pub other_item_exceeds : (old : List ℕ) (level : ℕ) (t : Resource) (err : PrintError) → (kind_of t ≡ Kinds.String → ⊥)
-    → Exceeds old (signs_chars (body_signs level t [])) err → Exceeds old (signs_chars (item_signs t (body_signs level t []) [])) err
-other_item_exceeds old level t err k h = subst (λ (cs : List ℕ). Exceeds old cs err) (sym (item_other t level k)) h
-
-pub string_sound : (t : Resource) → kind_of t ≡ Kinds.String → AreUnits (units_of t) → IsSound t
-string_sound (string us) k s = s
-string_sound (int n) k s = absurd cc
-string_sound (ints zs) k s = absurd cc
-string_sound (binary bs) k s = absurd cc
-string_sound (alias us) k s = absurd cc
-string_sound (array ts) k s = absurd cc
-string_sound (table es) k s = absurd cc
-
 -- ---- tables
 
 abbrev pub drop_members : ℕ → Members → Members
@@ -226,9 +164,6 @@ members_out (entry_and k t es) (suc i) h = members_out es i (omega arith)
 pub record EntriesPut (old now : List ℕ) (level : ℕ) (t : Resource) (i : ℕ) : Type 0 where
   pub owes : Owes old (signs_chars (entries_signs level (members_of t) [])) now (signs_chars (entries_signs level (drop_members i (members_of t)) []))
   pub sound : EachSound (drop_members i (members_of t)) → EachSound (members_of t)
-
-pub entries_begin : (old : List ℕ) (level : ℕ) (t : Resource) → EntriesPut old old level t 0
-entries_begin old level t = record { owes = owes_all old (signs_chars (entries_signs level (members_of t) [])); sound = λ h. h }
 
 entry_left : (level : ℕ) (k : List ℕ) (u : Resource) (es : Members)
     → signs_chars (entries_signs level (entry_and k u es) [])
@@ -281,10 +216,6 @@ entries_exceed old now a b c level t u k i guessed err is m e f p q h x =
     let g = subst (λ (x : Bool). Adds b c (signs_chars (gap x []))) is h in
     exceeds_in body left err (owes_step (body ++ left) (owes_step (space ++ (body ++ left)) (owes_step (sign_chars (text (is_name k) k) ++ (space ++ (body ++ left)))
     (owes_as m.owes (entry_owed level t u k i e f)) p) q) g) x
-
-pub entries_long : (old now : List ℕ) (level : ℕ) (t : Resource) (i : ℕ) (err : PrintError) → EntriesPut old now level t i → source_limit < length now
-    → Exceeds old (signs_chars (entries_signs level (members_of t) [])) err
-entries_long old now level t i err m h = exceeds_now err m.owes h
 
 table_sound : (t : Resource) → kind_of t ≡ Kinds.Table → IsTable (members_of t) → EachSound (members_of t) → IsSound t
 table_sound (string us) k o s = absurd cc

@@ -1,18 +1,13 @@
 -- The columns of a text.
-use Rattle.std.proofs.Common.{◌≡◌, ℕ, ◌+◌, ◌<◌, ◌≤◌, Bool, false, List, [], ◌∷◌, ◌++◌, length, get_or, drop, Option, ap, sym, ◌∙◌, arith, length-append}
+use Rattle.std.proofs.Common.{◌≡◌, ℕ, ◌+◌, ◌<◌, Bool, false, List, ◌++◌, length, get_or, drop, Option, ap, sym, ◌∙◌, arith, length-append}
 use Rattle.std.specs.Char.Utf16.{is_high_surrogate}
-use Rattle.rb_lexer.specs.Lexeme.{quote}
 use Rattle.rb_printer.specs.Sign.{first_unit, unit_chars, units_chars, text_chars}
-use Rattle.rb_printer.specs.Page.{text_width}
-use Rattle.rb_printer.proofs.Loops.{units_next, units_last}
+use Rattle.rb_printer.proofs.Loops.{units_next}
 
 -- with the units from one on, a text has these columns, which are less than a line's
 pub record Measured (us : List ℕ) (width i : ℕ) (after : Bool) : Type 0 where
   pub columns : width + length (units_chars (drop i us) after) ≡ length (text_chars false us)
   pub few : width < 100
-
-pub measure_begin : (us : List ℕ) → Measured us 2 0 false
-measure_begin us = record { columns = omega (arith, length-append (units_chars us false) (quote ∷ [])); few = omega arith }
 
 wider : (us : List ℕ) (width i u n : ℕ) (next : Option ℕ) (after high : Bool) → Measured us width i after → i < length us → u ≡ get_or us i 0
     → next ≡ first_unit (drop (i + 1) us) → high ≡ is_high_surrogate u → n ≡ length (unit_chars after u next)
@@ -29,11 +24,3 @@ pub measure_more : (us : List ℕ) (width i u n : ℕ) (next : Option ℕ) (afte
     → next ≡ first_unit (drop (i + 1) us) → high ≡ is_high_surrogate u → n ≡ length (unit_chars after u next) → width + n < 100
     → Measured us (width + n) (i + 1) high
 measure_more us width i u n next after high m h e f g w few = record { columns = wider us width i u n next after high m h e f g w; few = few }
-
-pub measure_out : (us : List ℕ) (width i u n : ℕ) (next : Option ℕ) (after : Bool) → Measured us width i after → i < length us → u ≡ get_or us i 0
-    → next ≡ first_unit (drop (i + 1) us) → n ≡ length (unit_chars after u next) → 100 ≤ width + n → 100 ≡ text_width us
-measure_out us width i u n next after m h e f w most =
-    omega (arith, wider us width i u n next after (is_high_surrogate u) m h e f (let same : is_high_surrogate u ≡ is_high_surrogate u = cc in same) w)
-
-pub measure_end : (us : List ℕ) (width i : ℕ) (after : Bool) → Measured us width i after → length us ≤ i → width ≡ text_width us
-measure_end us width i after m h = omega (arith, m.columns, m.few, ap length (units_last us i after h))

@@ -1,5 +1,5 @@
 -- Proves that texts without quotes, including numbers, need no escapes.
-use Rattle.std.proofs.Common.{◌≡◌, ℕ, suc, ◌+◌, ◌<◌, ◌≤◌, ◌^◌, ℤ, pos, negsuc, Bool, true, false, not, ◌&&◌, ◌||◌, List, [], ◌∷◌, length, take, get_or, ne_eqb}
+use Rattle.std.proofs.Common.{◌≡◌, ℕ, suc, ◌<◌, ◌≤◌, ◌^◌, ℤ, pos, negsuc, true, false, not, ◌&&◌, ◌||◌, List, [], ◌∷◌, length, ne_eqb}
 use Rattle.std.proofs.Common.{refl, sym, ap, subst, ◌∙◌, arith}
 use Rattle.std.specs.Prelude.{nat_lt, ◌==◌}
 use Rattle.std.specs.List.{list_all}
@@ -8,8 +8,6 @@ use Rattle.std.specs.Fmt.{decimal, signed_decimal}
 use Rattle.std.specs.Str.Parse.{AllDigits}
 use Rattle.std.proofs.lemmas.Bool.{ltb-true, lt-ltb, le-ltb, lt-leb}
 use Rattle.std.proofs.lemmas.Bool.Decides.{nat_tests}
-use Rattle.std.proofs.lemmas.List.Folds.{list_all_at, list_all_more}
-use Rattle.std.proofs.lemmas.List.{take_all}
 use Rattle.std.proofs.lemmas.Fmt.{decimal_is_IsNumeral, decimal_nonempty}
 use Rattle.rb_lexer.specs.Lexeme.{is_white, is_punctuation, quote, backslash, slash}
 use Rattle.rb_lexer.specs.Tokens.{is_empty}
@@ -73,8 +71,8 @@ ascii_shown c low high no_quote no_backslash = rw (
   le-ltb c 0x20 low,
   lt-leb 0x7F c high,
   lt-leb 0xD800 c (omega arith),
-  ne_eqb c 0x2028 (λ e. omega arith),
-  ne_eqb c 0x2029 (λ e. omega arith),
+  lt-leb 0x2028 c (omega arith),
+  lt-leb 0x2066 c (omega arith),
   ne_eqb c 0xFEFF (λ e. omega arith),
 ) refl
 
@@ -152,27 +150,3 @@ name_ascii us e = names_ascii us (and_right (not (is_empty us)) (list_all is_nam
 pub name_word : (us : List ℕ) → is_name us ≡ true → is_word us ≡ true
 name_word us e =
     rw (and_left (not (is_empty us)) (list_all is_name_unit us) e) (names_plain us (and_right (not (is_empty us)) (list_all is_name_unit us) e))
-
--- ---- whether a text is a name, unit by unit
-
-pub no_name : (us : List ℕ) (i : ℕ) → i < length us → is_name_unit (get_or us i 0) ≡ false → is_name us ≡ false
-no_name us i h e = rw (list_all_at is_name_unit us i 0 h e) (and_false (not (is_empty us))) where
-  and_false : (b : Bool) → (b && false) ≡ false
-  and_false true = refl
-  and_false false = refl
-
-none_there : (us : List ℕ) → is_empty us ≡ (length us == 0)
-none_there [] = refl
-none_there (u ∷ us) = sym (ne_eqb (length (u ∷ us)) 0 (λ e. omega arith))
-
-pub name_end : (us : List ℕ) (i : ℕ) (b : Bool) → length us ≤ i → list_all is_name_unit (take i us) ≡ true → b ≡ (length us == 0) → not b ≡ is_name us
-name_end us i b h all none =
-    let whole : list_all is_name_unit us ≡ true = subst (λ (xs : List ℕ). list_all is_name_unit xs ≡ true) (take_all i us h) all in
-    rw (whole) (ap not (none ∙ sym (none_there us)) ∙ sym (and_true (not (is_empty us)))) where
-      and_true : (b : Bool) → (b && true) ≡ b
-      and_true true = refl
-      and_true false = refl
-
-pub name_more : (us : List ℕ) (i : ℕ) → i < length us → list_all is_name_unit (take i us) ≡ true → is_name_unit (get_or us i 0) ≡ true
-    → list_all is_name_unit (take (i + 1) us) ≡ true
-name_more us i h all here = rw (list_all_more is_name_unit us i 0 h, all, here) refl

@@ -48,9 +48,9 @@ is_control u = nat_lt u 0x20 || (nat_le 0x7F u && nat_lt u 0xA0)
 abbrev pub is_surrogate : ℕ → Bool
 is_surrogate u = nat_le 0xD800 u && nat_lt u 0xE000
 
--- the line separator, the paragraph separator and the byte order mark
+-- the separators of lines and of paragraphs, the controls of the writing direction, and the byte order mark
 abbrev pub is_mark : ℕ → Bool
-is_mark u = (u == 0x2028) || (u == 0x2029) || (u == 0xFEFF)
+is_mark u = (nat_le 0x2028 u && nat_lt u 0x202F) || (nat_le 0x2066 u && nat_lt u 0x206A) || (u == 0xFEFF)
 
 -- a quote or a backslash
 abbrev pub is_cited : ℕ → Bool

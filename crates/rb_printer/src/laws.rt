@@ -1,4 +1,3 @@
-//! Laws of the definitions, each the contract of an empty function.
 ghost use Rattle.std.specs.Prelude.{◌≡◌, ◌≤◌, ℕ, Bool, List, length, encode_utf8_all};
 ghost use Rattle.rb_tree.specs.Resource.{Members, table, height};
 ghost use Rattle.rb_printer.specs.Sign.{signs_chars};

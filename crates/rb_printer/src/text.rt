@@ -60,10 +60,12 @@ fn is_surrogate(unit: u16) -> bool
     0xD800 <= unit && unit < 0xE000
 }
 
+/// Checks whether a unit is a separator of lines, a control of the writing direction or the byte
+/// order mark, which a reader of the text wouldn't see.
 fn is_mark(unit: u16) -> bool
     ensures { result ≡ sign.is_mark unit }
 {
-    unit == 0x2028 || unit == 0x2029 || unit == 0xFEFF
+    (0x2028 <= unit && unit < 0x202F) || (0x2066 <= unit && unit < 0x206A) || unit == 0xFEFF
 }
 
 pub fn is_cited(unit: u16) -> bool

@@ -35,7 +35,6 @@ fn put_gap(out: &mut Vec<u8>, guessed: bool) -> Result<(), AllocError>
     if guessed { put_str(out, " ") } else { Ok(()) }
 }
 
-/// Begins an array, and writes its type if it isn't guessed.
 fn begin_array(out: &mut Vec<u8>, guessed: bool) -> Result<(), AllocError>
     ensures { OnOk result (Adds out.old.items out.new.items
         (signs_chars (type_unless guessed array_word (left ∷ [])))) }
@@ -47,7 +46,6 @@ fn begin_array(out: &mut Vec<u8>, guessed: bool) -> Result<(), AllocError>
     }
 }
 
-/// Begins a table, and writes its type if it isn't guessed.
 fn begin_table(out: &mut Vec<u8>, guessed: bool) -> Result<(), AllocError>
     ensures { OnOk result (Adds out.old.items out.new.items
         (signs_chars (type_unless guessed table_word (left ∷ feed ∷ [])))) }

@@ -1,4 +1,3 @@
-//! Checks whether a reply is longer than a limit.
 ghost use Rattle.std.specs.Prelude.{◌↔◌, IsTrue, Some, length};
 ghost use Rattle.rb_engine.specs.Answer.{Finds, Replies};
 ghost use Rattle.rb_fallback.specs.Answers.{hit_of};
@@ -44,8 +43,8 @@ impl Outlet for Room {
     }
 }
 
-/// Checks whether the line of the reply to a lookup that found an item, with its line feed, is
-/// longer than a limit. It takes no memory, and spells no more of the item than the limit's length.
+/// Checks whether the reply to a lookup that found an item exceeds a limit, with its line feed. It
+/// takes no memory, and spells no more of the item than the limit's length.
 pub fn found_is_above(found: &Found<Item<'_>>, limit: Option<u64>) -> bool
     ensures { IsTrue result ↔ IsAbove
         (length (reply_line (Some (Finds (hit_of tree_seen found.now) found.now.valid)))) limit }
@@ -69,8 +68,8 @@ fn line_is_above(reply: &Reply, limit: Option<u64>) -> bool
     room.left.is_none()
 }
 
-/// Checks whether the line of the reply to a request, with its line feed, is longer than a limit,
-/// which only names have. It takes no memory.
+/// Checks whether the reply to a request exceeds a limit, which only names have, with its line
+/// feed. It takes no memory.
 pub fn reply_is_above(reply: &Reply, limit: Option<u64>) -> bool
     ensures { IsTrue result ↔ IsAbove (length (reply_line (Some (Replies reply.now))))
         (limit_of (Replies reply.now) limit) }

@@ -1,4 +1,3 @@
-//! The line of a reply in memory.
 ghost use Rattle.std.specs.Prelude.{◌≡◌, [], ◌∷◌, ◌++◌, OnOk, Some};
 ghost use Rattle.serde_json.specs.Written.{compact_text};
 ghost use Rattle.rb_replies.specs.Replied.{error as error_data, reply_data, response_data};

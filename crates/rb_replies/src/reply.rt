@@ -1,5 +1,4 @@
-//! Replies of an engine, written into an outlet: each is a compact JSON object with its members in
-//! ascending order, and a line feed.
+//! Replies of an engine: each is a compact JSON object, its members ascending, and a line feed.
 ghost use Rattle.std.specs.Prelude.{◌≡◌, [], ◌∷◌, ◌++◌, Some, encode_utf8_all};
 ghost use Rattle.json.specs.Print.{quoted};
 ghost use Rattle.serde_json.specs.Written.{compact_text};

@@ -5,10 +5,10 @@ use Rattle.serde_json.specs.Find.{get_member, as_str}
 use Rattle.hex.specs.Hex.{decode_of}
 use Rattle.rb_engine.specs.declared.request.Payload.{Payload}
 use Rattle.rb_engine.specs.declared.request.Payload.TheVariants.{Text}
-use Rattle.rb_members.specs.Texts.{Holds, IsAt, IsMember}
-use Rattle.rb_members.specs.declared.member.Member.{Member}
-use Rattle.rb_members.specs.declared.member.Member.TheVariants as members
-use Rattle.rb_members.specs.declared.texts.Texts.{Texts}
+use Rattle.rb_requests.specs.inner.Texts.{Holds, IsAt, IsMember}
+use Rattle.rb_requests.specs.declared.member.Member.{Member}
+use Rattle.rb_requests.specs.declared.member.Member.TheVariants as members
+use Rattle.rb_requests.specs.declared.texts.Texts.{Texts}
 use Rattle.rb_requests.specs.Asked.{decoded, data_of}
 use Rattle.rb_requests.specs.inner.Line.{AreTextsOf, AsksNothing, lent, text_in, payload_by}
 

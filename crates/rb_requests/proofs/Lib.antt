@@ -1,4 +1,11 @@
-pub mod Texts
+pub mod TextsRead
+pub mod Members
+pub mod MembersRead
+pub mod ShortIntegers
+pub mod Judging
+pub mod CallSteps
+pub mod Histories
+pub mod Quota
 pub mod Lent
 pub mod Stepping
 pub mod NoLimits

@@ -59,14 +59,6 @@ pub record ReadSoFar (longest : Longest) (before now : Reader) (progress : Progr
   pub far : IsSoFar longest progress line held
   pub quiet : now.faults ≡ before.faults
 
-pub read_none : (longest : Longest) (now : Reader) (held : List ℕ) → held ≡ [] → ReadSoFar longest now now (record { count = 0; starved = false }) held
-read_none longest now held e = record {
-  line = [];
-  part = record { read = Consumes-nil now.left; plain = refl };
-  far = record { many = refl; short = omega arith; whole = λ s few. e; passed = λ s. absurd (false≢true s) };
-  quiet = refl;
-}
-
 not_a_feed : (b : ℕ) → (b ≡ 10 → ⊥) → eqb b 10 ≡ false
 not_a_feed b n = grind (arith, nat_tests)
 
@@ -136,23 +128,6 @@ module _ (longest : Longest) (before now : Reader) (progress read : Progress) (m
         },
         holds line held' (run_far m.bytes m.moved m.short),
       )
-
--- a run for which memory ran out, so that nothing was taken
-pub run_refused : (longest : Longest) (before now : Reader) (progress : Progress) (old : List ℕ) (left : Option (List ℕ))
-    → ReadSoFar longest before now progress old → progress.count < longest.limit → Keeps now.left left → ReadsFewer longest.limit before.left left
-run_refused longest before now progress old left h room k =
-    record { bytes = h.line; part = plain_kept before.left now.left left h.line h.part k; fewer = omega (arith, h.far.many) }
-
--- the same if the line is passed over
-pub run_starved : (longest : Longest) (before now then : Reader) (progress : Progress) (old held : List ℕ) → ReadSoFar longest before now progress old
-    → Keeps now.left then.left → then.faults ≡ now.faults → longest.passes_starved ≡ true
-    → ReadSoFar longest before then (record { count = progress.count; starved = true }) held
-run_starved longest before now then progress old held h k q p = record {
-  line = h.line;
-  part = plain_kept before.left now.left then.left h.line h.part k;
-  far = record { many = h.far.many; short = h.far.short; whole = λ s. absurd (false≢true (sym s)); passed = λ s. p };
-  quiet = q ∙ h.quiet;
-}
 
 -- ---- the end of the input
 

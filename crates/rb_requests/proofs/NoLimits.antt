@@ -13,40 +13,44 @@ use Rattle.rb_engine.specs.declared.handle.Change.TheVariants as change
 use Rattle.rb_engine.specs.declared.place.Place.{Place}
 use Rattle.rb_engine.specs.declared.request.Payload.{Payload}
 use Rattle.rb_engine.specs.declared.request.Request.TheVariants as request
-use Rattle.rb_limits.specs.Limits.{change_refusal, call_refusal}
-use Rattle.rb_limits.specs.Steps.{Outcome, Answers, IsAnswered, IsJudged}
-use Rattle.rb_limits.specs.declared.limits.Limits.{Limits}
-use Rattle.rb_limits.proofs.Judging.{keeps_nothing}
+use Rattle.rb_requests.specs.Limits.{change_refusal, call_refusal}
+use Rattle.rb_requests.specs.Steps.{Outcome, Answers, IsAnswered, IsJudged}
+use Rattle.rb_requests.specs.declared.limits.Limits.{Limits}
+use Rattle.rb_requests.proofs.Judging.{keeps_nothing}
 use Rattle.rb_replies.specs.Replied.{reply_line}
 use Rattle.rb_requests.specs.Asked.{call_of}
 use Rattle.rb_requests.specs.Lines.{AnswersAsked, LineReply}
 use Rattle.rb_requests.specs.Served.{IsShort}
 use Rattle.rb_requests.specs.Within.{AnswersRead, LineReplyWithin, may_be_long, outcome_line}
-use Rattle.rb_requests.specs.declared.limits.LineLimits.{LineLimits}
 use Rattle.rb_requests.proofs.Stepping.{at_most_over}
 
-abbrev pub no_calls : Limits
-no_calls = record { bundle_bytes = None; app_bytes = None; apps = None; steps = None }
-
-abbrev pub no_limits : LineLimits
-no_limits = record { calls = no_calls; line_bytes = None; reply_bytes = None; keep_serving = false }
+abbrev pub no_limits : Limits
+no_limits = record {
+  bundle_bytes = None;
+  app_bytes = None;
+  apps = None;
+  steps = None;
+  line_bytes = None;
+  reply_bytes = None;
+  keep_serving = false;
+}
 
 change_free : {E : Type 0} (kept : Kept) (made : Change) (r : Result Place E) (payload : Payload) (brought : Option (List ℕ))
-    → change_refusal no_calls kept made r payload brought ≡ None
+    → change_refusal no_limits kept made r payload brought ≡ None
 change_free kept made (Err e) payload brought = refl
 change_free kept made (Ok p) payload None = refl
 change_free kept made (Ok p) payload (Some file) =
-    sym (keeps_nothing no_calls made p.name (files_of p.app kept.packages) (apps_of kept.packages) file refl refl refl)
+    sym (keeps_nothing no_limits made p.name (files_of p.app kept.packages) (apps_of kept.packages) file refl refl refl)
 
-call_free : (kept : Kept) (call : Call) (brought : Option (List ℕ)) → call_refusal no_calls kept call brought ≡ None
+call_free : (kept : Kept) (call : Call) (brought : Option (List ℕ)) → call_refusal no_limits kept call brought ≡ None
 call_free kept (Requests (request.Install app locale payload)) brought = change_free kept change.Install (place_of app locale) payload brought
 call_free kept (Requests (request.Replace app locale payload)) brought = change_free kept change.Replace (place_of app locale) payload brought
 call_free kept (Requests (request.Remove app locale)) brought = refl
 call_free kept (Requests (request.List app)) brought = refl
 call_free kept (LooksUp app locale path) brought = refl
 
-answered : (old new : Kept) (call : Call) (brought : Option (List ℕ)) (outcome : Outcome) → IsJudged no_calls old call brought outcome new
-    → IsAnswered no_calls old call brought outcome new
+answered : (old new : Kept) (call : Call) (brought : Option (List ℕ)) (outcome : Outcome) → IsJudged no_limits old call brought outcome new
+    → IsAnswered no_limits old call brought outcome new
 answered old new call brought outcome h = elim h [
   | inl refused ↦ absurd (false≢true (ap is_some (sym (call_free old call brought) ∙ refused.refused)))
   | inr a ↦ a

@@ -358,10 +358,6 @@ module _ {S : Type 0} (Reply : S → List ℕ → List ℕ → S → Type 0) whe
   pub wrote : (old new : S) (line reply : List ℕ) (a b : Option (List ℕ)) → Reply old line reply new → Appends a b reply → Wrote Reply old line a b new
   wrote old new line reply a b response w = (reply, response, w)
 
-  pub not_written : (old new : S) (line reply : List ℕ) (a b : Option (List ℕ)) → Reply old line reply new → WrotePart a b reply
-      → FailsLine Reply Write old line a b new
-  not_written old new line reply a b response w = inr (refl, record { reply = reply; answers = response; wrote = w })
-
   pub not_replied : (old new : S) (line : List ℕ) (a : Option (List ℕ)) → MayTakeEffect Reply old line new → FailsLine Reply Memory old line a a new
   not_replied old new line a response = inl (refl, record { effect = response; kept = Appends-nil a })
 

@@ -10,10 +10,10 @@ use Rattle.rb_engine.specs.History.{is_memory}
 use Rattle.rb_engine.specs.Kept.{Kept}
 use Rattle.rb_engine.specs.declared.request.Reply.{Reply}
 use Rattle.rb_engine.specs.declared.request.Reply.TheVariants.{Names, Done}
-use Rattle.rb_members.specs.declared.texts.Texts.{Texts}
-use Rattle.rb_limits.specs.Limits.{is_over}
-use Rattle.rb_limits.specs.Steps.{Outcome, Answers, Refuses, CallIsJudged, CallComesTo, may_starve}
-use Rattle.rb_limits.specs.declared.limits.Limits.{Limits}
+use Rattle.rb_requests.specs.declared.texts.Texts.{Texts}
+use Rattle.rb_requests.specs.Limits.{is_over}
+use Rattle.rb_requests.specs.Steps.{Outcome, Answers, Refuses, CallIsJudged, CallComesTo, may_starve}
+use Rattle.rb_requests.specs.declared.limits.Limits.{Limits}
 use Rattle.rb_replies.specs.Replied.{reply_line}
 use Rattle.rb_replies.specs.Within.{limit_of, IsAbove}
 use Rattle.rb_requests.specs.Asked.{call_in}
@@ -21,7 +21,6 @@ use Rattle.rb_requests.specs.Within.{AnswersRead, outcome_line, may_be_long, err
 use Rattle.rb_requests.specs.declared.answer.Starved.{Starved}
 use Rattle.rb_requests.specs.declared.answer.Starved.TheVariants.{Before, After}
 use Rattle.rb_requests.specs.declared.ask.Line.{Line}
-use Rattle.rb_requests.specs.declared.limits.LineLimits.{LineLimits}
 use Rattle.rb_requests.specs.inner.Line.{line_view, AreTextsOf}
 use Rattle.rb_requests.specs.inner.Starving.{CallReply, LeavesOf, untold_reply}
 
@@ -31,14 +30,9 @@ pub call_read : {o : Option Line} (texts : Texts) (line : Line) → ((d : Data) 
 call_read texts line h e d t = sym (h d t) ∙ ap (option_map line_view) e
 
 -- a line that calls is answered as its call is
-pub asked_reply : (limits : LineLimits) (s : Kept) (call : Option Call) (usage : Option (List ℕ)) (k : Call) (text : List ℕ) (new : Kept)
+pub asked_reply : (limits : Limits) (s : Kept) (call : Option Call) (usage : Option (List ℕ)) (k : Call) (text : List ℕ) (new : Kept)
     → call ≡ Some k → CallReply limits s k text new → AnswersRead limits s call usage text new
 asked_reply limits s call usage k text new e t = rw e t
-
--- a line that calls nothing
-pub asked_none : {o : Option Line} (texts : Texts) → ((d : Data) → AreTextsOf texts d → option_map line_view o ≡ call_in d)
-    → o ≡ None → (d : Data) → AreTextsOf texts d → call_in d ≡ None
-asked_none texts h e d t = sym (h d t) ∙ ap (option_map line_view) e
 
 -- the state if memory runs out, under a weaker statement on the reply
 pub leaves_more : (P Q : List ℕ → Kept → Type 0) (s : Starved) (old new : Kept) → ((text : List ℕ) → P text new → Q text new)
@@ -93,13 +87,13 @@ unchanged limits old call outcome new e (brought, brings, judged) = elim judged 
 ]
 
 -- the state after a call whose reply could not be made
-pub left_by : (limits : LineLimits) (old : Kept) (call : Call) (reply : Reply) (new : Kept) → is_memory (Replies reply) ≡ false
-    → CallComesTo limits.calls old call (Answers (Replies reply)) new → LeavesOf (CallReply limits old call) (untold_reply reply) old new
+pub left_by : (limits : Limits) (old : Kept) (call : Call) (reply : Reply) (new : Kept) → is_memory (Replies reply) ≡ false
+    → CallComesTo limits old call (Answers (Replies reply)) new → LeavesOf (CallReply limits old call) (untold_reply reply) old new
 left_by limits old call Done new e h =
     let outcome = Answers (Replies Done) in
-    inr (outcome_line limits outcome, (outcome, judged limits.calls old call outcome new refl h, refl))
+    inr (outcome_line limits outcome, (outcome, judged limits old call outcome new refl h, refl))
 left_by limits old call other new e h =
-    unchanged limits.calls old call (Answers (Replies other)) new refl (judged limits.calls old call (Answers (Replies other)) new e h)
+    unchanged limits old call (Answers (Replies other)) new refl (judged limits old call (Answers (Replies other)) new e h)
 
 -- ---- the line of an answer
 
@@ -123,11 +117,11 @@ exceeds (Replies (Names names)) None n h = absurd h
 exceeds (Replies (Names names)) (Some most) n h = above_over most n h
 exceeds other most n h = absurd h
 
-pub line_whole : (limits : LineLimits) (response : Response) → (IsAbove (length (reply_line (Some response))) (limit_of response limits.reply_bytes) → ⊥)
+pub line_whole : (limits : Limits) (response : Response) → (IsAbove (length (reply_line (Some response))) (limit_of response limits.reply_bytes) → ⊥)
     → reply_line (Some response) ≡ outcome_line limits (Answers response)
 line_whole limits response short = rw (fits response limits.reply_bytes _ short) refl
 
-pub line_long : (limits : LineLimits) (response : Response) → IsAbove (length (reply_line (Some response))) (limit_of response limits.reply_bytes)
+pub line_long : (limits : Limits) (response : Response) → IsAbove (length (reply_line (Some response))) (limit_of response limits.reply_bytes)
     → error_line (codes "ReplyTooLong") ≡ outcome_line limits (Answers response)
 line_long limits response long = rw (exceeds response limits.reply_bytes _ long) refl
 

@@ -9,7 +9,7 @@ use Rattle.rb_packages.specs.Packages.{files_of}
 use Rattle.rb_requests.specs.Asked.{call_of, data_of}
 use Rattle.rb_requests.specs.Lines.{RepliesBy, RepliesByLine}
 use Rattle.rb_requests.specs.Within.{LineReplyWithin, longest_kept, asked_usage, usage_in, error_line}
-use Rattle.rb_requests.specs.declared.limits.LineLimits.{LineLimits}
+use Rattle.rb_requests.specs.declared.limits.Limits.{Limits}
 
 -- a line is a call of the application
 abbrev pub is_of : List ℕ → Option Call → Bool
@@ -63,7 +63,7 @@ question_in None (Some app) = Some (AsksUsage app)
 question_in None None = None
 
 -- nothing, if the line is too long or no request
-abbrev pub question_of : LineLimits → List ℕ → Option Question
+abbrev pub question_of : Limits → List ℕ → Option Question
 question_of limits line =
     if nat_lt (longest_kept limits) (length line) then None
     else question_in (call_of line) (asked_usage limits (option_and_then usage_in (data_of line)))
@@ -74,7 +74,7 @@ with_turn app (Some question) reply turns =
     if bytes_eq (asker question) app then (question, reply) ∷ turns else turns
 
 -- the application's questions among lines, each with its reply
-abbrev pub turns_of : LineLimits → List ℕ → List (List ℕ) → List (List ℕ) → List (Question × List ℕ)
+abbrev pub turns_of : Limits → List ℕ → List (List ℕ) → List (List ℕ) → List (Question × List ℕ)
 turns_of limits app [] replies = []
 turns_of limits app (line ∷ rest) [] = []
 turns_of limits app (line ∷ rest) (reply ∷ more) =
@@ -95,7 +95,7 @@ asked turn = (turn.0, shared turn.1)
 -- many, over the same start and the same files of it, reply the same to it, and leave it the same files.
 abbrev pub AreLinesIsolatedWithin : Type 0
 AreLinesIsolatedWithin =
-    (limits : LineLimits) (app : List ℕ) (s t end end' : Kept) (first second replies replies' : List (List ℕ))
+    (limits : Limits) (app : List ℕ) (s t end end' : Kept) (first second replies replies' : List (List ℕ))
     → (state_of s).start ≡ (state_of t).start
     → files_of app s.packages ≡ files_of app t.packages
     → RepliesBy (LineReplyWithin limits) s first replies end

@@ -1,9 +1,13 @@
 pub mod Limits
 pub mod Words
 pub mod Asked
+pub mod Requested
 pub mod Lines
 pub mod Served
 pub mod Within
+pub mod Steps
+pub mod Outcomes
+pub mod History
 pub mod Device
 pub mod Runs
 pub mod Isolation

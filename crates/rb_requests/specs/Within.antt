@@ -14,13 +14,12 @@ use Rattle.rb_engine.specs.Kept.{Kept}
 use Rattle.rb_engine.specs.Place.{app_refusal}
 use Rattle.rb_engine.specs.Answer.{refusal}
 use Rattle.rb_engine.specs.declared.request.Reply.TheVariants.{Names}
-use Rattle.rb_limits.specs.Limits.{is_over, used}
-use Rattle.rb_limits.specs.Steps.{Outcome, Answers, Refuses, CallIsJudged}
-use Rattle.rb_limits.specs.Words.{refusal_word}
+use Rattle.rb_requests.specs.Limits.{is_over, used, line_limit}
+use Rattle.rb_requests.specs.Steps.{Outcome, Answers, Refuses, CallIsJudged}
+use Rattle.rb_requests.specs.Words.{refusal_word}
 use Rattle.rb_replies.specs.Replied.{error, reply_line, usage_data}
 use Rattle.rb_requests.specs.Asked.{call_of, data_of, text_at}
-use Rattle.rb_requests.specs.declared.limits.LineLimits.{LineLimits}
-use Rattle.rb_requests.specs.Limits.{line_limit}
+use Rattle.rb_requests.specs.declared.limits.Limits.{Limits}
 
 abbrev pub line_of : Data → List ℕ
 line_of d = compact_text d ++ 10 ∷ []
@@ -31,21 +30,21 @@ error_line word = line_of (error word)
 -- ---- the length of a line
 
 -- a line with at most this many bytes is read as a request
-abbrev pub longest_kept : LineLimits → ℕ
+abbrev pub longest_kept : Limits → ℕ
 longest_kept limits = min (unwrap_or limits.line_bytes line_limit) line_limit
 
 -- a line with more bytes than this ends serving: 268,435,456 without a limit on lines, and with one the largest number
 -- of 64 bits
-abbrev pub longest_read : LineLimits → ℕ
+abbrev pub longest_read : Limits → ℕ
 longest_read limits = if is_some limits.line_bytes then 2 ^ 64 - 1 else line_limit
 
 -- ---- questions for usage
 
 -- any limit is on
-abbrev pub is_limited : LineLimits → Bool
+abbrev pub is_limited : Limits → Bool
 is_limited limits =
-    (is_some limits.calls.bundle_bytes || (is_some limits.calls.app_bytes
-    || (is_some limits.calls.apps || is_some limits.calls.steps)))
+    (is_some limits.bundle_bytes || (is_some limits.app_bytes
+    || (is_some limits.apps || is_some limits.steps)))
     || (is_some limits.line_bytes || (is_some limits.reply_bytes || limits.keep_serving))
 
 -- the application whose usage a line asks for: an object with `op` "usage" and `app`
@@ -55,7 +54,7 @@ usage_in d =
     (text_at (codes "op") d)
 
 -- the question counts only if any limit is on
-abbrev pub asked_usage : LineLimits → Option (List ℕ) → Option (List ℕ)
+abbrev pub asked_usage : Limits → Option (List ℕ) → Option (List ℕ)
 asked_usage limits app = if is_limited limits then app else None
 
 -- ---- replies
@@ -66,10 +65,10 @@ may_be_long (Finds hit valid) = true
 may_be_long (Replies (Names names)) = true
 may_be_long other = false
 
-abbrev pub is_too_long : LineLimits → Response → Bool
+abbrev pub is_too_long : Limits → Response → Bool
 is_too_long limits response = may_be_long response && is_over limits.reply_bytes (length (reply_line (Some response)))
 
-abbrev pub outcome_line : LineLimits → Outcome → List ℕ
+abbrev pub outcome_line : Limits → Outcome → List ℕ
 outcome_line limits (Answers response) =
     if is_too_long limits response then error_line (codes "ReplyTooLong") else reply_line (Some response)
 outcome_line limits (Refuses refusal) = error_line (refusal_word refusal)
@@ -86,23 +85,23 @@ usage_reply kept (Ok app) = usage_line (files_of app kept.packages)
 
 -- a line that is read: a call is refused by a limit or answered by the engine; a question for usage is answered; any
 -- other line is no request
-abbrev pub AnswersRead : LineLimits → Kept → Option Call → Option (List ℕ) → List ℕ → Kept → Type 0
+abbrev pub AnswersRead : Limits → Kept → Option Call → Option (List ℕ) → List ℕ → Kept → Type 0
 AnswersRead limits old (Some call) usage text new =
-    (outcome : Outcome) × CallIsJudged limits.calls old call outcome new × (text ≡ outcome_line limits outcome)
+    (outcome : Outcome) × CallIsJudged limits old call outcome new × (text ≡ outcome_line limits outcome)
 AnswersRead limits old None (Some app) text new = (text ≡ usage_reply old (app_of app)) × (new ≡ old)
 AnswersRead limits old None None text new = (text ≡ error_line (codes "BadLine")) × (new ≡ old)
 
-abbrev pub ReadReply : LineLimits → Kept → List ℕ → List ℕ → Kept → Type 0
+abbrev pub ReadReply : Limits → Kept → List ℕ → List ℕ → Kept → Type 0
 ReadReply limits old line text new =
     AnswersRead limits old (call_of line) (asked_usage limits (option_and_then usage_in (data_of line))) text new
 
 -- A line with more than this many bytes is not read. With `keep_serving`, any other may be answered `Memory`, and has
 -- then changed nothing.
-abbrev pub LineReplyUpTo : ℕ → LineLimits → Kept → List ℕ → List ℕ → Kept → Type 0
+abbrev pub LineReplyUpTo : ℕ → Limits → Kept → List ℕ → List ℕ → Kept → Type 0
 LineReplyUpTo most limits old line text new =
     ((nat_lt most (length line) ≡ true) × (text ≡ error_line (codes "LineTooLong")) × (new ≡ old))
     ⊎ ((nat_lt most (length line) ≡ false) × (ReadReply limits old line text new
     ⊎ ((limits.keep_serving ≡ true) × (text ≡ error_line (codes "Memory")) × (new ≡ old))))
 
-abbrev pub LineReplyWithin : LineLimits → Kept → List ℕ → List ℕ → Kept → Type 0
+abbrev pub LineReplyWithin : Limits → Kept → List ℕ → List ℕ → Kept → Type 0
 LineReplyWithin limits old line text new = LineReplyUpTo (longest_kept limits) limits old line text new

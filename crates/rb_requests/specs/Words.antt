@@ -1,5 +1,7 @@
 -- Defines the codes of errors: each is its variant's name.
 use Rattle.std.specs.Prelude.{ℕ, List, codes}
+use Rattle.rb_requests.specs.declared.limits.Refusal.{Refusal}
+use Rattle.rb_requests.specs.declared.limits.Refusal.TheVariants.{BundleTooLong, OverQuota, TooManyApps, TooManySteps}
 use Rattle.rb_requests.specs.declared.lines.ServeFault.{ServeFault}
 use Rattle.rb_requests.specs.declared.lines.ServeFault.TheVariants as serve
 use Rattle.rb_requests.specs.declared.words.LineError.{LineError}
@@ -19,3 +21,10 @@ line_error_word line.BadLine = codes "BadLine"
 line_error_word line.LineTooLong = codes "LineTooLong"
 line_error_word line.ReplyTooLong = codes "ReplyTooLong"
 line_error_word line.Memory = codes "Memory"
+
+-- the code of a limit's rejection
+abbrev pub refusal_word : Refusal → List ℕ
+refusal_word BundleTooLong = codes "BundleTooLong"
+refusal_word OverQuota = codes "OverQuota"
+refusal_word TooManyApps = codes "TooManyApps"
+refusal_word TooManySteps = codes "TooManySteps"

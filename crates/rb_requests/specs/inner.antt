@@ -1,4 +1,6 @@
 pub mod Line
+pub mod LongPayload
+pub mod Texts
 pub mod Longest
 pub mod OneLine
 pub mod Starving

@@ -1,4 +1,3 @@
-//! The answer to one line, under limits.
 ghost use Rattle.std.specs.Prelude.{◌≡◌, IfErr, OnOk, None};
 ghost use Rattle.serde_json.specs.Data.{Data};
 ghost use Rattle.rb_packages.specs.App.{app_of};
@@ -7,27 +6,29 @@ ghost use Rattle.rb_engine.specs.Answer.{Finds, Replies};
 ghost use Rattle.rb_engine.specs.History.{is_memory as ran_out};
 ghost use Rattle.rb_engine.specs.LookResponse.{look_response};
 ghost use Rattle.rb_fallback.specs.Answers.{hit_of};
-ghost use Rattle.rb_limits.specs.Steps.{Answers};
+ghost use Rattle.rb_requests.specs.Steps.{Answers};
 ghost use Rattle.rb_views.specs.Seen.{tree_seen};
 ghost use Rattle.rb_requests.specs.Within.{AnswersRead, ReadReply, asked_usage, error_line};
 ghost use Rattle.rb_requests.specs.Within.{is_limited as limited, outcome_line, usage_in};
 ghost use Rattle.rb_requests.specs.Within.{usage_reply};
+ghost use Rattle.rb_requests.specs.Requested.{request_of};
 ghost use Rattle.rb_requests.specs.Words.{line_error_word};
 ghost use Rattle.rb_requests.specs.inner.Line.{AreTextsOf};
 ghost use Rattle.rb_requests.specs.inner.Placing.{PlacesReply};
 ghost use Rattle.rb_requests.specs.inner.Putting.{writer};
 ghost use Rattle.rb_requests.specs.inner.Starving.{CallReply, DataReply, LeavesOf, untold_reply};
 
-use crate::ask::{Line, lent_texts, line_of, usage_app};
+use crate::ask::{Line, LineRequest, lent_texts, line_of, usage_app};
+use crate::changes::handle;
 use crate::device::{Failed, Sink};
-use crate::limits::LineLimits;
+use crate::limits::{Limited, Limits};
+use crate::lookups::look;
 use crate::stream::put_found;
+use crate::texts::Texts;
 use crate::words::LineError;
 use json::Scratch;
-use rb_engine::{App, AppFault, Engine, LookFault, Reply, Request};
+use rb_engine::{App, AppFault, Engine, LookFault, Reply};
 use rb_fallback::Found;
-use rb_limits::{Limited, handle, look};
-use rb_members::Texts;
 use rb_replies::{ReplyLine, found_is_above, reply_is_above};
 use rb_views::Item;
 use std::alloc::{AllocError, Global};
@@ -51,7 +52,6 @@ impl From<AllocError> for Starved {
     }
 }
 
-/// The place where the reply to a line is.
 #[derive(Clone, Copy, Debug, PartialEq, Eq)]
 pub(crate) enum Placed {
     /// In the reply line: nothing is written.
@@ -60,13 +60,11 @@ pub(crate) enum Placed {
     Put(Result<(), Failed>),
 }
 
-/// Checks whether any limit is on.
-pub(crate) fn is_limited(limits: &LineLimits) -> bool
+pub(crate) fn is_limited(limits: &Limits) -> bool
     ensures { result ≡ limited limits.now }
 {
-    let calls = &limits.calls;
-    let keeps = calls.bundle_bytes.is_some() || calls.app_bytes.is_some();
-    let takes = calls.apps.is_some() || calls.steps.is_some();
+    let keeps = limits.bundle_bytes.is_some() || limits.app_bytes.is_some();
+    let takes = limits.apps.is_some() || limits.steps.is_some();
     keeps
         || takes
         || limits.line_bytes.is_some()
@@ -74,8 +72,7 @@ pub(crate) fn is_limited(limits: &LineLimits) -> bool
         || limits.keep_serving
 }
 
-/// Classifies a reply that could not be made for lack of memory: only a request that was done has
-/// changed anything.
+/// Classifies a reply that memory ran out for: only a request that was done changed anything.
 fn untold(reply: &Reply) -> Starved
     ensures { result ≡ untold_reply reply.now }
 {
@@ -91,7 +88,6 @@ fn is_memory(reply: &Reply) -> bool
     matches!(reply, Reply::Memory)
 }
 
-/// Makes the line the reply of an error with a code.
 fn tell_word(alloc: Global, word: &str, reply: &mut ReplyLine) -> Result<(), AllocError>
     ensures { OnOk result (reply.new ≡ error_line word.now) }
 {
@@ -112,16 +108,16 @@ pub(crate) fn tell_line_error(
 fn answer_request(
     alloc: Global,
     engine: &mut Engine,
-    limits: &LineLimits,
-    request: Request,
+    limits: &Limits,
+    request: LineRequest<'_>,
     reply: &mut ReplyLine,
 ) -> Result<(), Starved>
     ensures reply { OnOk result
-        (CallReply limits.now engine.old (Requests request) reply.new engine.new) }
+        (CallReply limits.now engine.old (Requests (request_of request.entry)) reply.new engine.new) }
     ensures fault { IfErr result (λ s. LeavesOf
-        (CallReply limits.now engine.old (Requests request)) s engine.old engine.new) }
+        (CallReply limits.now engine.old (Requests (request_of request.entry))) s engine.old engine.new) }
 {
-    let answer = match handle(engine, alloc, &limits.calls, request) {
+    let answer = match handle(engine, alloc, limits, request) {
         Limited::Answer(answer) => answer,
         Limited::Refused(refusal) => return Ok(tell_word(alloc, refusal.word(), reply)?),
     };
@@ -137,7 +133,7 @@ fn answer_request(
 /// Makes the line the reply to a request, or an error if that reply is longer than the limit.
 fn tell_answer(
     alloc: Global,
-    limits: &LineLimits,
+    limits: &Limits,
     answer: &Reply,
     reply: &mut ReplyLine,
 ) -> Result<(), AllocError>
@@ -149,11 +145,10 @@ fn tell_answer(
     reply.tell_reply(alloc, answer)
 }
 
-/// Writes the reply for an item that was found to the sink, or makes the line an error if that
-/// reply is longer than the limit.
+/// Writes the reply for a found item to the sink, or makes the line an error if it is too long.
 fn place_item<S: Sink>(
     alloc: Global,
-    limits: &LineLimits,
+    limits: &Limits,
     found: &Found<Item<'_>>,
     reply: &mut ReplyLine,
     sink: &mut S,
@@ -174,7 +169,7 @@ fn place_item<S: Sink>(
 /// Writes the reply to a lookup to the sink, or makes the line that reply if nothing was found.
 fn place_found<S: Sink>(
     alloc: Global,
-    limits: &LineLimits,
+    limits: &Limits,
     found: &Result<Found<Item<'_>>, LookFault>,
     reply: &mut ReplyLine,
     sink: &mut S,
@@ -194,7 +189,7 @@ fn place_found<S: Sink>(
 fn answer_look<S: Sink>(
     alloc: Global,
     engine: &Engine,
-    limits: &LineLimits,
+    limits: &Limits,
     app: &str,
     locale: &str,
     path: &str,
@@ -208,7 +203,7 @@ fn answer_look<S: Sink>(
         (LooksUp app.now locale.now path.now) text engine.now) }
 {
     let (app, locale, path) = (app.as_bytes(), locale.as_bytes(), path.as_bytes());
-    match look(engine, &limits.calls, app, locale, path) {
+    match look(engine, limits, app, locale, path) {
         Limited::Answer(found) => place_found(alloc, limits, &found, reply, sink),
         Limited::Refused(refusal) => {
             tell_word(alloc, refusal.word(), reply)?;
@@ -217,7 +212,6 @@ fn answer_look<S: Sink>(
     }
 }
 
-/// Makes the line the reply to a question for an application's usage.
 fn answer_usage(
     alloc: Global,
     engine: &Engine,
@@ -237,12 +231,11 @@ fn answer_usage(
     reply.tell_reply(alloc, &fault)
 }
 
-/// Makes the line the reply to a line that calls nothing: the usage, if the line asks for it and
-/// any limit is on, or else `BadLine`.
+/// Answers a line that calls nothing: the usage, if it asks for that under a limit, or `BadLine`.
 fn answer_other(
     alloc: Global,
     engine: &Engine,
-    limits: &LineLimits,
+    limits: &Limits,
     texts: &Texts<'_>,
     reply: &mut ReplyLine,
 ) -> Result<(), AllocError>
@@ -262,7 +255,7 @@ fn answer_other(
 fn answer_texts<S: Sink>(
     alloc: Global,
     engine: &mut Engine,
-    limits: &LineLimits,
+    limits: &Limits,
     texts: &Texts<'_>,
     reply: &mut ReplyLine,
     sink: &mut S,
@@ -290,7 +283,7 @@ fn answer_texts<S: Sink>(
 pub(crate) fn reply_of<S: Sink>(
     alloc: Global,
     engine: &mut Engine,
-    limits: &LineLimits,
+    limits: &Limits,
     scratch: &mut Scratch,
     line: &[u8],
     reply: &mut ReplyLine,

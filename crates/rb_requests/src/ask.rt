@@ -1,29 +1,46 @@
-//! Reads a line as a request.
-//!
-//! The texts at the names that count are borrowed from the line, or from a scratch if they have
-//! escapes. The line's other values are not stored.
+//! Reads a line as a request. The texts at the names that count are borrowed from the line, or from
+//! a scratch if they have escapes; the line's other values are not stored.
 ghost use Rattle.std.specs.Prelude.{◌≡◌, IfOk, IsTrue, option_map, Some, false};
 ghost use Rattle.serde_json.specs.Data.{Data};
 ghost use Rattle.hex.specs.Hex.{decode_of};
 ghost use Rattle.rb_requests.specs.Asked.{call_in, data_of, decoded, change_in, remove_in, list_in};
 ghost use Rattle.rb_requests.specs.Asked.{look_in};
 ghost use Rattle.rb_requests.specs.Within.{usage_in};
-ghost use Rattle.rb_engine.specs.Source.{change_request};
+ghost use Rattle.rb_engine.specs.Source.{change_request, payload_of as payload_from};
 ghost use Rattle.rb_requests.specs.inner.Line.{line_view, payload_by, AreTextsOf};
 ghost use Rattle.rb_requests.specs.inner.Line.{AsksNothing};
 
+use crate::member::Member;
+use crate::texts::{Texts, read_texts};
 use bstr::ByteSlice;
 use hex::FromHexError;
 use json::Scratch;
-use rb_engine::{Change, Payload, Request};
-use rb_members::{Member, Texts, read_texts};
+use rb_engine::{BundleSource, Change};
 use rb_tree::ByteList;
 use std::alloc::{AllocError, Global};
 
-/// A request that was read from a line. The texts of a lookup are borrowed from the line.
+/// A request that changes or lists bundles. Its texts are borrowed from its line.
+#[derive(Drop)]
+pub enum LineRequest<'a> {
+    Change {
+        change: Change,
+        app: &'a str,
+        locale: &'a str,
+        source: BundleSource<'a>,
+    },
+    Remove {
+        app: &'a str,
+        locale: &'a str,
+    },
+    List {
+        app: &'a str,
+    },
+}
+
+/// A request or a lookup that was read from a line, whose texts are borrowed from the line.
 #[derive(Drop)]
 pub(crate) enum Line<'a> {
-    Request(Request),
+    Request(LineRequest<'a>),
     Look {
         app: &'a str,
         locale: &'a str,
@@ -31,29 +48,23 @@ pub(crate) enum Line<'a> {
     },
 }
 
-fn bytes_of(alloc: Global, text: &str) -> Result<ByteList, AllocError>
-    ensures { IfOk result (λ b. b ≡ text.now) }
-{
-    Ok(ByteList::from_vec(text.as_bytes().to_vec(alloc)?))
-}
-
-/// Returns the payload of an install or a replacement, if there is one.
-fn payload_of(alloc: Global, texts: &Texts<'_>) -> Result<Option<Payload>, AllocError>
-    ensures { IfOk result (λ o. o ≡ payload_by texts.now.text texts.now.file) }
+fn payload_of<'a>(alloc: Global, texts: &Texts<'a>) -> Result<Option<BundleSource<'a>>, AllocError>
+    ensures { IfOk result
+        (λ o. option_map payload_from o ≡ payload_by texts.now.text texts.now.file) }
 {
     match (texts.text, texts.file) {
-        (Some(Member::Text(text)), None) => Ok(Some(Payload::Text(bytes_of(alloc, text)?))),
+        (Some(Member::Text(text)), None) => Ok(Some(BundleSource::Text(text.as_bytes()))),
         (None, Some(Member::Text(digits))) => decode(alloc, digits),
         _ => Ok(None),
     }
 }
 
 /// Decodes a file from hexadecimal digits, or returns `None` if they are malformed.
-fn decode(alloc: Global, digits: &str) -> Result<Option<Payload>, AllocError>
-    ensures { IfOk result (λ o. o ≡ decoded (decode_of digits.now)) }
+fn decode<'a>(alloc: Global, digits: &str) -> Result<Option<BundleSource<'a>>, AllocError>
+    ensures { IfOk result (λ o. option_map payload_from o ≡ decoded (decode_of digits.now)) }
 {
     match hex::decode(alloc, digits.as_bytes()) {
-        Ok(bytes) => Ok(Some(Payload::File(ByteList::from_vec(bytes)))),
+        Ok(bytes) => Ok(Some(BundleSource::File(ByteList::from_vec(bytes)))),
         Err(FromHexError::OutOfMemory) => Err(AllocError),
         Err(_) => Ok(None),
     }
@@ -73,38 +84,35 @@ fn change_of<'a>(
     let Some(Member::Text(locale)) = texts.locale else {
         return Ok(None);
     };
-    let Some(payload) = payload_of(alloc, texts)? else {
+    let Some(source) = payload_of(alloc, texts)? else {
         return Ok(None);
     };
-    let app = bytes_of(alloc, app)?;
-    let locale = bytes_of(alloc, locale)?;
-    Ok(Some(Line::Request(change.request(app, locale, payload))))
+    Ok(Some(Line::Request(LineRequest::Change {
+        change,
+        app,
+        locale,
+        source,
+    })))
 }
 
-fn remove_of<'a>(alloc: Global, texts: &Texts<'a>) -> Result<Option<Line<'a>>, AllocError>
-    ensures { IfOk result
-        (λ o. (d : Data) → AreTextsOf texts.now d → option_map line_view o ≡ remove_in d) }
+fn remove_of<'a>(texts: &Texts<'a>) -> Option<Line<'a>>
+    ensures { (d : Data) → AreTextsOf texts.now d → option_map line_view result ≡ remove_in d }
 {
-    let Some(Member::Text(app)) = texts.app else {
-        return Ok(None);
-    };
-    let Some(Member::Text(locale)) = texts.locale else {
-        return Ok(None);
-    };
-    let app = bytes_of(alloc, app)?;
-    let locale = bytes_of(alloc, locale)?;
-    Ok(Some(Line::Request(Request::Remove { app, locale })))
+    match (texts.app, texts.locale) {
+        (Some(Member::Text(app)), Some(Member::Text(locale))) => {
+            Some(Line::Request(LineRequest::Remove { app, locale }))
+        }
+        _ => None,
+    }
 }
 
-fn list_of<'a>(alloc: Global, texts: &Texts<'a>) -> Result<Option<Line<'a>>, AllocError>
-    ensures { IfOk result
-        (λ o. (d : Data) → AreTextsOf texts.now d → option_map line_view o ≡ list_in d) }
+fn list_of<'a>(texts: &Texts<'a>) -> Option<Line<'a>>
+    ensures { (d : Data) → AreTextsOf texts.now d → option_map line_view result ≡ list_in d }
 {
-    let Some(Member::Text(app)) = texts.app else {
-        return Ok(None);
-    };
-    let app = bytes_of(alloc, app)?;
-    Ok(Some(Line::Request(Request::List { app })))
+    match texts.app {
+        Some(Member::Text(app)) => Some(Line::Request(LineRequest::List { app })),
+        _ => None,
+    }
 }
 
 fn look_of<'a>(texts: &Texts<'a>) -> Option<Line<'a>>
@@ -131,9 +139,9 @@ pub(crate) fn line_of<'a>(alloc: Global, texts: &Texts<'a>) -> Result<Option<Lin
     } else if op == "replace" {
         change_of(alloc, texts, Change::Replace)
     } else if op == "remove" {
-        remove_of(alloc, texts)
+        Ok(remove_of(texts))
     } else if op == "list" {
-        list_of(alloc, texts)
+        Ok(list_of(texts))
     } else if op == "look" {
         Ok(look_of(texts))
     } else {

@@ -1,6 +1,3 @@
-//! Readers by single bytes and by spans, writers, and the wrappers that implement them over any
-//! `BufRead` and `Write`.
-
 ghost use Rattle.std.specs.Prelude.{◌≡◌, ◌<◌, ◌≤◌, ℕ, List, Option, length, IfOk};
 ghost use Rattle.std.specs.Io.KnownBytes.{Keeps, WriteAppends};
 ghost use Rattle.rb_requests.specs.Device.{risen};
@@ -102,14 +99,12 @@ struct Device<D> {
 }
 
 impl<D> Device<D> {
-    /// Wraps a device of which no call has failed.
     fn new(inner: D) -> Self
         ensures { result ≡ record { inner = inner; failed = 0 } }
     {
         Device { inner, failed: 0 }
     }
 
-    /// Counts a failed call.
     fn fail(&mut self) -> Failed
         ensures { self.new ≡ record self.old { failed = risen self.old.failed } }
     {

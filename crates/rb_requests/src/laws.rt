@@ -1,9 +1,19 @@
-//! Proves that applications are isolated in every history and in the lines of every text.
 ghost use Rattle.rb_engine.specs.History.{AsksOne, AnswersOwn, IsIsolated};
+ghost use Rattle.rb_requests.specs.History.{IsIsolatedWithin, IsWithinQuota};
 ghost use Rattle.rb_requests.specs.Isolation.{AreLinesIsolated, AreLinesIsolatedWithin};
 
-/// Does nothing; its clauses say that each application is answered from its own bundles, those of
-/// ICUDATA and the explicit parents, whatever the others ask, and so are the lines of a text.
+/// Proves that under limits too applications are isolated, and none exceeds its limit on bytes.
+pub fn limited()
+    // The outcome of a call depends only on the caller's calls, and on which of them ran out of
+    // memory or were one application too many.
+    ensures isolated { IsIsolatedWithin }
+    ensures quota { IsWithinQuota }
+{
+    rb_engine::laws::isolated();
+}
+
+/// Proves that applications are isolated: each is answered from its own bundles, those of ICUDATA
+/// and the explicit parents, whatever the others ask, and so are the lines of a text.
 pub fn isolated()
     // A call asks one thing, since a payload stands for at most one tree.
     ensures one { AsksOne }

@@ -1,24 +1,30 @@
-//! Requests and replies by the line: reads a line as a request to an engine, writes the line that
-//! answers it, and loops over the lines of an input.
-//!
-//! The engine itself is in rb_engine, whose public items are exported here too.
+//! Requests and replies by the line: reads a line as a request, writes the line that answers it,
+//! and loops over an input. Exports the public items of rb_engine too.
 #![tactic(auto)]
 
 mod answer;
 mod ask;
+mod changes;
 mod device;
 pub mod laws;
 mod limits;
 mod lines;
+mod lookups;
+mod member;
+mod number;
 mod reading;
 mod stream;
+mod texts;
 mod words;
 
+pub use ask::LineRequest;
+pub use changes::{handle, put};
 pub use device::{Failed, Feed, ReadFeed, Run, Sink, WriteSink};
-pub use limits::{LINE_LIMIT, LineLimits};
+pub use limits::{LINE_LIMIT, Limited, Limits, Refusal};
 pub use lines::{ServeFault, Served, serve, serve_limited};
+pub use lookups::look;
 pub use rb_engine::{
-    App, AppFault, BUNDLE_LIMIT, Engine, LookFault, NameList, Payload, Reply, Request, StartFault,
+    App, AppFault, BUNDLE_LIMIT, BundleSource, Change, Engine, LookFault, NameList, Payload, Reply,
+    Request, StartFault,
 };
-pub use rb_limits::{Limits, Refusal};
 pub use rb_replies::item_text;

@@ -1,14 +1,22 @@
-//! The limits of lines.
-use rb_limits::Limits;
+ghost use Rattle.std.specs.Prelude.{◌≡◌};
+ghost use Rattle.rb_requests.specs.Words.{refusal_word};
+
+use rb_tree::variant_name;
 
 /// The most bytes of a line, without its line feed.
 pub const LINE_LIMIT: usize = 268_435_456;
 
-/// The limits under which lines are served. `None` is no limit.
+/// The limits under which lines are served; `None` means no limit.
 #[derive(Clone, Copy, Debug, PartialEq, Eq)]
-pub struct LineLimits {
-    /// The limits of the calls.
-    pub calls: Limits,
+pub struct Limits {
+    /// The most bytes of one bundle's file, and of a payload before it is read.
+    pub bundle_bytes: Option<u64>,
+    /// The most bytes of all files of an application.
+    pub app_bytes: Option<u64>,
+    /// The most applications with bundles; all applications share this limit.
+    pub apps: Option<u64>,
+    /// The most steps of a lookup.
+    pub steps: Option<u64>,
     /// The bytes of a line; a longer one is skipped. Values above `LINE_LIMIT` count as that.
     pub line_bytes: Option<u64>,
     /// The bytes of the line of a found item or of names, with its line feed.
@@ -17,12 +25,40 @@ pub struct LineLimits {
     pub keep_serving: bool,
 }
 
-impl LineLimits {
+impl Limits {
     /// No limits.
-    pub const NONE: LineLimits = LineLimits {
-        calls: Limits::NONE,
+    pub const NONE: Limits = Limits {
+        bundle_bytes: None,
+        app_bytes: None,
+        apps: None,
+        steps: None,
         line_bytes: None,
         reply_bytes: None,
         keep_serving: false,
     };
+}
+
+/// The limit that rejects a call.
+#[derive(Clone, Copy, Debug, PartialEq, Eq)]
+pub enum Refusal {
+    BundleTooLong,
+    OverQuota,
+    TooManyApps,
+    TooManySteps,
+}
+
+impl Refusal {
+    /// Returns the code, which is the variant's name.
+    pub fn word(self) -> &'static str
+        ensures { result.now ≡ refusal_word self }
+    {
+        variant_name!(self: Refusal { BundleTooLong, OverQuota, TooManyApps, TooManySteps })
+    }
+}
+
+/// The engine's answer, or a limit's rejection.
+#[derive(Debug, Drop)]
+pub enum Limited<T> {
+    Answer(T),
+    Refused(Refusal),
 }

@@ -1,4 +1,3 @@
-//! Requests and replies by the line.
 ghost use Rattle.std.specs.Prelude.{◌≡◌, ◌<◌, ◌≤◌, true, OnOk, OnErr, IfOk, IfErr, List, [], ℕ};
 ghost use Rattle.std.specs.Prelude.{length, drop, min, take};
 ghost use Rattle.std.specs.Io.KnownBytes.{Appends};
@@ -20,7 +19,7 @@ ghost use Rattle.rb_requests.specs.inner.Putting.{writer};
 
 use crate::answer::{Placed, Starved, reply_of, tell_line_error};
 use crate::device::{Failed, Feed, Sink};
-use crate::limits::{LINE_LIMIT, LineLimits};
+use crate::limits::{LINE_LIMIT, Limits};
 use crate::reading::{Held, Longest, NextLine, read_line};
 use crate::words::LineError;
 use json::Scratch;
@@ -58,8 +57,7 @@ pub struct Served {
 /// A buffer above this many bytes isn't kept for the next line.
 const KEPT: usize = 65_536;
 
-/// Empties a buffer, and keeps its memory unless that is large. The scratch, which grows with the
-/// lines in the buffer, is kept for as many lines.
+/// Empties a buffer and its scratch, and keeps their memory unless the buffer is large.
 fn empty(alloc: Global, buffer: &mut Vec<u8>, scratch: &mut Scratch)
     ensures { buffer.new.items ≡ [] }
 {
@@ -74,7 +72,6 @@ fn empty(alloc: Global, buffer: &mut Vec<u8>, scratch: &mut Scratch)
 /// The most bytes that a call of the sink gets.
 pub(crate) const PIECE: usize = 65_536;
 
-/// Returns the bytes for the next call of the sink.
 fn piece(bytes: &[u8]) -> &[u8]
     ensures { result.now ≡ take (min (length bytes.now) 65536) bytes.now }
 {
@@ -119,7 +116,7 @@ fn put_reply<S: Sink>(sink: &mut S, reply: &[u8]) -> Result<(), Failed>
 }
 
 /// Returns the lengths under limits up to which lines are read, and up to which they are stored.
-fn longest_of(limits: &LineLimits) -> Longest
+fn longest_of(limits: &Limits) -> Longest
     ensures { result ≡ longest limits.now }
 {
     let most = LINE_LIMIT as u64;
@@ -145,9 +142,8 @@ fn held_error(held: Held) -> Option<LineError>
     }
 }
 
-/// Returns the error that is answered if memory ran out for a line that is stored whole; none if
-/// serving ends.
-fn starved_error(limits: &LineLimits, starved: Starved) -> Option<LineError>
+/// Returns the error that is answered if memory ran out for a whole line; none if serving ends.
+fn starved_error(limits: &Limits, starved: Starved) -> Option<LineError>
     ensures { result ≡ error_if_starved limits.now starved }
 {
     match starved {
@@ -161,7 +157,7 @@ fn starved_error(limits: &LineLimits, starved: Starved) -> Option<LineError>
 fn tell_line<S: Sink>(
     alloc: Global,
     engine: &mut Engine,
-    limits: &LineLimits,
+    limits: &Limits,
     scratch: &mut Scratch,
     line: &[u8],
     held: Held,
@@ -205,11 +201,10 @@ fn put_placed<S: Sink>(sink: &mut S, placed: Placed, line: &[u8]) -> Result<(), 
     }
 }
 
-/// Answers a line of which this much is stored.
 fn serve_line<S: Sink>(
     alloc: Global,
     engine: &mut Engine,
-    limits: &LineLimits,
+    limits: &Limits,
     scratch: &mut Scratch,
     sink: &mut S,
     line: &[u8],
@@ -249,33 +244,50 @@ fn end_after<F: Feed>(feed: &mut F, lines: u64) -> Result<Served, ServeFault>
     }
 }
 
-/// Serves as `serve_limited` does, with lines of at most this many bytes.
+/// Answers the lines of an input under limits, each with one line. A line is read, answered and
+/// flushed before the next one is read.
+///
+/// A line above its limit is skipped and answered `LineTooLong`. With `keep_serving`, a line for
+/// which memory ran out before it changed anything is answered `Memory`. A call that a limit
+/// refuses is answered with the limit's error code. A found item or names whose line would be too
+/// long are answered `ReplyTooLong`, before any part of that line is written. If any limit is on,
+/// `{"op":"usage","app":..}` is answered with the bytes of the application's files and their
+/// number.
+///
+/// Errors are those of `serve`; `LineTooLong` is one only without a limit on lines.
+///
+/// ```rust
+/// let limits = Limits { line_bytes: Some(1000), ..Limits::NONE };
+/// serve_limited(alloc, &mut engine, &limits, &mut feed, &mut sink, 10) // Ok(Served { lines: 1 })
+/// ```
 #[tactic(auto, using(crate::proofs::Serving::at_first))]
-fn serve_within<F: Feed, S: Sink>(
+pub fn serve_limited<F: Feed, S: Sink>(
     alloc: Global,
     engine: &mut Engine,
-    limits: &LineLimits,
-    longest: Longest,
+    limits: &Limits,
     feed: &mut F,
     sink: &mut S,
     max_lines: u64,
 ) -> Result<Served, ServeFault>
-    requires room { 0 < longest.limit }
-    requires passes { longest.passes_starved ≡ true → limits.now.keep_serving ≡ true }
+    // All the input is read, what is written is the replies to its lines under limits and nothing
+    // else, and they have taken effect.
     ensures all { IfOk result (λ served. AnswersWithin
-        (LineReplyUpTo longest.kept limits.now) longest.limit
+        (LineReplyWithin limits.now) (longest_read limits.now)
         (at engine.old (F.left feed.old) (S.written sink.old) (S.settled sink.old))
         (at engine.new (F.left feed.new) (S.written sink.new) (S.settled sink.new)) served.lines) }
     ensures most { IfOk result (λ served. served.lines ≤ max_lines) }
     ensures settled { IfOk result
         (λ served. S.settled sink.new ≡ risen_by (S.settled sink.old) served.lines) }
+    // The first lines are answered and their replies flushed; the fault says how far the next came.
     ensures fault { IfErr result (λ fault. AfterFaultWithin
-        (LineReplyUpTo longest.kept limits.now) longest.limit fault
+        (LineReplyWithin limits.now) (longest_read limits.now) fault
         (at engine.old (F.left feed.old) (S.written sink.old) (S.settled sink.old))
         (at engine.new (F.left feed.new) (S.written sink.new) (S.settled sink.new)) max_lines) }
+    // A count of failed calls rises by one at its device's fault, and otherwise stays.
     ensures reads { F.faults feed.new ≡ reads_failed (F.faults feed.old) result }
     ensures writes { S.faults sink.new ≡ writes_failed (S.faults sink.old) result }
 {
+    let longest = longest_of(limits);
     let mut line = Vec::new(alloc);
     let mut scratch = Scratch::new(alloc);
     let mut reply = ReplyLine::new(alloc);
@@ -314,60 +326,6 @@ fn serve_within<F: Feed, S: Sink>(
     end_after(feed, max_lines)
 }
 
-/// Answers the lines of an input under limits, each with one line. A line is read, answered and
-/// flushed before the next one is read.
-///
-/// A line above its limit is skipped and answered `LineTooLong`. With `keep_serving`, a line for
-/// which memory ran out before it changed anything is answered `Memory`. A call that a limit
-/// refuses is answered with the limit's error code. A found item or names whose line would be too
-/// long are answered `ReplyTooLong`, before any part of that line is written. If any limit is on,
-/// `{"op":"usage","app":..}` is answered with the bytes of the application's files and their
-/// number.
-///
-/// Errors are those of `serve`; `LineTooLong` is one only without a limit on lines.
-///
-/// ```rust
-/// let limits = LineLimits { line_bytes: Some(1000), ..LineLimits::NONE };
-/// serve_limited(alloc, &mut engine, &limits, &mut feed, &mut sink, 10) // Ok(Served { lines: 1 })
-/// ```
-pub fn serve_limited<F: Feed, S: Sink>(
-    alloc: Global,
-    engine: &mut Engine,
-    limits: &LineLimits,
-    feed: &mut F,
-    sink: &mut S,
-    max_lines: u64,
-) -> Result<Served, ServeFault>
-    // All the input is read, what is written is the replies to its lines under limits and nothing
-    // else, and they have taken effect.
-    ensures all { IfOk result (λ served. AnswersWithin
-        (LineReplyWithin limits.now) (longest_read limits.now)
-        (at engine.old (F.left feed.old) (S.written sink.old) (S.settled sink.old))
-        (at engine.new (F.left feed.new) (S.written sink.new) (S.settled sink.new)) served.lines) }
-    ensures most { IfOk result (λ served. served.lines ≤ max_lines) }
-    // Each reply is flushed.
-    ensures settled { IfOk result
-        (λ served. S.settled sink.new ≡ risen_by (S.settled sink.old) served.lines) }
-    // The first lines are answered and their replies flushed; the fault says how far the next came.
-    ensures fault { IfErr result (λ fault. AfterFaultWithin
-        (LineReplyWithin limits.now) (longest_read limits.now) fault
-        (at engine.old (F.left feed.old) (S.written sink.old) (S.settled sink.old))
-        (at engine.new (F.left feed.new) (S.written sink.new) (S.settled sink.new)) max_lines) }
-    // A count of failed calls rises by one at its device's fault, and otherwise stays.
-    ensures reads { F.faults feed.new ≡ reads_failed (F.faults feed.old) result }
-    ensures writes { S.faults sink.new ≡ writes_failed (S.faults sink.old) result }
-{
-    serve_within(
-        alloc,
-        engine,
-        limits,
-        longest_of(limits),
-        feed,
-        sink,
-        max_lines,
-    )
-}
-
 /// Answers the lines of an input, each with one line. A line is read, answered and flushed before
 /// the next one is read.
 ///
@@ -402,7 +360,6 @@ pub fn serve<F: Feed, S: Sink>(
         (at (state_of engine.new) (F.left feed.new) (S.written sink.new)
         (S.settled sink.new)) served.lines) }
     ensures most { IfOk result (λ served. served.lines ≤ max_lines) }
-    // Each reply is flushed.
     ensures settled { IfOk result
         (λ served. S.settled sink.new ≡ risen_by (S.settled sink.old) served.lines) }
     // The first lines are answered and their replies flushed; the fault says how far the next came.
@@ -414,5 +371,5 @@ pub fn serve<F: Feed, S: Sink>(
     ensures reads { F.faults feed.new ≡ reads_failed (F.faults feed.old) result }
     ensures writes { S.faults sink.new ≡ writes_failed (S.faults sink.old) result }
 {
-    serve_limited(alloc, engine, &LineLimits::NONE, feed, sink, max_lines)
+    serve_limited(alloc, engine, &Limits::NONE, feed, sink, max_lines)
 }

@@ -1,4 +1,3 @@
-//! Reading line by line.
 ghost use Rattle.std.specs.Prelude.{◌≡◌, ◌<◌, ◌≤◌, ◌-◌, ◌+◌, ◌^◌, min, false, Ok, Option, List, []};
 ghost use Rattle.std.specs.Prelude.{ℕ};
 ghost use Rattle.std.specs.Io.KnownBytes.{IsAtEnd, Keeps};
@@ -22,7 +21,6 @@ pub(crate) struct Longest {
 /// The part that is stored of a line that was read.
 #[derive(Clone, Copy, Debug, PartialEq, Eq)]
 pub(crate) enum Held {
-    /// All of it.
     Whole,
     /// At most its front: the line is longer than `kept`.
     Front,
@@ -37,14 +35,12 @@ pub(crate) struct Progress {
     pub(crate) starved: bool,
 }
 
-/// The result of reading a line from an input.
 #[derive(Clone, Copy, Debug, PartialEq, Eq)]
 pub(crate) enum NextLine {
     /// A line; its line feed is read too.
     Ended(Held),
     /// The remaining input, which ends in no line feed.
     Last(Held),
-    /// The input was at its end.
     End,
     /// A part, one byte longer than a line may be.
     TooLong,
@@ -130,7 +126,6 @@ pub(crate) fn read_line<F: Feed>(
     after_longest(feed, longest, progress.starved)
 }
 
-/// Adds the bytes of a span to those of the line that were read.
 fn after_run(progress: Progress, bytes: usize) -> Progress
     ensures { result ≡ record {
       count = min (progress.count + bytes) (2 ^ 64 - 1);

@@ -1,4 +1,3 @@
-//! Writes a text piece by piece into a sink.
 ghost use Rattle.std.specs.Prelude.{◌≡◌, [], IfErr, IfOk, Some};
 ghost use Rattle.rb_engine.specs.Answer.{Finds};
 ghost use Rattle.rb_fallback.specs.Answers.{hit_of};
@@ -57,7 +56,6 @@ impl<'a, S: Sink> Stream<'a, S> {
         }
     }
 
-    /// Writes the stored bytes.
     fn pass_on(&mut self)
         ensures same { (self.new.sink.ghost_name ≡ self.old.sink.ghost_name)
             × (self.new.held.ghost_name ≡ self.old.held.ghost_name) }
@@ -120,7 +118,6 @@ impl<'a, S: Sink> Outlet for Stream<'a, S> {
     }
 }
 
-/// Writes the whole line of the reply to a lookup that found an item.
 fn stream_found<S: Sink>(stream: &mut Stream<'_, S>, found: &Found<Item<'_>>)
     ensures same { (stream.new.sink.ghost_name ≡ stream.old.sink.ghost_name)
         × (stream.new.held.ghost_name ≡ stream.old.held.ghost_name) }

@@ -1,4 +1,3 @@
-//! The codes of errors.
 ghost use Rattle.std.specs.Prelude.{◌≡◌};
 ghost use Rattle.rb_requests.specs.Words.{line_error_word, serve_word};
 
@@ -10,11 +9,8 @@ use rb_tree::variant_name;
 pub(crate) enum LineError {
     /// The line is no request.
     BadLine,
-    /// The line is longer than the limit.
     LineTooLong,
-    /// The reply is longer than the limit.
     ReplyTooLong,
-    /// Out of memory for the line.
     Memory,
 }
 

@@ -2,12 +2,12 @@
 ghost use Rattle.std.specs.Prelude.{◌≡◌, IfSome};
 
 use crate::serve::serve_files;
-use rb_arguments::{Asked, AskedLimits, AskedLookup};
+use rb_arguments::{Asked, AskedLimits, AskedLint, AskedLookup};
 use rb_commands::{
-    Change, Console, Layout, Lookup, check_all, check_on, compile_all, compile_on, explain_on,
-    get_on, json, lines, lint_all, look_up, text,
+    Change, Console, Layout, LintWords, Lookup, check_all, check_on, compile_all, compile_on,
+    explain_on, get_on, json, lines, lint_all, list_rules, look_up, text,
 };
-use rb_requests::{Limits, LineLimits};
+use rb_requests::Limits;
 use std::process::ExitCode;
 use std::random::RandomSource;
 use std::rt::{Clock, Files};
@@ -66,6 +66,28 @@ fn run_check<R: Files + Clock + AllocGlobal + Print + Eprint>(
     }
 }
 
+/// `lint [OPTIONS] TEXT..`
+fn run_lint<R: Files + Input + AllocGlobal + Print + Eprint>(
+    rt: &R,
+    console: Console,
+    asked: &AskedLint<'_>,
+) -> ExitCode {
+    if asked.is_list {
+        return list_rules(rt);
+    }
+    let words = LintWords {
+        root: asked.root,
+        name: asked.name,
+        allow: &asked.allow,
+        deny: &asked.deny,
+        format: asked.format,
+        is_strict: asked.is_strict,
+        is_all: asked.is_all,
+        texts: &asked.texts,
+    };
+    lint_all(rt, console, &words)
+}
+
 /// Looks an item up over files.
 fn run_look<R: Files + RandomSource + AllocGlobal + Print + Eprint>(
     rt: &R,
@@ -82,23 +104,21 @@ fn run_look<R: Files + RandomSource + AllocGlobal + Print + Eprint>(
 }
 
 /// Returns the limits that the options give, or `None` if there are none.
-fn limits_of(asked: AskedLimits) -> Option<LineLimits>
-    ensures calls { IfSome result (λ l. (l.calls.bundle_bytes ≡ asked.bundle_bytes)
-        × (l.calls.app_bytes ≡ asked.app_bytes)
-        × (l.calls.apps ≡ asked.apps) × (l.calls.steps ≡ asked.steps)) }
+fn limits_of(asked: AskedLimits) -> Option<Limits>
+    ensures calls { IfSome result (λ l. (l.bundle_bytes ≡ asked.bundle_bytes)
+        × (l.app_bytes ≡ asked.app_bytes)
+        × (l.apps ≡ asked.apps) × (l.steps ≡ asked.steps)) }
     ensures lines { IfSome result (λ l. (l.line_bytes ≡ asked.line_bytes)
         × (l.reply_bytes ≡ asked.reply_bytes) × (l.keep_serving ≡ asked.keep_serving)) }
 {
     if asked == AskedLimits::none() {
         return None;
     }
-    Some(LineLimits {
-        calls: Limits {
-            bundle_bytes: asked.bundle_bytes,
-            app_bytes: asked.app_bytes,
-            apps: asked.apps,
-            steps: asked.steps,
-        },
+    Some(Limits {
+        bundle_bytes: asked.bundle_bytes,
+        app_bytes: asked.app_bytes,
+        apps: asked.apps,
+        steps: asked.steps,
         line_bytes: asked.line_bytes,
         reply_bytes: asked.reply_bytes,
         keep_serving: asked.keep_serving,
@@ -142,7 +162,7 @@ pub fn run_asked<R: Files + RandomSource + Clock + AllocGlobal + Input + Print +
             is_pretty,
         } => { json(rt, console, file, path, layout_of(is_pretty)) }
         Asked::Text { file, name } => text(rt, console, file, name),
-        Asked::Lint { root, texts } => lint_all(rt, console, root, &texts),
+        Asked::Lint(asked) => run_lint(rt, console, &asked),
         Asked::Explain { word } => explain_on(rt, console, word),
         Asked::Lines { op, app, files } => run_lines(rt, console, op, app, &files),
         Asked::Look(lookup) => run_look(rt, console, lookup),

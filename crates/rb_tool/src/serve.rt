@@ -9,9 +9,9 @@ ghost use Rattle.rb_requests.specs.Within.{LineReplyWithin, longest_read};
 ghost use Rattle.rb_tool.specs.inner.Limits.{most_lines};
 
 use crate::batching_writer::{BatchingWriter, LookaheadFeed};
-use rb_commands::{Console, not_started_on, start_engine};
+use rb_commands::{Console, JsonWriter, not_started_on, start_engine};
 use rb_requests::{
-    Engine, Feed, LineLimits, ServeFault, Served, Sink, WriteSink, serve, serve_limited,
+    Engine, Feed, Limits, ServeFault, Served, Sink, WriteSink, serve, serve_limited,
 };
 use std::alloc::Global;
 use std::cell::Cell;
@@ -52,7 +52,7 @@ fn serve_run<F: Feed, S: Sink>(
 fn limited_run<F: Feed, S: Sink>(
     alloc: Global,
     engine: &mut Engine,
-    limits: &LineLimits,
+    limits: &Limits,
     feed: &mut F,
     sink: &mut S,
 ) -> Result<Served, ServeFault>
@@ -87,17 +87,20 @@ fn flush_after<W: Write + Drop>(
 }
 
 /// Serves standard input, each side behind a buffer. The writer's buffer is flushed once the
-/// reader's has no further whole line.
+/// reader's has no further whole line. On a terminal, control characters are escaped.
 fn serve_buffered<R: Input + Print + AllocGlobal>(
     rt: &R,
+    console: Console,
     engine: &mut Engine,
-    limits: Option<&LineLimits>,
+    limits: Option<&Limits>,
 ) -> io::Result<Result<(), ServeFault>> {
     let alloc = rt.alloc();
     let has_next_line = Cell::new(false);
     let reader = BufReader::new(alloc, rt.reader())?;
     let mut feed = LookaheadFeed::new(reader, &has_next_line);
-    let mut writer = BatchingWriter::new(BufWriter::new(alloc, io::writer(rt))?, &has_next_line);
+    let buffer = BufWriter::new(alloc, io::writer(rt))?;
+    let writer = JsonWriter::new(buffer, console.is_output_terminal);
+    let mut writer = BatchingWriter::new(writer, &has_next_line);
     let mut sink = WriteSink::new(&mut writer);
     let served = match limits {
         None => serve_run(alloc, engine, &mut feed, &mut sink),
@@ -115,9 +118,9 @@ fn serve_lines<R: Input + Print + Eprint + AllocGlobal>(
     rt: &R,
     console: Console,
     engine: &mut Engine,
-    limits: Option<&LineLimits>,
+    limits: Option<&Limits>,
 ) -> ExitCode {
-    let fault = match serve_buffered(rt, engine, limits) {
+    let fault = match serve_buffered(rt, console, engine, limits) {
         Ok(Ok(())) => return ExitCode::SUCCESS,
         Ok(Err(fault)) => fault,
         Err(_) => ServeFault::Memory,
@@ -143,7 +146,7 @@ pub fn serve_files<R: Files + RandomSource + Input + Print + Eprint + AllocGloba
     console: Console,
     parents: Option<&str>,
     bundles: &[&str],
-    limits: Option<&LineLimits>,
+    limits: Option<&Limits>,
 ) -> ExitCode {
     match start_engine(rt, parents, bundles) {
         Ok(mut engine) => serve_lines(rt, console, &mut engine, limits),

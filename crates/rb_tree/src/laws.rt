@@ -1,4 +1,3 @@
-//! Laws of trees, each the contract of an empty function.
 ghost use Rattle.std.specs.Prelude.{◌≡◌, ℕ, List};
 ghost use Rattle.rb_tree.specs.Resource.{Resource};
 ghost use Rattle.rb_tree.specs.Table.{IsTableOf};

@@ -1,5 +1,4 @@
-//! The limits of a bundle's tree. `specs/Limits.antt` spells the same numbers out, so that a proof
-//! compares the two.
+//! The limits of a bundle's tree. specs/ repeats them, so that the proofs compare the two.
 
 /// The maximum height of a bundle's tree, in levels.
 pub const HEIGHT_LIMIT: u64 = 64;

@@ -1,5 +1,4 @@
-//! Error codes. Each crate has its `word` functions in `words.rt`, and their texts in
-//! `specs/Words.antt`.
+//! Each crate has its `word` functions in `words.rt`, and their texts in `specs/Words.antt`.
 ghost use Rattle.std.specs.Prelude.{◌≡◌};
 ghost use Rattle.rb_tree.specs.Words.{table_word};
 

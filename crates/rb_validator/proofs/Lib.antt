@@ -2,6 +2,7 @@ pub mod Cases
 pub mod Cells
 pub mod Counts
 pub mod Entering
+pub mod FirstFaults
 pub mod Marked
 pub mod Packing
 pub mod Upwards

@@ -1,10 +1,10 @@
 -- SpanCache of items that are split, and those that were looked at before.
-use Rattle.std.proofs.Common.{◌≡◌, ◌≢◌, ℕ, zero, suc, ◌+◌, ◌-◌, ◌<◌, ◌≤◌, max, Bool, true, false, cond, leb, List, [], length, set, All, Contains, Result, Ok}
+use Rattle.std.proofs.Common.{◌≡◌, ◌≢◌, ℕ, zero, suc, ◌+◌, ◌-◌, ◌<◌, ◌≤◌, max, Bool, true, false, cond, leb, List, [], length, set, Result, Ok}
 use Rattle.std.proofs.Common.{Err, refl, sym, ap, subst, ◌∙◌, arith, inl, inr}
-use Rattle.std.specs.Prelude.{◌⊎◌}
-use Rattle.std.proofs.lemmas.Bool.{le-leb, lt-leb}
+use Rattle.std.specs.Prelude.{◌⊎◌, slice_index}
+use Rattle.std.proofs.lemmas.List.{get_or-set_same, get_or-set_other}
+use Rattle.std.proofs.lemmas.Bool.{cases_eq, le-leb, lt-leb}
 use Rattle.std.proofs.lemmas.Bool.Decides.{nat_tests}
-use Rattle.std.proofs.lemmas.List.Elements.{All-set, All-weaker, All-contains}
 use Rattle.rb_tree.specs.Resource.{Resource, Resources, no_trees, tree_and, height, trees_height}
 use Rattle.rb_format.specs.declared.fault.FileFault.{FileFault}
 use Rattle.rb_format.specs.declared.fault.FileFault.TheVariants.{TooDeep}
@@ -13,9 +13,8 @@ use Rattle.rb_format.specs.Place.{word_at}
 use Rattle.rb_format.specs.inner.FirstFault.{◌>>=◌, result_map, limited, read, trees}
 use Rattle.rb_format.proofs.Steps.{bind_ok, ok_is}
 use Rattle.rb_format.proofs.Levels.{read-limited, trees-limited}
-use Rattle.rb_validator.specs.declared.spans.cache.CachedSpan.{CachedSpan}
-use Rattle.rb_validator.specs.inner.Marks.{IsKnown, Leads, run_of, IsRunKnown, IsRun, IsRunOf}
-use Rattle.rb_validator.specs.inner.CachedSpans.{CachedSpans, AreRuns, SaysNothing}
+use Rattle.rb_validator.specs.inner.Marks.{IsKnown, Leads, run_of, IsRunKnown, IsRun}
+use Rattle.rb_validator.specs.inner.CachedSpans.{CachedSpans, AreRuns, IsSpanAt, SaysNothing}
 use Rattle.rb_validator.specs.inner.Leaves.{AreLeaves}
 use Rattle.rb_validator.proofs.Cells.{known_set}
 use Rattle.rb_validator.proofs.Ways.{leads_map}
@@ -222,29 +221,25 @@ run_map y body cells after from n h f r = record {
 pub runs_set : (y : Layout) (body cells : List ℕ) (p v : ℕ) (runs : CachedSpans) → v ≢ 0 → p < length cells → AreRuns y body cells runs
     → AreRuns y body (set cells p v) runs
 runs_set y body cells p v runs f l h = record {
-  kept = All-weaker (IsRunOf y body cells) (IsRunOf y body (set cells p v))
-      (λ r q. run_map y body cells (set cells p v) r.first r.count r.height (λ w k. known_set cells p v w f l k) q) runs.kept h.kept;
+  kept = λ slot from n z s. run_map y body cells (set cells p v) from n (slice_index runs.heights slot) (λ w k. known_set cells p v w f l k)
+      (h.kept slot from n z s);
   leaves = h.leaves;
 }
 
--- a run of no items
-none_run : (y : Layout) (body cells : List ℕ) (from n h : ℕ) → n ≡ 0 → h ≡ 0 → IsRun y body cells from n h
-unfolding trees
-none_run y body cells from n h e f = rw (e, f) (record { items = no_trees; level = 0; is = refl; high = refl; known = λ i l. absurd (omega arith) })
+-- no run is known
+kept_none : (y : Layout) (body cells : List ℕ) (runs : CachedSpans) → SaysNothing runs.heights → (slot from n : ℕ) → slice_index runs.heights slot ≢ 0
+    → IsSpanAt runs slot from n → IsRun y body cells from n (slice_index runs.heights slot)
+kept_none y body cells runs h slot from n f s = absurd (f (h slot))
 
-kept_none : (y : Layout) (body cells : List ℕ) (kept : List CachedSpan) → SaysNothing kept → All (IsRunOf y body cells) kept
-kept_none y body cells kept h = All-weaker (λ r. r.count ≡ 0 × r.height ≡ 0) (IsRunOf y body cells)
-    (λ r q. none_run y body cells r.first r.count r.height q.0 q.1) kept h
-
-pub runs_none : (y : Layout) (body cells : List ℕ) (runs : CachedSpans) → SaysNothing runs.kept → runs.leaves ≡ [] → AreRuns y body cells runs
+pub runs_none : (y : Layout) (body cells : List ℕ) (runs : CachedSpans) → SaysNothing runs.heights → runs.leaves ≡ [] → AreRuns y body cells runs
 runs_none y body cells runs h e = record {
-  kept = kept_none y body cells runs.kept h;
+  kept = kept_none y body cells runs h;
   leaves = subst (AreLeaves y body) (sym e) (λ u w a b. absurd (omega arith));
 }
 
-pub kept_run : (y : Layout) (body cells : List ℕ) (runs : CachedSpans) (from n h : ℕ) → AreRuns y body cells runs
-    → Contains runs.kept (record { first = from; count = n; height = h }) → IsRun y body cells from n h
-kept_run y body cells runs from n h k c = All-contains (IsRunOf y body cells) runs.kept (record { first = from; count = n; height = h }) k.kept c
+pub kept_run : (y : Layout) (body cells : List ℕ) (runs : CachedSpans) (slot from n h : ℕ) → AreRuns y body cells runs → h ≢ 0
+    → h ≡ slice_index runs.heights slot → IsSpanAt runs slot from n → IsRun y body cells from n h
+kept_run y body cells runs slot from n h k f e s = subst (IsRun y body cells from n) (sym e) (k.kept slot from n (λ z. f (e ∙ z)) s)
 
 -- the parts make the run
 pub made_run : (y : Layout) (body cells : List ℕ) (left from n h : ℕ) → Ok h ≡ result_map trees_height (run_of y body left from n)
@@ -252,19 +247,36 @@ pub made_run : (y : Layout) (body cells : List ℕ) (left from n h : ℕ) → Ok
 made_run y body cells left from n h e k = let t = trees_ok (run_of y body left from n) h e in
     record { items = t.0; level = left; is = t.1; high = t.2; known = k }
 
-pub runs_kept : (y : Layout) (body cells : List ℕ) (runs after : CachedSpans) (at from n h : ℕ) → AreRuns y body cells runs → IsRun y body cells from n h
-    → (after ≡ runs) ⊎ (after ≡ record runs { kept = set runs.kept at (record { first = from; count = n; height = h }) }) → AreRuns y body cells after
-runs_kept y body cells runs after at from n h k r e = elim e [
+put_run : (y : Layout) (body cells : List ℕ) (runs : CachedSpans) (slot from n h : ℕ) → AreRuns y body cells runs → IsRun y body cells from n h
+    → IsSpanAt runs slot from n → slot < length runs.heights → (at first count : ℕ) → slice_index (set runs.heights slot h) at ≢ 0
+    → IsSpanAt runs at first count → IsRun y body cells first count (slice_index (set runs.heights slot h) at)
+put_run y body cells runs slot from n h k r s l at first count f z = elim (cases_eq at slot) [
+  | inl q ↦
+      let here : slice_index (set runs.heights slot h) at ≡ h = subst (λ (x : ℕ). slice_index (set runs.heights slot h) x ≡ h) (sym q)
+      (get_or-set_same runs.heights slot h 0 l) in
+      let same = subst (λ (x : ℕ). IsSpanAt runs x first count) q z in
+      let a : from ≡ first = s.start ∙ sym same.start in
+      let b : n ≡ count = s.long ∙ sym same.long in
+      rw (here, sym a, sym b) r
+  | inr ne ↦
+      let there : slice_index (set runs.heights slot h) at ≡ slice_index runs.heights at = get_or-set_other runs.heights slot at h 0 ne in
+      rw there (k.kept at first count (λ e. f (there ∙ e)) z)
+]
+
+pub runs_kept : (y : Layout) (body cells : List ℕ) (runs after : CachedSpans) (slot from n h : ℕ) → AreRuns y body cells runs → IsRun y body cells from n h
+    → (after ≡ runs) ⊎ (IsSpanAt runs slot from n × (slot < length runs.heights) × (after ≡ record runs { heights = set runs.heights slot h }))
+    → AreRuns y body cells after
+runs_kept y body cells runs after slot from n h k r e = elim e [
   | inl q ↦ rw q k
-  | inr q ↦ rw q (record {
-    kept = All-set (IsRunOf y body cells) runs.kept at (record { first = from; count = n; height = h }) r k.kept;
+  | inr q ↦ rw q.2 (record {
+    kept = λ at first count f z. put_run y body cells runs slot from n h k r q.0 q.1 at first count f (record { start = z.start; long = z.long });
     leaves = k.leaves;
   })
 ]
 
 pub runs_ready : (y : Layout) (body cells : List ℕ) (runs after : CachedSpans) → AreRuns y body cells runs
-    → (after ≡ runs) ⊎ (SaysNothing after.kept × AreLeaves y body after.leaves) → AreRuns y body cells after
+    → (after ≡ runs) ⊎ (SaysNothing after.heights × AreLeaves y body after.leaves) → AreRuns y body cells after
 runs_ready y body cells runs after h e = elim e [
   | inl q ↦ rw q h
-  | inr q ↦ record { kept = kept_none y body cells after.kept q.0; leaves = q.1 }
+  | inr q ↦ record { kept = kept_none y body cells after q.0; leaves = q.1 }
 ]

@@ -1,4 +1,4 @@
-ghost use Rattle.std.specs.Prelude.{◌≡◌, ◌⊎◌, ◌*◌, ◌≤◌, Some, IfOk, IfErr, drop, length};
+ghost use Rattle.std.specs.Prelude.{◌≡◌, ◌⊎◌, ◌*◌, ◌≤◌, Some, IfOk, IfErr, OnOk, drop, length};
 ghost use Rattle.rb_format.specs.Place.{half_at, layout_of};
 ghost use Rattle.rb_validator.specs.TextBlocks.{AreSegmentBlocks};
 ghost use Rattle.rb_validator.specs.Visits.{HasVisits};
@@ -58,6 +58,25 @@ pub fn accept(alloc: Global, bytes: Vec<u8>) -> Result<Bundle, (FileFault, Vec<u
             notes,
         }),
         Err(fault) => Err((fault, bytes)),
+    }
+}
+
+/// Checks whether a file denotes a bundle, like `accept`, without taking its bytes.
+///
+/// ```rust
+/// check(alloc, bytes)?; // the first fault of a file that `accept` would reject
+/// ```
+pub fn check(alloc: Global, bytes: &[u8]) -> Result<(), FileFault>
+    ensures tree { OnOk result (Denotes bytes.now (source_tree_of bytes.now)) }
+    ensures fault { IfErr result
+        (λ e. (e ≡ FileFault.Memory) ⊎ (first_fault bytes.now ≡ Some e)) }
+{
+    match check_file(alloc, bytes) {
+        Ok(found) => {
+            drop(found);
+            Ok(())
+        }
+        Err(fault) => Err(fault),
     }
 }
 

@@ -25,6 +25,7 @@ use rb_format::{
 use rb_tree::HEIGHT_LIMIT;
 use std::alloc::Global;
 
+#[derive(Drop)]
 pub struct Found {
     pub visits: u32,
     pub notes: Option<Box<Notes>>,

@@ -16,4 +16,4 @@ mod notes;
 mod spans;
 mod text_blocks;
 
-pub use bundle::{Bundle, accept};
+pub use bundle::{Bundle, accept, check};

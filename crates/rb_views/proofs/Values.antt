@@ -38,12 +38,6 @@ values_drop f i (suc n) (suc k) h =
     let u : suc k + 1 ≡ suc (k + 1) = omega arith in
     rw (s, u) (values_drop f (suc i) n k (omega arith))
 
-pub values_drop_all : {X : Type 0} (f : ℕ → X) (i n k : ℕ) → n ≤ k → drop k (values f i n) ≡ []
-values_drop_all f i zero zero h = refl
-values_drop_all f i zero (suc k) h = refl
-values_drop_all f i (suc n) zero h = absurd (omega arith)
-values_drop_all f i (suc n) (suc k) h = values_drop_all f (suc i) n k (omega arith)
-
 -- ---- a lookup among pairs
 
 key_same : (q k : List ℕ) → q ≡ k → pointwise nat_eq q k ≡ true

@@ -1,6 +1,6 @@
 -- Defines the models of the views (`uresdata.h`, format version 1): an item is the tree that it denotes, and a view of
 -- its contents is their list, in the order of the file. Also defines the data that each view reads.
-use Rattle.std.specs.Prelude.{◌≡◌, ℕ, ℤ, ◌+◌, List, Option, Some, IfSome, drop, slice_get}
+use Rattle.std.specs.Prelude.{◌≡◌, ℕ, ℤ, ◌+◌, ◌*◌, List, Option, Some, IfSome, take, drop, slice_get}
 use Rattle.std.specs.Map.{keys_of}
 use Rattle.std.specs.Borrow.{Bor}
 use Rattle.std.specs.Iterator.{YieldsFirstBy}
@@ -22,6 +22,13 @@ tree_seen item = item_tree item.body.now item.word
 
 abbrev pub units_seen : Units → List ℕ
 units_seen units = values (half_at units.body.now) units.first units.count
+
+-- the bytes of the file in which they are
+abbrev pub units_bytes : Units → List ℕ
+units_bytes units = take (2 * units.count) (drop (2 * units.first) units.body.now)
+
+abbrev pub numbers_bytes : Ints → List ℕ
+numbers_bytes ints = take (4 * ints.count) (drop (4 * ints.first) ints.body.now)
 
 abbrev pub numbers_seen : Ints → List ℤ
 numbers_seen ints = values (λ i. cast_signed w32 (word_at ints.body.now i)) ints.first ints.count

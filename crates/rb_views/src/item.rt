@@ -34,14 +34,13 @@ pub struct Item<'a> {
     ghost stands: { StandsFor body.now word },
 }
 
-fn part(body: &[u8], first: usize, count: usize) -> &[u8]
+pub(crate) fn part(body: &[u8], first: usize, count: usize) -> &[u8]
     requires { first + count ≤ length body.now }
     ensures { result.now ≡ take count (drop first body.now) }
 {
     &body[first..first + count]
 }
 
-/// Converts a kind of the file format to a kind of tree.
 fn kind_named(kind: ItemKind) -> Kind
     ensures { result ≡ kind_named kind }
 {
@@ -132,8 +131,7 @@ impl<'a> Item<'a> {
         }
     }
 
-    /// Returns the numbers of an integer vector, like `ures_getIntVector`, or None for any other
-    /// kind.
+    /// Returns the numbers of an integer vector, like `ures_getIntVector`, or None for other kinds.
     pub fn ints(self) -> Option<Ints<'a>>
         ensures { option_map numbers_seen result ≡ ints_of (tree_seen self.entry) }
     {
@@ -155,8 +153,7 @@ impl<'a> Item<'a> {
         }
     }
 
-    /// Returns the 28 bits of an Int with their sign, like `ures_getInt`, or None for any other
-    /// kind.
+    /// Returns the 28 bits of an Int with their sign, like `ures_getInt`, or None for other kinds.
     pub fn int(self) -> Option<i32>
         ensures { result ≡ option_map signed (uint_of (tree_seen self.entry)) }
     {
@@ -166,8 +163,7 @@ impl<'a> Item<'a> {
         }
     }
 
-    /// Returns the 28 bits of an Int without a sign, like `ures_getUInt`, or None for any other
-    /// kind.
+    /// Returns the 28 bits of an Int without a sign, like `ures_getUInt`, or None for other kinds.
     pub fn uint(self) -> Option<u32>
         ensures { result ≡ uint_of (tree_seen self.entry) }
     {

@@ -1,9 +1,9 @@
-//! Views of texts and integer vectors.
 ghost use Rattle.std.specs.Prelude.{◌≡◌, ◌+◌, ◌*◌, ◌/◌, ◌<◌, ◌≤◌, ℕ, Some, true, length};
 ghost use Rattle.std.specs.Prelude.{slice_index, slice_get};
 ghost use Rattle.rb_tree.specs.Path.{is_segment_unit};
 ghost use Rattle.rb_validator.specs.TextBlocks.{AreSegmentBlocks};
 
+use crate::item::part;
 use rb_format::{half_at, word_at};
 
 /// The number of half words in a block that `Bundle::blocks` marks.
@@ -19,7 +19,7 @@ pub struct Units<'a> {
 }
 
 impl<'a> Units<'a> {
-    ghost use Rattle.rb_views.specs.Seen.{units_seen};
+    ghost use Rattle.rb_views.specs.Seen.{units_seen, units_bytes};
 
     #[tactic(auto, using(crate::proofs::Values::values_length))]
     pub fn len(self) -> usize
@@ -35,6 +35,13 @@ impl<'a> Units<'a> {
         ensures { Some result ≡ slice_get (units_seen self.entry) i }
     {
         half_at(self.body, self.first as usize + i)
+    }
+
+    /// Returns the units as the file stores them: two bytes each, the lower one first.
+    pub fn bytes(self) -> &'a [u8]
+        ensures { result.now ≡ units_bytes self.entry }
+    {
+        part(self.body, 2 * self.first as usize, 2 * self.count as usize)
     }
 
     /// Counts the units from index `from` up to the first block that isn't marked.
@@ -73,7 +80,14 @@ pub struct Ints<'a> {
 }
 
 impl<'a> Ints<'a> {
-    ghost use Rattle.rb_views.specs.Seen.{numbers_seen};
+    ghost use Rattle.rb_views.specs.Seen.{numbers_seen, numbers_bytes};
+
+    /// Returns the numbers as the file stores them: four bytes each, the lowest one first.
+    pub fn bytes(self) -> &'a [u8]
+        ensures { result.now ≡ numbers_bytes self.entry }
+    {
+        part(self.body, 4 * self.first as usize, 4 * self.count as usize)
+    }
 
     #[tactic(auto, using(crate::proofs::Values::values_length))]
     pub fn len(self) -> usize

@@ -75,7 +75,6 @@ impl<'a> Table<'a> {
         }
     }
 
-    /// Compares a key with that of entry i.
     fn compare(self, key: &[u8], i: usize) -> Ordering
         requires { i < length (entries_seen self) }
         ensures { IfSome (key_placed self.entry i)

@@ -109,9 +109,6 @@ pub record Owned (old cur : List (Bor (List ℕ))) (es : Members) (j : ℕ) : Ty
   pub is_key : All (λ r. IsKey r.now) old → All (λ r. IsKey r.now) cur
   pub only : (q : List ℕ) → Has cur q → Has old q ⊎ Contains (entries_keys es) q
 
-pub values_none : (old : List (Bor (List ℕ))) (ts : List Resource) → Values old old ts 0
-values_none old ts = record { covered = λ j u h e. absurd (omega arith); stay = λ q h. h; little = omega arith; is_key = λ a. a; only = λ q h. inl h }
-
 pub values_more : (old cur new : List (Bor (List ℕ))) (ts : List Resource) (i : ℕ) (u : Resource) → Values old cur ts i → Some u ≡ slice_get ts i
     → Gathers u cur new → Values old new ts (i + 1)
 values_more old cur new ts i u v e g =

@@ -27,11 +27,6 @@ place_some : {A : Type 0} (n : ℕ) (xs : List A) → 0 < length xs → place_of
 place_some n [] h = absurd (omega arith)
 place_some n (x ∷ xs) h = refl
 
--- of an empty list nothing is put
-pub none_laid : {A : Type 0} (old : List ℕ) (xs : List A) (bytes : List ℕ) (n : ℕ) → length xs ≡ 0 → Laid old old (if_any xs bytes) (place_of n xs) 0
-none_laid old [] bytes n h = record { joined = sym (append-nil old); place_is = refl }
-none_laid old (x ∷ xs) bytes n h = absurd (omega arith)
-
 pub some_laid : {A : Type 0} (old new : List ℕ) (xs : List A) (bytes : List ℕ) (n o : ℕ) → 0 < length xs → new ≡ old ++ bytes → o ≡ n / 4
     → Laid old new (if_any xs bytes) (place_of n xs) o
 some_laid old new xs bytes n o h p e = record { joined = rw (if_some xs bytes h) p; place_is = rw (place_some n xs h) e }
@@ -44,25 +39,6 @@ padded_behind old bytes h =
 
 three : (a b c d : List ℕ) → a ++ b ++ c ++ d ≡ a ++ (b ++ c ++ d)
 three a b c d = append_assoc (a ++ b) c d ∙ append_assoc a b (c ++ d) ∙ ap (λ (m : List ℕ). a ++ m) (sym (append_assoc b c d))
-
-pub units_laid : (old a b c new us : List ℕ) (o : ℕ) → 0 < length us → length old % 4 ≡ 0 → o ≡ length old / 4 → PutsWord old a (length us)
-    → PutsHalves a b us (length us) → PutsHalf b c 0 → new ≡ padded c → Laid old new (text_data us) (place_of (length old) us) o
-units_laid old a b c new us o some whole at p q r e =
-    let b_is : b ≡ old ++ words (length us ∷ []) ++ halves us = q.bytes ∙ ap (λ (m : List ℕ). a ++ halves m) (take-length us)
-    ∙ ap (λ (m : List ℕ). m ++ halves us) p.bytes in
-    let c_is : c ≡ old ++ (words (length us ∷ []) ++ halves us ++ halves (0 ∷ [])) = r.bytes ∙ ap (λ (m : List ℕ). m ++ halves (0 ∷ [])) b_is
-    ∙ three old (words (length us ∷ [])) (halves us) (halves (0 ∷ [])) in
-    some_laid old new us (padded (words (length us ∷ []) ++ halves us ++ halves (0 ∷ []))) (length old) o some
-    (e ∙ ap padded c_is ∙ padded_behind old (words (length us ∷ []) ++ halves us ++ halves (0 ∷ [])) whole) at
-
-pub numbers_laid : (old a new : List ℕ) (zs : List ℤ) (o : ℕ) → 0 < length zs → o ≡ length old / 4 → PutsWord old a (length zs)
-    → PutsNumbers a new zs (length zs) → Laid old new (numbers_data zs) (place_of (length old) zs) o
-numbers_laid old a new zs o some at p q =
-    let joined : new ≡ old ++ words (length zs ∷ map (cast_unsigned w32) zs) = q.bytes
-    ∙ ap (λ (m : List ℤ). a ++ words (map (cast_unsigned w32) m)) (take-length zs)
-    ∙ ap (λ (m : List ℕ). m ++ words (map (cast_unsigned w32) zs)) p.bytes
-    ∙ append_assoc old (little_bytes 4 (length zs)) (words (map (cast_unsigned w32) zs)) in
-    some_laid old new zs (words (length zs ∷ map (cast_unsigned w32) zs)) (length old) o some joined at
 
 pub bytes_laid : (old z a b new bs skip : List ℕ) (o : ℕ) → 0 < length bs → length old % 4 ≡ 0 → o ≡ length z / 4 → PutsBytes old z skip
     → skip ≡ replicate (skipped (length old)) 170 → PutsWord z a (length bs) → PutsBytes a b bs → new ≡ padded b

@@ -111,9 +111,6 @@ take_next [] i k e = cc
 take_next (q ∷ ks) zero k e = let s : q ≡ k = cc in rw s refl
 take_next (q ∷ ks) (suc i) k e = ap (λ (xs : List (List ℕ)). q ∷ xs) (take_next ks i k e)
 
-pub keys_none : (old : List ℕ) (ks : List (List ℕ)) → KeysLaid old [] ks old 0
-keys_none old ks = record { known_are = refl; placed = tt; joined = sym (append-nil old) }
-
 pub keys_laid : (old mid new : List ℕ) (known known_new : List (Bor (List ℕ) × ℕ)) (ks : List (List ℕ)) (i : ℕ) (k : List ℕ) → KeysLaid old known ks mid i
     → Some k ≡ slice_get ks i → PlacesKey mid new k known known_new → KeysLaid old known_new ks new (i + 1)
 keys_laid old mid new known known_new ks i k l e p = by_test (ends_with (known_keys known) k) refl

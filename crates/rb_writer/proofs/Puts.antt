@@ -129,14 +129,6 @@ numbers_joined old mid new zs z w n p q u e h =
     joined_on (λ y. little_bytes 4 (cast_unsigned w32 y)) old mid new zs n z (p ∙ ap (λ (bs : List ℕ). old ++ bs) (each (take n zs)))
     (q ∙ ap (λ m. mid ++ little_bytes 4 m) u) h e ∙ ap (λ (bs : List ℕ). old ++ bs) (sym (each (take (n + 1) zs)))
 
-pub numbers_none : (old : List ℕ) (numbers : List ℤ) → PutsNumbers old old numbers 0
-numbers_none old numbers = record {
-  adds = adds_refl old;
-  len = omega arith;
-  numbers_are = λ i j d e h. absurd (omega arith);
-  bytes = sym (append-nil old);
-}
-
 pub numbers_more : (old mid new : List ℕ) (numbers : List ℤ) (z : ℤ) (w n : ℕ) → PutsNumbers old mid numbers n → PutsWord mid new w → cast_signed w32 w ≡ z
     → w ≡ cast_unsigned w32 z → z ≡ get_or numbers n z → n < length numbers → PutsNumbers old new numbers (n + 1)
 numbers_more old mid new numbers z w n p q t u e h =

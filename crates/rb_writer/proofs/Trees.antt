@@ -95,35 +95,6 @@ no_items (i ∷ is) h = absurd (omega arith)
 
 -- ---- each kind of tree
 
-leaf_laid : (old new bytes : List ℕ) (kind : ItemKind) (place offset word : ℕ) → Laid old new bytes place offset → word ≡ item_word kind offset
-    → Laid old new bytes (item_word kind place) word
-leaf_laid old new bytes kind place offset word p e = record { joined = p.joined; place_is = e ∙ ap (item_word kind) p.place_is }
-
-pub string_laid : (keys : KeyOffsets) (old new us : List ℕ) (o word : ℕ) (t : Tree) → t ≡ trees.String us
-    → Laid old new (text_data us) (place_of (length old) us) o → word ≡ item_word kinds.String o → TreeLaid keys old new (view_of t) word
-string_laid keys old new us o word t is p e =
-    rw is (λ at a. leaf_laid old new (text_data us) kinds.String (place_of (length old) us) o word p e)
-
-pub alias_laid : (keys : KeyOffsets) (old new us : List ℕ) (o word : ℕ) (t : Tree) → t ≡ trees.Alias us
-    → Laid old new (text_data us) (place_of (length old) us) o → word ≡ item_word kinds.Alias o → TreeLaid keys old new (view_of t) word
-alias_laid keys old new us o word t is p e =
-    rw is (λ at a. leaf_laid old new (text_data us) kinds.Alias (place_of (length old) us) o word p e)
-
-pub ints_laid : (keys : KeyOffsets) (old new : List ℕ) (zs : List ℤ) (o word : ℕ) (t : Tree) → t ≡ trees.Ints zs
-    → Laid old new (numbers_data zs) (place_of (length old) zs) o → word ≡ item_word kinds.Ints o → TreeLaid keys old new (view_of t) word
-ints_laid keys old new zs o word t is p e =
-    rw is (λ at a. leaf_laid old new (numbers_data zs) kinds.Ints (place_of (length old) zs) o word p e)
-
-pub binary_laid : (keys : KeyOffsets) (old new bs : List ℕ) (o word : ℕ) (t : Tree) → t ≡ trees.Binary bs
-    → Laid old new (binary_data (length old) bs) (place_of (length old + skipped (length old)) bs) o → word ≡ item_word kinds.Binary o
-    → TreeLaid keys old new (view_of t) word
-binary_laid keys old new bs o word t is p e =
-    rw is (λ at a. leaf_laid old new (binary_data (length old) bs) kinds.Binary (place_of (length old + skipped (length old)) bs) o word p e)
-
-pub int_laid : (keys : KeyOffsets) (old : List ℕ) (n word : ℕ) (t : Tree) → t ≡ trees.Int n → word ≡ item_word kinds.Int n
-    → TreeLaid keys old old (view_of t) word
-int_laid keys old n word t is e = rw is (λ at a. record { joined = sym (append-nil old); place_is = e })
-
 pub array_laid_whole : (keys : KeyOffsets) (old mid new is : List ℕ) (n o word : ℕ) (ts : Resources) (t : Tree) → t ≡ trees.Array ts
     → EachLaid keys old mid (items ts) is n → n ≡ length (items ts) → PutsArray mid new is o → 0 < length is → word ≡ item_word kinds.Array o
     → TreeLaid keys old new (view_of t) word

@@ -29,9 +29,6 @@ weight_turned ts i m k n u all e f g h =
     let turn = weight_turn ts i u g in
     rw up (omega arith)
 
-pub weight_end : (ts : List Resource) (i m all : ℕ) → m ≤ 2 ^ 64 - 1 → min (m + weight_in (drop i ts)) (2 ^ 64 - 1) ≡ all → length ts ≤ i → m ≡ all
-weight_end ts i m all h e l = let none = ap weight_in (drop_all i ts l) in omega arith
-
 -- ---- the entries of a table
 
 abbrev pub weight_of_pairs : List (List ℕ × Resource) → ℕ

@@ -1,4 +1,3 @@
-//! Writes arrays and tables whose children are already written.
 ghost use Rattle.std.specs.Prelude.{IfOk, OnOk, All, IsTrue, length, ◌≡◌, ◌+◌, ◌*◌, ◌%◌, ◌^◌, ◌≤◌};
 ghost use Rattle.std.specs.Prelude.{◌<◌, ◌↔◌};
 ghost use Rattle.std.specs.Map.{keys_of};

@@ -1,4 +1,3 @@
-//! Gathers the keys of a tree, and weighs it.
 ghost use Rattle.std.specs.Prelude.{◌≡◌, ◌+◌, ◌-◌, ◌^◌, OnOk, IfOk, IsTrue, [], length, max, min};
 ghost use Rattle.rb_tree.specs.Resource.{weight};
 ghost use Rattle.rb_tree.specs.View.{view_of};
@@ -54,7 +53,6 @@ impl<'a> Gathered<'a> {
         })
     }
 
-    /// Checks whether the key with this index equals `key`.
     #[tactic(auto, using(crate::proofs::Gathered::has_at))]
     fn is_at(&self, id: u32, key: &[u8]) -> bool
         ensures { IsTrue result → Has self.now.keys.items key.now }
@@ -63,7 +61,6 @@ impl<'a> Gathered<'a> {
         i < self.keys.len() && self.keys[i] == key
     }
 
-    /// Adds a key and returns its index.
     #[tactic(auto, using(crate::proofs::Gathered::gains_new))]
     fn insert(&mut self, key: &'a [u8]) -> Result<u32, AllocError>
         ensures keys { OnOk result (Gains key.now self.old.keys.items self.new.keys.items) }
@@ -115,7 +112,6 @@ impl<'a> Gathered<'a> {
         self.weigh((key.len() as u64).saturating_add(9));
     }
 
-    /// Adds the key of the next entry.
     fn add(&mut self, key: &'a [u8]) -> Result<(), AllocError>
         ensures keys { OnOk result (Gains key.now self.old.keys.items self.new.keys.items) }
         ensures longest { self.new.longest ≡ self.old.longest }

@@ -1,4 +1,3 @@
-//! Writes the keys, and finds their offsets again when the tables are written.
 ghost use Rattle.std.specs.Prelude.{◌≡◌, ◌⊎◌, ◌≤◌, ◌<◌, ◌+◌, ◌*◌, ◌/◌, ◌^◌, ℕ, List, length};
 ghost use Rattle.std.specs.Prelude.{OnOk, IfOk, IfSome, IsTrue, All, map};
 ghost use Rattle.rb_writer.specs.inner.Keyed.{IsStored, IsStoredAt, IsPlace, HasPlace};

@@ -1,4 +1,3 @@
-//! Writes values without children.
 ghost use Rattle.std.specs.Prelude.{IfOk, length, ◌≡◌, ◌⊎◌, ◌+◌, ◌*◌, ◌%◌, ◌^◌, ◌≤◌, ◌<◌, ℕ, []};
 ghost use Rattle.std.specs.Prelude.{map};
 ghost use Rattle.rb_format.specs.inner.FirstFault.{units, bytes};

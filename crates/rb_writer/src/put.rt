@@ -1,4 +1,3 @@
-//! Appends numbers and bytes to the data.
 ghost use Rattle.std.specs.Prelude.{OnOk, All, drop, length, ◌≡◌, ◌+◌, ◌<◌, ◌%◌, ◌≤◌, map};
 ghost use Rattle.rb_writer.specs.inner.Growth.{Adds, PutsWord, PutsHalf, PutsBytes, PutsWords};
 ghost use Rattle.rb_writer.specs.inner.Growth.{PutsHalves, PutsNumbers};

@@ -32,7 +32,6 @@ impl Spare {
         }
     }
 
-    /// Returns a list to the pool.
     pub fn give(&mut self, list: Vec<u32>) -> Result<(), AllocError> {
         self.lists.push(list)?;
         Ok(())

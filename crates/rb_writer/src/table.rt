@@ -1,4 +1,3 @@
-//! Writes a table whose children are already written.
 ghost use Rattle.std.specs.Prelude.{MatchResult, IfOk, length, ◌≡◌, ◌⊎◌, ◌+◌, ◌*◌, ◌%◌, ◌<◌, ◌^◌};
 ghost use Rattle.std.specs.Prelude.{◌≤◌, ℕ, List, Some};
 ghost use Rattle.std.specs.Map.{keys_of};

@@ -1,4 +1,3 @@
-//! Writes the values of a tree in post-order.
 ghost use Rattle.std.specs.Prelude.{IfOk, length, ◌+◌, ◌^◌, ◌≤◌};
 ghost use Rattle.rb_tree.specs.Parts.{kind_of, len_of, children_of, HasChildren};
 ghost use Rattle.rb_tree.specs.View.{view_of};

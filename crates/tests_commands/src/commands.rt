@@ -4,7 +4,6 @@ mod desk;
 mod faults;
 mod get;
 mod helpers;
-mod root;
 mod texts;
 mod traces;
 mod values;

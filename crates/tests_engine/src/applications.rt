@@ -1,11 +1,9 @@
-//! Tests that one engine serves many applications, and that an application's replies don't depend on
-//! the requests of others.
+//! Tests that an application's replies don't depend on the requests of others.
 
 use crate::engine::{answers, empty_engine, is_answered};
 use rb_engine::Engine;
 use std::alloc::Global;
 
-/// The five steps of `shop`.
 const SHOP: &str = r#"install|shop|de|text|de{menu{close{"C"}}}|Done
 install|shop|de-at|text|de_AT{menu{open{"O"}}}|Done
 find|shop|de_AT|menu/close|C|de|de_AT
@@ -75,7 +73,6 @@ fn finds_own(alloc: Global, engine: &mut Engine, number: u32) -> Option<bool> {
     Some(answers(alloc, engine, steps.as_str()))
 }
 
-/// The number of applications on one engine.
 const MANY: u32 = 1_000;
 
 fn all_install(alloc: Global, engine: &mut Engine) -> bool {

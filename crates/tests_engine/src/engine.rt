@@ -1,5 +1,3 @@
-//! Runs steps on an engine: requests and lookups, each with the answer that it must get.
-
 use crate::payloads::{Given, given_of, payload};
 use rb_engine::{Engine, Payload, Reply, Request};
 use rb_fallback::Found;
@@ -9,7 +7,6 @@ use rb_views::Item;
 use std::alloc::Global;
 use std::hash::RandomState;
 
-/// An application and a locale.
 pub(crate) type Place<'a> = (&'a str, &'a str);
 
 /// The text that a lookup finds, the actual locale, and the valid locale.
@@ -64,14 +61,12 @@ pub(crate) fn bytes(alloc: Global, text: &str) -> Option<ByteList> {
     Some(ByteList::from_vec(text.as_bytes().to_vec(alloc).ok()?))
 }
 
-/// Returns an engine without bundles.
 pub(crate) fn empty_engine(rt: &HostRuntime) -> Option<Engine> {
     let alloc = rt.alloc();
     let state = RandomState::new(rt).ok()?;
     Engine::start(alloc, state, Vec::new(alloc), Parents::none(alloc)).ok()
 }
 
-/// Installs a payload, and returns the word of the reply.
 fn install_word(
     alloc: Global,
     engine: &mut Engine,
@@ -88,7 +83,6 @@ fn install_word(
     Some(engine.handle(alloc, request).word())
 }
 
-/// Checks whether the reply to an install has a word.
 fn installs(
     alloc: Global,
     engine: &mut Engine,
@@ -102,14 +96,12 @@ fn installs(
     }
 }
 
-/// Removes a bundle, and returns the word of the reply.
 fn removal_word(alloc: Global, engine: &mut Engine, place: Place<'_>) -> Option<&'static str> {
     let app = bytes(alloc, place.0)?;
     let locale = bytes(alloc, place.1)?;
     Some(engine.handle(alloc, Request::Remove { app, locale }).word())
 }
 
-/// Asks for an application's bundles, and counts the names in the reply.
 fn count(alloc: Global, engine: &mut Engine, app: &str) -> Option<usize> {
     let app = bytes(alloc, app)?;
     match engine.handle(alloc, Request::List { app }) {
@@ -118,7 +110,6 @@ fn count(alloc: Global, engine: &mut Engine, app: &str) -> Option<usize> {
     }
 }
 
-/// Checks whether an item is a string whose units are the bytes of a text.
 fn has_text(item: Item<'_>, text: &str) -> bool {
     let Some(units) = item.text() else {
         return false;
@@ -148,7 +139,6 @@ fn finds(engine: &Engine, place: Place<'_>, path: &str, hit: Hit<'_>) -> bool {
     }
 }
 
-/// Checks whether a lookup fails with an error of this word.
 pub(crate) fn misses(engine: &Engine, place: Place<'_>, path: &str, word: &str) -> bool {
     match engine.look(place.0.as_bytes(), place.1.as_bytes(), path.as_bytes()) {
         Ok(_) => false,
@@ -156,7 +146,6 @@ pub(crate) fn misses(engine: &Engine, place: Place<'_>, path: &str, word: &str) 
     }
 }
 
-/// Runs a step, and checks whether it gets its answer.
 fn runs(alloc: Global, engine: &mut Engine, step: Step<'_>) -> bool {
     match step {
         Step::Install(place, given, word) => installs(alloc, engine, place, given, word),

@@ -1,21 +1,22 @@
-//! Tests what an engine says of its applications' bundles, before and after an incoming bundle is put.
-
-use crate::engine::{Place, bytes, empty_engine, is_answered};
+use crate::engine::{Place, empty_engine, is_answered};
 use crate::payloads::{Given, payload};
-use rb_engine::{App, Brought, Change, Engine, Usage};
+use rb_engine::{App, Brought, BundleSource, Change, Engine, Payload, Usage};
 use std::alloc::Global;
 
 /// Reads an incoming bundle, without putting it.
 fn brought(alloc: Global, place: Place<'_>, given: Given<'_>) -> Option<Brought> {
-    let app = bytes(alloc, place.0)?;
-    let locale = bytes(alloc, place.1)?;
-    Brought::read(alloc, &app, &locale, payload(alloc, given)?).ok()
+    let (app, locale) = (place.0.as_bytes(), place.1.as_bytes());
+    match payload(alloc, given)? {
+        Payload::Text(text) => {
+            Brought::read(alloc, app, locale, BundleSource::Text(text.as_slice())).ok()
+        }
+        Payload::File(file) => Brought::read(alloc, app, locale, BundleSource::File(file)).ok(),
+    }
 }
 
 /// The length of the file at the place, the length of the incoming file, and the word of the reply.
 type Put<'a> = (Option<u64>, u64, &'a str);
 
-/// Puts a bundle, and checks the lengths and the reply.
 fn puts(
     alloc: Global,
     engine: &mut Engine,

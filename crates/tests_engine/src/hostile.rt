@@ -1,5 +1,3 @@
-//! Tests bundles that are built to be expensive.
-
 use crate::engine::{answers, empty_engine, is_served};
 use rb_engine::Engine;
 use std::alloc::Global;
@@ -14,7 +12,6 @@ fn has_int(alloc: Global, engine: &Engine, locale: &str, count: usize) -> Option
     }
 }
 
-/// Installs nested arrays.
 const CHAINS: &str = "\
 install|shop|root|nested|30|Done
 install|shop|fr|nested|62|Done

@@ -1,4 +1,3 @@
-//! Tests packages, and what each of their calls leaves.
 use rb_locales::Name;
 use rb_packages::{App, AppFault, PackFault, Packages, Usage};
 use rb_parents::Shelf;
@@ -13,7 +12,6 @@ const SAMPLE: [u8; 76] = [
     0, 0, b'a', 0, 0xaa, 0xaa, 1, 0, 0, 0, b'b', 0, 0, 0, 1, 0, 0x18, 0, 7, 0, 0, 0,
 ];
 
-/// Returns packages without bundles.
 fn empty(rt: &HostRuntime) -> Option<Packages> {
     let state = RandomState::new(rt).ok()?;
     Some(Packages::new(rt.alloc(), state))
@@ -26,12 +24,10 @@ fn bundle(alloc: Global, letter: u8) -> Option<Bundle> {
     accept(alloc, file.to_vec(alloc).ok()?).ok()
 }
 
-/// Returns the letter of a bundle.
 fn letter(bundle: &Bundle) -> Option<u8> {
     bundle.bytes().get(64).copied()
 }
 
-/// An application and the name of a bundle.
 type Place<'a> = (&'a App, Name);
 
 /// Installs a bundle with `b` at `a`, and checks the fault.
@@ -166,7 +162,6 @@ fn loads_a_name_once(rt: HostRuntime) {
     assert!(rt; loads_once(&rt) == Some(true));
 }
 
-/// Checks whether an application's files have this many bytes in this many bundles.
 fn uses(packages: &Packages, app: &App, bytes: u64, bundles: u64) -> bool {
     packages.usage(app) == Usage { bytes, bundles }
 }

@@ -1,5 +1,3 @@
-//! Makes the texts and files that the tests install.
-
 use rb_engine::Payload;
 use rb_tree::ByteList;
 use std::alloc::Global;
@@ -51,7 +49,6 @@ const SAMPLE: [u32; 11] = [0x20000009, 5, 7, 11, 11, 1, KEY, 1, 0x62, 0x00180001
 /// The data of a bundle without fallback, with the string `b` at `a`.
 const FLAGGED: [u32; 12] = [0x2000000A, 6, 8, 12, 12, 1, 1, KEY, 1, 0x62, 0x001C0001, 8];
 
-/// The data of an empty table.
 const EMPTY: [u32; 7] = [0x20000006, 5, 6, 7, 7, 0, 0];
 
 /// The data of a table whose entry `a` is an array that contains itself.

@@ -1,5 +1,3 @@
-//! Tests what an engine answers to requests and lookups.
-
 use crate::engine::{answers, bytes, empty_engine, is_answered, is_served, misses};
 use crate::payloads::{Given, payload};
 use rb_engine::{App, AppFault, Engine, LookFault, Payload, StartFault};
@@ -71,7 +69,6 @@ fn stops_at_files_without_fallback(rt: HostRuntime) {
     assert!(rt; is_served(&rt, FLAGGED_FILE));
 }
 
-/// Installs this many small bundles for `shop`, and checks whether each is accepted.
 fn takes_all(alloc: Global, engine: &mut Engine, count: u32) -> Option<bool> {
     for i in 0..count {
         let step = format!(in alloc; "install|shop|qq_{i}|text|x{{}}|Done").ok()?;
@@ -131,7 +128,6 @@ fn common_bundles(alloc: Global, count: u32) -> Option<Vec<(Name, Payload)>> {
     Some(icudata)
 }
 
-/// Returns an engine with this many common bundles.
 fn engine_over(rt: &HostRuntime, count: u32) -> Option<Engine> {
     let alloc = rt.alloc();
     let icudata = common_bundles(alloc, count)?;

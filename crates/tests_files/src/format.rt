@@ -1,4 +1,3 @@
-//! Tests the fields of sample files.
 use crate::samples::{ONE_STRING, ONE_STRING_WITHOUT_FALLBACK, Sample, bytes_of};
 use rb_format::{
     Attributes, FileFault, Header, ItemKind, half, has_valid_indexes, item_kind, item_offset,
@@ -6,7 +5,6 @@ use rb_format::{
 };
 use std::alloc::Global;
 
-/// Checks whether a header is read with its size and minor version, or refused so.
 fn is_header(file: &[u8], minor: u8, fault: Option<FileFault>) -> bool {
     match Header::read(file) {
         Ok(header) => fault.is_none() && header.size == 32 && header.minor == minor,
@@ -14,8 +12,7 @@ fn is_header(file: &[u8], minor: u8, fault: Option<FileFault>) -> bool {
     }
 }
 
-/// Checks whether the header of the sample with one string, with another minor version, is read or
-/// refused so.
+/// Checks the header of the sample with one string and another minor version.
 fn is_minor(alloc: Global, minor: u8, fault: Option<FileFault>) -> bool {
     let words = ONE_STRING.words;
     match bytes_of(alloc, Sample { minor, words }) {
@@ -48,7 +45,6 @@ fn has_flag(body: &[u8]) -> bool {
     true
 }
 
-/// Checks whether the data of a file has the flag.
 fn is_flagged(file: Option<Vec<u8>>) -> bool {
     match file {
         Some(file) => has_flag(file.get(32..).unwrap_or(&[])),

@@ -1,4 +1,3 @@
-//! Proves that the parser reads what the printer prints.
 ghost use Rattle.std.specs.Prelude.{◌≡◌, IfOk, MatchResult};
 ghost use Rattle.rb_format.specs.File.{Denotes, source_tree_of};
 ghost use Rattle.rb_lexer.specs.declared.fault.SourceKind.TheVariants.{Memory};

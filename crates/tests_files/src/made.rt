@@ -1,4 +1,3 @@
-//! Builds large files and files that share items, word by word.
 ghost use Rattle.std.specs.Prelude.{◌<◌, ◌^◌};
 
 use crate::samples::Draft;
@@ -13,7 +12,6 @@ const INT: u32 = 0x7000_0000;
 
 const ARRAY: u32 = 0x8000_0000;
 
-/// Returns the header, the root item and the indexes.
 fn front(alloc: Global, root: u32, keys_top: u32, top: u32) -> Draft {
     let mut file = Draft::new(alloc, 1);
     file.words(&[root, 5, keys_top, top, top, 0]);
@@ -153,7 +151,6 @@ fn put_key(file: &mut Draft, number: u32) {
     file.push(0);
 }
 
-/// Returns a table of this many Ints.
 pub fn numbers(alloc: Global, count: u32) -> Option<Vec<u8>>
     requires { count < 2 ^ 20 }
 {

@@ -1,4 +1,3 @@
-//! Tests printing bundles, and parsing what is printed.
 use crate::laws::again;
 use rb_parser::parse;
 use rb_printer::{PrintError, print_bundle};
@@ -8,7 +7,6 @@ use rb_writer::write;
 use std::alloc::Global;
 use std::test::Fail;
 
-/// Compiles a text, and returns its name and its bundle.
 fn compiled(alloc: Global, text: &[u8]) -> Result<(UnitList, Bundle), Fail> {
     let source = parse(alloc, text)?;
     match accept(alloc, write(alloc, &source.tree, source.no_fallback)?) {
@@ -17,7 +15,6 @@ fn compiled(alloc: Global, text: &[u8]) -> Result<(UnitList, Bundle), Fail> {
     }
 }
 
-/// Compiles a text, and returns the text that is printed of it.
 fn printed(alloc: Global, text: &[u8]) -> Result<Vec<u8>, Fail> {
     let (name, bundle) = compiled(alloc, text)?;
     Ok(print_bundle(alloc, &name, &bundle)?)
@@ -30,7 +27,6 @@ fn comes_back(alloc: Global, text: &[u8]) -> Result<bool, Fail> {
     Ok(name.as_slice() == name_again.as_slice() && bundle.bytes() == bundle_again.bytes())
 }
 
-/// A bundle with each kind of item.
 const EACH_KIND: &str =
     "root{s{\"a b\"}n:int{-1}v:intvector{1,-2,0}b:bin{00ff}l:alias{\"/ICUDATA/x\"}a{{\"x\"}{\"y\"}:int{7}}t{\"k k\"{\"\"}}e:table{}w:intvector{}}";
 
@@ -65,7 +61,11 @@ fn prints_each_kind(rt: HostRuntime) -> Result<(), Fail> {
 #[test]
 fn writes_names_and_flags(rt: HostRuntime) -> Result<(), Fail> {
     let alloc = rt.alloc();
-    let rows: [(&str, &str); 5] = [
+    let rows: [(&str, &str); 6] = [
+        (
+            "x{a{\"\u{202A}b\u{202E}\u{2066}\u{2069}\u{200F}\u{202F}\u{2065}\u{206A}\"}}",
+            "x {\n    a { \"\\u202ab\\u202e\\u2066\\u2069\u{200F}\u{202F}\u{2065}\u{206A}\" }\n}\n",
+        ),
         ("de{hello{\"Hallo\"}}", "de {\n    hello { \"Hallo\" }\n}\n"),
         (
             "de_AT:table(nofallback){}",

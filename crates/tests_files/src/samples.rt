@@ -1,4 +1,3 @@
-//! Defines sample files, word by word.
 use std::alloc::Global;
 
 /// A file by its minor version and the words of its data, which comes after the header.
@@ -148,14 +147,12 @@ impl Draft {
         }
     }
 
-    /// Adds a word this many times.
     pub fn repeat(&mut self, word: u32, count: u32) {
         for _ in 0..count {
             self.word(word);
         }
     }
 
-    /// Returns the bytes, if the file is whole.
     pub fn done(self) -> Option<Vec<u8>> {
         if self.is_whole {
             Some(self.bytes)
@@ -165,7 +162,6 @@ impl Draft {
     }
 }
 
-/// Returns the bytes of a sample.
 pub fn bytes_of(alloc: Global, sample: Sample<'_>) -> Option<Vec<u8>> {
     let mut draft = Draft::new(alloc, sample.minor);
     draft.words(sample.words);

@@ -1,4 +1,3 @@
-//! Tests the validator over sample files and damaged ones, and beside a plain checker.
 mod plain;
 mod seen;
 
@@ -52,7 +51,6 @@ fn is_verdict(found: Verdict, want: &str) -> bool {
     }
 }
 
-/// Returns the sample that a row names.
 fn named(name: &str) -> Option<Sample<'static>> {
     match name {
         "empty" => Some(EMPTY),
@@ -67,7 +65,6 @@ fn named(name: &str) -> Option<Sample<'static>> {
     }
 }
 
-/// Returns a file with the bytes of a list written over it.
 fn with_list(alloc: Global, bytes: &[u8], place: usize, list: &str) -> Option<Vec<u8>> {
     let mut over = Vec::new(alloc);
     for byte in list.split_whitespace() {
@@ -86,7 +83,6 @@ fn is_judged(alloc: Global, row: &str) -> Option<bool> {
     Some(is_verdict(verdict(alloc, file.as_slice())?, fields.next()?))
 }
 
-/// Returns the first row whose verdict differs.
 fn first_wrong<'a>(alloc: Global, rows: &'a str) -> Option<&'a str> {
     for row in rows.lines() {
         if is_judged(alloc, row) != Some(true) {
@@ -161,8 +157,7 @@ fn length_is_limited(rt: HostRuntime) {
     assert!(rt; is_too_long(rt.alloc(), 67_108_865) == Some(true));
 }
 
-/// Checks whether each proper prefix of a file is refused: for its header if that isn't whole, else for
-/// its indexes.
+/// Checks whether each proper prefix is refused: for its header, or for its indexes after that.
 fn are_fronts_refused(alloc: Global, file: Option<Vec<u8>>) -> bool {
     let Some(file) = file else {
         return false;
@@ -211,7 +206,6 @@ fn damages(word: u32) -> [u32; 5] {
     ]
 }
 
-/// Checks whether both agree on a file with a damaged word.
 fn agrees_with(alloc: Global, file: &[u8], place: usize, word: u32) -> Option<bool> {
     let damaged = with(alloc, file, place, &word.to_le_bytes())?;
     agrees(alloc, damaged.as_slice())
@@ -241,7 +235,6 @@ fn agrees_on_fronts(alloc: Global, file: &[u8]) -> bool {
     true
 }
 
-/// Checks whether both agree on a file, its damages and its prefixes.
 fn agrees_on_all(alloc: Global, file: Option<Vec<u8>>) -> bool {
     let Some(file) = file else {
         return false;
@@ -290,7 +283,6 @@ const LAST_KEYS: &str = "\
 1032|Key
 23|Key";
 
-/// Checks a fault against its word, or `none`.
 fn is_fault(found: Option<FileFault>, want: &str) -> bool {
     match found {
         Some(fault) => fault.word() == want,
@@ -313,7 +305,6 @@ fn long_keys_are_ranked(rt: HostRuntime) {
     }
 }
 
-/// Checks the length of a file, and the verdict.
 fn is_visited(alloc: Global, file: Option<Vec<u8>>, length: usize, want: Verdict) -> bool {
     match file {
         Some(file) => file.len() == length && verdict(alloc, file.as_slice()) == Some(want),
@@ -321,7 +312,6 @@ fn is_visited(alloc: Global, file: Option<Vec<u8>>, length: usize, want: Verdict
     }
 }
 
-/// Checks chains of arrays: the lengths of their files, and the verdicts.
 fn are_chains_visited(alloc: Global) -> bool {
     is_visited(alloc, chain(alloc, 30), 428, Ok((31, false)))
         && is_visited(alloc, chain(alloc, 31), 440, Ok((32, false)))
@@ -329,7 +319,6 @@ fn are_chains_visited(alloc: Global) -> bool {
         && is_visited(alloc, chain(alloc, 63), 824, Err(FileFault::TooDeep))
 }
 
-/// Checks chains with one more array.
 fn are_longer_chains_visited(alloc: Global) -> bool {
     is_visited(alloc, chain_and_more(alloc, 30), 444, Ok((32, false)))
         && is_visited(
@@ -380,7 +369,6 @@ fn is_two_kinds(alloc: Global, items: (u32, u32), above: u8, want: Verdict) -> b
 
 const TOO_DEEP: Verdict = Err(FileFault::TooDeep);
 
-/// Checks an array and a long table at one offset, below other arrays.
 fn are_array_and_table(alloc: Global) -> bool {
     // the root, the long table with its two arrays, 61 arrays, and the array at level 63 with its
     // string at level 64

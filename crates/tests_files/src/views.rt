@@ -1,4 +1,3 @@
-//! Tests the views of sample files and of built ones.
 ghost use Rattle.std.specs.Prelude.{◌≤◌};
 
 use crate::made::chain;
@@ -135,8 +134,7 @@ fn has_numbers(table: Table<'_>) -> Option<bool> {
     Some(d.int() == Some(-3) && d.uint() == Some(0x0FFF_FFFD) && are_numbers(e.ints(), &[1, -1]))
 }
 
-/// Checks whether the array has two items, the first of them an Int, and the long table two
-/// entries.
+/// Checks whether the array has two items, first an Int, and the long table two entries.
 fn has_children(table: Table<'_>) -> Option<bool> {
     let (f, h) = (table.get(b"f")?.array()?, table.get(b"h")?);
     Some(f.len() == 2 && f.item(0).uint() == Some(5) && h.len() == 2)

@@ -1,4 +1,3 @@
-//! Tests writing the sample files, and tables in both their forms.
 ghost use Rattle.std.specs.Prelude.{All};
 ghost use Rattle.rb_tree.specs.Keys.{IsKey};
 ghost use Rattle.rb_tree.specs.Table.{keys_in};
@@ -12,7 +11,6 @@ use rb_tree::{ByteList, Int28, NumberList, Tree, TreeList, UnitList, key_ok};
 use rb_writer::write;
 use std::alloc::Global;
 
-/// A value without children.
 #[derive(Clone, Copy)]
 enum Leaf<'a> {
     Int(u32),
@@ -22,7 +20,6 @@ enum Leaf<'a> {
     Alias(&'a [u16]),
 }
 
-/// A key and its value.
 type Row<'a> = (&'a [u8], Leaf<'a>);
 
 fn units(alloc: Global, text: &[u16]) -> Option<UnitList> {
@@ -39,7 +36,6 @@ fn tree_of(alloc: Global, leaf: Leaf<'_>) -> Option<Tree> {
     })
 }
 
-/// Adds an entry.
 fn put(alloc: Global, pairs: &mut Vec<(ByteList, Tree)>, key: &[u8], tree: Tree) -> Option<()>
     requires { All IsKey (keys_in pairs.old.items) }
     ensures { All IsKey (keys_in pairs.new.items) }
@@ -51,7 +47,6 @@ fn put(alloc: Global, pairs: &mut Vec<(ByteList, Tree)>, key: &[u8], tree: Tree)
     pairs.push((key, tree)).ok()
 }
 
-/// Adds entries.
 fn put_rows(alloc: Global, pairs: &mut Vec<(ByteList, Tree)>, rows: &[Row<'_>]) -> Option<()>
     requires { All IsKey (keys_in pairs.old.items) }
     ensures { All IsKey (keys_in pairs.new.items) }
@@ -68,7 +63,6 @@ fn table(alloc: Global, rows: &[Row<'_>]) -> Option<Tree> {
     Tree::table(alloc, pairs).ok()
 }
 
-/// Returns the file of a tree.
 pub fn file(alloc: Global, tree: Option<Tree>, no_fallback: bool) -> Option<Vec<u8>> {
     let tree = tree?;
     if tree.fits() {
@@ -83,7 +77,6 @@ pub fn file_of_alias(alloc: Global, text: &[u16]) -> Option<Vec<u8>> {
     file(alloc, table(alloc, &[(b"a", Leaf::Alias(text))]), false)
 }
 
-/// Checks whether the tree's file is this one.
 fn is_written(alloc: Global, tree: Option<Tree>, no_fallback: bool, sample: Sample<'_>) -> bool {
     match (file(alloc, tree, no_fallback), bytes_of(alloc, sample)) {
         (Some(file), Some(bytes)) => file.as_slice() == bytes.as_slice(),
@@ -131,7 +124,6 @@ fn samples_are_written(rt: HostRuntime) {
     }
 }
 
-/// The empty values without a child.
 const EMPTY_LEAVES: [Leaf<'static>; 4] = [
     Leaf::String(&[]),
     Leaf::Binary(&[]),
@@ -139,7 +131,6 @@ const EMPTY_LEAVES: [Leaf<'static>; 4] = [
     Leaf::Alias(&[]),
 ];
 
-/// Adds an empty value of each type.
 fn add_empty_values(alloc: Global, items: &mut Vec<Tree>) -> Option<()> {
     for leaf in EMPTY_LEAVES {
         items.push(tree_of(alloc, leaf)?).ok()?;
@@ -179,7 +170,6 @@ fn every_type_is_laid_out(rt: HostRuntime) {
     assert!(rt; is_written(alloc, every_type(alloc), false, AS_WRITTEN));
 }
 
-/// A key of 1,000 bytes.
 const LONG_KEY: [u8; 1_000] = [b'k'; 1_000];
 
 /// Returns a table of the long key, which is an Int.
@@ -196,8 +186,8 @@ fn long_key_twice(alloc: Global) -> Option<Tree> {
     Tree::table(alloc, pairs).ok()
 }
 
-/// Its file: the keys `a`, `b` and, once, the long one with its NUL and three bytes of padding;
-/// then the two tables and the root.
+/// Returns its file: the keys `a`, `b` and, once, the long one with its NUL and three bytes of
+/// padding; then the two tables and the root.
 fn long_key_file(alloc: Global) -> Option<Vec<u8>> {
     let mut file = Draft::new(alloc, 1);
     file.words(&[0x20000106, 5, 258, 266, 266, 2, 0x00620061]);
@@ -216,7 +206,7 @@ fn a_long_key_is_written_once(rt: HostRuntime) {
     assert!(rt; wanted.is_some() && file(alloc, long_key_twice(alloc), false) == wanted);
 }
 
-/// `k` and the last five digits of a number.
+/// Returns `k` and the last five digits of a number.
 pub fn numbered_key(number: u32) -> [u8; 6] {
     let mut text = *b"k00000";
     let mut rest = number;
@@ -258,8 +248,7 @@ const LONG_WORDS: [(usize, u32); 5] = [
     (16_386, 9_360),
 ];
 
-/// Checks whether data has the words of a table of 9,360 keys, with each key's offset and each
-/// item.
+/// Checks whether data has a table of 9,360 keys, with each key's offset and each item.
 fn has_long_table(body: &[u8]) -> bool {
     for (i, number) in LONG_WORDS {
         if word(body, i) != Some(number) {
@@ -276,7 +265,6 @@ fn has_long_table(body: &[u8]) -> bool {
     true
 }
 
-/// Checks whether the file of a table of 9,360 keys has its length and its words.
 fn is_long_file(file: Option<Vec<u8>>) -> bool {
     match file {
         Some(file) => file.len() == 32 + 4 * 35_107 && has_long_table(&file[32..]),

@@ -1,5 +1,3 @@
-//! Readers and writers of one byte a call, of which one call fails; an endless reader; and writers that
-//! take or flush nothing.
 ghost use Rattle.std.specs.Prelude.{None};
 
 use rb_requests::{Failed, Feed};
@@ -82,7 +80,6 @@ impl SlowWriter {
         }
     }
 
-    /// Returns what was written.
     pub fn written(&self) -> &[u8] {
         self.bytes.get(..self.len).unwrap_or(&[])
     }

@@ -1,4 +1,3 @@
-//! Tests aliases as JSON.
 use rb_requests::item_text;
 use rb_tree::{Tree, UnitList, path_ok};
 use std::alloc::Global;

@@ -1,5 +1,5 @@
-//! Tests requests by the line (`rb_requests`), the lines of replies (`rb_replies`), and the objects that
-//! lines are (`rb_members`). `tests/replies.sh` tests more lines through the program.
+//! Tests requests by the line (`rb_requests`) and the lines of replies (`rb_replies`).
+//! `tests/replies.sh` tests more lines through the program.
 #![tactic(auto)]
 
 #[cfg(test)]
@@ -12,8 +12,6 @@ mod limited;
 mod line_lengths;
 #[cfg(test)]
 mod lines;
-#[cfg(test)]
-mod objects;
 #[cfg(test)]
 mod run;
 #[cfg(test)]

@@ -1,4 +1,3 @@
-//! Tests replies with a limit on their length.
 use crate::lines::empty_engine;
 use rb_replies::{ReplyLine, found_is_above, reply_is_above};
 use rb_requests::{Engine, Payload, Reply, Request};
@@ -12,7 +11,6 @@ fn bytes(alloc: Global, text: &str) -> Result<ByteList, AllocError> {
 
 const BUNDLE: &str = "de{s{\"Ha\\\"llo\"} t{b{\"B\"} a{\"A\"}} v:intvector{1,-2} b:bin{0aff}}";
 
-/// Returns an engine with a bundle.
 fn engine(rt: &HostRuntime) -> Option<Engine> {
     let alloc = rt.alloc();
     let mut engine = empty_engine(rt)?;

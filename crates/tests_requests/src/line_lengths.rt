@@ -1,9 +1,8 @@
-//! Tests serving lines of at most ten bytes, from a reader of whole inputs and from a reader of single
-//! bytes of which one call may fail.
+//! Tests serving lines of at most ten bytes, from whole inputs and from single bytes.
 ghost use Rattle.std.specs.Prelude.{None};
 
 use crate::lines::empty_engine;
-use rb_requests::{Failed, Feed, LineLimits, ReadFeed, ServeFault, WriteSink, serve_limited};
+use rb_requests::{Failed, Feed, Limits, ReadFeed, ServeFault, WriteSink, serve_limited};
 use std::alloc::{AllocError, Global};
 
 /// A reader of one byte a call. The call numbered `failing`, from 0, fails.
@@ -49,9 +48,9 @@ impl<'a> Feed for ByByte<'a> {
 }
 
 /// A limit on lines only.
-const LIMITS: LineLimits = LineLimits {
+const LIMITS: Limits = Limits {
     line_bytes: Some(10),
-    ..LineLimits::NONE
+    ..Limits::NONE
 };
 
 /// The reply to a line of at most ten bytes, none of which is a request.
@@ -107,7 +106,6 @@ const INPUTS: &str = "\
 0123456789//x/9876543210|3|LineLimit|BBB
 x/|0|LineLimit|";
 
-/// Serves an input by both readers.
 fn ends_by_both(
     rt: &HostRuntime,
     input: &[u8],

@@ -5,14 +5,12 @@ use std::alloc::Global;
 use std::hash::RandomState;
 use std::test::Fail;
 
-/// Returns an engine without bundles.
 pub fn empty_engine(rt: &HostRuntime) -> Option<Engine> {
     let alloc = rt.alloc();
     let state = RandomState::new(rt).ok()?;
     Engine::start(alloc, state, Vec::new(alloc), Parents::none(alloc)).ok()
 }
 
-/// The reply to a line that is no request.
 const BAD: &[u8] = b"{\"error\":\"BadLine\"}\n";
 
 /// Serves an input of lines that are no requests. Checks how serving ends, and the number of replies.

@@ -1,11 +1,9 @@
-//! Tests serving the program's stored run over devices of which a call fails.
 use crate::devices::{Endless, Full, SlowReader, SlowWriter, Stuck};
 use crate::lines::empty_engine;
 use rb_requests::{Engine, ReadFeed, ServeFault, WriteSink, serve};
 use std::alloc::Global;
 use std::test::Fail;
 
-/// The lines of the stored run.
 const RUN: &[u8] = b"\
 {\"op\":\"install\",\"app\":\"shop\",\"locale\":\"de\",\"text\":\"de{menu{close{\\\"C\\\"}}}\"}
 {\"op\":\"install\",\"app\":\"shop\",\"locale\":\"de-at\",\"text\":\"de_AT{menu{open{\\\"O\\\"}}}\"}
@@ -16,7 +14,6 @@ const RUN: &[u8] = b"\
 nonsense
 ";
 
-/// The replies to them.
 const REPLIES: &[u8] = b"\
 {\"ok\":true}
 {\"ok\":true}
@@ -30,7 +27,6 @@ const REPLIES: &[u8] = b"\
 /// More calls than the run has.
 const NEVER: usize = 100_000;
 
-/// Counts the line feeds.
 fn feeds(bytes: &[u8]) -> usize {
     let mut count = 0usize;
     for byte in bytes {

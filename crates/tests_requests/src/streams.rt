@@ -1,8 +1,7 @@
-//! Tests long replies, which are written in pieces.
 use crate::lines::empty_engine;
 use rb_replies::ReplyLine;
 use rb_requests::{
-    Engine, LineLimits, Payload, ReadFeed, Reply, Request, ServeFault, WriteSink, serve_limited,
+    Engine, Limits, Payload, ReadFeed, Reply, Request, ServeFault, WriteSink, serve_limited,
 };
 use rb_tree::ByteList;
 use std::alloc::{AllocError, Global};
@@ -82,7 +81,6 @@ fn table_of(alloc: Global, keys: u32) -> Result<Vec<u8>, AllocError> {
     Ok(text)
 }
 
-/// Returns an engine with a bundle.
 fn engine_of(rt: &HostRuntime, text: Vec<u8>) -> Option<Engine> {
     let alloc = rt.alloc();
     let mut engine = empty_engine(rt)?;
@@ -104,7 +102,6 @@ fn whole(alloc: Global, engine: &Engine, path: &str) -> Result<ReplyLine, AllocE
     Ok(line)
 }
 
-/// Serves a lookup with a limit on the reply.
 fn serve_look(
     alloc: Global,
     engine: &mut Engine,
@@ -115,9 +112,9 @@ fn serve_look(
     let line = format!(in alloc;
         "{{\"op\":\"look\",\"app\":\"shop\",\"locale\":\"de\",\"path\":\"{path}\"}}\n"
     )?;
-    let limits = LineLimits {
+    let limits = Limits {
         reply_bytes: most,
-        ..LineLimits::NONE
+        ..Limits::NONE
     };
     let mut feed = ReadFeed::new(line.as_bytes());
     let mut sink = WriteSink::new(pieces);
@@ -137,7 +134,6 @@ fn is_whole(
     matches!(ended, Ok(None)) && pieces.bytes.as_slice() == wanted && pieces.largest <= PIECE
 }
 
-/// The reply to a lookup that exceeds its limit.
 const TOO_LONG: &[u8] = b"{\"error\":\"ReplyTooLong\"}\n";
 
 /// Checks a reply at limits that it keeps and at one that it exceeds, and at a writer that fails
@@ -180,7 +176,6 @@ fn breaks_off_at_each(alloc: Global, engine: &mut Engine, path: &str, line: &[u8
     true
 }
 
-/// Checks the long item of a row.
 fn is_item_streamed(rt: &HostRuntime, row: &str) -> bool {
     match text_of(rt.alloc(), row) {
         Some((path, text)) => is_streamed(rt, text, path),

@@ -8,6 +8,8 @@ import (
 	"net/http"
 	"os"
 	"time"
+
+	"luvdregan.example/resb/deploy/internal/pulse"
 )
 
 // A body must come at a least rate: leastBytes in each leastInterval, unless it is whole.
@@ -16,11 +18,26 @@ const (
 	leastInterval = 10 * time.Second
 )
 
-type connKey struct{}
+type (
+	connKey     struct{}
+	acceptedKey struct{}
+)
 
-// WithConn returns a context with the connection of its requests, for http.Server.ConnContext.
+// WithConn returns a context with the connection of its requests and the time when it was accepted, for http.Server.ConnContext.
 func WithConn(ctx context.Context, c net.Conn) context.Context {
-	return context.WithValue(ctx, connKey{}, c)
+	return context.WithValue(context.WithValue(ctx, connKey{}, c), acceptedKey{}, time.Now())
+}
+
+// isOld returns true if the request may have come before the process stood still. Its caller may have made it elsewhere since.
+func (c *call) isOld() bool {
+	accepted, known := c.r.Context().Value(acceptedKey{}).(time.Time)
+	return known && pulse.IsOld(accepted)
+}
+
+// hasTwoLengths returns true if the request says in two ways where its body ends.
+func (c *call) hasTwoLengths() bool {
+	conn, can := c.r.Context().Value(connKey{}).(interface{ HasTwoLengths() bool })
+	return can && conn.HasTwoLengths()
 }
 
 // body reads the body of a request, up to a limit.
@@ -31,6 +48,7 @@ func (c *call) body(limit int64) (body []byte, p *problem) {
 	rate := c.newRate()
 	body, err := c.readAll(&pacedReader{http.MaxBytesReader(c.w, c.r.Body, limit), rate})
 	rate.stop()
+	c.got = len(body)
 	if err == nil {
 		c.whole = true
 		return body, nil
@@ -58,7 +76,7 @@ func (c *call) readAll(from io.Reader) ([]byte, error) {
 				more = 4096
 			}
 			if err := c.Limits.hold(c.app, more); err != nil {
-				return nil, err
+				return body, err
 			}
 			c.held += more
 			grown := make([]byte, len(body), int64(len(body))+more)
@@ -70,7 +88,7 @@ func (c *call) readAll(from io.Reader) ([]byte, error) {
 		if errors.Is(err, io.EOF) {
 			return body, nil
 		} else if err != nil {
-			return nil, err
+			return body, err
 		}
 	}
 }

@@ -2,11 +2,14 @@ package api
 
 import (
 	"context"
+	"crypto/sha256"
 	"mime"
 	"net/http"
 	"strings"
+	"time"
 	"unicode/utf8"
 
+	"luvdregan.example/resb/deploy/internal/convert"
 	"luvdregan.example/resb/deploy/internal/store"
 )
 
@@ -18,21 +21,58 @@ func (c *call) change(name string) {
 	c.kind = "change"
 	asked := store.Change{App: c.app, Locale: name, Op: store.Remove, Who: c.who}
 	if c.r.Method != http.MethodDelete {
-		var p *problem
-		if asked, p = c.bundle(name); p != nil {
-			c.refuse(*p)
+		asked.Locale, asked.Form = c.form(name)
+		asked.Op = store.Install
+	}
+	holds, p := c.judge(asked.Locale)
+	if p == nil && asked.Op == store.Install {
+		asked.Body, p = c.bundle(asked.Form)
+	}
+	switch {
+	case p == nil:
+	case p.word == badText.word:
+		c.answerChange(p.status, asked, c.explained(asked, p.reply()))
+		return
+	default:
+		c.refuse(*p)
+		return
+	}
+	if _, strict := c.r.URL.Query()["strict"]; strict {
+		if reason := otherName(asked); reason != "" {
+			c.refuseFor(otherNamed, reason)
 			return
 		}
+	}
+	c.make(asked, c.r.Method == http.MethodPut, holds)
+}
+
+// refuseFor refuses a change for a reason.
+func (c *call) refuseFor(p problem, reason string) {
+	text, err := convert.Marshal(map[string]string{"error": p.word, "message": reason})
+	if err != nil {
+		text = p.reply()
+	}
+	c.answerChange(p.status, store.Change{Op: store.Remove}, text)
+}
+
+// make has a change made if its condition holds, as an installation or a replacement if it puts a bundle, and answers.
+func (c *call) make(asked store.Change, puts bool, holds store.Condition) {
+	if c.isOld() {
+		c.w.Header().Set("Connection", "close")
+		c.refuse(busy)
+		return
 	}
 	ctx, cancel := context.WithTimeout(context.Background(), c.options.Patience)
 	defer cancel()
 	var reply []byte
+	var revision store.Revision
 	var err error
-	if c.r.Method == http.MethodPut {
-		asked.Op, reply, err = c.put(ctx, asked)
+	if puts {
+		asked.Op, reply, revision, err = c.put(ctx, asked, holds)
 	} else {
-		reply, err = c.Backend.Change(ctx, asked)
+		reply, revision, err = c.Backend.Change(ctx, asked, holds)
 	}
+	c.audit.note(c, asked.Op.String(), asked, reply, err)
 	if err != nil {
 		c.refuse(problemOf(err))
 		return
@@ -41,13 +81,48 @@ func (c *call) change(name string) {
 	if asked.Op == store.Install {
 		status = http.StatusCreated
 	}
-	c.answerChange(statusOf(reply, status), asked, reply)
+	if revision > 0 {
+		c.tellRevision(revision)
+	}
+	status = statusOf(reply, status)
+	c.answerChange(status, asked, warned(asked, c.explained(asked, reply)))
 }
 
-// answerChange writes the reply to a change, which has no tag.
+// explanations is how long the reason of a refusal may take.
+const explanations = 10 * time.Second
+
+// explained adds to the refusal of a bundle which error the program finds in it, and in which line, if it finds it in time.
+func (c *call) explained(asked store.Change, reply []byte) []byte {
+	word, _ := refusal(reply)
+	if word != "BadText" && word != "BadFile" {
+		return reply
+	}
+	ctx, cancel := context.WithTimeout(c.r.Context(), explanations)
+	defer cancel()
+	fault, found := c.convert.Fault(ctx, c.app, asked.Form, asked.Body)
+	if !found {
+		return reply
+	}
+	text, err := convert.Marshal(struct {
+		Code    string `json:"code"`
+		Error   string `json:"error"`
+		Line    int    `json:"line,omitempty"`
+		Message string `json:"message,omitempty"`
+	}{fault.Code, word, fault.Line, fault.Message})
+	if err != nil {
+		return reply
+	}
+	return text
+}
+
+// answerChange writes the reply to a change. If a bundle is there now, the tag is its own.
 func (c *call) answerChange(status int, asked store.Change, reply []byte) {
 	h := c.w.Header()
 	h.Set("Cache-Control", "no-store")
+	if status < 300 && asked.Op != store.Remove {
+		sum := sha256.Sum256(asked.Body)
+		h.Set("ETag", bundleTag(sum[:], ""))
+	}
 	switch status {
 	case http.StatusCreated:
 		h.Set("Location", "/v1/"+asked.App+"/"+store.Canonical(asked.Locale))
@@ -58,47 +133,44 @@ func (c *call) answerChange(status int, asked store.Change, reply []byte) {
 }
 
 // put installs a bundle or puts it in the place of the one that is there, and tells which it was.
-func (c *call) put(ctx context.Context, asked store.Change) (done store.Operation, reply []byte, err error) {
+func (c *call) put(ctx context.Context, asked store.Change, holds store.Condition) (
+	done store.Operation, reply []byte, revision store.Revision, err error) {
 	asked.Op = store.Install
 	if c.Backend.Has(c.app, asked.Locale) {
 		asked.Op = store.Replace
 	}
 	for round := 0; ; round++ {
-		reply, err = c.Backend.Change(ctx, asked)
+		reply, revision, err = c.Backend.Change(ctx, asked, holds)
 		word, _ := refusal(reply)
 		switch {
 		case err != nil || round == rounds:
-			return asked.Op, reply, err
+			return asked.Op, reply, revision, err
 		case asked.Op == store.Install && word == "Exists":
 			asked.Op = store.Replace
 		case asked.Op == store.Replace && word == "Absent":
 			asked.Op = store.Install
 		default:
-			return asked.Op, reply, nil
+			return asked.Op, reply, revision, nil
 		}
 	}
 }
 
 // bundle reads the bundle that a request carries.
-func (c *call) bundle(name string) (asked store.Change, p *problem) {
-	locale, form := c.form(name)
+func (c *call) bundle(form store.Form) (body []byte, p *problem) {
 	limit := c.options.TextBytes
 	switch {
 	case form == store.NoForm:
-		return asked, &badType
+		return nil, &badType
 	case c.r.Header.Get("Content-Encoding") != "" && !strings.EqualFold(c.r.Header.Get("Content-Encoding"), "identity"):
-		return asked, &badType
+		return nil, &badType
 	case form == store.File:
 		limit = c.options.FileBytes
 	}
-	body, p := c.body(limit)
-	if p != nil {
-		return asked, p
+	body, p = c.body(limit)
+	if p == nil && form == store.Text && !utf8.Valid(body) {
+		return body, &badText
 	}
-	if form == store.Text && !utf8.Valid(body) {
-		return asked, &badText
-	}
-	return store.Change{Op: store.Install, App: c.app, Locale: locale, Form: form, Body: body, Who: c.who}, nil
+	return body, p
 }
 
 // form tells the form of the body: the suffix of the name says it, where it has one, and else the type. It gives the name

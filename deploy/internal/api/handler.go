@@ -5,7 +5,7 @@ import (
 	"context"
 	"crypto/sha256"
 	"encoding/base64"
-	"io"
+	"encoding/json"
 	"log"
 	"net/http"
 	"net/url"
@@ -15,56 +15,44 @@ import (
 
 	"luvdregan.example/resb/deploy/internal/auth"
 	"luvdregan.example/resb/deploy/internal/child"
-	"luvdregan.example/resb/deploy/internal/page"
+	"luvdregan.example/resb/deploy/internal/convert"
+	"luvdregan.example/resb/deploy/internal/replica"
 	"luvdregan.example/resb/deploy/internal/store"
 )
-
-// A Backend answers the requests of applications: servers of this process, or the shards behind NATS.
-type Backend interface {
-	// Ask answers a lookup or a list. The reply is freed once it isn't used any more.
-	Ask(ctx context.Context, app string, line []byte) *child.Call
-	// AskMany answers several lookups: it calls the function once for each, with its index. The function must not block.
-	AskMany(ctx context.Context, app string, lines [][]byte, answer func(index int, reply *child.Call))
-	// Change returns the reply to a change, once it is durable if it was made.
-	Change(ctx context.Context, c store.Change) (reply []byte, err error)
-	// Has returns true if it is cheap to know that the application has a bundle of the locale.
-	Has(app, locale string) bool
-	// Ready returns an error if no lookups are answered now.
-	Ready() error
-	// Program returns what the program that answers says of its version, or "" if that isn't known.
-	Program() string
-	// Measures writes the backend's metrics in Prometheus' text form.
-	Measures(to io.Writer)
-	// Close ends what the backend began, once no request is on its way.
-	Close()
-}
 
 // Options are the settings of a handler.
 type Options struct {
 	TextBytes, FileBytes, LookBytes int64
-	BodyBytes                       int64
+	BodyBytes, ReleaseBytes         int64
 	Each, All                       int
 	ReadTime, Patience              time.Duration
-	Inside                          bool            // the metrics are at another address
-	Version, Commit                 string          // of the gateway
-	Try, OpenAPI                    []byte          // the pages
+	Inside                          bool   // the metrics are at another address
+	Version, Commit                 string // of the gateway
+	OpenAPI                         []byte
 	Leaving                         context.Context // is done when the gateway ends
+	Access, Audit                   Journal         // or nil
+	Origins                         []string        // whose scripts may ask; `*` is all
+	Rate                            int             // requests of an application a second, or 0
+	DayBytes                        int64           // bytes of an application a day, or 0
 }
 
 // A Handler answers requests.
 type Handler struct {
-	Backend Backend
+	Backend *replica.Replica
 	Tokens  *auth.Tokens
 	Metrics *Metrics
 	Limits  *Limits
 	options Options
-	policy  string
+	convert *convert.Runner
+	audit   auditor
+	rates   *Rates
 }
 
 // New returns a handler.
-func New(backend Backend, tokens *auth.Tokens, options Options) *Handler {
-	return &Handler{Backend: backend, Tokens: tokens, Metrics: newMetrics(), options: options, policy: page.Policy(options.Try),
-		Limits: newLimits(options.Each, options.All, options.BodyBytes)}
+func New(backend *replica.Replica, tokens *auth.Tokens, options Options) *Handler {
+	return &Handler{Backend: backend, Tokens: tokens, Metrics: newMetrics(), options: options,
+		Limits: newLimits(options.Each, options.All, options.BodyBytes), convert: convert.New(backend.Runs, conversions),
+		audit: auditor{options.Audit}, rates: newRates(options.Rate, options.DayBytes)}
 }
 
 // A call is one request on its way.
@@ -78,6 +66,8 @@ type call struct {
 	held  int64  // bytes of its body that are counted
 	whole bool   // its body was read
 	wrote int    // the status
+	sent  int    // bytes of the reply
+	got   int    // bytes of the body
 }
 
 // ServeHTTP answers each request.
@@ -92,7 +82,7 @@ func (h *Handler) Inside() http.Handler {
 	return http.HandlerFunc(func(w http.ResponseWriter, r *http.Request) {
 		own.serve(w, r, func(c *call) {
 			switch r.URL.Path {
-			case "/healthz", "/readyz", "/metrics":
+			case "/healthz", "/readyz", "/writez", "/metrics":
 				c.page(r.URL.Path[1:])
 			default:
 				c.refuse(noPage)
@@ -112,7 +102,15 @@ func (h *Handler) serve(w http.ResponseWriter, r *http.Request, route func(*call
 		}
 	}()
 	w.Header().Set("X-Content-Type-Options", "nosniff")
-	route(c)
+	if len(r.TransferEncoding) > 0 {
+		w.Header().Set("Connection", "close") // a proxy may have seen another end of the body (RFC 9112, 6.1)
+	}
+	if c.hasTwoLengths() {
+		c.refuse(badLength)
+	} else {
+		route(c)
+	}
+	c.logAccess(began)
 	h.Metrics.count(c.kind, c.wrote, time.Since(began))
 }
 
@@ -140,9 +138,13 @@ func (c *call) route() {
 	case !ok:
 		c.refuse(badPath)
 	case parts[0] == "v1" && len(parts) > 1:
-		c.application(parts[1:])
+		if !c.cors() {
+			c.application(parts[1:])
+		}
 	case len(parts) == 1:
 		c.page(parts[0])
+	case len(parts) == 2 && parts[0] == "page":
+		c.page("page/" + parts[1])
 	default:
 		c.refuse(noPage)
 	}
@@ -154,12 +156,16 @@ func (c *call) application(parts []string) {
 	needed, do, methods := c.choose(parts[1:])
 	token, ok := auth.Bearer(c.r.Header.Values("Authorization"))
 	holder, known := c.Tokens.Find(token)
+	may := holder.May(c.app, time.Now())
+	if ok && known {
+		c.who = holder.Name()
+	}
 	switch {
 	case !ok || !known:
 		c.w.Header().Set("WWW-Authenticate", `Bearer realm="resb"`)
 		c.refuse(unauthorized)
 		return
-	case holder.Apps[c.app] == 0 || do != nil && holder.Apps[c.app] < needed:
+	case may == 0 || do != nil && may < needed:
 		c.refuse(forbidden)
 		return
 	case hasEmpty(parts[1:]):
@@ -174,7 +180,6 @@ func (c *call) application(parts []string) {
 		c.refuse(notAllowed)
 		return
 	}
-	c.who = holder.Name()
 	c.limited(do)
 }
 
@@ -194,8 +199,39 @@ func (c *call) limited(do func()) {
 		c.refuse(problemOf(err))
 		return
 	}
-	defer func() { c.Limits.end(c.app, c.held) }()
-	do()
+	defer func() {
+		c.Limits.end(c.app, c.held)
+		c.rates.count(c.app, c.sent+c.got, time.Now())
+	}()
+	if p := c.after(); p != nil {
+		c.refuse(*p)
+	} else if c.mayAsk(1) {
+		do()
+	}
+}
+
+// after waits for the revision that the address names, if it does.
+func (c *call) after() *problem {
+	given := c.r.URL.Query()["after"]
+	if len(given) == 0 {
+		return nil
+	}
+	revision, err := strconv.ParseInt(given[0], 10, 64)
+	if err != nil || revision < 0 || len(given) > 1 {
+		return &badRevision
+	}
+	ctx, cancel := context.WithTimeout(c.r.Context(), c.options.Patience)
+	defer cancel()
+	if err := c.Backend.Await(ctx, store.Revision(revision)); err != nil {
+		p := problemOf(err)
+		return &p
+	}
+	return nil
+}
+
+// tellRevision writes a header with a revision.
+func (c *call) tellRevision(revision store.Revision) {
+	c.w.Header().Set("Resb-Revision", strconv.FormatInt(int64(revision), 10))
 }
 
 // choose returns what a request with these parts after its application does, the right that it needs, and the methods that the
@@ -205,15 +241,25 @@ func (c *call) choose(parts []string) (needed auth.Right, do func(), methods str
 	reads := method == http.MethodGet || method == http.MethodHead
 	switch {
 	case len(parts) == 0:
-		methods = "GET, HEAD, OPTIONS"
-		if reads {
+		methods = "GET, HEAD, DELETE, OPTIONS"
+		switch {
+		case reads:
 			return auth.Read, c.list, methods
+		case method == http.MethodDelete:
+			return auth.Write, c.erase, methods
 		}
+	case strings.HasPrefix(parts[0], "_"):
+		return c.chooseOwn(parts)
 	case len(parts) == 1 && parts[0] == "look" && method == http.MethodPost:
 		return auth.Read, c.looks, ""
 	case len(parts) == 1:
 		methods = "GET, HEAD, PUT, POST, DELETE, OPTIONS"
+		locale, of, isForm := renderingOf(parts[0])
 		switch {
+		case reads && isForm:
+			return auth.Read, func() { c.fetch(locale, of) }, methods
+		case reads && parts[0] == byLanguage:
+			return auth.Read, func() { c.lookByLanguage("") }, methods
 		case reads:
 			return auth.Read, func() { c.look(parts[0], "") }, methods
 		case method == http.MethodPut, method == http.MethodPost, method == http.MethodDelete:
@@ -221,50 +267,70 @@ func (c *call) choose(parts []string) (needed auth.Right, do func(), methods str
 		}
 	default:
 		methods = "GET, HEAD, OPTIONS"
-		if reads {
-			return auth.Read, func() { c.look(parts[0], strings.Join(parts[1:], "/")) }, methods
+		path := strings.Join(parts[1:], "/")
+		switch {
+		case reads && parts[0] == byLanguage:
+			return auth.Read, func() { c.lookByLanguage(path) }, methods
+		case reads:
+			return auth.Read, func() { c.look(parts[0], path) }, methods
 		}
 	}
 	return 0, nil, methods
 }
 
-// look answers one lookup.
+// look answers one lookup. The tag of a whole bundle also names its bytes.
 func (c *call) look(locale, path string) {
 	c.kind = "look"
-	c.asked(child.LookLine(c.app, locale, path))
+	tag := tagOf
+	if path == "" {
+		tag = c.tagOfRoot
+	}
+	c.asked(child.LookLine(c.app, locale, path), tag)
 }
 
 // list answers with the names of the application's bundles.
 func (c *call) list() {
 	c.kind = "list"
-	c.asked(child.ListLine(c.app))
+	c.asked(child.ListLine(c.app), tagOf)
 }
 
 // asked answers with the server's reply to a lookup or a list.
-func (c *call) asked(line []byte) {
+func (c *call) asked(line []byte, tag func(reply []byte) string) {
 	ctx, cancel := context.WithTimeout(c.r.Context(), c.options.Patience)
 	defer cancel()
+	c.tellRevision(c.Backend.Revision())
 	reply := c.Backend.Ask(ctx, c.app, line)
 	defer reply.Free()
 	if reply.Err != nil {
 		c.refuse(problemOf(reply.Err))
 		return
 	}
-	c.answer(statusOf(reply.Reply, http.StatusOK), reply.Reply)
+	c.answer(statusOf(reply.Reply, http.StatusOK), reply.Reply, tag)
+}
+
+// tagOfRoot returns the tag of the reply to a lookup of a whole bundle: the bundle's, and a hash of the reply, which may be that
+// of another server than the store is ahead of.
+func (c *call) tagOfRoot(reply []byte) string {
+	own := tagOf(reply)
+	var found struct{ Actual string }
+	if json.Unmarshal(reply, &found) != nil {
+		return own
+	}
+	b, there := c.Backend.Bundle(c.app, found.Actual)
+	if !there {
+		return own
+	}
+	return bundleTag(b.Digest, strings.Trim(own, `"`))
 }
 
 // answer writes a reply of the server. One that was found has a tag; a caller that has this tag gets no body.
-func (c *call) answer(status int, reply []byte) {
+func (c *call) answer(status int, reply []byte, tagOf func(reply []byte) string) {
 	h := c.w.Header()
 	h.Set("Cache-Control", "private, no-cache")
-	h.Set("Vary", "Authorization")
-	if status == http.StatusOK {
-		tag := tagOf(reply)
-		h.Set("ETag", tag)
-		if matches(c.r.Header.Values("If-None-Match"), tag) {
-			c.write(http.StatusNotModified, "", nil)
-			return
-		}
+	h.Add("Vary", "Authorization")
+	if status == http.StatusOK && c.has(tagOf(reply)) {
+		c.write(http.StatusNotModified, "", nil)
+		return
 	}
 	if status == http.StatusServiceUnavailable {
 		h.Set("Retry-After", "1")
@@ -278,17 +344,29 @@ func tagOf(reply []byte) string {
 	return `"` + base64.RawURLEncoding.EncodeToString(sum[:16]) + `"`
 }
 
-// matches returns true if headers If-None-Match have the tag, or are `*`.
-func matches(headers []string, tag string) bool {
-	for _, header := range headers {
-		for _, one := range strings.Split(header, ",") {
-			one = strings.TrimSpace(one)
-			if one == "*" || strings.TrimPrefix(one, "W/") == tag {
-				return true
-			}
+// has sets the tag of a reply, and returns true if the caller has what it names, perhaps compressed.
+func (c *call) has(tag string) bool {
+	c.w.Header().Set("ETag", tag)
+	for _, one := range tags(c.r.Header.Values("If-None-Match")) {
+		given := strings.TrimPrefix(one, "W/")
+		if one == "*" || given == tag {
+			return true
+		}
+		if strings.TrimSuffix(given, gzipTag+`"`)+`"` == tag {
+			c.w.Header().Set("ETag", given)
+			return true
 		}
 	}
 	return false
+}
+
+// fail refuses a request for an error, which is logged if it is a fault of the gateway.
+func (c *call) fail(err error) {
+	p := problemOf(err)
+	if p == failed {
+		log.Printf("request: %v", err)
+	}
+	c.refuse(p)
 }
 
 // refuse writes a problem.
@@ -298,7 +376,7 @@ func (c *call) refuse(p problem) {
 	if c.r.ContentLength != 0 && !c.whole {
 		h.Set("Connection", "close") // so that the caller gets the error at once, and not after the rest of its body
 	}
-	if p.status == http.StatusServiceUnavailable || p.status == http.StatusTooManyRequests {
+	if h.Get("Retry-After") == "" && (p.status == http.StatusServiceUnavailable || p.status == http.StatusTooManyRequests) {
 		h.Set("Retry-After", "1")
 	}
 	c.write(p.status, "application/json", append(p.reply(), '\n'))
@@ -311,11 +389,12 @@ func (c *call) write(status int, kind string, body []byte) {
 	if kind != "" {
 		h.Set("Content-Type", kind)
 	}
+	body = c.encoded(status, body)
 	if status != http.StatusNotModified && status != http.StatusNoContent {
 		h.Set("Content-Length", strconv.Itoa(len(body)))
 	}
 	c.w.WriteHeader(status)
 	if c.r.Method != http.MethodHead {
-		_, _ = c.w.Write(body)
+		c.sent, _ = c.w.Write(body)
 	}
 }

@@ -4,6 +4,7 @@ import (
 	"bufio"
 	"bytes"
 	"context"
+	"io"
 	"net/http"
 	"time"
 
@@ -28,17 +29,23 @@ func (c *call) looks() {
 		c.refuse(problemOf(err))
 		return
 	}
+	if more := bytes.Count(body, []byte("\n")) - 1; more > 0 && !c.mayAsk(more) {
+		return
+	}
 	h := c.w.Header()
+	c.tellRevision(c.Backend.Revision())
 	h.Set("Content-Type", "application/x-ndjson")
 	h.Set("Cache-Control", "no-store")
+	to, end := c.streamed()
 	c.wrote = http.StatusOK
 	c.w.WriteHeader(http.StatusOK)
-	c.stream(body)
+	c.stream(body, to)
+	end()
 }
 
 // stream asks the lines, some ahead, and writes the replies.
-func (c *call) stream(lines []byte) {
-	out := bufio.NewWriterSize(c.w, 1<<15)
+func (c *call) stream(lines []byte, to io.Writer) {
+	out := bufio.NewWriterSize(to, 1<<15)
 	defer out.Flush()
 	ctx, cancel := context.WithCancel(c.r.Context())
 	defer cancel()

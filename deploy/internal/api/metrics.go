@@ -20,7 +20,7 @@ var bounds = [...]time.Duration{
 }
 
 // kinds are what a request is counted as.
-var kinds = []string{"look", "looks", "list", "change", "other"}
+var kinds = []string{"look", "looks", "list", "change", "fetch", "history", "check", "other"}
 
 // Metrics count requests by kind and status, and their times.
 type Metrics struct {

@@ -4,7 +4,9 @@ import (
 	"bytes"
 	"encoding/json"
 	"net/http"
+	"strings"
 
+	"luvdregan.example/resb/deploy/internal/page"
 	"luvdregan.example/resb/deploy/internal/prom"
 )
 
@@ -14,9 +16,9 @@ func (c *call) page(name string) {
 	switch name {
 	case "":
 		do = func() {
-			c.w.Header().Set("Content-Security-Policy", c.policy)
+			c.w.Header().Set("Content-Security-Policy", page.Policy)
 			c.w.Header().Set("Referrer-Policy", "no-referrer")
-			c.fixed("text/html; charset=utf-8", c.options.Try)
+			c.part("index.html")
 		}
 	case "openapi.json":
 		do = func() { c.fixed("application/json", c.options.OpenAPI) }
@@ -24,10 +26,15 @@ func (c *call) page(name string) {
 		do = c.healthz
 	case "readyz":
 		do = c.readyz
+	case "writez":
+		do = c.writez
 	case "metrics":
 		if !c.options.Inside {
 			do = c.measured
 		}
+	}
+	if part := strings.TrimPrefix(name, "page/"); part != name {
+		do = func() { c.part(part) }
 	}
 	switch {
 	case do == nil:
@@ -40,12 +47,19 @@ func (c *call) page(name string) {
 	}
 }
 
+// part writes a part of the page.
+func (c *call) part(name string) {
+	if content, kind, there := page.Find(name); there {
+		c.fixed(kind, content)
+	} else {
+		c.refuse(noPage)
+	}
+}
+
 // fixed writes a page that stays the same as long as the gateway runs.
 func (c *call) fixed(kind string, content []byte) {
-	tag := tagOf(content)
-	c.w.Header().Set("ETag", tag)
 	c.w.Header().Set("Cache-Control", "no-cache")
-	if matches(c.r.Header.Values("If-None-Match"), tag) {
+	if c.has(tagOf(content)) {
 		c.write(http.StatusNotModified, "", nil)
 		return
 	}
@@ -82,6 +96,17 @@ func (c *call) readyz() {
 		c.now(http.StatusServiceUnavailable, "it ends\n")
 	} else if c.Backend.Ready() != nil {
 		c.now(http.StatusServiceUnavailable, "not ready\n")
+	} else {
+		c.now(http.StatusOK, "ready\n")
+	}
+}
+
+// writez tells whether changes are stored.
+func (c *call) writez() {
+	if c.options.Leaving.Err() != nil {
+		c.now(http.StatusServiceUnavailable, "it ends\n")
+	} else if err := c.Backend.Writable(); err != nil {
+		c.now(http.StatusServiceUnavailable, problemOf(err).word+"\n")
 	} else {
 		c.now(http.StatusOK, "ready\n")
 	}

@@ -1,24 +1,22 @@
-// Package page has the pages of the gateway: the one to look items up by hand, and the description of its requests.
+// Package page has the page on which bundles are edited, and its parts.
 package page
 
 import (
-	"crypto/sha256"
-	"encoding/base64"
-	"regexp"
+	"embed"
+	"path"
 )
 
-// Policy returns a policy for a page: it may run its own script, and ask this gateway.
-func Policy(page []byte) string {
-	return "default-src 'none'; connect-src 'self'; script-src " + sourceOf(page, "script") + "; style-src " +
-		sourceOf(page, "style") + "; base-uri 'none'; form-action 'none'; frame-ancestors 'none'"
-}
+// Policy lets the page run the scripts and use the styles that this gateway serves, and ask this gateway. No text becomes markup.
+const Policy = "default-src 'none'; connect-src 'self'; script-src 'self'; style-src 'self'; base-uri 'none'; form-action 'none'; " +
+	"frame-ancestors 'none'; require-trusted-types-for 'script'; trusted-types 'none'"
 
-// sourceOf returns the hash of the page's one script or style.
-func sourceOf(page []byte, element string) string {
-	found := regexp.MustCompile("(?s)<" + element + ">(.*?)</" + element + ">").FindSubmatch(page)
-	if found == nil {
-		return "'none'"
-	}
-	sum := sha256.Sum256(found[1])
-	return "'sha256-" + base64.StdEncoding.EncodeToString(sum[:]) + "'"
+//go:embed index.html *.css *.mjs
+var files embed.FS
+
+var kinds = map[string]string{".html": "text/html; charset=utf-8", ".css": "text/css; charset=utf-8", ".mjs": "text/javascript; charset=utf-8"}
+
+// Find returns a part of the page with its type; the last result is false if there is none of this name.
+func Find(name string) (content []byte, kind string, there bool) {
+	content, err := files.ReadFile(name)
+	return content, kinds[path.Ext(name)], err == nil
 }

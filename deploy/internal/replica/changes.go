@@ -3,6 +3,7 @@ package replica
 import (
 	"context"
 	"sync"
+	"time"
 
 	"luvdregan.example/resb/deploy/internal/child"
 	"luvdregan.example/resb/deploy/internal/store"
@@ -14,19 +15,40 @@ const (
 	mostBytes   = 1 << 20
 )
 
-// An answer to a change is the server's reply or an error.
+// An answer to a change is the server's reply, with the revision if it was made, or an error.
 type answer struct {
-	reply []byte
-	err   error
+	reply    []byte
+	revision store.Revision
+	err      error
 }
 
 // A pending change waits to be judged and stored.
 type pending struct {
 	store.Change
-	ctx    context.Context
-	line   []byte
-	reply  []byte
-	answer chan answer
+	holds    store.Condition // or nil
+	release  *release        // or nil
+	index    int             // of a part of a release
+	ctx      context.Context
+	came     time.Time
+	line     []byte
+	reply    []byte
+	revision store.Revision
+	later    bool // the judging server makes it after it is stored
+	perhaps  bool // it was published, and may be stored
+	settled  bool // it was answered while it waited
+	answer   chan answer
+}
+
+// tell answers a change, unless it has been answered: its caller may have given up while it was published. Of a change that
+// may be stored it only says that it is made.
+func (p *pending) tell(a answer) {
+	if p.perhaps && string(a.reply) != done {
+		a = answer{err: child.ErrTimeout}
+	}
+	select {
+	case p.answer <- a:
+	default:
+	}
 }
 
 // Changes wait in a queue for each application.
@@ -49,13 +71,26 @@ func (c *changes) add(p *pending) {
 	c.queues[p.App] = append(c.queues[p.App], p)
 }
 
+// putBack has changes that were taken wait again, before others of their applications.
+func (c *changes) putBack(all []*pending) {
+	c.mu.Lock()
+	defer c.mu.Unlock()
+	for i := len(all) - 1; i >= 0; i-- {
+		p := all[i]
+		if len(c.queues[p.App]) == 0 {
+			c.apps = append([]string{p.App}, c.apps...)
+		}
+		c.queues[p.App] = append([]*pending{p}, c.queues[p.App]...)
+	}
+}
+
 // drop removes a change that waits; it returns false if it doesn't wait any more.
 func (c *changes) drop(p *pending) bool {
 	c.mu.Lock()
 	defer c.mu.Unlock()
 	for _, waits := range c.queues[p.App] {
 		if waits == p {
-			return p.ctx.Err() != nil // it is left to take, which leaves it out
+			return p.ctx.Err() != nil && !p.perhaps // it is left to take, which leaves it out
 		}
 	}
 	return false
@@ -87,8 +122,8 @@ func (c *changes) take() (batch []*pending) {
 		queue := c.queues[app]
 		p := queue[0]
 		name := bundle{app, store.Canonical(p.Locale)}
-		given := p.ctx.Err() != nil
-		if !given && (taken[name] || len(batch) > 0 && size+len(p.line) > mostBytes) {
+		given := p.settled || p.ctx.Err() != nil
+		if !given && (taken[name] || p.release != nil && len(batch) > 0 || len(batch) > 0 && size+len(p.line) > mostBytes) {
 			c.apps = append(c.apps, app)
 			passed++
 			continue
@@ -99,14 +134,19 @@ func (c *changes) take() (batch []*pending) {
 		} else {
 			c.apps = append(c.apps, app)
 		}
+		if given && !p.settled {
+			p.tell(answer{err: child.ErrTimeout})
+		}
 		if given {
-			p.answer <- answer{nil, child.ErrTimeout}
 			continue
 		}
 		passed = 0
 		taken[name] = true
 		size += len(p.line)
 		batch = append(batch, p)
+		if p.release != nil { // it is made alone
+			break
+		}
 	}
 	c.count += uint64(len(batch))
 	return batch

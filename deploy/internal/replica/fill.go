@@ -24,6 +24,7 @@ type filling struct {
 	began   time.Time
 	to      *child.Child
 	bundles []store.Bundle
+	has     store.Revision
 	left    map[bundle]string
 }
 
@@ -38,18 +39,19 @@ func (r *Replica) fill(ctx context.Context) error {
 	}
 	r.use(f, nil)
 	if first {
-		r.identify(program)
+		r.nameProgram(program)
 	}
 	return nil
 }
 
 // filled starts a server of a program with the stored bundles.
 func (r *Replica) filled(ctx context.Context, program string) (*filling, error) {
+	has := r.store.Whole()
 	bundles, err := r.store.Standing(ctx)
 	if err != nil {
 		return nil, err
 	}
-	f := &filling{Replica: r, began: time.Now(), bundles: bundles, left: map[bundle]string{}}
+	f := &filling{Replica: r, began: time.Now(), bundles: bundles, has: has, left: map[bundle]string{}}
 	if f.to, err = child.Start(program, r.settings.Arguments, r.settings.Memory); err != nil {
 		return nil, err
 	}
@@ -65,8 +67,8 @@ func (f *filling) drop(err error) error {
 	return fmt.Errorf("process %d: %w; %s", f.to.PID(), err, f.to.Finish(0))
 }
 
-// identify asks a program for its version.
-func (r *Replica) identify(program string) {
+// nameProgram asks a program for its version.
+func (r *Replica) nameProgram(program string) {
 	version := child.Version(program)
 	if version == "" {
 		version = "unknown"
@@ -89,7 +91,11 @@ func (r *Replica) place(f *filling, outdated map[*child.Child]bool) (other, ends
 	default:
 		other, ends, r.serves = r.judges, r.serves, f.to
 	}
+	if r.serves == f.to {
+		r.revision = f.has
+	}
 	r.fills++
+	r.wake.Broadcast()
 	return other, ends
 }
 
@@ -119,7 +125,7 @@ func (r *Replica) use(f *filling, outdated map[*child.Child]bool) {
 	if len(lines) > 0 {
 		_, _ = r.ask(other, lines)
 	}
-	r.note(f.left)
+	r.noteLeftOut(f.left)
 	select {
 	case <-f.to.Ended(): // before it was known
 		r.lost(f.to)
@@ -127,8 +133,8 @@ func (r *Replica) use(f *filling, outdated map[*child.Child]bool) {
 	}
 }
 
-// note logs and stores which bundles are left out.
-func (r *Replica) note(left map[bundle]string) {
+// noteLeftOut logs and stores which bundles are left out.
+func (r *Replica) noteLeftOut(left map[bundle]string) {
 	var all []sqlite.LeftOut
 	for name, reason := range left {
 		log.Printf("server: the bundle of %s is left out: %.200s", name, reason)

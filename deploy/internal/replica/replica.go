@@ -24,46 +24,51 @@ import (
 const (
 	done        = `{"ok":true}`
 	outOfMemory = `{"error":"Memory"}`
-	absent      = `{"error":"Absent"}`
 	badLine     = `{"error":"BadLine"}`
+	overQuota   = `{"error":"OverQuota"}`
 )
 
 // The errors of a change.
 var (
 	ErrNotKept = errors.New("the change could not be stored")
 	ErrNoRoom  = errors.New("no space on the disk")
+	ErrBehind  = errors.New("the gateway has no bundles of this revision yet")
 )
 
 // Settings say how servers are started.
 type Settings struct {
 	Program   string
 	Arguments []string
-	Memory    int64 // of each server; 0 is no limit
+	Memory    int64     // of each server; 0 is no limit
+	Log       SharedLog // or nil, if the changes are in the store alone
 }
 
 // A Replica answers from the bundles of a store.
 type Replica struct {
-	settings Settings
-	store    *sqlite.Store
-	turns    *child.Turns
-	changes  *changes
-	stop     context.CancelFunc
-	stopped  sync.WaitGroup
+	settings  Settings
+	shared             // used by run alone, except moved and trouble
+	published *pending // may be stored in the shared log
+	store     *sqlite.Store
+	turns     *child.Turns
+	changes   *changes
+	stop      context.CancelFunc
+	stopped   sync.WaitGroup
 
-	mu      sync.Mutex
-	wake    *sync.Cond
-	program string       // of servers that are started
-	version string       // what the program says of its version
-	wanted  *upgrade     // another program that is asked for, or nil
-	serves  *child.Child // answers lookups, or nil
-	judges  *child.Child // judges changes, or nil
-	writing bool         // the judging one has, perhaps, what isn't stored
-	behind  bool         // the judging one lacks, perhaps, what is stored
-	ending  bool
-	fills   int
-	left    map[bundle]string // bundles that servers don't have, and why
-	append  func(context.Context, []store.Change) (store.Revision, error)
-	pause   func() // called before the server that is behind makes the changes, in tests
+	mu       sync.Mutex
+	wake     *sync.Cond
+	program  string       // of servers that are started
+	version  string       // what the program says of its version
+	wanted   *upgrade     // another program that is asked for, or nil
+	serves   *child.Child // answers lookups, or nil
+	judges   *child.Child // judges changes, or nil
+	writing  bool         // the judging one has, perhaps, what isn't stored
+	behind   bool         // the judging one lacks, perhaps, what is stored
+	ending   bool
+	fills    int
+	revision store.Revision    // of the bundles with which lookups are answered
+	left     map[bundle]string // bundles that servers don't have, and why
+	append   func(context.Context, []store.Change) (store.Revision, error)
+	pause    func() // called before the server that is behind makes the changes, in tests
 }
 
 // A bundle is named by its application and its canonical locale.
@@ -73,9 +78,16 @@ type bundle struct{ app, locale string }
 func Open(s *sqlite.Store, settings Settings) *Replica {
 	ctx, stop := context.WithCancel(context.Background())
 	r := &Replica{settings: settings, program: settings.Program, store: s, turns: child.NewTurns(), changes: newChanges(), stop: stop,
-		left: map[bundle]string{}, append: s.AppendAll, pause: func() {}}
+		left: map[bundle]string{}, append: s.AppendAll, pause: func() {}, shared: shared{log: settings.Log}}
 	r.wake = sync.NewCond(&r.mu)
 	r.stopped.Add(2)
+	if r.log != nil {
+		r.stopped.Add(1)
+		go func() {
+			defer r.stopped.Done()
+			r.watch(ctx)
+		}()
+	}
 	go func() {
 		defer r.stopped.Done()
 		r.turns.Run(r.awaitServing, r.serving)
@@ -133,6 +145,9 @@ func (r *Replica) lost(c *child.Child) {
 // run keeps two servers, and has changes and upgrades made, until the context ends.
 func (r *Replica) run(ctx context.Context) {
 	defer r.endUpgrades()
+	if r.log != nil {
+		r.catchUp(ctx)
+	}
 	pause := time.Duration(0)
 	for ctx.Err() == nil {
 		if u := r.takeUpgrade(); u != nil {
@@ -141,8 +156,8 @@ func (r *Replica) run(ctx context.Context) {
 		}
 		if r.isWhole() {
 			pause = 0
-			if batch := r.await(); len(batch) > 0 {
-				r.apply(batch)
+			if batch, more := r.await(); len(batch) > 0 || more {
+				r.apply(ctx, batch)
 			}
 			continue
 		}
@@ -172,21 +187,21 @@ func (r *Replica) isWhole() bool {
 	return r.serves != nil && r.judges != nil
 }
 
-// await waits for changes, and returns some of them; none if a server has ended, another program is asked for, or the replica is
-// closed.
-func (r *Replica) await() []*pending {
+// await waits for changes, and returns some of them, and whether a shared log may have more; none if a server has ended, another
+// program is asked for, or the replica is closed.
+func (r *Replica) await() (batch []*pending, more bool) {
 	r.mu.Lock()
 	defer r.mu.Unlock()
 	stays := func() bool { return !r.ending && r.serves != nil && r.judges != nil && r.wanted == nil }
-	for stays() && !r.changes.any() {
+	for stays() && !r.changes.any() && !r.moved {
 		r.wake.Wait()
 	}
 	if !stays() {
-		return nil
+		return nil, false
 	}
-	batch := r.changes.take()
-	r.writing = len(batch) > 0
-	return batch
+	batch, more = r.changes.take(), r.moved
+	r.moved, r.writing = false, len(batch) > 0 || more
+	return batch, more
 }
 
 // Ask answers a lookup or a list. Free must be called once the reply isn't used any more.
@@ -202,28 +217,72 @@ func (r *Replica) AskMany(ctx context.Context, app string, lines [][]byte, answe
 	}
 }
 
-// Change returns the server's reply to a change, once the change is stored if it was made.
-func (r *Replica) Change(ctx context.Context, c store.Change) (reply []byte, err error) {
+// Change returns the server's reply to a change, and its revision, once the change is stored if it was made. A condition that isn't
+// nil must hold for the bundle just before, and no other change of the bundle is made in between; otherwise the error is
+// store.ErrCondition.
+func (r *Replica) Change(ctx context.Context, c store.Change, holds store.Condition) (reply []byte, revision store.Revision, err error) {
+	return r.change(ctx, &pending{Change: c, holds: holds})
+}
+
+// change has a change wait, and returns the reply to it.
+func (r *Replica) change(ctx context.Context, p *pending) (reply []byte, revision store.Revision, err error) {
 	if r.store.Failure() != nil {
-		return nil, ErrNotKept
+		return nil, 0, ErrNotKept
 	}
-	if c.Op != store.Remove && !r.store.Fits(len(c.Body)) {
-		return nil, ErrNoRoom
+	if p.Op != store.Remove && !r.store.Fits(len(p.Body)) {
+		return nil, 0, ErrNoRoom
 	}
-	p := &pending{Change: c, ctx: ctx, line: child.ChangeLine(c), answer: make(chan answer, 1)}
+	if r.log != nil && !r.log.Reached() {
+		return nil, 0, store.ErrUnreached
+	}
+	p.ctx, p.came, p.line, p.answer = ctx, time.Now(), child.ChangeLine(p.Change), make(chan answer, 1)
 	r.changes.add(p)
 	r.mu.Lock()
 	r.wake.Broadcast()
 	r.mu.Unlock()
 	select {
 	case a := <-p.answer:
-		return a.reply, a.err
+		return a.reply, a.revision, a.err
 	case <-ctx.Done():
 		if !r.isWhole() && r.changes.drop(p) {
-			return nil, child.ErrReplaying
+			return nil, 0, child.ErrReplaying
 		}
-		return nil, child.ErrTimeout
+		return nil, 0, child.ErrTimeout
 	}
+}
+
+// Revision returns that of the bundles with which lookups are answered.
+func (r *Replica) Revision() store.Revision {
+	r.mu.Lock()
+	defer r.mu.Unlock()
+	return r.revision
+}
+
+// Await waits until lookups are answered with the bundles of a revision, and returns ErrBehind if the context ends before.
+func (r *Replica) Await(ctx context.Context, revision store.Revision) error {
+	if r.Revision() >= revision {
+		return nil
+	}
+	late := make(chan struct{})
+	defer close(late)
+	go func() {
+		select {
+		case <-ctx.Done():
+			r.mu.Lock()
+			r.wake.Broadcast()
+			r.mu.Unlock()
+		case <-late:
+		}
+	}()
+	r.mu.Lock()
+	defer r.mu.Unlock()
+	for r.revision < revision {
+		if ctx.Err() != nil || r.ending {
+			return ErrBehind
+		}
+		r.wake.Wait()
+	}
+	return nil
 }
 
 // Has returns true if the application has a bundle of the locale.
@@ -233,6 +292,27 @@ func (r *Replica) Has(app, locale string) bool { return r.store.Has(app, locale)
 func (r *Replica) Ready() error {
 	if r.serving() == nil {
 		return child.ErrReplaying
+	}
+	return nil
+}
+
+// Writable returns an error if no change would be stored now.
+func (r *Replica) Writable() error {
+	if err := r.store.Failure(); err != nil {
+		return ErrNotKept
+	}
+	if !r.isWhole() {
+		return child.ErrReplaying
+	}
+	r.mu.Lock()
+	defer r.mu.Unlock()
+	switch {
+	case r.log == nil:
+		return nil
+	case !r.log.Reached():
+		return store.ErrUnreached
+	case r.trouble != nil:
+		return ErrNotKept
 	}
 	return nil
 }
@@ -258,6 +338,9 @@ func (r *Replica) Close() {
 			log.Printf("server: process %d ended: %s", c.PID(), c.Finish(10*time.Second))
 		}
 	}
+	if r.log != nil {
+		r.log.Close()
+	}
 	r.store.Close()
 }
 
@@ -276,7 +359,7 @@ func (r *Replica) Measures(to io.Writer) {
 	}
 	r.mu.Unlock()
 	stats, writes := r.store.Stats(), 0
-	if stats.Writes {
+	if stats.Writes && (r.log == nil || r.Writable() == nil) {
 		writes = 1
 	}
 	value := func(name, help, kind string, value float64) {
@@ -291,6 +374,7 @@ func (r *Replica) Measures(to io.Writer) {
 	value("stream_bytes", "Length of the database and its WAL.", "gauge", float64(stats.Files))
 	value("bundles_bytes", "Length of the stored bundles.", "gauge", float64(stats.Bytes))
 	value("bundles", "Stored bundles.", "gauge", float64(stats.Bundles))
+	value("revision", "The last change with which lookups are answered.", "counter", float64(r.Revision()))
 }
 
 // PIDs returns the processes of the server that answers lookups and of the one that judges changes, 0 for one that is missing.

@@ -81,11 +81,11 @@ func (r *Replica) upgrade(ctx context.Context, program string) error {
 	r.program = program
 	r.mu.Unlock()
 	r.use(f, outdated)
-	r.identify(program)
+	r.nameProgram(program)
 	log.Printf("server: the program is %s, %q", program, r.Program())
 	if r.changes.any() {
-		if batch := r.await(); len(batch) > 0 {
-			r.apply(batch)
+		if batch, more := r.await(); len(batch) > 0 || more {
+			r.apply(ctx, batch)
 		}
 	}
 	r.replaceOther(ctx, program, outdated)

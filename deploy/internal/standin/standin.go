@@ -3,8 +3,10 @@ package standin
 
 import (
 	"bufio"
+	"bytes"
 	"encoding/json"
 	"fmt"
+	"io"
 	"os"
 	"regexp"
 	"strings"
@@ -27,6 +29,75 @@ type request struct{ Op, App, Locale, Path, Text, File string }
 type application struct {
 	names   []string
 	bundles map[string]string
+}
+
+// magic is what a file begins with, as those of ICU do.
+var magic = []byte{0, 32, 0xda, 0x27}
+
+// Command runs a command over standard input as the program would, and returns false if there is no such command. A file is the
+// magic and the text. A text with `bad` has an error in the line of this word, a text with `eternal` takes for ever, and one with
+// `vast` has a JSON of a gigabyte.
+func Command(arguments []string) bool {
+	if len(arguments) == 0 {
+		return false
+	}
+	if arguments[0] == "explain" {
+		fmt.Printf("%s, of a text\n  meaning: a key is bad\n  likely cause: none\n", arguments[1])
+		return true
+	}
+	do := map[string]func(body []byte) bool{"compile": compile, "check": check, "text": text, "json": asJSON, "lint": lint}[arguments[0]]
+	if do == nil {
+		return false
+	}
+	body, err := io.ReadAll(os.Stdin)
+	if err != nil || !do(body) {
+		os.Exit(1)
+	}
+	return true
+}
+
+func compile(body []byte) bool {
+	for bytes.Contains(body, []byte("eternal")) {
+		time.Sleep(time.Millisecond)
+	}
+	if before, _, is := bytes.Cut(body, []byte("bad")); is {
+		fmt.Fprintf(os.Stderr, "-:%d: BadKey\n", 1+bytes.Count(before, []byte("\n")))
+		return false
+	}
+	os.Stdout.Write(append(magic[:len(magic):len(magic)], body...))
+	return true
+}
+
+// lint has a warning for each line with `odd`.
+func lint(body []byte) bool {
+	for i, line := range strings.Split(string(body), "\n") {
+		if strings.Contains(line, "odd") {
+			fmt.Printf("{\"line\":%d,\"column\":1,\"severity\":\"warning\",\"rule\":\"odd\",\"message\":\"it is odd\"}\n", i+1)
+		}
+	}
+	return !bytes.Contains(body, []byte("bad"))
+}
+
+func check(body []byte) bool {
+	if !bytes.HasPrefix(body, magic) || len(body) > 17 && body[16] > 1 {
+		fmt.Fprintln(os.Stderr, "/dev/stdin: FormatVersion")
+		return false
+	}
+	return true
+}
+
+func text(body []byte) bool {
+	os.Stdout.Write(bytes.TrimPrefix(body, magic))
+	return true
+}
+
+func asJSON(body []byte) bool {
+	for i := 0; i < 1<<20 && bytes.Contains(body, []byte("vast")); i++ {
+		os.Stdout.Write(make([]byte, 1<<10))
+	}
+	out, _ := json.Marshal(map[string]string{"text": string(bytes.TrimPrefix(body, magic))})
+	os.Stdout.Write(append(out, '\n'))
+	return true
 }
 
 // Serve answers lines for bundles whose texts are as `de{a{"A"} b{"B"}}`. It ends at a text with `end`, takes 50 ms for one with

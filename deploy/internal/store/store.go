@@ -1,9 +1,9 @@
-// Package store names what a log of accepted changes is, whatever stores it.
+// Package store names what a log of accepted changes has, whatever stores it.
 package store
 
 import (
-	"context"
 	"errors"
+	"sort"
 	"strings"
 	"time"
 )
@@ -41,20 +41,20 @@ const (
 	File
 )
 
-// A Change is a request to change an application's bundles. Who names the caller in the history.
+// A Change is a request to change an application's bundles. Who names the caller in the history. A log that several gateways
+// share also needs the change's random ID, and the order of a bundle that is replaced.
 type Change struct {
 	Op          Operation
 	App, Locale string
 	Form        Form
 	Body        []byte
 	Who         string
+	ID          string
+	Order       Revision
 }
 
 // A Revision numbers the changes of a log, beginning with 1.
 type Revision int64
-
-// Any is the expected revision of a change that may follow any other.
-const Any Revision = -1
 
 // A Bundle describes a bundle that a log has. Its order is the revision that installed it, its revision that of its last
 // change.
@@ -73,26 +73,29 @@ type Bundle struct {
 type Entry struct {
 	Change
 	Revision Revision
+	At       time.Time
 }
 
-// The errors of a log. Each says that nothing was stored, except ErrBroken, after which only a restart tells.
+// The errors of a log. Each says that nothing was stored, except ErrBroken, after which only a restart tells, and ErrUnsettled.
 var (
-	ErrNoSpace  = errors.New("no space left for the change")
-	ErrConflict = errors.New("the bundle was changed meanwhile")
-	ErrBroken   = errors.New("the log takes no more changes until the next start")
-	ErrTooOld   = errors.New("the log no longer has all changes after this revision")
-	ErrDamaged  = errors.New("the log is damaged")
+	ErrNoSpace   = errors.New("no space left for the change")
+	ErrConflict  = errors.New("the log has other changes meanwhile")
+	ErrBroken    = errors.New("the log takes no more changes until the next start")
+	ErrDamaged   = errors.New("the log is damaged")
+	ErrTooLong   = errors.New("the change is too long for the log")
+	ErrUnreached = errors.New("the log is not reached")
+	ErrUnsettled = errors.New("the change may have been stored")
+	ErrUnknown   = errors.New("a later version wrote the log")
 )
 
-// A Log stores accepted changes in order.
-type Log interface {
-	// Append stores a change after all others and returns its revision once it is durable. It returns ErrConflict if the
-	// bundle's last revision isn't the expected one; 0 expects a bundle that was never changed.
-	Append(ctx context.Context, change Change, expected Revision) (Revision, error)
-	// Changes returns the changes after a revision, in order: of each bundle at least the last one.
-	Changes(ctx context.Context, after Revision) ([]Entry, error)
-	// Standing describes the bundles that the log has, in the order of their installation.
-	Standing(ctx context.Context) ([]Bundle, error)
+// InOrder returns bundles in the order of their installation.
+func InOrder[K comparable](of map[K]Bundle) []Bundle {
+	all := make([]Bundle, 0, len(of))
+	for _, b := range of {
+		all = append(all, b)
+	}
+	sort.Slice(all, func(i, j int) bool { return all[i].Order < all[j].Order })
+	return all
 }
 
 // Canonical returns the name under which a bundle is stored whose locale has this valid name (docs/LOOKUP.md).

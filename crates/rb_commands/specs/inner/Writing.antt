@@ -2,10 +2,10 @@
 -- project's own rule.
 use Rattle.rb_commands.specs.declared.output.Decision.{Decision}
 use Rattle.rb_commands.specs.declared.output.Decision.TheVariants.{Refuse, WriteThrough, Create, Replace}
-use Rattle.rb_commands.specs.declared.output.Kind.{Kind}
-use Rattle.rb_commands.specs.declared.output.Kind.TheVariants.{Missing, Ordinary, Device, Other}
+use Rattle.rb_commands.specs.declared.output.FileKind.{FileKind}
+use Rattle.rb_commands.specs.declared.output.FileKind.TheVariants.{Missing, Ordinary, Device, Other}
 
-abbrev pub plain_decision : Kind → Decision
+abbrev pub plain_decision : FileKind → Decision
 plain_decision Missing = Create
 plain_decision Ordinary = Replace
 plain_decision Device = WriteThrough

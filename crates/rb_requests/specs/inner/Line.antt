@@ -5,16 +5,17 @@ use Rattle.hex.specs.Hex.{decode_of}
 use Rattle.rb_engine.specs.Ask.{Call, Requests, LooksUp}
 use Rattle.rb_engine.specs.declared.request.Payload.{Payload}
 use Rattle.rb_engine.specs.declared.request.Payload.TheVariants.{Text}
-use Rattle.rb_members.specs.declared.member.Member.{Member}
-use Rattle.rb_members.specs.declared.member.Member.TheVariants as members
-use Rattle.rb_members.specs.declared.texts.Texts.{Texts}
+use Rattle.rb_requests.specs.declared.member.Member.{Member}
+use Rattle.rb_requests.specs.declared.member.Member.TheVariants as members
+use Rattle.rb_requests.specs.declared.texts.Texts.{Texts}
 use Rattle.rb_requests.specs.Asked.{text_at, call_in, decoded, payload_in}
 use Rattle.rb_requests.specs.Within.{usage_in}
+use Rattle.rb_requests.specs.Requested.{request_of}
 use Rattle.rb_requests.specs.declared.ask.Line.{Line}
 use Rattle.rb_requests.specs.declared.ask.Line.TheVariants as lines
 
 abbrev pub line_view : Line → Call
-line_view (lines.Request request) = Requests request
+line_view (lines.Request request) = Requests (request_of request)
 line_view (lines.Look app locale path) = LooksUp app.now locale.now path.now
 
 -- the text at a name

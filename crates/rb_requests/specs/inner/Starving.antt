@@ -4,25 +4,25 @@ use Rattle.rb_engine.specs.Ask.{Call}
 use Rattle.rb_engine.specs.Kept.{Kept}
 use Rattle.rb_engine.specs.declared.request.Reply.{Reply}
 use Rattle.rb_engine.specs.declared.request.Reply.TheVariants.{Done}
-use Rattle.rb_limits.specs.Steps.{Outcome, CallIsJudged}
+use Rattle.rb_requests.specs.Steps.{Outcome, CallIsJudged}
 use Rattle.serde_json.specs.Data.{Data}
 use Rattle.rb_requests.specs.Asked.{call_in}
 use Rattle.rb_requests.specs.Within.{AnswersRead, asked_usage, usage_in, outcome_line}
 use Rattle.rb_requests.specs.declared.answer.Starved.{Starved}
 use Rattle.rb_requests.specs.declared.answer.Starved.TheVariants.{Before, After}
-use Rattle.rb_requests.specs.declared.limits.LineLimits.{LineLimits}
+use Rattle.rb_requests.specs.declared.limits.Limits.{Limits}
 use Rattle.rb_requests.specs.declared.reading.Held.{Held}
 use Rattle.rb_requests.specs.declared.reading.Held.TheVariants as held
 use Rattle.rb_requests.specs.declared.words.LineError.{LineError}
 use Rattle.rb_requests.specs.declared.words.LineError.TheVariants.{LineTooLong, Memory}
 
 -- a call is judged, and this is its reply
-abbrev pub CallReply : LineLimits → Kept → Call → List ℕ → Kept → Type 0
+abbrev pub CallReply : Limits → Kept → Call → List ℕ → Kept → Type 0
 CallReply limits old call text new =
-    (outcome : Outcome) × CallIsJudged limits.calls old call outcome new × (text ≡ outcome_line limits outcome)
+    (outcome : Outcome) × CallIsJudged limits old call outcome new × (text ≡ outcome_line limits outcome)
 
 -- the reply to a line that is this value
-abbrev pub DataReply : LineLimits → Kept → Data → List ℕ → Kept → Type 0
+abbrev pub DataReply : Limits → Kept → Data → List ℕ → Kept → Type 0
 DataReply limits old d text new = AnswersRead limits old (call_in d) (asked_usage limits (usage_in d)) text new
 
 -- the state if memory runs out: the old one; or either the old one or that after a reply that was not made
@@ -42,6 +42,6 @@ held_error held.Front = Some LineTooLong
 held_error held.Starved = Some Memory
 
 -- the error that is answered if memory ran out for a line that is held whole: none if serving ends
-abbrev pub starved_error : LineLimits → Starved → Option LineError
+abbrev pub starved_error : Limits → Starved → Option LineError
 starved_error limits Before = if limits.keep_serving then Some Memory else None
 starved_error limits After = None

@@ -5,7 +5,7 @@ use Rattle.std.specs.Io.KnownBytes.{Consumes, Keeps, IsAtEnd}
 use Rattle.rb_requests.specs.Lines.{feeds}
 use Rattle.rb_requests.specs.Served.{IsShort}
 use Rattle.rb_requests.specs.declared.device.Failed.{Failed}
-use Rattle.rb_requests.specs.declared.limits.LineLimits.{LineLimits}
+use Rattle.rb_requests.specs.declared.limits.Limits.{Limits}
 use Rattle.rb_requests.specs.declared.lines.Served.{Served}
 use Rattle.rb_requests.specs.declared.lines.ServeFault.{ServeFault}
 use Rattle.rb_requests.specs.declared.lines.ServeFault.TheVariants as fault
@@ -72,7 +72,7 @@ IsHeld longest line held Front = longest.kept < length line
 IsHeld longest line held Starved = (longest.passes_starved ≡ true) × IsShort longest.kept line
 
 -- `IsHeld` under limits: a line for which memory runs out is skipped only with `keep_serving`
-abbrev pub IsHeldUnder : LineLimits → Longest → List ℕ → List ℕ → Held → Type 0
+abbrev pub IsHeldUnder : Limits → Longest → List ℕ → List ℕ → Held → Type 0
 IsHeldUnder limits longest line held what =
     IsHeld longest line held what × (longest.passes_starved ≡ true → limits.keep_serving ≡ true)
 

@@ -13,7 +13,6 @@ use Rattle.rb_format.specs.Item.{kind_of, offset_of}
 use Rattle.rb_format.specs.inner.FirstFault.{◌>>=◌, read, contents, keys, trees}
 use Rattle.rb_validator.specs.declared.items.children.Children.{Children}
 use Rattle.rb_validator.specs.declared.items.memo.VisitState.{VisitState}
-use Rattle.rb_validator.specs.declared.spans.cache.CachedSpan.{CachedSpan}
 use Rattle.rb_validator.specs.declared.items.memo.VisitState.TheVariants.{New, Open, Done}
 use Rattle.rb_format.specs.declared.geometry.TableParts.{TableParts}
 use Rattle.rb_format.specs.Geometry.{key_offset, table_parts, long_table_parts, array_first, array_count, has_children}
@@ -115,6 +114,3 @@ pub record IsRun (y : Layout) (body cells : List ℕ) (from n h : ℕ) : Type 0 
   pub is : run_of y body level from n ≡ Ok items
   pub high : trees_height items ≡ h
   pub known : IsRunKnown body cells from n
-
-abbrev pub IsRunOf : Layout → List ℕ → List ℕ → CachedSpan → Type 0
-IsRunOf y body cells r = IsRun y body cells r.first r.count r.height

@@ -1,5 +1,5 @@
 //! Compares a key with the previous one byte by byte. All compared bytes are counted here.
-ghost use Rattle.std.specs.Prelude.{◌≡◌, ℕ, ◌+◌, ◌*◌, ◌≤◌, ◌<◌, ◌==◌, ◌^◌, length, IfSome};
+ghost use Rattle.std.specs.Prelude.{◌≡◌, ℕ, ◌+◌, ◌*◌, ◌≤◌, ◌<◌, ◌==◌, ◌^◌, length, take, IfSome};
 ghost use Rattle.std.specs.List.{common_prefix_len};
 ghost use Rattle.rb_format.specs.inner.FirstFault.{result_map, next_key};
 ghost use Rattle.rb_format.specs.Place.{key as key_at};
@@ -22,13 +22,29 @@ fn is_below(a: &[u8], b: &[u8], compared: &mut u64) -> bool
     a.cmp(b).is_lt()
 }
 
+/// Counts the bytes in common before the first 32 that differ.
+pub fn count_same(a: &[u8], b: &[u8]) -> usize
+    ensures first { result ≤ length a.now }
+    ensures second { result ≤ length b.now }
+    ensures same { take result a.now ≡ take result b.now }
+{
+    let pieces = a.len().min(b.len()) / 32;
+    for piece in 0..pieces {
+        let from = 32 * piece;
+        if a[from..from + 32] != b[from..from + 32] {
+            return from;
+        }
+    }
+    32 * pieces
+}
+
 fn count_common(a: &[u8], b: &[u8]) -> usize
     ensures common { result ≡ common_prefix_len (λ x y. x == y) a.now b.now }
     ensures first { result ≤ length a.now }
     ensures second { result ≤ length b.now }
 {
     let shorter = a.len().min(b.len());
-    for i in 0..shorter {
+    for i in count_same(a, b)..shorter {
         if a[i] != b[i] {
             return i;
         }

@@ -2,30 +2,38 @@
 //! be an item of very many of them.
 //!
 //! A span is split at the middle of its block: the smallest aligned power of two of words that
-//! contains it. Heights are stored for spans from a block's start to a unit's end, and from a
-//! unit's start to a block's end, so that each is computed once.
-ghost use Rattle.std.specs.Prelude.{◌≡◌, ◌⊎◌, true, ◌+◌, ◌*◌, ◌≤◌, ◌<◌, ◌/◌, ◌^◌, List, All};
-ghost use Rattle.std.specs.Prelude.{Contains, slice_set, IfOk, IfSome, ℕ, [], length};
+//! contains it. Heights are stored for spans from a block's start to a step, and from a step to a
+//! block's end, so that each is computed once. In a block of at most a page steps are four words
+//! apart, and in others a page apart, so that the heights of a page's spans are in one cache line.
+ghost use Rattle.std.specs.Prelude.{◌≡◌, ◌≢◌, ◌⊎◌, true, ◌+◌, ◌*◌, ◌≤◌, ◌<◌, ◌^◌, List};
+ghost use Rattle.std.specs.Prelude.{slice_index, slice_set, IfOk, IfSome, ℕ, [], length};
 ghost use Rattle.rb_format.specs.Place as fields;
 ghost use Rattle.rb_format.specs.declared.layout.Layout.{Layout as Bounds};
-ghost use Rattle.rb_validator.specs.declared.spans.cache.CachedSpan.{CachedSpan};
-ghost use Rattle.rb_validator.specs.inner.CachedSpans.{SaysNothing};
+ghost use Rattle.rb_validator.specs.inner.CachedSpans.{SaysNothing, IsSpanAt, start_of, count_of};
+ghost use Rattle.rb_validator.specs.inner.CachedSpans.{word_of, level_of};
 ghost use Rattle.rb_validator.specs.inner.Leaves.{AreLeaves, IsLeaf};
 
 use crate::body::Body;
-use crate::spans::leaves::{UNIT, count_leaves, is_leaf_run, leaf_middle};
+use crate::lists::{byte_at, number_at, number_of};
+use crate::spans::leaves::{count_leaves, is_leaf_run, leaf_middle};
 use std::alloc::{AllocError, Global};
 use std::marker::Model;
 
-/// The binary logarithm of `UNIT`.
-const UNIT_LEVEL: usize = 5;
+const STEP: usize = 4;
 
-/// A span of items, and their greatest height. With a count of 0 it says nothing.
+/// The binary logarithm of `STEP`.
+const STEP_LEVEL: usize = 2;
+
+const PAGE: usize = 64;
+
+/// The binary logarithm of `PAGE`.
+const PAGE_LEVEL: usize = 6;
+
+/// A span of items.
 #[derive(Clone, Copy)]
-pub struct CachedSpan {
-    pub first: u32,
-    pub count: u32,
-    pub height: u8,
+struct Span {
+    first: usize,
+    count: usize,
 }
 
 /// The split of a span: its second part begins with the word `middle`.
@@ -42,7 +50,12 @@ pub struct Split {
 #[derive(Drop)]
 pub struct SpanCache {
     alloc: Global,
-    runs: Vec<CachedSpan>,
+    /// The height of each slot's span, or 0: for each step a slot for each block of at most a page,
+    /// then for each page a slot for each block.
+    heights: Vec<u8>,
+    pages: usize,
+    /// The lengths of blocks in words, each twice the one before it.
+    blocks: Vec<u32>,
     leaves: Vec<u32>,
     top: usize,
     /// The number of items that may still be checked one by one.
@@ -58,17 +71,24 @@ impl Model for SpanCache {
 
     ghost coded = { Prim.hlevel codes };
 
-    ghost view = { λ r. record { kept = r.runs.items; leaves = r.leaves.items } };
+    ghost view = { λ r. record {
+      heights = r.heights.items;
+      pages = r.pages;
+      blocks = r.blocks.items;
+      leaves = r.leaves.items;
+    } };
 }
 
 impl SpanCache {
     pub fn new(alloc: Global, top: u32) -> SpanCache
-        ensures kept { SaysNothing result.kept }
+        ensures kept { SaysNothing result.heights }
         ensures leaves { result.leaves ≡ [] }
     {
         SpanCache {
             alloc,
-            runs: Vec::new(alloc),
+            heights: Vec::new(alloc),
+            pages: 0,
+            blocks: Vec::new(alloc),
             leaves: Vec::new(alloc),
             top: top as usize,
             budget: top as usize,
@@ -85,7 +105,7 @@ impl SpanCache {
     }
 
     /// Splits a span: at its block's middle if it begins or ends at the block's boundary and ends
-    /// or begins at a unit's. Otherwise, and if its whole units consist of leaves, these are split
+    /// or begins at a step. Otherwise, and if its whole units consist of leaves, these are split
     /// off.
     pub fn split(&self, first: usize, count: usize) -> Split
         requires long { 1 < count }
@@ -107,15 +127,16 @@ impl SpanCache {
         };
         let block = (2usize << level).saturating_sub(1);
         let half = (stop - 1) & (usize::MAX << level);
-        let (end, units) = if first & block == 0 {
-            (stop, stop / UNIT * UNIT)
+        let step = if level < PAGE_LEVEL { STEP } else { PAGE };
+        let (end, near) = if first & block == 0 {
+            (stop, stop / step * step)
         } else if stop & block == 0 {
-            (first, first.div_ceil(UNIT) * UNIT)
+            (first, first.div_ceil(step) * step)
         } else {
             (first, half)
         };
-        let is_kept = end == units;
-        let middle = if is_kept { half } else { units };
+        let is_kept = end == near;
+        let middle = if is_kept { half } else { near };
         Split {
             middle: middle.max(first + 1).min(stop - 1),
             is_kept,
@@ -128,17 +149,17 @@ impl SpanCache {
     pub fn is_plain(&mut self, body: Body<'_>, count: usize) -> Result<bool, AllocError>
         requires { 4 * body.layout.now.top ≤ length body.bytes.now }
         ensures long { IfOk result (λ plain. (plain ≡ true) ⊎ (1 < count)) }
-        ensures runs { (self.new ≡ self.old) ⊎ (SaysNothing self.new.kept
+        ensures runs { (self.new ≡ self.old) ⊎ (SaysNothing self.new.heights
             × AreLeaves body.entry.layout.now body.entry.bytes.now self.new.leaves) }
     {
         if count <= self.budget {
             self.budget -= count;
             return Ok(true);
         }
-        if count <= UNIT {
+        if count <= STEP {
             return Ok(true);
         }
-        if self.runs.is_empty() {
+        if self.heights.is_empty() {
             self.start(body)?;
         }
         Ok(false)
@@ -146,71 +167,133 @@ impl SpanCache {
 
     fn start(&mut self, body: Body<'_>) -> Result<(), AllocError>
         requires { 4 * body.layout.now.top ≤ length body.bytes.now }
-        ensures { (self.new ≡ self.old) ⊎ (SaysNothing self.new.kept
+        ensures { (self.new ≡ self.old) ⊎ (SaysNothing self.new.heights
             × AreLeaves body.entry.layout.now body.entry.bytes.now self.new.leaves) }
     {
-        let none = CachedSpan {
-            first: 0,
-            count: 0,
-            height: 0,
-        };
-        let levels = self.top.checked_ilog2().unwrap_or(0) as usize;
-        let slots = self
-            .units()
-            .saturating_mul(levels.saturating_sub(UNIT_LEVEL - 1));
+        let pages = self.top / PAGE + 1;
+        let blocks = block_lengths(self.alloc, self.top)?;
         let leaves = count_leaves(self.alloc, body)?;
-        let runs = vec![in self.alloc; none; slots]?;
+        let heights = no_heights(self.alloc, pages.saturating_mul(PAGE + blocks.len()))?;
+        self.pages = pages;
+        self.blocks = blocks;
         self.leaves = leaves;
-        self.runs = runs;
+        self.heights = heights;
         Ok(())
     }
 
-    fn units(&self) -> usize {
-        self.top / UNIT + 1
+    /// Returns the slot of a span that begins or ends at a word, in a block whose middle is a
+    /// multiple of 2 to the power of `level`.
+    fn slot(&self, level: usize, word: usize) -> usize {
+        let number = level.saturating_sub(STEP_LEVEL);
+        if level < PAGE_LEVEL {
+            (word / STEP * STEP).saturating_add(number)
+        } else {
+            let page = (word / PAGE).saturating_mul(self.blocks.len());
+            self.pages
+                .saturating_mul(PAGE)
+                .saturating_add(page)
+                .saturating_add(number)
+        }
     }
 
-    /// Returns the slot of a span that begins or ends at a word, in a block whose middle is a
-    /// multiple of 2 to the power of `level`. Slots of one level are adjacent, since spans of one
-    /// length are split at few levels.
-    fn slot(&self, level: usize, word: usize) -> usize {
-        level
-            .saturating_sub(UNIT_LEVEL)
-            .saturating_mul(self.units())
-            .saturating_add(word / UNIT)
+    /// Checks whether a span is the one of a slot.
+    fn is_span_at(&self, slot: usize, first: usize, count: usize) -> bool
+        ensures { result ≡ true → IsSpanAt self.now slot first count }
+    {
+        let Some(span) = span_at(self.pages, &self.blocks, slot) else {
+            return false;
+        };
+        span.first == first && span.count == count
     }
 
     pub fn height(&self, parts: Split, first: usize, count: usize) -> Option<u8>
-        ensures { IfSome result
-            (λ h. Contains self.now.kept (record { first = first; count = count; height = h })) }
+        ensures { IfSome result (λ h. (h ≢ 0) × (h ≡ slice_index self.now.heights parts.slot)
+            × IsSpanAt self.now parts.slot first count) }
     {
-        if !parts.is_kept {
+        let height = byte_at(&self.heights, parts.slot);
+        if height == 0 || !parts.is_kept || !self.is_span_at(parts.slot, first, count) {
             return None;
         }
-        match self.runs.get(parts.slot) {
-            Some(run) if run.first as usize == first && run.count as usize == count => {
-                Some(run.height)
-            }
-            _ => None,
-        }
+        Some(height)
     }
 
     /// Stores the greatest height of a span's items if the span is one that is stored.
     pub fn keep(&mut self, parts: Split, first: usize, count: usize, height: u8)
-        ensures { (self.new ≡ self.old) ⊎ (self.new ≡ record self.old {
-          kept = slice_set self.old.kept
-              parts.slot (record { first = first; count = count; height = height });
-        }) }
+        ensures { (self.new ≡ self.old) ⊎ (IsSpanAt self.old parts.slot first count
+            × (parts.slot < length self.old.heights)
+            × (self.new
+            ≡ record self.old { heights = slice_set self.old.heights parts.slot height })) }
     {
         if parts.is_kept
-            && let Ok(first) = u32::try_from(first)
-            && let Ok(count) = u32::try_from(count)
-            && let Some(run) = self.runs.get_mut(parts.slot)
+            && self.is_span_at(parts.slot, first, count)
+            && let Some(place) = self.heights.get_mut(parts.slot)
         {
-            *run = CachedSpan {
-                first,
-                count,
-                height,
-            };
+            *place = height;
+        }
+    }
+}
+
+fn no_heights(alloc: Global, count: usize) -> Result<Vec<u8>, AllocError>
+    ensures { IfOk result (λ v. SaysNothing v.items) }
+{
+    vec![in alloc; 0u8; count]
+}
+
+/// Returns the lengths of the blocks that spans of a file are split in.
+fn block_lengths(alloc: Global, top: usize) -> Result<Vec<u32>, AllocError> {
+    let levels = top.checked_ilog2().unwrap_or(0) as usize;
+    let mut lengths = Vec::new(alloc);
+    let mut length = 2 * STEP;
+    for _ in STEP_LEVEL..levels + 1 {
+        lengths.push(number_of(length))?;
+        length = length.saturating_mul(2);
+    }
+    Ok(lengths)
+}
+
+/// Returns the span whose height is stored in a slot.
+fn span_at(pages: usize, blocks: &[u32], slot: usize) -> Option<Span>
+    ensures { IfSome result (λ s. (s.first ≡ start_of (word_of pages (length blocks.now) slot)
+        (slice_index blocks.now (level_of pages (length blocks.now) slot)))
+        × (s.count ≡ count_of (word_of pages (length blocks.now) slot)
+        (slice_index blocks.now (level_of pages (length blocks.now) slot)))) }
+{
+    let outer = pages.checked_mul(PAGE)?;
+    let (word, level) = if slot < outer {
+        (slot / STEP * STEP, slot % STEP)
+    } else {
+        let page = (slot - outer).checked_div(blocks.len())?;
+        (page.checked_mul(PAGE)?, (slot - outer) % blocks.len())
+    };
+    let block = number_at(blocks, level) as usize;
+    if block == 0 {
+        return None;
+    }
+    Some(span_of(word, block))
+}
+
+/// Returns the span of a block from its start to a word, or from the word to its end.
+fn span_of(word: usize, block: usize) -> Span
+    requires some { 0 < block }
+    requires small { block < 2 ^ 32 }
+    ensures first { result.first ≡ start_of word block }
+    ensures count { result.count ≡ count_of word block }
+{
+    let past = word % block;
+    if past == 0 {
+        Span {
+            first: word.saturating_sub(block),
+            count: block,
+        }
+    } else if block < 2 * past {
+        Span {
+            first: word - past,
+            count: past,
+        }
+    } else {
+        Span {
+            first: word,
+            count: block - past,
         }
     }
 }

@@ -1,7 +1,7 @@
-//! Warnings, explanations, request lines and lookups over files in memory.
+//! Explanations, request lines and lookups over files in memory.
 use super::desk::Desk;
 use super::{desk_of, ended};
-use rb_commands::{Change, Console, Lookup, explain, lines, lint_all, look_up};
+use rb_commands::{Change, Console, Lookup, explain, lines, look_up};
 
 /// Texts, one that isn't UTF-8, a file, and random bytes.
 const FILES: [(&str, &[u8]); 5] = [
@@ -11,28 +11,6 @@ const FILES: [(&str, &[u8]); 5] = [
     ("x.res", b"\x00\xFF"),
     ("/dev/random", b""),
 ];
-
-fn lints(desk: &Desk) -> bool {
-    let warning =
-        "b/de_AT.txt:2: warning: two texts side by side are joined into one; is a comma missing?\n";
-    let all = lint_all(desk, Console::plain(), None, &["de.txt", "b/de_AT.txt"]);
-    let is_warned = ended(desk, all, 1, warning, "");
-    let refused = lint_all(desk, Console::plain(), None, &["none.txt", "de.txt"]);
-    is_warned
-        && ended(desk, refused, 1, "", "cannot read none.txt\n")
-        && ended(
-            desk,
-            lint_all(desk, Console::plain(), None, &["de.txt"]),
-            0,
-            "",
-            "",
-        )
-}
-
-#[test]
-fn warns_of_texts(rt: HostRuntime) {
-    assert!(rt; lints(&desk_of(rt.alloc(), &FILES)));
-}
 
 fn prints_lines(desk: &Desk) -> bool {
     let printed =

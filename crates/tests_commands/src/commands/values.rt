@@ -9,7 +9,7 @@ const KINDS: &[u8] =
     b"root{a{\"x\"} b:int{5} c:alias{\"/LOCALE/a\"} d{\"p\",\"q\"} e:bin{\"00ff\"} f:intvector{-1,2}}";
 
 /// Texts of bundles, with a path and the value that is printed.
-const VALUES: [(&[u8], &str, &str); 17] = [
+const VALUES: [(&[u8], &str, &str); 19] = [
     (
         KINDS,
         "",
@@ -54,7 +54,17 @@ const VALUES: [(&[u8], &str, &str); 17] = [
     (
         b"root{a{\"q\\\"b\\\\n\\u000A\\u0001\\u007F\"}}",
         "a",
-        "\"q\\\"b\\\\n\\n\\u0001\x7F\"\n",
+        "\"q\\\"b\\\\n\\n\\u0001\\u007f\"\n",
+    ),
+    (
+        b"root{a{\"\\u0080\\u00e9\\u009b\\u009f\\u00a0\\u202ax\\u202e\\u2066\\u2069\"}}",
+        "a",
+        "\"\\u0080é\\u009b\\u009f\u{a0}\\u202ax\\u202e\\u2066\\u2069\"\n",
+    ),
+    (
+        b"root{a{\"\\u200f\\u2029\\u202f\\u2065\\u206a\\U0010ffff\"}}",
+        "a",
+        "\"\u{200f}\u{2029}\u{202f}\u{2065}\u{206a}\u{10ffff}\"\n",
     ),
     (
         b"root{\":alias\"{\"x\"} \":\"{\"y\"} \"::\"{\"z\"} \"a:\"{\"w\"}}",
@@ -77,11 +87,36 @@ fn prints_values(rt: HostRuntime) {
     }
 }
 
+/// Texts of bundles, with a path and the indented value that is printed.
+const INDENTED: [(&[u8], &str, &str); 4] = [
+    (
+        b"root{a{\"x\",:array{}} b:table{}}",
+        "",
+        "{\n  \"a\": [\n    \"x\",\n    []\n  ],\n  \"b\": {}\n}\n",
+    ),
+    (
+        KINDS,
+        "",
+        "{\n  \"a\": \"x\",\n  \"b\": 5,\n  \"c\": {\n    \":alias\": \"/LOCALE/a\"\n  },\n  \"d\": [\n    \"p\",\n    \"q\"\n  ],\n  \"e\": {\n    \":bin\": \"00ff\"\n  },\n  \"f\": {\n    \":intvector\": [\n      -1,\n      2\n    ]\n  }\n}\n",
+    ),
+    (
+        KINDS,
+        "f",
+        "{\n  \":intvector\": [\n    -1,\n    2\n  ]\n}\n",
+    ),
+    (
+        b"root{\":a\"{\"\\n\\u009b\"}}",
+        "",
+        "{\n  \"::a\": \"\\n\\u009b\"\n}\n",
+    ),
+];
+
 #[test]
 fn prints_indented_values(rt: HostRuntime) {
-    let said = "{\n  \"a\": [\n    \"x\",\n    []\n  ],\n  \"b\": {}\n}\n";
-    let step = Json("a.res", "", Layout::Pretty, 0, said, "");
-    assert!(rt; are_steps_with(rt.alloc(), b"root{a{\"x\",:array{}} b:table{}}", &[step]));
+    for (text, path, said) in INDENTED {
+        let step = Json("a.res", path, Layout::Pretty, 0, said, "");
+        assert!(rt; are_steps_with(rt.alloc(), text, &[step]));
+    }
 }
 
 /// Paths without an item, a file that is none, and a closed output.

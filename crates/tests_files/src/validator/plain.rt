@@ -1,5 +1,4 @@
-//! Checks files with plain code, which is written from the format's description only, and without the
-//! code that it judges.
+//! A plain checker, written from the format's description without the code that it judges.
 ghost use Rattle.std.specs.Prelude.{◌+◌, ◌<◌, ◌^◌};
 
 use rb_format::FileFault;
@@ -28,7 +27,7 @@ pub fn data_after(file: &[u8], size: u64) -> Data<'_> {
     }
 }
 
-/// Three for each word below the top of the bundle.
+/// Returns three for each word below the top of the bundle.
 pub fn most_places(file: &[u8]) -> u64 {
     3 * data_after(file, half(file, 0)).top as u64
 }
@@ -57,7 +56,6 @@ pub fn word(bytes: &[u8], at: u64) -> u64
     half(bytes, at) + 65_536 * half(bytes, at + 2)
 }
 
-/// Returns the first fault of a file.
 pub fn plain_fault(file: &[u8]) -> Option<FileFault> {
     let length = file.len() as u64;
     if length > 67_108_864 {
@@ -85,7 +83,6 @@ pub fn plain_fault(file: &[u8]) -> Option<FileFault> {
     data_fault(byte(file, 17), data_after(file, size))
 }
 
-/// Returns the first fault of the data of a file of a minor version.
 fn data_fault(minor: u64, data: Data<'_>) -> Option<FileFault> {
     let bytes = data.bytes;
     let words = bytes.len() as u64 / 4;
@@ -163,7 +160,6 @@ fn item_fault(data: Data<'_>, item: u64, left: u64) -> Option<FileFault>
     }
 }
 
-/// Returns the first fault of the items from a byte on.
 #[cycle(plain)]
 fn items_fault(data: Data<'_>, first: u64, count: u64, left: u64) -> Option<FileFault>
     requires first { first < 2 ^ 40 }
@@ -213,7 +209,6 @@ fn is_key(data: Data<'_>, offset: u64) -> bool
     false
 }
 
-/// Checks whether the key at one place is greater than the one at another.
 fn is_above(bytes: &[u8], key: u64, other: u64) -> bool
     requires key { key < 2 ^ 32 }
     requires other { other < 2 ^ 32 }

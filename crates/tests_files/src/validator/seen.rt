@@ -52,7 +52,6 @@ fn are_numbers(data: Data<'_>, at: u64, ints: Option<Ints<'_>>) -> bool
     true
 }
 
-/// Checks whether the bytes from a place on are these.
 fn are_bytes(data: Data<'_>, first: u64, bytes: &[u8]) -> bool
     requires { first < 2 ^ 40 }
 {
@@ -78,7 +77,6 @@ fn is_binary(data: Data<'_>, at: u64, bytes: Option<&[u8]>) -> bool
     }
 }
 
-/// Checks whether a key is at an offset, with its NUL.
 fn is_key(data: Data<'_>, offset: u64, key: &[u8]) -> bool
     requires { offset < 2 ^ 32 }
 {

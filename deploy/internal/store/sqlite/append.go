@@ -26,44 +26,69 @@ type batch struct {
 	*Store
 	ctx     context.Context
 	changed map[key]*store.Bundle // nil where the bundle was removed
+	names   map[string]int        // how many names of each application were added
 	last    store.Revision
+	whole   store.Revision // of a log that is followed
 	sum     int64
 	count   int
-	at      time.Time
-}
-
-// Append stores one change.
-func (s *Store) Append(ctx context.Context, change store.Change, expected store.Revision) (store.Revision, error) {
-	s.writing.Lock()
-	defer s.writing.Unlock()
-	if expected != store.Any {
-		var last store.Revision
-		const query = "select coalesce(max(revision), 0) from history where application = ? and locale = ?"
-		name := store.Canonical(change.Locale)
-		if err := s.writer.QueryRowContext(ctx, query, change.App, name).Scan(&last); err != nil {
-			return 0, err
-		}
-		if last != expected {
-			return 0, store.ErrConflict
-		}
-	}
-	return s.append([]store.Change{change})
+	at      time.Time // of a change that is no entry
 }
 
 // AppendAll stores changes in one transaction: all of them, or none if it returns an error. It returns the last revision.
 func (s *Store) AppendAll(_ context.Context, changes []store.Change) (store.Revision, error) {
 	s.writing.Lock()
 	defer s.writing.Unlock()
-	return s.append(changes)
+	return s.append(s.entries(changes))
 }
 
-func (s *Store) append(changes []store.Change) (store.Revision, error) {
+// entries gives changes the next revisions.
+func (s *Store) entries(changes []store.Change) []store.Entry {
+	at, all := time.Now(), make([]store.Entry, len(changes))
+	for i, c := range changes {
+		all[i] = store.Entry{Change: c, Revision: s.last + store.Revision(i) + 1, At: at}
+	}
+	return all
+}
+
+// Follow stores entries of another log, in one transaction. Ends says that the log had no more entries when they, or their absence, were
+// read.
+func (s *Store) Follow(entries []store.Entry, ends bool) error {
+	s.writing.Lock()
+	defer s.writing.Unlock()
+	whole := s.wholeAfter(entries, ends)
+	if len(entries) == 0 && whole == s.whole {
+		return nil
+	}
+	_, err := s.appendUpTo(entries, whole)
+	return err
+}
+
+// wholeAfter returns the last revision up to which nothing is missing after some more entries.
+func (s *Store) wholeAfter(entries []store.Entry, ends bool) store.Revision {
+	last, whole := s.last, s.whole
+	for _, e := range entries {
+		if whole == last && e.Revision == last+1 {
+			whole = e.Revision
+		}
+		last = e.Revision
+	}
+	if ends {
+		return last
+	}
+	return whole
+}
+
+func (s *Store) append(entries []store.Entry) (store.Revision, error) {
+	return s.appendUpTo(entries, 0)
+}
+
+func (s *Store) appendUpTo(entries []store.Entry, whole store.Revision) (store.Revision, error) {
 	if err := s.Failure(); err != nil {
 		return 0, err
 	}
-	err := s.commit(changes)
-	if errors.Is(err, store.ErrNoSpace) && onlyRemovals(changes) {
-		s.withReserve(func() { err = s.commit(changes) })
+	err := s.commit(entries, whole)
+	if errors.Is(err, store.ErrNoSpace) && onlyRemovals(entries) {
+		s.withReserve(func() { err = s.commit(entries, whole) })
 	}
 	s.mu.Lock()
 	defer s.mu.Unlock()
@@ -71,8 +96,8 @@ func (s *Store) append(changes []store.Change) (store.Revision, error) {
 	return s.last, err
 }
 
-func onlyRemovals(changes []store.Change) bool {
-	for _, c := range changes {
+func onlyRemovals(entries []store.Entry) bool {
+	for _, c := range entries {
 		if c.Op != store.Remove {
 			return false
 		}
@@ -80,39 +105,32 @@ func onlyRemovals(changes []store.Change) bool {
 	return true
 }
 
-// commit writes changes in one transaction.
-func (s *Store) commit(changes []store.Change) error {
-	b := &batch{Store: s, ctx: context.Background(), changed: map[key]*store.Bundle{}, last: s.last, at: time.Now()}
-	if err := b.run(changes); err != nil {
-		_, _ = s.writer.ExecContext(b.ctx, "rollback")
-		return s.judge(err)
-	}
-	if err := s.mark(b.last); err != nil {
-		return s.breakDown(err)
-	}
-	b.take()
-	return nil
+// commit writes entries in one transaction, and of a log that is followed the revision up to which nothing is missing.
+func (s *Store) commit(entries []store.Entry, whole store.Revision) error {
+	return s.inTransaction(func(b *batch) error {
+		if s.follows {
+			b.whole = whole
+			if _, err := b.exec("update whole set revision = ?", whole); err != nil {
+				return err
+			}
+		}
+		for _, e := range entries {
+			if err := b.apply(e); err != nil {
+				return err
+			}
+		}
+		return b.seal()
+	})
 }
 
-// run writes all changes and commits them.
-func (b *batch) run(changes []store.Change) error {
-	if _, err := b.exec("begin immediate"); err != nil {
-		return err
-	}
-	for _, c := range changes {
-		if err := b.apply(c); err != nil {
-			return err
-		}
-	}
+// seal writes what the transaction makes of the state.
+func (b *batch) seal() error {
 	const update = "update state set revision = ?, bundles = bundles + ?, checksum = ? where one = 1"
 	var sum int64
 	if err := b.writer.QueryRowContext(b.ctx, "select checksum from state where one = 1").Scan(&sum); err != nil {
 		return err
 	}
-	if _, err := b.exec(update, b.last, b.count, sum^b.sum); err != nil {
-		return err
-	}
-	_, err := b.exec("commit")
+	_, err := b.exec(update, b.last, b.count, sum^b.sum)
 	return err
 }
 
@@ -135,27 +153,34 @@ func (b *batch) now(k key) *store.Bundle {
 	return nil
 }
 
-// apply writes one change.
-func (b *batch) apply(c store.Change) error {
+// apply writes one entry.
+func (b *batch) apply(c store.Entry) error {
 	k := key{c.App, store.Canonical(c.Locale)}
 	old := b.now(k)
-	b.last++
+	b.last = c.Revision
 	var made *store.Bundle
 	var digest []byte
 	if c.Op != store.Remove {
 		sum := sha256.Sum256(c.Body)
 		digest = sum[:]
 		made = &store.Bundle{App: k.app, Locale: k.locale, Form: c.Form, Bytes: len(c.Body), Digest: digest, Order: b.last,
-			Revision: b.last, Who: c.Who, At: b.at}
-		if old != nil && c.Op == store.Replace {
+			Revision: b.last, Who: c.Who, At: c.At}
+		if c.Op == store.Replace && c.Order != 0 {
+			made.Order = c.Order
+		} else if old != nil && c.Op == store.Replace {
 			made.Order = old.Order
+		}
+	}
+	if b.follows {
+		if err := b.countName(k, old != nil, made != nil); err != nil {
+			return err
 		}
 	}
 	if err := b.put(k, old, made, c.Body); err != nil {
 		return err
 	}
 	_, err := b.exec("insert into history values (?, ?, ?, ?, ?, ?, ?, ?)", b.last, k.app, k.locale, c.Op.String(), len(c.Body),
-		digest, c.Who, b.at.UnixNano())
+		digest, c.Who, c.At.UnixNano())
 	if err != nil {
 		return err
 	}
@@ -184,9 +209,10 @@ func (b *batch) put(k key, old, made *store.Bundle, body []byte) error {
 	}
 	b.sum ^= checksum(*old)
 	b.count--
-	const unused = "delete from bodies where digest = ?1 and not exists (select 1 from bundles where digest = ?1)"
-	_, err := b.exec(unused, old.Digest)
-	return err
+	if _, err := b.exec("delete from bodies where digest = ?1 and "+unused, old.Digest); err != nil {
+		return err
+	}
+	return b.forget(k.app, old.Bytes)
 }
 
 // notNil makes an empty body an empty value and not a missing one.
@@ -210,6 +236,12 @@ func (b *batch) prune(app string) error {
 	if err := b.writer.QueryRowContext(b.ctx, oldest, app, mostHistory).Scan(&last); err != nil {
 		return err
 	}
+	const bodies = "delete from bodies where digest in (select digest from history where application = ?1 and revision < ?2) " +
+		"and not exists (select 1 from bundles where digest = bodies.digest) " +
+		"and not exists (select 1 from history where digest = bodies.digest and (application <> ?1 or revision >= ?2))"
+	if _, err := b.exec(bodies, app, last); err != nil {
+		return err
+	}
 	gone, err := b.exec("delete from history where application = ? and revision < ?", app, last)
 	if err == nil && gone > 0 {
 		_, err = b.exec("update state set pruned = max(pruned, ?) where one = 1", last-1)
@@ -221,7 +253,10 @@ func (b *batch) prune(app string) error {
 func (b *batch) take() {
 	b.mu.Lock()
 	defer b.mu.Unlock()
-	b.Store.last = b.last
+	b.Store.last, b.Store.whole = b.last, b.whole
+	for app, more := range b.names {
+		b.Store.names[app] += more
+	}
 	for k, made := range b.changed {
 		b.bytes -= int64(b.bundles[k].Bytes)
 		delete(b.bundles, k)
@@ -263,57 +298,6 @@ func (s *Store) Failure() error {
 	return s.broken
 }
 
-// Changes returns of each bundle the last change after a revision, in order.
-func (s *Store) Changes(ctx context.Context, after store.Revision) ([]store.Entry, error) {
-	var pruned store.Revision
-	if err := s.db.QueryRowContext(ctx, "select pruned from state where one = 1").Scan(&pruned); err != nil {
-		return nil, err
-	}
-	if after < pruned {
-		return nil, store.ErrTooOld
-	}
-	const query = "select revision, application, locale, operation, who from history as h where revision > ? and revision = " +
-		"(select max(revision) from history where application = h.application and locale = h.locale) order by revision"
-	rows, err := s.db.QueryContext(ctx, query, after)
-	if err != nil {
-		return nil, err
-	}
-	defer rows.Close()
-	var all []store.Entry
-	for rows.Next() {
-		var e store.Entry
-		var operation string
-		if err := rows.Scan(&e.Revision, &e.App, &e.Locale, &operation, &e.Who); err != nil {
-			return nil, err
-		}
-		for _, op := range []store.Operation{store.Install, store.Replace, store.Remove} {
-			if op.String() == operation {
-				e.Op = op
-			}
-		}
-		all = append(all, e)
-	}
-	if err := rows.Err(); err != nil {
-		return nil, err
-	}
-	return all, s.addBodies(all)
-}
-
-// addBodies reads the body of each entry.
-func (s *Store) addBodies(entries []store.Entry) error {
-	for i, e := range entries {
-		if e.Op == store.Remove {
-			continue
-		}
-		c, _, err := s.Stored(e.App, e.Locale)
-		if err != nil {
-			return err
-		}
-		entries[i].Form, entries[i].Body = c.Form, c.Body
-	}
-	return nil
-}
-
 // disk returns the bytes that are free on the disk, and its size.
 func (s *Store) disk() (free, size int64, ok bool) {
 	var of syscall.Statfs_t
@@ -324,8 +308,12 @@ func (s *Store) disk() (free, size int64, ok bool) {
 }
 
 // Fits returns true if the disk has space for a change of this many bytes: in the WAL, in the database except where that has
-// free pages, and what is to be left.
+// free pages, and what is to be left. If it hasn't, earlier versions of bundles make space.
 func (s *Store) Fits(bytes int) bool {
+	return s.fits(bytes) || s.dropAllVersions() && s.fits(bytes)
+}
+
+func (s *Store) fits(bytes int) bool {
 	free, _, ok := s.disk()
 	if !ok || free > 2*int64(bytes)+s.spare {
 		return true

@@ -33,7 +33,7 @@ func TestBackupsWhileChangesAreMade(t *testing.T) {
 			if s.Has(c.App, c.Locale) {
 				c.Op = store.Replace
 			}
-			revision, err := s.Append(context.Background(), c, store.Any)
+			revision, err := s.AppendAll(context.Background(), []store.Change{c})
 			if err != nil {
 				t.Error(err)
 				return

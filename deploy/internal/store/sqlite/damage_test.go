@@ -119,7 +119,7 @@ func readDamaged(folder string) (found []string, err error) {
 	for _, end := range []string{"-shm", "-wal"} {
 		defer os.Remove(filepath.Join(folder, database+end))
 	}
-	s := &Store{folder: folder, bundles: map[key]store.Bundle{}, unpruned: map[string]int{}}
+	s := &Store{folder: folder, bundles: map[key]store.Bundle{}, unpruned: map[string]int{}, names: map[string]int{}}
 	defer s.release()
 	if err := s.connect(filepath.Join(folder, database)); err != nil {
 		return nil, err

@@ -10,7 +10,6 @@ import (
 	"io/fs"
 	"os"
 	"path/filepath"
-	"sort"
 	"sync"
 	"syscall"
 
@@ -40,14 +39,19 @@ type Store struct {
 	marker *os.File // the revision that was last acknowledged
 	spare  int64    // bytes that a change leaves free on the disk
 
-	writing  sync.Mutex // held during a transaction
-	mu       sync.Mutex
-	bundles  map[key]store.Bundle
-	last     store.Revision
-	bytes    int64          // of the bundles
-	unpruned map[string]int // changes of an application since its history was pruned
-	broken   error
-	failed   bool // the last transaction failed
+	writing   sync.Mutex // held during a transaction
+	droppable bool       // there may be earlier versions; the mutex above is held
+	mu        sync.Mutex
+	bundles   map[key]store.Bundle
+	last      store.Revision
+	whole     store.Revision   // of a log that is followed: up to it nothing is missing
+	bytes     int64            // of the bundles
+	unpruned  map[string]int   // changes of an application since its history was pruned
+	unlooked  map[string]int64 // bytes of an application's versions since it was seen whether they are too many
+	follows   bool             // the changes are those of another log
+	names     map[string]int   // of each application, if it follows a log: those that have a bundle, and those that had one
+	broken    error
+	failed    bool // the last transaction failed
 }
 
 // Options say how a store is opened.
@@ -55,6 +59,8 @@ type Options struct {
 	Create bool                             // makes the store if it is missing
 	Logf   func(format string, args ...any) // reports an import
 	Spare  int64                            // the bytes that a change leaves free on the disk, instead of the usual ones
+	Follow bool                             // the store has the changes of another log
+	Either bool                             // opens a store of both kinds
 }
 
 // Open opens the store of a folder. It imports the journal of version 1.1.0 if the folder has one and no store. Without either
@@ -70,7 +76,8 @@ func Open(folder string, options Options) (*Store, error) {
 	if err != nil {
 		return nil, err
 	}
-	s := &Store{folder: folder, lock: lock, bundles: map[key]store.Bundle{}, unpruned: map[string]int{}}
+	s := &Store{folder: folder, lock: lock, droppable: true, bundles: map[key]store.Bundle{}, unpruned: map[string]int{},
+		unlooked: map[string]int64{}, names: map[string]int{}}
 	if err := s.open(options); err != nil {
 		s.release()
 		return nil, err
@@ -106,10 +113,16 @@ func (s *Store) open(options Options) error {
 	if err := s.check(); err != nil {
 		return fmt.Errorf("%s: %w", path, err)
 	}
+	if err := s.openFollower(options); err != nil {
+		return fmt.Errorf("%s: %w", path, err)
+	}
 	if err := s.openMarker(); err != nil {
 		return err
 	}
 	s.reserve()
+	if _, err := s.writer.ExecContext(context.Background(), byDigest); err != nil {
+		return fmt.Errorf("%s: %w", path, s.judge(err))
+	}
 	if options.Spare != 0 {
 		s.spare = options.Spare
 	}
@@ -157,7 +170,7 @@ func (s *Store) create(fill func(made *Store) error) error {
 			return err
 		}
 	}
-	made := &Store{folder: s.folder, bundles: map[key]store.Bundle{}, unpruned: map[string]int{}}
+	made := &Store{folder: s.folder, bundles: map[key]store.Bundle{}, unpruned: map[string]int{}, unlooked: map[string]int64{}}
 	err := made.connect(temporary)
 	if err == nil {
 		_, err = made.writer.ExecContext(context.Background(), schema)
@@ -241,12 +254,7 @@ func (s *Store) bundle(app, locale string) (store.Bundle, bool) {
 func (s *Store) Standing(context.Context) ([]store.Bundle, error) {
 	s.mu.Lock()
 	defer s.mu.Unlock()
-	all := make([]store.Bundle, 0, len(s.bundles))
-	for _, b := range s.bundles {
-		all = append(all, b)
-	}
-	sort.Slice(all, func(i, j int) bool { return all[i].Order < all[j].Order })
-	return all, nil
+	return store.InOrder(s.bundles), nil
 }
 
 // Stored returns the change that installs the bundle, or false if the application has none of the locale. It returns an error

@@ -35,7 +35,7 @@ func removal(app, locale string) store.Change {
 func (s *Store) add(t *testing.T, changes ...store.Change) {
 	t.Helper()
 	for _, c := range changes {
-		if _, err := s.Append(context.Background(), c, store.Any); err != nil {
+		if _, err := s.AppendAll(context.Background(), []store.Change{c}); err != nil {
 			t.Fatal(err)
 		}
 	}
@@ -133,49 +133,6 @@ func TestATransactionIsWhole(t *testing.T) {
 	}
 }
 
-func TestExpectedRevisions(t *testing.T) {
-	s := opened(t, t.TempDir())
-	defer s.Close()
-	ctx := context.Background()
-	first, err := s.Append(ctx, text(store.Install, "shop", "de", "one"), 0)
-	if err != nil || first != 1 {
-		t.Fatal(first, err)
-	}
-	for _, wrong := range []store.Revision{0, 2} {
-		if _, err := s.Append(ctx, text(store.Replace, "shop", "DE", "two"), wrong); !errors.Is(err, store.ErrConflict) {
-			t.Error(err)
-		}
-	}
-	second, err := s.Append(ctx, removal("shop", "de"), first)
-	if err != nil || second != 2 {
-		t.Fatal(second, err)
-	}
-	if _, err := s.Append(ctx, text(store.Install, "shop", "de", "three"), second); err != nil {
-		t.Error(err)
-	}
-}
-
-// TestChangesAfterARevision returns what a reader lacks that has applied the changes up to there.
-func TestChangesAfterARevision(t *testing.T) {
-	s := opened(t, t.TempDir())
-	defer s.Close()
-	s.add(t, some...)
-	s.add(t, removal("bank", "de"))
-	for after, want := range map[store.Revision]string{
-		0: "4 replace de four, 6 install fr_CA \x00\xff\n, 7 install root , 8 remove de , ",
-		6: "7 install root , 8 remove de , ", 8: "",
-	} {
-		entries, err := s.Changes(context.Background(), after)
-		got := ""
-		for _, e := range entries {
-			got += fmt.Sprintf("%d %s %s %s, ", e.Revision, e.Op, e.Locale, e.Body)
-		}
-		if err != nil || got != want {
-			t.Errorf("%d: %q, %v", after, got, err)
-		}
-	}
-}
-
 // TestTheHistoryIsBounded makes many changes of one bundle.
 func TestTheHistoryIsBounded(t *testing.T) {
 	s := opened(t, t.TempDir())
@@ -192,14 +149,11 @@ func TestTheHistoryIsBounded(t *testing.T) {
 	if err := s.db.QueryRow("select (select count(*) from history), (select count(*) from bodies)").Scan(&changes, &bodies); err != nil {
 		t.Fatal(err)
 	}
-	if changes < mostHistory || changes > mostHistory+pruneAfter || bodies != 1 {
+	if changes < mostHistory || changes > mostHistory+pruneAfter || bodies != changes {
 		t.Errorf("%d changes, %d bodies", changes, bodies)
 	}
-	if _, err := s.Changes(context.Background(), 10); !errors.Is(err, store.ErrTooOld) {
-		t.Error(err)
-	}
-	if entries, err := s.Changes(context.Background(), 2999); err != nil || len(entries) != 1 || string(entries[0].Body) != "2999" {
-		t.Error(entries, err)
+	if got := fmt.Sprint(s.texts(t)); got != "[shop/de 1 2999]" {
+		t.Error(got)
 	}
 }
 
@@ -222,8 +176,13 @@ func TestEqualBodiesAreStoredOnce(t *testing.T) {
 		t.Errorf("%d, %q", count(), got)
 	}
 	s.add(t, removal("bank", "de"))
-	if count() != 0 {
-		t.Error(count())
+	if count() != 1 {
+		t.Errorf("%d: the histories have it", count())
+	}
+	for left, app := range []string{"bank", "shop"} {
+		if _, err := s.Erase(app, "x"); err != nil || count() != 1-left {
+			t.Error(app, count(), err)
+		}
 	}
 }
 

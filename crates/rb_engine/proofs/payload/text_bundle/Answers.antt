@@ -21,9 +21,7 @@ only_memory file source e either denotes (inr fault) = absurd (subst (λ (o : Op
 pub returns-in_err-file-clause-bundle : goal.returns-in_err-file-clause-bundle
 returns-in_err-file-clause-bundle c =
     let p = err_from_is_err_and c.from_residual.result c.from_residual.ensures.1 in
-    rw p.1 (text_none c.args.text c.in_err-file.field-0.0.kind p.0 p.2
-    (λ name source good. c.in_err-file.ensures.only name source
-    (subst (λ (bytes : List ℕ). IsGoodSource bytes name source) (sym c.as_slice.ensures) good)))
+    rw p.1 (text_none c.args.text.now c.in_err-file.field-0.0.kind p.0 p.2 c.in_err-file.ensures.only)
 
 pub prove-unreachable-requires : goal.prove-unreachable-requires
 prove-unreachable-requires c =

@@ -2,6 +2,7 @@ use Rattle.std.proofs.Common.{Some, ap, ◌∙◌}
 use Rattle.std.proofs.lemmas.Result.{err_from_is_err_and}
 use Rattle.rb_engine.specs.Ask.{Requests}
 use Rattle.rb_requests.specs.Asked.{call_in}
+use Rattle.rb_requests.specs.Requested.{request_of}
 use Rattle.rb_requests.specs.declared.ask.Line.{Line}
 use Rattle.rb_requests.specs.declared.ask.Line.TheVariants as lines
 use Rattle.rb_requests.specs.inner.Starving.{CallReply, DataReply}
@@ -19,5 +20,5 @@ returns-in_err-answer_request-in-Some-Request-clause-fault g c =
     let failed = c.in_err-answer_request-in-Some-Request in
     let residual = c.from_residual-in_err-answer_request-in-Some-Request in
     let p = err_from_is_err_and residual.result residual.ensures.1 in
-    rw (p.1, p.2) (λ d h. leaves_more (CallReply limits old (Requests read.request)) (DataReply limits old d) failed.field-0.0 old new
-    (λ text r. asked_reply limits old (call_in d) _ (Requests read.request) text new (asks d h) r) failed.ensures.fault)
+    rw (p.1, p.2) (λ d h. leaves_more (CallReply limits old (Requests (request_of read.request))) (DataReply limits old d) failed.field-0.0 old new
+    (λ text r. asked_reply limits old (call_in d) _ (Requests (request_of read.request)) text new (asks d h) r) failed.ensures.fault)

@@ -2,7 +2,7 @@ use Rattle.std.proofs.Common.{Some, sym, ◌∙◌, true≢false, refl}
 use Rattle.std.proofs.lemmas.Result.{IfOk-weaker}
 use Rattle.serde_json.specs.Data.{object}
 use Rattle.serde_json.specs.Read.{read}
-use Rattle.rb_requests.proofs.Texts.{data_of-text, data_of-no_text}
+use Rattle.rb_requests.proofs.TextsRead.{data_of-text, data_of-no_text}
 use Rattle.rb_requests.proofs.Lent.{texts_of_object, asks_nothing}
 use Rattle.rb_requests.proofs.ask.lent_texts.Goals as goal
 

@@ -10,12 +10,8 @@ use Rattle.rb_format.specs.Checks.{first_fault}
 use Rattle.rb_format.proofs.Checks.{file_first}
 use Rattle.rb_format.proofs.Root.{fault_free}
 use Rattle.rb_validator.specs.Visits.{HasVisits}
+use Rattle.rb_validator.proofs.FirstFaults.{fault_checked}
 use Rattle.rb_validator.proofs.bundle.accept.Goals as goal
-
--- what the reading refuses is the first fault
-fault_checked : (bytes : List ℕ) (e : FileFault) → (e ≡ Memory) ⊎ (fault_of (read_file 64 bytes) ≡ Some e) → (e ≡ Memory) ⊎ (first_fault bytes ≡ Some e)
-fault_checked bytes e (inl m) = inl m
-fault_checked bytes e (inr f) = inr (sym (file_first bytes) ∙ f)
 
 pub invariant_of-result : goal.invariant_of-result
 invariant_of-result c =

@@ -1,0 +1,76 @@
+#!/usr/bin/env python3
+"""Times lookups in process: libresb beside libicu over the locales of ICU's data, and the module resb beside PyICU.
+
+usage: library.py [--data PACKAGE] [--turns N] LIBRARY    LIBRARY: the folder that tools/library made
+
+Needs gcc, genrb, libicu's headers and, for the second part, PyICU. Times are processor time; compare ratios within a turn.
+"""
+import argparse
+import os
+import subprocess
+import sys
+import tempfile
+import time
+
+import icu as data_of_icu
+from turns import TOP
+
+LOCALE, PATH = "de_AT", "calendar/gregorian/monthNames/format/wide/0"
+
+
+def timed(call, rounds=20000):
+    began = time.process_time()
+    for _ in range(rounds):
+        call()
+    return (time.process_time() - began) / rounds * 1e6
+
+
+def python(library, folder, turns):
+    """Prints the times of the module resb and of PyICU, whose bundle is kept, for one string."""
+    sys.path.insert(0, library)
+    os.environ["RESB_LIBRARY"] = os.path.join(library, "libresb.so.0")
+    import resb
+
+    bundles = resb.Bundles()
+    for locale in ("root", "de", "de_AT"):
+        with open(os.path.join(folder, locale + ".res"), "rb") as file:
+            bundles.install("cldr", locale, file.read())
+    try:
+        sys.path.remove(os.path.dirname(os.path.abspath(__file__)))
+        del sys.modules["icu"]
+        import icu
+    except ImportError:
+        print("PyICU: skipped: it isn't there")
+        icu = None
+    for _ in range(turns):
+        ours = timed(lambda: bundles.look("cldr", LOCALE, PATH))
+        if icu:
+            kept = icu.ResourceBundle(folder, icu.Locale(LOCALE))
+            theirs = timed(lambda: kept.getWithFallback("calendar").getWithFallback("gregorian").getWithFallback("monthNames")
+                           .getWithFallback("format").getWithFallback("wide").get(0).getString())
+            print(f"Python: resb {ours:.2f} us, PyICU {theirs:.2f} us, {ours / theirs:.2f} times PyICU's time")
+        else:
+            print(f"Python: resb {ours:.2f} us")
+
+
+def main():
+    parser = argparse.ArgumentParser(description=__doc__.partition("\n")[0])
+    parser.add_argument("--data")
+    parser.add_argument("--turns", type=int, default=5)
+    parser.add_argument("library")
+    given = parser.parse_args()
+    library = os.path.abspath(given.library)
+    with tempfile.TemporaryDirectory(prefix="library-") as folder:
+        try:
+            files = data_of_icu.files(data_of_icu.package(given.data, folder), folder)
+            program = os.path.join(folder, "library")
+            source = os.path.join(TOP, "bench", "library.c")
+            subprocess.run(["gcc", "-O2", "-Wall", "-D_GNU_SOURCE", "-I", library, source, os.path.join(library, "libresb.a"),
+                            "-licuuc", "-o", program], check=True)
+        except data_of_icu.Skipped as missing:
+            sys.exit(f"skipped: {missing} is not there")
+        subprocess.run([program, files, str(given.turns)], check=True)
+        python(library, files, given.turns)
+
+
+main()

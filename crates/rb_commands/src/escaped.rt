@@ -1,0 +1,66 @@
+//! Texts as other formats write them.
+use std::fmt;
+
+/// A text inside quotes of JSON.
+#[derive(Clone, Copy, Debug)]
+pub(crate) struct JsonText<'a>(pub(crate) &'a str);
+
+impl<'a> fmt::Display for JsonText<'a> {
+    fn fmt<W: fmt::Write>(&self, f: &mut fmt::Formatter<W>) -> fmt::Result {
+        for c in self.0.chars() {
+            match c {
+                '"' | '\\' => {
+                    f.write_char('\\')?;
+                    f.write_char(c)?;
+                }
+                '\0'..='\u{1f}' | '\u{7f}'..='\u{9f}' => {
+                    let code = u32::from(c);
+                    write!(f, "\\u{code:04x}")?;
+                }
+                _ => f.write_char(c)?,
+            }
+        }
+        Ok(())
+    }
+}
+
+/// A file's name as a relative reference of a URI.
+#[derive(Clone, Copy, Debug)]
+pub(crate) struct UriText<'a>(pub(crate) &'a str);
+
+impl<'a> fmt::Display for UriText<'a> {
+    fn fmt<W: fmt::Write>(&self, f: &mut fmt::Formatter<W>) -> fmt::Result {
+        for byte in self.0.as_bytes() {
+            if byte.is_ascii_alphanumeric() || b"-._~/".contains(byte) {
+                f.write_char(char::from(*byte))?;
+            } else {
+                let code = *byte;
+                write!(f, "%{code:02X}")?;
+            }
+        }
+        Ok(())
+    }
+}
+
+/// A text in a workflow command of GitHub: a message, or the value of a property.
+#[derive(Clone, Copy, Debug)]
+pub(crate) struct GitHubText<'a> {
+    pub(crate) text: &'a str,
+    pub(crate) is_property: bool,
+}
+
+impl<'a> fmt::Display for GitHubText<'a> {
+    fn fmt<W: fmt::Write>(&self, f: &mut fmt::Formatter<W>) -> fmt::Result {
+        for c in self.text.chars() {
+            match c {
+                '%' => f.write_str("%25")?,
+                '\r' => f.write_str("%0D")?,
+                '\n' => f.write_str("%0A")?,
+                ':' if self.is_property => f.write_str("%3A")?,
+                ',' if self.is_property => f.write_str("%2C")?,
+                _ => f.write_char(c)?,
+            }
+        }
+        Ok(())
+    }
+}

@@ -1,0 +1,2 @@
+pub mod PartsValues
+pub mod HandleValues

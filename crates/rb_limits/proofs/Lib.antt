@@ -1,4 +1,0 @@
-pub mod Histories
-pub mod Quota
-pub mod Stepping
-pub mod Judging

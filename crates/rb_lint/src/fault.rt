@@ -1,0 +1,296 @@
+//! Where a text that isn't compiled has its error, and what it is about.
+use crate::path::shown_source;
+use crate::piece::Piece;
+use crate::position::line_of;
+use crate::repeated::first_line_of;
+use crate::scan::{Open, Quoting, Visit, visit_pieces};
+use rb_lexer::{Mark, SourceFault, SourceKind, Tokens};
+use rb_parser::parse;
+use std::alloc::{AllocError, Global};
+use std::fmt;
+
+/// What an error is about.
+#[derive(Debug, Drop)]
+pub enum About {
+    /// Nothing is known of it but its kind.
+    Unknown,
+    /// The source at the error, shortened.
+    Source(Vec<u8>),
+    /// A key that is already defined in this line.
+    Key(Vec<u8>, u64),
+    /// The text ends.
+    End,
+    /// The text is UTF-16.
+    Utf16,
+}
+
+/// Why a text isn't compiled.
+#[derive(Debug, Drop)]
+pub struct FaultText {
+    pub kind: SourceKind,
+    pub about: About,
+}
+
+/// The error of a text, at a byte.
+#[derive(Drop)]
+pub(crate) struct Fault {
+    pub(crate) at: usize,
+    pub(crate) text: FaultText,
+}
+
+fn shown(bytes: &[u8]) -> &str {
+    str::from_utf8(bytes).unwrap_or("?")
+}
+
+/// Says what to do about a type of genrb that isn't read.
+fn type_advice(word: &str) -> &'static str {
+    if word.starts_with("process") || word == "import" || word == "include" {
+        "; put the data itself in the text, or compile it with genrb --formatVersion 1"
+    } else {
+        "; the types are string, int, intvector, bin, alias, array and table"
+    }
+}
+
+fn kind_text(kind: SourceKind) -> &'static str {
+    match kind {
+        SourceKind::TooLong => "a text has at most 8,388,608 bytes",
+        SourceKind::NotUtf8 => "this byte isn't UTF-8",
+        SourceKind::BadEscape => "this backslash begins no escape; a backslash is written \\\\",
+        SourceKind::OpenQuote => "this quote isn't closed before the end of the text",
+        SourceKind::OpenComment => "this comment isn't closed before the end of the text",
+        SourceKind::Unexpected => "the grammar has nothing like this here",
+        SourceKind::UnknownType => "the word after the colon is no type",
+        SourceKind::BadKey => "a key is one or more characters from space to tilde",
+        SourceKind::DuplicateKey => "a key is already defined in its table",
+        SourceKind::BadInt => "this is no integer, or it is too large",
+        SourceKind::BadHex => "a bin has an even number of hexadecimal digits",
+        SourceKind::TooDeep => "a value is nested deeper than 64 levels",
+        SourceKind::TrailingText => "the bundle is already closed",
+        SourceKind::TooLarge => "the bundle is too large for a file",
+        SourceKind::Memory => "out of memory",
+    }
+}
+
+impl fmt::Display for FaultText {
+    fn fmt<W: fmt::Write>(&self, f: &mut fmt::Formatter<W>) -> fmt::Result {
+        let (word, text) = (self.kind.word(), kind_text(self.kind));
+        match (&self.about, self.kind) {
+            (About::Utf16, _) => { write!(f, "{word}: this text is UTF-16; save it as UTF-8") }
+            (About::Key(key, line), _) => {
+                let key = shown(key);
+                write!(f, "{word}: key '{key}' is already defined in line {line}")
+            }
+            (About::End, _) => {
+                write!(
+                    f,
+                    "{word}: the text ends before its bundle; is a brace missing?"
+                )
+            }
+            (About::Source(source), SourceKind::UnknownType) => {
+                let source = shown(source);
+                let advice = type_advice(source);
+                write!(f, "{word}: '{source}' is no type{advice}")
+            }
+            (About::Source(source), SourceKind::BadInt) => {
+                let source = shown(source);
+                write!(f, "{word}: '{source}' is no integer, or it is too large")
+            }
+            (About::Source(source), SourceKind::BadKey) => {
+                let source = shown(source);
+                write!(f, "{word}: '{source}' is no key: {text}")
+            }
+            (About::Source(source), SourceKind::Unexpected | SourceKind::TrailingText) => {
+                let source = shown(source);
+                write!(f, "{word}: '{source}' isn't expected here: {text}")
+            }
+            (About::Source(source), SourceKind::BadHex) => {
+                let source = shown(source);
+                write!(f, "{word}: '{source}': {text}")
+            }
+            _ => write!(f, "{word}: {text}"),
+        }
+    }
+}
+
+/// Checks whether a text that isn't compiled is UTF-16: it begins with a byte order mark, or each second
+/// of its first bytes is NUL.
+pub(crate) fn is_utf16(text: &[u8]) -> bool {
+    matches!(
+        text,
+        [0xFF, 0xFE, ..]
+            | [0xFE, 0xFF, ..]
+            | [1..=0x7F, 0, 1..=0x7F, 0, ..]
+            | [0, 1..=0x7F, 0, 1..=0x7F, ..]
+    )
+}
+
+/// Collects the places of escapes in a line.
+#[derive(Drop)]
+struct EscapeSearch {
+    first: usize,
+    past: usize,
+    found: Vec<usize>,
+}
+
+impl Visit for EscapeSearch {
+    fn piece(&mut self, _piece: &Piece) -> Result<(), AllocError> {
+        Ok(())
+    }
+
+    fn escape(&mut self, at: usize, _window: &[u8]) -> Result<(), AllocError> {
+        if self.first <= at && at < self.past {
+            self.found.push(at)?;
+        }
+        Ok(())
+    }
+}
+
+/// Returns the places of the escapes of a line.
+fn escapes_of(alloc: Global, text: &[u8], line: u64) -> Result<Vec<usize>, AllocError> {
+    let (first, bytes) = line_of(text, line);
+    let mut search = EscapeSearch {
+        first,
+        past: first.saturating_add(bytes.len()),
+        found: Vec::new(alloc),
+    };
+    visit_pieces(alloc, text, Quoting::OverLines, &mut search)?;
+    Ok(search.found)
+}
+
+/// Returns the places of the tokens of a line, or none of a text that can't be split into tokens.
+fn tokens_of(alloc: Global, text: &[u8], line: u64) -> Result<Vec<(usize, usize)>, AllocError> {
+    let mut found = Vec::new(alloc);
+    let mut tokens = match Tokens::of(alloc, text) {
+        Ok(tokens) => tokens,
+        Err(fault) if fault.kind == SourceKind::Memory => return Err(AllocError),
+        Err(_) => return Ok(found),
+    };
+    for _ in 0..u64::MAX {
+        let Some(token) = tokens.pop()? else {
+            break;
+        };
+        if token.line == line {
+            found.push((token.first, token.past))?;
+        }
+    }
+    Ok(found)
+}
+
+/// Returns a text with a line feed before each of some places, in order, and at its end.
+fn with_breaks(alloc: Global, text: &[u8], places: &[usize]) -> Result<Vec<u8>, AllocError> {
+    let mut broken = Vec::new(alloc);
+    let mut last = 0;
+    for place in places {
+        broken.extend_from_slice(text.get(last..*place).unwrap_or(&[]))?;
+        broken.push(b'\n')?;
+        last = *place;
+    }
+    broken.extend_from_slice(text.get(last..).unwrap_or(&[]))?;
+    broken.push(b'\n')?;
+    Ok(broken)
+}
+
+/// Returns which of some places of its line has a fault: the text is parsed again with each of them in a
+/// line of its own, so that the fault's line tells it.
+fn place_of(
+    alloc: Global,
+    text: &[u8],
+    places: &[usize],
+    fault: SourceFault,
+) -> Result<Option<usize>, AllocError> {
+    let broken = with_breaks(alloc, text, places)?;
+    match parse(alloc, &broken) {
+        Err(found) if found.kind == SourceKind::Memory => Err(AllocError),
+        Err(found) if found.kind == fault.kind => Ok(
+            found
+                .line
+                .checked_sub(fault.line)
+                .and_then(|further| usize::try_from(further).ok())
+                .and_then(|further| further.checked_sub(1))
+                .filter(|i| *i < places.len()),
+        ),
+        _ => Ok(None),
+    }
+}
+
+/// Finds the token that has the error of a text.
+fn find_token(alloc: Global, text: &[u8], fault: SourceFault) -> Result<Fault, AllocError> {
+    let tokens = tokens_of(alloc, text, fault.line)?;
+    let mut places = Vec::new(alloc);
+    for token in &tokens {
+        places.push(token.0)?;
+    }
+    let found = place_of(alloc, text, &places, fault)?;
+    let Some((first, past)) = found.and_then(|i| tokens.get(i).copied()) else {
+        return Ok(not_found(text, fault));
+    };
+    let source = shown_source(alloc, text.get(first..past).unwrap_or(&[]))?;
+    let about = match fault.kind {
+        SourceKind::DuplicateKey => match first_line_of(alloc, text, first)? {
+            Some(line) => About::Key(source, line),
+            None => About::Source(source),
+        },
+        _ => About::Source(source),
+    };
+    Ok(Fault {
+        at: first,
+        text: FaultText {
+            kind: fault.kind,
+            about,
+        },
+    })
+}
+
+/// Returns an error at the beginning of its line, or at the end of the text if that comes too early.
+fn not_found(text: &[u8], fault: SourceFault) -> Fault {
+    let (first, line) = line_of(text, fault.line);
+    let is_end = fault.kind == SourceKind::Unexpected
+        && first.saturating_add(line.len()) >= text.len();
+    Fault {
+        at: if is_end { text.len() } else { first },
+        text: FaultText {
+            kind: fault.kind,
+            about: if is_end { About::End } else { About::Unknown },
+        },
+    }
+}
+
+fn without_source(at: usize, kind: SourceKind, about: About) -> Fault {
+    Fault {
+        at,
+        text: FaultText { kind, about },
+    }
+}
+
+/// Finds the place of the error of a text.
+pub(crate) fn find_fault(
+    alloc: Global,
+    text: &[u8],
+    fault: SourceFault,
+    open: Open,
+) -> Result<Fault, AllocError> {
+    if is_utf16(text) {
+        return Ok(without_source(0, fault.kind, About::Utf16));
+    }
+    Ok(match (fault.kind, open) {
+        (SourceKind::OpenQuote, Open::Quote(at)) | (SourceKind::OpenComment, Open::Comment(at)) => {
+            without_source(at, fault.kind, About::Unknown)
+        }
+        (SourceKind::NotUtf8, _) => match str::from_utf8(text) {
+            Ok(_) => not_found(text, fault),
+            Err(error) => without_source(error.valid_up_to(), fault.kind, About::Unknown),
+        },
+        (SourceKind::BadEscape, _) => {
+            let places = escapes_of(alloc, text, fault.line)?;
+            let found = place_of(alloc, text, &places, fault)?;
+            match found.and_then(|i| places.get(i).copied()) {
+                Some(at) => without_source(at, fault.kind, About::Unknown),
+                None => not_found(text, fault),
+            }
+        }
+        (SourceKind::TooLong | SourceKind::TooLarge | SourceKind::Memory, _) => {
+            without_source(0, fault.kind, About::Unknown)
+        }
+        _ => find_token(alloc, text, fault)?,
+    })
+}

@@ -1,0 +1,433 @@
+//! Finds what is doubtful in a message of ICU's MessageFormat.
+use crate::language::Language;
+use crate::path::shown_name;
+use crate::pattern::PatternDoubt;
+use crate::piece::narrow;
+use crate::uses::{Named, Uses};
+use rb_messages::{
+    Argument, ArgumentType, Categories, Category, MessageError, MessageFault, MessageParser, Part,
+    Span,
+};
+use std::alloc::{AllocError, Global};
+
+/// The maximum number of doubts of one message.
+const DOUBT_LIMIT: usize = 100;
+
+/// The maximum number of messages around a use that are looked at.
+const AROUND_LIMIT: u32 = 64;
+
+const BRACE: u16 = 0x7B;
+
+const CLOSING_BRACE: u16 = 0x7D;
+
+const COMMA: u16 = 0x2C;
+
+const EQUALS: u16 = 0x3D;
+
+const BRACKET: u16 = 0x5B;
+
+/// One of the messages that an argument chooses from.
+#[derive(Clone, Copy)]
+struct Branch {
+    /// The index of the argument in `choosing`.
+    owner: u32,
+    /// The branch around the argument.
+    around: Option<u32>,
+    /// The index after the last use in it.
+    past: u32,
+    /// It is for a word, and not for a number.
+    is_counted: bool,
+}
+
+/// An argument that chooses a message.
+#[derive(Clone, Copy)]
+struct Choosing {
+    of_type: ArgumentType,
+    /// The number of its branches that are for words.
+    count: u32,
+}
+
+/// An argument whose messages aren't over.
+#[derive(Clone, Copy)]
+struct OpenArgument {
+    of_type: ArgumentType,
+    /// Its index in `choosing`.
+    owner: u32,
+    /// The branch around it.
+    around: Option<u32>,
+    /// The branch that is being read.
+    branch: Option<u32>,
+    /// The number of selectors before its own.
+    selectors: u32,
+}
+
+#[derive(Drop)]
+struct MessageSearch<'a> {
+    alloc: Global,
+    text: &'a [u16],
+    language: Language,
+    uses: Uses<'a>,
+    choosing: Vec<Choosing>,
+    branches: Vec<Branch>,
+    open: Vec<OpenArgument>,
+    /// The selectors of the open arguments.
+    selectors: Vec<(u32, u32)>,
+    doubts: Vec<PatternDoubt>,
+    /// A closing brace closes none.
+    has_stray: bool,
+}
+
+/// The arguments of a message, by ascending names, or None if it can't be parsed, and what is doubtful in
+/// it.
+#[derive(Drop)]
+pub(crate) struct Message<'a> {
+    pub(crate) named: Option<Vec<Named<'a>>>,
+    pub(crate) doubts: Vec<PatternDoubt>,
+}
+
+fn is_name_unit(unit: u16) -> bool {
+    matches!(unit, 0x30..=0x39 | 0x41..=0x5A | 0x5F | 0x61..=0x7A)
+}
+
+/// Returns the name of the argument that a text begins with: a brace, a name, and a comma or a brace.
+fn leading_argument(units: &[u16]) -> Option<&[u16]> {
+    let inside = units.strip_prefix(&[BRACE])?;
+    let past = inside.iter().position(|unit| !is_name_unit(*unit))?;
+    let end = inside.get(past).copied()?;
+    if past == 0 || end != CLOSING_BRACE && end != COMMA {
+        return None;
+    }
+    inside.get(..past)
+}
+
+/// Checks whether a text is a set of characters, as `UnicodeSet` reads it: it begins with a bracket.
+fn is_set(text: &[u16]) -> bool {
+    text.first() == Some(&BRACKET)
+}
+
+/// Checks for a brace and a name without a brace that closes it before the next one.
+fn has_open_name(text: &[u16]) -> bool {
+    let mut is_open = false;
+    let mut before = None;
+    for unit in text {
+        match *unit {
+            BRACE if is_open => return true,
+            CLOSING_BRACE => is_open = false,
+            _ if before == Some(BRACE) => is_open = is_name_unit(*unit),
+            _ => {}
+        }
+        before = Some(*unit);
+    }
+    is_open
+}
+
+impl<'a> MessageSearch<'a> {
+    fn new(alloc: Global, text: &'a [u16], language: Language) -> MessageSearch<'a> {
+        MessageSearch {
+            alloc,
+            text,
+            language,
+            uses: Uses::new(alloc, text),
+            choosing: Vec::new(alloc),
+            branches: Vec::new(alloc),
+            open: Vec::new(alloc),
+            selectors: Vec::new(alloc),
+            doubts: Vec::new(alloc),
+            has_stray: false,
+        }
+    }
+
+    fn add(&mut self, doubt: PatternDoubt) -> Result<(), AllocError> {
+        if self.doubts.len() < DOUBT_LIMIT {
+            self.doubts.push(doubt)?;
+        }
+        Ok(())
+    }
+
+    /// Returns the innermost branch.
+    fn branch_here(&self) -> Option<u32> {
+        self.open.last()?.branch
+    }
+
+    fn quoted(&mut self, span: Span) -> Result<(), AllocError> {
+        match leading_argument(span.of(self.text)) {
+            Some(name) => {
+                let name = shown_name(self.alloc, name)?;
+                self.add(PatternDoubt::Quoted(name))
+            }
+            None => Ok(()),
+        }
+    }
+
+    fn argument(&mut self, argument: Argument) -> Result<(), AllocError> {
+        let around = self.branch_here();
+        self.uses.add(argument.name, argument.of_type, around)?;
+        if !argument.of_type.has_messages() {
+            return Ok(());
+        }
+        let owner = narrow(self.choosing.len() as u64);
+        self.choosing.push(Choosing {
+            of_type: argument.of_type,
+            count: 0,
+        })?;
+        self.open.push(OpenArgument {
+            of_type: argument.of_type,
+            owner,
+            around,
+            branch: None,
+            selectors: narrow(self.selectors.len() as u64),
+        })?;
+        Ok(())
+    }
+
+    /// Ends the branch that is being read, if there is one.
+    fn end_branch(&mut self) {
+        let past = narrow(self.uses.uses.len() as u64);
+        if let Some(at) = self.branch_here() {
+            if let Some(branch) = self.branches.get_mut(at as usize) {
+                branch.past = past;
+            }
+        }
+    }
+
+    fn branch(&mut self, selector: Span) -> Result<(), AllocError> {
+        self.end_branch();
+        let at = narrow(self.branches.len() as u64);
+        let Some(open) = self.open.last_mut() else {
+            return Ok(());
+        };
+        open.branch = Some(at);
+        let (owner, around) = (open.owner, open.around);
+        let is_counted = open.of_type != ArgumentType::Choice
+            && selector.of(self.text).first() != Some(&EQUALS);
+        if let Some(choosing) = self.choosing.get_mut(owner as usize) {
+            choosing.count = choosing.count.saturating_add(u32::from(is_counted));
+        }
+        self.branches.push(Branch {
+            owner,
+            around,
+            past: u32::MAX,
+            is_counted,
+        })?;
+        self.selectors.push((narrow(selector.first as u64), narrow(selector.past as u64)))?;
+        Ok(())
+    }
+
+    /// Returns the selectors of an argument, in ascending order.
+    fn selectors_of(&self, open: OpenArgument) -> Result<Vec<&'a [u16]>, AllocError> {
+        let mut found = Vec::new(self.alloc);
+        for (first, past) in self.selectors.get(open.selectors as usize..).unwrap_or(&[]) {
+            let range = *first as usize..*past as usize;
+            found.push(self.text.get(range).unwrap_or(&[]))?;
+        }
+        found.sort()?;
+        Ok(found)
+    }
+
+    fn repeated(&mut self, selectors: &[&'a [u16]]) -> Result<(), AllocError> {
+        for (selector, next) in selectors.iter().zip(selectors.get(1..).unwrap_or(&[])) {
+            if *selector == *next {
+                let shown = shown_name(self.alloc, *selector)?;
+                self.add(PatternDoubt::Repeated(shown))?;
+            }
+        }
+        Ok(())
+    }
+
+    /// Reports words that are no category of the language.
+    fn unknown(
+        &mut self,
+        selectors: &[&'a [u16]],
+        categories: Option<Categories>,
+    ) -> Result<(), AllocError> {
+        for selector in selectors {
+            if selector.first() == Some(&EQUALS) {
+                continue;
+            }
+            match (Category::named(*selector), categories) {
+                (None, _) => {
+                    let shown = shown_name(self.alloc, *selector)?;
+                    self.add(PatternDoubt::Unknown(shown))?;
+                }
+                (Some(category), Some(known)) if !known.has(category) => {
+                    self.add(PatternDoubt::Unused(category))?;
+                }
+                _ => {}
+            }
+        }
+        Ok(())
+    }
+
+    /// Reports the categories of the language's integers for which no selector is. `=1` stands for `one` in
+    /// languages in which that is no more than 1, and so on.
+    fn lacking(
+        &mut self,
+        selectors: &[&'a [u16]],
+        categories: Categories,
+    ) -> Result<(), AllocError> {
+        let is_simple = !categories.has(Category::Few) && !categories.has(Category::Many);
+        let has_number = selectors
+            .iter()
+            .any(|selector| selector.first() == Some(&EQUALS));
+        for category in Category::ALL {
+            let is_here = selectors
+                .iter()
+                .any(|selector| Category::named(*selector) == Some(category));
+            if categories.is_common(category) && !is_here && !(is_simple && has_number) {
+                self.add(PatternDoubt::Lacking(category))?;
+            }
+        }
+        Ok(())
+    }
+
+    /// Checks the selectors of an argument that ends.
+    fn end(&mut self) -> Result<(), AllocError> {
+        self.end_branch();
+        let Some(open) = self.open.pop() else {
+            return Ok(());
+        };
+        let selectors = self.selectors_of(open)?;
+        self.selectors.truncate(open.selectors as usize);
+        if open.of_type == ArgumentType::Choice {
+            return Ok(());
+        }
+        self.repeated(&selectors)?;
+        let categories = match open.of_type {
+            ArgumentType::Plural => self.language.cardinal,
+            ArgumentType::SelectOrdinal => self.language.ordinal,
+            _ => return Ok(()),
+        };
+        self.unknown(&selectors, categories)?;
+        match categories {
+            Some(categories) => self.lacking(&selectors, categories),
+            None => Ok(()),
+        }
+    }
+
+    fn step(&mut self, part: Part) -> Result<(), AllocError> {
+        match part {
+            Part::Quoted(span) => self.quoted(span),
+            Part::Hash(_) => Ok(()),
+            Part::Argument(argument) => self.argument(argument),
+            Part::Branch(selector) => self.branch(selector),
+            Part::End(_) => self.end(),
+            Part::Stray(_) => {
+                self.has_stray = true;
+                Ok(())
+            }
+        }
+    }
+
+    /// Reads all parts. Returns the error, if the text is no message.
+    fn read(&mut self) -> Result<Option<MessageError>, AllocError> {
+        let mut parser = MessageParser::new(self.alloc, self.text);
+        for _ in 0..u64::MAX {
+            match parser.next_part() {
+                Ok(Some(part)) => self.step(part)?,
+                Ok(None) => break,
+                Err(error) if error.fault == MessageFault::Memory => return Err(AllocError),
+                Err(error) => return Ok(Some(error)),
+            }
+        }
+        Ok(None)
+    }
+
+    /// Returns the innermost branch that all uses of an argument are in.
+    fn branch_around(&self, named: &Named<'a>) -> Option<Branch> {
+        let mut at = self.uses.uses.get(named.first)?.branch;
+        for _ in 0..AROUND_LIMIT {
+            let branch = self.branches.get(at? as usize)?;
+            if named.last < branch.past as usize {
+                return Some(*branch);
+            }
+            at = branch.around;
+        }
+        None
+    }
+
+    /// Checks whether an argument is in only one of the branches of another one. Of plural branches, one of
+    /// two may well have an argument for itself.
+    fn is_lonely(&self, named: &Named<'a>) -> bool {
+        let Some(branch) = self.branch_around(named) else {
+            return false;
+        };
+        match self.choosing.get(branch.owner as usize) {
+            Some(choosing) => {
+                let least = match choosing.of_type {
+                    ArgumentType::Select => 2,
+                    ArgumentType::Choice => u32::MAX,
+                    _ => 3,
+                };
+                branch.is_counted && choosing.count >= least
+            }
+            None => false,
+        }
+    }
+
+    fn lonely(&mut self, named: &[Named<'a>]) -> Result<(), AllocError> {
+        if self.branches.is_empty() {
+            return Ok(());
+        }
+        for argument in named {
+            if self.is_lonely(argument) {
+                let shown = shown_name(self.alloc, argument.name)?;
+                self.add(PatternDoubt::OneBranch(shown))?;
+            }
+        }
+        Ok(())
+    }
+
+    /// Checks whether a text that can't be parsed is clearly meant as a message: it has an argument with a
+    /// type or a number, or a name after a brace that isn't closed. Braces around names alone are of other
+    /// templates too.
+    fn is_meant(&self, fault: MessageFault) -> bool {
+        let is_typed = self
+            .uses
+            .uses
+            .iter()
+            .any(|used| used.of_type != ArgumentType::Any);
+        is_typed
+            || !is_set(self.text)
+                && (fault == MessageFault::UnknownType
+                    || self.uses.has_number()
+                    || has_open_name(self.text))
+    }
+}
+
+/// Reads a message, and finds what is doubtful in it.
+pub(crate) fn search_message(
+    alloc: Global,
+    text: &[u16],
+    language: Language,
+) -> Result<Message<'_>, AllocError> {
+    let mut search = MessageSearch::new(alloc, text, language);
+    match search.read()? {
+        None => {
+            let named = search.uses.named()?;
+            search.lonely(&named)?;
+            if search.has_stray && !named.is_empty() && !is_set(text) {
+                search.add(PatternDoubt::Stray)?;
+            }
+            Ok(Message {
+                named: Some(named),
+                doubts: search.doubts,
+            })
+        }
+        Some(error) => {
+            let is_meant = search.is_meant(error.fault);
+            let mut doubts = Vec::new(alloc);
+            if is_meant {
+                doubts.push(PatternDoubt::Invalid(error.fault))?;
+            }
+            Ok(Message {
+                named: None,
+                doubts,
+            })
+        }
+    }
+}
+
+/// Checks whether a text may be a message: it has a brace.
+pub(crate) fn has_brace(text: &[u16]) -> bool {
+    text.contains(&BRACE)
+}

@@ -1,0 +1,148 @@
+//! The arguments that a message uses.
+use crate::piece::narrow;
+use rb_messages::{ArgumentType, Span};
+use std::alloc::{AllocError, Global};
+
+/// A use of an argument. Numbers are narrow, since a text can have one use in three units.
+#[derive(Clone, Copy)]
+pub(crate) struct Use {
+    first: u32,
+    past: u32,
+    pub(crate) of_type: ArgumentType,
+    /// The index of the innermost branch around it.
+    pub(crate) branch: Option<u32>,
+}
+
+/// The values that an argument can have.
+#[derive(Clone, Copy, Debug, PartialEq, Eq)]
+pub enum ValueKind {
+    Any,
+    Number,
+    Date,
+    Text,
+}
+
+impl ValueKind {
+    fn of(of_type: ArgumentType) -> ValueKind {
+        match of_type {
+            ArgumentType::Any => ValueKind::Any,
+            ArgumentType::Date | ArgumentType::Time => ValueKind::Date,
+            ArgumentType::Select => ValueKind::Text,
+            _ => ValueKind::Number,
+        }
+    }
+
+    fn or(self, other: ValueKind) -> ValueKind {
+        match self {
+            ValueKind::Any => other,
+            _ => self,
+        }
+    }
+}
+
+/// An argument with all its uses.
+#[derive(Clone, Copy)]
+pub(crate) struct Named<'a> {
+    pub(crate) name: &'a [u16],
+    /// The indexes of its first and its last use.
+    pub(crate) first: usize,
+    pub(crate) last: usize,
+    pub(crate) kind: ValueKind,
+}
+
+/// The uses of arguments in a message, in its order.
+#[derive(Drop)]
+pub(crate) struct Uses<'a> {
+    alloc: Global,
+    text: &'a [u16],
+    pub(crate) uses: Vec<Use>,
+}
+
+impl<'a> Uses<'a> {
+    pub(crate) fn new(alloc: Global, text: &'a [u16]) -> Uses<'a> {
+        Uses {
+            alloc,
+            text,
+            uses: Vec::new(alloc),
+        }
+    }
+
+    /// Adds a use, and returns its index.
+    pub(crate) fn add(
+        &mut self,
+        name: Span,
+        of_type: ArgumentType,
+        branch: Option<u32>,
+    ) -> Result<u32, AllocError> {
+        let at = self.uses.len();
+        self.uses.push(Use {
+            first: narrow(name.first as u64),
+            past: narrow(name.past as u64),
+            of_type,
+            branch,
+        })?;
+        Ok(narrow(at as u64))
+    }
+
+    /// Checks whether an argument is a number, such as `{0}`.
+    pub(crate) fn has_number(&self) -> bool {
+        self.uses.iter().any(|used| matches!(self.text.get(used.first as usize), Some(0x30..=0x39)))
+    }
+
+    /// Returns the arguments by ascending names.
+    pub(crate) fn named(&self) -> Result<Vec<Named<'a>>, AllocError> {
+        let mut all = Vec::with_capacity(self.alloc, self.uses.len())?;
+        for (i, used) in self.uses.iter().enumerate() {
+            let name = self
+                .text
+                .get(used.first as usize..used.past as usize)
+                .unwrap_or(&[]);
+            all.push((name, i))?;
+        }
+        all.sort_by_key(|entry| entry.0)?;
+        let mut named: Vec<Named<'a>> = Vec::new(self.alloc);
+        for (name, i) in &all {
+            let kind = match self.uses.get(*i) {
+                Some(used) => ValueKind::of(used.of_type),
+                None => ValueKind::Any,
+            };
+            match named.last_mut() {
+                Some(before) if before.name == *name => {
+                    before.last = *i;
+                    before.kind = before.kind.or(kind);
+                }
+                _ => named.push(Named {
+                    name: *name,
+                    first: *i,
+                    last: *i,
+                    kind,
+                })?,
+            }
+        }
+        Ok(named)
+    }
+}
+
+/// Returns the argument with a name, among arguments by ascending names.
+pub(crate) fn find_named<'a>(named: &[Named<'a>], name: &[u16]) -> Option<Named<'a>> {
+    match named.binary_search_by(|other| other.name.cmp(name)) {
+        Ok(i) => named.get(i).copied(),
+        Err(_) => None,
+    }
+}
+
+/// Returns the arguments that are not among others, in the order of the text. Both are by ascending names.
+pub(crate) fn without<'a>(
+    alloc: Global,
+    named: &[Named<'a>],
+    others: &[Named<'_>],
+) -> Result<Vec<Named<'a>>, AllocError> {
+    let mut found = Vec::new(alloc);
+    for argument in named {
+        if find_named(others, argument.name).is_none() {
+            found.push(*argument)?;
+        }
+    }
+    found.sort_by_key(|argument| argument.first)?;
+    Ok(found)
+}

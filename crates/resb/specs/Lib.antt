@@ -1,0 +1,6 @@
+pub mod Changes
+pub mod Lists
+pub mod Looks
+pub mod Numbers
+pub mod Open
+pub mod Texts

@@ -1,0 +1,48 @@
+-- Defines what a lookup answers in C (kinds: `UResType` of ICU's `ures.h`), a rule of this project.
+use Rattle.std.specs.Prelude.{◌≡◌, ◌⊎◌, ◌<◌, ℕ, List, Option, Some, None, IfSome, length}
+use Rattle.rb_tree.specs.Parts.{kind_of, len_of}
+use Rattle.rb_tree.specs.declared.kind.Kind.{Kind}
+use Rattle.rb_tree.specs.declared.kind.Kind.TheVariants as kinds
+use Rattle.rb_views.specs.Parts.{text_of, uint_of}
+use Rattle.rb_engine.specs.Ask.{Looks}
+use Rattle.rb_engine.specs.Answer.{Response, Replies, Finds, Refuses, answer_over}
+use Rattle.rb_engine.specs.Kept.{Kept, state_of}
+use Rattle.resb.specs.Numbers.{look_number}
+
+-- the answer of the engine's theorem: it reads the application's own bundles, and those of ICUDATA
+abbrev pub answer_in : Kept → List ℕ → List ℕ → List ℕ → Response
+answer_in engine app locale path = answer_over (state_of engine).start ((state_of engine).lists app) (Looks app locale path)
+
+abbrev pub response_number : Response → ℕ
+response_number (Replies reply) = 0
+response_number (Finds hit valid) = 0
+response_number (Refuses fault) = look_number fault
+
+-- the number of a kind in ICU's `UResType`
+abbrev pub kind_number : Kind → ℕ
+kind_number kinds.String = 0
+kind_number kinds.Binary = 1
+kind_number kinds.Table = 2
+kind_number kinds.Alias = 3
+kind_number kinds.Int = 7
+kind_number kinds.Array = 8
+kind_number kinds.Ints = 14
+
+-- the kind, the count and the number of the item that is found
+abbrev pub Describes : Response → ℕ → ℕ → ℕ → Type 0
+Describes (Replies reply) kind count number = Unit {0}
+Describes (Refuses fault) kind count number = Unit {0}
+Describes (Finds hit valid) kind count number =
+    (kind ≡ kind_number (kind_of hit.tree)) × (count ≡ len_of hit.tree) × IfSome (uint_of hit.tree) (λ n. number ≡ n)
+
+-- a copy of a text's units, or their count if there isn't room for them
+abbrev pub CopiesText : Option (List ℕ) → ℕ → ℕ → ℕ → List ℕ → Type 0
+CopiesText None n count room copy = n ≡ 6
+CopiesText (Some units) n count room copy =
+    ((n ≡ 0) × (copy ≡ units)) ⊎ ((n ≡ 5) × (count ≡ length units) × (room < count))
+
+-- a copy of the string that is found
+abbrev pub Copies : Response → ℕ → ℕ → ℕ → List ℕ → Type 0
+Copies (Replies reply) n count room copy = Unit {0}
+Copies (Refuses fault) n count room copy = n ≡ look_number fault
+Copies (Finds hit valid) n count room copy = CopiesText (text_of hit.tree) n count room copy

@@ -1,0 +1,13 @@
+//! The engine for C programs: a static library, which `tools/library` builds.
+#![tactic(auto)]
+
+mod changes;
+mod check;
+mod compile;
+mod found;
+mod held;
+mod lists;
+mod looks;
+mod names;
+mod numbers;
+mod open;

@@ -1,0 +1,117 @@
+ghost use Rattle.std.specs.Prelude.{◌≡◌, ◌≢◌, ◌≤◌, IfNone, IfSome, length, take};
+ghost use Rattle.rb_views.specs.Seen.{units_seen};
+ghost use Rattle.rb_handle.specs.Stored.{engine_of};
+ghost use Rattle.resb.specs.Looks.{answer_in, response_number, Describes, Copies};
+
+use crate::found::Found;
+use crate::held::take;
+use crate::numbers::{CLOSED, NO_ROOM, OTHER_KIND, look_number};
+use rb_engine::Engine;
+use rb_handle::Handle;
+use rb_views::Units;
+use std::alloc::Global;
+
+fn look_in(engine: &Engine, app: &[u8], locale: &[u8], path: &[u8], found: &mut Found) -> u32
+    ensures answer { result ≡ response_number (answer_in engine.now app.now locale.now path.now) }
+    ensures describes { Describes (answer_in engine.now app.now locale.now path.now)
+        found.new.kind found.new.count found.new.number }
+    ensures unchanged { result ≢ 0 → found.new ≡ found.old }
+{
+    match engine.look(app, locale, path) {
+        Ok(it) => {
+            *found = Found::of(it.node);
+            0
+        }
+        Err(fault) => look_number(fault),
+    }
+}
+
+/// Looks up the item at a path from a locale, and describes it.
+#[unsafe(no_mangle)]
+pub extern "C" fn resb_look(
+    alloc: Global,
+    handle: &mut Handle,
+    app: &[u8],
+    locale: &[u8],
+    path: &[u8],
+    found: &mut Found,
+) -> u32
+    ensures stays { engine_of handle.new ≡ engine_of handle.old }
+    ensures answer { IfSome (engine_of handle.old) (λ e. result
+        ≡ response_number (answer_in e app.now locale.now path.now)) }
+    ensures describes { IfSome (engine_of handle.old) (λ e. Describes
+        (answer_in e app.now locale.now path.now)
+        found.new.kind found.new.count found.new.number) }
+    ensures unchanged { result ≢ 0 → found.new ≡ found.old }
+    ensures closed { IfNone (engine_of handle.old) (result ≡ 2) }
+{
+    let Some(engine) = take(alloc, handle) else {
+        return CLOSED;
+    };
+    let result = look_in(&engine, app, locale, path, found);
+    *handle = Handle::of(engine);
+    result
+}
+
+fn copy_units(units: Units<'_>, out: &mut [u16])
+    requires { length (units_seen units) ≤ length out.old }
+    ensures { take (length (units_seen units.entry)) out.new ≡ units_seen units.entry }
+{
+    for i in 0..units.len() {
+        out[i] = units.at(i);
+    }
+}
+
+fn copy_in(
+    engine: &Engine,
+    app: &[u8],
+    locale: &[u8],
+    path: &[u8],
+    out: &mut [u16],
+    len: &mut usize,
+) -> u32
+    ensures answer { Copies (answer_in engine.now app.now locale.now path.now) result len.new
+        (length out.old) (take len.new out.new) }
+    ensures unchanged { result ≢ 0 → out.new ≡ out.old }
+{
+    let item = match engine.look(app, locale, path) {
+        Ok(it) => it.node,
+        Err(fault) => return look_number(fault),
+    };
+    let Some(units) = item.text() else {
+        return OTHER_KIND;
+    };
+    *len = units.len();
+    if units.len() > out.len() {
+        return NO_ROOM;
+    }
+    copy_units(units, out);
+    0
+}
+
+/// Looks up the string at a path from a locale, and copies its units. For a short `out` it writes
+/// only the number of units.
+#[unsafe(no_mangle)]
+pub extern "C" fn resb_text(
+    alloc: Global,
+    handle: &mut Handle,
+    app: &[u8],
+    locale: &[u8],
+    path: &[u8],
+    out: &mut [u16],
+    len: &mut usize,
+) -> u32
+    ensures stays { engine_of handle.new ≡ engine_of handle.old }
+    ensures answer { IfSome (engine_of handle.old) (λ e. Copies
+        (answer_in e app.now locale.now path.now) result len.new
+        (length out.old) (take len.new out.new)) }
+    ensures unchanged { result ≢ 0 → out.new ≡ out.old }
+    ensures closed { IfNone (engine_of handle.old) (result ≡ 2) }
+{
+    let Some(engine) = take(alloc, handle) else {
+        return CLOSED;
+    };
+    let result = copy_in(&engine, app, locale, path, out, len);
+    *handle = Handle::of(engine);
+    result
+}

@@ -1,0 +1,115 @@
+//! The numbers of errors, which `resb.h` names.
+ghost use Rattle.std.specs.Prelude.{◌≡◌, ◌≢◌};
+ghost use Rattle.resb.specs.Numbers.{file_number, text_number, look_number, reply_number};
+
+use rb_engine::{LookFault, Reply};
+use rb_format::FileFault;
+use rb_lexer::SourceKind;
+
+pub(crate) const MEMORY: u32 = 1;
+
+/// The handle has no engine.
+pub(crate) const CLOSED: u32 = 2;
+
+/// The handle has an engine.
+pub(crate) const OPEN: u32 = 3;
+
+/// Another handle has the same engine, so it can't change.
+pub(crate) const SHARED: u32 = 4;
+
+/// The caller's buffer is too short.
+pub(crate) const NO_ROOM: u32 = 5;
+
+/// The table has no entry with the index.
+pub(crate) const NO_ENTRY: u32 = 7;
+
+/// The item is of another kind.
+pub(crate) const OTHER_KIND: u32 = 6;
+
+pub(crate) fn file_number(fault: FileFault) -> u32
+    ensures number { result ≡ file_number fault }
+    ensures error { result ≢ 0 }
+{
+    match fault {
+        FileFault::Memory => MEMORY,
+        FileFault::TooLong => 51,
+        FileFault::Header => 52,
+        FileFault::BigEndian => 53,
+        FileFault::Family => 54,
+        FileFault::FormatVersion => 55,
+        FileFault::Indexes => 56,
+        FileFault::Attributes => 57,
+        FileFault::Root => 58,
+        FileFault::ItemType => 59,
+        FileFault::Offset => 60,
+        FileFault::Length => 61,
+        FileFault::NotTerminated => 62,
+        FileFault::Key => 63,
+        FileFault::KeyOrder => 64,
+        FileFault::TooDeep => 65,
+    }
+}
+
+pub(crate) fn text_number(kind: SourceKind) -> u32
+    ensures number { result ≡ text_number kind }
+    ensures error { result ≢ 0 }
+    ensures room { result ≢ 5 }
+{
+    match kind {
+        SourceKind::Memory => MEMORY,
+        SourceKind::TooLong => 31,
+        SourceKind::NotUtf8 => 32,
+        SourceKind::BadEscape => 33,
+        SourceKind::OpenQuote => 34,
+        SourceKind::OpenComment => 35,
+        SourceKind::Unexpected => 36,
+        SourceKind::UnknownType => 37,
+        SourceKind::BadKey => 38,
+        SourceKind::DuplicateKey => 39,
+        SourceKind::BadInt => 40,
+        SourceKind::BadHex => 41,
+        SourceKind::TooDeep => 42,
+        SourceKind::TrailingText => 43,
+        SourceKind::TooLarge => 44,
+    }
+}
+
+pub(crate) fn look_number(fault: LookFault) -> u32
+    ensures number { result ≡ look_number fault }
+    ensures error { result ≢ 0 }
+{
+    match fault {
+        LookFault::BadApp => 11,
+        LookFault::Reserved => 12,
+        LookFault::BadLocale => 13,
+        LookFault::BadPath => 21,
+        LookFault::PathTooLong => 22,
+        LookFault::Chain => 23,
+        LookFault::BadParent => 24,
+        LookFault::NoBundle => 25,
+        LookFault::Missing => 26,
+        LookFault::AliasText => 27,
+        LookFault::AliasPackage => 28,
+        LookFault::TooManyAliases => 29,
+    }
+}
+
+/// Returns the number of a reply to a change. A list of names answers no change, and has the number
+/// of no error.
+pub(crate) fn reply_number(reply: &Reply) -> u32
+    ensures { result ≡ reply_number reply.now }
+{
+    match reply {
+        Reply::Done => 0,
+        Reply::Memory => MEMORY,
+        Reply::BadApp => 11,
+        Reply::Reserved => 12,
+        Reply::BadLocale => 13,
+        Reply::BadText => 14,
+        Reply::BadFile => 15,
+        Reply::Exists => 16,
+        Reply::Absent => 17,
+        Reply::Full => 18,
+        Reply::Names(_) => 99,
+    }
+}

@@ -1,0 +1,98 @@
+ghost use Rattle.std.specs.Prelude.{◌≡◌, ◌≢◌, None, IfNone, IfSome};
+ghost use Rattle.rb_handle.specs.Stored.{engine_of};
+ghost use Rattle.resb.specs.Open.{IsEmpty};
+
+use crate::held::take;
+use crate::numbers::{CLOSED, MEMORY, OPEN};
+use rb_engine::Engine;
+use rb_handle::Handle;
+use rb_parents::Parents;
+use std::alloc::Global;
+use std::hash::RandomState;
+use std::io;
+use std::random::RandomSource;
+use std::sync::Arc;
+
+/// The caller's random bytes.
+#[derive(Drop)]
+struct Seed<'a> {
+    bytes: &'a [u8],
+}
+
+impl RandomSource for Seed<'_> {
+    fn fill_bytes(&self, buf: &mut [u8]) -> io::Result<()> {
+        for (to, from) in buf.iter_mut().zip(self.bytes.iter()) {
+            *to = *from;
+        }
+        Ok(())
+    }
+}
+
+fn new_engine(alloc: Global, seed: &[u8]) -> Option<Box<Arc<Engine>>>
+    ensures { IfSome result (λ b. IsEmpty b.value.value) }
+{
+    let state = RandomState::new(&Seed { bytes: seed }).ok()?;
+    let engine = Engine::start(alloc, state, Vec::new(alloc), Parents::none(alloc)).ok()?;
+    let counted = Arc::new(alloc, engine).ok()?;
+    Box::new(alloc, counted).ok()
+}
+
+/// Opens an engine without bundles. Its hashes are seeded by 16 random bytes.
+#[unsafe(no_mangle)]
+pub extern "C" fn resb_open(alloc: Global, handle: &mut Handle, seed: &[u8]) -> u32
+    ensures opened { result ≡ 0 → IfSome (engine_of handle.new) IsEmpty }
+    ensures there { result ≡ 0 → engine_of handle.new ≢ None }
+    ensures was_closed { result ≡ 0 → engine_of handle.old ≡ None }
+    ensures unchanged { result ≢ 0 → engine_of handle.new ≡ engine_of handle.old }
+{
+    if let Some(engine) = take(alloc, handle) {
+        *handle = Handle::of(engine);
+        return OPEN;
+    }
+    match new_engine(alloc, seed) {
+        Some(engine) => {
+            *handle = Handle::of(engine);
+            0
+        }
+        None => MEMORY,
+    }
+}
+
+/// Makes `other` one more handle of the same engine. What `other` had is closed.
+#[unsafe(no_mangle)]
+pub extern "C" fn resb_share(alloc: Global, handle: &mut Handle, other: &mut Handle) -> u32
+    ensures stays { engine_of handle.new ≡ engine_of handle.old }
+    ensures shared { result ≡ 0 → engine_of other.new ≡ engine_of handle.old }
+    ensures there { result ≡ 0 → engine_of handle.old ≢ None }
+    ensures unchanged { result ≢ 0 → engine_of other.new ≡ engine_of other.old }
+    ensures closed { IfNone (engine_of handle.old) (result ≡ 2) }
+{
+    let Some(engine) = take(alloc, handle) else {
+        return CLOSED;
+    };
+    let again = another(alloc, &engine);
+    *handle = Handle::of(engine);
+    match again {
+        Some(again) => {
+            drop(take(alloc, other));
+            *other = Handle::of(again);
+            0
+        }
+        None => MEMORY,
+    }
+}
+
+fn another(alloc: Global, engine: &Arc<Engine>) -> Option<Box<Arc<Engine>>>
+    ensures { IfSome result (λ b. b.value.value ≡ engine.now.value) }
+{
+    let again = Arc::try_clone(engine).ok()?;
+    Box::new(alloc, again).ok()
+}
+
+/// Closes a handle. The last handle of an engine frees it.
+#[unsafe(no_mangle)]
+pub extern "C" fn resb_close(alloc: Global, handle: &mut Handle)
+    ensures { engine_of handle.new ≡ None }
+{
+    drop(take(alloc, handle));
+}

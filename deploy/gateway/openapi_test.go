@@ -1,0 +1,84 @@
+package main
+
+import (
+	"encoding/json"
+	"os/exec"
+	"sort"
+	"strings"
+	"testing"
+)
+
+// describedRoutes returns the methods of each address of openapi.json.
+func describedRoutes(t *testing.T) map[string][]string {
+	t.Helper()
+	var page struct {
+		Paths map[string]map[string]json.RawMessage
+	}
+	if err := json.Unmarshal(openAPI, &page); err != nil {
+		t.Fatal(err)
+	}
+	all := map[string][]string{}
+	for path, methods := range page.Paths {
+		for method := range methods {
+			if method != "parameters" {
+				all[path] = append(all[path], strings.ToUpper(method))
+			}
+		}
+		sort.Strings(all[path])
+	}
+	return all
+}
+
+// TestTheDescriptionHasTheRoutes compares the methods that openapi.json has of each address with those that the gateway says by
+// OPTIONS. That each request of the other tests is described is tested by `described`.
+func TestTheDescriptionHasTheRoutes(t *testing.T) {
+	s := open(t)
+	for path, want := range describedRoutes(t) {
+		if !strings.HasPrefix(path, "/v1/") {
+			continue
+		}
+		at := strings.NewReplacer("{app}", "shop", "{locale}", "de", "{path}", "a/b", "{id}", "1").Replace(path)
+		got := s.ask("OPTIONS", at, shopWrites, "")
+		var may []string
+		for _, method := range strings.Split(got.Header.Get("Allow"), ", ") {
+			if method != "HEAD" && method != "OPTIONS" {
+				may = append(may, method)
+			}
+		}
+		sort.Strings(may)
+		if path == "/v1/{app}/look" || strings.Contains(path, "{locale}.") { // the address of a locale has more
+			continue
+		}
+		if got.StatusCode != 204 || strings.Join(may, " ") != strings.Join(want, " ") {
+			t.Errorf("%s: %d, %v are answered and %v described", path, got.StatusCode, may, want)
+		}
+	}
+}
+
+// validator prints what is wrong with a description, and then the operations of a client that Perl's OpenAPI::Client makes of it.
+const validator = `use strict; use warnings; use OpenAPI::Client; use JSON::Validator;
+my $schema = JSON::Validator->new->schema($ARGV[0])->schema;
+die join("\n", @{$schema->errors}), "\n" if @{$schema->errors};
+my $client = OpenAPI::Client->new($ARGV[0], base_url => $ARGV[1]);
+$client->ua->on(start => sub { $_[1]->req->headers->authorization("Bearer $ARGV[2]") });
+print join(" ", grep { $client->can($_) } qw(list look put remove history release restore erase getTxt)), "\n";
+my $put = $client->put({app => "shop", locale => "de.txt"}, body => 'de{a{"A"}}');
+print $client->look({app => "shop", locale => "de", path => "a"})->res->json->{value}, "\n";
+print scalar @{$client->history({app => "shop", last => 10})->res->json->{history}}, "\n";
+print $client->history({app => "shop", last => "many"})->res->code, "\n";
+print $client->getTxt({app => "shop", locale => "de"})->res->body, "\n";
+`
+
+// TestTheDescriptionMakesAClient has Debian's libopenapi-client-perl judge the description and make a client of it.
+func TestTheDescriptionMakesAClient(t *testing.T) {
+	if exec.Command("perl", "-MOpenAPI::Client", "-e", "1").Run() != nil {
+		t.Skip("skipped: libopenapi-client-perl is not there")
+	}
+	s := open(t)
+	s.ask("PUT", "/v1/shop/de.txt", shopWrites, `de{a{"A"}}`)
+	text, err := exec.Command("perl", "-e", validator, s.url+"/openapi.json", s.url, shopWrites).CombinedOutput()
+	const want = "list look put remove history release restore erase getTxt\nA\n2\n400\nde{a{\"A\"}}\n"
+	if err != nil || string(text) != want {
+		t.Errorf("%v\n%s", err, text)
+	}
+}

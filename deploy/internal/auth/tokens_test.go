@@ -1,0 +1,214 @@
+package auth
+
+import (
+	"crypto/sha256"
+	"encoding/hex"
+	"os"
+	"path/filepath"
+	"strings"
+	"syscall"
+	"testing"
+	"time"
+)
+
+const (
+	one = "the-first-token-of-the-test"
+	two = "the-second-token-of-the-test"
+)
+
+func hashOf(token string) string {
+	sum := sha256.Sum256([]byte(token))
+	return hex.EncodeToString(sum[:])
+}
+
+// file writes a file of tokens.
+func file(t *testing.T, lines ...string) string {
+	t.Helper()
+	path := filepath.Join(t.TempDir(), "tokens")
+	write(t, path, lines...)
+	return path
+}
+
+func write(t *testing.T, path string, lines ...string) {
+	t.Helper()
+	if err := os.WriteFile(path, []byte(strings.Join(lines, "\n")), 0o640); err != nil {
+		t.Fatal(err)
+	}
+}
+
+func open(t *testing.T, path string) *Tokens {
+	t.Helper()
+	tokens, err := Open(path)
+	if err != nil {
+		t.Fatal(err)
+	}
+	return tokens
+}
+
+// may returns what a token may do.
+func may(tokens *Tokens, token, app string) Right {
+	h, ok := tokens.Find(token)
+	if !ok {
+		return 0
+	}
+	return h.May(app, time.Now())
+}
+
+func TestPrefixesAndNames(t *testing.T) {
+	tokens := open(t, file(t, "# all", "shop.* write "+hashOf(one)+" name=ci", "bank read "+hashOf(one), "shop.a read "+hashOf(two)))
+	for app, want := range map[string]Right{"shop.a": Write, "shop.": Write, "shop": 0, "shopx": 0, "bank": Read, "bank.a": 0, "shop.a/b": 0, "*": 0, "": 0} {
+		if got := may(tokens, one, app); got != want {
+			t.Errorf("%q: %v", app, got)
+		}
+	}
+	if h, _ := tokens.Find(one); h.Name() != "ci" {
+		t.Error(h.Name())
+	}
+	if h, _ := tokens.Find(two); h.Name() != hashOf(two)[:8] || h.May("shop.a", time.Now()) != Read {
+		t.Error(h.Name())
+	}
+}
+
+func TestExpiry(t *testing.T) {
+	past, future := time.Now().Add(-time.Hour).UTC().Format(time.RFC3339), time.Now().Add(time.Hour).UTC().Format(time.RFC3339)
+	tokens := open(t, file(t, "shop write "+hashOf(one)+" expires="+past, "shop read "+hashOf(one)+" expires="+future,
+		"shop read "+hashOf(two)+" name=old expires="+past, "bank read "+hashOf(two)+" expires=2001-01-31"))
+	if got := may(tokens, one, "shop"); got != Read {
+		t.Errorf("%v: the right to write has expired", got)
+	}
+	if _, ok := tokens.Find(two); ok {
+		t.Error("all rights have expired")
+	}
+	if day, err := ParseTime("2027-01-31"); err != nil || day.Format(time.RFC3339) != "2027-02-01T00:00:00Z" {
+		t.Error(day, err)
+	}
+}
+
+func TestWrongLines(t *testing.T) {
+	for text, want := range map[string]string{
+		"shop write": "line 1: not APP", "shop sing " + hashOf(one): "neither read nor write", "shop read 12": "64 hexadecimal digits",
+		"* read " + hashOf(one): "no application", "sh*p read " + hashOf(one): "no application", "shop read " + hashOf(one) + " until=x": "neither name=NAME",
+		"\nshop read " + hashOf(one) + " expires=soon": "line 2", "shop read " + hashOf(one) + " name=": "no name",
+		"shop read " + hashOf(one) + " name=a\nbank read " + hashOf(one) + " name=b": "has the name a",
+	} {
+		if _, err := Open(file(t, text)); err == nil || !strings.Contains(err.Error(), want) {
+			t.Errorf("%s: %v", text, err)
+		}
+	}
+}
+
+// TestATypingErrorKeepsNothingAlive has a token revoked by a file in which another line is wrong.
+func TestATypingErrorKeepsNothingAlive(t *testing.T) {
+	path := file(t, "shop write "+hashOf(one), "shop write "+hashOf(two))
+	tokens := open(t, path)
+	write(t, path, "shop wrte "+hashOf(one), "bank read "+hashOf(two))
+	tokens.Reload(true)
+	if _, ok := tokens.Find(one); ok || may(tokens, two, "shop") != 0 || may(tokens, two, "bank") != Read || tokens.Bad() != 1 {
+		t.Error("the earlier tokens stay")
+	}
+	tokens.Reload(true)
+	if tokens.Bad() != 1 {
+		t.Error("the line is still wrong")
+	}
+	write(t, path, "shop write "+hashOf(one))
+	tokens.Reload(true)
+	if may(tokens, one, "shop") != Write || tokens.Bad() != 0 {
+		t.Error("the file was mended")
+	}
+	if err := os.Remove(path); err != nil {
+		t.Fatal(err)
+	}
+	tokens.Reload(true)
+	if may(tokens, one, "shop") != Write || tokens.Bad() != 1 {
+		t.Error("a file that can't be read changes nothing")
+	}
+}
+
+// TestAFIFODoesntHang, at the start or later; nor does a device without an end.
+func TestAFIFODoesntHang(t *testing.T) {
+	path := file(t, "shop write "+hashOf(one))
+	tokens := open(t, path)
+	_ = os.Remove(path)
+	if err := syscall.Mkfifo(path, 0o600); err != nil {
+		t.Fatal(err)
+	}
+	ended := make(chan error, 1)
+	go func() {
+		tokens.Reload(true)
+		_, err := Open(path)
+		ended <- err
+	}()
+	select {
+	case err := <-ended:
+		if err == nil || !strings.Contains(err.Error(), "regular") {
+			t.Error(err)
+		}
+	case <-time.After(time.Minute):
+		t.Fatal("it hangs")
+	}
+	if may(tokens, one, "shop") != Write {
+		t.Error("the tokens are gone")
+	}
+	if _, err := Open("/dev/zero"); err == nil {
+		t.Error("a device was read")
+	}
+}
+
+func TestShortTokensAreRefused(t *testing.T) {
+	short := strings.Repeat("x", LeastToken-1)
+	tokens := open(t, file(t, "shop write "+hashOf(short), "shop write "+hashOf(short+"x")))
+	if _, ok := tokens.Find(short); ok {
+		t.Error("it is known")
+	}
+	if may(tokens, short+"x", "shop") != Write {
+		t.Error("it isn't too short")
+	}
+	if _, err := Line("shop", "read", short, "", time.Time{}); err == nil {
+		t.Error("a line was made")
+	}
+}
+
+// TestAddedTokens hold in the process at once, and are in the file only once they are kept.
+func TestAddedTokens(t *testing.T) {
+	path := file(t, "shop read "+hashOf(one)) // without a line feed at its end
+	tokens := open(t, path)
+	if err := tokens.Add(file(t, "shop write "+hashOf(two)+"\n")); err != nil {
+		t.Fatal(err)
+	}
+	tokens.Reload(true)
+	if may(tokens, two, "shop") != Write || may(open(t, path), two, "shop") != 0 {
+		t.Error("before it is kept")
+	}
+	if err := tokens.Keep(); err != nil {
+		t.Fatal(err)
+	}
+	if may(tokens, two, "shop") != Write || may(open(t, path), two, "shop") != Write || may(open(t, path), one, "shop") != Read {
+		t.Error("after it was kept")
+	}
+	if info, err := os.Stat(path); err != nil || info.Mode().Perm() != 0o640 {
+		t.Error(info.Mode(), err)
+	}
+	if err := tokens.Add(file(t, "shop\n")); err == nil {
+		t.Error("a wrong line was added")
+	}
+}
+
+func TestRevoke(t *testing.T) {
+	path := file(t, "# first", "shop read "+hashOf(one)+" name=ci", "bank read "+hashOf(one), "", "wrong", "shop write "+hashOf(two))
+	if n, err := Revoke(path, "ci"); n != 2 || err != nil {
+		t.Error(n, err)
+	}
+	if _, err := Revoke(path, hashOf(two)[:7]); err == nil {
+		t.Error("7 digits are enough")
+	}
+	if n, err := Revoke(path, hashOf(two)[:8]); n != 1 || err != nil {
+		t.Error(n, err)
+	}
+	if _, err := Revoke(path, "ci"); err != ErrUnknown {
+		t.Error(err)
+	}
+	content, err := os.ReadFile(path)
+	if err != nil || string(content) != "# first\n\nwrong" {
+		t.Errorf("%q %v", content, err)
+	}
+}

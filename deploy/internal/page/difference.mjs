@@ -1,0 +1,59 @@
+// Shows the difference of two texts.
+import { beginning, counted, make, visible } from "./show.mjs";
+import { compareLines } from "./lines.mjs";
+
+const CONTEXT = 3; // unchanged lines around a change
+const MOST_ROWS = 2000;
+const MOST_IN_LINE = 5000;
+
+/** Puts the difference of two texts into an element, under a heading that gets the focus. Returns how many lines differ. */
+export const showDifference = (into, title, before, after) => {
+  const lines = compareLines(before, after);
+  const gone = lines.filter(({ sign }) => sign === "-").length, come = lines.filter(({ sign }) => sign === "+").length;
+  const heading = make("h3", { tabIndex: -1, textContent: title });
+  const count = make("p", { textContent: gone + come === 0 ? "No line differs." : `${counted(gone, "line")} less, ${come} more.` });
+  into.replaceChildren(heading, count);
+  if (gone + come > 0) into.append(rowsOf(lines));
+  heading.focus();
+  return gone + come;
+};
+
+const rowsOf = (lines) => {
+  const shown = make("div", { className: "lines" });
+  const near = nearChanges(lines);
+  let skipped = 0, rows = 0;
+  const skip = () => {
+    if (skipped > 0) shown.append(make("div", { className: "skipped", textContent: `… ${skipped} equal lines` }));
+    skipped = 0;
+  };
+  for (let i = 0; i < lines.length && rows < MOST_ROWS; i++) {
+    if (!near[i]) {
+      skipped++;
+      continue;
+    }
+    skip();
+    shown.append(rowOf(lines[i]));
+    rows++;
+  }
+  skip();
+  if (rows === MOST_ROWS) shown.append(make("div", { className: "skipped", textContent: "… and more" }));
+  return shown;
+};
+
+// Returns for each line whether it is a change or close to one.
+const nearChanges = (lines) => {
+  const near = new Uint8Array(lines.length);
+  lines.forEach(({ sign }, i) => {
+    if (sign !== " ") near.fill(1, Math.max(0, i - CONTEXT), i + CONTEXT + 1);
+  });
+  return near;
+};
+
+const rowOf = ({ sign, old, now, text }) => {
+  const code = make("code", { dir: "auto" }, ...visible(beginning(text, MOST_IN_LINE)));
+  if (text.length > MOST_IN_LINE) code.append(` … ${text.length} characters`);
+  const spoken = { "-": "removed", "+": "added" }[sign];
+  return make("div", { className: { "-": "gone", "+": "new" }[sign] ?? "" },
+    make("span", { textContent: old || "" }), make("span", { textContent: now || "" }),
+    make("b", { textContent: sign === "-" ? "−" : sign, title: spoken ?? "" }), code);
+};

@@ -1,0 +1,129 @@
+// The requests of the page.
+
+const MEANINGS = {
+  Unauthorized: "the token isn't known",
+  Forbidden: "the token isn't for this application, or it only reads",
+  NoBundle: "there is no bundle for this locale or its parents",
+  Absent: "there is no bundle for this locale",
+  NoVersion: "this version isn't stored any more",
+  Missing: "there is no such item",
+  BadLocale: "this is no name of a locale",
+  BadPath: "this is no path: keys with one slash between them",
+  TooLarge: "it is too long",
+  TooMany: "too many requests at once; try again",
+  OverRate: "too many requests; try again later",
+  Replaying: "the server starts; try again",
+  Busy: "the server is busy; try again",
+  NotKept: "the change couldn't be stored",
+  NoRoom: "the server's disk is full",
+  OverQuota: "the application has no more space",
+  Timeout: "no answer in time; look whether the change was made",
+  PreconditionFailed: "another change was made meanwhile",
+};
+
+/** A refusal. Its status is 0 if there was no answer. */
+export class Refused extends Error {
+  constructor(status, reply) {
+    const at = reply.line ? ` in line ${reply.line}` : "";
+    const meaning = reply.message ?? MEANINGS[reply.error];
+    super(`${reply.code ?? reply.error}${at}${meaning ? ": " + meaning : ""}`);
+    this.status = status;
+    this.code = reply.error;
+  }
+}
+
+/** The requests for one application. */
+export class Gateway {
+  constructor(app, token) {
+    this.app = app;
+    this.token = token;
+  }
+
+  address(...parts) {
+    return ["v1", this.app, ...parts].map(encodeURIComponent).join("/");
+  }
+
+  /** Asks, and returns the response, or throws why there is none. */
+  async ask(method, address, { headers = {}, body, signal } = {}) {
+    let response;
+    try {
+      response = await fetch(address, {
+        method, body, signal, cache: "no-store", credentials: "omit",
+        headers: { Authorization: "Bearer " + this.token, ...headers },
+      });
+    } catch (error) {
+      if (error.name === "AbortError") throw error;
+      throw new Refused(0, { error: "no answer", message: error.message });
+    }
+    if (response.ok) return response;
+    const text = await response.text();
+    let reply;
+    try {
+      reply = JSON.parse(text);
+    } catch {
+      reply = { error: `status ${response.status}` };
+    }
+    throw new Refused(response.status, reply);
+  }
+
+  /** Returns the names of the bundles. */
+  async names() {
+    return (await (await this.ask("GET", this.address())).json()).names;
+  }
+
+  /** Returns a bundle as {text, tag}, or as {text: null, tag: null} if there is none. */
+  async text(locale) {
+    try {
+      const response = await this.ask("GET", this.address(locale + ".txt"));
+      return { text: await whole(response), tag: response.headers.get("ETag") };
+    } catch (error) {
+      if (error.code === "Absent") return { text: null, tag: null };
+      throw error;
+    }
+  }
+
+  /** Returns the tree of a bundle, or null if there is none. */
+  async tree(locale) {
+    try {
+      return await (await this.ask("GET", this.address(locale + ".json"))).json();
+    } catch (error) {
+      if (error.code === "Absent") return null;
+      throw error;
+    }
+  }
+
+  /** Returns {errors, warnings} of a text, which isn't stored. */
+  async check(locale, text, signal) {
+    return (await this.ask("POST", this.address("_check", locale + ".txt"), { body: text, signal })).json();
+  }
+
+  /** Installs a text if the bundle has this tag, or if there is none and the tag is null. Returns the new tag and a warning. */
+  async put(locale, text, tag) {
+    const response = await this.ask("PUT", this.address(locale + ".txt"), { body: text, headers: ifTag(tag) });
+    return { tag: response.headers.get("ETag"), warning: (await response.json()).warning };
+  }
+
+  /** Returns the last changes, the newest first. */
+  async history({ locale, before, last }) {
+    const query = new URLSearchParams({ last });
+    if (locale) query.set("locale", locale);
+    if (before) query.set("before", before);
+    return (await (await this.ask("GET", `${this.address("_history")}?${query}`)).json()).history;
+  }
+
+  /** Returns the text of a bundle as it was after a change. */
+  async version(id) {
+    return whole(await this.ask("GET", this.address("_history", id + ".txt")));
+  }
+
+  /** Makes a bundle what it was after a change, if it has this tag. */
+  async restore(id, tag) {
+    return this.ask("POST", this.address("_history", String(id), "restore"), { headers: ifTag(tag) });
+  }
+}
+
+// Returns the text of a response with its byte order mark, which `text()` drops.
+const whole = async (response) => new TextDecoder("utf-8", { ignoreBOM: true }).decode(await response.arrayBuffer());
+
+// A change must not overwrite another one that its author hasn't seen.
+const ifTag = (tag) => (tag === null ? { "If-None-Match": "*" } : { "If-Match": tag });

@@ -1,0 +1,58 @@
+// The view of the last changes.
+import { at, confirmed, make, say, visible } from "./show.mjs";
+import { showDifference } from "./difference.mjs";
+
+const LAST = 50;
+const DONE = { install: "installed", replace: "replaced", remove: "removed" };
+
+/** Shows the last changes of a bundle, or of all. */
+export const history = async (gateway, locale) => {
+  const of = at("every").checked ? "" : locale;
+  const body = make("tbody"), button = make("button", { type: "button", textContent: "Show earlier changes" });
+  const titles = ["When", "Who", "Bundle", "Change", "Bytes", "Version"];
+  const head = make("tr", {}, ...titles.map((title) => make("th", { scope: "col", textContent: title })));
+  const next = async (before) => {
+    const all = await gateway.history({ locale: of, before, last: LAST });
+    body.append(...all.map((one) => rowOf(gateway, one)));
+    button.hidden = all.length < LAST;
+    button.onclick = acting(() => next(all.at(-1).id));
+    return all.length;
+  };
+  const n = await next(0);
+  at("history-diff").replaceChildren();
+  at("changes").replaceChildren(n === 0 ? make("p", { textContent: "There are no changes." }) : make("table", {}, make("thead", {}, head), body), button);
+};
+
+const rowOf = (gateway, change) => {
+  const compare = make("button", { type: "button", textContent: "Compare", "aria-label": `Compare version ${change.id} of ${change.locale}` });
+  const restore = make("button", { type: "button", textContent: "Restore", "aria-label": `Restore version ${change.id} of ${change.locale}` });
+  compare.addEventListener("click", acting(() => compareWith(gateway, change)));
+  restore.addEventListener("click", acting(() => restoreTo(gateway, change)));
+  const version = !change.kept ? ["not stored any more"] : change.op === "remove" ? [restore] : [compare, " ", restore];
+  return make("tr", {},
+    make("td", {}, make("time", { dateTime: change.at, textContent: new Date(change.at).toLocaleString() })),
+    make("td", { dir: "auto" }, ...visible(change.token)), make("td", { dir: "auto" }, ...visible(change.locale)),
+    make("td", { textContent: DONE[change.op] ?? change.op }), make("td", { textContent: String(change.bytes) }), make("td", {}, ...version));
+};
+
+const compareWith = async (gateway, { id, locale }) => {
+  const [earlier, now] = [await gateway.version(id), await gateway.text(locale)];
+  showDifference(at("history-diff"), `From version ${id} of ${locale} to what is installed`, earlier, now.text ?? "");
+};
+
+const restoreTo = async (gateway, { id, locale, op }) => {
+  const { tag } = await gateway.text(locale);
+  const question = op === "remove" ? `Remove ${locale} again?` : `Make ${locale} what it was in version ${id}?`;
+  if (!(await confirmed(question, op === "remove" ? "Remove" : "Restore"))) return;
+  await gateway.restore(id, tag);
+  await history(gateway, locale);
+  say(at("message"), "good", op === "remove" ? `${locale} is removed.` : `${locale} is as it was in version ${id}.`);
+};
+
+const acting = (what) => async () => {
+  try {
+    await what();
+  } catch (error) {
+    say(at("message"), "bad", error.message);
+  }
+};

@@ -1,0 +1,92 @@
+// The page on which bundles are edited, compared, translated and installed.
+import { at, counted, make, say } from "./show.mjs";
+import { Gateway } from "./gateway.mjs";
+import * as edit from "./edit.mjs";
+import { translate } from "./translate.mjs";
+import { history } from "./history.mjs";
+import { list, look, up } from "./look.mjs";
+
+const VIEWS = ["edit", "translate", "history", "look"];
+const FIELDS = ["app", "token", "locale"];
+
+// The fields outlive a reload of this tab, and nothing else.
+const remember = () => FIELDS.forEach((id) => sessionStorage.setItem(id, at(id).value));
+const recall = () => FIELDS.forEach((id) => { at(id).value = sessionStorage.getItem(id) ?? ""; });
+
+const locale = () => at("locale").value.trim();
+
+// Returns the requests for what is typed in, or null after showing what is missing.
+const gatewayNow = () => {
+  if (!at("who").reportValidity()) return null;
+  remember();
+  return new Gateway(at("app").value.trim(), at("token").value.trim());
+};
+
+// Does something with the gateway, and shows why it failed.
+const acting = (what) => async (event) => {
+  event.preventDefault();
+  const gateway = gatewayNow();
+  if (gateway === null) return;
+  try {
+    await what(gateway);
+  } catch (error) {
+    say(at("message"), "bad", error.message);
+  }
+};
+
+const openBundle = async (gateway) => {
+  if (!(await edit.mayLeave())) return;
+  const names = await gateway.names();
+  at("names").replaceChildren(...names.map((value) => make("option", { value })));
+  await edit.open(gateway, locale());
+  at("target").value = locale();
+  at("source").value ||= ["en", "root", ...names].find((name) => names.includes(name) && name !== locale()) ?? "root";
+  say(at("message"), "good", `${gateway.app} has ${counted(names.length, "bundle")}.`);
+};
+
+// Opens the editor at an item that is chosen in the translation view.
+const editItem = (gateway) => async (name, keys) => {
+  try {
+    const go = await edit.toItem(gateway, name, keys);
+    if (go === null) return;
+    at("locale").value = name;
+    window.history.pushState(null, "", "#edit");
+    showView(false);
+    go();
+  } catch (error) {
+    say(at("message"), "bad", error.message);
+  }
+};
+
+const forget = async () => {
+  if (!(await edit.mayLeave())) return;
+  FIELDS.forEach((id) => sessionStorage.removeItem(id));
+  at("token").value = "";
+  say(at("message"), "good", "The token is forgotten.");
+  at("token").focus();
+};
+
+// Shows the view that the address names.
+const showView = (moves) => {
+  const name = location.hash.slice(1) || VIEWS[0];
+  if (!VIEWS.includes(name)) return;
+  VIEWS.forEach((id) => { at(id).hidden = id !== name; });
+  document.querySelectorAll("nav a").forEach((link) => {
+    if (link.hash === "#" + name) link.setAttribute("aria-current", "page");
+    else link.removeAttribute("aria-current");
+  });
+  if (moves) at(name + "-title").focus();
+};
+
+addEventListener("hashchange", () => showView(true));
+at("who").addEventListener("submit", acting(openBundle));
+at("forget").addEventListener("click", forget);
+at("pair").addEventListener("submit", acting((gateway) => translate(gateway, editItem(gateway))));
+at("past").addEventListener("submit", acting((gateway) => history(gateway, locale())));
+at("every").addEventListener("change", () => at("past").requestSubmit());
+at("item").addEventListener("submit", acting((gateway) => look(gateway, locale())));
+at("up").addEventListener("click", acting((gateway) => up(gateway, locale())));
+at("list").addEventListener("click", acting(list));
+recall();
+showView(false);
+document.documentElement.dataset.ready = "yes";

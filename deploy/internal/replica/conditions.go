@@ -1,0 +1,40 @@
+package replica
+
+import "luvdregan.example/resb/deploy/internal/store"
+
+// holding leaves out the changes whose conditions don't hold, and answers them. A batch has at most one change of a bundle, and
+// all earlier batches are stored.
+func (r *Replica) holding(batch []*pending) (left []*pending) {
+	for _, p := range batch {
+		if p.holds != nil && !p.holds(r.bundle(p.App, p.Locale)) {
+			p.tell(answer{err: store.ErrCondition})
+			continue
+		}
+		left = append(left, p)
+	}
+	return left
+}
+
+// bundle returns the stored bundle of a locale, or nil.
+func (r *Replica) bundle(app, locale string) *store.Bundle {
+	b, there := r.store.Bundle(app, locale)
+	if !there {
+		return nil
+	}
+	return &b
+}
+
+// Bundle describes the stored bundle of a locale; the second result is false if the application has none.
+func (r *Replica) Bundle(app, locale string) (store.Bundle, bool) { return r.store.Bundle(app, locale) }
+
+// Kept returns a stored bundle with what was submitted as it; the third result is false if the application has none.
+func (r *Replica) Kept(app, locale string) (b store.Bundle, body []byte, there bool, err error) {
+	return r.store.Kept(app, locale)
+}
+
+// Runs returns the program of the servers that are started now.
+func (r *Replica) Runs() string {
+	r.mu.Lock()
+	defer r.mu.Unlock()
+	return r.program
+}

@@ -1,0 +1,3 @@
+module resb
+
+go 1.19

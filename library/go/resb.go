@@ -1,0 +1,285 @@
+// Package resb checks, compiles and looks up ICU resource bundles in process, over the C library libresb.
+//
+// Set CGO_CFLAGS and CGO_LDFLAGS to where resb.h and libresb.a are, unless the package libresb-dev is installed.
+package resb
+
+/*
+#cgo LDFLAGS: -lresb
+#include <stdlib.h>
+#include "resb.h"
+
+static resb *new_handle(void) { return calloc(1, sizeof(resb)); }
+*/
+import "C"
+
+import (
+	"crypto/rand"
+	"errors"
+	"fmt"
+	"strings"
+	"sync"
+	"unicode/utf16"
+	"unsafe"
+)
+
+// An Error has the number of an error in resb.h and, for a text, its line.
+type Error struct {
+	Number uint32
+	Line   uint64
+}
+
+// Code returns the name of the error, such as "BadPath".
+func (e *Error) Code() string {
+	var name [16]byte
+	n := C.resb_error_name(C.uint32_t(e.Number), (*C.uint8_t)(&name[0]), C.size_t(len(name)))
+	return string(name[:n])
+}
+
+func (e *Error) Error() string {
+	if e.Line > 0 {
+		return fmt.Sprintf("%s, line %d", e.Code(), e.Line)
+	}
+	return e.Code()
+}
+
+// Is reports whether the target is an Error with the same number.
+func (e *Error) Is(target error) bool {
+	var other *Error
+	return errors.As(target, &other) && other.Number == e.Number
+}
+
+func errorOf(number C.uint32_t) error {
+	if number == C.RESB_OK {
+		return nil
+	}
+	return &Error{Number: uint32(number)}
+}
+
+var nothing [1]byte
+
+// bytes returns where bytes begin, which is never nil, and how many there are.
+func bytes(b []byte) (*C.uint8_t, C.size_t) {
+	if len(b) == 0 {
+		return (*C.uint8_t)(&nothing[0]), 0
+	}
+	return (*C.uint8_t)(&b[0]), C.size_t(len(b))
+}
+
+// Check returns nil for a valid .res file, and else its first error.
+func Check(file []byte) error {
+	p, n := bytes(file)
+	return errorOf(C.resb_check(p, n))
+}
+
+// Compile compiles a bundle text to a .res file. An error of the text has its line.
+func Compile(text []byte) ([]byte, error) {
+	p, n := bytes(text)
+	out := make([]byte, 4*len(text)+256)
+	for {
+		var written C.size_t
+		var line C.uint64_t
+		switch number := C.resb_compile(p, n, (*C.uint8_t)(&out[0]), C.size_t(len(out)), &written, &line); number {
+		case C.RESB_OK:
+			return out[:written], nil
+		case C.RESB_NO_ROOM:
+			out = make([]byte, written)
+		default:
+			return nil, &Error{Number: uint32(number), Line: uint64(line)}
+		}
+	}
+}
+
+// Bundles has the bundles of many applications. Goroutines may share it.
+type Bundles struct {
+	lock   sync.Mutex
+	handle *C.resb
+}
+
+// Open returns Bundles without bundles. Close frees it.
+func Open() (*Bundles, error) {
+	var seed [16]byte
+	if _, err := rand.Read(seed[:]); err != nil {
+		return nil, err
+	}
+	handle := C.new_handle()
+	if handle == nil {
+		return nil, &Error{Number: C.RESB_MEMORY}
+	}
+	p, n := bytes(seed[:])
+	if err := errorOf(C.resb_open(handle, p, n)); err != nil {
+		C.free(unsafe.Pointer(handle))
+		return nil, err
+	}
+	return &Bundles{handle: handle}, nil
+}
+
+// Share returns Bundles of the same engine, for lookups beside this one. While both are open neither can change.
+func (b *Bundles) Share() (*Bundles, error) {
+	b.lock.Lock()
+	defer b.lock.Unlock()
+	if b.handle == nil {
+		return nil, &Error{Number: C.RESB_NOT_OPEN}
+	}
+	other := C.new_handle()
+	if other == nil {
+		return nil, &Error{Number: C.RESB_MEMORY}
+	}
+	if err := errorOf(C.resb_share(b.handle, other)); err != nil {
+		C.free(unsafe.Pointer(other))
+		return nil, err
+	}
+	return &Bundles{handle: other}, nil
+}
+
+// Close frees the bundles. Later calls return the error NotOpen.
+func (b *Bundles) Close() {
+	b.lock.Lock()
+	defer b.lock.Unlock()
+	if b.handle != nil {
+		C.resb_close(b.handle)
+		C.free(unsafe.Pointer(b.handle))
+		b.handle = nil
+	}
+}
+
+// with runs a call on the handle.
+func (b *Bundles) with(call func(handle *C.resb) C.uint32_t) error {
+	b.lock.Lock()
+	defer b.lock.Unlock()
+	if b.handle == nil {
+		return &Error{Number: C.RESB_NOT_OPEN}
+	}
+	return errorOf(call(b.handle))
+}
+
+// Install installs a bundle of an application: a text, or else a .res file.
+func (b *Bundles) Install(app, locale string, bundle []byte, isText bool) error {
+	a, an := bytes([]byte(app))
+	l, ln := bytes([]byte(locale))
+	p, n := bytes(bundle)
+	return b.with(func(h *C.resb) C.uint32_t { return C.resb_install(h, a, an, l, ln, p, n, C.bool(isText)) })
+}
+
+// Replace replaces a bundle of an application.
+func (b *Bundles) Replace(app, locale string, bundle []byte, isText bool) error {
+	a, an := bytes([]byte(app))
+	l, ln := bytes([]byte(locale))
+	p, n := bytes(bundle)
+	return b.with(func(h *C.resb) C.uint32_t { return C.resb_replace(h, a, an, l, ln, p, n, C.bool(isText)) })
+}
+
+// Remove removes a bundle of an application.
+func (b *Bundles) Remove(app, locale string) error {
+	a, an := bytes([]byte(app))
+	l, ln := bytes([]byte(locale))
+	return b.with(func(h *C.resb) C.uint32_t { return C.resb_remove(h, a, an, l, ln) })
+}
+
+// List returns the locales of an application's bundles in the order of their installation.
+func (b *Bundles) List(app string) ([]string, error) {
+	a, an := bytes([]byte(app))
+	out := make([]byte, 256)
+	for {
+		var length C.size_t
+		err := b.with(func(h *C.resb) C.uint32_t {
+			return C.resb_list(h, a, an, (*C.uint8_t)(&out[0]), C.size_t(len(out)), &length)
+		})
+		if errors.Is(err, &Error{Number: C.RESB_NO_ROOM}) {
+			out = make([]byte, length)
+			continue
+		}
+		if err != nil || length == 0 {
+			return nil, err
+		}
+		return strings.Split(string(out[:length-1]), "\x00"), nil
+	}
+}
+
+// Text looks up a string.
+func (b *Bundles) Text(app, locale, path string) (string, error) {
+	a, an := bytes([]byte(app))
+	l, ln := bytes([]byte(locale))
+	p, pn := bytes([]byte(path))
+	units := make([]uint16, 128)
+	for {
+		var length C.size_t
+		err := b.with(func(h *C.resb) C.uint32_t {
+			return C.resb_text(h, a, an, l, ln, p, pn, (*C.uint16_t)(&units[0]), C.size_t(len(units)), &length)
+		})
+		if errors.Is(err, &Error{Number: C.RESB_NO_ROOM}) {
+			units = make([]uint16, length)
+			continue
+		}
+		if err != nil {
+			return "", err
+		}
+		return string(utf16.Decode(units[:length])), nil
+	}
+}
+
+// Look looks up an item: a string, []byte, int32, []int32, Table or Array.
+func (b *Bundles) Look(app, locale, path string) (any, error) {
+	a, an := bytes([]byte(app))
+	l, ln := bytes([]byte(locale))
+	p, pn := bytes([]byte(path))
+	var value any
+	err := b.with(func(h *C.resb) C.uint32_t {
+		var found C.resb_found
+		number := C.resb_look(h, a, an, l, ln, p, pn, &found)
+		if number == C.RESB_OK {
+			value = valueOf(&found)
+		}
+		return number
+	})
+	return value, err
+}
+
+// A Table is a table of Count entries. Key names them, and Look finds them by a longer path.
+type Table struct{ Count int }
+
+// An Array is an array of Count items, whose paths end with 0, 1 and so on.
+type Array struct{ Count int }
+
+// valueOf copies what was found, since it is good only until the next change.
+func valueOf(found *C.resb_found) any {
+	count := int(found.count)
+	switch found.kind {
+	case C.RESB_STRING:
+		if count == 0 {
+			return ""
+		}
+		return string(utf16.Decode(unsafe.Slice((*uint16)(found.at), count)))
+	case C.RESB_BINARY:
+		return append([]byte{}, unsafe.Slice((*byte)(found.at), count)...)
+	case C.RESB_INT:
+		return int32(found.number<<4) >> 4
+	case C.RESB_INT_VECTOR:
+		return append([]int32{}, unsafe.Slice((*int32)(found.at), count)...)
+	case C.RESB_TABLE:
+		return Table{Count: count}
+	default:
+		return Array{Count: count}
+	}
+}
+
+// Key returns the key of an entry of a table, in the order of the keys.
+func (b *Bundles) Key(app, locale, path string, index int) (string, error) {
+	a, an := bytes([]byte(app))
+	l, ln := bytes([]byte(locale))
+	p, pn := bytes([]byte(path))
+	out := make([]byte, 64)
+	for {
+		var length C.size_t
+		err := b.with(func(h *C.resb) C.uint32_t {
+			return C.resb_key(h, a, an, l, ln, p, pn, C.size_t(index), (*C.uint8_t)(&out[0]), C.size_t(len(out)), &length)
+		})
+		if errors.Is(err, &Error{Number: C.RESB_NO_ROOM}) {
+			out = make([]byte, length)
+			continue
+		}
+		if err != nil {
+			return "", err
+		}
+		return string(out[:length]), nil
+	}
+}

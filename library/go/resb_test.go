@@ -1,0 +1,148 @@
+package resb_test
+
+import (
+	"bytes"
+	"errors"
+	"fmt"
+	"reflect"
+	"sync"
+	"testing"
+
+	"resb"
+)
+
+const text = `de{greeting{"Grüß"} low:int{-1} v:intvector{1,-2} b:bin{00ff} empty:bin{""} list{"a","bc"} menu{open{"Auf"} close{"Zu"}}}`
+
+func opened(t *testing.T) *resb.Bundles {
+	t.Helper()
+	b, err := resb.Open()
+	if err != nil {
+		t.Fatal(err)
+	}
+	t.Cleanup(b.Close)
+	if err := b.Install("shop", "de", []byte(text), true); err != nil {
+		t.Fatal(err)
+	}
+	return b
+}
+
+func TestLook(t *testing.T) {
+	b := opened(t)
+	for path, want := range map[string]any{
+		"greeting": "Grüß", "low": int32(-1), "v": []int32{1, -2}, "b": []byte{0, 0xff}, "empty": []byte{},
+		"list": resb.Array{Count: 2}, "list/1": "bc", "menu": resb.Table{Count: 2}, "": resb.Table{Count: 7},
+	} {
+		if got, err := b.Look("shop", "de_AT", path); err != nil || !reflect.DeepEqual(got, want) {
+			t.Errorf("%q: %v, %v; want %v", path, got, err, want)
+		}
+	}
+	if got, err := b.Text("shop", "de_AT", "greeting"); got != "Grüß" || err != nil {
+		t.Error(got, err)
+	}
+	if got, err := b.Key("shop", "de", "menu", 0); got != "close" || err != nil {
+		t.Error(got, err)
+	}
+	if got, err := b.List("shop"); err != nil || !reflect.DeepEqual(got, []string{"de"}) {
+		t.Error(got, err)
+	}
+}
+
+func TestErrors(t *testing.T) {
+	b := opened(t)
+	_, err := b.Text("bank", "de", "greeting")
+	var fault *resb.Error
+	if !errors.As(err, &fault) || fault.Code() != "NoBundle" {
+		t.Error(err)
+	}
+	if _, err := resb.Compile([]byte("de{\na:int{09}}")); err == nil || err.Error() != "BadInt, line 2" {
+		t.Error(err)
+	}
+	if err := resb.Check(nil); err == nil || err.Error() != "Header" {
+		t.Error(err)
+	}
+	if err := b.Install("shop", "de", []byte(text), true); err == nil || err.Error() != "Exists" {
+		t.Error(err)
+	}
+	b.Close()
+	if _, err := b.Text("shop", "de", "greeting"); err == nil || err.Error() != "NotOpen" {
+		t.Error(err)
+	}
+}
+
+func TestCompileAndChange(t *testing.T) {
+	b := opened(t)
+	long := bytes.Repeat([]byte("ä"), 1000)
+	file, err := resb.Compile([]byte(fmt.Sprintf(`de{long{"%s"}}`, long)))
+	if err != nil || resb.Check(file) != nil {
+		t.Fatal(err)
+	}
+	if err := b.Replace("shop", "de", file, false); err != nil {
+		t.Fatal(err)
+	}
+	if got, err := b.Text("shop", "de", "long"); got != string(long) || err != nil {
+		t.Error(len(got), err)
+	}
+	if err := b.Remove("shop", "de"); err != nil {
+		t.Error(err)
+	}
+}
+
+func TestShare(t *testing.T) {
+	b := opened(t)
+	var group sync.WaitGroup
+	for i := 0; i < 4; i++ {
+		mine, err := b.Share()
+		if err != nil {
+			t.Fatal(err)
+		}
+		group.Add(1)
+		go func() {
+			defer group.Done()
+			defer mine.Close()
+			for k := 0; k < 1000; k++ {
+				if got, err := mine.Text("shop", "de_AT", "menu/open"); got != "Auf" || err != nil {
+					t.Error(got, err)
+					return
+				}
+			}
+		}()
+	}
+	if err := b.Remove("shop", "fr"); err == nil {
+		t.Error("no error")
+	}
+	group.Wait()
+	if err := b.Remove("shop", "de"); err != nil {
+		t.Error(err)
+	}
+}
+
+func Example() {
+	bundles, err := resb.Open()
+	if err != nil {
+		panic(err)
+	}
+	defer bundles.Close()
+	if err := bundles.Install("shop", "de", []byte(`de{menu{open{"Öffnen"}}}`), true); err != nil {
+		panic(err)
+	}
+	text, err := bundles.Text("shop", "de_AT", "menu/open")
+	fmt.Println(text, err)
+	// Output: Öffnen <nil>
+}
+
+func BenchmarkText(b *testing.B) {
+	bundles, err := resb.Open()
+	if err != nil {
+		b.Fatal(err)
+	}
+	defer bundles.Close()
+	if err := bundles.Install("shop", "de", []byte(text), true); err != nil {
+		b.Fatal(err)
+	}
+	b.ResetTimer()
+	for i := 0; i < b.N; i++ {
+		if _, err := bundles.Text("shop", "de_AT", "menu/open"); err != nil {
+			b.Fatal(err)
+		}
+	}
+}

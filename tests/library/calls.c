@@ -1,0 +1,150 @@
+/* Calls each function once, with each error that it may return for a caller with memory. */
+#include "common.h"
+
+static const char text[] = "de{greeting{\"Gr\\u00fc\\u00df\"} count:int{7} low:int{-1} v:intvector{1,-2,3} b:bin{00ff10} list{\"a\",\"bc\"}"
+                           "empty{\"\"} menu{open{\"Auf\"} close{\"Zu\"}} link:alias{\"/LOCALE/greeting\"}}";
+static uint8_t out[4096];
+static size_t written;
+
+static void checks_and_compiles(void) {
+    uint64_t line = 9;
+    size_t need = 0;
+    EXPECT(resb_compile(S(text), out, sizeof out, &written, &line) == RESB_OK && written > 32 && written % 4 == 0 && line == 0);
+    EXPECT(memcmp(out + 2, "\xda\x27", 2) == 0 && memcmp(out + 12, "ResB", 4) == 0);
+    EXPECT(resb_check(out, written) == RESB_OK);
+    EXPECT(resb_check(out, 0) == RESB_FILE_HEADER);
+    EXPECT(resb_check(out, written - 4) != RESB_OK);
+    uint8_t kept[4096];
+    memset(kept, 0xab, sizeof kept);
+    EXPECT(resb_compile(S(text), kept, 10, &need, &line) == RESB_NO_ROOM && need == written && kept[0] == 0xab && kept[9] == 0xab);
+    EXPECT(resb_compile(S("de{\na:int{09}}"), kept, sizeof kept, &need, &line) == RESB_TEXT_BAD_INT && line == 2 && need == 0);
+    EXPECT(resb_compile(S("de{a{\"b\"} a{\"c\"}}"), kept, sizeof kept, &need, &line) == RESB_TEXT_DUPLICATE_KEY && kept[0] == 0xab);
+    EXPECT(resb_compile(S(text), kept, written, &need, &line) == RESB_OK && memcmp(kept, out, written) == 0 && kept[written] == 0xab);
+}
+
+static void opens(resb *e) {
+    resb_found f;
+    size_t len = 7;
+    uint8_t seed[16] = {1, 2, 3};
+    resb other = RESB_CLOSED;
+    EXPECT(resb_look(e, S("shop"), S("de"), S("greeting"), &f) == RESB_NOT_OPEN);
+    EXPECT(resb_install(e, S("shop"), S("de"), out, written, false) == RESB_NOT_OPEN);
+    EXPECT(resb_remove(e, S("shop"), S("de")) == RESB_NOT_OPEN);
+    EXPECT(resb_list(e, S("shop"), out, 0, &len) == RESB_NOT_OPEN && len == 7);
+    EXPECT(resb_share(e, &other) == RESB_NOT_OPEN && !other.is_open);
+    EXPECT(resb_open(e, seed, 16) == RESB_OK && e->is_open && e->engine);
+    EXPECT(resb_open(e, seed, 16) == RESB_ALREADY_OPEN && e->is_open);
+    EXPECT(resb_list(e, S("shop"), out, 0, &len) == RESB_OK && len == 0);
+}
+
+static void installs(resb *e) {
+    EXPECT(resb_install(e, S("shop"), S("root"), S("root{greeting{\"Hello\"} only{\"root\"}}"), true) == RESB_OK);
+    EXPECT(resb_replace(e, S("shop"), S("de"), out, written, false) == RESB_ABSENT);
+    EXPECT(resb_install(e, S("shop"), S("de"), out, written, false) == RESB_OK);
+    EXPECT(resb_install(e, S("shop"), S("de"), out, written, false) == RESB_EXISTS);
+    EXPECT(resb_install(e, S("shop"), S("fr"), out, written - 1, false) == RESB_BAD_FILE);
+    EXPECT(resb_install(e, S("shop"), S("fr"), S("fr{"), true) == RESB_BAD_TEXT);
+    EXPECT(resb_install(e, S("ICUDATA"), S("fr"), S("fr{}"), true) == RESB_RESERVED);
+    EXPECT(resb_install(e, S("sh op"), S("fr"), S("fr{}"), true) == RESB_BAD_APP);
+    EXPECT(resb_install(e, S("shop"), S("-"), S("fr{}"), true) == RESB_BAD_LOCALE);
+    EXPECT(resb_install(e, S("bank"), S("de"), S("de{greeting{\"Tag\"}}"), true) == RESB_OK);
+    EXPECT(resb_replace(e, S("bank"), S("de"), S("de{greeting{\"Moin\"}}"), true) == RESB_OK);
+}
+
+static void lists(resb *e) {
+    uint8_t names[32] = {0};
+    size_t len = 0;
+    EXPECT(resb_list(e, S("shop"), names, sizeof names, &len) == RESB_OK && len == 8 && memcmp(names, "root\0de\0", 8) == 0);
+    names[0] = 'x';
+    EXPECT(resb_list(e, S("shop"), names, 7, &len) == RESB_NO_ROOM && len == 8 && names[0] == 'x');
+    EXPECT(resb_list(e, S("none"), names, sizeof names, &len) == RESB_OK && len == 0);
+    EXPECT(resb_list(e, S("ICUDATA"), names, sizeof names, &len) == RESB_RESERVED);
+    uint8_t key[8];
+    EXPECT(resb_key(e, S("shop"), S("de"), S("menu"), 0, key, sizeof key, &len) == RESB_OK && len == 5 && memcmp(key, "close", 5) == 0);
+    EXPECT(resb_key(e, S("shop"), S("de"), S("menu"), 1, key, sizeof key, &len) == RESB_OK && len == 4 && memcmp(key, "open", 4) == 0);
+    EXPECT(resb_key(e, S("shop"), S("de"), S("menu"), 2, key, sizeof key, &len) == RESB_NO_ENTRY);
+    EXPECT(resb_key(e, S("shop"), S("de"), S("menu"), 0, key, 4, &len) == RESB_NO_ROOM && len == 5);
+    EXPECT(resb_key(e, S("shop"), S("de"), S("list"), 0, key, sizeof key, &len) == RESB_OTHER_KIND);
+    EXPECT(resb_key(e, S("shop"), S("de"), S("nothing"), 0, key, sizeof key, &len) == RESB_MISSING);
+}
+
+static void looks(resb *e) {
+    resb_found f = {NULL, 0, 0, 0};
+    EXPECT(resb_look(e, S("shop"), S("de_AT"), S("greeting"), &f) == RESB_OK && f.kind == RESB_STRING && f.count == 4);
+    const uint16_t *u = f.at;
+    EXPECT(u[0] == 'G' && u[1] == 'r' && u[2] == 0xfc && u[3] == 0xdf && (uintptr_t)u % 2 == 0);
+    EXPECT(resb_look(e, S("shop"), S("fr"), S("greeting"), &f) == RESB_OK && f.count == 5 && ((const uint16_t *)f.at)[0] == 'H');
+    EXPECT(resb_look(e, S("shop"), S("de"), S("only"), &f) == RESB_OK && f.count == 4);
+    EXPECT(resb_look(e, S("shop"), S("de"), S("link"), &f) == RESB_OK && f.kind == RESB_STRING && f.count == 4);
+    EXPECT(resb_look(e, S("shop"), S("de"), S("count"), &f) == RESB_OK && f.kind == RESB_INT && f.number == 7 && !f.at);
+    EXPECT(resb_look(e, S("shop"), S("de"), S("low"), &f) == RESB_OK && f.number == 0xfffffff);
+    EXPECT(resb_look(e, S("shop"), S("de"), S("v"), &f) == RESB_OK && f.kind == RESB_INT_VECTOR && f.count == 3);
+    EXPECT(((const int32_t *)f.at)[1] == -2 && (uintptr_t)f.at % 4 == 0);
+    EXPECT(resb_look(e, S("shop"), S("de"), S("b"), &f) == RESB_OK && f.kind == RESB_BINARY && f.count == 3);
+    EXPECT(((const uint8_t *)f.at)[1] == 0xff);
+    EXPECT(resb_look(e, S("shop"), S("de"), S("list"), &f) == RESB_OK && f.kind == RESB_ARRAY && f.count == 2);
+    EXPECT(resb_look(e, S("shop"), S("de"), S("list/1"), &f) == RESB_OK && f.kind == RESB_STRING && f.count == 2);
+    EXPECT(resb_look(e, S("shop"), S("de"), S("empty"), &f) == RESB_OK && f.kind == RESB_STRING && f.count == 0);
+    EXPECT(resb_look(e, S("shop"), S("de"), U8 "", 0, &f) == RESB_OK && f.kind == RESB_TABLE && f.count == 9);
+    EXPECT(resb_look(e, S("bank"), S("de"), S("greeting"), &f) == RESB_OK && f.count == 4 && ((const uint16_t *)f.at)[0] == 'M');
+    resb_found before = f;
+    EXPECT(resb_look(e, S("shop"), S("de"), S("nothing"), &f) == RESB_MISSING && memcmp(&f, &before, sizeof f) == 0);
+    EXPECT(resb_look(e, S("none"), S("de"), S("greeting"), &f) == RESB_NO_BUNDLE);
+    EXPECT(resb_look(e, S("sh op"), S("de"), S("greeting"), &f) == RESB_BAD_APP);
+    EXPECT(resb_look(e, S("shop"), S("de"), S("a//b"), &f) == RESB_BAD_PATH && memcmp(&f, &before, sizeof f) == 0);
+}
+
+static void copies(resb *e) {
+    uint16_t units[8] = {1, 1, 1, 1, 1};
+    size_t len = 0;
+    EXPECT(resb_text(e, S("shop"), S("de"), S("greeting"), units, 4, &len) == RESB_OK && len == 4);
+    EXPECT(units[0] == 'G' && units[1] == 'r' && units[2] == 0xfc && units[3] == 0xdf && units[4] == 1);
+    units[0] = 1;
+    EXPECT(resb_text(e, S("shop"), S("de"), S("greeting"), units, 3, &len) == RESB_NO_ROOM && len == 4 && units[0] == 1);
+    EXPECT(resb_text(e, S("shop"), S("de"), S("empty"), units, 0, &len) == RESB_OK && len == 0);
+    EXPECT(resb_text(e, S("shop"), S("de"), S("count"), units, 8, &len) == RESB_OTHER_KIND);
+    EXPECT(resb_text(e, S("shop"), S("de"), S("nothing"), units, 8, &len) == RESB_MISSING && units[0] == 1);
+}
+
+static void shares(resb *e) {
+    resb other = RESB_CLOSED, third = RESB_CLOSED;
+    resb_found f;
+    uint8_t seed[16] = {4};
+    EXPECT(resb_share(e, &other) == RESB_OK && other.is_open && e->is_open);
+    EXPECT(resb_open(&third, seed, 16) == RESB_OK && resb_share(&other, &third) == RESB_OK);
+    EXPECT(resb_look(&third, S("shop"), S("de"), S("greeting"), &f) == RESB_OK && f.count == 4);
+    EXPECT(resb_install(e, S("shop"), S("fr"), S("fr{}"), true) == RESB_SHARED);
+    EXPECT(resb_remove(&third, S("shop"), S("de")) == RESB_SHARED);
+    resb_close(&other);
+    EXPECT(resb_replace(e, S("shop"), S("de"), S("de{}"), true) == RESB_SHARED);
+    resb_close(e);
+    EXPECT(!e->is_open && resb_look(e, S("shop"), S("de"), S("greeting"), &f) == RESB_NOT_OPEN);
+    EXPECT(resb_look(&third, S("shop"), S("de"), S("greeting"), &f) == RESB_OK && f.count == 4);
+    EXPECT(resb_share(&third, e) == RESB_OK);
+    resb_close(&third);
+}
+
+static void removes(resb *e) {
+    resb_found f;
+    EXPECT(resb_remove(e, S("shop"), S("de")) == RESB_OK && resb_remove(e, S("shop"), S("de")) == RESB_ABSENT);
+    EXPECT(resb_look(e, S("shop"), S("de"), S("greeting"), &f) == RESB_OK && f.count == 5);
+    EXPECT(resb_look(e, S("bank"), S("de"), S("greeting"), &f) == RESB_OK && f.count == 4);
+    resb_close(e);
+    EXPECT(!e->is_open);
+    resb_close(e);
+}
+
+int main(void) {
+    resb e = RESB_CLOSED;
+    checks_and_compiles();
+    opens(&e);
+    EXPECT(resb_compile(S(text), out, sizeof out, &written, &(uint64_t){0}) == RESB_OK);
+    installs(&e);
+    lists(&e);
+    looks(&e);
+    copies(&e);
+    shares(&e);
+    removes(&e);
+    puts("each call answered as expected");
+    return 0;
+}

@@ -1,0 +1,88 @@
+/* Lets each allocation fail in turn: each call says so or does its work, changes nothing otherwise, and nothing stays allocated.
+ * Linked with --wrap=malloc,--wrap=realloc,--wrap=free. */
+#include "common.h"
+
+static long left, live;
+void *__real_malloc(size_t);
+void *__real_realloc(void *, size_t);
+void __real_free(void *);
+
+void *__wrap_malloc(size_t n) {
+    if (left > 0 && --left == 0)
+        return NULL;
+    void *p = __real_malloc(n);
+    live += p != NULL;
+    return p;
+}
+
+void *__wrap_realloc(void *old, size_t n) {
+    if (left > 0 && --left == 0)
+        return NULL;
+    void *p = __real_realloc(old, n);
+    live += old == NULL && p != NULL;
+    return p;
+}
+
+void __wrap_free(void *p) {
+    live -= p != NULL;
+    __real_free(p);
+}
+
+static int refusals;
+
+/* Says whether a call did its work; else memory must have run out. */
+static bool worked(uint32_t error) {
+    EXPECT(error == RESB_OK || error == RESB_MEMORY);
+    refusals += error == RESB_MEMORY;
+    return error == RESB_OK;
+}
+
+static void history(void) {
+    static uint8_t out[4096], names[64];
+    uint16_t units[8];
+    size_t written = 0, len = 0;
+    uint64_t line;
+    resb e = RESB_CLOSED, other = RESB_CLOSED;
+    resb_found f;
+    uint8_t seed[16] = {0};
+    if (!worked(resb_compile(S("de{greeting{\"Hallo\"} l{\"a\",\"b\"}}"), out, sizeof out, &written, &line)))
+        return;
+    worked(resb_check(out, written));
+    if (!worked(resb_open(&e, seed, 16))) {
+        EXPECT(!e.is_open);
+        return;
+    }
+    bool de = worked(resb_install(&e, S("shop"), S("de"), out, written, false));
+    bool root = worked(resb_install(&e, S("shop"), S("root"), S("root{greeting{\"Hello\"}}"), true));
+    if (de)
+        worked(resb_replace(&e, S("shop"), S("de"), out, written, false));
+    if (worked(resb_list(&e, S("shop"), names, sizeof names, &len)))
+        EXPECT(len == (de ? 3u : 0u) + (root ? 5u : 0u));
+    uint32_t seen = resb_look(&e, S("shop"), S("de_AT"), S("greeting"), &f);
+    EXPECT(seen == (de || root ? RESB_OK : RESB_NO_BUNDLE));
+    EXPECT(resb_text(&e, S("shop"), S("de_AT"), S("greeting"), units, 8, &len) == seen && (seen || (len == 5 && units[1] == (de ? 'a' : 'e'))));
+    if (worked(resb_share(&e, &other)))
+        EXPECT(resb_look(&other, S("shop"), S("de_AT"), S("greeting"), &f) == seen);
+    else
+        EXPECT(e.is_open && !other.is_open);
+    resb_close(&other);
+    if (root)
+        EXPECT(!worked(resb_remove(&e, S("shop"), S("root"))) || resb_remove(&e, S("shop"), S("root")) != RESB_OK);
+    resb_close(&e);
+    EXPECT(!e.is_open);
+}
+
+int main(void) {
+    int runs = 0;
+    long over;
+    do {
+        left = ++runs;
+        history();
+        over = left;
+        left = 0;
+        EXPECT(live == 0);
+    } while (over == 0 && runs < 1000);
+    EXPECT(over > 0 && refusals > 20);
+    printf("%d allocations failed in turn, %d calls ran out of memory, and nothing stayed allocated\n", runs - 1, refusals);
+    return 0;
+}

@@ -1,0 +1,95 @@
+/* Measures the stack of calls on the deepest text and the longest path: a thread's stack is painted, and what changes is counted. */
+#include <pthread.h>
+
+#include "common.h"
+
+enum { STACK = 8 << 20, FILE_ROOM = 1 << 24, LIMIT = 64 << 10 };
+static uint8_t *text, *out;
+static size_t text_len, written;
+static uint64_t line;
+static uint32_t result;
+static resb e = RESB_CLOSED;
+static resb_found f;
+static char path[2000];
+
+static void *none(void *a) {
+    return a;
+}
+
+static void *compile(void *a) {
+    result = resb_compile(text, text_len, out, FILE_ROOM, &written, &line);
+    return a;
+}
+
+static void *check(void *a) {
+    result = resb_check(out, written);
+    return a;
+}
+
+static void *install(void *a) {
+    result = resb_install(&e, S("a"), S("de"), out, written, false);
+    return a;
+}
+
+static void *replace(void *a) {
+    result = resb_replace(&e, S("a"), S("de"), text, text_len, true);
+    return a;
+}
+
+static void *look(void *a) {
+    result = resb_look(&e, S("a"), S("de_DE_POSIX"), S(path), &f);
+    return a;
+}
+
+static void *copy(void *a) {
+    uint16_t units[1];
+    size_t len;
+    result = resb_text(&e, S("a"), S("de_DE_POSIX"), S(path), units, 1, &len);
+    return a;
+}
+
+static size_t used(void *(*call)(void *)) {
+    uint8_t *stack = aligned_alloc(4096, STACK);
+    memset(stack, 0xa5, STACK);
+    pthread_attr_t attributes;
+    pthread_t thread;
+    pthread_attr_init(&attributes);
+    EXPECT(pthread_attr_setstack(&attributes, stack, STACK) == 0 && pthread_create(&thread, &attributes, call, NULL) == 0);
+    pthread_join(thread, NULL);
+    size_t i = 0;
+    while (i < STACK && stack[i] == 0xa5)
+        i++;
+    free(stack);
+    return STACK - i;
+}
+
+static void measure(const char *name, void *(*call)(void *)) {
+    size_t bytes = used(call) - used(none);
+    printf("%s: %zu bytes\n", name, bytes);
+    EXPECT(result == RESB_OK && bytes <= LIMIT);
+}
+
+int main(void) {
+    uint8_t seed[16] = {0};
+    text = malloc(1 << 20);
+    out = malloc(FILE_ROOM);
+    EXPECT(resb_open(&e, seed, 16) == RESB_OK);
+    text_len = (size_t)sprintf((char *)text, "de");
+    for (int i = 0; i < 63; i++) {
+        text_len += (size_t)sprintf((char *)text + text_len, "{a");
+        strcat(path, i ? "/a" : "a");
+    }
+    text_len += (size_t)sprintf((char *)text + text_len, "{\"x\"}");
+    for (int i = 0; i < 63; i++)
+        text[text_len++] = '}';
+    measure("compile", compile);
+    measure("check", check);
+    measure("install", install);
+    measure("replace", replace);
+    measure("look", look);
+    measure("text", copy);
+    resb_close(&e);
+    free(text);
+    free(out);
+    return 0;
+}

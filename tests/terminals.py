@@ -1,0 +1,165 @@
+#!/usr/bin/env python3
+"""Runs commands on a pseudo-terminal and through pipes. On a terminal, U+007F to U+009F and the controls of the writing direction are
+escaped in JSON, and so is each control character in a name or an argument; all else is as in a pipe, where names and the text of items
+are printed as they are. `json` escapes in both.
+
+usage: terminals.py PROGRAM
+Ends with status 1 if an output differs, and says `skipped` if there is no such program, or no terminal.
+"""
+import os
+import pty
+import subprocess
+import sys
+import tempfile
+import termios
+import threading
+
+CONTROLS = [*range(0x7F, 0xA0), *range(0x202A, 0x202F), *range(0x2066, 0x206A)]
+OTHERS = [0x7E, 0xA0, 0xAD, 0x200B, 0x200E, 0x2029, 0x202F, 0x2065, 0x206A, 0x1F600]
+TEXT = "".join(f"a{chr(code)}" for code in [*CONTROLS, *OTHERS])
+# a sequence that clears the screen, a line feed, C1's form of a sequence, and a control of the writing direction
+NAME = "n\x1b[2J\n\x07\x9b1mo\u202ep\u2066q"
+
+
+def spelled(text):
+    """The text with its controls as JSON escapes them."""
+    return "".join(f"\\u{ord(c):04x}" if ord(c) in CONTROLS else c for c in text)
+
+
+def shown(name):
+    """The name with its controls as a message shows them on a terminal."""
+    return "".join(f"\\u{{{ord(c):x}}}" if ord(c) in CONTROLS or ord(c) < 0x20 else c for c in name)
+
+
+def opened():
+    """A terminal that changes no byte: its two ends."""
+    master, slave = pty.openpty()
+    modes = termios.tcgetattr(slave)
+    modes[1] &= ~termios.OPOST
+    modes[3] &= ~termios.ECHO
+    termios.tcsetattr(slave, termios.TCSANOW, modes)
+    return master, slave
+
+
+def read_all(descriptor, into):
+    while True:
+        try:
+            data = os.read(descriptor, 65536)
+        except OSError:  # what a terminal answers once no program has it open
+            return
+        if not data:
+            return
+        into.append(data)
+
+
+class Terminals:
+    def __init__(self, program, folder):
+        self.program, self.folder, self.failed, self.count = program, folder, 0, 0
+
+    def run(self, words, source, on_terminal):
+        """Returns the status and what was printed to standard output and to standard error; those named are on a terminal."""
+        ends = [opened() if name in on_terminal else os.pipe() for name in ("out", "err")]
+        process = subprocess.Popen([self.program, *words], cwd=self.folder, stdin=subprocess.PIPE, stdout=ends[0][1], stderr=ends[1][1])
+        os.close(ends[0][1])
+        os.close(ends[1][1])
+        parts = [], []
+        readers = [threading.Thread(target=read_all, args=(end[0], part)) for end, part in zip(ends, parts)]
+        for reader in readers:
+            reader.start()
+        process.stdin.write(source)
+        process.stdin.close()
+        status = process.wait(60)
+        for reader, end in zip(readers, ends):
+            reader.join()
+            os.close(end[0])
+        return [status, *(b"".join(part).decode() for part in parts)]
+
+    def compare(self, name, found, wanted):
+        self.count += 1
+        if found != wanted:
+            self.failed += 1
+            print(f"{name}:\n  found  {found!r}\n  wanted {wanted!r}")
+
+    def command(self, words, source=b"", change=lambda text: text, named=(), has=None):
+        """`change` is what a terminal makes of standard output, and `named` are the names that messages have."""
+        def with_names(text):
+            for word in named:
+                text = text.replace(word, shown(word))
+            return text
+
+        plain = self.run(words, source, ())
+        what = " ".join(map(repr, words))
+        if has is not None:
+            self.compare(f"{what}: in a pipe", has in plain[1] + plain[2], True)
+        out = self.run(words, source, ("out",))
+        self.compare(f"{what}: standard output", out, [plain[0], with_names(change(plain[1])), plain[2]])
+        error = self.run(words, source, ("err",))
+        lines, wanted = error[2].split("\n"), with_names(plain[2]).split("\n")
+        self.compare(f"{what}: standard error", [*error[:2], len(lines)], [*plain[:2], len(wanted)])
+        for line, plain_line in zip(lines, wanted):  # an error ends with a hint
+            self.compare(f"{what}: a line of standard error", line[:len(plain_line)], plain_line)
+            self.compare(f"{what}: no control", shown(line), line)
+
+
+def write(folder, name, text):
+    with open(os.path.join(folder, name), "w", encoding="utf-8", newline="") as out:
+        out.write(text)
+
+
+def values(terminals):
+    """Commands that print what an item has."""
+    text = 'root{s{"%s"}l{"%s","x"}t{k{"%s"}}a:alias{"/LOCALE/s"}}' % (TEXT, TEXT, TEXT)
+    write(terminals.folder, "root.txt", text)
+    terminals.command(["compile", "root.txt", "root.res"])
+    for path in ("s", "l", "t", ""):
+        has = TEXT if path == "s" else None
+        terminals.command(["get", "root.res", path], change=spelled, has=has)
+        terminals.command(["look", "root", path, "root.res"], change=spelled, has=has)
+        terminals.command(["json", "root.res", path], has=spelled(TEXT))
+        terminals.command(["json", "--pretty", "root.res", path], has=spelled(TEXT))
+    terminals.command(["look", "root", "a", "root.txt"], change=spelled, has=TEXT)
+    terminals.command(["lines", "shop", "root.txt"], change=spelled, has=TEXT)
+    install = subprocess.run([terminals.program, "lines", "shop", "root.txt"], cwd=terminals.folder, capture_output=True, check=True).stdout
+    look = b'{"op":"look","app":"shop","locale":"root","path":"%s"}\n'
+    source = install + b"".join(look % path for path in (b"s", b"l", b"t", b"", b"none")) + b"\xc2\x9b\n"
+    terminals.command(["serve"], source, change=spelled, has=TEXT)
+
+
+def names(terminals):
+    """Messages with the name of a file, an argument or a key."""
+    name = NAME + ".res"
+    with open(os.path.join(terminals.folder, "root.res"), "rb") as good:
+        data = good.read()
+    for path, content in ((name, data), (NAME + "bad.res", data[:40])):
+        with open(os.path.join(terminals.folder, path), "wb") as out:
+            out.write(content)
+    write(terminals.folder, NAME + ".txt", 'root{a{"x"}')
+    terminals.command(["check", name, NAME + "bad.res", "missing" + NAME], named=[NAME], has=NAME)
+    for command in (["get", name, NAME], ["json", name, NAME], ["text", "missing" + NAME], ["compile", NAME + ".txt", "o.res"],
+                    ["compile", "root.txt", name + "/o"], ["lint", NAME + ".txt"], ["explain", NAME], ["look", NAME, "a", "root.res"],
+                    ["look", "root", "a", NAME + "=missing.res"], ["lines", NAME, "root.txt"], ["serve", "--apps", NAME],
+                    ["serve", "--data", NAME], [NAME], ["check", "--" + NAME]):
+        terminals.command(command, named=[NAME])
+
+
+def main():
+    program = os.path.abspath(sys.argv[1])
+    if not os.access(program, os.X_OK):
+        print(f"terminals: skipped, as {program} isn't built")
+        return 0
+    try:
+        for end in opened():
+            os.close(end)
+    except OSError as error:
+        print(f"terminals: skipped, as there is no terminal: {error}")
+        return 0
+    with tempfile.TemporaryDirectory() as folder:
+        terminals = Terminals(program, folder)
+        values(terminals)
+        names(terminals)
+    print(f"terminals: {terminals.count} comparisons, {terminals.failed} differ")
+    return int(terminals.failed > 0)
+
+
+if __name__ == "__main__":
+    sys.exit(main())
