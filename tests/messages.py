@@ -1,10 +1,10 @@
 #!/usr/bin/env python3
-"""Compares what `resb lint` accepts as messages with ICU's MessageFormat: 10,000 patterns, written by hand, joined at random and mutated, each
-of which libicui18n opens (`umsg_open`).
+"""Compares what `resb lint` accepts as messages with ICU's MessageFormat: 10,000 patterns, written by hand, joined at random and mutated. Each
+is opened by libicui18n (`umsg_open`), and by the class MessageFormat if PyICU (Debian's python3-icu) is installed.
 
 usage: messages.py PROGRAM [COUNT [SEED]]
-Prints how many are accepted and rejected, and each difference. Ends with status 0 if there are no differences but explained ones, which are counted,
-and with 1 otherwise; says `skipped` if there is no such program or no libicui18n.
+Prints how many are accepted and rejected, and each difference. Ends with status 0 if there are no differences except explained ones, which are
+counted, and with 1 otherwise; says `skipped` if there is no such program, or neither libicui18n nor PyICU.
 
 Each pattern comes after an argument with a type, so that lint takes it as a message: without one it says nothing of a string that may be something
 else. Lint parses the patterns and doesn't look into the styles of numbers; MessageFormat makes formatters of them. A style of numbers explains
@@ -19,6 +19,11 @@ import subprocess
 import sys
 import tempfile
 from collections import Counter
+
+try:
+    import icu as pyicu
+except ImportError:
+    pyicu = None
 
 COUNT, SEED, BEFORE = 10_000, 72, "{t, number}"
 # `umsg_open` alone refuses two types for one number; the class MessageFormat doesn't.
@@ -50,6 +55,8 @@ class ParseError(ctypes.Structure):
 class Libicu:
     """MessageFormat of the installed libicui18n, by its functions for C."""
 
+    name = "umsg_open"
+
     def __init__(self, path, version):
         library = ctypes.CDLL(path)
         common = ctypes.CDLL(path.replace("i18n", "uc"))
@@ -58,8 +65,8 @@ class Libicu:
         self.open.argtypes = [ctypes.c_char_p, ctypes.c_int32, ctypes.c_char_p, ctypes.POINTER(ParseError), ctypes.POINTER(ctypes.c_int)]
         self.close = getattr(library, f"umsg_close_{version}")
         self.close.argtypes = [ctypes.c_void_p]
-        self.name = getattr(common, f"u_errorName_{version}")
-        self.name.restype = ctypes.c_char_p
+        self.error_name = getattr(common, f"u_errorName_{version}")
+        self.error_name.restype = ctypes.c_char_p
 
     def error(self, pattern):
         """Returns the name of the error of a pattern, or None if it is accepted."""
@@ -68,7 +75,7 @@ class Libicu:
         opened = self.open(data + b"\0\0", len(data) // 2, b"en", ctypes.byref(place), ctypes.byref(status))
         if opened:
             self.close(opened)
-        return self.name(status.value).decode() if status.value > 0 else None
+        return self.error_name(status.value).decode() if status.value > 0 else None
 
 
 def libicu():
@@ -76,6 +83,26 @@ def libicu():
     name = ctypes.util.find_library("icui18n")
     version = re.search(r"\.so\.(\d+)", name or "")
     return Libicu(name, version[1]) if version else None
+
+
+class PyIcu:
+    """The class MessageFormat of libicui18n, by PyICU."""
+
+    name = "PyICU"
+
+    def error(self, pattern):
+        """Returns the error of a pattern, or None if it is accepted."""
+        try:
+            pyicu.MessageFormat(pattern, pyicu.Locale("en"))
+        except pyicu.ICUError as error:
+            return f"error {error.args[0]}"
+        return None
+
+
+def installed():
+    """Returns the ways to open a pattern that are installed."""
+    found = libicu()
+    return ([found] if found else []) + ([PyIcu()] if pyicu else [])
 
 
 def mutated(dice, pattern):
@@ -106,6 +133,25 @@ def explanation(icu, pattern, error):
     return "the style of a number" if is_style else None
 
 
+def compare(icu, made, ours):
+    """Prints how lint's rejections differ from one of ICU's. Returns whether none is unexplained."""
+    explained, differences = Counter(), []
+    for at, pattern in enumerate(made):
+        error = icu.error(pattern)
+        if (at in ours) == (error is not None):
+            continue
+        reason = None if at in ours else explanation(icu, pattern, error)
+        if reason:
+            explained[reason] += 1
+        else:
+            differences.append(f"{'rejected' if at in ours else 'accepted'}, and {icu.name} says {error}: {pattern!r}")
+    print(f"{icu.name}: {len(differences)} unexplained differences")
+    for reason, count in sorted(explained.items()):
+        print(f"explained: {count} by {reason}")
+    print("".join(f"{line}\n" for line in differences[:20]), end="")
+    return not differences
+
+
 def escaped(pattern):
     """Returns a pattern as a quoted text of a bundle."""
     units = pattern.encode("utf-16-le", "surrogatepass")
@@ -133,26 +179,14 @@ def main():
     if not 1 <= len(words) <= 3:
         print(__doc__, file=sys.stderr)
         return 2
-    program, icu = os.path.abspath(words[0]), libicu()
-    if icu is None or not os.access(program, os.X_OK):
-        print(f"messages: skipped, without {'libicui18n' if icu is None else program}")
+    program, found = os.path.abspath(words[0]), installed()
+    if not found or not os.access(program, os.X_OK):
+        print(f"messages: skipped, without {program if found else 'libicui18n'}")
         return 0
     made = patterns(int(words[1]) if words[1:] else COUNT, int(words[2]) if words[2:] else SEED)
-    ours, explained, differences = rejected(program, made), Counter(), []
-    errors = [icu.error(pattern) for pattern in made]
-    for at, (pattern, error) in enumerate(zip(made, errors)):
-        if (at in ours) == (error is not None):
-            continue
-        reason = None if at in ours else explanation(icu, pattern, error)
-        if reason:
-            explained[reason] += 1
-        else:
-            differences.append(f"{'rejected' if at in ours else 'accepted'}, and libicu says {error}: {pattern!r}")
-    print(f"messages: {len(made)} patterns, {len(made) - len(ours)} accepted, {len(ours)} rejected, {len(differences)} unexplained differences")
-    for reason, count in sorted(explained.items()):
-        print(f"explained: {count} by {reason}")
-    print("".join(f"{line}\n" for line in differences[:20]), end="")
-    return 1 if differences else 0
+    ours = rejected(program, made)
+    print(f"messages: {len(made)} patterns, {len(made) - len(ours)} accepted, {len(ours)} rejected")
+    return 0 if all([compare(icu, made, ours) for icu in found]) else 1
 
 
 if __name__ == "__main__":
