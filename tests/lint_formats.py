@@ -1,6 +1,6 @@
 #!/usr/bin/env python3
-"""Compares the formats of `resb lint`: text, JSON, GitHub's workflow commands and SARIF report the same findings for some texts, SARIF has the fields that
-its schema requires (version 2.1.0), and columns count UTF-16 units as its "columnKind" says.
+"""Compares the formats of `resb lint`: text, JSON, GitHub's workflow commands and SARIF report the same findings for some texts, each object of SARIF has
+the properties that its schema requires and only such as it names (version 2.1.0), and columns count UTF-16 units as its "columnKind" says.
 
 usage: lint_formats.py PROGRAM
 Ends with status 0 if all agree, with 1 if something differs; says `skipped` if there is no such program.
@@ -20,8 +20,24 @@ TEXTS = {
     "many.txt": 'many { a { "' + "\\q" * 120 + '" } }',
 }
 LEVELS = {"none", "note", "warning", "error"}
-# The required properties of the objects that resb writes, by the published JSON schema of SARIF 2.1.0.
-REQUIRED = {"log": {"version", "runs"}, "run": {"tool"}, "tool": {"driver"}, "driver": {"name"}, "rule": {"id"}, "result": {"message"}}
+# The properties of the objects that resb writes, by the published JSON schema of SARIF 2.1.0: the required ones, and others of those that
+# it names. It refuses all other names. A message needs a text or an id, and a physical location an artifact location or an address.
+PROPERTIES = {
+    "log": ({"version", "runs"}, {"$schema"}),
+    "run": ({"tool"}, {"columnKind", "results"}),
+    "tool": ({"driver"}, set()),
+    "driver": ({"name"}, {"rules"}),
+    "rule": ({"id"}, {"shortDescription"}),
+    "shortDescription": ({"text"}, set()),
+    "result": ({"message"}, {"level", "locations", "ruleId"}),
+    "message": ({"text"}, set()),
+    "location": (set(), {"physicalLocation"}),
+    "physicalLocation": ({"artifactLocation"}, {"region"}),
+    "artifactLocation": (set(), {"uri"}),
+    "region": (set(), {"startColumn", "startLine"}),
+}
+# The characters of a reference of a URI; `%` is followed by two digits.
+URI = re.compile(r"(?:[\w.~!$&'()*+,;=:@/?#-]|%[0-9A-F]{2})*", re.ASCII)
 
 
 def lint(program, folder, form):
@@ -61,10 +77,31 @@ def of_github(output):
 
 
 def require(kind, given):
-    missing = REQUIRED[kind] - given.keys()
-    if missing:
-        raise SystemExit(f"SARIF: {kind} lacks {missing}")
+    """Returns an object of SARIF, if it has the properties that it needs and no unknown ones."""
+    required, others = PROPERTIES[kind]
+    if not isinstance(given, dict) or not required <= given.keys() <= required | others:
+        raise SystemExit(f"SARIF: a {kind} has {given}")
     return given
+
+
+def rules_of(run):
+    """Returns the names of the rules of a run of SARIF."""
+    rules = require("driver", require("tool", run["tool"])["driver"])["rules"]
+    for rule in rules:
+        require("shortDescription", require("rule", rule)["shortDescription"])
+    names = {rule["id"] for rule in rules}
+    if len(names) != len(rules):
+        raise SystemExit("SARIF: a rule twice")
+    return names
+
+
+def place_of(result):
+    """Returns the file, the line and the column of a result of SARIF."""
+    place = require("physicalLocation", require("location", result["locations"][0])["physicalLocation"])
+    region, uri = require("region", place.get("region", {})), require("artifactLocation", place["artifactLocation"])["uri"]
+    if any(not isinstance(number, int) or number < 1 for number in region.values()) or not URI.fullmatch(uri):
+        raise SystemExit(f"SARIF: {place}")
+    return urllib.parse.unquote(uri, errors="strict"), region.get("startLine"), region.get("startColumn")
 
 
 def of_sarif(output):
@@ -74,15 +111,12 @@ def of_sarif(output):
     run = require("run", log["runs"][0])
     if run["columnKind"] != "utf16CodeUnits":
         raise SystemExit("SARIF: columnKind")
-    rules = {require("rule", rule)["id"] for rule in require("driver", require("tool", run["tool"])["driver"])["rules"]}
+    rules = rules_of(run)
     for result in run["results"]:
         require("result", result)
-        place = result["locations"][0]["physicalLocation"]
-        region = place.get("region", {})
         if result["level"] not in LEVELS or result["level"] == "warning" and result["ruleId"] not in rules:
             raise SystemExit(f"SARIF: {result}")
-        file = urllib.parse.unquote(place["artifactLocation"]["uri"], errors="strict")
-        yield file, region.get("startLine"), region.get("startColumn"), result["level"], result["message"]["text"]
+        yield *place_of(result), result["level"], require("message", result["message"])["text"]
 
 
 def columns(found):
