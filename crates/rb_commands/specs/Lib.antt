@@ -1,4 +1,6 @@
 pub mod Got
+pub mod Looking
+pub mod Starting
 pub mod Status
 pub mod Whole
 pub mod Words

@@ -2,7 +2,7 @@
 -- memory runs out; 2 if an argument names no bundle, a file can't be read, standard output can't be written, or there is
 -- no random state. Not said here: serving that ends early is 1, whatever the cause, and a file that can't be written
 -- is 2.
-use Rattle.std.specs.Prelude.{ℕ, Result, Ok, Err}
+use Rattle.std.specs.Prelude.{ℕ, ◌==◌, if◌then◌else◌, Result, Ok, Err}
 use Rattle.std.specs.declared.io.ErrorKind.{ErrorKind}
 use Rattle.std.specs.declared.io.ErrorKind.TheVariants.{OutOfMemory}
 use Rattle.rb_commands.specs.declared.error.StartError.{StartError}
@@ -30,3 +30,7 @@ refused_status = 1
 abbrev pub printed_status : {T E : Type 0} → Result T E → ℕ
 printed_status (Ok done) = 0
 printed_status (Err error) = 2
+
+-- the status of files after one more: that of the file, unless it is 0
+abbrev pub later_status : ℕ → ℕ → ℕ
+later_status before one = if one == 0 then before else one

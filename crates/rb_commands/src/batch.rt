@@ -1,12 +1,20 @@
 //! `resb compile --to` and `resb check` of many files.
+ghost use Rattle.std.specs.Prelude.{◌≡◌, IfErr};
+ghost use Rattle.std.specs.Process.{exit_status};
+ghost use Rattle.rb_commands.specs.Status.{later_status};
+ghost use Rattle.rb_commands.specs.inner.Each.{AreRun};
+
 use crate::commands::{accepted, chosen_output, compile_read};
 use crate::console::Console;
+use crate::error::{CommandError, finish};
 use crate::files::{printed, read_file, refused_on};
 use crate::given::stem;
 use crate::output::{are_same_file, id_of};
 use crate::progress::Progress;
+use rb_validator::Bundle;
 use std::alloc::{AllocError, Global};
 use std::collections::{BTreeMap, BTreeSet};
+use std::io::ErrorKind;
 use std::process::ExitCode;
 use std::random::RandomSource;
 use std::rt::{Clock, Files};
@@ -60,18 +68,43 @@ fn output_in(alloc: Global, folder: &str, text: &str) -> Result<String, AllocErr
     }
 }
 
-/// Compiles the bundle text `text` to the file `output`, and returns the file's length. If it
-/// can't, reports the error and returns the status.
-fn compile_file<R: Files + RandomSource + AllocGlobal + Eprint>(
+/// Compiles the bundle text `text` to the file `output`, and returns the file's length.
+fn compile_file<'a, R: Files + RandomSource + AllocGlobal>(
+    rt: &R,
+    inputs: &Inputs,
+    text: &'a str,
+    output: &'a str,
+) -> Result<usize, CommandError<'a>> {
+    let is_input = inputs.has(rt, output) || are_same_file(rt, text, output);
+    let chosen = chosen_output(rt, output, is_input)?;
+    compile_read(rt, text, read_file(rt, text), output, &chosen)
+}
+
+/// Reports an error of one file of many.
+fn failed<R: Eprint>(rt: &R, console: Console, error: CommandError<'_>) -> ExitCode
+    ensures { exit_status result ≡ 1 }
+{
+    let _ = finish(rt, console, error);
+    ExitCode::from(1)
+}
+
+/// Prints the length of a file that was written, and returns the status of its text: 1 if there is
+/// none.
+fn written<R: Print + Eprint>(
     rt: &R,
     console: Console,
-    inputs: &Inputs,
-    text: &str,
     output: &str,
-) -> Result<usize, ExitCode> {
-    let is_input = inputs.has(rt, output) || are_same_file(rt, text, output);
-    let chosen = chosen_output(rt, console, output, is_input)?;
-    compile_read(rt, console, text, read_file(rt, text), output, &chosen)
+    count: Result<usize, CommandError<'_>>,
+) -> ExitCode
+    ensures refused { IfErr count.entry (λ error. exit_status result ≡ 1) }
+{
+    let count = match count {
+        Ok(_) if console.is_quiet => return ExitCode::SUCCESS,
+        Ok(count) => count,
+        Err(error) => return failed(rt, console, error),
+    };
+    let output = console.on_stdout(output);
+    printed(rt, println!(rt; "{output}: wrote {count} bytes"))
 }
 
 /// Compiles one text of many.
@@ -83,27 +116,44 @@ fn compile_one<R: Files + RandomSource + AllocGlobal + Print + Eprint>(
     text: &str,
 ) -> ExitCode {
     let Ok(output) = output_in(rt.alloc(), folder, text) else {
-        let hint = console.hint("Memory");
-        let _ = eprintln!(rt; "{}:0: Memory{hint}", console.on_stderr(text));
-        return ExitCode::from(1);
+        let error = CommandError::Unread(text, ":0", ErrorKind::OutOfMemory);
+        return failed(rt, console, error);
     };
-    match compile_file(rt, console, inputs, text, output.as_str()) {
-        Err(_) => ExitCode::from(1),
-        Ok(_) if console.is_quiet => ExitCode::SUCCESS,
-        Ok(count) => {
-            let output = console.on_stdout(output.as_str());
-            printed(rt, println!(rt; "{output}: wrote {count} bytes"))
-        }
-    }
+    let count = compile_file(rt, inputs, text, output.as_str());
+    written(rt, console, output.as_str(), count)
 }
 
 /// Combines the statuses of files: the last one that isn't 0.
-fn after(status: ExitCode, one: ExitCode) -> ExitCode {
+fn after(status: ExitCode, one: ExitCode) -> ExitCode
+    ensures { exit_status result ≡ later_status (exit_status status) (exit_status one) }
+{
     if one == ExitCode::SUCCESS {
         status
     } else {
         one
     }
+}
+
+/// Runs a command on each file in order, until a status is 2, and reports the progress. Returns the
+/// last status that isn't 0.
+fn each<R: Clock + Eprint, F>(rt: &R, console: Console, names: &[&str], run: F) -> ExitCode
+where
+    F: Fn(&str) -> ExitCode,
+    requires { F.IsAlwaysCallable run }
+    ensures { AreRun (λ name one. F.post run name one) names.now 0 (exit_status result) }
+{
+    let mut progress = Progress::new(rt, console, names.len());
+    let mut status = ExitCode::SUCCESS;
+    for name in names {
+        progress.clear();
+        status = after(status, run(name));
+        if status == ExitCode::from(2) {
+            return status;
+        }
+        progress.step();
+    }
+    progress.clear();
+    status
 }
 
 /// Refuses a folder without a name, and two texts with one stem.
@@ -151,28 +201,25 @@ pub fn compile_all<R: Files + RandomSource + Clock + AllocGlobal + Print + Eprin
     let Ok(inputs) = Inputs::of(rt, texts) else {
         return refused_on(rt, console, folder, "Memory");
     };
-    let mut progress = Progress::new(rt, console, texts.len());
-    let mut status = ExitCode::SUCCESS;
-    for text in texts {
-        progress.clear();
-        status = after(status, compile_one(rt, console, &inputs, folder, text));
-        if status == ExitCode::from(2) {
-            return status;
-        }
-        progress.step();
-    }
-    progress.clear();
-    status
+    each(
+        rt,
+        console,
+        texts,
+        |text| compile_one(rt, console, &inputs, folder, text),
+    )
 }
 
-/// Checks one file of many.
-fn check_one<R: Files + AllocGlobal + Print + Eprint>(
+/// Prints that a file is accepted, and returns its status: 1 if it isn't.
+fn checked<R: Print + Eprint>(
     rt: &R,
     console: Console,
     name: &str,
-) -> ExitCode {
-    match accepted(rt, console, name) {
-        Err(_) => ExitCode::from(1),
+    accepted: Result<Bundle, CommandError<'_>>,
+) -> ExitCode
+    ensures refused { IfErr accepted.entry (λ error. exit_status result ≡ 1) }
+{
+    match accepted {
+        Err(error) => failed(rt, console, error),
         Ok(_) if console.is_quiet => ExitCode::SUCCESS,
         Ok(bundle) => {
             let (name, visits) = (console.on_stdout(name), bundle.visits());
@@ -188,16 +235,10 @@ pub fn check_all<R: Files + Clock + AllocGlobal + Print + Eprint>(
     console: Console,
     names: &[&str],
 ) -> ExitCode {
-    let mut progress = Progress::new(rt, console, names.len());
-    let mut status = ExitCode::SUCCESS;
-    for name in names {
-        progress.clear();
-        status = after(status, check_one(rt, console, name));
-        if status == ExitCode::from(2) {
-            return status;
-        }
-        progress.step();
-    }
-    progress.clear();
-    status
+    each(
+        rt,
+        console,
+        names,
+        |name| checked(rt, console, name, accepted(rt, name)),
+    )
 }

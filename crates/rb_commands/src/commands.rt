@@ -1,12 +1,14 @@
 //! `resb compile`, `resb check` and `resb get`.
 use crate::console::Console;
-use crate::files::{cannot_read_on, printed, read_file, refused_on};
+use crate::error::{CommandError, finish};
+use crate::files::{printed, read_file, refused_on};
 use crate::item::put_at;
 use crate::output::{Decision, Output, are_same_file, output_of, write_output};
 use crate::printing::Printing;
 use rb_format::FILE_LIMIT;
 use rb_validator::{Bundle, accept};
 use rb_views::root;
+use std::alloc::Global;
 use std::io;
 use std::io::{BufWriter, Read};
 use std::process::ExitCode;
@@ -16,61 +18,49 @@ use std::rt::Files;
 /// The name under which the metadata of standard input are read.
 const STANDARD_INPUT: &str = "/dev/stdin";
 
-/// Compiles a text that was read from `input`. If it can't, reports the error and returns the
-/// status.
-fn file_of<R: AllocGlobal + Eprint>(
-    rt: &R,
-    console: Console,
-    input: &str,
+/// Compiles a text that was read from `input`.
+fn file_of<'a>(
+    alloc: Global,
+    input: &'a str,
     text: io::Result<Vec<u8>>,
-) -> Result<Vec<u8>, ExitCode> {
+) -> Result<Vec<u8>, CommandError<'a>> {
     let text = match text {
         Ok(text) => text,
-        Err(error) => return Err(cannot_read_on(rt, console, input, ":0", error)),
+        Err(error) => return Err(CommandError::Unread(input, ":0", error.kind())),
     };
-    match rb_engine::compile(rt.alloc(), &text) {
+    match rb_engine::compile(alloc, &text) {
         Ok(file) => Ok(file),
-        Err(fault) => {
-            let word = fault.kind.word();
-            let (place, line, hint) = (console.on_stderr(input), fault.line, console.hint(word));
-            let _ = eprintln!(rt; "{place}:{line}: {word}{hint}");
-            Err(ExitCode::from(1))
-        }
+        Err(fault) => Err(CommandError::TextRefused(input, fault)),
     }
 }
 
-/// Decides how the file `output` is written. If it is a bundle text or one of the texts that are
-/// read (`is_input`), reports that and returns the status.
-pub(crate) fn chosen_output<R: Files + AllocGlobal + Eprint>(
+/// Decides how the file `output` is written. Refuses a bundle text, and one of the texts that are
+/// read (`is_input`).
+pub(crate) fn chosen_output<'a, R: Files + AllocGlobal>(
     rt: &R,
-    console: Console,
-    output: &str,
+    output: &'a str,
     is_input: bool,
-) -> Result<Output, ExitCode> {
+) -> Result<Output, CommandError<'a>> {
     let chosen = output_of(rt, output, is_input);
-    let refusal = match chosen.decision {
-        Decision::RefuseText => "OUT is a bundle text",
-        Decision::RefuseInput => "OUT is IN",
-        _ => return Ok(chosen),
-    };
-    let _ = eprintln!(rt; "resb: {refusal}: {}", console.on_stderr(output));
-    Err(ExitCode::from(2))
+    match chosen.decision {
+        Decision::RefuseText => Err(CommandError::BadOutput("OUT is a bundle text", output)),
+        Decision::RefuseInput => Err(CommandError::BadOutput("OUT is IN", output)),
+        _ => Ok(chosen),
+    }
 }
 
 /// Compiles the bundle text `input`, which was read, to the file `output`, as `chosen` says, and
-/// returns the file's length. If it can't, reports the error and returns the status.
-pub(crate) fn compile_read<R: Files + RandomSource + AllocGlobal + Eprint>(
+/// returns the file's length.
+pub(crate) fn compile_read<'a, R: Files + RandomSource + AllocGlobal>(
     rt: &R,
-    console: Console,
-    input: &str,
+    input: &'a str,
     text: io::Result<Vec<u8>>,
-    output: &str,
+    output: &'a str,
     chosen: &Output,
-) -> Result<usize, ExitCode> {
-    let file = file_of(rt, console, input, text)?;
+) -> Result<usize, CommandError<'a>> {
+    let file = file_of(rt.alloc(), input, text)?;
     if write_output(rt, chosen, &file).is_err() {
-        let _ = eprintln!(rt; "cannot write {}", console.on_stderr(output));
-        return Err(ExitCode::from(2));
+        return Err(CommandError::Unwritten(output));
     }
     Ok(file.len())
 }
@@ -82,9 +72,9 @@ fn print_compiled<R: AllocGlobal + Print + Eprint>(
     input: &str,
     text: io::Result<Vec<u8>>,
 ) -> ExitCode {
-    match file_of(rt, console, input, text) {
+    match file_of(rt.alloc(), input, text) {
         Ok(file) => printed(rt, rt.write_all(&file)),
-        Err(status) => status,
+        Err(error) => finish(rt, console, error),
     }
 }
 
@@ -101,10 +91,10 @@ fn compile_chosen<R: Files + RandomSource + AllocGlobal + Print + Eprint>(
     if chosen.decision == Decision::Print {
         return print_compiled(rt, console, input, text);
     }
-    match compile_read(rt, console, input, text, output, chosen) {
+    match compile_read(rt, input, text, output, chosen) {
         Ok(_) if console.is_quiet => ExitCode::SUCCESS,
         Ok(count) => printed(rt, println!(rt; "wrote {count} bytes")),
-        Err(status) => status,
+        Err(error) => finish(rt, console, error),
     }
 }
 
@@ -122,9 +112,9 @@ pub fn compile<R: Files + RandomSource + AllocGlobal + Print + Eprint>(
     output: &str,
 ) -> ExitCode {
     let console = Console::plain();
-    match chosen_output(rt, console, output, are_same_file(rt, input, output)) {
+    match chosen_output(rt, output, are_same_file(rt, input, output)) {
         Ok(chosen) => compile_chosen(rt, console, input, read_file(rt, input), output, &chosen),
-        Err(status) => status,
+        Err(error) => finish(rt, console, error),
     }
 }
 
@@ -161,25 +151,24 @@ pub fn compile_on<R: Files + RandomSource + Input + AllocGlobal + Print + Eprint
         return print_compiled(rt, console, input, read_text(rt, input));
     }
     let source = if input == "-" { STANDARD_INPUT } else { input };
-    match chosen_output(rt, console, output, are_same_file(rt, source, output)) {
+    match chosen_output(rt, output, are_same_file(rt, source, output)) {
         Ok(chosen) => compile_chosen(rt, console, input, read_text(rt, input), output, &chosen),
-        Err(status) => status,
+        Err(error) => finish(rt, console, error),
     }
 }
 
-/// Reads the bundle in the file `name`. If it can't, reports the error and returns the status.
-pub(crate) fn accepted<R: Files + AllocGlobal + Eprint>(
+/// Reads the bundle in the file `name`.
+pub(crate) fn accepted<'a, R: Files + AllocGlobal>(
     rt: &R,
-    console: Console,
-    name: &str,
-) -> Result<Bundle, ExitCode> {
+    name: &'a str,
+) -> Result<Bundle, CommandError<'a>> {
     let bytes = match read_file(rt, name) {
         Ok(bytes) => bytes,
-        Err(error) => return Err(cannot_read_on(rt, console, name, "", error)),
+        Err(error) => return Err(CommandError::Unread(name, "", error.kind())),
     };
     match accept(rt.alloc(), bytes) {
         Ok(bundle) => Ok(bundle),
-        Err((fault, _)) => Err(refused_on(rt, console, name, fault.word())),
+        Err((fault, _)) => Err(CommandError::Refused(name, fault.word())),
     }
 }
 
@@ -196,13 +185,13 @@ pub fn check_on<R: Files + AllocGlobal + Print + Eprint>(
     console: Console,
     name: &str,
 ) -> ExitCode {
-    match accepted(rt, console, name) {
+    match accepted(rt, name) {
         Ok(_) if console.is_quiet => ExitCode::SUCCESS,
         Ok(bundle) => {
             let visits = bundle.visits();
             printed(rt, println!(rt; "ok, {visits} visits"))
         }
-        Err(status) => status,
+        Err(error) => finish(rt, console, error),
     }
 }
 
@@ -221,9 +210,9 @@ pub fn get_on<R: Files + AllocGlobal + Print + Eprint>(
     name: &str,
     path: &str,
 ) -> ExitCode {
-    let bundle = match accepted(rt, console, name) {
+    let bundle = match accepted(rt, name) {
         Ok(bundle) => bundle,
-        Err(status) => return status,
+        Err(error) => return finish(rt, console, error),
     };
     let Ok(writer) = BufWriter::new(rt.alloc(), io::writer(rt)) else {
         return refused_on(rt, console, name, "Memory");

@@ -1,43 +1,49 @@
 //! Reads the files of bundles, and transforms each.
-use crate::console::Console;
-use crate::error::{StartError, not_started_on};
+use crate::error::{CommandError, StartError};
 use crate::given::{Given, read_given};
 use rb_lexer::SourceFault;
-use std::process::ExitCode;
 use std::rt::Files;
+
+/// The reason why a file's contents are refused.
+#[derive(Clone, Copy, Debug)]
+pub(crate) enum Refusal {
+    /// A bundle text is refused, at a line.
+    Text(SourceFault),
+    /// A file is too long for any server.
+    TooLong,
+}
+
+impl Refusal {
+    /// Returns the error of a file.
+    fn of(self, file: &str) -> CommandError<'_> {
+        match self {
+            Refusal::Text(fault) => CommandError::TextRefused(file, fault),
+            Refusal::TooLong => CommandError::Refused(file, "TooLong"),
+        }
+    }
+}
 
 /// Applies `make` to each bundle's file, by its name and its bytes, in order. A file is read when
 /// those before it are done.
-pub(crate) fn made_of_each<R: Files + AllocGlobal + Eprint, F>(
+pub(crate) fn made_of_each<'a, R: Files + AllocGlobal, F>(
     rt: &R,
-    console: Console,
-    bundles: &[Given<'_>],
+    bundles: &[Given<'a>],
     make: F,
-) -> Result<Vec<Vec<u8>>, ExitCode>
+) -> Result<Vec<Vec<u8>>, CommandError<'a>>
 where
-    F: Fn(&str, Vec<u8>) -> Result<Vec<u8>, ExitCode>,
+    F: Fn(&str, Vec<u8>) -> Result<Vec<u8>, Refusal>,
     requires { F.IsAlwaysCallable make }
 {
     let mut made = Vec::new(rt.alloc());
     for bundle in bundles {
-        let bytes = read_given(rt, console, bundle.file)?;
-        let content = make(bundle.file, bytes)?;
+        let bytes = read_given(rt, bundle.file)?;
+        let content = match make(bundle.file, bytes) {
+            Ok(content) => content,
+            Err(refusal) => return Err(refusal.of(bundle.file)),
+        };
         if made.push(content).is_err() {
-            return Err(not_started_on(rt, console, StartError::Memory));
+            return Err(CommandError::NotStarted(StartError::Memory));
         }
     }
     Ok(made)
-}
-
-/// Reports the line at which a bundle text is refused, and the error.
-pub(crate) fn text_refused<R: Eprint>(
-    rt: &R,
-    console: Console,
-    file: &str,
-    fault: SourceFault,
-) -> ExitCode {
-    let word = fault.kind.word();
-    let (file, line, hint) = (console.on_stderr(file), fault.line, console.hint(word));
-    let _ = eprintln!(rt; "{file}:{line}: {word}{hint}");
-    ExitCode::from(1)
 }

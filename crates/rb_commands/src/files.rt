@@ -24,6 +24,25 @@ pub fn read_file<R: Files + AllocGlobal>(rt: &R, name: &str) -> io::Result<Vec<u
     Ok(bytes)
 }
 
+/// Reports that a file could not be read, as `cannot_read_on` does, by the cause.
+pub(crate) fn not_read<R: Eprint>(
+    rt: &R,
+    console: Console,
+    name: &str,
+    line: &str,
+    kind: ErrorKind,
+) -> ExitCode
+    ensures status { exit_status result ≡ unread_status kind }
+{
+    if kind == ErrorKind::OutOfMemory {
+        let (name, hint) = (console.on_stderr(name), console.hint("Memory"));
+        let _ = eprintln!(rt; "{name}{line}: Memory{hint}");
+        return ExitCode::from(1);
+    }
+    let _ = eprintln!(rt; "cannot read {}", console.on_stderr(name));
+    ExitCode::from(2)
+}
+
 /// Reports that a file could not be read: out of memory, which is printed after the name and
 /// `line`, or another cause. `line` is `:0` for a text, whose errors have a line, otherwise empty.
 pub fn cannot_read_on<R: Eprint>(
@@ -35,13 +54,7 @@ pub fn cannot_read_on<R: Eprint>(
 ) -> ExitCode
     ensures status { exit_status result ≡ unread_status (error_kind error) }
 {
-    if error.kind() == ErrorKind::OutOfMemory {
-        let (name, hint) = (console.on_stderr(name), console.hint("Memory"));
-        let _ = eprintln!(rt; "{name}{line}: Memory{hint}");
-        return ExitCode::from(1);
-    }
-    let _ = eprintln!(rt; "cannot read {}", console.on_stderr(name));
-    ExitCode::from(2)
+    not_read(rt, console, name, line, error.kind())
 }
 
 /// Reports that a file or a path is refused, by the error's name.

@@ -1,10 +1,8 @@
 //! Reads the bundles that the arguments of a command name.
-use crate::console::Console;
-use crate::error::StartError;
-use crate::files::{cannot_read_on, read_file};
+use crate::error::{CommandError, StartError};
+use crate::files::read_file;
 use rb_locales::Name;
 use std::alloc::Global;
-use std::process::ExitCode;
 use std::rt::Files;
 
 /// The form in which an argument names a bundle.
@@ -71,16 +69,14 @@ pub fn is_text(file: &str) -> bool {
     file.ends_with(".txt")
 }
 
-/// Reads a file as `read_file` does. If it can't, reports the error (out of memory at line 0 of a
-/// text) and returns the status.
-pub fn read_given<R: Files + AllocGlobal + Eprint>(
+/// Reads a file as `read_file` does. Out of memory is at line 0 of a text.
+pub(crate) fn read_given<'a, R: Files + AllocGlobal>(
     rt: &R,
-    console: Console,
-    file: &str,
-) -> Result<Vec<u8>, ExitCode> {
+    file: &'a str,
+) -> Result<Vec<u8>, CommandError<'a>> {
     let line = if is_text(file) { ":0" } else { "" };
     match read_file(rt, file) {
         Ok(bytes) => Ok(bytes),
-        Err(error) => Err(cannot_read_on(rt, console, file, line, error)),
+        Err(error) => Err(CommandError::Unread(file, line, error.kind())),
     }
 }

@@ -1,8 +1,14 @@
 //! `resb look`: one lookup over files.
+ghost use Rattle.std.specs.Prelude.{◌≡◌, IfOk, true};
+ghost use Rattle.std.specs.Process.{exit_status};
+ghost use Rattle.rb_engine.specs.Kept.{state_of};
+ghost use Rattle.rb_replies.specs.Replied.{reply_line};
+ghost use Rattle.rb_commands.specs.Looking.{IsFoundWith, is_found, look_status, looked_up};
+
 use crate::console::Console;
-use crate::contents::{made_of_each, text_refused};
-use crate::error::{StartError, not_started_on};
-use crate::files::{printed, refused_on};
+use crate::contents::{Refusal, made_of_each};
+use crate::error::{CommandError, StartError, ended, finish, not_started_on};
+use crate::files::printed;
 use crate::given::{Form, Given, all_given, is_text};
 use crate::printing::Printing;
 use crate::start::parents_of;
@@ -10,6 +16,7 @@ use crate::trace::{Trace, file_named};
 use rb_engine::{App, Engine, Payload, Reply, Request, compile};
 use rb_explain::Of;
 use rb_fallback::look_watched;
+use rb_json::Outlet;
 use rb_locales::Name;
 use rb_packages::Packages;
 use rb_parents::Parents;
@@ -39,18 +46,13 @@ pub struct Lookup<'a> {
 }
 
 /// Returns the file of a bundle, compiled if it is a text.
-fn file_of<R: AllocGlobal + Eprint>(
-    rt: &R,
-    console: Console,
-    name: &str,
-    bytes: Vec<u8>,
-) -> Result<Vec<u8>, ExitCode> {
+fn file_of(alloc: Global, name: &str, bytes: Vec<u8>) -> Result<Vec<u8>, Refusal> {
     if !is_text(name) {
         return Ok(bytes);
     }
-    match compile(rt.alloc(), &bytes) {
+    match compile(alloc, &bytes) {
         Ok(file) => Ok(file),
-        Err(fault) => Err(text_refused(rt, console, name, fault)),
+        Err(fault) => Err(Refusal::Text(fault)),
     }
 }
 
@@ -63,27 +65,66 @@ fn request(alloc: Global, name: &Name, file: &[u8]) -> Result<Request, AllocErro
     })
 }
 
-/// Installs the files. Reports the first that is refused: `Twice` if its locale was given before.
-fn install_all<R: AllocGlobal + Eprint>(
-    rt: &R,
-    console: Console,
+/// Installs a file.
+#[tactic(auto, using(crate::proofs::Looking::step_start))]
+fn install<'a>(
+    alloc: Global,
     engine: &mut Engine,
-    bundles: &[Given<'_>],
+    bundle: &Given<'a>,
+    file: &[u8],
+) -> Result<(), CommandError<'a>>
+    ensures start { (state_of engine.new).start ≡ (state_of engine.old).start }
+{
+    let Ok(request) = request(alloc, &bundle.name, file) else {
+        return Err(CommandError::NotStarted(StartError::Memory));
+    };
+    match engine.handle(alloc, request) {
+        Reply::Done => Ok(()),
+        Reply::Memory => Err(CommandError::NotStarted(StartError::Memory)),
+        Reply::Exists => Err(CommandError::Refused(bundle.file, "Twice")),
+        reply => Err(CommandError::Refused(bundle.file, reply.word())),
+    }
+}
+
+/// Installs the files. Returns the error of the first that is refused: `Twice` if its locale was
+/// given before.
+fn install_all<'a>(
+    alloc: Global,
+    engine: &mut Engine,
+    bundles: &[Given<'a>],
     files: &[Vec<u8>],
-) -> Result<(), ExitCode> {
-    let alloc = rt.alloc();
-    for (bundle, file) in bundles.iter().zip(files) {
-        let Ok(request) = request(alloc, &bundle.name, file) else {
-            return Err(not_started_on(rt, console, StartError::Memory));
-        };
-        match engine.handle(alloc, request) {
-            Reply::Done => {}
-            Reply::Memory => return Err(not_started_on(rt, console, StartError::Memory)),
-            Reply::Exists => return Err(refused_on(rt, console, bundle.file, "Twice")),
-            reply => return Err(refused_on(rt, console, bundle.file, reply.word())),
-        }
+) -> Result<(), CommandError<'a>>
+    ensures start { (state_of engine.new).start ≡ (state_of engine.old).start }
+{
+    'files: for (bundle, file) in bundles.iter().zip(files) {
+        install(alloc, engine, bundle, file)?;
     }
     Ok(())
+}
+
+/// Writes the reply to a lookup over an engine, and returns whether something is found.
+#[tactic(auto, using(crate::proofs::Looking::found_by))]
+fn put_answer<O: Outlet>(out: &mut O, engine: &Engine, lookup: Lookup<'_>) -> bool
+    ensures reply { O.takes out.old out.new (reply_line (Some
+        (looked_up engine.now lookup.entry.locale.now lookup.entry.path.now))) }
+    ensures found { result
+        ≡ is_found (looked_up engine.now lookup.entry.locale.now lookup.entry.path.now) }
+{
+    let (locale, path) = (lookup.locale.as_bytes(), lookup.path.as_bytes());
+    let found = engine.look(APP.as_bytes(), locale, path);
+    put_look(out, &found);
+    found.is_ok()
+}
+
+/// Returns the status of a lookup by whether something is found, and whether the reply was written.
+fn status_of<R: Eprint>(rt: &R, is_found: bool, written: io::Result<()>) -> ExitCode
+    ensures { exit_status result ≡ look_status is_found written }
+{
+    match written {
+        Ok(()) if is_found => ExitCode::SUCCESS,
+        Ok(()) => ExitCode::from(1),
+        Err(error) => printed(rt, Err(error)),
+    }
 }
 
 /// Prints the reply to a lookup, piece by piece; the status is 0 if something is found, otherwise 1.
@@ -92,19 +133,16 @@ fn answer<R: AllocGlobal + Print + Eprint>(
     console: Console,
     engine: &Engine,
     lookup: Lookup<'_>,
-) -> ExitCode {
-    let (locale, path) = (lookup.locale.as_bytes(), lookup.path.as_bytes());
-    let found = engine.look(APP.as_bytes(), locale, path);
+) -> ExitCode
+    ensures found { exit_status result ≡ 0
+        → is_found (looked_up engine.now lookup.entry.locale.now lookup.entry.path.now) ≡ true }
+{
     let Ok(writer) = BufWriter::new(rt.alloc(), io::writer(rt)) else {
         return not_started_on(rt, console, StartError::Memory);
     };
     let mut out = Printing::new(writer, console.is_output_terminal);
-    put_look(&mut out, &found);
-    let status = printed(rt, out.end());
-    if status == ExitCode::SUCCESS && found.is_err() {
-        return ExitCode::from(1);
-    }
-    status
+    let is_found = put_answer(&mut out, engine, lookup);
+    status_of(rt, is_found, out.end())
 }
 
 /// Accepts a file and installs it for `APP`; `None` if it is refused or there is no memory.
@@ -204,33 +242,32 @@ fn say_trace<R: RandomSource + AllocGlobal + Eprint>(
 }
 
 /// Looks up as `look_up` does, over arguments that are split.
-fn look_over<R: Files + RandomSource + AllocGlobal + Print + Eprint>(
+#[tactic(auto, using(crate::proofs::Looking::found_with))]
+fn look_over<'a, R: Files + RandomSource + AllocGlobal + Print + Eprint>(
     rt: &R,
     console: Console,
-    lookup: Lookup<'_>,
-    bundles: &[Given<'_>],
-) -> Result<ExitCode, ExitCode> {
+    lookup: Lookup<'a>,
+    bundles: &[Given<'a>],
+) -> Result<ExitCode, CommandError<'a>>
+    ensures found { IfOk result (λ status. exit_status status ≡ 0
+        → IsFoundWith lookup.entry.parents lookup.entry.locale.now lookup.entry.path.now) }
+{
     let alloc = rt.alloc();
     let parents = match parents_of(rt, lookup.parents) {
         Ok(parents) => parents,
-        Err(error) => return Err(not_started_on(rt, console, error)),
+        Err(error) => return Err(CommandError::NotStarted(error)),
     };
     let Ok(state) = RandomState::new(rt) else {
-        return Err(not_started_on(rt, console, StartError::NoRandomState));
+        return Err(CommandError::NotStarted(StartError::NoRandomState));
     };
-    let files = made_of_each(
-        rt,
-        console,
-        bundles,
-        |name, bytes| file_of(rt, console, name, bytes),
-    )?;
+    let files = made_of_each(rt, bundles, |name, bytes| file_of(alloc, name, bytes))?;
     if lookup.is_traced {
         say_trace(rt, console, lookup, &parents, bundles, &files);
     }
     let Ok(mut engine) = Engine::start(alloc, state, Vec::new(alloc), parents) else {
-        return Err(not_started_on(rt, console, StartError::Memory));
+        return Err(CommandError::NotStarted(StartError::Memory));
     };
-    install_all(rt, console, &mut engine, bundles, &files)?;
+    install_all(alloc, &mut engine, bundles, &files)?;
     Ok(answer(rt, console, &engine, lookup))
 }
 
@@ -249,12 +286,13 @@ pub fn look_up<R: Files + RandomSource + AllocGlobal + Print + Eprint>(
     console: Console,
     lookup: Lookup<'_>,
     arguments: &[&str],
-) -> ExitCode {
+) -> ExitCode
+    ensures found { exit_status result ≡ 0
+        → IsFoundWith lookup.entry.parents lookup.entry.locale.now lookup.entry.path.now }
+{
     let bundles = match all_given(rt.alloc(), Form::ByStem, arguments) {
         Ok(bundles) => bundles,
-        Err(error) => return not_started_on(rt, console, error),
+        Err(error) => return finish(rt, console, CommandError::NotStarted(error)),
     };
-    match look_over(rt, console, lookup, &bundles) {
-        Ok(status) | Err(status) => status,
-    }
+    ended(rt, console, look_over(rt, console, lookup, &bundles))
 }

@@ -1,6 +1,6 @@
 //! Decides how a command's output file is written, and writes it.
-ghost use Rattle.std.specs.Prelude.{◌≡◌, false, true};
-ghost use Rattle.rb_commands.specs.inner.Writing.{plain_decision};
+ghost use Rattle.std.specs.Prelude.{◌≡◌, OnOk, false, true};
+ghost use Rattle.rb_commands.specs.inner.Writing.{is_written, plain_decision};
 ghost use Rattle.rb_commands.specs.declared.output.Decision.TheVariants as Decisions;
 ghost use Rattle.rb_commands.specs.declared.output.FileKind.TheVariants as Kinds;
 
@@ -297,12 +297,14 @@ fn write_through<R: Files>(rt: &R, name: &str, bytes: &[u8]) -> io::Result<()> {
     file.write_all(bytes)
 }
 
-/// Writes a file as it was decided. If writing fails an older file is whole.
+/// Writes a file as it was decided, or refuses it. If writing fails an older file is whole.
 pub fn write_output<R: Files + RandomSource + AllocGlobal>(
     rt: &R,
     output: &Output,
     bytes: &[u8],
-) -> io::Result<()> {
+) -> io::Result<()>
+    ensures { OnOk result (is_written output.now.decision ≡ true) }
+{
     let target = output.target.as_str();
     match output.decision {
         Decision::Create => write_beside(rt, target, None, bytes),

@@ -1,7 +1,7 @@
 //! `resb lines`: request lines that install files.
 use crate::console::Console;
-use crate::contents::{made_of_each, text_refused};
-use crate::error::{StartError, not_started_on};
+use crate::contents::{Refusal, made_of_each};
+use crate::error::{CommandError, StartError, finish, not_started_on};
 use crate::files::{printed, refused_on};
 use crate::given::{Form, Given, all_given, is_text};
 use crate::printing::JsonWriter;
@@ -25,36 +25,31 @@ fn op_of(change: Change) -> &'static str {
 
 /// Refuses a text that isn't UTF-8, which a line can't have, and a text or a file that is too long
 /// for any server.
-fn refuse_content<R: AllocGlobal + Eprint>(
-    rt: &R,
-    console: Console,
-    file: &str,
-    bytes: &[u8],
-) -> Result<(), ExitCode> {
+fn refuse_content(alloc: Global, file: &str, bytes: &[u8]) -> Result<(), Refusal> {
     if !is_text(file) {
         return if is_short_enough(bytes) {
             Ok(())
         } else {
-            Err(refused_on(rt, console, file, "TooLong"))
+            Err(Refusal::TooLong)
         };
     }
     if str::from_utf8(bytes).is_ok() && bytes.len() <= rb_lexer::SOURCE_LIMIT {
         return Ok(());
     }
-    match Tokens::of(rt.alloc(), bytes) {
+    match Tokens::of(alloc, bytes) {
         Ok(_) => Ok(()),
-        Err(fault) => Err(text_refused(rt, console, file, fault)),
+        Err(fault) => Err(Refusal::Text(fault)),
     }
 }
 
 /// Reads the files.
-fn contents<R: Files + AllocGlobal + Eprint>(
+fn contents<'a, R: Files + AllocGlobal>(
     rt: &R,
-    console: Console,
-    bundles: &[Given<'_>],
-) -> Result<Vec<Vec<u8>>, ExitCode> {
-    made_of_each(rt, console, bundles, |file, bytes| {
-        refuse_content(rt, console, file, &bytes)?;
+    bundles: &[Given<'a>],
+) -> Result<Vec<Vec<u8>>, CommandError<'a>> {
+    let alloc = rt.alloc();
+    made_of_each(rt, bundles, |file, bytes| {
+        refuse_content(alloc, file, &bytes)?;
         Ok(bytes)
     })
 }
@@ -143,9 +138,9 @@ pub fn lines<R: Files + AllocGlobal + Print + Eprint>(
         Ok(bundles) => bundles,
         Err(error) => return not_started_on(rt, console, error),
     };
-    let contents = match contents(rt, console, &bundles) {
+    let contents = match contents(rt, &bundles) {
         Ok(contents) => contents,
-        Err(status) => return status,
+        Err(error) => return finish(rt, console, error),
     };
     match write_lines(rt, console, change, app, &bundles, &contents) {
         Ok(()) => ExitCode::SUCCESS,

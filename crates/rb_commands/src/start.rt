@@ -1,7 +1,10 @@
 //! The start of an engine: the arguments of `resb serve`, the files that they name, and the engine
 //! that is made of them.
 ghost use Rattle.std.specs.Prelude.{◌≡◌, length, vec_len, IfOk};
+ghost use Rattle.rb_parents.specs.Family.{parent_of};
+ghost use Rattle.rb_engine.specs.Kept.{state_of};
 ghost use Rattle.rb_engine.specs.Start.{IsIndexed};
+ghost use Rattle.rb_commands.specs.Starting.{AreParentsFor, AreParentsIn, HasParentsFor};
 
 use crate::error::StartError;
 use crate::files::read_file;
@@ -12,6 +15,7 @@ use rb_locales::Name;
 use rb_parents::{Parents, ParentsFault};
 use rb_parser::parse;
 use rb_tree::ByteList;
+use std::alloc::Global;
 use std::hash::RandomState;
 use std::io::ErrorKind;
 use std::random::RandomSource;
@@ -62,23 +66,32 @@ fn bytes_of<'a, R: Files + AllocGlobal>(rt: &R, file: &'a str) -> Result<Vec<u8>
 }
 
 /// Reads explicit parents from a bundle text.
-fn read_parents<'a, R: Files + AllocGlobal>(
-    rt: &R,
-    file: &'a str,
-) -> Result<Parents, StartError<'a>> {
-    let text = bytes_of(rt, file)?;
-    let source = parse(rt.alloc(), &text).map_err(|fault| text_error(file, fault.kind))?;
-    Parents::read(rt.alloc(), &source.tree).map_err(|fault| parents_error(file, fault))
+fn parents_in<'a>(alloc: Global, file: &'a str, text: &[u8]) -> Result<Parents, StartError<'a>>
+    ensures { IfOk result (λ p. AreParentsIn text.now (parent_of p)) }
+{
+    let source = match parse(alloc, text) {
+        Ok(source) => source,
+        Err(fault) => return Err(text_error(file, fault.kind)),
+    };
+    match Parents::read(alloc, &source.tree) {
+        Ok(parents) => Ok(parents),
+        Err(fault) => Err(parents_error(file, fault)),
+    }
 }
 
 /// Reads the explicit parents of a file, or returns none if no file is given.
 pub(crate) fn parents_of<'a, R: Files + AllocGlobal>(
     rt: &R,
     file: Option<&'a str>,
-) -> Result<Parents, StartError<'a>> {
-    match file {
-        Some(file) => read_parents(rt, file),
-        None => Ok(Parents::none(rt.alloc())),
+) -> Result<Parents, StartError<'a>>
+    ensures { IfOk result (λ p. AreParentsFor file.entry (parent_of p)) }
+{
+    let Some(file) = file else {
+        return Ok(Parents::none(rt.alloc()));
+    };
+    match bytes_of(rt, file) {
+        Ok(text) => parents_in(rt.alloc(), file, &text),
+        Err(error) => Err(error),
     }
 }
 
@@ -118,7 +131,10 @@ pub fn start_engine<'a, R: Files + AllocGlobal + RandomSource>(
     rt: &R,
     parents: Option<&'a str>,
     arguments: &[&'a str],
-) -> Result<Engine, StartError<'a>> {
+) -> Result<Engine, StartError<'a>>
+    ensures parents { IfOk result
+        (λ engine. HasParentsFor parents.entry (state_of engine).start.parents) }
+{
     let bundles = all_given(rt.alloc(), Form::Located, arguments)?;
     let parents = parents_of(rt, parents)?;
     let entries = read_all(rt, &bundles)?;

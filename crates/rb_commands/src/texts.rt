@@ -1,6 +1,7 @@
 //! `resb text`.
 use crate::commands::accepted;
 use crate::console::Console;
+use crate::error::finish;
 use crate::files::{printed, refused_on};
 use rb_printer::{PrintError, print_bundle};
 use rb_tree::UnitList;
@@ -38,9 +39,9 @@ pub fn text<R: Files + AllocGlobal + Print + Eprint>(
     file: &str,
     name: Option<&str>,
 ) -> ExitCode {
-    let bundle = match accepted(rt, console, file) {
+    let bundle = match accepted(rt, file) {
         Ok(bundle) => bundle,
-        Err(status) => return status,
+        Err(error) => return finish(rt, console, error),
     };
     match bundle_text(rt.alloc(), name.unwrap_or(name_of(file)), &bundle) {
         Ok(text) => printed(rt, rt.write_all(&text)),

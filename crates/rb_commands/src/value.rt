@@ -7,6 +7,7 @@ ghost use Rattle.rb_commands.specs.Whole.{reached, text_of, valued};
 
 use crate::commands::accepted;
 use crate::console::Console;
+use crate::error::finish;
 use crate::files::{printed, refused_on};
 use crate::pretty::put_value;
 use crate::printing::Printing;
@@ -144,9 +145,9 @@ pub fn json<R: Files + AllocGlobal + Print + Eprint>(
     path: &str,
     layout: Layout,
 ) -> ExitCode {
-    let bundle = match accepted(rt, console, name) {
+    let bundle = match accepted(rt, name) {
         Ok(bundle) => bundle,
-        Err(status) => return status,
+        Err(error) => return finish(rt, console, error),
     };
     let Ok(writer) = BufWriter::new(rt.alloc(), io::writer(rt)) else {
         return refused_on(rt, console, name, "Memory");
