@@ -4,6 +4,7 @@
 mod batching_writer;
 mod running;
 mod serve;
+mod server;
 
 use crate::running::run_asked;
 use rb_arguments::{asked_by, commands_for};

@@ -1,7 +1,8 @@
 //! Runs the command of a command line.
-ghost use Rattle.std.specs.Prelude.{◌≡◌, IfSome};
+ghost use Rattle.std.specs.Prelude.{◌≡◌, map, option_map};
+ghost use Rattle.rb_tool.specs.inner.Serving.{AreLimits};
 
-use crate::serve::serve_files;
+use crate::serve::{Serving, serve_files};
 use rb_arguments::{Asked, AskedLimits, AskedLint, AskedLookup};
 use rb_commands::{
     Change, Console, Layout, LintWords, Lookup, check_all, check_on, compile_all, compile_on,
@@ -105,11 +106,7 @@ fn run_look<R: Files + RandomSource + AllocGlobal + Print + Eprint>(
 
 /// Returns the limits that the options give, or `None` if there are none.
 fn limits_of(asked: AskedLimits) -> Option<Limits>
-    ensures calls { IfSome result (λ l. (l.bundle_bytes ≡ asked.bundle_bytes)
-        × (l.app_bytes ≡ asked.app_bytes)
-        × (l.apps ≡ asked.apps) × (l.steps ≡ asked.steps)) }
-    ensures lines { IfSome result (λ l. (l.line_bytes ≡ asked.line_bytes)
-        × (l.reply_bytes ≡ asked.reply_bytes) × (l.keep_serving ≡ asked.keep_serving)) }
+    ensures { AreLimits asked result }
 {
     if asked == AskedLimits::none() {
         return None;
@@ -126,15 +123,22 @@ fn limits_of(asked: AskedLimits) -> Option<Limits>
 }
 
 /// `serve [LOCALE=FILE ..]`
-fn run_serve<R: Files + RandomSource + AllocGlobal + Input + Print + Eprint>(
-    rt: &R,
-    console: Console,
-    parents: Option<&str>,
-    bundles: &[&str],
+fn serving_of<'a>(
+    parents: Option<&'a str>,
+    bundles: Vec<&'a str>,
     asked: AskedLimits,
-) -> ExitCode {
-    let limits = limits_of(asked);
-    serve_files(rt, console, parents, bundles, limits.as_ref())
+) -> Serving<'a>
+    ensures parents { option_map (λ s. s.now) result.parents
+        ≡ option_map (λ s. s.now) parents.entry }
+    ensures bundles { map (λ s. s.now) result.bundles.items
+        ≡ map (λ s. s.now) bundles.entry.items }
+    ensures limits { AreLimits asked result.limits }
+{
+    Serving {
+        parents,
+        bundles,
+        limits: limits_of(asked),
+    }
 }
 
 /// Runs a command.
@@ -170,6 +174,6 @@ pub fn run_asked<R: Files + RandomSource + Clock + AllocGlobal + Input + Print +
             parents,
             bundles,
             limits,
-        } => { run_serve(rt, console, parents, &bundles, limits) }
+        } => { serve_files(rt, console, &serving_of(parents, bundles, limits)) }
     }
 }

@@ -1,77 +1,18 @@
 //! `resb serve`.
-ghost use Rattle.std.specs.Prelude.{◌≡◌, ◌≤◌, IfErr, IfOk};
+ghost use Rattle.std.specs.Prelude.{◌≡◌, IfOk};
 ghost use Rattle.rb_engine.specs.Kept.{state_of};
-ghost use Rattle.rb_requests.specs.Device.{risen_by};
-ghost use Rattle.rb_requests.specs.Served.{AfterFault, AfterFaultWithin, AnswersAll, AnswersWithin};
-ghost use Rattle.rb_requests.specs.Served.{at};
-ghost use Rattle.rb_requests.specs.Served.{reads_failed, writes_failed};
-ghost use Rattle.rb_requests.specs.Within.{LineReplyWithin, longest_read};
-ghost use Rattle.rb_tool.specs.inner.Limits.{most_lines};
+ghost use Rattle.rb_commands.specs.Starting.{HasParentsFor};
 
 use crate::batching_writer::{BatchingWriter, LookaheadFeed};
-use rb_commands::{Console, JsonWriter, not_started_on, start_engine};
-use rb_requests::{
-    Engine, Feed, Limits, ServeFault, Served, Sink, WriteSink, serve, serve_limited,
-};
-use std::alloc::Global;
+use crate::server::Server;
+use rb_commands::{Console, JsonWriter, StartError, not_started_on, start_engine};
+use rb_requests::{Limits, ServeFault, WriteSink};
 use std::cell::Cell;
 use std::io;
 use std::io::{BufReader, BufWriter, Write};
 use std::process::ExitCode;
 use std::random::RandomSource;
 use std::rt::Files;
-
-/// The most lines of one run.
-const MAX_LINES: u64 = 1_099_511_627_776;
-
-/// Serves at most `MAX_LINES` lines. A separate function, so that a contract has the number.
-fn serve_run<F: Feed, S: Sink>(
-    alloc: Global,
-    engine: &mut Engine,
-    feed: &mut F,
-    sink: &mut S,
-) -> Result<Served, ServeFault>
-    ensures all { IfOk result (λ served. AnswersAll
-        (at (state_of engine.old) (F.left feed.old) (S.written sink.old) (S.settled sink.old))
-        (at (state_of engine.new) (F.left feed.new) (S.written sink.new)
-        (S.settled sink.new)) served.lines) }
-    ensures most { IfOk result (λ served. served.lines ≤ most_lines) }
-    ensures settled { IfOk result
-        (λ served. S.settled sink.new ≡ risen_by (S.settled sink.old) served.lines) }
-    ensures fault { IfErr result (λ fault. AfterFault fault
-        (at (state_of engine.old) (F.left feed.old) (S.written sink.old) (S.settled sink.old))
-        (at (state_of engine.new) (F.left feed.new) (S.written sink.new)
-        (S.settled sink.new)) most_lines) }
-    ensures reads { F.faults feed.new ≡ reads_failed (F.faults feed.old) result }
-    ensures writes { S.faults sink.new ≡ writes_failed (S.faults sink.old) result }
-{
-    serve(alloc, engine, feed, sink, MAX_LINES)
-}
-
-/// Serves at most `MAX_LINES` lines under limits.
-fn limited_run<F: Feed, S: Sink>(
-    alloc: Global,
-    engine: &mut Engine,
-    limits: &Limits,
-    feed: &mut F,
-    sink: &mut S,
-) -> Result<Served, ServeFault>
-    ensures all { IfOk result (λ served. AnswersWithin
-        (LineReplyWithin limits.now) (longest_read limits.now)
-        (at engine.old (F.left feed.old) (S.written sink.old) (S.settled sink.old))
-        (at engine.new (F.left feed.new) (S.written sink.new) (S.settled sink.new)) served.lines) }
-    ensures most { IfOk result (λ served. served.lines ≤ most_lines) }
-    ensures settled { IfOk result
-        (λ served. S.settled sink.new ≡ risen_by (S.settled sink.old) served.lines) }
-    ensures fault { IfErr result (λ fault. AfterFaultWithin
-        (LineReplyWithin limits.now) (longest_read limits.now) fault
-        (at engine.old (F.left feed.old) (S.written sink.old) (S.settled sink.old))
-        (at engine.new (F.left feed.new) (S.written sink.new) (S.settled sink.new)) most_lines) }
-    ensures reads { F.faults feed.new ≡ reads_failed (F.faults feed.old) result }
-    ensures writes { S.faults sink.new ≡ writes_failed (S.faults sink.old) result }
-{
-    serve_limited(alloc, engine, limits, feed, sink, MAX_LINES)
-}
 
 /// Flushes the replies that are still buffered when serving ends early. If that fails, the error
 /// is `Write`.
@@ -91,8 +32,7 @@ fn flush_after<W: Write + Drop>(
 fn serve_buffered<R: Input + Print + AllocGlobal>(
     rt: &R,
     console: Console,
-    engine: &mut Engine,
-    limits: Option<&Limits>,
+    server: &mut Server,
 ) -> io::Result<Result<(), ServeFault>> {
     let alloc = rt.alloc();
     let has_next_line = Cell::new(false);
@@ -102,11 +42,7 @@ fn serve_buffered<R: Input + Print + AllocGlobal>(
     let writer = JsonWriter::new(buffer, console.is_output_terminal);
     let mut writer = BatchingWriter::new(writer, &has_next_line);
     let mut sink = WriteSink::new(&mut writer);
-    let served = match limits {
-        None => serve_run(alloc, engine, &mut feed, &mut sink),
-        Some(limits) => limited_run(alloc, engine, limits, &mut feed, &mut sink),
-    };
-    match served {
+    match server.serve(alloc, &mut feed, &mut sink) {
         Ok(_) => Ok(Ok(())),
         Err(fault) => Ok(Err(flush_after(&mut writer, fault))),
     }
@@ -117,10 +53,9 @@ fn serve_buffered<R: Input + Print + AllocGlobal>(
 fn serve_lines<R: Input + Print + Eprint + AllocGlobal>(
     rt: &R,
     console: Console,
-    engine: &mut Engine,
-    limits: Option<&Limits>,
+    server: &mut Server,
 ) -> ExitCode {
-    let fault = match serve_buffered(rt, console, engine, limits) {
+    let fault = match serve_buffered(rt, console, server) {
         Ok(Ok(())) => return ExitCode::SUCCESS,
         Ok(Err(fault)) => fault,
         Err(_) => ServeFault::Memory,
@@ -129,6 +64,32 @@ fn serve_lines<R: Input + Print + Eprint + AllocGlobal>(
     let hint = console.hint(word);
     let _ = eprintln!(rt; "{word}{hint}");
     ExitCode::from(1)
+}
+
+/// What `resb serve` serves.
+#[derive(Drop)]
+pub struct Serving<'a> {
+    /// The file of explicit parents, if there is one.
+    pub parents: Option<&'a str>,
+    /// The bundles of ICUDATA, each `LOCALE=FILE`.
+    pub bundles: Vec<&'a str>,
+    pub limits: Option<Limits>,
+}
+
+/// Starts the server.
+fn start_server<'a, R: Files + RandomSource + AllocGlobal>(
+    rt: &R,
+    serving: &Serving<'a>,
+) -> Result<Server, StartError<'a>>
+    ensures limits { IfOk result (λ server. server.limits ≡ serving.now.limits) }
+    ensures parents { IfOk result
+        (λ server. HasParentsFor serving.now.parents (state_of server.engine).start.parents) }
+{
+    let engine = start_engine(rt, serving.parents, &serving.bundles)?;
+    Ok(Server {
+        engine,
+        limits: serving.limits,
+    })
 }
 
 /// Answers the lines of standard input on standard output, with the explicit parents of the file
@@ -144,12 +105,10 @@ fn serve_lines<R: Input + Print + Eprint + AllocGlobal>(
 pub fn serve_files<R: Files + RandomSource + Input + Print + Eprint + AllocGlobal>(
     rt: &R,
     console: Console,
-    parents: Option<&str>,
-    bundles: &[&str],
-    limits: Option<&Limits>,
+    serving: &Serving<'_>,
 ) -> ExitCode {
-    match start_engine(rt, parents, bundles) {
-        Ok(mut engine) => serve_lines(rt, console, &mut engine, limits),
+    match start_server(rt, serving) {
+        Ok(mut server) => serve_lines(rt, console, &mut server),
         Err(error) => not_started_on(rt, console, error),
     }
 }
