@@ -1,0 +1,18 @@
+//! Compares the bundles of a module: what each locale lacks, and how it differs from what it inherits.
+#![tactic(auto)]
+
+mod arguments;
+mod chain;
+mod compare;
+mod counts;
+mod coverage;
+mod fault;
+mod finding;
+mod path;
+mod same;
+mod walk;
+
+pub use counts::Counts;
+pub use coverage::Coverage;
+pub use fault::CoverageFault;
+pub use finding::{Finding, Found};
