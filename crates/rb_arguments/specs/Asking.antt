@@ -9,13 +9,13 @@ use Rattle.rb_arguments.specs.Rows.{IsFlagIn, alone, word_in, words_in}
 use Rattle.rb_arguments.specs.Limits.{AreGiven}
 use Rattle.rb_arguments.specs.declared.asking.Asked.{Asked}
 use Rattle.rb_arguments.specs.declared.asking.Asked.TheVariants.{Compile, CompileAll, Check, Get, Json, Text as ToText}
-use Rattle.rb_arguments.specs.declared.asking.Asked.TheVariants.{Lint, Explain, Lines, Look, Serve}
+use Rattle.rb_arguments.specs.declared.asking.Asked.TheVariants.{Lint, Coverage, Explain, Lines, Look, Serve}
 
 -- the names of the commands
 abbrev pub names : List Text
 names =
-    codes "compile" ∷ codes "check" ∷ codes "get" ∷ codes "json" ∷ codes "text" ∷ codes "lint" ∷ codes "explain"
-    ∷ codes "lines" ∷ codes "look" ∷ codes "serve" ∷ []
+    codes "compile" ∷ codes "check" ∷ codes "get" ∷ codes "json" ∷ codes "text" ∷ codes "lint" ∷ codes "coverage"
+    ∷ codes "explain" ∷ codes "lines" ∷ codes "look" ∷ codes "serve" ∷ []
 
 abbrev pub is_command : Text → Bool
 is_command name = list_any (bytes_eq name) names
@@ -69,6 +69,11 @@ AsksFor name rows (Lint asked) =
     × IsFlagIn rows (codes "strict") asked.is_strict
     × IsFlagIn rows (codes "all") asked.is_all
     × IsFlagIn rows (codes "list") asked.is_list
+    × (texts asked.texts.items ≡ words_in rows (codes "TEXT"))
+AsksFor name rows (Coverage asked) =
+    (name ≡ codes "coverage")
+    × (option_map (λ s. s.now) asked.parents ≡ first_of (codes "parents") rows)
+    × (option_map (λ s. s.now) asked.format ≡ first_of (codes "format") rows)
     × (texts asked.texts.items ≡ words_in rows (codes "TEXT"))
 AsksFor name rows (Explain word) =
     (name ≡ codes "explain")

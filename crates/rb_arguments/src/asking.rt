@@ -47,6 +47,8 @@ pub enum Asked<'a> {
     },
     /// `lint TEXT..`
     Lint(AskedLint<'a>),
+    /// `coverage [LOCALE=]TEXT..`
+    Coverage(AskedCoverage<'a>),
     /// `explain [WORD]`
     Explain {
         word: Option<&'a str>,
@@ -78,6 +80,13 @@ pub struct AskedLint<'a> {
     pub is_strict: bool,
     pub is_all: bool,
     pub is_list: bool,
+    pub texts: Vec<&'a str>,
+}
+
+#[derive(Debug, Drop)]
+pub struct AskedCoverage<'a> {
+    pub parents: Option<&'a str>,
+    pub format: Option<&'a str>,
     pub texts: Vec<&'a str>,
 }
 
@@ -229,6 +238,16 @@ fn lint_asked<'a>(alloc: Global, given: &ArgMatches<'a>) -> Result<Asked<'a>, Al
     }))
 }
 
+fn coverage_asked<'a>(alloc: Global, given: &ArgMatches<'a>) -> Result<Asked<'a>, AllocError>
+    ensures { IfOk result (AsksFor (codes "coverage") (rows_of (found_of given.now))) }
+{
+    Ok(Asked::Coverage(AskedCoverage {
+        parents: optional_of(given, "parents"),
+        format: optional_of(given, "format"),
+        texts: words_of(alloc, given, "TEXT")?,
+    }))
+}
+
 fn look_asked<'a>(alloc: Global, given: &ArgMatches<'a>) -> Result<Asked<'a>, AllocError>
     ensures { IfOk result (AsksFor (codes "look") (rows_of (found_of given.now))) }
 {
@@ -296,6 +315,7 @@ fn command_asked<'a>(
             name: optional_of(given, "name"),
         },
         "lint" => lint_asked(alloc, given)?,
+        "coverage" => coverage_asked(alloc, given)?,
         "explain" => Asked::Explain {
             word: optional_of(given, "WORD"),
         },

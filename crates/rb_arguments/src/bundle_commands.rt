@@ -28,6 +28,47 @@ pub const LINES: Description = Description {
     end: LINES_HELP,
 };
 
+const COVERAGE_HELP: &str = "\
+Examples:
+  resb coverage texts/*.txt
+  resb coverage --format list texts/*/*.txt
+
+The texts of one folder are a module, which needs one of the locale root. Findings:
+  missing    the root has a string or an array, and neither the locale nor a parent before the root
+  unused     the root has nothing there
+  same       the item is equal to the inherited one
+  type       the item is of another type than the inherited one
+  arguments  the message has other arguments than the inherited one, as {0} and {name}
+Formats: table has a line for each locale, list a line for each key and finding, as
+menu/print: missing in ar, ja; json has an object for each key and finding, and csv a row for each
+key, finding and locale.
+
+Status:
+  0  the texts are compared
+  1  a text is refused, as root.txt:2: BadInt; a locale has two texts or no trail; or out of memory
+  2  the command line is invalid, a module has no root, or a file or standard output can't be read
+     or written";
+
+/// `coverage [OPTIONS] [LOCALE=]TEXT..`
+pub const COVERAGE: Description = Description {
+    name: "coverage",
+    about: "Says what each locale lacks, and how it differs from what it inherits",
+    arguments: &[
+        PARENTS,
+        Argument(
+            "format",
+            Kind::Option("FORMAT"),
+            "table, list, json or csv; table by default",
+        ),
+        Argument(
+            "TEXT",
+            Kind::Words("[LOCALE=]TEXT"),
+            "a bundle text, in UTF-8; LOCALE is its stem",
+        ),
+    ],
+    end: COVERAGE_HELP,
+};
+
 const LOOK_HELP: &str = "\
 Examples:
   resb look de_AT menu/close bundles/*.res

@@ -1,4 +1,4 @@
-use crate::bundle_commands::{LINES, LOOK};
+use crate::bundle_commands::{COVERAGE, LINES, LOOK};
 use crate::description::Description;
 use crate::file_commands::{CHECK, COMPILE, GET, JSON, TEXT};
 use crate::serving::SERVE;
@@ -18,8 +18,8 @@ Status:
 Errors are printed to standard error, a line each. 'resb help COMMAND' says more of a command.";
 
 /// The commands, in the order of the help.
-const COMMANDS: [Description; 10] = [
-    COMPILE, CHECK, GET, LINT, EXPLAIN, LINES, LOOK, TEXT, JSON, SERVE,
+const COMMANDS: [Description; 11] = [
+    COMPILE, CHECK, GET, LINT, COVERAGE, EXPLAIN, LINES, LOOK, TEXT, JSON, SERVE,
 ];
 
 fn bare<'a>(alloc: Global) -> Result<Command<'a>, AllocError> {

@@ -91,8 +91,8 @@ pub(crate) fn arguments_of(
     }
 }
 
-/// Checks whether two messages have other arguments: other names, or another kind of value. Both are by
-/// ascending names.
+/// Checks whether two messages have other arguments: other names, or another kind of value. Both
+/// are by ascending names.
 pub(crate) fn are_other(here: &[Used<'_>], parent: &[Used<'_>]) -> bool {
     if here.len() != parent.len() {
         return true;

@@ -42,8 +42,8 @@ fn stops_of(
     Ok(stops)
 }
 
-/// Returns what the locale of a bundle inherits from, or None if the bundle only names another one, or is
-/// the root's.
+/// Returns what the locale of a bundle inherits from, or None if the bundle only names another one,
+/// or is the root's.
 fn chain_of(
     alloc: Global,
     module: &[(Name, Tree, bool)],

@@ -1,6 +1,6 @@
 use crate::finding::Finding;
 
-/// How many keys a locale has of each finding.
+/// The number of keys of a locale with each finding.
 #[derive(Clone, Copy, Debug, PartialEq, Eq)]
 pub struct Counts {
     pub missing: u64,

@@ -42,8 +42,8 @@ fn walk_of<'a>(alloc: Global, module: &'a [(Name, Tree, bool)]) -> Result<Walk<'
 }
 
 impl<'a> Coverage<'a> {
-    /// Begins to compare bundles, each with its locale and its flag *no fallback*. Of bundles with one
-    /// locale the first counts.
+    /// Begins to compare bundles, each with its locale and its flag *no fallback*. Of bundles with
+    /// one locale the first counts.
     pub fn new(
         alloc: Global,
         module: &'a [(Name, Tree, bool)],
@@ -65,8 +65,8 @@ impl<'a> Coverage<'a> {
         })
     }
 
-    /// Returns the indexes of the bundles whose locales are compared: all but the root's, and those that
-    /// only name another one.
+    /// Returns the indexes of the bundles whose locales are compared: all but the root's, and those
+    /// that only name another one.
     pub fn locales(&self) -> Result<Vec<usize>, AllocError> {
         let mut locales = Vec::with_capacity(self.alloc, self.chains.len())?;
         for chain in &self.chains {
@@ -85,8 +85,9 @@ impl<'a> Coverage<'a> {
         self.walk.path()
     }
 
-    /// Compares what the locales have at the next key, and returns what is found, by findings and then by
-    /// locales, or None at the end. The keys are those of all bundles, each before those below it.
+    /// Compares what the locales have at the next key, and returns what is found, by findings and
+    /// then by locales, or None at the end. The keys are those of all bundles, each before those
+    /// below it.
     pub fn next_key(&mut self) -> Result<Option<Vec<Found>>, AllocError> {
         let members = self.walk.next_key()?;
         if members.is_empty() {

@@ -1,4 +1,4 @@
-/// What a locale has, or lacks, at a key.
+/// The result of comparing what a locale has at a key.
 #[derive(Clone, Copy, Debug, PartialEq, Eq, PartialOrd, Ord)]
 pub enum Finding {
     /// The root has a String or an Array, and neither the locale nor one between them has anything.

@@ -1,4 +1,5 @@
-//! Compares the bundles of a module: what each locale lacks, and how it differs from what it inherits.
+//! Compares the bundles of a module: what each locale lacks, and how it differs from what it
+//! inherits.
 #![tactic(auto)]
 
 mod arguments;

@@ -27,7 +27,8 @@ struct Level<'a> {
     next: usize,
 }
 
-/// Adds the entries of a table. Keys that begin with `%%` are ICU's, which each bundle has for itself.
+/// Adds the entries of a table. Keys that begin with `%%` are ICU's, which each bundle has for
+/// itself.
 fn push_entries<'a>(entries: &mut Vec<Keyed<'a>>, table: Member<'a>) -> Result<(), AllocError> {
     let Tree::Table(pairs) = table.tree else {
         return Ok(());
@@ -106,7 +107,7 @@ impl<'a> Walk<'a> {
         }
     }
 
-    /// Goes on to the next key, and returns its items in the order of bundles; none at the end.
+    /// Moves to the next key, and returns its items in the order of bundles; none at the end.
     pub(crate) fn next_key(&mut self) -> Result<Vec<Member<'a>>, AllocError> {
         self.leave();
         let Some(level) = self.levels.last_mut() else {
@@ -122,8 +123,8 @@ impl<'a> Walk<'a> {
         Ok(members)
     }
 
-    /// Returns the path of the key that the walk is at: the keys with slashes between them. Of a long key,
-    /// and of a long path, it has the first and the last bytes.
+    /// Returns the path of the key that the walk is at: the keys with slashes between them. Of a
+    /// long key, and of a long path, it has the first and the last bytes.
     pub(crate) fn path(&self) -> Result<Vec<u8>, AllocError> {
         let mut path = Vec::new(self.alloc);
         for level in &self.levels {

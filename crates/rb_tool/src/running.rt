@@ -3,10 +3,10 @@ ghost use Rattle.std.specs.Prelude.{◌≡◌, map, option_map};
 ghost use Rattle.rb_tool.specs.inner.Serving.{AreLimits};
 
 use crate::serve::{Serving, serve_files};
-use rb_arguments::{Asked, AskedLimits, AskedLint, AskedLookup};
+use rb_arguments::{Asked, AskedCoverage, AskedLimits, AskedLint, AskedLookup};
 use rb_commands::{
-    Change, Console, Layout, LintWords, Lookup, check_all, check_on, compile_all, compile_on,
-    explain_on, get_on, json, lines, lint_all, list_rules, look_up, text,
+    Change, Console, CoverageWords, Layout, LintWords, Lookup, check_all, check_on, compile_all,
+    compile_on, cover_all, explain_on, get_on, json, lines, lint_all, list_rules, look_up, text,
 };
 use rb_requests::Limits;
 use std::process::ExitCode;
@@ -89,6 +89,20 @@ fn run_lint<R: Files + Input + AllocGlobal + Print + Eprint>(
     lint_all(rt, console, &words)
 }
 
+/// `coverage [OPTIONS] [LOCALE=]TEXT..`
+fn run_coverage<R: Files + AllocGlobal + Print + Eprint>(
+    rt: &R,
+    console: Console,
+    asked: &AskedCoverage<'_>,
+) -> ExitCode {
+    let words = CoverageWords {
+        parents: asked.parents,
+        format: asked.format,
+        files: &asked.texts,
+    };
+    cover_all(rt, console, &words)
+}
+
 /// Looks an item up over files.
 fn run_look<R: Files + RandomSource + AllocGlobal + Print + Eprint>(
     rt: &R,
@@ -167,6 +181,7 @@ pub fn run_asked<R: Files + RandomSource + Clock + AllocGlobal + Input + Print +
         } => { json(rt, console, file, path, layout_of(is_pretty)) }
         Asked::Text { file, name } => text(rt, console, file, name),
         Asked::Lint(asked) => run_lint(rt, console, &asked),
+        Asked::Coverage(asked) => run_coverage(rt, console, &asked),
         Asked::Explain { word } => explain_on(rt, console, word),
         Asked::Lines { op, app, files } => run_lines(rt, console, op, app, &files),
         Asked::Look(lookup) => run_look(rt, console, lookup),

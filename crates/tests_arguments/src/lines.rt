@@ -51,6 +51,9 @@ const LINES: &str = "\
 0|resb|lint|a.txt|b.txt
 0|resb|lint|--root|root.txt|a.txt
 2|resb|lint|--root|root.txt
+2|resb|coverage
+0|resb|coverage|a.txt|de=b.txt
+0|resb|coverage|--parents|p|--format|csv|a.txt
 0|resb|explain
 2|resb|explain|BadInt|BadHex
 2|resb|lines|shop
@@ -103,6 +106,7 @@ resb|text|a|--name|de => Text { file: "a", name: Some("de") }
 resb|lint|--root|r|a|b => Lint(AskedLint { root: Some("r"), name: None, allow: [], deny: [], format: None, is_strict: false, is_all: false, is_list: false, texts: ["a", "b"] })
 resb|lint|--allow|x|a|--deny|y|--allow|z|--against|r|--root|s|--strict|--all|--format|json|--name|n => Lint(AskedLint { root: Some("r"), name: Some("n"), allow: ["x", "z"], deny: ["y"], format: Some("json"), is_strict: true, is_all: true, is_list: false, texts: ["a"] })
 resb|lint|--list => Lint(AskedLint { root: None, name: None, allow: [], deny: [], format: None, is_strict: false, is_all: false, is_list: true, texts: [] })
+resb|coverage|--format|csv|a|--parents|p|de=b => Coverage(AskedCoverage { parents: Some("p"), format: Some("csv"), texts: ["a", "de=b"] })
 resb|explain => Explain { word: None }
 resb|explain|BadInt => Explain { word: Some("BadInt") }
 resb|lines|shop|--op|replace|a|b => Lines { op: Some("replace"), app: "shop", files: ["a", "b"] }
