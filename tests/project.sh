@@ -50,6 +50,8 @@ expect '3 modules in 12 locales' 0 36 count build
 expect 'a second make does nothing' 0 '' make -s
 expect 'all files are bundles' 0 '' "$RESB" check -q build/*/*.res
 expect 'the checks' 0 "$lacking" make -s check
+expect 'the strings that are missing' 0 'texts/shop: cart/back: missing in el
+texts/shop: search: missing in el' bash -c 'make -s coverage FORMAT=list | grep missing'
 expect 'a lookup' 0 '{"actual":"de_AT","type":"string","valid":"de_AT","value":"Zur Kassa"}' \
     "$RESB" look de_AT cart/checkout build/shop/*.res
 expect 'a string that is inherited' 0 '{"actual":"root","type":"string","valid":"el","value":"Search the shop"}' \

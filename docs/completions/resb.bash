@@ -2,7 +2,7 @@
 _resb() {
     local word=${COMP_WORDS[COMP_CWORD]} before=${COMP_WORDS[COMP_CWORD - 1]} flags=
     if [ "$COMP_CWORD" -eq 1 ]; then
-        COMPREPLY=($(compgen -W 'compile check get lint explain lines look text json serve help --help --version' -- "$word"))
+        COMPREPLY=($(compgen -W 'compile check get lint coverage explain lines look text json serve help --help --version' -- "$word"))
         return
     fi
     case ${COMP_WORDS[1]} in
@@ -11,6 +11,7 @@ _resb() {
         check) flags='--quiet --help' ;;
         get) flags='--help' ;;
         lint) flags='--against --root --allow --deny --strict --all --format --name --list --help' ;;
+        coverage) flags='--parents --format --help' ;;
         explain) flags='--help' ;;
         lines) flags='--op --help' ;;
         look) flags='--parents --trace --help' ;;

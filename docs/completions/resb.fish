@@ -1,5 +1,5 @@
 # Completion of resb for fish: put it into ~/.config/fish/completions/.
-complete -c resb -n __fish_use_subcommand -f -a 'compile check get lint explain lines look text json serve help'
+complete -c resb -n __fish_use_subcommand -f -a 'compile check get lint coverage explain lines look text json serve help'
 complete -c resb -n __fish_use_subcommand -l version -d 'Print the version'
 complete -c resb -l help -d 'Print help'
 # options, by tools/pages
@@ -15,6 +15,8 @@ complete -c resb -n '__fish_seen_subcommand_from lint' -l all -d 'print all warn
 complete -c resb -n '__fish_seen_subcommand_from lint' -l format -x -d 'text, json, sarif or github; text by default'
 complete -c resb -n '__fish_seen_subcommand_from lint' -l name -r -d 'the name of the text on standard input'
 complete -c resb -n '__fish_seen_subcommand_from lint' -l list -d 'print the names of all warnings'
+complete -c resb -n '__fish_seen_subcommand_from coverage' -l parents -r -d 'a bundle text with the explicit parents, at parentLocales'
+complete -c resb -n '__fish_seen_subcommand_from coverage' -l format -x -d 'table, list, json or csv; table by default'
 complete -c resb -n '__fish_seen_subcommand_from lines' -l op -x -a 'install replace' -d 'install, or replace'
 complete -c resb -n '__fish_seen_subcommand_from look' -l parents -r -d 'a bundle text with the explicit parents, at parentLocales'
 complete -c resb -n '__fish_seen_subcommand_from look' -l trace -d 'say on standard error which bundles were asked, and why'
