@@ -9,6 +9,14 @@ package resb
 #include "resb.h"
 
 static resb *new_handle(void) { return calloc(1, sizeof(resb)); }
+
+// Ends the process without memory, as C.CBytes does.
+static resb_entry *new_entries(size_t count) {
+	resb_entry *entries = calloc(count + 1, sizeof(resb_entry));
+	if (!entries)
+		abort();
+	return entries;
+}
 */
 import "C"
 
@@ -95,8 +103,26 @@ type Bundles struct {
 	handle *C.resb
 }
 
+// An Entry is a bundle of ICUDATA: its locale, and a text or else a .res file.
+type Entry struct {
+	Locale string
+	Bundle []byte
+	IsText bool
+}
+
+// Options are what Bundles start with: bundles of ICUDATA, which all applications see, and a bundle text with explicit parents.
+type Options struct {
+	ICUData []Entry
+	Parents []byte
+}
+
 // Open returns Bundles without bundles. Close frees it.
 func Open() (*Bundles, error) {
+	return OpenWith(Options{})
+}
+
+// OpenWith returns Bundles with the bundles of ICUDATA and the explicit parents. Close frees it.
+func OpenWith(options Options) (*Bundles, error) {
 	var seed [16]byte
 	if _, err := rand.Read(seed[:]); err != nil {
 		return nil, err
@@ -105,12 +131,44 @@ func Open() (*Bundles, error) {
 	if handle == nil {
 		return nil, &Error{Number: C.RESB_MEMORY}
 	}
-	p, n := bytes(seed[:])
-	if err := errorOf(C.resb_open(handle, p, n)); err != nil {
-		C.free(unsafe.Pointer(handle))
-		return nil, err
+	entries, free := entriesOf(options.ICUData)
+	defer free()
+	s, sn := bytes(seed[:])
+	p, pn := bytes(options.Parents)
+	var place C.uint64_t
+	number := C.resb_open_with(handle, s, sn, entries, C.size_t(len(options.ICUData)), p, pn, &place)
+	if number == C.RESB_OK {
+		return &Bundles{handle: handle}, nil
 	}
-	return &Bundles{handle: handle}, nil
+	C.free(unsafe.Pointer(handle))
+	switch number {
+	case C.RESB_BAD_LOCALE, C.RESB_BAD_TEXT, C.RESB_BAD_FILE, C.RESB_TWICE:
+		return nil, fmt.Errorf("bundle %s of ICUDATA: %w", options.ICUData[place].Locale, errorOf(number))
+	default:
+		return nil, &Error{Number: uint32(number), Line: uint64(place)}
+	}
+}
+
+// entriesOf copies entries to C's memory, which free frees.
+func entriesOf(entries []Entry) (first *C.resb_entry, free func()) {
+	first = C.new_entries(C.size_t(len(entries)))
+	copies := unsafe.Slice(first, len(entries))
+	for i, entry := range entries {
+		copies[i] = C.resb_entry{
+			locale:     (*C.uint8_t)(C.CBytes([]byte(entry.Locale))),
+			locale_len: C.size_t(len(entry.Locale)),
+			bytes:      (*C.uint8_t)(C.CBytes(entry.Bundle)),
+			len:        C.size_t(len(entry.Bundle)),
+			is_text:    C.bool(entry.IsText),
+		}
+	}
+	return first, func() {
+		for _, entry := range copies {
+			C.free(unsafe.Pointer(entry.locale))
+			C.free(unsafe.Pointer(entry.bytes))
+		}
+		C.free(unsafe.Pointer(first))
+	}
 }
 
 // Share returns Bundles of the same engine, for lookups beside this one. While both are open neither can change.
@@ -195,6 +253,21 @@ func (b *Bundles) List(app string) ([]string, error) {
 	}
 }
 
+// Usage returns the total length of the files that an application stores, and the number of its bundles.
+func (b *Bundles) Usage(app string) (length, bundles uint64, err error) {
+	a, an := bytes([]byte(app))
+	err = b.with(func(h *C.resb) C.uint32_t {
+		return C.resb_usage(h, a, an, (*C.uint64_t)(&length), (*C.uint64_t)(&bundles))
+	})
+	return length, bundles, err
+}
+
+// Apps returns the number of applications that have bundles.
+func (b *Bundles) Apps() (count uint64, err error) {
+	err = b.with(func(h *C.resb) C.uint32_t { return C.resb_apps(h, (*C.uint64_t)(&count)) })
+	return count, err
+}
+
 // Text looks up a string.
 func (b *Bundles) Text(app, locale, path string) (string, error) {
 	a, an := bytes([]byte(app))
@@ -222,10 +295,26 @@ func (b *Bundles) Look(app, locale, path string) (any, error) {
 	a, an := bytes([]byte(app))
 	l, ln := bytes([]byte(locale))
 	p, pn := bytes([]byte(path))
-	var value any
-	err := b.with(func(h *C.resb) C.uint32_t {
+	return b.value(func(h *C.resb, found *C.resb_found) C.uint32_t {
+		return C.resb_look(h, a, an, l, ln, p, pn, found)
+	})
+}
+
+// LookWithin looks up like Look, or returns the error TooManySteps if the lookup takes more than this many steps.
+func (b *Bundles) LookWithin(app, locale, path string, steps uint64) (any, error) {
+	a, an := bytes([]byte(app))
+	l, ln := bytes([]byte(locale))
+	p, pn := bytes([]byte(path))
+	return b.value(func(h *C.resb, found *C.resb_found) C.uint32_t {
+		return C.resb_look_within(h, a, an, l, ln, p, pn, C.uint64_t(steps), found)
+	})
+}
+
+// value returns what a lookup finds.
+func (b *Bundles) value(look func(handle *C.resb, found *C.resb_found) C.uint32_t) (value any, err error) {
+	err = b.with(func(h *C.resb) C.uint32_t {
 		var found C.resb_found
-		number := C.resb_look(h, a, an, l, ln, p, pn, &found)
+		number := look(h, &found)
 		if number == C.RESB_OK {
 			value = valueOf(&found)
 		}

@@ -11,7 +11,7 @@ import (
 	"resb"
 )
 
-const text = `de{greeting{"Grüß"} low:int{-1} v:intvector{1,-2} b:bin{00ff} empty:bin{""} list{"a","bc"} menu{open{"Auf"} close{"Zu"}}}`
+const german = `de{greeting{"Grüß"} low:int{-1} v:intvector{1,-2} b:bin{00ff} empty:bin{""} list{"a","bc"} menu{open{"Auf"} close{"Zu"}}}`
 
 func opened(t *testing.T) *resb.Bundles {
 	t.Helper()
@@ -20,7 +20,7 @@ func opened(t *testing.T) *resb.Bundles {
 		t.Fatal(err)
 	}
 	t.Cleanup(b.Close)
-	if err := b.Install("shop", "de", []byte(text), true); err != nil {
+	if err := b.Install("shop", "de", []byte(german), true); err != nil {
 		t.Fatal(err)
 	}
 	return b
@@ -60,7 +60,7 @@ func TestErrors(t *testing.T) {
 	if err := resb.Check(nil); err == nil || err.Error() != "Header" {
 		t.Error(err)
 	}
-	if err := b.Install("shop", "de", []byte(text), true); err == nil || err.Error() != "Exists" {
+	if err := b.Install("shop", "de", []byte(german), true); err == nil || err.Error() != "Exists" {
 		t.Error(err)
 	}
 	b.Close()
@@ -84,6 +84,61 @@ func TestCompileAndChange(t *testing.T) {
 	}
 	if err := b.Remove("shop", "de"); err != nil {
 		t.Error(err)
+	}
+}
+
+func text(locale, bundle string) resb.Entry {
+	return resb.Entry{Locale: locale, Bundle: []byte(bundle), IsText: true}
+}
+
+func TestOpenWith(t *testing.T) {
+	b, err := resb.OpenWith(resb.Options{
+		ICUData: []resb.Entry{text("de", `de{months{"Januar","Februar"}}`), text("root", "root{}")},
+		Parents: []byte(`x{parentLocales{root{"zh_Hant"}}}`),
+	})
+	if err != nil {
+		t.Fatal(err)
+	}
+	defer b.Close()
+	for locale, bundle := range map[string]string{"root": `root{x{"root"} month:alias{"/ICUDATA/de/months/1"}}`, "zh": `zh{x{"Z"}}`} {
+		if err := b.Install("shop", locale, []byte(bundle), true); err != nil {
+			t.Fatal(err)
+		}
+	}
+	for _, it := range []struct{ locale, path, want string }{{"zh_TW", "x", "Z"}, {"zh_Hant_TW", "x", "root"}, {"fr", "month", "Februar"}} {
+		if got, err := b.Text("shop", it.locale, it.path); got != it.want || err != nil {
+			t.Errorf("%s: %q, %v", it.locale, got, err)
+		}
+	}
+	if bytes, bundles, err := b.Usage("shop"); bytes == 0 || bundles != 2 || err != nil {
+		t.Error(bytes, bundles, err)
+	}
+	if apps, err := b.Apps(); apps != 1 || err != nil {
+		t.Error(apps, err)
+	}
+	// zh and root, each a step, and one more for the segment
+	if got, err := b.LookWithin("shop", "zh", "x", 4); got != "Z" || err != nil {
+		t.Error(got, err)
+	}
+	if _, err := b.LookWithin("shop", "zh", "x", 3); err == nil || err.Error() != "TooManySteps" {
+		t.Error(err)
+	}
+}
+
+func TestErrorsOfTheStart(t *testing.T) {
+	for _, it := range []struct {
+		options resb.Options
+		want    string
+	}{
+		{resb.Options{ICUData: []resb.Entry{text("root", "root{}"), {Locale: "de", Bundle: []byte("x")}}}, "bundle de of ICUDATA: BadFile"},
+		{resb.Options{ICUData: []resb.Entry{text("de", "")}}, "bundle de of ICUDATA: BadText"},
+		{resb.Options{ICUData: []resb.Entry{text("", "")}}, "bundle  of ICUDATA: BadText"},
+		{resb.Options{Parents: []byte("x{\nparentLocales{")}, "Unexpected, line 2"},
+		{resb.Options{Parents: []byte("x{}")}, "Shape"},
+	} {
+		if _, err := resb.OpenWith(it.options); err == nil || err.Error() != it.want {
+			t.Errorf("%v; want %s", err, it.want)
+		}
 	}
 }
 
@@ -136,7 +191,7 @@ func BenchmarkText(b *testing.B) {
 		b.Fatal(err)
 	}
 	defer bundles.Close()
-	if err := bundles.Install("shop", "de", []byte(text), true); err != nil {
+	if err := bundles.Install("shop", "de", []byte(german), true); err != nil {
 		b.Fatal(err)
 	}
 	b.ResetTimer()

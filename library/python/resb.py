@@ -15,13 +15,15 @@ import ctypes
 import os
 import threading
 from collections.abc import Iterator, Mapping, Sequence
-from typing import Union
+from typing import Optional, Union
 
 __all__ = ["Array", "Bundles", "Error", "Table", "check", "compile"]
 
+Bundle = Union[str, bytes]
 Value = Union[str, bytes, int, "list[int]", "Array", "Table"]
 
 _NO_ROOM, _OTHER_KIND, _BAD_PATH, _MISSING = 5, 6, 21, 26
+_OF_ICUDATA = 13, 14, 15, 19
 _STRING, _BINARY, _TABLE, _INT, _ARRAY, _INT_VECTOR = 0, 1, 2, 7, 8, 14
 
 
@@ -31,6 +33,16 @@ class _Handle(ctypes.Structure):
 
 class _Found(ctypes.Structure):
     _fields_ = [("at", ctypes.c_void_p), ("count", ctypes.c_size_t), ("kind", ctypes.c_uint32), ("number", ctypes.c_uint32)]
+
+
+class _Entry(ctypes.Structure):
+    _fields_ = [
+        ("locale", ctypes.c_char_p),
+        ("locale_len", ctypes.c_size_t),
+        ("bytes", ctypes.c_char_p),
+        ("len", ctypes.c_size_t),
+        ("is_text", ctypes.c_bool),
+    ]
 
 
 def _declare(library: ctypes.CDLL, name: str, *arguments: object, result: object = ctypes.c_uint32) -> object:
@@ -43,34 +55,41 @@ def _declare(library: ctypes.CDLL, name: str, *arguments: object, result: object
 _bytes = (ctypes.c_char_p, ctypes.c_size_t)
 _handle = ctypes.POINTER(_Handle)
 _size = ctypes.POINTER(ctypes.c_size_t)
+_number = ctypes.POINTER(ctypes.c_uint64)
 _file = os.environ.get("RESB_LIBRARY", "libresb.so.0")
 # Calls without a handle run beside other threads. The others keep the interpreter's lock, which is cheaper for short calls.
 _apart = ctypes.CDLL(_file)
 _library = ctypes.PyDLL(_file)
 _check = _declare(_apart, "check", *_bytes)
-_compile = _declare(_apart, "compile", *_bytes, ctypes.c_char_p, ctypes.c_size_t, _size, ctypes.POINTER(ctypes.c_uint64))
+_compile = _declare(_apart, "compile", *_bytes, ctypes.c_char_p, ctypes.c_size_t, _size, _number)
 _error_name = _declare(_library, "error_name", ctypes.c_uint32, ctypes.c_char_p, ctypes.c_size_t, result=ctypes.c_size_t)
-_open = _declare(_library, "open", _handle, *_bytes)
+_open_with = _declare(_apart, "open_with", _handle, *_bytes, ctypes.POINTER(_Entry), ctypes.c_size_t, *_bytes, _number)
 _close = _declare(_library, "close", _handle, result=None)
 _install = _declare(_library, "install", _handle, *_bytes, *_bytes, *_bytes, ctypes.c_bool)
 _replace = _declare(_library, "replace", _handle, *_bytes, *_bytes, *_bytes, ctypes.c_bool)
 _remove = _declare(_library, "remove", _handle, *_bytes, *_bytes)
 _list = _declare(_library, "list", _handle, *_bytes, ctypes.c_char_p, ctypes.c_size_t, _size)
+_usage = _declare(_library, "usage", _handle, *_bytes, _number, _number)
+_apps = _declare(_library, "apps", _handle, _number)
+_look_within = _declare(_library, "look_within", _handle, *_bytes, *_bytes, *_bytes, ctypes.c_uint64, ctypes.POINTER(_Found))
 _look = _declare(_library, "look", _handle, *_bytes, *_bytes, *_bytes, ctypes.POINTER(_Found))
 _text = _declare(_library, "text", _handle, *_bytes, *_bytes, *_bytes, ctypes.c_void_p, ctypes.c_size_t, _size)
 _key = _declare(_library, "key", _handle, *_bytes, *_bytes, *_bytes, ctypes.c_size_t, ctypes.c_char_p, ctypes.c_size_t, _size)
 
 
 class Error(Exception):
-    """An error with its code, such as "BadPath" (`resb explain CODE`), and the line of an error in a text."""
+    """An error with its code, such as "BadPath" (`resb explain CODE`), and the line of an error in a text, or the locale of a bundle
+    of ICUDATA."""
 
-    def __init__(self, number: int, line: int = 0) -> None:
+    def __init__(self, number: int, line: int = 0, locale: str = "") -> None:
         name = ctypes.create_string_buffer(16)
         length = _error_name(number, name, 16)
         self.code = name.raw[:length].decode("ascii")
         self.number = number
         self.line = line
-        super().__init__(f"{self.code}, line {line}" if line else self.code)
+        self.locale = locale
+        place = f", line {line}" if line else f", bundle {locale} of ICUDATA" if locale else ""
+        super().__init__(self.code + place)
 
 
 def check(file: bytes) -> None:
@@ -142,17 +161,33 @@ def _child(path: str, segment: str) -> str:
     return f"{path}/{segment}" if path else segment
 
 
-class Bundles:
-    """The bundles of many applications. An application sees its own bundles alone."""
+def _content(bundle: Bundle) -> bytes:
+    return bundle.encode() if isinstance(bundle, str) else bundle
 
-    def __init__(self) -> None:
+
+class Bundles:
+    """The bundles of many applications. An application sees its own bundles and those of ICUDATA alone.
+
+    `icudata` has the bundles of ICUDATA by their locales, and `parents` is a bundle text with explicit parents (docs/LOOKUP.md)."""
+
+    def __init__(self, icudata: Optional[Mapping[str, Bundle]] = None, parents: str = "") -> None:
         self._lock = threading.Lock()
         self._handle = _Handle(None, False)
         self._found = _Found()
         self._len = ctypes.c_size_t()
         self._make_room(256)
-        seed = os.urandom(16)
-        self._do(_open, self._handle, seed, 16)
+        self._open(list((icudata or {}).items()), parents.encode())
+
+    def _open(self, icudata: "list[tuple[str, Bundle]]", parents: bytes) -> None:
+        entries, place = (_Entry * max(1, len(icudata)))(), ctypes.c_uint64()
+        for entry, (locale, bundle) in zip(entries, icudata):
+            entry.locale, entry.bytes, entry.is_text = locale.encode(), _content(bundle), isinstance(bundle, str)
+            entry.locale_len, entry.len = len(locale.encode()), len(_content(bundle))
+        error = _open_with(self._handle, os.urandom(16), 16, entries, len(icudata), parents, len(parents), place)
+        if error in _OF_ICUDATA:
+            raise Error(error, locale=icudata[place.value][0])
+        if error:
+            raise Error(error, place.value)
 
     def _make_room(self, units: int) -> None:
         self._room = units
@@ -180,19 +215,18 @@ class Bundles:
         if hasattr(self, "_handle"):
             _close(self._handle)
 
-    def install(self, app: str, locale: str, bundle: Union[str, bytes]) -> None:
+    def install(self, app: str, locale: str, bundle: Bundle) -> None:
         """Installs a bundle: a text as str, or a .res file as bytes."""
         self._change(_install, app, locale, bundle)
 
-    def replace(self, app: str, locale: str, bundle: Union[str, bytes]) -> None:
+    def replace(self, app: str, locale: str, bundle: Bundle) -> None:
         """Replaces a bundle: a text as str, or a .res file as bytes."""
         self._change(_replace, app, locale, bundle)
 
-    def _change(self, function, app: str, locale: str, bundle: Union[str, bytes]) -> None:  # type: ignore[no-untyped-def]
-        is_text = isinstance(bundle, str)
-        a, l, b = app.encode(), locale.encode(), bundle.encode() if isinstance(bundle, str) else bundle
+    def _change(self, function, app: str, locale: str, bundle: Bundle) -> None:  # type: ignore[no-untyped-def]
+        a, l, b = app.encode(), locale.encode(), _content(bundle)
         with self._lock:
-            self._do(function, self._handle, a, len(a), l, len(l), b, len(b), is_text)
+            self._do(function, self._handle, a, len(a), l, len(l), b, len(b), isinstance(bundle, str))
 
     def remove(self, app: str, locale: str) -> None:
         """Removes a bundle."""
@@ -214,6 +248,27 @@ class Bundles:
                 raise Error(error)
             return out.raw[: self._len.value].decode("ascii").split("\0")[:-1]
 
+    def usage(self, app: str) -> "tuple[int, int]":
+        """Returns the total length of the files that an application stores, and the number of its bundles."""
+        a, size, count = app.encode(), ctypes.c_uint64(), ctypes.c_uint64()
+        with self._lock:
+            self._do(_usage, self._handle, a, len(a), size, count)
+        return size.value, count.value
+
+    def apps(self) -> int:
+        """Returns the number of applications that have bundles."""
+        count = ctypes.c_uint64()
+        with self._lock:
+            self._do(_apps, self._handle, count)
+        return count.value
+
+    def look_within(self, app: str, locale: str, path: str, steps: int) -> Value:
+        """Looks up like `look`, or raises Error with the code "TooManySteps" if the lookup takes more than this many steps."""
+        a, l, p = app.encode(), locale.encode(), path.encode()
+        with self._lock:
+            self._do(_look_within, self._handle, a, len(a), l, len(l), p, len(p), steps, self._found)
+            return self._value(app, locale, path)
+
     def look(self, app: str, locale: str, path: str) -> Value:
         """Looks up an item: a str, bytes, int (28 bits, with a sign), list of ints, Array or Table."""
         a, l, p = app.encode(), locale.encode(), path.encode()
@@ -233,6 +288,9 @@ class Bundles:
 
     def _value(self, app: str, locale: str, path: str) -> Value:
         found = self._found
+        if found.kind == _STRING:
+            units = ctypes.string_at(found.at, 2 * found.count) if found.count else b""
+            return str(units, "utf-16-le", "surrogatepass")
         if found.kind == _INT:
             return found.number - (1 << 28) if found.number >> 27 else found.number
         if found.kind == _BINARY:

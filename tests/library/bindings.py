@@ -73,6 +73,33 @@ class Test(unittest.TestCase):
         self.bundles.remove("shop", "de")
         self.assertEqual((code(self.look, "greeting"), self.bundles.list("shop")), ("NoBundle", []))
 
+    def test_icudata_and_parents(self):
+        common = {"de": 'de{months{"Januar","Februar"}}', "root": resb.compile('root{months{"M01","M02"}}')}
+        bundles = resb.Bundles(common, 'x{parentLocales{root{"zh_Hant"}}}')
+        self.addCleanup(bundles.close)
+        bundles.install("shop", "root", 'root{x{"root"} month:alias{"/ICUDATA/de/months/1"}}')
+        bundles.install("shop", "zh", 'zh{x{"Z"}}')
+        self.assertEqual((bundles.look("shop", "zh_TW", "x"), bundles.look("shop", "zh_Hant_TW", "x")), ("Z", "root"))
+        self.assertEqual((bundles.look("shop", "fr", "month"), bundles.apps()), ("Februar", 1))
+
+    def test_errors_of_the_start(self):
+        self.assertEqual(code(resb.Bundles, {"root": "root{}", "de": "de{"}), "BadText, bundle de of ICUDATA")
+        self.assertEqual(code(resb.Bundles, {"root": b"x"}), "BadFile, bundle root of ICUDATA")
+        self.assertEqual(code(resb.Bundles, {"de_AT": "de{}", "DE-at": "de{}"}), "Twice, bundle DE-at of ICUDATA")
+        self.assertEqual(code(resb.Bundles, {"-": "de{}"}), "BadLocale, bundle - of ICUDATA")
+        self.assertEqual(code(resb.Bundles, {}, "x{\nparentLocales{"), "Unexpected, line 2")
+        self.assertEqual(code(resb.Bundles, {}, "x{}"), "Shape")
+        self.assertEqual(code(resb.Bundles, {}, 'x{parentLocales{root{"-"}}}'), "BadLocale")
+
+    def test_limits(self):
+        file = resb.compile(TEXT)
+        self.bundles.install("bank", "de", file)
+        self.assertEqual((self.bundles.usage("bank"), self.bundles.usage("none"), self.bundles.apps()), ((len(file), 1), (0, 0), 2))
+        # de and root, each a step, and one more for the segment
+        self.assertEqual(self.bundles.look_within("shop", "de", "greeting", 4), "Grüß")
+        self.assertEqual(self.bundles.look_within("shop", "de", "z", 4), "")
+        self.assertEqual(code(self.bundles.look_within, "shop", "de", "greeting", 3), "TooManySteps")
+
     def test_closed(self):
         self.bundles.close()
         self.assertEqual(code(self.look, "greeting"), "NotOpen")

@@ -124,6 +124,66 @@ static void shares(resb *e) {
     resb_close(&third);
 }
 
+static void limits(resb *e) {
+    resb_found f = {NULL, 0, 0, 0};
+    uint64_t bytes = 9, bundles = 9, apps = 0;
+    EXPECT(resb_usage(e, S("bank"), &bytes, &bundles) == RESB_OK && bytes > 32 && bundles == 1);
+    EXPECT(resb_usage(e, S("none"), &bytes, &bundles) == RESB_OK && bytes == 0 && bundles == 0);
+    EXPECT(resb_usage(e, S("ICUDATA"), &bytes, &bundles) == RESB_RESERVED && resb_usage(e, S("a b"), &bytes, &bundles) == RESB_BAD_APP);
+    EXPECT(resb_install(e, S("many"), S("de"), out, written, false) == RESB_OK);
+    EXPECT(resb_install(e, S("many"), S("fr"), out, written, false) == RESB_OK);
+    EXPECT(resb_usage(e, S("many"), &bytes, &bundles) == RESB_OK && bytes == 2 * written && bundles == 2);
+    EXPECT(resb_apps(e, &apps) == RESB_OK && apps == 3);
+    EXPECT(resb_remove(e, S("many"), S("de")) == RESB_OK && resb_remove(e, S("many"), S("fr")) == RESB_OK);
+    EXPECT(resb_apps(e, &apps) == RESB_OK && apps == 2);
+    /* de and root, each a step, and one more for the segment */
+    EXPECT(resb_look_within(e, S("shop"), S("de"), S("greeting"), 4, &f) == RESB_OK && f.kind == RESB_STRING && f.count == 4);
+    resb_found before = f;
+    EXPECT(resb_look_within(e, S("shop"), S("de"), S("count"), 3, &f) == RESB_TOO_MANY_STEPS && memcmp(&f, &before, sizeof f) == 0);
+    EXPECT(resb_look_within(e, S("shop"), S("de"), S("nothing"), 4, &f) == RESB_MISSING);
+    EXPECT(resb_look_within(e, S("shop"), S("de"), S("a//b"), 0, &f) == RESB_BAD_PATH);
+    EXPECT(resb_look_within(e, S("a b"), S("de"), S("a"), 0, &f) == RESB_BAD_APP);
+}
+
+static uint64_t place;
+
+/* Tries to open an engine with two bundles of ICUDATA and with parents. */
+static uint32_t start(resb *e, resb_entry second, const char *parents) {
+    uint8_t seed[16] = {3};
+    resb_entry entries[] = {{S("root"), S("root{a{\"common\"}}"), true}, second};
+    place = 99;
+    return resb_open_with(e, seed, 16, entries, 2, S(parents), &place);
+}
+
+static void starts(void) {
+    resb e = RESB_CLOSED;
+    resb_found f;
+    uint64_t bytes = 0, bundles = 0;
+    static const char parents[] = "x{parentLocales{root{\"zh_Hant\"}}}";
+    resb_entry de = {S("de"), out, written, false};
+    EXPECT(start(&e, (resb_entry){S("-"), out, written, false}, parents) == RESB_BAD_LOCALE && place == 1);
+    EXPECT(start(&e, (resb_entry){S("-"), out, written, false}, "x{") == RESB_BAD_LOCALE && place == 1);
+    EXPECT(start(&e, (resb_entry){S("de"), out, written - 4, false}, parents) == RESB_BAD_FILE && place == 1);
+    EXPECT(start(&e, (resb_entry){S("de"), S("de{"), true}, parents) == RESB_BAD_TEXT && place == 1);
+    EXPECT(start(&e, (resb_entry){S("root"), out, written, false}, parents) == RESB_TWICE && place == 1);
+    EXPECT(start(&e, (resb_entry){S("de"), S("de{"), true}, "x{\nparentLocales{") == RESB_TEXT_UNEXPECTED && place == 2);
+    EXPECT(start(&e, de, "x{}") == RESB_PARENTS_SHAPE && place == 0);
+    EXPECT(start(&e, de, "x{parentLocales{root{\"-\"}}}") == RESB_PARENTS_BAD_LOCALE && place == 0);
+    EXPECT(start(&e, de, "x{parentLocales{a{\"de\"} b{\"de\"}}}") != RESB_OK && !e.is_open);
+    EXPECT(start(&e, de, "x{parentLocales{aa{\"de\"} bb{\"de\"}}}") == RESB_PARENTS_TWO_PARENTS && place == 0 && !e.is_open);
+    EXPECT(start(&e, de, "") == RESB_OK && place == 0 && e.is_open);
+    EXPECT(start(&e, de, "") == RESB_ALREADY_OPEN && place == 0 && e.is_open);
+    EXPECT(resb_usage(&e, S("shop"), &bytes, &bundles) == RESB_OK && bundles == 0);
+    resb_close(&e);
+    EXPECT(start(&e, de, parents) == RESB_OK);
+    EXPECT(resb_install(&e, S("shop"), S("zh"), S("zh{x{\"Z\"}}"), true) == RESB_OK);
+    EXPECT(resb_install(&e, S("shop"), S("root"), S("root{x{\"root\"} m:alias{\"/ICUDATA/de/menu/open\"}}"), true) == RESB_OK);
+    EXPECT(resb_look(&e, S("shop"), S("zh_TW"), S("x"), &f) == RESB_OK && f.count == 1);
+    EXPECT(resb_look(&e, S("shop"), S("zh_Hant_TW"), S("x"), &f) == RESB_OK && f.count == 4);
+    EXPECT(resb_look(&e, S("shop"), S("fr"), S("m"), &f) == RESB_OK && f.count == 3 && ((const uint16_t *)f.at)[0] == 'A');
+    resb_close(&e);
+}
+
 static void removes(resb *e) {
     resb_found f;
     EXPECT(resb_remove(e, S("shop"), S("de")) == RESB_OK && resb_remove(e, S("shop"), S("de")) == RESB_ABSENT);
@@ -143,6 +203,8 @@ int main(void) {
     lists(&e);
     looks(&e);
     copies(&e);
+    limits(&e);
+    starts();
     shares(&e);
     removes(&e);
     puts("each call answered as expected");

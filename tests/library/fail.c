@@ -70,6 +70,13 @@ static void history(void) {
         EXPECT(!worked(resb_remove(&e, S("shop"), S("root"))) || resb_remove(&e, S("shop"), S("root")) != RESB_OK);
     resb_close(&e);
     EXPECT(!e.is_open);
+    resb_entry entries[] = {{S("root"), S("root{a{\"b\"}}"), true}, {S("de"), out, written, false}};
+    uint64_t place;
+    if (worked(resb_open_with(&e, seed, 16, entries, 2, S("x{parentLocales{root{\"zh_Hant\"}}}"), &place)))
+        EXPECT(e.is_open && resb_look_within(&e, S("shop"), S("de"), S("greeting"), 9, &f) == RESB_NO_BUNDLE);
+    else
+        EXPECT(!e.is_open && place == 0);
+    resb_close(&e);
 }
 
 int main(void) {

@@ -1,5 +1,5 @@
 -- Defines what a lookup answers in C (kinds: `UResType` of ICU's `ures.h`), a rule of this project.
-use Rattle.std.specs.Prelude.{◌≡◌, ◌⊎◌, ◌<◌, ℕ, List, Option, Some, None, IfSome, length}
+use Rattle.std.specs.Prelude.{◌≡◌, ◌⊎◌, ◌<◌, ℕ, Bool, List, Option, Some, None, IfSome, length}
 use Rattle.rb_tree.specs.Parts.{kind_of, len_of}
 use Rattle.rb_tree.specs.declared.kind.Kind.{Kind}
 use Rattle.rb_tree.specs.declared.kind.Kind.TheVariants as kinds
@@ -7,11 +7,17 @@ use Rattle.rb_views.specs.Parts.{text_of, uint_of}
 use Rattle.rb_engine.specs.Ask.{Looks}
 use Rattle.rb_engine.specs.Answer.{Response, Replies, Finds, Refuses, answer_over}
 use Rattle.rb_engine.specs.Kept.{Kept, state_of}
+use Rattle.rb_engine.specs.Place.{place_of}
+use Rattle.rb_engine.specs.Steps.{takes_more}
 use Rattle.resb.specs.Numbers.{look_number}
 
 -- the answer of the engine's theorem: it reads the application's own bundles, and those of ICUDATA
 abbrev pub answer_in : Kept → List ℕ → List ℕ → List ℕ → Response
 answer_in engine app locale path = answer_over (state_of engine).start ((state_of engine).lists app) (Looks app locale path)
+
+-- whether the lookup takes more than this many steps
+abbrev pub takes_more_in : Kept → ℕ → List ℕ → List ℕ → List ℕ → Bool
+takes_more_in engine steps app locale path = takes_more steps (state_of engine).start ((state_of engine).lists app) (place_of app locale) path
 
 abbrev pub response_number : Response → ℕ
 response_number (Replies reply) = 0

@@ -5,6 +5,8 @@ use Rattle.rb_format.specs.declared.fault.FileFault.{FileFault}
 use Rattle.rb_format.specs.declared.fault.FileFault.TheVariants as file
 use Rattle.rb_lexer.specs.declared.fault.SourceKind.{SourceKind}
 use Rattle.rb_lexer.specs.declared.fault.SourceKind.TheVariants as text
+use Rattle.rb_packages.specs.declared.app.AppFault.{AppFault}
+use Rattle.rb_packages.specs.declared.app.AppFault.TheVariants as app
 use Rattle.rb_engine.specs.declared.request.LookFault.{LookFault}
 use Rattle.rb_engine.specs.declared.request.LookFault.TheVariants as look
 use Rattle.rb_engine.specs.declared.request.Reply.{Reply}
@@ -76,3 +78,8 @@ reply_number (reply.Names names) = 99
 -- the number of the first fault of a file, or that of out of memory
 abbrev pub IsFileError : List ℕ → ℕ → Type 0
 IsFileError bytes n = (n ≡ 1) ⊎ ((fault : FileFault) × (first_fault bytes ≡ Some fault) × (n ≡ file_number fault))
+
+-- the number of a name that isn't one of an application
+abbrev pub app_number : AppFault → ℕ
+app_number app.BadApp = 11
+app_number app.Reserved = 12

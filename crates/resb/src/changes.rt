@@ -18,7 +18,7 @@ pub(crate) fn list_of(alloc: Global, bytes: &[u8]) -> Result<ByteList, AllocErro
     Ok(ByteList::from_vec(bytes.to_vec(alloc)?))
 }
 
-fn payload_of(alloc: Global, bytes: &[u8], is_text: bool) -> Result<Payload, AllocError>
+pub(crate) fn payload_of(alloc: Global, bytes: &[u8], is_text: bool) -> Result<Payload, AllocError>
     ensures { IfOk result (λ p. p ≡ payload_of is_text bytes.now) }
 {
     let list = list_of(alloc, bytes)?;

@@ -4,6 +4,7 @@
 mod changes;
 mod check;
 mod compile;
+mod entry;
 mod found;
 mod held;
 mod lists;
@@ -11,3 +12,5 @@ mod looks;
 mod names;
 mod numbers;
 mod open;
+mod start;
+mod usage;

@@ -1,11 +1,11 @@
-ghost use Rattle.std.specs.Prelude.{◌≡◌, ◌≢◌, ◌≤◌, IfNone, IfSome, length, take};
+ghost use Rattle.std.specs.Prelude.{◌≡◌, ◌≢◌, ◌≤◌, IfNone, IfSome, length, take, true, false};
 ghost use Rattle.rb_views.specs.Seen.{units_seen};
 ghost use Rattle.rb_handle.specs.Stored.{engine_of};
-ghost use Rattle.resb.specs.Looks.{answer_in, response_number, Describes, Copies};
+ghost use Rattle.resb.specs.Looks.{answer_in, takes_more_in, response_number, Describes, Copies};
 
 use crate::found::Found;
 use crate::held::take;
-use crate::numbers::{CLOSED, NO_ROOM, OTHER_KIND, look_number};
+use crate::numbers::{CLOSED, NO_ROOM, OTHER_KIND, TOO_MANY_STEPS, look_number};
 use rb_engine::Engine;
 use rb_handle::Handle;
 use rb_views::Units;
@@ -49,6 +49,66 @@ pub extern "C" fn resb_look(
         return CLOSED;
     };
     let result = look_in(&engine, app, locale, path, found);
+    *handle = Handle::of(engine);
+    result
+}
+
+fn look_within(
+    engine: &Engine,
+    app: &[u8],
+    locale: &[u8],
+    path: &[u8],
+    steps: u64,
+    found: &mut Found,
+) -> u32
+    ensures within { result ≢ 30
+        → takes_more_in engine.now steps app.now locale.now path.now ≡ false }
+    ensures more { result ≡ 30
+        → takes_more_in engine.now steps app.now locale.now path.now ≡ true }
+    ensures answer { result ≢ 30
+        → result ≡ response_number (answer_in engine.now app.now locale.now path.now) }
+    ensures describes { result ≢ 30 → Describes (answer_in engine.now app.now locale.now path.now)
+        found.new.kind found.new.count found.new.number }
+    ensures unchanged { result ≢ 0 → found.new ≡ found.old }
+{
+    match engine.look_within(app, locale, path, steps) {
+        Ok(Ok(it)) => {
+            *found = Found::of(it.node);
+            0
+        }
+        Ok(Err(fault)) => look_number(fault),
+        Err(_) => TOO_MANY_STEPS,
+    }
+}
+
+/// Looks up like `resb_look`, or returns 30 if the lookup takes more than this many steps.
+#[unsafe(no_mangle)]
+pub extern "C" fn resb_look_within(
+    alloc: Global,
+    handle: &mut Handle,
+    app: &[u8],
+    locale: &[u8],
+    path: &[u8],
+    steps: u64,
+    found: &mut Found,
+) -> u32
+    ensures stays { engine_of handle.new ≡ engine_of handle.old }
+    ensures within { result ≢ 30 → IfSome (engine_of handle.old)
+        (λ e. takes_more_in e steps app.now locale.now path.now ≡ false) }
+    ensures more { result ≡ 30 → IfSome (engine_of handle.old)
+        (λ e. takes_more_in e steps app.now locale.now path.now ≡ true) }
+    ensures answer { result ≢ 30 → IfSome (engine_of handle.old) (λ e. result
+        ≡ response_number (answer_in e app.now locale.now path.now)) }
+    ensures describes { result ≢ 30 → IfSome (engine_of handle.old) (λ e. Describes
+        (answer_in e app.now locale.now path.now)
+        found.new.kind found.new.count found.new.number) }
+    ensures unchanged { result ≢ 0 → found.new ≡ found.old }
+    ensures closed { IfNone (engine_of handle.old) (result ≡ 2) }
+{
+    let Some(engine) = take(alloc, handle) else {
+        return CLOSED;
+    };
+    let result = look_within(&engine, app, locale, path, steps, found);
     *handle = Handle::of(engine);
     result
 }

@@ -51,6 +51,7 @@ fn request_name(error: u32) -> &'static str {
         16 => "Exists",
         17 => "Absent",
         18 => "Full",
+        19 => "Twice",
         21 => "BadPath",
         22 => "PathTooLong",
         23 => "Chain",
@@ -60,6 +61,16 @@ fn request_name(error: u32) -> &'static str {
         27 => "AliasText",
         28 => "AliasPackage",
         29 => "TooManyAliases",
+        30 => "TooManySteps",
+        _ => "",
+    }
+}
+
+fn parents_name(error: u32) -> &'static str {
+    match error {
+        71 => "Shape",
+        72 => "BadLocale",
+        73 => "TwoParents",
         _ => "",
     }
 }
@@ -76,7 +87,8 @@ fn name(error: u32) -> &'static str {
         7 => "NoEntry",
         8..=30 => request_name(error),
         31..=50 => text_name(error),
-        _ => file_name(error),
+        51..=70 => file_name(error),
+        _ => parents_name(error),
     }
 }
 

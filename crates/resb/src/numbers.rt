@@ -1,8 +1,8 @@
 //! The numbers of errors, which `resb.h` names.
 ghost use Rattle.std.specs.Prelude.{◌≡◌, ◌≢◌};
-ghost use Rattle.resb.specs.Numbers.{file_number, text_number, look_number, reply_number};
+ghost use Rattle.resb.specs.Numbers.{file_number, text_number, look_number, reply_number, app_number};
 
-use rb_engine::{LookFault, Reply};
+use rb_engine::{AppFault, LookFault, Reply};
 use rb_format::FileFault;
 use rb_lexer::SourceKind;
 
@@ -25,6 +25,9 @@ pub(crate) const NO_ENTRY: u32 = 7;
 
 /// The item is of another kind.
 pub(crate) const OTHER_KIND: u32 = 6;
+
+/// The lookup takes more steps than the caller allows.
+pub(crate) const TOO_MANY_STEPS: u32 = 30;
 
 pub(crate) fn file_number(fault: FileFault) -> u32
     ensures number { result ≡ file_number fault }
@@ -77,6 +80,7 @@ pub(crate) fn text_number(kind: SourceKind) -> u32
 pub(crate) fn look_number(fault: LookFault) -> u32
     ensures number { result ≡ look_number fault }
     ensures error { result ≢ 0 }
+    ensures steps { result ≢ 30 }
 {
     match fault {
         LookFault::BadApp => 11,
@@ -111,5 +115,15 @@ pub(crate) fn reply_number(reply: &Reply) -> u32
         Reply::Absent => 17,
         Reply::Full => 18,
         Reply::Names(_) => 99,
+    }
+}
+
+pub(crate) fn app_number(fault: AppFault) -> u32
+    ensures number { result ≡ app_number fault }
+    ensures error { result ≢ 0 }
+{
+    match fault {
+        AppFault::BadApp => 11,
+        AppFault::Reserved => 12,
     }
 }

@@ -1,9 +1,12 @@
 ghost use Rattle.std.specs.Prelude.{◌≡◌, ◌≢◌, None, IfNone, IfSome};
 ghost use Rattle.rb_handle.specs.Stored.{engine_of};
 ghost use Rattle.resb.specs.Open.{IsEmpty};
+ghost use Rattle.resb.specs.Start.{IsStarted, IsRefused};
 
+use crate::entry::Entry;
 use crate::held::take;
 use crate::numbers::{CLOSED, MEMORY, OPEN};
+use crate::start::start;
 use rb_engine::Engine;
 use rb_handle::Handle;
 use rb_parents::Parents;
@@ -28,13 +31,25 @@ impl RandomSource for Seed<'_> {
     }
 }
 
+/// Returns a random state made of the caller's bytes.
+pub(crate) fn seeded(seed: &[u8]) -> Option<RandomState> {
+    RandomState::new(&Seed { bytes: seed }).ok()
+}
+
+/// Moves an engine to where handles can share it.
+pub(crate) fn shareable(alloc: Global, engine: Engine) -> Option<Box<Arc<Engine>>>
+    ensures { IfSome result (λ b. b.value.value ≡ engine) }
+{
+    let counted = Arc::new(alloc, engine).ok()?;
+    Box::new(alloc, counted).ok()
+}
+
 fn new_engine(alloc: Global, seed: &[u8]) -> Option<Box<Arc<Engine>>>
     ensures { IfSome result (λ b. IsEmpty b.value.value) }
 {
-    let state = RandomState::new(&Seed { bytes: seed }).ok()?;
+    let state = seeded(seed)?;
     let engine = Engine::start(alloc, state, Vec::new(alloc), Parents::none(alloc)).ok()?;
-    let counted = Arc::new(alloc, engine).ok()?;
-    Box::new(alloc, counted).ok()
+    shareable(alloc, engine)
 }
 
 /// Opens an engine without bundles. Its hashes are seeded by 16 random bytes.
@@ -55,6 +70,43 @@ pub extern "C" fn resb_open(alloc: Global, handle: &mut Handle, seed: &[u8]) -> 
             0
         }
         None => MEMORY,
+    }
+}
+
+/// Opens an engine with the bundles of ICUDATA, and with the explicit parents of a bundle text. An
+/// empty text gives none. Writes to `place` the index of the first invalid bundle, or the line of
+/// the first error in the text, else 0.
+#[unsafe(no_mangle)]
+pub extern "C" fn resb_open_with(
+    alloc: Global,
+    handle: &mut Handle,
+    seed: &[u8],
+    icudata: &[Entry<'_>],
+    parents: &[u8],
+    place: &mut u64,
+) -> u32
+    ensures opened { result ≡ 0 → IfSome (engine_of handle.new)
+        (IsStarted icudata.now parents.now) }
+    ensures there { result ≡ 0 → engine_of handle.new ≢ None }
+    ensures was_closed { result ≡ 0 → engine_of handle.old ≡ None }
+    ensures unchanged { result ≢ 0 → engine_of handle.new ≡ engine_of handle.old }
+    ensures refused { result ≢ 0 → result ≢ 3
+        → IsRefused icudata.now parents.now result place.new }
+{
+    *place = 0;
+    if let Some(engine) = take(alloc, handle) {
+        *handle = Handle::of(engine);
+        return OPEN;
+    }
+    match start(alloc, seed, icudata, parents) {
+        Ok(engine) => {
+            *handle = Handle::of(engine);
+            0
+        }
+        Err(error) => {
+            *place = error.place();
+            error.number()
+        }
     }
 }
 

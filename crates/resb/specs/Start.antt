@@ -1,0 +1,95 @@
+-- Defines the engine that a C program opens with bundles of ICUDATA and explicit parents, or the first error, a rule of
+-- this project.
+use Rattle.std.specs.Prelude.{◌≡◌, ◌⊎◌, ℕ, List, [], Option, Some, None, map, option_map, take, slice_get}
+use Rattle.rb_tree.specs.SourceTree.{SourceTree}
+use Rattle.rb_lexer.specs.declared.fault.SourceFault.{SourceFault}
+use Rattle.rb_parser.specs.Source.{IsGoodSource, IsRefusal}
+use Rattle.rb_locales.specs.Locale.{name}
+use Rattle.rb_parents.specs.Trail.{ParentsOf}
+use Rattle.rb_parents.specs.Explicit.{GivesParents, RefusesParents}
+use Rattle.rb_parents.specs.declared.fault.ParentsFault.TheVariants as parents
+use Rattle.rb_engine.specs.Kept.{Kept, state_of}
+use Rattle.rb_engine.specs.Start.{Entries, Loads}
+use Rattle.rb_engine.specs.Start as engine
+use Rattle.rb_engine.specs.declared.request.Payload.{Payload}
+use Rattle.rb_engine.specs.declared.start.StartFault.TheVariants as entries
+use Rattle.resb.specs.Changes.{payload_of}
+use Rattle.resb.specs.Numbers.{text_number}
+use Rattle.resb.specs.declared.entry.Entry.{Entry}
+use Rattle.resb.specs.declared.start.StartError.{StartError}
+use Rattle.resb.specs.declared.start.StartError.TheVariants.{Locale, Entries as Entry_fault, Text, Parents, Memory}
+
+-- the name and the payload of an entry, whose locale must be a name
+abbrev pub entry_of : Entry → Option (List ℕ × Payload)
+entry_of e = option_map (λ n. (n, payload_of e.is_text e.bytes.now)) (name e.locale.now)
+
+abbrev pub AreEntries : List Entry → Entries → Type 0
+AreEntries given entries = map Some entries ≡ map entry_of given
+
+-- the parents that a text gives; an empty one gives none
+abbrev pub HasParents : List ℕ → ParentsOf → Type 0
+HasParents text m = ((text ≡ []) × ((n : List ℕ) → m n ≡ None))
+    ⊎ ((bundle : List ℕ) × (source : SourceTree) × IsGoodSource text bundle source × GivesParents source.tree m)
+
+-- an engine with these bundles of ICUDATA, these parents, and no bundles of applications
+abbrev pub IsStarted : List Entry → List ℕ → Kept → Type 0
+IsStarted given text engine = (entries : Entries) × AreEntries given entries
+    × Loads [] entries (state_of engine).start.icudata
+    × ((m : ParentsOf) × HasParents text m × ((n : List ℕ) → (state_of engine).start.parents n ≡ m n))
+    × ((app : List ℕ) → (state_of engine).lists app ≡ [])
+
+-- the first entry whose locale isn't a name
+abbrev pub IsFirstUnnamed : List Entry → ℕ → Type 0
+IsFirstUnnamed given i = (e : Entry) × (slice_get given i ≡ Some e) × (name e.locale.now ≡ None)
+    × ((before : Entries) × AreEntries (take i given) before)
+
+abbrev pub IsEntryError : List Entry → StartError → Type 0
+IsEntryError given (Locale i) = IsFirstUnnamed given i
+IsEntryError given Memory = Unit {0}
+IsEntryError given (Entry_fault fault) = ⊥
+IsEntryError given (Text fault) = ⊥
+IsEntryError given (Parents fault) = ⊥
+
+abbrev pub IsParentsError : List ℕ → StartError → Type 0
+IsParentsError text (Text fault) = IsRefusal text fault
+IsParentsError text (Parents fault) = (fault ≡ parents.Memory)
+    ⊎ ((bundle : List ℕ) × (source : SourceTree) × IsGoodSource text bundle source × RefusesParents source.tree fault)
+IsParentsError text Memory = Unit {0}
+IsParentsError text (Locale i) = ⊥
+IsParentsError text (Entry_fault fault) = ⊥
+
+-- an error of the entries' locales, of the parents, or of the entries' payloads, in this order
+abbrev pub IsStartError : List Entry → List ℕ → StartError → Type 0
+IsStartError given text (Locale i) = IsFirstUnnamed given i
+IsStartError given text (Text fault) = IsRefusal text fault
+IsStartError given text (Parents fault) = IsParentsError text (Parents fault)
+IsStartError given text (Entry_fault fault) = (entries : Entries) × AreEntries given entries × engine.IsRefused entries fault
+IsStartError given text Memory = Unit {0}
+
+abbrev pub error_number : StartError → ℕ
+error_number (Locale i) = 13
+error_number (Entry_fault (entries.BadText i)) = 14
+error_number (Entry_fault (entries.BadFile i)) = 15
+error_number (Entry_fault (entries.Twice i)) = 19
+error_number (Entry_fault entries.Memory) = 1
+error_number (Text fault) = text_number fault.kind
+error_number (Parents parents.Shape) = 71
+error_number (Parents parents.BadLocale) = 72
+error_number (Parents parents.TwoParents) = 73
+error_number (Parents parents.Memory) = 1
+error_number Memory = 1
+
+-- the index of an entry, or a line of the text
+abbrev pub error_place : StartError → ℕ
+error_place (Locale i) = i
+error_place (Entry_fault (entries.BadText i)) = i
+error_place (Entry_fault (entries.BadFile i)) = i
+error_place (Entry_fault (entries.Twice i)) = i
+error_place (Entry_fault entries.Memory) = 0
+error_place (Text fault) = fault.line
+error_place (Parents fault) = 0
+error_place Memory = 0
+
+-- the number and the place of the error
+abbrev pub IsRefused : List Entry → List ℕ → ℕ → ℕ → Type 0
+IsRefused given text n place = (error : StartError) × IsStartError given text error × (n ≡ error_number error) × (place ≡ error_place error)
