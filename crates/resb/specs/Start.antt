@@ -2,7 +2,6 @@
 -- this project.
 use Rattle.std.specs.Prelude.{◌≡◌, ◌⊎◌, ℕ, List, [], Option, Some, None, map, option_map, take, slice_get}
 use Rattle.rb_tree.specs.SourceTree.{SourceTree}
-use Rattle.rb_lexer.specs.declared.fault.SourceFault.{SourceFault}
 use Rattle.rb_parser.specs.Source.{IsGoodSource, IsRefusal}
 use Rattle.rb_locales.specs.Locale.{name}
 use Rattle.rb_parents.specs.Trail.{ParentsOf}

@@ -1,4 +1,4 @@
-use Rattle.std.proofs.Common.{◌≡◌, take}
+use Rattle.std.proofs.Common.{take}
 use Rattle.resb.specs.Start.{AreEntries}
 use Rattle.resb.proofs.start.entries_of.Given as goal
 
