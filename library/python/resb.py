@@ -11,6 +11,7 @@ A thin layer over libresb.so.0; docs/LIBRARY.md describes both. Threads may shar
 
 from __future__ import annotations
 
+import codecs
 import ctypes
 import os
 import threading
@@ -74,6 +75,12 @@ _apps = _declare(_library, "apps", _handle, _number)
 _look_within = _declare(_library, "look_within", _handle, *_bytes, *_bytes, *_bytes, ctypes.c_uint64, ctypes.POINTER(_Found))
 _look = _declare(_library, "look", _handle, *_bytes, *_bytes, *_bytes, ctypes.POINTER(_Found))
 _text = _declare(_library, "text", _handle, *_bytes, *_bytes, *_bytes, ctypes.c_void_p, ctypes.c_size_t, _size)
+# The same function without declared types, whose arguments take half as long to convert. Each must have its C type: a plain int would
+# leave half of a size_t undefined.
+_quick_text = ctypes.PyDLL(_file).resb_text
+_quick_text.restype = ctypes.c_uint32
+_decode = codecs.utf_16_le_decode
+_sizes = [ctypes.c_size_t(size) for size in range(1100)]  # the longest path has 1,024 bytes
 _key = _declare(_library, "key", _handle, *_bytes, *_bytes, *_bytes, ctypes.c_size_t, ctypes.c_char_p, ctypes.c_size_t, _size)
 
 
@@ -173,8 +180,10 @@ class Bundles:
     def __init__(self, icudata: Optional[Mapping[str, Bundle]] = None, parents: str = "") -> None:
         self._lock = threading.Lock()
         self._handle = _Handle(None, False)
+        self._by_handle = ctypes.byref(self._handle)
         self._found = _Found()
         self._len = ctypes.c_size_t()
+        self._by_len = ctypes.byref(self._len)
         self._make_room(256)
         self._open(list((icudata or {}).items()), parents.encode())
 
@@ -190,9 +199,9 @@ class Bundles:
             raise Error(error, place.value)
 
     def _make_room(self, units: int) -> None:
-        self._room = units
+        self._room = ctypes.c_size_t(units)
         self._units = (ctypes.c_uint16 * units)()
-        self._at = ctypes.addressof(self._units)
+        self._at = ctypes.c_void_p(ctypes.addressof(self._units))
         self._view = memoryview(self._units).cast("B")
 
     def _do(self, function, *arguments) -> None:  # type: ignore[no-untyped-def]
@@ -272,15 +281,18 @@ class Bundles:
     def look(self, app: str, locale: str, path: str) -> Value:
         """Looks up an item: a str, bytes, int (28 bits, with a sign), list of ints, Array or Table."""
         a, l, p = app.encode(), locale.encode(), path.encode()
+        try:
+            sizes = _sizes[len(a)], _sizes[len(l)], _sizes[len(p)]
+        except IndexError:
+            sizes = ctypes.c_size_t(len(a)), ctypes.c_size_t(len(l)), ctypes.c_size_t(len(p))
         with self._lock:
-            count = self._len
-            error = _text(self._handle, a, len(a), l, len(l), p, len(p), self._at, self._room, count)
+            error = _quick_text(self._by_handle, a, sizes[0], l, sizes[1], p, sizes[2], self._at, self._room, self._by_len)
             if not error:
-                return str(self._view[: 2 * count.value], "utf-16-le", "surrogatepass")
+                return _decode(self._view[: 2 * self._len.value], "surrogatepass", True)[0]
             if error == _NO_ROOM:
-                self._make_room(count.value)
-                self._do(_text, self._handle, a, len(a), l, len(l), p, len(p), self._at, self._room, count)
-                return str(self._view[: 2 * count.value], "utf-16-le", "surrogatepass")
+                self._make_room(self._len.value)
+                self._do(_text, self._handle, a, len(a), l, len(l), p, len(p), self._at, self._room, self._len)
+                return _decode(self._view[: 2 * self._len.value], "surrogatepass", True)[0]
             if error != _OTHER_KIND:
                 raise Error(error)
             self._do(_look, self._handle, a, len(a), l, len(l), p, len(p), self._found)
@@ -290,7 +302,7 @@ class Bundles:
         found = self._found
         if found.kind == _STRING:
             units = ctypes.string_at(found.at, 2 * found.count) if found.count else b""
-            return str(units, "utf-16-le", "surrogatepass")
+            return _decode(units, "surrogatepass", True)[0]
         if found.kind == _INT:
             return found.number - (1 << 28) if found.number >> 27 else found.number
         if found.kind == _BINARY:
