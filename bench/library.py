@@ -15,7 +15,8 @@ import time
 import icu as data_of_icu
 from turns import TOP
 
-LOCALE, PATH = "de_AT", "calendar/gregorian/monthNames/format/wide/0"
+LOCALE, KEYS = "de_AT", ("calendar", "gregorian", "monthNames", "format", "wide")
+PATH = "/".join(KEYS)
 
 
 def timed(call, rounds=20000):
@@ -26,7 +27,7 @@ def timed(call, rounds=20000):
 
 
 def python(library, folder, turns):
-    """Prints the times of the module resb and of PyICU, whose bundle is kept, for one string."""
+    """Prints the times of the module resb and of PyICU, whose bundle is kept, for one string: key by key, and by a path of keys."""
     sys.path.insert(0, library)
     os.environ["RESB_LIBRARY"] = os.path.join(library, "libresb.so.0")
     import resb
@@ -42,15 +43,25 @@ def python(library, folder, turns):
     except ImportError:
         print("PyICU: skipped: it isn't there")
         icu = None
+    def by_keys():
+        item = kept
+        for key in KEYS:
+            item = item.getWithFallback(key)
+        return item.get(0).getString()
+
+    def by_path():
+        return kept.getWithFallback(PATH).get(0).getString()
+
+    kept = icu and icu.ResourceBundle(folder, icu.Locale(LOCALE))
+    if kept and not by_keys() == by_path() == bundles.look("cldr", LOCALE, PATH + "/0"):
+        sys.exit("the answers differ")
     for _ in range(turns):
-        ours = timed(lambda: bundles.look("cldr", LOCALE, PATH))
-        if icu:
-            kept = icu.ResourceBundle(folder, icu.Locale(LOCALE))
-            theirs = timed(lambda: kept.getWithFallback("calendar").getWithFallback("gregorian").getWithFallback("monthNames")
-                           .getWithFallback("format").getWithFallback("wide").get(0).getString())
-            print(f"Python: resb {ours:.2f} us, PyICU {theirs:.2f} us, {ours / theirs:.2f} times PyICU's time")
-        else:
-            print(f"Python: resb {ours:.2f} us")
+        ours = timed(lambda: bundles.look("cldr", LOCALE, PATH + "/0"))
+        line = f"Python: resb {ours:.2f} us"
+        for name, call in (("key by key", by_keys), ("by path", by_path)) if kept else ():
+            theirs = timed(call)
+            line += f", PyICU {name} {theirs:.2f} us ({ours / theirs:.2f} times its time)"
+        print(line)
 
 
 def main():

@@ -200,9 +200,9 @@ class Bundles:
 
     def _make_room(self, units: int) -> None:
         self._room = ctypes.c_size_t(units)
-        self._units = (ctypes.c_uint16 * units)()
+        self._bytes = bytearray(2 * units)
+        self._units = (ctypes.c_uint16 * units).from_buffer(self._bytes)
         self._at = ctypes.c_void_p(ctypes.addressof(self._units))
-        self._view = memoryview(self._units).cast("B")
 
     def _do(self, function, *arguments) -> None:  # type: ignore[no-untyped-def]
         error = function(*arguments)
@@ -282,17 +282,17 @@ class Bundles:
         """Looks up an item: a str, bytes, int (28 bits, with a sign), list of ints, Array or Table."""
         a, l, p = app.encode(), locale.encode(), path.encode()
         try:
-            sizes = _sizes[len(a)], _sizes[len(l)], _sizes[len(p)]
+            an, ln, pn = _sizes[len(a)], _sizes[len(l)], _sizes[len(p)]
         except IndexError:
-            sizes = ctypes.c_size_t(len(a)), ctypes.c_size_t(len(l)), ctypes.c_size_t(len(p))
+            an, ln, pn = ctypes.c_size_t(len(a)), ctypes.c_size_t(len(l)), ctypes.c_size_t(len(p))
         with self._lock:
-            error = _quick_text(self._by_handle, a, sizes[0], l, sizes[1], p, sizes[2], self._at, self._room, self._by_len)
+            error = _quick_text(self._by_handle, a, an, l, ln, p, pn, self._at, self._room, self._by_len)
             if not error:
-                return _decode(self._view[: 2 * self._len.value], "surrogatepass", True)[0]
+                return _decode(self._bytes[: 2 * self._len.value], "surrogatepass", True)[0]
             if error == _NO_ROOM:
                 self._make_room(self._len.value)
                 self._do(_text, self._handle, a, len(a), l, len(l), p, len(p), self._at, self._room, self._len)
-                return _decode(self._view[: 2 * self._len.value], "surrogatepass", True)[0]
+                return _decode(self._bytes[: 2 * self._len.value], "surrogatepass", True)[0]
             if error != _OTHER_KIND:
                 raise Error(error)
             self._do(_look, self._handle, a, len(a), l, len(l), p, len(p), self._found)
