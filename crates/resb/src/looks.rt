@@ -81,7 +81,8 @@ fn look_within(
     }
 }
 
-/// Looks up like `resb_look`, or returns 30 if the lookup takes more than this many steps.
+/// Looks up like `resb_look`, or returns the number of `TooManySteps` if the lookup takes more than
+/// this many steps.
 #[unsafe(no_mangle)]
 pub extern "C" fn resb_look_within(
     alloc: Global,

@@ -90,8 +90,9 @@ pub extern "C" fn resb_open_with(
     ensures there { result ≡ 0 → engine_of handle.new ≢ None }
     ensures was_closed { result ≡ 0 → engine_of handle.old ≡ None }
     ensures unchanged { result ≢ 0 → engine_of handle.new ≡ engine_of handle.old }
-    ensures refused { result ≢ 0 → result ≢ 3
-        → IsRefused icudata.now parents.now result place.new }
+    ensures busy { IfSome (engine_of handle.old) (λ _. result ≡ 3) }
+    ensures refused { IfNone (engine_of handle.old)
+        (result ≢ 0 → IsRefused icudata.now parents.now result place.new) }
 {
     *place = 0;
     if let Some(engine) = take(alloc, handle) {
