@@ -1,4 +1,4 @@
-/* Damages files, each in a block of exactly its size: the check and an install agree, and what they accept can be read to its end.
+/* Damages files, each in a block of exactly its size: the check, an install and a start agree, and what they accept can be read to its end.
  * usage: damage COPIES FILE.. */
 #include "common.h"
 
@@ -43,6 +43,14 @@ static uint8_t *damaged(const uint8_t *file, size_t *len, int turn, uint64_t *ra
     return copy;
 }
 
+/* Opens an engine whose ICUDATA has one file. */
+static uint32_t start(resb *e, const uint8_t *file, size_t len) {
+    uint8_t seed[16] = {2};
+    uint64_t place;
+    resb_entry entry = {S("de"), file, len, false};
+    return resb_open_with(e, seed, 16, &entry, 1, S(""), &place);
+}
+
 int main(int argc, char **argv) {
     uint64_t random = 42;
     long tried = 0, accepted = 0;
@@ -54,9 +62,11 @@ int main(int argc, char **argv) {
             size_t len = whole;
             uint8_t *copy = damaged(file, &len, turn, &random);
             uint8_t seed[16] = {1};
-            resb e = RESB_CLOSED;
+            resb e = RESB_CLOSED, common = RESB_CLOSED;
             EXPECT(resb_open(&e, seed, 16) == RESB_OK);
             uint32_t checked = resb_check(copy, len), installed = resb_install(&e, S("a"), S("de"), copy, len, false);
+            EXPECT(start(&common, copy, len) == (checked ? RESB_BAD_FILE : RESB_OK) && common.is_open == !checked);
+            resb_close(&common);
             free(copy);
             EXPECT(installed == (checked ? RESB_BAD_FILE : RESB_OK) && (checked == 0 || checked >= RESB_FILE_TOO_LONG));
             char path[1024];

@@ -36,6 +36,22 @@ static void *replace(void *a) {
     return a;
 }
 
+static void *start(void *a) {
+    static const char parents[] = "x{parentLocales{root{\"zh_Hant\"}}}";
+    uint8_t seed[16] = {0};
+    uint64_t place;
+    resb_entry entries[] = {{S("de"), text, text_len, true}, {S("root"), out, written, false}};
+    resb other = RESB_CLOSED;
+    result = resb_open_with(&other, seed, 16, entries, 2, S(parents), &place);
+    resb_close(&other);
+    return a;
+}
+
+static void *look_within(void *a) {
+    result = resb_look_within(&e, S("a"), S("de_DE_POSIX"), S(path), 1000, &f);
+    return a;
+}
+
 static void *look(void *a) {
     result = resb_look(&e, S("a"), S("de_DE_POSIX"), S(path), &f);
     return a;
@@ -86,7 +102,9 @@ int main(void) {
     measure("check", check);
     measure("install", install);
     measure("replace", replace);
+    measure("start", start);
     measure("look", look);
+    measure("look_within", look_within);
     measure("text", copy);
     resb_close(&e);
     free(text);
