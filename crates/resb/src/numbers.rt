@@ -1,6 +1,7 @@
 //! The numbers of errors, which `resb.h` names.
 ghost use Rattle.std.specs.Prelude.{◌≡◌, ◌≢◌};
-ghost use Rattle.resb.specs.Numbers.{file_number, text_number, look_number, reply_number, app_number};
+ghost use Rattle.resb.specs.Numbers.{app_number, file_number, text_number};
+ghost use Rattle.resb.specs.Numbers.{look_number, reply_number};
 
 use rb_engine::{AppFault, LookFault, Reply};
 use rb_format::FileFault;

@@ -1,4 +1,4 @@
-//! How much applications store.
+//! Exports that count what applications store.
 ghost use Rattle.std.specs.Prelude.{◌≡◌, ◌≢◌, IfNone, IfSome};
 ghost use Rattle.rb_handle.specs.Stored.{engine_of};
 ghost use Rattle.rb_packages.specs.Usage.{apps_of};
