@@ -15,7 +15,7 @@ sys.dont_write_bytecode = True
 sys.path.insert(0, os.path.join(os.path.dirname(os.path.abspath(__file__)), "..", "bench"))
 
 from hostile import FIRST_KEY, INT, LONG_TABLE, STRING, Builder  # noqa: E402
-from hostile import install_file, item, look, shared_arrays, suffixes, words  # noqa: E402
+from hostile import install_file, item, long_key, look, one_array, placeholders, shared_arrays, suffixes, words  # noqa: E402
 from measured import measured  # noqa: E402
 
 MB = 1_000_000
@@ -104,6 +104,11 @@ def lints(costs):
     for name, text in (("commas and an open quote", b'root{a{"x"' + b"," * 4 * MB + b'"'), ("open braces", b"root{a" + b"{" * 4 * MB)):
         path = costs.file("root.txt", text)
         costs.say(f"`lint` of {name}, memory beside the text", costs.run("lint", path)[1] * 1024 * 1024 / len(text), 40, "times")
+    for name, make, allowed in (("one array", one_array, 40), ("a string of placeholders", placeholders, 30), ("a long key", long_key, 20)):
+        text = make(4 * MB)
+        path = costs.file("root.txt", text)
+        memory = costs.run("lint", "--against", path, path)[1] * 1024 * 1024 / len(text)
+        costs.say(f"`lint --against` of {name}, memory beside the text", memory, allowed, "times")
     begun = b"".join(b'"%02d%s"{' % (level, b"k" * 66_000) for level in range(58))
     texts = [costs.file(name, b"root{" + begun + b"".join(b'%s%d{"x"}' % (key, i) for i in range(100)) + b"}" * 59)
              for name, key in (("root.txt", b"a"), ("other.txt", b"b"))]
