@@ -49,7 +49,7 @@ LOCALES = ("ar", "de", "de_AT", "en_GB", "es", "fr", "ja", "pt", "ru", "th", "zh
 PLURALS = {"ar": "zero one two few many other", "ru": "one few many other", "ja": "other", "th": "other", "zh": "other"}
 # The text of examples/project that lacks two strings on purpose.
 INCOMPLETE = "shop/el.txt"
-# Where ICU's source has bundle texts.
+# The folders of ICU's source that have bundle texts.
 SOURCES = ("test/testdata", "samples/uresb", "samples/ufortune/resources", "extra/uconv/resources")
 BRACES = {"missing-close-brace", "missing-open-brace"}
 SMALL = """de {

@@ -95,7 +95,7 @@ ALONE = [
     ),
 ]
 
-# The same beside ROOT.
+# Texts beside ROOT, in the same form.
 BESIDE = [
     ("missing-key", beside(menu='menu { close { "Schließen" } }'), beside()),
     ("unused-key", beside(menu='menu { open { "Öffnen" } close { "Schließen" } opne { "Öffnen" } }'), beside()),
