@@ -31,7 +31,8 @@ past_of (Stray at) = at + 1
 abbrev pub IsOrdered : Part → Type 0
 IsOrdered (Quoted s) = s.first ≤ s.past
 IsOrdered (Hash at) = Unit {0}
-IsOrdered (Argument a) = (a.name.first ≤ a.name.past) × IfSome a.style (λ s. (a.name.past ≤ s.first) × (s.first ≤ s.past))
+IsOrdered (Argument a) =
+    (a.name.first ≤ a.name.past) × IfSome a.style (λ s. (a.name.past ≤ s.first) × (s.first ≤ s.past))
 IsOrdered (Branch s) = s.first ≤ s.past
 IsOrdered (End at) = Unit {0}
 IsOrdered (Stray at) = Unit {0}
@@ -44,7 +45,8 @@ IsBetween low high p = (low ≤ first_of p) × (past_of p ≤ high) × IsOrdered
 abbrev pub IsArgument : ℕ → ℕ → Arg → Type 0
 IsArgument brace past a = (brace < past) × IsBetween brace past (Argument a)
 
--- A step from one offset to another advances, and its part is between them. An error is in the text, of this length, or at its end.
+-- A step from one offset to another advances, and its part is between them. An error is in the text, of this length, or
+-- at its end.
 abbrev pub Reads : ℕ → ℕ → ℕ → Result (Option Part) MessageError → Type 0
 Reads len low high r = MatchResult r (λ p. (low < high) × IfSome p (IsBetween low high)) (λ e. e.at ≤ len)
 
