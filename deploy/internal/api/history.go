@@ -182,14 +182,18 @@ func (c *call) erase() {
 		c.refuse(badQuery)
 		return
 	}
+	if c.refusesOld() {
+		return
+	}
 	ctx, cancel := context.WithTimeout(context.Background(), c.options.Patience)
 	defer cancel()
-	reply, err := c.Backend.Erase(ctx, c.app, c.who)
+	reply, revision, err := c.Backend.Erase(ctx, c.app, c.who)
 	c.audit.note(c, "erase", store.Change{}, reply, err)
 	if err != nil {
 		c.fail(err)
 		return
 	}
+	c.tellRevision(revision)
 	c.answerChange(statusOf(reply, http.StatusOK), store.Change{Op: store.Remove}, reply)
 }
 

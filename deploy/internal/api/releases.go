@@ -73,9 +73,12 @@ func (c *call) makeRelease(entries []entry) {
 	for i, e := range entries {
 		changes[i] = e.Change
 	}
+	if c.refusesOld() {
+		return
+	}
 	ctx, cancel := context.WithTimeout(context.Background(), c.options.Patience)
 	defer cancel()
-	reply, refused, err := c.Backend.Release(ctx, c.app, c.who, changes)
+	reply, refused, revision, err := c.Backend.Release(ctx, c.app, c.who, changes)
 	for _, one := range changes {
 		c.audit.note(c, "release", one, reply, err)
 	}
@@ -83,6 +86,7 @@ func (c *call) makeRelease(entries []entry) {
 	case err != nil:
 		c.fail(err)
 	case refused < 0:
+		c.tellRevision(revision)
 		c.reply(map[string]any{"changes": len(changes), "ok": true})
 	default:
 		status := statusOf(reply, http.StatusOK)
@@ -96,6 +100,16 @@ func (c *call) makeRelease(entries []entry) {
 		}
 		c.answerChange(status, store.Change{Op: store.Remove}, reply)
 	}
+}
+
+// refusesOld refuses a change that came before the process stood still, as its caller may have made it elsewhere since.
+func (c *call) refusesOld() bool {
+	if !c.isOld() {
+		return false
+	}
+	c.w.Header().Set("Connection", "close")
+	c.refuse(busy)
+	return true
 }
 
 // refuseEntry answers that a release can't be read.

@@ -27,10 +27,6 @@ type step struct {
 // apply has changes judged and stored. Then the servers swap, and the changes are answered. From a log in NATS it first takes the
 // changes of others.
 func (r *Replica) apply(ctx context.Context, batch []*pending) {
-	if len(batch) > 0 && batch[0].release != nil {
-		r.applyRelease(batch[0])
-		return
-	}
 	r.mu.Lock()
 	judges := r.judges
 	r.mu.Unlock()
@@ -77,6 +73,9 @@ func (r *Replica) finish(judges *child.Child, ok bool, steps []step, tell func()
 // judge asks the judging server, and answers the changes that it refuses. It returns false if the server ended. A removal of a
 // bundle that is stored can't be refused, so it isn't asked about: it needn't be taken back if it can't be stored.
 func (r *Replica) judge(judges *child.Child, batch []*pending) (accepted []*pending, ok bool) {
+	if len(batch) > 0 && batch[0].release != nil { // it is alone
+		return r.judgeRelease(judges, batch[0])
+	}
 	var asked []*pending
 	var lines [][]byte
 	for _, p := range batch {
@@ -150,7 +149,8 @@ func (r *Replica) keep(ctx context.Context, judges *child.Child, accepted []*pen
 		return r.publish(ctx, judges, accepted)
 	}
 	kept, ok = r.keepOwn(judges, accepted)
-	return kept, stepsOf(kept), r.makeRemovals(judges, kept) && ok
+	made := membersOf(kept)
+	return kept, stepsOf(made), r.makeRemovals(judges, made) && ok
 }
 
 // makeRemovals has the judging server remove what wasn't asked about before.
@@ -167,6 +167,12 @@ func (r *Replica) makeRemovals(judges *child.Child, kept []*pending) bool {
 
 // keepOwn stores changes in the database.
 func (r *Replica) keepOwn(judges *child.Child, accepted []*pending) (kept []*pending, ok bool) {
+	if p := accepted[0]; p.release != nil {
+		if err := r.storeRelease(p); err != nil {
+			return nil, r.refuse(judges, p, err)
+		}
+		return accepted, true
+	}
 	all := make([]store.Change, len(accepted))
 	for i, p := range accepted {
 		all[i] = p.Change
@@ -210,6 +216,8 @@ func notKept(err error) error {
 		return ErrNoRoom
 	case errors.Is(err, store.ErrUnreached), errors.Is(err, store.ErrTooLong), errors.Is(err, child.ErrTimeout):
 		return err
+	case errors.Is(err, store.ErrForbidden):
+		return ErrOneMachine
 	}
 	return fmt.Errorf("%w: %v", ErrNotKept, err)
 }
@@ -218,6 +226,9 @@ func notKept(err error) error {
 // way; a bundle that is installed again would have another place in the list of names.
 func (r *Replica) takeBack(judges *child.Child, p *pending) bool {
 	opposite := store.Change{Op: store.Remove, App: p.App, Locale: p.Locale}
+	if p.release != nil {
+		return r.takeAllBack(judges, p.release.parts)
+	}
 	if p.Op == store.Remove {
 		return p.later
 	}

@@ -4,70 +4,82 @@ import (
 	"context"
 	"crypto/sha256"
 	"errors"
-	"log"
 
 	"luvdregan.example/resb/deploy/internal/child"
 	"luvdregan.example/resb/deploy/internal/store"
 )
 
-// ErrOneMachine is the error of what a log that several gateways share can't do: store several changes in one step, or forget.
-var ErrOneMachine = errors.New("only a gateway on one machine does this")
+// ErrOneMachine is the error of what a shared log doesn't permit.
+var ErrOneMachine = errors.New("the log in NATS doesn't permit this")
 
 // A release is several changes of one application that are made together or not at all.
 type release struct {
 	changes []store.Change // an installation or replacement each, whichever it is then, or a removal
 	erases  bool           // removes all bundles of the application and its history
 	refused int            // which change was refused, or -1
+	parts   []*pending     // the changes as they are made now
+	before  []store.Change // the entries of a shared log that are published before the release's own
+	sent    int            // how many of them are published
+}
+
+// membersOf returns changes, with those of a release in its place.
+func membersOf(all []*pending) []*pending {
+	if len(all) == 1 && all[0].release != nil {
+		return all[0].release.parts
+	}
+	return all
 }
 
 // Release makes changes of one application, all or none, in one step for readers and in one for the disk. An installation replaces
 // the bundle that is there; one that is equal to it, and a removal of none, change nothing. The result is the reply to the change that
-// was refused, with its index, or -1 if all were made.
-func (r *Replica) Release(ctx context.Context, app, who string, changes []store.Change) (reply []byte, refused int, err error) {
+// was refused, with its index, or -1 if all were made at the revision.
+func (r *Replica) Release(ctx context.Context, app, who string, changes []store.Change) (
+	reply []byte, refused int, revision store.Revision, err error) {
 	all := 0
 	for i := range changes {
 		changes[i].App, changes[i].Who = app, who
 		all += len(changes[i].Body)
 	}
 	if all > 0 && r.store.Failure() == nil && !r.store.Fits(all) {
-		return nil, -1, ErrNoRoom
+		return nil, -1, 0, ErrNoRoom
 	}
-	return r.release(ctx, app, who, &release{changes: changes, refused: -1})
+	of := &release{changes: changes, refused: -1}
+	reply, revision, err = r.change(ctx, of.pending(app, who))
+	if err != nil {
+		return nil, -1, 0, err
+	}
+	return reply, of.refused, revision, nil
+}
+
+// pending returns a release as a change that waits.
+func (of *release) pending(app, who string) *pending {
+	return &pending{Change: store.Change{Op: store.Remove, App: app, Who: who}, release: of}
 }
 
 // Erase removes all bundles of an application, its history, and what it submitted.
-func (r *Replica) Erase(ctx context.Context, app, who string) (reply []byte, err error) {
-	reply, _, err = r.release(ctx, app, who, &release{erases: true, refused: -1})
-	return reply, err
+func (r *Replica) Erase(ctx context.Context, app, who string) (reply []byte, revision store.Revision, err error) {
+	return r.change(ctx, (&release{erases: true, refused: -1}).pending(app, who))
 }
 
-func (r *Replica) release(ctx context.Context, app, who string, of *release) (reply []byte, refused int, err error) {
-	p := &pending{Change: store.Change{Op: store.Remove, App: app, Who: who}, release: of}
-	if r.log != nil {
-		return nil, -1, ErrOneMachine
+// judgeRelease judges a release, as judge does with single changes.
+func (r *Replica) judgeRelease(judges *child.Child, p *pending) (accepted []*pending, ok bool) {
+	of := p.release
+	of.parts = r.parts(p)
+	if tooMany := r.tooManyNames(p); tooMany != nil {
+		of.refused = tooMany.index
+		p.tell(answer{reply: []byte(overQuota)})
+		return nil, true
 	}
-	reply, _, err = r.change(ctx, p)
-	if err != nil {
-		return nil, -1, err
+	if answered, ok := r.judgeParts(judges, p); answered {
+		return nil, ok
 	}
-	return reply, of.refused, nil
-}
-
-// applyRelease has a release judged and stored, as apply does with single changes.
-func (r *Replica) applyRelease(p *pending) {
-	r.mu.Lock()
-	judges := r.judges
-	r.mu.Unlock()
-	parts := r.parts(p)
-	answered, ok := r.judgeParts(judges, p, parts)
-	if !answered && ok {
-		answered, ok = r.keepParts(judges, p, parts)
+	if r.log != nil && !p.perhaps { // one that may be stored is published again as it was
+		if err := r.address(p); err != nil {
+			return nil, r.refuse(judges, p, err)
+		}
 	}
-	if answered || !ok {
-		r.finish(judges, ok, nil, func() {})
-		return
-	}
-	r.finish(judges, true, stepsOf(parts), func() { p.tell(answer{reply: []byte(done), revision: r.store.Revision()}) })
+	p.reply = []byte(done)
+	return []*pending{p}, true
 }
 
 // parts returns the changes of a release as they are made now: those of bundles first, so that they can be taken back.
@@ -93,6 +105,7 @@ func (r *Replica) parts(p *pending) (parts []*pending) {
 			c.Op = store.Install
 		}
 		part := &pending{Change: c, index: i, line: child.ChangeLine(c), reply: []byte(done)}
+		part.later = r.removes(part)
 		if c.Op == store.Remove {
 			removals = append(removals, part)
 			continue
@@ -108,15 +121,21 @@ func isSame(now *store.Bundle, c store.Change) bool {
 	return now != nil && now.Form == c.Form && string(now.Digest) == string(sum[:])
 }
 
-// judgeParts asks the judging server about the bundles, and then about the removals, which aren't taken back. If it refuses a part, the
-// release is answered and the others are taken back. Ok is false if the server ended, or has a change that isn't taken back.
-func (r *Replica) judgeParts(judges *child.Child, p *pending, parts []*pending) (answered, ok bool) {
-	bundles := 0
-	for bundles < len(parts) && parts[bundles].Op != store.Remove {
-		bundles++
+// judgeParts asks the judging server about the bundles, and then about removals that it may refuse, which aren't taken back. If it
+// refuses a part, the release is answered and the others are taken back. Ok is false if the server ended, or has a change that isn't
+// taken back.
+func (r *Replica) judgeParts(judges *child.Child, p *pending) (answered, ok bool) {
+	var asked [2][]*pending
+	for _, part := range p.release.parts {
+		switch {
+		case part.Op != store.Remove:
+			asked[0] = append(asked[0], part)
+		case !part.later:
+			asked[1] = append(asked[1], part)
+		}
 	}
 	var made []*pending
-	for _, some := range [][]*pending{parts[:bundles], parts[bundles:]} {
+	for _, some := range asked {
 		accepted, refused, err := r.askParts(judges, some)
 		if err != nil {
 			p.tell(answer{err: child.ErrEnded})
@@ -141,8 +160,7 @@ func (r *Replica) askParts(judges *child.Child, parts []*pending) (made []*pendi
 	replies, err := r.ask(judges, lines)
 	for i := range replies {
 		part := parts[i]
-		if part.reply = replies[i]; string(part.reply) == done || r.removes(part) {
-			part.reply = []byte(done)
+		if part.reply = replies[i]; string(part.reply) == done {
 			made = append(made, part)
 		} else if refused == nil {
 			refused = part
@@ -151,21 +169,12 @@ func (r *Replica) askParts(judges *child.Child, parts []*pending) (made []*pendi
 	return made, refused, err
 }
 
-// keepParts stores a release. If it can't be stored, the release is answered and taken back.
-func (r *Replica) keepParts(judges *child.Child, p *pending, parts []*pending) (answered, ok bool) {
-	err := r.storeParts(p, parts)
-	if err == nil {
-		return false, true
-	}
-	log.Printf("changes: %v", err)
-	ok = r.takeAllBack(judges, parts)
-	p.tell(answer{err: notKept(err)})
-	return true, ok
-}
-
-func (r *Replica) storeParts(p *pending, parts []*pending) error {
+// storeRelease stores a release in the database.
+func (r *Replica) storeRelease(p *pending) (err error) {
+	parts := p.release.parts
+	p.revision = r.store.Revision()
 	if p.release.erases {
-		_, err := r.store.Erase(p.App, p.Who)
+		p.revision, err = r.store.Erase(p.App)
 		return err
 	}
 	if len(parts) == 0 {
@@ -178,7 +187,7 @@ func (r *Replica) storeParts(p *pending, parts []*pending) error {
 	r.mu.Lock()
 	appendAll := r.append
 	r.mu.Unlock()
-	_, err := appendAll(context.Background(), all)
+	p.revision, err = appendAll(context.Background(), all)
 	return err
 }
 

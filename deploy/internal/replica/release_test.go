@@ -15,7 +15,7 @@ import (
 func (r *Replica) released(app string, changes ...store.Change) (string, int, error) {
 	ctx, cancel := soon()
 	defer cancel()
-	reply, refused, err := r.Release(ctx, app, "token", changes)
+	reply, refused, _, err := r.Release(ctx, app, "token", changes)
 	return string(reply), refused, err
 }
 

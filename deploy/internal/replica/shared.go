@@ -23,6 +23,11 @@ type SharedLog interface {
 	// Changes returns changes after a revision, in order: of each bundle at least the last one. A long log is returned in parts. Ends
 	// is true if the log had no more changes after them.
 	Changes(ctx context.Context, after store.Revision) (entries []store.Entry, ends bool, err error)
+	// Split returns what is appended for a release, in order: its parts if it is long, and then the release.
+	Split(release store.Change) ([]store.Change, error)
+	// Forget removes the entries of an application before a revision. With revision 0 it removes none, and returns store.ErrForbidden
+	// if that isn't permitted.
+	Forget(ctx context.Context, app string, before store.Revision) error
 	// Identify makes the log if it is missing and may be made, and returns its name and its last revision.
 	Identify(create bool) (name string, last store.Revision, err error)
 	// Reached returns true if there is a connection, and Connections how often a lost one was made again.
@@ -76,7 +81,7 @@ func (r *Replica) catchUp(ctx context.Context) {
 	for end := time.Now().Add(firstWait); ctx.Err() == nil; {
 		entries, ends, err := r.entries(ctx)
 		if err == nil {
-			err = r.store.Follow(entries, ends)
+			err = r.follow(ctx, entries, ends)
 		}
 		if err == nil && ends {
 			break
@@ -112,7 +117,31 @@ func (r *Replica) entries(ctx context.Context) (entries []store.Entry, ends bool
 	if err := r.identify(); err != nil {
 		return nil, false, err
 	}
-	return r.log.Changes(ctx, r.store.Revision())
+	if entries, ends, err = r.log.Changes(ctx, r.store.Revision()); err != nil {
+		return nil, false, err
+	}
+	for i, e := range entries {
+		if e.Op == store.Erase && len(entries) > 1 { // it comes alone
+			if i == 0 {
+				i = 1
+			}
+			return entries[:i], false, nil
+		}
+	}
+	return entries, ends, nil
+}
+
+// follow stores entries. What an application submitted before it was erased is removed from the log first, so that this is done by
+// one gateway at least.
+func (r *Replica) follow(ctx context.Context, entries []store.Entry, ends bool) error {
+	for _, e := range entries {
+		if e.Op == store.Erase {
+			if err := r.log.Forget(ctx, e.App, e.Revision); err != nil {
+				return err
+			}
+		}
+	}
+	return r.store.Follow(entries, ends)
 }
 
 // identify returns an error if the log isn't the one of the store, or has lost changes. It asks once for each connection.
@@ -160,7 +189,7 @@ func (r *Replica) read(ctx context.Context, judges *child.Child, first func([]st
 	}
 	ok = first(entries)
 	p := r.plan(entries)
-	if err := r.store.Follow(entries, ends); err != nil {
+	if err := r.follow(ctx, entries, ends); err != nil {
 		r.note(err)
 		return nil, ok
 	}
@@ -235,7 +264,7 @@ type plan struct {
 // plan notes what entries change.
 func (r *Replica) plan(entries []store.Entry) *plan {
 	p := &plan{r, map[bundle]store.Entry{}, map[bundle]store.Bundle{}, nil, map[string][]store.Bundle{}}
-	for _, e := range entries {
+	for _, e := range r.singles(entries) {
 		name := bundle{e.App, e.Locale}
 		if _, there := p.last[name]; !there {
 			p.names = append(p.names, name)
@@ -249,6 +278,28 @@ func (r *Replica) plan(entries []store.Entry) *plan {
 		}
 	}
 	return p
+}
+
+// singles returns the changes of bundles that entries make.
+func (r *Replica) singles(entries []store.Entry) (all []store.Entry) {
+	for _, e := range entries {
+		switch e.Op {
+		case store.AddPart:
+		case store.Erase:
+			for _, b := range r.store.Of(e.App) {
+				all = append(all, store.Entry{Change: store.Change{Op: store.Remove, App: b.App, Locale: b.Locale}})
+			}
+		case store.MakeRelease:
+			for _, m := range e.Release.Changes {
+				if now := r.bundle(m.App, m.Locale); !m.Carried || now == nil && m.Op != store.Remove || now != nil && now.Revision != m.Number {
+					all = append(all, store.Entry{Change: m.Change})
+				}
+			}
+		default:
+			all = append(all, e)
+		}
+	}
+	return all
 }
 
 // steps returns the lines that make the entries. They are in the order of the installations: one that was installed before
@@ -326,8 +377,9 @@ func (r *Replica) publish(ctx context.Context, judges *child.Child, accepted []*
 		err := r.publishOne(ctx, p)
 		switch {
 		case err == nil:
-			kept, steps = append(kept, p), append(steps, stepsOf(accepted[:1])...)
-			ok = r.makeRemovals(judges, accepted[:1])
+			made := membersOf(accepted[:1])
+			kept, steps = append(kept, p), append(steps, stepsOf(made)...)
+			ok = r.makeRemovals(judges, made)
 			accepted = accepted[1:]
 		case errors.Is(err, store.ErrConflict):
 			again := true
@@ -357,36 +409,62 @@ func (r *Replica) publish(ctx context.Context, judges *child.Child, accepted []*
 
 // publishOne has the log store a change, and stores it too.
 func (r *Replica) publishOne(ctx context.Context, p *pending) error {
-	if p.isOld() || pulse.StoodStill(p.came) {
-		return child.ErrTimeout
-	}
-	if p.ID == "" {
-		var id [16]byte
-		if _, err := rand.Read(id[:]); err != nil {
+	if p.release != nil {
+		if done, err := r.publishParts(ctx, p); done || err != nil {
 			return err
 		}
-		p.ID = hex.EncodeToString(id[:])
 	}
-	if b, has := r.store.Bundle(p.App, p.Locale); has {
+	if p.ID == "" {
+		id, err := randomName()
+		if err != nil {
+			return err
+		}
+		p.ID = id
+	}
+	if b, has := r.store.Bundle(p.App, p.Locale); has && p.release == nil {
 		p.Order = b.Order
 	}
-	p.revision = r.store.Revision()
-	if !r.identified || r.connections != r.log.Connections() {
-		return store.ErrConflict // the log is identified before it is read
-	}
-	revision, err := r.log.Append(ctx, p.Change, p.revision)
+	revision, err := r.publishEntry(ctx, p, &p.Change)
 	if errors.Is(err, store.ErrUnsettled) || err == nil {
 		p.perhaps, r.published = true, p
 	}
-	if err != nil {
-		return err
+	if err == nil {
+		err = r.followOwn(ctx, p.Change, revision)
 	}
-	if err := r.store.Follow([]store.Entry{{Change: p.Change, Revision: revision, At: time.Now()}}, true); err != nil {
+	if err == nil {
+		p.revision, r.published = revision, nil
+	}
+	return err
+}
+
+// publishEntry has the log store one entry for a change.
+func (r *Replica) publishEntry(ctx context.Context, p *pending, c *store.Change) (store.Revision, error) {
+	if p.isOld() || pulse.StoodStill(p.came) {
+		return 0, child.ErrTimeout
+	}
+	if !r.identified || r.connections != r.log.Connections() {
+		return 0, store.ErrConflict // the log is identified before it is read
+	}
+	p.revision = r.store.Revision()
+	if c.Op != store.AddPart {
+		c.Number = r.store.NextNumber()
+	}
+	return r.log.Append(ctx, *c, p.revision)
+}
+
+// followOwn stores what was published.
+func (r *Replica) followOwn(ctx context.Context, c store.Change, revision store.Revision) error {
+	if err := r.follow(ctx, []store.Entry{{Change: c, Revision: revision, At: time.Now()}}, true); err != nil {
 		r.note(err)
 		return fmt.Errorf("%w: %v", store.ErrUnsettled, err) // it is read from the log again
 	}
-	p.revision, r.published = revision, nil
 	return nil
+}
+
+func randomName() (string, error) {
+	var name [16]byte
+	_, err := rand.Read(name[:])
+	return hex.EncodeToString(name[:]), err
 }
 
 // takeAllBack takes back changes in the opposite order. It returns false if one can't be taken back.
@@ -406,7 +484,8 @@ func (r *Replica) concern(entries []store.Entry, waiting []*pending) bool {
 		apps[p.App] = true
 	}
 	for _, e := range entries {
-		if apps[e.App] || e.Op != store.Remove && len(r.store.Of(e.App)) == 0 {
+		adds := e.Op != store.Remove && e.Op != store.Erase && e.Op != store.AddPart
+		if apps[e.App] || adds && len(r.store.Of(e.App)) == 0 {
 			return true
 		}
 	}

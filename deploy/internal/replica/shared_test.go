@@ -22,7 +22,11 @@ type memoryLog struct {
 	lose    int // acknowledgements that are lost, after the change was stored
 	refuse  int // changes that are neither stored nor answered
 	readers []*memoryReader
+	erased  map[string]store.Revision // of each application: earlier entries are gone
+	keeps   bool                      // nothing may be removed
 }
+
+func newMemoryLog() *memoryLog { return &memoryLog{erased: map[string]store.Revision{}} }
 
 // A memoryReader is the log for one replica.
 type memoryReader struct {
@@ -67,7 +71,9 @@ func (l *memoryLog) Append(_ context.Context, c store.Change, expected store.Rev
 	case expected != last:
 		return 0, store.ErrConflict
 	}
-	c.Locale = store.Canonical(c.Locale)
+	if c.Release == nil && c.Op != store.Erase {
+		c.Locale = store.Canonical(c.Locale)
+	}
 	l.entries = append(l.entries, store.Entry{Change: c, Revision: last + 1, At: time.Unix(int64(last), 0)})
 	for _, r := range l.readers {
 		select {
@@ -88,20 +94,82 @@ func (l *memoryLog) Changes(_ context.Context, after store.Revision) (found []st
 	if l.away {
 		return nil, false, store.ErrUnreached
 	}
-	last := map[bundle]int{}
+	last := map[string]int{}
 	for i, e := range l.entries {
-		last[bundle{e.App, e.Locale}] = i
+		last[placeOf(e.Change)] = i
 	}
 	for i, e := range l.entries {
-		if e.Revision <= after || last[bundle{e.App, e.Locale}] != i {
+		if e.Revision <= after || last[placeOf(e.Change)] != i || e.Revision < l.erased[e.App] {
 			continue
 		}
 		if len(found) == 7 {
 			return found, false, nil
 		}
-		found = append(found, e)
+		found = append(found, l.whole(e, last))
 	}
 	return found, true, nil
+}
+
+// placeOf names what an entry takes the place of.
+func placeOf(c store.Change) string {
+	switch c.Op {
+	case store.MakeRelease:
+		return fmt.Sprint(c.App, "/release", c.Release.Slot)
+	case store.AddPart:
+		return fmt.Sprint(c.App, "/release", c.Release.Slot, "-", c.Release.Part)
+	case store.Erase:
+		return c.App + "/erase"
+	}
+	return c.App + "." + c.Locale
+}
+
+// whole returns a release with its changes, or an entry without effect if a part was replaced.
+func (l *memoryLog) whole(e store.Entry, last map[string]int) store.Entry {
+	if e.Op != store.MakeRelease {
+		return e
+	}
+	of := *e.Release
+	text := []byte{}
+	for part := 0; part < of.Parts; part++ {
+		at := store.Change{Op: store.AddPart, App: e.App, Release: &store.Release{Slot: of.Slot, Part: part}}
+		i, there := last[placeOf(at)]
+		if !there || l.entries[i].Release.Name != of.Name {
+			e.Op = store.AddPart
+			return e
+		}
+		text = append(text, l.entries[i].Body...)
+	}
+	of.Changes, _ = store.Decode(e.App, e.Who, append(text, e.Body...))
+	e.Release = &of
+	return e
+}
+
+// Split has parts of up to 100 bytes.
+func (l *memoryLog) Split(c store.Change) (all []store.Change, err error) {
+	text := store.Encode(c.Release.Changes)
+	for ; len(text) > 100; text = text[100:] {
+		of := &store.Release{Slot: c.Release.Slot, Name: c.Release.Name, Part: len(all)}
+		all = append(all, store.Change{Op: store.AddPart, App: c.App, Body: text[:100], Release: of, ID: fmt.Sprint(of.Name, of.Part)})
+	}
+	whole := *c.Release
+	whole.Parts = len(all)
+	c.Body, c.Release = text, &whole
+	return append(all, c), nil
+}
+
+func (l *memoryLog) Forget(_ context.Context, app string, before store.Revision) error {
+	l.mu.Lock()
+	defer l.mu.Unlock()
+	switch {
+	case l.away:
+		return store.ErrUnreached
+	case l.keeps:
+		return store.ErrForbidden
+	}
+	if l.erased[app] < before {
+		l.erased[app] = before
+	}
+	return nil
 }
 
 // set changes the faults.
@@ -143,7 +211,7 @@ func (r *Replica) reach(t *testing.T, revision store.Revision) {
 // TestReplicasOfOneLog has two replicas change the same bundles at the same time, while acknowledgements are lost and changes
 // don't arrive. In the end both, and a third one that starts then, have the bundles that the log has, in its order.
 func TestReplicasOfOneLog(t *testing.T) {
-	l := &memoryLog{}
+	l := newMemoryLog()
 	replicas := []*Replica{follow(t, l.reader(), t.TempDir()), follow(t, l.reader(), t.TempDir())}
 	rounds := 150
 	if testing.Short() {
@@ -407,7 +475,7 @@ func TestABundleThatOneServerRefuses(t *testing.T) {
 	if testProgram() != os.Args[0] {
 		t.Skip("skipped: only the stand-in has this fault")
 	}
-	l := &memoryLog{}
+	l := newMemoryLog()
 	first := follow(t, l.reader(), t.TempDir())
 	s, err := sqlite.Open(t.TempDir(), sqlite.Options{Create: true, Follow: true})
 	if err != nil {
@@ -470,7 +538,7 @@ func TestAJudgeThatEndsAfterTheChangeIsStored(t *testing.T) {
 
 // TestAChangeWhoseCallerHasGone isn't published after the log was read for long: a newer one was made elsewhere meanwhile.
 func TestAChangeWhoseCallerHasGone(t *testing.T) {
-	l := &memoryLog{}
+	l := newMemoryLog()
 	slow := &slowReader{memoryReader: l.reader(), began: make(chan bool, 1), ends: make(chan bool)}
 	first, second := follow(t, slow, t.TempDir()), follow(t, l.reader(), t.TempDir())
 	first.put("shop", "de", text("de", "A"))

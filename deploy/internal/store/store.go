@@ -11,11 +11,14 @@ import (
 // An Operation changes an application's bundles.
 type Operation byte
 
-// The operations.
+// The operations. The last three are only in a log that several gateways share.
 const (
 	Install Operation = iota + 1
 	Replace
 	Remove
+	MakeRelease // makes several changes of an application
+	AddPart     // has a part of a release, and changes nothing
+	Erase       // removes an application's bundles and history
 )
 
 // String returns the operation's name in a request to the server.
@@ -27,6 +30,12 @@ func (o Operation) String() string {
 		return "replace"
 	case Remove:
 		return "remove"
+	case MakeRelease:
+		return "release"
+	case AddPart:
+		return "part"
+	case Erase:
+		return "erase"
 	}
 	return "unknown"
 }
@@ -42,7 +51,8 @@ const (
 )
 
 // A Change is a request to change an application's bundles. Who names the caller in the history. A log that several gateways
-// share also needs the change's random ID, and the order of a bundle that is replaced.
+// share also needs the change's random ID, and the order of a bundle that is replaced. Number is the change's number in the
+// history, or 0 if that is its revision.
 type Change struct {
 	Op          Operation
 	App, Locale string
@@ -51,13 +61,15 @@ type Change struct {
 	Who         string
 	ID          string
 	Order       Revision
+	Number      Revision
+	Release     *Release // of a release or a part of one
 }
 
 // A Revision numbers the changes of a log, beginning with 1.
 type Revision int64
 
-// A Bundle describes a bundle that a log has. Its order is the revision that installed it, its revision that of its last
-// change.
+// A Bundle describes a bundle that a log has. Its order is the number of the change that installed it, its revision that of its
+// last change.
 type Bundle struct {
 	App, Locale string
 	Form        Form
@@ -86,6 +98,7 @@ var (
 	ErrUnreached = errors.New("the log is not reached")
 	ErrUnsettled = errors.New("the change may have been stored")
 	ErrUnknown   = errors.New("a later version wrote the log")
+	ErrForbidden = errors.New("the log doesn't permit this")
 )
 
 // InOrder returns bundles in the order of their installation.

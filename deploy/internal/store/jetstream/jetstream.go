@@ -36,6 +36,10 @@ const (
 	formHeader  = "Resb-Form"
 	orderHeader = "Resb-Order"
 	whoHeader   = "Resb-Who"
+
+	numberHeader  = "Resb-Number"
+	releaseHeader = "Resb-Release"
+	partsHeader   = "Resb-Parts"
 )
 
 // How long a request waits for its answer; one that reads a long entry again waits longer.
@@ -152,11 +156,6 @@ func (l *Log) Identify(create bool) (name string, last store.Revision, err error
 	return stream + " of " + info.Created.UTC().Format(time.RFC3339Nano), store.Revision(info.State.LastSeq), nil
 }
 
-// subject returns that of a bundle.
-func subject(app, locale string) string {
-	return prefix + hex.EncodeToString([]byte(app)) + "." + hex.EncodeToString([]byte(store.Canonical(locale)))
-}
-
 // message returns the message of a change.
 func message(c store.Change, expected store.Revision) *nats.Msg {
 	h := nats.Header{}
@@ -165,6 +164,15 @@ func message(c store.Change, expected store.Revision) *nats.Msg {
 	h.Set(nats.ExpectedLastSeqHdr, strconv.FormatInt(int64(expected), 10))
 	h.Set(opHeader, c.Op.String())
 	h.Set(whoHeader, c.Who)
+	if c.Number > expected+1 {
+		h.Set(numberHeader, strconv.FormatInt(int64(c.Number), 10))
+	}
+	if c.Release != nil {
+		h.Set(releaseHeader, c.Release.Name)
+	}
+	if c.Release != nil && c.Op == store.MakeRelease {
+		h.Set(partsHeader, strconv.Itoa(c.Release.Parts))
+	}
 	switch c.Form {
 	case store.Text:
 		h.Set(formHeader, "text")
@@ -174,7 +182,7 @@ func message(c store.Change, expected store.Revision) *nats.Msg {
 	if c.Op == store.Replace {
 		h.Set(orderHeader, strconv.FormatInt(int64(c.Order), 10))
 	}
-	return &nats.Msg{Subject: subject(c.App, c.Locale), Header: h, Data: c.Body}
+	return &nats.Msg{Subject: subject(c), Header: h, Data: c.Body}
 }
 
 // entryOf reads a message.
@@ -183,13 +191,15 @@ func entryOf(subject string, h nats.Header, data []byte, revision uint64, at tim
 	unknown := func(what string) (store.Entry, error) {
 		return e, fmt.Errorf("%w: entry %d has the %s", store.ErrUnknown, revision, what)
 	}
-	app, locale, _ := strings.Cut(strings.TrimPrefix(subject, prefix), ".")
-	appName, err1 := hex.DecodeString(app)
-	localeName, err2 := hex.DecodeString(locale)
-	if err1 != nil || err2 != nil {
+	app, place, _ := strings.Cut(strings.TrimPrefix(subject, prefix), ".")
+	appName, err := hex.DecodeString(app)
+	if err != nil || !readPlace(&e.Change, place) {
 		return unknown("subject " + subject)
 	}
-	e.App, e.Locale, e.ID, e.Who, e.Body = string(appName), string(localeName), h.Get(nats.MsgIdHdr), h.Get(whoHeader), data
+	e.App, e.ID, e.Who, e.Body = string(appName), h.Get(nats.MsgIdHdr), h.Get(whoHeader), data
+	if number := h.Get(numberHeader); number != "" && !readNumber(number, int64(revision), &e.Number) {
+		return unknown("number " + number)
+	}
 	switch form := h.Get(formHeader); form {
 	case "text":
 		e.Form = store.Text
@@ -199,25 +209,40 @@ func entryOf(subject string, h nats.Header, data []byte, revision uint64, at tim
 	default:
 		return unknown("form " + form)
 	}
-	switch op := h.Get(opHeader); op {
-	case "install":
-		e.Op = store.Install
-	case "replace":
-		e.Op = store.Replace
-		order, err := strconv.ParseInt(h.Get(orderHeader), 10, 64)
-		if err != nil || order < 1 {
-			return unknown("order " + h.Get(orderHeader))
-		}
-		e.Order = store.Revision(order)
-	case "remove":
-		e.Op = store.Remove
-	default:
-		return unknown("operation " + op)
+	op := h.Get(opHeader)
+	if e.Op != 0 && op != e.Op.String() {
+		return unknown("operation " + op + " at " + place)
 	}
-	if (e.Form == store.NoForm) != (e.Op == store.Remove) {
+	switch {
+	case e.Op == store.MakeRelease, e.Op == store.AddPart:
+		e.Release.Name = h.Get(releaseHeader)
+		parts := store.Revision(0)
+		if e.Op == store.MakeRelease && !readNumber(h.Get(partsHeader), 0, &parts) || parts > mostParts {
+			return unknown("parts " + h.Get(partsHeader))
+		}
+		e.Release.Parts = int(parts)
+	case e.Op == store.Erase:
+	case op == "replace":
+		e.Op = store.Replace
+		if order := h.Get(orderHeader); !readNumber(order, 1, &e.Order) {
+			return unknown("order " + order)
+		}
+	default:
+		if e.Op = store.OperationOf(op); e.Op == 0 {
+			return unknown("operation " + op)
+		}
+	}
+	if (e.Form == store.Text || e.Form == store.File) != (e.Op == store.Install || e.Op == store.Replace) {
 		return unknown("form of another operation")
 	}
 	return e, nil
+}
+
+// readNumber reads a number that is at least another one.
+func readNumber(text string, least int64, to *store.Revision) bool {
+	n, err := strconv.ParseInt(text, 10, 64)
+	*to = store.Revision(n)
+	return err == nil && n >= least
 }
 
 // Append publishes a change once. After ErrUnsettled the entry that follows the expected revision tells whether it was stored.
@@ -257,7 +282,18 @@ func (l *Log) Append(_ context.Context, c store.Change, expected store.Revision)
 
 // next reads the next entry after a revision from the stream's leader, or returns false if there is none.
 func (l *Log) next(ctx context.Context, after store.Revision) (e store.Entry, there bool, err error) {
-	request := fmt.Sprintf(`{"seq":%d,"next_by_subj":%q}`, after+1, prefix+"*.*")
+	e, there, err = l.get(ctx, fmt.Sprintf(`{"seq":%d,"next_by_subj":%q}`, after+1, prefix+"*.*"))
+	if err == nil && there && e.Revision <= after {
+		return e, false, fmt.Errorf("%w: NATS answers entry %d after %d", store.ErrUnreached, e.Revision, after)
+	}
+	if err == nil && there && e.Op == store.MakeRelease {
+		err = l.assemble(ctx, &e)
+	}
+	return e, there && err == nil, err
+}
+
+// get reads an entry from the stream's leader, or returns false if there is none.
+func (l *Log) get(ctx context.Context, request string) (e store.Entry, there bool, err error) {
 	within, cancel := context.WithTimeout(ctx, l.wait)
 	defer cancel()
 	answer, err := l.nc.RequestWithContext(within, getNext, []byte(request))
@@ -290,7 +326,7 @@ func (l *Log) next(ctx context.Context, after store.Revision) (e store.Entry, th
 	m := got.Message
 	header, err1 := base64.StdEncoding.DecodeString(m.Header)
 	data, err2 := base64.StdEncoding.DecodeString(m.Data)
-	if err1 != nil || err2 != nil || m.Seq <= uint64(after) {
+	if err1 != nil || err2 != nil || m.Seq == 0 {
 		return e, false, fmt.Errorf("%w: NATS answers %.100q", store.ErrUnreached, answer.Data)
 	}
 	e, err = entryOf(m.Subject, headersOf(header), data, m.Seq, m.Time)
@@ -321,6 +357,9 @@ func (l *Log) Changes(ctx context.Context, after store.Revision) (all []store.En
 		}
 		all, after = append(all, e), e.Revision
 		size += len(e.Body)
+		if e.Op == store.MakeRelease {
+			return all, false, nil // it may be long
+		}
 	}
 	return all, false, nil
 }

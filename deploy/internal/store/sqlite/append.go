@@ -7,6 +7,7 @@ import (
 	"fmt"
 	"os"
 	"path/filepath"
+	"strings"
 	"syscall"
 	"time"
 
@@ -28,6 +29,7 @@ type batch struct {
 	changed map[key]*store.Bundle // nil where the bundle was removed
 	names   map[string]int        // how many names of each application were added
 	last    store.Revision
+	number  store.Revision // of the last change in the history
 	whole   store.Revision // of a log that is followed
 	sum     int64
 	count   int
@@ -59,8 +61,16 @@ func (s *Store) Follow(entries []store.Entry, ends bool) error {
 	if len(entries) == 0 && whole == s.whole {
 		return nil
 	}
-	_, err := s.appendUpTo(entries, whole)
-	return err
+	write := func() error {
+		_, err := s.appendUpTo(entries, whole)
+		return err
+	}
+	for _, e := range entries {
+		if e.Op == store.Erase {
+			return s.overwriting(write)
+		}
+	}
+	return write()
 }
 
 // wholeAfter returns the last revision up to which nothing is missing after some more entries.
@@ -98,7 +108,7 @@ func (s *Store) appendUpTo(entries []store.Entry, whole store.Revision) (store.R
 
 func onlyRemovals(entries []store.Entry) bool {
 	for _, c := range entries {
-		if c.Op != store.Remove {
+		if c.Op != store.Remove && c.Op != store.Erase {
 			return false
 		}
 	}
@@ -115,6 +125,7 @@ func (s *Store) commit(entries []store.Entry, whole store.Revision) error {
 			}
 		}
 		for _, e := range entries {
+			b.last = e.Revision
 			if err := b.apply(e); err != nil {
 				return err
 			}
@@ -125,6 +136,11 @@ func (s *Store) commit(entries []store.Entry, whole store.Revision) error {
 
 // seal writes what the transaction makes of the state.
 func (b *batch) seal() error {
+	if b.follows {
+		if _, err := b.exec("update numbered set number = ?", b.number); err != nil {
+			return err
+		}
+	}
 	const update = "update state set revision = ?, bundles = bundles + ?, checksum = ? where one = 1"
 	var sum int64
 	if err := b.writer.QueryRowContext(b.ctx, "select checksum from state where one = 1").Scan(&sum); err != nil {
@@ -154,17 +170,39 @@ func (b *batch) now(k key) *store.Bundle {
 }
 
 // apply writes one entry.
-func (b *batch) apply(c store.Entry) error {
+func (b *batch) apply(e store.Entry) error {
+	if e.Number == 0 {
+		e.Number = e.Revision
+	}
+	switch e.Op {
+	case store.AddPart:
+		return nil
+	case store.MakeRelease:
+		return b.release(e)
+	case store.Erase:
+		b.number = e.Number
+		return b.erase(e.App)
+	}
+	if b.follows {
+		if err := b.free(key{e.App, store.Canonical(e.Locale)}); err != nil {
+			return err
+		}
+	}
+	return b.change(e)
+}
+
+// change writes a change to a bundle.
+func (b *batch) change(c store.Entry) error {
 	k := key{c.App, store.Canonical(c.Locale)}
 	old := b.now(k)
-	b.last = c.Revision
+	b.number = c.Number
 	var made *store.Bundle
 	var digest []byte
 	if c.Op != store.Remove {
 		sum := sha256.Sum256(c.Body)
 		digest = sum[:]
-		made = &store.Bundle{App: k.app, Locale: k.locale, Form: c.Form, Bytes: len(c.Body), Digest: digest, Order: b.last,
-			Revision: b.last, Who: c.Who, At: c.At}
+		made = &store.Bundle{App: k.app, Locale: k.locale, Form: c.Form, Bytes: len(c.Body), Digest: digest, Order: b.number,
+			Revision: b.number, Who: c.Who, At: c.At}
 		if c.Op == store.Replace && c.Order != 0 {
 			made.Order = c.Order
 		} else if old != nil && c.Op == store.Replace {
@@ -179,12 +217,18 @@ func (b *batch) apply(c store.Entry) error {
 	if err := b.put(k, old, made, c.Body); err != nil {
 		return err
 	}
-	_, err := b.exec("insert into history values (?, ?, ?, ?, ?, ?, ?, ?)", b.last, k.app, k.locale, c.Op.String(), len(c.Body),
-		digest, c.Who, c.At.UnixNano())
+	b.changed[k] = made
+	if c.Number == 0 {
+		return nil // a removal that is carried
+	}
+	insert := "insert into history values (?, ?, ?, ?, ?, ?, ?, ?)"
+	if b.follows { // what a release carries may be in the history
+		insert = strings.Replace(insert, "insert", "insert or replace", 1)
+	}
+	_, err := b.exec(insert, c.Number, k.app, k.locale, c.Op.String(), len(c.Body), digest, c.Who, c.At.UnixNano())
 	if err != nil {
 		return err
 	}
-	b.changed[k] = made
 	return b.prune(c.App)
 }
 
@@ -253,7 +297,7 @@ func (b *batch) prune(app string) error {
 func (b *batch) take() {
 	b.mu.Lock()
 	defer b.mu.Unlock()
-	b.Store.last, b.Store.whole = b.last, b.whole
+	b.Store.last, b.Store.number, b.Store.whole = b.last, b.number, b.whole
 	for app, more := range b.names {
 		b.Store.names[app] += more
 	}

@@ -8,13 +8,16 @@ import (
 	"luvdregan.example/resb/deploy/internal/store"
 )
 
-// following are the tables of a store that follows another log: which log that is, the names that had a bundle, and the revision up to
-// which nothing is missing.
+// following are the tables of a store that follows another log: which log that is, the names that had a bundle, the revision up to
+// which nothing is missing, the number of the last change, and the slots of the names that a release changed last.
 const following = `
 create table if not exists origin (one integer primary key check (one = 1), name text not null);
 create table if not exists removed (application text not null, locale text not null, primary key (application, locale)) without rowid;
 create table if not exists whole (one integer primary key check (one = 1), revision integer not null);
 insert or ignore into whole values (1, 0);
+create table if not exists numbered (one integer primary key check (one = 1), number integer not null);
+insert or ignore into numbered select 1, revision from state;
+create table if not exists released (application text not null, locale text not null, slot integer not null, primary key (application, locale)) without rowid;
 `
 
 // The errors of a folder that is used for the other kind of store.
@@ -64,7 +67,7 @@ func (s *Store) openFollower(options Options) error {
 	if err := rows.Err(); err != nil {
 		return damaged(err)
 	}
-	return s.writer.QueryRowContext(ctx, "select revision from whole").Scan(&s.whole)
+	return s.writer.QueryRowContext(ctx, "select revision, number from whole, numbered").Scan(&s.whole, &s.number)
 }
 
 // Whole returns the last revision whose bundles, or later ones, the store has. A log that is followed may have left out a change whose

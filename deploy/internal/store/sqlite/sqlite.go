@@ -44,6 +44,7 @@ type Store struct {
 	mu        sync.Mutex
 	bundles   map[key]store.Bundle
 	last      store.Revision
+	number    store.Revision   // of the last change in the history of a log that is followed
 	whole     store.Revision   // of a log that is followed: up to it nothing is missing
 	bytes     int64            // of the bundles
 	unpruned  map[string]int   // changes of an application since its history was pruned

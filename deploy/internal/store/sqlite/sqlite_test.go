@@ -180,7 +180,7 @@ func TestEqualBodiesAreStoredOnce(t *testing.T) {
 		t.Errorf("%d: the histories have it", count())
 	}
 	for left, app := range []string{"bank", "shop"} {
-		if _, err := s.Erase(app, "x"); err != nil || count() != 1-left {
+		if _, err := s.Erase(app); err != nil || count() != 1-left {
 			t.Error(app, count(), err)
 		}
 	}

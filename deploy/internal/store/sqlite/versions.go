@@ -121,7 +121,7 @@ func (b *batch) dropVersions(app string, most int64) error {
 
 // inTransaction has a function write in a transaction of the store; what it makes of the bundles is kept in memory afterwards.
 func (s *Store) inTransaction(write func(b *batch) error) error {
-	b := &batch{Store: s, ctx: context.Background(), changed: map[key]*store.Bundle{}, names: map[string]int{}, last: s.last, whole: s.whole, at: time.Now()}
+	b := &batch{Store: s, ctx: context.Background(), changed: map[key]*store.Bundle{}, names: map[string]int{}, last: s.last, number: s.number, whole: s.whole}
 	_, err := b.exec("begin immediate")
 	if err == nil {
 		err = write(b)
@@ -161,42 +161,67 @@ func (s *Store) dropAllVersions() (dropped bool) {
 
 // Erase removes the bundles of an application, its history and what it submitted, and returns the revision. Nothing of it is in the
 // files of the store afterwards, unless another application submitted the same.
-func (s *Store) Erase(app, who string) (store.Revision, error) {
+func (s *Store) Erase(app string) (store.Revision, error) {
 	s.writing.Lock()
 	defer s.writing.Unlock()
 	if err := s.Failure(); err != nil {
 		return 0, err
 	}
+	erase := func() error {
+		return s.inTransaction(func(b *batch) error {
+			b.last++
+			if err := b.erase(app); err != nil {
+				return err
+			}
+			return b.seal()
+		})
+	}
+	err := s.overwriting(func() error {
+		err := erase()
+		if errors.Is(err, store.ErrNoSpace) {
+			s.withReserve(func() { err = erase() })
+		}
+		return err
+	})
+	return s.last, err
+}
+
+// overwriting calls a function that writes. What it deletes isn't in the files of the store afterwards.
+func (s *Store) overwriting(write func() error) error {
 	ctx := context.Background()
 	if _, err := s.writer.ExecContext(ctx, "pragma secure_delete = on"); err != nil {
-		return 0, err
+		return err
 	}
 	defer func() { _, _ = s.writer.ExecContext(ctx, "pragma secure_delete = off") }()
-	erase := func() error { return s.inTransaction(func(b *batch) error { return b.erase(app, who) }) }
-	err := erase()
-	if errors.Is(err, store.ErrNoSpace) {
-		s.withReserve(func() { err = erase() })
-	}
-	if err != nil {
-		return 0, err
+	if err := write(); err != nil {
+		return err
 	}
 	_, _ = s.writer.ExecContext(ctx, "pragma wal_checkpoint(truncate)")
-	return s.last, nil
+	return nil
 }
 
 // erase removes all of an application.
-func (b *batch) erase(app, who string) error {
-	b.last++
+func (b *batch) erase(app string) error {
 	digests, err := b.digestsOf(app)
 	if err != nil {
 		return err
 	}
-	for k, old := range b.bundlesOf(app) {
-		b.changed[k] = nil
-		b.sum ^= checksum(old)
-		b.count--
+	for k := range b.bundlesOf(app) {
+		b.changed[k] = b.now(k)
 	}
-	for _, table := range []string{"bundles", "history", "left_out"} {
+	for k, old := range b.changed {
+		if k.app == app && old != nil {
+			b.changed[k] = nil
+			b.sum ^= checksum(*old)
+			b.count--
+		}
+	}
+	tables := []string{"bundles", "history", "left_out"}
+	if b.follows {
+		tables = append(tables, "removed", "released")
+		b.names[app] = -b.Names(app)
+	}
+	for _, table := range tables {
 		if _, err := b.exec("delete from "+table+" where application = ?", app); err != nil {
 			return err
 		}
@@ -206,12 +231,10 @@ func (b *batch) erase(app, who string) error {
 			return err
 		}
 	}
-	if _, err := b.exec("update state set pruned = max(pruned, ?) where one = 1", b.last); err != nil {
-		return err
-	}
 	delete(b.unpruned, app)
 	delete(b.unlooked, app)
-	return b.seal()
+	_, err = b.exec("update state set pruned = max(pruned, ?) where one = 1", b.last)
+	return err
 }
 
 // digestsOf returns the digests of all that an application submitted and that is kept.

@@ -87,7 +87,7 @@ func TestEraseLeavesNothing(t *testing.T) {
 		s.add(t, text(store.Replace, "shop", "l"+fmt.Sprint(i), "now "+secret))
 	}
 	s.add(t, removal("shop", "l1"), text(store.Install, "shop", "en", "shared"), text(store.Install, "bank", "en", "shared"))
-	if _, err := s.Erase("shop", "token"); err != nil {
+	if _, err := s.Erase("shop"); err != nil {
 		t.Fatal(err)
 	}
 	if all, err := s.History("shop", "", 0, 100); err != nil || len(all) != 0 || len(s.Of("shop")) != 0 || s.Has("shop", "en") {
