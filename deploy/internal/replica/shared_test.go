@@ -105,7 +105,9 @@ func (l *memoryLog) Changes(_ context.Context, after store.Revision) (found []st
 		if len(found) == 7 {
 			return found, false, nil
 		}
-		found = append(found, l.whole(e, last))
+		if e, whole := l.whole(e, last); whole {
+			found = append(found, e)
+		}
 	}
 	return found, true, nil
 }
@@ -123,10 +125,10 @@ func placeOf(c store.Change) string {
 	return c.App + "." + c.Locale
 }
 
-// whole returns a release with its changes, or an entry without effect if a part was replaced.
-func (l *memoryLog) whole(e store.Entry, last map[string]int) store.Entry {
+// whole returns a release with its changes, or false if a part was replaced.
+func (l *memoryLog) whole(e store.Entry, last map[string]int) (store.Entry, bool) {
 	if e.Op != store.MakeRelease {
-		return e
+		return e, true
 	}
 	of := *e.Release
 	text := []byte{}
@@ -134,14 +136,13 @@ func (l *memoryLog) whole(e store.Entry, last map[string]int) store.Entry {
 		at := store.Change{Op: store.AddPart, App: e.App, Release: &store.Release{Slot: of.Slot, Part: part}}
 		i, there := last[placeOf(at)]
 		if !there || l.entries[i].Release.Name != of.Name {
-			e.Op = store.AddPart
-			return e
+			return e, false
 		}
 		text = append(text, l.entries[i].Body...)
 	}
 	of.Changes, _ = store.Decode(e.App, e.Who, append(text, e.Body...))
 	e.Release = &of
-	return e
+	return e, true
 }
 
 // Split has parts of up to 100 bytes.

@@ -280,16 +280,22 @@ func (l *Log) Append(_ context.Context, c store.Change, expected store.Revision)
 	return 0, fmt.Errorf("%w: %v", store.ErrUnsettled, ack.Error)
 }
 
-// next reads the next entry after a revision from the stream's leader, or returns false if there is none.
+// next reads the next entry after a revision from the stream's leader, or returns false if there is none. It leaves out a release
+// whose place another one has begun to take, as the stream leaves out entries whose place was taken.
 func (l *Log) next(ctx context.Context, after store.Revision) (e store.Entry, there bool, err error) {
-	e, there, err = l.get(ctx, fmt.Sprintf(`{"seq":%d,"next_by_subj":%q}`, after+1, prefix+"*.*"))
-	if err == nil && there && e.Revision <= after {
-		return e, false, fmt.Errorf("%w: NATS answers entry %d after %d", store.ErrUnreached, e.Revision, after)
+	for whole := false; !whole; after = e.Revision {
+		e, there, err = l.get(ctx, fmt.Sprintf(`{"seq":%d,"next_by_subj":%q}`, after+1, prefix+"*.*"))
+		if err != nil || !there {
+			return e, false, err
+		}
+		if e.Revision <= after {
+			return e, false, fmt.Errorf("%w: NATS answers entry %d after %d", store.ErrUnreached, e.Revision, after)
+		}
+		if whole, err = l.assemble(ctx, &e); err != nil {
+			return e, false, err
+		}
 	}
-	if err == nil && there && e.Op == store.MakeRelease {
-		err = l.assemble(ctx, &e)
-	}
-	return e, there && err == nil, err
+	return e, true, nil
 }
 
 // get reads an entry from the stream's leader, or returns false if there is none.

@@ -90,25 +90,23 @@ func (l *Log) Split(c store.Change) (all []store.Change, err error) {
 	return append(all, c), nil
 }
 
-// assemble reads the parts of a release and its changes. If another release has the place of a part, all bundles of this one were
-// changed again: then it is an entry without effect.
-func (l *Log) assemble(ctx context.Context, e *store.Entry) error {
+// assemble reads the parts of a release and its changes. It returns false if another release has the place of a part: then all bundles
+// of this one were changed again.
+func (l *Log) assemble(ctx context.Context, e *store.Entry) (whole bool, err error) {
+	if e.Op != store.MakeRelease {
+		return true, nil
+	}
 	var text []byte
 	for part := 0; part < e.Release.Parts; part++ {
 		of := store.Change{Op: store.AddPart, App: e.App, Release: &store.Release{Slot: e.Release.Slot, Part: part}}
 		found, there, err := l.get(ctx, fmt.Sprintf(`{"last_by_subj":%q}`, subject(of)))
-		if err != nil {
-			return err
-		}
-		if !there || found.Release == nil || found.Release.Name != e.Release.Name {
-			e.Op = store.AddPart
-			return nil
+		if err != nil || !there || found.Release == nil || found.Release.Name != e.Release.Name {
+			return false, err
 		}
 		text = append(text, found.Body...)
 	}
-	var err error
 	e.Release.Changes, err = store.Decode(e.App, e.Who, append(text, e.Body...))
-	return err
+	return err == nil, err
 }
 
 // Forget removes the entries of an application before a revision from the stream. With revision 0 it removes none, and returns
