@@ -300,3 +300,41 @@ func TestClusterErases(t *testing.T) {
 		}
 	}
 }
+
+// A publisher releases the same bundles through any of the gateways, and knows which releases may be the last.
+type publisher struct {
+	*cluster
+	random  *rand.Rand
+	round   int
+	may     map[int]bool
+	last    int64 // the revision of the last release that was acknowledged
+	made    int
+	unknown int
+}
+
+// publish makes a release. Without an answer it may be made or not.
+func (p *publisher) publish() {
+	p.round++
+	status, revision, text := p.machines[p.random.Intn(3)].release(longFiles(p.round)...)
+	switch {
+	case status == 200:
+		if revision <= p.last {
+			p.t.Errorf("a release has revision %d after %d", revision, p.last)
+		}
+		p.may, p.last = map[int]bool{p.round: true}, revision
+		p.made++
+	case status == 503 && strings.Contains("Unreached Replaying Busy ShardEnded", errorCode(text)):
+	default:
+		p.may[p.round] = true
+		p.unknown++
+	}
+}
+
+// look compares the bundles at any gateway that has the last release.
+func (p *publisher) look() {
+	m := p.machines[p.random.Intn(3)]
+	rounds, ok := m.seen(p.last)
+	if ok && (!isWhole(rounds) || !p.may[rounds[0]] || !p.may[rounds[3]]) {
+		p.t.Errorf("gateway %d has the releases %v, and after revision %d it may be %v", m.number, rounds, p.last, p.may)
+	}
+}
