@@ -93,9 +93,10 @@ func TestReleasesInTheStream(t *testing.T) {
 	}
 }
 
-// TestAnErasureInTheStream removes all entries of the application that are before it, and none of another one.
+// TestAnErasureInTheStream removes all entries of the application that are before it, and none of another one, also after a kill.
 func TestAnErasureInTheStream(t *testing.T) {
-	url, _ := start(t, t.TempDir(), "")
+	folder := t.TempDir()
+	url, process := start(t, folder, "")
 	l := opened(t, url, 0)
 	ctx := context.Background()
 	if err := l.Forget(ctx, "shop", 0); err != nil {
@@ -111,12 +112,22 @@ func TestAnErasureInTheStream(t *testing.T) {
 	last = l.append(t, last, store.Change{Op: store.AddPart, App: "shop", ID: "part", Body: []byte("x"), Release: unfinished},
 		store.Change{Op: store.Erase, App: "shop", ID: "3"}, text(store.Install, "shop", "fr", "new", "4"))
 	for i := 0; i < 2; i++ {
-		if err := l.Forget(ctx, "shop", last-1); err != nil {
-			t.Fatal(err)
+		if i == 0 {
+			if err := l.Forget(ctx, "shop", last-1); err != nil {
+				t.Fatal(err)
+			}
 		}
 		want := []string{`3 install shopping/de "two" 0`, fmt.Sprintf(`%d erase shop/ "" 0`, last-1), fmt.Sprintf(`%d install shop/fr "new" 0`, last)}
 		if got := l.show(t, 0); strings.Join(got, ", ") != strings.Join(want, ", ") {
 			t.Errorf("%q", got)
+		}
+		if i == 0 {
+			_ = process.Kill()
+			restart(t, folder)
+			opened(t, url, 0).Close()
+			for !l.Reached() {
+				time.Sleep(10 * time.Millisecond)
+			}
 		}
 	}
 	if _, ends, err := l.Identify(false); err != nil || ends != last {

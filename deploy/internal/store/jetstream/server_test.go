@@ -44,7 +44,13 @@ func start(t *testing.T, folder, settings string) (url string, process *os.Proce
 	if err := os.WriteFile(file, []byte(text), 0o600); err != nil {
 		t.Fatal(err)
 	}
-	command := exec.Command(natsServer(t), "-c", file, "-l", filepath.Join(folder, "log"))
+	return "nats://" + address, restart(t, folder)
+}
+
+// restart runs the nats-server of a folder again.
+func restart(t *testing.T, folder string) *os.Process {
+	t.Helper()
+	command := exec.Command(natsServer(t), "-c", filepath.Join(folder, "nats.conf"), "-l", filepath.Join(folder, "log"))
 	if err := command.Start(); err != nil {
 		t.Fatal(err)
 	}
@@ -52,7 +58,7 @@ func start(t *testing.T, folder, settings string) (url string, process *os.Proce
 		_ = command.Process.Kill()
 		_ = command.Wait()
 	})
-	return "nats://" + address, command.Process
+	return command.Process
 }
 
 // opened returns the log of a server, once it is there.
