@@ -171,3 +171,24 @@ func TestReleasesThatCantBeRead(t *testing.T) {
 		}
 	}
 }
+
+// TestPlacesOfALaterVersion are refused: a gateway reads nothing after what it doesn't know.
+func TestPlacesOfALaterVersion(t *testing.T) {
+	url, _ := start(t, t.TempDir(), "")
+	l := opened(t, url, 0)
+	for i, m := range []struct{ place, op, parts string }{
+		{"_later", "later", ""}, {"_release", "release", "0"}, {"_release0-", "part", ""}, {"_release0-x", "part", ""}, {"_release-1", "release", "0"},
+		{"_release0", "part", "0"}, {"_release0", "release", ""}, {"_release0", "release", "-1"}, {"_release0", "release", "1025"},
+		{"_release0-1", "release", "0"}, {"_erase", "remove", ""}, {"6465", "erase", ""}, {"6465", "release", "0"}, {"6465", "part", ""},
+	} {
+		message := &nats.Msg{Subject: ofApp("shop") + m.place, Header: nats.Header{}}
+		message.Header.Set(opHeader, m.op)
+		message.Header.Set(partsHeader, m.parts)
+		if _, err := l.js.PublishMsg(message); err != nil {
+			t.Fatal(err)
+		}
+		if all, _, err := l.Changes(context.Background(), store.Revision(i)); !errors.Is(err, store.ErrUnknown) {
+			t.Errorf("%v: %+v %v", m, all, err)
+		}
+	}
+}
