@@ -226,3 +226,132 @@ func TestReleasesAreSeenWhole(t *testing.T) {
 	want := fmt.Sprint(replicas[0].values("shop", locales...))
 	expect(t, append(replicas, third), replicas[0].list("shop")[len(`{"names":[`):len(replicas[0].list("shop"))-2], want, locales...)
 }
+
+// after returns the names of an application and their values after all entries, also those that were overwritten since. What a release
+// carries isn't used.
+func (l *memoryLog) after(app string) (names []string, values map[string]string) {
+	values = map[string]string{}
+	remove := func(locale string) {
+		for i, name := range names {
+			if name == locale {
+				names = append(append([]string{}, names[:i]...), names[i+1:]...)
+			}
+		}
+		delete(values, locale)
+	}
+	apply := func(c store.Change) {
+		if c.Op != store.Replace {
+			remove(c.Locale)
+		}
+		if c.Op == store.Install {
+			names = append(names, c.Locale)
+		}
+		if c.Op != store.Remove {
+			values[c.Locale] = valueOf(store.Entry{Change: c})
+		}
+	}
+	for _, e := range l.entries {
+		switch {
+		case e.App != app || e.Op == store.AddPart:
+		case e.Op == store.Erase:
+			names, values = nil, map[string]string{}
+		case e.Op == store.MakeRelease:
+			for _, m := range e.Release.Changes {
+				if !m.Carried {
+					apply(m.Change)
+				}
+			}
+		default:
+			apply(e.Change)
+		}
+	}
+	return names, values
+}
+
+// TestReplicasWithReleases has two replicas release, change, remove and erase the same bundles at the same time, while acknowledgements
+// are lost, entries don't arrive, and one replica starts again with or without its database. Now and then, and in the end, all replicas
+// and a new one have what all entries together make.
+func TestReplicasWithReleases(t *testing.T) {
+	l, folder := newMemoryLog(), t.TempDir()
+	first, second := follow(t, l.reader(), t.TempDir()), follow(t, l.reader(), folder)
+	locales := []string{"root", "de", "fr", "it", "nl", "es"}
+	stages, rounds := 6, 12
+	if testing.Short() {
+		stages = 2
+	}
+	for stage := 0; stage < stages; stage++ {
+		var all sync.WaitGroup
+		for w, r := range []*Replica{first, second, first} {
+			w, r, random := w, r, rand.New(rand.NewSource(int64(10*stage+w)))
+			all.Add(1)
+			go func() {
+				defer all.Done()
+				for i := 0; i < rounds; i++ {
+					r.act(t, l, random, locales, fmt.Sprint(w, ".", stage, ".", i))
+				}
+			}()
+		}
+		all.Wait()
+		if stage%2 == 1 {
+			second.Close()
+			if stage%4 == 1 {
+				folder = t.TempDir()
+			}
+			second = follow(t, l.reader(), folder)
+		}
+		third := follow(t, l.reader(), t.TempDir())
+		names, values := l.after("shop")
+		for i, r := range []*Replica{first, second, third} {
+			r.reach(t, store.Revision(l.count()))
+			want := `{"names":[]}`
+			if len(names) > 0 {
+				want = `{"names":["` + strings.Join(names, `","`) + `"]}`
+			}
+			if got := r.list("shop"); got != want {
+				t.Errorf("stage %d, replica %d: %s, and the log has %s", stage, i, got, want)
+			}
+			for locale, value := range values {
+				if got := r.values("shop", locale); got[0] != value {
+					t.Errorf("stage %d, replica %d, %s: %s, and the log has %s", stage, i, locale, got, value)
+				}
+			}
+		}
+		third.Close()
+	}
+}
+
+// act makes one change, release or erasure, now and then with a fault of the log.
+func (r *Replica) act(t *testing.T, l *memoryLog, random *rand.Rand, locales []string, value string) {
+	switch random.Intn(10) {
+	case 0:
+		l.set(func() { l.lose++ })
+	case 1:
+		l.set(func() { l.refuse++ })
+	}
+	locale := locales[random.Intn(len(locales))]
+	switch kind := random.Intn(16); {
+	case kind == 0:
+		ctx, cancel := soon()
+		defer cancel()
+		if _, _, err := r.Erase(ctx, "shop", "test"); err != nil && !errors.Is(err, child.ErrTimeout) {
+			t.Error(err)
+		}
+	case kind < 4:
+		r.remove("shop", locale)
+	case kind < 8:
+		r.put("shop", locale, text(locale, value))
+	default:
+		var all []store.Change
+		for _, locale := range locales {
+			switch random.Intn(4) {
+			case 0:
+				all = append(all, bundleOf(locale, text(locale, value)))
+			case 1:
+				all = append(all, removalOf(locale))
+			}
+		}
+		if reply, _, err := r.released("shop", all...); reply != done && !errors.Is(err, child.ErrTimeout) {
+			t.Error(reply, err)
+		}
+	}
+}
