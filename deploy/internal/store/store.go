@@ -101,6 +101,28 @@ var (
 	ErrForbidden = errors.New("the log doesn't permit this")
 )
 
+// sameTime is how much the times may differ that servers of NATS give for the making of one stream: several gateways may have asked for
+// it at the same moment.
+const sameTime = time.Minute
+
+// NameOf returns the name of a log that was made at a time.
+func NameOf(log string, made time.Time) string {
+	return log + " of " + made.UTC().Format(time.RFC3339Nano)
+}
+
+// IsSameLog returns true if two names are of logs that were made at about the same time.
+func IsSameLog(a, b string) bool {
+	logA, madeA, _ := strings.Cut(a, " of ")
+	logB, madeB, _ := strings.Cut(b, " of ")
+	first, err1 := time.Parse(time.RFC3339Nano, madeA)
+	second, err2 := time.Parse(time.RFC3339Nano, madeB)
+	if err1 != nil || err2 != nil {
+		return a == b
+	}
+	between := first.Sub(second)
+	return logA == logB && -sameTime < between && between < sameTime
+}
+
 // InOrder returns bundles in the order of their installation.
 func InOrder[K comparable](of map[K]Bundle) []Bundle {
 	all := make([]Bundle, 0, len(of))

@@ -1,6 +1,9 @@
 package store
 
-import "testing"
+import (
+	"testing"
+	"time"
+)
 
 func TestCanonicalNames(t *testing.T) {
 	for given, want := range map[string]string{
@@ -10,6 +13,19 @@ func TestCanonicalNames(t *testing.T) {
 	} {
 		if got := Canonical(given); got != want || Canonical(got) != got {
 			t.Errorf("%q: %q", given, got)
+		}
+	}
+}
+
+// TestNamesOfLogs takes two streams for the same one if they were made at about the same time.
+func TestNamesOfLogs(t *testing.T) {
+	made := time.Date(2026, 11, 27, 7, 26, 41, 999, time.UTC)
+	for name, want := range map[string]bool{
+		NameOf("RESB", made): true, NameOf("RESB", made.Add(20*time.Millisecond)): true, NameOf("RESB", made.Add(-59*time.Second)): true,
+		NameOf("RESB", made.Add(time.Minute)): false, NameOf("RESB", made.Add(-time.Hour)): false, NameOf("OTHER", made): false, "RESB": false, "": false,
+	} {
+		if IsSameLog(NameOf("RESB", made), name) != want || IsSameLog(name, NameOf("RESB", made)) != want || !IsSameLog(name, name) {
+			t.Error(name)
 		}
 	}
 }

@@ -132,8 +132,8 @@ func (l *Log) Reached() bool { return l.nc.IsConnected() }
 // Connections returns how often a lost connection was made again.
 func (l *Log) Connections() int64 { return l.count.Load() }
 
-// Identify makes the stream if it is missing and may be made, and returns its name and its last revision. Streams that were made at
-// different times have different names.
+// Identify makes the stream if it is missing and may be made, and returns its name and its last revision. store.IsSameLog
+// compares the names of streams that were made at different times.
 func (l *Log) Identify(create bool) (name string, last store.Revision, err error) {
 	if !l.Reached() {
 		return "", 0, store.ErrUnreached
@@ -153,7 +153,7 @@ func (l *Log) Identify(create bool) (name string, last store.Revision, err error
 		return "", 0, fmt.Errorf("%w: the stream %s must be in files, keep a number of messages of each subject, have no other limit "+
 			"than bytes, and discard new messages", store.ErrDamaged, stream)
 	}
-	return stream + " of " + info.Created.UTC().Format(time.RFC3339Nano), store.Revision(info.State.LastSeq), nil
+	return store.NameOf(stream, info.Created), store.Revision(info.State.LastSeq), nil
 }
 
 // message returns the message of a change.

@@ -93,7 +93,7 @@ func (s *Store) Follows(name string) error {
 	if err := s.writer.QueryRowContext(ctx, "select name from origin").Scan(&had); err != nil {
 		return err
 	}
-	if had != name {
+	if !store.IsSameLog(had, name) {
 		return fmt.Errorf("%w: it is %s, and this gateway has the bundles of %s", store.ErrDamaged, name, had)
 	}
 	return nil
