@@ -11,6 +11,7 @@ import (
 	"os/exec"
 	"path/filepath"
 	"regexp"
+	"strconv"
 	"strings"
 	"sync"
 	"sync/atomic"
@@ -192,8 +193,19 @@ func (w *writer) check(p *process) error {
 	return fmt.Errorf("%s, %s: %d %s, where %d was told and then %d tried", w.app, w.locale, status, strings.TrimSpace(body), w.told, w.tried)
 }
 
-// TestNothingToldIsLost kills the gateway, and its server, again and again under changes and lookups, while the file is
-// rewritten; after each kill all acknowledged changes are there.
+// roundsOr returns the number of rounds that a variable asks for, or the usual one.
+func roundsOr(variable string, usual int) int {
+	if given, err := strconv.Atoi(os.Getenv(variable)); err == nil {
+		return given
+	}
+	if testing.Short() {
+		return (usual + 2) / 3
+	}
+	return usual
+}
+
+// TestNothingToldIsLost kills the gateway, and its server, again and again under changes and lookups; after each kill all
+// acknowledged changes are there. RESB_KILLS is how often.
 func TestNothingToldIsLost(t *testing.T) {
 	folder := t.TempDir()
 	p := launchGateway(t, folder)
@@ -202,10 +214,7 @@ func TestNothingToldIsLost(t *testing.T) {
 	for i := 0; i < 12; i++ {
 		writers = append(writers, &writer{app: []string{"shop", "bank"}[i%2], locale: fmt.Sprintf("l%c", 'a'+i)})
 	}
-	rounds, value := 12, 0
-	if testing.Short() {
-		rounds = 4
-	}
+	rounds, value := roundsOr("RESB_KILLS", 12), 0
 	for round := 0; round < rounds; round++ {
 		var stop int32
 		var all sync.WaitGroup
@@ -246,16 +255,69 @@ func TestNothingToldIsLost(t *testing.T) {
 		changes += w.changes
 	}
 	p.kill() // ends the copying of its log
-	t.Logf("%d changes, %d kills, %d times rewritten", changes, rounds, strings.Count(p.log.String(), "rewritten"))
+	t.Logf("%d changes, %d kills", changes, rounds)
+}
+
+// TestAReleaseIsStoredWhole kills the gateway again and again while it stores releases: after each start all bundles are those of one
+// release, which is the last acknowledged one or the one that had no answer. RESB_RELEASE_KILLS is how often.
+func TestAReleaseIsStoredWhole(t *testing.T) {
+	const bundles = 36
+	folder := t.TempDir()
+	p := launchGateway(t, folder)
+	defer func() { p.kill() }()
+	release := func(number int) (status int) {
+		var lines strings.Builder
+		for i := 0; i < bundles; i++ {
+			fmt.Fprintf(&lines, `{"locale":"l%c%c","text":"x{v{\"%d\"} pad{\"%s\"}}"}`+"\n", 'a'+i/26, 'a'+i%26, number, strings.Repeat("x", 10<<10))
+		}
+		r, _ := http.NewRequest("POST", "http://"+p.address+"/v1/shop/_releases", strings.NewReader(lines.String()))
+		r.Header.Set("Authorization", "Bearer "+shopWrites)
+		r.Header.Set("Content-Type", asLines)
+		got, err := http.DefaultClient.Do(r)
+		if err != nil {
+			return 0
+		}
+		got.Body.Close()
+		return got.StatusCode
+	}
+	if status := release(1); status != 200 {
+		t.Fatal(status)
+	}
+	told, acknowledged := 1, 0
+	for round, number := roundsOr("RESB_RELEASE_KILLS", 6), 1; round > 0; round-- {
+		late := time.AfterFunc(time.Duration(rand.Intn(300))*time.Millisecond, func() { _ = p.command.Process.Kill() })
+		for number++; release(number) == 200; number++ {
+			told = number
+			acknowledged++
+		}
+		late.Stop()
+		p.kill()
+		p.start(folder, filepath.Join(folder, "tokens"))
+		var found []string
+		for i := 0; i < bundles; i++ {
+			_, body := p.get(fmt.Sprintf("/v1/shop/l%c%c/v", 'a'+i/26, 'a'+i%26))
+			found = append(found, valueOf(body))
+		}
+		if one := strings.Repeat(found[0]+" ", bundles); one != strings.Join(found, " ")+" " || found[0] != fmt.Sprint(told) && found[0] != fmt.Sprint(number) {
+			t.Fatalf("release %d was acknowledged and then %d tried: %v", told, number, found)
+		}
+		told, _ = strconv.Atoi(found[0])
+	}
+	t.Logf("%d releases acknowledged", acknowledged)
+}
+
+// valueOf returns the value of a String in a reply.
+func valueOf(body string) string {
+	_, after, _ := strings.Cut(body, `"value":"`)
+	value, _, _ := strings.Cut(after, `"`)
+	return value
 }
 
 // now returns the current value.
 func now(p *process, w *writer) (value int) {
 	token := map[string]string{"shop": shopWrites, "bank": bankWrites}[w.app]
 	_, body := p.send("GET", "/v1/"+w.app+"/"+w.locale+"/v", token, "")
-	if at := strings.Index(body, `"value":"`); at >= 0 {
-		_, _ = fmt.Sscanf(body[at+len(`"value":"`):], "%d", &value)
-	}
+	value, _ = strconv.Atoi(valueOf(body))
 	return value
 }
 
