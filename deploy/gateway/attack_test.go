@@ -1,12 +1,14 @@
 package main
 
 import (
+	"bytes"
 	"fmt"
 	"io"
 	"net"
 	"net/http"
 	"os"
-	"runtime"
+	"os/exec"
+	"path/filepath"
 	"sort"
 	"strings"
 	"sync"
@@ -21,7 +23,7 @@ const attackTime = 2 * time.Second
 type attack func(s *site, stop <-chan struct{})
 
 // TestAnotherApplicationsLookups has `shop` do what could harm others, and meanwhile `bank` look up: none of its lookups is refused,
-// and with RESB_JUDGE_TIMES the 99th percentile is at most 50 ms. Otherwise, and on a busy machine, times are only logged.
+// and with RESB_JUDGE_TIMES the 99th percentile is at most 50 ms. Without it times are only logged, as the machine may be busy.
 func TestAnotherApplicationsLookups(t *testing.T) {
 	s := open(t, "-read-time", "30s")
 	long := strings.Repeat("x", 7<<20)
@@ -36,7 +38,7 @@ func TestAnotherApplicationsLookups(t *testing.T) {
 	alone := s.victim(t, nil)
 	t.Logf("alone: %v", alone)
 	const most = 50 * time.Millisecond
-	judged := os.Getenv("RESB_JUDGE_TIMES") != "" && !busy()
+	judged := os.Getenv("RESB_JUDGE_TIMES") != ""
 	for name, a := range map[string]attack{
 		"long replies that nobody reads":   many(32, manyLooks("de", "long", 190, false)),
 		"long replies":                     many(4, single("GET", "/v1/shop/de/long", "")),
@@ -59,14 +61,6 @@ func TestAnotherApplicationsLookups(t *testing.T) {
 		})
 	}
 	s.awaitBoth()
-}
-
-// busy returns true if more processes want to run than there are cores.
-func busy() bool {
-	content, _ := os.ReadFile("/proc/loadavg")
-	var load float64
-	_, _ = fmt.Sscan(string(content), &load)
-	return load > float64(runtime.NumCPU())
 }
 
 // expensive returns a bundle that the server or its stand-in takes long to look up in.
@@ -202,4 +196,114 @@ func TestBodiesThatStop(t *testing.T) {
 		_, bytes := s.Limits.Now()
 		return bytes == 0
 	})
+}
+
+// TestAForgedBundle puts files that have the WAL of the database in them, and kills the gateway while it stores them: each start has
+// all acknowledged bundles, and none that only a file has.
+func TestAForgedBundle(t *testing.T) {
+	folder := t.TempDir()
+	p := launchGateway(t, folder)
+	defer func() { p.kill() }()
+	if status := p.put("bank", "de", `de{v{"B"}}`); status != 201 {
+		t.Fatal(status)
+	}
+	const none, one = "{\"names\":[]}\n", "{\"names\":[\"de\"]}\n"
+	told := false
+	for round := 0; round < 10; round++ {
+		file, sent := forged(t, folder), make(chan int, 1)
+		go func() {
+			status, _ := p.send("PUT", "/v1/shop/de.res", shopWrites, file)
+			sent <- status
+		}()
+		time.Sleep(time.Duration(30*round) * time.Millisecond)
+		p.kill()
+		status := <-sent
+		told = told || status == 200 || status == 201
+		p.start(folder, filepath.Join(folder, "tokens"))
+		if status, body := p.send("GET", "/v1/bank/de/v", bankWrites, ""); status != 200 || valueOf(body) != "B" {
+			t.Errorf("%d %s", status, body)
+		}
+		if _, body := p.send("GET", "/v1/bank", bankWrites, ""); body != one {
+			t.Error(body)
+		}
+		if _, body := p.get("/v1/shop"); body != one && (told || body != none) {
+			t.Error(body)
+		}
+	}
+	t.Logf("a file was acknowledged: %v", told)
+}
+
+// forged returns the bytes of a file of a bundle that has the WAL of a folder in it, again and again.
+func forged(t *testing.T, folder string) string {
+	t.Helper()
+	wal, err := os.ReadFile(filepath.Join(folder, "changes.db-wal"))
+	if err != nil {
+		t.Fatal(err)
+	}
+	wal = bytes.Repeat(wal, 1+(2<<20)/(len(wal)+1))[:2<<20]
+	program := os.Getenv("RESB")
+	if program == "" {
+		return string(wal)
+	}
+	compile := exec.Command(program, "compile", "-")
+	compile.Stdin = strings.NewReader(fmt.Sprintf("de{b:bin{%x}}", wal))
+	file, err := compile.Output()
+	if err != nil {
+		t.Fatal(err)
+	}
+	return string(file)
+}
+
+// TestMemoryThatIsUsedUp has an application use all its memory in an order in which a start can't: small bundles, one that is dear to
+// install, and then large ones in place of the small. The next start has all bundles, of this application and of the other.
+func TestMemoryThatIsUsedUp(t *testing.T) {
+	if os.Getenv("RESB") == "" {
+		t.Skip("the stand-in has no limits")
+	}
+	folder, options := t.TempDir(), []string{"-memory", "512M", "-apps", "4"}
+	p := launchGateway(t, folder, options...)
+	defer func() { p.kill() }()
+	if status := p.put("bank", "de", `de{v{"B"}}`); status != 201 {
+		t.Fatal(status)
+	}
+	const bundles = 60
+	locale := func(i int) string { return fmt.Sprintf("l%c%c", 'a'+i/26, 'a'+i%26) }
+	told := map[string]string{}
+	put := func(locale, value, rest string) (status int) {
+		if status = p.put("shop", locale, fmt.Sprintf(`%s{v{"%s"}%s}`, locale, value, rest)); status == 200 || status == 201 {
+			told[locale] = value
+		}
+		return status
+	}
+	for i := 0; i < bundles; i++ {
+		put(locale(i), "small", "")
+	}
+	var keys strings.Builder
+	for i := 0; keys.Len() < 900<<10; i++ {
+		fmt.Fprintf(&keys, "k%d{\"\"}", i)
+	}
+	put("keys", "dear", keys.String())
+	refused := 0
+	for i := 0; i < bundles; i++ {
+		if status := put(locale(i), "large", ` long{"`+strings.Repeat("x", 900<<10)+`"}`); status != 200 {
+			refused++
+		}
+	}
+	if refused == 0 || refused == bundles {
+		t.Errorf("%d of %d bundles were refused", refused, bundles)
+	}
+	p.kill()
+	p.start(folder, filepath.Join(folder, "tokens"), options...)
+	if status, body := p.send("GET", "/v1/bank/de/v", bankWrites, ""); status != 200 || valueOf(body) != "B" {
+		t.Errorf("%d %s", status, body)
+	}
+	for locale, value := range told {
+		if status, body := p.get("/v1/shop/" + locale + "/v"); status != 200 || valueOf(body) != value {
+			t.Errorf("%s: %d %.100s, and not %s", locale, status, body, value)
+		}
+	}
+	if _, text := p.get("/metrics"); !strings.Contains(text, "resb_shard_left_out{shard=\"0\"} 0\n") {
+		t.Error("a bundle is left out")
+	}
+	t.Logf("%d of %d large bundles were refused", refused, bundles)
 }

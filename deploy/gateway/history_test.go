@@ -8,13 +8,15 @@ import (
 	"path/filepath"
 	"strings"
 	"testing"
+	"time"
 )
 
 // A past is a change in the reply to a request for the history.
 type past struct {
-	ID, Bytes                       int
-	Locale, Op, Token, SHA256, Time string
-	Kept                            bool
+	ID, Bytes                 int
+	Locale, Op, Token, SHA256 string
+	Kept                      bool
+	At                        time.Time
 }
 
 func (s *site) past(query string) []past {
@@ -82,6 +84,26 @@ func TestTheHistory(t *testing.T) {
 	}
 	if got := s.ask("GET", "/v1/shop/_history", shopReads, ""); got.StatusCode != 403 {
 		t.Errorf("%d %s", got.StatusCode, got.body)
+	}
+}
+
+// TestTheHistoryIsBounded has the last 100 changes if the caller doesn't say how many, the newest first, with their times.
+func TestTheHistoryIsBounded(t *testing.T) {
+	s := open(t)
+	began := time.Now()
+	for i := 0; i < 103; i++ {
+		s.ask("PUT", "/v1/shop/de.txt", shopWrites, fmt.Sprintf(`de{a{"%d"}}`, i))
+	}
+	all := s.past("")
+	if len(all) != 100 || len(s.past("?last=103")) != 103 || len(s.past("?last=0")) != 0 {
+		t.Fatalf("%d", len(all))
+	}
+	later := time.Now()
+	for _, one := range all {
+		if one.At.After(later) || one.At.Before(began) {
+			t.Errorf("%v, and %v after it", one.At, later)
+		}
+		later = one.At
 	}
 }
 
