@@ -1,8 +1,11 @@
 package main
 
 import (
+	"bytes"
 	"encoding/json"
+	"os"
 	"os/exec"
+	"path/filepath"
 	"sort"
 	"strings"
 	"testing"
@@ -55,11 +58,14 @@ func TestTheDescriptionHasTheRoutes(t *testing.T) {
 	}
 }
 
-// validator prints what is wrong with a description, and then the operations of a client that Perl's OpenAPI::Client makes of it.
+// validator fails if a description isn't one by the schema of the OpenAPI Initiative, which comes with Perl's JSON::Validator.
 const validator = `use strict; use warnings; use OpenAPI::Client; use JSON::Validator;
 my $schema = JSON::Validator->new->schema($ARGV[0])->schema;
 die join("\n", @{$schema->errors}), "\n" if @{$schema->errors};
-my $client = OpenAPI::Client->new($ARGV[0], base_url => $ARGV[1]);
+`
+
+// generator prints the operations of a client that Perl's OpenAPI::Client makes of a description, and what it gets.
+const generator = `my $client = OpenAPI::Client->new($ARGV[0], base_url => $ARGV[1]);
 $client->ua->on(start => sub { $_[1]->req->headers->authorization("Bearer $ARGV[2]") });
 print join(" ", grep { $client->can($_) } qw(list look put remove history release restore erase getTxt)), "\n";
 my $put = $client->put({app => "shop", locale => "de.txt"}, body => 'de{a{"A"}}');
@@ -74,9 +80,16 @@ func TestTheDescriptionMakesAClient(t *testing.T) {
 	if exec.Command("perl", "-MOpenAPI::Client", "-e", "1").Run() != nil {
 		t.Skip("skipped: libopenapi-client-perl is not there")
 	}
+	spoiled := filepath.Join(t.TempDir(), "openapi.json")
+	if err := os.WriteFile(spoiled, bytes.Replace(openAPI, []byte(`"responses"`), []byte(`"answers"`), 1), 0o600); err != nil {
+		t.Fatal(err)
+	}
+	if text, err := exec.Command("perl", "-e", validator, spoiled).CombinedOutput(); err == nil || !strings.Contains(string(text), "Properties not allowed: answers") {
+		t.Errorf("a description with an unknown member: %v %s", err, text)
+	}
 	s := open(t)
 	s.ask("PUT", "/v1/shop/de.txt", shopWrites, `de{a{"A"}}`)
-	text, err := exec.Command("perl", "-e", validator, s.url+"/openapi.json", s.url, shopWrites).CombinedOutput()
+	text, err := exec.Command("perl", "-e", validator+generator, s.url+"/openapi.json", s.url, shopWrites).CombinedOutput()
 	const want = "list look put remove history release restore erase getTxt\nA\n2\n400\nde{a{\"A\"}}\n"
 	if err != nil || string(text) != want {
 		t.Errorf("%v\n%s", err, text)
