@@ -54,9 +54,9 @@ func TestAnotherApplicationsLookups(t *testing.T) {
 		t.Run(name, func(t *testing.T) {
 			p99 := s.victim(t, a)
 			s.onTheirWay(0) // a change is made although its caller has gone
-			t.Logf("p99 %v", p99)
+			t.Logf("p99 %v: %s", p99, name)
 			if judged && p99 > most {
-				t.Errorf("p99 %v, more than %v", p99, most)
+				t.Errorf("p99 %v, more than %v: %s", p99, most, name)
 			}
 		})
 	}
