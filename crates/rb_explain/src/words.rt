@@ -539,9 +539,9 @@ pub(crate) const OF_REQUEST: [Explanation; 42] = [
     Explanation {
         word: "NotOffered",
         of: Of::Request,
-        meaning: "a gateway over a shared log doesn't offer it",
-        cause: "a release or ?erase with the option -nats",
-        remedy: "make the changes one by one",
+        meaning: "the stream in NATS doesn't permit that entries are purged",
+        cause: "?erase, where somebody made the stream with deny_purge",
+        remedy: "remove the bundles one by one; the earlier ones may stay in the stream",
     },
     Explanation {
         word: "Busy",
