@@ -1,6 +1,6 @@
 -- Proves that ordered warnings stay ordered with a later one at the end.
-use Rattle.std.proofs.Common.{◌≡◌, ℕ, ◌≤◌, List, [], ◌∷◌, ◌++◌, All, arith}
-use Rattle.std.proofs.lemmas.List.Elements.{All-nil, All-cons, All-append, All-head, All-tail, All-push, All-weaker}
+use Rattle.std.proofs.Common.{◌≡◌, ℕ, ◌≤◌, List, [], ◌∷◌, ◌++◌, All, Some, arith}
+use Rattle.std.proofs.lemmas.List.Elements.{All-nil, All-cons, All-append, All-head, All-tail, All-push, All-pop, All-weaker}
 use Rattle.rb_lint.specs.Warnings.{AreInOrder, AreWithin}
 
 pub order_more : {A : Type 0} (line : A → ℕ) (ws : List A) (w : A) → AreInOrder line ws → All (λ v. line v ≤ line w) ws → AreInOrder line (ws ++ w ∷ [])
@@ -24,3 +24,10 @@ one_more {A} line lines last n ws us w e at o a b first after inside =
     let inner : line w ≤ lines = omega arith in
     let self : line w ≤ n = omega arith in
     rw e (order_more line ws w o b', All-push P ws w a (one, inner), All-push R ws w r self)
+
+-- If each element of one list has a property only where those of another one have theirs, so it is with one more at the end of each.
+pub all_more : {A B : Type 0} (P : A → Type 0) (Q : B → Type 0) (fs us : List A) (f : A) (ys : List B) (y : B) → us ≡ fs ++ f ∷ [] → (All P fs → All Q ys)
+    → (P f → Q y) → All P us → All Q (ys ++ y ∷ [])
+all_more P Q fs us f ys y e before here h =
+    let p = All-pop P us fs (Some f) e h in
+    All-push Q ys y (before p.0) (here p.1)

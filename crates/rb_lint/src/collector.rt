@@ -8,7 +8,8 @@ use std::alloc::{AllocError, Global};
 #[derive(Drop)]
 pub(crate) struct Found {
     pub(crate) at: usize,
-    pub(crate) rule: Rule,
+    /// The rule of a warning; None for the error of a text that isn't compiled.
+    pub(crate) rule: Option<Rule>,
     pub(crate) message: Message,
 }
 
@@ -57,7 +58,11 @@ impl<'a> Collector<'a> {
             return Ok(());
         }
         self.count = self.count.saturating_add(1);
-        self.found.push(Found { at, rule, message })?;
+        self.found.push(Found {
+            at,
+            rule: Some(rule),
+            message,
+        })?;
         if self.found.len() / 2 >= self.limit {
             self.keep_first()?;
         }

@@ -1,6 +1,5 @@
 use crate::difference::Difference;
 use crate::fault::FaultText;
-use crate::order::AtLine;
 use crate::pattern::PatternDoubt;
 use crate::rule::Rule;
 use crate::warning::Doubt;
@@ -65,13 +64,5 @@ impl Finding {
             (None, Message::Fault(fault)) => Some(fault.kind.word()),
             (None, _) => None,
         }
-    }
-}
-
-impl AtLine for Finding {
-    ghost line_of = { λ f. f.line };
-
-    fn line(&self) -> u64 {
-        self.line
     }
 }

@@ -1,11 +1,12 @@
-ghost use Rattle.std.specs.Prelude.{◌≤◌, ◌+◌, IfOk, vec_len};
-ghost use Rattle.rb_lint.specs.Warnings.{AreInOrder, AreWithin, line_count};
+ghost use Rattle.std.specs.Prelude.{◌≡◌, ◌≤◌, ◌+◌, All, IfOk, IsErr, IsSome, OnOk, vec_len};
+ghost use Rattle.rb_lint.specs.Warnings.{AreInOrder, AreWithin, HasNoError, IsCompiled};
+ghost use Rattle.rb_lint.specs.Warnings.{line_count};
+ghost use Rattle.rb_lint.specs.declared.finding.Severity.TheVariants as Severities;
 
 use crate::allowed::Allowances;
 use crate::collector::{Collector, Found};
-use crate::fault::{Fault, FaultText, find_fault, is_utf16};
+use crate::fault::{Fault, find_fault, is_utf16};
 use crate::finding::{Finding, Message, Severity};
-use crate::order::in_order;
 use crate::position::{Position, line_count};
 use crate::rule::Levels;
 use crate::scan::{Open, Quoting};
@@ -15,6 +16,9 @@ use rb_lexer::{SourceFault, SourceKind};
 use rb_parser::{Source, parse};
 use rb_tree::Tree;
 use std::alloc::{AllocError, Global};
+
+/// The maximum number of warnings of one text, unless all are asked for.
+pub const WARNING_LIMIT: usize = 100;
 
 /// How to lint a text.
 #[derive(Clone, Copy)]
@@ -36,62 +40,67 @@ pub struct Report {
     pub left_out: u64,
 }
 
-/// Converts findings to those with lines and columns. The fault comes after the warnings of its place.
+/// Returns the line of a finding after another one: one of the text's lines, and not an earlier one.
+fn line_after(last: u64, line: u64, lines: u64) -> u64
+    requires { last ≤ lines }
+    ensures { (last ≤ result) × (result ≤ lines) }
+{
+    if line < last {
+        last
+    } else if lines < line {
+        lines
+    } else {
+        line
+    }
+}
+
+/// Returns a warning of a rule, or the error of a text that isn't compiled, in its line.
+fn finding_at(line: u64, column: u64, levels: Levels, found: Found) -> Finding
+    ensures line { result.line ≡ line }
+    ensures error { result.severity ≡ Severities.Warning → IsSome found.rule }
+{
+    let severity = match found.rule {
+        Some(rule) if !levels.denied.has(rule) => Severity::Warning,
+        _ => Severity::Error,
+    };
+    Finding {
+        line,
+        column,
+        severity,
+        rule: found.rule,
+        message: found.message,
+    }
+}
+
+/// Converts findings by ascending places to those with lines and columns.
 fn located(
     alloc: Global,
     text: &[u8],
     levels: Levels,
     found: Vec<Found>,
-    fault: Option<Fault>,
-) -> Result<Vec<Finding>, AllocError> {
+) -> Result<Vec<Finding>, AllocError>
+    ensures order { IfOk result (λ fs. AreInOrder (λ f. f.line) fs.items) }
+    ensures within { IfOk result (λ fs. AreWithin (line_count text.now) (λ f. f.line) fs.items) }
+    ensures count { IfOk result (λ fs. vec_len fs ≡ vec_len found) }
+    ensures error { IfOk result (λ fs. HasNoError fs.items → All (λ f. IsSome f.rule) found.items) }
+{
+    let lines = line_count(text);
     let mut findings = Vec::new(alloc);
     let mut position = Position::first();
-    let mut rest = fault;
-    for warning in found {
-        if let Some(fault) = rest.take() {
-            if fault.at < warning.at {
-                position.advance(text, fault.at);
-                findings.push(error_at(&position, fault.text))?;
-            } else {
-                rest = Some(fault);
-            }
-        }
-        position.advance(text, warning.at);
-        findings.push(warning_at(&position, levels, warning))?;
-    }
-    if let Some(fault) = rest {
-        position.advance(text, fault.at);
-        findings.push(error_at(&position, fault.text))?;
+    let mut last = 1;
+    for one in found {
+        position.advance(text, one.at);
+        let line = line_after(last, position.line, lines);
+        findings.push(finding_at(line, position.column, levels, one))?;
+        last = line;
     }
     Ok(findings)
 }
 
-fn error_at(position: &Position, text: FaultText) -> Finding {
-    Finding {
-        line: position.line,
-        column: position.column,
-        severity: Severity::Error,
-        rule: None,
-        message: Message::Fault(text),
-    }
-}
-
-fn warning_at(position: &Position, levels: Levels, found: Found) -> Finding {
-    Finding {
-        line: position.line,
-        column: position.column,
-        severity: if levels.denied.has(found.rule) {
-            Severity::Error
-        } else {
-            Severity::Warning
-        },
-        rule: Some(found.rule),
-        message: found.message,
-    }
-}
-
 /// Parses a text, or returns its fault. `Err` means out of memory.
-fn parsed(alloc: Global, text: &[u8]) -> Result<Result<Source, SourceFault>, AllocError> {
+fn parsed(alloc: Global, text: &[u8]) -> Result<Result<Source, SourceFault>, AllocError>
+    ensures { IfOk result (λ o. IfOk o (λ s. IsCompiled text.now)) }
+{
     match parse(alloc, text) {
         Err(fault) if fault.kind == SourceKind::Memory => Err(AllocError),
         outcome => Ok(outcome),
@@ -115,7 +124,9 @@ fn search_readable<'a>(
     settings: &Settings<'a>,
     allowances: &'a Allowances,
     outcome: &Result<Source, SourceFault>,
-) -> Result<(Collector<'a>, Option<Fault>), AllocError> {
+) -> Result<(Collector<'a>, Option<Fault>), AllocError>
+    ensures { IfOk result (λ r. IsErr outcome.now → IsSome r.1) }
+{
     let (mut found, open) = search_text(alloc, text, settings, allowances)?;
     match outcome {
         Err(fault) => {
@@ -128,6 +139,23 @@ fn search_readable<'a>(
             Ok((found, None))
         }
     }
+}
+
+/// Inserts the error of a text after the warnings up to its place.
+fn insert_fault(found: &mut Vec<Found>, fault: Fault) -> Result<(), AllocError>
+    ensures count { OnOk result (vec_len found.new ≡ vec_len found.old + 1) }
+    ensures error { OnOk result (All (λ f. IsSome f.rule) found.new.items → ⊥) }
+{
+    let place = found.partition_point(|warning| warning.at <= fault.at);
+    found.insert(
+        place,
+        Found {
+            at: fault.at,
+            rule: None,
+            message: Message::Fault(fault.text),
+        },
+    )?;
+    Ok(())
 }
 
 /// Finds what is doubtful in a bundle text, which may have any errors, and why it isn't compiled. The
@@ -151,10 +179,12 @@ pub fn find_all<'a>(
     ensures within { IfOk result
         (λ r. AreWithin (line_count text.now) (λ f. f.line) r.findings.items) }
     ensures few { IfOk result (λ r. vec_len r.findings ≤ settings.now.limit + 1) }
+    // Whatever is allowed, a text that isn't compiled has an error.
+    ensures error { IfOk result (λ r. HasNoError r.findings.items → IsCompiled text.now) }
 {
     let outcome = parsed(alloc, text)?;
     let allowances = Allowances::of(alloc, text, Quoting::OverLines)?;
-    let (warnings, count, fault) = if is_unreadable(text, &outcome) {
+    let (mut found, count, fault) = if is_unreadable(text, &outcome) {
         let fault = match outcome {
             Err(fault) => Some(find_fault(alloc, text, fault, Open::Nothing)?),
             Ok(_) => None,
@@ -165,9 +195,11 @@ pub fn find_all<'a>(
         let (warnings, count) = found.ordered()?;
         (warnings, count, fault)
     };
-    let left_out = count.saturating_sub(warnings.len() as u64);
-    let findings = located(alloc, text, settings.levels, warnings, fault)?;
-    let most = settings.limit.saturating_add(1);
-    let findings = in_order(alloc, findings, line_count(text), most)?;
+    found.truncate(settings.limit);
+    let left_out = count.saturating_sub(found.len() as u64);
+    if let Some(fault) = fault {
+        insert_fault(&mut found, fault)?;
+    }
+    let findings = located(alloc, text, settings.levels, found)?;
     Ok(Report { findings, left_out })
 }
