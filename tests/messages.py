@@ -20,6 +20,7 @@ import sys
 import tempfile
 from collections import Counter
 
+sys.path.append("/usr/lib/python3/dist-packages")  # where Debian's python3-icu is, also for another Python of its version
 try:
     import icu as pyicu
 except ImportError:
