@@ -50,7 +50,7 @@ TOP = os.path.dirname(os.path.dirname(os.path.abspath(__file__)))
 RT = os.environ.get("RT", "rt")
 # A proof by hand that names what the text no longer has says nothing of a contract.
 NAMES = re.compile(r"has no field|is not in scope|has no `|was not admitted|is no name|expected the end|operand is missing")
-FN = re.compile(r"( *)(?:pub(?:\([^)]*\))? )?(?:const )?(?:unsafe )?fn (\w+)")
+FN = re.compile(r'( *)(?:pub(?:\([^)]*\))? )?(?:const )?(?:unsafe )?(?:extern "C" )?fn (\w+)')
 IMPL = re.compile(r"impl(?:<[^{]*?>)? (?:(.+) for )?(.+?) \{$")
 
 
