@@ -87,9 +87,7 @@ func TestEarlierVersionsMakeSpace(t *testing.T) {
 // halt stops a process, and returns once all its threads have stopped: until then some of them run.
 func halt(t *testing.T, pid int) {
 	t.Helper()
-	if err := syscall.Kill(pid, syscall.SIGSTOP); err != nil {
-		t.Fatal(err)
-	}
+	signalTo(t, pid, syscall.SIGSTOP)
 	eventually(t, "it stands", func() bool { return stands(pid) })
 }
 
@@ -122,9 +120,7 @@ func TestServersThatStand(t *testing.T) {
 		t.Errorf("%d %s", got.StatusCode, got.body)
 	}
 	for _, pid := range []int{serves, judges} {
-		if err := syscall.Kill(pid, syscall.SIGCONT); err != nil {
-			t.Error(err)
-		}
+		signalTo(t, pid, syscall.SIGCONT)
 	}
 	s.settled()
 }

@@ -118,8 +118,17 @@ func (s *site) killServer() {
 	s.t.Helper()
 	s.awaitBoth()
 	serves, _ := s.servers()
-	if err := syscall.Kill(serves, syscall.SIGKILL); err != nil {
-		s.t.Fatal(err)
+	signalTo(s.t, serves, syscall.SIGKILL)
+}
+
+// signalTo sends a signal to a process. Nothing may be sent to 0, a server that is missing: that is the process group of this test.
+func signalTo(t *testing.T, pid int, signal syscall.Signal) {
+	t.Helper()
+	if pid == 0 {
+		t.Fatal("a server is missing")
+	}
+	if err := syscall.Kill(pid, signal); err != nil {
+		t.Fatal(err)
 	}
 }
 

@@ -72,7 +72,7 @@ func TestWritez(t *testing.T) {
 		t.Errorf("%d %s", got.StatusCode, got.body)
 	}
 	_, judges := s.servers()
-	_ = syscall.Kill(judges, syscall.SIGKILL)
+	signalTo(t, judges, syscall.SIGKILL)
 	eventually(t, "another server judges changes", func() bool {
 		got := s.ask("GET", "/writez", "", "")
 		if got.StatusCode == 503 && got.body != "Replaying\n" {
