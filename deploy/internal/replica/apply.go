@@ -260,6 +260,8 @@ func (r *Replica) swap(judges *child.Child, changed bool) (before, late *child.C
 		r.serves, r.judges = r.judges, nil
 	case changed:
 		late = r.serves
+	default: // it has all that is stored, also if that was a part of a release or the removal of what it lacked
+		r.revision = r.store.Whole()
 	}
 	return before, late
 }

@@ -257,20 +257,22 @@ type plan struct {
 	*Replica
 	last     map[bundle]store.Entry
 	before   map[bundle]store.Bundle
-	names    []bundle
+	names    []bundle                  // one that is installed again is there again
+	place    map[bundle]int            // of each name: where it is last in names
 	rebuilds map[string][]store.Bundle // of each application whose bundles are installed again: those that it had
 }
 
 // plan notes what entries change.
 func (r *Replica) plan(entries []store.Entry) *plan {
-	p := &plan{r, map[bundle]store.Entry{}, map[bundle]store.Bundle{}, nil, map[string][]store.Bundle{}}
+	p := &plan{r, map[bundle]store.Entry{}, map[bundle]store.Bundle{}, nil, map[bundle]int{}, map[string][]store.Bundle{}}
 	for _, e := range r.singles(entries) {
 		name := bundle{e.App, e.Locale}
-		if _, there := p.last[name]; !there {
-			p.names = append(p.names, name)
-			if b, has := r.store.Bundle(e.App, e.Locale); has {
-				p.before[name] = b
-			}
+		_, there := p.last[name]
+		if !there || e.Op == store.Install {
+			p.place[name], p.names = len(p.names), append(p.names, name)
+		}
+		if b, has := r.store.Bundle(e.App, e.Locale); has && !there {
+			p.before[name] = b
 		}
 		p.last[name] = e
 		if e.Op == store.Replace && p.before[name].Order != e.Order && p.rebuilds[e.App] == nil {
@@ -305,10 +307,10 @@ func (r *Replica) singles(entries []store.Entry) (all []store.Entry) {
 // steps returns the lines that make the entries. They are in the order of the installations: one that was installed before
 // bundles that are there has all bundles of its application installed again.
 func (p *plan) steps() (steps []step) {
-	for _, name := range p.names {
+	for i, name := range p.names {
 		e := p.last[name]
 		_, had := p.before[name]
-		if p.rebuilds[e.App] != nil {
+		if p.place[name] != i || p.rebuilds[e.App] != nil {
 			continue
 		}
 		e.Locale = name.locale

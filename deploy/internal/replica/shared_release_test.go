@@ -227,6 +227,47 @@ func TestReleasesAreSeenWhole(t *testing.T) {
 	expect(t, append(replicas, third), replicas[0].list("shop")[len(`{"names":[`):len(replicas[0].list("shop"))-2], want, locales...)
 }
 
+// TestTheOrderAfterAReleaseThatWasMissed has a replica come back when a bundle of a release was removed and installed again: its list has
+// the order of the log's.
+func TestTheOrderAfterAReleaseThatWasMissed(t *testing.T) {
+	l := newMemoryLog()
+	first, second := follow(t, l.reader(), t.TempDir()), follow(t, l.reader(), t.TempDir())
+	second.hold(t, func() {
+		if reply, _, err := first.released("shop", bundleOf("fr", text("fr", "1")), bundleOf("de", text("de", "1"))); err != nil || reply != done {
+			t.Error(reply, err)
+		}
+		first.remove("shop", "fr")
+		first.put("shop", "fr", text("fr", "2"))
+	})
+	first.reach(t, store.Revision(l.count()))
+	expect(t, []*Replica{first, second}, `"de","fr"`, "[1 2]", "de", "fr")
+}
+
+// TestARevisionThatChangesNothing has a replica come back when a bundle was installed and removed, and then read a part of a release
+// that nobody finishes: it has the revision at once, and not only after the next change.
+func TestARevisionThatChangesNothing(t *testing.T) {
+	l := newMemoryLog()
+	first, second := follow(t, l.reader(), t.TempDir()), follow(t, l.reader(), t.TempDir())
+	ctx, cancel := context.WithTimeout(context.Background(), 20*readEvery)
+	defer cancel()
+	second.hold(t, func() {
+		first.put("shop", "de", text("de", "A"))
+		first.remove("shop", "de")
+	})
+	if err := second.Await(ctx, store.Revision(l.count())); err != nil {
+		t.Error("a bundle that it never had:", err)
+	}
+	part := store.Change{Op: store.AddPart, App: "shop", ID: "part", Body: []byte("x"), Release: &store.Release{Name: "unfinished"}}
+	if _, err := l.Append(ctx, part, store.Revision(l.count())); err != nil {
+		t.Fatal(err)
+	}
+	for _, r := range []*Replica{first, second} {
+		if err := r.Await(ctx, store.Revision(l.count())); err != nil {
+			t.Error("a part:", err)
+		}
+	}
+}
+
 // after returns the names of an application and their values after all entries, also those that were overwritten since. What a release
 // carries isn't used.
 func (l *memoryLog) after(app string) (names []string, values map[string]string) {
