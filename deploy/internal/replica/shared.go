@@ -384,15 +384,16 @@ func (r *Replica) publish(ctx context.Context, judges *child.Child, accepted []*
 			ok = r.makeRemovals(judges, made)
 			accepted = accepted[1:]
 		case errors.Is(err, store.ErrConflict):
-			again := true
+			again, taken := true, false
 			more, alive := r.read(ctx, judges, func(entries []store.Entry) bool {
 				again = r.concern(entries, accepted)
+				taken = again
 				return !again || r.takeAllBack(judges, accepted)
 			})
 			steps = append(steps, more...)
 			if ok = alive; again {
 				r.changes.putBack(accepted)
-				return kept, steps, ok && (len(more) > 0 || r.takeAllBack(judges, accepted))
+				return kept, steps, ok && (taken || r.takeAllBack(judges, accepted))
 			}
 		case errors.Is(err, store.ErrUnsettled), errors.Is(err, store.ErrUnreached) && p.perhaps:
 			r.note(err)

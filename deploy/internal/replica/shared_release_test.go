@@ -268,6 +268,39 @@ func TestARevisionThatChangesNothing(t *testing.T) {
 	}
 }
 
+// A partLog has another gateway publish a part of a release just before a change.
+type partLog struct {
+	*memoryReader
+	once bool
+}
+
+func (l *partLog) Append(ctx context.Context, c store.Change, expected store.Revision) (store.Revision, error) {
+	if !l.once {
+		l.once = true
+		part := store.Change{Op: store.AddPart, App: "shop", ID: "part", Body: []byte("x"), Release: &store.Release{Name: "unfinished"}}
+		if _, err := l.memoryLog.Append(ctx, part, store.Revision(l.count())); err != nil {
+			return 0, err
+		}
+	}
+	return l.memoryLog.Append(ctx, c, expected)
+}
+
+// TestAPartInBetween has another gateway publish a part of a release of the same application just before a change: the change is made, and no
+// server ends.
+func TestAPartInBetween(t *testing.T) {
+	l := newMemoryLog()
+	r := follow(t, &partLog{memoryReader: l.reader()}, t.TempDir())
+	_, before := r.PIDs()
+	serves, _ := r.PIDs()
+	if got := r.put("shop", "de", text("de", "1")); got != done {
+		t.Error(got)
+	}
+	a, b := r.PIDs()
+	if !(a == before && b == serves || a == serves && b == before) {
+		t.Errorf("a server was replaced: %d %d, before %d %d", a, b, serves, before)
+	}
+}
+
 // after returns the names of an application and their values after all entries, also those that were overwritten since. What a release
 // carries isn't used.
 func (l *memoryLog) after(app string) (names []string, values map[string]string) {
