@@ -123,9 +123,10 @@ func run(s settings) error {
 type gateway struct {
 	settings
 	*api.Handler
-	leaving context.Context // is done when the gateway ends
-	access  *journal
-	audit   *journal
+	leaving   context.Context // is done when the gateway ends
+	refreshed chan struct{}   // is closed when nothing is read again any more
+	access    *journal
+	audit     *journal
 }
 
 // newGateway reads the tokens and begins with the backend.
@@ -156,7 +157,7 @@ func newGateway(leaving context.Context, s settings) (*gateway, error) {
 	options.Access, options.Audit = journalOf(access), journalOf(audit)
 	options.Version, options.Commit = version, commit
 	options.OpenAPI, options.Leaving, options.Inside = openAPI, leaving, s.inside != ""
-	return &gateway{s, api.New(b, known, options), leaving, access, audit}, nil
+	return &gateway{s, api.New(b, known, options), leaving, make(chan struct{}), access, audit}, nil
 }
 
 // connect returns the replica that the settings ask for.
@@ -192,6 +193,7 @@ func (s settings) login() (string, error) {
 
 // refresh reads the file of tokens and the certificates again when they change.
 func (g *gateway) refresh(ctx context.Context, p *pair) {
+	defer close(g.refreshed)
 	hangups := make(chan os.Signal, 1)
 	signal.Notify(hangups, syscall.SIGHUP)
 	ticks := time.NewTicker(time.Second)
@@ -266,6 +268,8 @@ func (g *gateway) listenOn(outer net.Listener, p *pair) error {
 	}
 	log.Print("gateway: ends")
 	_ = notify(stopping)
+	<-g.refreshed
+	g.keepTokens() // of a gateway that ends right after its start
 	select {
 	case err := <-ended:
 		return err
