@@ -126,11 +126,8 @@ start_if python3 pages tools/pages --check "$program"
 start_if python3 daily bench/daily.py --self-test "$program"
 start_if python3 printing bench/text.py --self-test "$program"
 start_if genrb icu tests/icu.sh "$program" brkitr translit
-# `rt ci` removes the library's archive. To build one over the libraries that it left, the crate resb is proved once more, for three minutes of
-# a processor
-if [ -z "$quick" ]; then
-    start_if gcc library tests/library.sh --bare
-elif [ -e crates/resb/out/libresb.a ]; then
+# `rt ci` proves the library and builds no archive, and to build one proves all crates below it once more, for half an hour of a processor
+if [ -e crates/resb/out/libresb.a ]; then
     start_if gcc library tests/library.sh --built
 else
     echo 'library: skipped: crates/resb/out/libresb.a is not built (tools/library builds it)' | tee "$logs/library.skipped"
