@@ -21,7 +21,7 @@ func TestTheReasonOfARefusal(t *testing.T) {
 		real             bool // the stand-in doesn't know it
 	}{
 		{"/v1/shop/de.txt", "de{\n\n bad\xff}", "BadKey", 3, "key", false},
-		{"/v1/shop/de.txt", "de{\n open{\"a\"}\n\n\n open{\"b\"}\n}", "DuplicateKey", 5, "key", true},
+		{"/v1/shop/de.txt", "de{\n open{\"a\"}\n\n\n open{\"b\"}\n}", "DuplicateKey", 5, "key 'open' is already defined in line 2", true},
 		{"/v1/shop/de.txt", "de{\n a{\"\xff\"}}", "NotUtf8", 2, "UTF-8", true},
 		{"/v1/shop/de.res", icu, "FormatVersion", 0, "icu2text", true},
 	} {

@@ -47,7 +47,11 @@ func (r *Runner) Judge(ctx context.Context, app string, form store.Form, body []
 	}
 	f.Code = string(parts[2])
 	f.Line, _ = strconv.Atoi(string(parts[1]))
-	if f.Message = strings.ToValidUTF8(string(parts[3]), "\uFFFD"); f.Message == "" {
+	f.Message = strings.ToValidUTF8(string(parts[3]), "\uFFFD")
+	if f.Message == "" && form == store.Text {
+		f.Message = r.explained(ctx, app, body, f)
+	}
+	if f.Message == "" {
 		f.Message = r.meaning(ctx, app, f.Code, form)
 	}
 	if version, is := icuFormat(body); is && form == store.File && f.Code == "FormatVersion" {
@@ -122,21 +126,45 @@ type Warning struct {
 // mostWarnings is how many warnings of a text are returned.
 const mostWarnings = 1000
 
-// Warnings returns what `lint` says of a text.
+// Warnings returns what `lint` warns of in a text.
 func (r *Runner) Warnings(ctx context.Context, app string, body []byte) (all []Warning, err error) {
+	found, err := r.lint(ctx, app, body)
+	for _, one := range found {
+		if one.Severity == "warning" && len(all) < mostWarnings {
+			all = append(all, one.Warning)
+		}
+	}
+	return all, err
+}
+
+// explained returns what `lint` says of the error of a text, which names the key or the token, or "" if it finds it elsewhere.
+func (r *Runner) explained(ctx context.Context, app string, body []byte, f Fault) string {
+	found, _ := r.lint(ctx, app, body)
+	for _, one := range found {
+		if one.Severity == "error" && one.Rule == f.Code && one.Line == f.Line {
+			return strings.TrimPrefix(one.Message, f.Code+": ")
+		}
+	}
+	return ""
+}
+
+// A finding is a line of `lint`: a warning, or an error, whose rule is its code.
+type finding struct {
+	Warning
+	Severity string `json:"severity"`
+}
+
+// lint returns what `lint` finds in a text.
+func (r *Runner) lint(ctx context.Context, app string, body []byte) (all []finding, err error) {
 	out, _, _, err := r.Run(ctx, app, body, "lint", "--format", "json", "--", standardInput)
 	if err != nil {
 		return nil, err
 	}
 	for _, line := range bytes.Split(out, []byte("\n")) {
-		var found struct {
-			Warning
-			Severity string `json:"severity"`
+		var one finding
+		if json.Unmarshal(line, &one) == nil {
+			all = append(all, one)
 		}
-		if json.Unmarshal(line, &found) != nil || found.Severity != "warning" || len(all) == mostWarnings {
-			continue
-		}
-		all = append(all, found.Warning)
 	}
 	return all, nil
 }
