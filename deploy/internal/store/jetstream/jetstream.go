@@ -22,7 +22,7 @@ import (
 	"luvdregan.example/resb/deploy/internal/store"
 )
 
-// The stream and its subjects. Whoever stores a change says so at the subject `moved`, so that others read it at once.
+// The stream and its subjects. A gateway that stores a change announces it at the subject `moved`, so that the others read it at once.
 const (
 	stream  = "RESB"
 	prefix  = "resb.log."

@@ -638,7 +638,7 @@ func trialsOf(first, second, third []action, bundles, quota int, kills uint8) (a
 	for _, a := range first {
 		for _, b := range second {
 			for _, c := range third {
-				if bundles > 0 || a.key != 1 { // it is the same with the bundles exchanged
+				if bundles > 0 || a.key != 1 { // exchanging the bundles gives no new state
 					all = append(all, trial{[3]action{a, b, c}, bundles, quota, kills})
 				}
 			}
