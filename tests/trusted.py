@@ -23,11 +23,13 @@ CRATES = pathlib.Path(__file__).resolve().parent.parent / "crates"
 # Parts of crates beyond the core: all, or some types, functions and clauses (FUNCTION.CLAUSE).
 BEYOND = {
     "rb_arguments": "all",
-    "rb_commands": "all",
+    "rb_console": "all",
+    "rb_convert": "all",
     "rb_engine": {"compile", "one_compiled", "put", "usage", "file_len", "apps", "look_within"},
     "rb_explain": "all",
     "rb_fallback": {"look_watched", "look_within"},
     "rb_handle": "all",
+    "rb_inspect": "all",
     "rb_json": {"json_text", "characters", "ascii", "Outlet"},
     "rb_lexer": {"Tokens"},
     "rb_lint": "all",

@@ -8,7 +8,7 @@ mod server;
 
 use crate::running::run_asked;
 use rb_arguments::{asked_by, commands_for};
-use rb_commands::Console;
+use rb_console::Console;
 use std::io::{ErrorKind, IsTerminal};
 use std::process::ExitCode;
 use std::random::RandomSource;

@@ -4,9 +4,11 @@ ghost use Rattle.rb_tool.specs.inner.Serving.{AreLimits};
 
 use crate::serve::{Serving, serve_files};
 use rb_arguments::{Asked, AskedCoverage, AskedLimits, AskedLint, AskedLookup};
-use rb_commands::{
-    Change, Console, CoverageWords, Layout, LintWords, Lookup, check_all, check_on, compile_all,
-    compile_on, cover_all, explain_on, get_on, json, lines, lint_all, list_rules, look_up, text,
+use rb_console::Console;
+use rb_convert::{Change, Layout, compile_all, compile_on, json, lines, text};
+use rb_inspect::{
+    CoverageWords, LintWords, Lookup, check_all, check_on, cover_all, explain_on, get_on, lint_all,
+    list_rules, look_up,
 };
 use rb_requests::Limits;
 use std::process::ExitCode;

@@ -1,11 +1,11 @@
 //! `resb serve`.
 ghost use Rattle.std.specs.Prelude.{◌≡◌, IfOk};
 ghost use Rattle.rb_engine.specs.Kept.{state_of};
-ghost use Rattle.rb_commands.specs.Starting.{HasParentsFor};
+ghost use Rattle.rb_console.specs.Starting.{HasParentsFor};
 
 use crate::batching_writer::{BatchingWriter, LookaheadFeed};
 use crate::server::Server;
-use rb_commands::{Console, JsonWriter, StartError, not_started_on, start_engine};
+use rb_console::{Console, JsonWriter, StartError, not_started_on, start_engine};
 use rb_requests::{Limits, ServeFault, WriteSink};
 use std::cell::Cell;
 use std::io;

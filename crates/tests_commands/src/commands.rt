@@ -9,9 +9,9 @@ mod traces;
 mod values;
 
 use desk::Desk;
-use rb_commands::{
-    Console, Layout, StartError, check, compile, get, json, not_started_on, start_engine,
-};
+use rb_console::{Console, StartError, not_started_on, start_engine};
+use rb_convert::{Layout, compile, json};
+use rb_inspect::{check, get};
 use std::alloc::Global;
 use std::process::ExitCode;
 

@@ -1,4 +1,4 @@
-//! Tests of the commands over files in memory: `rb_commands`; and of the explanations of error
+//! Tests of the commands over files in memory: `rb_convert`, `rb_inspect` and `rb_console`; and of the explanations of error
 //! codes: `rb_explain`.
 #![tactic(auto)]
 

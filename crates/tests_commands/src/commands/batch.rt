@@ -1,7 +1,9 @@
 //! Many texts and files at once.
 use super::desk::Desk;
 use super::{EMPTY, HOLDS_ITSELF, ONE_STRING, desk_of, ended};
-use rb_commands::{Console, check_all, check_on, compile_all, stem};
+use rb_console::{Console, stem};
+use rb_convert::compile_all;
+use rb_inspect::{check_all, check_on};
 
 const PLAIN: Console = Console {
     is_quiet: false,

@@ -1,7 +1,7 @@
 //! Files that are written while one call of the runtime fails, and links in place of files.
 use super::EMPTY;
 use super::desk::{Desk, Paper};
-use rb_commands::compile;
+use rb_convert::compile;
 use std::alloc::{Allocator, Global};
 use std::cell::Cell;
 use std::fmt::Display;

@@ -2,7 +2,8 @@
 use super::Step::{Get, Put};
 use super::desk::Desk;
 use super::{HOLDS_ITSELF, ROOM, Step, all_steps, are_steps};
-use rb_commands::{ItemError, compile, text_at};
+use rb_convert::compile;
+use rb_inspect::{ItemError, text_at};
 use rb_tree::{Tree, UnitList};
 use std::alloc::Global;
 use std::process::ExitCode;

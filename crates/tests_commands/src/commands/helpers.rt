@@ -1,7 +1,9 @@
 //! Explanations, request lines and lookups over files in memory.
 use super::desk::Desk;
 use super::{desk_of, ended};
-use rb_commands::{Change, Console, Lookup, explain, lines, look_up};
+use rb_console::Console;
+use rb_convert::{Change, lines};
+use rb_inspect::{Lookup, explain, look_up};
 
 /// Texts, one that isn't UTF-8, a file, and random bytes.
 const FILES: [(&str, &[u8]); 5] = [

@@ -1,7 +1,8 @@
 //! Files in memory, printed as bundle texts.
 use super::desk::Desk;
 use super::{HOLDS_ITSELF, ROOM};
-use rb_commands::{Console, compile, name_of, text};
+use rb_console::Console;
+use rb_convert::{compile, name_of, text};
 use std::process::ExitCode;
 
 #[test]

@@ -1,7 +1,8 @@
 //! Lookups over files in memory, traced.
 use super::desk::Desk;
 use super::desk_of;
-use rb_commands::{Console, Lookup, look_up};
+use rb_console::Console;
+use rb_inspect::{Lookup, look_up};
 use std::process::ExitCode;
 
 /// The texts that lookups are over, and random bytes.

@@ -2,7 +2,7 @@
 use super::Step::{Close, Json, Put};
 use super::get::are_steps_with;
 use super::{HOLDS_ITSELF, ROOM, Step, are_steps};
-use rb_commands::Layout;
+use rb_convert::Layout;
 
 /// A bundle with an item of each kind.
 const KINDS: &[u8] =

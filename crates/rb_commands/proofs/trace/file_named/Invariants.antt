@@ -1,6 +1,0 @@
-use Rattle.std.proofs.Common.{◌≡◌, drop}
-use Rattle.rb_commands.specs.inner.Files.{bundle_named}
-use Rattle.rb_commands.proofs.trace.file_named.Given as goal
-
-abbrev pub invariant-loop-bundle : goal.invariant-loop-bundle
-invariant-loop-bundle l = bundle_named l.name l.bundles ≡ bundle_named l.name (drop l.bundle-index l.bundles)

@@ -1,0 +1,5 @@
+pub mod Each
+pub mod Errors
+pub mod Starting
+pub mod Status
+pub mod Writing

@@ -1,0 +1,41 @@
+//! Reads texts and bundles.
+use crate::error::CommandError;
+use crate::files::read_file;
+use rb_format::FILE_LIMIT;
+use rb_validator::{Bundle, accept};
+use std::io;
+use std::io::Read;
+use std::rt::Files;
+
+/// Reads standard input, at most one byte past the largest file.
+fn read_input<R: Input + AllocGlobal>(rt: &R) -> io::Result<Vec<u8>> {
+    let mut bytes = Vec::new(rt.alloc());
+    rt.reader()
+        .take(FILE_LIMIT as u64 + 1)
+        .read_to_end(&mut bytes)?;
+    Ok(bytes)
+}
+
+/// Reads a bundle text, from standard input if its name is `-`.
+pub fn read_text<R: Files + Input + AllocGlobal>(rt: &R, input: &str) -> io::Result<Vec<u8>> {
+    if input == "-" {
+        read_input(rt)
+    } else {
+        read_file(rt, input)
+    }
+}
+
+/// Reads the bundle in the file `name`.
+pub fn accepted<'a, R: Files + AllocGlobal>(
+    rt: &R,
+    name: &'a str,
+) -> Result<Bundle, CommandError<'a>> {
+    let bytes = match read_file(rt, name) {
+        Ok(bytes) => bytes,
+        Err(error) => return Err(CommandError::Unread(name, "", error.kind())),
+    };
+    match accept(rt.alloc(), bytes) {
+        Ok(bundle) => Ok(bundle),
+        Err((fault, _)) => Err(CommandError::Refused(name, fault.word())),
+    }
+}

@@ -1,0 +1,19 @@
+//! The commands of `resb` that make one form of bundles from another, over any runtime: compiling,
+//! printing texts and JSON, and making request lines.
+#![tactic(auto)]
+
+mod batch;
+mod compiling;
+mod pretty;
+mod request_lines;
+mod texts;
+mod value;
+mod words;
+
+pub use batch::compile_all;
+pub use compiling::{compile, compile_on};
+pub use rb_engine::Change;
+pub use rb_json::Layout;
+pub use request_lines::lines;
+pub use texts::{name_of, text};
+pub use value::{ValueError, json, value_at};

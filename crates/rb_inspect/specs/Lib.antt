@@ -1,0 +1,4 @@
+pub mod Got
+pub mod Looking
+pub mod Words
+pub mod inner

@@ -1,0 +1,65 @@
+//! `resb check`.
+ghost use Rattle.std.specs.Prelude.{◌≡◌, IfErr};
+ghost use Rattle.std.specs.Process.{exit_status};
+
+use rb_console::{CommandError, Console, accepted, each, failed, finish, printed};
+use rb_validator::Bundle;
+use std::process::ExitCode;
+use std::rt::{Clock, Files};
+
+/// Checks the file `name`, and prints `ok` and the number of tables and arrays entered if it is
+/// accepted. The status is 0; 1 if the file is refused, with the error's name on standard error;
+/// 2 if it can't be read or standard output can't be written.
+pub fn check<R: Files + AllocGlobal + Print + Eprint>(rt: &R, name: &str) -> ExitCode {
+    check_on(rt, Console::plain(), name)
+}
+
+/// Checks as `check`, on a console.
+pub fn check_on<R: Files + AllocGlobal + Print + Eprint>(
+    rt: &R,
+    console: Console,
+    name: &str,
+) -> ExitCode {
+    match accepted(rt, name) {
+        Ok(_) if console.is_quiet => ExitCode::SUCCESS,
+        Ok(bundle) => {
+            let visits = bundle.visits();
+            printed(rt, println!(rt; "ok, {visits} visits"))
+        }
+        Err(error) => finish(rt, console, error),
+    }
+}
+
+/// Prints that a file is accepted, and returns its status: 1 if it isn't.
+fn checked<R: Print + Eprint>(
+    rt: &R,
+    console: Console,
+    name: &str,
+    accepted: Result<Bundle, CommandError<'_>>,
+) -> ExitCode
+    ensures refused { IfErr accepted.entry (λ error. exit_status result ≡ 1) }
+{
+    match accepted {
+        Err(error) => failed(rt, console, error),
+        Ok(_) if console.is_quiet => ExitCode::SUCCESS,
+        Ok(bundle) => {
+            let (name, visits) = (console.on_stdout(name), bundle.visits());
+            printed(rt, println!(rt; "{name}: ok, {visits} visits"))
+        }
+    }
+}
+
+/// Checks each file as `check` does; each line begins with the file's name. The status is 0; 1 if a
+/// file is refused or can't be read; 2 as soon as standard output can't be written.
+pub fn check_all<R: Files + Clock + AllocGlobal + Print + Eprint>(
+    rt: &R,
+    console: Console,
+    names: &[&str],
+) -> ExitCode {
+    each(
+        rt,
+        console,
+        names,
+        |name| checked(rt, console, name, accepted(rt, name)),
+    )
+}

@@ -1,0 +1,300 @@
+//! `resb coverage`.
+use crate::coverage_output::{CoverageFormat, Printed, put_head};
+use rb_console::{
+    CommandError, Console, Form, Given, StartError, all_given, finish, not_started_on, parents_of,
+    printed, read_given, refused_on,
+};
+use rb_coverage::{Counts, Coverage, CoverageFault, Found};
+use rb_locales::Name;
+use rb_parents::Parents;
+use rb_parser::{Source, parse};
+use rb_tree::Tree;
+use std::alloc::{AllocError, Global};
+use std::io;
+use std::process::ExitCode;
+use std::rt::Files;
+
+/// The words of the command line of `resb coverage`.
+#[derive(Clone, Copy, Debug)]
+pub struct CoverageWords<'a> {
+    /// The file of explicit parents, if there is one.
+    pub parents: Option<&'a str>,
+    pub format: Option<&'a str>,
+    /// Each as `LOCALE=FILE`, or `FILE`, whose stem is the locale.
+    pub files: &'a [&'a str],
+}
+
+/// The bundles of one folder.
+#[derive(Clone, Copy)]
+struct Module<'a> {
+    folder: &'a str,
+    /// The indexes of its first bundle, and after its last one.
+    first: usize,
+    past: usize,
+}
+
+/// The settings of a command, and all its bundles.
+#[derive(Clone, Copy)]
+struct Common<'a> {
+    console: Console,
+    format: CoverageFormat,
+    parents: &'a Parents,
+    bundles: &'a [Given<'a>],
+    has_modules: bool,
+}
+
+/// Returns a file's folder, or `.` for a name without one.
+fn folder_of(file: &str) -> &str {
+    match file.rsplit_once('/') {
+        Some(("", _)) => "/",
+        Some((folder, _)) => folder,
+        None => ".",
+    }
+}
+
+/// Returns the modules of bundles that are in the order of folders.
+fn modules_of<'a>(alloc: Global, bundles: &[Given<'a>]) -> Result<Vec<Module<'a>>, AllocError> {
+    let mut modules: Vec<Module<'a>> = Vec::new(alloc);
+    for (i, bundle) in bundles.iter().enumerate() {
+        let folder = folder_of(bundle.file);
+        let past = i.saturating_add(1);
+        match modules.last_mut() {
+            Some(module) if module.folder == folder => module.past = past,
+            _ => modules.push(Module {
+                folder,
+                first: i,
+                past,
+            })?,
+        }
+    }
+    Ok(modules)
+}
+
+/// Returns the second file of a locale, if a locale has two in a module. The bundles are in the
+/// order of names.
+fn second_file<'a>(bundles: &[Given<'a>], module: Module<'_>) -> Option<&'a str> {
+    let mut before: Option<Name> = None;
+    for i in module.first..module.past {
+        let bundle = bundles.get(i)?;
+        if before == Some(bundle.name) {
+            return Some(bundle.file);
+        }
+        before = Some(bundle.name);
+    }
+    None
+}
+
+/// Reads a bundle text.
+fn read_source<'a, R: Files + AllocGlobal>(
+    rt: &R,
+    file: &'a str,
+) -> Result<Source, CommandError<'a>> {
+    let text = match read_given(rt, file) {
+        Ok(text) => text,
+        Err(error) => return Err(error),
+    };
+    match parse(rt.alloc(), &text) {
+        Ok(source) => Ok(source),
+        Err(fault) => Err(CommandError::TextRefused(file, fault)),
+    }
+}
+
+/// Reads the texts of a module, up to the first that is refused.
+fn read_module<'a, R: Files + AllocGlobal>(
+    rt: &R,
+    bundles: &[Given<'a>],
+    module: Module<'_>,
+) -> Result<Vec<(Name, Tree, bool)>, CommandError<'a>> {
+    let mut trees = Vec::new(rt.alloc());
+    for i in module.first..module.past {
+        let Some(bundle) = bundles.get(i) else {
+            break;
+        };
+        let source = match read_source(rt, bundle.file) {
+            Ok(source) => source,
+            Err(error) => return Err(error),
+        };
+        if trees
+            .push((bundle.name, source.tree, source.no_fallback))
+            .is_err()
+        {
+            return Err(CommandError::NotStarted(StartError::Memory));
+        }
+    }
+    Ok(trees)
+}
+
+/// Reports why a module can't be compared.
+fn fault_status<R: Eprint>(
+    rt: &R,
+    console: Console,
+    bundles: &[Given<'_>],
+    module: Module<'_>,
+    fault: CoverageFault,
+) -> ExitCode {
+    match fault {
+        CoverageFault::NoRoot => {
+            let folder = console.on_stderr(module.folder);
+            let _ = eprintln!(rt; "resb: no file of the root in {folder}");
+            ExitCode::from(2)
+        }
+        CoverageFault::Trail(i, fault) => match bundles.get(module.first.saturating_add(i)) {
+            Some(bundle) => refused_on(rt, console, bundle.file, fault.word()),
+            None => ExitCode::from(1),
+        },
+        CoverageFault::Memory => not_started_on(rt, console, StartError::Memory),
+    }
+}
+
+/// Counts what is found at a key.
+fn count(counts: &mut Vec<Counts>, found: &[Found]) {
+    for one in found {
+        if let Some(counts) = counts.get_mut(one.locale) {
+            counts.add(one.finding);
+        }
+    }
+}
+
+/// Prints what is found at each key, and the table of a module.
+fn put_module<R: AllocGlobal + Print>(
+    rt: &R,
+    printed: Printed<'_>,
+    coverage: &mut Coverage<'_>,
+) -> io::Result<()> {
+    let mut counts = vec![in rt.alloc(); Counts::none(); printed.trees.len()]?;
+    for _ in 0..u64::MAX {
+        let Some(found) = coverage.next_key()? else {
+            break;
+        };
+        if found.is_empty() {
+            continue;
+        }
+        count(&mut counts, &found);
+        let path = coverage.path()?;
+        printed.put_key(rt, str::from_utf8(&path).unwrap_or("?"), &found)?;
+    }
+    let locales = coverage.locales()?;
+    printed.put_table(rt, coverage.keys(), &locales, &counts)
+}
+
+/// Returns the status of a module by whether its output was written.
+fn module_status<R: Eprint>(rt: &R, console: Console, written: io::Result<()>) -> ExitCode {
+    match written {
+        Err(error) if error.kind() == io::ErrorKind::OutOfMemory => {
+            not_started_on(rt, console, StartError::Memory)
+        }
+        written => printed(rt, written),
+    }
+}
+
+/// Compares the trees of a module that was read.
+fn cover_read<R: AllocGlobal + Print + Eprint>(
+    rt: &R,
+    common: Common<'_>,
+    module: Module<'_>,
+    trees: &[(Name, Tree, bool)],
+) -> ExitCode {
+    let console = common.console;
+    let mut coverage = match Coverage::new(rt.alloc(), trees, common.parents) {
+        Ok(coverage) => coverage,
+        Err(fault) => return fault_status(rt, console, common.bundles, module, fault),
+    };
+    let printed = Printed {
+        format: common.format,
+        console,
+        module: module.folder,
+        is_named: common.has_modules,
+        trees,
+    };
+    let written = put_module(rt, printed, &mut coverage);
+    module_status(rt, console, written)
+}
+
+/// Compares the bundles of a module.
+fn cover_one<R: Files + AllocGlobal + Print + Eprint>(
+    rt: &R,
+    common: Common<'_>,
+    module: Module<'_>,
+) -> ExitCode {
+    if let Some(file) = second_file(common.bundles, module) {
+        return refused_on(rt, common.console, file, "Twice");
+    }
+    match read_module(rt, common.bundles, module) {
+        Ok(trees) => cover_read(rt, common, module, &trees),
+        Err(error) => finish(rt, common.console, error),
+    }
+}
+
+/// Compares the modules in turn, up to the first that can't be compared.
+fn cover_each<R: Files + AllocGlobal + Print + Eprint>(
+    rt: &R,
+    common: Common<'_>,
+    modules: &[Module<'_>],
+) -> ExitCode {
+    for module in modules {
+        let status = cover_one(rt, common, *module);
+        if status != ExitCode::SUCCESS {
+            return status;
+        }
+    }
+    ExitCode::SUCCESS
+}
+
+/// Compares bundles that are in the order of folders and names.
+fn cover_modules<R: Files + AllocGlobal + Print + Eprint>(
+    rt: &R,
+    console: Console,
+    format: CoverageFormat,
+    parents: &Parents,
+    bundles: &[Given<'_>],
+) -> ExitCode {
+    let Ok(modules) = modules_of(rt.alloc(), bundles) else {
+        return not_started_on(rt, console, StartError::Memory);
+    };
+    if let Err(error) = put_head(rt, format) {
+        return printed(rt, Err(error));
+    }
+    let common = Common {
+        console,
+        format,
+        parents,
+        bundles,
+        has_modules: modules.len() > 1,
+    };
+    cover_each(rt, common, &modules)
+}
+
+/// Returns the bundles of a command line in the order of folders and names.
+fn ordered_bundles<'a>(alloc: Global, files: &[&'a str]) -> Result<Vec<Given<'a>>, StartError<'a>> {
+    let mut bundles = all_given(alloc, Form::ByStem, files)?;
+    match bundles.sort_by_key(|bundle| (folder_of(bundle.file), bundle.name)) {
+        Ok(()) => Ok(bundles),
+        Err(_) => Err(StartError::Memory),
+    }
+}
+
+/// Compares the locales of bundle texts with what they inherit, and prints what they lack and how
+/// they differ. The files of one folder are a module, which has a file of the root; modules are
+/// compared one by one, in the order of their folders.
+///
+/// The status is 0; 1 if a text is refused, a locale has two files or no trail, or memory runs out;
+/// 2 if the format is no format, a module has no root, an argument has no locale's name, or a file
+/// or standard output can't be read or written. The first error ends the command.
+pub fn cover_all<R: Files + AllocGlobal + Print + Eprint>(
+    rt: &R,
+    console: Console,
+    words: &CoverageWords<'_>,
+) -> ExitCode {
+    let Some(format) = CoverageFormat::named(words.format) else {
+        let _ = eprintln!(rt; "resb: --format is table, list, json or csv");
+        return ExitCode::from(2);
+    };
+    let bundles = match ordered_bundles(rt.alloc(), words.files) {
+        Ok(bundles) => bundles,
+        Err(error) => return not_started_on(rt, console, error),
+    };
+    match parents_of(rt, words.parents) {
+        Ok(parents) => cover_modules(rt, console, format, &parents, &bundles),
+        Err(error) => not_started_on(rt, console, error),
+    }
+}

@@ -1,0 +1,191 @@
+//! The output of `resb lint`: lines for people and editors, JSON, SARIF, and GitHub's commands.
+use crate::escaped::{GitHubText, JsonText, UriText};
+use crate::lint_words::Format;
+use rb_console::Console;
+use rb_lint::{Finding, Rule};
+use std::io;
+
+/// A finding, or a note on a file, as it is printed.
+#[derive(Clone, Copy)]
+struct Line<'a> {
+    file: &'a str,
+    /// The line and the column; None for a note on the whole file.
+    place: Option<(u64, u64)>,
+    level: &'static str,
+    /// The name of the warning's rule, or the code of the error.
+    rule: Option<&'static str>,
+    message: &'a str,
+}
+
+/// Prints findings in one format.
+#[derive(Clone, Copy)]
+pub(crate) struct LintOutput {
+    format: Format,
+    console: Console,
+    /// Something was printed, so that SARIF needs a comma.
+    has_line: bool,
+}
+
+const SARIF_HEAD: &str = "{\"$schema\":\"https://json.schemastore.org/sarif-2.1.0.json\",\
+\"version\":\"2.1.0\",\"runs\":[{\"tool\":{\"driver\":{\"name\":\"resb\",\"rules\":[";
+
+impl LintOutput {
+    pub(crate) fn new(format: Format, console: Console) -> LintOutput {
+        LintOutput {
+            format,
+            console,
+            has_line: false,
+        }
+    }
+
+    /// Prints what comes before all findings.
+    pub(crate) fn begin<R: Print>(&self, rt: &R) -> io::Result<()> {
+        if self.format != Format::Sarif {
+            return Ok(());
+        }
+        print!(rt; "{SARIF_HEAD}")?;
+        let mut comma = "";
+        for rule in Rule::ALL {
+            let (name, about) = (rule.name(), JsonText(rule.about()));
+            print!(rt;
+                "{comma}{{\"id\":\"{name}\",\"shortDescription\":{{\"text\":\"{about}\"}}}}"
+            )?;
+            comma = ",";
+        }
+        println!(rt; "]}}}},\"columnKind\":\"utf16CodeUnits\",\"results\":[")
+    }
+
+    /// Prints what comes after all findings.
+    pub(crate) fn end<R: Print>(&self, rt: &R) -> io::Result<()> {
+        if self.format == Format::Sarif {
+            println!(rt; "]}}]}}")?;
+        }
+        Ok(())
+    }
+
+    /// Prints a finding.
+    pub(crate) fn finding<R: AllocGlobal + Print>(
+        &mut self,
+        rt: &R,
+        file: &str,
+        finding: &Finding,
+    ) -> io::Result<()> {
+        let message = format!(in rt.alloc(); "{}", &finding.message)?;
+        self.line(
+            rt,
+            Line {
+                file,
+                place: Some((finding.line, finding.column)),
+                level: finding.severity.word(),
+                rule: finding.code(),
+                message: message.as_str(),
+            },
+            finding.rule.is_some(),
+        )
+    }
+
+    /// Prints how many warnings of a file were left out.
+    pub(crate) fn left_out<R: AllocGlobal + Print>(
+        &mut self,
+        rt: &R,
+        file: &str,
+        count: u64,
+    ) -> io::Result<()> {
+        if count == 0 {
+            return Ok(());
+        }
+        let message = format!(in rt.alloc(); "{count} more warnings; --all prints them")?;
+        self.line(
+            rt,
+            Line {
+                file,
+                place: None,
+                level: "note",
+                rule: None,
+                message: message.as_str(),
+            },
+            false,
+        )
+    }
+
+    fn line<R: Print>(&mut self, rt: &R, line: Line<'_>, is_rule: bool) -> io::Result<()> {
+        match self.format {
+            Format::Text => self.text_line(rt, line, is_rule),
+            Format::Json => json_line(rt, line),
+            Format::GitHub => github_line(rt, line),
+            Format::Sarif => {
+                let comma = if self.has_line { "," } else { "" };
+                print!(rt; "{comma}")?;
+                self.has_line = true;
+                sarif_line(rt, line)
+            }
+        }
+    }
+
+    fn text_line<R: Print>(&self, rt: &R, line: Line<'_>, is_rule: bool) -> io::Result<()> {
+        let (file, message) = (
+            self.console.on_stdout(line.file),
+            self.console.on_stdout(line.message),
+        );
+        let level = line.level;
+        match line.place {
+            Some((number, column)) => print!(rt; "{file}:{number}:{column}: {level}: {message}")?,
+            None => print!(rt; "{file}: {level}: {message}")?,
+        }
+        match line.rule {
+            Some(rule) if is_rule => println!(rt; " [{rule}]"),
+            _ => println!(rt; ""),
+        }
+    }
+}
+
+fn json_line<R: Print>(rt: &R, line: Line<'_>) -> io::Result<()> {
+    let (file, level, message) = (JsonText(line.file), line.level, JsonText(line.message));
+    print!(rt; "{{\"file\":\"{file}\",")?;
+    if let Some((number, column)) = line.place {
+        print!(rt; "\"line\":{number},\"column\":{column},")?;
+    }
+    print!(rt; "\"severity\":\"{level}\",")?;
+    if let Some(rule) = line.rule {
+        print!(rt; "\"rule\":\"{rule}\",")?;
+    }
+    println!(rt; "\"message\":\"{message}\"}}")
+}
+
+fn sarif_line<R: Print>(rt: &R, line: Line<'_>) -> io::Result<()> {
+    let (file, level, message) = (UriText(line.file), line.level, JsonText(line.message));
+    print!(rt; "{{")?;
+    if let Some(rule) = line.rule {
+        print!(rt; "\"ruleId\":\"{rule}\",")?;
+    }
+    print!(rt; "\"level\":\"{level}\",\"message\":{{\"text\":\"{message}\"}},\"locations\":[{{")?;
+    print!(rt; "\"physicalLocation\":{{\"artifactLocation\":{{\"uri\":\"{file}\"}}")?;
+    if let Some((number, column)) = line.place {
+        print!(rt; ",\"region\":{{\"startLine\":{number},\"startColumn\":{column}}}")?;
+    }
+    println!(rt; "}}}}]}}")
+}
+
+fn github_line<R: Print>(rt: &R, line: Line<'_>) -> io::Result<()> {
+    let command = if line.level == "note" {
+        "notice"
+    } else {
+        line.level
+    };
+    let file = GitHubText {
+        text: line.file,
+        is_property: true,
+    };
+    let message = GitHubText {
+        text: line.message,
+        is_property: false,
+    };
+    print!(rt; "::{command} file={file}")?;
+    if let Some((number, column)) = line.place {
+        print!(rt; ",line={number},col={column}")?;
+    }
+    if let Some(rule) = line.rule {
+        print!(rt; ",title={rule}")?;
+    }
+    println!(rt; "::{message}")
+}
