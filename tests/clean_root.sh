@@ -32,6 +32,14 @@ apart() {
     unshare --mount --pid --fork --kill-child $network "$here/clean_root.sh" --within "$@" </dev/null
 }
 
+# tried OPTION FUNCTION ARGUMENTS..: runs a function apart; what needs a mirror that fails is skipped, with all that follows
+tried() {
+    local status=0
+    apart "$@" || status=$?
+    [ "$status" != 75 ] || skip "Debian's mirror fails"
+    return "$status"
+}
+
 # in_root ROOT FOLDER COMMAND: runs a command in a folder of a root; with run=exec, in place of this process
 in_root() {
     ${run-} chroot "$1" /usr/bin/env -i PATH=/usr/local/sbin:/usr/local/bin:/usr/sbin:/usr/bin:/sbin:/bin HOME=/root LC_ALL=C.UTF-8 \
@@ -46,6 +54,23 @@ quietly() {
     }
 }
 
+# fetching FUNCTION ARGUMENTS..: calls a function that fetches packages, and once more if Debian's mirror fails. If it fails again, ends
+# with status 75, as the mirror isn't what is tried here.
+fetching() {
+    local status=75
+    for pause in 10 0; do
+        "$@" >"$log" 2>&1 && return
+        grep -qi 'failed to fetch\|temporary failure\|unable to connect\|could not connect\|timed out\|hash sum mismatch' "$log" || {
+            status=1
+            break
+        }
+        sleep "$pause"
+    done
+    tail -n 40 "$log" >&2
+    echo "FAILED: $*" >&2
+    exit "$status"
+}
+
 # The mirror of Debian that apt uses here.
 mirror() {
     # shellcheck disable=SC2016
@@ -54,12 +79,12 @@ mirror() {
 
 make_root() {
     mount -t proc proc /proc
-    debootstrap --variant=minbase "$suite" "$1" "$2" >"$log" 2>&1
-    echo 'APT::Get::Assume-Yes "true";' >"$1/etc/apt/apt.conf.d/90yes"
+    timeout 900 debootstrap --variant=minbase "$suite" "$1" "$2" >"$log" 2>&1
+    printf 'APT::Get::Assume-Yes "true";\nAcquire::http::Timeout "60";\n' >"$1/etc/apt/apt.conf.d/90yes"
     echo force-unsafe-io >"$1/etc/dpkg/dpkg.cfg.d/90quick"
     printf '#!/bin/sh\nexit 101\n' >"$1/usr/sbin/policy-rc.d"
     chmod 755 "$1/usr/sbin/policy-rc.d"
-    quietly in_root "$1" / 'apt-get update'
+    fetching in_root "$1" / 'apt-get update'
 }
 
 installed() { in_root "$1" / "dpkg-query -W -f '\${Version} \${Status}\n' resb resb-gateway 2>/dev/null | uniq"; }
@@ -71,9 +96,9 @@ install_packages() {
     local root=$1 command
     mount -t proc proc "$root/proc"
     command=$("$here/installed.py" block "$top/docs/INSTALL.md" Debian)
-    quietly in_root "$root" /packages/old 'apt-get install ./resb_*_amd64.deb'
+    fetching in_root "$root" /packages/old 'apt-get install ./resb_*_amd64.deb'
     [ "$(installed "$root")" = "$old_version install ok installed" ] || fail 'the older version is not installed'
-    quietly in_root "$root" /packages/new "$command"
+    fetching in_root "$root" /packages/new "$command"
     [ "$(installed "$root")" = "$new_version install ok installed" ] || fail "not both packages are installed in version $new_version"
     in_root "$root" / 'dpkg -V resb resb-gateway'
     say "1.1.0 is installed, and $new_version over it"
@@ -81,7 +106,7 @@ install_packages() {
     [ "$(in_root "$root" / 'resb --version')" = "$("$program" --version)" ] || fail 'resb --version is not that of the program'
     for folder in resb resb-gateway; do "$here/installed.py" links "$root/usr/share/doc/$folder"; done
     say 'each program starts, and links of pages lead to files of the packages'
-    quietly in_root "$root" / 'apt-get install curl nats-server'
+    fetching in_root "$root" / 'apt-get install curl nats-server'
 }
 
 # serve COMMAND..: starts a gateway, the process $gateway, and waits until it serves
@@ -176,7 +201,7 @@ remove_packages() {
 build_image() {
     local root=$1
     mount -t proc proc "$root/proc"
-    quietly in_root "$root" / "$("$here/installed.py" step "$top/deploy/Containerfile" RUN)"
+    fetching in_root "$root" / "$("$here/installed.py" step "$top/deploy/Containerfile" RUN)"
 }
 
 # Runs what the container file says, as its user, in a root that is read-only except for the volume.
@@ -245,8 +270,8 @@ cp "$2"/*.deb "$made/image/packages"
 for step in install_packages run_pages remove_packages; do
     network=
     [ $step = install_packages ] || network=--net
-    apart "$network" $step "$made/root"
+    tried "$network" $step "$made/root"
 done
-apart '' build_image "$made/image"
+tried '' build_image "$made/image"
 rm -r "$made/image/packages"
-apart --net run_image "$made/image"
+tried --net run_image "$made/image"
