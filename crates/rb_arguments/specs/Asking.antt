@@ -9,13 +9,13 @@ use Rattle.rb_arguments.specs.Rows.{IsFlagIn, alone, word_in, words_in}
 use Rattle.rb_arguments.specs.Limits.{AreGiven}
 use Rattle.rb_arguments.specs.declared.asking.Asked.{Asked}
 use Rattle.rb_arguments.specs.declared.asking.Asked.TheVariants.{Compile, CompileAll, Check, Get, Json, Text as ToText}
-use Rattle.rb_arguments.specs.declared.asking.Asked.TheVariants.{Lint, Coverage, Explain, Lines, Look, Serve}
+use Rattle.rb_arguments.specs.declared.asking.Asked.TheVariants.{Diff, Lint, Coverage, Explain, Lines, Look, Serve}
 
 -- the names of the commands
 abbrev pub names : List Text
 names =
-    codes "compile" ∷ codes "check" ∷ codes "get" ∷ codes "json" ∷ codes "text" ∷ codes "lint" ∷ codes "coverage"
-    ∷ codes "explain" ∷ codes "lines" ∷ codes "look" ∷ codes "serve" ∷ []
+    codes "compile" ∷ codes "check" ∷ codes "get" ∷ codes "json" ∷ codes "text" ∷ codes "diff" ∷ codes "lint"
+    ∷ codes "coverage" ∷ codes "explain" ∷ codes "lines" ∷ codes "look" ∷ codes "serve" ∷ []
 
 abbrev pub is_command : Text → Bool
 is_command name = list_any (bytes_eq name) names
@@ -37,19 +37,21 @@ AsksFor name rows (Compile input output is_quiet) =
     × (input.now ≡ word_in rows (codes "IN"))
     × (output.now ≡ word_in rows (codes "OUT"))
     × IsFlagIn rows (codes "quiet") is_quiet
-AsksFor name rows (CompileAll folder files is_quiet) =
+AsksFor name rows (CompileAll folder from files is_quiet) =
     (name ≡ codes "compile")
     × (first_of (codes "to") rows ≡ Some folder.now)
+    × (option_map (λ s. s.now) from ≡ first_of (codes "from") rows)
     × (texts files.items ≡ texts_in rows)
     × IsFlagIn rows (codes "quiet") is_quiet
 AsksFor name rows (Check files is_quiet) =
     (name ≡ codes "check")
     × (texts files.items ≡ words_in rows (codes "FILE"))
     × IsFlagIn rows (codes "quiet") is_quiet
-AsksFor name rows (Get file path) =
+AsksFor name rows (Get file path is_raw) =
     (name ≡ codes "get")
     × (file.now ≡ word_in rows (codes "FILE"))
     × (path.now ≡ word_in rows (codes "PATH"))
+    × IsFlagIn rows (codes "raw") is_raw
 AsksFor name rows (Json file path is_pretty) =
     (name ≡ codes "json")
     × (file.now ≡ word_in rows (codes "FILE"))
@@ -59,6 +61,12 @@ AsksFor name rows (ToText file bundle) =
     (name ≡ codes "text")
     × (file.now ≡ word_in rows (codes "FILE"))
     × (option_map (λ s. s.now) bundle ≡ first_of (codes "name") rows)
+AsksFor name rows (Diff old new is_json is_stat) =
+    (name ≡ codes "diff")
+    × (old.now ≡ word_in rows (codes "OLD"))
+    × (new.now ≡ word_in rows (codes "NEW"))
+    × IsFlagIn rows (codes "json") is_json
+    × IsFlagIn rows (codes "stat") is_stat
 AsksFor name rows (Lint asked) =
     (name ≡ codes "lint")
     × (option_map (λ s. s.now) asked.root ≡ root_in rows)

@@ -26,6 +26,8 @@ pub enum Kind {
     WordsWith(&'static str),
     /// `--NAME VALUE`; the help shows the value by this name.
     Option(&'static str),
+    /// `--NAME VALUE`, only with the second option; the help shows the value by the first name.
+    OptionWith(&'static str, &'static str),
     /// `--NAME VALUE`, any number of times; the help shows the value by this name.
     Options(&'static str),
     /// `--NAME N`, with a number from 1 to 2^63.
@@ -60,6 +62,10 @@ impl Argument {
             Kind::AnyWords(shown) => made.num_args(0..).value_name(shown),
             Kind::WordsWith(option) => made.num_args(0..).requires_arg(option)?,
             Kind::Option(shown) => made.long(name).value_name(shown),
+            Kind::OptionWith(shown, option) => made
+                .long(name)
+                .value_name(shown)
+                .requires_arg(option)?,
             Kind::Options(shown) => made.long(name).value_name(shown).action(ArgAction::Append),
             Kind::Limit => made
                 .long(name)

@@ -21,6 +21,7 @@ pub enum Asked<'a> {
     /// `compile --to DIR TEXT..`
     CompileAll {
         folder: &'a str,
+        from: Option<&'a str>,
         texts: Vec<&'a str>,
         is_quiet: bool,
     },
@@ -33,6 +34,7 @@ pub enum Asked<'a> {
     Get {
         file: &'a str,
         path: &'a str,
+        is_raw: bool,
     },
     /// `json FILE [PATH]`
     Json {
@@ -44,6 +46,13 @@ pub enum Asked<'a> {
     Text {
         file: &'a str,
         name: Option<&'a str>,
+    },
+    /// `diff OLD NEW`
+    Diff {
+        old: &'a str,
+        new: &'a str,
+        is_json: bool,
+        is_stat: bool,
     },
     /// `lint TEXT..`
     Lint(AskedLint<'a>),
@@ -192,6 +201,7 @@ fn compile_asked<'a>(alloc: Global, given: &ArgMatches<'a>) -> Result<Asked<'a>,
     Ok(match optional_of(given, "to") {
         Some(folder) => Asked::CompileAll {
             folder,
+            from: optional_of(given, "from"),
             texts: texts_of(alloc, given)?,
             is_quiet,
         },
@@ -304,6 +314,7 @@ fn command_asked<'a>(
         "get" => Asked::Get {
             file: word_of(given, "FILE"),
             path: word_of(given, "PATH"),
+            is_raw: flag_of(given, "raw"),
         },
         "json" => Asked::Json {
             file: word_of(given, "FILE"),
@@ -313,6 +324,12 @@ fn command_asked<'a>(
         "text" => Asked::Text {
             file: word_of(given, "FILE"),
             name: optional_of(given, "name"),
+        },
+        "diff" => Asked::Diff {
+            old: word_of(given, "OLD"),
+            new: word_of(given, "NEW"),
+            is_json: flag_of(given, "json"),
+            is_stat: flag_of(given, "stat"),
         },
         "lint" => lint_asked(alloc, given)?,
         "coverage" => coverage_asked(alloc, given)?,

@@ -14,9 +14,11 @@ const COMPILE_HELP: &str = "\
 Examples:
   resb compile de.txt de.res
   resb compile --to bundles texts/*.txt
+  resb compile --to bundles --from texts texts/*/*.txt
 
 IN - is standard input, and OUT - is standard output. OUT is never IN, nor a file whose name ends
-in .txt. With --to each text is compiled to DIR/STEM.res.
+in .txt. With --to each text is compiled to DIR/STEM.res. With --from SRC, the folder that the texts
+are in, SRC/menu/de.txt is compiled to DIR/menu/de.res, and folders that are missing are made.
 
 Status:
   0  OUT is written; its length is printed
@@ -33,6 +35,11 @@ pub const COMPILE: Description = Description {
             "to",
             Kind::Option("DIR"),
             "compile many texts into this folder",
+        ),
+        Argument(
+            "from",
+            Kind::OptionWith("SRC", "to"),
+            "with --to, keep the folders of the texts in this folder",
         ),
         Argument("quiet", Kind::ShortFlag('q'), "no line on success"),
         Argument("IN", Kind::Word, "a bundle text, in UTF-8"),
@@ -69,7 +76,8 @@ const GET_HELP: &str = "\
 Example:
   resb get de.res menu/close
 
-An alias on the way is printed and not followed. The empty path '' is the whole bundle.
+An alias on the way is printed and not followed. The empty path '' is the whole bundle. With --raw a
+String is printed as its text, and any other item as JSON. FILE - is standard input.
 
 Status:
   0  the item is printed, as JSON
@@ -80,7 +88,11 @@ Status:
 pub const GET: Description = Description {
     name: "get",
     about: "Prints the item at a path of a .res file",
-    arguments: &[FILE, PATH],
+    arguments: &[
+        Argument("raw", Kind::Flag, "print a String as its text, not as JSON"),
+        FILE,
+        PATH,
+    ],
     end: GET_HELP,
 };
 
@@ -136,4 +148,35 @@ pub const JSON: Description = Description {
         ),
     ],
     end: JSON_HELP,
+};
+
+const DIFF_HELP: &str = "\
+Examples:
+  resb diff old/de.txt new/de.txt
+  resb diff --stat old new
+
+A bundle text ends in .txt; any other file is a .res file. Of folders the files of one name are
+compared. Each item that differs is printed by its path, as
+  - menu/open \"Open\"
+  + menu/open \"Open..\"
+where - is what OLD has and + is what NEW has, as resb json prints it. With --json each is an object
+in a line. The flag no fallback has the path :no-fallback.
+
+Status:
+  0  nothing differs
+  1  something differs
+  2  the command line is invalid, a file is refused, or a file or standard output can't be read or
+     written, or out of memory";
+
+/// `diff OLD NEW`
+pub const DIFF: Description = Description {
+    name: "diff",
+    about: "Prints the items in which two bundles, or the bundles of two folders, differ",
+    arguments: &[
+        Argument("json", Kind::Flag, "an object for each item, in a line"),
+        Argument("stat", Kind::Flag, "only how many items differ"),
+        Argument("OLD", Kind::Word, "a bundle text, a .res file or a folder"),
+        Argument("NEW", Kind::Word, "what it is compared with"),
+    ],
+    end: DIFF_HELP,
 };

@@ -66,13 +66,16 @@ pub fn refused_on<R: Eprint>(rt: &R, console: Console, place: &str, word: &str) 
     ExitCode::from(1)
 }
 
-/// Returns the status of a command by whether its output was written.
+/// Returns the status of a command by whether its output was written. If a program that reads the
+/// output has ended, as `head` does, nothing is said.
 pub fn printed<R: Eprint>(rt: &R, written: io::Result<()>) -> ExitCode
     ensures status { exit_status result ≡ printed_status written }
 {
-    if written.is_err() {
+    let Err(error) = written else {
+        return ExitCode::SUCCESS;
+    };
+    if error.kind() != ErrorKind::BrokenPipe {
         let _ = eprintln!(rt; "cannot write stdout");
-        return ExitCode::from(2);
     }
-    ExitCode::SUCCESS
+    ExitCode::from(2)
 }

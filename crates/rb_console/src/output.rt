@@ -4,6 +4,7 @@ ghost use Rattle.rb_console.specs.Writing.{is_written, plain_decision};
 ghost use Rattle.rb_console.specs.declared.output.Decision.TheVariants as Decisions;
 ghost use Rattle.rb_console.specs.declared.output.FileKind.TheVariants as Kinds;
 
+use crate::files::read_file;
 use std::fs::{File, Metadata, OpenFile, OpenOptions, Permissions};
 use std::io::{ErrorKind, Write};
 use std::os::unix::fs::MetadataExt;
@@ -297,7 +298,31 @@ fn write_through<R: Files>(rt: &R, name: &str, bytes: &[u8]) -> io::Result<()> {
     file.write_all(bytes)
 }
 
-/// Writes a file as it was decided, or refuses it. If writing fails an older file is whole.
+/// Checks whether a file has these bytes, and no others.
+fn has_bytes<R: Files + AllocGlobal>(rt: &R, name: &str, bytes: &[u8]) -> bool {
+    match rt.metadata(name) {
+        Ok(seen) if seen.len() == bytes.len() as u64 => {
+            read_file(rt, name).is_ok_and(|found| found.as_slice() == bytes)
+        }
+        _ => false,
+    }
+}
+
+/// Writes a new file over an older one that may be written, unless that has these bytes already.
+fn replace<R: Files + RandomSource + AllocGlobal>(
+    rt: &R,
+    target: &str,
+    bytes: &[u8],
+) -> io::Result<()> {
+    let permissions = writable(rt, target)?;
+    if has_bytes(rt, target, bytes) {
+        return Ok(());
+    }
+    write_beside(rt, target, Some(permissions), bytes)
+}
+
+/// Writes a file as it was decided, or refuses it. If writing fails an older file is whole. An older
+/// file that has these bytes already is left alone.
 pub fn write_output<R: Files + RandomSource + AllocGlobal>(
     rt: &R,
     output: &Output,
@@ -308,7 +333,7 @@ pub fn write_output<R: Files + RandomSource + AllocGlobal>(
     let target = output.target.as_str();
     match output.decision {
         Decision::Create => write_beside(rt, target, None, bytes),
-        Decision::Replace => write_beside(rt, target, Some(writable(rt, target)?), bytes),
+        Decision::Replace => replace(rt, target, bytes),
         Decision::WriteThrough => write_through(rt, target, bytes),
         _ => Err(io::Error::from(ErrorKind::PermissionDenied)),
     }

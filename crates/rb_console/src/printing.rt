@@ -86,15 +86,20 @@ impl<W: Write + Drop> Write for JsonWriter<W> {
 #[derive(Drop)]
 pub struct Printing<W: Write + Drop> {
     writer: JsonWriter<BufWriter<W>>,
-    has_failed: bool,
+    failed: Option<io::ErrorKind>,
 }
 
 impl<W: Write + Drop> Printing<W> {
     pub fn new(writer: BufWriter<W>, is_escaping: bool) -> Self {
         Printing {
             writer: JsonWriter::new(writer, is_escaping),
-            has_failed: false,
+            failed: None,
         }
+    }
+
+    /// Checks whether a call of the writer has failed.
+    pub fn has_failed(&self) -> bool {
+        self.failed.is_some()
     }
 
     /// Ends the line and flushes it. Fails if a call of the writer has failed.
@@ -105,10 +110,10 @@ impl<W: Write + Drop> Printing<W> {
 
     /// Flushes what was taken. Fails if a call of the writer has failed.
     pub fn end(&mut self) -> io::Result<()> {
-        if self.has_failed {
-            return Err(io::Error::from(io::ErrorKind::WriteZero));
+        match self.failed {
+            Some(kind) => Err(io::Error::from(kind)),
+            None => self.writer.flush(),
         }
-        self.writer.flush()
     }
 }
 
@@ -120,12 +125,15 @@ impl<W: Write + Drop> Outlet for Printing<W> {
     ghost joined = { λ _ _ _ _ _ _ _. tt };
 
     fn put(&mut self, bytes: &[u8]) {
-        if !self.has_failed && self.writer.write_all(bytes).is_err() {
-            self.has_failed = true;
+        if self.failed.is_some() {
+            return;
+        }
+        if let Err(error) = self.writer.write_all(bytes) {
+            self.failed = Some(error.kind());
         }
     }
 
     fn skips(&mut self, _least: u64) -> bool {
-        self.has_failed
+        self.failed.is_some()
     }
 }

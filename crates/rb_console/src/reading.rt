@@ -7,6 +7,9 @@ use std::io;
 use std::io::Read;
 use std::rt::Files;
 
+/// The file that standard input is, for commands that read it as one.
+const STANDARD_INPUT: &str = "/dev/stdin";
+
 /// Reads standard input, at most one byte past the largest file.
 fn read_input<R: Input + AllocGlobal>(rt: &R) -> io::Result<Vec<u8>> {
     let mut bytes = Vec::new(rt.alloc());
@@ -25,12 +28,14 @@ pub fn read_text<R: Files + Input + AllocGlobal>(rt: &R, input: &str) -> io::Res
     }
 }
 
-/// Reads the bundle in the file `name`.
+/// Reads the bundle in the file `name`, or on standard input if that is `-`. Errors: `Unread` if the
+/// file can't be read, `Refused` with the code of `accept` if it is no bundle.
 pub fn accepted<'a, R: Files + AllocGlobal>(
     rt: &R,
     name: &'a str,
 ) -> Result<Bundle, CommandError<'a>> {
-    let bytes = match read_file(rt, name) {
+    let file = if name == "-" { STANDARD_INPUT } else { name };
+    let bytes = match read_file(rt, file) {
         Ok(bytes) => bytes,
         Err(error) => return Err(CommandError::Unread(name, "", error.kind())),
     };

@@ -12,19 +12,100 @@ use std::io::ErrorKind;
 use std::process::ExitCode;
 use std::random::RandomSource;
 use std::rt::{Clock, Files};
+use std::{fs, io};
 
-/// Returns the first pair of texts with one stem, the earlier text first.
-fn same_stems<'a>(
-    alloc: Global,
-    texts: &[&'a str],
-) -> Result<Option<(&'a str, &'a str)>, AllocError> {
-    let mut by_stem = BTreeMap::new(alloc);
-    for text in texts {
-        if let Some(earlier) = by_stem.insert(stem(text), *text)? {
-            return Ok(Some((earlier, *text)));
+/// Where texts are compiled to.
+#[derive(Clone, Copy, Debug)]
+pub struct Target<'a> {
+    /// The folder of the files.
+    pub folder: &'a str,
+    /// The folder that the texts are in, if theirs are kept below `folder`.
+    pub from: Option<&'a str>,
+}
+
+/// Returns a text's name below the folder that it is in, without the last ending. It has no empty
+/// segment and no `..`, so its file is below the target's folder.
+fn name_below<'a>(from: &str, text: &'a str) -> Option<&'a str> {
+    let rest = text.strip_prefix(from)?;
+    let rest = if from.ends_with('/') {
+        rest
+    } else {
+        rest.strip_prefix('/')?
+    };
+    for segment in rest.split('/') {
+        if segment.is_empty() || segment == ".." {
+            return None;
         }
     }
-    Ok(None)
+    rest.get(..stem_end(rest))
+}
+
+/// Returns the length of a name without its last ending.
+fn stem_end(name: &str) -> usize {
+    let folder = match name.rsplit_once('/') {
+        Some((folder, _)) => folder.len().saturating_add(1),
+        None => 0,
+    };
+    folder.saturating_add(stem(name).len())
+}
+
+impl<'a> Target<'a> {
+    /// Returns the name of a text's file in the folder, without its ending, or None if the text
+    /// isn't in the folder `from`.
+    fn name_of(self, text: &'a str) -> Option<&'a str> {
+        match self.from {
+            Some(from) => name_below(from, text),
+            None => Some(stem(text)),
+        }
+    }
+
+    /// Returns the file to which a text is compiled.
+    fn output_of(self, alloc: Global, text: &'a str) -> Result<String, AllocError> {
+        let (folder, name) = (self.folder, self.name_of(text).unwrap_or(stem(text)));
+        if folder.ends_with('/') {
+            format!(in alloc; "{folder}{name}.res")
+        } else {
+            format!(in alloc; "{folder}/{name}.res")
+        }
+    }
+
+    /// Makes the folder of a file, and those above it, if texts keep their folders.
+    fn make_folder<R: Files>(self, rt: &R, output: &str) -> io::Result<()> {
+        match (self.from, output.rsplit_once('/')) {
+            (Some(_), Some((folder, _))) => fs::create_dir_all(rt, folder),
+            _ => Ok(()),
+        }
+    }
+}
+
+/// The reason why texts can't be compiled together.
+#[derive(Clone, Copy, Debug)]
+enum BatchError<'a> {
+    /// Two texts have one file, which has this name.
+    Twice(&'a str, &'a str, &'a str),
+    /// A text isn't in the folder that was given.
+    Elsewhere(&'a str),
+    Memory,
+}
+
+/// Checks that each text has a file of its own.
+fn check_names<'a>(
+    alloc: Global,
+    target: Target<'a>,
+    texts: &[&'a str],
+) -> Result<(), BatchError<'a>> {
+    let mut by_name = BTreeMap::new(alloc);
+    for text in texts {
+        let Some(name) = target.name_of(text) else {
+            return Err(BatchError::Elsewhere(text));
+        };
+        match by_name.insert(name, *text) {
+            Ok(None) => {}
+            Ok(Some(earlier)) => return Err(BatchError::Twice(name, earlier, text)),
+            Err(_) => return Err(BatchError::Memory),
+        }
+    }
+    Ok(())
 }
 
 /// The ordinary files that texts are in, each by its device and its number there.
@@ -52,23 +133,17 @@ impl Inputs {
     }
 }
 
-/// Returns the file in a folder to which a text is compiled.
-fn output_in(alloc: Global, folder: &str, text: &str) -> Result<String, AllocError> {
-    let stem = stem(text);
-    if folder.ends_with('/') {
-        format!(in alloc; "{folder}{stem}.res")
-    } else {
-        format!(in alloc; "{folder}/{stem}.res")
-    }
-}
-
 /// Compiles the bundle text `text` to the file `output`, and returns the file's length.
 fn compile_file<'a, R: Files + RandomSource + AllocGlobal>(
     rt: &R,
     inputs: &Inputs,
+    target: Target<'_>,
     text: &'a str,
     output: &'a str,
 ) -> Result<usize, CommandError<'a>> {
+    if target.make_folder(rt, output).is_err() {
+        return Err(CommandError::Unwritten(output));
+    }
     let is_input = inputs.has(rt, output) || are_same_file(rt, text, output);
     let chosen = chosen_output(rt, output, is_input)?;
     compile_read(rt, text, read_file(rt, text), output, &chosen)
@@ -98,66 +173,85 @@ fn compile_one<R: Files + RandomSource + AllocGlobal + Print + Eprint>(
     rt: &R,
     console: Console,
     inputs: &Inputs,
-    folder: &str,
+    target: Target<'_>,
     text: &str,
 ) -> ExitCode {
-    let Ok(output) = output_in(rt.alloc(), folder, text) else {
+    let Ok(output) = target.output_of(rt.alloc(), text) else {
         let error = CommandError::Unread(text, ":0", ErrorKind::OutOfMemory);
         return failed(rt, console, error);
     };
-    let count = compile_file(rt, inputs, text, output.as_str());
+    let count = compile_file(rt, inputs, target, text, output.as_str());
     written(rt, console, output.as_str(), count)
 }
 
-/// Refuses a folder without a name, and two texts with one stem.
-fn refuse_batch<R: AllocGlobal + Eprint>(
+/// Reports why texts can't be compiled together.
+fn batch_refused<R: Eprint>(
     rt: &R,
     console: Console,
-    folder: &str,
-    texts: &[&str],
-) -> Result<(), ExitCode> {
-    if folder.is_empty() {
-        let _ = eprintln!(rt; "resb: DIR is empty");
-        return Err(ExitCode::from(2));
-    }
-    match same_stems(rt.alloc(), texts) {
-        Ok(None) => Ok(()),
-        Ok(Some((a, b))) => {
-            let (stem, a, b) = (
-                console.on_stderr(stem(a)),
+    target: Target<'_>,
+    error: BatchError<'_>,
+) -> ExitCode {
+    match error {
+        BatchError::Twice(name, a, b) => {
+            let (name, a, b) = (
+                console.on_stderr(name),
                 console.on_stderr(a),
                 console.on_stderr(b),
             );
-            let _ = eprintln!(rt; "resb: two texts are named {stem}: {a} and {b}");
-            Err(ExitCode::from(2))
+            let _ = eprintln!(rt; "resb: two texts are named {name}: {a} and {b}");
+            ExitCode::from(2)
         }
-        Err(_) => Err(refused_on(rt, console, folder, "Memory")),
+        BatchError::Elsewhere(text) => {
+            let _ = eprintln!(rt; "resb: a text is not in SRC: {}", console.on_stderr(text));
+            ExitCode::from(2)
+        }
+        BatchError::Memory => refused_on(rt, console, target.folder, "Memory"),
     }
 }
 
-/// Compiles each bundle text to the file in `folder` that has its stem and ends in `.res`, and
-/// prints a line for each. An error is a line like that of `compile`, and the other texts are
-/// compiled. If two texts have one stem, or `folder` is empty, nothing is compiled. A file that is
-/// one of the texts, or standard output, isn't written.
+/// Refuses a folder without a name, two texts with one file, and a text that isn't in the folder
+/// that was given.
+fn refuse_batch<R: AllocGlobal + Eprint>(
+    rt: &R,
+    console: Console,
+    target: Target<'_>,
+    texts: &[&str],
+) -> Result<(), ExitCode> {
+    if target.folder.is_empty() {
+        let _ = eprintln!(rt; "resb: DIR is empty");
+        return Err(ExitCode::from(2));
+    }
+    match check_names(rt.alloc(), target, texts) {
+        Ok(()) => Ok(()),
+        Err(error) => Err(batch_refused(rt, console, target, error)),
+    }
+}
+
+/// Compiles each bundle text to the file in the target's folder that has its stem and ends in
+/// `.res`, and prints a line for each. With `from` the file's name is that of the text below that
+/// folder, and folders that are missing are made. An error is a line like that of `compile`, and
+/// the other texts are compiled. If two texts have one file, a text isn't in `from`, or the folder's
+/// name is empty, nothing is compiled. A file that is one of the texts, or standard output, isn't
+/// written.
 ///
-/// The status is 0; 1 if a text is refused or can't be read, or its file can't be written; 2 if two
-/// texts have one stem or `folder` is empty, and as soon as standard output can't be written.
+/// The status is 0; 1 if a text is refused or can't be read, or its file can't be written; 2 if
+/// nothing is compiled, and as soon as standard output can't be written.
 pub fn compile_all<R: Files + RandomSource + Clock + AllocGlobal + Print + Eprint>(
     rt: &R,
     console: Console,
-    folder: &str,
+    target: Target<'_>,
     texts: &[&str],
 ) -> ExitCode {
-    if let Err(status) = refuse_batch(rt, console, folder, texts) {
+    if let Err(status) = refuse_batch(rt, console, target, texts) {
         return status;
     }
     let Ok(inputs) = Inputs::of(rt, texts) else {
-        return refused_on(rt, console, folder, "Memory");
+        return refused_on(rt, console, target.folder, "Memory");
     };
     each(
         rt,
         console,
         texts,
-        |text| compile_one(rt, console, &inputs, folder, text),
+        |text| compile_one(rt, console, &inputs, target, text),
     )
 }

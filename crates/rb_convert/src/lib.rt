@@ -3,15 +3,20 @@
 #![tactic(auto)]
 
 mod batch;
+mod compare;
 mod compiling;
+mod difference;
+mod diffing;
 mod pretty;
 mod request_lines;
 mod texts;
 mod value;
 mod words;
 
-pub use batch::compile_all;
+pub use batch::{Target, compile_all};
 pub use compiling::{compile, compile_on};
+pub use difference::DiffForm;
+pub use diffing::{DiffWords, diff};
 pub use rb_engine::Change;
 pub use rb_json::Layout;
 pub use request_lines::lines;

@@ -134,8 +134,8 @@ fn put_string<O: Outlet, N: Node>(out: &mut O, node: N, layout: Layout, levels: 
     end_tagged(out, layout, levels);
 }
 
-/// Writes an item without children.
-fn put_leaf<O: Outlet, N: Node>(out: &mut O, node: N, layout: Layout, levels: u64) {
+/// Writes an item without children, which may be an empty array or table.
+pub(crate) fn put_leaf<O: Outlet, N: Node>(out: &mut O, node: N, layout: Layout, levels: u64) {
     match node.kind() {
         Kind::String => put_string(out, node, layout, levels),
         Kind::Int => spell_integer(out, signed(node.int())),

@@ -1,7 +1,11 @@
 //! `resb get`.
 use crate::item::put_at;
 use rb_console::{Console, Printing, accepted, finish, printed, refused_on};
+use rb_fallback::PATH_LIMIT;
+use rb_tree::{Ending, Kind, Node, path_ok, walk};
+use rb_validator::Bundle;
 use rb_views::root;
+use std::alloc::{AllocError, Global};
 use std::io;
 use std::io::BufWriter;
 use std::process::ExitCode;
@@ -15,8 +19,63 @@ pub fn get<R: Files + AllocGlobal + Print + Eprint>(rt: &R, name: &str, path: &s
     get_on(rt, Console::plain(), name, path)
 }
 
+/// Prints the item of a bundle at a path as JSON.
+fn put_json<R: AllocGlobal + Print + Eprint>(
+    rt: &R,
+    console: Console,
+    name: &str,
+    bundle: &Bundle,
+    path: &str,
+) -> ExitCode {
+    let Ok(writer) = BufWriter::new(rt.alloc(), io::writer(rt)) else {
+        return refused_on(rt, console, name, "Memory");
+    };
+    let mut out = Printing::new(writer, console.is_output_terminal);
+    match put_at(&mut out, root(bundle), path.as_bytes()) {
+        Ok(()) => printed(rt, out.end_line()),
+        Err(error) => refused_on(rt, console, path, error.word()),
+    }
+}
+
 /// Prints as `get`, on a console. If standard output is a terminal, control characters are escaped.
 pub fn get_on<R: Files + AllocGlobal + Print + Eprint>(
+    rt: &R,
+    console: Console,
+    name: &str,
+    path: &str,
+) -> ExitCode {
+    match accepted(rt, name) {
+        Ok(bundle) => put_json(rt, console, name, &bundle, path),
+        Err(error) => finish(rt, console, error),
+    }
+}
+
+/// Returns the String to which a path leads, if it leads to one.
+fn string_at<N: Node>(root: N, path: &[u8]) -> Option<N> {
+    if !path_ok(path) || PATH_LIMIT < path.len() {
+        return None;
+    }
+    match walk(root, path) {
+        Ending::End(node) if node.kind() == Kind::String => Some(node),
+        _ => None,
+    }
+}
+
+/// Returns a String's characters. A surrogate without its other half is U+FFFD.
+fn characters_of<N: Node>(alloc: Global, node: N) -> Result<String, AllocError> {
+    let mut units = Vec::with_capacity(alloc, node.len())?;
+    if node.kind() == Kind::String {
+        for i in 0..node.len() {
+            units.push(node.unit(i))?;
+        }
+    }
+    String::from_utf16_lossy(alloc, &units)
+}
+
+/// Prints the item at a path as `get_on` does, but a String as its characters and a line feed. A
+/// surrogate without its other half is printed as U+FFFD; on a terminal, control characters are
+/// escaped as in names.
+pub fn get_raw<R: Files + AllocGlobal + Print + Eprint>(
     rt: &R,
     console: Console,
     name: &str,
@@ -26,12 +85,11 @@ pub fn get_on<R: Files + AllocGlobal + Print + Eprint>(
         Ok(bundle) => bundle,
         Err(error) => return finish(rt, console, error),
     };
-    let Ok(writer) = BufWriter::new(rt.alloc(), io::writer(rt)) else {
-        return refused_on(rt, console, name, "Memory");
+    let Some(node) = string_at(root(&bundle), path.as_bytes()) else {
+        return put_json(rt, console, name, &bundle, path);
     };
-    let mut out = Printing::new(writer, console.is_output_terminal);
-    match put_at(&mut out, root(&bundle), path.as_bytes()) {
-        Ok(()) => printed(rt, out.end_line()),
-        Err(error) => refused_on(rt, console, path, error.word()),
+    match characters_of(rt.alloc(), node) {
+        Ok(text) => printed(rt, println!(rt; "{}", console.on_stdout(text.as_str()))),
+        Err(_) => refused_on(rt, console, name, "Memory"),
     }
 }

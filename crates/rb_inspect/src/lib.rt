@@ -20,7 +20,7 @@ mod words;
 pub use checking::{check, check_all, check_on};
 pub use coverage::{CoverageWords, cover_all};
 pub use explain_words::{explain, explain_on};
-pub use getting::{get, get_on};
+pub use getting::{get, get_on, get_raw};
 pub use item::{ItemError, put_at, text_at};
 pub use lint_words::LintWords;
 pub use linting::{lint_all, list_rules};

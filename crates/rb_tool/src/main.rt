@@ -38,7 +38,7 @@ fn refuse_on_terminal<R: AllocGlobal + Print + Eprint>(
 }
 
 /// Reads the command line, and runs the command that it asks for.
-fn run<R: Files + RandomSource + Clock + AllocGlobal + Input + Print + Eprint + Env>(
+fn run<R: Files + RandomSource + Clock + AllocGlobal + Input + Print + Eprint + Env + Clone + Drop>(
     rt: &R,
     console: Console,
 ) -> io::Result<ExitCode> {

@@ -5,10 +5,12 @@ ghost use Rattle.rb_tool.specs.inner.Serving.{AreLimits};
 use crate::serve::{Serving, serve_files};
 use rb_arguments::{Asked, AskedCoverage, AskedLimits, AskedLint, AskedLookup};
 use rb_console::Console;
-use rb_convert::{Change, Layout, compile_all, compile_on, json, lines, text};
+use rb_convert::{
+    Change, DiffForm, DiffWords, Layout, Target, compile_all, compile_on, diff, json, lines, text,
+};
 use rb_inspect::{
-    CoverageWords, LintWords, Lookup, check_all, check_on, cover_all, explain_on, get_on, lint_all,
-    list_rules, look_up,
+    CoverageWords, LintWords, Lookup, check_all, check_on, cover_all, explain_on, get_on, get_raw,
+    lint_all, list_rules, look_up,
 };
 use rb_requests::Limits;
 use std::process::ExitCode;
@@ -29,6 +31,15 @@ fn layout_of(is_pretty: bool) -> Layout {
         Layout::Pretty
     } else {
         Layout::Compact
+    }
+}
+
+/// Returns the form of `diff`: how many items differ, if that is asked for.
+fn diff_form(is_json: bool, is_stat: bool) -> DiffForm {
+    match (is_stat, is_json) {
+        (true, _) => DiffForm::Counts,
+        (false, true) => DiffForm::Json,
+        (false, false) => DiffForm::Lines,
     }
 }
 
@@ -55,6 +66,21 @@ fn run_lines<R: Files + AllocGlobal + Print + Eprint>(
         return ExitCode::from(2);
     };
     lines(rt, console, change, app, files)
+}
+
+/// `get FILE PATH`, or `get --raw FILE PATH`
+fn run_get<R: Files + AllocGlobal + Print + Eprint>(
+    rt: &R,
+    console: Console,
+    file: &str,
+    path: &str,
+    is_raw: bool,
+) -> ExitCode {
+    if is_raw {
+        get_raw(rt, console, file, path)
+    } else {
+        get_on(rt, console, file, path)
+    }
 }
 
 /// `check FILE`, or `check FILE..`, where each line names its file.
@@ -158,11 +184,9 @@ fn serving_of<'a>(
 }
 
 /// Runs a command.
-pub fn run_asked<R: Files + RandomSource + Clock + AllocGlobal + Input + Print + Eprint>(
-    rt: &R,
-    console: Console,
-    asked: Asked<'_>,
-) -> ExitCode {
+pub fn run_asked<
+    R: Files + RandomSource + Clock + AllocGlobal + Input + Print + Eprint + Clone + Drop,
+>(rt: &R, console: Console, asked: Asked<'_>) -> ExitCode {
     match asked {
         Asked::Compile {
             input,
@@ -171,17 +195,30 @@ pub fn run_asked<R: Files + RandomSource + Clock + AllocGlobal + Input + Print +
         } => { compile_on(rt, quieted(console, is_quiet), input, output) }
         Asked::CompileAll {
             folder,
+            from,
             texts,
             is_quiet,
-        } => { compile_all(rt, quieted(console, is_quiet), folder, &texts) }
+        } => {
+            let target = Target { folder, from };
+            compile_all(rt, quieted(console, is_quiet), target, &texts)
+        }
         Asked::Check { files, is_quiet } => run_check(rt, quieted(console, is_quiet), &files),
-        Asked::Get { file, path } => get_on(rt, console, file, path),
+        Asked::Get { file, path, is_raw } => run_get(rt, console, file, path, is_raw),
         Asked::Json {
             file,
             path,
             is_pretty,
         } => { json(rt, console, file, path, layout_of(is_pretty)) }
         Asked::Text { file, name } => text(rt, console, file, name),
+        Asked::Diff {
+            old,
+            new,
+            is_json,
+            is_stat,
+        } => {
+            let form = diff_form(is_json, is_stat);
+            diff(rt, console, DiffWords { old, new, form })
+        }
         Asked::Lint(asked) => run_lint(rt, console, &asked),
         Asked::Coverage(asked) => run_coverage(rt, console, &asked),
         Asked::Explain { word } => explain_on(rt, console, word),

@@ -5,7 +5,7 @@ use Rattle.clap.specs.declared.builder.action.ArgAction.TheVariants.{Append, Set
 use Rattle.clap.specs.declared.builder.arg.Arg.{Arg}
 use Rattle.rb_arguments.specs.declared.argument.Kind.{Kind}
 use Rattle.rb_arguments.specs.declared.argument.Kind.TheVariants.{Word, OptionalWord, WordUnless, Words, AnyWords}
-use Rattle.rb_arguments.specs.declared.argument.Kind.TheVariants.{WordsUnless, WordsWith, Option as ToOption, Options}
+use Rattle.rb_arguments.specs.declared.argument.Kind.TheVariants.{WordsUnless, WordsWith, Option as ToOption, OptionWith, Options}
 use Rattle.rb_arguments.specs.declared.argument.Kind.TheVariants.{Limit, Flag, ShortFlag}
 
 -- an option with this long name, which may be missing
@@ -21,6 +21,7 @@ IsMade name (WordsUnless shown option) arg = arg.required ≡ false
 IsMade name (AnyWords shown) arg = arg.required ≡ false
 IsMade name (WordsWith option) arg = arg.required ≡ false
 IsMade name (ToOption shown) arg = IsOption name arg
+IsMade name (OptionWith shown option) arg = IsOption name arg
 IsMade name (Options shown) arg = IsOption name arg × (arg.action ≡ Some Append)
 IsMade name Limit arg = IsOption name arg
 IsMade name Flag arg = IsOption name arg × (arg.action ≡ Some SetTrue)

@@ -2,7 +2,7 @@
 use super::desk::Desk;
 use super::{EMPTY, HOLDS_ITSELF, ONE_STRING, desk_of, ended};
 use rb_console::{Console, stem};
-use rb_convert::compile_all;
+use rb_convert::{Target, compile_all};
 use rb_inspect::{check_all, check_on};
 
 const PLAIN: Console = Console {
@@ -41,7 +41,15 @@ fn compiles(
     output: &str,
     errors: &str,
 ) -> bool {
-    let found = compile_all(desk, console, "out", texts);
+    let found = compile_all(
+        desk,
+        console,
+        Target {
+            folder: "out",
+            from: None,
+        },
+        texts,
+    );
     ended(desk, found, status, output, errors)
 }
 

@@ -1,0 +1,267 @@
+//! `resb diff`.
+use crate::compare::{ItemPath, Side, compare, report_all};
+use crate::difference::{Counts, DiffForm, DiffPrinter};
+use rb_console::{
+    CommandError, Console, Printing, StartError, accepted, finish, is_text, printed, read_given,
+};
+use rb_json::is_within;
+use rb_tree::HEIGHT_LIMIT;
+use rb_validator::{Bundle, accept};
+use rb_views::root;
+use std::alloc::{AllocError, Global};
+use std::collections::BTreeSet;
+use std::io::{BufWriter, Write};
+use std::process::ExitCode;
+use std::rt::Files;
+use std::{fs, io};
+
+/// The status if something can't be compared.
+const TROUBLE: u8 = 2;
+
+/// The words of the command line of `resb diff`.
+#[derive(Clone, Copy, Debug)]
+pub struct DiffWords<'a> {
+    /// A bundle text, a `.res` file or a folder, and the one that it is compared with.
+    pub old: &'a str,
+    pub new: &'a str,
+    pub form: DiffForm,
+}
+
+/// The output of a command, and how the comparisons so far ended.
+#[derive(Drop)]
+struct Differ<W: Write + Drop> {
+    out: Printing<W>,
+    form: DiffForm,
+    has_differences: bool,
+    has_trouble: bool,
+}
+
+/// Compiles a bundle text.
+fn compiled<'a, R: Files + AllocGlobal>(rt: &R, file: &'a str) -> Result<Bundle, CommandError<'a>> {
+    let text = read_given(rt, file)?;
+    let bytes = match rb_engine::compile(rt.alloc(), &text) {
+        Ok(bytes) => bytes,
+        Err(fault) => return Err(CommandError::TextRefused(file, fault)),
+    };
+    match accept(rt.alloc(), bytes) {
+        Ok(bundle) => Ok(bundle),
+        Err((fault, _)) => Err(CommandError::Refused(file, fault.word())),
+    }
+}
+
+/// Reads a bundle: a text if the file's name ends in `.txt`, otherwise a `.res` file.
+fn bundle_in<'a, R: Files + AllocGlobal>(
+    rt: &R,
+    file: &'a str,
+) -> Result<Bundle, CommandError<'a>> {
+    let bundle = if is_text(file) {
+        compiled(rt, file)?
+    } else {
+        accepted(rt, file)?
+    };
+    if is_within(root(&bundle)) {
+        Ok(bundle)
+    } else {
+        Err(CommandError::Refused(file, "TooLarge"))
+    }
+}
+
+impl<W: Write + Drop> Differ<W> {
+    /// Compares two bundles, of which one may be missing, and prints the differences.
+    fn compare(
+        &mut self,
+        path: ItemPath,
+        name: &str,
+        old: Option<&Bundle>,
+        new: Option<&Bundle>,
+    ) -> Result<(), AllocError> {
+        let mut path = path;
+        let mut printer = DiffPrinter {
+            out: &mut self.out,
+            form: self.form,
+            name,
+            counts: Counts::NONE,
+        };
+        match (old, new) {
+            (Some(old), Some(new)) => {
+                printer.report_flags(root(old), old.no_fallback(), new.no_fallback());
+                compare(&mut printer, &mut path, root(old), root(new), HEIGHT_LIMIT)?;
+            }
+            (Some(old), None) => {
+                report_all(&mut printer, &mut path, root(old), Side::Old, HEIGHT_LIMIT)?;
+            }
+            (None, Some(new)) => {
+                report_all(&mut printer, &mut path, root(new), Side::New, HEIGHT_LIMIT)?;
+            }
+            (None, None) => {}
+        }
+        if printer.counts != Counts::NONE {
+            printer.put_counts();
+            self.has_differences = true;
+        }
+        Ok(())
+    }
+
+    /// Flushes the output, and returns the status.
+    fn end<R: Eprint>(&mut self, rt: &R) -> ExitCode {
+        if let Err(error) = self.out.end() {
+            return printed(rt, Err(error));
+        }
+        match (self.has_trouble, self.has_differences) {
+            (true, _) => ExitCode::from(TROUBLE),
+            (false, true) => ExitCode::from(1),
+            (false, false) => ExitCode::SUCCESS,
+        }
+    }
+
+    /// Reports an error, after which other files are compared.
+    fn fail<R: Eprint>(&mut self, rt: &R, console: Console, error: CommandError<'_>) {
+        let _ = finish(rt, console, error);
+        self.has_trouble = true;
+    }
+
+    /// Reads two files, of which one may be missing, and compares them.
+    fn compare_files<R: Files + AllocGlobal + Eprint>(
+        &mut self,
+        rt: &R,
+        console: Console,
+        name: &str,
+        old: Option<&str>,
+        new: Option<&str>,
+    ) {
+        let (old, new) = match (read(rt, old), read(rt, new)) {
+            (Ok(old), Ok(new)) => (old, new),
+            (Err(error), _) | (_, Err(error)) => return self.fail(rt, console, error),
+        };
+        let path = ItemPath::new(Vec::new(rt.alloc()));
+        if self
+            .compare(path, name, old.as_ref(), new.as_ref())
+            .is_err()
+        {
+            self.fail(rt, console, CommandError::NotStarted(StartError::Memory));
+        }
+    }
+}
+
+/// Reads a bundle, if there is a file.
+fn read<'a, R: Files + AllocGlobal>(
+    rt: &R,
+    file: Option<&'a str>,
+) -> Result<Option<Bundle>, CommandError<'a>> {
+    match file {
+        Some(file) => Ok(Some(bundle_in(rt, file)?)),
+        None => Ok(None),
+    }
+}
+
+/// Checks whether a name is that of a bundle text or a `.res` file.
+fn is_bundle(name: &str) -> bool {
+    is_text(name) || name.ends_with(".res")
+}
+
+/// Adds the names of a folder's bundles to those of another one.
+fn add_names<R: Files + AllocGlobal + Clone + Drop>(
+    rt: &R,
+    names: &mut BTreeSet<String>,
+    folder: &str,
+) -> io::Result<()> {
+    for entry in fs::read_dir(rt, folder)? {
+        let entry = entry?;
+        if is_bundle(entry.file_name()) {
+            names.insert(String::from_str(rt.alloc(), entry.file_name())?)?;
+        }
+    }
+    Ok(())
+}
+
+fn is_folder<R: Files>(rt: &R, name: &str) -> bool {
+    rt.metadata(name).is_ok_and(|seen| seen.is_dir())
+}
+
+/// Returns the name of a file in a folder.
+fn in_folder(alloc: Global, folder: &str, name: &str) -> Result<String, AllocError> {
+    if folder.ends_with('/') {
+        format!(in alloc; "{folder}{name}")
+    } else {
+        format!(in alloc; "{folder}/{name}")
+    }
+}
+
+/// Returns a name if there is a file of that name.
+fn there<'a, R: Files>(rt: &R, name: &'a str) -> Option<&'a str> {
+    if rt.metadata(name).is_ok() {
+        Some(name)
+    } else {
+        None
+    }
+}
+
+/// Compares the files of one name in two folders.
+fn compare_named<R: Files + AllocGlobal + Eprint, W: Write + Drop>(
+    rt: &R,
+    console: Console,
+    differ: &mut Differ<W>,
+    words: DiffWords<'_>,
+    name: &str,
+) -> Result<(), AllocError> {
+    let alloc = rt.alloc();
+    let old = in_folder(alloc, words.old, name)?;
+    let new = in_folder(alloc, words.new, name)?;
+    let shown = format!(in alloc; "{}", console.on_stdout(name))?;
+    let (old, new) = (there(rt, old.as_str()), there(rt, new.as_str()));
+    differ.compare_files(rt, console, shown.as_str(), old, new);
+    Ok(())
+}
+
+/// Compares the bundles of two folders, file by file, in the order of their names.
+fn compare_folders<R: Files + AllocGlobal + Eprint + Clone + Drop, W: Write + Drop>(
+    rt: &R,
+    console: Console,
+    differ: &mut Differ<W>,
+    words: DiffWords<'_>,
+) {
+    let mut names = BTreeSet::new(rt.alloc());
+    for folder in [words.old, words.new] {
+        if let Err(error) = add_names(rt, &mut names, folder) {
+            differ.fail(rt, console, CommandError::Unread(folder, "", error.kind()));
+            return;
+        }
+    }
+    for name in names.iter() {
+        if compare_named(rt, console, differ, words, name.as_str()).is_err() {
+            differ.fail(rt, console, CommandError::NotStarted(StartError::Memory));
+            return;
+        }
+    }
+}
+
+/// Compares two bundles, or those of two folders file by file, and prints the items in which they
+/// differ: for each path a line with a minus for the item of `old`, and one with a plus for that of
+/// `new`, as JSON; or an object in a line; or how many they are. Of tables and arrays the items in
+/// them are printed. The flag *no fallback* has the path `:no-fallback`. A file that only one of
+/// the folders has is compared with no item at all.
+///
+/// The status is 0 if nothing differs; 1 if something does; 2 if a file is refused or can't be
+/// read, `old` is a folder and `new` isn't, memory runs out, or standard output can't be written.
+pub fn diff<R: Files + AllocGlobal + Print + Eprint + Clone + Drop>(
+    rt: &R,
+    console: Console,
+    words: DiffWords<'_>,
+) -> ExitCode {
+    let Ok(writer) = BufWriter::new(rt.alloc(), io::writer(rt)) else {
+        let _ = finish(rt, console, CommandError::NotStarted(StartError::Memory));
+        return ExitCode::from(TROUBLE);
+    };
+    let mut differ = Differ {
+        out: Printing::new(writer, console.is_output_terminal),
+        form: words.form,
+        has_differences: false,
+        has_trouble: false,
+    };
+    if is_folder(rt, words.old) && is_folder(rt, words.new) {
+        compare_folders(rt, console, &mut differ, words);
+    } else {
+        differ.compare_files(rt, console, "", Some(words.old), Some(words.new));
+    }
+    differ.end(rt)
+}
