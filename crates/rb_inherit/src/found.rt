@@ -1,0 +1,53 @@
+//! What a place of the tree has, as the stops are asked in order.
+
+use rb_fallback::LookError;
+
+/// What the stops that were asked have at a place.
+#[derive(Clone, Copy)]
+pub(crate) enum Found<N> {
+    /// Nothing so far.
+    Nothing,
+    /// Tables, which are merged; more may follow while it is open.
+    Tables { is_open: bool },
+    /// An item other than a table, of a level.
+    Item { node: N, level: usize },
+    /// An alias that can't be followed.
+    Failed(LookError),
+}
+
+impl<N: Copy> Found<N> {
+    /// Returns true if a later stop may add to it.
+    pub(crate) fn is_open(&self) -> bool {
+        match self {
+            Found::Nothing => true,
+            Found::Tables { is_open } => *is_open,
+            Found::Item { .. } | Found::Failed(_) => false,
+        }
+    }
+
+    /// Returns what a place has if the next stop has a table.
+    pub(crate) fn with_table(self) -> Found<N> {
+        match self {
+            Found::Nothing => Found::Tables { is_open: true },
+            found => found,
+        }
+    }
+
+    /// Returns what a place has if the next stop has another item, which ends tables.
+    pub(crate) fn with_item(self, node: N, level: usize) -> Found<N> {
+        match self {
+            Found::Nothing => Found::Item { node, level },
+            Found::Tables { .. } => Found::Tables { is_open: false },
+            found => found,
+        }
+    }
+
+    /// Returns what a place has if a lookup of it fails at the next stop, which ends tables.
+    pub(crate) fn with_error(self, error: LookError) -> Found<N> {
+        match self {
+            Found::Nothing => Found::Failed(error),
+            Found::Tables { .. } => Found::Tables { is_open: false },
+            found => found,
+        }
+    }
+}

@@ -1,0 +1,22 @@
+//! Trees with inheritance: an item with everything that its locale inherits, as one JSON value.
+#![tactic(auto)]
+
+mod count;
+mod error;
+mod follow;
+mod found;
+mod leaf;
+mod limits;
+mod merge;
+mod path;
+mod place;
+mod query;
+mod shelves;
+mod tree;
+mod whole;
+mod words;
+
+pub use error::TreeError;
+pub use limits::{STEP_LIMIT, TREE_LIMIT, TreeLimits};
+pub use query::TreeQuery;
+pub use whole::{TreeSize, put_tree, tree_size, tree_text};
