@@ -172,14 +172,19 @@ fn add_links<T: Stops>(
     place: &mut Place<T::N>,
     before: After<T::N>,
 ) -> Result<Found<T::N>, TreeError> {
-    let mut after = before;
+    let After {
+        mut found,
+        mut link,
+    } = before;
     for _ in 0..LEVEL_LIMIT {
-        match after.link {
-            Some(link) => after = add_link(shelves, place, after.found, link)?,
-            None => break,
-        }
+        let Some(here) = link else {
+            break;
+        };
+        let after = add_link(shelves, place, found, here)?;
+        found = after.found;
+        link = after.link;
     }
-    Ok(after.found)
+    Ok(found)
 }
 
 /// Adds a child of a table or an array to what the place has, which its key already names.

@@ -10,7 +10,6 @@ mod limits;
 mod merge;
 mod path;
 mod place;
-mod query;
 mod shelves;
 mod tree;
 mod whole;
@@ -18,5 +17,4 @@ mod words;
 
 pub use error::TreeError;
 pub use limits::{STEP_LIMIT, TREE_LIMIT, TreeLimits};
-pub use query::TreeQuery;
 pub use whole::{TreeSize, put_tree, tree_size, tree_text};

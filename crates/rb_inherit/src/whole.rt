@@ -4,12 +4,12 @@ use crate::follow::add_root;
 use crate::limits::{STEP_LIMIT, TREE_LIMIT, TreeLimits};
 use crate::path::{PathBytes, push_text};
 use crate::place::Place;
-use crate::query::TreeQuery;
+use crate::shelves::{Shelves, Stops};
 use crate::tree::put_found;
 use rb_fallback::{Found, LookError, look};
 use rb_json::{Buffer, Outlet};
 use rb_locales::Name;
-use rb_parents::Shelf;
+use rb_parents::{Parents, Shelf};
 use rb_tree::HEIGHT_LIMIT;
 use std::alloc::Global;
 
@@ -37,32 +37,42 @@ fn steps_of(limits: TreeLimits) -> (u64, TreeError) {
     }
 }
 
-/// Looks the path of a query up.
-fn looked_up<'a, S: Shelf<'a>, I: Shelf<'a, N = S::N>>(
-    query: TreeQuery<'a, S, I>,
-) -> Result<Found<S::N>, TreeError> {
-    match look(query.own, query.icu, query.parents, &query.name, query.path) {
-        Ok(found) => Ok(found),
-        Err(error) => Err(TreeError::Look(error)),
+/// Writes what the stops of a name have at a path.
+fn put_stops<T: Stops, O: Outlet>(
+    out: &mut O,
+    place: &mut Place<T::N>,
+    shelves: T,
+    name: &Name,
+    path: &[u8],
+) -> Result<(), TreeError> {
+    let mut begin = PathBytes::new();
+    if !push_text(&mut begin, path) {
+        return Err(TreeError::Look(LookError::PathTooLong));
     }
+    let found = add_root(shelves, place, name, begin)?;
+    put_found(shelves, place, out, found, 0, HEIGHT_LIMIT)
 }
 
-/// Writes the tree of a query, over what a lookup found at its path.
+/// Writes the tree at a path, and returns what a lookup finds there.
 fn put_from<'a, S: Shelf<'a>, I: Shelf<'a, N = S::N>, O: Outlet>(
     out: &mut O,
     alloc: Global,
-    query: TreeQuery<'a, S, I>,
-    valid: Name,
+    own: S,
+    icu: I,
+    parents: &'a Parents,
+    name: &Name,
+    path: &[u8],
     limits: TreeLimits,
-) -> Result<(), TreeError> {
+) -> Result<Found<S::N>, TreeError> {
+    let found = match look(own, icu, parents, name, path) {
+        Ok(found) => found,
+        Err(error) => return Err(TreeError::Look(error)),
+    };
     let (steps, no_steps) = steps_of(limits);
-    let mut place = Place::new(alloc, valid, steps, no_steps);
-    let mut path = PathBytes::new();
-    if !push_text(&mut path, query.path) {
-        return Err(TreeError::Look(LookError::PathTooLong));
-    }
-    let found = add_root(query, &mut place, &query.name, path)?;
-    put_found(query, &mut place, out, found, 0, HEIGHT_LIMIT)
+    let mut place = Place::new(alloc, found.valid, steps, no_steps);
+    let shelves = Shelves { own, icu, parents };
+    put_stops(out, &mut place, shelves, name, path)?;
+    Ok(found)
 }
 
 /// Writes the item at a path with everything that it inherits as one JSON value, in the form of
@@ -76,11 +86,15 @@ fn put_from<'a, S: Shelf<'a>, I: Shelf<'a, N = S::N>, O: Outlet>(
 pub fn put_tree<'a, S: Shelf<'a>, I: Shelf<'a, N = S::N>, O: Outlet>(
     out: &mut O,
     alloc: Global,
-    query: TreeQuery<'a, S, I>,
+    own: S,
+    icu: I,
+    parents: &'a Parents,
+    name: &Name,
+    path: &[u8],
     limits: TreeLimits,
 ) -> Result<(), TreeError> {
-    let found = looked_up(query)?;
-    put_from(out, alloc, query, found.valid, limits)
+    let _ = put_from(out, alloc, own, icu, parents, name, path, limits)?;
+    Ok(())
 }
 
 /// Returns the length of what `put_tree` writes and the locales of the item, without writing.
@@ -88,12 +102,15 @@ pub fn put_tree<'a, S: Shelf<'a>, I: Shelf<'a, N = S::N>, O: Outlet>(
 /// Errors: those of `put_tree`, and `TreeTooLarge` for more bytes than the limit.
 pub fn tree_size<'a, S: Shelf<'a>, I: Shelf<'a, N = S::N>>(
     alloc: Global,
-    query: TreeQuery<'a, S, I>,
+    own: S,
+    icu: I,
+    parents: &'a Parents,
+    name: &Name,
+    path: &[u8],
     limits: TreeLimits,
 ) -> Result<TreeSize, TreeError> {
-    let found = looked_up(query)?;
     let mut count = Count::new(TREE_LIMIT.min(limits.bytes));
-    put_from(&mut count, alloc, query, found.valid, limits)?;
+    let found = put_from(&mut count, alloc, own, icu, parents, name, path, limits)?;
     match count.total() {
         Some(bytes) => Ok(TreeSize {
             actual: found.actual,
@@ -107,19 +124,23 @@ pub fn tree_size<'a, S: Shelf<'a>, I: Shelf<'a, N = S::N>>(
 /// Returns what `put_tree` writes, within the limits. The errors are those of `tree_size`.
 ///
 /// ```rust
-/// tree_text(alloc, query, TreeLimits::none())? // {"close":"Zu","open":"Open"}
+/// tree_text(alloc, shelf, shelf, &parents, &de_at, b"menu", limits)? // {"close":"Zu"}
 /// ```
 pub fn tree_text<'a, S: Shelf<'a>, I: Shelf<'a, N = S::N>>(
     alloc: Global,
-    query: TreeQuery<'a, S, I>,
+    own: S,
+    icu: I,
+    parents: &'a Parents,
+    name: &Name,
+    path: &[u8],
     limits: TreeLimits,
 ) -> Result<Vec<u8>, TreeError> {
-    let size = tree_size(alloc, query, limits)?;
+    let size = tree_size(alloc, own, icu, parents, name, path, limits)?;
     let Ok(bytes) = Vec::with_capacity(alloc, size.bytes as usize) else {
         return Err(TreeError::Memory);
     };
     let mut out = Buffer::from_vec(bytes);
-    put_tree(&mut out, alloc, query, limits)?;
+    put_tree(&mut out, alloc, own, icu, parents, name, path, limits)?;
     match out.into_bytes() {
         Ok(bytes) => Ok(bytes),
         Err(_) => Err(TreeError::Memory),
