@@ -9,7 +9,8 @@ use Rattle.rb_arguments.specs.Rows.{IsFlagIn, alone, word_in, words_in}
 use Rattle.rb_arguments.specs.Limits.{AreGiven}
 use Rattle.rb_arguments.specs.declared.asking.Asked.{Asked}
 use Rattle.rb_arguments.specs.declared.asking.Asked.TheVariants.{Compile, CompileAll, Check, Get, Json, Text as ToText}
-use Rattle.rb_arguments.specs.declared.asking.Asked.TheVariants.{Diff, Lint, Coverage, Explain, Lines, Look, Serve}
+use Rattle.rb_arguments.specs.declared.asking.Asked.TheVariants.{Inherited, Diff, Lint, Coverage, Explain, Lines}
+use Rattle.rb_arguments.specs.declared.asking.Asked.TheVariants.{Look, Serve}
 
 -- the names of the commands
 abbrev pub names : List Text
@@ -24,6 +25,11 @@ is_command name = list_any (bytes_eq name) names
 abbrev pub texts_in : List Row → List Text
 texts_in rows =
     alone (first_of (codes "IN") rows) ++ alone (first_of (codes "OUT") rows) ++ words_in rows (codes "TEXT")
+
+-- the files of `json --inherit`: FILE, PATH and BUNDLE, in this order
+abbrev pub files_in : List Row → List Text
+files_in rows =
+    alone (first_of (codes "FILE") rows) ++ alone (first_of (codes "PATH") rows) ++ words_in rows (codes "BUNDLE")
 
 -- the root's text of `lint`: that of `--against`, or else that of `--root`
 abbrev pub root_in : List Row → Option Text
@@ -54,9 +60,17 @@ AsksFor name rows (Get file path is_raw) =
     × IsFlagIn rows (codes "raw") is_raw
 AsksFor name rows (Json file path is_pretty) =
     (name ≡ codes "json")
+    × (first_of (codes "inherit") rows ≡ None)
     × (file.now ≡ word_in rows (codes "FILE"))
     × (path.now ≡ word_in rows (codes "PATH"))
     × IsFlagIn rows (codes "pretty") is_pretty
+AsksFor name rows (Inherited asked) =
+    (name ≡ codes "json")
+    × (first_of (codes "inherit") rows ≡ Some asked.locale.now)
+    × (option_map (λ s. s.now) asked.parents ≡ first_of (codes "parents") rows)
+    × (asked.path.now ≡ word_in rows (codes "path"))
+    × IsFlagIn rows (codes "pretty") asked.is_pretty
+    × (texts asked.files.items ≡ files_in rows)
 AsksFor name rows (ToText file bundle) =
     (name ≡ codes "text")
     × (file.now ≡ word_in rows (codes "FILE"))

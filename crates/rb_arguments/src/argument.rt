@@ -90,9 +90,3 @@ pub const PATH: Argument = Argument(
     Kind::Word,
     "keys and indexes, with slashes between them",
 );
-
-pub const OPTIONAL_PATH: Argument = Argument(
-    "PATH",
-    Kind::OptionalWord,
-    "keys and indexes, with slashes between them; the whole bundle without it",
-);

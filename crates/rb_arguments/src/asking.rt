@@ -4,7 +4,7 @@ ghost use Rattle.clap.specs.Words.{first_of, found_of, rows_of, subcommand_rows_
 ghost use Rattle.rb_arguments.specs.Rows.{IsFlagIn, IsNumberIn, alone, word_in, words_in};
 ghost use Rattle.rb_arguments.specs.Limits.{AreGiven};
 ghost use Rattle.rb_arguments.specs.Asking.{AsksFor, EntersFor, enters_command, is_command};
-ghost use Rattle.rb_arguments.specs.Asking.{root_in, texts_in};
+ghost use Rattle.rb_arguments.specs.Asking.{files_in, root_in, texts_in};
 
 use clap::ArgMatches;
 use std::alloc::{AllocError, Global};
@@ -42,6 +42,8 @@ pub enum Asked<'a> {
         path: &'a str,
         is_pretty: bool,
     },
+    /// `json --inherit LOCALE [LOCALE=]FILE..`
+    Inherited(AskedInherited<'a>),
     /// `text FILE`
     Text {
         file: &'a str,
@@ -76,6 +78,15 @@ pub enum Asked<'a> {
         bundles: Vec<&'a str>,
         limits: AskedLimits,
     },
+}
+
+#[derive(Debug, Drop)]
+pub struct AskedInherited<'a> {
+    pub parents: Option<&'a str>,
+    pub locale: &'a str,
+    pub path: &'a str,
+    pub is_pretty: bool,
+    pub files: Vec<&'a str>,
 }
 
 #[derive(Debug, Drop)]
@@ -192,6 +203,37 @@ fn texts_of<'a>(alloc: Global, given: &ArgMatches<'a>) -> Result<Vec<&'a str>, A
     push_given(&mut texts, given, "OUT")?;
     texts.extend_from_slice(given.get_strs("TEXT").unwrap_or(&[]))?;
     Ok(texts)
+}
+
+/// Collects the files of `json --inherit`, in order: clap has put the first two into FILE and PATH.
+fn files_of<'a>(alloc: Global, given: &ArgMatches<'a>) -> Result<Vec<&'a str>, AllocError>
+    ensures { IfOk result (λ files. texts files.items ≡ files_in (rows_of (found_of given.now))) }
+{
+    let mut files = Vec::new(alloc);
+    push_given(&mut files, given, "FILE")?;
+    push_given(&mut files, given, "PATH")?;
+    files.extend_from_slice(given.get_strs("BUNDLE").unwrap_or(&[]))?;
+    Ok(files)
+}
+
+fn json_asked<'a>(alloc: Global, given: &ArgMatches<'a>) -> Result<Asked<'a>, AllocError>
+    ensures { IfOk result (AsksFor (codes "json") (rows_of (found_of given.now))) }
+{
+    let is_pretty = flag_of(given, "pretty");
+    Ok(match optional_of(given, "inherit") {
+        Some(locale) => Asked::Inherited(AskedInherited {
+            parents: optional_of(given, "parents"),
+            locale,
+            path: word_of(given, "path"),
+            is_pretty,
+            files: files_of(alloc, given)?,
+        }),
+        None => Asked::Json {
+            file: word_of(given, "FILE"),
+            path: word_of(given, "PATH"),
+            is_pretty,
+        },
+    })
 }
 
 fn compile_asked<'a>(alloc: Global, given: &ArgMatches<'a>) -> Result<Asked<'a>, AllocError>
@@ -316,11 +358,7 @@ fn command_asked<'a>(
             path: word_of(given, "PATH"),
             is_raw: flag_of(given, "raw"),
         },
-        "json" => Asked::Json {
-            file: word_of(given, "FILE"),
-            path: word_of(given, "PATH"),
-            is_pretty: flag_of(given, "pretty"),
-        },
+        "json" => json_asked(alloc, given)?,
         "text" => Asked::Text {
             file: word_of(given, "FILE"),
             name: optional_of(given, "name"),

@@ -1,4 +1,4 @@
-use crate::argument::{Argument, Kind, OPTIONAL_PATH, PATH};
+use crate::argument::{Argument, Kind, PATH};
 use crate::description::Description;
 
 /// The file to write, which may be missing only with `--to`.
@@ -123,24 +123,53 @@ pub const TEXT: Description = Description {
 };
 
 const JSON_HELP: &str = "\
-Example:
+Examples:
   resb json de.res menu
+  resb json --inherit de_AT bundles/*.res
+  resb json --inherit de_AT --path menu --parents parents.txt bundles/*.txt
 
 A table is an object, an array an array, a String a string, an Int a number; the others are objects of one member, :alias, :bin,
 :intvector or :units. A key that begins with a colon has one colon more. Aliases are printed and not followed.
+
+With --inherit the tables of the locale and of those that it inherits from are merged, and aliases are followed; one that can't be
+followed is an object of one member, :error.
 
 Status:
   0  the item is printed, as JSON
   1  the file is refused, has no such item, as menu/shut: Missing, or the item is too large, or out of memory
   2  the command line is invalid, the file can't be read, or standard output can't be written";
 
-/// `json FILE [PATH]`
+/// `json FILE [PATH]`, or `json --inherit LOCALE [LOCALE=]FILE..`
 pub const JSON: Description = Description {
     name: "json",
     about: "Prints a whole .res file, or the item at a path, as one JSON value",
     arguments: &[
-        FILE,
-        OPTIONAL_PATH,
+        Argument(
+            "inherit",
+            Kind::Option("LOCALE"),
+            "print what this locale has and inherits, over bundles [LOCALE=]FILE as look reads them",
+        ),
+        Argument(
+            "parents",
+            Kind::OptionWith("FILE", "inherit"),
+            "with --inherit, a bundle text with the explicit parents, at parentLocales",
+        ),
+        Argument(
+            "path",
+            Kind::OptionWith("PATH", "inherit"),
+            "with --inherit, the path of an item; the whole bundle without it",
+        ),
+        Argument("FILE", Kind::Word, "a .res file; with --inherit, a bundle"),
+        Argument(
+            "PATH",
+            Kind::OptionalWord,
+            "keys and indexes, with slashes between them; the whole bundle without it; with --inherit, a further bundle",
+        ),
+        Argument(
+            "BUNDLE",
+            Kind::WordsWith("inherit"),
+            "with --inherit, further bundles",
+        ),
         Argument(
             "pretty",
             Kind::Flag,

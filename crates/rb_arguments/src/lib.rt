@@ -11,5 +11,7 @@ mod file_commands;
 mod serving;
 mod text_commands;
 
-pub use asking::{Asked, AskedCoverage, AskedLimits, AskedLint, AskedLookup, asked_by};
+pub use asking::{
+    Asked, AskedCoverage, AskedInherited, AskedLimits, AskedLint, AskedLookup, asked_by,
+};
 pub use command_line::{commands, commands_for};

@@ -4,8 +4,8 @@ ghost use Rattle.rb_tree.specs.Parts.{HasUnits, kind_of};
 ghost use Rattle.rb_tree.specs.declared.kind.Kind.TheVariants as Kinds;
 
 use rb_json::{
-    Outlet, is_well_formed, signed, skips_items, spell_bytes, spell_hex, spell_integer,
-    spell_text, spell_units, spell_unsigned,
+    Outlet, is_well_formed, signed, skips_items, spell_bytes, spell_hex, spell_integer, spell_text,
+    spell_units, spell_unsigned,
 };
 use rb_tree::{Kind, Node};
 use std::alloc::{AllocError, Global};
@@ -50,11 +50,7 @@ fn put_string<O: Outlet, N: Node>(out: &mut O, node: N)
 }
 
 /// Writes a key, with one more colon if it begins with one.
-pub(crate) fn put_key<O: Outlet>(
-    out: &mut O,
-    alloc: Global,
-    key: &[u8],
-) -> Result<(), AllocError> {
+pub(crate) fn put_key<O: Outlet>(out: &mut O, alloc: Global, key: &[u8]) -> Result<(), AllocError> {
     if key.first() != Some(&b':') {
         spell_bytes(out, key);
         return Ok(());

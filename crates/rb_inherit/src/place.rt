@@ -157,7 +157,9 @@ impl<N: Node> Place<N> {
 
     /// Returns the keys below the place where a level begins.
     fn keys_of(&self, level: Level) -> &[u8] {
-        self.keys.get(level.keys_at.saturating_add(1)..).unwrap_or(b"")
+        self.keys
+            .get(level.keys_at.saturating_add(1)..)
+            .unwrap_or(b"")
     }
 
     /// Returns the path of a level that leads to the place, or `None` if it is too long.

@@ -43,7 +43,7 @@ pub struct Lookup<'a> {
 }
 
 /// Returns the file of a bundle, compiled if it is a text.
-fn file_of(alloc: Global, name: &str, bytes: Vec<u8>) -> Result<Vec<u8>, Refusal> {
+pub(crate) fn file_of(alloc: Global, name: &str, bytes: Vec<u8>) -> Result<Vec<u8>, Refusal> {
     if !is_text(name) {
         return Ok(bytes);
     }

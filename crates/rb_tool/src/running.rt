@@ -3,14 +3,14 @@ ghost use Rattle.std.specs.Prelude.{◌≡◌, map, option_map};
 ghost use Rattle.rb_tool.specs.inner.Serving.{AreLimits};
 
 use crate::serve::{Serving, serve_files};
-use rb_arguments::{Asked, AskedCoverage, AskedLimits, AskedLint, AskedLookup};
+use rb_arguments::{Asked, AskedCoverage, AskedInherited, AskedLimits, AskedLint, AskedLookup};
 use rb_console::Console;
 use rb_convert::{
     Change, DiffForm, DiffWords, Layout, Target, compile_all, compile_on, diff, json, lines, text,
 };
 use rb_inspect::{
-    CoverageWords, LintWords, Lookup, check_all, check_on, cover_all, explain_on, get_on, get_raw,
-    lint_all, list_rules, look_up,
+    CoverageWords, Inheritance, LintWords, Lookup, check_all, check_on, cover_all, explain_on,
+    get_on, get_raw, lint_all, list_rules, look_up, print_tree,
 };
 use rb_requests::Limits;
 use std::process::ExitCode;
@@ -131,6 +131,24 @@ fn run_coverage<R: Files + AllocGlobal + Print + Eprint>(
     cover_all(rt, console, &words)
 }
 
+/// `json --inherit LOCALE [LOCALE=]FILE..`
+fn run_inherited<R: Files + RandomSource + AllocGlobal + Print + Eprint>(
+    rt: &R,
+    console: Console,
+    asked: &AskedInherited<'_>,
+) -> ExitCode {
+    if asked.is_pretty {
+        let _ = eprintln!(rt; "resb: --pretty is not for --inherit");
+        return ExitCode::from(2);
+    }
+    let tree = Inheritance {
+        parents: asked.parents,
+        locale: asked.locale,
+        path: asked.path,
+    };
+    print_tree(rt, console, tree, &asked.files)
+}
+
 /// Looks an item up over files.
 fn run_look<R: Files + RandomSource + AllocGlobal + Print + Eprint>(
     rt: &R,
@@ -209,6 +227,7 @@ pub fn run_asked<
             path,
             is_pretty,
         } => { json(rt, console, file, path, layout_of(is_pretty)) }
+        Asked::Inherited(asked) => run_inherited(rt, console, &asked),
         Asked::Text { file, name } => text(rt, console, file, name),
         Asked::Diff {
             old,
