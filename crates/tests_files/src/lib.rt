@@ -4,6 +4,8 @@
 
 #[cfg(test)]
 mod format;
+#[cfg(test)]
+mod json_in;
 pub mod laws;
 #[cfg(test)]
 mod made;

@@ -1,0 +1,20 @@
+//! Reads the JSON form of a tree back (docs/JSON.md), from a reader of tokens: no value of the
+//! text is in memory besides its tree.
+#![tactic(auto)]
+
+mod fault;
+mod input;
+mod key;
+mod leaf;
+mod limits;
+mod number;
+mod path;
+mod place;
+mod rows;
+mod source;
+mod text;
+mod value;
+
+pub use fault::{JsonFault, JsonFaultKind};
+pub use limits::JSON_LIMIT;
+pub use source::read_tree;

@@ -1,0 +1,52 @@
+ghost use Rattle.std.specs.Prelude.{◌≡◌, ◌∷◌, ◌++◌, [], All, OnOk};
+ghost use Rattle.rb_tree.specs.Keys.{IsKey};
+ghost use Rattle.rb_tree.specs.Table.{keys_in};
+
+use crate::fault::{Fault, JsonFaultKind};
+use rb_tree::{Key, TableFault, Tree};
+use std::alloc::{AllocError, Global};
+
+/// The entries of a table, in the order of the text, and the byte at which each key begins.
+#[derive(Drop)]
+pub(crate) struct Rows {
+    pub pairs: Vec<(Key, Tree)>,
+    pub places: Vec<usize>,
+}
+
+impl Rows {
+    pub fn new(alloc: Global) -> Rows
+        ensures { result.pairs.items ≡ [] }
+    {
+        Rows {
+            pairs: Vec::new(alloc),
+            places: Vec::new(alloc),
+        }
+    }
+
+    /// Adds an entry, whose key begins at this byte.
+    pub fn add(&mut self, at: usize, key: Key, tree: Tree) -> Result<(), AllocError>
+        ensures { OnOk result (self.new.pairs.items ≡ self.old.pairs.items ++ (key, tree) ∷ []) }
+    {
+        self.places.push(at)?;
+        self.pairs.push((key, tree))?;
+        Ok(())
+    }
+
+    /// Makes the table, or returns the error at the first repeated key.
+    pub fn table(self, alloc: Global) -> Result<Tree, Fault>
+        requires { All IsKey (keys_in self.pairs.items) }
+    {
+        let Rows { pairs, places } = self;
+        match Tree::keyed_table(alloc, pairs) {
+            Ok(tree) => Ok(tree),
+            Err(TableFault::Memory) => Err(Fault {
+                kind: JsonFaultKind::Memory,
+                at: 0,
+            }),
+            Err(TableFault::DuplicateKey(i)) => Err(Fault {
+                kind: JsonFaultKind::DuplicateKey,
+                at: places.get(i).copied().unwrap_or(0),
+            }),
+        }
+    }
+}

@@ -1,0 +1,93 @@
+use crate::fault::{Fault, JsonFault, JsonFaultKind};
+use crate::input::Input;
+use crate::limits::JSON_LIMIT;
+use crate::path::path_at;
+use crate::place::place_after;
+use crate::value::read_value;
+use json::{Reader, Scratch};
+use rb_tree::{HEIGHT_LIMIT, Tree};
+use std::alloc::Global;
+
+/// Reads a whole text as a table.
+fn read_text(alloc: Global, text: &str) -> Result<Tree, Fault> {
+    let mut scratch = Scratch::new(alloc);
+    let mut input = Input::new(Reader::new(text, &mut scratch)?);
+    let at = input.at();
+    let tree = read_value(alloc, &mut input, HEIGHT_LIMIT)?;
+    if input.at() < text.len() || input.reader.next().is_some() {
+        return Err(Fault {
+            kind: JsonFaultKind::TrailingText,
+            at: input.at(),
+        });
+    }
+    match tree {
+        Tree::Table(_) => Ok(tree),
+        _ => Err(Fault {
+            kind: JsonFaultKind::NotTable,
+            at,
+        }),
+    }
+}
+
+/// Makes the error at a byte of a text.
+fn located(alloc: Global, text: &str, fault: Fault) -> JsonFault {
+    let kind = fault.kind;
+    if kind == JsonFaultKind::Memory {
+        return without_place(alloc, kind);
+    }
+    let at = fault.at.min(text.len());
+    let place = place_after(&text.as_bytes()[..at]);
+    match path_at(alloc, text, at) {
+        Ok(path) => JsonFault {
+            kind,
+            line: place.line,
+            column: place.column,
+            path,
+        },
+        Err(_) => without_place(alloc, JsonFaultKind::Memory),
+    }
+}
+
+fn without_place(alloc: Global, kind: JsonFaultKind) -> JsonFault {
+    JsonFault {
+        kind,
+        line: 0,
+        column: 0,
+        path: String::new(alloc),
+    }
+}
+
+fn at_front(alloc: Global, kind: JsonFaultKind, front: &[u8]) -> JsonFault {
+    let place = place_after(front);
+    JsonFault {
+        kind,
+        line: place.line,
+        column: place.column,
+        path: String::new(alloc),
+    }
+}
+
+/// Reads a bundle's tree from its JSON form, which docs/JSON.md describes.
+///
+/// Errors: see `JsonFaultKind`. If a text has several, one of them is reported.
+///
+/// ```rust
+/// let tree = read_tree(alloc, b"{\"a\":\"x\",\"b\":{\":alias\":\"/LOCALE/a\"}}")?;
+/// read_tree(alloc, b"{\"a\":\n{\"b\":1.5}}") // Err: BadNumber, line 2, column 6, path /a/b
+/// ```
+pub fn read_tree(alloc: Global, bytes: &[u8]) -> Result<Tree, JsonFault> {
+    if bytes.len() > JSON_LIMIT {
+        return Err(at_front(alloc, JsonFaultKind::TooLong, b""));
+    }
+    let text = match str::from_utf8(bytes) {
+        Ok(text) => text,
+        Err(e) => {
+            let front = &bytes[..e.valid_up_to()];
+            return Err(at_front(alloc, JsonFaultKind::NotUtf8, front));
+        }
+    };
+    match read_text(alloc, text) {
+        Ok(tree) => Ok(tree),
+        Err(fault) => Err(located(alloc, text, fault)),
+    }
+}
