@@ -1,5 +1,5 @@
 -- Defines the command that a command line asks for, by the rows of values that clap returned for it.
-use Rattle.std.specs.Prelude.{◌≡◌, ◌++◌, ◌∷◌, [], Bool, false, List, Option, Some, None, codes, option_map}
+use Rattle.std.specs.Prelude.{◌≡◌, ◌++◌, ◌∷◌, [], Bool, true, false, List, Option, Some, None, codes, option_map}
 use Rattle.std.specs.List.{list_any}
 use Rattle.std.specs.Option.{option_or}
 use Rattle.std.specs.Str.{bytes_eq}
@@ -8,7 +8,8 @@ use Rattle.clap.specs.Walk.{texts}
 use Rattle.rb_arguments.specs.Rows.{IsFlagIn, alone, word_in, words_in}
 use Rattle.rb_arguments.specs.Limits.{AreGiven}
 use Rattle.rb_arguments.specs.declared.asking.Asked.{Asked}
-use Rattle.rb_arguments.specs.declared.asking.Asked.TheVariants.{Compile, CompileAll, Check, Get, Json, Text as ToText}
+use Rattle.rb_arguments.specs.declared.asking.Asked.TheVariants.{Compile, CompileAll, CompileJson, CompileAllJson}
+use Rattle.rb_arguments.specs.declared.asking.Asked.TheVariants.{Check, Get, Json, Text as ToText}
 use Rattle.rb_arguments.specs.declared.asking.Asked.TheVariants.{Inherited, Diff, Lint, Coverage, Explain, Lines}
 use Rattle.rb_arguments.specs.declared.asking.Asked.TheVariants.{Look, Serve}
 
@@ -39,15 +40,33 @@ root_in rows = option_or (first_of (codes "against") rows) (first_of (codes "roo
 abbrev pub AsksFor : Text → List Row → Asked → Type 0
 AsksFor name rows (Compile input output is_quiet) =
     (name ≡ codes "compile")
+    × IsFlagIn rows (codes "json") false
     × (first_of (codes "to") rows ≡ None)
     × (input.now ≡ word_in rows (codes "IN"))
     × (output.now ≡ word_in rows (codes "OUT"))
     × IsFlagIn rows (codes "quiet") is_quiet
 AsksFor name rows (CompileAll folder from files is_quiet) =
     (name ≡ codes "compile")
+    × IsFlagIn rows (codes "json") false
     × (first_of (codes "to") rows ≡ Some folder.now)
     × (option_map (λ s. s.now) from ≡ first_of (codes "from") rows)
     × (texts files.items ≡ texts_in rows)
+    × IsFlagIn rows (codes "quiet") is_quiet
+AsksFor name rows (CompileJson input output no_fallback is_quiet) =
+    (name ≡ codes "compile")
+    × IsFlagIn rows (codes "json") true
+    × (first_of (codes "to") rows ≡ None)
+    × (input.now ≡ word_in rows (codes "IN"))
+    × (output.now ≡ word_in rows (codes "OUT"))
+    × IsFlagIn rows (codes "no-fallback") no_fallback
+    × IsFlagIn rows (codes "quiet") is_quiet
+AsksFor name rows (CompileAllJson folder from files no_fallback is_quiet) =
+    (name ≡ codes "compile")
+    × IsFlagIn rows (codes "json") true
+    × (first_of (codes "to") rows ≡ Some folder.now)
+    × (option_map (λ s. s.now) from ≡ first_of (codes "from") rows)
+    × (texts files.items ≡ texts_in rows)
+    × IsFlagIn rows (codes "no-fallback") no_fallback
     × IsFlagIn rows (codes "quiet") is_quiet
 AsksFor name rows (Check files is_quiet) =
     (name ≡ codes "check")

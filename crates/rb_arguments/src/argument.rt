@@ -34,6 +34,8 @@ pub enum Kind {
     Limit,
     /// `--NAME`
     Flag,
+    /// `--NAME`, only with this option.
+    FlagWith(&'static str),
     /// `--NAME`, or a dash and this letter.
     ShortFlag(char),
 }
@@ -72,6 +74,10 @@ impl Argument {
                 .value_name("N")
                 .value_parser(ValueParser::unsigned(1, LARGEST_LIMIT)),
             Kind::Flag => made.long(name).action(ArgAction::SetTrue),
+            Kind::FlagWith(option) => made
+                .long(name)
+                .action(ArgAction::SetTrue)
+                .requires_arg(option)?,
             Kind::ShortFlag(letter) => made.long(name).short(letter).action(ArgAction::SetTrue),
         })
     }

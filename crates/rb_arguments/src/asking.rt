@@ -1,4 +1,5 @@
 ghost use Rattle.std.specs.Prelude.{◌≡◌, ◌++◌, [], IfOk, IfSome, OnOk, is_some, option_map, codes};
+ghost use Rattle.std.specs.Prelude.{true};
 ghost use Rattle.clap.specs.Walk.{texts};
 ghost use Rattle.clap.specs.Words.{first_of, found_of, rows_of, subcommand_rows_of};
 ghost use Rattle.rb_arguments.specs.Rows.{IsFlagIn, IsNumberIn, alone, word_in, words_in};
@@ -23,6 +24,21 @@ pub enum Asked<'a> {
         folder: &'a str,
         from: Option<&'a str>,
         texts: Vec<&'a str>,
+        is_quiet: bool,
+    },
+    /// `compile --json [--no-fallback] IN OUT`
+    CompileJson {
+        input: &'a str,
+        output: &'a str,
+        no_fallback: bool,
+        is_quiet: bool,
+    },
+    /// `compile --json [--no-fallback] --to DIR JSON..`
+    CompileAllJson {
+        folder: &'a str,
+        from: Option<&'a str>,
+        texts: Vec<&'a str>,
+        no_fallback: bool,
         is_quiet: bool,
     },
     /// `check FILE..`
@@ -236,9 +252,35 @@ fn json_asked<'a>(alloc: Global, given: &ArgMatches<'a>) -> Result<Asked<'a>, Al
     })
 }
 
+fn compile_json_asked<'a>(alloc: Global, given: &ArgMatches<'a>) -> Result<Asked<'a>, AllocError>
+    requires { IsFlagIn (rows_of (found_of given.now)) (codes "json") true }
+    ensures { IfOk result (AsksFor (codes "compile") (rows_of (found_of given.now))) }
+{
+    let is_quiet = flag_of(given, "quiet");
+    let no_fallback = flag_of(given, "no-fallback");
+    Ok(match optional_of(given, "to") {
+        Some(folder) => Asked::CompileAllJson {
+            folder,
+            from: optional_of(given, "from"),
+            texts: texts_of(alloc, given)?,
+            no_fallback,
+            is_quiet,
+        },
+        None => Asked::CompileJson {
+            input: word_of(given, "IN"),
+            output: word_of(given, "OUT"),
+            no_fallback,
+            is_quiet,
+        },
+    })
+}
+
 fn compile_asked<'a>(alloc: Global, given: &ArgMatches<'a>) -> Result<Asked<'a>, AllocError>
     ensures { IfOk result (AsksFor (codes "compile") (rows_of (found_of given.now))) }
 {
+    if flag_of(given, "json") {
+        return compile_json_asked(alloc, given);
+    }
     let is_quiet = flag_of(given, "quiet");
     Ok(match optional_of(given, "to") {
         Some(folder) => Asked::CompileAll {

@@ -15,15 +15,17 @@ Examples:
   resb compile de.txt de.res
   resb compile --to bundles texts/*.txt
   resb compile --to bundles --from texts texts/*/*.txt
+  resb compile --json de.json de.res
 
 IN - is standard input, and OUT - is standard output. OUT is never IN, nor a file whose name ends
 in .txt. With --to each text is compiled to DIR/STEM.res. With --from SRC, the folder that the texts
 are in, SRC/menu/de.txt is compiled to DIR/menu/de.res, and folders that are missing are made.
+With --json IN is what resb json prints of a whole bundle, in any layout.
 
 Status:
   0  OUT is written; its length is printed
-  1  the text is refused, as de.txt:3: BadInt, or out of memory; nothing is written. With --to,
-     where this or an unreadable file is the fate of any text
+  1  the text is refused, as de.txt:3: BadInt or de.json:3:9: BadNumber /a/b, or out of memory;
+     nothing is written. With --to, where this or an unreadable file is the fate of any text
   2  the command line is invalid, or a file or standard output can't be read or written";
 
 /// `compile IN OUT`, or `compile --to DIR TEXT..`
@@ -40,6 +42,16 @@ pub const COMPILE: Description = Description {
             "from",
             Kind::OptionWith("SRC", "to"),
             "with --to, keep the folders of the texts in this folder",
+        ),
+        Argument(
+            "json",
+            Kind::Flag,
+            "read JSON, as resb json prints it, in place of bundle texts",
+        ),
+        Argument(
+            "no-fallback",
+            Kind::FlagWith("json"),
+            "set the flag nofallback, which JSON doesn't have",
         ),
         Argument("quiet", Kind::ShortFlag('q'), "no line on success"),
         Argument("IN", Kind::Word, "a bundle text, in UTF-8"),

@@ -15,13 +15,18 @@ use std::{fs, io};
 /// The most bytes that are read of a file: one past the largest.
 const MOST_READ: u64 = FILE_LIMIT as u64 + 1;
 
-/// Reads a file, at most one byte past the largest.
-pub fn read_file<R: Files + AllocGlobal>(rt: &R, name: &str) -> io::Result<Vec<u8>> {
+/// Reads a file, at most this many bytes.
+pub fn read_at_most<R: Files + AllocGlobal>(rt: &R, name: &str, most: u64) -> io::Result<Vec<u8>> {
     let file = fs::open(rt, name)?;
     let room = file.metadata().map_or(0, |told| told.len());
-    let mut bytes = Vec::with_capacity(rt.alloc(), room.saturating_add(1).min(MOST_READ) as usize)?;
-    file.take(MOST_READ).read_to_end(&mut bytes)?;
+    let mut bytes = Vec::with_capacity(rt.alloc(), room.saturating_add(1).min(most) as usize)?;
+    file.take(most).read_to_end(&mut bytes)?;
     Ok(bytes)
+}
+
+/// Reads a file, at most one byte past the largest.
+pub fn read_file<R: Files + AllocGlobal>(rt: &R, name: &str) -> io::Result<Vec<u8>> {
+    read_at_most(rt, name, MOST_READ)
 }
 
 /// Reports that a file could not be read, as `cannot_read_on` does, by the cause.

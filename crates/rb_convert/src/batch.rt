@@ -3,8 +3,10 @@ ghost use Rattle.std.specs.Prelude.{◌≡◌, IfErr};
 ghost use Rattle.std.specs.Process.{exit_status};
 
 use crate::compiling::{chosen_output, compile_read};
+use crate::json_in::{JsonError, MOST_READ, chosen_json_output, compile_json_read, json_refused};
 use rb_console::{
-    CommandError, Console, are_same_file, each, failed, id_of, printed, read_file, refused_on, stem,
+    CommandError, Console, are_same_file, each, failed, id_of, printed, read_at_most, read_file,
+    refused_on, stem,
 };
 use std::alloc::{AllocError, Global};
 use std::collections::{BTreeMap, BTreeSet};
@@ -253,5 +255,69 @@ pub fn compile_all<R: Files + RandomSource + Clock + AllocGlobal + Print + Eprin
         console,
         texts,
         |text| compile_one(rt, console, &inputs, target, text),
+    )
+}
+
+/// Compiles the JSON text `json` to the file `output`, and returns the file's length.
+fn compile_json_file<'a, R: Files + RandomSource + AllocGlobal>(
+    rt: &R,
+    inputs: &Inputs,
+    target: Target<'_>,
+    json: &'a str,
+    output: &'a str,
+    no_fallback: bool,
+) -> Result<usize, JsonError<'a>> {
+    if target.make_folder(rt, output).is_err() {
+        return Err(JsonError::Other(CommandError::Unwritten(output)));
+    }
+    let is_input = inputs.has(rt, output) || are_same_file(rt, json, output);
+    let chosen = match chosen_json_output(rt, output, is_input) {
+        Ok(chosen) => chosen,
+        Err(error) => return Err(JsonError::Other(error)),
+    };
+    let read = read_at_most(rt, json, MOST_READ);
+    compile_json_read(rt, json, read, output, &chosen, no_fallback)
+}
+
+/// Compiles one JSON text of many.
+fn compile_one_json<R: Files + RandomSource + AllocGlobal + Print + Eprint>(
+    rt: &R,
+    console: Console,
+    inputs: &Inputs,
+    target: Target<'_>,
+    json: &str,
+    no_fallback: bool,
+) -> ExitCode {
+    let Ok(output) = target.output_of(rt.alloc(), json) else {
+        let error = CommandError::Unread(json, ":0:0", ErrorKind::OutOfMemory);
+        return failed(rt, console, error);
+    };
+    let output = output.as_str();
+    match compile_json_file(rt, inputs, target, json, output, no_fallback) {
+        Ok(count) => written(rt, console, output, Ok(count)),
+        Err(JsonError::Refused(file, fault)) => json_refused(rt, console, file, &fault),
+        Err(JsonError::Other(error)) => failed(rt, console, error),
+    }
+}
+
+/// Compiles each JSON text as `compile_all` compiles bundle texts, and each as `compile_json_on`.
+pub fn compile_all_json<R: Files + RandomSource + Clock + AllocGlobal + Print + Eprint>(
+    rt: &R,
+    console: Console,
+    target: Target<'_>,
+    texts: &[&str],
+    no_fallback: bool,
+) -> ExitCode {
+    if let Err(status) = refuse_batch(rt, console, target, texts) {
+        return status;
+    }
+    let Ok(inputs) = Inputs::of(rt, texts) else {
+        return refused_on(rt, console, target.folder, "Memory");
+    };
+    each(
+        rt,
+        console,
+        texts,
+        |json| compile_one_json(rt, console, &inputs, target, json, no_fallback),
     )
 }

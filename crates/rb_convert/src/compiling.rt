@@ -10,7 +10,7 @@ use std::random::RandomSource;
 use std::rt::Files;
 
 /// The name under which the metadata of standard input are read.
-const STANDARD_INPUT: &str = "/dev/stdin";
+pub(crate) const STANDARD_INPUT: &str = "/dev/stdin";
 
 /// Compiles a text that was read from `input`.
 fn file_of<'a>(

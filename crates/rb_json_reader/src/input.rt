@@ -5,7 +5,6 @@ ghost use Rattle.json.specs.Token as spec;
 
 use crate::fault::{Fault, JsonFaultKind};
 use json::{Reader, Token};
-use rb_tree::WEIGHT_LIMIT;
 
 /// The remaining tokens, and the weight that the tree may still gain.
 #[derive(Drop)]
@@ -15,15 +14,6 @@ pub(crate) struct Input<'a> {
 }
 
 impl<'a> Input<'a> {
-    pub fn new(reader: Reader<'a>) -> Input<'a>
-        ensures { result.reader ≡ reader }
-    {
-        Input {
-            reader,
-            weight_left: WEIGHT_LIMIT,
-        }
-    }
-
     /// Returns the byte at which the next token begins.
     pub fn at(&self) -> usize {
         self.reader.offset()

@@ -1,3 +1,7 @@
+ghost use Rattle.std.specs.Prelude.{IfOk};
+ghost use Rattle.rb_tree.specs.Parts.{Fits};
+ghost use Rattle.rb_tree.specs.View.{view_of};
+
 use crate::fault::{Fault, JsonFault, JsonFaultKind};
 use crate::input::Input;
 use crate::limits::JSON_LIMIT;
@@ -5,13 +9,18 @@ use crate::path::path_at;
 use crate::place::place_after;
 use crate::value::read_value;
 use json::{Reader, Scratch};
-use rb_tree::{HEIGHT_LIMIT, Tree};
+use rb_tree::{HEIGHT_LIMIT, Tree, WEIGHT_LIMIT};
 use std::alloc::Global;
 
 /// Reads a whole text as a table.
-fn read_text(alloc: Global, text: &str) -> Result<Tree, Fault> {
+fn read_text(alloc: Global, text: &str) -> Result<Tree, Fault>
+    ensures { IfOk result (λ t. Fits (view_of t)) }
+{
     let mut scratch = Scratch::new(alloc);
-    let mut input = Input::new(Reader::new(text, &mut scratch)?);
+    let mut input = Input {
+        reader: Reader::new(text, &mut scratch)?,
+        weight_left: WEIGHT_LIMIT,
+    };
     let at = input.at();
     let tree = read_value(alloc, &mut input, HEIGHT_LIMIT)?;
     if input.at() < text.len() || input.reader.next().is_some() {
@@ -20,13 +29,19 @@ fn read_text(alloc: Global, text: &str) -> Result<Tree, Fault> {
             at: input.at(),
         });
     }
-    match tree {
-        Tree::Table(_) => Ok(tree),
-        _ => Err(Fault {
+    if !matches!(tree, Tree::Table(_)) {
+        return Err(Fault {
             kind: JsonFaultKind::NotTable,
             at,
-        }),
+        });
     }
+    if !tree.fits() {
+        return Err(Fault {
+            kind: JsonFaultKind::TooLarge,
+            at,
+        });
+    }
+    Ok(tree)
 }
 
 /// Makes the error at a byte of a text.
@@ -75,7 +90,9 @@ fn at_front(alloc: Global, kind: JsonFaultKind, front: &[u8]) -> JsonFault {
 /// let tree = read_tree(alloc, b"{\"a\":\"x\",\"b\":{\":alias\":\"/LOCALE/a\"}}")?;
 /// read_tree(alloc, b"{\"a\":\n{\"b\":1.5}}") // Err: BadNumber, line 2, column 6, path /a/b
 /// ```
-pub fn read_tree(alloc: Global, bytes: &[u8]) -> Result<Tree, JsonFault> {
+pub fn read_tree(alloc: Global, bytes: &[u8]) -> Result<Tree, JsonFault>
+    ensures fits { IfOk result (λ t. Fits (view_of t)) }
+{
     if bytes.len() > JSON_LIMIT {
         return Err(at_front(alloc, JsonFaultKind::TooLong, b""));
     }

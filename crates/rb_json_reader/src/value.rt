@@ -1,4 +1,4 @@
-ghost use Rattle.std.specs.Prelude.{◌≡◌, ◌<◌, length, OnOk, IfOk};
+ghost use Rattle.std.specs.Prelude.{◌≡◌, ◌<◌, ◌≤◌, length, OnOk, IfOk};
 ghost use Rattle.rb_tree.specs.Keys.{IsKey};
 
 use crate::fault::{Fault, JsonFaultKind};
@@ -68,8 +68,8 @@ fn read_object(alloc: Global, input: &mut Input, depth: u64) -> Result<Tree, Fau
     ensures shorter { OnOk result (length input.new.reader < length input.old.reader) }
 {
     let at = input.at();
-    input.spend(at, 8)?;
     let Some(name) = input.key()? else {
+        input.spend(at, 8)?;
         return Rows::new(alloc).table(alloc);
     };
     if is_tag(name.as_bytes()) {
@@ -80,6 +80,7 @@ fn read_object(alloc: Global, input: &mut Input, depth: u64) -> Result<Tree, Fau
 
 /// Reads the entries of a table, from its first key on, and its closing brace.
 #[cycle(value)]
+#[tactic(auto, using(crate::proofs::Keys::keys_more))]
 fn read_table<'a>(
     alloc: Global,
     input: &mut Input<'a>,
@@ -87,8 +88,9 @@ fn read_table<'a>(
     name: &'a str,
     depth: u64,
 ) -> Result<Tree, Fault>
-    ensures shorter { OnOk result (length input.new.reader < length input.old.reader) }
+    ensures no_longer { OnOk result (length input.new.reader ≤ length input.old.reader) }
 {
+    input.spend(first, 8)?;
     let mut rows = Rows::new(alloc);
     let mut at = first;
     let mut next = Some(name);

@@ -6,7 +6,8 @@ use crate::serve::{Serving, serve_files};
 use rb_arguments::{Asked, AskedCoverage, AskedInherited, AskedLimits, AskedLint, AskedLookup};
 use rb_console::Console;
 use rb_convert::{
-    Change, DiffForm, DiffWords, Layout, Target, compile_all, compile_on, diff, json, lines, text,
+    Change, DiffForm, DiffWords, Layout, Target, compile_all, compile_all_json, compile_json_on,
+    compile_on, diff, json, lines, text,
 };
 use rb_inspect::{
     CoverageWords, Inheritance, LintWords, Lookup, check_all, check_on, cover_all, explain_on,
@@ -219,6 +220,22 @@ pub fn run_asked<
         } => {
             let target = Target { folder, from };
             compile_all(rt, quieted(console, is_quiet), target, &texts)
+        }
+        Asked::CompileJson {
+            input,
+            output,
+            no_fallback,
+            is_quiet,
+        } => { compile_json_on(rt, quieted(console, is_quiet), input, output, no_fallback) }
+        Asked::CompileAllJson {
+            folder,
+            from,
+            texts,
+            no_fallback,
+            is_quiet,
+        } => {
+            let target = Target { folder, from };
+            compile_all_json(rt, quieted(console, is_quiet), target, &texts, no_fallback)
         }
         Asked::Check { files, is_quiet } => run_check(rt, quieted(console, is_quiet), &files),
         Asked::Get { file, path, is_raw } => run_get(rt, console, file, path, is_raw),

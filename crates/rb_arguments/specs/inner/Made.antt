@@ -6,7 +6,7 @@ use Rattle.clap.specs.declared.builder.arg.Arg.{Arg}
 use Rattle.rb_arguments.specs.declared.argument.Kind.{Kind}
 use Rattle.rb_arguments.specs.declared.argument.Kind.TheVariants.{Word, OptionalWord, WordUnless, Words, AnyWords}
 use Rattle.rb_arguments.specs.declared.argument.Kind.TheVariants.{WordsUnless, WordsWith, Option as ToOption, OptionWith, Options}
-use Rattle.rb_arguments.specs.declared.argument.Kind.TheVariants.{Limit, Flag, ShortFlag}
+use Rattle.rb_arguments.specs.declared.argument.Kind.TheVariants.{Limit, Flag, FlagWith, ShortFlag}
 
 -- an option with this long name, which may be missing
 abbrev pub IsOption : List ℕ → Arg → Type 0
@@ -25,4 +25,5 @@ IsMade name (OptionWith shown option) arg = IsOption name arg
 IsMade name (Options shown) arg = IsOption name arg × (arg.action ≡ Some Append)
 IsMade name Limit arg = IsOption name arg
 IsMade name Flag arg = IsOption name arg × (arg.action ≡ Some SetTrue)
+IsMade name (FlagWith option) arg = IsOption name arg × (arg.action ≡ Some SetTrue)
 IsMade name (ShortFlag letter) arg = IsOption name arg × (arg.action ≡ Some SetTrue) × (arg.short ≡ Some letter)
