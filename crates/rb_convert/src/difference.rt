@@ -44,12 +44,12 @@ impl Counts {
 
 /// Prints the differences of two bundles, and counts them.
 #[derive(Drop)]
-pub(crate) struct DiffPrinter<'a, W: Write + Drop> {
-    pub(crate) out: &'a mut Printing<W>,
+pub(crate) struct DiffPrinter<W: Write + Drop> {
+    pub(crate) out: Printing<W>,
     pub(crate) form: DiffForm,
     /// The name of the two bundles among several, as a terminal shows it; empty if there are only
     /// two.
-    pub(crate) name: &'a str,
+    pub(crate) name: String,
     pub(crate) counts: Counts,
 }
 
@@ -78,18 +78,34 @@ impl<N: Node> Value<N> {
     }
 }
 
-impl<'a, W: Write + Drop> DiffPrinter<'a, W> {
-    /// Writes a line with what one bundle has.
-    fn put_line<N: Node>(&mut self, sign: &[u8], path: &[u8], value: Value<N>) {
+impl<W: Write + Drop> DiffPrinter<W> {
+    /// Writes the name of the two bundles at the beginning of a line, if there are several.
+    fn begin_line(&mut self) {
         if !self.name.is_empty() {
             self.out.put(self.name.as_bytes());
             self.out.put(b": ");
         }
-        self.out.put(sign);
-        self.out.put(path);
-        self.out.put(b" ");
-        value.put(self.out);
-        self.out.put(b"\n");
+    }
+
+    /// Writes a line with what one bundle has.
+    fn put_line<N: Node>(&mut self, sign: &[u8], path: &[u8], value: Option<Value<N>>) {
+        if let Some(value) = value {
+            self.begin_line();
+            self.out.put(sign);
+            self.out.put(path);
+            self.out.put(b" ");
+            value.put(&mut self.out);
+            self.out.put(b"\n");
+        }
+    }
+
+    /// Writes a member that has another one behind it.
+    fn put_member<N: Node>(&mut self, key: &[u8], value: Option<Value<N>>) {
+        if let Some(value) = value {
+            self.out.put(key);
+            value.put(&mut self.out);
+            self.out.put(b",");
+        }
     }
 
     /// Writes an object whose members ascend by their names.
@@ -97,18 +113,13 @@ impl<'a, W: Write + Drop> DiffPrinter<'a, W> {
         self.out.put(b"{");
         if !self.name.is_empty() {
             self.out.put(b"\"file\":");
-            spell_text(self.out, self.name);
+            spell_text(&mut self.out, self.name.as_str());
             self.out.put(b",");
         }
-        for (key, value) in [(b"\"new\":", new), (b"\"old\":", old)] {
-            if let Some(value) = value {
-                self.out.put(key);
-                value.put(self.out);
-                self.out.put(b",");
-            }
-        }
+        self.put_member(b"\"new\":", new);
+        self.put_member(b"\"old\":", old);
         self.out.put(b"\"path\":");
-        spell_bytes(self.out, path);
+        spell_bytes(&mut self.out, path);
         self.out.put(b"}\n");
     }
 
@@ -128,15 +139,12 @@ impl<'a, W: Write + Drop> DiffPrinter<'a, W> {
         if self.form != DiffForm::Counts {
             return;
         }
-        if !self.name.is_empty() {
-            self.out.put(self.name.as_bytes());
-            self.out.put(b": ");
-        }
-        spell_unsigned(self.out, self.counts.changed);
+        self.begin_line();
+        spell_unsigned(&mut self.out, self.counts.changed);
         self.out.put(b" changed, ");
-        spell_unsigned(self.out, self.counts.added);
+        spell_unsigned(&mut self.out, self.counts.added);
         self.out.put(b" added, ");
-        spell_unsigned(self.out, self.counts.removed);
+        spell_unsigned(&mut self.out, self.counts.removed);
         self.out.put(b" removed\n");
     }
 
@@ -152,17 +160,14 @@ impl<'a, W: Write + Drop> DiffPrinter<'a, W> {
             DiffForm::Counts => {}
             DiffForm::Json => self.put_object(path, old, new),
             DiffForm::Lines => {
-                for (sign, value) in [(b"- ", old), (b"+ ", new)] {
-                    if let Some(value) = value {
-                        self.put_line(sign, path, value);
-                    }
-                }
+                self.put_line(b"- ", path, old);
+                self.put_line(b"+ ", path, new);
             }
         }
     }
 }
 
-impl<'a, N: Node, W: Write + Drop> Report<N> for DiffPrinter<'a, W> {
+impl<N: Node, W: Write + Drop> Report<N> for DiffPrinter<W> {
     fn differs(&mut self, path: &[u8], old: Option<N>, new: Option<N>) {
         self.report(path, Value::of_item(old), Value::of_item(new));
     }

@@ -30,8 +30,7 @@ pub struct DiffWords<'a> {
 /// The output of a command, and how the comparisons so far ended.
 #[derive(Drop)]
 struct Differ<W: Write + Drop> {
-    out: Printing<W>,
-    form: DiffForm,
+    printer: DiffPrinter<W>,
     has_differences: bool,
     has_trouble: bool,
 }
@@ -71,27 +70,22 @@ impl<W: Write + Drop> Differ<W> {
     fn compare(
         &mut self,
         path: ItemPath,
-        name: &str,
         old: Option<&Bundle>,
         new: Option<&Bundle>,
     ) -> Result<(), AllocError> {
         let mut path = path;
-        let mut printer = DiffPrinter {
-            out: &mut self.out,
-            form: self.form,
-            name,
-            counts: Counts::NONE,
-        };
+        let printer = &mut self.printer;
+        printer.counts = Counts::NONE;
         match (old, new) {
             (Some(old), Some(new)) => {
                 printer.report_flags(root(old), old.no_fallback(), new.no_fallback());
-                compare(&mut printer, &mut path, root(old), root(new), HEIGHT_LIMIT)?;
+                compare(printer, &mut path, root(old), root(new), HEIGHT_LIMIT)?;
             }
             (Some(old), None) => {
-                report_all(&mut printer, &mut path, root(old), Side::Old, HEIGHT_LIMIT)?;
+                report_all(printer, &mut path, root(old), Side::Old, HEIGHT_LIMIT)?;
             }
             (None, Some(new)) => {
-                report_all(&mut printer, &mut path, root(new), Side::New, HEIGHT_LIMIT)?;
+                report_all(printer, &mut path, root(new), Side::New, HEIGHT_LIMIT)?;
             }
             (None, None) => {}
         }
@@ -104,7 +98,7 @@ impl<W: Write + Drop> Differ<W> {
 
     /// Flushes the output, and returns the status.
     fn end<R: Eprint>(&mut self, rt: &R) -> ExitCode {
-        if let Err(error) = self.out.end() {
+        if let Err(error) = self.printer.out.end() {
             return printed(rt, Err(error));
         }
         match (self.has_trouble, self.has_differences) {
@@ -125,7 +119,6 @@ impl<W: Write + Drop> Differ<W> {
         &mut self,
         rt: &R,
         console: Console,
-        name: &str,
         old: Option<&str>,
         new: Option<&str>,
     ) {
@@ -207,9 +200,9 @@ fn compare_named<R: Files + AllocGlobal + Eprint, W: Write + Drop>(
     let alloc = rt.alloc();
     let old = in_folder(alloc, words.old, name)?;
     let new = in_folder(alloc, words.new, name)?;
-    let shown = format!(in alloc; "{}", console.on_stdout(name))?;
+    differ.printer.name = format!(in alloc; "{}", console.on_stdout(name))?;
     let (old, new) = (there(rt, old.as_str()), there(rt, new.as_str()));
-    differ.compare_files(rt, console, shown.as_str(), old, new);
+    differ.compare_files(rt, console, old, new);
     Ok(())
 }
 
@@ -253,15 +246,19 @@ pub fn diff<R: Files + AllocGlobal + Print + Eprint + Clone + Drop>(
         return ExitCode::from(TROUBLE);
     };
     let mut differ = Differ {
-        out: Printing::new(writer, console.is_output_terminal),
-        form: words.form,
+        printer: DiffPrinter {
+            out: Printing::new(writer, console.is_output_terminal),
+            form: words.form,
+            name: String::new(rt.alloc()),
+            counts: Counts::NONE,
+        },
         has_differences: false,
         has_trouble: false,
     };
     if is_folder(rt, words.old) && is_folder(rt, words.new) {
         compare_folders(rt, console, &mut differ, words);
     } else {
-        differ.compare_files(rt, console, "", Some(words.old), Some(words.new));
+        differ.compare_files(rt, console, Some(words.old), Some(words.new));
     }
     differ.end(rt)
 }
