@@ -112,7 +112,7 @@ if [ -z "$quick" ]; then
     fi
     grep -h 'passed, .* failed' "$logs/gate.log"
     if command -v python3 >/dev/null; then
-        part mutants tests/edits.py --gate --bare --jobs "$(lanes)"
+        part mutants tests/edits.py --gate --bare --jobs "$(lanes)" --within 15
         tail -n 1 "$logs/mutants.log"
     fi
 fi

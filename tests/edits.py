@@ -23,12 +23,13 @@ There are two ways to check:
 Prints a line for each mutant that isn't refused, and at the end `N refused, M not`. Ends with status 1 if one is not. Reads the work
 tree only.
 
-usage: edits.py [--gate | --all] [--bare] [--alone] [--jobs N] [--times FILE] [CRATE ..]   (default: edits/ of all crates)
+usage: edits.py [--gate | --all] [--bare] [--alone] [--jobs N] [--within MINUTES] [--times FILE] [CRATE ..]   (default: edits/ of all crates)
   --gate        tries the mutants in gate/, and no others
   --all         tries those of gate/, edits/ and must-fail/
   --bare        checks only what the mutants change, over the libraries that `rt ci` left
   --alone       tries each mutant in its own check
   --jobs N      runs N checks side by side (default: 1; each takes one processor and 1 to 3 GB)
+  --within M    begins no crate's mutants after this many minutes; they are counted as not tried
   --times FILE  appends a line for each check: processor seconds, crate, mutants
 The variable RT names the command `rt`, if it is another one.
 """
@@ -42,6 +43,7 @@ import shutil
 import subprocess
 import sys
 import tempfile
+import time
 from concurrent.futures import ThreadPoolExecutor
 from dataclasses import dataclass, field
 from queue import Queue
@@ -434,6 +436,14 @@ def tried(crate, groups, listed, how):
     return last, len(again)
 
 
+def try_in_time(crate, edits, listed, how, end):
+    """Tries a crate's mutants, unless the time is over; returns how many are refused, are not, and were not tried."""
+    if time.monotonic() > end:
+        print(f"{crate}: {len(edits)} not tried, as the time is over", flush=True)
+        return 0, 0, len(edits)
+    return *try_crate(crate, edits, listed, how), 0
+
+
 def try_crate(crate, edits, listed, how):
     """Tries a crate's mutants, prints those that are not refused, and returns how many are refused and how many are not."""
     for edit in edits:
@@ -479,6 +489,7 @@ def parsed():
     said.add_argument("--bare", action="store_true")
     said.add_argument("--alone", action="store_true")
     said.add_argument("--jobs", type=int, default=1)
+    said.add_argument("--within", type=float, default=float("inf"))
     said.add_argument("--times", default="")
     said.add_argument("crates", nargs="*")
     return said.parse_args()
@@ -504,9 +515,10 @@ def main():
     how = How(given.alone, 1 if given.bare else jobs, given.bare, given.times)
     # With --bare the checks of one crate share what they keep, so crates run side by side.
     with ThreadPoolExecutor(jobs if given.bare else 1) as pool:
-        found = list(pool.map(lambda task: try_crate(*task, listed, how), tasks))
-    refused, others = (sum(it[at] for it in found) for at in (0, 1))
-    print(f"{refused} refused, {others} not")
+        end = time.monotonic() + 60 * given.within
+        found = list(pool.map(lambda task: try_in_time(*task, listed, how, end), tasks))
+    refused, others, left = (sum(it[at] for it in found) for at in (0, 1, 2))
+    print(f"{refused} refused, {others} not" + (f", {left} not tried" if left else ""))
     return 1 if others else 0
 
 
