@@ -21,7 +21,7 @@ import (
 
 // ask sends a request with headers, each a name and a value, and returns the response, or nil if none came, with its body.
 func (m *machine) ask(method, path, body string, headers ...string) (got *http.Response, text string) {
-	ctx, cancel := context.WithTimeout(context.Background(), 30*time.Second)
+	ctx, cancel := context.WithTimeout(context.Background(), generous)
 	defer cancel()
 	r, err := http.NewRequestWithContext(ctx, method, "http://"+m.address+path, strings.NewReader(body))
 	if err != nil {
@@ -90,7 +90,7 @@ func isWhole(rounds [4]int) bool {
 // TestClusterReleases releases through three gateways while 8 readers look at two of them: each sees whole releases, in their order. A
 // release that is refused, or made under a condition that doesn't hold any more, changes nothing anywhere.
 func TestClusterReleases(t *testing.T) {
-	c := newCluster(t, "-patience", "30s")
+	c := newPatientCluster(t)
 	status, last, text := c.machines[0].release(longFiles(0)...)
 	if status != 200 {
 		t.Fatal(status, text)
@@ -190,7 +190,7 @@ func (c *cluster) race() {
 // TestClusterKillsInARelease kills a gateway while it publishes a release: the others and itself, after its next start, have all of it
 // or nothing, and so has a gateway that starts without a database.
 func TestClusterKillsInARelease(t *testing.T) {
-	c := newCluster(t, "-patience", "30s")
+	c := newPatientCluster(t)
 	random := rand.New(rand.NewSource(52))
 	status, last, text := c.machines[0].release(longFiles(1)...)
 	if status != 200 {
@@ -251,7 +251,7 @@ func TestClusterKillsInARelease(t *testing.T) {
 // TestClusterErases erases an application while a gateway is away, and after a release that wasn't finished: no gateway has anything of
 // it afterwards, also none that starts later, with or without its database.
 func TestClusterErases(t *testing.T) {
-	c := newCluster(t, "-patience", "30s")
+	c := newPatientCluster(t)
 	if status, _, text := c.machines[0].send("PUT", "/v1/bank/de.txt", `de{v{"B"}}`); status != 201 {
 		t.Fatal(status, text)
 	}

@@ -8,6 +8,8 @@ import (
 	"io"
 	"math/rand"
 	"net"
+	"net/http"
+	"net/http/httptest"
 	"os"
 	"os/exec"
 	"path/filepath"
@@ -50,6 +52,35 @@ func (c *cluster) begin() (end func()) {
 		c.t.Logf("%d changes acknowledged, %d without an answer, %d lookups", changes, unknown, looks)
 		if changes == 0 || looks == 0 {
 			c.t.Error("no change or no lookup was answered")
+		}
+	}
+}
+
+// TestClusterRestartsNATS has a nats-server say that it isn't whole until it is started again once, and one that always says so: the
+// faults end then, and the test doesn't fail.
+func TestClusterRestartsNATS(t *testing.T) {
+	for needs, ends := range map[int]bool{0: false, 1: false, mostRestarts: false, mostRestarts + 1: true} {
+		var starts atomic.Int32
+		c := &cluster{t: t, within: 50 * time.Millisecond}
+		for i := range c.machines {
+			i := i
+			health := httptest.NewServer(http.HandlerFunc(func(w http.ResponseWriter, _ *http.Request) {
+				if i == 1 && int(starts.Load()) <= needs {
+					http.Error(w, "stream is not current", http.StatusServiceUnavailable)
+				}
+			}))
+			defer health.Close()
+			server := &member{begin: func() *exec.Cmd {
+				starts.Add(1)
+				return exec.Command("sleep", "600")
+			}}
+			if c.machines[i] = (&machine{cluster: c, number: i, health: health.Listener.Addr().String(), nats: server}); i == 1 {
+				server.start(t)
+				defer server.kill()
+			}
+		}
+		if m := c.awaitNATS(); (m != nil) != ends || m != nil && m.number != 1 || int(starts.Load()) != 1+needs && !ends {
+			t.Errorf("%d restarts are needed, and %d were made: %v", needs, starts.Load()-1, m)
 		}
 	}
 }
@@ -170,7 +201,7 @@ func TestClusterThatDropsPackets(t *testing.T) {
 
 // TestClusterWhoseLogIsSmall has an application replace a bundle more often than the log has space for: others can still change theirs.
 func TestClusterWhoseLogIsSmall(t *testing.T) {
-	c := newCluster(t, "-nats-bytes", "20M")
+	c := newPatientCluster(t, "-nats-bytes", "20M")
 	m := c.machines[0]
 	long := strings.Repeat("x", 1<<20)
 	for i := 0; i < 40; i++ {

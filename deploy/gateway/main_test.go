@@ -36,7 +36,7 @@ func TestMain(m *testing.M) {
 }
 
 // generous is how long tests wait for what must happen. It is no limit on anything: on a busy machine all may take long.
-const generous = 2 * time.Minute
+const generous = 5 * time.Minute
 
 // eventually waits until a condition is true, and fails if it doesn't become so.
 func eventually(t *testing.T, what string, is func() bool) {

@@ -143,7 +143,7 @@ func TestAFIFODoesntHang(t *testing.T) {
 		if err == nil || !strings.Contains(err.Error(), "regular") {
 			t.Error(err)
 		}
-	case <-time.After(time.Minute):
+	case <-time.After(5 * time.Minute):
 		t.Fatal("it hangs")
 	}
 	if may(tokens, one, "shop") != Write {

@@ -181,7 +181,7 @@ func TestAServerThatEnds(t *testing.T) {
 			if c.Err != nil && !errors.Is(c.Err, ErrEnded) && !errors.Is(c.Err, ErrReplaying) {
 				t.Error(c.Err)
 			}
-		case <-time.After(2 * time.Minute):
+		case <-time.After(5 * time.Minute):
 			t.Fatal("no answer")
 		}
 	}

@@ -57,7 +57,7 @@ func TestBoundsOfARun(t *testing.T) {
 		if !errors.Is(err, c.want) && !(c.want == ErrRun && errors.Is(err, ErrTime)) || !failed {
 			t.Errorf("%s: %v %v", c.script, failed, err)
 		}
-		if took := time.Since(began); took > 30*time.Second {
+		if took := time.Since(began); took > 50*time.Second { // before the `sleep` ends
 			t.Errorf("%s: %v", c.script, took)
 		}
 	}
@@ -66,13 +66,13 @@ func TestBoundsOfARun(t *testing.T) {
 	}
 }
 
-// TestRunsAtOnce has 40 runs of one application and two of others: one of an application runs at a time, and the others' don't wait
+// TestRunsAtOnce has 80 runs of one application and two of others: one of an application runs at a time, and the others' don't wait
 // for all of them.
 func TestRunsAtOnce(t *testing.T) {
 	r := runner(t, "sleep 0.05", usual)
 	var all sync.WaitGroup
-	var left int32 = 40
-	for i := 0; i < 40; i++ {
+	var left int32 = 80
+	for i := 0; i < 80; i++ {
 		all.Add(1)
 		go func() {
 			defer all.Done()

@@ -55,7 +55,7 @@ func testProgram() string {
 }
 
 // generous is how long tests wait for what must happen: on a busy machine all may take long.
-const generous = 2 * time.Minute
+const generous = 5 * time.Minute
 
 func (r *Replica) awaitBoth(t *testing.T) {
 	t.Helper()

@@ -248,7 +248,7 @@ func TestTheOrderAfterAReleaseThatWasMissed(t *testing.T) {
 func TestARevisionThatChangesNothing(t *testing.T) {
 	l := newMemoryLog()
 	first, second := follow(t, l.reader(), t.TempDir()), follow(t, l.reader(), t.TempDir())
-	ctx, cancel := context.WithTimeout(context.Background(), 20*readEvery)
+	ctx, cancel := context.WithTimeout(context.Background(), generous)
 	defer cancel()
 	second.hold(t, func() {
 		first.put("shop", "de", text("de", "A"))
