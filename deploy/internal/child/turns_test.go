@@ -186,3 +186,29 @@ func TestAServerThatEnds(t *testing.T) {
 		}
 	}
 }
+
+// TestManyApplications has lookups of more applications than are remembered wait for a server, which ends meanwhile: each is answered.
+func TestManyApplications(t *testing.T) {
+	turns, c := begin(t)
+	halt(t, c.PID())
+	const apps, each = 3000, 3
+	answers := make(chan *Call, apps*each)
+	for i := 0; i < apps*each; i++ {
+		turns.Go(context.Background(), fmt.Sprint("app", i%apps), LookLine("shop", "de", "a"), func(c *Call) { answers <- c })
+	}
+	time.AfterFunc(100*time.Millisecond, c.Kill)
+	if err := syscall.Kill(c.PID(), syscall.SIGCONT); err != nil {
+		t.Fatal(err)
+	}
+	for i := 0; i < cap(answers); i++ {
+		select {
+		case c := <-answers:
+			c.Free()
+		case <-time.After(5 * time.Minute):
+			t.Fatalf("%d of %d are answered", i, cap(answers))
+		}
+	}
+	if turns.bytes != 0 {
+		t.Errorf("%d bytes are still counted", turns.bytes)
+	}
+}

@@ -66,13 +66,13 @@ func TestBoundsOfARun(t *testing.T) {
 	}
 }
 
-// TestRunsAtOnce has 80 runs of one application and two of others: one of an application runs at a time, and the others' don't wait
+// TestRunsAtOnce has 40 runs of one application and two of others: one of an application runs at a time, and the others' don't wait
 // for all of them.
 func TestRunsAtOnce(t *testing.T) {
 	r := runner(t, "sleep 0.05", usual)
 	var all sync.WaitGroup
-	var left int32 = 80
-	for i := 0; i < 80; i++ {
+	var left int32 = 40
+	for i := 0; i < 40; i++ {
 		all.Add(1)
 		go func() {
 			defer all.Done()
@@ -86,7 +86,7 @@ func TestRunsAtOnce(t *testing.T) {
 			t.Error(err)
 		}
 	}
-	if n := atomic.LoadInt32(&left); n < 20 {
+	if n := atomic.LoadInt32(&left); n < 10 { // the machine may have stood still in between
 		t.Errorf("only %d were left", n)
 	}
 	ctx, cancel := context.WithTimeout(context.Background(), 10*time.Millisecond)
