@@ -85,6 +85,45 @@ func TestClusterRestartsNATS(t *testing.T) {
 	}
 }
 
+// TestClusterOfACallerThatHasGone has a change wait at a gateway whose servers stand. Its caller closes the connection and makes a newer
+// change at another gateway, which the older one doesn't undo: nor does a caller whose request was held up by the network.
+func TestClusterOfACallerThatHasGone(t *testing.T) {
+	c := newPatientCluster(t)
+	m, other := c.machines[0], c.machines[1]
+	if status, _, text := m.send("PUT", "/v1/shop/de.txt", `de{v{"1"}}`); status != 201 {
+		t.Fatal(status, text)
+	}
+	servers := childrenOf(m.gateway.command.Process.Pid)
+	for _, pid := range servers {
+		halt(t, pid)
+	}
+	conn, err := net.Dial("tcp", m.address)
+	if err != nil {
+		t.Fatal(err)
+	}
+	body := `de{v{"2"}}`
+	fmt.Fprintf(conn, "PUT /v1/shop/de.txt HTTP/1.1\r\nHost: shop\r\nAuthorization: Bearer %s\r\nContent-Length: %d\r\n\r\n%s", shopWrites, len(body), body)
+	time.Sleep(time.Second) // the gateway has it
+	_ = conn.Close()
+	time.Sleep(time.Second / 2)
+	status, last, text := other.send("PUT", "/v1/shop/de.txt", `de{v{"3"}}`)
+	if status != 200 {
+		t.Error(status, text)
+	}
+	for _, pid := range servers {
+		signalTo(t, pid, syscall.SIGCONT)
+	}
+	eventually(t, "the gateway makes changes", func() bool {
+		status, last, _ = m.send("PUT", "/v1/shop/fr.txt", `fr{v{"F"}}`)
+		return status == 200 || status == 201
+	})
+	for _, m := range c.machines {
+		if status, _, text := m.send("GET", fmt.Sprintf("/v1/shop/de/v?after=%d", last), ""); status != 200 || !strings.Contains(text, `"3"`) {
+			t.Errorf("gateway %d: %d %s", m.number, status, text)
+		}
+	}
+}
+
 // timesOf returns the times of a variable, or the usual ones.
 func timesOf(t *testing.T, variable, usual string) (all []time.Duration) {
 	t.Helper()

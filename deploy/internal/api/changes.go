@@ -16,7 +16,7 @@ import (
 // rounds is how often a PUT is tried as the one operation and the other, where others change the bundle at the same time.
 const rounds = 4
 
-// change answers PUT, POST and DELETE. A caller that has gone doesn't take back what it asked.
+// change answers PUT, POST and DELETE.
 func (c *call) change(name string) {
 	c.kind = "change"
 	asked := store.Change{App: c.app, Locale: name, Op: store.Remove, Who: c.who}
@@ -46,6 +46,16 @@ func (c *call) change(name string) {
 	c.make(asked, c.r.Method == http.MethodPut, holds)
 }
 
+// patiently returns the context of a change. On one machine a caller that has gone doesn't take back what it asked. Over a shared log
+// it may have made a newer change at another gateway, which an older one must not undo: so that isn't published any more.
+func (c *call) patiently() (context.Context, context.CancelFunc) {
+	ctx := context.Background()
+	if c.Backend.IsShared() {
+		ctx = c.r.Context()
+	}
+	return context.WithTimeout(ctx, c.options.Patience)
+}
+
 // refuseFor refuses a change for a reason.
 func (c *call) refuseFor(p problem, reason string) {
 	text, err := convert.Marshal(map[string]string{"error": p.word, "message": reason})
@@ -62,7 +72,7 @@ func (c *call) make(asked store.Change, puts bool, holds store.Condition) {
 		c.refuse(busy)
 		return
 	}
-	ctx, cancel := context.WithTimeout(context.Background(), c.options.Patience)
+	ctx, cancel := c.patiently()
 	defer cancel()
 	var reply []byte
 	var revision store.Revision

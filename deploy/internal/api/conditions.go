@@ -74,8 +74,8 @@ func (c conditions) hold(now *store.Bundle) bool {
 	return true
 }
 
-// judge returns the condition of a change, or nil if the request has none. It refuses at once a change whose condition doesn't hold,
-// so that its body needn't be sent.
+// judge returns the condition of a change, or nil if the request has none. On one machine it refuses at once a change whose condition
+// doesn't hold, so that its body needn't be sent. Another gateway may have made it hold.
 func (c *call) judge(locale string) (holds store.Condition, p *problem) {
 	given, has := conditionsOf(c.r.Header)
 	if !has {
@@ -85,7 +85,7 @@ func (c *call) judge(locale string) (holds store.Condition, p *problem) {
 	if b, there := c.Backend.Bundle(c.app, locale); there {
 		now = &b
 	}
-	if !given.hold(now) {
+	if !given.hold(now) && !c.Backend.IsShared() {
 		return nil, &unmet
 	}
 	return given.hold, nil

@@ -185,7 +185,7 @@ func (c *call) erase() {
 	if c.refusesOld() {
 		return
 	}
-	ctx, cancel := context.WithTimeout(context.Background(), c.options.Patience)
+	ctx, cancel := c.patiently()
 	defer cancel()
 	reply, revision, err := c.Backend.Erase(ctx, c.app, c.who)
 	c.audit.note(c, "erase", store.Change{}, reply, err)

@@ -5,7 +5,6 @@ import (
 	"archive/zip"
 	"bufio"
 	"bytes"
-	"context"
 	"encoding/hex"
 	"encoding/json"
 	"errors"
@@ -76,7 +75,7 @@ func (c *call) makeRelease(entries []entry) {
 	if c.refusesOld() {
 		return
 	}
-	ctx, cancel := context.WithTimeout(context.Background(), c.options.Patience)
+	ctx, cancel := c.patiently()
 	defer cancel()
 	reply, refused, revision, err := c.Backend.Release(ctx, c.app, c.who, changes)
 	for _, one := range changes {

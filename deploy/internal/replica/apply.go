@@ -25,14 +25,15 @@ type step struct {
 }
 
 // apply has changes judged and stored. Then the servers swap, and the changes are answered. From a log in NATS it first takes the
-// changes of others.
+// changes of others. While there are more of them the changes wait, so that none is refused, or found to change nothing, by what
+// the log had before it came.
 func (r *Replica) apply(ctx context.Context, batch []*pending) {
 	r.mu.Lock()
 	judges := r.judges
 	r.mu.Unlock()
-	steps, ok := r.read(ctx, judges, func([]store.Entry) bool { return true })
+	steps, ends, ok := r.read(ctx, judges, func([]store.Entry) bool { return true })
 	var accepted []*pending
-	if !ok {
+	if !ok || !ends {
 		r.changes.putBack(batch)
 	} else if accepted, ok = r.judge(judges, r.holding(r.publishable(batch))); ok && len(accepted) > 0 {
 		var more []step

@@ -27,6 +27,9 @@ func (r *Replica) bundle(app, locale string) *store.Bundle {
 // Bundle describes the stored bundle of a locale; the second result is false if the application has none.
 func (r *Replica) Bundle(app, locale string) (store.Bundle, bool) { return r.store.Bundle(app, locale) }
 
+// IsShared returns true if other gateways make changes too, which this one may not have read yet.
+func (r *Replica) IsShared() bool { return r.log != nil }
+
 // Kept returns a stored bundle with what was submitted as it; the third result is false if the application has none.
 func (r *Replica) Kept(app, locale string) (b store.Bundle, body []byte, there bool, err error) {
 	return r.store.Kept(app, locale)

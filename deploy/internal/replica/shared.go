@@ -171,11 +171,11 @@ func (r *Replica) hasTooManyNames(p *pending) bool {
 	return r.log != nil && p.Op == store.Install && r.store.Names(p.App) >= mostNames && !r.store.Named(p.App, p.Locale)
 }
 
-// read takes changes of others from the log: it stores them, and has the judging server make them. It returns false if the server
-// ended, or if what comes first, which is called with the changes, fails.
-func (r *Replica) read(ctx context.Context, judges *child.Child, first func([]store.Entry) bool) (steps []step, ok bool) {
+// read takes changes of others from the log: it stores them, and has the judging server make them. Ends is false if the log may have
+// more, which weren't read. Ok is false if the server ended, or if what comes first, which is called with the changes, fails.
+func (r *Replica) read(ctx context.Context, judges *child.Child, first func([]store.Entry) bool) (steps []step, ends, ok bool) {
 	if r.log == nil {
-		return nil, true
+		return nil, true, true
 	}
 	entries, ends, err := r.entries(ctx)
 	if err == nil && ends && len(entries) == 0 && r.store.Whole() < r.store.Revision() {
@@ -185,13 +185,13 @@ func (r *Replica) read(ctx context.Context, judges *child.Child, first func([]st
 	}
 	if err != nil || len(entries) == 0 {
 		r.note(err)
-		return nil, true
+		return nil, ends || err != nil, true
 	}
 	ok = first(entries)
 	p := r.plan(entries)
 	if err := r.follow(ctx, entries, ends); err != nil {
 		r.note(err)
-		return nil, ok
+		return nil, true, ok
 	}
 	r.note(nil)
 	r.mu.Lock()
@@ -199,7 +199,7 @@ func (r *Replica) read(ctx context.Context, judges *child.Child, first func([]st
 	r.mu.Unlock()
 	r.settle(entries)
 	steps, alive := r.make(judges, p.steps())
-	return steps, alive && ok
+	return steps, ends, alive && ok
 }
 
 // publishable returns changes that can be published now, without one that was found in the log. If the log isn't read it answers
@@ -227,8 +227,8 @@ func (r *Replica) publishable(batch []*pending) (left []*pending) {
 	return left
 }
 
-// isOld returns true if the caller of a change has given up, or may have: it may have made a newer one at another gateway. The log may
-// have been read for long since the change was taken from its queue.
+// isOld returns true if the caller of a change has gone or given up, or may have: it may have made a newer one at another gateway. The log
+// may have been read for long since the change was taken from its queue.
 func (p *pending) isOld() bool {
 	end, has := p.ctx.Deadline()
 	return p.ctx.Err() != nil || has && time.Now().After(end)
@@ -385,7 +385,7 @@ func (r *Replica) publish(ctx context.Context, judges *child.Child, accepted []*
 			accepted = accepted[1:]
 		case errors.Is(err, store.ErrConflict):
 			again, taken := true, false
-			more, alive := r.read(ctx, judges, func(entries []store.Entry) bool {
+			more, _, alive := r.read(ctx, judges, func(entries []store.Entry) bool {
 				again = r.concern(entries, accepted)
 				taken = again
 				return !again || r.takeAllBack(judges, accepted)

@@ -2,6 +2,8 @@ package replica
 
 import (
 	"context"
+	"crypto/sha256"
+	"errors"
 	"fmt"
 	"math/rand"
 	"os"
@@ -534,6 +536,83 @@ func TestAJudgeThatEndsAfterTheChangeIsStored(t *testing.T) {
 	}
 	if got := r.look("shop", "de", "a"); !strings.Contains(got, `"B"`) {
 		t.Error(got)
+	}
+}
+
+// TestAReplicaJudgesByTheEndOfTheLog has a replica asked for changes before it has read, in several parts, what another one made: none is
+// refused or confirmed by the bundles that it has.
+func TestAReplicaJudgesByTheEndOfTheLog(t *testing.T) {
+	is := func(value string) store.Condition {
+		sum := sha256.Sum256([]byte(text("de", value)))
+		return func(now *store.Bundle) bool { return now != nil && string(now.Digest) == string(sum[:]) }
+	}
+	bundleOf := func(op store.Operation, locale, value string) store.Change {
+		return store.Change{Op: op, App: "shop", Locale: locale, Form: store.Text, Body: []byte(text(locale, value))}
+	}
+	type answered struct {
+		reply string
+		err   error
+	}
+	for name, try := range map[string]struct {
+		do   func(ctx context.Context, r *Replica) (reply []byte, err error)
+		want answered
+		de   string // what the log has for it in the end
+	}{
+		"a condition that holds": {func(ctx context.Context, r *Replica) (reply []byte, err error) {
+			reply, _, err = r.Change(ctx, bundleOf(store.Replace, "de", "mine"), is("new"))
+			return reply, err
+		}, answered{done, nil}, "mine"},
+		"a condition that held": {func(ctx context.Context, r *Replica) (reply []byte, err error) {
+			reply, _, err = r.Change(ctx, bundleOf(store.Replace, "de", "mine"), is("old"))
+			return reply, err
+		}, answered{"", store.ErrCondition}, "new"},
+		"a removal": {func(ctx context.Context, r *Replica) (reply []byte, err error) {
+			reply, _, err = r.Change(ctx, store.Change{Op: store.Remove, App: "shop", Locale: "nl"}, nil)
+			return reply, err
+		}, answered{done, nil}, "new"},
+		"a replacement": {func(ctx context.Context, r *Replica) (reply []byte, err error) {
+			reply, _, err = r.Change(ctx, bundleOf(store.Replace, "nl", "mine"), nil)
+			return reply, err
+		}, answered{done, nil}, "new"},
+		"a change to what was there": {func(ctx context.Context, r *Replica) (reply []byte, err error) {
+			reply, _, err = r.Change(ctx, bundleOf(store.Replace, "de", "old"), nil)
+			return reply, err
+		}, answered{done, nil}, "old"},
+		"a release of what was there": {func(ctx context.Context, r *Replica) (reply []byte, err error) {
+			reply, _, _, err = r.Release(ctx, "shop", "test", []store.Change{bundleOf(store.Install, "de", "old")})
+			return reply, err
+		}, answered{done, nil}, "old"},
+	} {
+		l := newMemoryLog()
+		first, second := follow(t, l.reader(), t.TempDir()), follow(t, l.reader(), t.TempDir())
+		first.put("shop", "de", text("de", "old"))
+		second.reach(t, 1)
+		ends := make(chan answered, 1)
+		second.hold(t, func() {
+			for i := 0; i < 20; i++ { // they come in parts of 7
+				first.put("bank", "l"+string(rune('a'+i)), text("x", "B"))
+			}
+			first.put("shop", "de", text("de", "new"))
+			first.put("shop", "nl", text("nl", "N"))
+			go func() {
+				ctx, cancel := soon()
+				defer cancel()
+				reply, err := try.do(ctx, second)
+				ends <- answered{string(reply), err}
+			}()
+			for !second.changes.any() {
+				time.Sleep(time.Millisecond)
+			}
+		})
+		if got := <-ends; got.reply != try.want.reply || !errors.Is(got.err, try.want.err) {
+			t.Errorf("%s: %q %v", name, got.reply, got.err)
+		}
+		for _, r := range []*Replica{first, second} {
+			r.reach(t, store.Revision(l.count()))
+			if got := r.look("shop", "de", "a"); !strings.Contains(got, `"`+try.de+`"`) {
+				t.Errorf("%s: %s", name, got)
+			}
+		}
 	}
 }
 
