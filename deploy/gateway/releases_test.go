@@ -133,7 +133,10 @@ func TestReleasesThatCantBeRead(t *testing.T) {
 		{asZip, zipOf(t, namedText{"de.txt", strings.Repeat("x", 200000)}), 400, "too long"}, {asZip, zipOf(t, good, namedText{"de.json", "{}"}), 400, "de.json"},
 		{asLines, many, 400, "line 2"}, {asLines, "{\"locale\":\"de\"}", 400, "needs locale"}, {asLines, "{\"locale\":\"de\",\"text\":\"\",\"remove\":true}", 400, "needs locale"},
 		{asLines, "{\"locale\":\"de\",\"file\":\"x\"}", 400, "hexadecimal"}, {asLines, "{\"locale\":\"de\",\"txt\":\"\"}", 400, "txt"},
-		{asLines, "{\"locale\":\"de\",\"text\":\"de{}\"} {}", 400, "more than one"}, {asLines, "", 200, "\"changes\":0"}, {asLines, "\n" + many[:29], 200, "\"changes\":1"},
+		{asLines, `{"locale":"de","text":"de{}","file":"00"}`, 400, "needs locale"}, {asLines, `{"locale":"de","file":"00","remove":true}`, 400, "BadRelease"},
+		{asLines, `{"locale":"de","text":"de{}","text":"de{a{\"A\"}}"}`, 400, "twice"}, {asLines, `{"locale":"de","text":"de{}","Text":"de{}"}`, 400, "unknown"},
+		{asLines, `{"locale":"de","locale":"fr","remove":true}`, 400, "twice"}, {asLines, `["de"]`, 400, "no object"}, {asLines, `{"locale":"de","text":1}`, 400, "text: "},
+		{asLines, `{"locale":"de","remove":true`, 400, "line 1"}, {asLines, "{\"locale\":\"de\",\"text\":\"de{}\"} {}", 400, "more than one"}, {asLines, "", 200, "\"changes\":0"}, {asLines, "\n" + many[:29], 200, "\"changes\":1"},
 		{asTar, tarOf(t, namedText{"d!e.txt", "de{}"}), 400, ""}, {asTar, strings.Repeat("x", 100001), 413, "TooLarge"},
 	} {
 		got := s.ask("POST", "/v1/shop/_releases", shopWrites, step.body, "Content-Type", step.kind)

@@ -235,17 +235,9 @@ func (r *reader) line(name string, text []byte) error {
 	if err := r.c.hold(int64(len(text))); err != nil {
 		return err
 	}
-	var one struct {
-		Locale, Text, File *string
-		Remove             bool
-	}
-	from := json.NewDecoder(bytes.NewReader(text))
-	from.DisallowUnknownFields()
-	if err := from.Decode(&one); err != nil {
+	one, err := lineOf(text)
+	if err != nil {
 		return &badEntry{name, err.Error()}
-	}
-	if from.More() {
-		return &badEntry{name, "more than one value"}
 	}
 	given := 0
 	change := store.Change{Op: store.Install}
@@ -270,4 +262,42 @@ func (r *reader) line(name string, text []byte) error {
 	}
 	change.Locale = strings.ToValidUTF8(*one.Locale, "\uFFFD")
 	return r.add(name, change)
+}
+
+// A releaseLine is a line of a release.
+type releaseLine struct {
+	Locale, Text, File *string
+	Remove             bool
+}
+
+// lineOf reads a line of a release. Each member is there at most once, with its own name: encoding/json would take the last one of
+// several, and names in other case.
+func lineOf(text []byte) (one releaseLine, err error) {
+	from := json.NewDecoder(bytes.NewReader(text))
+	if token, err := from.Token(); err != nil || token != json.Delim('{') {
+		return one, errors.New("it is no object of JSON")
+	}
+	members := map[string]any{"locale": &one.Locale, "text": &one.Text, "file": &one.File, "remove": &one.Remove}
+	for from.More() {
+		token, err := from.Token()
+		name, _ := token.(string)
+		if err != nil {
+			return one, err
+		}
+		member, known := members[name]
+		if !known {
+			return one, fmt.Errorf("the member %.40q is unknown, or there twice", name)
+		}
+		delete(members, name)
+		if err := from.Decode(member); err != nil {
+			return one, fmt.Errorf("%s: %w", name, err)
+		}
+	}
+	if _, err := from.Token(); err != nil {
+		return one, err
+	}
+	if _, err := from.Token(); !errors.Is(err, io.EOF) {
+		return one, errors.New("more than one value")
+	}
+	return one, nil
 }
