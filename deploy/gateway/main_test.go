@@ -22,9 +22,9 @@ func TestMain(m *testing.M) {
 		standin.Serve()
 	case len(os.Args) > 1 && os.Args[1] == "--version":
 		fmt.Println("stand-in")
+	case standin.Command(os.Args[1:]):
 	case os.Getenv(asGateway) != "":
 		main()
-	case standin.Command(os.Args[1:]):
 	default:
 		flag.Parse()
 		http.DefaultTransport.(*http.Transport).DisableCompression = true // tests see what is sent

@@ -100,6 +100,12 @@ func (c *call) hold(bytes int64) error {
 	return err
 }
 
+// free takes back what hold counted, down to a number of bytes.
+func (c *call) free(bytes int64) {
+	c.Limits.free(c.app, c.held-bytes)
+	c.held = bytes
+}
+
 // unchanged returns true if the caller has what the tag names.
 func (c *call) unchanged(tag string, at time.Time) bool {
 	if len(c.r.Header.Values("If-None-Match")) > 0 {

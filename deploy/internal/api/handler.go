@@ -253,7 +253,7 @@ func (c *call) choose(parts []string) (needed auth.Right, do func(), methods str
 	case len(parts) == 1 && parts[0] == "look" && method == http.MethodPost:
 		return auth.Read, c.looks, ""
 	case len(parts) == 1:
-		methods = "GET, HEAD, PUT, POST, DELETE, OPTIONS"
+		methods = "GET, HEAD, PUT, POST, PATCH, DELETE, OPTIONS"
 		locale, of, isForm := renderingOf(parts[0])
 		switch {
 		case reads && isForm:
@@ -264,6 +264,8 @@ func (c *call) choose(parts []string) (needed auth.Right, do func(), methods str
 			return auth.Read, func() { c.look(parts[0], "") }, methods
 		case method == http.MethodPut, method == http.MethodPost, method == http.MethodDelete:
 			return auth.Write, func() { c.change(parts[0]) }, methods
+		case method == http.MethodPatch:
+			return auth.Write, func() { c.patch(parts[0]) }, methods
 		}
 	default:
 		methods = "GET, HEAD, OPTIONS"

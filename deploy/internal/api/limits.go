@@ -81,6 +81,14 @@ func (l *Limits) hold(app string, bytes int64) error {
 	return nil
 }
 
+// free takes back what hold counted.
+func (l *Limits) free(app string, bytes int64) {
+	l.mu.Lock()
+	defer l.mu.Unlock()
+	l.apps[app].bytes -= bytes
+	l.bytes -= bytes
+}
+
 // Now returns the requests and bytes that are on their way.
 func (l *Limits) Now() (requests int, bytes int64) {
 	l.mu.Lock()

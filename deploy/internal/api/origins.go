@@ -7,7 +7,7 @@ import (
 
 // Headers that scripts of other origins may send and read (CORS).
 const (
-	corsMethods = "GET, HEAD, PUT, POST, DELETE"
+	corsMethods = "GET, HEAD, PUT, POST, PATCH, DELETE"
 	corsHeaders = "Authorization, Content-Type, If-Match, If-None-Match, If-Unmodified-Since, Accept-Language"
 	corsReads   = "ETag, Last-Modified, Location, Retry-After, Content-Language"
 )

@@ -62,7 +62,7 @@ var problems = []struct {
 	{child.ErrReplaying, replaying}, {child.ErrEnded, ended}, {child.ErrBusy, tooMany}, {errFull, busy}, {errTooMany, tooMany},
 	{child.ErrTooMany, tooMany}, {replica.ErrNotKept, notKept}, {replica.ErrNoRoom, noRoom}, {child.ErrTimeout, timeout},
 	{store.ErrTooLong, tooLong}, {store.ErrUnreached, unreached}, {replica.ErrBehind, behind}, {store.ErrCondition, unmet},
-	{replica.ErrOneMachine, notOffered},
+	{replica.ErrOneMachine, notOffered}, {convert.ErrNoCommand, notOffered},
 	{errAbsent, absent}, {store.ErrNoVersion, noVersion}, {convert.ErrTime, timeout}, {convert.ErrOutput, longReply}, {convert.ErrRefused, longReply},
 }
 

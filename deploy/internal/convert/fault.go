@@ -94,10 +94,10 @@ func (r *Runner) meaning(ctx context.Context, app, code string, form store.Form)
 	return known
 }
 
-// meaningIn finds a meaning in explanations: the first one for the form, since a code may mean one thing in texts and another in
-// files, or the first of all.
+// meaningIn finds a meaning in explanations: the first one for the form, since a code may mean one thing in texts, another in files and
+// another in JSON, or the first of all.
 func meaningIn(explanations, code string, form store.Form) (found string) {
-	kind := map[store.Form]string{store.Text: "texts", store.File: "files"}[form]
+	kind := map[store.Form]string{store.Text: "texts", store.File: "files", store.NoForm: "JSON"}[form]
 	head := ""
 	for _, line := range strings.Split(explanations, "\n") {
 		if strings.HasPrefix(line, code+", ") {

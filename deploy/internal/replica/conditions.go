@@ -1,6 +1,10 @@
 package replica
 
-import "luvdregan.example/resb/deploy/internal/store"
+import (
+	"context"
+
+	"luvdregan.example/resb/deploy/internal/store"
+)
 
 // holding leaves out the changes whose conditions don't hold, and answers them. A batch has at most one change of a bundle, and
 // all earlier batches are stored.
@@ -29,6 +33,16 @@ func (r *Replica) Bundle(app, locale string) (store.Bundle, bool) { return r.sto
 
 // IsShared returns true if other gateways make changes too, which this one may not have read yet.
 func (r *Replica) IsShared() bool { return r.log != nil }
+
+// Catch returns once a change of an application would be judged: the store has the bundles that were there when it was called, or later
+// ones. It asks for a release of nothing, which is judged and changes nothing.
+func (r *Replica) Catch(ctx context.Context, app, who string) error {
+	if !r.IsShared() {
+		return nil
+	}
+	_, _, _, err := r.Release(ctx, app, who, nil)
+	return err
+}
 
 // Kept returns a stored bundle with what was submitted as it; the third result is false if the application has none.
 func (r *Replica) Kept(app, locale string) (b store.Bundle, body []byte, there bool, err error) {

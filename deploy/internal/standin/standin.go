@@ -9,6 +9,8 @@ import (
 	"io"
 	"os"
 	"regexp"
+	"sort"
+	"strconv"
 	"strings"
 	"time"
 
@@ -36,7 +38,7 @@ var magic = []byte{0, 32, 0xda, 0x27}
 
 // Command runs a command over standard input as the program would, and returns false if there is no such command. A file is the
 // magic and the text. A text with `bad` has an error in the line of this word, a text with `eternal` takes for ever, and one with
-// `vast` has a JSON of a gigabyte.
+// `vast` has a JSON of a gigabyte. The JSON of a text of tables and strings is read back, but not a key with `bad`.
 func Command(arguments []string) bool {
 	if len(arguments) == 0 {
 		return false
@@ -46,8 +48,13 @@ func Command(arguments []string) bool {
 		return true
 	}
 	do := map[string]func(body []byte) bool{"compile": compile, "check": check, "text": text, "json": asJSON, "lint": lint}[arguments[0]]
-	if do == nil {
+	switch {
+	case do == nil:
 		return false
+	case has(arguments, "--json"):
+		do = compileJSON
+	case has(arguments, "--name"):
+		do = func(body []byte) bool { return named(body, arguments) }
 	}
 	body, err := io.ReadAll(os.Stdin)
 	if err != nil || !do(body) {
@@ -91,11 +98,129 @@ func text(body []byte) bool {
 	return true
 }
 
+func has(arguments []string, option string) bool {
+	for _, one := range arguments {
+		if one == option {
+			return true
+		}
+	}
+	return false
+}
+
+// named prints the text of a file with the name that follows --name.
+func named(body []byte, arguments []string) bool {
+	name := ""
+	for i := range arguments[1:] {
+		if arguments[i] == "--name" {
+			name = arguments[i+1]
+		}
+	}
+	content := bytes.TrimPrefix(body, magic)
+	os.Stdout.WriteString(name)
+	os.Stdout.Write(content[max(0, bytes.IndexByte(content, '{')):])
+	return true
+}
+
+func max(a, b int) int {
+	if a > b {
+		return a
+	}
+	return b
+}
+
+// compileJSON makes a file of the JSON of a table of strings and such tables.
+func compileJSON(body []byte) bool {
+	var tree map[string]any
+	if err := json.Unmarshal(body, &tree); err != nil {
+		fmt.Fprintln(os.Stderr, "-:1:1: NotTable")
+		return false
+	}
+	var out bytes.Buffer
+	out.Write(magic)
+	if code, path := printTable(&out, "root", tree); code != "" {
+		fmt.Fprintf(os.Stderr, "-:1:1: %s %s\n", code, path)
+		return false
+	}
+	os.Stdout.Write(out.Bytes())
+	return true
+}
+
+// printTable prints a table as a text, or returns an error and where it is.
+func printTable(to *bytes.Buffer, name string, table map[string]any) (code, path string) {
+	var keys []string
+	for key := range table {
+		keys = append(keys, key)
+	}
+	sort.Strings(keys)
+	fmt.Fprintf(to, "%s{", name)
+	for i, key := range keys {
+		if i > 0 {
+			to.WriteByte(' ')
+		}
+		switch of := table[key].(type) {
+		case string:
+			fmt.Fprintf(to, "%s{%q}", key, of)
+		case map[string]any:
+			code, path = printTable(to, key, of)
+		default:
+			code = "UnknownValue"
+		}
+		if strings.Contains(key, "bad") {
+			code, path = "BadKey", ""
+		}
+		if code != "" {
+			return code, "/" + key + path
+		}
+	}
+	to.WriteByte('}')
+	return "", ""
+}
+
+// A key of a table, and a string.
+var (
+	keyBegin = regexp.MustCompile(`^\s*([\w]+)\{`)
+	oneText  = regexp.MustCompile(`^\s*("(?:[^"\\]|\\.)*")\s*\}`)
+)
+
+// readTable reads a table after its brace.
+func readTable(text string) (table map[string]any, rest string, ok bool) {
+	table = map[string]any{}
+	for {
+		text = strings.TrimLeft(text, " \n\t")
+		if strings.HasPrefix(text, "}") {
+			return table, text[1:], true
+		}
+		found := keyBegin.FindStringSubmatch(text)
+		if found == nil {
+			return nil, "", false
+		}
+		text = text[len(found[0]):]
+		if of := oneText.FindStringSubmatch(text); of != nil {
+			value, err := strconv.Unquote(of[1])
+			if err != nil {
+				return nil, "", false
+			}
+			table[found[1]], text = value, text[len(of[0]):]
+			continue
+		}
+		if table[found[1]], text, ok = readTable(text); !ok {
+			return nil, "", false
+		}
+	}
+}
+
 func asJSON(body []byte) bool {
 	for i := 0; i < 1<<20 && bytes.Contains(body, []byte("vast")); i++ {
 		os.Stdout.Write(make([]byte, 1<<10))
 	}
-	out, _ := json.Marshal(map[string]string{"text": string(bytes.TrimPrefix(body, magic))})
+	text := string(bytes.TrimPrefix(body, magic))
+	var tree any = map[string]string{"text": text}
+	if begin := keyBegin.FindString(text); begin != "" {
+		if table, rest, ok := readTable(text[len(begin):]); ok && strings.TrimSpace(rest) == "" {
+			tree = table
+		}
+	}
+	out, _ := json.Marshal(tree)
 	os.Stdout.Write(append(out, '\n'))
 	return true
 }
