@@ -32,6 +32,15 @@ func TestTheClientInGo(t *testing.T) {
 	if _, err := c.PutText(ctx, "de", `de{a{"B"}}`, tag); err != nil {
 		t.Error(err)
 	}
+	if hasJSON() {
+		tag, err := c.Patch(ctx, "de", map[string]any{"a": nil, "b": map[string]any{"c": "C"}}, "")
+		if text, _ := c.Text(ctx, "de", "c"); err != nil || text != "C" && !isReal() {
+			t.Error(text, err)
+		}
+		if _, err := c.Patch(ctx, "de", map[string]any{"c": "D"}, `"other"`); tag == "" || !overhttp.Is(err, "PreconditionFailed") {
+			t.Error(err)
+		}
+	}
 	if _, err := c.Look(ctx, "de", "none"); !overhttp.Is(err, "Missing") {
 		t.Error(err)
 	}

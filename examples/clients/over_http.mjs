@@ -78,6 +78,15 @@ export class Bundles {
     return { text: await response.text(), tag: response.headers.get("ETag") };
   }
 
+  /** Changes items of a bundle, and returns its tag: `{ menu: { open: "Open", close: null } }` sets one and removes the other (RFC 7396, in
+   * the form of `resb json`). With a tag it is refused with 412 if the bundle isn't the one that has it. */
+  async patch(locale, changes, tag) {
+    const headers = { "Content-Type": "application/merge-patch+json", ...(tag ? { "If-Match": tag } : {}) };
+    const response = await this.#ask("PATCH", this.#address(locale), { body: JSON.stringify(changes), headers });
+    await response.text();
+    return response.headers.get("ETag");
+  }
+
   /** Removes the bundle of a locale. With a tag it is refused with 412 if the bundle isn't the one that has it. */
   async remove(locale, tag) {
     await (await this.#ask("DELETE", this.#address(locale), { headers: tag ? { "If-Match": tag } : {} })).text();

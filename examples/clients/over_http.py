@@ -78,6 +78,12 @@ class Bundles:
         """Installs the bytes of a .res file, or replaces the bundle of the locale."""
         self._ask("PUT", self._address(locale), data, **{"Content-Type": "application/octet-stream"})
 
+    def patch(self, locale, changes, tag=None):
+        """Changes items of a bundle, and returns its tag: `{"menu": {"open": "Open", "close": None}}` sets one and removes the other
+        (RFC 7396, in the form of `resb json`). With a tag it is refused with 412 if the bundle isn't the one that has it."""
+        headers = {"Content-Type": "application/merge-patch+json", **({"If-Match": tag} if tag else {})}
+        return self._ask("PATCH", self._address(locale), json.dumps(changes).encode(), **headers)[1].get("ETag")
+
     def remove(self, locale, tag=None):
         """Removes the bundle of a locale. With a tag it is refused with 412 if the bundle isn't the one that has it."""
         self._ask("DELETE", self._address(locale), **({"If-Match": tag} if tag else {}))

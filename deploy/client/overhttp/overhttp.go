@@ -125,6 +125,17 @@ func (c *Client) PutText(ctx context.Context, locale, text, tag string) (string,
 	return reply.Tag, err
 }
 
+// Patch changes items of a bundle by a JSON merge patch (RFC 7396) in the form of `resb json`, and returns its tag: a nil member is
+// removed. With a tag it changes nothing, and the error is PreconditionFailed, if the bundle isn't the one that the tag names.
+func (c *Client) Patch(ctx context.Context, locale string, changes any, tag string) (string, error) {
+	body, err := json.Marshal(changes)
+	if err != nil {
+		return "", err
+	}
+	reply, err := c.ask(ctx, http.MethodPatch, address(locale, ""), body, "application/merge-patch+json", tag)
+	return reply.Tag, err
+}
+
 // Remove removes a bundle, or only the one that the tag names, if it isn't empty.
 func (c *Client) Remove(ctx context.Context, locale, tag string) error {
 	_, err := c.ask(ctx, http.MethodDelete, address(locale, ""), nil, "", tag)
