@@ -49,6 +49,9 @@ func TestClusterPatches(t *testing.T) {
 			t.Errorf("gateway %d: %s", m.number, text)
 		}
 	}
+	if got, text := c.machines[2].ask("GET", "/v1/shop/de_AT?tree&after="+last, ""); hasTrees() && (got == nil || strings.TrimSpace(text) != want) {
+		t.Errorf("the tree: %s", text)
+	}
 	if got, text := c.machines[1].ask("DELETE", "/v1/shop/de", ""); got == nil || got.StatusCode != 200 {
 		t.Fatal(text)
 	}

@@ -4,8 +4,6 @@ import (
 	"encoding/json"
 	"fmt"
 	"net/http"
-	"os"
-	"os/exec"
 	"path/filepath"
 	"strings"
 	"sync"
@@ -15,14 +13,7 @@ import (
 const asPatch = "application/merge-patch+json"
 
 // hasJSON returns false if the program reads no JSON, since it is an earlier version.
-func hasJSON() bool {
-	real := os.Getenv("RESB")
-	if real == "" {
-		return true
-	}
-	help, _ := exec.Command(real, "help", "compile").Output()
-	return strings.Contains(string(help), "--json")
-}
+func hasJSON() bool { return hasOption("compile", "--json") }
 
 func needJSON(t *testing.T) {
 	t.Helper()

@@ -44,6 +44,7 @@ type Handler struct {
 	Limits  *Limits
 	options Options
 	convert *convert.Runner
+	trees   *convert.Runner
 	audit   auditor
 	rates   *Rates
 }
@@ -52,6 +53,7 @@ type Handler struct {
 func New(backend *replica.Replica, tokens *auth.Tokens, options Options) *Handler {
 	return &Handler{Backend: backend, Tokens: tokens, Metrics: newMetrics(), options: options,
 		Limits: newLimits(options.Each, options.All, options.BodyBytes), convert: convert.New(backend.Runs, conversions),
+		trees: convert.New(backend.Runs, treeBounds),
 		audit: auditor{options.Audit}, rates: newRates(options.Rate, options.DayBytes)}
 }
 
@@ -258,6 +260,8 @@ func (c *call) choose(parts []string) (needed auth.Right, do func(), methods str
 		switch {
 		case reads && isForm:
 			return auth.Read, func() { c.fetch(locale, of) }, methods
+		case reads && c.asksTree():
+			return auth.Read, func() { c.tree(c.localeOf(parts[0]), "") }, methods
 		case reads && parts[0] == byLanguage:
 			return auth.Read, func() { c.lookByLanguage("") }, methods
 		case reads:
@@ -271,6 +275,8 @@ func (c *call) choose(parts []string) (needed auth.Right, do func(), methods str
 		methods = "GET, HEAD, OPTIONS"
 		path := strings.Join(parts[1:], "/")
 		switch {
+		case reads && c.asksTree():
+			return auth.Read, func() { c.tree(c.localeOf(parts[0]), path) }, methods
 		case reads && parts[0] == byLanguage:
 			return auth.Read, func() { c.lookByLanguage(path) }, methods
 		case reads:

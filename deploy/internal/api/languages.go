@@ -67,14 +67,22 @@ func isTag(parts []string) bool {
 	return true
 }
 
-// lookByLanguage looks an item up in the locale that the caller's languages choose.
-func (c *call) lookByLanguage(path string) {
-	c.kind = "look"
-	locale := chosen(ranges(c.r.Header.Values("Accept-Language")), func(name string) bool {
+// localeOf returns the locale of an address, which the caller's languages choose if it stands for them.
+func (c *call) localeOf(given string) string {
+	if given != byLanguage {
+		return given
+	}
+	c.w.Header().Add("Vary", "Accept-Language")
+	return chosen(ranges(c.r.Header.Values("Accept-Language")), func(name string) bool {
 		_, there := c.Backend.Bundle(c.app, name)
 		return there
 	})
-	c.w.Header().Add("Vary", "Accept-Language")
+}
+
+// lookByLanguage looks an item up in the locale that the caller's languages choose.
+func (c *call) lookByLanguage(path string) {
+	c.kind = "look"
+	locale := c.localeOf(byLanguage)
 	c.asked(child.LookLine(c.app, locale, path), func(reply []byte) string {
 		var found struct{ Actual string }
 		if json.Unmarshal(reply, &found) == nil && found.Actual != "root" && found.Actual != "" {

@@ -84,6 +84,7 @@ var statuses = map[string]int{
 	"NoBundle": http.StatusNotFound, "Missing": http.StatusNotFound, "Absent": http.StatusNotFound,
 	"Exists": http.StatusConflict, "Full": http.StatusConflict,
 	"ReplyTooLong":  http.StatusRequestEntityTooLarge,
+	"TreeTooLarge":  http.StatusRequestEntityTooLarge,
 	"BundleTooLong": http.StatusRequestEntityTooLarge, "LineTooLong": http.StatusRequestEntityTooLarge,
 	"OverQuota": http.StatusInsufficientStorage, "TooManyApps": http.StatusInsufficientStorage,
 	"Memory": http.StatusServiceUnavailable,

@@ -84,17 +84,31 @@ func take(ctx context.Context, slot chan struct{}) error {
 // Run runs a command with the body as its standard input, and returns what it prints to standard output and standard error. Failed
 // says that it ended with another status than 0.
 func (r *Runner) Run(ctx context.Context, app string, body []byte, arguments ...string) (out, said []byte, failed bool, err error) {
-	own := r.join(app)
-	defer r.leave(app, own)
-	if err := take(ctx, own.one); err != nil {
+	end, err := r.begin(ctx, app)
+	if err != nil {
 		return nil, nil, false, err
 	}
-	defer func() { <-own.one }()
-	if err := take(ctx, r.slots); err != nil {
-		return nil, nil, false, err
-	}
-	defer func() { <-r.slots }()
+	defer end()
 	return r.run(ctx, body, arguments)
+}
+
+// begin waits for the turn of an application, which lasts until the function that it returns is called.
+func (r *Runner) begin(ctx context.Context, app string) (end func(), err error) {
+	own := r.join(app)
+	if err := take(ctx, own.one); err != nil {
+		r.leave(app, own)
+		return nil, err
+	}
+	if err := take(ctx, r.slots); err != nil {
+		<-own.one
+		r.leave(app, own)
+		return nil, err
+	}
+	return func() {
+		<-r.slots
+		<-own.one
+		r.leave(app, own)
+	}, nil
 }
 
 // run runs a command under limits of the system.

@@ -2,6 +2,7 @@ package replica
 
 import (
 	"context"
+	"strings"
 
 	"luvdregan.example/resb/deploy/internal/store"
 )
@@ -47,6 +48,30 @@ func (r *Replica) Catch(ctx context.Context, app, who string) error {
 // Kept returns a stored bundle with what was submitted as it; the third result is false if the application has none.
 func (r *Replica) Kept(app, locale string) (b store.Bundle, body []byte, there bool, err error) {
 	return r.store.Kept(app, locale)
+}
+
+// Found describes the bundles of an application as they are at one moment, without those that the servers left out, so that lookups
+// don't find them.
+func (r *Replica) Found(app string) (found []store.Bundle) {
+	for _, b := range r.store.Of(app) {
+		if !r.wasLeftOut(bundle{app, b.Locale}) {
+			found = append(found, b)
+		}
+	}
+	return found
+}
+
+// Parents returns the file of explicit parents that the servers are given, or "".
+func (r *Replica) Parents() (file string) {
+	for i, word := range r.settings.Arguments {
+		switch {
+		case strings.HasPrefix(word, "--parents="):
+			file = strings.TrimPrefix(word, "--parents=")
+		case word == "--parents" && i+1 < len(r.settings.Arguments):
+			file = r.settings.Arguments[i+1]
+		}
+	}
+	return file
 }
 
 // Runs returns the program of the servers that are started now.

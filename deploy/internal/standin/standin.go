@@ -4,6 +4,7 @@ package standin
 import (
 	"bufio"
 	"bytes"
+	"encoding/hex"
 	"encoding/json"
 	"fmt"
 	"io"
@@ -38,7 +39,7 @@ var magic = []byte{0, 32, 0xda, 0x27}
 
 // Command runs a command over standard input as the program would, and returns false if there is no such command. A file is the
 // magic and the text. A text with `bad` has an error in the line of this word, a text with `eternal` takes for ever, and one with
-// `vast` has a JSON of a gigabyte. The JSON of a text of tables and strings is read back, but not a key with `bad`.
+// `vast` has a JSON of a gigabyte, and no tree. The JSON of a text of tables and strings is read back, but not a key with `bad`.
 func Command(arguments []string) bool {
 	if len(arguments) == 0 {
 		return false
@@ -51,6 +52,12 @@ func Command(arguments []string) bool {
 	switch {
 	case do == nil:
 		return false
+	case len(arguments) > 1 && strings.HasPrefix(arguments[1], "--inherit="):
+		if err := tree(arguments[1:]); err != "" {
+			fmt.Fprintln(os.Stderr, err)
+			os.Exit(1)
+		}
+		return true
 	case has(arguments, "--json"):
 		do = compileJSON
 	case has(arguments, "--name"):
@@ -209,6 +216,61 @@ func readTable(text string) (table map[string]any, rest string, ok bool) {
 	}
 }
 
+// tree prints what a locale has and inherits from shorter names and root, over texts of tables and strings.
+func tree(arguments []string) (err string) {
+	values, bundles := map[string]string{}, map[string]map[string]any{}
+	for _, one := range arguments {
+		if name, value, is := strings.Cut(one, "="); strings.HasPrefix(one, "--") {
+			values[name] = value
+		} else if is {
+			content, _ := os.ReadFile(value)
+			text := string(bytes.TrimPrefix(content, magic))
+			table, _, ok := readTable(text[len(keyBegin.FindString(text)):])
+			if !ok || strings.Contains(text, "eternal") {
+				return value + ":1: BadKey"
+			}
+			bundles[name] = table
+		}
+	}
+	var found any
+	names := append(trail(store.Canonical(values["--inherit"])), "root")
+	for i := len(names) - 1; i >= 0; i-- {
+		if own, is := bundles[names[i]]; is {
+			found = merged(found, own)
+		}
+	}
+	if path := values["--path"]; path != "" {
+		for _, key := range strings.Split(path, "/") {
+			table, _ := found.(map[string]any)
+			if found = table[key]; found == nil {
+				return path + ": Missing"
+			}
+		}
+	}
+	if found == nil {
+		return values["--inherit"] + ": NoBundle"
+	}
+	text, _ := json.Marshal(found)
+	if bytes.Contains(text, []byte("vast")) {
+		return values["--inherit"] + ": TreeTooLarge"
+	}
+	os.Stdout.Write(append(text, '\n'))
+	return ""
+}
+
+// merged returns a value over an inherited one: tables are merged.
+func merged(inherited, own any) any {
+	above, is := inherited.(map[string]any)
+	table, isTable := own.(map[string]any)
+	if !is || !isTable {
+		return own
+	}
+	for key, value := range table {
+		above[key] = merged(above[key], value)
+	}
+	return above
+}
+
 func asJSON(body []byte) bool {
 	for i := 0; i < 1<<20 && bytes.Contains(body, []byte("vast")); i++ {
 		os.Stdout.Write(make([]byte, 1<<10))
@@ -318,15 +380,40 @@ func (a *application) look(name, path string) string {
 			if found := regexp.MustCompile(`\b` + regexp.QuoteMeta(path) + `\{"(.*?)"\}`).FindStringSubmatch(text); found != nil {
 				return fmt.Sprintf(`{"actual":%q,"type":"string","valid":%q,"value":%q}`, at, valid, found[1])
 			}
+			switch found := itemOf(text, path).(type) {
+			case string:
+				return fmt.Sprintf(`{"actual":%q,"type":"string","valid":%q,"value":%q}`, at, valid, found)
+			case map[string]any:
+				return fmt.Sprintf(`{"actual":%q,"keys":[],"type":"table","valid":%q}`, at, valid)
+			}
 		}
 	}
 	switch {
-	case strings.IndexFunc(path, func(r rune) bool { return r < ' ' || r > '~' }) >= 0 || strings.Contains("/"+path+"/", "//"):
+	case strings.IndexFunc(path, func(r rune) bool { return r < ' ' || r > '~' }) >= 0 || path != "" && strings.Contains("/"+path+"/", "//"):
 		return `{"error":"BadPath"}`
 	case valid == "":
 		return `{"error":"NoBundle"}`
 	}
 	return `{"error":"Missing"}`
+}
+
+// itemOf returns the item at a path of a text of tables and strings, or of a file of one in hexadecimal, or nil.
+func itemOf(text, path string) (found any) {
+	if file, err := hex.DecodeString(text); err == nil && bytes.HasPrefix(file, magic) {
+		text = string(file[len(magic):])
+	}
+	begin := keyBegin.FindString(text)
+	if begin == "" {
+		return nil
+	}
+	if table, _, ok := readTable(text[len(begin):]); ok {
+		found = table
+	}
+	for _, key := range strings.Split(path, "/") {
+		table, _ := found.(map[string]any)
+		found = table[key]
+	}
+	return found
 }
 
 func trail(name string) (names []string) {
