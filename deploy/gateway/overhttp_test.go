@@ -32,6 +32,11 @@ func TestTheClientInGo(t *testing.T) {
 	if _, err := c.PutText(ctx, "de", `de{a{"B"}}`, tag); err != nil {
 		t.Error(err)
 	}
+	if hasTrees() {
+		if tree, err := c.Tree(ctx, "de_AT", "a"); err != nil || string(tree.Body) != "\"B\"\n" || tree.Tag == "" {
+			t.Error(tree, err)
+		}
+	}
 	if hasJSON() {
 		tag, err := c.Patch(ctx, "de", map[string]any{"a": nil, "b": map[string]any{"c": "C"}}, "")
 		if text, _ := c.Text(ctx, "de", "c"); err != nil || text != "C" && !isReal() {

@@ -56,6 +56,11 @@ export class Bundles {
     return (await response.text()).split("\n").slice(0, -1).map((line) => JSON.parse(line));
   }
 
+  /** Returns what an item, or the whole bundle, has and inherits, as `resb json --inherit` prints it. Sends only what changed. */
+  async tree(locale, path = "") {
+    return this.#get(this.#address(locale, ...path.split("/").filter(Boolean)) + "?tree");
+  }
+
   /** Returns the locales of the application's bundles, in the order of installing. */
   async names() {
     return (await this.#get(this.#address())).names;

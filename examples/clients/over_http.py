@@ -54,6 +54,10 @@ class Bundles:
         _, _, reply = self._ask("POST", self._address("look"), lines.encode())
         return [json.loads(line) for line in reply.splitlines()]
 
+    def tree(self, locale, path=""):
+        """Returns what an item, or the whole bundle, has and inherits, as `resb json --inherit` prints it. Sends only what changed."""
+        return self._get(self._address(locale, *filter(None, path.split("/"))) + "?tree")
+
     def names(self):
         """Returns the locales of the application's bundles, in the order of installing."""
         return self._get(self._address())["names"]

@@ -103,6 +103,11 @@ func (c *Client) Text(ctx context.Context, locale, path string) (text string, er
 	return text, json.Unmarshal(item.Value, &text)
 }
 
+// Tree returns what an item, or with an empty path the bundle, has and inherits, as `resb json --inherit` prints it.
+func (c *Client) Tree(ctx context.Context, locale, path string) (Bundle, error) {
+	return c.ask(ctx, http.MethodGet, address(locale, path)+"?tree", nil, "", "")
+}
+
 // Names returns the locales of the application's bundles.
 func (c *Client) Names(ctx context.Context) ([]string, error) {
 	var found struct{ Names []string }
