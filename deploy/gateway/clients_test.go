@@ -59,3 +59,45 @@ None
 		})
 	}
 }
+
+// TestTheClientsPatch a bundle, and return the tree that it makes.
+func TestTheClientsPatch(t *testing.T) {
+	if !hasJSON() || !hasTrees() {
+		t.Skip("skipped: the program has no compile --json or no json --inherit")
+	}
+	for language, script := range map[string]string{
+		"python3": `import sys; sys.path.insert(0, "../../examples/clients"); from over_http import Bundles, Refused
+b = Bundles(sys.argv[1], "shop", sys.argv[2]); b.put("root", 'root{a{"A"} b{"B"}}'); b.put("de", 'de{c{"C"}}')
+tag = b.patch("de", {"a": "D", "c": None})
+print(b.tree("de"), b.tree("de", "a"), b.bundle("de")[1] == tag)
+try:
+    b.patch("de", {"a": "E"}, '"other"')
+except Refused as refused:
+    print(refused)`,
+		"node": `const { Bundles } = await import(process.cwd() + "/../../examples/clients/over_http.mjs"); const [url, token] = process.argv.slice(-2);
+const b = new Bundles(url, "shop", token); await b.put("root", 'root{a{"A"} b{"B"}}'); await b.put("de", 'de{c{"C"}}');
+const tag = await b.patch("de", { a: "D", c: null }); const tree = await b.tree("de");
+console.log("{'a': '" + tree.a + "', 'b': '" + tree.b + "'}", await b.tree("de", "a"), (await b.bundle("de")).tag === tag ? "True" : "False");
+await b.patch("de", { a: "E" }, '"other"').catch((refused) => console.log(refused.message));`,
+	} {
+		t.Run(language, func(t *testing.T) {
+			path, err := exec.LookPath(language)
+			if err != nil {
+				t.Skipf("skipped: %s is not there", language)
+			}
+			s := open(t)
+			arguments := []string{"-c", script, s.url, shopWrites}
+			if language == "node" {
+				arguments = []string{"--input-type=module", "-e", script, "--", s.url, shopWrites}
+			}
+			ctx, cancel := context.WithTimeout(context.Background(), generous)
+			defer cancel()
+			command := exec.CommandContext(ctx, path, arguments...)
+			command.Env = append(os.Environ(), "PYTHONDONTWRITEBYTECODE=1")
+			text, err := command.CombinedOutput()
+			if want := "{'a': 'D', 'b': 'B'} D True\n412 PreconditionFailed\n"; err != nil || string(text) != want {
+				t.Errorf("%v\n%s", err, text)
+			}
+		})
+	}
+}

@@ -6,6 +6,7 @@ import (
 	"os"
 	"os/exec"
 	"path/filepath"
+	"regexp"
 	"sort"
 	"strings"
 	"testing"
@@ -55,6 +56,31 @@ func TestTheDescriptionHasTheRoutes(t *testing.T) {
 		if got.StatusCode != 204 || strings.Join(may, " ") != strings.Join(want, " ") {
 			t.Errorf("%s: %d, %v are answered and %v described", path, got.StatusCode, may, want)
 		}
+	}
+}
+
+// TestTheTableOfTests looks for each test that README.md names.
+func TestTheTableOfTests(t *testing.T) {
+	page, err := os.ReadFile("README.md")
+	if err != nil {
+		t.Fatal(err)
+	}
+	var sources strings.Builder
+	for _, pattern := range []string{"*_test.go", "../internal/*/*_test.go", "../internal/*/*/*_test.go"} {
+		files, _ := filepath.Glob(pattern)
+		for _, file := range files {
+			content, _ := os.ReadFile(file)
+			sources.Write(content)
+		}
+	}
+	named := regexp.MustCompile("`(Test[A-Z]\\w+)`").FindAllSubmatch(page, -1)
+	for _, one := range named {
+		if !strings.Contains(sources.String(), "\nfunc "+string(one[1])+"(t *testing.T)") {
+			t.Errorf("there is no test %s", one[1])
+		}
+	}
+	if len(named) < 40 {
+		t.Errorf("only %d tests are named", len(named))
 	}
 }
 

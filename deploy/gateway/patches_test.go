@@ -131,8 +131,7 @@ func TestTheLogOfPatches(t *testing.T) {
 	}
 }
 
-// TestPatchesAtOnce has 8 callers patch a key each, many times, while one puts the bundle back as it was read with its tag: no patch
-// is lost.
+// TestPatchesAtOnce has 8 callers patch a key each at the same time, five times: no patch is lost.
 func TestPatchesAtOnce(t *testing.T) {
 	needJSON(t)
 	s := open(t)
