@@ -127,10 +127,7 @@ impl<W: Write + Drop> Differ<W> {
             (Err(error), _) | (_, Err(error)) => return self.fail(rt, console, error),
         };
         let path = ItemPath::new(Vec::new(rt.alloc()));
-        if self
-            .compare(path, name, old.as_ref(), new.as_ref())
-            .is_err()
-        {
+        if self.compare(path, old.as_ref(), new.as_ref()).is_err() {
             self.fail(rt, console, CommandError::NotStarted(StartError::Memory));
         }
     }
