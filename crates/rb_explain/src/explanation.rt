@@ -2,8 +2,8 @@ ghost use Rattle.std.specs.Prelude.{◌≡◌, IfSome, map};
 ghost use Rattle.std.specs.Char.{to_ascii_lowercase};
 
 use crate::words::{
-    OF_FILE, OF_LOOKUP, OF_MEMORY, OF_PATH, OF_PRINTING, OF_REQUEST, OF_SERVING, OF_START, OF_TEXT,
-    OF_VALUE,
+    OF_FILE, OF_JSON, OF_LOOKUP, OF_MEMORY, OF_PATH, OF_PRINTING, OF_REQUEST, OF_SERVING, OF_START,
+    OF_TEXT, OF_VALUE,
 };
 use std::fmt;
 
@@ -20,6 +20,8 @@ pub enum Of {
     Printing,
     /// Printing an item as one value.
     Value,
+    /// JSON that is read back.
+    Json,
     /// Starting `serve`.
     Start,
     /// A request to `serve`.
@@ -40,6 +42,7 @@ impl Of {
             Of::Path => &OF_PATH,
             Of::Printing => &OF_PRINTING,
             Of::Value => &OF_VALUE,
+            Of::Json => &OF_JSON,
             Of::Start => &OF_START,
             Of::Request => &OF_REQUEST,
             Of::Lookup => &OF_LOOKUP,
@@ -70,6 +73,7 @@ impl fmt::Display for Of {
             Of::Path => "an error of paths in one file (get, json)",
             Of::Printing => "an error of files that are printed (text)",
             Of::Value => "an error of whole items (json)",
+            Of::Json => "an error of JSON that is read (compile --json)",
             Of::Start => "an error of files that are given (serve, look)",
             Of::Request => "an error in a reply to a request (serve), or of an argument (lines)",
             Of::Lookup => "an error in a reply to a lookup (serve, look)",

@@ -259,6 +259,107 @@ pub(crate) const OF_VALUE: [Explanation; 2] = [
     },
 ];
 
+pub(crate) const OF_JSON: [Explanation; 14] = [
+    Explanation {
+        word: "NotUtf8",
+        of: Of::Json,
+        meaning: "the JSON has a byte at which no character of UTF-8 can be read",
+        cause: "the JSON is in another encoding, often Latin-1 or UTF-16",
+        remedy: "iconv -f LATIN1 -t UTF-8, or -f UTF-16",
+    },
+    Explanation {
+        word: "NotJson",
+        of: Of::Json,
+        meaning: "the text is no JSON from this token on, or it ends too early",
+        cause: "a comma or a bracket too many or too few, a comment, single quotes, a lone surrogate by its escape; at column 1, a byte order mark",
+        remedy: "jq . FILE says more; write a lone surrogate as in :units",
+    },
+    Explanation {
+        word: "TrailingText",
+        of: Of::Json,
+        meaning: "something follows the JSON value",
+        cause: "two values in one file, as lines of JSON, or a bracket too many",
+        remedy: "a file is one value",
+    },
+    Explanation {
+        word: "NotTable",
+        of: Of::Json,
+        meaning: "the whole value is no object, or one with a tag",
+        cause: "an item that resb json FILE PATH printed, in place of a whole bundle",
+        remedy: "put it into an object, under a key",
+    },
+    Explanation {
+        word: "UnknownValue",
+        of: Of::Json,
+        meaning: "the value is true, false or null, which no item has",
+        cause: "JSON that was not printed by resb json",
+        remedy: "write 1 and 0, or a string; leave a key out in place of null",
+    },
+    Explanation {
+        word: "BadTag",
+        of: Of::Json,
+        meaning: "a key that begins with one colon is no tag, isn't alone in its object, or has a value of another form",
+        cause: "a key that begins with a colon and has no second one; a misspelled :alias, :bin, :intvector or :units",
+        remedy: "write ::key for a key that begins with a colon; JSON.md has each tag's form",
+    },
+    Explanation {
+        word: "BadKey",
+        of: Of::Json,
+        meaning: "a key is empty, or has a character that isn't printable ASCII",
+        cause: "a key that isn't printable ASCII, or an empty one",
+        remedy: "keys are names, texts are values",
+    },
+    Explanation {
+        word: "DuplicateKey",
+        of: Of::Json,
+        meaning: "an object has one key twice",
+        cause: "a member that was copied and not renamed",
+        remedy: "the place is the second one's",
+    },
+    Explanation {
+        word: "BadNumber",
+        of: Of::Json,
+        meaning: "a number is no integer, or is outside its limits",
+        cause: "a fraction or an exponent, -0, a number past 28 bits of an Int, 32 of :intvector or 16 of :units, or a string there",
+        remedy: "write a large number as a string or in :intvector",
+    },
+    Explanation {
+        word: "BadBinary",
+        of: Of::Json,
+        meaning: "a :bin isn't an even number of lower-case hexadecimal digits",
+        cause: "an odd number of digits, upper case, or another character",
+        remedy: "two digits of 0 to 9 and a to f for each byte",
+    },
+    Explanation {
+        word: "BadUnits",
+        of: Of::Json,
+        meaning: "the units are those of a text, which has its own form",
+        cause: "units without a lone surrogate",
+        remedy: "write them as a string",
+    },
+    Explanation {
+        word: "TooDeep",
+        of: Of::Json,
+        meaning: "a value is nested deeper than 64 levels",
+        cause: "a missing bracket; more than 64 levels",
+        remedy: "join some levels into one key",
+    },
+    Explanation {
+        word: "TooLarge",
+        of: Of::Json,
+        meaning: "the tree's weight is above 33,554,432 at this value",
+        cause: "the tree's weight is above 33,554,432",
+        remedy: "split the bundle",
+    },
+    Explanation {
+        word: "TooLong",
+        of: Of::Json,
+        meaning: "the JSON has more than 134,217,728 bytes",
+        cause: "the JSON has more than 134,217,728 bytes",
+        remedy: "print it without --pretty; split the bundle",
+    },
+];
+
 pub(crate) const OF_START: [Explanation; 6] = [
     Explanation {
         word: "BadText",

@@ -5,12 +5,13 @@ use std::io;
 use std::process::ExitCode;
 
 /// The kinds of errors, in the order in which they are explained.
-const KINDS: [Of; 10] = [
+const KINDS: [Of; 11] = [
     Of::Text,
     Of::File,
     Of::Path,
     Of::Printing,
     Of::Value,
+    Of::Json,
     Of::Start,
     Of::Request,
     Of::Lookup,
