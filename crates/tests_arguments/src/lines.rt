@@ -14,6 +14,11 @@ const LINES: &str = "\
 0|resb|json|a.res
 0|resb|json|a.res|a/b|--pretty
 2|resb|json|a.res|a|b
+2|resb|json|--inherit|de
+2|resb|json|--path|a|b.res
+2|resb|json|--parents|a|b.res
+0|resb|json|--inherit|de|a.res|--path|b
+0|resb|json|--inherit|de|--parents|p.txt|a.res|b.res|c.res|d.res
 0|resb|serve
 0|resb|serve|x
 0|resb|serve|--parents|p.txt|de=a.txt|root=b.res
@@ -102,6 +107,9 @@ resb|compile|--to|x|a => CompileAll { folder: "x", texts: ["a"], is_quiet: false
 resb|check|-q|a|b => Check { files: ["a", "b"], is_quiet: true }
 resb|get|a|b/c => Get { file: "a", path: "b/c" }
 resb|json|a|--pretty => Json { file: "a", path: "", is_pretty: true }
+resb|json|a|b => Json { file: "a", path: "b", is_pretty: false }
+resb|json|--inherit|de|a => Inherited(AskedInherited { parents: None, locale: "de", path: "", is_pretty: false, files: ["a"] })
+resb|json|--inherit|de|--parents|p|--path|x/y|a|b|c|d => Inherited(AskedInherited { parents: Some("p"), locale: "de", path: "x/y", is_pretty: false, files: ["a", "b", "c", "d"] })
 resb|text|a|--name|de => Text { file: "a", name: Some("de") }
 resb|lint|--root|r|a|b => Lint(AskedLint { root: Some("r"), name: None, allow: [], deny: [], format: None, is_strict: false, is_all: false, is_list: false, texts: ["a", "b"] })
 resb|lint|--allow|x|a|--deny|y|--allow|z|--against|r|--root|s|--strict|--all|--format|json|--name|n => Lint(AskedLint { root: Some("r"), name: Some("n"), allow: ["x", "z"], deny: ["y"], format: Some("json"), is_strict: true, is_all: true, is_list: false, texts: ["a"] })
