@@ -44,7 +44,8 @@ func (c *call) tree(locale, path string) {
 		return
 	}
 	of := c.Backend.Found(c.app)
-	if given := c.r.Header.Values("If-None-Match"); err == nil && len(given) > 0 && strings.Join(given, "") != "*" && c.has(c.treeTag(of, locale, path)) {
+	given := strings.Join(c.r.Header.Values("If-None-Match"), ",")
+	if err == nil && given != "" && given != "*" && c.has(c.treeTag(of, locale, path)) {
 		c.answerTree(http.StatusNotModified, nil)
 		return
 	}

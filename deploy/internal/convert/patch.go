@@ -312,6 +312,9 @@ func (m *merger) fresh(v value) {
 func (r *Runner) Patched(ctx context.Context, app string, form store.Form, body []byte, p *MergePatch, hold func(bytes int64) error) (
 	made []byte, same bool, err error) {
 	file, err := r.File(ctx, app, form, body)
+	if err == nil && form != store.File {
+		err = hold(int64(len(file)))
+	}
 	if err != nil {
 		return nil, false, err
 	}
