@@ -21,7 +21,7 @@ func revisionOf(a answer) int64 {
 
 // TestRevisions follows the revision of the bundles through changes and lookups.
 func TestRevisions(t *testing.T) {
-	s := open(t, "-patience", "1s")
+	s := open(t, "-patience", "5s")
 	if got := s.ask("GET", "/v1/shop", shopReads, ""); revisionOf(got) != 0 {
 		t.Errorf("%v", got.Header)
 	}
