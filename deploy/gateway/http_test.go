@@ -388,7 +388,7 @@ func (s *site) noRights() {
 		{"GET", "/v1/bank", shopWrites, "", 403}, {"GET", "/v1/bank/de/a", shopWrites, "", 403}, {"PUT", "/v1/bank/de.txt", shopWrites, "de{}", 403},
 		{"PUT", "/v1/shop/de.txt", shopReads, "de{}", 403}, {"POST", "/v1/shop/de.txt", shopReads, "de{}", 403},
 		{"DELETE", "/v1/shop/de", shopReads, "", 403}, {"POST", "/v1/bank/look", shopWrites, `{"locale":"de","path":"a"}`, 403},
-		{"GET", "/v1/none", shopWrites, "", 403}, {"PATCH", "/v1/shop/de", shopWrites, "de{}", 405}, {"GET", "/v1/shop/../de", shopWrites, "", 400},
+		{"GET", "/v1/none", shopWrites, "", 403}, {"PATCH", "/v1/shop/de", shopWrites, "de{}", 415}, {"TRACE", "/v1/shop/de", shopWrites, "", 405}, {"GET", "/v1/shop/../de", shopWrites, "", 400},
 	} {
 		if got := s.ask(at.method, at.path, at.token, at.body); got.StatusCode != at.status {
 			s.t.Errorf("%s %s: %d %s", at.method, at.path, got.StatusCode, got.body)
@@ -477,9 +477,9 @@ func (s *site) wrongMethods() {
 		status       int
 		allow        string
 	}{
-		{"PUT", "/v1/shop", 405, "GET, HEAD, DELETE, OPTIONS"}, {"PATCH", "/v1/shop/de", 405, "GET, HEAD, PUT, POST, DELETE, OPTIONS"},
+		{"PUT", "/v1/shop", 405, "GET, HEAD, DELETE, OPTIONS"}, {"PATCH", "/v1/shop", 405, "GET, HEAD, DELETE, OPTIONS"}, {"FROB", "/v1/shop/de", 405, "GET, HEAD, PUT, POST, PATCH, DELETE, OPTIONS"},
 		{"DELETE", "/v1/shop/de/a", 405, "GET, HEAD, OPTIONS"}, {"POST", "/v1/shop/de/a", 405, "GET, HEAD, OPTIONS"},
-		{"FROB", "/v1/shop", 405, "GET, HEAD, DELETE, OPTIONS"}, {"OPTIONS", "/v1/shop/de", 204, "GET, HEAD, PUT, POST, DELETE, OPTIONS"},
+		{"FROB", "/v1/shop", 405, "GET, HEAD, DELETE, OPTIONS"}, {"OPTIONS", "/v1/shop/de", 204, "GET, HEAD, PUT, POST, PATCH, DELETE, OPTIONS"},
 		{"POST", "/", 405, "GET, HEAD"}, {"PUT", "/metrics", 405, "GET, HEAD"}, {"GET", "/v1", 404, ""}, {"GET", "/v2/shop", 404, ""},
 		{"GET", "/index.html", 404, ""}, {"GET", "/v1/", 403, ""}, {"GET", "//v1/shop", 404, ""}, {"GET", "/healthz/x", 404, ""},
 	} {

@@ -397,8 +397,11 @@ func (a *application) look(name, path string) string {
 	return `{"error":"Missing"}`
 }
 
-// itemOf returns the item at a path of a text of tables and strings, or of a file of one in hexadecimal, or nil.
+// itemOf returns the item at a path of a short text of tables and strings, or of a file of one in hexadecimal, or nil.
 func itemOf(text, path string) (found any) {
+	if len(text) > 1<<12 {
+		return nil
+	}
 	if file, err := hex.DecodeString(text); err == nil && bytes.HasPrefix(file, magic) {
 		text = string(file[len(magic):])
 	}
