@@ -1,6 +1,6 @@
 //! The items in which two trees differ.
-ghost use Rattle.std.specs.Prelude.{◌≡◌, ◌≤◌, ◌<◌, IfOk};
-ghost use Rattle.rb_tree.specs.Parts.{HasUnits, kind_of, len_of};
+ghost use Rattle.std.specs.Prelude.{◌≡◌, ◌≤◌, ◌<◌};
+ghost use Rattle.rb_tree.specs.Parts.{HasUnits, kind_of};
 ghost use Rattle.rb_tree.specs.declared.kind.Kind.TheVariants as Kinds;
 
 use rb_tree::{Kind, Node};
@@ -254,9 +254,7 @@ fn report_up_to<N: Node, R: Report<N>>(
     levels: u64,
 ) -> Result<usize, AllocError>
     requires new { kind_of (N.tree new) ≡ Kinds.Table }
-    requires from { from ≤ len_of (N.tree new) }
     requires levels { (0 < levels) × (levels ≤ 64) }
-    ensures { IfOk result (λ at. at ≤ len_of (N.tree new)) }
 {
     for i in from..new.len() {
         if key.is_some_and(|key| new.key_at(i) >= key) {
