@@ -1,0 +1,170 @@
+//! Writes the pieces of a text in the layout.
+use crate::body::{DEEPEST, LINE, is_inline};
+use crate::fault::FormatFault;
+use crate::gap::{Before, Gap};
+use crate::piece::{Piece, PieceKind};
+use crate::structure::Structure;
+use crate::widths::columns;
+use crate::window::Window;
+use rb_lexer::SOURCE_LIMIT;
+use std::alloc::{AllocError, Global};
+
+/// The levels whose spaces are written at once.
+const LEVELS: usize = 16;
+
+static SPACES: [u8; 4 * LEVELS] = [b' '; 4 * LEVELS];
+
+/// A text in the layout.
+#[derive(Drop)]
+pub(crate) struct LaidOut {
+    pub(crate) text: Vec<u8>,
+    /// The text is a bundle as far as its braces, commas and colons say.
+    pub(crate) is_whole: bool,
+}
+
+#[derive(Drop)]
+struct Layout<'a> {
+    text: &'a [u8],
+    window: Window<'a>,
+    out: Vec<u8>,
+    level: usize,
+    /// The columns of the current line, except where a body is on one line.
+    column: usize,
+    before: Before,
+    structure: Structure,
+}
+
+impl<'a> Layout<'a> {
+    fn new(alloc: Global, text: &'a [u8]) -> Result<Layout<'a>, AllocError> {
+        let capacity = text.len().saturating_add(text.len() / 8).min(SOURCE_LIMIT);
+        Ok(
+            Layout {
+                text,
+                window: Window::new(alloc, text),
+                out: Vec::with_capacity(alloc, capacity)?,
+                level: 0,
+                column: 0,
+                before: Before {
+                    kind: None,
+                    owes_line: false,
+                    is_inline: false,
+                },
+                structure: Structure::new(),
+            },
+        )
+    }
+
+    /// Begins a line at a level.
+    fn begin_line(&mut self, level: usize) -> Result<(), AllocError> {
+        self.out.push(b'\n')?;
+        let mut left = level;
+        for _ in 0..level {
+            if left == 0 {
+                break;
+            }
+            let levels = left.min(LEVELS);
+            let spaces = SPACES.get(..levels.saturating_mul(4)).unwrap_or(&[]);
+            self.out.extend_from_slice(spaces)?;
+            left -= levels;
+        }
+        self.column = level.saturating_mul(4);
+        self.before.owes_line = false;
+        Ok(())
+    }
+
+    /// Checks whether a text and a comma fit into the current line, after a space.
+    fn fits(&self, width: usize) -> bool {
+        self.level > DEEPEST || self.column.saturating_add(width).saturating_add(2) <= LINE
+    }
+
+    /// Returns the gap before a piece of a width.
+    fn gap(&self, piece: &Piece, width: usize) -> Gap {
+        let gap = self.before.gap(piece);
+        let is_text = matches!(piece.kind, PieceKind::Quoted | PieceKind::Bare);
+        let is_kept = gap != Gap::Space || self.before.is_inline || self.level == 0;
+        if is_kept || !is_text || self.fits(width) {
+            gap
+        } else {
+            Gap::Line
+        }
+    }
+
+    fn put_gap(&mut self, gap: Gap, level: usize) -> Result<(), AllocError> {
+        match gap {
+            Gap::Nothing => Ok(()),
+            Gap::Space => {
+                self.out.push(b' ')?;
+                self.column = self.column.saturating_add(1);
+                Ok(())
+            }
+            Gap::Line => self.begin_line(level),
+            Gap::BlankLine => {
+                self.out.push(b'\n')?;
+                self.begin_line(level)
+            }
+        }
+    }
+
+    /// Updates the level and what the next piece comes after.
+    fn pass(&mut self, piece: &Piece) -> Result<(), AllocError> {
+        self.before.kind = Some(piece.kind);
+        match piece.kind {
+            PieceKind::LeftBrace => {
+                self.level = self.level.saturating_add(1);
+                let is_inline = is_inline(self.text, &mut self.window, self.column, self.level)?;
+                self.before.is_inline = is_inline;
+                self.before.owes_line = !is_inline;
+            }
+            PieceKind::RightBrace => {
+                self.level = self.level.saturating_sub(1);
+                self.before.is_inline = false;
+                self.before.owes_line = true;
+            }
+            PieceKind::LineComment => self.before.owes_line = true,
+            _ => {}
+        }
+        Ok(())
+    }
+
+    fn put(&mut self, piece: &Piece) -> Result<(), AllocError> {
+        let bytes = piece.bytes(self.text);
+        let width = if self.before.is_inline {
+            0
+        } else {
+            columns(bytes)
+        };
+        let level = match piece.kind {
+            PieceKind::RightBrace => self.level.saturating_sub(1),
+            _ => self.level,
+        };
+        self.put_gap(self.gap(piece, width), level)?;
+        self.out.extend_from_slice(bytes)?;
+        self.column = self.column.saturating_add(width);
+        if !piece.is_comment() {
+            self.structure.add(self.text, piece);
+        }
+        self.pass(piece)
+    }
+}
+
+/// Lays a text out. Errors: `TooLarge` as soon as the laid out text is longer than any source;
+/// `Memory`.
+pub(crate) fn lay_out(alloc: Global, text: &[u8]) -> Result<LaidOut, FormatFault> {
+    let mut layout = Layout::new(alloc, text)?;
+    for _ in 0..text.len() {
+        let Some(piece) = layout.window.take() else {
+            break;
+        };
+        layout.put(&piece)?;
+        if layout.out.len() > SOURCE_LIMIT {
+            return Err(FormatFault::TooLarge);
+        }
+    }
+    if !layout.out.is_empty() {
+        layout.out.push(b'\n')?;
+    }
+    Ok(LaidOut {
+        is_whole: layout.structure.is_whole(),
+        text: layout.out,
+    })
+}

@@ -1,0 +1,19 @@
+//! Lays out bundle texts and keeps their comments.
+#![tactic(auto)]
+
+mod body;
+mod comments;
+mod fault;
+mod formatting;
+mod gap;
+mod layout;
+pub mod laws;
+mod piece;
+mod scan;
+mod structure;
+mod tokens;
+mod widths;
+mod window;
+
+pub use fault::FormatFault;
+pub use formatting::format;
