@@ -1,29 +1,33 @@
-ghost use Rattle.std.specs.Prelude.{IfOk, IfErr};
-ghost use Rattle.rb_layout.specs.Formatted.{SpellSame, IsTextError};
+ghost use Rattle.std.specs.Prelude.{◌≡◌, IfOk, true};
+ghost use Rattle.rb_layout.specs.Formatted.{SpellSame};
 
 use crate::comments::have_same_comments;
 use crate::fault::FormatFault;
 use crate::layout::lay_out;
 use crate::tokens::have_same_marks;
-use rb_lexer::Tokens;
+use rb_lexer::{SourceFault, SourceKind, Tokens};
 use rb_parser::parse_unweighed;
 use std::alloc::Global;
 
-/// Returns a text if its tokens and comments are those of the text that it was made from.
-fn compared(alloc: Global, text: &[u8], laid: Vec<u8>) -> Result<Vec<u8>, FormatFault>
-    ensures { IfOk result (λ formatted. SpellSame text.now formatted.items) }
+/// Returns the error of a laid out text that can't be read.
+fn unread(fault: SourceFault) -> FormatFault {
+    match fault.kind {
+        SourceKind::Memory => FormatFault::Memory,
+        _ => FormatFault::Differs,
+    }
+}
+
+/// Checks whether two texts have the same tokens.
+fn have_same_tokens(alloc: Global, text: &[u8], laid: &[u8]) -> Result<bool, FormatFault>
+    ensures { IfOk result (λ same. same ≡ true → SpellSame text.now laid.now) }
 {
     let mut old = Tokens::of(alloc, text)?;
-    let Ok(mut new) = Tokens::of(alloc, &laid) else {
-        return Err(FormatFault::Differs);
+    let mut new = match Tokens::of(alloc, laid) {
+        Ok(new) => new,
+        Err(fault) => return Err(unread(fault)),
     };
-    if !have_same_marks(&mut old, &mut new)? {
-        return Err(FormatFault::Differs);
-    }
-    if !have_same_comments(text, &laid) {
-        return Err(FormatFault::Differs);
-    }
-    Ok(laid)
+    let is_same = have_same_marks(&mut old, &mut new)?;
+    Ok(is_same)
 }
 
 /// Formats a bundle text. The formatted text has the same tokens in the same order, so it spells
@@ -48,5 +52,9 @@ pub fn format(alloc: Global, text: &[u8]) -> Result<Vec<u8>, FormatFault>
     if !laid.is_whole {
         parse_unweighed(alloc, text)?;
     }
-    compared(alloc, text, laid.text)
+    let formatted = laid.text;
+    if !have_same_tokens(alloc, text, &formatted)? || !have_same_comments(text, &formatted) {
+        return Err(FormatFault::Differs);
+    }
+    Ok(formatted)
 }

@@ -37,21 +37,19 @@ struct Layout<'a> {
 impl<'a> Layout<'a> {
     fn new(alloc: Global, text: &'a [u8]) -> Result<Layout<'a>, AllocError> {
         let capacity = text.len().saturating_add(text.len() / 8).min(SOURCE_LIMIT);
-        Ok(
-            Layout {
-                text,
-                window: Window::new(alloc, text),
-                out: Vec::with_capacity(alloc, capacity)?,
-                level: 0,
-                column: 0,
-                before: Before {
-                    kind: None,
-                    owes_line: false,
-                    is_inline: false,
-                },
-                structure: Structure::new(),
+        Ok(Layout {
+            text,
+            window: Window::new(alloc, text),
+            out: Vec::with_capacity(alloc, capacity)?,
+            level: 0,
+            column: 0,
+            before: Before {
+                kind: None,
+                owes_line: false,
+                is_inline: false,
             },
-        )
+            structure: Structure::new(),
+        })
     }
 
     /// Begins a line at a level.
@@ -162,6 +160,9 @@ pub(crate) fn lay_out(alloc: Global, text: &[u8]) -> Result<LaidOut, FormatFault
     }
     if !layout.out.is_empty() {
         layout.out.push(b'\n')?;
+    }
+    if layout.out.len() > SOURCE_LIMIT {
+        return Err(FormatFault::TooLarge);
     }
     Ok(LaidOut {
         is_whole: layout.structure.is_whole(),

@@ -33,7 +33,10 @@ pub(crate) fn quoted_width(rest: &[u8]) -> usize {
 #[inline(always)]
 fn ends_span(rest: &[u8]) -> bool {
     match rest {
-        [b' ' | b'\t' | b'\n' | b'\r' | b'{' | b'}' | b':' | b',' | b'"', ..] => true,
+        [
+            b' ' | b'\t' | b'\n' | b'\r' | b'{' | b'}' | b':' | b',' | b'"',
+            ..
+        ] => true,
         [b'/', b'/' | b'*', ..] => true,
         [0xE2, 0x80, 0xA9, ..] | [0xEF, 0xBB, 0xBF, ..] => true,
         _ => false,
