@@ -10,13 +10,13 @@ use Rattle.rb_arguments.specs.Limits.{AreGiven}
 use Rattle.rb_arguments.specs.declared.asking.Asked.{Asked}
 use Rattle.rb_arguments.specs.declared.asking.Asked.TheVariants.{Compile, CompileAll, CompileJson, CompileAllJson}
 use Rattle.rb_arguments.specs.declared.asking.Asked.TheVariants.{Check, Get, Json, Text as ToText}
-use Rattle.rb_arguments.specs.declared.asking.Asked.TheVariants.{Inherited, Diff, Lint, Coverage, Explain, Lines}
-use Rattle.rb_arguments.specs.declared.asking.Asked.TheVariants.{Look, Serve}
+use Rattle.rb_arguments.specs.declared.asking.Asked.TheVariants.{Inherited, Diff, Lint, Format, Coverage, Explain}
+use Rattle.rb_arguments.specs.declared.asking.Asked.TheVariants.{Lines, Look, Serve}
 
 -- the names of the commands
 abbrev pub names : List Text
 names =
-    codes "compile" ∷ codes "check" ∷ codes "get" ∷ codes "json" ∷ codes "text" ∷ codes "diff" ∷ codes "lint"
+    codes "compile" ∷ codes "check" ∷ codes "get" ∷ codes "json" ∷ codes "text" ∷ codes "diff" ∷ codes "lint" ∷ codes "fmt"
     ∷ codes "coverage" ∷ codes "explain" ∷ codes "lines" ∷ codes "look" ∷ codes "serve" ∷ []
 
 abbrev pub is_command : Text → Bool
@@ -110,6 +110,12 @@ AsksFor name rows (Lint asked) =
     × IsFlagIn rows (codes "strict") asked.is_strict
     × IsFlagIn rows (codes "all") asked.is_all
     × IsFlagIn rows (codes "list") asked.is_list
+    × (texts asked.texts.items ≡ words_in rows (codes "TEXT"))
+AsksFor name rows (Format asked) =
+    (name ≡ codes "fmt")
+    × IsFlagIn rows (codes "check") asked.is_check
+    × IsFlagIn rows (codes "diff") asked.is_diff
+    × IsFlagIn rows (codes "quiet") asked.is_quiet
     × (texts asked.texts.items ≡ words_in rows (codes "TEXT"))
 AsksFor name rows (Coverage asked) =
     (name ≡ codes "coverage")

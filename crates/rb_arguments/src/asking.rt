@@ -74,6 +74,8 @@ pub enum Asked<'a> {
     },
     /// `lint TEXT..`
     Lint(AskedLint<'a>),
+    /// `fmt TEXT..`
+    Format(AskedFormat<'a>),
     /// `coverage [LOCALE=]TEXT..`
     Coverage(AskedCoverage<'a>),
     /// `explain [WORD]`
@@ -116,6 +118,14 @@ pub struct AskedLint<'a> {
     pub is_strict: bool,
     pub is_all: bool,
     pub is_list: bool,
+    pub texts: Vec<&'a str>,
+}
+
+#[derive(Debug, Drop)]
+pub struct AskedFormat<'a> {
+    pub is_check: bool,
+    pub is_diff: bool,
+    pub is_quiet: bool,
     pub texts: Vec<&'a str>,
 }
 
@@ -332,6 +342,17 @@ fn lint_asked<'a>(alloc: Global, given: &ArgMatches<'a>) -> Result<Asked<'a>, Al
     }))
 }
 
+fn format_asked<'a>(alloc: Global, given: &ArgMatches<'a>) -> Result<Asked<'a>, AllocError>
+    ensures { IfOk result (AsksFor (codes "fmt") (rows_of (found_of given.now))) }
+{
+    Ok(Asked::Format(AskedFormat {
+        is_check: flag_of(given, "check"),
+        is_diff: flag_of(given, "diff"),
+        is_quiet: flag_of(given, "quiet"),
+        texts: words_of(alloc, given, "TEXT")?,
+    }))
+}
+
 fn coverage_asked<'a>(alloc: Global, given: &ArgMatches<'a>) -> Result<Asked<'a>, AllocError>
     ensures { IfOk result (AsksFor (codes "coverage") (rows_of (found_of given.now))) }
 {
@@ -412,6 +433,7 @@ fn command_asked<'a>(
             is_stat: flag_of(given, "stat"),
         },
         "lint" => lint_asked(alloc, given)?,
+        "fmt" => format_asked(alloc, given)?,
         "coverage" => coverage_asked(alloc, given)?,
         "explain" => Asked::Explain {
             word: optional_of(given, "WORD"),

@@ -2,7 +2,7 @@ use crate::bundle_commands::{COVERAGE, LINES, LOOK};
 use crate::description::Description;
 use crate::file_commands::{CHECK, COMPILE, DIFF, GET, JSON, TEXT};
 use crate::serving::SERVE;
-use crate::text_commands::{EXPLAIN, LINT};
+use crate::text_commands::{EXPLAIN, FMT, LINT};
 use clap::Command;
 use std::alloc::{AllocError, Global};
 
@@ -18,8 +18,8 @@ Status:
 Errors are printed to standard error, a line each. 'resb help COMMAND' says more of a command.";
 
 /// The commands, in the order of the help.
-const COMMANDS: [Description; 12] = [
-    COMPILE, CHECK, GET, LINT, COVERAGE, EXPLAIN, LINES, LOOK, TEXT, JSON, DIFF, SERVE,
+const COMMANDS: [Description; 13] = [
+    COMPILE, CHECK, GET, LINT, FMT, COVERAGE, EXPLAIN, LINES, LOOK, TEXT, JSON, DIFF, SERVE,
 ];
 
 fn bare<'a>(alloc: Global) -> Result<Command<'a>, AllocError> {

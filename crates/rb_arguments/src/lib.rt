@@ -12,6 +12,7 @@ mod serving;
 mod text_commands;
 
 pub use asking::{
-    Asked, AskedCoverage, AskedInherited, AskedLimits, AskedLint, AskedLookup, asked_by,
+    Asked, AskedCoverage, AskedFormat, AskedInherited, AskedLimits, AskedLint, AskedLookup,
+    asked_by,
 };
 pub use command_line::{commands, commands_for};

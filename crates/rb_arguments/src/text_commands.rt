@@ -64,6 +64,38 @@ pub const LINT: Description = Description {
     end: LINT_HELP,
 };
 
+const FMT_HELP: &str = "\
+Examples:
+  resb fmt texts/*.txt
+  resb fmt --check texts/*.txt
+  resb fmt - < unsaved.txt
+
+Only white space changes: comments, empty lines between entries, quotes and the order of entries
+stay. TEXT - is standard input, and is printed formatted.
+
+Status:
+  0  each text is formatted
+  1  a text is refused, as de.txt:3: OpenQuote, or can't be read or written; with --check or --diff,
+     or formatting would change it
+  2  the command line is invalid, or standard output can't be written";
+
+/// `fmt [--check|--diff] TEXT..`
+pub const FMT: Description = Description {
+    name: "fmt",
+    about: "Formats bundle texts in place, and keeps their comments",
+    arguments: &[
+        Argument(
+            "check",
+            Kind::Flag,
+            "write nothing; print the names of texts that would change",
+        ),
+        Argument("diff", Kind::Flag, "write nothing; print what would change"),
+        Argument("quiet", Kind::ShortFlag('q'), "no line on success"),
+        Argument("TEXT", Kind::Words("TEXT"), "a bundle text, in UTF-8"),
+    ],
+    end: FMT_HELP,
+};
+
 const EXPLAIN_HELP: &str = "\
 Examples:
   resb explain

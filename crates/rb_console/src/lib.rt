@@ -12,6 +12,7 @@ mod output;
 mod printing;
 mod progress;
 mod reading;
+mod replacing;
 mod start;
 
 pub use console::{Console, Hint, ShownName};
@@ -23,4 +24,5 @@ pub use many::{each, failed};
 pub use output::{Decision, Output, are_same_file, id_of, output_of, write_output};
 pub use printing::{JsonWriter, Printing};
 pub use reading::{accepted, read_input_at_most, read_text};
+pub use replacing::replace_text;
 pub use start::{parents_of, start_engine};

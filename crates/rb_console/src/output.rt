@@ -137,7 +137,7 @@ fn is_standard_output<R: Files>(rt: &R, name: &str) -> bool {
 }
 
 /// Returns the folder of a name, up to and including its last slash.
-fn folder_of(name: &str) -> &str {
+pub(crate) fn folder_of(name: &str) -> &str {
     match name.rsplit_once('/') {
         Some((folder, _)) => name.get(..folder.len().saturating_add(1)).unwrap_or(""),
         None => "",
@@ -192,7 +192,10 @@ fn is_target<R: Files>(rt: &R, name: &str, target: &str) -> bool {
 
 /// Looks at the kind of a file to write, and finds the name that its links lead to. A device keeps
 /// its own name, and so does what can't be written.
-fn located<R: Files + AllocGlobal>(rt: &R, name: &str) -> io::Result<(FileKind, String)> {
+pub(crate) fn located<R: Files + AllocGlobal>(
+    rt: &R,
+    name: &str,
+) -> io::Result<(FileKind, String)> {
     let kind = kind_of(rt, name);
     if kind == FileKind::Ordinary || kind == FileKind::Missing {
         let target = target_of(rt, name)?;
@@ -235,7 +238,7 @@ fn drawn<R: RandomSource>(rt: &R) -> u64 {
 }
 
 /// Creates a new file in a folder, and returns it with its name.
-fn create_beside<R: Files + RandomSource + AllocGlobal>(
+pub(crate) fn create_beside<R: Files + RandomSource + AllocGlobal>(
     rt: &R,
     folder: &str,
 ) -> io::Result<(R::File, String)> {
@@ -253,7 +256,7 @@ fn create_beside<R: Files + RandomSource + AllocGlobal>(
 }
 
 /// Writes a new file's bytes, with the permissions of the file that it replaces.
-fn write_new<R: Files>(
+pub(crate) fn write_new<R: Files>(
     mut file: R::File,
     older: Option<Permissions>,
     bytes: &[u8],
@@ -284,7 +287,7 @@ fn write_beside<R: Files + RandomSource + AllocGlobal>(
 }
 
 /// Returns the permissions of an older file that may be written, which it isn't yet.
-fn writable<R: Files>(rt: &R, target: &str) -> io::Result<Permissions> {
+pub(crate) fn writable<R: Files>(rt: &R, target: &str) -> io::Result<Permissions> {
     let file = OpenOptions::new().write(true).open(rt, target)?;
     Ok(file.metadata()?.permissions())
 }

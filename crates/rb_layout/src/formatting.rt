@@ -1,16 +1,18 @@
-ghost use Rattle.std.specs.Prelude.{◌≡◌, IfOk, true};
-ghost use Rattle.rb_layout.specs.Formatted.{SpellSame};
+ghost use Rattle.std.specs.Prelude.{◌≡◌, IfOk, IfErr, true};
+ghost use Rattle.rb_layout.specs.Formatted.{SpellSame, SpellOne, IsOwnFault, IsFaultOf};
 
 use crate::comments::have_same_comments;
 use crate::fault::FormatFault;
 use crate::layout::lay_out;
 use crate::tokens::have_same_marks;
 use rb_lexer::{SourceFault, SourceKind, Tokens};
-use rb_parser::parse_unweighed;
+use rb_parser::parse;
 use std::alloc::Global;
 
-/// Returns the error of a laid out text that can't be read.
-fn unread(fault: SourceFault) -> FormatFault {
+/// Returns the error of two texts whose tokens can't be compared.
+fn not_compared(fault: SourceFault) -> FormatFault
+    ensures { IsOwnFault result }
+{
     match fault.kind {
         SourceKind::Memory => FormatFault::Memory,
         _ => FormatFault::Differs,
@@ -18,42 +20,50 @@ fn unread(fault: SourceFault) -> FormatFault {
 }
 
 /// Checks whether two texts have the same tokens.
-fn have_same_tokens(alloc: Global, text: &[u8], laid: &[u8]) -> Result<bool, FormatFault>
-    ensures { IfOk result (λ same. same ≡ true → SpellSame text.now laid.now) }
+fn have_same_tokens(alloc: Global, old: &[u8], new: &[u8]) -> Result<bool, FormatFault>
+    ensures same { IfOk result (λ same. same ≡ true → SpellSame old.now new.now) }
+    ensures error { IfErr result IsOwnFault }
 {
-    let mut old = Tokens::of(alloc, text)?;
-    let mut new = match Tokens::of(alloc, laid) {
-        Ok(new) => new,
-        Err(fault) => return Err(unread(fault)),
+    let mut olds = match Tokens::of(alloc, old) {
+        Ok(olds) => olds,
+        Err(fault) => return Err(not_compared(fault)),
     };
-    let is_same = have_same_marks(&mut old, &mut new)?;
-    Ok(is_same)
+    let mut news = match Tokens::of(alloc, new) {
+        Ok(news) => news,
+        Err(fault) => return Err(not_compared(fault)),
+    };
+    match have_same_marks(&mut olds, &mut news) {
+        Ok(is_same) => Ok(is_same),
+        Err(_) => Err(FormatFault::Memory),
+    }
 }
 
-/// Formats a bundle text. The formatted text has the same tokens in the same order, so it spells
-/// the same name, tree and flag; its comments are the same in the same order. Only white space
-/// changes: outside of quoted pieces and comments, and at the end of a line comment.
+/// Formats a bundle text. The formatted text spells the same name, tree and flag, as it has the same
+/// tokens in the same order; its comments are the same in the same order. Only white space changes:
+/// outside of quoted pieces and comments, and at the end of a line comment.
 ///
 /// # Errors
 ///
-/// Returns `Refused` with an error of the text that the lexer or the parser finds. Errors that
-/// don't change how braces, commas and colons are read, such as `BadInt`, may be left to the
-/// parser: the formatted text has them too. Returns `TooLarge` if the formatted text would have
-/// more bytes than a source may have, `Differs` if it would have other tokens or comments, and
-/// `Memory` when out of memory.
+/// Returns `Refused` with the error of the text that `parse` finds. Returns `TooLarge` if the
+/// formatted text would have more bytes than a source may have, `Differs` if it would have other
+/// tokens or comments, and `Memory` when out of memory.
 ///
 /// ```rust
-/// format(alloc, b"de{menu{open{\"O\"}}}")? // four lines: `de {`, `    menu {`, ..
+/// format(alloc, b"de{menu{open{\"O\"}}}")? // five lines: `de {`, `    menu {`, ..
 /// ```
 pub fn format(alloc: Global, text: &[u8]) -> Result<Vec<u8>, FormatFault>
-    ensures same { IfOk result (λ formatted. SpellSame text.now formatted.items) }
+    ensures tokens { IfOk result (λ formatted. SpellSame text.now formatted.items) }
+    ensures bundle { IfOk result (λ formatted. SpellOne text.now formatted.items) }
+    ensures error { IfErr result (IsFaultOf text.now) }
 {
-    let laid = lay_out(alloc, text)?;
-    if !laid.is_whole {
-        parse_unweighed(alloc, text)?;
+    let source = parse(alloc, text)?;
+    drop(source);
+    let formatted = lay_out(alloc, text)?;
+    if formatted.as_slice() == text {
+        return Ok(formatted);
     }
-    let formatted = laid.text;
-    if !have_same_tokens(alloc, text, &formatted)? || !have_same_comments(text, &formatted) {
+    let is_same = have_same_tokens(alloc, text, &formatted)?;
+    if !is_same || !have_same_comments(text, &formatted) {
         return Err(FormatFault::Differs);
     }
     Ok(formatted)

@@ -1,9 +1,11 @@
 //! Writes the pieces of a text in the layout.
+ghost use Rattle.std.specs.Prelude.{IfErr};
+ghost use Rattle.rb_layout.specs.Formatted.{IsOwnFault};
+
 use crate::body::{DEEPEST, LINE, is_inline};
 use crate::fault::FormatFault;
 use crate::gap::{Before, Gap};
 use crate::piece::{Piece, PieceKind};
-use crate::structure::Structure;
 use crate::widths::columns;
 use crate::window::Window;
 use rb_lexer::SOURCE_LIMIT;
@@ -14,14 +16,6 @@ const LEVELS: usize = 16;
 
 static SPACES: [u8; 4 * LEVELS] = [b' '; 4 * LEVELS];
 
-/// A text in the layout.
-#[derive(Drop)]
-pub(crate) struct LaidOut {
-    pub(crate) text: Vec<u8>,
-    /// The text is a bundle as far as its braces, commas and colons say.
-    pub(crate) is_whole: bool,
-}
-
 #[derive(Drop)]
 struct Layout<'a> {
     text: &'a [u8],
@@ -31,7 +25,6 @@ struct Layout<'a> {
     /// The columns of the current line, except where a body is on one line.
     column: usize,
     before: Before,
-    structure: Structure,
 }
 
 impl<'a> Layout<'a> {
@@ -48,7 +41,6 @@ impl<'a> Layout<'a> {
                 owes_line: false,
                 is_inline: false,
             },
-            structure: Structure::new(),
         })
     }
 
@@ -138,16 +130,15 @@ impl<'a> Layout<'a> {
         self.put_gap(self.gap(piece, width), level)?;
         self.out.extend_from_slice(bytes)?;
         self.column = self.column.saturating_add(width);
-        if !piece.is_comment() {
-            self.structure.add(self.text, piece);
-        }
         self.pass(piece)
     }
 }
 
 /// Lays a text out. Errors: `TooLarge` as soon as the laid out text is longer than any source;
 /// `Memory`.
-pub(crate) fn lay_out(alloc: Global, text: &[u8]) -> Result<LaidOut, FormatFault> {
+pub(crate) fn lay_out(alloc: Global, text: &[u8]) -> Result<Vec<u8>, FormatFault>
+    ensures error { IfErr result IsOwnFault }
+{
     let mut layout = Layout::new(alloc, text)?;
     for _ in 0..text.len() {
         let Some(piece) = layout.window.take() else {
@@ -164,8 +155,5 @@ pub(crate) fn lay_out(alloc: Global, text: &[u8]) -> Result<LaidOut, FormatFault
     if layout.out.len() > SOURCE_LIMIT {
         return Err(FormatFault::TooLarge);
     }
-    Ok(LaidOut {
-        is_whole: layout.structure.is_whole(),
-        text: layout.out,
-    })
+    Ok(layout.out)
 }

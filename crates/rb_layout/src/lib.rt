@@ -10,7 +10,6 @@ pub mod laws;
 mod layout;
 mod piece;
 mod scan;
-mod structure;
 mod tokens;
 mod widths;
 mod window;

@@ -3,12 +3,15 @@ ghost use Rattle.std.specs.Prelude.{◌≡◌, map, option_map};
 ghost use Rattle.rb_tool.specs.inner.Serving.{AreLimits};
 
 use crate::serve::{Serving, serve_files};
-use rb_arguments::{Asked, AskedCoverage, AskedInherited, AskedLimits, AskedLint, AskedLookup};
+use rb_arguments::{
+    Asked, AskedCoverage, AskedFormat, AskedInherited, AskedLimits, AskedLint, AskedLookup,
+};
 use rb_console::Console;
 use rb_convert::{
     Change, DiffForm, DiffWords, Layout, Target, compile_all, compile_all_json, compile_json_on,
     compile_on, diff, json, lines, text,
 };
+use rb_fmt::{FormatMode, format_all};
 use rb_inspect::{
     CoverageWords, Inheritance, LintWords, Lookup, check_all, check_on, cover_all, explain_on,
     get_on, get_raw, lint_all, list_rules, look_up, print_tree,
@@ -116,6 +119,22 @@ fn run_lint<R: Files + Input + AllocGlobal + Print + Eprint>(
         texts: &asked.texts,
     };
     lint_all(rt, console, &words)
+}
+
+/// `fmt [--check|--diff] TEXT..`
+fn run_format<R: Files + RandomSource + Clock + Input + AllocGlobal + Print + Eprint>(
+    rt: &R,
+    console: Console,
+    asked: &AskedFormat<'_>,
+) -> ExitCode {
+    let mode = if asked.is_diff {
+        FormatMode::Difference
+    } else if asked.is_check {
+        FormatMode::Check
+    } else {
+        FormatMode::Write
+    };
+    format_all(rt, quieted(console, asked.is_quiet), mode, &asked.texts)
 }
 
 /// `coverage [OPTIONS] [LOCALE=]TEXT..`
@@ -256,6 +275,7 @@ pub fn run_asked<
             diff(rt, console, DiffWords { old, new, form })
         }
         Asked::Lint(asked) => run_lint(rt, console, &asked),
+        Asked::Format(asked) => run_format(rt, console, &asked),
         Asked::Coverage(asked) => run_coverage(rt, console, &asked),
         Asked::Explain { word } => explain_on(rt, console, word),
         Asked::Lines { op, app, files } => run_lines(rt, console, op, app, &files),
