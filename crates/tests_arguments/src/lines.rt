@@ -50,6 +50,10 @@ const LINES: &str = "\
 0|resb|compile|-q|a.txt|a.res
 2|resb|compile|a.txt|b.txt|c.txt
 0|resb|compile|--to|x|a|b|c|d
+0|resb|compile|--to|x|--from|s|s/a
+2|resb|compile|--from|s|s/a|b
+0|resb|compile|--json|a|b
+2|resb|compile|--no-fallback|a|b
 2|resb|compile|--to|x
 0|resb|check|--quiet|a.res|b.res
 2|resb|lint
@@ -59,6 +63,10 @@ const LINES: &str = "\
 2|resb|coverage
 0|resb|coverage|a.txt|de=b.txt
 0|resb|coverage|--parents|p|--format|csv|a.txt
+0|resb|diff|a|b
+2|resb|diff|a
+0|resb|fmt|a
+2|resb|fmt
 0|resb|explain
 2|resb|explain|BadInt|BadHex
 2|resb|lines|shop
@@ -102,10 +110,16 @@ fn reads_command_lines(rt: HostRuntime) {
 /// Command lines, with what they ask for.
 const ASKED: &str =
     r#"resb|compile|-|a.res => Compile { input: "-", output: "a.res", is_quiet: false }
-resb|compile|-q|--to|x|a|b|c|d => CompileAll { folder: "x", texts: ["a", "b", "c", "d"], is_quiet: true }
-resb|compile|--to|x|a => CompileAll { folder: "x", texts: ["a"], is_quiet: false }
+resb|compile|-q|--to|x|a|b|c|d => CompileAll { folder: "x", from: None, texts: ["a", "b", "c", "d"], is_quiet: true }
+resb|compile|--to|x|a => CompileAll { folder: "x", from: None, texts: ["a"], is_quiet: false }
+resb|compile|--from|s|--to|x|s/a => CompileAll { folder: "x", from: Some("s"), texts: ["s/a"], is_quiet: false }
+resb|compile|--json|a|b => CompileJson { input: "a", output: "b", no_fallback: false, is_quiet: false }
+resb|compile|--no-fallback|--to|x|--json|a|b => CompileAllJson { folder: "x", from: None, texts: ["a", "b"], no_fallback: true, is_quiet: false }
 resb|check|-q|a|b => Check { files: ["a", "b"], is_quiet: true }
-resb|get|a|b/c => Get { file: "a", path: "b/c" }
+resb|get|a|b/c => Get { file: "a", path: "b/c", is_raw: false }
+resb|get|a|--raw|b => Get { file: "a", path: "b", is_raw: true }
+resb|diff|--stat|a|b => Diff { old: "a", new: "b", is_json: false, is_stat: true }
+resb|diff|a|b|--json => Diff { old: "a", new: "b", is_json: true, is_stat: false }
 resb|json|a|--pretty => Json { file: "a", path: "", is_pretty: true }
 resb|json|a|b => Json { file: "a", path: "b", is_pretty: false }
 resb|json|--inherit|de|a => Inherited(AskedInherited { parents: None, locale: "de", path: "", is_pretty: false, files: ["a"] })
@@ -114,6 +128,7 @@ resb|text|a|--name|de => Text { file: "a", name: Some("de") }
 resb|lint|--root|r|a|b => Lint(AskedLint { root: Some("r"), name: None, allow: [], deny: [], format: None, is_strict: false, is_all: false, is_list: false, texts: ["a", "b"] })
 resb|lint|--allow|x|a|--deny|y|--allow|z|--against|r|--root|s|--strict|--all|--format|json|--name|n => Lint(AskedLint { root: Some("r"), name: Some("n"), allow: ["x", "z"], deny: ["y"], format: Some("json"), is_strict: true, is_all: true, is_list: false, texts: ["a"] })
 resb|lint|--list => Lint(AskedLint { root: None, name: None, allow: [], deny: [], format: None, is_strict: false, is_all: false, is_list: true, texts: [] })
+resb|fmt|--check|-q|a|b => Format(AskedFormat { is_check: true, is_diff: false, is_quiet: true, texts: ["a", "b"] })
 resb|coverage|--format|csv|a|--parents|p|de=b => Coverage(AskedCoverage { parents: Some("p"), format: Some("csv"), texts: ["a", "de=b"] })
 resb|explain => Explain { word: None }
 resb|explain|BadInt => Explain { word: Some("BadInt") }
