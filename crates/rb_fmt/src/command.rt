@@ -9,7 +9,7 @@ use std::process::ExitCode;
 use std::random::RandomSource;
 use std::rt::{Clock, Files};
 
-/// What is done with a text that formatting changes.
+/// The way to treat a text that formatting changes.
 #[derive(Clone, Copy, Debug, PartialEq, Eq)]
 pub enum FormatMode {
     /// It is replaced, or printed if it came from standard input.

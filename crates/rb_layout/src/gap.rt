@@ -10,7 +10,7 @@ pub(crate) enum Gap {
     BlankLine,
 }
 
-/// What a piece comes after, apart from its own kind.
+/// The context of a piece: the piece before it, and the body around it.
 #[derive(Clone, Copy, Debug)]
 pub(crate) struct Before {
     /// The piece before it, or none at the start of the text.
@@ -82,7 +82,7 @@ impl Before {
         }
     }
 
-    /// Returns the gap before a piece. A text that doesn't fit into its line begins a new one besides.
+    /// Returns the gap before a piece, however long its line is.
     pub(crate) fn gap(&self, piece: &Piece) -> Gap {
         if self.kind.is_none() {
             return Gap::Nothing;
