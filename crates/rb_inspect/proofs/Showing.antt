@@ -1,6 +1,6 @@
 -- The units of an alias's text as a trace shows them, one by one.
-use Rattle.std.proofs.Common.{◌≡◌, ◌+◌, ◌-◌, ◌<◌, ◌≤◌, ℕ, suc, List, [], ◌∷◌, ◌++◌, length, map, take, drop, slice_index, slice_range}
-use Rattle.std.proofs.Common.{refl, ap, sym, ◌∙◌, arith}
+use Rattle.std.proofs.Common.{◌≡◌, ◌+◌, ◌-◌, ◌<◌, ◌≤◌, ℕ, suc, List, [], ◌∷◌, ◌++◌, length, map, slice_index, slice_range}
+use Rattle.std.proofs.Common.{refl, ap, sym, ◌∙◌}
 use Rattle.rb_tree.specs.Resource.{Resource}
 use Rattle.rb_tree.specs.Parts.{HasUnits, kind_of, len_of, units_of}
 use Rattle.rb_fallback.proofs.AppendedUnits.{unit_on, unit_count}

@@ -1,11 +1,11 @@
 -- The item that is shown at the end of a walk.
-use Rattle.std.proofs.Common.{◌≡◌, ℕ, ◌<◌, List, [], ◌∷◌, ◌++◌, length, drop, Option, Some, None, Ok, Err, Bool, true, false, cond, All, refl, sym, ap, ◌∙◌, subst, arith}
+use Rattle.std.proofs.Common.{◌≡◌, ℕ, ◌<◌, List, [], ◌∷◌, ◌++◌, length, drop, Ok, All, refl, sym, ap, ◌∙◌, subst}
 use Rattle.std.specs.List.{join_with_byte}
 use Rattle.std.proofs.lemmas.List.Elements.{All-drop}
 use Rattle.rb_tree.specs.Keys.{IsPlain}
 use Rattle.rb_tree.specs.Resource.{Resource, alias}
 use Rattle.rb_tree.specs.Path.{IsPath, segments}
-use Rattle.rb_tree.specs.Walk.{Walked, ends, links, gone, walk, behind, stop_of, rest_of, end, link, nowhere}
+use Rattle.rb_tree.specs.Walk.{Walked, ends, links, gone, walk, behind, stop_of, rest_of, end, link}
 use Rattle.rb_fallback.proofs.Paths.{Whole, walk_whole, segments_joined}
 use Rattle.rb_json.specs.Item.{item_data}
 use Rattle.rb_inspect.specs.Got.{shown}
