@@ -52,12 +52,10 @@ impl Before {
     }
 
     fn before_right_brace(&self) -> Gap {
-        if !self.is_inline {
-            Gap::Line
-        } else if self.kind == Some(PieceKind::LeftBrace) {
-            Gap::Nothing
-        } else {
+        if self.is_inline {
             Gap::Space
+        } else {
+            Gap::Line
         }
     }
 
