@@ -19,7 +19,7 @@ import tempfile
 import json_values
 from model import lookups, making
 from model.lookups import Refused
-from model.trees import child, segments, walk
+from model.trees import child, height, segments, walk
 
 LEVELS = 64
 SIZE_LIMIT = 20000
@@ -237,7 +237,9 @@ def random_entries(pick, levels):
 
 def random_bundle(pick):
     if pick.random() < 0.3:
-        return making.random_bundle(pick)
+        found = making.random_bundle(pick)
+        if height(found[0]) <= LEVELS:
+            return found
     entries = random_entries(pick, pick.choice((1, 2, 3)))
     if pick.random() < 0.1:
         name = pick.choice(making.LOCALES + making.BAD_LOCALES[:1])
