@@ -137,11 +137,12 @@ AsksFor name rows (Look lookup) =
     × (lookup.path.now ≡ word_in rows (codes "PATH"))
     × IsFlagIn rows (codes "trace") lookup.is_traced
     × (texts lookup.files.items ≡ words_in rows (codes "FILE"))
-AsksFor name rows (Serve parents bundles limits) =
+AsksFor name rows (Serve parents bundles limits is_extended) =
     (name ≡ codes "serve")
     × (option_map (λ s. s.now) parents ≡ first_of (codes "parents") rows)
     × (texts bundles.items ≡ words_in rows (codes "bundles"))
     × AreGiven rows limits
+    × IsFlagIn rows (codes "extended") is_extended
 
 -- ---- by the name and the rows of the command that a command line enters, if it enters one
 

@@ -95,6 +95,7 @@ pub enum Asked<'a> {
         parents: Option<&'a str>,
         bundles: Vec<&'a str>,
         limits: AskedLimits,
+        is_extended: bool,
     },
 }
 
@@ -396,10 +397,12 @@ fn serve_asked<'a>(alloc: Global, given: &ArgMatches<'a>) -> Result<Asked<'a>, A
     let bundles = words_of(alloc, given, "bundles")?;
     let parents = optional_of(given, "parents");
     let limits = limits_asked(given);
+    let is_extended = flag_of(given, "extended");
     Ok(Asked::Serve {
         parents,
         bundles,
         limits,
+        is_extended,
     })
 }
 

@@ -53,6 +53,11 @@ pub const SERVE: Description = Description {
             "answer a line for which memory is out, and serve on if the bundles are as before",
         ),
         Argument(
+            "extended",
+            Kind::Flag,
+            "answer extended requests too, and say why a text or a file is refused",
+        ),
+        Argument(
             "bundles",
             Kind::AnyWords("LOCALE=FILE"),
             "a bundle of ICUDATA: bundle text where FILE ends in .txt, else a .res file",

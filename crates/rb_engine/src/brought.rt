@@ -1,11 +1,12 @@
-ghost use Rattle.std.specs.Prelude.{◌≡◌, IfOk, length};
+ghost use Rattle.std.specs.Prelude.{◌≡◌, [], ◌∷◌, ◌++◌, Ok, Some, IfOk, OnOk, OnErr, length};
 ghost use Rattle.rb_engine.specs.Source.{Reads, payload_of};
 ghost use Rattle.rb_engine.specs.Change.{IsFileOf};
 
+use crate::judging::{ReadFault, judged_bundle};
 use crate::payload::{bundle_of, payload_bundle};
 use crate::place::{Place, place_of};
 use crate::request::{BundleSource, Payload, Reply};
-use rb_packages::App;
+use rb_packages::{App, Draft, DraftFault};
 use rb_validator::Bundle;
 use std::alloc::Global;
 use std::marker::Model;
@@ -45,6 +46,39 @@ impl Brought {
         let place = place_of(app, locale)?;
         let bundle = bundle_of(alloc, source)?;
         Ok(Brought { place, bundle })
+    }
+
+    /// Reads an incoming bundle like `read`, and reports what is wrong with a text or a file: the
+    /// first error that `compile` or `accept` finds.
+    pub fn judge(
+        alloc: Global,
+        app: &[u8],
+        locale: &[u8],
+        source: BundleSource<'_>,
+    ) -> Result<Brought, ReadFault>
+        ensures read { IfOk result
+            (λ brought. Reads app.now locale.now (payload_of source.entry) (Ok brought)) }
+        ensures file { IfOk result (λ brought. IsFileOf (payload_of source.entry) brought.1) }
+    {
+        let place = match place_of(app, locale) {
+            Ok(place) => place,
+            Err(fault) => return Err(ReadFault::Refused(Reply::from(fault))),
+        };
+        match judged_bundle(alloc, source) {
+            Ok(bundle) => Ok(Brought { place, bundle }),
+            Err(fault) => Err(fault),
+        }
+    }
+
+    /// Adds the bundle to the changes of a draft, under its locale's name.
+    pub fn add_to(self, draft: &mut Draft) -> Result<(), DraftFault>
+        ensures app { draft.new.app ≡ draft.old.app }
+        ensures added { OnOk result
+            (draft.new.edits ≡ draft.old.edits ++ (self.0.name, Some self.1) ∷ []) }
+        ensures same { OnErr result (draft.new.edits ≡ draft.old.edits) }
+    {
+        let (place, bundle) = self.into_parts();
+        draft.put(place.name, bundle)
     }
 
     pub(crate) fn read_payload(

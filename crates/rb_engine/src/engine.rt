@@ -1,10 +1,11 @@
 ghost use Rattle.std.specs.Prelude.{◌≡◌, ◌≢◌, ◌+◌, ◌-◌, ◌^◌, [], ℕ, List, length, Ok, true, false};
-ghost use Rattle.std.specs.Prelude.{IfOk, IfErr, OnOk, OnErr, min, option_map};
+ghost use Rattle.std.specs.Prelude.{IfOk, IfErr, OnOk, OnErr, map, min, option_map};
 ghost use Rattle.std.specs.Coded.{codes};
 ghost use Rattle.rb_parents.specs.Family.{family_pairs, parent_of, parent_in};
 ghost use Rattle.rb_views.specs.Seen.{tree_seen};
 ghost use Rattle.rb_packages.specs.Shelf.{bundle_at};
 ghost use Rattle.rb_packages.specs.Packages.{icudata_of, list_of, files_of, file_at, OthersStay};
+ghost use Rattle.rb_packages.specs.Release.{edited};
 ghost use Rattle.rb_packages.specs.Usage.{bytes_of, apps_of, more_apps, AreThereOnce};
 ghost use Rattle.rb_engine.specs.Ask.{Requests, Looks};
 ghost use Rattle.rb_engine.specs.Answer.{Replies, answer_over, lookup_in};
@@ -28,10 +29,11 @@ use crate::same_name::same_name;
 use crate::start::{StartFault, load_all};
 use rb_fallback::{BoundedError, Found, LookError};
 use rb_locales::Name;
-use rb_packages::{App, Packages, Usage};
+use rb_packages::{App, Draft, Packages, Usage};
 use rb_parents::Parents;
+use rb_validator::Bundle;
 use rb_views::Item;
-use std::alloc::Global;
+use std::alloc::{AllocError, Global};
 use std::hash::RandomState;
 use std::marker::Model;
 
@@ -195,6 +197,41 @@ impl Engine {
         ensures bundles { result.bundles ≡ length (files_of app.now self.now.packages) }
     {
         self.packages.usage(app)
+    }
+
+    /// Returns the application's bundle with this name.
+    pub fn bundle(&self, app: &App, name: &Name) -> Option<&Bundle>
+        ensures { option_map (λ b. b.now) result ≡ file_at app.now name.now self.now.packages }
+    {
+        self.packages.bundle(app, name)
+    }
+
+    /// Returns the names of an application's bundles and the lengths of their files, in the order
+    /// of installation.
+    pub fn sizes(&self, alloc: Global, app: &App) -> Result<Vec<(Name, u64)>, AllocError>
+        ensures { IfOk result (λ sizes. sizes.items
+            ≡ map (λ e. (e.0, length e.1)) (files_of app.now self.now.packages)) }
+    {
+        self.packages.sizes(alloc, app)
+    }
+
+    /// Begins changes of an application's bundles that are made together by `release`.
+    pub fn draft(&self, alloc: Global, app: &App) -> Result<Draft, AllocError>
+        ensures app { IfOk result (λ draft. draft.app ≡ app.now) }
+        ensures none { IfOk result (λ draft. draft.edits ≡ []) }
+    {
+        self.packages.draft(alloc, app)
+    }
+
+    /// Makes the changes of a draft in their order: all of them, or none if memory runs out.
+    pub fn release(&mut self, draft: Draft) -> Result<(), AllocError>
+        ensures files { OnOk result (files_of draft.app self.new.packages
+            ≡ edited draft.edits (files_of draft.app self.old.packages)) }
+        ensures others { OthersStay draft.app self.old.packages self.new.packages }
+        ensures parents { self.new.parents ≡ self.old.parents }
+        ensures unchanged { OnErr result (self.new ≡ self.old) }
+    {
+        self.packages.release(draft)
     }
 
     /// Returns the length of the file that is stored under the incoming bundle's name.

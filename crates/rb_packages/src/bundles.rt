@@ -1,11 +1,14 @@
 ghost use Rattle.std.specs.Prelude.{◌≡◌, ◌-◌, ◌^◌, [], ◌∷◌, ◌++◌, Some, None, IfOk, IfErr, IfNone};
-ghost use Rattle.std.specs.Prelude.{OnOk, OnErr, ◌+◌, length, min, fold, map, option_map};
+ghost use Rattle.std.specs.Prelude.{OnOk, OnErr, ◌+◌, ◌<◌, ◌≤◌, length, min, fold, map, option_map};
 ghost use Rattle.std.specs.Map.{lookup, keys_of, values_of, set_value, remove_entry};
 ghost use Rattle.std.specs.Str.{bytes_eq};
 ghost use Rattle.rb_packages.specs.Packages.{shelf_of, install_fault, IsJudged};
+ghost use Rattle.rb_packages.specs.Release.{edited, edited_at};
 ghost use Rattle.rb_packages.specs.Usage.{bytes_of};
+ghost use Rattle.indexmap.specs.IndexMap.{spare};
 ghost use Rattle.rb_packages.specs.declared.fault.PackFault.TheVariants as faults;
 
+use crate::draft::Edit;
 use crate::fault::{Absent, PackFault};
 use crate::limits::BUNDLE_LIMIT;
 use crate::stored_bundle::StoredBundle;
@@ -146,4 +149,54 @@ pub(crate) fn file_len(bundles: &Bundles, name: &Name) -> Option<u64>
         Some(stored) => Some(stored.len()),
         None => None,
     }
+}
+
+pub(crate) fn bundle<'a>(bundles: &'a Bundles, name: &Name) -> Option<&'a Bundle>
+    ensures { option_map (λ b. b.now) result ≡ lookup (bytes_eq name.now) bundles.now.entries }
+{
+    match bundles.get(name) {
+        Some(stored) => Some(stored.bundle()),
+        None => None,
+    }
+}
+
+/// Returns the names and the lengths of the files, in the order of installation.
+pub(crate) fn sizes(alloc: Global, bundles: &Bundles) -> Result<Vec<(Name, u64)>, AllocError>
+    ensures { IfOk result
+        (λ sizes. sizes.items ≡ map (λ e. (e.0, length e.1)) bundles.now.entries) }
+{
+    bundles
+        .iter()
+        .map(|(name, stored)| (*name, stored.len()))
+        .collect(alloc)
+}
+
+/// Makes a change: adds a bundle at the end or in place of the one with its name, or removes one.
+pub(crate) fn edit(bundles: &mut Bundles, name: Name, bundle: Option<Bundle>)
+    requires { 0 < spare bundles.old }
+    ensures changed { bundles.new.entries ≡ edited_at name bundle bundles.old.entries }
+    ensures room { spare bundles.old ≤ spare bundles.new + 1 }
+{
+    match bundle {
+        Some(bundle) => {
+            bundles.insert(name, StoredBundle::of(bundle)).unwrap();
+        }
+        None => {
+            bundles.shift_remove(&name);
+        }
+    }
+}
+
+/// Makes changes in their order, or none if memory runs out.
+pub(crate) fn edit_all(bundles: &mut Bundles, edits: Vec<Edit>) -> Result<(), AllocError>
+    ensures changed { OnOk result
+        (bundles.new.entries ≡ edited edits.items bundles.old.entries) }
+    ensures stays { OnErr result (bundles.new.entries ≡ bundles.old.entries) }
+{
+    bundles.reserve(edits.len())?;
+    for (name, bundle) in edits {
+        edit(bundles, name, bundle);
+    }
+    bundles.shrink_to_fit();
+    Ok(())
 }

@@ -4,6 +4,7 @@
 
 mod app;
 mod bundles;
+mod draft;
 mod fault;
 mod lent;
 mod limits;
@@ -15,6 +16,7 @@ mod usage;
 mod words;
 
 pub use app::{App, AppFault};
+pub use draft::{Draft, DraftFault};
 pub use fault::{Absent, PackFault};
 pub use lent::LentItem;
 pub use limits::BUNDLE_LIMIT;

@@ -5,17 +5,20 @@ ghost use Rattle.std.specs.Map.{lookup, set_value, remove_entry};
 ghost use Rattle.std.specs.Str.{bytes_eq};
 ghost use Rattle.rb_packages.specs.Packages.{shelf_of, install_fault, IsJudged};
 ghost use Rattle.rb_packages.specs.Index.{files_at, files_by_app, KeepsOthers, IsBare};
+ghost use Rattle.rb_packages.specs.Release.{edited};
 ghost use Rattle.rb_packages.specs.Usage.{bytes_of, more_apps};
 ghost use Rattle.rb_packages.specs.declared.fault.PackFault.TheVariants as faults;
 
 use crate::app::App;
 use crate::bundles;
 use crate::bundles::Bundles;
+use crate::draft::Edit;
 use crate::fault::{Absent, PackFault};
 use crate::usage::Usage;
 use indexmap::IndexMap;
 use rb_locales::Name;
 use rb_validator::Bundle;
+use std::alloc::AllocError;
 use std::hash::RandomState;
 
 /// The packages by application. An application without bundles has no entry.
@@ -174,4 +177,48 @@ pub(crate) fn file_len(owned: &Owned, app: &App, name: &Name) -> Option<u64>
 {
     let bundles = owned.get(app)?;
     bundles::file_len(bundles, name)
+}
+
+pub(crate) fn bundle<'a>(owned: &'a Owned, app: &App, name: &Name) -> Option<&'a Bundle>
+    ensures { option_map (λ b. b.now) result
+        ≡ lookup (bytes_eq name.now) (files_at app.now owned.now.entries) }
+{
+    let bundles = owned.get(app)?;
+    bundles::bundle(bundles, name)
+}
+
+/// Makes the first changes of an application, or none if memory runs out.
+fn release_first(owned: &mut Owned, app: &App, edits: Vec<Edit>) -> Result<(), AllocError>
+    requires { files_at app.now owned.old.entries ≡ [] }
+    ensures own { OnOk result (files_at app.now owned.new.entries ≡ edited edits.items []) }
+    ensures others { KeepsOthers app.now owned.old.entries owned.new.entries }
+    ensures filled { OnOk result (¬ IsBare (lookup (bytes_eq app.now) owned.new.entries)) }
+    ensures stays { OnErr result
+        (files_by_app owned.new.entries ≡ files_by_app owned.old.entries) }
+{
+    owned.reserve(1)?;
+    let mut bundles = IndexMap::with_hasher(*owned.allocator(), *owned.hasher());
+    bundles::edit_all(&mut bundles, edits)?;
+    if !bundles.is_empty() {
+        owned.insert(*app, bundles).unwrap();
+    }
+    Ok(())
+}
+
+/// Makes changes of an application's bundles in their order: all of them, or none if memory runs
+/// out.
+pub(crate) fn release(owned: &mut Owned, app: &App, edits: Vec<Edit>) -> Result<(), AllocError>
+    ensures own { OnOk result (files_at app.now owned.new.entries
+        ≡ edited edits.items (files_at app.now owned.old.entries)) }
+    ensures others { KeepsOthers app.now owned.old.entries owned.new.entries }
+    ensures filled { OnOk result (¬ IsBare (lookup (bytes_eq app.now) owned.new.entries)) }
+    ensures stays { OnErr result
+        (files_by_app owned.new.entries ≡ files_by_app owned.old.entries) }
+{
+    match owned.get_mut(app) {
+        Some(bundles) => bundles::edit_all(bundles, edits)?,
+        None => return release_first(owned, app, edits),
+    }
+    remove_if_empty(owned, app);
+    Ok(())
 }

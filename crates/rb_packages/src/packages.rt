@@ -7,10 +7,12 @@ ghost use Rattle.rb_packages.specs.Shelf.{bundle_at, replaced, removed};
 ghost use Rattle.rb_packages.specs.Packages.{icudata_files, icudata_of, files_of, list_of, file_at};
 ghost use Rattle.rb_packages.specs.Packages.{install_fault, load_fault, IsJudged, OthersStay};
 ghost use Rattle.rb_packages.specs.Lent.{files_in, bundles_lent};
+ghost use Rattle.rb_packages.specs.Release.{edited};
 ghost use Rattle.rb_packages.specs.Usage.{bytes_of, apps_of, more_apps, AreThereOnce};
 
 use crate::app::App;
 use crate::bundles::Bundles;
+use crate::draft::Draft;
 use crate::fault::{Absent, PackFault};
 use crate::owned::Owned;
 use crate::shelf::AppShelf;
@@ -180,6 +182,44 @@ impl Packages {
         ensures { result ≡ option_map length (file_at app.now name.now self.now) }
     {
         owned::file_len(&self.owned, app, name)
+    }
+
+    /// Returns the application's bundle with this name.
+    pub fn bundle(&self, app: &App, name: &Name) -> Option<&Bundle>
+        ensures { option_map (λ b. b.now) result ≡ file_at app.now name.now self.now }
+    {
+        owned::bundle(&self.owned, app, name)
+    }
+
+    /// Returns the names of an application's bundles and the lengths of their files, in the order
+    /// of installation.
+    pub fn sizes(&self, alloc: Global, app: &App) -> Result<Vec<(Name, u64)>, AllocError>
+        ensures { IfOk result (λ sizes. sizes.items
+            ≡ map (λ e. (e.0, length e.1)) (files_of app.now self.now)) }
+    {
+        match self.owned.get(app) {
+            Some(bundles) => bundles::sizes(alloc, bundles),
+            None => Ok(Vec::new(alloc)),
+        }
+    }
+
+    /// Begins changes of an application's bundles that are made together by `release`.
+    pub fn draft(&self, alloc: Global, app: &App) -> Result<Draft, AllocError>
+        ensures app { IfOk result (λ draft. draft.app ≡ app.now) }
+        ensures none { IfOk result (λ draft. draft.edits ≡ []) }
+    {
+        Draft::of(alloc, *self.owned.hasher(), app, self.owned.get(app))
+    }
+
+    /// Makes the changes of a draft in their order: all of them, or none if memory runs out.
+    pub fn release(&mut self, draft: Draft) -> Result<(), AllocError>
+        ensures files { OnOk result
+            (files_of draft.app self.new ≡ edited draft.edits (files_of draft.app self.old)) }
+        ensures others { OthersStay draft.app self.old self.new }
+        ensures unchanged { OnErr result (self.new ≡ self.old) }
+    {
+        let app = *draft.app();
+        owned::release(&mut self.owned, &app, draft.into_edits())
     }
 
     /// Returns how many applications have bundles.

@@ -68,6 +68,12 @@ impl StoredBundle {
         self.bundle
     }
 
+    pub(crate) fn bundle(&self) -> &Bundle
+        ensures { result.now ≡ self.now }
+    {
+        &self.bundle
+    }
+
     pub(crate) fn len(&self) -> u64
         ensures { result ≡ length self.now }
     {

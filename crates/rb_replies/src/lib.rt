@@ -1,10 +1,15 @@
 //! Writes the replies of an engine as lines of JSON, and counts their bytes.
 #![tactic(auto)]
 
+mod extended;
 mod limit;
 mod line;
 mod reply;
 
+pub use extended::{
+    Detail, file_is_above, put_file, put_refusal, put_sizes, put_stored, put_text, sizes_are_above,
+    text_is_above,
+};
 pub use limit::{found_is_above, reply_is_above};
 pub use line::ReplyLine;
 pub use rb_json::item_text;

@@ -13,8 +13,8 @@ use rb_views::Item;
 
 /// An outlet that counts down the bytes that a text may still have; `None` once the text is longer.
 #[derive(Clone, Copy)]
-struct Room {
-    left: Option<u64>,
+pub(crate) struct Room {
+    pub(crate) left: Option<u64>,
 }
 
 impl Outlet for Room {

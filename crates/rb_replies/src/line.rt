@@ -5,10 +5,12 @@ ghost use Rattle.rb_replies.specs.Replied.{usage_data};
 ghost use Rattle.rb_engine.specs.LookResponse.{look_response};
 ghost use Rattle.rb_views.specs.Seen.{tree_seen};
 
+use crate::extended::{Detail, put_refusal, put_sizes, put_stored};
 use crate::reply::{put_error, put_look, put_reply, put_usage};
 use rb_engine::{LookFault, Reply};
 use rb_fallback::Found;
 use rb_json::Buffer;
+use rb_locales::Name;
 use rb_views::Item;
 use std::alloc::{AllocError, Global};
 use std::marker::Model;
@@ -114,6 +116,35 @@ impl ReplyLine {
     {
         let mut out = self.begin(alloc);
         put_usage(&mut out, bytes, bundles);
+        self.end(out)
+    }
+
+    /// Makes the line a refusal. After an error, which comes only if memory runs out, nothing is
+    /// known of the line.
+    pub fn tell_refusal(
+        &mut self,
+        alloc: Global,
+        code: &str,
+        detail: Detail,
+    ) -> Result<(), AllocError> {
+        let mut out = self.begin(alloc);
+        put_refusal(&mut out, code, detail);
+        self.end(out)
+    }
+
+    /// Makes the line the reply of a bundle that is stored. After an error, which comes only if
+    /// memory runs out, nothing is known of the line.
+    pub fn tell_stored(&mut self, alloc: Global, is_replaced: bool) -> Result<(), AllocError> {
+        let mut out = self.begin(alloc);
+        put_stored(&mut out, is_replaced);
+        self.end(out)
+    }
+
+    /// Makes the line the reply of an application's bundles. After an error, which comes only if
+    /// memory runs out, nothing is known of the line.
+    pub fn tell_sizes(&mut self, alloc: Global, sizes: &[(Name, u64)]) -> Result<(), AllocError> {
+        let mut out = self.begin(alloc);
+        put_sizes(&mut out, sizes);
         self.end(out)
     }
 }

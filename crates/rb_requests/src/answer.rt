@@ -88,7 +88,7 @@ fn is_memory(reply: &Reply) -> bool
     matches!(reply, Reply::Memory)
 }
 
-fn tell_word(alloc: Global, word: &str, reply: &mut ReplyLine) -> Result<(), AllocError>
+pub(crate) fn tell_word(alloc: Global, word: &str, reply: &mut ReplyLine) -> Result<(), AllocError>
     ensures { OnOk result (reply.new ≡ error_line word.now) }
 {
     reply.tell_error(alloc, word)
@@ -105,7 +105,7 @@ pub(crate) fn tell_line_error(
     tell_word(alloc, error.word(), reply)
 }
 
-fn answer_request(
+pub(crate) fn answer_request(
     alloc: Global,
     engine: &mut Engine,
     limits: &Limits,
@@ -186,7 +186,7 @@ fn place_found<S: Sink>(
     Ok(Placed::Held)
 }
 
-fn answer_look<S: Sink>(
+pub(crate) fn answer_look<S: Sink>(
     alloc: Global,
     engine: &Engine,
     limits: &Limits,
@@ -212,7 +212,7 @@ fn answer_look<S: Sink>(
     }
 }
 
-fn answer_usage(
+pub(crate) fn answer_usage(
     alloc: Global,
     engine: &Engine,
     app: &str,

@@ -48,7 +48,10 @@ pub(crate) enum Line<'a> {
     },
 }
 
-fn payload_of<'a>(alloc: Global, texts: &Texts<'a>) -> Result<Option<BundleSource<'a>>, AllocError>
+pub(crate) fn payload_of<'a>(
+    alloc: Global,
+    texts: &Texts<'a>,
+) -> Result<Option<BundleSource<'a>>, AllocError>
     ensures { IfOk result
         (λ o. option_map payload_from o ≡ payload_by texts.now.text texts.now.file) }
 {

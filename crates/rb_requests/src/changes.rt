@@ -30,7 +30,7 @@ pub(crate) fn is_over(limit: Option<u64>, number: u64) -> bool
     }
 }
 
-fn is_sum_over(limit: Option<u64>, a: u64, b: u64) -> bool
+pub(crate) fn is_sum_over(limit: Option<u64>, a: u64, b: u64) -> bool
     ensures { result ≡ over limit (a + b) }
 {
     match limit {
@@ -49,7 +49,12 @@ fn source_len(source: &BundleSource<'_>) -> u64
 }
 
 /// Checks for valid names with a payload that is too long to be read.
-fn is_too_long(limits: &Limits, app: &[u8], locale: &[u8], source: &BundleSource<'_>) -> bool
+pub(crate) fn is_too_long(
+    limits: &Limits,
+    app: &[u8],
+    locale: &[u8],
+    source: &BundleSource<'_>,
+) -> bool
     ensures { result
         ≡ long_payload limits.now (place_of app.now locale.now) (payload_of source.now) }
 {

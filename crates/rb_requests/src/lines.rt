@@ -58,7 +58,7 @@ pub struct Served {
 const KEPT: usize = 65_536;
 
 /// Empties a buffer and its scratch, and keeps their memory unless the buffer is large.
-fn empty(alloc: Global, buffer: &mut Vec<u8>, scratch: &mut Scratch)
+pub(crate) fn empty(alloc: Global, buffer: &mut Vec<u8>, scratch: &mut Scratch)
     ensures { buffer.new.items ≡ [] }
 {
     if buffer.capacity() > KEPT {
@@ -116,7 +116,7 @@ fn put_reply<S: Sink>(sink: &mut S, reply: &[u8]) -> Result<(), Failed>
 }
 
 /// Returns the lengths under limits up to which lines are read, and up to which they are stored.
-fn longest_of(limits: &Limits) -> Longest
+pub(crate) fn longest_of(limits: &Limits) -> Longest
     ensures { result ≡ longest limits.now }
 {
     let most = LINE_LIMIT as u64;
@@ -132,7 +132,7 @@ fn longest_of(limits: &Limits) -> Longest
 }
 
 /// Returns the error that a line is answered of which this much is stored; none if all of it is.
-fn held_error(held: Held) -> Option<LineError>
+pub(crate) fn held_error(held: Held) -> Option<LineError>
     ensures { result ≡ error_if_held held }
 {
     match held {
@@ -143,7 +143,7 @@ fn held_error(held: Held) -> Option<LineError>
 }
 
 /// Returns the error that is answered if memory ran out for a whole line; none if serving ends.
-fn starved_error(limits: &Limits, starved: Starved) -> Option<LineError>
+pub(crate) fn starved_error(limits: &Limits, starved: Starved) -> Option<LineError>
     ensures { result ≡ error_if_starved limits.now starved }
 {
     match starved {
@@ -189,7 +189,7 @@ fn tell_line<S: Sink>(
 }
 
 /// Writes a reply if it isn't written yet, and flushes.
-fn put_placed<S: Sink>(sink: &mut S, placed: Placed, line: &[u8]) -> Result<(), Failed>
+pub(crate) fn put_placed<S: Sink>(sink: &mut S, placed: Placed, line: &[u8]) -> Result<(), Failed>
     ensures { Finishes placed line.now
         (writer (S.written sink.old) (S.faults sink.old) (S.settled sink.old))
         (writer (S.written sink.new) (S.faults sink.new) (S.settled sink.new)) result }
@@ -233,7 +233,7 @@ fn serve_line<S: Sink>(
 }
 
 /// Ends serving after the most lines that may be served: reads a byte more, if there is one.
-fn end_after<F: Feed>(feed: &mut F, lines: u64) -> Result<Served, ServeFault>
+pub(crate) fn end_after<F: Feed>(feed: &mut F, lines: u64) -> Result<Served, ServeFault>
     ensures end { EndsAfter (F.left feed.old) (F.left feed.new) lines result }
     ensures reads { F.faults feed.new ≡ reads_failed (F.faults feed.old) result }
 {

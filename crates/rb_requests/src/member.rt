@@ -55,7 +55,7 @@ pub(crate) fn read_value<'a>(reader: &mut Reader<'a>, depth: usize) -> Result<Me
 
 #[cycle(read_value)]
 #[inline(never)]
-fn pass_items(reader: &mut Reader<'_>, depth: usize) -> Result<(), Invalid>
+pub(crate) fn pass_items(reader: &mut Reader<'_>, depth: usize) -> Result<(), Invalid>
     ensures ok { OnOk result ((ds : Items) × (converted of_items
         (items_of (value_of depth) (length reader.old) reader.old) ≡ Some (ds, reader.new))) }
     ensures err { OnErr result
@@ -70,7 +70,7 @@ fn pass_items(reader: &mut Reader<'_>, depth: usize) -> Result<(), Invalid>
 
 #[cycle(read_value)]
 #[inline(never)]
-fn pass_members(reader: &mut Reader<'_>, depth: usize) -> Result<(), Invalid>
+pub(crate) fn pass_members(reader: &mut Reader<'_>, depth: usize) -> Result<(), Invalid>
     ensures ok { OnOk result ((found : Members)
         × (converted (λ ms. of_members ms no_members)
         (members_of (value_of depth) (length reader.old) reader.old) ≡ Some (found, reader.new))) }

@@ -31,10 +31,10 @@ fn pass<S: Sink>(sink: &mut S, failed: bool, bytes: &[u8]) -> bool
 /// A buffered text that is written to a sink. After a call of the sink has failed, the remaining
 /// bytes are dropped.
 #[derive(Drop)]
-struct Stream<'a, S: Sink> {
-    sink: &'a mut S,
-    held: &'a mut Vec<u8>,
-    failed: bool,
+pub(crate) struct Stream<'a, S: Sink> {
+    pub(crate) sink: &'a mut S,
+    pub(crate) held: &'a mut Vec<u8>,
+    pub(crate) failed: bool,
 }
 
 impl<'a, S: Sink> Stream<'a, S> {
@@ -56,7 +56,7 @@ impl<'a, S: Sink> Stream<'a, S> {
         }
     }
 
-    fn pass_on(&mut self)
+    pub(crate) fn pass_on(&mut self)
         ensures same { (self.new.sink.ghost_name ≡ self.old.sink.ghost_name)
             × (self.new.held.ghost_name ≡ self.old.held.ghost_name) }
         ensures takes { Takes self.old.failed (writer (S.written self.old.sink.now)

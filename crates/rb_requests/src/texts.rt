@@ -38,7 +38,7 @@ impl<'a> Texts<'a> {
         }
     }
 
-    fn with(self, key: &str, member: Member<'a>) -> Self
+    pub(crate) fn with(self, key: &str, member: Member<'a>) -> Self
         ensures { (found : Members) (d : Data) → IsMember member.entry d → Holds self.entry found
             → Holds result (put key.now d found) }
     {
@@ -67,7 +67,7 @@ fn after<'a>(
     if key == name { Some(member) } else { held }
 }
 
-fn opens_object(reader: &mut Reader<'_>) -> bool
+pub(crate) fn opens_object(reader: &mut Reader<'_>) -> bool
     ensures { MatchBool result (reader.old ≡ Tokens.begin_object ∷ reader.new)
         (BeginsWithNoBrace reader.old) }
 {

@@ -207,17 +207,20 @@ fn serving_of<'a>(
     parents: Option<&'a str>,
     bundles: Vec<&'a str>,
     asked: AskedLimits,
+    is_extended: bool,
 ) -> Serving<'a>
     ensures parents { option_map (λ s. s.now) result.parents
         ≡ option_map (λ s. s.now) parents.entry }
     ensures bundles { map (λ s. s.now) result.bundles.items
         ≡ map (λ s. s.now) bundles.entry.items }
     ensures limits { AreLimits asked result.limits }
+    ensures extended { result.is_extended ≡ is_extended }
 {
     Serving {
         parents,
         bundles,
         limits: limits_of(asked),
+        is_extended,
     }
 }
 
@@ -284,6 +287,11 @@ pub fn run_asked<
             parents,
             bundles,
             limits,
-        } => { serve_files(rt, console, &serving_of(parents, bundles, limits)) }
+            is_extended,
+        } => serve_files(
+            rt,
+            console,
+            &serving_of(parents, bundles, limits, is_extended),
+        ),
     }
 }

@@ -33,6 +33,7 @@ fn serve_buffered<R: Input + Print + AllocGlobal>(
     rt: &R,
     console: Console,
     server: &mut Server,
+    is_extended: bool,
 ) -> io::Result<Result<(), ServeFault>> {
     let alloc = rt.alloc();
     let has_next_line = Cell::new(false);
@@ -42,7 +43,12 @@ fn serve_buffered<R: Input + Print + AllocGlobal>(
     let writer = JsonWriter::new(buffer, console.is_output_terminal);
     let mut writer = BatchingWriter::new(writer, &has_next_line);
     let mut sink = WriteSink::new(&mut writer);
-    match server.serve(alloc, &mut feed, &mut sink) {
+    let served = if is_extended {
+        server.serve_extended(alloc, &mut feed, &mut sink)
+    } else {
+        server.serve(alloc, &mut feed, &mut sink)
+    };
+    match served {
         Ok(_) => Ok(Ok(())),
         Err(fault) => Ok(Err(flush_after(&mut writer, fault))),
     }
@@ -54,8 +60,9 @@ fn serve_lines<R: Input + Print + Eprint + AllocGlobal>(
     rt: &R,
     console: Console,
     server: &mut Server,
+    is_extended: bool,
 ) -> ExitCode {
-    let fault = match serve_buffered(rt, console, server) {
+    let fault = match serve_buffered(rt, console, server, is_extended) {
         Ok(Ok(())) => return ExitCode::SUCCESS,
         Ok(Err(fault)) => fault,
         Err(_) => ServeFault::Memory,
@@ -74,6 +81,8 @@ pub struct Serving<'a> {
     /// The bundles of ICUDATA, each `LOCALE=FILE`.
     pub bundles: Vec<&'a str>,
     pub limits: Option<Limits>,
+    /// Whether extended requests are answered too.
+    pub is_extended: bool,
 }
 
 /// Starts the server.
@@ -108,7 +117,7 @@ pub fn serve_files<R: Files + RandomSource + Input + Print + Eprint + AllocGloba
     serving: &Serving<'_>,
 ) -> ExitCode {
     match start_server(rt, serving) {
-        Ok(mut server) => serve_lines(rt, console, &mut server),
+        Ok(mut server) => serve_lines(rt, console, &mut server, serving.is_extended),
         Err(error) => not_started_on(rt, console, error),
     }
 }

@@ -9,7 +9,9 @@ ghost use Rattle.rb_requests.specs.Within.{LineReplyWithin, longest_read};
 ghost use Rattle.rb_tool.specs.inner.Limits.{most_lines};
 ghost use Rattle.rb_tool.specs.inner.Serving.{AfterFaultUnder, AnswersUnder};
 
-use rb_requests::{Engine, Feed, Limits, ServeFault, Served, Sink, serve, serve_limited};
+use rb_requests::{
+    Engine, Feed, Limits, ServeFault, Served, Sink, serve, serve_extended, serve_limited,
+};
 use std::alloc::Global;
 
 /// The most lines of one run.
@@ -64,6 +66,19 @@ fn limited_run<F: Feed, S: Sink>(
     serve_limited(alloc, engine, limits, feed, sink, MAX_LINES)
 }
 
+/// Serves at most `MAX_LINES` lines under limits, with extended requests.
+fn extended_run<F: Feed, S: Sink>(
+    alloc: Global,
+    engine: &mut Engine,
+    limits: &Limits,
+    feed: &mut F,
+    sink: &mut S,
+) -> Result<Served, ServeFault>
+    ensures most { IfOk result (λ served. served.lines ≤ most_lines) }
+{
+    serve_extended(alloc, engine, limits, feed, sink, MAX_LINES)
+}
+
 /// A server: its engine, and its limits, if it has any.
 #[derive(Drop)]
 pub struct Server {
@@ -97,5 +112,19 @@ impl Server {
             None => serve_run(alloc, &mut self.engine, feed, sink),
             Some(limits) => limited_run(alloc, &mut self.engine, &limits, feed, sink),
         }
+    }
+
+    /// Answers the lines of an input like `serve`, and extended requests too.
+    pub fn serve_extended<F: Feed, S: Sink>(
+        &mut self,
+        alloc: Global,
+        feed: &mut F,
+        sink: &mut S,
+    ) -> Result<Served, ServeFault>
+        ensures most { IfOk result (λ served. served.lines ≤ most_lines) }
+        ensures limits { self.new.limits ≡ self.old.limits }
+    {
+        let limits = self.limits.unwrap_or(Limits::NONE);
+        extended_run(alloc, &mut self.engine, &limits, feed, sink)
     }
 }

@@ -1,0 +1,120 @@
+//! Answers the lines of an input, extended requests among them.
+ghost use Rattle.std.specs.Prelude.{◌≡◌, ◌≤◌, IfOk};
+ghost use Rattle.rb_requests.specs.Device.{risen_by};
+ghost use Rattle.rb_requests.specs.Served.{reads_failed, writes_failed};
+ghost use Rattle.rb_requests.specs.inner.OneLine.{line_settled};
+
+use crate::answer::{Placed, tell_line_error};
+use crate::device::{Failed, Feed, Sink};
+use crate::extended::extended_reply_of;
+use crate::limits::Limits;
+use crate::lines::{
+    ServeFault, Served, empty, end_after, held_error, longest_of, put_placed, starved_error,
+};
+use crate::reading::{Held, NextLine, read_line};
+use json::Scratch;
+use rb_engine::Engine;
+use rb_replies::ReplyLine;
+use std::alloc::{AllocError, Global};
+
+/// Makes the reply to a line of which this much is stored, or writes it to the sink. `AllocError`:
+/// memory ran out, nothing is written, and serving ends.
+fn tell_line<S: Sink>(
+    alloc: Global,
+    engine: &mut Engine,
+    limits: &Limits,
+    scratch: &mut Scratch,
+    line: &[u8],
+    held: Held,
+    reply: &mut ReplyLine,
+    sink: &mut S,
+) -> Result<Placed, AllocError> {
+    let error = match held_error(held) {
+        Some(error) => error,
+        None => match extended_reply_of(alloc, engine, limits, scratch, line, reply, sink) {
+            Ok(placed) => return Ok(placed),
+            Err(starved) => match starved_error(limits, starved) {
+                Some(error) => error,
+                None => return Err(AllocError),
+            },
+        },
+    };
+    tell_line_error(alloc, error, reply)?;
+    Ok(Placed::Held)
+}
+
+fn serve_line<S: Sink>(
+    alloc: Global,
+    engine: &mut Engine,
+    limits: &Limits,
+    scratch: &mut Scratch,
+    sink: &mut S,
+    line: &[u8],
+    held: Held,
+    reply: &mut ReplyLine,
+) -> Result<(), ServeFault> {
+    let placed = match tell_line(alloc, engine, limits, scratch, line, held, reply, sink) {
+        Ok(placed) => placed,
+        Err(_) => return Err(ServeFault::Memory),
+    };
+    match put_placed(sink, placed, reply.as_bytes()) {
+        Ok(()) => Ok(()),
+        Err(Failed) => Err(ServeFault::Write),
+    }
+}
+
+/// Answers the lines of an input, each with one line, like `serve_limited`, and the extended
+/// requests too: `put`, `release`, `export`, `list` with `sizes`, and `usage` whether or not there
+/// are limits. The refusal of a text or a file has the code of its first error, and the line.
+///
+/// ```rust
+/// serve_extended(alloc, &mut engine, &Limits::NONE, &mut feed, &mut sink, 10) // Ok(Served { lines: 1 })
+/// ```
+pub fn serve_extended<F: Feed, S: Sink>(
+    alloc: Global,
+    engine: &mut Engine,
+    limits: &Limits,
+    feed: &mut F,
+    sink: &mut S,
+    max_lines: u64,
+) -> Result<Served, ServeFault>
+    ensures most { IfOk result (λ served. served.lines ≤ max_lines) }
+{
+    let longest = longest_of(limits);
+    let mut line = Vec::new(alloc);
+    let mut scratch = Scratch::new(alloc);
+    let mut reply = ReplyLine::new(alloc);
+    'lines: for lines in 0..max_lines {
+        empty(alloc, &mut line, &mut scratch);
+        match read_line(alloc, feed, &mut line, longest) {
+            Ok(NextLine::Ended(held)) => serve_line(
+                alloc,
+                engine,
+                limits,
+                &mut scratch,
+                sink,
+                &line,
+                held,
+                &mut reply,
+            )?,
+            Ok(NextLine::Last(held)) => {
+                serve_line(
+                    alloc,
+                    engine,
+                    limits,
+                    &mut scratch,
+                    sink,
+                    &line,
+                    held,
+                    &mut reply,
+                )?;
+                return Ok(Served { lines: lines + 1 });
+            }
+            Ok(NextLine::End) => return Ok(Served { lines }),
+            Ok(NextLine::TooLong) => return Err(ServeFault::LineTooLong),
+            Ok(NextLine::Memory) => return Err(ServeFault::Memory),
+            Err(Failed) => return Err(ServeFault::Read),
+        }
+    }
+    end_after(feed, max_lines)
+}
