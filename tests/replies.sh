@@ -1,7 +1,7 @@
 #!/usr/bin/env bash
 # Serves lines of requests with a built program, each file of them by a new process, and compares the replies.
 #
-# Each NAME.jsonl in replies/ has its replies in NAME.replies.jsonl. Requests that are too long to store are made here: the
+# Each NAME.jsonl in replies/ has its replies in NAME.replies.jsonl; the server's options are in NAME.arguments, if it has any. Requests that are too long to store are made here: the
 # longest text and one byte more, the longest file, and a string of 200,000 units that is found before and after lookups that fail.
 #
 # usage: replies.sh PROGRAM
@@ -18,13 +18,15 @@ made=$(mktemp -d) || exit 2
 trap 'rm -rf "$made"' EXIT
 failed=0
 
-# Serves a file of requests, and compares the status, the replies and standard error.
+# Serves a file of requests with the options that follow, and compares the status, the replies and standard error.
 answers() {
-    if "$program" serve <"$2" >"$made/output" 2>"$made/errors" &&
-        cmp "$made/output" "$3" && [ ! -s "$made/errors" ]; then
-        echo "ok: $1"
+    name=$1 requests=$2 replies=$3
+    shift 3
+    if "$program" serve "$@" <"$requests" >"$made/output" 2>"$made/errors" &&
+        cmp "$made/output" "$replies" && [ ! -s "$made/errors" ]; then
+        echo "ok: $name"
     else
-        echo "differs: $1"
+        echo "differs: $name"
         failed=1
     fi
 }
@@ -65,7 +67,12 @@ found() {
 for requests in *.jsonl; do
     case $requests in
         *.replies.jsonl) ;;
-        *) answers "$requests" "$requests" "${requests%.jsonl}.replies.jsonl" ;;
+        *)
+            options=
+            [ ! -f "${requests%.jsonl}.arguments" ] || options=$(cat "${requests%.jsonl}.arguments")
+            # shellcheck disable=SC2086 # each word is an option
+            answers "$requests" "$requests" "${requests%.jsonl}.replies.jsonl" $options
+            ;;
     esac
 done
 

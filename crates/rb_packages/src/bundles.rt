@@ -194,7 +194,7 @@ pub(crate) fn edit_all(bundles: &mut Bundles, edits: Vec<Edit>) -> Result<(), Al
     ensures stays { OnErr result (bundles.new.entries ≡ bundles.old.entries) }
 {
     bundles.reserve(edits.len())?;
-    for (name, bundle) in edits {
+    'edits: for (name, bundle) in edits {
         edit(bundles, name, bundle);
     }
     bundles.shrink_to_fit();
