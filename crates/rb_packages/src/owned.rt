@@ -189,7 +189,7 @@ pub(crate) fn bundle<'a>(owned: &'a Owned, app: &App, name: &Name) -> Option<&'a
 
 /// Makes the first changes of an application, or none if memory runs out.
 fn release_first(owned: &mut Owned, app: &App, edits: Vec<Edit>) -> Result<(), AllocError>
-    requires { files_at app.now owned.old.entries ≡ [] }
+    requires { lookup (bytes_eq app.now) owned.old.entries ≡ None }
     ensures own { OnOk result (files_at app.now owned.new.entries ≡ edited edits.items []) }
     ensures others { KeepsOthers app.now owned.old.entries owned.new.entries }
     ensures filled { OnOk result (¬ IsBare (lookup (bytes_eq app.now) owned.new.entries)) }
@@ -216,7 +216,10 @@ pub(crate) fn release(owned: &mut Owned, app: &App, edits: Vec<Edit>) -> Result<
         (files_by_app owned.new.entries ≡ files_by_app owned.old.entries) }
 {
     match owned.get_mut(app) {
-        Some(bundles) => bundles::edit_all(bundles, edits)?,
+        Some(bundles) => match bundles::edit_all(bundles, edits) {
+            Ok(()) => {}
+            Err(error) => return Err(error),
+        },
         None => return release_first(owned, app, edits),
     }
     remove_if_empty(owned, app);
