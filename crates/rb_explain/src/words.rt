@@ -405,7 +405,7 @@ pub(crate) const OF_START: [Explanation; 6] = [
     },
 ];
 
-pub(crate) const OF_REQUEST: [Explanation; 42] = [
+pub(crate) const OF_REQUEST: [Explanation; 43] = [
     Explanation {
         word: "BadLine",
         of: Of::Request,
@@ -468,6 +468,13 @@ pub(crate) const OF_REQUEST: [Explanation; 42] = [
         meaning: "the application has as many bundles as it may",
         cause: "it has 4,096 bundles",
         remedy: "remove one",
+    },
+    Explanation {
+        word: "TooLarge",
+        of: Of::Request,
+        meaning: "the text of the bundle would have more than 8,388,608 bytes",
+        cause: "an export as a text, of a file that resb text doesn't print either",
+        remedy: "export the file",
     },
     Explanation {
         word: "LineTooLong",
