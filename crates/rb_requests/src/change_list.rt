@@ -2,7 +2,7 @@
 ghost use Rattle.std.specs.Prelude.{◌<◌, ◌≤◌, length, OnOk};
 
 use crate::member::{Member, read_value};
-use crate::pass::{Flag, pass_value, read_flag};
+use crate::pass::{Flag, next_key, pass_value, read_flag, takes_end};
 use json::{Invalid, Reader, Token};
 use rb_engine::BUNDLE_LIMIT;
 use std::alloc::{AllocError, Global};
@@ -130,7 +130,7 @@ fn read_members<'a>(reader: &mut Reader<'a>, depth: usize) -> Result<ChangeTexts
     ensures { OnOk result (length reader.new ≤ length reader.old) }
 {
     let mut texts = ChangeTexts::none();
-    'members: while let Some(key) = reader.next_key()? {
+    'members: while let Some(key) = next_key(reader)? {
         read_member(reader, key, depth, &mut texts)?;
     }
     Ok(texts)
@@ -166,7 +166,7 @@ fn read_items<'a>(
 {
     let mut changes = Vec::new(alloc);
     let mut are_changes = true;
-    'items: while !reader.take_end_array() {
+    'items: while !takes_end(reader) {
         match read_change(reader, depth) {
             Ok(Some(change)) => {
                 if changes.len() < KEPT && changes.push(change).is_err() {

@@ -3,7 +3,7 @@ ghost use Rattle.std.specs.Prelude.{◌<◌, length, OnOk};
 
 use crate::change_list::{Changes, ChangesFault, read_changes};
 use crate::member::{Member, read_value};
-use crate::pass::{Flag, read_flag};
+use crate::pass::{Flag, next_key, read_flag};
 use crate::texts::{Texts, opens_object};
 use json::{Reader, Scratch};
 use std::alloc::{AllocError, Global};
@@ -72,7 +72,7 @@ fn read_members<'a>(
     asked: &mut ExtendedTexts<'a>,
 ) -> Result<(), ChangesFault> {
     'members: loop {
-        match reader.next_key() {
+        match next_key(reader) {
             Ok(Some(key)) => read_member(alloc, reader, key, asked)?,
             Ok(None) => return Ok(()),
             Err(_) => return Err(ChangesFault::Invalid),

@@ -12,6 +12,26 @@ pub enum Flag {
     Other,
 }
 
+/// Reads the next key of an object, or returns `None` at its end.
+pub(crate) fn next_key<'a>(reader: &mut Reader<'a>) -> Result<Option<&'a str>, Invalid>
+    ensures { OnOk result (length reader.new < length reader.old) }
+{
+    match reader.next_key() {
+        Ok(key) => Ok(key),
+        Err(_) => Err(Invalid),
+    }
+}
+
+/// Returns true at the end of an array, which is consumed.
+pub(crate) fn takes_end(reader: &mut Reader<'_>) -> bool
+    ensures { length reader.new ≤ length reader.old }
+{
+    if reader.take_end_array() {
+        return true;
+    }
+    false
+}
+
 /// Reads the rest of a value after its first token. Its arrays and objects nest at most `depth`
 /// deep.
 pub(crate) fn pass_value(
