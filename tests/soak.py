@@ -6,9 +6,10 @@ says: the whole history; each application's lines by themselves; killed in mid-s
 and `compile`, `check` and `get` over each file. A second history of each round is served under random limits. A finding is printed
 with its seed; a round is the same for the same seed, but for where a kill or a lack of memory comes.
 
-usage: soak.py SECONDS PROGRAM [--seed N] [--no-limits]
+usage: soak.py SECONDS PROGRAM [--seed N] [--no-limits] [--extended]
 Begins with the round of seed N (by default 1) and goes on with N + 1 and so on until SECONDS have passed; `soak.py 0 PROGRAM --seed N`
-runs that round alone; `--no-limits` leaves the histories under limits out, for a program that has none. Ends with status 0 if nothing
+runs that round alone; `--no-limits` leaves the histories under limits out, for a program that has none; with `--extended` each round
+has instead two histories of extended requests, one of them under limits and one with refused allocations. Ends with status 0 if nothing
 was found.
 """
 import argparse
@@ -25,7 +26,7 @@ import threading
 import time
 from collections import Counter
 
-from model import files, histories, lookups, making, texts
+from model import extended, files, histories, lookups, making, texts
 from model.server import Limits
 from model.trees import gotten, is_printable, walk
 
@@ -506,14 +507,59 @@ def limited_round(soak, seed):
         lack_memory_and_serve(soak, start, start_words, history)
 
 
-def rounds(soak, seconds, seed, has_limits):
+def serve_extended(soak, arguments, lines, wanted, what, **options):
+    """Serves extended requests, and compares each reply as far as the model is sure of it."""
+    ended = soak.run([*arguments, "--extended"], b"".join(line + b"\n" for line in lines), **options)
+    given = ended.output.splitlines(keepends=True)
+    wanted = wanted(given)
+    agreed = [extended.blurred(here, there) for here, there in zip(wanted, given)]
+    if agreed != wanted[:len(given)]:
+        number = next(i for i, (here, there) in enumerate(zip(wanted, agreed)) if here != there)
+        soak.found(f"{what}: reply {number}", lines[number], wanted[number], given[number], arguments)
+    soak.counts["extended requests"] += len(given)
+    return ended, len(given) == len(lines)
+
+
+def lack_memory_for_extended(soak, start, start_words, history):
+    """Serves extended requests with little memory: each line is answered as by the model, or by `Memory` and changed nothing."""
+    limits = Limits(True, reply_bytes=history.limits.reply_bytes)
+    size = soak.least + random_of(soak).randrange(2 * MEGABYTE)
+    server = start.extended_server(limits)
+    request = {"op": "put", "app": "big", "text": big_text(1500)}
+    lines = [json.dumps({**request, "locale": f"xy_{i}"}).encode() for i in range(20)] + history.lines
+    wanted = lambda given: [MEMORY if reply == MEMORY else server.reply(line) for line, reply in zip(lines, given)]
+    ended, is_whole = serve_extended(soak, start_words + limits.arguments(), lines, wanted, "little memory", preexec_fn=limited(size))
+    soak.expect("little memory", (ended.status, ended.errors) in (((0, ""),) if is_whole else ((1, "Memory\n"),)), size, ended.errors)
+    soak.counts["lines without memory"] += ended.output.count(MEMORY)
+
+
+def extended_round(soak, seed):
+    """Histories of extended requests of one seed."""
+    soak.seed = seed
+    generator = random.Random(f"extended {seed}")
+    start = histories.Start(generator)
+    start_words = start_arguments(soak, start)
+    for limits in (Limits(), histories.random_limits(generator)):
+        history = histories.extended_history(generator, start, limits)
+        arguments = start_words + limits.arguments()
+        ended, is_whole = serve_extended(soak, arguments, history.lines, lambda _given: history.replies, "extended")
+        soak.expect("how extended requests ended", is_whole and (ended.status, ended.errors) == (0, ""), ended.status, ended.errors)
+        soak.counts["extended histories"] += 1
+    if seed % 3 == 0:
+        lack_memory_for_extended(soak, start, start_words, history)
+
+
+def rounds(soak, seconds, seed, has_limits, is_extended):
     """Runs rounds until the time is over, and counts them."""
     begin = time.monotonic()
     with tempfile.TemporaryDirectory() as folder:
         soak.folder = folder
         while True:
-            one_round(soak, seed)
-            if has_limits:
+            if is_extended:
+                extended_round(soak, seed)
+            else:
+                one_round(soak, seed)
+            if has_limits and not is_extended:
                 limited_round(soak, seed)
             seed += 1
             if time.monotonic() - begin >= seconds:
@@ -527,9 +573,10 @@ def main():
     parser.add_argument("program")
     parser.add_argument("--seed", type=int, default=1)
     parser.add_argument("--no-limits", action="store_true")
+    parser.add_argument("--extended", action="store_true")
     given = parser.parse_args()
     soak = Soak(os.path.realpath(given.program))
-    rounds(soak, given.seconds, given.seed, not given.no_limits)
+    rounds(soak, given.seconds, given.seed, not given.no_limits, given.extended)
     print(", ".join(f"{count} {name}" for name, count in soak.counts.most_common()))
     print(f"{soak.findings} findings")
     return 1 if soak.findings else 0

@@ -1,5 +1,6 @@
 """Random histories of several applications, each line with the reply that the model gives."""
 from model import files, lookups, making, texts
+from model.extended import ExtendedServer
 from model.server import Limits, Server, caller_of
 from model.trees import height
 
@@ -32,6 +33,9 @@ class Start:
 
     def server(self, limits=None):
         return Server(self.common, self.by_child, limits)
+
+    def extended_server(self, limits=None):
+        return ExtendedServer(self.common, self.by_child, limits)
 
 
 def good_bundle(random):
@@ -150,6 +154,54 @@ class History:
     def of_app(self, app):
         """The lines of one application, and their replies."""
         return [pair for pair in zip(self.lines, self.replies) if caller_of(pair[0]) == app]
+
+
+class ExtendedHistory(History):
+    """Lines of which many are extended requests, with their replies."""
+
+    def __init__(self, random, start, limits=None):
+        super().__init__(random, start, limits)
+        self.server = start.extended_server(self.limits)
+
+    def change(self):
+        """A change of a release, sometimes none."""
+        chosen = self.random.random()
+        if chosen < 0.02:
+            return self.random.choice((1, None, [], {}, {"locale": "de"}, {"locale": "de", "remove": 1}, {"locale": "de", "remove": False}))
+        locale = {"locale": self.locale()}
+        if chosen < 0.3:
+            return {**locale, "remove": True}
+        return {**locale, **self.payload(), **({"remove": False} if chosen < 0.4 else {})}
+
+    def release(self, app):
+        """A release: changes, and mostly removals only of what is there."""
+        names = list(self.server.apps.get(app, {}))
+        changes = [self.change() for _ in range(self.random.choice((0, 1, 2, 2, 3, 5)))]
+        for change in changes:
+            if isinstance(change, dict) and change.get("remove") is True and names and self.random.random() < 0.8:
+                change["locale"] = self.random.choice(names)
+        return {"op": "release", "app": app, "changes": changes}
+
+    def request(self):
+        app, chosen = self.app(), self.random.random()
+        if chosen < 0.5:
+            return super().request()
+        if chosen < 0.62:
+            return self.release(app)
+        if chosen < 0.72:
+            return {"op": "put", "app": app, "locale": self.locale(), **self.payload()}
+        if chosen < 0.88:
+            return {"op": "export", "app": app, "locale": self.near(app) if chosen < 0.75 else self.locale()}
+        if chosen < 0.94:
+            return {"op": "list", "app": app, "sizes": self.random.choice((True, True, True, False, 1))}
+        return {"op": "usage", "app": app}
+
+
+def extended_history(random, start, limits=None):
+    history = ExtendedHistory(random, start, limits)
+    for _ in range(random.choice((3, 20, 60, 150))):
+        history.add_random()
+    return history
 
 
 def random_history(random, start):
