@@ -137,6 +137,52 @@ def at_values(program):
                 serves(program, [limit, str(number)], before + list(zip(requests, wanted)))
 
 
+def putting(locale, text=TEXT):
+    """A change of a release."""
+    return {"locale": locale, "text": text}
+
+
+def removing(locale):
+    return {"locale": locale, "remove": True}
+
+
+def release(app, *changes):
+    return {"op": "release", "app": app, "changes": list(changes)}
+
+
+def releases(program):
+    """Limits over releases and exports, each at its value and one below: a release's sum counts at its end, not on the way."""
+    one, two = (install("shop", "de"), OK), release("shop", putting("de"), putting("fr"))
+    sizes, export = {"op": "list", "app": "shop", "sizes": True}, {"op": "export", "app": "shop", "locale": "de"}
+    here = [
+        ("--app-bytes", 152, [], two, refused("OverQuota"), OK),
+        ("--app-bytes", 76, [one], release("shop", putting("fr"), removing("de")), None, OK),
+        ("--app-bytes", 152, [one], release("shop", putting("fr"), removing("fr"), putting("it")), refused("OverQuota"), OK),
+        ("--app-bytes", 132, [one], release("shop", putting("de", SMALL), putting("fr")), refused("OverQuota"), OK),
+        ("--bundle-bytes", 76, [], two, {"error": "BundleTooLong", "index": 0}, OK),
+        ("--bundle-bytes", 114, [], release("shop", putting("fr", SMALL), putting("de", LONG)), {"error": "BundleTooLong", "index": 1}, OK),
+        ("--apps", 2, [one], release("bank", putting("de")), refused("TooManyApps"), OK),
+        ("--apps", 1, [one], release("bank", putting("de"), removing("de")), None, OK),
+        ("--line-bytes", len(line_of(two)), [], two, refused("LineTooLong"), OK),
+        ("--reply-bytes", 41, [one], sizes, refused("ReplyTooLong"), {"bundles": [{"bytes": 76, "locale": "de"}]}),
+        ("--reply-bytes", 164, [one], export, refused("ReplyTooLong"), {"file": FILE}),
+        ("--reply-bytes", 38, [one], {**export, "as": "text"}, refused("ReplyTooLong"), {"text": 'de {\n    a { "b" }\n}\n'}),
+    ]
+    for limit, value, before, request, refusal, answer in here:
+        for number in (value - 1, value) if refusal else (value,):
+            served = before if limit in ("--app-bytes", "--apps", "--reply-bytes") else []
+            wanted = refusal if number < value else answer
+            serves(program, ["--extended", limit, str(number)], served + [(request, wanted)])
+    full = [putting(f"aa_{number}", SMALL) for number in range(4096)]
+    serves(program, ["--extended"], [
+        (release("shop", *full, removing("aa_1")), {"error": "Full", "index": 4096}), (usage("shop"), used(0, 0)),
+        (release("shop", *full), OK), (usage("shop"), used(4096 * 56, 4096)),
+        (release("shop", putting("de"), removing("aa_1")), {"error": "Full", "index": 0}),
+        (release("shop", removing("aa_1"), putting("de")), OK), (release("shop", putting("de", SMALL)), OK),
+        (usage("shop"), used(4096 * 56, 4096)), (release("shop", *[removing("aa_2"), putting("aa_2", SMALL)] * 2048), OK),
+        (release("shop", *[removing("de")] * 5000), {"error": "Absent", "index": 1}), (names("bank"), {"names": []})])
+
+
 def not_refused(program):
     """Requests that no limit applies to, and refusals that come before those of a limit."""
     serves(program, ["--reply-bytes", "1"], [
@@ -534,7 +580,7 @@ def main():
         print(f"limits: skipped, as {given.program} isn't built")
         return
     program = os.path.realpath(given.program)
-    for check in (bad_command_lines, at_values, not_refused, at_the_quota, beside_another, long_line, longest_line, many_apps, without_memory, waiting_replies):
+    for check in (bad_command_lines, at_values, releases, not_refused, at_the_quota, beside_another, long_line, longest_line, many_apps, without_memory, waiting_replies):
         check(program)
     peak, most, sent = under_attack(program, given.seconds)
     if peak is None:

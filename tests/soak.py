@@ -527,7 +527,10 @@ def lack_memory_for_extended(soak, start, start_words, history):
     server = start.extended_server(limits)
     request = {"op": "put", "app": "big", "text": big_text(1500)}
     lines = [json.dumps({**request, "locale": f"xy_{i}"}).encode() for i in range(20)] + history.lines
-    wanted = lambda given: [MEMORY if reply == MEMORY else server.reply(line) for line, reply in zip(lines, given)]
+
+    def wanted(given):
+        return [MEMORY if reply == MEMORY else server.reply(line) for line, reply in zip(lines, given)]
+
     ended, is_whole = serve_extended(soak, start_words + limits.arguments(), lines, wanted, "little memory", preexec_fn=limited(size))
     soak.expect("little memory", (ended.status, ended.errors) in (((0, ""),) if is_whole else ((1, "Memory\n"),)), size, ended.errors)
     soak.counts["lines without memory"] += ended.output.count(MEMORY)
@@ -542,7 +545,7 @@ def extended_round(soak, seed):
     for limits in (Limits(), histories.random_limits(generator)):
         history = histories.extended_history(generator, start, limits)
         arguments = start_words + limits.arguments()
-        ended, is_whole = serve_extended(soak, arguments, history.lines, lambda _given: history.replies, "extended")
+        ended, is_whole = serve_extended(soak, arguments, history.lines, lambda _given, replies=history.replies: replies, "extended")
         soak.expect("how extended requests ended", is_whole and (ended.status, ended.errors) == (0, ""), ended.status, ended.errors)
         soak.counts["extended histories"] += 1
     if seed % 3 == 0:
