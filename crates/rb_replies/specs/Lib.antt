@@ -1,3 +1,4 @@
 pub mod Replied
 pub mod Within
 pub mod inner
+pub mod Extended

@@ -1,5 +1,11 @@
 //! Replies to extended requests: each is a compact JSON object, its members ascending, and a line
 //! feed.
+ghost use Rattle.std.specs.Prelude.{◌≤◌, [], ◌∷◌, ◌++◌, length};
+ghost use Rattle.hex.specs.Hex.{encode_lower};
+ghost use Rattle.serde_json.specs.Data.{boolean};
+ghost use Rattle.serde_json.specs.Written.{compact_text};
+ghost use Rattle.rb_replies.specs.Extended.{file_line, stored_data, text_data};
+
 use crate::limit::Room;
 use rb_json::{Outlet, put_name, skips_items, spell_bytes, spell_text, spell_unsigned};
 use rb_locales::Name;
@@ -45,7 +51,9 @@ pub fn put_refusal<O: Outlet>(out: &mut O, code: &str, detail: Detail) {
     out.put(b"}\n")
 }
 
-fn put_flag<O: Outlet>(out: &mut O, flag: bool) {
+fn put_flag<O: Outlet>(out: &mut O, flag: bool)
+    ensures { O.takes out.old out.new (compact_text (boolean flag)) }
+{
     if flag {
         out.put(b"true")
     } else {
@@ -55,13 +63,16 @@ fn put_flag<O: Outlet>(out: &mut O, flag: bool) {
 
 /// Writes the line that says that a bundle is stored, and whether it replaced another. It takes no
 /// memory.
-pub fn put_stored<O: Outlet>(out: &mut O, is_replaced: bool) {
+pub fn put_stored<O: Outlet>(out: &mut O, is_replaced: bool)
+    ensures { O.takes out.old out.new (compact_text (stored_data is_replaced) ++ 10 ∷ []) }
+{
     out.put(b"{");
     put_name(out, false, "ok");
     put_flag(out, true);
     put_name(out, true, "replaced");
     put_flag(out, is_replaced);
-    out.put(b"}\n")
+    out.put(b"}");
+    out.put(b"\n")
 }
 
 fn put_size<O: Outlet>(out: &mut O, name: &Name, bytes: u64) {
@@ -93,34 +104,49 @@ pub fn put_sizes<O: Outlet>(out: &mut O, sizes: &[(Name, u64)]) {
 }
 
 /// Writes the line of a bundle's text. It takes no memory.
-pub fn put_text<O: Outlet>(out: &mut O, text: &str) {
+pub fn put_text<O: Outlet>(out: &mut O, text: &str)
+    ensures { O.takes out.old out.new (compact_text (text_data text.now) ++ 10 ∷ []) }
+{
     out.put(b"{");
     put_name(out, false, "text");
     spell_text(out, text);
-    out.put(b"}\n")
+    out.put(b"}");
+    out.put(b"\n")
 }
 
-/// Writes the start of the line of a bundle's file, before its digits.
-fn put_file_start<O: Outlet>(out: &mut O) {
-    out.put(b"{");
-    put_name(out, false, "file");
-    out.put(b"\"")
+/// The most bytes whose digits are made at a time.
+const SPAN: usize = 4_096;
+
+/// Writes the digits of a few bytes, in lower case.
+fn put_span<O: Outlet>(out: &mut O, span: &[u8])
+    requires { length span.now ≤ 4096 }
+    ensures { O.takes out.old out.new (encode_lower span.now) }
+{
+    let mut digits = [0; 2 * SPAN];
+    let digits = &mut digits[..2 * span.len()];
+    match hex::encode_to_slice(span, digits) {
+        Ok(()) => out.put(digits),
+        Err(_) => unreachable!(),
+    }
 }
 
 /// Writes the digits of bytes, in lower case.
-fn put_digits<O: Outlet>(out: &mut O, bytes: &[u8]) {
-    let mut digits = [0; 8_192];
-    for piece in bytes.chunks(4_096) {
-        let digits = &mut digits[..2 * piece.len()];
-        if hex::encode_to_slice(piece, digits).is_ok() {
-            out.put(digits);
-        }
+fn put_digits<O: Outlet>(out: &mut O, bytes: &[u8])
+    ensures { O.takes out.old out.new (encode_lower bytes.now) }
+{
+    let mut rest = bytes;
+    'spans: while !rest.is_empty() {
+        let (span, after) = rest.split_at(rest.len().min(SPAN));
+        put_span(out, span);
+        rest = after;
     }
 }
 
 /// Writes the line of a bundle's file, in hexadecimal. It takes no memory.
-pub fn put_file<O: Outlet>(out: &mut O, file: &[u8]) {
-    put_file_start(out);
+pub fn put_file<O: Outlet>(out: &mut O, file: &[u8])
+    ensures { O.takes out.old out.new (file_line file.now) }
+{
+    out.put(b"{\"file\":\"");
     put_digits(out, file);
     out.put(b"\"}\n")
 }

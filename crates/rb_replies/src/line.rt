@@ -2,6 +2,7 @@ ghost use Rattle.std.specs.Prelude.{◌≡◌, [], ◌∷◌, ◌++◌, OnOk, So
 ghost use Rattle.serde_json.specs.Written.{compact_text};
 ghost use Rattle.rb_replies.specs.Replied.{error as error_data, reply_data, response_data};
 ghost use Rattle.rb_replies.specs.Replied.{usage_data};
+ghost use Rattle.rb_replies.specs.Extended.{stored_data};
 ghost use Rattle.rb_engine.specs.LookResponse.{look_response};
 ghost use Rattle.rb_views.specs.Seen.{tree_seen};
 
@@ -134,7 +135,9 @@ impl ReplyLine {
 
     /// Makes the line the reply of a bundle that is stored. After an error, which comes only if
     /// memory runs out, nothing is known of the line.
-    pub fn tell_stored(&mut self, alloc: Global, is_replaced: bool) -> Result<(), AllocError> {
+    pub fn tell_stored(&mut self, alloc: Global, is_replaced: bool) -> Result<(), AllocError>
+        ensures { OnOk result (self.new ≡ compact_text (stored_data is_replaced) ++ 10 ∷ []) }
+    {
         let mut out = self.begin(alloc);
         put_stored(&mut out, is_replaced);
         self.end(out)
