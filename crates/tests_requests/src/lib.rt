@@ -5,6 +5,8 @@
 #[cfg(test)]
 mod devices;
 #[cfg(test)]
+mod extended;
+#[cfg(test)]
 mod items;
 #[cfg(test)]
 mod limited;
