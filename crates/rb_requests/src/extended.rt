@@ -7,7 +7,7 @@ use crate::device::Sink;
 use crate::export::{answer_export, answer_sizes};
 use crate::extended_ask::{ExtendedLine, Storing, extended_of};
 use crate::extended_texts::{ExtendedTexts, read_extended_texts};
-use crate::judging::{Unmade, judge, made_within};
+use crate::judged::{Unmade, judge, made_within};
 use crate::limits::Limits;
 use crate::release::release;
 use crate::words::LineError;

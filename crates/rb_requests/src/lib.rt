@@ -12,7 +12,7 @@ mod extended;
 mod extended_ask;
 mod extended_lines;
 mod extended_texts;
-mod judging;
+mod judged;
 pub mod laws;
 mod limits;
 mod lines;

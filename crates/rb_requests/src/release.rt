@@ -1,7 +1,7 @@
 //! Releases: changes of one application's bundles, all of which are made or none.
 use crate::change_list::{ChangePayload, LineChange};
 use crate::changes::{is_over, is_sum_over};
-use crate::judging::{Unmade, judge, undrafted};
+use crate::judged::{Unmade, judge, undrafted};
 use crate::limits::{Limits, Refusal};
 use hex::FromHexError;
 use rb_engine::{App, BundleSource, Draft, Engine, Reply};
