@@ -12,6 +12,14 @@ pub(crate) struct Change {
     pub(crate) new_past: usize,
 }
 
+/// Checks whether a line of a text is there and equals another line.
+fn is_line(found: Option<&&[u8]>, line: &[u8]) -> bool {
+    match found {
+        Some(found) => *found == line,
+        None => false,
+    }
+}
+
 /// The lines of two texts up to which they correspond. As formatting keeps all bytes but white
 /// space, lines correspond where equally many of these bytes were passed.
 #[derive(Drop)]
@@ -50,6 +58,19 @@ impl<'a> Matching<'a> {
         }
     }
 
+    /// Passes empty lines that only the old text has. Returns false if there are none.
+    fn pass_old_empty(&mut self) -> bool {
+        let begin = self.old_at;
+        let next = self.new.get(self.new_at);
+        for line in self.old.get(begin..).unwrap_or(&[]) {
+            if kept_bytes(line) > 0 || is_line(next, line) {
+                break;
+            }
+            self.old_at = self.old_at.saturating_add(1);
+        }
+        self.old_at > begin
+    }
+
     /// Passes lines of both texts, at least one, until equally many bytes were passed.
     fn pass_changed(&mut self) {
         let mut old_bytes: usize = 0;
@@ -80,7 +101,7 @@ impl<'a> Matching<'a> {
             return None;
         }
         let (old, new) = (self.old_at, self.new_at);
-        if !self.pass_new_empty() {
+        if !self.pass_new_empty() && !self.pass_old_empty() {
             self.pass_changed();
         }
         Some(Change {
