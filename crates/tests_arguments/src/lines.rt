@@ -183,12 +183,14 @@ const ALL_LIMITS: AskedLimits = AskedLimits {
     keep_serving: true,
 };
 
-/// Checks the parents, the bundles and the limits that a command line of `serve` asks for.
+/// Checks the parents, the bundles, the limits and the requests that a command line of `serve` asks
+/// for.
 fn serves(
     alloc: Global,
     line: &str,
     wanted: (Option<&str>, &[&str]),
     limits_wanted: AskedLimits,
+    is_extended_wanted: bool,
 ) -> Result<bool, Fail> {
     let words = words_of(alloc, line)?;
     let matches = commands(alloc)?.try_get_matches_from(words.as_slice())?;
@@ -198,9 +200,15 @@ fn serves(
                 parents,
                 bundles,
                 limits,
+                is_extended,
             },
         ) => {
-            Ok(parents == wanted.0 && bundles.as_slice() == wanted.1 && limits == limits_wanted)
+            Ok(
+                parents == wanted.0
+                    && bundles.as_slice() == wanted.1
+                    && limits == limits_wanted
+                    && is_extended == is_extended_wanted,
+            )
         }
         _ => Ok(false),
     }
@@ -212,14 +220,14 @@ const LIMITED: &str =
 #[test]
 fn says_what_is_served(rt: HostRuntime) -> Result<(), Fail> {
     let alloc = rt.alloc();
-    assert!(rt; serves(alloc, "resb|serve", (None, &[]), NO_LIMITS)?);
+    assert!(rt; serves(alloc, "resb|serve", (None, &[]), NO_LIMITS, false)?);
     let twelve = AskedLimits {
         apps: Some(12),
         ..NO_LIMITS
     };
-    let line = "resb|serve|de=a|--parents|p|--apps|12|fr=b";
-    assert!(rt; serves(alloc, line, (Some("p"), &["de=a", "fr=b"]), twelve)?);
-    assert!(rt; serves(alloc, LIMITED, (None, &[]), ALL_LIMITS)?);
+    let line = "resb|serve|de=a|--parents|p|--apps|12|--extended|fr=b";
+    assert!(rt; serves(alloc, line, (Some("p"), &["de=a", "fr=b"]), twelve, true)?);
+    assert!(rt; serves(alloc, LIMITED, (None, &[]), ALL_LIMITS, false)?);
     Ok(())
 }
 
