@@ -1,2 +1,6 @@
 mod Ends
 mod Keys
+mod Leaves
+mod Names
+mod Units
+mod Values

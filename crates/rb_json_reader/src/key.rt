@@ -1,11 +1,15 @@
-ghost use Rattle.std.specs.Prelude.{IfOk, IfSome};
+ghost use Rattle.std.specs.Prelude.{◌≡◌, false, IfOk, IfSome};
 ghost use Rattle.rb_tree.specs.Keys.{IsKey};
+ghost use Rattle.rb_json.specs.Value.{key_text, with_colon};
+ghost use Rattle.rb_json_reader.specs.Name.{is_tag};
 
 use rb_tree::{Key, key_ok};
 use std::alloc::{AllocError, Global};
 
 /// Checks whether a member's name begins with exactly one colon, so that it is a tag.
-pub(crate) fn is_tag(name: &[u8]) -> bool {
+pub(crate) fn is_tag(name: &[u8]) -> bool
+    ensures { result ≡ is_tag name.now }
+{
     match name {
         [b':', b':', ..] => false,
         [b':', ..] => true,
@@ -14,7 +18,10 @@ pub(crate) fn is_tag(name: &[u8]) -> bool {
 }
 
 /// Drops the colon that a key has more if it begins with one.
-pub(crate) fn without_colon(name: &[u8]) -> &[u8] {
+pub(crate) fn without_colon(name: &[u8]) -> &[u8]
+    requires { is_tag name.now ≡ false }
+    ensures { with_colon result.now ≡ name.now }
+{
     match name {
         [b':', rest @ ..] => rest,
         _ => name,
@@ -22,8 +29,11 @@ pub(crate) fn without_colon(name: &[u8]) -> &[u8] {
 }
 
 /// Reads the key of a member that is no tag, or returns None if it is no key of a table.
+#[tactic(auto, using(crate::proofs::Names::key_text_is))]
 pub(crate) fn read_key(alloc: Global, name: &[u8]) -> Result<Option<Key>, AllocError>
-    ensures { IfOk result (λ found. IfSome found (λ key. IsKey key)) }
+    requires { is_tag name.now ≡ false }
+    ensures { IfOk result (λ found. IfSome found
+        (λ key. IsKey key × (key_text key ≡ name.now))) }
 {
     let key = without_colon(name);
     if !key_ok(key) {

@@ -1,6 +1,15 @@
-ghost use Rattle.std.specs.Prelude.{◌≡◌, ◌<◌, ◌≤◌, length, OnOk};
-ghost use Rattle.rb_tree.specs.Parts.{HasUnits, kind_of};
+ghost use Rattle.std.specs.Prelude.{◌≡◌, ◌<◌, ◌∷◌, [], ◌++◌, length, true, false, codes};
+ghost use Rattle.std.specs.Prelude.{IfOk, OnOk, encode_utf8_all};
+ghost use Rattle.std.specs.Char.Utf16.{has_unpaired_surrogate, utf16_lossy_chars};
+ghost use Rattle.hex.specs.Hex.{encode_lower};
+ghost use Rattle.json.specs.Token as spec;
+ghost use Rattle.rb_json.specs.Leaf.{numbers_data, units_data};
+ghost use Rattle.rb_json.specs.Tokens.{data_tokens};
+ghost use Rattle.rb_json.specs.Value.{value_of};
+ghost use Rattle.rb_tree.specs.Parts.{HasUnits, kind_of, units_of};
 ghost use Rattle.rb_tree.specs.View.{view_of};
+ghost use Rattle.rb_json_reader.specs.Arranged.{Arranges};
+ghost use Rattle.rb_json_reader.specs.Text.{ReadsLeaf, ReadsTag};
 
 use crate::fault::{Fault, JsonFaultKind};
 use crate::input::Input;
@@ -26,7 +35,9 @@ fn spend_units(input: &mut Input, at: usize, len: usize) -> Result<(), Fault>
 
 /// Reads a text as units.
 fn read_text(alloc: Global, input: &mut Input, at: usize, text: &str) -> Result<UnitList, Fault>
-    ensures { input.new.reader ≡ input.old.reader }
+    ensures same { input.new.reader ≡ input.old.reader }
+    ensures paired { IfOk result (λ us. has_unpaired_surrogate us ≡ false) }
+    ensures text { IfOk result (λ us. encode_utf8_all (utf16_lossy_chars us) ≡ text.now) }
 {
     let units = units_of(alloc, text)?;
     spend_units(input, at, units.as_slice().len())?;
@@ -34,19 +45,28 @@ fn read_text(alloc: Global, input: &mut Input, at: usize, text: &str) -> Result<
 }
 
 /// Reads a String from its characters.
+#[tactic(auto, using(crate::proofs::Leaves::string_read))]
 pub(crate) fn read_string(
     alloc: Global,
     input: &mut Input,
     at: usize,
     text: &str,
 ) -> Result<Tree, Fault>
-    ensures { input.new.reader ≡ input.old.reader }
+    ensures same { input.new.reader ≡ input.old.reader }
+    ensures tokens { IfOk result
+        (λ t. spec.string text.now ∷ [] ≡ data_tokens (value_of (view_of t))) }
+    ensures leaf { IfOk result (λ t. Arranges (view_of t) (view_of t)) }
 {
     Ok(Tree::String(read_text(alloc, input, at, text)?))
 }
 
 /// Reads an Int.
-pub(crate) fn read_number(at: usize, text: &str) -> Result<Tree, Fault> {
+#[tactic(auto, using(crate::proofs::Leaves::int_read))]
+pub(crate) fn read_number(at: usize, text: &str) -> Result<Tree, Fault>
+    ensures tokens { IfOk result
+        (λ t. spec.number text.now ∷ [] ≡ data_tokens (value_of (view_of t))) }
+    ensures leaf { IfOk result (λ t. Arranges (view_of t) (view_of t)) }
+{
     match read_int(text) {
         Some(number) => Ok(Tree::Int(number)),
         None => Err(fault(JsonFaultKind::BadNumber, at)),
@@ -55,6 +75,8 @@ pub(crate) fn read_number(at: usize, text: &str) -> Result<Tree, Fault> {
 
 /// Takes the next token as a number, or fails with `BadNumber`.
 fn number_text<'a>(input: &mut Input<'a>) -> Result<&'a str, Fault>
+    ensures token { IfOk result
+        (λ s. input.old.reader ≡ spec.number s.now ∷ input.new.reader) }
     ensures shorter { OnOk result (length input.new.reader < length input.old.reader) }
 {
     let at = input.at();
@@ -66,7 +88,10 @@ fn number_text<'a>(input: &mut Input<'a>) -> Result<&'a str, Fault>
 }
 
 /// Reads the units of a list, and its closing bracket.
+#[tactic(auto, using(crate::proofs::Leaves::items_more, crate::proofs::Leaves::items_all))]
 fn read_unit_list(alloc: Global, input: &mut Input) -> Result<UnitList, Fault>
+    ensures tokens { IfOk result (λ us. spec.begin_array ∷ input.old.reader
+        ≡ data_tokens (units_data us) ++ input.new.reader) }
     ensures shorter { OnOk result (length input.new.reader < length input.old.reader) }
 {
     let mut units = Vec::new(alloc);
@@ -82,7 +107,10 @@ fn read_unit_list(alloc: Global, input: &mut Input) -> Result<UnitList, Fault>
 }
 
 /// Reads the numbers of a vector, and its closing bracket.
+#[tactic(auto, using(crate::proofs::Leaves::items_more, crate::proofs::Leaves::items_all))]
 fn read_number_list(alloc: Global, input: &mut Input) -> Result<NumberList, Fault>
+    ensures tokens { IfOk result (λ zs. spec.begin_array ∷ input.old.reader
+        ≡ data_tokens (numbers_data zs) ++ input.new.reader) }
     ensures shorter { OnOk result (length input.new.reader < length input.old.reader) }
 {
     let mut numbers = Vec::new(alloc);
@@ -100,6 +128,9 @@ fn read_number_list(alloc: Global, input: &mut Input) -> Result<NumberList, Faul
 /// Returns the tree if its text isn't well-formed UTF-16, as one that is given by its units.
 fn ill_formed(at: usize, tree: Tree) -> Result<Tree, Fault>
     requires { HasUnits (kind_of (view_of tree)) }
+    ensures same { IfOk result (λ t. t ≡ tree) }
+    ensures unpaired { IfOk result
+        (λ t. has_unpaired_surrogate (units_of (view_of t)) ≡ true) }
 {
     if is_well_formed(&tree) {
         return Err(fault(JsonFaultKind::BadUnits, at));
@@ -108,7 +139,10 @@ fn ill_formed(at: usize, tree: Tree) -> Result<Tree, Fault>
 }
 
 /// Reads the value of `:units`.
+#[tactic(auto, using(crate::proofs::Leaves::units_read))]
 fn read_units(alloc: Global, input: &mut Input) -> Result<Tree, Fault>
+    ensures reads { IfOk result (λ t.
+        ReadsTag (codes ":units") input.old.reader (view_of t) input.new.reader) }
     ensures shorter { OnOk result (length input.new.reader < length input.old.reader) }
 {
     let at = input.at();
@@ -123,7 +157,10 @@ fn read_units(alloc: Global, input: &mut Input) -> Result<Tree, Fault>
 }
 
 /// Reads the value of `:alias`.
+#[tactic(auto, using(crate::proofs::Leaves::alias_read, crate::proofs::Leaves::lone_alias_read))]
 fn read_alias(alloc: Global, input: &mut Input) -> Result<Tree, Fault>
+    ensures reads { IfOk result (λ t.
+        ReadsTag (codes ":alias") input.old.reader (view_of t) input.new.reader) }
     ensures shorter { OnOk result (length input.new.reader < length input.old.reader) }
 {
     let at = input.at();
@@ -139,7 +176,10 @@ fn read_alias(alloc: Global, input: &mut Input) -> Result<Tree, Fault>
 }
 
 /// Reads the value of `:intvector`.
+#[tactic(auto, using(crate::proofs::Leaves::ints_read))]
 fn read_ints(alloc: Global, input: &mut Input) -> Result<Tree, Fault>
+    ensures reads { IfOk result (λ t.
+        ReadsTag (codes ":intvector") input.old.reader (view_of t) input.new.reader) }
     ensures shorter { OnOk result (length input.new.reader < length input.old.reader) }
 {
     let at = input.at();
@@ -154,7 +194,9 @@ fn read_ints(alloc: Global, input: &mut Input) -> Result<Tree, Fault>
 }
 
 /// Reads bytes from lower-case hexadecimal digits, two a byte.
-fn read_bytes(alloc: Global, at: usize, text: &str) -> Result<Vec<u8>, Fault> {
+fn read_bytes(alloc: Global, at: usize, text: &str) -> Result<Vec<u8>, Fault>
+    ensures { IfOk result (λ bytes. text.now ≡ encode_lower bytes.items) }
+{
     let bytes = match hex::decode(alloc, text) {
         Ok(bytes) => bytes,
         Err(FromHexError::OutOfMemory) => return Err(fault(JsonFaultKind::Memory, 0)),
@@ -169,7 +211,10 @@ fn read_bytes(alloc: Global, at: usize, text: &str) -> Result<Vec<u8>, Fault> {
 }
 
 /// Reads the value of `:bin`.
+#[tactic(auto, using(crate::proofs::Leaves::binary_read))]
 fn read_binary(alloc: Global, input: &mut Input) -> Result<Tree, Fault>
+    ensures reads { IfOk result (λ t.
+        ReadsTag (codes ":bin") input.old.reader (view_of t) input.new.reader) }
     ensures shorter { OnOk result (length input.new.reader < length input.old.reader) }
 {
     let at = input.at();
@@ -186,6 +231,8 @@ fn read_binary(alloc: Global, input: &mut Input) -> Result<Tree, Fault>
 
 /// Reads the value of a tag that begins at this byte.
 fn read_tag_value(alloc: Global, input: &mut Input, at: usize, name: &str) -> Result<Tree, Fault>
+    ensures reads { IfOk result (λ t.
+        ReadsTag name.now input.old.reader (view_of t) input.new.reader) }
     ensures shorter { OnOk result (length input.new.reader < length input.old.reader) }
 {
     match name {
@@ -198,12 +245,15 @@ fn read_tag_value(alloc: Global, input: &mut Input, at: usize, name: &str) -> Re
 }
 
 /// Reads the value of a tag and the brace that closes its object, which has no other member.
+#[tactic(auto, using(crate::proofs::Leaves::closed))]
 pub(crate) fn read_tagged(
     alloc: Global,
     input: &mut Input,
     at: usize,
     name: &str,
 ) -> Result<Tree, Fault>
+    ensures reads { IfOk result (λ t. ReadsLeaf
+        (spec.begin_object ∷ spec.key name.now ∷ input.old.reader) (view_of t) input.new.reader) }
     ensures shorter { OnOk result (length input.new.reader < length input.old.reader) }
 {
     let tree = read_tag_value(alloc, input, at, name)?;

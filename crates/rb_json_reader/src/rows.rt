@@ -1,6 +1,7 @@
-ghost use Rattle.std.specs.Prelude.{◌≡◌, ◌∷◌, ◌++◌, [], All, OnOk};
+ghost use Rattle.std.specs.Prelude.{◌≡◌, ◌∷◌, ◌++◌, [], All, IfOk, OnOk};
 ghost use Rattle.rb_tree.specs.Keys.{IsKey};
-ghost use Rattle.rb_tree.specs.Table.{keys_in};
+ghost use Rattle.rb_tree.specs.Table.{IsTableOf, NoRepeat, keys_in, seen_pairs};
+ghost use Rattle.rb_tree.specs.View.{view_of};
 
 use crate::fault::{Fault, JsonFaultKind};
 use rb_tree::{Key, TableFault, Tree};
@@ -35,6 +36,8 @@ impl Rows {
     /// Makes the table, or returns the error at the first repeated key.
     pub fn table(self, alloc: Global) -> Result<Tree, Fault>
         requires { All IsKey (keys_in self.pairs.items) }
+        ensures table { IfOk result (λ t. IsTableOf (seen_pairs self.pairs.items) (view_of t)) }
+        ensures no_repeat { OnOk result (NoRepeat (keys_in self.pairs.items)) }
     {
         let Rows { pairs, places } = self;
         match Tree::keyed_table(alloc, pairs) {

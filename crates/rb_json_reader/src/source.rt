@@ -1,6 +1,7 @@
 ghost use Rattle.std.specs.Prelude.{IfOk};
 ghost use Rattle.rb_tree.specs.Parts.{Fits};
 ghost use Rattle.rb_tree.specs.View.{view_of};
+ghost use Rattle.rb_json_reader.specs.Text.{IsJsonOf};
 
 use crate::fault::{Fault, JsonFault, JsonFaultKind};
 use crate::input::Input;
@@ -14,7 +15,8 @@ use std::alloc::Global;
 
 /// Reads a whole text as a table.
 fn read_text(alloc: Global, text: &str) -> Result<Tree, Fault>
-    ensures { IfOk result (λ t. Fits (view_of t)) }
+    ensures fits { IfOk result (λ t. Fits (view_of t)) }
+    ensures reads { IfOk result (λ t. IsJsonOf text.now (view_of t)) }
 {
     let mut scratch = Scratch::new(alloc);
     let mut input = Input {
@@ -92,6 +94,8 @@ fn at_front(alloc: Global, kind: JsonFaultKind, front: &[u8]) -> JsonFault {
 /// ```
 pub fn read_tree(alloc: Global, bytes: &[u8]) -> Result<Tree, JsonFault>
     ensures fits { IfOk result (λ t. Fits (view_of t)) }
+    // The text has the tokens of the tree's value, with the members of objects in any order.
+    ensures reads { IfOk result (λ t. IsJsonOf bytes.now (view_of t)) }
 {
     if bytes.len() > JSON_LIMIT {
         return Err(at_front(alloc, JsonFaultKind::TooLong, b""));

@@ -1,5 +1,9 @@
-ghost use Rattle.std.specs.Prelude.{◌≡◌, ◌<◌, ◌≤◌, length, OnOk, IfOk};
+ghost use Rattle.std.specs.Prelude.{◌≡◌, ◌<◌, ◌≤◌, ◌∷◌, length, OnOk, IfOk};
+ghost use Rattle.json.specs.Token as spec;
+ghost use Rattle.rb_json.specs.Value.{key_text};
 ghost use Rattle.rb_tree.specs.Keys.{IsKey};
+ghost use Rattle.rb_tree.specs.View.{view_of};
+ghost use Rattle.rb_json_reader.specs.Text.{Reads};
 
 use crate::fault::{Fault, JsonFaultKind};
 use crate::input::Input;
@@ -13,6 +17,8 @@ use std::alloc::Global;
 /// Reads a value of at most `depth` levels.
 #[cycle(value)]
 pub(crate) fn read_value(alloc: Global, input: &mut Input, depth: u64) -> Result<Tree, Fault>
+    ensures reads { IfOk result
+        (λ t. Reads input.old.reader (view_of t) input.new.reader) }
     ensures shorter { OnOk result (length input.new.reader < length input.old.reader) }
 {
     let at = input.at();
@@ -48,6 +54,8 @@ fn depth_fault(at: usize, token: &Token) -> Fault {
 /// Reads the items of an array and its closing bracket. Each has at most `depth` levels.
 #[cycle(value)]
 fn read_array(alloc: Global, input: &mut Input, at: usize, depth: u64) -> Result<Tree, Fault>
+    ensures reads { IfOk result
+        (λ t. Reads (spec.begin_array ∷ input.old.reader) (view_of t) input.new.reader) }
     ensures shorter { OnOk result (length input.new.reader < length input.old.reader) }
 {
     input.spend(at, 4)?;
@@ -65,6 +73,8 @@ fn read_array(alloc: Global, input: &mut Input, at: usize, depth: u64) -> Result
 /// a table has at most `depth` levels.
 #[cycle(value)]
 fn read_object(alloc: Global, input: &mut Input, depth: u64) -> Result<Tree, Fault>
+    ensures reads { IfOk result
+        (λ t. Reads (spec.begin_object ∷ input.old.reader) (view_of t) input.new.reader) }
     ensures shorter { OnOk result (length input.new.reader < length input.old.reader) }
 {
     let at = input.at();
@@ -88,6 +98,8 @@ fn read_table<'a>(
     name: &'a str,
     depth: u64,
 ) -> Result<Tree, Fault>
+    ensures reads { IfOk result (λ t. Reads
+        (spec.begin_object ∷ spec.key name.now ∷ input.old.reader) (view_of t) input.new.reader) }
     ensures no_longer { OnOk result (length input.new.reader ≤ length input.old.reader) }
 {
     input.spend(first, 8)?;
@@ -107,7 +119,7 @@ fn read_table<'a>(
 /// Reads a key of a table, or fails with `BadTag` or `BadKey`.
 fn key_at(alloc: Global, input: &mut Input, at: usize, name: &str) -> Result<Key, Fault>
     ensures same { input.new.reader ≡ input.old.reader }
-    ensures key { IfOk result (λ key. IsKey key) }
+    ensures key { IfOk result (λ key. IsKey key × (key_text key ≡ name.now)) }
 {
     if is_tag(name.as_bytes()) {
         return Err(Fault {

@@ -1,0 +1,4 @@
+pub mod Arranged
+pub mod Text
+pub mod Name
+pub mod Units
