@@ -709,7 +709,7 @@ pub(crate) const OF_REQUEST: [Explanation; 43] = [
     },
 ];
 
-pub(crate) const OF_LOOKUP: [Explanation; 11] = [
+pub(crate) const OF_LOOKUP: [Explanation; 13] = [
     Explanation {
         word: "BadPath",
         of: Of::Lookup,
@@ -779,6 +779,20 @@ pub(crate) const OF_LOOKUP: [Explanation; 11] = [
         meaning: "the lookup takes more steps than --steps allows",
         cause: "many aliases on the way, each with a long trail, or a long path; a step is a name of the trail times one more than the segments of the path",
         remedy: "resb look --trace counts the levels; use fewer aliases, or shorter paths",
+    },
+    Explanation {
+        word: "TreeTooLarge",
+        of: Of::Lookup,
+        meaning: "the tree of a locale with all that it inherits has more than 33,554,432 bytes, or takes more than 268,435,456 steps",
+        cause: "aliases that lead to tables with more aliases, so that tables are repeated again and again",
+        remedy: "print a smaller part: resb json --inherit LOCALE --path PATH",
+    },
+    Explanation {
+        word: "TooDeep",
+        of: Of::Lookup,
+        meaning: "an item of a tree is more than 63 segments below the one that is printed",
+        cause: "an alias that leads to a table around itself",
+        remedy: "look at the path with resb look, or let the alias lead elsewhere",
     },
     Explanation {
         word: "ReplyTooLong",

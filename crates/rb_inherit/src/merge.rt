@@ -1,5 +1,6 @@
 //! The keys of tables that are merged, in ascending order.
 
+use crate::path::child_at;
 use crate::place::{Layer, Place};
 use rb_tree::{Kind, Node};
 
@@ -24,15 +25,18 @@ fn is_before<N: Node>(layer: &Layer<N>, other: &Layer<N>) -> bool {
 }
 
 impl<N: Node> Place<N> {
-    /// Returns the first of some layers whose next key is the least.
-    pub(crate) fn least(&self, from: usize, to: usize) -> Option<Layer<N>> {
+    /// Returns the first of some layers whose next key is the least, and its index.
+    pub(crate) fn least(&self, from: usize, to: usize) -> Option<(usize, Layer<N>)> {
+        let mut index = from;
         let mut least = *self.layers.get(from)?;
-        for layer in self.layers.get(from..to)? {
+        for i in from.saturating_add(1)..to {
+            let layer = self.layers.get(i)?;
             if is_before(layer, &least) {
+                index = i;
                 least = *layer;
             }
         }
-        Some(least)
+        Some((index, least))
     }
 
     /// Counts the entries of some layers.
@@ -44,15 +48,23 @@ impl<N: Node> Place<N> {
         count
     }
 
-    /// Returns the child of a layer at a key if that is its next one, and the layer's level. The
-    /// layer's next entry is then the one after it.
-    pub(crate) fn take_child(&mut self, i: usize, key: &[u8]) -> Option<(N, usize)> {
+    /// Returns the next child of a layer, and the layer's level. The layer's next entry is then the
+    /// one after it.
+    pub(crate) fn take_child(&mut self, i: usize) -> Option<(N, usize)> {
         let layer = self.layers.get_mut(i)?;
-        if key_of(&layer.table, layer.at)? != key {
-            return None;
-        }
-        let child = crate::path::child_at(layer.table, layer.at)?;
+        let child = child_at(layer.table, layer.at)?;
         layer.at = layer.at.saturating_add(1);
         Some((child, layer.level))
+    }
+
+    /// Checks whether a key is the next one of a layer.
+    pub(crate) fn is_next(&self, i: usize, key: &[u8]) -> bool {
+        let Some(layer) = self.layers.get(i) else {
+            return false;
+        };
+        match key_of(&layer.table, layer.at) {
+            Some(next) => next == key,
+            None => false,
+        }
     }
 }

@@ -14,8 +14,8 @@ use rb_tree::{Kind, Node};
 /// The error code of an item with too many levels.
 const TOO_DEEP: &str = "TooDeep";
 
-/// Returns what the layers from one index up to another have at a key. Each takes one step, and
-/// more for a long key.
+/// Returns what the layers from one index up to another have at a key, which is the next one of the
+/// first. Each takes one step, and more for a long key.
 fn found_at<T: Stops>(
     shelves: T,
     place: &mut Place<T::N>,
@@ -23,12 +23,17 @@ fn found_at<T: Stops>(
     key: &[u8],
 ) -> Result<Found<T::N>, TreeError> {
     let mut found = Found::Nothing;
+    let steps = (key.len() as u64 / 64).saturating_add(1);
     for i in from..to {
-        place.spend((key.len() as u64 / 64).saturating_add(1))?;
-        if let Some((child, level)) = place.take_child(i, key) {
-            if found.is_open() {
-                found = add_child(shelves, place, found, child, level)?;
-            }
+        place.spend(steps)?;
+        if i != from && !place.is_next(i, key) {
+            continue;
+        }
+        let Some((child, level)) = place.take_child(i) else {
+            continue;
+        };
+        if found.is_open() {
+            found = add_child(shelves, place, found, child, level)?;
         }
     }
     Ok(found)
@@ -68,7 +73,7 @@ fn put_tables<T: Stops, O: Outlet>(
     let to = place.layers.len();
     out.put(b"{");
     for i in 0..place.entry_count(from, to) {
-        let Some(layer) = place.least(from, to) else {
+        let Some((first, layer)) = place.least(from, to) else {
             break;
         };
         let Some(key) = key_of(&layer.table, layer.at) else {
@@ -77,7 +82,7 @@ fn put_tables<T: Stops, O: Outlet>(
         if skips_items(out, i) {
             return Ok(());
         }
-        put_entry(shelves, place, out, (from, to), key, levels)?;
+        put_entry(shelves, place, out, (first, to), key, levels)?;
     }
     out.put(b"}");
     Ok(())
