@@ -15,7 +15,7 @@ use Rattle.rb_json.specs.Tokens.{data_tokens}
 use Rattle.rb_json.specs.Value.{value_of, tagged, text_or_units}
 use Rattle.rb_json.proofs.Growth.{each, array_tokens}
 use Rattle.rb_json_reader.specs.Arranged.{Arranges}
-use Rattle.rb_json_reader.specs.Text.{ReadsTag, ReadsLeaf}
+use Rattle.rb_json_reader.specs.inner.Reading.{ReadsTag, ReadsLeaf}
 
 pub each_push : {A : Type 0} (f : A → List Token) (xs : List A) (x : A) → each f (xs ++ x ∷ []) ≡ each f xs ++ f x
 each_push f [] x = append-nil (f x)

@@ -13,7 +13,7 @@ use Rattle.rb_json.specs.Tokens.{data_tokens}
 use Rattle.rb_json.specs.Value.{value_of, key_text}
 use Rattle.rb_json.proofs.Growth.{each, tree_tokens, entry_tokens, items_whole, entries_whole}
 use Rattle.rb_json_reader.specs.Arranged.{Arranges, ItemsArrange, EntriesArrange}
-use Rattle.rb_json_reader.specs.Text.{Reads, ReadsLeaf}
+use Rattle.rb_json_reader.specs.inner.Reading.{Reads, ReadsLeaf}
 use Rattle.rb_json_reader.proofs.Leaves.{each_push}
 
 abbrev Entry : Type 0

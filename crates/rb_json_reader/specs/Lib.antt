@@ -1,4 +1,3 @@
 pub mod Arranged
 pub mod Text
-pub mod Name
-pub mod Units
+pub mod inner

@@ -1,7 +1,7 @@
 ghost use Rattle.std.specs.Prelude.{◌≡◌, false, IfOk, IfSome};
 ghost use Rattle.rb_tree.specs.Keys.{IsKey};
 ghost use Rattle.rb_json.specs.Value.{key_text, with_colon};
-ghost use Rattle.rb_json_reader.specs.Name.{is_tag};
+ghost use Rattle.rb_json_reader.specs.inner.Name.{is_tag};
 
 use rb_tree::{Key, key_ok};
 use std::alloc::{AllocError, Global};

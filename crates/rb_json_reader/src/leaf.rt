@@ -9,7 +9,7 @@ ghost use Rattle.rb_json.specs.Value.{value_of};
 ghost use Rattle.rb_tree.specs.Parts.{HasUnits, kind_of, units_of};
 ghost use Rattle.rb_tree.specs.View.{view_of};
 ghost use Rattle.rb_json_reader.specs.Arranged.{Arranges};
-ghost use Rattle.rb_json_reader.specs.Text.{ReadsLeaf, ReadsTag};
+ghost use Rattle.rb_json_reader.specs.inner.Reading.{ReadsLeaf, ReadsTag};
 
 use crate::fault::{Fault, JsonFaultKind};
 use crate::input::Input;

@@ -86,7 +86,7 @@ fn at_front(alloc: Global, kind: JsonFaultKind, front: &[u8]) -> JsonFault {
 
 /// Reads a bundle's tree from its JSON form, which docs/JSON.md describes.
 ///
-/// Errors: see `JsonFaultKind`. If a text has several, one of them is reported.
+/// The tree is a table that `fits`. Errors: see `JsonFaultKind`. If a text has several, one of them is reported.
 ///
 /// ```rust
 /// let tree = read_tree(alloc, b"{\"a\":\"x\",\"b\":{\":alias\":\"/LOCALE/a\"}}")?;

@@ -3,7 +3,7 @@ ghost use Rattle.json.specs.Token as spec;
 ghost use Rattle.rb_json.specs.Value.{key_text};
 ghost use Rattle.rb_tree.specs.Keys.{IsKey};
 ghost use Rattle.rb_tree.specs.View.{view_of};
-ghost use Rattle.rb_json_reader.specs.Text.{Reads};
+ghost use Rattle.rb_json_reader.specs.inner.Reading.{Reads};
 
 use crate::fault::{Fault, JsonFaultKind};
 use crate::input::Input;

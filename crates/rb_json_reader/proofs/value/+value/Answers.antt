@@ -4,7 +4,7 @@ use Rattle.json.specs.Token.{Token, begin_array, end_object, key}
 use Rattle.rb_tree.specs.Resource.{array}
 use Rattle.rb_tree.specs.Keys.{IsKey}
 use Rattle.rb_tree.specs.Table.{keys_in}
-use Rattle.rb_json_reader.specs.Text.{Reads}
+use Rattle.rb_json_reader.specs.inner.Reading.{Reads}
 use Rattle.rb_json_reader.proofs.Keys.{keys_more}
 use Rattle.rb_json_reader.proofs.Values.{ArraySoFar, array_more, array_all, TableSoFar, table_none, table_more, table_result, pending, pending_is}
 use Rattle.rb_json_reader.proofs.value.+value.Goals as goal
