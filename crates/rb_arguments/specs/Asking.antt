@@ -125,9 +125,10 @@ AsksFor name rows (Coverage asked) =
 AsksFor name rows (Explain word) =
     (name ≡ codes "explain")
     × (option_map (λ s. s.now) word ≡ first_of (codes "WORD") rows)
-AsksFor name rows (Lines op app files) =
+AsksFor name rows (Lines op is_json app files) =
     (name ≡ codes "lines")
     × (option_map (λ s. s.now) op ≡ first_of (codes "op") rows)
+    × IsFlagIn rows (codes "json") is_json
     × (app.now ≡ word_in rows (codes "APP"))
     × (texts files.items ≡ words_in rows (codes "FILE"))
 AsksFor name rows (Look lookup) =

@@ -85,6 +85,7 @@ pub enum Asked<'a> {
     /// `lines APP [LOCALE=]FILE..`
     Lines {
         op: Option<&'a str>,
+        is_json: bool,
         app: &'a str,
         files: Vec<&'a str>,
     },
@@ -443,6 +444,7 @@ fn command_asked<'a>(
         },
         "lines" => Asked::Lines {
             op: optional_of(given, "op"),
+            is_json: flag_of(given, "json"),
             app: word_of(given, "APP"),
             files: words_of(alloc, given, "FILE")?,
         },

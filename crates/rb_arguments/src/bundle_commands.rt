@@ -8,12 +8,16 @@ const BUNDLES: Argument = Argument(
 );
 
 const LINES_HELP: &str = "\
-Example:
+Examples:
   resb lines shop bundles/*.res | resb serve
+  resb lines --op replace --json shop de.json | resb serve
+
+With --json each FILE is what resb json prints of a whole bundle, and is sent as a file.
 
 Status:
   0  a line is printed for each file
-  1  APP is no application's name, a text isn't UTF-8, a file is too long, or out of memory
+  1  APP is no application's name, a text isn't UTF-8, a file is too long, JSON is refused, or out
+     of memory
   2  the command line is invalid, or a file or standard output can't be read or written";
 
 /// `lines APP [LOCALE=]FILE..`
@@ -22,6 +26,11 @@ pub const LINES: Description = Description {
     about: "Prints request lines for serve that install bundles",
     arguments: &[
         Argument("op", Kind::Option("OP"), "install, or replace"),
+        Argument(
+            "json",
+            Kind::Flag,
+            "read JSON, as resb json prints it, in place of bundles",
+        ),
         Argument("APP", Kind::Word, "the application"),
         BUNDLES,
     ],

@@ -47,7 +47,7 @@ pub(crate) fn json_refused<R: Eprint>(
 }
 
 /// Reports an error on a line of standard error.
-fn finish_json<R: Eprint>(rt: &R, console: Console, error: JsonError<'_>) -> ExitCode {
+pub(crate) fn finish_json<R: Eprint>(rt: &R, console: Console, error: JsonError<'_>) -> ExitCode {
     match error {
         JsonError::Refused(file, fault) => json_refused(rt, console, file, &fault),
         JsonError::Other(error) => finish(rt, console, error),
@@ -96,7 +96,7 @@ fn file_of_tree(alloc: Global, tree: &Tree, no_fallback: bool) -> Result<Vec<u8>
 }
 
 /// Makes the file of a JSON text that was read from `input`.
-fn file_of_json<'a>(
+pub(crate) fn file_of_json<'a>(
     alloc: Global,
     input: &'a str,
     json: io::Result<Vec<u8>>,

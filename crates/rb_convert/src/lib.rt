@@ -21,6 +21,6 @@ pub use diffing::{DiffWords, diff};
 pub use json_in::compile_json_on;
 pub use rb_engine::Change;
 pub use rb_json::Layout;
-pub use request_lines::lines;
+pub use request_lines::{json_lines, lines};
 pub use texts::{name_of, text};
 pub use value::{ValueError, json, value_at};

@@ -1,8 +1,9 @@
 //! `resb lines`: request lines that install files.
-use json::Writer;
+use crate::json_in::{JsonError, MOST_READ, file_of_json, finish_json};
+use json::{Writer, Writer};
 use rb_console::{
     CommandError, Console, Form, Given, JsonWriter, Refusal, StartError, all_given, finish,
-    is_text, made_of_each, not_started_on, printed, refused_on,
+    is_text, made_of_each, not_started_on, printed, read_at_most, refused_on,
 };
 use rb_engine::{App, Change};
 use rb_format::is_short_enough;
@@ -52,15 +53,34 @@ fn contents<'a, R: Files + AllocGlobal>(
     })
 }
 
+/// Compiles JSON texts, up to the first that is refused.
+fn json_files<'a, R: Files + AllocGlobal>(
+    rt: &R,
+    bundles: &[Given<'a>],
+) -> Result<Vec<Vec<u8>>, JsonError<'a>> {
+    let mut files = Vec::new(rt.alloc());
+    for bundle in bundles {
+        let json = read_at_most(rt, bundle.file, MOST_READ);
+        let file = match file_of_json(rt.alloc(), bundle.file, json, false) {
+            Ok(file) => file,
+            Err(error) => return Err(error),
+        };
+        if files.push(file).is_err() {
+            return Err(JsonError::Other(CommandError::NotStarted(StartError::Memory)));
+        }
+    }
+    Ok(files)
+}
+
 /// The member of a line that has a bundle: `text`, or `file` in hexadecimal.
 fn put_content(
     out: &mut Writer,
     alloc: Global,
-    file: &str,
+    is_text: bool,
     bytes: &[u8],
 ) -> Result<(), AllocError> {
     match str::from_utf8(bytes) {
-        Ok(text) if is_text(file) => {
+        Ok(text) if is_text => {
             out.key("text")?;
             out.string(text)
         }
@@ -78,6 +98,7 @@ fn line_of(
     change: Change,
     app: &str,
     bundle: &Given<'_>,
+    is_text: bool,
     bytes: &[u8],
 ) -> Result<Vec<u8>, AllocError> {
     let mut out = Writer::new(Vec::new(alloc));
@@ -88,7 +109,7 @@ fn line_of(
     out.string(app)?;
     out.key("locale")?;
     out.string(bundle.locale)?;
-    put_content(&mut out, alloc, bundle.file, bytes)?;
+    put_content(&mut out, alloc, is_text, bytes)?;
     out.end_object()?;
     let mut line = out.into_inner();
     line.push(b'\n')?;
@@ -102,16 +123,37 @@ fn write_lines<R: AllocGlobal + Print>(
     change: Change,
     app: &str,
     bundles: &[Given<'_>],
+    is_json: bool,
     contents: &[Vec<u8>],
 ) -> io::Result<()> {
     let alloc = rt.alloc();
     let buffer = BufWriter::new(alloc, io::writer(rt))?;
     let mut out = JsonWriter::new(buffer, console.is_output_terminal);
     for (bundle, bytes) in bundles.iter().zip(contents) {
-        let line = line_of(alloc, change, app, bundle, bytes)?;
+        let is_text = !is_json && is_text(bundle.file);
+        let line = line_of(alloc, change, app, bundle, is_text, bytes)?;
         out.write_all(&line)?;
     }
     out.flush()
+}
+
+/// Prints the lines, and returns the status.
+fn print_lines<R: AllocGlobal + Print + Eprint>(
+    rt: &R,
+    console: Console,
+    change: Change,
+    app: &str,
+    bundles: &[Given<'_>],
+    is_json: bool,
+    contents: &[Vec<u8>],
+) -> ExitCode {
+    match write_lines(rt, console, change, app, bundles, is_json, contents) {
+        Ok(()) => ExitCode::SUCCESS,
+        Err(error) if error.kind() == io::ErrorKind::OutOfMemory => {
+            not_started_on(rt, console, StartError::Memory)
+        }
+        Err(error) => printed(rt, Err(error)),
+    }
 }
 
 /// Prints a request line for each file, which installs its bundle for `app`, or replaces one: by
@@ -136,17 +178,30 @@ pub fn lines<R: Files + AllocGlobal + Print + Eprint>(
         Ok(bundles) => bundles,
         Err(error) => return not_started_on(rt, console, error),
     };
-    let contents = match contents(rt, &bundles) {
-        Ok(contents) => contents,
-        Err(error) => return finish(rt, console, error),
+    match contents(rt, &bundles) {
+        Ok(contents) => print_lines(rt, console, change, app, &bundles, false, &contents),
+        Err(error) => finish(rt, console, error),
+    }
+}
+
+/// Prints request lines as `lines` does, of files that are JSON texts (docs/JSON.md), each as the
+/// file that it compiles to. The status is also 1 if a JSON text is refused.
+pub fn json_lines<R: Files + AllocGlobal + Print + Eprint>(
+    rt: &R,
+    console: Console,
+    change: Change,
+    app: &str,
+    arguments: &[&str],
+) -> ExitCode {
+    if let Err(fault) = App::read(app.as_bytes()) {
+        return refused_on(rt, console, app, fault.word());
+    }
+    let bundles = match all_given(rt.alloc(), Form::ByStem, arguments) {
+        Ok(bundles) => bundles,
+        Err(error) => return not_started_on(rt, console, error),
     };
-    match write_lines(rt, console, change, app, &bundles, &contents) {
-        Ok(()) => ExitCode::SUCCESS,
-        Err(error) => {
-            if error.kind() == io::ErrorKind::OutOfMemory {
-                return not_started_on(rt, console, StartError::Memory);
-            }
-            printed(rt, Err(error))
-        }
+    match json_files(rt, &bundles) {
+        Ok(files) => print_lines(rt, console, change, app, &bundles, true, &files),
+        Err(error) => finish_json(rt, console, error),
     }
 }

@@ -9,7 +9,7 @@ use rb_arguments::{
 use rb_console::Console;
 use rb_convert::{
     Change, DiffForm, DiffWords, Layout, Target, compile_all, compile_all_json, compile_json_on,
-    compile_on, diff, json, lines, text,
+    compile_on, diff, json, json_lines, lines, text,
 };
 use rb_fmt::{FormatMode, format_all};
 use rb_inspect::{
@@ -62,6 +62,7 @@ fn run_lines<R: Files + AllocGlobal + Print + Eprint>(
     rt: &R,
     console: Console,
     op: Option<&str>,
+    is_json: bool,
     app: &str,
     files: &[&str],
 ) -> ExitCode {
@@ -69,7 +70,11 @@ fn run_lines<R: Files + AllocGlobal + Print + Eprint>(
         let _ = eprintln!(rt; "resb: --op is install or replace");
         return ExitCode::from(2);
     };
-    lines(rt, console, change, app, files)
+    if is_json {
+        json_lines(rt, console, change, app, files)
+    } else {
+        lines(rt, console, change, app, files)
+    }
 }
 
 /// `get FILE PATH`, or `get --raw FILE PATH`
@@ -281,7 +286,12 @@ pub fn run_asked<
         Asked::Format(asked) => run_format(rt, console, &asked),
         Asked::Coverage(asked) => run_coverage(rt, console, &asked),
         Asked::Explain { word } => explain_on(rt, console, word),
-        Asked::Lines { op, app, files } => run_lines(rt, console, op, app, &files),
+        Asked::Lines {
+            op,
+            is_json,
+            app,
+            files,
+        } => { run_lines(rt, console, op, is_json, app, &files) }
         Asked::Look(lookup) => run_look(rt, console, lookup),
         Asked::Serve {
             parents,

@@ -132,7 +132,8 @@ resb|fmt|--check|-q|a|b => Format(AskedFormat { is_check: true, is_diff: false, 
 resb|coverage|--format|csv|a|--parents|p|de=b => Coverage(AskedCoverage { parents: Some("p"), format: Some("csv"), texts: ["a", "de=b"] })
 resb|explain => Explain { word: None }
 resb|explain|BadInt => Explain { word: Some("BadInt") }
-resb|lines|shop|--op|replace|a|b => Lines { op: Some("replace"), app: "shop", files: ["a", "b"] }
+resb|lines|shop|--op|replace|a|b => Lines { op: Some("replace"), is_json: false, app: "shop", files: ["a", "b"] }
+resb|lines|--json|shop|a => Lines { op: None, is_json: true, app: "shop", files: ["a"] }
 resb|look|--trace|--parents|p|de|x/y|a => Look(AskedLookup { parents: Some("p"), locale: "de", path: "x/y", is_traced: true, files: ["a"] })"#;
 
 /// Returns what a command line asks for, as a text; empty if it asks for nothing.
