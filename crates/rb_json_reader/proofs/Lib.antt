@@ -2,5 +2,6 @@ mod Ends
 mod Keys
 mod Leaves
 mod Names
+mod OneArrangement
 mod Units
 mod Values

@@ -5,6 +5,7 @@
 mod fault;
 mod input;
 mod key;
+pub mod laws;
 mod leaf;
 mod limits;
 mod number;
