@@ -25,6 +25,7 @@ LEVELS = 64
 SIZE_LIMIT = 20000
 KEYS = ["a", "b", "c", "k", "menu", "open", ":x"]
 PATHS = [""] * 12 + ["a", "b", "menu", "a/b", "a/0", "k/a", "%%Parent", "a/b/c"] + ["a//b", "x" * 1025]
+CLOSE = ["root", "de", "de_AT", "de_AT_WIEN", "fr"]
 PARENTS = [{}, {}, {"zh_Hant": "root", "en_GB": "en_001"}, {"de_AT": "de_CH", "fr": "xa"}]
 
 
@@ -218,6 +219,31 @@ def is_ended(bundles, parents, name, begin, parts):
     return False
 
 
+def random_target(pick):
+    """An alias to one of a few names and paths."""
+    path = "/".join(pick.choice("ab") for _ in range(pick.choice((0, 1, 1, 2))))
+    return "alias", tuple(map(ord, pick.choice(CLOSE + ["/LOCALE"]) + ("/" + path if path else "")))
+
+
+def close_item(pick, levels):
+    """An item like many others of its module, so that tables meet."""
+    chosen = pick.random()
+    if chosen < 0.25:
+        return random_target(pick)
+    if levels == 0 or chosen < 0.4:
+        return "string", (pick.randrange(65, 91),)
+    if chosen < 0.45:
+        return "array", [close_item(pick, levels - 1) for _ in range(2)]
+    keys = pick.sample("abc", pick.choice((1, 2, 2, 3)))
+    return "table", {key: close_item(pick, levels - 1) for key in sorted(keys)}
+
+
+def close_module(pick):
+    """A module of names whose trails meet."""
+    names = pick.sample(CLOSE, pick.choice((2, 3, 4)))
+    return {name: (("table", {key: close_item(pick, 3) for key in "abt"}), pick.random() < 0.1) for name in names}
+
+
 def random_item(pick, levels):
     chosen = pick.random()
     if levels == 0 or chosen < 0.35:
@@ -248,6 +274,8 @@ def random_bundle(pick):
 
 
 def random_module(pick):
+    if pick.random() < 0.5:
+        return close_module(pick)
     names = pick.sample(making.LOCALES, pick.choice((1, 2, 3, 5)))
     names += ["root"] if "root" not in names and pick.random() < 0.7 else []
     return {name: random_bundle(pick) for name in names}

@@ -166,7 +166,8 @@ fn add_link<T: Stops>(
     }
 }
 
-/// Adds what the levels have to which aliases lead, one after another.
+/// Adds what the levels have to which aliases lead, one after another. No later stop is asked: the
+/// result after an alias is final.
 fn add_links<T: Stops>(
     shelves: T,
     place: &mut Place<T::N>,
@@ -184,7 +185,7 @@ fn add_links<T: Stops>(
         found = after.found;
         link = after.link;
     }
-    Ok(found)
+    Ok(found.closed())
 }
 
 /// Adds a child of a table or an array to what the place has, which its key already names.

@@ -42,6 +42,14 @@ impl<N: Copy> Found<N> {
         }
     }
 
+    /// Returns what a place has if no later stop is asked, as after an alias.
+    pub(crate) fn closed(self) -> Found<N> {
+        match self {
+            Found::Tables { .. } => Found::Tables { is_open: false },
+            found => found,
+        }
+    }
+
     /// Returns what a place has if a lookup of it fails at the next stop, which ends tables.
     pub(crate) fn with_error(self, error: LookError) -> Found<N> {
         match self {
