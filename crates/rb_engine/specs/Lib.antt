@@ -11,3 +11,4 @@ pub mod Steps
 pub mod Words
 pub mod LookFaults
 pub mod LookResponse
+pub mod ReadFaults

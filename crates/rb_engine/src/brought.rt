@@ -1,6 +1,7 @@
-ghost use Rattle.std.specs.Prelude.{◌≡◌, [], ◌∷◌, ◌++◌, Ok, Some, IfOk, OnOk, OnErr, length};
+ghost use Rattle.std.specs.Prelude.{◌≡◌, [], ◌∷◌, ◌++◌, Ok, Some, IfOk, IfErr, OnOk, OnErr, length};
 ghost use Rattle.rb_engine.specs.Source.{Reads, payload_of};
 ghost use Rattle.rb_engine.specs.Change.{IsFileOf};
+ghost use Rattle.rb_engine.specs.ReadFaults.{IsFirstFault};
 
 use crate::judging::{ReadFault, judged_bundle};
 use crate::payload::{bundle_of, payload_bundle};
@@ -59,6 +60,7 @@ impl Brought {
         ensures read { IfOk result
             (λ brought. Reads app.now locale.now (payload_of source.entry) (Ok brought)) }
         ensures file { IfOk result (λ brought. IsFileOf (payload_of source.entry) brought.1) }
+        ensures first { IfErr result (IsFirstFault (payload_of source.entry)) }
     {
         let place = match place_of(app, locale) {
             Ok(place) => place,

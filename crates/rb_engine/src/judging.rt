@@ -1,8 +1,10 @@
 //! Reads a payload, and reports the first error of its text or file.
-ghost use Rattle.std.specs.Prelude.{◌≡◌, Ok, IfOk, IfErr};
+ghost use Rattle.std.specs.Prelude.{◌≡◌, ℕ, List, Ok, IfOk, IfErr};
+ghost use Rattle.rb_parser.specs.Source.{IsRefusal};
 ghost use Rattle.rb_engine.specs.Compiled.{IsCompiled};
 ghost use Rattle.rb_engine.specs.Source.{BundleOrFault, payload_of};
 ghost use Rattle.rb_engine.specs.Change.{IsFileOf};
+ghost use Rattle.rb_engine.specs.ReadFaults.{IsFirstFault};
 ghost use Rattle.rb_engine.specs.declared.request.Payload.TheVariants.{Text, File};
 
 use crate::compiling::compile;
@@ -24,19 +26,25 @@ pub enum ReadFault {
     BadFile(FileFault),
 }
 
+/// Converts the error of a text: out of memory isn't one of the text.
+fn text_fault(fault: SourceFault) -> ReadFault
+    ensures { (bytes : List ℕ) → IsRefusal bytes fault → IsFirstFault (Text bytes) result }
+{
+    match fault.kind {
+        SourceKind::Memory => ReadFault::Refused(Reply::Memory),
+        _ => ReadFault::BadText(fault),
+    }
+}
+
 fn judged_text(alloc: Global, text: &[u8]) -> Result<Bundle, ReadFault>
     ensures bundle { IfOk result (λ file. BundleOrFault (Text text.now) (Ok file)) }
+    ensures first { IfErr result (IsFirstFault (Text text.now)) }
     ensures file { IfOk result (λ file. IsCompiled text.now file) }
 {
     rb_format::laws::a_tree_or_a_fault();
     let file = match compile(alloc, text) {
         Ok(file) => file,
-        Err(fault) => {
-            return Err(match fault.kind {
-                SourceKind::Memory => ReadFault::Refused(Reply::Memory),
-                _ => ReadFault::BadText(fault),
-            });
-        }
+        Err(fault) => return Err(text_fault(fault)),
     };
     match accept(alloc, file) {
         Ok(bundle) => Ok(bundle),
@@ -46,6 +54,7 @@ fn judged_text(alloc: Global, text: &[u8]) -> Result<Bundle, ReadFault>
 
 fn judged_file(alloc: Global, file: ByteList) -> Result<Bundle, ReadFault>
     ensures bundle { IfOk result (λ bundle. BundleOrFault (File file) (Ok bundle)) }
+    ensures first { IfErr result (IsFirstFault (File file)) }
     ensures file { IfOk result (λ bundle. bundle ≡ file) }
 {
     rb_format::laws::a_tree_or_a_fault();
@@ -61,6 +70,7 @@ pub(crate) fn judged_bundle(alloc: Global, source: BundleSource<'_>) -> Result<B
     ensures bundle { IfOk result
         (λ bundle. BundleOrFault (payload_of source.entry) (Ok bundle)) }
     ensures file { IfOk result (IsFileOf (payload_of source.entry)) }
+    ensures first { IfErr result (IsFirstFault (payload_of source.entry)) }
 {
     match source {
         BundleSource::Text(text) => judged_text(alloc, text),
