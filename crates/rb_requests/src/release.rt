@@ -1,4 +1,6 @@
 //! Releases: changes of one application's bundles, all of which are made or none.
+ghost use Rattle.std.specs.Prelude.{◌≡◌, OnErr};
+
 use crate::change_list::{ChangePayload, LineChange};
 use crate::changes::{is_over, is_sum_over};
 use crate::judged::{Unmade, judge, undrafted};
@@ -108,7 +110,10 @@ pub(crate) fn release(
     limits: &Limits,
     app: &str,
     changes: &[LineChange<'_>],
-) -> Result<(), Unmade> {
+) -> Result<(), Unmade>
+    ensures unchanged { OnErr result (engine.new ≡ engine.old) }
+    ensures parents { engine.new.parents ≡ engine.old.parents }
+{
     let name = match App::read(app.as_bytes()) {
         Ok(name) => name,
         Err(fault) => return Err(Unmade::plain(fault.word())),
