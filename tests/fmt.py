@@ -4,7 +4,7 @@
 Each formatted text compiles to the bytes of the text that it was made from, has its comments in their order, and is left alone by a second run; a text that
 `resb text` prints is formatted already. Then files in place: links, permissions, unreadable ones, times, and a text that changes while it is formatted.
 
-usage: fmt.py PROGRAM [SEED [TEXTS]]
+usage: fmt.py PROGRAM [SEED [TEXTS [FOLDER]]]   (FOLDER has further texts, such as those that icu2text writes)
 Ends with status 0 if all holds, with 1 if something differs; says `skipped` if there is no such program.
 """
 import os
@@ -255,7 +255,8 @@ def main():
     seed = int(sys.argv[2]) if len(sys.argv) > 2 else 1
     count = int(sys.argv[3]) if len(sys.argv) > 3 else TEXTS
     generated = [Writer(seed * 100000 + i).bundle() for i in range(count)]
-    own = [path.read_bytes().decode() for path in sorted((TOP / "examples").rglob("*.txt"))]
+    folders = [TOP / "examples", *map(pathlib.Path, sys.argv[4:])]
+    own = [path.read_bytes().decode() for folder in folders for path in sorted(folder.rglob("*.txt"))]
     with tempfile.TemporaryDirectory() as name:
         folder = pathlib.Path(name)
         texts = [text for text in own if compiles(program, text)] + generated
