@@ -38,9 +38,9 @@ fn have_same_tokens(alloc: Global, old: &[u8], new: &[u8]) -> Result<bool, Forma
     }
 }
 
-/// Formats a bundle text. The formatted text spells the same name, tree and flag, as it has the same
-/// tokens in the same order; its comments are the same in the same order. Only white space changes:
-/// outside of quoted pieces and comments, and at the end of a line comment.
+/// Formats a bundle text. The formatted text spells the same name, tree and flag, as it has the
+/// same tokens in the same order; its comments are the same in the same order. Only white space
+/// changes: outside of quoted pieces and comments, and at the end of a line comment.
 ///
 /// # Errors
 ///

@@ -58,7 +58,8 @@ pub(crate) fn span_width(rest: &[u8]) -> usize {
     rest.len()
 }
 
-/// Returns the length of the unquoted piece that a text begins with. A comment inside it ends nothing.
+/// Returns the length of the unquoted piece that a text begins with. A comment inside it is part of
+/// it.
 pub(crate) fn bare_width(rest: &[u8]) -> usize {
     let mut width = span_width(rest);
     for _ in 0..rest.len() {
