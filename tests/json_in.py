@@ -166,13 +166,18 @@ def refused(program, folder, data, said):
     same("what is written", os.path.exists(file), False, data)
 
 
+def no_constant(word):
+    """Refuses NaN and the like, which Python reads."""
+    raise ValueError(word)
+
+
 def check_python(program, folder, data):
     """Python's reader must refuse what isn't JSON, and read what is refused for another reason."""
     form = os.path.join(folder, "bad.json")
     put(form, data)
     said = run(program, "compile", "--json", form, "-").stderr.decode()
     try:
-        json.loads(data.decode(), parse_constant=float.fromhex)
+        json.loads(data.decode(), parse_constant=no_constant)
         is_json = True
     except (ValueError, RecursionError):
         is_json = False
