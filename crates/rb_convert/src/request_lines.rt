@@ -1,6 +1,6 @@
 //! `resb lines`: request lines that install files.
 use crate::json_in::{JsonError, MOST_READ, file_of_json, finish_json};
-use json::{Writer, Writer};
+use json::Writer;
 use rb_console::{
     CommandError, Console, Form, Given, JsonWriter, Refusal, StartError, all_given, finish,
     is_text, made_of_each, not_started_on, printed, read_at_most, refused_on,
