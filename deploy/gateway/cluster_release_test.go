@@ -319,7 +319,7 @@ func (p *publisher) publish() {
 	switch {
 	case status == 200:
 		if revision <= p.last {
-			p.t.Errorf("a release has revision %d after %d", revision, p.last)
+			p.doubt("a release has revision %d after %d", revision, p.last)
 		}
 		p.may, p.last = map[int]bool{p.round: true}, revision
 		p.made++
@@ -335,6 +335,6 @@ func (p *publisher) look() {
 	m := p.machines[p.random.Intn(3)]
 	rounds, ok := m.seen(p.last)
 	if ok && (!isWhole(rounds) || !p.may[rounds[0]] || !p.may[rounds[3]]) {
-		p.t.Errorf("gateway %d has the releases %v, and after revision %d it may be %v", m.number, rounds, p.last, p.may)
+		p.doubt("gateway %d has the releases %v, and after revision %d it may be %v", m.number, rounds, p.last, p.may)
 	}
 }

@@ -49,6 +49,7 @@ func (c *cluster) begin() (end func()) {
 			m.awaitAt("/writez")
 		}
 		changes, unknown, looks := c.compare(scribes)
+		c.judge()
 		c.t.Logf("%d changes acknowledged, %d without an answer, %d lookups", changes, unknown, looks)
 		if changes == 0 || looks == 0 {
 			c.t.Error("no change or no lookup was answered")
