@@ -1,1 +1,4 @@
 pub mod Read
+pub mod JsonTexts
+pub mod JsonTrees
+pub mod Looks

@@ -1,4 +1,5 @@
-use rb_json::{Layout, json_text};
+use crate::laws::json_round_trip;
+use rb_json::Layout;
 use rb_json_reader::{JsonFaultKind, read_tree};
 use rb_parser::parse;
 use rb_tree::Tree;
@@ -26,8 +27,10 @@ fn are_equal(alloc: Global, one: &Tree, other: &Tree) -> Result<bool, Fail> {
 fn comes_back(alloc: Global, text: &str) -> Result<bool, Fail> {
     let source = parse(alloc, text.as_bytes())?;
     for layout in [Layout::Compact, Layout::Pretty] {
-        let json = json_text(alloc, &source.tree, layout)?;
-        if !are_equal(alloc, &source.tree, &read(alloc, &json)?)? {
+        let Ok(tree) = json_round_trip(alloc, &source.tree, layout)? else {
+            return Ok(false);
+        };
+        if !are_equal(alloc, &source.tree, &tree)? {
             return Ok(false);
         }
     }

@@ -1,13 +1,18 @@
 ghost use Rattle.std.specs.Prelude.{◌≡◌, IfOk, MatchResult};
+ghost use Rattle.rb_tree.specs.View.{view_of};
 ghost use Rattle.rb_format.specs.File.{Denotes, source_tree_of};
 ghost use Rattle.rb_lexer.specs.declared.fault.SourceKind.TheVariants.{Memory};
 ghost use Rattle.rb_parser.specs.Source.{source_tree};
 ghost use Rattle.rb_writer.specs.Written.{IsWriterFile};
 
+use crate::sound::look_at;
+use rb_json::{JsonError, Layout, json_text};
+use rb_json_reader::laws::one_arrangement;
+use rb_json_reader::{JsonFault, read_tree};
 use rb_lexer::SourceFault;
 use rb_parser::{Source, parse};
 use rb_printer::{PrintError, print_bundle};
-use rb_tree::UnitList;
+use rb_tree::{Tree, UnitList};
 use rb_validator::Bundle;
 use rb_writer::write;
 use std::alloc::Global;
@@ -38,5 +43,26 @@ pub fn again(alloc: Global, name: &UnitList, bundle: &Bundle) -> Result<Vec<u8>,
     match parse(alloc, &text) {
         Ok(source) => Ok(write(alloc, &source.tree, source.no_fallback)?),
         Err(_) => Err(PrintError::Memory),
+    }
+}
+
+/// Prints a tree as JSON and reads the text. The tree that is read is the same, in each layout; an
+/// error is the only other result.
+pub fn json_round_trip(
+    alloc: Global,
+    tree: &Tree,
+    layout: Layout,
+) -> Result<Result<Tree, JsonFault>, JsonError>
+    ensures { IfOk result (λ read. IfOk read (λ t. view_of t ≡ view_of tree.now)) }
+{
+    one_arrangement();
+    look_at(tree);
+    let text = json_text(alloc, tree, layout)?;
+    match read_tree(alloc, text.as_bytes()) {
+        Ok(other) => {
+            look_at(&other);
+            Ok(Ok(other))
+        }
+        Err(fault) => Ok(Err(fault)),
     }
 }

@@ -1,5 +1,6 @@
 //! Tests bundle files (`rb_format`, `rb_writer`, `rb_validator`, `rb_views`) and printed texts
-//! (`rb_printer`), and proves that the parser reads what is printed.
+//! (`rb_printer`), and proves that the parser reads what is printed, and that the reader of JSON
+//! reads no other tree than the printed one.
 #![tactic(auto)]
 
 #[cfg(test)]
@@ -13,6 +14,7 @@ mod made;
 mod prints;
 #[cfg(test)]
 mod samples;
+mod sound;
 #[cfg(test)]
 mod validator;
 #[cfg(test)]
