@@ -40,7 +40,7 @@ def differences(program, stored):
     with tempfile.TemporaryDirectory() as name:
         folder = pathlib.Path(name)
         for path, text in stored.get("files", {}).items():
-            (folder / path).parent.mkdir(exist_ok=True)
+            (folder / path).parent.mkdir(parents=True, exist_ok=True)
             (folder / path).write_text(text, encoding="utf-8")
         for path, digits in stored.get("binaries", {}).items():
             (folder / path).write_bytes(bytes.fromhex(digits))

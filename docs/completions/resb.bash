@@ -2,22 +2,24 @@
 _resb() {
     local word=${COMP_WORDS[COMP_CWORD]} before=${COMP_WORDS[COMP_CWORD - 1]} flags=
     if [ "$COMP_CWORD" -eq 1 ]; then
-        COMPREPLY=($(compgen -W 'compile check get lint coverage explain lines look text json serve help --help --version' -- "$word"))
+        COMPREPLY=($(compgen -W 'compile check get lint fmt coverage explain lines look text json diff serve help --help --version' -- "$word"))
         return
     fi
     case ${COMP_WORDS[1]} in
         # options, by tools/pages
-        compile) flags='--to --quiet --help' ;;
+        compile) flags='--to --from --json --no-fallback --quiet --help' ;;
         check) flags='--quiet --help' ;;
-        get) flags='--help' ;;
+        get) flags='--raw --help' ;;
         lint) flags='--against --root --allow --deny --strict --all --format --name --list --help' ;;
+        fmt) flags='--check --diff --quiet --help' ;;
         coverage) flags='--parents --format --help' ;;
         explain) flags='--help' ;;
-        lines) flags='--op --help' ;;
+        lines) flags='--op --json --help' ;;
         look) flags='--parents --trace --help' ;;
         text) flags='--name --help' ;;
-        json) flags='--pretty --help' ;;
-        serve) flags='--parents --app-bytes --bundle-bytes --reply-bytes --line-bytes --apps --steps --keep-serving --help' ;;
+        json) flags='--inherit --parents --path --pretty --help' ;;
+        diff) flags='--json --stat --help' ;;
+        serve) flags='--parents --app-bytes --bundle-bytes --reply-bytes --line-bytes --apps --steps --keep-serving --extended --help' ;;
         # end
     esac
     case $before in
