@@ -345,7 +345,7 @@ def main():
     if not os.access(program, os.X_OK):
         print(f"skipped: {program} is not there")
         return 0
-    modules = int(sys.argv[2]) if len(sys.argv) > 2 else 2000
+    modules = int(sys.argv[2]) if len(sys.argv) > 2 else 40
     seed = int(sys.argv[3]) if len(sys.argv) > 3 else 1
     for number in range(seed, seed + modules):
         with tempfile.TemporaryDirectory() as folder:

@@ -214,14 +214,14 @@ impl Print for Desk {
 
     fn println<D: Display + Drop>(&self, value: D) -> io::Result<()> {
         if self.output_is_closed.get() {
-            return Err(io::Error::from(ErrorKind::BrokenPipe));
+            return Err(io::Error::from(ErrorKind::StorageFull));
         }
         self.say(&self.output, value, "\n")
     }
 
     fn write_all(&self, bytes: &[u8]) -> io::Result<()> {
         if self.output_is_closed.get() {
-            return Err(io::Error::from(ErrorKind::BrokenPipe));
+            return Err(io::Error::from(ErrorKind::StorageFull));
         }
         match str::from_utf8(bytes) {
             Ok(text) => self.say(&self.output, text, ""),
