@@ -284,7 +284,7 @@ def error_words():
 
 def gateway_words():
     """Returns the error codes of the gateway itself."""
-    return set(re.findall(r'problem\{http\.\w+, "(\w+)"\}', text_of("deploy/internal/api/words.go"))) | {"BadRelease", "NeedsTLS"}
+    return set(re.findall(r'problem\{http\.\w+, "(\w+)"\}', text_of("deploy/internal/api/words.go"))) | {"BadPatch", "BadRelease", "NeedsTLS"}
 
 
 def missing_words():

@@ -405,7 +405,7 @@ pub(crate) const OF_START: [Explanation; 6] = [
     },
 ];
 
-pub(crate) const OF_REQUEST: [Explanation; 43] = [
+pub(crate) const OF_REQUEST: [Explanation; 44] = [
     Explanation {
         word: "BadLine",
         of: Of::Request,
@@ -550,7 +550,7 @@ pub(crate) const OF_REQUEST: [Explanation; 43] = [
         word: "NotAllowed",
         of: Of::Request,
         meaning: "the address doesn't have this method",
-        cause: "PATCH, or a change of an item in place of its bundle",
+        cause: "a change of an item in place of its bundle, or a patch of an item",
         remedy: "the header Allow names the methods",
     },
     Explanation {
@@ -587,6 +587,13 @@ pub(crate) const OF_REQUEST: [Explanation; 43] = [
         meaning: "a part of a release can't be read, and nothing was changed",
         cause: "another file in the archive; two files of one locale; a link; an archive that is cut off",
         remedy: "the reply names the file or the line and says what is wrong",
+    },
+    Explanation {
+        word: "BadPatch",
+        of: Of::Request,
+        meaning: "a patch isn't JSON, or makes no bundle of the stored one, and nothing was changed",
+        cause: "another form than that of resb json; a fraction; a key twice; a tag beside others",
+        remedy: "the reply has the code, the place in the patch and the path of the item",
     },
     Explanation {
         word: "OtherName",
