@@ -1,5 +1,6 @@
 #!/usr/bin/env bash
-# Checks the errors of resb if standard output can't be written: `cannot write stdout` and status 2, or `Write` and status 1 of `serve`.
+# Checks the errors of resb if standard output can't be written: `cannot write stdout` and status 2, or `Write` and status 1 of `serve`; and
+# that nothing is said if the reader of a pipe has ended.
 #
 # usage: stdout.sh PROGRAM
 # Ends with status 0 if all agree, with 1 if not; says `skipped` if there is no such program or no /dev/full.
@@ -40,6 +41,21 @@ refuses 2 'cannot write stdout' compile "$examples/icudata/de.txt" "$made/again.
 refuses 2 'cannot write stdout' check "$made/de.res"
 refuses 2 'cannot write stdout' get "$made/de.res" months/0
 refuses 1 Write serve
+
+# Runs a command whose output is longer than a pipe has space for, and whose reader ends at once: nothing is said.
+is_quiet() {
+    "$program" "$@" 2>"$made/errors" | true
+    agrees "$1 to a reader that ends" "${PIPESTATUS[0]}" 2 ''
+}
+
+printf 'root{a{"%0300000d"}}' 1 >"$made/long.txt"
+"$program" compile "$made/long.txt" "$made/long.res" >/dev/null || exit 2
+is_quiet json "$made/long.res"
+is_quiet text "$made/long.res"
+is_quiet get "$made/long.res" a
+is_quiet get --raw "$made/long.res" a
+is_quiet compile "$made/long.txt" -
+is_quiet diff "$made/de.res" "$made/long.res"
 
 # the file is written though nothing could be printed, and has its usual bytes
 if cmp -s "$made/de.res" "$made/again.res"; then
