@@ -4,7 +4,9 @@ ghost use Rattle.std.specs.Coded.{codes};
 ghost use Rattle.rb_parents.specs.Family.{family_pairs, parent_of, parent_in};
 ghost use Rattle.rb_views.specs.Seen.{tree_seen};
 ghost use Rattle.rb_packages.specs.Shelf.{bundle_at};
-ghost use Rattle.rb_packages.specs.Packages.{icudata_of, list_of, files_of, file_at, OthersStay};
+ghost use Rattle.rb_packages.specs.Lent.{files_in};
+ghost use Rattle.rb_packages.specs.Packages.{icudata_files, icudata_of, list_of, files_of, file_at};
+ghost use Rattle.rb_packages.specs.Packages.{OthersStay};
 ghost use Rattle.rb_packages.specs.Release.{edited};
 ghost use Rattle.rb_packages.specs.Usage.{bytes_of, apps_of, more_apps, AreThereOnce};
 ghost use Rattle.rb_engine.specs.Ask.{Requests, Looks};
@@ -21,6 +23,7 @@ ghost use Rattle.rb_engine.specs.LookResponse.{look_response};
 ghost use Rattle.rb_engine.specs.Start.{Loads, IsRefused, IsIndexed};
 ghost use Rattle.rb_engine.specs.declared.request.Payload.{Payload};
 
+use crate::app_shelves::AppShelves;
 use crate::brought::Brought;
 use crate::handle::{self, Change};
 use crate::place::{Place, place_of};
@@ -213,6 +216,19 @@ impl Engine {
             ≡ map (λ e. (e.0, length e.1)) (files_of app.now self.now.packages)) }
     {
         self.packages.sizes(alloc, app)
+    }
+
+    /// Returns references to the bundles that an application's lookups read.
+    pub fn shelves(&self, app: &App) -> AppShelves<'_>
+        ensures own { files_in result.own ≡ files_of app.now self.now.packages }
+        ensures icudata { files_in result.icudata ≡ icudata_files self.now.packages }
+        ensures parents { family_pairs result.parents.now ≡ self.now.parents }
+    {
+        AppShelves {
+            own: self.packages.shelf(app),
+            icudata: self.packages.icu_shelf(),
+            parents: &self.parents,
+        }
     }
 
     /// Begins changes of an application's bundles that are made together by `release`.

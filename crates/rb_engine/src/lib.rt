@@ -2,6 +2,7 @@
 //! their bundles.
 #![tactic(auto)]
 
+mod app_shelves;
 mod brought;
 mod compiling;
 mod engine;
@@ -15,6 +16,7 @@ mod same_name;
 mod start;
 mod words;
 
+pub use app_shelves::AppShelves;
 pub use brought::Brought;
 pub use compiling::compile;
 pub use engine::Engine;
