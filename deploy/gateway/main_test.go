@@ -28,6 +28,7 @@ func TestMain(m *testing.M) {
 	default:
 		flag.Parse()
 		http.DefaultTransport.(*http.Transport).DisableCompression = true // tests see what is sent
+		_ = os.Setenv("MALLOC_ARENA_MAX", "1")                            // else threads of a stand-in need more address space than it may have
 		if !testing.Verbose() {
 			log.SetOutput(io.Discard)
 		}

@@ -108,6 +108,27 @@ func TestPatchesThatAreRefused(t *testing.T) {
 	if got := s.patch("/v1/shop/de", `{"a":"C"}`, "If-Match", tag); got.StatusCode != 412 {
 		t.Errorf("%d %s", got.StatusCode, got.body)
 	}
+	if got := s.patch("/v1/shop/de", `{"a":"C"}`, "Content-Encoding", "Identity"); got.StatusCode != 200 {
+		t.Errorf("%d %s", got.StatusCode, got.body)
+	}
+}
+
+// TestPatchesOfALongBundle are refused if their application may not have the memory, of which nothing stays counted.
+func TestPatchesOfALongBundle(t *testing.T) {
+	needJSON(t)
+	s := open(t, "-body-bytes", "300000")
+	long := `de{a{"` + strings.Repeat("x", 80000) + `"}}`
+	if got := s.ask("PUT", "/v1/shop/de.txt", shopWrites, long); got.StatusCode != 201 {
+		t.Fatal(got.StatusCode, got.body)
+	}
+	for i := 0; i < 5; i++ {
+		if got := s.patch("/v1/shop/de", `{"b":"B"}`); got.StatusCode != 429 || !strings.Contains(got.body, "TooMany") {
+			t.Errorf("%d %s", got.StatusCode, got.body)
+		}
+	}
+	if got := s.ask("PUT", "/v1/shop/de.txt", shopWrites, long); got.StatusCode != 200 {
+		t.Error(got.StatusCode, got.body)
+	}
 }
 
 // TestTheLogOfPatches has a line for each patch that was made or refused.

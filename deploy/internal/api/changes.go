@@ -176,7 +176,7 @@ func (c *call) bundle(form store.Form) (body []byte, p *problem) {
 	switch {
 	case form == store.NoForm:
 		return nil, &badType
-	case c.r.Header.Get("Content-Encoding") != "" && !strings.EqualFold(c.r.Header.Get("Content-Encoding"), "identity"):
+	case c.isEncoded():
 		return nil, &badType
 	case form == store.File:
 		limit = c.options.FileBytes
@@ -186,6 +186,12 @@ func (c *call) bundle(form store.Form) (body []byte, p *problem) {
 		return body, &badText
 	}
 	return body, p
+}
+
+// isEncoded returns true if the body is compressed, or encoded in another way.
+func (c *call) isEncoded() bool {
+	encoding := c.r.Header.Get("Content-Encoding")
+	return encoding != "" && !strings.EqualFold(encoding, "identity")
 }
 
 // form tells the form of the body: the suffix of the name says it, where it has one, and else the type. It gives the name

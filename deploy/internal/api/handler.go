@@ -103,7 +103,7 @@ func (h *Handler) serve(w http.ResponseWriter, r *http.Request, route func(*call
 			panic(http.ErrAbortHandler)
 		}
 	}()
-	w.Header().Set("X-Content-Type-Options", "nosniff")
+	w.Header()["X-Content-Type-Options"] = noSniff
 	if len(r.TransferEncoding) > 0 {
 		w.Header().Set("Connection", "close") // a proxy may have seen another end of the body (RFC 9112, 6.1)
 	}
@@ -124,7 +124,10 @@ func segments(escaped string) (parts []string, ok bool) {
 	}
 	parts = strings.Split(escaped[1:], "/")
 	for i, part := range parts {
-		plain, err := url.PathUnescape(part)
+		plain, err := part, error(nil)
+		if strings.IndexByte(part, '%') >= 0 {
+			plain, err = url.PathUnescape(part)
+		}
 		if err != nil || strings.Contains(plain, "/") || plain == "." || plain == ".." {
 			return nil, false
 		}
@@ -214,8 +217,8 @@ func (c *call) limited(do func()) {
 
 // after waits for the revision that the address names, if it does.
 func (c *call) after() *problem {
-	given := c.r.URL.Query()["after"]
-	if len(given) == 0 {
+	given, asks := c.query("after")
+	if !asks {
 		return nil
 	}
 	revision, err := strconv.ParseInt(given[0], 10, 64)
@@ -229,6 +232,15 @@ func (c *call) after() *problem {
 		return &p
 	}
 	return nil
+}
+
+// query returns what the query has for a name, and whether it has the name.
+func (c *call) query(name string) (values []string, there bool) {
+	if c.r.URL.RawQuery == "" {
+		return nil, false
+	}
+	values, there = c.r.URL.Query()[name]
+	return values, there
 }
 
 // tellRevision writes a header with a revision.
@@ -304,10 +316,8 @@ func (c *call) list() {
 
 // asked answers with the server's reply to a lookup or a list.
 func (c *call) asked(line []byte, tag func(reply []byte) string) {
-	ctx, cancel := context.WithTimeout(c.r.Context(), c.options.Patience)
-	defer cancel()
 	c.tellRevision(c.Backend.Revision())
-	reply := c.Backend.Ask(ctx, c.app, line)
+	reply := c.Backend.Ask(c.r.Context(), c.options.Patience, c.app, line)
 	defer reply.Free()
 	if reply.Err != nil {
 		c.refuse(problemOf(reply.Err))
@@ -331,10 +341,17 @@ func (c *call) tagOfRoot(reply []byte) string {
 	return bundleTag(b.Digest, strings.Trim(own, `"`))
 }
 
+// Values of headers, which nobody changes.
+var (
+	noSniff   = []string{"nosniff"}
+	privately = []string{"private, no-cache"}
+	jsonType  = []string{"application/json"}
+)
+
 // answer writes a reply of the server. One that was found has a tag; a caller that has this tag gets no body.
 func (c *call) answer(status int, reply []byte, tagOf func(reply []byte) string) {
 	h := c.w.Header()
-	h.Set("Cache-Control", "private, no-cache")
+	h["Cache-Control"] = privately
 	h.Add("Vary", "Authorization")
 	if status == http.StatusOK && c.has(tagOf(reply)) {
 		c.write(http.StatusNotModified, "", nil)
@@ -343,7 +360,7 @@ func (c *call) answer(status int, reply []byte, tagOf func(reply []byte) string)
 	if status == http.StatusServiceUnavailable {
 		h.Set("Retry-After", "1")
 	}
-	c.write(status, "application/json", append(reply[:len(reply):len(reply)], '\n'))
+	c.write(status, "application/json", append(reply, '\n')) // a reply of the server has space for it
 }
 
 // tagOf returns the tag of a reply, equal only for equal replies.
@@ -394,7 +411,11 @@ func (c *call) refuse(p problem) {
 func (c *call) write(status int, kind string, body []byte) {
 	c.wrote = status
 	h := c.w.Header()
-	if kind != "" {
+	switch kind {
+	case "":
+	case jsonType[0]:
+		h["Content-Type"] = jsonType
+	default:
 		h.Set("Content-Type", kind)
 	}
 	body = c.encoded(status, body)

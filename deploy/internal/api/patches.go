@@ -23,7 +23,7 @@ const mostPatchRounds = 64
 func (c *call) patch(name string) {
 	c.kind = "change"
 	locale := strings.TrimSuffix(name, ".json")
-	if kind, _, err := mime.ParseMediaType(c.r.Header.Get("Content-Type")); err != nil || kind != patchType || c.r.Header.Get("Content-Encoding") != "" {
+	if kind, _, err := mime.ParseMediaType(c.r.Header.Get("Content-Type")); err != nil || kind != patchType || c.isEncoded() {
 		c.w.Header().Set("Accept-Patch", patchType)
 		c.refuse(badType)
 		return
@@ -54,6 +54,7 @@ func (c *call) patch(name string) {
 			return
 		}
 	}
+	c.audit.note(c, "patch", asked, nil, errFull)
 	c.refuse(busy)
 }
 
@@ -96,6 +97,11 @@ func (c *call) patchOnce(ctx context.Context, asked store.Change, patch *convert
 // patched sets the body of a change to the present bundle with a patch, or to that of the bundle if it has the same items.
 func (c *call) patched(ctx context.Context, asked *store.Change, patch *convert.MergePatch, given store.Condition) (
 	now store.Bundle, same bool, err error) {
+	if b, there := c.Backend.Bundle(c.app, asked.Locale); there {
+		if err := c.hold(int64(b.Bytes)); err != nil { // before it is read
+			return b, false, err
+		}
+	}
 	now, body, there, err := c.Backend.Kept(c.app, asked.Locale)
 	switch {
 	case err != nil:
@@ -104,9 +110,6 @@ func (c *call) patched(ctx context.Context, asked *store.Change, patch *convert.
 		return now, false, store.ErrCondition
 	case !there:
 		return now, false, errAbsent
-	}
-	if err := c.hold(int64(len(body))); err != nil {
-		return now, false, err
 	}
 	asked.Locale, asked.Form = now.Locale, now.Form
 	made, same, err := c.convert.Patched(ctx, c.app, now.Form, body, patch, c.hold)

@@ -25,7 +25,7 @@ const mostLayings = 16
 
 // asksTree returns true if the query asks for all that an item inherits.
 func (c *call) asksTree() bool {
-	_, asked := c.r.URL.Query()["tree"]
+	_, asked := c.query("tree")
 	return asked
 }
 
@@ -35,7 +35,7 @@ func (c *call) tree(locale, path string) {
 	ctx, cancel := context.WithTimeout(c.r.Context(), c.options.Patience)
 	defer cancel()
 	c.tellRevision(c.Backend.Revision())
-	reply := c.Backend.Ask(ctx, c.app, child.LookLine(c.app, locale, path))
+	reply := c.Backend.Ask(ctx, c.options.Patience, c.app, child.LookLine(c.app, locale, path))
 	word, refused := refusal(reply.Reply)
 	err := reply.Err
 	reply.Free()

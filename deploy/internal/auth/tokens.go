@@ -3,7 +3,6 @@ package auth
 
 import (
 	"bytes"
-	"crypto/hmac"
 	"crypto/rand"
 	"crypto/sha256"
 	"crypto/subtle"
@@ -49,18 +48,14 @@ func (g grant) holds(now time.Time) bool { return g.expires.IsZero() || now.Befo
 // A Holder is who has a token.
 type Holder struct {
 	digest   digest
-	name     string
+	name     string // in the file, or ""
+	shown    string
 	apps     map[string][]grant
 	prefixes map[string][]grant
 }
 
 // Name names the holder in logs and in the history: by its name, or by the first digits of the token's digest.
-func (h Holder) Name() string {
-	if h.name != "" {
-		return h.name
-	}
-	return hex.EncodeToString(h.digest[:4])
-}
+func (h Holder) Name() string { return h.shown }
 
 // May returns what the holder may do now for an application; 0 is nothing.
 func (h Holder) May(app string, now time.Time) (most Right) {
@@ -97,7 +92,7 @@ func (h Holder) holdsAny(now time.Time) bool {
 // Grants are the tokens of one reading of the file, under a digest with a key of this process: nobody outside knows where a token
 // is found, or what it is compared with.
 type grants struct {
-	key     []byte
+	key     [32]byte
 	holders map[digest]Holder
 }
 
@@ -106,7 +101,7 @@ type grants struct {
 // whose names begin with `shop.`. After the hash there may be `name=NAME` and `expires=TIME`. One token may have several lines.
 type Tokens struct {
 	path  string
-	now   atomic.Value // grants
+	now   atomic.Value // *grants
 	isBad int32
 	short int32 // that a short token was refused was logged
 
@@ -171,7 +166,7 @@ func (t *Tokens) Reload(atOnce bool) {
 	if err == nil && (bytes.Equal(content, t.seen) || !atOnce && !bytes.Equal(content, before)) {
 		return
 	}
-	var g grants
+	var g *grants
 	var wrong []error
 	if err == nil {
 		g, wrong, err = parseTokens(join(content, t.added))
@@ -204,9 +199,9 @@ func join(content, more []byte) []byte {
 }
 
 // parseTokens reads the content of the file, without the lines that are wrong.
-func parseTokens(content []byte) (g grants, wrong []error, err error) {
-	g = grants{key: make([]byte, 32), holders: map[digest]Holder{}}
-	if _, err := rand.Read(g.key); err != nil {
+func parseTokens(content []byte) (g *grants, wrong []error, err error) {
+	g = &grants{holders: map[digest]Holder{}}
+	if _, err := rand.Read(g.key[:]); err != nil {
 		return g, nil, err
 	}
 	for n, line := range strings.Split(string(content), "\n") {
@@ -289,17 +284,17 @@ func ParseTime(text string) (time.Time, error) {
 }
 
 // add adds the right of a line.
-func (g grants) add(l line) error {
+func (g *grants) add(l line) error {
 	place := g.place(l.digest)
 	h, there := g.holders[place]
 	if !there {
-		h = Holder{l.digest, "", map[string][]grant{}, map[string][]grant{}}
+		h = Holder{digest: l.digest, shown: hex.EncodeToString(l.digest[:4]), apps: map[string][]grant{}, prefixes: map[string][]grant{}}
 	}
 	if l.name != "" && h.name != "" && l.name != h.name {
 		return fmt.Errorf("the token has the name %s in another line", h.name)
 	}
 	if l.name != "" {
-		h.name = l.name
+		h.name, h.shown = l.name, l.name
 	}
 	g.holders[place] = h
 	to, key := h.apps, l.app
@@ -310,17 +305,17 @@ func (g grants) add(l line) error {
 	return nil
 }
 
-// place is where a digest is found.
-func (g grants) place(d digest) (place digest) {
-	mac := hmac.New(sha256.New, g.key)
-	mac.Write(d[:])
-	mac.Sum(place[:0])
-	return place
+// place is where a digest is found: a hash of the key and the digest, which have one length.
+func (g *grants) place(d digest) digest {
+	var both [2 * sha256.Size]byte
+	copy(both[:], g.key[:])
+	copy(both[sha256.Size:], d[:])
+	return sha256.Sum256(both[:])
 }
 
 // Find returns who has a token; the second result is false if nobody has it, it has expired, or it is too short.
 func (t *Tokens) Find(token string) (h Holder, ok bool) {
-	g := t.now.Load().(grants)
+	g := t.now.Load().(*grants)
 	d := digest(sha256.Sum256([]byte(token)))
 	h, there := g.holders[g.place(d)]
 	known := subtle.ConstantTimeCompare(h.digest[:], d[:]) == 1 && there

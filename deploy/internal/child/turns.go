@@ -101,15 +101,11 @@ func (t *Turns) Go(ctx context.Context, app string, line []byte, done func(*Call
 	t.mu.Unlock()
 }
 
-// Ask gives a line its turn and waits for the reply.
-func (t *Turns) Ask(ctx context.Context, app string, line []byte) *Call {
+// Ask gives a line its turn and waits for the reply, for a time.
+func (t *Turns) Ask(ctx context.Context, within time.Duration, app string, line []byte) *Call {
 	answered := make(chan *Call, 1)
 	t.Go(ctx, app, line, func(c *Call) { answered <- c })
-	deadline, hasOne := ctx.Deadline()
-	if !hasOne {
-		return <-answered
-	}
-	late := time.NewTimer(time.Until(deadline))
+	late := time.NewTimer(within)
 	defer late.Stop()
 	select {
 	case c := <-answered:

@@ -125,7 +125,7 @@ func TestRepliesThatAreNotFreed(t *testing.T) {
 	if got := len(all); got > 70 {
 		t.Errorf("%d replies of 16 KB are held", got)
 	}
-	other := turns.Ask(context.Background(), "bank", LookLine("bank", "de", "a"))
+	other := turns.Ask(context.Background(), time.Minute, "bank", LookLine("bank", "de", "a"))
 	if !strings.Contains(string(other.Reply), `"A"`) {
 		t.Fatal(other.Err, string(other.Reply))
 	}

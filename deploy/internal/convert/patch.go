@@ -94,6 +94,12 @@ func faultAt(text []byte, code string, at int) *JSONFault {
 	return &JSONFault{Code: code, Line: 1 + bytes.Count(before, []byte("\n")), Column: 1 + utf8.RuneCount(before[line:])}
 }
 
+// A passed value is read, and not copied.
+type passed struct{}
+
+// UnmarshalJSON takes a value.
+func (*passed) UnmarshalJSON([]byte) error { return nil }
+
 // A patchParser reads a patch once from its begin to its end.
 type patchParser struct {
 	text []byte
@@ -134,8 +140,7 @@ func pointer(path []string) string {
 func (p *patchParser) value(depth int) (v value, err error) {
 	v.from = p.next()
 	if v.from == len(p.text) || p.text[v.from] != '{' {
-		var skipped json.RawMessage
-		if err := p.from.Decode(&skipped); err != nil {
+		if err := p.from.Decode(&passed{}); err != nil {
 			return v, p.fault("NotJson", v.from)
 		}
 		v.to = int(p.from.InputOffset())
@@ -234,7 +239,7 @@ func (m *merger) value(v value) error {
 	at := nextToken(m.old, m.from)
 	if !v.isObject || at == len(m.old) || m.old[at] != '{' {
 		m.fresh(v)
-		return m.from.Decode(&json.RawMessage{})
+		return m.from.Decode(&passed{})
 	}
 	if _, err := m.from.Token(); err != nil {
 		return err
@@ -266,16 +271,16 @@ func (m *merger) member(v value, used []bool) error {
 	name, _ := token.(string)
 	i := sort.Search(len(v.members), func(i int) bool { return v.members[i].name >= name })
 	if i == len(v.members) || v.members[i].name != name {
-		var kept json.RawMessage
-		if err := m.from.Decode(&kept); err != nil {
+		at := nextToken(m.old, m.from)
+		if err := m.from.Decode(&passed{}); err != nil {
 			return err
 		}
 		m.name(name)
-		m.out.Write(kept)
+		m.out.Write(m.old[at:m.from.InputOffset()])
 		return nil
 	}
 	if used[i] = true; m.isNull(v.members[i].value) {
-		return m.from.Decode(&json.RawMessage{})
+		return m.from.Decode(&passed{})
 	}
 	m.name(name)
 	return m.value(v.members[i].value)

@@ -204,9 +204,9 @@ func (r *Replica) await() (batch []*pending, more bool) {
 	return batch, more
 }
 
-// Ask answers a lookup or a list. Free must be called once the reply isn't used any more.
-func (r *Replica) Ask(ctx context.Context, app string, line []byte) *child.Call {
-	return r.turns.Ask(ctx, app, line)
+// Ask answers a lookup or a list, within a time. Free must be called once the reply isn't used any more.
+func (r *Replica) Ask(ctx context.Context, within time.Duration, app string, line []byte) *child.Call {
+	return r.turns.Ask(ctx, within, app, line)
 }
 
 // AskMany answers several lookups, each by a call of a function that must not block.

@@ -94,9 +94,7 @@ func (r *Replica) remove(app, locale string) string {
 }
 
 func (r *Replica) look(app, locale, path string) string {
-	ctx, cancel := soon()
-	defer cancel()
-	reply := r.Ask(ctx, app, child.LookLine(app, locale, path))
+	reply := r.Ask(context.Background(), generous, app, child.LookLine(app, locale, path))
 	defer reply.Free()
 	if reply.Err != nil {
 		return reply.Err.Error()
@@ -105,9 +103,7 @@ func (r *Replica) look(app, locale, path string) string {
 }
 
 func (r *Replica) list(app string) string {
-	ctx, cancel := soon()
-	defer cancel()
-	reply := r.Ask(ctx, app, child.ListLine(app))
+	reply := r.Ask(context.Background(), generous, app, child.ListLine(app))
 	defer reply.Free()
 	return string(reply.Reply)
 }
