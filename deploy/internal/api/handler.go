@@ -9,6 +9,7 @@ import (
 	"log"
 	"net/http"
 	"net/url"
+	"runtime"
 	"strconv"
 	"strings"
 	"time"
@@ -363,11 +364,26 @@ func (c *call) answer(status int, reply []byte, tagOf func(reply []byte) string)
 	c.write(status, "application/json", append(reply, '\n')) // a reply of the server has space for it
 }
 
+// slice is how much of a long reply is hashed before others may go on: a goroutine that computes has a processor for 10 ms else.
+const slice = 32 << 10
+
 // tagOf returns the tag of a reply, equal only for equal replies.
 func tagOf(reply []byte) string {
-	sum := sha256.Sum256(reply)
-	return `"` + base64.RawURLEncoding.EncodeToString(sum[:16]) + `"`
+	if len(reply) <= slice {
+		sum := sha256.Sum256(reply)
+		return tagFrom(sum[:])
+	}
+	sum := sha256.New()
+	for len(reply) > slice {
+		_, _ = sum.Write(reply[:slice])
+		reply = reply[slice:]
+		runtime.Gosched()
+	}
+	_, _ = sum.Write(reply)
+	return tagFrom(sum.Sum(nil))
 }
+
+func tagFrom(sum []byte) string { return `"` + base64.RawURLEncoding.EncodeToString(sum[:16]) + `"` }
 
 // has sets the tag of a reply, and returns true if the caller has what it names, perhaps compressed.
 func (c *call) has(tag string) bool {

@@ -24,6 +24,7 @@ type Child struct {
 	command *exec.Cmd
 	in, out *os.File
 	lines   *bufio.Reader
+	long    []byte // where a reply is put together that is longer than the reader's buffer
 	asking  sync.Mutex
 	word    lastLine
 	times   *os.File // /proc/PID/schedstat, or nil
@@ -65,6 +66,10 @@ func Start(program string, arguments []string, memory int64) (*Child, error) {
 	go c.wait()
 	return c, nil
 }
+
+// mostLong is the most memory that a child keeps for reading long replies. A reply that grows for itself takes five times its length of
+// memory, and the next application waits meanwhile.
+const mostLong = 32 << 20
 
 // replyBuffer is how many bytes of replies are read at once.
 const replyBuffer = 1 << 18
@@ -187,22 +192,27 @@ func (c *Child) write(lines [][]byte, written *sync.WaitGroup) {
 
 // reply reads one reply.
 func (c *Child) reply(line int, admit admission) (reply []byte, err error) {
-	admitted := true
+	all, admitted := c.long[:0], true
 	for {
 		part, err := c.lines.ReadSlice('\n')
 		if err != nil && !errors.Is(err, bufio.ErrBufferFull) {
 			return nil, err
 		}
-		if admitted = admitted && (admit == nil || admit(line, len(part))); admitted {
-			reply = append(reply, part...)
-		}
-		if err != nil {
-			continue
-		}
-		if !admitted {
+		admitted = admitted && (admit == nil || admit(line, len(part)))
+		switch {
+		case err != nil && admitted:
+			all = append(all, part...)
+		case err != nil:
+		case !admitted:
 			return nil, nil
+		case len(all) == 0:
+			return append([]byte(nil), part...)[:len(part)-1], nil
+		default:
+			if all = append(all, part...); cap(all) <= mostLong {
+				c.long = all
+			}
+			return append([]byte(nil), all...)[:len(all)-1], nil
 		}
-		return reply[:len(reply)-1], nil
 	}
 }
 

@@ -212,3 +212,35 @@ func TestManyApplications(t *testing.T) {
 		t.Errorf("%d bytes are still counted", turns.bytes)
 	}
 }
+
+// TestLongReplies asks for replies around the length of the reader's buffer, and for others in between: each is whole, and stays so.
+func TestLongReplies(t *testing.T) {
+	_, c := begin(t)
+	var lines [][]byte
+	want := map[string]string{}
+	for i, length := range []int{1, replyBuffer - 60, replyBuffer - 1, replyBuffer, replyBuffer + 1, 3*replyBuffer + 7, 10, 2 * replyBuffer} {
+		locale := fmt.Sprintf("l%c", 'a'+i)
+		want[locale] = strings.Repeat(string(rune('a'+i)), length)
+		text := fmt.Sprintf(`%s{a{"%s"}}`, locale, want[locale])
+		put := ChangeLine(store.Change{Op: store.Install, App: "shop", Locale: locale, Form: store.Text, Body: []byte(text)})
+		if replies, err := c.Ask([][]byte{put}, time.Minute, nil); err != nil || string(replies[0]) != `{"ok":true}` {
+			t.Fatal(err, replies)
+		}
+		lines = append(lines, LookLine("shop", locale, "a"))
+	}
+	refused := 4
+	replies, err := c.Ask(lines, time.Minute, func(line, _ int) bool { return line != refused })
+	if err != nil || len(replies) != len(lines) {
+		t.Fatal(err, len(replies))
+	}
+	for i, reply := range replies {
+		locale := fmt.Sprintf("l%c", 'a'+i)
+		if i == refused {
+			if reply != nil {
+				t.Error("a reply that wasn't admitted is there")
+			}
+		} else if !strings.Contains(string(reply), `"`+want[locale]+`"`) || reply[len(reply)-1] != '}' {
+			t.Errorf("reply %d has %d bytes", i, len(reply))
+		}
+	}
+}
