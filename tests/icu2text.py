@@ -1,6 +1,7 @@
 #!/usr/bin/env python3
 """Tests `tools/icu2text` over files that are made here, word by word, as ICU's `uresdata.h` describes them: each format, both byte
-orders, each type of item, pools, packages, each refusal, and 400 files with random damage, whose texts `resb compile` must take.
+orders, each type of item, pools, packages, each refusal, and 400 files with random damage, whose texts `resb compile` must take,
+`resb fmt` leaves alone and `resb text` prints of the compiled file, except the signs of Ints.
 
 usage: icu2text.py [PROGRAM]   (default: bin/resb)
 """
@@ -10,6 +11,7 @@ import importlib.util
 import io
 import os
 import random
+import re
 import struct
 import subprocess
 import sys
@@ -114,30 +116,30 @@ def everything(version, order):
 
 EVERYTHING = """\
 de {
-  a { "x\\"\\\\\U0001F600\\uD800" }
-  b:bin { "00ff7f" }
-  c {
-    a { "1" }
-    b { "2" }
-  }
-  d:alias { "/LOCALE/a" }
-  e:int { -5 }
-  f:array {
-    "",
-    :int { 5 }
-    :array {
+    a { "x\\"\\\\\U0001F600\\ud800" }
+    b:bin { "00ff7f" }
+    c {
+        a { "1" }
+        b { "2" }
     }
-    :table {
-      k { "" }
+    d:alias { "/LOCALE/a" }
+    e:int { -5 }
+    f {
+        "",
+        :int { 5 },
+        :array {
+        },
+        {
+            k { "" }
+        },
     }
-  }
-  g:intvector { 7, -1 }
-  h:table {
-  }
-  i:array {
-  }
-  j:intvector {  }
-  k:bin { "" }
+    g:intvector { 7, -1 }
+    h:table {
+    }
+    i:array {
+    }
+    j:intvector { }
+    k:bin { "" }
 }
 """
 
@@ -162,12 +164,12 @@ def user(order="<", limit=8, limit16=8, string=1):
 
 USER = """\
 de {
-  b {
-    x { "pooled" }
-    yy { "mine" }
-  }
-  x { "mine" }
-  yy { "pooled" }
+    b {
+        x { "pooled" }
+        yy { "mine" }
+    }
+    x { "mine" }
+    yy { "pooled" }
 }
 """
 
@@ -239,7 +241,7 @@ class Texts(Case):
     def test_long_table(self):
         for version in (1, 1), (3, 0):
             file = File(version, keys="a b")
-            self.assertEqual(self.text(file.end(file.table32(a=INT << 28 | 1, b=INT << 28 | 0x7FFFFFF))), "de {\n  a:int { 1 }\n  b:int { 134217727 }\n}\n")
+            self.assertEqual(self.text(file.end(file.table32(a=INT << 28 | 1, b=INT << 28 | 0x7FFFFFF))), "de {\n    a:int { 1 }\n    b:int { 134217727 }\n}\n")
 
     def test_16_bit_units(self):
         forms = ("", "short", "s" * 40, "l" * 1006, "l" * 1007, "m" * 70000, "\0\ud800\udc00\udfff")
@@ -257,23 +259,68 @@ class Texts(Case):
             file.units = file.pack("H", *units) + more + b"\xaa\xaa" * ((len(units) + 5) % 2)
             strings = file.array(*(STRING_V2 << 28 | start for start in starts))
             text = self.text(file.end(file.table(a=ARRAY16 << 28 | array, b=TABLE16 << 28 | table, c=strings)))
-            listed = "".join('    "%s",\n' % one.replace("\udfff", "\\uDFFF") for one in forms[:-1]) + '    "\0\U00010000\\uDFFF",\n'
-            self.assertEqual(text, 'de {\n  a:array {\n    "short",\n    "ort",\n    "",\n  }\n  b {\n    a { "" }\n    c { "%s" }\n  }\n  c:array {\n%s  }\n}\n' % (forms[2], listed))
+            lines = '"", "short", "%s",' % forms[2], *('"%s",' % one for one in forms[3:-1]), '"\\u0000\U00010000\\udfff",'
+            listed = "".join(f"        {line}\n" for line in lines)
+            wanted = 'de {\n    a {\n        "short", "ort", "",\n    }\n    b {\n        a { "" }\n        c { "%s" }\n    }\n    c {\n%s    }\n}\n'
+            self.assertEqual(text, wanted % (forms[2], listed))
 
     def test_keys_in_quotes(self):
-        names = ["Africa:Abidjan", "%%ALIAS", "a,b", "a/b", 'q"', "x\\", "{"]
+        names = ["Africa:Abidjan", "%%ALIAS", "Az_-09", "a,b", "a/b", 'q"', "x\\", "{"]
         names.sort()
         file = File((1, 3), keys=" ".join(names))
         text = self.text(file.end(file.table(**{name: STRING << 28 for name in names})))
-        wanted = {"%%ALIAS": "%%ALIAS", 'q"': '"q\\""', "x\\": '"x\\\\"'}
-        self.assertEqual(text, "de {\n" + "".join(f'  {wanted.get(name, chr(34) + name + chr(34))} {{ "" }}\n' for name in names) + "}\n")
+        wanted = {"Az_-09": "Az_-09", 'q"': '"q\\""', "x\\": '"x\\\\"'}
+        self.assertEqual(text, "de {\n" + "".join(f'    {wanted.get(name, chr(34) + name + chr(34))} {{ "" }}\n' for name in names) + "}\n")
+
+    def test_escapes(self):
+        """ICU's `u_unescape` (`ustring.h`) reads each escape."""
+        file = File((1, 3), keys="a b")
+        a, b = file.string("1\n2\t3\r4\x00\x1f~\x7f\x9f\xa0"), file.string("\u2028\u202e\u202f\u2066\u206a\ufeff")
+        wanted = 'de {\n    a { "1\\n2\\t3\\u000d4\\u0000\\u001f~\\u007f\\u009f\xa0" }\n    b { "\\u2028\\u202e\u202f\\u2066\u206a\\ufeff" }\n}\n'
+        self.assertEqual(self.text(file.end(file.table(a=a, b=b))), wanted)
+
+    def test_lines_of_100_columns(self):
+        """The strings of an array, and the numbers of a vector of more than four, share lines; a line has 32 bytes of a binary."""
+        file = File((1, 3), keys="a b c d e")
+        a = file.array(*map(file.string, ("x" * 40, "y" * 43, "z", "\n" * 42, "w" * 200, "v")))
+        b = file.put(VECTOR, file.pack("I", 40, *range(40)))
+        c = file.put(BINARY, file.pack("I", 33), bytes(33))
+        d = file.put(BINARY, file.pack("I", 32), bytes(32))
+        e = file.array(file.string("1"), INT << 28, file.string("2"), file.string("3"))
+        lines = [
+            "de {",
+            "    a {",
+            # 8 + 42 + 1 + 1 + 45 + 1 columns, and 8 + 3 + 1 + 1 + 86 + 1
+            f'        "{"x" * 40}", "{"y" * 43}",',
+            '        "z", "' + "\\n" * 42 + '",',
+            f'        "{"w" * 200}",',
+            '        "v",',
+            "    }",
+            "    b:intvector {",
+            # 8 + 10 * 3 - 1 + 13 * 4 columns leave 11, and any number needs 13
+            f"        {', '.join(map(str, range(23)))},",
+            f"        {', '.join(map(str, range(23, 40)))}",
+            "    }",
+            "    c:bin {",
+            f'        "{"00" * 32}"',
+            '        "00"',
+            "    }",
+            f'    d:bin {{ "{"00" * 32}" }}',
+            "    e {",
+            '        "1",',
+            "        :int { 0 },",
+            '        "2", "3",',
+            "    }",
+            "}",
+        ]
+        self.assertEqual(self.text(file.end(file.table(a=a, b=b, c=c, d=d, e=e))).splitlines(), lines)
 
     def test_shared_values_and_ends_of_keys(self):
         file = File((1, 3), keys="abc")
         shared = file.string("s")
         file.key = lambda name: 28 + "abc".index(name)
         table = file.table(abc=shared, bc=shared, c=file.array(shared, shared))
-        self.assertEqual(self.text(file.end(table)), 'de {\n  abc { "s" }\n  bc { "s" }\n  c:array {\n    "s",\n    "s",\n  }\n}\n')
+        self.assertEqual(self.text(file.end(table)), 'de {\n    abc { "s" }\n    bc { "s" }\n    c {\n        "s", "s",\n    }\n}\n')
 
     def test_sixty_four_levels(self):
         def nested(levels):
@@ -300,13 +347,13 @@ class Pools(Case):
         file = File((3, 0))
         file.attributes, file.checksum = USES_POOL, 0xC0FFEE
         table = file.put(TABLE, file.pack("H", 2, 0, 2, 0), file.pack("I", STRING << 28, INT << 28))
-        self.assertEqual(self.text(file.end(table)), 'de {\n  x { "" }\n  yy:int { 0 }\n}\n')
+        self.assertEqual(self.text(file.end(table)), 'de {\n    x { "" }\n    yy:int { 0 }\n}\n')
 
     def test_an_empty_string_of_its_own(self):
         self.save("pool.res", pool())
         file = File((3, 0), keys="b", units=[0, 0])
         file.attributes, file.checksum, file.limit, file.limit16 = USES_POOL, 0xC0FFEE, 3, 2
-        self.assertEqual(self.text(file.end(file.table(b=STRING_V2 << 28 | 3))), 'de {\n  b { "" }\n}\n')
+        self.assertEqual(self.text(file.end(file.table(b=STRING_V2 << 28 | 3))), 'de {\n    b { "" }\n}\n')
 
     def test_named_and_passed_over(self):
         named = self.save("other/keys.res", pool(">"))
@@ -418,7 +465,7 @@ class Refusals(Case):
         file = File((1, 3), keys="a")
         self.refused(file.end(file.table(a=file.put(BINARY, file.pack("I", 4194305), bytes(4194305)))), "more than 8388608 bytes")
         file = File((1, 3), keys="a")
-        left = 8388608 - len('de {\n  a { "" }\n}\n')
+        left = 8388608 - len('de {\n    a { "" }\n}\n')
         self.assertEqual(len(self.text(file.end(file.table(a=file.string("x" * left))))), 8388608)
         os.remove(self.path("texts", "de.txt"))
         file = File((1, 3), keys="a")
@@ -573,6 +620,12 @@ class Damage(Case):
     def compile(self, text):
         run = subprocess.run([PROGRAM, "compile", text, self.path("out.res")], capture_output=True, text=True)
         self.assertEqual((run.returncode, run.stderr), (0, ""))
+        run = subprocess.run([PROGRAM, "fmt", "--check", text], capture_output=True, text=True)
+        self.assertEqual((run.returncode, run.stdout, run.stderr), (0, "", ""))
+        run = subprocess.run([PROGRAM, "text", "--name", "de", self.path("out.res")], capture_output=True)
+        with open(text, "rb") as file:
+            unsigned = re.sub(rb":int \{ -(\d+) \}", lambda found: b":int { %d }" % ((1 << 28) - int(found[1])), file.read())
+        self.assertEqual(run.stdout.decode(), unsigned.decode())
 
 
 if __name__ == "__main__":

@@ -12,7 +12,7 @@ use Rattle.rb_lexer.specs.Tokens.{is_empty}
 use Rattle.rb_grammar.specs.Form.{table_word, array_word, no_fallback_table_word}
 use Rattle.rb_tree.specs.Resource.{Resource, string, int, ints, binary, alias, array, table, Resources, no_trees, tree_and, Members, no_entries, entry_and}
 use Rattle.rb_tree.specs.Resource.{weight, trees_weight, entries_weight}
-use Rattle.rb_printer.specs.Sign.{Sign, feed, space, left, right, comma, text, is_word, is_name, is_shown, is_cited, is_low, four_digits, escape_chars}
+use Rattle.rb_printer.specs.Sign.{Sign, feed, space, left, right, comma, text, is_word, is_name, is_shown, has_letter, letter_of, is_low, four_digits, escape_chars}
 use Rattle.rb_printer.specs.Sign.{pair_chars, first_unit, unit_chars, units_chars}
 use Rattle.rb_printer.specs.Sign.{pieces, joined, spaces, lines_chars, text_chars, sign_chars, signs_chars}
 use Rattle.rb_printer.proofs.Forming.{hex_joined}
@@ -58,9 +58,9 @@ pair_size u (Some v) e =
     ) (omega arith)
 
 escape_size : (u : ℕ) → 2 ≤ size (escape_chars u)
-escape_size u = by (is_cited u) where
-  by : (b : Bool) → 2 ≤ size (backslash ∷ cond b (u ∷ []) (0x75 ∷ four_digits u))
-  by true = omega (arith, len_utf8_bounds u)
+escape_size u = by (has_letter u) where
+  by : (b : Bool) → 2 ≤ size (backslash ∷ cond b (letter_of u ∷ []) (0x75 ∷ four_digits u))
+  by true = omega (arith, len_utf8_bounds (letter_of u))
   by false = omega arith
 
 -- a high surrogate has a byte in hand for the second unit of its pair

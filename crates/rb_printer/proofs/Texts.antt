@@ -13,7 +13,7 @@ use Rattle.std.proofs.lemmas.Str.{digit_value-digit_char}
 use Rattle.rb_lexer.specs.Lexeme.{is_white, is_punctuation, begins_comment, quote, backslash, slash, four, letter, letter_value, escape_value, Part, plain, escaped, part_chars, parts_chars, part_units}
 use Rattle.rb_lexer.specs.Lexeme.{parts_units, units_of, IsRun, IsEscape, IsQuotedPart, IsUnquotedPart, AreParts, FirstStays, LastStays}
 use Rattle.rb_lexer.specs.Tokens.{is_empty}
-use Rattle.rb_printer.specs.Sign.{is_word_unit, is_shown, is_cited, is_control, is_surrogate, is_mark, is_low, four_digits, escape_chars, pair_chars, first_unit, unit_chars, units_chars}
+use Rattle.rb_printer.specs.Sign.{is_word_unit, is_shown, is_cited, has_letter, letter_of, is_control, is_surrogate, is_mark, is_low, four_digits, escape_chars, pair_chars, first_unit, unit_chars, units_chars}
 use Rattle.rb_printer.specs.inner.Lexed.{escape_of, pair_parts, unit_parts, units_parts}
 use Rattle.rb_printer.proofs.Tests.{and_left, and_right, or_cases, or_left, or_right, not_true}
 
@@ -56,10 +56,10 @@ parts_append [] qs rest = refl
 parts_append (p ∷ ps) qs rest = ap (part_chars p) (parts_append ps qs rest)
 
 unit_parts_chars : (after : Bool) (u : ℕ) (next : Option ℕ) (rest : List ℕ) → parts_chars (unit_parts after u next) rest ≡ unit_chars after u next ++ rest
-unit_parts_chars after u next rest = by (is_shown u) (is_high_surrogate u && is_low next) (after && is_low_surrogate u) (is_cited u) next where
+unit_parts_chars after u next rest = by (is_shown u) (is_high_surrogate u && is_low next) (after && is_low_surrogate u) (has_letter u) next where
   by : (a b c d : Bool) (next : Option ℕ)
-      → parts_chars (cond a (plain u ∷ []) (cond b (pair_parts u next) (cond c [] (escaped (cond d (letter u) (four (four_digits u))) ∷ [])))) rest
-      ≡ cond a (u ∷ []) (cond b (pair_chars u next) (cond c [] (backslash ∷ cond d (u ∷ []) (0x75 ∷ four_digits u)))) ++ rest
+      → parts_chars (cond a (plain u ∷ []) (cond b (pair_parts u next) (cond c [] (escaped (cond d (letter (letter_of u)) (four (four_digits u))) ∷ [])))) rest
+      ≡ cond a (u ∷ []) (cond b (pair_chars u next) (cond c [] (backslash ∷ cond d (letter_of u ∷ []) (0x75 ∷ four_digits u)))) ++ rest
   by true b c d next = refl
   by false true c d None = refl
   by false true c d (Some v) = refl
@@ -109,24 +109,31 @@ four_run u rest h = record {
 wide_part : (c : ℕ) (rest : List ℕ) → 0x10000 ≤ c → IsQuotedPart (plain c) rest
 wide_part c rest h = rw (ne_eqb c 0x22 (λ e. omega arith), ne_eqb c 0x5C (λ e. omega arith)) refl
 
-cited_cases : (u : ℕ) → is_cited u ≡ true → (u ≡ quote) ⊎ (u ≡ backslash)
-cited_cases u e = elim (or_cases (u == quote) (u == backslash) e) [ inl f ↦ inl (eqb-true u quote f) | inr f ↦ inr (eqb-true u backslash f) ]
-
-cited_part : (u : ℕ) (rest : List ℕ) → is_cited u ≡ true → IsEscape (letter u) rest
-cited_part u rest e = elim (cited_cases u e) [
-  | inl same ↦ subst (λ (c : ℕ). IsEscape (letter c) rest) (sym same) refl
-  | inr same ↦ subst (λ (c : ℕ). IsEscape (letter c) rest) (sym same) refl
+-- what holds of a line feed, a tab, a quote and a backslash holds of each unit whose escape has a letter
+by_letter : (P : ℕ → Type 0) (u : ℕ) → P 0x0A → P 0x09 → P quote → P backslash → has_letter u ≡ true → P u
+by_letter P u line_feed tab a_quote a_backslash e = elim (or_cases ((u == 0x0A) || (u == 0x09)) (is_cited u) e) [
+  | inl f ↦ elim (or_cases (u == 0x0A) (u == 0x09) f) [
+    | inl g ↦ subst P (sym (eqb-true u 0x0A g)) line_feed
+    | inr g ↦ subst P (sym (eqb-true u 0x09 g)) tab
+  ]
+  | inr f ↦ elim (or_cases (u == quote) (u == backslash) f) [
+    | inl g ↦ subst P (sym (eqb-true u quote g)) a_quote
+    | inr g ↦ subst P (sym (eqb-true u backslash g)) a_backslash
+  ]
 ]
 
+letter_part : (u : ℕ) (rest : List ℕ) → has_letter u ≡ true → IsEscape (letter (letter_of u)) rest
+letter_part u rest e = by_letter (λ (c : ℕ). IsEscape (letter (letter_of c)) rest) u refl refl refl refl e
+
 unit_is : (after : Bool) (u : ℕ) (next : Option ℕ) (rest : List ℕ) → u < 65536 → AreParts IsQuotedPart (unit_parts after u next) rest
-unit_is after u next rest h = by (is_shown u) (is_high_surrogate u && is_low next) (after && is_low_surrogate u) (is_cited u) next refl refl where
-  by : (a b c d : Bool) (next : Option ℕ) → is_shown u ≡ a → is_cited u ≡ d
-      → AreParts IsQuotedPart (cond a (plain u ∷ []) (cond b (pair_parts u next) (cond c [] (escaped (cond d (letter u) (four (four_digits u))) ∷ [])))) rest
+unit_is after u next rest h = by (is_shown u) (is_high_surrogate u && is_low next) (after && is_low_surrogate u) (has_letter u) next refl refl where
+  by : (a b c d : Bool) (next : Option ℕ) → is_shown u ≡ a → has_letter u ≡ d
+      → AreParts IsQuotedPart (cond a (plain u ∷ []) (cond b (pair_parts u next) (cond c [] (escaped (cond d (letter (letter_of u)) (four (four_digits u))) ∷ [])))) rest
   by true b c d next e f = (and_left _ _ e, tt)
   by false true c d None e f = tt
   by false true c d (Some v) e f = (wide_part (surrogate_pair_char u v) rest (omega arith), tt)
   by false false true d next e f = tt
-  by false false false true next e f = (cited_part u rest f, tt)
+  by false false false true next e f = (letter_part u rest f, tt)
   by false false false false next e f = (four_run u rest h, tt)
 
 parts_join : (Is : Part → List ℕ → Type 0) (ps qs : List Part) (rest : List ℕ) → AreParts Is ps (parts_chars qs rest) → AreParts Is qs rest
@@ -180,16 +187,13 @@ pair_units u v high low =
     let second : 0xDC00 + (c - 0x10000) % 0x400 ≡ v = omega arith in
     rw (le-ltb c 0x10000 (omega arith)) (ap (λ (x : ℕ). x ∷ (0xDC00 + (c - 0x10000) % 0x400) ∷ []) first ∙ ap (λ (x : ℕ). u ∷ x ∷ []) second)
 
-cited_value : (u : ℕ) → is_cited u ≡ true → letter_value u ≡ u
-cited_value u e = elim (cited_cases u e) [
-  | inl same ↦ subst (λ (c : ℕ). letter_value c ≡ c) (sym same) refl
-  | inr same ↦ subst (λ (c : ℕ). letter_value c ≡ c) (sym same) refl
-]
+value_of_letter : (u : ℕ) → has_letter u ≡ true → letter_value (letter_of u) ≡ u
+value_of_letter u e = by_letter (λ (c : ℕ). letter_value (letter_of c) ≡ c) u refl refl refl refl e
 
 escape_units : (u : ℕ) → u < 65536 → units_of (escape_value (escape_of u)) ≡ u ∷ []
-escape_units u h = by (is_cited u) refl where
-  by : (b : Bool) → is_cited u ≡ b → units_of (escape_value (cond b (letter u) (four (four_digits u)))) ≡ u ∷ []
-  by true e = ap units_of (cited_value u e) ∙ one_unit u h
+escape_units u h = by (has_letter u) refl where
+  by : (b : Bool) → has_letter u ≡ b → units_of (escape_value (cond b (letter (letter_of u)) (four (four_digits u)))) ≡ u ∷ []
+  by true e = ap units_of (value_of_letter u e) ∙ one_unit u h
   by false e = ap units_of (four_value u h) ∙ one_unit u h
 
 -- the units without the second of a pair whose first precedes them
@@ -314,13 +318,13 @@ pair_scalars u (Some v) e =
     rw (pair_scalar u v (is_high u (and_left (is_high_surrogate u) (is_low_surrogate v) e))
     (is_low_unit v (and_right (is_high_surrogate u) (is_low_surrogate v) e))) refl
 
-cited_low : (u : ℕ) → is_cited u ≡ true → scalar u ≡ true
-cited_low u e = elim (cited_cases u e) [ inl same ↦ low u (omega arith) | inr same ↦ low u (omega arith) ]
+letter_low : (u : ℕ) → has_letter u ≡ true → scalar (letter_of u) ≡ true
+letter_low u e = by_letter (λ (c : ℕ). scalar (letter_of c) ≡ true) u refl refl refl refl e
 
 escape_scalars : (u : ℕ) → u < 65536 → all_scalars (escape_chars u) ≡ true
-escape_scalars u h = by (is_cited u) refl where
-  by : (b : Bool) → is_cited u ≡ b → all_scalars (backslash ∷ cond b (u ∷ []) (0x75 ∷ four_digits u)) ≡ true
-  by true e = rw (cited_low u e) refl
+escape_scalars u h = by (has_letter u) refl where
+  by : (b : Bool) → has_letter u ≡ b → all_scalars (backslash ∷ cond b (letter_of u ∷ []) (0x75 ∷ four_digits u)) ≡ true
+  by true e = rw (letter_low u e) refl
   by false e = rw (
     digit_low (u / 4096) (omega arith),
     digit_low (u / 256 % 16) (omega arith),

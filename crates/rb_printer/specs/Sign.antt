@@ -64,9 +64,18 @@ is_shown u = not (is_cited u) && not (is_control u || is_surrogate u || is_mark 
 abbrev pub four_digits : ℕ → List ℕ
 four_digits u = digit_char (u / 4096) ∷ digit_char (u / 256 % 16) ∷ digit_char (u / 16 % 16) ∷ digit_char (u % 16) ∷ []
 
--- a backslash, and a quote or a backslash itself, or the digits of any other unit
+-- a line feed, a tab, a quote or a backslash, whose escape has one character after its backslash
+abbrev pub has_letter : ℕ → Bool
+has_letter u = (u == 0x0A) || (u == 0x09) || is_cited u
+
+-- that character, as ICU's `u_unescape` reads it: `n` for a line feed, `t` for a tab, and a quote and a backslash
+-- themselves
+abbrev pub letter_of : ℕ → ℕ
+letter_of u = cond (u == 0x0A) 0x6E (cond (u == 0x09) 0x74 u)
+
+-- a backslash, and that character or the digits of any other unit
 abbrev pub escape_chars : ℕ → List ℕ
-escape_chars u = backslash ∷ cond (is_cited u) (u ∷ []) (0x75 ∷ four_digits u)
+escape_chars u = backslash ∷ cond (has_letter u) (letter_of u ∷ []) (0x75 ∷ four_digits u)
 
 -- the first unit, if there is one
 abbrev pub first_unit : List ℕ → Option ℕ

@@ -85,8 +85,9 @@ fn print_expecting<N: Node>(
 /// array, and the numbers of a vector of more than four, share lines of at most 100 columns; a line
 /// has 32 bytes of a Binary. A key or a name of letters, digits, `_` and `-` has no quotes. A type
 /// is written if a reader wouldn't guess it: `:int`, `:intvector`, `:bin`, `:alias`, and `:array`
-/// and `:table` of empty ones. Texts are UTF-8, with a backslash before quotes and backslashes, and
-/// escapes of four digits for control characters, lone surrogates, U+2028, U+2029 and U+FEFF.
+/// and `:table` of empty ones. Texts are UTF-8, with a backslash before quotes and backslashes, `\n`
+/// and `\t`, and escapes of four digits for other control characters, lone surrogates, U+2028,
+/// U+2029, controls of the writing direction and U+FEFF.
 ///
 /// # Errors
 ///

@@ -8,7 +8,7 @@ ghost use Rattle.rb_printer.specs.Page.{indent, pause};
 ghost use Rattle.rb_printer.specs.inner.Growth.{Adds};
 
 use crate::leaf::next_of;
-use crate::text::{is_cited, is_high, is_low, is_plain, is_shown, paired, put, put_str};
+use crate::text::{has_letter, is_high, is_low, is_plain, is_shown, paired, put, put_str};
 use rb_tree::{Kind, Node};
 use std::alloc::AllocError;
 
@@ -107,7 +107,7 @@ fn other_width(after_high: bool, unit: u16, next: Option<u16>) -> usize
     if after_high && is_low(unit) {
         return 0;
     }
-    if is_cited(unit) { 2 } else { 6 }
+    if has_letter(unit) { 2 } else { 6 }
 }
 
 #[inline(always)]

@@ -14,6 +14,10 @@ const QUOTE: u16 = 0x22;
 
 const BACKSLASH: u16 = 0x5C;
 
+const LINE_FEED: u16 = 0x0A;
+
+const TAB: u16 = 0x09;
+
 /// Checks whether a key or a name may have the unit without quotes.
 fn is_name_unit(unit: u16) -> bool
     ensures { result ≡ sign.is_name_unit unit }
@@ -68,10 +72,17 @@ fn is_mark(unit: u16) -> bool
     (0x2028 <= unit && unit < 0x202F) || (0x2066 <= unit && unit < 0x206A) || unit == 0xFEFF
 }
 
-pub fn is_cited(unit: u16) -> bool
+fn is_cited(unit: u16) -> bool
     ensures { result ≡ sign.is_cited unit }
 {
     unit == QUOTE || unit == BACKSLASH
+}
+
+/// Checks whether a unit's escape has one character after its backslash.
+pub fn has_letter(unit: u16) -> bool
+    ensures { result ≡ sign.has_letter unit }
+{
+    unit == LINE_FEED || unit == TAB || is_cited(unit)
 }
 
 /// Checks whether a unit is ASCII and needs no escape between quotes, as most are.
@@ -180,6 +191,12 @@ fn put_escape(out: &mut Vec<u8>, unit: u16) -> Result<(), AllocError>
     }
     if unit == BACKSLASH {
         return put_str(out, "\\\\");
+    }
+    if unit == LINE_FEED {
+        return put_str(out, "\\n");
+    }
+    if unit == TAB {
+        return put_str(out, "\\t");
     }
     put_str(out, "\\u")?;
     put_digits(out, unit)

@@ -61,7 +61,7 @@ fn prints_each_kind(rt: HostRuntime) -> Result<(), Fail> {
 #[test]
 fn writes_names_and_flags(rt: HostRuntime) -> Result<(), Fail> {
     let alloc = rt.alloc();
-    let rows: [(&str, &str); 6] = [
+    let rows: [(&str, &str); 8] = [
         (
             "x{a{\"\u{202A}b\u{202E}\u{2066}\u{2069}\u{200F}\u{202F}\u{2065}\u{206A}\"}}",
             "x {\n    a { \"\\u202ab\\u202e\\u2066\\u2069\u{200F}\u{202F}\u{2065}\u{206A}\" }\n}\n",
@@ -72,6 +72,12 @@ fn writes_names_and_flags(rt: HostRuntime) -> Result<(), Fail> {
             "de_AT:table(nofallback) {\n}\n",
         ),
         ("\"\"{}", "\"\" {\n}\n"),
+        ("\"a\\u000Ab\tc\"{}", "\"a\\nb\\tc\" {\n}\n"),
+        // only a line feed and a tab have letters
+        (
+            "x{a{\"1\\u000A\n2\\u0009\t3\\r\\a\\b\\v\\f\\e\\0\\u0085\"}}",
+            "x {\n    a { \"1\\n\\n2\\t\\t3\\u000d\\u0007\\u0008\\u000b\\u000c\\u001b\\u0000\\u0085\" }\n}\n",
+        ),
         (
             "\"a b\"{\"k:\"{\"é\\u0007\\uD800\u{FEFF}\"}}",
             "\"a b\" {\n    \"k:\" { \"é\\u0007\\ud800\\ufeff\" }\n}\n",
@@ -90,8 +96,8 @@ fn writes_names_and_flags(rt: HostRuntime) -> Result<(), Fail> {
 #[test]
 fn fills_lines(rt: HostRuntime) -> Result<(), Fail> {
     let alloc = rt.alloc();
-    let rows: [(&str, &str); 7] = [
-        // seven numbers of ten digits take 91 columns, and the widest has no room then
+    let rows: [(&str, &str); 8] = [
+        // seven numbers of ten digits take 91 columns, and the widest doesn't fit then
         (
             "x{v:intvector{1000000000,1000000000,1000000000,1000000000,1000000000,1000000000,1000000000,1}}",
             "x {\n    v:intvector {\n        1000000000, 1000000000, 1000000000, 1000000000, 1000000000, 1000000000, 1000000000,\n        1\n    }\n}\n",
@@ -113,6 +119,11 @@ fn fills_lines(rt: HostRuntime) -> Result<(), Fail> {
         (
             "x{a{\"aaaaaaaaaaaaaaaaaaaaaaaaaaaaaaaaaaaaaaaa\",\"bbbbbbbbbbbbbbbbbbbbbbbbbbbbbbbbbbbbbbbbbbbbb\",\"e\"}}",
             "x {\n    a {\n        \"aaaaaaaaaaaaaaaaaaaaaaaaaaaaaaaaaaaaaaaa\", \"bbbbbbbbbbbbbbbbbbbbbbbbbbbbbbbbbbbbbbbbbbbbb\",\n        \"e\",\n    }\n}\n",
+        ),
+        // a line feed and a tab take two columns each
+        (
+            "x{a{\"aaaaaaaaaaaaaaaaaaaaaaaaaaaaaaaaaaaaaaaa\",\"bbbbbbbbbbbbbbbbbbbbbbbbbbbbbbbbbbbbbbbbb\\n\\t\",\"e\"}}",
+            "x {\n    a {\n        \"aaaaaaaaaaaaaaaaaaaaaaaaaaaaaaaaaaaaaaaa\", \"bbbbbbbbbbbbbbbbbbbbbbbbbbbbbbbbbbbbbbbbb\\n\\t\",\n        \"e\",\n    }\n}\n",
         ),
         // one of 42 and one of 48 don't
         (
