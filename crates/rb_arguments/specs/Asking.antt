@@ -87,6 +87,7 @@ AsksFor name rows (Inherited asked) =
     (name ≡ codes "json")
     × (first_of (codes "inherit") rows ≡ Some asked.locale.now)
     × (option_map (λ s. s.now) asked.parents ≡ first_of (codes "parents") rows)
+    × IsFlagIn rows (codes "cldr-parents") asked.is_cldr
     × (asked.path.now ≡ word_in rows (codes "path"))
     × IsFlagIn rows (codes "pretty") asked.is_pretty
     × (texts asked.files.items ≡ files_in rows)
@@ -120,6 +121,7 @@ AsksFor name rows (Format asked) =
 AsksFor name rows (Coverage asked) =
     (name ≡ codes "coverage")
     × (option_map (λ s. s.now) asked.parents ≡ first_of (codes "parents") rows)
+    × IsFlagIn rows (codes "cldr-parents") asked.is_cldr
     × (option_map (λ s. s.now) asked.format ≡ first_of (codes "format") rows)
     × (texts asked.texts.items ≡ words_in rows (codes "TEXT"))
 AsksFor name rows (Explain word) =
@@ -134,13 +136,15 @@ AsksFor name rows (Lines op is_json app files) =
 AsksFor name rows (Look lookup) =
     (name ≡ codes "look")
     × (option_map (λ s. s.now) lookup.parents ≡ first_of (codes "parents") rows)
+    × IsFlagIn rows (codes "cldr-parents") lookup.is_cldr
     × (lookup.locale.now ≡ word_in rows (codes "LOCALE"))
     × (lookup.path.now ≡ word_in rows (codes "PATH"))
     × IsFlagIn rows (codes "trace") lookup.is_traced
     × (texts lookup.files.items ≡ words_in rows (codes "FILE"))
-AsksFor name rows (Serve parents bundles limits is_extended) =
+AsksFor name rows (Serve parents is_cldr bundles limits is_extended) =
     (name ≡ codes "serve")
     × (option_map (λ s. s.now) parents ≡ first_of (codes "parents") rows)
+    × IsFlagIn rows (codes "cldr-parents") is_cldr
     × (texts bundles.items ≡ words_in rows (codes "bundles"))
     × AreGiven rows limits
     × IsFlagIn rows (codes "extended") is_extended

@@ -36,6 +36,10 @@ pub enum Kind {
     Flag,
     /// `--NAME`, only with this option.
     FlagWith(&'static str),
+    /// `--NAME`, not with this option.
+    FlagWithout(&'static str),
+    /// `--NAME`, only with the first option and not with the second.
+    FlagIf(&'static str, &'static str),
     /// `--NAME`, or a dash and this letter.
     ShortFlag(char),
 }
@@ -78,6 +82,15 @@ impl Argument {
                 .long(name)
                 .action(ArgAction::SetTrue)
                 .requires_arg(option)?,
+            Kind::FlagWithout(option) => made
+                .long(name)
+                .action(ArgAction::SetTrue)
+                .conflicts_with(option)?,
+            Kind::FlagIf(option, other) => made
+                .long(name)
+                .action(ArgAction::SetTrue)
+                .requires_arg(option)?
+                .conflicts_with(other)?,
             Kind::ShortFlag(letter) => made.long(name).short(letter).action(ArgAction::SetTrue),
         })
     }
@@ -87,6 +100,12 @@ pub const PARENTS: Argument = Argument(
     "parents",
     Kind::Option("FILE"),
     "a bundle text with the explicit parents, at parentLocales",
+);
+
+pub const CLDR_PARENTS: Argument = Argument(
+    "cldr-parents",
+    Kind::FlagWithout("parents"),
+    "the explicit parents of CLDR, in place of --parents",
 );
 
 pub const ROOT: Argument = Argument("root", Kind::Option("ROOT"), "the same as --against");

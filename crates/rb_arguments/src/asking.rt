@@ -94,6 +94,7 @@ pub enum Asked<'a> {
     /// `serve [LOCALE=FILE ..]`
     Serve {
         parents: Option<&'a str>,
+        is_cldr: bool,
         bundles: Vec<&'a str>,
         limits: AskedLimits,
         is_extended: bool,
@@ -103,6 +104,7 @@ pub enum Asked<'a> {
 #[derive(Debug, Drop)]
 pub struct AskedInherited<'a> {
     pub parents: Option<&'a str>,
+    pub is_cldr: bool,
     pub locale: &'a str,
     pub path: &'a str,
     pub is_pretty: bool,
@@ -134,6 +136,7 @@ pub struct AskedFormat<'a> {
 #[derive(Debug, Drop)]
 pub struct AskedCoverage<'a> {
     pub parents: Option<&'a str>,
+    pub is_cldr: bool,
     pub format: Option<&'a str>,
     pub texts: Vec<&'a str>,
 }
@@ -141,6 +144,7 @@ pub struct AskedCoverage<'a> {
 #[derive(Debug, Drop)]
 pub struct AskedLookup<'a> {
     pub parents: Option<&'a str>,
+    pub is_cldr: bool,
     pub locale: &'a str,
     pub path: &'a str,
     pub is_traced: bool,
@@ -251,6 +255,7 @@ fn json_asked<'a>(alloc: Global, given: &ArgMatches<'a>) -> Result<Asked<'a>, Al
     Ok(match optional_of(given, "inherit") {
         Some(locale) => Asked::Inherited(AskedInherited {
             parents: optional_of(given, "parents"),
+            is_cldr: flag_of(given, "cldr-parents"),
             locale,
             path: word_of(given, "path"),
             is_pretty,
@@ -360,6 +365,7 @@ fn coverage_asked<'a>(alloc: Global, given: &ArgMatches<'a>) -> Result<Asked<'a>
 {
     Ok(Asked::Coverage(AskedCoverage {
         parents: optional_of(given, "parents"),
+        is_cldr: flag_of(given, "cldr-parents"),
         format: optional_of(given, "format"),
         texts: words_of(alloc, given, "TEXT")?,
     }))
@@ -370,6 +376,7 @@ fn look_asked<'a>(alloc: Global, given: &ArgMatches<'a>) -> Result<Asked<'a>, Al
 {
     Ok(Asked::Look(AskedLookup {
         parents: optional_of(given, "parents"),
+        is_cldr: flag_of(given, "cldr-parents"),
         locale: word_of(given, "LOCALE"),
         path: word_of(given, "PATH"),
         is_traced: flag_of(given, "trace"),
@@ -397,10 +404,12 @@ fn serve_asked<'a>(alloc: Global, given: &ArgMatches<'a>) -> Result<Asked<'a>, A
 {
     let bundles = words_of(alloc, given, "bundles")?;
     let parents = optional_of(given, "parents");
+    let is_cldr = flag_of(given, "cldr-parents");
     let limits = limits_asked(given);
     let is_extended = flag_of(given, "extended");
     Ok(Asked::Serve {
         parents,
+        is_cldr,
         bundles,
         limits,
         is_extended,

@@ -1,4 +1,4 @@
-use crate::argument::{Argument, Kind, PARENTS, PATH};
+use crate::argument::{Argument, CLDR_PARENTS, Kind, PARENTS, PATH};
 use crate::description::Description;
 
 const BUNDLES: Argument = Argument(
@@ -64,6 +64,7 @@ pub const COVERAGE: Description = Description {
     about: "Says what each locale lacks, and how it differs from what it inherits",
     arguments: &[
         PARENTS,
+        CLDR_PARENTS,
         Argument(
             "format",
             Kind::Option("FORMAT"),
@@ -95,6 +96,7 @@ pub const LOOK: Description = Description {
     about: "Looks an item up over bundles, with fallback",
     arguments: &[
         PARENTS,
+        CLDR_PARENTS,
         Argument(
             "trace",
             Kind::Flag,

@@ -167,6 +167,11 @@ pub const JSON: Description = Description {
             "with --inherit, a bundle text with the explicit parents, at parentLocales",
         ),
         Argument(
+            "cldr-parents",
+            Kind::FlagIf("inherit", "parents"),
+            "with --inherit, the explicit parents of CLDR, in place of --parents",
+        ),
+        Argument(
             "path",
             Kind::OptionWith("PATH", "inherit"),
             "with --inherit, the path of an item; the whole bundle without it",

@@ -1,4 +1,4 @@
-use crate::argument::{Argument, Kind, PARENTS};
+use crate::argument::{Argument, CLDR_PARENTS, Kind, PARENTS};
 use crate::description::Description;
 
 const SERVE_HELP: &str = "\
@@ -21,6 +21,7 @@ pub const SERVE: Description = Description {
     about: "Answers requests, a line each, from standard input",
     arguments: &[
         PARENTS,
+        CLDR_PARENTS,
         Argument(
             "app-bytes",
             Kind::Limit,

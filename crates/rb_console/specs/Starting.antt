@@ -12,11 +12,11 @@ pub record AreParentsIn (text : List ℕ) (parents : ParentsOf) : Type 0 where
   pub good : IsGoodSource text name source
   pub gives : GivesParents source.tree parents
 
--- without a file there are none; with one they are those of a text, the bytes that were read
+-- without a place there are none; with one they are those of a text: the bytes that were read, or CLDR's
 abbrev pub AreParentsFor : {F : Type 0} → Option F → ParentsOf → Type 0
 AreParentsFor None parents = (name : List ℕ) → parents name ≡ None
-AreParentsFor (Some file) parents = (text : List ℕ) × AreParentsIn text parents
+AreParentsFor (Some place) parents = (text : List ℕ) × AreParentsIn text parents
 
 -- an engine's explicit parents are these
 abbrev pub HasParentsFor : {F : Type 0} → Option F → ParentsOf → Type 0
-HasParentsFor file parents = (read : ParentsOf) × AreParentsFor file read × ((name : List ℕ) → parents name ≡ read name)
+HasParentsFor place parents = (read : ParentsOf) × AreParentsFor place read × ((name : List ℕ) → parents name ≡ read name)

@@ -2,6 +2,7 @@
 //! written, the bundles that arguments name, errors and statuses, and the start of an engine.
 #![tactic(auto)]
 
+mod cldr;
 mod console;
 mod contents;
 mod error;
@@ -25,4 +26,4 @@ pub use output::{Decision, Output, are_same_file, id_of, output_of, write_output
 pub use printing::{JsonWriter, Printing};
 pub use reading::{accepted, read_input_at_most, read_text};
 pub use replacing::replace_text;
-pub use start::{parents_of, start_engine};
+pub use start::{ParentsSource, parents_of, start_engine};

@@ -1,11 +1,12 @@
 //! The start of an engine: the arguments of `resb serve`, the files that they name, and the engine
 //! that is made of them.
-ghost use Rattle.std.specs.Prelude.{◌≡◌, length, vec_len, IfOk};
+ghost use Rattle.std.specs.Prelude.{◌≡◌, length, vec_len, IfOk, Some};
 ghost use Rattle.rb_parents.specs.Family.{parent_of};
 ghost use Rattle.rb_engine.specs.Kept.{state_of};
 ghost use Rattle.rb_engine.specs.Start.{IsIndexed};
 ghost use Rattle.rb_console.specs.Starting.{AreParentsFor, AreParentsIn, HasParentsFor};
 
+use crate::cldr::CLDR_PARENTS;
 use crate::error::StartError;
 use crate::files::read_file;
 use crate::given::{Form, Given, all_given, is_text};
@@ -20,6 +21,18 @@ use std::hash::RandomState;
 use std::io::ErrorKind;
 use std::random::RandomSource;
 use std::rt::Files;
+
+/// The place of an error in CLDR's parents.
+const CLDR_OPTION: &str = "--cldr-parents";
+
+/// The place of explicit parents.
+#[derive(Clone, Copy, Debug, PartialEq, Eq)]
+pub enum ParentsSource<'a> {
+    /// The file of a bundle text.
+    File(&'a str),
+    /// CLDR's, which the program has with it.
+    Cldr,
+}
 
 /// Returns the error of a file that can't be read.
 fn reading_error(file: &str, kind: ErrorKind) -> StartError<'_> {
@@ -79,19 +92,31 @@ fn parents_in<'a>(alloc: Global, file: &'a str, text: &[u8]) -> Result<Parents, 
     }
 }
 
-/// Reads the explicit parents of a file, or returns none if no file is given.
-pub fn parents_of<'a, R: Files + AllocGlobal>(
+/// Reads the explicit parents of a file.
+fn parents_in_file<'a, R: Files + AllocGlobal>(
     rt: &R,
-    file: Option<&'a str>,
+    file: &'a str,
 ) -> Result<Parents, StartError<'a>>
-    ensures { IfOk result (λ p. AreParentsFor file.entry (parent_of p)) }
+    ensures { IfOk result (λ p. AreParentsFor (Some file) (parent_of p)) }
 {
-    let Some(file) = file else {
-        return Ok(Parents::none(rt.alloc()));
-    };
     match bytes_of(rt, file) {
         Ok(text) => parents_in(rt.alloc(), file, &text),
         Err(error) => Err(error),
+    }
+}
+
+/// Reads explicit parents where they are, or returns none without a place. Returns the error of the
+/// file, or of its text or parents.
+pub fn parents_of<'a, R: Files + AllocGlobal>(
+    rt: &R,
+    source: Option<ParentsSource<'a>>,
+) -> Result<Parents, StartError<'a>>
+    ensures { IfOk result (λ p. AreParentsFor source.entry (parent_of p)) }
+{
+    match source {
+        None => Ok(Parents::none(rt.alloc())),
+        Some(ParentsSource::File(file)) => parents_in_file(rt, file),
+        Some(ParentsSource::Cldr) => parents_in(rt.alloc(), CLDR_OPTION, CLDR_PARENTS.as_bytes()),
     }
 }
 
@@ -122,14 +147,14 @@ fn read_all<'a, R: Files + AllocGlobal>(
     Ok(entries)
 }
 
-/// Starts an engine with the explicit parents of a file, if one is given, and ICUDATA made of the
-/// arguments, each `LOCALE=FILE`.
+/// Starts an engine with explicit parents, if they are given, and ICUDATA made of the arguments, each
+/// `LOCALE=FILE`.
 ///
 /// Splits all arguments, reads and checks the parents, reads the other files, asks the runtime for
 /// a random state and starts the engine, in this order; returns the first error.
 pub fn start_engine<'a, R: Files + AllocGlobal + RandomSource>(
     rt: &R,
-    parents: Option<&'a str>,
+    parents: Option<ParentsSource<'a>>,
     arguments: &[&'a str],
 ) -> Result<Engine, StartError<'a>>
     ensures parents { IfOk result

@@ -1,8 +1,8 @@
 //! `resb coverage`.
 use crate::coverage_output::{CoverageFormat, Printed, put_head};
 use rb_console::{
-    CommandError, Console, Form, Given, StartError, all_given, finish, not_started_on, parents_of,
-    printed, read_given, refused_on,
+    CommandError, Console, Form, Given, ParentsSource, StartError, all_given, finish,
+    not_started_on, parents_of, printed, read_given, refused_on,
 };
 use rb_coverage::{Counts, Coverage, CoverageFault, Found};
 use rb_locales::Name;
@@ -17,8 +17,8 @@ use std::rt::Files;
 /// The words of the command line of `resb coverage`.
 #[derive(Clone, Copy, Debug)]
 pub struct CoverageWords<'a> {
-    /// The file of explicit parents, if there is one.
-    pub parents: Option<&'a str>,
+    /// The place of explicit parents, if they are given.
+    pub parents: Option<ParentsSource<'a>>,
     pub format: Option<&'a str>,
     /// Each as `LOCALE=FILE`, or `FILE`, whose stem is the locale.
     pub files: &'a [&'a str],

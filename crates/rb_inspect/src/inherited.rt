@@ -2,8 +2,8 @@
 
 use crate::lookup::file_of;
 use rb_console::{
-    CommandError, Console, Form, Given, Printing, StartError, all_given, ended, finish,
-    made_of_each, parents_of, printed,
+    CommandError, Console, Form, Given, ParentsSource, Printing, StartError, all_given, ended,
+    finish, made_of_each, parents_of, printed,
 };
 use rb_engine::App;
 use rb_inherit::{TreeError, TreeLimits, put_tree, tree_size};
@@ -26,8 +26,8 @@ const APP: &str = "json";
 /// The arguments of a tree with inheritance.
 #[derive(Clone, Copy, Debug)]
 pub struct Inheritance<'a> {
-    /// The file of explicit parents, if there is one.
-    pub parents: Option<&'a str>,
+    /// The place of explicit parents, if they are given.
+    pub parents: Option<ParentsSource<'a>>,
     pub locale: &'a str,
     pub path: &'a str,
 }

@@ -7,8 +7,8 @@ ghost use Rattle.rb_inspect.specs.Looking.{IsFoundWith, is_found, look_status, l
 
 use crate::trace::{Trace, file_named};
 use rb_console::{
-    CommandError, Console, Form, Given, Printing, Refusal, StartError, all_given, ended, finish,
-    is_text, made_of_each, not_started_on, parents_of, printed,
+    CommandError, Console, Form, Given, ParentsSource, Printing, Refusal, StartError, all_given,
+    ended, finish, is_text, made_of_each, not_started_on, parents_of, printed,
 };
 use rb_engine::{App, Engine, Payload, Reply, Request, compile};
 use rb_explain::Of;
@@ -34,8 +34,8 @@ const APP: &str = "look";
 /// The arguments of a lookup.
 #[derive(Clone, Copy, Debug)]
 pub struct Lookup<'a> {
-    /// The file of explicit parents, if there is one.
-    pub parents: Option<&'a str>,
+    /// The place of explicit parents, if they are given.
+    pub parents: Option<ParentsSource<'a>>,
     pub locale: &'a str,
     pub path: &'a str,
     /// The steps of the search are written to standard error.

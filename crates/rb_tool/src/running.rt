@@ -1,12 +1,12 @@
 //! Runs the command of a command line.
-ghost use Rattle.std.specs.Prelude.{◌≡◌, map, option_map};
-ghost use Rattle.rb_tool.specs.inner.Serving.{AreLimits};
+ghost use Rattle.std.specs.Prelude.{◌≡◌, map};
+ghost use Rattle.rb_tool.specs.inner.Serving.{AreLimits, parents_source};
 
 use crate::serve::{Serving, serve_files};
 use rb_arguments::{
     Asked, AskedCoverage, AskedFormat, AskedInherited, AskedLimits, AskedLint, AskedLookup,
 };
-use rb_console::Console;
+use rb_console::{Console, ParentsSource};
 use rb_convert::{
     Change, DiffForm, DiffWords, Layout, Target, compile_all, compile_all_json, compile_json_on,
     compile_on, diff, json, json_lines, lines, text,
@@ -149,7 +149,7 @@ fn run_coverage<R: Files + AllocGlobal + Print + Eprint>(
     asked: &AskedCoverage<'_>,
 ) -> ExitCode {
     let words = CoverageWords {
-        parents: asked.parents,
+        parents: source_of(asked.parents, asked.is_cldr),
         format: asked.format,
         files: &asked.texts,
     };
@@ -167,7 +167,7 @@ fn run_inherited<R: Files + RandomSource + AllocGlobal + Print + Eprint>(
         return ExitCode::from(2);
     }
     let tree = Inheritance {
-        parents: asked.parents,
+        parents: source_of(asked.parents, asked.is_cldr),
         locale: asked.locale,
         path: asked.path,
     };
@@ -181,12 +181,25 @@ fn run_look<R: Files + RandomSource + AllocGlobal + Print + Eprint>(
     asked: AskedLookup<'_>,
 ) -> ExitCode {
     let lookup = Lookup {
-        parents: asked.parents,
+        parents: source_of(asked.parents, asked.is_cldr),
         locale: asked.locale,
         path: asked.path,
         is_traced: asked.is_traced,
     };
     look_up(rt, console, lookup, &asked.files)
+}
+
+/// Returns the place of explicit parents. clap refuses both options at once.
+fn source_of(file: Option<&str>, is_cldr: bool) -> Option<ParentsSource<'_>>
+    ensures { result ≡ parents_source file.entry is_cldr }
+{
+    if is_cldr {
+        return Some(ParentsSource::Cldr);
+    }
+    match file {
+        Some(file) => Some(ParentsSource::File(file)),
+        None => None,
+    }
 }
 
 /// Returns the limits that the options give, or `None` if there are none.
@@ -209,13 +222,12 @@ fn limits_of(asked: AskedLimits) -> Option<Limits>
 
 /// `serve [LOCALE=FILE ..]`
 fn serving_of<'a>(
-    parents: Option<&'a str>,
+    parents: Option<ParentsSource<'a>>,
     bundles: Vec<&'a str>,
     asked: AskedLimits,
     is_extended: bool,
 ) -> Serving<'a>
-    ensures parents { option_map (λ s. s.now) result.parents
-        ≡ option_map (λ s. s.now) parents.entry }
+    ensures parents { result.parents ≡ parents.entry }
     ensures bundles { map (λ s. s.now) result.bundles.items
         ≡ map (λ s. s.now) bundles.entry.items }
     ensures limits { AreLimits asked result.limits }
@@ -295,13 +307,14 @@ pub fn run_asked<
         Asked::Look(lookup) => run_look(rt, console, lookup),
         Asked::Serve {
             parents,
+            is_cldr,
             bundles,
             limits,
             is_extended,
         } => serve_files(
             rt,
             console,
-            &serving_of(parents, bundles, limits, is_extended),
+            &serving_of(source_of(parents, is_cldr), bundles, limits, is_extended),
         ),
     }
 }

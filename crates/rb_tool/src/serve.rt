@@ -5,7 +5,7 @@ ghost use Rattle.rb_console.specs.Starting.{HasParentsFor};
 
 use crate::batching_writer::{BatchingWriter, LookaheadFeed};
 use crate::server::Server;
-use rb_console::{Console, JsonWriter, StartError, not_started_on, start_engine};
+use rb_console::{Console, JsonWriter, ParentsSource, StartError, not_started_on, start_engine};
 use rb_requests::{Limits, ServeFault, WriteSink};
 use std::cell::Cell;
 use std::io;
@@ -76,8 +76,8 @@ fn serve_lines<R: Input + Print + Eprint + AllocGlobal>(
 /// What `resb serve` serves.
 #[derive(Drop)]
 pub struct Serving<'a> {
-    /// The file of explicit parents, if there is one.
-    pub parents: Option<&'a str>,
+    /// The place of explicit parents, if they are given.
+    pub parents: Option<ParentsSource<'a>>,
     /// The bundles of ICUDATA, each `LOCALE=FILE`.
     pub bundles: Vec<&'a str>,
     pub limits: Option<Limits>,
@@ -101,8 +101,8 @@ fn start_server<'a, R: Files + RandomSource + AllocGlobal>(
     })
 }
 
-/// Answers the lines of standard input on standard output, with the explicit parents of the file
-/// `parents`, a bundle text, and with `bundles` as ICUDATA, each a `LOCALE=FILE` that is split at
+/// Answers the lines of standard input on standard output, with the explicit parents `parents`
+/// and with `bundles` as ICUDATA, each a `LOCALE=FILE` that is split at
 /// its first `=`. A file whose name ends in `.txt` is bundle text, any other a `.res` file.
 ///
 /// The status is 0 once the input is read. It is 2 for an argument that isn't `LOCALE=FILE`, a file

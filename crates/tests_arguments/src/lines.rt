@@ -24,6 +24,13 @@ const LINES: &str = "\
 0|resb|serve|--parents|p.txt|de=a.txt|root=b.res
 0|resb|serve|de=a.txt|--parents|p.txt
 2|resb|serve|--parents
+0|resb|serve|--cldr-parents|de=a.txt
+2|resb|serve|--cldr-parents|--parents|p.txt|de=a.txt
+2|resb|json|--cldr-parents|a.res
+0|resb|json|--inherit|de|--cldr-parents|a.res
+2|resb|json|--inherit|de|--cldr-parents|--parents|p.txt|a.res
+0|resb|look|--cldr-parents|de|a|b.res
+0|resb|coverage|--cldr-parents|a.txt
 2|resb|serve|--locale|de
 0|resb|serve|--app-bytes|1|de=a.txt
 0|resb|serve|--bundle-bytes=9223372036854775808
@@ -122,19 +129,20 @@ resb|diff|--stat|a|b => Diff { old: "a", new: "b", is_json: false, is_stat: true
 resb|diff|a|b|--json => Diff { old: "a", new: "b", is_json: true, is_stat: false }
 resb|json|a|--pretty => Json { file: "a", path: "", is_pretty: true }
 resb|json|a|b => Json { file: "a", path: "b", is_pretty: false }
-resb|json|--inherit|de|a => Inherited(AskedInherited { parents: None, locale: "de", path: "", is_pretty: false, files: ["a"] })
-resb|json|--inherit|de|--parents|p|--path|x/y|a|b|c|d => Inherited(AskedInherited { parents: Some("p"), locale: "de", path: "x/y", is_pretty: false, files: ["a", "b", "c", "d"] })
+resb|json|--inherit|de|a => Inherited(AskedInherited { parents: None, is_cldr: false, locale: "de", path: "", is_pretty: false, files: ["a"] })
+resb|json|--inherit|de|--parents|p|--path|x/y|a|b|c|d => Inherited(AskedInherited { parents: Some("p"), is_cldr: false, locale: "de", path: "x/y", is_pretty: false, files: ["a", "b", "c", "d"] })
+resb|json|--inherit|de|--cldr-parents|a => Inherited(AskedInherited { parents: None, is_cldr: true, locale: "de", path: "", is_pretty: false, files: ["a"] })
 resb|text|a|--name|de => Text { file: "a", name: Some("de") }
 resb|lint|--root|r|a|b => Lint(AskedLint { root: Some("r"), name: None, allow: [], deny: [], format: None, is_strict: false, is_all: false, is_list: false, texts: ["a", "b"] })
 resb|lint|--allow|x|a|--deny|y|--allow|z|--against|r|--root|s|--strict|--all|--format|json|--name|n => Lint(AskedLint { root: Some("r"), name: Some("n"), allow: ["x", "z"], deny: ["y"], format: Some("json"), is_strict: true, is_all: true, is_list: false, texts: ["a"] })
 resb|lint|--list => Lint(AskedLint { root: None, name: None, allow: [], deny: [], format: None, is_strict: false, is_all: false, is_list: true, texts: [] })
 resb|fmt|--check|-q|a|b => Format(AskedFormat { is_check: true, is_diff: false, is_quiet: true, texts: ["a", "b"] })
-resb|coverage|--format|csv|a|--parents|p|de=b => Coverage(AskedCoverage { parents: Some("p"), format: Some("csv"), texts: ["a", "de=b"] })
+resb|coverage|--format|csv|a|--parents|p|de=b => Coverage(AskedCoverage { parents: Some("p"), is_cldr: false, format: Some("csv"), texts: ["a", "de=b"] })
 resb|explain => Explain { word: None }
 resb|explain|BadInt => Explain { word: Some("BadInt") }
 resb|lines|shop|--op|replace|a|b => Lines { op: Some("replace"), is_json: false, app: "shop", files: ["a", "b"] }
 resb|lines|--json|shop|a => Lines { op: None, is_json: true, app: "shop", files: ["a"] }
-resb|look|--trace|--parents|p|de|x/y|a => Look(AskedLookup { parents: Some("p"), locale: "de", path: "x/y", is_traced: true, files: ["a"] })"#;
+resb|look|--trace|--parents|p|de|x/y|a => Look(AskedLookup { parents: Some("p"), is_cldr: false, locale: "de", path: "x/y", is_traced: true, files: ["a"] })"#;
 
 /// Returns what a command line asks for, as a text; empty if it asks for nothing.
 fn asked_text(alloc: Global, words: &[&str]) -> Result<String, Fail> {
@@ -189,7 +197,7 @@ const ALL_LIMITS: AskedLimits = AskedLimits {
 fn serves(
     alloc: Global,
     line: &str,
-    wanted: (Option<&str>, &[&str]),
+    wanted: (Option<&str>, bool, &[&str]),
     limits_wanted: AskedLimits,
     is_extended_wanted: bool,
 ) -> Result<bool, Fail> {
@@ -199,6 +207,7 @@ fn serves(
         Some(
             Asked::Serve {
                 parents,
+                is_cldr,
                 bundles,
                 limits,
                 is_extended,
@@ -206,7 +215,8 @@ fn serves(
         ) => {
             Ok(
                 parents == wanted.0
-                    && bundles.as_slice() == wanted.1
+                    && is_cldr == wanted.1
+                    && bundles.as_slice() == wanted.2
                     && limits == limits_wanted
                     && is_extended == is_extended_wanted,
             )
@@ -221,14 +231,31 @@ const LIMITED: &str =
 #[test]
 fn says_what_is_served(rt: HostRuntime) -> Result<(), Fail> {
     let alloc = rt.alloc();
-    assert!(rt; serves(alloc, "resb|serve", (None, &[]), NO_LIMITS, false)?);
+    assert!(rt; serves(alloc, "resb|serve", (None, false, &[]), NO_LIMITS, false)?);
     let twelve = AskedLimits {
         apps: Some(12),
         ..NO_LIMITS
     };
     let line = "resb|serve|de=a|--parents|p|--apps|12|--extended|fr=b";
-    assert!(rt; serves(alloc, line, (Some("p"), &["de=a", "fr=b"]), twelve, true)?);
-    assert!(rt; serves(alloc, LIMITED, (None, &[]), ALL_LIMITS, false)?);
+    assert!(rt;
+        serves(
+            alloc,
+            line,
+            (Some("p"), false, &["de=a", "fr=b"]),
+            twelve,
+            true
+        )?
+    );
+    assert!(rt;
+        serves(
+            alloc,
+            "resb|serve|--cldr-parents|a",
+            (None, true, &["a"]),
+            NO_LIMITS,
+            false
+        )?
+    );
+    assert!(rt; serves(alloc, LIMITED, (None, false, &[]), ALL_LIMITS, false)?);
     Ok(())
 }
 

@@ -9,7 +9,7 @@ mod traces;
 mod values;
 
 use desk::Desk;
-use rb_console::{Console, StartError, not_started_on, start_engine};
+use rb_console::{Console, ParentsSource, StartError, not_started_on, start_engine};
 use rb_convert::{Layout, compile, json};
 use rb_inspect::{check, get};
 use std::alloc::Global;
@@ -282,7 +282,11 @@ const REFUSED: [(Option<&str>, &[&str], &str, u8); 15] = [
 
 /// Returns the status of a start that is refused, or `None` if it starts.
 fn refusal(desk: &Desk, parents: Option<&str>, arguments: &[&str]) -> Option<ExitCode> {
-    match start_engine(desk, parents, arguments) {
+    let source = match parents {
+        Some(file) => Some(ParentsSource::File(file)),
+        None => None,
+    };
+    match start_engine(desk, source, arguments) {
         Ok(_) => None,
         Err(error) => Some(not_started_on(desk, Console::plain(), error)),
     }

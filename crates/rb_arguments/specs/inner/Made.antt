@@ -6,7 +6,7 @@ use Rattle.clap.specs.declared.builder.arg.Arg.{Arg}
 use Rattle.rb_arguments.specs.declared.argument.Kind.{Kind}
 use Rattle.rb_arguments.specs.declared.argument.Kind.TheVariants.{Word, OptionalWord, WordUnless, Words, AnyWords}
 use Rattle.rb_arguments.specs.declared.argument.Kind.TheVariants.{WordsUnless, WordsWith, Option as ToOption, OptionWith, Options}
-use Rattle.rb_arguments.specs.declared.argument.Kind.TheVariants.{Limit, Flag, FlagWith, ShortFlag}
+use Rattle.rb_arguments.specs.declared.argument.Kind.TheVariants.{Limit, Flag, FlagWith, FlagWithout, FlagIf, ShortFlag}
 
 -- an option with this long name, which may be missing
 abbrev pub IsOption : List ℕ → Arg → Type 0
@@ -26,4 +26,6 @@ IsMade name (Options shown) arg = IsOption name arg × (arg.action ≡ Some Appe
 IsMade name Limit arg = IsOption name arg
 IsMade name Flag arg = IsOption name arg × (arg.action ≡ Some SetTrue)
 IsMade name (FlagWith option) arg = IsOption name arg × (arg.action ≡ Some SetTrue)
+IsMade name (FlagWithout option) arg = IsOption name arg × (arg.action ≡ Some SetTrue)
+IsMade name (FlagIf option other) arg = IsOption name arg × (arg.action ≡ Some SetTrue)
 IsMade name (ShortFlag letter) arg = IsOption name arg × (arg.action ≡ Some SetTrue) × (arg.short ≡ Some letter)

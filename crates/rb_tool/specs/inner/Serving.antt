@@ -1,5 +1,8 @@
--- Defines what serving under limits is: those that the options give, or none.
-use Rattle.std.specs.Prelude.{◌≡◌, ℕ, [], Option, Some, None}
+-- Defines where explicit parents come from, and what serving under limits is: those that the options give, or none.
+use Rattle.std.specs.Prelude.{◌≡◌, ℕ, List, [], Bool, Option, Some, None, option_map, if◌then◌else◌}
+use Rattle.std.specs.Borrow.{Bor}
+use Rattle.rb_console.specs.declared.start.ParentsSource.{ParentsSource}
+use Rattle.rb_console.specs.declared.start.ParentsSource.TheVariants.{File, Cldr}
 use Rattle.rb_arguments.specs.Limits.{AreGiven}
 use Rattle.rb_arguments.specs.declared.asking.AskedLimits.{AskedLimits}
 use Rattle.rb_engine.specs.History.{State}
@@ -9,6 +12,10 @@ use Rattle.rb_requests.specs.Within.{LineReplyWithin, longest_read}
 use Rattle.rb_requests.specs.declared.limits.Limits.{Limits}
 use Rattle.rb_requests.specs.declared.lines.ServeFault.{ServeFault}
 use Rattle.rb_tool.specs.inner.Limits.{most_lines}
+
+-- ---- the explicit parents that a command line asks for: CLDR's, or those of a file
+abbrev pub parents_source : Option (Bor (List ℕ)) → Bool → Option ParentsSource
+parents_source file is_cldr = if is_cldr then Some Cldr else option_map File file
 
 -- ---- the limits that a command line asks for
 pub record IsLimits (asked : AskedLimits) (limits : Limits) : Type 0 where

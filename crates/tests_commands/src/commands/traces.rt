@@ -1,7 +1,7 @@
 //! Lookups over files in memory, traced.
 use super::desk::Desk;
 use super::desk_of;
-use rb_console::Console;
+use rb_console::{Console, ParentsSource};
 use rb_inspect::{Lookup, look_up};
 use std::process::ExitCode;
 
@@ -85,7 +85,7 @@ const FILES: [&str; 6] = [
 /// Checks that a lookup gives this reply, and with `is_traced` also this trace.
 fn is_traced<'a>(desk: &Desk, locale: &'a str, path: &'a str, reply: &str, trace: &str) -> bool {
     let plain = Lookup {
-        parents: Some("parents.txt"),
+        parents: Some(ParentsSource::File("parents.txt")),
         locale,
         path,
         is_traced: false,
