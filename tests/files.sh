@@ -250,7 +250,7 @@ forged=$(printf 'x\033[31m\ny\302\233\342\200\256.res')
 escaped='x\u{1b}[31m\u{a}y\u{9b}\u{202e}.res'
 cp de.res "$forged"
 says 'a name in a pipe' 2 "cannot read $forged.none" "$program" check "$forged.none"
-says 'a name on a terminal' 0 "cannot read $escaped.none" terminal "$program" check "$forged.none"
+says 'a name on a terminal' 0 "cannot read $escaped.none: no such file" terminal "$program" check "$forged.none"
 says 'a name on a terminal, and success' 0 "$escaped: ok, 1 visits
 $escaped: ok, 1 visits" terminal "$program" check "$forged" "$forged"
 holds 'an option on a terminal' grep -qF -- '--x\u{1b}[31m' <(terminal "$program" check "$(printf -- '--x\033[31m')")

@@ -1,7 +1,7 @@
 #!/usr/bin/env python3
 """Runs commands on a pseudo-terminal and through pipes. On a terminal, U+007F to U+009F and the controls of the writing direction are
-escaped in JSON, and so is each control character in a name or an argument; all else is as in a pipe, where names and the text of items
-are printed as they are. `json` escapes in both.
+escaped in JSON, and so is each control character in a name or an argument, and an error of a file ends with its reason; all else is as in
+a pipe, where names and the text of items are printed as they are. `json` escapes in both.
 
 usage: terminals.py PROGRAM
 Ends with status 1 if an output differs, and says `skipped` if there is no such program, or no terminal.
@@ -56,10 +56,12 @@ class Terminals:
     def __init__(self, program, folder):
         self.program, self.folder, self.failed, self.count = program, folder, 0, 0
 
-    def run(self, words, source, on_terminal):
+    def run(self, words, source, on_terminal, user=None):
         """Returns the status and what was printed to standard output and to standard error; those named are on a terminal."""
         ends = [opened() if name in on_terminal else os.pipe() for name in ("out", "err")]
-        process = subprocess.Popen([self.program, *words], cwd=self.folder, stdin=subprocess.PIPE, stdout=ends[0][1], stderr=ends[1][1])
+        process = subprocess.Popen(
+            [self.program, *words], cwd=self.folder, stdin=subprocess.PIPE, stdout=ends[0][1], stderr=ends[1][1], user=user
+        )
         os.close(ends[0][1])
         os.close(ends[1][1])
         parts = [], []
@@ -99,6 +101,13 @@ class Terminals:
         for line, plain_line in zip(lines, wanted):  # an error ends with a hint
             self.compare(f"{what}: a line of standard error", line[:len(plain_line)], plain_line)
             self.compare(f"{what}: no control", shown(line), line)
+
+    def cause(self, words, line, cause, user=None):
+        """The line is printed in a pipe, and on a terminal with its cause."""
+        what = " ".join(map(repr, words))
+        for on_terminal, wanted in ((), line), (("out",), line), (("err",), f"{line}: {cause}"):
+            status, _, errors = self.run(words, b"", on_terminal, user)
+            self.compare(f"{what}: {on_terminal}", [status > 0, errors], [True, f"{wanted}\n"])
 
 
 def write(folder, name, text):
@@ -142,6 +151,50 @@ def names(terminals):
         terminals.command(command, named=[NAME])
 
 
+def causes(terminals):
+    """Files that can't be read or written, and why."""
+    folder = terminals.folder
+    os.mkdir(os.path.join(folder, "folder"))
+    os.symlink("loop.res", os.path.join(folder, "loop.res"))
+    long = "n" * 300
+    for file, cause in (("none", "no such file"), ("folder", "is a folder"), ("root.res/a", "a part of its path is no folder"),
+                        ("loop.res", "its links form a circle"), (long, "the name is too long")):
+        terminals.cause(["check", file], f"cannot read {file}", cause)
+    for words in (["get", "none", "a"], ["text", "none"], ["json", "none"], ["diff", "none", "root.res"], ["compile", "none", "a.res"],
+                  ["compile", "--json", "none", "a.res"], ["compile", "--to", "folder", "none"], ["lint", "none"], ["fmt", "none"],
+                  ["lines", "shop", "root=none"], ["look", "root", "a", "root=none"], ["serve", "root=none"], ["serve", "--parents", "none"]):
+        terminals.cause(words, "cannot read none", "no such file")
+    for file, cause in (("none/a.res", "no such folder"), ("none/", "no such folder"), ("folder", "is a folder"),
+                        ("root.res/a.res", "a part of its path is no folder"), ("loop.res", "its links form a circle"),
+                        (long, "the name is too long"), ("/dev/full", "no space is left")):
+        if file != "/dev/full" or os.path.exists(file):
+            terminals.cause(["compile", "root.txt", file], f"cannot write {file}", cause)
+    os.mkdir(os.path.join(folder, "in"))
+    write(folder, "in/de.txt", "de{}")
+    words = ["compile", "--to", "root.txt", "--from", "in", "in/de.txt"]
+    terminals.cause(words, "cannot write root.txt/de.res", "a part of its path is no folder")
+    denied(terminals)
+
+
+def denied(terminals):
+    """Files without permission, for nobody if the tests are run by root, who reads all."""
+    user = 65534 if os.geteuid() == 0 else None
+    os.chmod(terminals.folder, 0o755)
+    for file in "root.txt", "root.res":
+        os.chmod(os.path.join(terminals.folder, file), 0o644)
+    write(terminals.folder, "secret.res", "")
+    os.chmod(os.path.join(terminals.folder, "secret.res"), 0)
+    os.mkdir(os.path.join(terminals.folder, "closed"), 0o555)
+    try:
+        terminals.run(["--version"], b"", (), user)
+    except OSError:
+        print("terminals: skipped: a file without permission (nobody can't run the program)")
+        return
+    terminals.cause(["check", "secret.res"], "cannot read secret.res", "permission denied", user)
+    for file in "secret.res", "closed/a.res":
+        terminals.cause(["compile", "root.txt", file], f"cannot write {file}", "permission denied", user)
+
+
 def main():
     program = os.path.abspath(sys.argv[1])
     if not os.access(program, os.X_OK):
@@ -157,6 +210,7 @@ def main():
         terminals = Terminals(program, folder)
         values(terminals)
         names(terminals)
+        causes(terminals)
     print(f"terminals: {terminals.count} comparisons, {terminals.failed} differ")
     return int(terminals.failed > 0)
 

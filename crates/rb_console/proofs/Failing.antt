@@ -13,7 +13,7 @@ use Rattle.rb_console.specs.Errors.{command_status}
 
 not_started : (e : StartError) → start_status e ≢ 0
 not_started (BadArgument argument) = λ h. absurd (omega (arith, h))
-not_started (Unreadable file) = λ h. absurd (omega (arith, h))
+not_started (Unreadable file kind) = λ h. absurd (omega (arith, h))
 not_started (StartRefused file word) = λ h. absurd (omega (arith, h))
 not_started NoRandomState = λ h. absurd (omega (arith, h))
 not_started Memory = λ h. absurd (omega (arith, h))
@@ -27,7 +27,7 @@ failing (NotStarted error) = not_started error
 failing (Refused place word) = λ h. absurd (omega (arith, h))
 failing (TextRefused file fault) = λ h. absurd (omega (arith, h))
 failing (Unread file line kind) = not_read kind
-failing (Unwritten file) = λ h. absurd (omega (arith, h))
+failing (Unwritten file kind) = λ h. absurd (omega (arith, h))
 failing (BadOutput reason file) = λ h. absurd (omega (arith, h))
 
 pub fails : (e : CommandError) (status : ℕ) → status ≡ command_status e → status ≢ 0

@@ -11,5 +11,5 @@ command_status (NotStarted error) = start_status error
 command_status (Refused place word) = refused_status
 command_status (TextRefused file fault) = refused_status
 command_status (Unread file line kind) = unread_status kind
-command_status (Unwritten file) = 2
+command_status (Unwritten file kind) = 2
 command_status (BadOutput reason file) = 2

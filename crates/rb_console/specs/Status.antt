@@ -12,7 +12,7 @@ use Rattle.rb_console.specs.declared.error.StartError.TheVariants.{Memory}
 -- a command that doesn't start
 abbrev pub start_status : StartError → ℕ
 start_status (BadArgument argument) = 2
-start_status (Unreadable file) = 2
+start_status (Unreadable file kind) = 2
 start_status (Refused file word) = 1
 start_status NoRandomState = 2
 start_status Memory = 1

@@ -1,15 +1,16 @@
 //! The settings of a command's output: quiet or not, and on a terminal or not.
-ghost use Rattle.std.specs.Prelude.{◌≡◌, ◌↔◌, IfSome, IsSome, IsTrue, false};
+ghost use Rattle.std.specs.Prelude.{◌≡◌, ◌↔◌, IfSome, IsSome, IsTrue, true, false};
 
 use std::fmt;
+use std::io::ErrorKind;
 
 /// The settings of a command's output.
 #[derive(Clone, Copy, Debug, PartialEq, Eq)]
 pub struct Console {
     /// The command prints no line on success.
     pub is_quiet: bool,
-    /// Standard error is a terminal: errors name `resb explain`, and a command that takes longer
-    /// than a second reports its progress.
+    /// Standard error is a terminal: errors name `resb explain` or the reason why a file can't be
+    /// read or written, and a command that takes longer than a second reports its progress.
     pub is_terminal: bool,
     /// Standard output is a terminal.
     pub is_output_terminal: bool,
@@ -60,6 +61,30 @@ impl Console {
             word: if self.is_terminal { Some(word) } else { None },
         }
     }
+
+    /// Returns the end of the line of an error by which a file can't be read.
+    pub fn read_cause(self, kind: ErrorKind) -> Cause
+        ensures shown { IsSome result.kind ↔ IsTrue self.is_terminal }
+        ensures kind { IfSome result.kind (λ k. k ≡ kind) }
+        ensures written { result.is_written ≡ false }
+    {
+        Cause {
+            kind: if self.is_terminal { Some(kind) } else { None },
+            is_written: false,
+        }
+    }
+
+    /// Returns the end of the line of an error by which a file can't be written.
+    pub fn write_cause(self, kind: ErrorKind) -> Cause
+        ensures shown { IsSome result.kind ↔ IsTrue self.is_terminal }
+        ensures kind { IfSome result.kind (λ k. k ≡ kind) }
+        ensures written { result.is_written ≡ true }
+    {
+        Cause {
+            kind: if self.is_terminal { Some(kind) } else { None },
+            is_written: true,
+        }
+    }
 }
 
 /// A hint to the explanation of an error: ` (resb explain WORD)` on a terminal, otherwise empty.
@@ -73,6 +98,37 @@ impl<'a> fmt::Display for Hint<'a> {
         match self.word {
             Some(word) => write!(f, " (resb explain {word})"),
             None => Ok(()),
+        }
+    }
+}
+
+/// The reason why a file can't be read or written, such as `: permission denied`, on a terminal,
+/// otherwise empty.
+#[derive(Clone, Copy, Debug)]
+pub struct Cause {
+    kind: Option<ErrorKind>,
+    is_written: bool,
+}
+
+impl fmt::Display for Cause {
+    fn fmt<W: fmt::Write>(&self, f: &mut fmt::Formatter<W>) -> fmt::Result {
+        let Some(kind) = self.kind else {
+            return Ok(());
+        };
+        match kind {
+            // A file that is written needs only its folder.
+            ErrorKind::NotFound if self.is_written => f.write_str(": no such folder"),
+            ErrorKind::NotFound => f.write_str(": no such file"),
+            ErrorKind::IsADirectory => f.write_str(": is a folder"),
+            ErrorKind::NotADirectory | ErrorKind::AlreadyExists => {
+                f.write_str(": a part of its path is no folder")
+            }
+            ErrorKind::ReadOnlyFilesystem => f.write_str(": the file system is read-only"),
+            ErrorKind::StorageFull => f.write_str(": no space is left"),
+            ErrorKind::FilesystemLoop => f.write_str(": its links form a circle"),
+            ErrorKind::InvalidFilename => f.write_str(": the name is too long"),
+            ErrorKind::Uncategorized => f.write_str(": the system reports an error"),
+            kind => write!(f, ": {kind}"),
         }
     }
 }

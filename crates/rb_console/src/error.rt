@@ -16,7 +16,7 @@ pub enum StartError<'a> {
     /// An argument that names no bundle.
     BadArgument(&'a str),
     /// A file that can't be read.
-    Unreadable(&'a str),
+    Unreadable(&'a str, ErrorKind),
     /// A file that is refused, and the error's name.
     Refused(&'a str, &'static str),
     /// The runtime has no random state.
@@ -35,8 +35,9 @@ pub fn not_started_on<R: Eprint>(rt: &R, console: Console, error: StartError<'_>
             let argument = console.on_stderr(argument);
             (eprintln!(rt; "bad bundle argument: {argument}"), 2)
         }
-        StartError::Unreadable(file) => {
-            (eprintln!(rt; "cannot read {}", console.on_stderr(file)), 2)
+        StartError::Unreadable(file, kind) => {
+            let (file, cause) = (console.on_stderr(file), console.read_cause(kind));
+            (eprintln!(rt; "cannot read {file}{cause}"), 2)
         }
         StartError::Refused(file, word) => {
             let (file, hint) = (console.on_stderr(file), console.hint(word));
@@ -59,7 +60,7 @@ pub enum CommandError<'a> {
     /// A file can't be read. The second text follows its name if memory runs out.
     Unread(&'a str, &'static str, ErrorKind),
     /// A file can't be written.
-    Unwritten(&'a str),
+    Unwritten(&'a str, ErrorKind),
     /// A file must not be written: the reason, and its name.
     BadOutput(&'static str, &'a str),
 }
@@ -85,8 +86,9 @@ pub fn finish<R: Eprint>(rt: &R, console: Console, error: CommandError<'_>) -> E
         CommandError::Refused(place, word) => refused_on(rt, console, place, word),
         CommandError::TextRefused(file, fault) => text_refused(rt, console, file, fault),
         CommandError::Unread(file, line, kind) => not_read(rt, console, file, line, kind),
-        CommandError::Unwritten(file) => {
-            let _ = eprintln!(rt; "cannot write {}", console.on_stderr(file));
+        CommandError::Unwritten(file, kind) => {
+            let (file, cause) = (console.on_stderr(file), console.write_cause(kind));
+            let _ = eprintln!(rt; "cannot write {file}{cause}");
             ExitCode::from(2)
         }
         CommandError::BadOutput(reason, file) => {

@@ -44,7 +44,8 @@ pub fn not_read<R: Eprint>(
         let _ = eprintln!(rt; "{name}{line}: Memory{hint}");
         return ExitCode::from(1);
     }
-    let _ = eprintln!(rt; "cannot read {}", console.on_stderr(name));
+    let (name, cause) = (console.on_stderr(name), console.read_cause(kind));
+    let _ = eprintln!(rt; "cannot read {name}{cause}");
     ExitCode::from(2)
 }
 

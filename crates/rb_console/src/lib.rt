@@ -16,7 +16,7 @@ mod reading;
 mod replacing;
 mod start;
 
-pub use console::{Console, Hint, ShownName};
+pub use console::{Cause, Console, Hint, ShownName};
 pub use contents::{Refusal, made_of_each};
 pub use error::{CommandError, StartError, ended, finish, not_started_on};
 pub use files::{cannot_read_on, printed, read_at_most, read_file, refused_on};

@@ -107,6 +107,8 @@ pub struct Output {
     pub decision: Decision,
     /// The name that its links lead to.
     target: String,
+    /// The error with which a file is refused that can't be written.
+    refusal: ErrorKind,
 }
 
 /// Identifies an ordinary file by its device and its number there; `None` for anything else, and in
@@ -207,12 +209,22 @@ pub(crate) fn located<R: Files + AllocGlobal>(
     Ok((kind, String::from_str(rt.alloc(), name)?))
 }
 
+/// Returns the error with which a name is refused that leads to nothing that can be written.
+fn refusal_of<R: Files>(rt: &R, name: &str) -> ErrorKind {
+    match rt.metadata(name) {
+        Ok(seen) if seen.is_dir() => ErrorKind::IsADirectory,
+        Ok(_) => ErrorKind::PermissionDenied,
+        Err(error) => error.kind(),
+    }
+}
+
 /// Looks at a file to write, and decides how it is written. Nothing is written yet. `is_input` says
 /// whether it is one of the texts that the command reads.
 pub fn output_of<R: Files + AllocGlobal>(rt: &R, name: &str, is_input: bool) -> Output {
-    let (kind, target) = match located(rt, name) {
-        Ok(located) => located,
-        Err(_) => (FileKind::Other, String::new(rt.alloc())),
+    let (kind, target, refusal) = match located(rt, name) {
+        Ok((FileKind::Other, target)) => (FileKind::Other, target, refusal_of(rt, name)),
+        Ok((kind, target)) => (kind, target, ErrorKind::PermissionDenied),
+        Err(error) => (FileKind::Other, String::new(rt.alloc()), error.kind()),
     };
     let seen = Seen {
         kind,
@@ -224,6 +236,7 @@ pub fn output_of<R: Files + AllocGlobal>(rt: &R, name: &str, is_input: bool) -> 
     Output {
         decision: decide(seen),
         target,
+        refusal,
     }
 }
 
@@ -338,6 +351,6 @@ pub fn write_output<R: Files + RandomSource + AllocGlobal>(
         Decision::Create => write_beside(rt, target, None, bytes),
         Decision::Replace => replace(rt, target, bytes),
         Decision::WriteThrough => write_through(rt, target, bytes),
-        _ => Err(io::Error::from(ErrorKind::PermissionDenied)),
+        _ => Err(io::Error::from(output.refusal)),
     }
 }

@@ -32,7 +32,7 @@ pub fn replace_text<R: Files + RandomSource + AllocGlobal>(
 ) -> io::Result<bool> {
     let (kind, target) = located(rt, name)?;
     if kind != FileKind::Ordinary {
-        return Err(io::Error::from(io::ErrorKind::PermissionDenied));
+        return Err(io::Error::from(io::ErrorKind::Unsupported));
     }
     let target = target.as_str();
     let permissions = writable(rt, target)?;

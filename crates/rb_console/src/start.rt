@@ -38,7 +38,7 @@ pub enum ParentsSource<'a> {
 fn reading_error(file: &str, kind: ErrorKind) -> StartError<'_> {
     match kind {
         ErrorKind::OutOfMemory => StartError::Memory,
-        _ => StartError::Unreadable(file),
+        kind => StartError::Unreadable(file, kind),
     }
 }
 

@@ -143,8 +143,8 @@ fn compile_file<'a, R: Files + RandomSource + AllocGlobal>(
     text: &'a str,
     output: &'a str,
 ) -> Result<usize, CommandError<'a>> {
-    if target.make_folder(rt, output).is_err() {
-        return Err(CommandError::Unwritten(output));
+    if let Err(error) = target.make_folder(rt, output) {
+        return Err(CommandError::Unwritten(output, error.kind()));
     }
     let is_input = inputs.has(rt, output) || are_same_file(rt, text, output);
     let chosen = chosen_output(rt, output, is_input)?;
@@ -267,8 +267,8 @@ fn compile_json_file<'a, R: Files + RandomSource + AllocGlobal>(
     output: &'a str,
     no_fallback: bool,
 ) -> Result<usize, JsonError<'a>> {
-    if target.make_folder(rt, output).is_err() {
-        return Err(JsonError::Other(CommandError::Unwritten(output)));
+    if let Err(error) = target.make_folder(rt, output) {
+        return Err(JsonError::Other(CommandError::Unwritten(output, error.kind())));
     }
     let is_input = inputs.has(rt, output) || are_same_file(rt, json, output);
     let chosen = match chosen_json_output(rt, output, is_input) {

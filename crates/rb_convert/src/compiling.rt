@@ -53,10 +53,10 @@ pub(crate) fn compile_read<'a, R: Files + RandomSource + AllocGlobal>(
     chosen: &Output,
 ) -> Result<usize, CommandError<'a>> {
     let file = file_of(rt.alloc(), input, text)?;
-    if write_output(rt, chosen, &file).is_err() {
-        return Err(CommandError::Unwritten(output));
+    match write_output(rt, chosen, &file) {
+        Ok(()) => Ok(file.len()),
+        Err(error) => Err(CommandError::Unwritten(output, error.kind())),
     }
-    Ok(file.len())
 }
 
 /// Compiles the bundle text `input`, which was read, to standard output, and prints nothing else.

@@ -139,10 +139,10 @@ pub(crate) fn compile_json_read<'a, R: Files + RandomSource + AllocGlobal>(
         Ok(file) => file,
         Err(error) => return Err(error),
     };
-    if write_output(rt, chosen, &file).is_err() {
-        return Err(JsonError::Other(CommandError::Unwritten(output)));
+    match write_output(rt, chosen, &file) {
+        Ok(()) => Ok(file.len()),
+        Err(error) => Err(JsonError::Other(CommandError::Unwritten(output, error.kind()))),
     }
-    Ok(file.len())
 }
 
 /// Compiles the JSON text `input`, which was read, to standard output, and prints nothing else.

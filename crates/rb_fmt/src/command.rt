@@ -59,7 +59,7 @@ fn replace<R: Files + RandomSource + AllocGlobal + Print + Eprint>(
             let reason = "the text changed while it was formatted";
             failed(rt, console, CommandError::BadOutput(reason, name))
         }
-        Err(_) => failed(rt, console, CommandError::Unwritten(name)),
+        Err(error) => failed(rt, console, CommandError::Unwritten(name, error.kind())),
     }
 }
 
