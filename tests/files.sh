@@ -257,6 +257,15 @@ holds 'an option on a terminal' grep -qF -- '--x\u{1b}[31m' <(terminal "$program
 says 'an argument on a terminal' 0 "resb: \u{7f} is no error word: resb explain lists them" \
     terminal "$program" explain "$(printf '\177')"
 
+# Arguments that aren't UTF-8: a letter of Latin-1, a surrogate, the second of three, and a long one.
+latin=$(printf 'caf\351-\303\251.txt')
+says 'a letter of Latin-1' 2 "bad argument: it isn't UTF-8: caf\xe9-é.txt" "$program" check "$latin"
+says 'a surrogate' 2 "bad argument: it isn't UTF-8: \xed\xa0\x80" "$program" "$(printf '\355\240\200')"
+says 'the second of three' 2 "bad argument: it isn't UTF-8: b\xff" "$program" a "$(printf 'b\377')" "$(printf 'c\377')"
+long=$(head -c 5000 /dev/zero | tr '\0' x)
+says 'a long one' 2 "bad argument: it isn't UTF-8: $long\xff$long" "$program" check "$long$(printf '\377')$long"
+says 'one on a terminal' 0 "bad argument: it isn't UTF-8: \xff\u{1b}[31m" terminal "$program" "$(printf '\377\033[31m')"
+
 # Characters that a terminal acts on, in JSON and in texts.
 printf 'root{a{"x\302\233\342\200\256y"}}' >acts.txt
 "$program" compile -q acts.txt acts.res

@@ -2,10 +2,12 @@
 #![tactic(auto)]
 
 mod batching_writer;
+mod raw_arguments;
 mod running;
 mod serve;
 mod server;
 
+use crate::raw_arguments::{ShownBytes, first_bad_argument};
 use crate::running::run_asked;
 use rb_arguments::{asked_by, commands_for};
 use rb_console::Console;
@@ -59,12 +61,24 @@ fn run<R: Files + RandomSource + Clock + AllocGlobal + Input + Print + Eprint + 
     })
 }
 
+/// Names the first argument that isn't UTF-8 on a line of standard error.
+fn not_utf8<R: AllocGlobal + Eprint + Env>(rt: &R, console: Console) -> io::Result<()> {
+    match first_bad_argument(rt) {
+        Some(bytes) => {
+            let bytes = bytes.as_slice();
+            let argument = ShownBytes { bytes, console };
+            eprintln!(rt; "bad argument: it isn't UTF-8: {argument}")
+        }
+        None => eprintln!(rt; "bad argument: it isn't UTF-8"),
+    }
+}
+
 /// Says on a line of standard error why no command was run: out of memory, an argument that isn't
 /// UTF-8, or a help that can't be written. The status is 1 after out of memory, and else 2.
-fn not_run<R: Eprint>(rt: &R, error: io::Error) -> ExitCode {
+fn not_run<R: AllocGlobal + Eprint + Env>(rt: &R, console: Console, error: io::Error) -> ExitCode {
     let (_, status) = match error.kind() {
         ErrorKind::OutOfMemory => (eprintln!(rt; "Memory"), 1),
-        ErrorKind::InvalidData => (eprintln!(rt; "bad argument: it isn't UTF-8"), 2),
+        ErrorKind::InvalidData => (not_utf8(rt, console), 2),
         _ => (eprintln!(rt; "cannot write stdout"), 2),
     };
     ExitCode::from(status)
@@ -78,6 +92,6 @@ fn main(rt: HostRuntime) -> ExitCode {
     };
     match run(&rt, console) {
         Ok(status) => status,
-        Err(error) => not_run(&rt, error),
+        Err(error) => not_run(&rt, console, error),
     }
 }
