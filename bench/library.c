@@ -1,6 +1,9 @@
 /* Times lookups in process, of libresb beside libicu with its bundles kept open, in alternating turns.
  * usage: library FOLDER TURNS: the .res files of FOLDER, in version 1 of the format
- * Prints a line for each turn: nanoseconds of processor time for a lookup of each, over the same questions. */
+ * Prints a line for each turn: nanoseconds of processor time for a lookup of each, over the same questions.
+ *
+ * Built with COUNTED and run as `library FOLDER PART` under callgrind with --collect-atstart=no, it prints how many questions are direct
+ * and how many lead through aliases, and asks those of one part once: of libresb direct (0) or through aliases (2), of libicu (1, 3). */
 #include <dirent.h>
 #include <stdio.h>
 #include <stdlib.h>
@@ -9,6 +12,10 @@
 #include <unicode/ures.h>
 
 #include "resb.h"
+
+#ifdef COUNTED
+#include <valgrind/callgrind.h>
+#endif
 
 U_CAPI UResourceBundle *U_EXPORT2 ures_getByKeyWithFallback(const UResourceBundle *, const char *, UResourceBundle *, UErrorCode *);
 
@@ -108,6 +115,38 @@ static double timed(bool (*ask)(int), int asked) {
     return (now() - began) / 10 / asked;
 }
 
+#ifdef COUNTED
+static bool is_within(const char *name, const char *path, uint64_t steps) {
+    resb_found found;
+    return !resb_look_within(&engine, STRING("cldr"), STRING(name), STRING(path), steps, &found);
+}
+
+/* A lookup without aliases takes as many steps as the trail has names, times one more than the path has segments. The empty path takes
+ * one step for each name. */
+static bool is_direct(int i) {
+    uint64_t names_of_trail = 1, segments = 1;
+    while (!is_within(names[questions[i].file], "", names_of_trail))
+        names_of_trail++;
+    for (const char *c = questions[i].path; *c; c++)
+        segments += *c == '/';
+    return is_within(names[questions[i].file], questions[i].path, names_of_trail * (1 + segments));
+}
+
+static void count_instructions(int asked, int part) {
+    static bool direct[QUESTIONS];
+    bool (*ask)(int) = part % 2 ? ask_icu : ask_resb;
+    int directs = 0;
+    for (int i = 0; i < asked; i++)
+        directs += direct[i] = is_direct(i);
+    printf("%d direct, %d through aliases\n", directs, asked - directs);
+    CALLGRIND_TOGGLE_COLLECT;
+    for (int i = 0; i < asked; i++)
+        if (direct[i] == (part < 2))
+            ask(i);
+    CALLGRIND_TOGGLE_COLLECT;
+}
+#endif
+
 int main(int argc, char **argv) {
     const char *sources[] = {"root", "de", "fr", "ja", "zh_Hant"};
     uint8_t seed[16] = {7};
@@ -137,6 +176,10 @@ int main(int argc, char **argv) {
             asked++;
     }
     printf("%d files, %d questions\n", files, asked);
+#ifdef COUNTED
+    count_instructions(asked, atoi(argv[2]));
+    return 0;
+#endif
     for (int turn = 0; turn < atoi(argv[2]); turn++) {
         double ours = timed(ask_resb, asked), theirs = timed(ask_icu, asked);
         printf("resb %.0f ns, icu %.0f ns, %.2f times as fast as icu\n", ours, theirs, theirs / ours);
