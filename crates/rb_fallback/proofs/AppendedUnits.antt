@@ -1,8 +1,8 @@
--- Units that are appended to a path.
+-- Units that are appended to a list, one by one.
 use Rattle.std.proofs.Common.{◌≡◌, ◌+◌, ◌-◌, ◌<◌, ◌≤◌, ℕ, List, [], ◌∷◌, ◌++◌, length, take, drop, get_or, slice_index, nat_le, true}
 use Rattle.std.proofs.Common.{ap, sym, ◌∙◌, arith, length-drop}
 use Rattle.std.specs.List.{list_all}
-use Rattle.std.proofs.lemmas.List.{get_or-drop, take_all, length-take-le, take_more}
+use Rattle.std.proofs.lemmas.List.{get_or-drop, length-take-le, take_more}
 use Rattle.std.proofs.lemmas.List.Sums.{AllPass-from_list_all}
 use Rattle.std.proofs.lemmas.Bool.{leb-true}
 use Rattle.rb_tree.specs.Resource.{Resource}
@@ -29,15 +29,6 @@ unit_on t at i xs u l h e =
     ∙ sym (take_more x (i - at) 0 more)
     ∙ ap (λ (k : ℕ). take k x) (let k : i - at + 1 ≡ i + 1 - at = omega arith in k)
 
-pub unit_end : (t : Resource) (at n : ℕ) (xs : List ℕ) → HasUnits (kind_of t) → n ≡ len_of t → xs ≡ take (n - at) (drop at (units_of t))
-    → xs ≡ drop at (units_of t)
-unit_end t at n xs u l e = e ∙ take_all (n - at) (drop at (units_of t)) (omega (arith, length-drop at (units_of t), units_len t u))
-
 pub unit_count : (t : Resource) (at i : ℕ) (xs : List ℕ) → HasUnits (kind_of t) → i ≤ len_of t → xs ≡ take (i - at) (drop at (units_of t))
     → length xs ≡ i - at
 unit_count t at i xs u l e = ap length e ∙ length-take-le (i - at) (drop at (units_of t)) (omega (arith, length-drop at (units_of t), units_len t u))
-
-pub unit_room : (t : Resource) (at : ℕ) → HasUnits (kind_of t) → length (drop at (units_of t)) ≡ len_of t - at
-unit_room t at u = length-drop at (units_of t) ∙ ap (λ (k : ℕ). k - at) (units_len t u)
-
-pub ruleset append_steps = (plain_low, unit_on, unit_end, unit_count, unit_room)

@@ -1,6 +1,6 @@
 -- The target of an alias: its path, and the remainder of the path that led to it.
-use Rattle.std.proofs.Common.{◌≡◌, ◌≢◌, ◌+◌, ◌<◌, ◌||◌, ℕ, zero, suc, List, [], ◌∷◌, ◌++◌, length, drop, Bool, true, nat_lt, Option, Some, None, All}
-use Rattle.std.proofs.Common.{refl, ap, sym, ◌∙◌, arith, subst, Result, Ok, option_map, IfSome, IfNone, append-nil, slice_index_or}
+use Rattle.std.proofs.Common.{◌≡◌, ◌≢◌, ◌+◌, ◌<◌, ◌||◌, ℕ, zero, suc, List, [], ◌∷◌, ◌++◌, length, drop, Bool, true, nat_lt, Some, None, All}
+use Rattle.std.proofs.Common.{refl, ap, sym, ◌∙◌, arith, subst, Result, Ok, append-nil, slice_index_or}
 use Rattle.std.proofs.lemmas.Bool.{ltb-true, leb-true, lt-ltb}
 use Rattle.std.proofs.lemmas.List.{drop_at}
 use Rattle.std.proofs.lemmas.List.Elements.{All-append, All-drop}
@@ -14,9 +14,9 @@ use Rattle.rb_locales.proofs.Parts.{split_append}
 use Rattle.rb_fallback.specs.Alias.{aims, is_plain, aim, target, target_of}
 use Rattle.rb_fallback.specs.AliasPaths.{are_filled, joined_path, segments_from}
 use Rattle.rb_fallback.specs.Search.{Step, follow, goes}
-use Rattle.rb_fallback.specs.inner.Steps.{IsFollowed, state_at}
+use Rattle.rb_fallback.specs.inner.Steps.{GoesOn, GoesLong}
+use Rattle.rb_fallback.specs.declared.search.SearchState.{SearchState}
 use Rattle.rb_fallback.specs.declared.fault.LookError.{LookError}
-use Rattle.arrayvec.specs.ArrayVec.{ArrayVec}
 use Rattle.rb_fallback.proofs.Paths.{aim_is_filled, aim_is_plain, long_is}
 
 pub behind_more : (cut : ℕ) → cut ≢ 0 → behind cut ≡ cut + 1
@@ -91,17 +91,24 @@ module _ (us valid n : List ℕ) (icu in_icu : Bool) (p : List ℕ) (walked rest
     path = path;
   }
 
--- the place of that step, if the path is short enough
-pub state_follows : {r : Result Step LookError} {in_icu : Bool} {n q : List ℕ} (o : Option (ArrayVec ℕ)) → LeadsTo r in_icu n q
-    → IfSome o (λ short. short.items ≡ q) → IfNone o (1024 < length q) → IsFollowed (Ok (option_map (state_at in_icu n) o)) r
-state_follows {in_icu = in_icu} {n = n} (Some short) leads some none = record {
-  onto = leads.onto ∙ ap (λ l. Ok (goes in_icu n (segments l))) (sym some);
-  path = subst IsPath (sym some) leads.path;
+-- the state of that step, if the path is short enough
+pub follows_on : {r : Result Step LookError} {in_icu : Bool} {n q : List ℕ} (p : SearchState) → LeadsTo r in_icu n q
+    → p.icudata ≡ in_icu → p.name ≡ n → p.path ≡ q → GoesOn p r
+follows_on {in_icu = in_icu} {n = n} {q = q} p leads icu name path = record {
+  onto =
+      leads.onto
+      ∙ ap (λ (i : Bool). Ok (goes i n (segments q))) (sym icu)
+      ∙ ap (λ (m : List ℕ). Ok (goes p.icudata m (segments q))) (sym name)
+      ∙ ap (λ (l : List ℕ). Ok (goes p.icudata p.name (segments l))) (sym path);
+  path = subst IsPath (sym path) leads.path;
 }
-state_follows {in_icu = in_icu} {n = n} {q = q} None leads some none = record {
+
+-- or it is too long
+pub follows_long : {r : Result Step LookError} {in_icu : Bool} {n q : List ℕ} → LeadsTo r in_icu n q → 1024 < length q → GoesLong r
+follows_long {in_icu = in_icu} {n = n} {q = q} leads long = record {
   in_icu = in_icu;
   name = n;
   rest = segments q;
   onto = leads.onto;
-  long = long_is q ∙ lt-ltb 1024 (length q) none;
+  long = long_is q ∙ lt-ltb 1024 (length q) long;
 }

@@ -1,12 +1,12 @@
 -- A search, level by level.
-use Rattle.std.proofs.Common.{◌≡◌, ◌≢◌, ◌+◌, ◌*◌, ◌-◌, ◌<◌, ◌≤◌, ◌==◌, ℕ, zero, suc, List, length, Bool, true, false, cond, Option, Some, Result, Ok, Err, IfOk}
+use Rattle.std.proofs.Common.{◌≡◌, ◌≢◌, ◌+◌, ◌*◌, ◌-◌, ◌<◌, ◌≤◌, ◌==◌, ℕ, zero, suc, List, length, Bool, true, false, cond, Option, Result, Ok, Err}
 use Rattle.std.proofs.Common.{IsErrAnd, refl, ap, sym, ◌∙◌, arith}
 use Rattle.std.proofs.lemmas.Bool.{le-ltb, eqb-true, eqb-false}
 use Rattle.rb_tree.specs.Resource.{Resource}
 use Rattle.rb_tree.specs.Path.{segments, IsPath}
 use Rattle.rb_parents.specs.Trail.{Bundles, ParentsOf, trail}
 use Rattle.rb_fallback.specs.Answers.{bounded_answer_of}
-use Rattle.rb_fallback.specs.Search.{Hit, Setting, Step, found, search, is_long, go_on, step, bundles_of, setting}
+use Rattle.rb_fallback.specs.Search.{Hit, Setting, Step, found, search, is_long, go_on, bundles_of, setting}
 use Rattle.rb_fallback.specs.Steps.{go_steps, search_steps, trail_length}
 use Rattle.rb_fallback.specs.inner.Budget.{search_within, spend, within}
 use Rattle.rb_fallback.specs.inner.Steps.{GoesOn, GoesLong, IsOutcome}
@@ -103,7 +103,7 @@ module _ {left : Option ℕ} {most i : ℕ} {s : Setting} {in_icu : Bool} {n p :
     err_answer {f = f} e = sym (within_none later (Err f)) ∙ level_answer e
 
     -- an alias leads on
-    pub next_level : (to : SearchState) → GoesOn to (step_at s in_icu n (segments p)) → ComesTo later most (i + 1) s to.icudata to.name to.path.items answer
+    pub next_level : (to : SearchState) → GoesOn to (step_at s in_icu n (segments p)) → ComesTo later most (i + 1) s to.icudata to.name to.path answer
     next_level to on = record { path = on.path; same = level_answer on.onto }
 
     -- or to a path that is too long
@@ -139,7 +139,7 @@ answer_err tree (Ok y) f h = absurd h
 answer_err tree (Err e) f h = ap Err h
 
 -- an error of a level that a `?` returns
-pub outcome_err : {N : Type 0} (tree : N → Resource) (x : Result (Outcome N) LookError) (f : LookError) (valid : List ℕ)
-    (step : List ℕ → Result Step LookError) → IsErrAnd x (λ e. e ≡ f) → step valid ≡ Err f → IsOutcome tree x valid step
-outcome_err tree (Ok y) f valid step h k = absurd h
-outcome_err tree (Err e) f valid step h k = k ∙ ap Err (sym h)
+pub outcome_err : {N : Type 0} (tree : N → Resource) (x : Result (Outcome N) LookError) (f : LookError) (p : SearchState)
+    (r : Result Step LookError) → IsErrAnd x (λ e. e ≡ f) → r ≡ Err f → IsOutcome tree x p r
+outcome_err tree (Ok y) f p r h k = absurd h
+outcome_err tree (Err e) f p r h k = k ∙ ap Err (sym h)

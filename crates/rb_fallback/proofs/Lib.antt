@@ -2,6 +2,7 @@ pub mod Texts
 pub mod Scans
 pub mod Paths
 pub mod AppendedUnits
+pub mod PathBuffers
 pub mod Follows
 pub mod Links
 pub mod Levels

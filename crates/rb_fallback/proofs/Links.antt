@@ -1,23 +1,24 @@
 -- A level that ends at an item or at an alias.
-use Rattle.std.proofs.Common.{◌≡◌, ℕ, List, [], ◌∷◌, ◌++◌, drop, Bool, Option, Some, None, Result, Ok, Err, refl, ap, sym, ◌∙◌, subst}
+use Rattle.std.proofs.Common.{◌≡◌, ℕ, List, [], ◌∷◌, ◌++◌, drop, Bool, Option, Some, None, Result, Ok, refl, ap, sym, ◌∙◌, subst}
 use Rattle.std.specs.Option.{ok_or}
 use Rattle.rb_tree.specs.Resource.{Resource, alias}
 use Rattle.rb_tree.specs.SourceTree.{SourceTree}
 use Rattle.rb_tree.specs.Parts.{units_of, kind_of}
-use Rattle.rb_tree.specs.declared.kind.Kind.TheVariants as Kinds
 use Rattle.rb_tree.specs.Path.{segments}
-use Rattle.rb_tree.specs.Walk.{Walked, ends, links, gone, behind, end, nowhere, stop_of, rest_of, link}
+use Rattle.rb_tree.specs.Walk.{Walked, ends, links, gone, behind, stop_of, rest_of, link}
 use Rattle.rb_tree.specs.Ending.{stop_at, RestIs}
+use Rattle.rb_tree.specs.declared.ending.Ending.{Ending}
 use Rattle.rb_tree.specs.declared.ending.Ending.TheVariants.{End, Link, Gone}
 use Rattle.rb_parents.specs.Trail.{Bundles, ParentsOf, Trail, names, trail, stops}
 use Rattle.rb_fallback.specs.Alias.{target}
 use Rattle.rb_fallback.specs.Search.{Decided, walk_of, unless_gone, decide, by_stops, by_trail, level, step, step_of, follow}
-use Rattle.rb_fallback.specs.inner.LevelResult.{IsLevelResult}
+use Rattle.rb_fallback.specs.inner.LevelResult.{IsAliasAt, IsLevelResult}
 use Rattle.rb_fallback.specs.declared.fault.LookError.{LookError}
 use Rattle.rb_fallback.specs.declared.fault.LookError.TheVariants as fault
 use Rattle.rb_fallback.specs.declared.level.LevelResult.{LevelResult}
+use Rattle.rb_fallback.specs.declared.search.Outcome.{Outcome}
 use Rattle.rb_fallback.specs.declared.search.SearchState.{SearchState}
-use Rattle.rb_fallback.specs.inner.Steps.{IsFollowed}
+use Rattle.rb_fallback.specs.inner.Steps.{IsFollowed, IsOutcome}
 use Rattle.rb_fallback.proofs.Paths.{Whole, walk_whole}
 
 -- ---- the deciding walk is that of its stop
@@ -82,6 +83,14 @@ link_of t path cut (links us walked rest) e r h = record {
   whole = h;
 }
 
+-- a level that ends at an alias has its node
+pub alias_at : {N : Type 0} (tree : N → Resource) (x : Ending N) (w : Walked) → stop_at tree x ≡ stop_of w → IsAliasAt tree x
+alias_at tree (End n) w e = tt
+alias_at tree Gone w e = tt
+alias_at tree (Link n cut) (links us walked rest) e = let same : tree n ≡ alias us = cc in ap kind_of same
+alias_at tree (Link n cut) (ends t) e = cc
+alias_at tree (Link n cut) gone e = cc
+
 -- the deciding walk of a level goes through the whole path
 module _ (bundles : Bundles) (parents : ParentsOf) (n : List ℕ) {N : Type 0} {tree : N → Resource} {h : LevelResult N} {path : List ℕ}
     {head : Option (List ℕ)} {node : N} {cut : ℕ} (decided : IsLevelResult tree h path (level bundles parents n (segments path)) head)
@@ -96,15 +105,25 @@ module _ (bundles : Bundles) (parents : ParentsOf) (n : List ℕ) {N : Type 0} {
       (subst (λ w. Whole w (segments path)) level_walk (walk_of_whole (bundles h.actual) (segments path)))
 
   -- what `follow_alias` gives, whatever was walked to the alias and is left, is the step of the level
-  pub follow_link : {q : List ℕ} (in_icu : Bool) (valid : List ℕ) (x : Result (Option SearchState) LookError) → q ≡ path
+  pub follow_link : {q : List ℕ} (in_icu : Bool) (valid : List ℕ) (x : Result Bool LookError) (p : SearchState) → q ≡ path
       → ((walked rest : List (List ℕ)) → walked ++ rest ≡ segments q → rest ≡ segments (drop (behind cut) q)
-      → IsFollowed x (follow rest (target (units_of (tree node)) in_icu valid walked)))
-      → IsFollowed x (step in_icu valid (level bundles parents n (segments path)))
-  follow_link in_icu valid x same f =
+      → IsFollowed x p (follow rest (target (units_of (tree node)) in_icu valid walked)))
+      → IsFollowed x p (step in_icu valid (level bundles parents n (segments path)))
+  follow_link in_icu valid x p same f =
       let l = level_link in
       let is : step in_icu valid (level bundles parents n (segments path)) ≡ follow l.rest (target (units_of (tree node)) in_icu valid l.walked) =
       ap (step in_icu valid) decided.decides
       ∙ ap (λ w. step_of in_icu valid h.actual w) l.is
       ∙ ap (λ us. follow l.rest (target us in_icu valid l.walked)) (sym (ap units_of l.same)) in
-      subst (IsFollowed x) (sym is)
+      subst (IsFollowed x p) (sym is)
       (f l.walked l.rest (l.whole ∙ ap segments (sym same)) (l.left ∙ ap (λ p. segments (drop (behind cut) p)) (sym same)))
+
+-- what ends a level is its step, also if the path is known as another one
+pub outcome_at : {N : Type 0} (tree : N → Resource) (d : LevelResult N) (x : Result (Outcome N) LookError) (to : SearchState) (in_icu : Bool) (valid : List ℕ)
+    (b : Bundles) (ps : ParentsOf) (n : List ℕ) (head : Option (List ℕ)) (q p : List ℕ) → q ≡ p
+    → ((b : Bundles) (ps : ParentsOf) (n : List ℕ) (head : Option (List ℕ)) → IsLevelResult tree d q (level b ps n (segments q)) head
+    → IsOutcome tree x to (step in_icu valid (level b ps n (segments q))))
+    → IsLevelResult tree d p (level b ps n (segments p)) head → IsOutcome tree x to (step in_icu valid (level b ps n (segments p)))
+outcome_at tree d x to in_icu valid b ps n head q p same f h =
+    subst (λ (y : List ℕ). IsOutcome tree x to (step in_icu valid (level b ps n (segments y)))) same
+    (f b ps n head (subst (λ (y : List ℕ). IsLevelResult tree d y (level b ps n (segments y)) head) (sym same) h))

@@ -31,82 +31,69 @@ pub(crate) struct LevelResult<N> {
     pub(crate) ending: Ending<N>,
 }
 
-/// Returns the state after another stop, whose bundle is walked only if no earlier stop decides.
-fn with_stop<N: Node>(state: LevelState<N>, name: &Name, root: N, path: &[u8]) -> LevelState<N>
+/// Adds a stop, whose bundle is walked only if no earlier stop decides.
+fn add_stop<N: Node>(state: &mut LevelState<N>, name: &Name, root: N, path: &[u8])
     requires { IsPath path.now }
     ensures { (b : Bundles) → (all : List (List ℕ)) → stop_tree (b name.now) ≡ Some (N.tree root)
-        → IsLevelState N.tree b path.now state all
-        → IsLevelState N.tree b path.now result (all ++ name.now ∷ []) }
+        → IsLevelState N.tree b path.now state.old all
+        → IsLevelState N.tree b path.now state.new (all ++ name.now ∷ []) }
 {
-    let first = Some(state.first.unwrap_or(*name));
-    match state.ending {
-        Ending::Gone => LevelState {
-            first,
-            actual: *name,
-            ending: walk(root, path),
-        },
-        ending => LevelState {
-            first,
-            actual: state.actual,
-            ending,
-        },
+    state.first = Some(state.first.unwrap_or(*name));
+    if let Ending::Gone = state.ending {
+        state.actual = *name;
+        state.ending = walk(root, path);
     }
 }
 
-/// Returns the state after another name, which is a stop if `stop` has its root.
-fn with_name<N: Node>(
-    state: LevelState<N>,
-    name: &Name,
-    stop: Option<N>,
-    path: &[u8],
-) -> LevelState<N>
+/// Adds a name, which is a stop if `stop` has its root.
+fn add_name<N: Node>(state: &mut LevelState<N>, name: &Name, stop: Option<N>, path: &[u8])
     requires { IsPath path.now }
     ensures { (b : Bundles) → (ns : List (List ℕ)) → option_map N.tree stop
-        ≡ stop_tree (b name.now) → IsLevelState N.tree b path.now state (stops b ns)
-        → IsLevelState N.tree b path.now result (stops b (ns ++ name.now ∷ [])) }
+        ≡ stop_tree (b name.now) → IsLevelState N.tree b path.now state.old (stops b ns)
+        → IsLevelState N.tree b path.now state.new (stops b (ns ++ name.now ∷ [])) }
 {
     match stop {
-        Some(root) => with_stop(state, name, root, path),
-        None => state,
+        Some(root) => add_stop(state, name, root, path),
+        None => {}
     }
 }
 
 /// Returns what a search did at a name, from the root of its bundle if it is a stop, and from the
-/// states before and after the name.
-fn visited<N: Node>(stop: Option<N>, before: LevelState<N>, after: LevelState<N>) -> Visit<N>
-    ensures { result ≡ visited stop before.ending after.ending }
+/// ends of the walks before and after the name.
+fn visited<N: Node>(stop: Option<N>, before: &Ending<N>, after: &Ending<N>) -> Visit<N>
+    ensures { result ≡ visited stop before.now after.now }
 {
     let Some(root) = stop else {
         return Visit::NoStop;
     };
-    match before.ending {
-        Ending::Gone => Visit::Walked(root, after.ending),
+    match *before {
+        Ending::Gone => Visit::Walked(root, *after),
         Ending::End(_) | Ending::Link(_, _) => Visit::Skipped,
     }
 }
 
-/// Returns the state after another name as `with_name` does, and reports the name to the observer.
+/// Adds a name as `add_name` does, and reports it to the observer.
 fn ask<N: Node, W: Watch>(
-    state: LevelState<N>,
+    state: &mut LevelState<N>,
     name: &Name,
     stop: Option<N>,
     path: &[u8],
     next: &Next,
     watch: &mut W,
-) -> LevelState<N>
+)
     requires { IsPath path.now }
     ensures { (b : Bundles) → (ns : List (List ℕ)) → option_map N.tree stop
-        ≡ stop_tree (b name.now) → IsLevelState N.tree b path.now state (stops b ns)
-        → IsLevelState N.tree b path.now result (stops b (ns ++ name.now ∷ [])) }
+        ≡ stop_tree (b name.now) → IsLevelState N.tree b path.now state.old (stops b ns)
+        → IsLevelState N.tree b path.now state.new (stops b (ns ++ name.now ∷ [])) }
 {
-    let after = with_name(state, name, stop, path);
-    watch.name(name, path, visited(stop, state, after), next);
-    after
+    let before = state.ending;
+    add_name(state, name, stop, path);
+    watch.name(name, path, visited(stop, &before, &state.ending), next);
 }
 
 /// Returns what the stops of a whole trail give, or `NoBundle` or `Missing`.
-fn decided<N: Node>(state: LevelState<N>, path: &[u8]) -> Result<LevelResult<N>, LookError>
-    ensures { (b : Bundles) → (all : List (List ℕ)) → IsLevelState N.tree b path.now state all
+fn decided<N: Node>(state: &LevelState<N>, path: &[u8]) -> Result<LevelResult<N>, LookError>
+    ensures { (b : Bundles) → (all : List (List ℕ)) → IsLevelState N.tree b path.now state.now all
         → IsLevel N.tree result path.now (by_stops b all (segments path.now)) (first_of all) }
 {
     let first = match state.first {
@@ -152,12 +139,12 @@ pub(crate) fn level<'a, S: Shelf<'a>, W: Watch>(
     };
     for i in 0..TRAIL_LIMIT {
         let (next, stop) = visit(shelf, parents, &here);
-        state = ask(state, &here, stop, path, &next, watch);
+        ask(&mut state, &here, stop, path, &next, watch);
         match next {
             Next::Name(name) => here = name,
             Next::End => {
                 *names = i as u8 + 1;
-                return decided(state, path);
+                return decided(&state, path);
             }
             Next::Bad => return Err(LookError::BadParent),
         }

@@ -8,6 +8,7 @@ pub mod laws;
 mod level;
 mod limits;
 mod path;
+mod path_buffer;
 mod search;
 mod steps;
 mod watch;

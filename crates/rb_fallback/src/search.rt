@@ -1,31 +1,30 @@
-ghost use Rattle.std.specs.Prelude.{◌≡◌, ◌↔◌, ◌≤◌, ◌==◌, option_map, length, ◌+◌, ◌++◌, ℕ, List};
-ghost use Rattle.std.specs.Prelude.{Err, IfOk, IsSome, Ok, Some, take, drop, false, if◌then◌else◌};
+ghost use Rattle.std.specs.Prelude.{◌≡◌, ◌↔◌, ◌==◌, ◌+◌, ◌++◌, ℕ, List, Option};
+ghost use Rattle.std.specs.Prelude.{Err, IfOk, Some, drop, false, if◌then◌else◌};
 ghost use Rattle.rb_tree.specs.Parts.{kind_of, units_of};
 ghost use Rattle.rb_tree.specs.declared.kind.Kind.TheVariants as Kinds;
 ghost use Rattle.rb_tree.specs.Path.{IsPath, segments};
 ghost use Rattle.rb_tree.specs.Walk.{behind};
 ghost use Rattle.rb_parents.specs.Family.{parent_of};
-ghost use Rattle.rb_parents.specs.Trail.{Bundles, trail};
+ghost use Rattle.rb_parents.specs.Trail.{Bundles, ParentsOf, trail};
 ghost use Rattle.rb_fallback.specs.Alias.{target};
 ghost use Rattle.rb_fallback.specs.Answers.{answer_of, bounded_answer_of};
 ghost use Rattle.rb_fallback.specs.Search.{bundles_of, first_stop, follow, level, look_up, setting};
 ghost use Rattle.rb_fallback.specs.Search.{setting_of, step};
 ghost use Rattle.rb_fallback.specs.Steps.{look_up_within, trail_length};
 ghost use Rattle.rb_fallback.specs.inner.Budget.{search_within};
-ghost use Rattle.rb_fallback.specs.inner.Steps.{IsFollowed, IsOutcome, state_at, valid_of};
+ghost use Rattle.rb_fallback.specs.inner.LevelResult.{IsAliasAt, IsLevel, IsLevelResult};
+ghost use Rattle.rb_fallback.specs.inner.Steps.{IsFollowed, IsFor, IsOutcome};
 ghost use Rattle.rb_fallback.specs.declared.fault.BoundedError.TheVariants as Bounded;
 ghost use Rattle.rb_fallback.specs.declared.fault.LookError.TheVariants as Faults;
-ghost use Rattle.rb_fallback.specs.Limits.{path_limit};
 
 use crate::alias::read_alias;
 use crate::fault::{AliasFault, BoundedError, LookError};
 use crate::found::Found;
-use crate::level::level;
+use crate::level::{LevelResult, level};
 use crate::limits::{LEVEL_LIMIT, PATH_LIMIT};
-use crate::path::{replaced, rest_behind, short_path};
+use crate::path_buffer::PathBuffer;
 use crate::steps::left_after;
 use crate::watch::Watch;
-use arrayvec::ArrayVec;
 use rb_locales::Name;
 use rb_parents::{Parents, Shelf};
 use rb_tree::{Ending, Node, path_ok};
@@ -35,138 +34,110 @@ use rb_tree::{Ending, Node, path_ok};
 pub(crate) struct SearchState {
     pub(crate) icudata: bool,
     pub(crate) name: Name,
-    pub(crate) path: ArrayVec<u8, PATH_LIMIT>,
+    pub(crate) path: PathBuffer,
 }
 
-/// Returns a state with this path, or `None` if the path was too long.
-fn state_of(
-    icudata: bool,
-    name: Name,
-    path: Option<ArrayVec<u8, PATH_LIMIT>>,
-) -> Option<SearchState>
-    ensures { result ≡ option_map (state_at icudata name) path }
-{
-    match path {
-        Some(path) => Some(SearchState {
-            icudata,
-            name,
-            path,
-        }),
-        None => None,
-    }
-}
-
-/// Returns where an alias leads that was met after the first `cut` bytes of a path, or `None` if
-/// the path there is too long. The errors are those of `read_alias`.
+/// Moves a state to where an alias leads that was met after the first `cut` bytes of its path.
+/// Returns false if the path there is too long. The errors are those of `read_alias`.
 fn follow_alias<N: Node, W: Watch>(
     node: N,
     cut: usize,
     valid: &Name,
-    icudata: bool,
-    path: &[u8],
+    state: &mut SearchState,
     watch: &mut W,
-) -> Result<Option<SearchState>, LookError>
+) -> Result<bool, LookError>
     requires alias { kind_of (N.tree node) ≡ Kinds.Alias }
-    requires path { IsPath path.now }
-    ensures { (walked rest : List (List ℕ)) → walked ++ rest ≡ segments path.now
-        → rest ≡ segments (drop (behind cut) path.now)
-        → IsFollowed result
-        (follow rest (target (units_of (N.tree node)) icudata valid.now walked)) }
+    requires path { IsPath state.old.path }
+    ensures { (walked rest : List (List ℕ)) → walked ++ rest ≡ segments state.old.path
+        → rest ≡ segments (drop (behind cut) state.old.path)
+        → IsFollowed result state.new
+        (follow rest (target (units_of (N.tree node)) state.old.icudata valid.now walked)) }
 {
     let target = match read_alias(node, valid) {
         Ok(target) => target,
         Err(AliasFault::AliasText) => return Err(LookError::AliasText),
         Err(AliasFault::AliasPackage) => return Err(LookError::AliasPackage),
     };
-    let icudata = target.icudata | icudata;
+    state.icudata = target.icudata | state.icudata;
+    state.name = target.name;
     let at = match target.path_at {
         Some(at) => at,
-        None => return Ok(state_of(icudata, target.name, short_path(path))),
+        None => return Ok(true),
     };
-    let rest = rest_behind(path, cut);
-    let path = replaced(node, at, rest);
-    if path.is_none() {
-        watch.long_path(icudata, &target.name, node, at, rest);
+    state.path.cut_front(cut);
+    let fits = state.path.put_before(node, at);
+    if !fits {
+        watch.long_path(state.icudata, &state.name, node, at, state.path.as_slice());
     }
-    Ok(state_of(icudata, target.name, path))
+    Ok(fits)
 }
 
 /// The end of a level: an item, an alias that leads on, or one whose path is too long.
 #[derive(Drop)]
 pub(crate) enum Outcome<N> {
     Found(Found<N>),
-    Next { valid: Name, state: SearchState },
+    Next,
     TooLong,
 }
 
-/// Searches one level, and sets `names` to the length of its trail. At the first level `valid` is
-/// `None`: its first stop becomes the valid name.
-fn step<'a, S: Shelf<'a>, W: Watch>(
-    shelf: S,
-    parents: &Parents,
-    icudata: bool,
-    name: &Name,
-    path: &[u8],
-    valid: Option<Name>,
-    names: &mut u8,
+/// Ends a level with what its stops give, and moves the state to where an alias leads.
+fn end_level<N: Node, W: Watch>(
+    decided: LevelResult<N>,
+    valid: &Name,
+    state: &mut SearchState,
     watch: &mut W,
-) -> Result<Outcome<S::N>, LookError>
-    requires { IsPath path.now }
-    ensures outcome { IsOutcome S.N.tree result
-        (valid_of valid (first_stop (S.bundles shelf) (parent_of parents.now) name.now) name.now)
-        (λ v. step icudata v
-        (level (S.bundles shelf) (parent_of parents.now) name.now (segments path.now))) }
-    ensures first { IfOk result
-        (λ o. IsSome (first_stop (S.bundles shelf) (parent_of parents.now) name.now)) }
-    ensures names { names.new
-        ≡ trail_length (trail (S.bundles shelf) (parent_of parents.now) name.now) }
+) -> Result<Outcome<N>, LookError>
+    requires path { IsPath state.old.path }
+    requires alias { IsAliasAt N.tree decided.ending }
+    ensures outcome { (b : Bundles) → (ps : ParentsOf) → (n : List ℕ) → (head : Option (List ℕ))
+        → IsLevelResult N.tree decided state.old.path
+        (level b ps n (segments state.old.path)) head
+        → IsOutcome N.tree result state.new
+        (step state.old.icudata valid.now (level b ps n (segments state.old.path))) }
+    ensures valid { IfOk result (IsFor valid.now) }
 {
-    let decided = level(shelf, parents, name, path, names, watch)?;
-    let valid = valid.unwrap_or(decided.first);
     match decided.ending {
         Ending::End(node) => Ok(Outcome::Found(Found {
             node,
             actual: decided.actual,
-            valid,
+            valid: *valid,
         })),
         Ending::Link(node, cut) => {
             watch.alias(node, &decided.actual);
-            match follow_alias(node, cut, &valid, icudata, path, watch)? {
-                Some(state) => Ok(Outcome::Next { valid, state }),
-                None => Ok(Outcome::TooLong),
+            if follow_alias(node, cut, valid, state, watch)? {
+                Ok(Outcome::Next)
+            } else {
+                Ok(Outcome::TooLong)
             }
         }
         Ending::Gone => Err(LookError::Missing),
     }
 }
 
-/// Searches the level of a state, in the bundles of its package.
-fn step_at<'a, S: Shelf<'a>, I: Shelf<'a, N = S::N>, W: Watch>(
+/// Searches the trail of a state, in the bundles of its package.
+fn level_at<'a, S: Shelf<'a>, I: Shelf<'a, N = S::N>, W: Watch>(
     own: S,
     icu: I,
     parents: &Parents,
-    valid: Name,
     state: &SearchState,
     names: &mut u8,
     watch: &mut W,
-) -> Result<Outcome<S::N>, LookError>
-    requires { IsPath state.now.path.items }
-    ensures outcome { IsOutcome S.N.tree result valid
-        (λ v. step state.now.icudata v
+) -> Result<LevelResult<S::N>, LookError>
+    requires { IsPath state.now.path }
+    ensures level { IsLevel S.N.tree result state.now.path
         (level (bundles_of (S.bundles own) (I.bundles icu) state.now.icudata)
-        (parent_of parents.now) state.now.name (segments state.now.path.items))) }
+        (parent_of parents.now) state.now.name (segments state.now.path))
+        (first_stop (bundles_of (S.bundles own) (I.bundles icu) state.now.icudata)
+        (parent_of parents.now) state.now.name) }
     ensures names { names.new
         ≡ trail_length (trail (bundles_of (S.bundles own) (I.bundles icu) state.now.icudata)
         (parent_of parents.now) state.now.name) }
-    ensures short { length state.now.path.items ≤ path_limit }
 {
-    let name = &state.name;
     let path = state.path.as_slice();
-    let valid = Some(valid);
     if state.icudata {
-        step(icu, parents, true, name, path, valid, names, watch)
+        level(icu, parents, &state.name, path, names, watch)
     } else {
-        step(own, parents, false, name, path, valid, names, watch)
+        level(own, parents, &state.name, path, names, watch)
     }
 }
 
@@ -186,27 +157,29 @@ fn search_on<'a, S: Shelf<'a>, I: Shelf<'a, N = S::N>, W: Watch>(
     own: S,
     icu: I,
     parents: &Parents,
-    valid: Name,
-    state: SearchState,
+    valid: &Name,
+    state: &mut SearchState,
     mut left: Option<u64>,
     watch: &mut W,
 ) -> Result<Found<S::N>, BoundedError>
-    requires { IsPath state.path.items }
+    requires { IsPath state.old.path }
     ensures answer { bounded_answer_of S.N.tree result ≡ search_within left 255
         (setting_of (S.bundles own) (I.bundles icu)
-        (parent_of parents.now) valid) state.icudata state.name (segments state.path.items) }
-    ensures valid { IfOk result (λ f. f.valid ≡ valid) }
+        (parent_of parents.now) valid.now) state.old.icudata state.old.name
+        (segments state.old.path) }
+    ensures valid { IfOk result (λ f. f.valid ≡ valid.now) }
 {
-    let mut here = state;
     for level in 1..LEVEL_LIMIT {
-        let path = here.path.as_slice();
-        watch.level(level + 1, here.icudata, &here.name, path);
+        watch.level(level + 1, state.icudata, &state.name, state.path.as_slice());
         let mut names = 0;
-        let outcome = step_at(own, icu, parents, valid, &here, &mut names, watch);
+        let reached = level_at(own, icu, parents, state, &mut names, watch);
+        let path = state.path.as_slice();
         left = left_after(left, names, path)?;
-        match outcome? {
+        let decided = reached?;
+        let outcome = end_level(decided, valid, state, watch)?;
+        match outcome {
             Outcome::Found(found) => return Ok(found),
-            Outcome::Next { state, .. } => here = state,
+            Outcome::Next => {}
             Outcome::TooLong => return Err(BoundedError::Search(next_fault(level))),
         }
     }
@@ -239,11 +212,19 @@ fn search_from<'a, S: Shelf<'a>, I: Shelf<'a, N = S::N>, W: Watch>(
         return Err(BoundedError::Search(LookError::PathTooLong));
     }
     let mut names = 0;
-    let outcome = step(own, parents, false, name, path, None, &mut names, watch);
+    let reached = level(own, parents, name, path, &mut names, watch);
     let left = left_after(left, names, path)?;
-    match outcome? {
+    let decided = reached?;
+    let valid = decided.first;
+    let mut state = SearchState {
+        icudata: false,
+        name: *name,
+        path: PathBuffer::of(path),
+    };
+    let outcome = end_level(decided, &valid, &mut state, watch)?;
+    match outcome {
         Outcome::Found(found) => Ok(found),
-        Outcome::Next { valid, state } => search_on(own, icu, parents, valid, state, left, watch),
+        Outcome::Next => search_on(own, icu, parents, &valid, &mut state, left, watch),
         Outcome::TooLong => Err(BoundedError::Search(LookError::PathTooLong)),
     }
 }

@@ -1,6 +1,8 @@
 -- For proofs only. Defines the program's results at one level, and at its stops so far.
 use Rattle.std.specs.Prelude.{◌≡◌, ℕ, List, Option, Some, None, Result, Ok, Err}
 use Rattle.rb_tree.specs.Resource.{Resource}
+use Rattle.rb_tree.specs.Parts.{kind_of}
+use Rattle.rb_tree.specs.declared.kind.Kind.TheVariants as Kinds
 use Rattle.rb_tree.specs.Path.{segments}
 use Rattle.rb_tree.specs.Walk.{Walked, stop_of, rest_of}
 use Rattle.rb_tree.specs.Ending.{stop_at, RestIs}
@@ -47,3 +49,9 @@ abbrev pub IsLevel : {N : Type 0} → (N → Resource) → Result (LevelResult N
     → Result Decided LookError → Option (List ℕ) → Type 0
 IsLevel tree (Ok h) path r head = IsLevelResult tree h path r head
 IsLevel tree (Err e) path r head = r ≡ Err e
+
+-- an ending at an alias has an alias's node
+abbrev pub IsAliasAt : {N : Type 0} → (N → Resource) → Ending N → Type 0
+IsAliasAt tree (End n) = Unit {0}
+IsAliasAt tree (Link n cut) = kind_of (tree n) ≡ Kinds.Alias
+IsAliasAt tree Gone = Unit {0}

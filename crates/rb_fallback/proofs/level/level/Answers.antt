@@ -19,7 +19,7 @@ loop-i-preserved g c =
     let on : next bundles parents here ≡ goes_to c.in-Name.name = sym c.visit-next.ensures.next ∙ ap next_of c.in-Name.is in (
       ns ++ here ∷ [],
       sym (trail_goes bundles parents here c.in-Name.name ns TRAIL_LIMIT c.loop-i.i (omega arith) on) ∙ c.loop-i.invariant.1,
-      c.ask-state.ensures bundles ns c.visit-next.ensures.stop c.loop-i.invariant.2,
+      c.ask.ensures bundles ns c.visit-next.ensures.stop c.loop-i.invariant.2,
       omega (arith, length-append ns (here ∷ []), c.loop-i.invariant.3),
       c.loop-i.invariant.4,
     )
@@ -35,7 +35,7 @@ returns-in-End-clause-level g c =
     let all : trail bundles parents c.args.name.now ≡ names (ns ++ here ∷ []) =
     sym c.loop-i.invariant.1 ∙ trail_end bundles parents here ns TRAIL_LIMIT c.loop-i.i (omega arith) on in
     subst (λ (t : Trail). IsLevel g.S.N.Node.tree c.decided.result path (by_trail bundles t (segments path)) (first_in bundles t)) (sym all)
-    (c.decided.ensures bundles (stops bundles (ns ++ here ∷ [])) (c.ask-state.ensures bundles ns c.visit-next.ensures.stop c.loop-i.invariant.2))
+    (c.decided.ensures bundles (stops bundles (ns ++ here ∷ [])) (c.ask.ensures bundles ns c.visit-next.ensures.stop c.loop-i.invariant.2))
 
 pub returns-in-End-clause-names : goal.returns-in-End-clause-names
 returns-in-End-clause-names g c =

@@ -10,5 +10,5 @@ abbrev pub invariant-loop-level : goal.invariant-loop-level
 invariant-loop-level g l =
     let s = setting_of (g.S.Shelf.bundles l.own) (g.I.Shelf.bundles l.icu) (parent_of l.parents) l.valid in
     let from = l.fn.state in
-    ComesTo l.left LEVEL_LIMIT l.level s l.here.icudata l.here.name l.here.path.items
-    (search_within l.fn.left 255 s from.icudata from.name (segments from.path.items))
+    ComesTo l.left LEVEL_LIMIT l.level s l.state.icudata l.state.name l.state.path
+    (search_within l.fn.left 255 s from.icudata from.name (segments from.path))
