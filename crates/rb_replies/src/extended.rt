@@ -1,10 +1,11 @@
 //! Replies to extended requests: each is a compact JSON object, its members ascending, and a line
 //! feed.
-ghost use Rattle.std.specs.Prelude.{◌≤◌, [], ◌∷◌, ◌++◌, length};
+ghost use Rattle.std.specs.Prelude.{◌≤◌, ◌↔◌, [], ◌∷◌, ◌++◌, IsTrue, length};
 ghost use Rattle.hex.specs.Hex.{encode_lower};
 ghost use Rattle.serde_json.specs.Data.{boolean};
 ghost use Rattle.serde_json.specs.Written.{compact_text};
-ghost use Rattle.rb_replies.specs.Extended.{file_line, stored_data, text_data};
+ghost use Rattle.rb_replies.specs.Extended.{file_line, stored_data, text_data, tree_line};
+ghost use Rattle.rb_replies.specs.Within.{IsAbove};
 
 use crate::limit::Room;
 use rb_json::{Outlet, put_name, skips_items, spell_bytes, spell_text, spell_unsigned};
@@ -151,6 +152,19 @@ pub fn put_file<O: Outlet>(out: &mut O, file: &[u8])
     out.put(b"\"}\n")
 }
 
+/// Writes the line of a tree, with the locales of its item. It takes no memory.
+pub fn put_tree_line<O: Outlet>(out: &mut O, actual: &Name, valid: &Name, tree: &[u8])
+    ensures { O.takes out.old out.new (tree_line actual.now valid.now tree.now) }
+{
+    out.put(b"{\"actual\":");
+    spell_bytes(out, actual.as_bytes());
+    out.put(b",\"tree\":");
+    out.put(tree);
+    out.put(b",\"valid\":");
+    spell_bytes(out, valid.as_bytes());
+    out.put(b"}\n")
+}
+
 /// The bytes of the line of a bundle's file, apart from its digits.
 const FILE_FRAME: u64 = 12;
 
@@ -170,6 +184,18 @@ pub fn text_is_above(text: &str, limit: Option<u64>) -> bool {
     };
     let mut room = Room { left: Some(most) };
     put_text(&mut room, text);
+    room.left.is_none()
+}
+
+/// Checks whether the line of a tree exceeds a limit, with its line feed. It takes no memory.
+pub fn tree_is_above(actual: &Name, valid: &Name, tree: &[u8], limit: Option<u64>) -> bool
+    ensures { IsTrue result ↔ IsAbove (length (tree_line actual.now valid.now tree.now)) limit }
+{
+    let Some(most) = limit else {
+        return false;
+    };
+    let mut room = Room { left: Some(most) };
+    put_tree_line(&mut room, actual, valid, tree);
     room.left.is_none()
 }
 

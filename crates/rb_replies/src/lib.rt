@@ -7,8 +7,8 @@ mod line;
 mod reply;
 
 pub use extended::{
-    Detail, file_is_above, put_file, put_refusal, put_sizes, put_stored, put_text, sizes_are_above,
-    text_is_above,
+    Detail, file_is_above, put_file, put_refusal, put_sizes, put_stored, put_text, put_tree_line,
+    sizes_are_above, text_is_above, tree_is_above,
 };
 pub use limit::{found_is_above, reply_is_above};
 pub use line::ReplyLine;

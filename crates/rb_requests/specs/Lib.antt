@@ -7,6 +7,7 @@ pub mod Served
 pub mod Within
 pub mod Steps
 pub mod Outcomes
+pub mod TreeReply
 pub mod History
 pub mod Device
 pub mod Runs

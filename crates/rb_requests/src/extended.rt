@@ -10,6 +10,7 @@ use crate::extended_texts::{ExtendedTexts, read_extended_texts};
 use crate::judged::{Unmade, judge, made_within};
 use crate::limits::Limits;
 use crate::release::release;
+use crate::tree_reply::answer_tree;
 use crate::words::LineError;
 use bstr::ByteSlice;
 use json::Scratch;
@@ -130,6 +131,9 @@ fn answer_line<S: Sink>(
             is_text,
         } => {
             return Ok(answer_export(alloc, engine, limits, app, locale, is_text, reply, sink)?);
+        }
+        ExtendedLine::Tree { app, locale, path } => {
+            return Ok(answer_tree(alloc, engine, limits, app, locale, path, reply, sink)?);
         }
         ExtendedLine::Store {
             storing,

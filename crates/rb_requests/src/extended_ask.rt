@@ -37,6 +37,12 @@ pub(crate) enum ExtendedLine<'a> {
         locale: &'a str,
         is_text: bool,
     },
+    /// An item with everything that it inherits; an empty path is the root.
+    Tree {
+        app: &'a str,
+        locale: &'a str,
+        path: &'a str,
+    },
     Release {
         app: &'a str,
         changes: &'a [LineChange<'a>],
@@ -90,6 +96,21 @@ fn export_of<'a>(asked: &'a ExtendedTexts<'a>) -> Option<ExtendedLine<'a>> {
         locale,
         is_text,
     })
+}
+
+/// Reads a path that may be missing, which is then the root's; none if it isn't a text.
+fn path_asked<'a>(path: Option<Member<'a>>) -> Option<&'a str> {
+    match path {
+        None => Some(""),
+        path => text_of(path),
+    }
+}
+
+fn tree_of<'a>(asked: &'a ExtendedTexts<'a>) -> Option<ExtendedLine<'a>> {
+    let app = text_of(asked.texts.app)?;
+    let locale = text_of(asked.texts.locale)?;
+    let path = path_asked(asked.texts.path)?;
+    Some(ExtendedLine::Tree { app, locale, path })
 }
 
 fn release_of<'a>(asked: &'a ExtendedTexts<'a>) -> Option<ExtendedLine<'a>> {
@@ -154,6 +175,8 @@ pub(crate) fn extended_of<'a>(
         Ok(usage_of(asked))
     } else if op == "export" {
         Ok(export_of(asked))
+    } else if op == "tree" {
+        Ok(tree_of(asked))
     } else if op == "release" {
         Ok(release_of(asked))
     } else {

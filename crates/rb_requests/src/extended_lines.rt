@@ -64,8 +64,8 @@ fn serve_line<S: Sink>(
 }
 
 /// Answers the lines of an input, each with one line, like `serve_limited`, and the extended
-/// requests too: `put`, `release`, `export`, `list` with `sizes`, and `usage` whether or not there
-/// are limits. The refusal of a text or a file has the code of its first error, and the line.
+/// requests too: `put`, `release`, `export`, `tree`, `list` with `sizes`, and `usage` whether or not
+/// there are limits. The refusal of a text or a file has the code of its first error, and the line.
 ///
 /// ```rust
 /// serve_extended(alloc, &mut engine, &Limits::NONE, &mut feed, &mut sink, 10) // Ok(Served { lines: 1 })

@@ -4,6 +4,7 @@
 
 mod answer;
 mod ask;
+mod bounded_buffer;
 mod change_list;
 mod changes;
 mod device;
@@ -24,6 +25,7 @@ mod reading;
 mod release;
 mod stream;
 mod texts;
+mod tree_reply;
 mod words;
 
 pub use ask::LineRequest;

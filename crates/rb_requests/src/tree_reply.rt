@@ -1,0 +1,214 @@
+//! Answers with an item and everything that it inherits.
+ghost use Rattle.std.specs.Prelude.{◌≡◌, [], IfErr, IfOk};
+ghost use Rattle.rb_replies.specs.Extended.{tree_line};
+ghost use Rattle.rb_requests.specs.TreeReply.{FoundReply, TreeReply};
+ghost use Rattle.rb_requests.specs.inner.Placing.{PlacesReply};
+ghost use Rattle.rb_requests.specs.inner.Putting.{Puts, writer};
+ghost use Rattle.rb_requests.specs.inner.Streaming.{Takes};
+
+use crate::answer::{Placed, tell_line_error, tell_word};
+use crate::bounded_buffer::{BoundedBuffer, BufferFault};
+use crate::device::{Failed, Sink};
+use crate::limits::{Limited, Limits};
+use crate::lines::PIECE;
+use crate::lookups::look;
+use crate::stream::Stream;
+use crate::words::LineError;
+use rb_engine::{App, AppShelves, Engine};
+use rb_fallback::Found;
+use rb_inherit::{TREE_LIMIT, TreeError, TreeLimits, put_tree};
+use rb_locales::Name;
+use rb_replies::{ReplyLine, put_tree_line, tree_is_above};
+use rb_views::Item;
+use std::alloc::{AllocError, Global};
+
+/// Returns the number of bytes that a tree may have, and the error code if it has more.
+fn tree_room(limits: &Limits) -> (u64, &'static str) {
+    match limits.reply_bytes {
+        Some(most) if most <= TREE_LIMIT => (most, LineError::ReplyTooLong.word()),
+        _ => (TREE_LIMIT, TreeError::TreeTooLarge.word()),
+    }
+}
+
+/// Makes the text of a tree in memory, or returns the error code if there is none.
+fn tree_text(
+    alloc: Global,
+    shelves: AppShelves<'_>,
+    limits: &Limits,
+    name: &Name,
+    path: &[u8],
+) -> Result<Result<Vec<u8>, &'static str>, AllocError> {
+    let (room, too_long) = tree_room(limits);
+    let steps = TreeLimits {
+        steps: limits.steps,
+        ..TreeLimits::none()
+    };
+    let AppShelves {
+        own,
+        icudata,
+        parents,
+    } = shelves;
+    let mut out = BoundedBuffer::new(alloc, room)?;
+    match put_tree(&mut out, alloc, own, icudata, parents, name, path, steps) {
+        Ok(()) => {}
+        Err(TreeError::Memory) => return Err(AllocError),
+        Err(error) => return Ok(Err(error.word())),
+    }
+    match out.into_bytes() {
+        Ok(tree) => Ok(Ok(tree)),
+        Err(BufferFault::TooLong) => Ok(Err(too_long)),
+        Err(BufferFault::Memory) => Err(AllocError),
+    }
+}
+
+fn stream_line<S: Sink>(stream: &mut Stream<'_, S>, found: &Found<Item<'_>>, tree: &[u8])
+    ensures same { (stream.new.sink.ghost_name ≡ stream.old.sink.ghost_name)
+        × (stream.new.held.ghost_name ≡ stream.old.held.ghost_name) }
+    ensures takes { Takes stream.old.failed (writer (S.written stream.old.sink.now)
+        (S.faults stream.old.sink.now) (S.settled stream.old.sink.now)) stream.old.held.now.items
+        stream.new.failed (writer (S.written stream.new.sink.now)
+        (S.faults stream.new.sink.now) (S.settled stream.new.sink.now)) stream.new.held.now.items
+        (tree_line found.now.actual found.now.valid tree.now) }
+    ensures empty { stream.new.held.now.items ≡ [] }
+{
+    put_tree_line(stream, &found.actual, &found.valid, tree);
+    stream.pass_on();
+}
+
+/// Writes the line of a tree to the sink, piece by piece. `AllocError`: memory ran out for the
+/// buffer, and nothing is written.
+fn stream_tree<S: Sink>(
+    alloc: Global,
+    sink: &mut S,
+    found: &Found<Item<'_>>,
+    tree: &[u8],
+) -> Result<Result<(), Failed>, AllocError>
+    ensures put { IfOk result (λ put. Puts put
+        (writer (S.written sink.old) (S.faults sink.old) (S.settled sink.old))
+        (writer (S.written sink.new) (S.faults sink.new) (S.settled sink.new))
+        (tree_line found.now.actual found.now.valid tree.now)) }
+    ensures none { IfErr result (λ _. sink.new ≡ sink.old) }
+{
+    let mut held = Vec::with_capacity(alloc, PIECE)?;
+    let mut stream = Stream {
+        sink,
+        held: &mut held,
+        failed: false,
+    };
+    stream_line(&mut stream, found, tree);
+    if stream.failed {
+        Ok(Err(Failed))
+    } else {
+        Ok(Ok(()))
+    }
+}
+
+/// Writes the line of a tree to the sink, or makes the line an error if it is too long.
+fn place_tree<S: Sink>(
+    alloc: Global,
+    limits: &Limits,
+    found: &Found<Item<'_>>,
+    tree: &[u8],
+    reply: &mut ReplyLine,
+    sink: &mut S,
+) -> Result<Placed, AllocError>
+    ensures { PlacesReply result reply.new
+        (writer (S.written sink.old) (S.faults sink.old) (S.settled sink.old))
+        (writer (S.written sink.new) (S.faults sink.new) (S.settled sink.new))
+        (FoundReply limits.now found.now.actual found.now.valid) }
+{
+    if tree_is_above(&found.actual, &found.valid, tree, limits.reply_bytes) {
+        tell_line_error(alloc, LineError::ReplyTooLong, reply)?;
+        return Ok(Placed::Held);
+    }
+    Ok(Placed::Put(stream_tree(alloc, sink, found, tree)?))
+}
+
+/// Answers with the tree of an item that a lookup finds.
+fn answer_found<S: Sink>(
+    alloc: Global,
+    shelves: AppShelves<'_>,
+    limits: &Limits,
+    name: &Name,
+    path: &[u8],
+    found: &Found<Item<'_>>,
+    reply: &mut ReplyLine,
+    sink: &mut S,
+) -> Result<Placed, AllocError>
+    ensures { PlacesReply result reply.new
+        (writer (S.written sink.old) (S.faults sink.old) (S.settled sink.old))
+        (writer (S.written sink.new) (S.faults sink.new) (S.settled sink.new))
+        (FoundReply limits.now found.now.actual found.now.valid) }
+{
+    match tree_text(alloc, shelves, limits, name, path)? {
+        Ok(tree) => place_tree(alloc, limits, found, &tree, reply, sink),
+        Err(word) => {
+            tell_word(alloc, word, reply)?;
+            Ok(Placed::Held)
+        }
+    }
+}
+
+/// Answers with the tree of an item that a lookup with these names finds.
+fn answer_named<S: Sink>(
+    alloc: Global,
+    engine: &Engine,
+    limits: &Limits,
+    app: &[u8],
+    locale: &[u8],
+    path: &[u8],
+    found: &Found<Item<'_>>,
+    reply: &mut ReplyLine,
+    sink: &mut S,
+) -> Result<Placed, AllocError>
+    ensures { PlacesReply result reply.new
+        (writer (S.written sink.old) (S.faults sink.old) (S.settled sink.old))
+        (writer (S.written sink.new) (S.faults sink.new) (S.settled sink.new))
+        (FoundReply limits.now found.now.actual found.now.valid) }
+{
+    let word = match App::read(app) {
+        Ok(app) => match Name::read(locale) {
+            Ok(name) => {
+                let shelves = engine.shelves(&app);
+                return answer_found(alloc, shelves, limits, &name, path, found, reply, sink);
+            }
+            Err(_) => "BadLocale",
+        },
+        Err(fault) => fault.word(),
+    };
+    tell_word(alloc, word, reply)?;
+    Ok(Placed::Held)
+}
+
+/// Answers with the item at a path and everything that it inherits. Errors come in this order:
+/// those of a lookup; `TooManySteps` or `TreeTooLarge` if the tree takes too many steps; and
+/// `ReplyTooLong` or `TreeTooLarge` if it is too long, for the lesser of the two limits.
+///
+/// The tree is made in memory before any of its line is written, so if memory runs out nothing is.
+pub(crate) fn answer_tree<S: Sink>(
+    alloc: Global,
+    engine: &Engine,
+    limits: &Limits,
+    app: &str,
+    locale: &str,
+    path: &str,
+    reply: &mut ReplyLine,
+    sink: &mut S,
+) -> Result<Placed, AllocError>
+    ensures { PlacesReply result reply.new
+        (writer (S.written sink.old) (S.faults sink.old) (S.settled sink.old))
+        (writer (S.written sink.new) (S.faults sink.new) (S.settled sink.new))
+        (TreeReply limits.now engine.now app.now locale.now path.now) }
+{
+    let (app, locale, path) = (app.as_bytes(), locale.as_bytes(), path.as_bytes());
+    match look(engine, limits, app, locale, path) {
+        Limited::Answer(Ok(found)) => {
+            return answer_named(
+                alloc, engine, limits, app, locale, path, &found, reply, sink,
+            );
+        }
+        Limited::Answer(Err(fault)) => tell_word(alloc, fault.word(), reply)?,
+        Limited::Refused(refusal) => tell_word(alloc, refusal.word(), reply)?,
+    }
+    Ok(Placed::Held)
+}
