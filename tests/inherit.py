@@ -1,9 +1,8 @@
 #!/usr/bin/env python3
 """Compares `resb json --inherit` with a model over random modules.
 
-The model asks for each place of the tree anew: it walks the stops of each level along the whole path, and collects the tables up to the
-first item that is none. Each leaf must be what the model of lookups (model/lookups.py) finds at its path; of some the program's own
-`resb look` is asked too. Every leaf that a lookup finds at a path of any bundle must be in the tree, unless an item on the way isn't a table.
+The model is in model/inherited.py. Each leaf must be what the model of lookups (model/lookups.py) finds at its path; of some the program's
+own `resb look` is asked too. Every leaf that a lookup finds at a path of any bundle must be in the tree, unless an item on the way isn't a table.
 
 usage: inherit.py PROGRAM [MODULES [SEED]]
 Ends with status 0 if all agree, with 1 at the first that differs; says `skipped` if there is no such program.
@@ -18,112 +17,14 @@ import tempfile
 
 import json_values
 from model import lookups, making
+from model.inherited import LEVELS, TooLong, Tree
 from model.lookups import Refused
-from model.trees import child, height, segments, walk
+from model.trees import child, height, segments
 
-LEVELS = 64
-SIZE_LIMIT = 20000
 KEYS = ["a", "b", "c", "k", "menu", "open", ":x"]
 PATHS = [""] * 12 + ["a", "b", "menu", "a/b", "a/0", "k/a", "%%Parent", "a/b/c"] + ["a//b", "x" * 1025]
 CLOSE = ["root", "de", "de_AT", "de_AT_WIEN", "fr"]
 PARENTS = [{}, {}, {"zh_Hant": "root", "en_GB": "en_001"}, {"de_AT": "de_CH", "fr": "xa"}]
-
-
-class TooLong(Exception):
-    """The tree has more items than the model makes."""
-
-
-class Model:
-    """The tree of a name and a path over a module."""
-
-    def __init__(self, bundles, parents, name, path):
-        self.bundles, self.parents, self.name, self.begin = bundles, parents, name, path
-        self.valid = None
-        self.size = 0
-
-    def stops(self, bundles, name):
-        _, stops = lookups.trail_of(bundles, self.parents, name)
-        if not stops:
-            raise Refused("NoBundle")
-        self.valid = self.valid or stops[0]
-        return stops
-
-    def items(self, below):
-        """Yields the items at a path below the tree's, in the order of the stops, up to the first that is no table; or an error."""
-        bundles, name, begin = self.bundles, self.name, self.begin
-        for number in range(1, 258):
-            if number == 257:
-                raise Refused("TooManyAliases")
-            if len("/".join(begin + below)) > 1024:
-                raise Refused("PathTooLong")
-            is_any, link = False, None
-            for stop in self.stops(bundles, name):
-                ended = walk(bundles[stop][0], begin)
-                if ended is None:
-                    continue
-                item, count = ended
-                walked, left, is_whole = begin[:count], begin[count:] + below, False
-                if item[0] != "alias":
-                    item, walked, left, is_whole = self.down(item, begin, below)
-                if item is None:
-                    continue
-                is_any = True
-                if item[0] == "alias":
-                    link = item, walked, left
-                    break
-                if left:
-                    return
-                yield item
-                if item[0] != "table" or is_whole:
-                    return
-            if link is None:
-                if not is_any:
-                    raise Refused("Missing")
-                return
-            item, walked, left = link
-            is_common, name, path = lookups.target(item[1], self.valid)
-            bundles = {} if is_common else bundles
-            # of what is left the last part is below the item where the alias is, or all of the path below the tree's
-            below = left[max(0, len(left) - len(below)):]
-            begin = (walked if path is None else path) + left[:len(left) - len(below)]
-
-    @staticmethod
-    def down(item, walked, below):
-        """The item to which segments lead, or None; the segments walked and left; and whether the way goes through an array."""
-        is_whole = False
-        for count, part in enumerate(below):
-            if item[0] == "alias":
-                return item, walked + below[:count], below[count:], is_whole
-            if item[0] not in ("table", "array"):
-                return item, walked, below[count:], is_whole
-            is_whole = item[0] == "array"
-            following = child(item, part)
-            if following is None:
-                return (item, walked, below[count:], True) if is_whole else (None, walked, [], False)
-            item = following
-        return item, walked + below, [], is_whole
-
-    def tree(self, below):
-        """The value at a path below the tree's."""
-        self.size += 1
-        if self.size > SIZE_LIMIT:
-            raise TooLong
-        if len(below) >= LEVELS:
-            return {":error": "TooDeep"}
-        found = []
-        try:
-            for item in self.items(below):
-                found.append(item)
-        except Refused as error:
-            if not found:
-                return {":error": str(error)}
-        kind, content = found[0]
-        if kind == "table":
-            keys = sorted({key for kind, content in found if kind == "table" for key in content})
-            return {(":" + key if key.startswith(":") else key): self.tree(below + [key]) for key in keys}
-        if kind == "array":
-            return [self.tree(below + [str(i)]) for i in range(len(content))]
-        return json_values.value_of(found[0])
 
 
 def expected(bundles, parents, name, path):
@@ -133,7 +34,7 @@ def expected(bundles, parents, name, path):
         lookups.look(bundles, {}, parents, name, path)
     except Refused as error:
         return None, str(error)
-    return Model(bundles, parents, name, parts).tree([]), None
+    return Tree(bundles, {}, parents, name, parts).value, None
 
 
 def leaves(value, parts):

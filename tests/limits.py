@@ -183,6 +183,63 @@ def releases(program):
         (release("shop", *[removing("de")] * 5000), {"error": "Absent", "index": 1}), (names("bank"), {"names": []})])
 
 
+TREE = {"actual": "de", "tree": {"a": "b"}, "valid": "de"}  # a line of 46 bytes
+TREE_LIMIT = 33_554_432
+
+
+def tree(app, locale, **path):
+    return {"op": "tree", "app": app, "locale": locale, **path}
+
+
+def long_tree(missing):
+    """Returns a bundle whose tree has this many bytes fewer than the most, and the tree."""
+    text, rest = "x" * 986_000, "y" * (30_120 - missing)
+    aliases = [f"a{number}" for number in range(10, 43)]
+    bundle = f'x{{s{{"{text}"}} p{{"{rest}"}}' + "".join(f'{key}:alias{{"/LOCALE/s"}}' for key in aliases) + "}"
+    value = {"p": rest, "s": text, **dict.fromkeys(aliases, text)}
+    length = len(reply_of(value)) - 1
+    assert length == TREE_LIMIT - missing, length
+    return install("long", "root", bundle), {"actual": "root", "tree": value, "valid": "root"}
+
+
+def trees(program):
+    """Limits over trees, each at its value and one below."""
+    one = (install("shop", "de"), OK)
+    two = [one, (install("shop", "root", 'root{b{"B"} x:alias{"de/a"}}'), OK)]
+    merged = {"actual": "de", "tree": {"a": "b", "b": "B", "x": "b"}, "valid": "de"}
+    inner = {"actual": "de", "tree": "b", "valid": "de"}
+    here = [
+        ("--reply-bytes", 46, [one], tree("shop", "de"), refused("ReplyTooLong"), TREE),
+        ("--reply-bytes", 40, [one], tree("shop", "de", path="a"), refused("ReplyTooLong"), inner),
+        # the lookup takes 3 steps, one for each name; the tree as many and one for each key
+        ("--steps", 4, [one], tree("shop", "de_AT"), refused("TooManySteps"), TREE),
+        ("--steps", 6, [one], tree("shop", "de_AT", path="a"), refused("TooManySteps"), inner),
+        # 3 names; `a` at two tables, `b` and `x` at one; the alias, and 2 names times 2 for where it leads
+        ("--steps", 12, two, tree("shop", "de_AT"), refused("TooManySteps"), merged),
+        ("--line-bytes", len(line_of(tree("shop", "de"))), [], tree("shop", "de"), refused("LineTooLong"), refused("NoBundle")),
+    ]
+    for limit, value, before, request, refusal, answer in here:
+        for number in (value - 1, value, value + 1):
+            serves(program, ["--extended", limit, str(number)], before + [(request, refusal if number < value else answer)])
+    serves(program, ["--extended", "--steps", "1", "--reply-bytes", "1"], [
+        one, (tree("a b", "de"), refused("BadApp")), (tree("ICUDATA", "de"), refused("Reserved")), (tree("shop", "d"), refused("BadLocale")),
+        (tree("shop", "de", path="a//b"), refused("BadPath")), (tree("shop", "de"), refused("TooManySteps")),
+        (tree("shop", "root"), refused("NoBundle")), (tree("shop", "de", path="a" * 1025), refused("PathTooLong"))])
+    serves(program, ["--extended", "--reply-bytes", "1"], [
+        one, (tree("shop", "de"), refused("ReplyTooLong")), (tree("shop", "de", path="b"), refused("Missing"))])
+    for missing in (0, 1):
+        request, longest = long_tree(missing)
+        length = len(reply_of(longest))
+        for words, wanted in (([], longest), (["--reply-bytes", str(length)], longest),
+                              (["--reply-bytes", str(length - 1)], refused("ReplyTooLong"))):
+            serves(program, ["--extended", *words], [(request, OK), (tree("long", "de"), wanted)])
+    longer, _ = long_tree(-1)
+    for words in ([], ["--reply-bytes", str(TREE_LIMIT + 1)], ["--reply-bytes", str(MOST)]):
+        serves(program, ["--extended", *words], [(longer, OK), (tree("long", "de"), refused("TreeTooLarge")), (one[0], OK),
+                                                 (tree("shop", "de"), TREE)])
+    serves(program, ["--extended", "--reply-bytes", str(TREE_LIMIT)], [(longer, OK), (tree("long", "de"), refused("ReplyTooLong"))])
+
+
 def not_refused(program):
     """Requests that no limit applies to, and refusals that come before those of a limit."""
     serves(program, ["--reply-bytes", "1"], [
@@ -580,7 +637,7 @@ def main():
         print(f"limits: skipped, as {given.program} isn't built")
         return
     program = os.path.realpath(given.program)
-    for check in (bad_command_lines, at_values, releases, not_refused, at_the_quota, beside_another, long_line, longest_line, many_apps, without_memory, waiting_replies):
+    for check in (bad_command_lines, at_values, releases, trees, not_refused, at_the_quota, beside_another, long_line, longest_line, many_apps, without_memory, waiting_replies):
         check(program)
     peak, most, sent = under_attack(program, given.seconds)
     if peak is None:

@@ -1,7 +1,8 @@
 #!/usr/bin/env bash
 # Refuses each allocation in turn. The program programs/memory.rt.in starts an engine, makes requests of each kind, and loads, installs
 # and lists bundles; after a call that is answered out of memory it compares the whole state, and calls once more. The program
-# programs/lines.rt.in serves lines of each kind; if memory runs out, the replies before are whole, and serving continues with the line.
+# programs/lines.rt.in serves lines of each kind; if memory runs out, the replies before are whole, and serving continues with the line. It
+# does the same with extended requests, also under --keep-serving.
 # The program programs/acceptance.rt.in accepts a file of each kind that is expensive to check, which Python writes: out of memory the
 # file is returned, and within three times what its acceptance takes with memory.
 #
@@ -45,16 +46,18 @@ try_cases() {
     [ "$(grep -c '^kept$' "$said")" = "$runs" ] || fails "not kept: $(first_not_kept)"
 }
 # refuse PROGRAM REFUSED FEWEST FURTHER LIBRARY..: runs a program with the allocation REFUSED refused, behind REFUSED - 1 down to FEWEST
-# blocks, and once more with the input FURTHER if it isn't empty.
+# blocks, and once more with the input FURTHER if it isn't empty. The variable `mark` is what each input begins with.
+mark=
 refuse() {
     local name=$1 refused=$2 fewest=$3 further=$4 count
     shift 4
     said=$made/$name/said
+    rm -rf "${made:?}/$name"
     mkdir "$made/$name"
     (cd "$tests" && repository "$made/$name" "$name" "$@")
     mkdir "$made/$name/cases"
     for ((count = fewest; count < refused; count++)); do
-        echo "$count" >"$made/$name/cases/$count"
+        echo "$mark$count" >"$made/$name/cases/$count"
     done
     [ -z "$further" ] || echo "$further" >"$made/$name/cases/$further"
     try_cases "$name" "$refused"
@@ -103,4 +106,7 @@ refuse memory 900 20 20q rb_engine rb_packages rb_validator rb_format rb_locales
 [ "$(left 20q)" = "$(left 20)" ] || fails 'lookups, replacements or removals take memory'
 echo 'ok: lookups, replacements and removals take none'
 refuse lines 200 20 '' rb_requests rb_engine rb_parents
+for mark in x k; do
+    refuse lines 600 20 '' rb_requests rb_engine rb_parents
+done
 refuse_files 220

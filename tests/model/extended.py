@@ -1,15 +1,19 @@
 """Extended requests by the line and their replies, after docs/SERVER.md.
 
-Of an error of a text that the reader may report otherwise, a reply has the code `?` and the line 0 (`blurred` makes the same of the
-program's replies).
+Of an error of a text that the reader may report otherwise, a reply has the code `?` and the line 0. A tree of which the model isn't sure is
+`?`, and so is the error of one that is over two limits (`blurred` makes the same of the program's replies).
 """
 import re
 
-from model import files, lookups, texts
+from model import files, inherited, lookups, texts
 from model.server import BUNDLE_LIMIT, HEX, NotRequest, Refused, Server, app_of, data_of, locale_of, spelled, text_at
+from model.trees import segments
 
-OPERATIONS = ("install", "replace", "remove", "list", "look", "usage", "put", "export", "release")
+OPERATIONS = ("install", "replace", "remove", "list", "look", "usage", "put", "export", "release", "tree")
 UNSURE = b'"code":"?"'
+UNSURE_TREE = b'{"error":"?"}\n'
+TREE_SIZE = 2000
+TREE_REPLY = re.compile(rb'\{"actual":"\w+","tree":.*\n|\{"error":"(TooManySteps|TreeTooLarge|ReplyTooLong)"\}\n')
 
 
 class Detailed(Refused):
@@ -61,7 +65,9 @@ def change_of(data):
 
 
 def blurred(wanted, given):
-    """A reply of the program, without the code and the line where the model isn't sure of them."""
+    """A reply of the program, without the code and the line, or the tree, where the model isn't sure of them."""
+    if wanted == UNSURE_TREE:
+        return wanted if TREE_REPLY.fullmatch(given) else given
     if UNSURE not in wanted:
         return given
     return re.sub(rb'"line":[1-9][0-9]*', b'"line":0', re.sub(rb'"code":"[A-Z][A-Za-z0-9]+"', UNSURE, given))
@@ -134,6 +140,31 @@ class ExtendedServer(Server):
         if name not in held:
             raise Refused("Absent")
         return {"file": held[name].hex()}
+
+    def tree(self, data):
+        app, locale, path = text_at(data, "app"), text_at(data, "locale"), text_at({"path": "", **data}, "path")
+        bundles, name = self.bundles(app_of(app)), locale_of(locale)
+        try:
+            _, actual, valid = lookups.look(bundles, self.common, self.parents, name, path, self.limits.steps)
+            tree = inherited.Tree(bundles, self.common, self.parents, name, segments(path), TREE_SIZE)
+        except lookups.Refused as refused:
+            raise Refused(*refused.args) from None
+        except inherited.TooLong:
+            return {"error": "?"}
+        answer = {"actual": actual, "tree": tree.value, "valid": valid}
+        try:
+            self.limits.refuse("steps", tree.steps, "TooManySteps")
+        except Refused:
+            return {"error": self.short_or(answer, "TooManySteps")}
+        return answer
+
+    def short_or(self, answer, word):
+        """The error of a tree that takes too many steps: either of two if it is too long as well."""
+        try:
+            self.short(answer)
+        except Refused:
+            return "?"
+        return word
 
     def change(self, locale, payload, bundles, held):
         """Makes a change of a release in copies of an application's bundles and files."""

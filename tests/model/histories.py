@@ -182,6 +182,16 @@ class ExtendedHistory(History):
                 change["locale"] = self.random.choice(names)
         return {"op": "release", "app": app, "changes": changes}
 
+    def tree(self, app):
+        """A request for a tree, mostly of the root or of an item that is there."""
+        request = {"op": "tree", "app": app, "locale": self.near(app)}
+        chosen = self.random.random()
+        if chosen < 0.4:
+            return request
+        if chosen < 0.5:
+            return {**request, "path": self.random.choice(("", "", 1, None, [""]))}
+        return {**request, "path": self.path(app)}
+
     def request(self):
         app, chosen = self.app(), self.random.random()
         if chosen < 0.5:
@@ -190,8 +200,10 @@ class ExtendedHistory(History):
             return self.release(app)
         if chosen < 0.72:
             return {"op": "put", "app": app, "locale": self.locale(), **self.payload()}
-        if chosen < 0.88:
+        if chosen < 0.8:
             return {"op": "export", "app": app, "locale": self.near(app) if chosen < 0.75 else self.locale()}
+        if chosen < 0.9:
+            return self.tree(app)
         if chosen < 0.94:
             return {"op": "list", "app": app, "sizes": self.random.choice((True, True, True, False, 1))}
         return {"op": "usage", "app": app}

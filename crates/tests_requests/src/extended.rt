@@ -56,3 +56,29 @@ fn releases(rt: HostRuntime) -> Result<(), Fail> {
     assert!(rt; answers(alloc, &mut engine, SIZES, AFTER));
     Ok(())
 }
+
+const PUT_ROOT: &[u8] =
+    br#"{"op":"put","app":"shop","locale":"root","text":"root{c:alias{\"/LOCALE/a\"}}"}
+"#;
+
+const TREE: &[u8] = br#"{"op":"tree","app":"shop","locale":"de_AT"}
+"#;
+
+const MERGED: &[u8] = br#"{"actual":"de","tree":{"a":"b","c":"b"},"valid":"de"}
+"#;
+
+const MISSING: &[u8] = br#"{"op":"tree","app":"shop","locale":"de","path":"x"}
+"#;
+
+#[test]
+fn trees(rt: HostRuntime) -> Result<(), Fail> {
+    let alloc = rt.alloc();
+    let mut engine = empty_engine(&rt).ok_or("no engine")?;
+    let new = b"{\"ok\":true,\"replaced\":false}\n";
+    assert!(rt; answers(alloc, &mut engine, TREE, b"{\"error\":\"NoBundle\"}\n"));
+    assert!(rt; answers(alloc, &mut engine, PUT, new));
+    assert!(rt; answers(alloc, &mut engine, PUT_ROOT, new));
+    assert!(rt; answers(alloc, &mut engine, TREE, MERGED));
+    assert!(rt; answers(alloc, &mut engine, MISSING, b"{\"error\":\"Missing\"}\n"));
+    Ok(())
+}
