@@ -93,6 +93,11 @@ export class Resb {
     return this.#ask({ op: "look", app, locale, path });
   }
 
+  // The item at a path with everything that it inherits: `tree`, with `actual` and `valid`. The server needs `--extended`.
+  tree(app, locale, path = "") {
+    return this.#ask({ op: "tree", app, locale, path });
+  }
+
   // The replies to many lookups, each a pair of a locale and a path, in their order; an error is a reply with `error`.
   lookMany(app, asked) {
     return Promise.all(asked.map(([locale, path]) => this.#send({ op: "look", app, locale, path })));

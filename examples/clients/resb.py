@@ -81,6 +81,10 @@ class Resb:
         """The reply to a lookup: its `type`, its value, and the members that docs/SERVER.md has beside them."""
         return self._ask({"op": "look", "app": app, "locale": locale, "path": path})
 
+    def tree(self, app, locale, path=""):
+        """The item at a path with everything that it inherits: `tree`, with `actual` and `valid`. The server needs `--extended`."""
+        return self._ask({"op": "tree", "app": app, "locale": locale, "path": path})
+
     def _send_looks(self, app, asked):
         for locale, path in asked:
             self._send({"op": "look", "app": app, "locale": locale, "path": path})

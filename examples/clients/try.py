@@ -15,7 +15,7 @@ def refused(call, *arguments, **named):
 
 
 def main():
-    with Resb(sys.argv[1]) as server:
+    with Resb(sys.argv[1], "--extended") as server:
         server.install("shop", "de", text='de{menu{close{"C"}}}')
         server.install("shop", "de-at", text='de_AT{menu{open{"O"}}}')
         found = server.look("shop", "de_AT", "menu/close")
@@ -27,6 +27,10 @@ def main():
         server.replace("shop", "de", text='de{menu{close{"D"}}}')
         many = server.look_many("shop", [("de_AT", "menu/close"), ("de_AT", "none")] * 5000)
         assert [many[0]["value"], many[1]["error"], len(many)] == ["D", "Missing", 10000]
+        merged = {"menu": {"close": "D", "open": "O"}}
+        assert server.tree("shop", "de_AT") == {"actual": "de_AT", "tree": merged, "valid": "de_AT"}
+        assert server.tree("shop", "de_AT", "menu/close") == {"actual": "de", "tree": "D", "valid": "de_AT"}
+        assert refused(server.tree, "shop", "de_AT", "none") == "Missing"
         server.remove("shop", "de")
         assert refused(server.remove, "shop", "de") == "Absent"
     assert server.process.returncode == 0

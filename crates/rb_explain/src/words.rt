@@ -792,7 +792,7 @@ pub(crate) const OF_LOOKUP: [Explanation; 13] = [
         of: Of::Lookup,
         meaning: "the tree of a locale with all that it inherits has more than 33,554,432 bytes, or takes more than 268,435,456 steps",
         cause: "aliases that lead to tables with more aliases, so that tables are repeated again and again",
-        remedy: "print a smaller part: resb json --inherit LOCALE --path PATH",
+        remedy: "print a smaller part: resb json --inherit LOCALE --path PATH, or path in the request tree",
     },
     Explanation {
         word: "TooDeep",
