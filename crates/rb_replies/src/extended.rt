@@ -1,11 +1,15 @@
 //! Replies to extended requests: each is a compact JSON object, its members ascending, and a line
 //! feed.
-ghost use Rattle.std.specs.Prelude.{◌≤◌, ◌↔◌, [], ◌∷◌, ◌++◌, IsTrue, length};
+ghost use Rattle.std.specs.Prelude.{◌↔◌, ◌≤◌, [], ◌∷◌, ◌++◌, length, map, option_map, IsTrue, Some};
 ghost use Rattle.hex.specs.Hex.{encode_lower};
-ghost use Rattle.serde_json.specs.Data.{boolean};
+ghost use Rattle.serde_json.specs.Data.{array, boolean};
+ghost use Rattle.serde_json.specs.View.{items_of};
 ghost use Rattle.serde_json.specs.Written.{compact_text};
-ghost use Rattle.rb_replies.specs.Extended.{file_line, stored_data, text_data, tree_line};
+ghost use Rattle.rb_json.specs.inner.Listed.{listed};
+ghost use Rattle.rb_replies.specs.Extended.{file_line, refusal_data, size_data, sizes_data};
+ghost use Rattle.rb_replies.specs.Extended.{stored_data, text_data, tree_line};
 ghost use Rattle.rb_replies.specs.Within.{IsAbove};
+ghost use Rattle.rb_replies.specs.inner.Refusals.{code_text, number_text};
 
 use crate::limit::Room;
 use rb_json::{Outlet, put_name, skips_items, spell_bytes, spell_text, spell_unsigned};
@@ -31,25 +35,54 @@ impl Detail {
     };
 }
 
-fn put_number<O: Outlet>(out: &mut O, name: &str, number: Option<u64>) {
-    if let Some(number) = number {
-        put_name(out, true, name);
-        spell_unsigned(out, number);
+fn put_first<O: Outlet>(out: &mut O, code: &str)
+    ensures { O.takes out.old out.new (code_text (Some code.now)) }
+{
+    put_name(out, false, "code");
+    spell_text(out, code)
+}
+
+/// Writes the member of a code before all others, if there is a code.
+fn put_code<O: Outlet>(out: &mut O, code: Option<&str>)
+    ensures { O.takes out.old out.new (code_text (option_map (λ s. s.now) code.entry)) }
+{
+    match code {
+        Some(code) => put_first(out, code),
+        None => {}
+    }
+}
+
+fn put_later<O: Outlet>(out: &mut O, name: &str, number: u64)
+    ensures { O.takes out.old out.new (number_text name.now (Some number)) }
+{
+    put_name(out, true, name);
+    spell_unsigned(out, number)
+}
+
+/// Writes the member of a number after others, if there is a number.
+fn put_number<O: Outlet>(out: &mut O, name: &str, number: Option<u64>)
+    ensures { O.takes out.old out.new (number_text name.now number) }
+{
+    match number {
+        Some(number) => put_later(out, name, number),
+        None => {}
     }
 }
 
 /// Writes the line of a refusal with a code and a detail. It takes no memory.
-pub fn put_refusal<O: Outlet>(out: &mut O, code: &str, detail: Detail) {
+pub fn put_refusal<O: Outlet>(out: &mut O, code: &str, detail: Detail)
+    ensures { O.takes out.old out.new (compact_text (refusal_data code.now
+        (option_map (λ s. s.now) detail.code)
+        detail.index detail.line) ++ 10 ∷ []) }
+{
     out.put(b"{");
-    if let Some(first) = detail.code {
-        put_name(out, false, "code");
-        spell_text(out, first);
-    }
+    put_code(out, detail.code);
     put_name(out, detail.code.is_some(), "error");
     spell_text(out, code);
     put_number(out, "index", detail.index);
     put_number(out, "line", detail.line);
-    out.put(b"}\n")
+    out.put(b"}");
+    out.put(b"\n")
 }
 
 fn put_flag<O: Outlet>(out: &mut O, flag: bool)
@@ -76,32 +109,46 @@ pub fn put_stored<O: Outlet>(out: &mut O, is_replaced: bool)
     out.put(b"\n")
 }
 
-fn put_size<O: Outlet>(out: &mut O, name: &Name, bytes: u64) {
+fn put_size<O: Outlet>(out: &mut O, size: &(Name, u64))
+    ensures { O.takes out.old out.new (compact_text (size_data size.now)) }
+{
     out.put(b"{");
     put_name(out, false, "bytes");
-    spell_unsigned(out, bytes);
+    spell_unsigned(out, size.1);
     put_name(out, true, "locale");
-    spell_bytes(out, name.as_bytes());
+    spell_bytes(out, size.0.as_bytes());
     out.put(b"}")
 }
 
-fn put_size_items<O: Outlet>(out: &mut O, sizes: &[(Name, u64)]) {
+fn put_size_items<O: Outlet>(out: &mut O, sizes: &[(Name, u64)])
+    ensures { O.takes out.old out.new (listed (λ s. compact_text (size_data s)) sizes.now) }
+{
     let len = sizes.len();
     for i in 0..len {
         if skips_items(out, i) {
             return;
         }
-        put_size(out, &sizes[i].0, sizes[i].1);
+        put_size(out, &sizes[i]);
     }
 }
 
-/// Writes the line of an application's bundles, the name and the bytes of each. It takes no memory.
-pub fn put_sizes<O: Outlet>(out: &mut O, sizes: &[(Name, u64)]) {
-    out.put(b"{");
-    put_name(out, false, "bundles");
+fn put_size_array<O: Outlet>(out: &mut O, sizes: &[(Name, u64)])
+    ensures { O.takes out.old out.new (compact_text (array (items_of (map size_data sizes.now)))) }
+{
     out.put(b"[");
     put_size_items(out, sizes);
-    out.put(b"]}\n")
+    out.put(b"]")
+}
+
+/// Writes the line of an application's bundles, the name and the bytes of each. It takes no memory.
+pub fn put_sizes<O: Outlet>(out: &mut O, sizes: &[(Name, u64)])
+    ensures { O.takes out.old out.new (compact_text (sizes_data sizes.now) ++ 10 ∷ []) }
+{
+    out.put(b"{");
+    put_name(out, false, "bundles");
+    put_size_array(out, sizes);
+    out.put(b"}");
+    out.put(b"\n")
 }
 
 /// Writes the line of a bundle's text. It takes no memory.
@@ -169,7 +216,10 @@ pub fn put_tree_line<O: Outlet>(out: &mut O, actual: &Name, valid: &Name, tree: 
 const FILE_FRAME: u64 = 12;
 
 /// Checks whether the line of a bundle's file exceeds a limit, with its line feed.
-pub fn file_is_above(file: &[u8], limit: Option<u64>) -> bool {
+#[tactic(auto, using(crate::proofs::Digits::line_len))]
+pub fn file_is_above(file: &[u8], limit: Option<u64>) -> bool
+    ensures { IsTrue result ↔ IsAbove (length (file_line file.now)) limit }
+{
     match limit {
         Some(most) => most < FILE_FRAME || (most - FILE_FRAME) / 2 < file.len() as u64,
         None => false,
@@ -178,7 +228,10 @@ pub fn file_is_above(file: &[u8], limit: Option<u64>) -> bool {
 
 /// Checks whether the line of a bundle's text exceeds a limit, with its line feed. It takes no
 /// memory.
-pub fn text_is_above(text: &str, limit: Option<u64>) -> bool {
+pub fn text_is_above(text: &str, limit: Option<u64>) -> bool
+    ensures { IsTrue result
+        ↔ IsAbove (length (compact_text (text_data text.now) ++ 10 ∷ [])) limit }
+{
     let Some(most) = limit else {
         return false;
     };
@@ -201,7 +254,10 @@ pub fn tree_is_above(actual: &Name, valid: &Name, tree: &[u8], limit: Option<u64
 
 /// Checks whether the line of an application's bundles exceeds a limit, with its line feed. It
 /// takes no memory.
-pub fn sizes_are_above(sizes: &[(Name, u64)], limit: Option<u64>) -> bool {
+pub fn sizes_are_above(sizes: &[(Name, u64)], limit: Option<u64>) -> bool
+    ensures { IsTrue result
+        ↔ IsAbove (length (compact_text (sizes_data sizes.now) ++ 10 ∷ [])) limit }
+{
     let Some(most) = limit else {
         return false;
     };

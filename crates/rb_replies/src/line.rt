@@ -1,8 +1,8 @@
-ghost use Rattle.std.specs.Prelude.{◌≡◌, [], ◌∷◌, ◌++◌, OnOk, Some};
+ghost use Rattle.std.specs.Prelude.{◌≡◌, [], ◌∷◌, ◌++◌, OnOk, Some, option_map};
 ghost use Rattle.serde_json.specs.Written.{compact_text};
 ghost use Rattle.rb_replies.specs.Replied.{error as error_data, reply_data, response_data};
 ghost use Rattle.rb_replies.specs.Replied.{usage_data};
-ghost use Rattle.rb_replies.specs.Extended.{stored_data};
+ghost use Rattle.rb_replies.specs.Extended.{refusal_data, sizes_data, stored_data};
 ghost use Rattle.rb_engine.specs.LookResponse.{look_response};
 ghost use Rattle.rb_views.specs.Seen.{tree_seen};
 
@@ -127,7 +127,11 @@ impl ReplyLine {
         alloc: Global,
         code: &str,
         detail: Detail,
-    ) -> Result<(), AllocError> {
+    ) -> Result<(), AllocError>
+        ensures { OnOk result (self.new ≡ compact_text (refusal_data code.now
+            (option_map (λ s. s.now) detail.code)
+            detail.index detail.line) ++ 10 ∷ []) }
+    {
         let mut out = self.begin(alloc);
         put_refusal(&mut out, code, detail);
         self.end(out)
@@ -145,7 +149,9 @@ impl ReplyLine {
 
     /// Makes the line the reply of an application's bundles. After an error, which comes only if
     /// memory runs out, nothing is known of the line.
-    pub fn tell_sizes(&mut self, alloc: Global, sizes: &[(Name, u64)]) -> Result<(), AllocError> {
+    pub fn tell_sizes(&mut self, alloc: Global, sizes: &[(Name, u64)]) -> Result<(), AllocError>
+        ensures { OnOk result (self.new ≡ compact_text (sizes_data sizes.now) ++ 10 ∷ []) }
+    {
         let mut out = self.begin(alloc);
         put_sizes(&mut out, sizes);
         self.end(out)

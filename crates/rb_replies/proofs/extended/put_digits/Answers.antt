@@ -1,4 +1,4 @@
-use Rattle.std.proofs.Common.{◌≡◌, ◌∙◌, ℕ, List, ◌++◌, [], refl, sym, ap, subst, append_assoc}
+use Rattle.std.proofs.Common.{◌∙◌, ℕ, List, ◌++◌, [], refl, sym, ap, subst, append_assoc}
 use Rattle.hex.specs.Hex.{encode_lower, encode_with, lower_digits}
 use Rattle.rb_replies.proofs.Digits.{digits_joined}
 use Rattle.rb_replies.proofs.extended.put_digits.Goals as goal

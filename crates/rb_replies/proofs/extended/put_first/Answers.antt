@@ -1,0 +1,4 @@
+use Rattle.rb_replies.proofs.extended.put_first.Goals as goal
+
+pub returns : goal.returns
+returns g c = g.met.O.Outlet.joined c.args.out.now c.put_name.new.out c.spell_text.new.out _ _ c.put_name.ensures c.spell_text.ensures
