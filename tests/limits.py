@@ -176,6 +176,7 @@ def releases(program):
     full = [putting(f"aa_{number}", SMALL) for number in range(4096)]
     serves(program, ["--extended"], [
         (release("shop", *full, removing("aa_1")), {"error": "Full", "index": 4096}), (usage("shop"), used(0, 0)),
+        (release("shop", *full, putting("a b", SMALL)), {"error": "Full", "index": 4096}), (usage("shop"), used(0, 0)),
         (release("shop", *full), OK), (usage("shop"), used(4096 * 56, 4096)),
         (release("shop", putting("de"), removing("aa_1")), {"error": "Full", "index": 0}),
         (release("shop", removing("aa_1"), putting("de")), OK), (release("shop", putting("de", SMALL)), OK),

@@ -6,7 +6,7 @@ use crate::changes::{is_over, is_sum_over};
 use crate::judged::{Unmade, judge, undrafted};
 use crate::limits::{Limits, Refusal};
 use hex::FromHexError;
-use rb_engine::{App, BundleSource, Draft, Engine, Reply};
+use rb_engine::{App, BUNDLE_LIMIT, BundleSource, Draft, DraftFault, Engine, Reply};
 use rb_locales::Name;
 use rb_tree::ByteList;
 use std::alloc::Global;
@@ -72,7 +72,8 @@ fn draft_change(
     }
 }
 
-/// Judges changes in their order, up to the first that is refused.
+/// Judges changes in their order, up to the first that is refused. One above the limit is refused for
+/// that, whatever else is wrong with it.
 fn draft_all(
     alloc: Global,
     limits: &Limits,
@@ -81,6 +82,9 @@ fn draft_all(
     draft: &mut Draft,
 ) -> Result<(), Unmade> {
     for (index, change) in changes.iter().enumerate() {
+        if index >= BUNDLE_LIMIT {
+            return Err(undrafted(DraftFault::Full).at(index));
+        }
         if let Err(unmade) = draft_change(alloc, limits, app, change, draft) {
             return Err(unmade.at(index));
         }
