@@ -12,14 +12,14 @@ _resb() {
         get) flags='--raw --help' ;;
         lint) flags='--against --root --allow --deny --strict --all --format --name --list --help' ;;
         fmt) flags='--check --diff --quiet --help' ;;
-        coverage) flags='--parents --format --help' ;;
+        coverage) flags='--parents --cldr-parents --format --help' ;;
         explain) flags='--help' ;;
         lines) flags='--op --json --help' ;;
-        look) flags='--parents --trace --help' ;;
+        look) flags='--parents --cldr-parents --trace --help' ;;
         text) flags='--name --help' ;;
-        json) flags='--inherit --parents --path --pretty --help' ;;
+        json) flags='--inherit --parents --cldr-parents --path --pretty --help' ;;
         diff) flags='--json --stat --help' ;;
-        serve) flags='--parents --app-bytes --bundle-bytes --reply-bytes --line-bytes --apps --steps --keep-serving --extended --help' ;;
+        serve) flags='--parents --cldr-parents --app-bytes --bundle-bytes --reply-bytes --line-bytes --apps --steps --keep-serving --extended --help' ;;
         # end
     esac
     case $before in

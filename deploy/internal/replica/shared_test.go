@@ -196,7 +196,6 @@ func follow(t *testing.T, log SharedLog, folder string) *Replica {
 		t.Fatal(err)
 	}
 	r := Open(s, Settings{Program: testProgram(), Log: log})
-	r.forbear = time.Hour // a change may wait for long on a busy machine
 	t.Cleanup(r.Close)
 	r.awaitBoth(t)
 	return r
