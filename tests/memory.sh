@@ -2,7 +2,7 @@
 # Refuses each allocation in turn. The program programs/memory.rt.in starts an engine, makes requests of each kind, and loads, installs
 # and lists bundles; after a call that is answered out of memory it compares the whole state, and calls once more. The program
 # programs/lines.rt.in serves lines of each kind; if memory runs out, the replies before are whole, and serving continues with the line. It
-# does the same with extended requests, also under --keep-serving.
+# is also given extended requests, without and with --keep-serving.
 # The program programs/acceptance.rt.in accepts a file of each kind that is expensive to check, which Python writes: out of memory the
 # file is returned, and within three times what its acceptance takes with memory.
 #

@@ -177,7 +177,7 @@ def causes(terminals):
 
 
 def denied(terminals):
-    """Files without permission, for nobody if the tests are run by root, who reads all."""
+    """Files that may not be read. Run by root, which may read any file, the commands run as nobody."""
     user = 65534 if os.geteuid() == 0 else None
     os.chmod(terminals.folder, 0o755)
     for file in "root.txt", "root.res":

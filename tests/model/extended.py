@@ -1,7 +1,7 @@
 """Extended requests by the line and their replies, after docs/SERVER.md.
 
 Of an error of a text that the reader may report otherwise, a reply has the code `?` and the line 0. A tree of which the model isn't sure is
-`?`, and so is the error of one that is over two limits (`blurred` makes the same of the program's replies).
+`?`, and so is the error of one that is over two limits (`blurred` changes the program's replies alike).
 """
 import re
 

@@ -17,13 +17,13 @@ class TooLong(Exception):
 
 def leaf_value(item):
     """The value of an item that is no table, array or alias."""
-    told = members(item)
-    kind = told["type"]
+    shown = members(item)
+    kind = shown["type"]
     if kind == "string":
-        return told["value"] if "value" in told else {":units": told["units"]}
+        return shown["value"] if "value" in shown else {":units": shown["units"]}
     if kind == "int":
-        return told["signed"]
-    return {":intvector": list(told["values"])} if kind == "intvector" else {":bin": told["hex"]}
+        return shown["signed"]
+    return {":intvector": list(shown["values"])} if kind == "intvector" else {":bin": shown["hex"]}
 
 
 def alias_steps(units):

@@ -364,7 +364,7 @@ func (c *call) answer(status int, reply []byte, tagOf func(reply []byte) string)
 	c.write(status, "application/json", append(reply, '\n')) // a reply of the server has space for it
 }
 
-// slice is how much of a long reply is hashed before others may go on: a goroutine that computes has a processor for 10 ms else.
+// slice is how much of a long reply is hashed before other goroutines run; without this one that computes keeps a processor for 10 ms.
 const slice = 32 << 10
 
 // tagOf returns the tag of a reply, equal only for equal replies.
