@@ -23,6 +23,8 @@ from model.trees import child, height, segments
 
 KEYS = ["a", "b", "c", "k", "menu", "open", ":x"]
 PATHS = [""] * 12 + ["a", "b", "menu", "a/b", "a/0", "k/a", "%%Parent", "a/b/c"] + ["a//b", "x" * 1025]
+PATH_LIMIT = 1024
+LONG = 600
 CLOSE = ["root", "de", "de_AT", "de_AT_WIEN", "fr"]
 PARENTS = [{}, {}, {"zh_Hant": "root", "en_GB": "en_001"}, {"de_AT": "de_CH", "fr": "xa"}]
 
@@ -145,6 +147,16 @@ def close_module(pick):
     return {name: (("table", {key: close_item(pick, 3) for key in "abt"}), pick.random() < 0.1) for name in names}
 
 
+def long_module():
+    """A module whose aliases lead from long paths to short ones, so that the path from the root is too long, and the alias's is not. The
+    two items of `t` below the alias have paths of 1,024 and of 1,025 bytes."""
+    items = {"k" * count: ("string", (120,)) for count in (PATH_LIMIT - LONG - len("/link/"), PATH_LIMIT - LONG - len("/link/") + 1)}
+    links = {key: ("alias", tuple(map(ord, text))) for key, text in (("link", "/LOCALE/t"), ("other", "/LOCALE/second"))}
+    second = {"first": ("alias", tuple(map(ord, "/LOCALE/t")))}
+    root = {"k" * LONG: ("table", links), "second": ("table", second), "t": ("table", items)}
+    return {"root": (("table", root), False), "de": (("table", {"t": ("table", {"a": ("string", (97,))})}), False)}
+
+
 def random_item(pick, levels):
     chosen = pick.random()
     if levels == 0 or chosen < 0.35:
@@ -203,9 +215,14 @@ def write_module(folder, pick, bundles, parents):
 
 
 def check_module(program, folder, pick):
-    """Compares one tree; returns what differs."""
+    """Compares one tree of a random module; returns what differs."""
     bundles = random_module(pick)
-    locale, name, parents, path = random_words(pick, bundles)
+    return check_tree(program, folder, pick, bundles, random_words(pick, bundles))
+
+
+def check_tree(program, folder, pick, bundles, asked):
+    """Compares one tree; returns what differs."""
+    locale, name, parents, path = asked
     files, options = write_module(folder, pick, bundles, parents)
     words = ["json", "--inherit", locale, "--path", path, *options, *files]
     done = run(program, folder, *words)
@@ -248,6 +265,12 @@ def main():
         return 0
     modules = int(sys.argv[2]) if len(sys.argv) > 2 else 40
     seed = int(sys.argv[3]) if len(sys.argv) > 3 else 1
+    for path in ("", "k" * LONG):
+        with tempfile.TemporaryDirectory() as folder:
+            differs = check_tree(program, pathlib.Path(folder), random.Random(seed), long_module(), ("de", "de", {}, path))
+        if differs:
+            print(f"the module of long paths differs: {differs}")
+            return 1
     for number in range(seed, seed + modules):
         with tempfile.TemporaryDirectory() as folder:
             differs = check_module(program, pathlib.Path(folder), random.Random(number))

@@ -1,5 +1,5 @@
 -- The texts of items without children.
-use Rattle.std.proofs.Common.{◌≡◌, ◌≤◌, ℕ, List, [], ◌∷◌, ◌++◌, Bool, true, false, codes, cond, length, encode_utf8_all, refl, ap, subst, append_assoc, arith}
+use Rattle.std.proofs.Common.{◌≡◌, ◌≤◌, ℕ, List, [], ◌∷◌, ◌++◌, Bool, true, false, codes, cond, length, encode_utf8_all, take, ◌+◌, ◌∙◌, sym, refl, ap, subst, append_assoc, arith}
 use Rattle.std.specs.Prelude.{not}
 use Rattle.std.specs.Char.Utf16.{has_unpaired_surrogate, utf16_lossy_chars}
 use Rattle.json.specs.Print.{quoted}
@@ -9,11 +9,15 @@ use Rattle.serde_json.specs.Find.{of_integer}
 use Rattle.serde_json.specs.Written.{compact_text}
 use Rattle.rb_tree.specs.Resource.{Resource, int, ints, binary}
 use Rattle.rb_tree.specs.Resource as tree
-use Rattle.rb_tree.specs.Parts.{bytes_of, int_of, kind_of, numbers_of, units_of}
+use Rattle.rb_tree.specs.Parts.{bytes_of, int_of, kind_of, len_of, numbers_of, units_of}
 use Rattle.rb_tree.specs.declared.kind.Kind.TheVariants as Kinds
 use Rattle.rb_json.specs.Leaf.{numbers_data, signed_of, units_data}
-use Rattle.rb_json.specs.Value.{tagged, value_of}
+use Rattle.rb_json.specs.Value.{string_value, tagged, value_of}
+use Rattle.std.proofs.lemmas.Str.{encodes-IsAscii}
+use Rattle.rb_json.specs.inner.Run.{IsRun}
 use Rattle.rb_json.proofs.Lengths.{le-characters, le-units, member-le}
+use Rattle.rb_json.proofs.Runs.{run_read}
+use Rattle.rb_json.proofs.Surrogates.{ReadSoFar, all_read}
 
 pub int_value : (t : Resource) → kind_of t ≡ Kinds.Int → value_of t ≡ number (of_integer (signed_of (int_of t)))
 int_value (int n) h = refl
@@ -53,6 +57,20 @@ pub ill_formed_value : (t : Resource) → kind_of t ≡ Kinds.String → not (ha
     → value_of t ≡ tagged (codes ":units") (units_data (units_of t))
 ill_formed_value (tree.string us) h w = ill_formed (has_unpaired_surrogate us) us w
 ill_formed_value _ h w = absurd cc
+
+ascii_text : (us block : List ℕ) (n : ℕ) → IsRun block us 0 n → length us ≤ n → string_value us ≡ string (encode_utf8_all (take n block))
+ascii_text us block n run all =
+    let bytes = take n block in
+    let whole : ReadSoFar [] us 0 = (refl, refl) in
+    let read : ReadSoFar bytes us (0 + n) = run_read [] bytes us block 0 n whole run refl in
+    let ended = all_read bytes us (0 + n) read (omega arith) in
+    well_formed (has_unpaired_surrogate us) us (sym ended.0) ∙ ap string (sym ended.1 ∙ sym (encodes-IsAscii bytes run.ascii))
+
+-- the bytes of ASCII units are the text
+pub ascii_value : (t : Resource) (block : List ℕ) (n : ℕ) → kind_of t ≡ Kinds.String → IsRun block (units_of t) 0 n → len_of t ≤ n
+    → value_of t ≡ string (encode_utf8_all (take n block))
+ascii_value (tree.string us) block n h run all = ascii_text us block n run all
+ascii_value _ block n h run all = absurd cc
 
 pub string_long : (t : Resource) → kind_of t ≡ Kinds.String → length (units_of t) ≤ length (compact_text (value_of t))
 string_long (tree.string us) h = flag-le (has_unpaired_surrogate us) us

@@ -2,12 +2,13 @@
 
 use crate::error::TreeError;
 use crate::found::Found;
-use crate::path::{PathBytes, Walked, push_segments, push_units, segment_count, walk_on};
+use crate::path::{Walked, push_text, push_units, segment_count, walk_on};
 use crate::place::{Level, Place};
 use crate::shelves::Stops;
-use rb_fallback::{AliasFault, LEVEL_LIMIT, LookError, read_alias};
+use crate::stops::find_stops;
+use rb_fallback::{AliasFault, LEVEL_LIMIT, LookError, PATH_LIMIT, Target, read_alias};
 use rb_locales::Name;
-use rb_parents::{Route, TrailFault};
+use rb_parents::TrailFault;
 use rb_tree::{Kind, Node};
 
 /// An alias at the end of a walk.
@@ -17,15 +18,6 @@ pub(crate) struct Link<N> {
     level: Level,
     /// The number of bytes of the level's path that lead beyond the alias.
     rest: usize,
-}
-
-/// Where an alias leads.
-#[derive(Drop)]
-struct Goal {
-    icudata: bool,
-    name: Name,
-    path: PathBytes,
-    number: u16,
 }
 
 /// What a place has after a level, and the alias at which the level ends.
@@ -46,66 +38,80 @@ fn trail_error(fault: TrailFault) -> LookError {
     }
 }
 
-/// Returns the path to which an alias leads, whose own path begins at a unit of its text, or `None`
-/// if it is too long.
-fn path_to<N: Node>(place: &Place<N>, link: Link<N>, path_at: Option<usize>) -> Option<PathBytes> {
-    let Some(at) = path_at else {
-        return place.path_of(link.level);
-    };
-    let mut path = PathBytes::new();
-    if link.node.kind() != Kind::Alias || !push_units(&mut path, link.node, at) {
-        return None;
+/// Adds the path to which an alias leads to the paths, whose own path begins at a unit of its text.
+/// Returns false if it is too long.
+fn push_path_to<N: Node>(
+    place: &mut Place<N>,
+    link: Link<N>,
+    path_at: Option<usize>,
+) -> Result<bool, TreeError> {
+    let begin = place.paths.len();
+    match path_at {
+        None => {
+            place.push_path_end(begin, link.level, link.level.path_len)?;
+            place.push_keys_of(begin, link.level)?;
+        }
+        Some(at) => {
+            if link.node.kind() != Kind::Alias || link.node.len().saturating_sub(at) > PATH_LIMIT {
+                return Ok(false);
+            }
+            if push_units(&mut place.paths, link.node, at).is_err() {
+                return Err(TreeError::Memory);
+            }
+            place.push_path_end(begin, link.level, link.rest)?;
+        }
     }
-    if push_segments(&mut path, place.path_end(link.level, link.rest)) {
-        return Some(path);
-    }
-    None
+    Ok(place.paths.len().saturating_sub(begin) <= PATH_LIMIT)
 }
 
-/// Returns where an alias leads. The errors come in the order of a lookup's.
-fn goal_of<N: Node>(place: &Place<N>, link: Link<N>) -> Result<Goal, LookError> {
-    if link.node.kind() != Kind::Alias {
+/// Reads the text of an alias.
+fn target_of<N: Node>(node: N, valid: &Name) -> Result<Target, LookError> {
+    if node.kind() != Kind::Alias {
         return Err(LookError::AliasText);
     }
-    let target = match read_alias(link.node, &place.valid) {
+    match read_alias(node, valid) {
+        Ok(target) => Ok(target),
+        Err(AliasFault::AliasText) => Err(LookError::AliasText),
+        Err(AliasFault::AliasPackage) => Err(LookError::AliasPackage),
+    }
+}
+
+/// Returns the level to which an alias leads, and its name. The errors come in the order of a
+/// lookup's.
+fn level_of<N: Node>(
+    place: &mut Place<N>,
+    link: Link<N>,
+) -> Result<Result<(Name, Level), LookError>, TreeError> {
+    let target = match target_of(link.node, &place.valid) {
         Ok(target) => target,
-        Err(AliasFault::AliasText) => return Err(LookError::AliasText),
-        Err(AliasFault::AliasPackage) => return Err(LookError::AliasPackage),
+        Err(error) => return Ok(Err(error)),
     };
     let number = link.level.number.saturating_add(1);
     if number > LEVEL_LIMIT {
-        return Err(LookError::TooManyAliases);
+        return Ok(Err(LookError::TooManyAliases));
     }
-    let Some(path) = path_to(place, link, target.path_at) else {
-        return Err(LookError::PathTooLong);
-    };
-    Ok(Goal {
-        icudata: target.icudata | link.level.icudata,
-        name: target.name,
-        path,
-        number,
-    })
+    let begin = place.paths.len();
+    if !push_path_to(place, link, target.path_at)? {
+        return Ok(Err(LookError::PathTooLong));
+    }
+    let icudata = target.icudata | link.level.icudata;
+    let level = place.level_from(icudata, number, begin, link.level.keys_most);
+    Ok(Ok((target.name, level)))
 }
 
-/// Adds what the stops of a trail have at the end of a path, up to one that decides.
-fn add_stops<T: Stops>(
-    shelves: T,
-    place: &mut Place<T::N>,
-    before: Found<T::N>,
-    route: &Route,
+/// Adds what the stops of the last trail have at the end of a level's path, up to one that decides.
+fn add_stops<N: Node>(
+    place: &mut Place<N>,
+    before: Found<N>,
     (level, at): (Level, usize),
-    path: &[u8],
-) -> Result<After<T::N>, TreeError> {
+) -> Result<After<N>, TreeError> {
     let mut found = before;
     let mut is_missing = true;
-    for stop in &route.stops {
-        let Some(name) = route.names.get(*stop as usize) else {
-            continue;
+    for i in 0..place.trail.roots.len() {
+        let Some(root) = place.trail.roots.get(i).copied() else {
+            break;
         };
-        let Some(root) = shelves.root(level.icudata, name) else {
-            continue;
-        };
-        match walk_on(root, path) {
+        match walk_on(root, place.path(level)) {
             Walked::Gone => continue,
             Walked::End(node) => found = place.add(found, node, at)?,
             Walked::Link(node, rest) => {
@@ -124,31 +130,25 @@ fn add_stops<T: Stops>(
     Ok(ended(found))
 }
 
-/// Adds what a level has at the end of a path.
+/// Adds what a level of a name has at the end of its path.
 fn add_level<T: Stops>(
     shelves: T,
     place: &mut Place<T::N>,
     found: Found<T::N>,
-    goal: &Goal,
+    name: &Name,
+    level: Level,
 ) -> Result<After<T::N>, TreeError> {
-    let path = goal.path.as_slice();
-    let route = match shelves.route(goal.icudata, &goal.name) {
-        Ok(route) => route,
-        Err(fault) => {
-            place.spend(1)?;
-            return Ok(ended(found.with_error(trail_error(fault))));
-        }
-    };
-    let steps = segment_count(path).saturating_add(1);
-    place.spend(steps.saturating_mul(route.names.len() as u64))?;
-    if route.stops.is_empty() {
+    if let Err(fault) = find_stops(shelves, place, level.icudata, name)? {
+        place.spend(1)?;
+        return Ok(ended(found.with_error(trail_error(fault))));
+    }
+    let steps = segment_count(place.path(level)).saturating_add(1);
+    place.spend(steps.saturating_mul(place.trail.names))?;
+    if place.trail.roots.is_empty() {
         return Ok(ended(found.with_error(LookError::NoBundle)));
     }
-    let at = place.push_level(goal.icudata, goal.number, path)?;
-    let Some(level) = place.levels.get(at).copied() else {
-        return Ok(ended(found));
-    };
-    add_stops(shelves, place, found, &route, (level, at), path)
+    let at = place.push_level(level)?;
+    add_stops(place, found, (level, at))
 }
 
 /// Adds what the level has to which an alias leads.
@@ -160,8 +160,8 @@ fn add_link<T: Stops>(
 ) -> Result<After<T::N>, TreeError> {
     // a long text is read whole, and its tree may have it often
     place.spend((link.node.len() as u64 / 64).saturating_add(1))?;
-    match goal_of(place, link) {
-        Ok(goal) => add_level(shelves, place, found, &goal),
+    match level_of(place, link)? {
+        Ok((name, level)) => add_level(shelves, place, found, &name, level),
         Err(error) => Ok(ended(found.with_error(error))),
     }
 }
@@ -218,14 +218,13 @@ pub(crate) fn add_root<T: Stops>(
     shelves: T,
     place: &mut Place<T::N>,
     name: &Name,
-    path: PathBytes,
+    path: &[u8],
 ) -> Result<Found<T::N>, TreeError> {
-    let goal = Goal {
-        icudata: false,
-        name: *name,
-        path,
-        number: 1,
-    };
-    let after = add_level(shelves, place, Found::Nothing, &goal)?;
+    let begin = place.paths.len();
+    if push_text(&mut place.paths, path).is_err() {
+        return Err(TreeError::Memory);
+    }
+    let level = place.level_from(false, 1, begin, usize::MAX);
+    let after = add_level(shelves, place, Found::Nothing, name, level)?;
     add_links(shelves, place, after)
 }

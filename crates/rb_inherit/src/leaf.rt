@@ -1,14 +1,15 @@
 //! Items without children as JSON, piece by piece.
-ghost use Rattle.std.specs.Prelude.{◌≡◌, OnOk, codes, decimal};
+ghost use Rattle.std.specs.Prelude.{◌≡◌, ◌≤◌, OnOk, codes, decimal};
 ghost use Rattle.json.specs.Print.{quoted};
 ghost use Rattle.serde_json.specs.Data.{string};
 ghost use Rattle.serde_json.specs.Find.{of_integer};
 ghost use Rattle.serde_json.specs.Written.{compact_text, number_text};
-ghost use Rattle.rb_tree.specs.Parts.{HasUnits, kind_of, numbers_of, units_of};
+ghost use Rattle.rb_tree.specs.Parts.{HasUnits, kind_of, len_of, numbers_of, units_of};
 ghost use Rattle.rb_tree.specs.declared.kind.Kind.TheVariants as Kinds;
 ghost use Rattle.rb_json.specs.Leaf.{numbers_data, units_data};
 ghost use Rattle.rb_json.specs.Value.{key_text, tagged, value_of};
 ghost use Rattle.rb_json.specs.inner.Listed.{listed};
+ghost use Rattle.rb_json.specs.inner.Run.{IsRun};
 ghost use Rattle.rb_inherit.specs.Leaves.{IsLeaf};
 
 use rb_json::{
@@ -74,6 +75,28 @@ fn put_ill_formed<O: Outlet, N: Node>(out: &mut O, node: N)
     out.put(b"}")
 }
 
+/// The most units of a String that are written at once.
+const SHORT: usize = 64;
+
+/// Copies the ASCII units at the front of a String to the front of a block, a byte each, and returns
+/// their number.
+fn ascii_front<N: Node>(block: &mut [u8; SHORT], node: N, len: usize) -> usize
+    requires units { HasUnits (kind_of (N.tree node)) }
+    requires len { len ≡ len_of (N.tree node) }
+    ensures bound { (result ≤ 64) × (result ≤ len) }
+    ensures run { IsRun block.new (units_of (N.tree node)) 0 result }
+{
+    let most = SHORT.min(len);
+    for i in 0..most {
+        let unit = node.unit(i);
+        if 0x80 <= unit {
+            return i;
+        }
+        block[i] = unit as u8;
+    }
+    most
+}
+
 /// Writes a String, of which not even a unit is read if the outlet has no room for one byte for
 /// each.
 #[tactic(auto, using(crate::proofs::Leaves::well_formed_value, crate::proofs::Leaves::ill_formed_value, crate::proofs::Leaves::string_long))]
@@ -81,7 +104,14 @@ fn put_string<O: Outlet, N: Node>(out: &mut O, node: N)
     requires { kind_of (N.tree node) ≡ Kinds.String }
     ensures { O.takes out.old out.new (compact_text (value_of (N.tree node))) }
 {
-    if out.skips(node.len() as u64) {
+    let len = node.len();
+    if out.skips(len as u64) {
+        return;
+    }
+    let mut block = [0; SHORT];
+    let run = ascii_front(&mut block, node, len);
+    if run == len {
+        spell_bytes(out, &block[..run]);
         return;
     }
     if is_well_formed(node) {

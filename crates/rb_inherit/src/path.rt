@@ -1,12 +1,8 @@
 //! Paths of segments with a zero byte between them, since a key of a table may have slashes.
 ghost use Rattle.rb_tree.specs.Parts.{HasUnits, kind_of};
 
-use arrayvec::ArrayVec;
-use rb_fallback::PATH_LIMIT;
 use rb_tree::{Kind, Node};
-
-/// A path of at most 1,024 bytes.
-pub(crate) type PathBytes = ArrayVec<u8, PATH_LIMIT>;
+use std::alloc::AllocError;
 
 /// The byte between two segments.
 pub(crate) const SEPARATOR: u8 = 0;
@@ -27,39 +23,24 @@ fn separated(byte: u8) -> u8 {
     if byte == b'/' { SEPARATOR } else { byte }
 }
 
-/// Appends a path with slashes. Returns false if it doesn't fit.
-pub(crate) fn push_text(path: &mut PathBytes, text: &[u8]) -> bool {
+/// Appends a path with slashes. Returns an error if memory runs out.
+pub(crate) fn push_text(path: &mut Vec<u8>, text: &[u8]) -> Result<(), AllocError> {
     for byte in text {
-        if path.try_push(separated(*byte)).is_err() {
-            return false;
-        }
+        path.push(separated(*byte))?;
     }
-    true
+    Ok(())
 }
 
-/// Appends the units of an alias from `at` on, which are plain ASCII. Returns false if they don't
-/// fit.
-pub(crate) fn push_units<N: Node>(path: &mut PathBytes, node: N, at: usize) -> bool
+/// Appends the units of an alias from `at` on, which are plain ASCII. Returns an error if memory
+/// runs out.
+pub(crate) fn push_units<N: Node>(path: &mut Vec<u8>, node: N, at: usize) -> Result<(), AllocError>
     requires { HasUnits (kind_of (N.tree node)) }
 {
     for i in at..node.len() {
         let byte = u8::try_from(node.unit(i)).unwrap_or(b'?');
-        if path.try_push(separated(byte)).is_err() {
-            return false;
-        }
+        path.push(separated(byte))?;
     }
-    true
-}
-
-/// Appends segments to others. Returns false if they don't fit.
-pub(crate) fn push_segments(path: &mut PathBytes, segments: &[u8]) -> bool {
-    if segments.is_empty() {
-        return true;
-    }
-    if !path.is_empty() && path.try_push(SEPARATOR).is_err() {
-        return false;
-    }
-    path.try_extend_from_slice(segments).is_ok()
+    Ok(())
 }
 
 /// Counts the segments of a path.

@@ -3,7 +3,9 @@
 
 use crate::error::TreeError;
 use crate::found::Found;
-use crate::path::{PathBytes, SEPARATOR, push_segments};
+use crate::layer::Layer;
+use crate::path::SEPARATOR;
+use crate::stops::LastTrail;
 use rb_fallback::PATH_LIMIT;
 use rb_locales::Name;
 use rb_tree::{Kind, Node};
@@ -20,14 +22,9 @@ pub(crate) struct Level {
     pub(crate) path_at: usize,
     pub(crate) path_len: usize,
     pub(crate) keys_at: usize,
-}
-
-/// A table that is merged with others, and its first entry that isn't written yet.
-#[derive(Clone, Copy)]
-pub(crate) struct Layer<N> {
-    pub(crate) table: N,
-    pub(crate) level: usize,
-    pub(crate) at: usize,
+    /// The most bytes of keys with which no path is too long, neither the level's nor those of the
+    /// levels before it.
+    pub(crate) keys_most: usize,
 }
 
 /// The lengths of the stacks at a place.
@@ -41,9 +38,10 @@ pub(crate) struct Mark {
 
 /// The stacks of a walk, and what its lookups have in common.
 #[derive(Drop)]
-pub(crate) struct Place<N> {
+pub(crate) struct Place<N: Node> {
     pub(crate) alloc: Global,
     pub(crate) valid: Name,
+    pub(crate) trail: LastTrail<N>,
     pub(crate) layers: Vec<Layer<N>>,
     pub(crate) levels: Vec<Level>,
     /// The paths of levels, each of segments with a zero byte between them.
@@ -56,12 +54,21 @@ pub(crate) struct Place<N> {
     no_steps: TreeError,
 }
 
+/// Returns the most bytes of keys with which the path of a level isn't too long that begins with a
+/// path of this length, below keys of this length.
+fn most_keys(path_len: usize, keys_len: usize) -> usize {
+    let slash = if path_len == 0 { 1 } else { 0 };
+    let room = PATH_LIMIT.saturating_sub(path_len);
+    keys_len.saturating_add(room).saturating_add(slash)
+}
+
 impl<N: Node> Place<N> {
     /// Returns the state at the root.
     pub(crate) fn new(alloc: Global, valid: Name, left: u64, no_steps: TreeError) -> Place<N> {
         Place {
             alloc,
             valid,
+            trail: LastTrail::new(alloc, valid),
             layers: Vec::new(alloc),
             levels: Vec::new(alloc),
             paths: Vec::new(alloc),
@@ -107,25 +114,33 @@ impl<N: Node> Place<N> {
         Ok(())
     }
 
-    /// Adds a level, and returns its index.
-    pub(crate) fn push_level(
-        &mut self,
+    /// Returns a level that begins at the place, whose path is that of `paths` from an index on.
+    pub(crate) fn level_from(
+        &self,
         icudata: bool,
         number: u16,
-        path: &[u8],
-    ) -> Result<usize, TreeError> {
-        let index = self.levels.len();
-        let level = Level {
+        path_at: usize,
+        before: usize,
+    ) -> Level {
+        let path_len = self.paths.len().saturating_sub(path_at);
+        let keys_at = self.keys.len();
+        Level {
             icudata,
             number,
-            path_at: self.paths.len(),
-            path_len: path.len(),
-            keys_at: self.keys.len(),
-        };
-        if self.levels.push(level).is_err() || self.paths.extend_from_slice(path).is_err() {
-            return Err(TreeError::Memory);
+            path_at,
+            path_len,
+            keys_at,
+            keys_most: before.min(most_keys(path_len, keys_at)),
         }
-        Ok(index)
+    }
+
+    /// Adds a level, and returns its index.
+    pub(crate) fn push_level(&mut self, level: Level) -> Result<usize, TreeError> {
+        let index = self.levels.len();
+        match self.levels.push(level) {
+            Ok(()) => Ok(index),
+            Err(_) => Err(TreeError::Memory),
+        }
     }
 
     /// Adds an item that isn't an alias to what the place has.
@@ -138,44 +153,67 @@ impl<N: Node> Place<N> {
         if node.kind() != Kind::Table {
             return Ok(found.with_item(node, level));
         }
-        let layer = Layer {
-            table: node,
-            level,
-            at: 0,
-        };
-        match self.layers.push(layer) {
+        match self.layers.push(Layer::of(node, level)) {
             Ok(()) => Ok(found.with_table()),
             Err(_) => Err(TreeError::Memory),
         }
     }
 
-    /// Returns the last bytes of the path at which a level begins.
-    pub(crate) fn path_end(&self, level: Level, len: usize) -> &[u8] {
+    /// Returns the path at which a level begins.
+    pub(crate) fn path(&self, level: Level) -> &[u8] {
         let end = level.path_at.saturating_add(level.path_len);
-        self.paths.get(end.saturating_sub(len)..end).unwrap_or(b"")
+        self.paths.get(level.path_at..end).unwrap_or(b"")
     }
 
-    /// Returns the keys below the place where a level begins.
-    fn keys_of(&self, level: Level) -> &[u8] {
-        self.keys
-            .get(level.keys_at.saturating_add(1)..)
-            .unwrap_or(b"")
-    }
-
-    /// Returns the path of a level that leads to the place, or `None` if it is too long.
-    pub(crate) fn path_of(&self, level: Level) -> Option<PathBytes> {
-        let mut path = PathBytes::new();
-        let begin = self.path_end(level, level.path_len);
-        if push_segments(&mut path, begin) && push_segments(&mut path, self.keys_of(level)) {
-            return Some(path);
+    /// Writes a separator after the path that begins at an index, unless that is empty.
+    fn separate(&mut self, begin: usize) -> Result<(), TreeError> {
+        if self.paths.len() > begin && self.paths.push(SEPARATOR).is_err() {
+            return Err(TreeError::Memory);
         }
-        None
+        Ok(())
     }
 
-    /// Checks whether the path of a level that leads to the place is too long.
+    /// Adds the last bytes of the path of a level to the path that begins at an index.
+    pub(crate) fn push_path_end(
+        &mut self,
+        begin: usize,
+        level: Level,
+        len: usize,
+    ) -> Result<(), TreeError> {
+        if len == 0 {
+            return Ok(());
+        }
+        self.separate(begin)?;
+        let end = level
+            .path_at
+            .saturating_add(level.path_len)
+            .min(self.paths.len());
+        let from = end.saturating_sub(len);
+        match self.paths.extend_from_within(from..end) {
+            Ok(()) => Ok(()),
+            Err(_) => Err(TreeError::Memory),
+        }
+    }
+
+    /// Adds the keys below the place where a level begins to the path that begins at an index.
+    pub(crate) fn push_keys_of(&mut self, begin: usize, level: Level) -> Result<(), TreeError> {
+        if self.keys.len() <= level.keys_at {
+            return Ok(());
+        }
+        self.separate(begin)?;
+        let keys = self
+            .keys
+            .get(level.keys_at.saturating_add(1)..)
+            .unwrap_or(b"");
+        match self.paths.extend_from_slice(keys) {
+            Ok(()) => Ok(()),
+            Err(_) => Err(TreeError::Memory),
+        }
+    }
+
+    /// Checks whether a path that leads to the place is too long: that of a level, or of one before
+    /// it.
     pub(crate) fn is_long(&self, level: Level) -> bool {
-        let keys = self.keys_of(level).len();
-        let slash = if level.path_len > 0 && keys > 0 { 1 } else { 0 };
-        level.path_len.saturating_add(keys).saturating_add(slash) > PATH_LIMIT
+        self.keys.len() > level.keys_most
     }
 }

@@ -4,7 +4,6 @@ use crate::error::TreeError;
 use crate::follow::add_child;
 use crate::found::Found;
 use crate::leaf::{put_error, put_key, put_leaf};
-use crate::merge::key_of;
 use crate::path::child_at;
 use crate::place::Place;
 use crate::shelves::Stops;
@@ -73,10 +72,11 @@ fn put_tables<T: Stops, O: Outlet>(
     let to = place.layers.len();
     out.put(b"{");
     for i in 0..place.entry_count(from, to) {
-        let Some((first, layer)) = place.least(from, to) else {
+        let first = place.least(from, to);
+        let Some(layer) = place.layers.get(first).copied() else {
             break;
         };
-        let Some(key) = key_of(&layer.table, layer.at) else {
+        let Some(key) = layer.key() else {
             break;
         };
         if skips_items(out, i) {

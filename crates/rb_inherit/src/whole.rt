@@ -2,11 +2,10 @@ use crate::count::Count;
 use crate::error::TreeError;
 use crate::follow::add_root;
 use crate::limits::{STEP_LIMIT, TREE_LIMIT, TreeLimits};
-use crate::path::{PathBytes, push_text};
 use crate::place::Place;
 use crate::shelves::{Shelves, Stops};
 use crate::tree::put_found;
-use rb_fallback::{Found, LookError, look};
+use rb_fallback::{Found, look};
 use rb_json::{Buffer, Outlet};
 use rb_locales::Name;
 use rb_parents::{Parents, Shelf};
@@ -45,11 +44,7 @@ fn put_stops<T: Stops, O: Outlet>(
     name: &Name,
     path: &[u8],
 ) -> Result<(), TreeError> {
-    let mut begin = PathBytes::new();
-    if !push_text(&mut begin, path) {
-        return Err(TreeError::Look(LookError::PathTooLong));
-    }
-    let found = add_root(shelves, place, name, begin)?;
+    let found = add_root(shelves, place, name, path)?;
     put_found(shelves, place, out, found, 0, HEIGHT_LIMIT)
 }
 
